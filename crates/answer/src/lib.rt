@@ -1,0 +1,77 @@
+// What a call answers: a verdict with the calls made, or the error that refused the call.
+ghost use mathlib.Core.Path.{_≡_};
+ghost use Rattle.answer.specs.Numbers.{coded};
+
+// Why a call is refused (document 01: a refusal), with what is needed to tell where.
+pub enum Error {
+    // the lent table or memo table is too short
+    TableTooShort,
+    MemoTooShort,
+    // the encoded grammar: its length, its heading, or a word of it, by index
+    Length,
+    Heading,
+    UnexpectedWord(usize),
+    OutOfRange(usize),
+    TooManyRules(usize),
+    // the grammar: the lowest nonterminal that left-reaches itself; the first table entry that two rules claim
+    LeftRecursive(u8),
+    Conflict { nonterminal: u8, column: u8 },
+    // the input: its length, or a token of it, by index
+    InputTooLong,
+    UnknownToken(usize),
+}
+
+// How many calls a descent made, and the greatest place among them (document 01: count and far).
+pub struct Calls {
+    pub count: usize,
+    pub farthest: usize,
+}
+
+pub enum Answer {
+    Refused(Error),
+    Passed,
+    Rejected(Calls),
+    Accepted(Calls),
+}
+
+pub fn code(error: Error) -> u32
+    ensures { λ r. ⌜ r ≡ coded error .code ⌝ }
+{
+    match error {
+        Error::TableTooShort => 1,
+        Error::MemoTooShort => 2,
+        Error::Length => 3,
+        Error::Heading => 4,
+        Error::UnexpectedWord(_) => 5,
+        Error::OutOfRange(_) => 6,
+        Error::TooManyRules(_) => 7,
+        Error::LeftRecursive(_) => 8,
+        Error::Conflict {
+            nonterminal: _,
+            column: _,
+        } => 9,
+        Error::InputTooLong => 10,
+        Error::UnknownToken(_) => 11,
+    }
+}
+
+pub fn position(error: Error) -> usize
+    ensures { λ r. ⌜ r ≡ coded error .position ⌝ }
+{
+    match error {
+        Error::TableTooShort => 0,
+        Error::MemoTooShort => 0,
+        Error::Length => 0,
+        Error::Heading => 0,
+        Error::UnexpectedWord(at) => at,
+        Error::OutOfRange(at) => at,
+        Error::TooManyRules(at) => at,
+        Error::LeftRecursive(nonterminal) => nonterminal as usize,
+        Error::Conflict {
+            nonterminal,
+            column,
+        } => nonterminal as usize * 32 + column as usize,
+        Error::InputTooLong => 0,
+        Error::UnknownToken(at) => at,
+    }
+}

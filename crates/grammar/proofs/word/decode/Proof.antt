@@ -1,0 +1,69 @@
+-- Decoding goes by the kind, row by row.
+use borrow.Author.Tests.{ne-eqb}
+use Rattle.grammar.specs.Words.{decoded, ofKind}
+use borrow.Author.Needs.{needs}
+use Rattle.grammar.proofs.word.decode.Statement.{statement}
+use Rattle.grammar.proofs.word.decode.Tie as tie
+
+heading-requires : tie.Need-heading-requires
+heading-requires c κs = search needs
+
+bare-requires : tie.Need-bare-requires
+bare-requires c κs = search needs
+
+bare-requires-2 : tie.Need-bare-requires-2
+bare-requires-2 c κs = search needs
+
+bare-requires-3 : tie.Need-bare-requires-3
+bare-requires-3 c κs = search needs
+
+returns : tie.Need-returns
+unfolding decoded ofKind
+returns c = rw (c .before .match .keys1) (c .heading .ensures)
+
+returns-2 : tie.Need-returns-2
+unfolding decoded ofKind
+returns-2 c = rw (c .match .keys2)
+
+returns-3 : tie.Need-returns-3
+unfolding decoded ofKind
+returns-3 c = rw (c .before .match .keys3) (c .bare .ensures)
+
+returns-4 : tie.Need-returns-4
+unfolding decoded ofKind
+returns-4 c = rw (c .before .match .keys4) (c .bare2 .ensures)
+
+returns-5 : tie.Need-returns-5
+unfolding decoded ofKind
+returns-5 c = rw (c .match .keys5)
+
+returns-6 : tie.Need-returns-6
+unfolding decoded ofKind
+returns-6 c = rw (c .match .keys6)
+
+returns-7 : tie.Need-returns-7
+unfolding decoded ofKind
+returns-7 c = rw (c .before .match .keys7) (c .bare3 .ensures)
+
+returns-8 : tie.Need-returns-8
+unfolding decoded ofKind
+returns-8 c =
+    let r = c .match .rest in
+    simp (ne-eqb _ _ (r .1), ne-eqb _ _ (r .0 .1), ne-eqb _ _ (r .0 .0 .1), ne-eqb _ _ (r .0 .0 .0 .1), ne-eqb _ _ (r .0 .0 .0 .0 .1), ne-eqb _ _ (r .0 .0 .0 .0 .0 .1), ne-eqb _ _ (r .0 .0 .0 .0 .0 .0 .1))
+
+pub decode-spec : {M : Type 1} → statement M
+decode-spec =
+    tie.close
+    (tie.spec
+    heading-requires
+    bare-requires
+    bare-requires-2
+    bare-requires-3
+    returns
+    returns-2
+    returns-3
+    returns-4
+    returns-5
+    returns-6
+    returns-7
+    returns-8)

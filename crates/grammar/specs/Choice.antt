@@ -1,0 +1,6 @@
+-- The choice between two values by a test.
+use mathlib.Core.Bool.{Bool, true, false}
+
+abbrev pub choose : {A : Type 0} → Bool → A → A → A
+choose true a b = a
+choose false a b = b

@@ -1,0 +1,43 @@
+// The limits of document 01, each once.
+ghost use mathlib.Core.Path.{_≡_};
+ghost use Rattle.grammar.specs.Limits.{limited};
+
+pub const WORDS: usize = 2048;
+
+pub const NONTERMINALS: u32 = 32;
+
+pub const TERMINALS: u32 = 24;
+
+pub const RULES: usize = 128;
+
+pub const TOKENS: usize = 500;
+
+// Two sets for each nonterminal, then for each a row: an entry for each terminal and one for the end.
+pub const TABLE_WORDS: usize = (NONTERMINALS as usize) * (2 + TERMINALS as usize + 1);
+// An entry for each nonterminal and place.
+pub const MEMO_ENTRIES: usize = (NONTERMINALS as usize) * (TOKENS + 1);
+
+pub struct Limits {
+    pub words: usize,
+    pub nonterminals: u32,
+    pub terminals: u32,
+    pub rules: usize,
+    pub tokens: usize,
+    pub table_words: usize,
+    pub memo_entries: usize,
+}
+
+// The constants in one value, so that what the specifications say of them is proved of these.
+pub fn all() -> Limits
+    ensures { λ r. ⌜ r ≡ limited ⌝ }
+{
+    Limits {
+        words: WORDS,
+        nonterminals: NONTERMINALS,
+        terminals: TERMINALS,
+        rules: RULES,
+        tokens: TOKENS,
+        table_words: TABLE_WORDS,
+        memo_entries: MEMO_ENTRIES,
+    }
+}

@@ -1,0 +1,52 @@
+// What a 32-bit word of an encoded grammar stands for.
+ghost use mathlib.Core.Path.{_≡_};
+ghost use Rattle.grammar.specs.Words.{bare as bareWord, heading as headingWord, decoded};
+use super::Symbol;
+
+// Invalid: of no kind, or with a payload that its kind does not have.
+pub enum Word {
+    Heading { nonterminals: u32, terminals: u32 },
+    Rule(u32),
+    Positive,
+    Negative,
+    Symbol(Symbol),
+    End,
+    Invalid,
+}
+
+// A word whose kind has no payload.
+fn bare(word: Word, payload: u32) -> Word
+    ensures { λ r. ⌜ r ≡ bareWord word payload ⌝ }
+{
+    if payload == 0 { word } else { Word::Invalid }
+}
+
+fn heading(payload: u32) -> Word
+    ensures { λ r. ⌜ r ≡ headingWord payload ⌝ }
+{
+    if payload < 65536 {
+        Word::Heading {
+            nonterminals: payload % 256,
+            terminals: payload / 256,
+        }
+    } else {
+        Word::Invalid
+    }
+}
+
+pub fn decode(bits: u32) -> Word
+    ensures { λ r. ⌜ r ≡ decoded bits ⌝ }
+{
+    let kind = bits / 268435456;
+    let payload = bits % 268435456;
+    match kind {
+        1 => heading(payload),
+        2 => Word::Rule(payload),
+        3 => bare(Word::Positive, payload),
+        4 => bare(Word::Negative, payload),
+        5 => Word::Symbol(Symbol::Terminal(payload)),
+        6 => Word::Symbol(Symbol::Nonterminal(payload)),
+        7 => bare(Word::End, payload),
+        _ => Word::Invalid,
+    }
+}
