@@ -1,3 +1,6 @@
 pub mod Heading
 pub mod Scanning
+pub mod WellFormed
+pub mod Begins
+pub mod WellRead
 pub mod Starts

@@ -1,0 +1,131 @@
+-- A row that is read without a fault is a well-formed grammar of the sizes told. Assumes nothing.
+use mathlib.Core.Path.{_≡_, refl, sym, ap, _∙_}
+use mathlib.Core.Bool.{Bool, true, false, _&&_, false≢true}
+use mathlib.Core.List.{List, [], _∷_, _++_}
+use mathlib.Core.Option.{some}
+use Prim.Native.Nat.{ℕ, suc, _-_, _≤_, _<_}
+use native.Mathlib.Omega.{arith}
+use lib.Dec.{ltb, leb}
+use lib.ListN.{length, getD, take, drop, replicate, getElem?, List·getD-append}
+use lib.Seq.{getD-take}
+use borrow.Author.Tests.{ltb-true, leb-true, ltb-false}
+use Rattle.answer.specs.declared.Error.the-variants.{Length, Heading as HeadingFault}
+use Rattle.grammar.specs.declared.word.Word.{Word}
+use Rattle.grammar.specs.declared.word.Word.the-variants.{Heading, Rule as RuleWord, Positive, Negative, Symbol, End, Invalid}
+use Rattle.grammar.specs.declared.reading.Sizes.{Sizes}
+use Rattle.grammar.specs.declared.reading.Outcome.{Outcome}
+use Rattle.grammar.specs.declared.reading.Outcome.the-variants.{Read, Faulty}
+use Rattle.grammar.specs.Choice.{choose}
+use Rattle.grammar.specs.Limits.{maxWords, maxNonterminals, maxTerminals, maxRules}
+use Rattle.grammar.specs.Syntax.{Rule, Grammar, WellFormed}
+use Rattle.grammar.specs.Words.{decoded}
+use Rattle.grammar.specs.Encoding.{declaredBy, parse, grammarOf}
+use Rattle.grammar.specs.Reading.{beginsRule, fresh, scan, within, headed, opened, reading}
+use Rattle.grammar.specs.Starts.{starts, ruleStarts}
+use Rattle.grammar.specs.WellRead.{firstRule, WellRead}
+use Rattle.grammar.proofs.WellFormed.{faulty, Reads, reads}
+use Rattle.grammar.proofs.Begins.{begins, as-many}
+
+-- a choice that is read was taken on its good side
+chosen : (b : Bool) (o : Outcome) (z : Sizes) → choose b o (Faulty HeadingFault) ≡ Read z → (b ≡ true) × (o ≡ Read z)
+chosen true o z e = (refl, e)
+chosen false o z e = absurd (faulty HeadingFault z e)
+
+refused : (b : Bool) (o : Outcome) (z : Sizes) → choose b (Faulty Length) o ≡ Read z → (b ≡ false) × (o ≡ Read z)
+refused true o z e = absurd (faulty Length z e)
+refused false o z e = (refl, e)
+
+both : (a b : Bool) → (a && b) ≡ true → (a ≡ true) × (b ≡ true)
+both true b e = (refl, e)
+both false b e = absurd (false≢true e)
+
+pub record Within (n limit : ℕ) : Type 0 where
+  pub some : 0 < n
+  pub few : n ≤ limit
+
+within-limits : (n limit : ℕ) → within n limit ≡ true → Within n limit
+unfolding within
+within-limits n limit e = let h = both (ltb 0 n) (leb n limit) e in record { some = ltb-true 0 n (h .0); few = leb-true n limit (h .1) }
+
+-- a word that declares nonterminals begins no rule
+heading-begins-none : (w : Word) → 0 < declaredBy w .nonterminals → beginsRule w ≡ false
+heading-begins-none (Heading n t) h = refl
+heading-begins-none (RuleWord A) h = absurd (omega arith)
+heading-begins-none Positive h = refl
+heading-begins-none Negative h = refl
+heading-begins-none (Symbol X) h = refl
+heading-begins-none End h = refl
+heading-begins-none Invalid h = refl
+
+-- a begin found among as many as there may be
+start-kept : (xs : List ℕ) (m q : ℕ) → length xs ≤ m → q < length xs → getD (take m (xs ++ replicate m 0)) q 0 ≡ getD xs q 0
+start-kept xs m q l h = getD-take m (xs ++ replicate m 0) q 0 (omega arith) ∙ List·getD-append xs (replicate m 0) 0 q h
+
+-- by the first word and the reading behind it
+module _ (w : ℕ) (ws : List ℕ) (z : Sizes) (short : length (w ∷ ws) ≤ maxWords)
+    (n : Within (declaredBy (decoded w) .nonterminals) maxNonterminals) (t : Within (declaredBy (decoded w) .terminals) maxTerminals)
+    (r : Reads (fresh (declaredBy (decoded w))) z (parse ws)) (none : declaredBy (decoded w) .rules ≡ 0) where
+  no-begin : starts 0 (w ∷ ws) ≡ starts 1 ws
+  unfolding starts
+  no-begin = rw (heading-begins-none (decoded w) (n .some))
+
+  count : z .rules ≡ length (parse ws .rules)
+  count = omega (arith, r .rules)
+
+  few : z .rules ≤ maxRules
+  few = r .room (omega arith)
+
+  begin : (q : ℕ) → q < z .rules → getElem? (parse ws .rules) q ≡ some (firstRule (drop (getD (ruleStarts (w ∷ ws)) q 0) (w ∷ ws)))
+  unfolding ruleStarts
+  begin q h =
+      let l : q < length (starts 1 ws) = omega (arith, count, as-many 1 ws) in
+      let b = begins 1 ws q l in
+      let i : getD (ruleStarts (w ∷ ws)) q 0 ≡ getD (starts 1 ws) q 0 =
+      ap (λ xs. getD (take maxRules (xs ++ replicate maxRules 0)) q 0) no-begin ∙ start-kept (starts 1 ws) maxRules q (omega (arith, few, count, as-many 1 ws)) l in
+      let k : getD (starts 1 ws) q 0 ≡ suc (getD (starts 1 ws) q 0 - 1) = omega (arith, b .low) in
+      b .rule ∙ ap (λ j. some (firstRule (drop j (w ∷ ws)))) (sym k ∙ sym i)
+
+  read-well : WellRead (w ∷ ws) z
+  unfolding grammarOf
+  read-well = record {
+    short = short;
+    nonterminals = r .nonterminals;
+    someNonterminal = omega (arith, n .some, r .nonterminals);
+    fewNonterminals = omega (arith, n .few, r .nonterminals);
+    terminals = r .terminals;
+    someTerminal = omega (arith, t .some, r .terminals);
+    fewTerminals = omega (arith, t .few, r .terminals);
+    rules = count;
+    fewRules = few;
+    formed = record {
+      scoped = record {
+        heads = λ x m. omega (arith, r .fits .rules x m .head, r .nonterminals);
+        nonterminals = λ x m b k. rw (r .nonterminals) at (r .fits .rules x m .inRange b k .0);
+      };
+      terminals = λ x m b k. rw (r .terminals) at (r .fits .rules x m .inRange b k .1);
+      positive = λ x m. r .fits .rules x m .positive;
+    };
+    begins = begin;
+  }
+
+declares-no-rules : (w : Word) → declaredBy w .rules ≡ 0
+declares-no-rules (Heading n t) = refl
+declares-no-rules (RuleWord A) = refl
+declares-no-rules Positive = refl
+declares-no-rules Negative = refl
+declares-no-rules (Symbol X) = refl
+declares-no-rules End = refl
+declares-no-rules Invalid = refl
+
+-- THE THEOREM
+pub well-read : (words : List ℕ) (z : Sizes) → reading words ≡ Read z → WellRead words z
+unfolding reading opened headed
+well-read [] z e = absurd (faulty HeadingFault z (refused (ltb maxWords 0) (Faulty HeadingFault) z e .1))
+well-read (w ∷ ws) z e =
+    let s = refused (ltb maxWords (length (w ∷ ws))) (opened (w ∷ ws)) z e in
+    let d = declaredBy (decoded w) in
+    let c = chosen (within (d .nonterminals) maxNonterminals && within (d .terminals) maxTerminals) (scan (fresh d) 1 ws) z (s .1) in
+    let b = both (within (d .nonterminals) maxNonterminals) (within (d .terminals) maxTerminals) (c .0) in
+    read-well w ws z (ltb-false maxWords (length (w ∷ ws)) (s .0))
+    (within-limits (d .nonterminals) maxNonterminals (b .0)) (within-limits (d .terminals) maxTerminals (b .1))
+    (reads (fresh d) 1 ws z (c .1)) (declares-no-rules (decoded w))
