@@ -1,0 +1,9 @@
+pub mod Booleans
+pub mod Elements
+pub mod Operations
+pub mod Emptiness
+pub mod Order
+pub mod Concat
+pub mod Over
+pub mod Size
+pub mod Weights
