@@ -1,6 +1,6 @@
 -- Tests and what follows from their having passed.
 use mathlib.Core.Path.{_≡_, refl}
-use mathlib.Core.Bool.{Bool, true, false, _&&_, _||_}
+use mathlib.Core.Bool.{Bool, true, false, _||_}
 use lib.Dec.{T}
 
 pub passed : {b : Bool} → b ≡ true → T b
@@ -28,12 +28,3 @@ or-l false b t = absurd t
 pub or-r : (a b : Bool) → T b → T (a || b)
 or-r true b t = tt
 or-r false b t = t
-
-pub or-map : (a b a′ b′ : Bool) → (T a → T a′) → (T b → T b′) → T (a || b) → T (a′ || b′)
-or-map true b a′ b′ f g t = or-l a′ b′ (f tt)
-or-map false b a′ b′ f g t = or-r a′ b′ (g t)
-
-pub and-map : (a b a′ b′ : Bool) → (T a → T a′) → (T b → T b′) → T (a && b) → T (a′ && b′)
-and-map true b true b′ f g t = g t
-and-map true b false b′ f g t = absurd (f tt)
-and-map false b a′ b′ f g t = absurd t

@@ -1,34 +1,92 @@
--- Concatenation of lookahead sets: empty where either set is, associative, with the set of nothing as its unit, and monotone.
-use mathlib.Core.Path.{_≡_, refl, sym, ap, _∙_}
-use mathlib.Core.Bool.{Bool, true, false, not, _&&_, _||_, or-true, or-false, and-true, and-false}
+-- Concatenation of lookahead sets, by pairs: monotone, associative, with the set of nothing as its unit, and empty where either set is.
+use mathlib.Core.Path.{_≡_, refl, _∙_}
+use mathlib.Core.Bool.{Bool, true, false, _&&_, _||_, or-true}
+use mathlib.Core.Logic.{_⊎_, inl, inr}
 use Prim.Native.Nat.{ℕ}
-use lib.Dec.{T, eqb, eqb→eq}
-use mir.Facts.{and-yes}
-use borrow.Author.Tests.{eqb-true, not-true}
+use lib.Dec.{T, eqb→eq}
+use mir.Facts.{and-yes, yes-and}
 use Rattle.lookahead.specs.Elements.{nothing, has, Subset}
 use Rattle.lookahead.specs.Operations.{empty, isEmpty, end, join, concat}
-use Rattle.lookahead.proofs.Booleans.{passed, is-true, or-r, or-map, and-map}
-use Rattle.lookahead.proofs.Elements.{same-elements}
+use Rattle.lookahead.proofs.Booleans.{both-ways, is-false}
 use Rattle.lookahead.proofs.Emptiness.{is-empty, empty-none, none-empty, some-element, element-some}
-use Rattle.lookahead.proofs.Operations.{has-empty, has-end, has-join, has-concat}
+use Rattle.lookahead.proofs.Operations.{has-end}
+use Rattle.lookahead.proofs.Order.{subset-antisym, join-left, join-right}
+use Rattle.lookahead.proofs.Pairs.{first, first-nothing, before-nothing, first-assoc, first-is-nothing, first-either, Pair, pair-concat, concat-pair}
+
+-- an element of each set gives one of the concatenation
+pub paired : (x y a b : ℕ) → T (has x a) → T (has y b) → T (has (concat x y) (first a b))
+paired x y a b s t = pair-concat x y (first a b) record { a = a; b = b; a-in = s; b-in = t; is-first = refl }
+
+-- larger sets have a larger concatenation
+pub concat-mono : (x y x′ y′ : ℕ) → Subset x x′ → Subset y y′ → Subset (concat x y) (concat x′ y′)
+concat-mono x y x′ y′ f g l t =
+    let p = concat-pair x y l t in
+    rw (p .is-first) at (paired x′ y′ (p .a) (p .b) (f (p .a) (p .a-in)) (g (p .b) (p .b-in)))
+
+-- concatenation is associative
+pub concat-assoc : (x y z : ℕ) → concat (concat x y) z ≡ concat x (concat y z)
+concat-assoc x y z = subset-antisym (concat (concat x y) z) (concat x (concat y z)) to from
+  where
+    to : Subset (concat (concat x y) z) (concat x (concat y z))
+    to l t =
+        let p = concat-pair (concat x y) z l t in
+        let q = concat-pair x y (p .a) (p .a-in) in
+        let e : first (q .a) (first (q .b) (p .b)) ≡ l = cc (first-assoc (q .a) (q .b) (p .b)) in
+        rw e at (paired x (concat y z) (q .a) (first (q .b) (p .b)) (q .a-in) (paired y z (q .b) (p .b) (q .b-in) (p .b-in)))
+
+    from : Subset (concat x (concat y z)) (concat (concat x y) z)
+    from l t =
+        let p = concat-pair x (concat y z) l t in
+        let q = concat-pair y z (p .b) (p .b-in) in
+        let e : first (first (p .a) (q .a)) (q .b) ≡ l = cc (first-assoc (p .a) (q .a) (q .b)) in
+        rw e at (paired (concat x y) z (first (p .a) (q .a)) (q .b) (paired x y (p .a) (q .a) (p .a-in) (q .a-in)) (q .b-in))
+
+-- the set of nothing is its unit, on either side
+end-nothing : T (has end nothing)
+end-nothing = rw (has-end nothing) tt
+
+only-nothing : (l : ℕ) → T (has end l) → l ≡ nothing
+only-nothing l t = eqb→eq l nothing (rw (has-end l) at t)
+
+pub concat-end-left : (y : ℕ) → concat end y ≡ y
+concat-end-left y = subset-antisym (concat end y) y to from
+  where
+    to : Subset (concat end y) y
+    to l t =
+        let p = concat-pair end y l t in
+        let e : p .b ≡ l = cc (only-nothing (p .a) (p .a-in), first-nothing (p .b)) in rw e at (p .b-in)
+
+    from : Subset y (concat end y)
+    from l t = rw (first-nothing l) at (paired end y nothing l end-nothing t)
+
+pub concat-end-right : (x : ℕ) → concat x end ≡ x
+concat-end-right x = subset-antisym (concat x end) x to from
+  where
+    to : Subset (concat x end) x
+    to l t =
+        let p = concat-pair x end l t in
+        let e : p .a ≡ l = cc (only-nothing (p .b) (p .b-in), before-nothing (p .a)) in rw e at (p .a-in)
+
+    from : Subset x (concat x end)
+    from l t = rw (before-nothing l) at (paired x end l nothing t end-nothing)
 
 -- a concatenation is empty just where either set is
-module _ (x y : ℕ) where
-  from-second : isEmpty y ≡ false → has x nothing ≡ true → (l : ℕ) × T (has y l) → isEmpty (concat x y) ≡ false
-  from-second ey h r = element-some (concat x y) (r .0) (rw (has-concat x y (r .0), ey, h) (or-r (has x (r .0) && not (eqb (r .0) nothing)) (has y (r .0)) (r .1)))
+pub empty-concat : (x y : ℕ) → isEmpty (concat x y) ≡ (isEmpty x || isEmpty y)
+empty-concat x y = go (isEmpty x) refl (isEmpty y) refl
+  where
+    none : (z : ℕ) → isEmpty z ≡ true → (l : ℕ) → T (has z l) → ⊥
+    none z e l t = rw (empty-none z l e) at t
 
-  from-first : isEmpty y ≡ false → (l : ℕ) → T (has x l) → (b : Bool) → eqb l nothing ≡ b → isEmpty (concat x y) ≡ false
-  from-first ey l t true e = from-second ey (is-true (has x nothing) (rw (eqb-true l nothing e) at t)) (some-element y ey)
-  from-first ey l t false e = element-some (concat x y) l (rw (has-concat x y l, ey, e, is-true (has x l) t) tt)
+    go : (a : Bool) → isEmpty x ≡ a → (b : Bool) → isEmpty y ≡ b → isEmpty (concat x y) ≡ (a || b)
+    go true ex b ey =
+        none-empty (concat x y) (λ l. is-false (has (concat x y) l) (λ t. let p = concat-pair x y l t in none x ex (p .a) (p .a-in)))
+    go false ex true ey =
+        none-empty (concat x y) (λ l. is-false (has (concat x y) l) (λ t. let p = concat-pair x y l t in none y ey (p .b) (p .b-in)))
+    go false ex false ey =
+        let r = some-element x ex in
+        let s = some-element y ey in element-some (concat x y) (first (r .0) (s .0)) (paired x y (r .0) (s .0) (r .1) (s .1))
 
-  pub empty-concat : isEmpty (concat x y) ≡ (isEmpty x || isEmpty y)
-  empty-concat = go (isEmpty y) refl (isEmpty x) refl
-    where
-      go : (b : Bool) → isEmpty y ≡ b → (a : Bool) → isEmpty x ≡ a → isEmpty (concat x y) ≡ (a || b)
-      go true ey a ex = none-empty (concat x y) (λ l. has-concat x y l ∙ rw ey) ∙ sym (or-true a)
-      go false ey true ex = none-empty (concat x y) (λ l. has-concat x y l ∙ rw (ey, empty-none x l ex, empty-none x nothing ex))
-      go false ey false ex = let r = some-element x ex in from-first ey (r .0) (r .1) (eqb (r .0) nothing) refl
-
+-- so an empty side gives the empty set
 pub concat-empty-left : (y : ℕ) → concat empty y ≡ empty
 unfolding isEmpty
 concat-empty-left y = is-empty (concat empty y) (empty-concat empty y)
@@ -38,86 +96,22 @@ unfolding isEmpty
 concat-empty-right x = is-empty (concat x empty) (empty-concat x empty ∙ or-true (isEmpty x))
 
 -- nothing is in a concatenation just where it is in both sets
-has-not-empty : (x l : ℕ) → T (has x l) → T (not (isEmpty x))
-has-not-empty x l t = rw (element-some x l t) tt
-
-nothing-cases : (n p q : Bool) → (T q → T n) → (n && ((p && false) || (p && q))) ≡ (p && q)
-nothing-cases true true q f = refl
-nothing-cases true false q f = refl
-nothing-cases false true true f = absurd (f tt)
-nothing-cases false true false f = refl
-nothing-cases false false q f = refl
-
 pub nothing-concat : (x y : ℕ) → has (concat x y) nothing ≡ (has x nothing && has y nothing)
-nothing-concat x y = has-concat x y nothing ∙ nothing-cases (not (isEmpty y)) (has x nothing) (has y nothing) (has-not-empty y nothing)
-
--- concatenation is associative
-assoc-cases : (ey ez p a e b q c : Bool) →
-    (not ez && (((not ey && ((a && e) || (p && b))) && e) || ((not ey && ((p && false) || (p && q))) && c)))
-    ≡ (not (ey || ez) && ((a && e) || (p && (not ez && ((b && e) || (q && c))))))
-assoc-cases true true p a e b q c = refl
-assoc-cases true false p a e b q c = refl
-assoc-cases false true p a e b q c = refl
-assoc-cases false false false true true b q c = refl
-assoc-cases false false false true false b q c = refl
-assoc-cases false false false false e b q c = refl
-assoc-cases false false true true true b q c = refl
-assoc-cases false false true true false true q c = refl
-assoc-cases false false true true false false q c = refl
-assoc-cases false false true false e b q c = refl
-
-pub concat-assoc : (x y z : ℕ) → concat (concat x y) z ≡ concat x (concat y z)
-concat-assoc x y z = same-elements (concat (concat x y) z) (concat x (concat y z)) same
+nothing-concat x y = both-ways (has (concat x y) nothing) (has x nothing && has y nothing) to from
   where
-    same : (l : ℕ) → has (concat (concat x y) z) l ≡ has (concat x (concat y z)) l
-    same l =
-        simp (has-concat, empty-concat)
-        (assoc-cases (isEmpty y) (isEmpty z) (has x nothing) (has x l) (not (eqb l nothing)) (has y l) (has y nothing) (has z l))
+    to : T (has (concat x y) nothing) → T (has x nothing && has y nothing)
+    to t =
+        let p = concat-pair x y nothing t in
+        let e = first-is-nothing (p .a) (p .b) (p .is-first) in
+        yes-and (has x nothing) (has y nothing) (rw (e .0) at (p .a-in)) (rw (e .1) at (p .b-in))
 
--- the set of nothing is the unit on either side
-left-cases : (n e b : Bool) → (T b → T n) → (n && ((e && not e) || b)) ≡ b
-left-cases true true b f = refl
-left-cases true false b f = refl
-left-cases false e true f = absurd (f tt)
-left-cases false e false f = refl
-
-pub concat-end-left : (y : ℕ) → concat end y ≡ y
-concat-end-left y = same-elements (concat end y) y same
-  where
-    same : (l : ℕ) → has (concat end y) l ≡ has y l
-    same l = has-concat end y l ∙ rw (has-end l, has-end nothing) (left-cases (not (isEmpty y)) (eqb l nothing) (has y l) (has-not-empty y l))
-
-right-cases : (e a p : Bool) → (T e → p ≡ a) → ((a && not e) || (p && e)) ≡ a
-right-cases true a p f = rw (f tt, and-false a) (and-true a)
-right-cases false a p f = rw (and-true a, and-false p) (or-false a)
-
-pub concat-end-right : (x : ℕ) → concat x end ≡ x
-unfolding isEmpty
-concat-end-right x = same-elements (concat x end) x same
-  where
-    same : (l : ℕ) → has (concat x end) l ≡ has x l
-    same l =
-        has-concat x end l
-        ∙ rw (has-end l) (right-cases (eqb l nothing) (has x l) (has x nothing) (λ t. ap (has x) (sym (eqb→eq l nothing t))))
-
--- larger sets have a larger concatenation
-pub concat-mono : (x y x′ y′ : ℕ) → Subset x x′ → Subset y y′ → Subset (concat x y) (concat x′ y′)
-concat-mono x y x′ y′ f g l t =
-    rw (has-concat x′ y′ l)
-    (and-map (not (isEmpty y)) ((has x l && not (eqb l nothing)) || (has x nothing && has y l)) (not (isEmpty y′)) ((has x′ l && not (eqb l nothing)) || (has x′ nothing && has y′ l)) filled
-    (or-map (has x l && not (eqb l nothing)) (has x nothing && has y l) (has x′ l && not (eqb l nothing)) (has x′ nothing && has y′ l)
-    (and-map (has x l) (not (eqb l nothing)) (has x′ l) (not (eqb l nothing)) (f l) (λ s. s))
-    (and-map (has x nothing) (has y l) (has x′ nothing) (has y′ l) (f nothing) (g l)))
-    (rw (has-concat x y l) at t))
-  where
-    filled : T (not (isEmpty y)) → T (not (isEmpty y′))
-    filled s = let r = some-element y (not-true (isEmpty y) (is-true (not (isEmpty y)) s)) in has-not-empty y′ (r .0) (g (r .0) (r .1))
+    from : T (has x nothing && has y nothing) → T (has (concat x y) nothing)
+    from t = let s = and-yes (has x nothing) (has y nothing) t in rw (first-nothing nothing) at (paired x y nothing nothing (s .0) (s .1))
 
 -- a concatenation has no elements but those of the two sets
 pub concat-join : (x y : ℕ) → Subset (concat x y) (join x y)
-concat-join x y l t =
-    rw (has-join x y l)
-    (or-map (has x l && not (eqb l nothing)) (has x nothing && has y l) (has x l) (has y l)
-    (λ s. and-yes (has x l) (not (eqb l nothing)) s .0)
-    (λ s. and-yes (has x nothing) (has y l) s .1)
-    (and-yes (not (isEmpty y)) ((has x l && not (eqb l nothing)) || (has x nothing && has y l)) (rw (has-concat x y l) at t) .1))
+concat-join x y l t = let p = concat-pair x y l t in go p (first-either (p .a) (p .b))
+  where
+    go : (p : Pair x y l) → (first (p .a) (p .b) ≡ p .a) ⊎ (first (p .a) (p .b) ≡ p .b) → T (has (join x y) l)
+    go p (inl e) = let f : p .a ≡ l = cc in rw f at (join-left x y (p .a) (p .a-in))
+    go p (inr e) = let f : p .b ≡ l = cc in rw f at (join-right x y (p .b) (p .b-in))

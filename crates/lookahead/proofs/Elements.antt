@@ -1,38 +1,28 @@
 -- The elements of numbers, digit by digit, and that a number is settled by its elements.
 use mathlib.Core.Path.{_≡_, refl, sym, ap, _∙_}
-use mathlib.Core.Bool.{Bool, true, false, not, _&&_, _||_, and-true, and-false}
-use mathlib.Core.Logic.{_⊎_, inl, inr}
-use Prim.Native.Nat.{ℕ, zero, suc, _+_, _-_, _/_, _%_, _^_, _≤_, _<_}
-use native.Mathlib.Nat.{pow-suc, div-eq-of-lt, lt-of-lt-of-le, div-lt-iff-lt-mul}
+use mathlib.Core.Bool.{Bool, true, false, _&&_, _||_}
+use Prim.Native.Nat.{ℕ, zero, suc, _+_, _/_, _%_, _^_, _≤_, _<_}
+use native.Mathlib.Nat.{div-eq-of-lt, lt-of-lt-of-le, div-lt-iff-lt-mul}
 use native.Mathlib.Omega.{arith}
 use native.Mathlib.Numerals.{one-add}
 use native.Mathlib.Decide.{ℕ-discrete, decLt}
 use lib.Arith.{bin-ind}
 use lib.Bits.{bitAnd, bitOr, and-shr, or-shr, and-mod, or-mod}
-use lib.Dec.{T, eqb, eqb·suc-suc, eqb·zero-suc, eqb·suc-zero}
-use lib.Pow.{shr-shr, pow-mono, pow-pos, shr-lt}
-use borrow.Author.Tests.{eq-eqb, ne-eqb, eqb-true}
+use lib.Dec.{T, eqb}
+use lib.Pow.{shr-shr, pow-mono, pow-pos}
+use borrow.Author.Tests.{eq-eqb, ne-eqb}
 use Rattle.lookahead.specs.Elements.{has, one}
 use Rattle.lookahead.proofs.Booleans.{passed}
 
 -- one digit
-digit-or : (x y : ℕ) → x < 2 → y < 2 → eqb (bitOr x y) 1 ≡ (eqb x 1 || eqb y 1)
-digit-or zero zero h k = refl
-digit-or zero (suc zero) h k = refl
-digit-or zero (suc (suc y)) h k = absurd (omega arith)
-digit-or (suc zero) zero h k = refl
-digit-or (suc zero) (suc zero) h k = refl
-digit-or (suc zero) (suc (suc y)) h k = absurd (omega arith)
-digit-or (suc (suc x)) y h k = absurd (omega arith)
-
-digit-and : (x y : ℕ) → x < 2 → y < 2 → eqb (bitAnd x y) 1 ≡ (eqb x 1 && eqb y 1)
-digit-and zero zero h k = refl
-digit-and zero (suc zero) h k = refl
-digit-and zero (suc (suc y)) h k = absurd (omega arith)
-digit-and (suc zero) zero h k = refl
-digit-and (suc zero) (suc zero) h k = refl
-digit-and (suc zero) (suc (suc y)) h k = absurd (omega arith)
-digit-and (suc (suc x)) y h k = absurd (omega arith)
+digits : (x y : ℕ) → x < 2 → y < 2 → (eqb (bitOr x y) 1 ≡ (eqb x 1 || eqb y 1)) × (eqb (bitAnd x y) 1 ≡ (eqb x 1 && eqb y 1))
+digits zero zero h k = (refl, refl)
+digits zero (suc zero) h k = (refl, refl)
+digits zero (suc (suc y)) h k = absurd (omega arith)
+digits (suc zero) zero h k = (refl, refl)
+digits (suc zero) (suc zero) h k = (refl, refl)
+digits (suc zero) (suc (suc y)) h k = absurd (omega arith)
+digits (suc (suc x)) y h k = absurd (omega arith)
 
 -- the elements of a disjunction and of a conjunction, digit by digit
 pub has-or : (x y l : ℕ) → has (bitOr x y) l ≡ (has x l || has y l)
@@ -40,14 +30,14 @@ unfolding has
 has-or x y l =
     ap (λ (n : ℕ). eqb (n % 2) 1) (or-shr x y l)
     ∙ ap (λ (n : ℕ). eqb n 1) (or-mod (x / 2 ^ l) (y / 2 ^ l) 1)
-    ∙ digit-or (x / 2 ^ l % 2) (y / 2 ^ l % 2) (omega arith) (omega arith)
+    ∙ digits (x / 2 ^ l % 2) (y / 2 ^ l % 2) (omega arith) (omega arith) .0
 
 pub has-and : (x y l : ℕ) → has (bitAnd x y) l ≡ (has x l && has y l)
 unfolding has
 has-and x y l =
     ap (λ (n : ℕ). eqb (n % 2) 1) (and-shr x y l)
     ∙ ap (λ (n : ℕ). eqb n 1) (and-mod (x / 2 ^ l) (y / 2 ^ l) 1)
-    ∙ digit-and (x / 2 ^ l % 2) (y / 2 ^ l % 2) (omega arith) (omega arith)
+    ∙ digits (x / 2 ^ l % 2) (y / 2 ^ l % 2) (omega arith) (omega arith) .1
 
 -- a number of k digits has no elements from k on
 pub has-above : (k n l : ℕ) → n < 2 ^ k → k ≤ l → has n l ≡ false
@@ -123,39 +113,3 @@ bound k n h = go (ℕ-discrete (n / 2 ^ k) 0)
     go : Dec (n / 2 ^ k ≡ 0) → n < 2 ^ k
     go (yes e) = omega (arith, div-lt-iff-lt-mul {x = n} {y = 1} (pow-pos k) .0 (omega arith))
     go (no ne) = let r = some-element (n / 2 ^ k) ne in let b = h (k + r .0) (rw (has-shift n k (r .0)) at (r .1)) in absurd (omega arith)
-
--- a power of two has one element
-half-pow : (l : ℕ) → 2 ^ suc l / 2 ≡ 2 ^ l
-half-pow l = let e = pow-suc 2 l in omega arith
-
-pub has-pow : (a l : ℕ) → has (2 ^ a) l ≡ eqb l a
-unfolding has
-has-pow zero zero = refl
-has-pow zero (suc l) = has-suc 1 l ∙ has-zero l ∙ sym (eqb·suc-zero l)
-has-pow (suc a) zero = ne-eqb (2 ^ suc a / 1 % 2) 1 (λ e. let p = pow-suc 2 a in omega arith) ∙ sym (eqb·zero-suc a)
-has-pow (suc a) (suc l) = has-suc (2 ^ suc a) l ∙ ap (λ (x : ℕ). has x l) (half-pow a) ∙ has-pow a l ∙ sym (eqb·suc-suc l a)
-
-same-lowest : (m n : ℕ) → m % 2 ≡ n % 2 → has m 0 ≡ has n 0
-unfolding has
-same-lowest m n e = let d : m / 1 % 2 ≡ n / 1 % 2 = omega arith in rw d
-
-even : (n : ℕ) → n % 2 ≡ 0 → has n 0 ≡ false
-unfolding has
-even n e = ne-eqb (n / 1 % 2) 1 (λ z. omega arith)
-
--- to take an element's weight away takes the element out
-pub has-without : (k n l : ℕ) → has n k ≡ true → has (n - 2 ^ k) l ≡ (has n l && not (eqb l k))
-has-without zero n zero h = let odd : n % 2 ≡ 1 = lowest n ∙ ap one h in even (n - 1) (omega arith) ∙ sym (and-false (has n 0))
-has-without zero n (suc l) h =
-    let odd : n % 2 ≡ 1 = lowest n ∙ ap one h in
-    let half : (n - 1) / 2 ≡ n / 2 = omega arith in
-    has-suc (n - 1) l ∙ ap (λ (m : ℕ). has m l) half ∙ sym (has-suc n l) ∙ sym (rw (eqb·suc-zero l) (and-true (has n (suc l))))
-has-without (suc k) n zero h =
-    let p = pow-suc 2 k in
-    let w = has-weight n (suc k) (passed h) in
-    same-lowest (n - 2 ^ suc k) n (omega arith) ∙ sym (rw (eqb·zero-suc k) (and-true (has n 0)))
-has-without (suc k) n (suc l) h =
-    let p = pow-suc 2 k in
-    let half : (n - 2 ^ suc k) / 2 ≡ n / 2 - 2 ^ k = omega arith in
-    has-suc (n - 2 ^ suc k) l ∙ ap (λ (m : ℕ). has m l) half ∙ has-without k (n / 2) l (sym (has-suc n k) ∙ h)
-    ∙ sym (rw (has-suc n l, eqb·suc-suc l k))

@@ -9,6 +9,7 @@ use Rattle.lookahead.specs.Operations.{empty, isEmpty}
 use Rattle.lookahead.proofs.Elements as elements
 use Rattle.lookahead.proofs.Operations.{has-empty}
 
+-- an empty set is 0 and has no elements, and a set with no elements is empty
 pub is-empty : (x : ℕ) → isEmpty x ≡ true → x ≡ empty
 unfolding isEmpty
 is-empty x e = eqb-true x empty e
@@ -20,6 +21,7 @@ pub none-empty : (x : ℕ) → ((l : ℕ) → has x l ≡ false) → isEmpty x �
 unfolding isEmpty
 none-empty x h = eq-eqb x empty (elements.same-elements x empty (λ l. h l ∙ sym (has-empty l)))
 
+-- a set that is not empty has an element, and a set with an element is not empty
 pub some-element : (x : ℕ) → isEmpty x ≡ false → (l : ℕ) × T (has x l)
 unfolding isEmpty
 some-element x e = elements.some-element x (eqb-false x empty e)

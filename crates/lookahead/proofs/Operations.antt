@@ -1,21 +1,22 @@
--- The elements of each operation's result: what an operation's definition says of its elements.
+-- The elements of each operation's result.
 use mathlib.Core.Path.{_≡_, refl, sym, ap, ap₂, _∙_}
-use mathlib.Core.Bool.{Bool, true, false, not, _&&_, _||_, and-true, and-false}
-use Prim.Native.Nat.{ℕ, _-_, _≤_, _<_}
-use native.Mathlib.Omega.{arith}
-use lib.Bits.{or-zero-r}
-use lib.Dec.{T, eqb, ltb}
-use borrow.Author.Tests.{eqb-true, lt-ltb, le-ltb}
+use mathlib.Core.Bool.{Bool, true, false, not, _&&_, _||_, and-true}
+use Prim.Native.Nat.{ℕ, suc, _-_}
+use lib.Dec.{eqb, ltb}
+use borrow.Author.Tests.{eqb-true}
 use Rattle.lookahead.specs.Elements.{nothing, weight, has}
-use Rattle.lookahead.specs.Operations.{pick, empty, isEmpty, end, terminal, join, meet, terminals, concat}
-use Rattle.lookahead.specs.Operations.{Empty, End, Terminal, Joined, Met, Concatenated}
+use Rattle.lookahead.specs.Operations.{pick, empty, isEmpty, end, terminal, full, join, meet, terminals, concat}
+use Rattle.lookahead.specs.Operations.{Empty, End, Terminal, Full, Joined, Met, Concatenated}
 use Rattle.lookahead.proofs.Elements as elements
+use Rattle.lookahead.proofs.Powers as powers
+use Rattle.lookahead.proofs.Weights.{has-total}
 
+-- the elements that the operations' definitions give
 pub has-empty : (l : ℕ) → has empty l ≡ false
 has-empty = elements.has-zero
 
 pub has-end : (l : ℕ) → has end l ≡ eqb l nothing
-has-end = elements.has-pow nothing
+has-end = powers.has-pow nothing
 
 has-pick : (b : Bool) (x l : ℕ) → has (pick b x empty) l ≡ (b && has x l)
 has-pick true x l = refl
@@ -27,7 +28,11 @@ has-unless false x l = refl
 
 pub has-terminal : (a l : ℕ) → has (terminal a) l ≡ (ltb a nothing && eqb l a)
 unfolding terminal
-has-terminal a l = has-pick (ltb a nothing) (weight a) l ∙ ap (λ (b : Bool). ltb a nothing && b) (elements.has-pow a l)
+has-terminal a l = has-pick (ltb a nothing) (weight a) l ∙ ap (λ (b : Bool). ltb a nothing && b) (powers.has-pow a l)
+
+pub has-full : (t l : ℕ) → has (full t) l ≡ (ltb l (suc nothing) && (ltb l t || eqb l nothing))
+unfolding full
+has-full t l = has-total (suc nothing) (λ a. ltb a t || eqb a nothing) l
 
 pub has-join : (x y l : ℕ) → has (join x y) l ≡ (has x l || has y l)
 unfolding join
@@ -46,7 +51,7 @@ has-terminals x l = go (has x nothing) refl
     other false e h = sym (and-true (has x l))
 
     go : (b : Bool) → has x nothing ≡ b → has (pick b (x - end) x) l ≡ (has x l && not (eqb l nothing))
-    go true h = elements.has-without nothing x l h
+    go true h = powers.has-without nothing x l h
     go false h = other (eqb l nothing) refl h
 
 pub has-concat : (x y l : ℕ) → has (concat x y) l ≡ (not (isEmpty y) && ((has x l && not (eqb l nothing)) || (has x nothing && has y l)))
@@ -66,6 +71,9 @@ is-end e = record { is = e; member = λ l. rw e (has-end l) }
 pub is-terminal : {a r : ℕ} → r ≡ terminal a → Terminal a r
 is-terminal {a} e = record { is = e; member = λ l. rw e (has-terminal a l) }
 
+pub is-full : {t r : ℕ} → r ≡ full t → Full t r
+is-full {t} e = record { is = e; member = λ l. rw e (has-full t l) }
+
 pub is-join : {x y r : ℕ} → r ≡ join x y → Joined x y r
 is-join {x} {y} e = record { is = e; member = λ l. rw e (has-join x y l) }
 
@@ -74,25 +82,3 @@ is-meet {x} {y} e = record { is = e; member = λ l. rw e (has-meet x y l) }
 
 pub is-concat : {x y r : ℕ} → r ≡ concat x y → Concatenated x y r
 is-concat {x} {y} e = record { is = e; member = λ l. rw e (has-concat x y l) }
-
--- concatenation by cases
-pub concat-empty : {x y : ℕ} → isEmpty y ≡ true → Concatenated x y y
-unfolding concat isEmpty
-concat-empty {x} {y} e = is-concat (eqb-true y empty e ∙ sym (rw e))
-
-pub concat-more : {x y : ℕ} → isEmpty y ≡ false → has x nothing ≡ true → Concatenated x y (join (x - end) y)
-unfolding concat terminals
-concat-more e h = is-concat (sym (rw (e, h)))
-
-pub concat-terminals : {x y : ℕ} → isEmpty y ≡ false → has x nothing ≡ false → Concatenated x y x
-unfolding concat terminals join
-concat-terminals {x} e h = is-concat (sym (rw (e, h) (or-zero-r x)))
-
--- a terminal by cases
-pub terminal-some : {a : ℕ} → a < nothing → Terminal a (weight a)
-unfolding terminal
-terminal-some {a} h = is-terminal (sym (rw (lt-ltb a nothing h)))
-
-pub terminal-none : {a : ℕ} → nothing ≤ a → Terminal a empty
-unfolding terminal
-terminal-none {a} h = is-terminal (sym (rw (le-ltb a nothing h)))

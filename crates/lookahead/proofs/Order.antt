@@ -1,26 +1,24 @@
 -- Lookahead sets by containment: a join is the least set that contains both, a meet the greatest that both contain.
-use mathlib.Core.Path.{_≡_, sym, ap, _∙_}
-use mathlib.Core.Bool.{Bool, true, false, _&&_, _||_}
-use mathlib.Core.Logic.{_⊎_, inl, inr}
-use Prim.Native.Nat.{ℕ, _+_, _≤_, _<_}
+use mathlib.Core.Path.{_≡_}
+use mathlib.Core.Logic.{inl, inr}
+use Prim.Native.Nat.{ℕ, _≤_, _<_}
 use native.Mathlib.Omega.{arith}
 use native.Mathlib.Decide.{ℕ-discrete}
-use lib.Bits.{bitAnd, bitOr, or-add-and, and-le-l, and-le-r}
-use lib.Dec.{T}
+use lib.Bits.{or-add-and, and-le-l, and-le-r}
 use mir.Facts.{and-yes, yes-and, or-yes}
 use Rattle.lookahead.specs.Elements.{has, Subset}
-use Rattle.lookahead.specs.Operations.{empty, isEmpty, join, meet}
+use Rattle.lookahead.specs.Operations.{empty, join, meet}
 use Rattle.lookahead.proofs.Booleans.{both-ways, or-l, or-r}
 use Rattle.lookahead.proofs.Elements as elements
 use Rattle.lookahead.proofs.Operations.{has-empty, has-join, has-meet}
 
+-- containment is a partial order
 pub subset-refl : (x : ℕ) → Subset x x
 subset-refl x l t = t
 
 pub subset-trans : (x y z : ℕ) → Subset x y → Subset y z → Subset x z
 subset-trans x y z f g l t = g l (f l t)
 
--- sets that contain one another are equal
 pub subset-antisym : (x y : ℕ) → Subset x y → Subset y x → x ≡ y
 subset-antisym x y f g = elements.same-elements x y (λ l. both-ways (has x l) (has y l) (f l) (g l))
 
@@ -56,7 +54,7 @@ module _ (x y x′ y′ : ℕ) (f : Subset x x′) (g : Subset y y′) where
   pub meet-mono : Subset (meet x y) (meet x′ y′)
   meet-mono = meet-greatest x′ y′ (meet x y) (λ l t. f l (meet-left x y l t)) (λ l t. g l (meet-right x y l t))
 
--- to join what a set contains changes nothing, and what changes nothing is contained
+-- to join what a set contains leaves it as it is, and what leaves it so is contained
 pub join-same : (x y : ℕ) → Subset y x → join x y ≡ x
 join-same x y f = subset-antisym (join x y) x (join-least x y x (subset-refl x) f) (join-left x y)
 

@@ -1,14 +1,13 @@
 -- A set's size is the count of ones in its number, and the number of its elements, however many terminals there are.
 use mathlib.Core.Path.{_≡_, refl, sym, ap, _∙_}
-use mathlib.Core.Bool.{Bool, true, false, _&&_}
+use mathlib.Core.Bool.{Bool, false}
 use mathlib.Core.Logic.{_⊎_, inl, inr}
-use Prim.Native.Nat.{ℕ, zero, suc, _+_, _*_, _/_, _%_, _^_, _≤_, _<_}
+use Prim.Native.Nat.{ℕ, zero, suc, _+_, _/_, _^_, _≤_, _<_}
 use native.Mathlib.Nat.{pow-suc}
 use native.Mathlib.Omega.{arith}
 use native.Mathlib.Decide.{le-ind}
 use lib.Count.{ones, ones-step}
-use lib.Dec.{T, ltb}
-use Rattle.lookahead.specs.Elements.{nothing, weight, has, one, Over, count, total, width, size}
+use Rattle.lookahead.specs.Elements.{nothing, has, one, Over, count, width, size}
 use Rattle.lookahead.proofs.Booleans.{is-false}
 use Rattle.lookahead.proofs.Elements as elements
 

@@ -1,15 +1,16 @@
 -- A lookahead set's number is the sum of its elements' weights, and every choice of elements has its number.
 use mathlib.Core.Path.{_≡_, refl, sym, ap, ap₂, _∙_}
 use mathlib.Core.Bool.{Bool, true, false, _&&_, _||_, or-false, and-true, and-false}
-use Prim.Native.Nat.{ℕ, zero, suc, _+_, _*_, _^_, _≤_, _<_}
+use Prim.Native.Nat.{ℕ, zero, suc, _+_, _*_, _^_, _<_}
 use native.Mathlib.Nat.{pow-suc}
 use native.Mathlib.Omega.{arith}
 use native.Mathlib.Decide.{decLt, ℕ-discrete}
-use lib.Bits.{bitOr, or-shifted}
-use lib.Dec.{T, ltb, eqb}
+use lib.Bits.{or-shifted}
+use lib.Dec.{ltb, eqb}
 use borrow.Author.Tests.{lt-ltb, le-ltb, eq-eqb, ne-eqb}
-use Rattle.lookahead.specs.Elements.{weight, has, one, total}
+use Rattle.lookahead.specs.Elements.{has, one, total}
 use Rattle.lookahead.proofs.Elements as elements
+use Rattle.lookahead.proofs.Powers.{has-pow}
 
 -- k weights stay below the next
 total-bound : (k : ℕ) (p : ℕ → Bool) → total k p < 2 ^ k
@@ -22,7 +23,7 @@ total-bound (suc k) p = go (p k) (total-bound k p)
     go false h = omega (arith, pow-suc 2 k)
 
 has-one : (b : Bool) (k l : ℕ) → has (one b * 2 ^ k) l ≡ (b && eqb l k)
-has-one true k l = let e : 1 * 2 ^ k ≡ 2 ^ k = omega arith in rw e (elements.has-pow k l)
+has-one true k l = let e : 1 * 2 ^ k ≡ 2 ^ k = omega arith in rw e (has-pow k l)
 has-one false k l = let e : 0 * 2 ^ k ≡ 0 = omega arith in rw e (elements.has-zero l)
 
 -- the set of the numbers below k that pass a test has just these elements

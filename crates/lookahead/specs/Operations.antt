@@ -1,10 +1,10 @@
 -- The operations on lookahead sets, each with the number that it gives and the elements that this number has.
 use mathlib.Core.Path.{_≡_}
 use mathlib.Core.Bool.{Bool, true, false, not, _&&_, _||_}
-use Prim.Native.Nat.{ℕ, _-_}
+use Prim.Native.Nat.{ℕ, suc, _-_}
 use lib.Bits.{bitAnd, bitOr}
 use lib.Dec.{eqb, ltb}
-use Rattle.lookahead.specs.Elements.{nothing, weight, has}
+use Rattle.lookahead.specs.Elements.{nothing, weight, has, total}
 
 abbrev pub pick : Bool → ℕ → ℕ → ℕ
 pick true a b = a
@@ -36,6 +36,14 @@ pub record Terminal (a r : ℕ) : Type 0 where
   pub is : r ≡ terminal a
   pub member : (l : ℕ) → has r l ≡ (ltb a nothing && eqb l a)
 
+-- every terminal below t, and nothing
+unfoldable pub full : ℕ → ℕ
+full t = total (suc nothing) (λ l. ltb l t || eqb l nothing)
+
+pub record Full (t r : ℕ) : Type 0 where
+  pub is : r ≡ full t
+  pub member : (l : ℕ) → has r l ≡ (ltb l (suc nothing) && (ltb l t || eqb l nothing))
+
 -- (document 01: joined)
 unfoldable pub join : ℕ → ℕ → ℕ
 join x y = bitOr x y
@@ -56,7 +64,7 @@ pub record Met (x y r : ℕ) : Type 0 where
 unfoldable pub terminals : ℕ → ℕ
 terminals x = pick (has x nothing) (x - end) x
 
--- empty where y is; otherwise the terminals of x and, where x has nothing, all of y (document 01: strung together)
+-- x followed by y: the terminals of x, and y as well if x has nothing; but empty if y is (document 01: strung together)
 unfoldable pub concat : ℕ → ℕ → ℕ
 concat x y = pick (isEmpty y) empty (join (terminals x) (pick (has x nothing) y empty))
 

@@ -2,16 +2,18 @@
 ghost use mathlib.Core.Path.{_≡_};
 ghost use Prim.Native.Nat.{ℕ};
 ghost use Rattle.lookahead.specs.Elements.{has, size};
-ghost use Rattle.lookahead.specs.Operations.{isEmpty, Empty, End, Terminal, Joined, Met, Concatenated};
+ghost use Rattle.lookahead.specs.Operations.{isEmpty, Empty, End, Terminal, Full, Joined, Met, Concatenated};
 
 // The element for the end of the input and the empty string (document 01: "nothing"); the terminals are below it.
-const NOTHING: u32 = 24;
+pub const NOTHING: u32 = 24;
 
+// The weight of nothing.
 const END: u32 = 1 << NOTHING;
 
+// The bits of a set's number.
 const WIDTH: u32 = 32;
 
-// A set of terminals and nothing, element l with the weight 2^l (document 01: event set).
+// A set of elements, terminals and nothing; element l weighs 2^l (document 01: event set).
 pub struct LookaheadSet {
     pub bits: u32,
 }
@@ -37,10 +39,26 @@ impl LookaheadSet {
         if l < NOTHING {
             LookaheadSet { bits: 1u32 << l }
         } else {
-            LookaheadSet { bits: 0 }
+            LookaheadSet::empty()
         }
     }
 
+    // Every terminal below terminals, and nothing.
+    pub fn full(terminals: u32) -> LookaheadSet
+        ensures { λ r. ⌜ Full terminals (r .bits) ⌝ }
+    {
+        if terminals < NOTHING {
+            LookaheadSet {
+                bits: (1u32 << terminals) - 1 | END,
+            }
+        } else {
+            LookaheadSet {
+                bits: END - 1 | END,
+            }
+        }
+    }
+
+    // Whether a terminal, or nothing, is in the set.
     pub fn contains(self, element: u32) -> bool
         ensures { λ r. ⌜ r ≡ has (self .bits) element ⌝ }
     {
@@ -75,8 +93,8 @@ impl LookaheadSet {
         }
     }
 
-    // What may come next where an element of self is followed by one of other: empty where other is; otherwise the
-    // terminals of self and, where self has nothing, all of other (document 01: strung together).
+    // What may come first where an element of self is followed by one of other (document 01: strung together): a
+    // terminal of self or, after nothing, an element of other. No pair, no element: empty where either set is.
     pub fn concat(self, other: LookaheadSet) -> LookaheadSet
         ensures { λ r. ⌜ Concatenated (self .bits) (other .bits) (r .bits) ⌝ }
     {

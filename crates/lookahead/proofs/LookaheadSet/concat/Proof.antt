@@ -1,12 +1,8 @@
 -- The three cases of a concatenation: an empty second set, a first set with nothing, and one without.
-use mathlib.Core.Path.{_≡_}
-use mathlib.Core.Bool.{true}
+use native.Mathlib.Omega.{arith}
 use borrow.Author.Needs.{needs}
-use Rattle.lookahead.specs.Elements.{nothing, has}
 use Rattle.lookahead.specs.Operations.{join}
-use Rattle.lookahead.proofs.Booleans.{passed}
-use Rattle.lookahead.proofs.Elements as elements
-use Rattle.lookahead.proofs.Operations as operations
+use Rattle.lookahead.proofs.Cases as cases
 use Rattle.lookahead.proofs.LookaheadSet.concat.Statement.{statement}
 use Rattle.lookahead.proofs.LookaheadSet.concat.Tie as tie
 
@@ -17,18 +13,17 @@ contains-requires : tie.Need-contains-requires
 contains-requires c κs = search needs
 
 sub-t7 : tie.Need-sub-t7
-sub-t7 c =
-    let h : has (c .before .before .before .before .before .args .self .bits) nothing ≡ true = cc in elements.has-weight _ nothing (passed h)
+sub-t7 c = omega (arith, cases.nothing-fits (c .before .before .before .before .before .args .self .bits) (cc))
 
 returns : tie.Need-returns
-returns c = operations.concat-empty (cc)
+returns c = cases.concat-empty (cc)
 
 returns-2 : tie.Need-returns-2
 unfolding join
-returns-2 c = operations.concat-more (cc) (cc)
+returns-2 c = cases.concat-more (cc) (cc)
 
 returns-3 : tie.Need-returns-3
-returns-3 c = operations.concat-terminals (cc) (cc)
+returns-3 c = cases.concat-terminals (cc) (cc)
 
 pub concat-spec : {M : Type 1} → statement M
 concat-spec = tie.close (tie.spec is-empty-requires contains-requires sub-t7 returns returns-2 returns-3)
