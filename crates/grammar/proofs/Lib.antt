@@ -3,4 +3,5 @@ pub mod Scanning
 pub mod WellFormed
 pub mod Begins
 pub mod WellRead
+pub mod Examples
 pub mod Starts

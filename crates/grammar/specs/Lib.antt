@@ -6,3 +6,5 @@ pub mod Encoding
 pub mod Reading
 pub mod Starts
 pub mod WellRead
+pub mod Cards
+pub mod Examples

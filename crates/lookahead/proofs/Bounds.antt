@@ -1,0 +1,18 @@
+-- The operations keep to any number of digits: below a power of two they stay below it.
+use Prim.Native.Nat.{ℕ, _^_, _<_}
+use native.Mathlib.Omega.{arith}
+use lib.Bits.{or-lt}
+use Rattle.lookahead.specs.Operations.{join, meet, concat}
+use Rattle.lookahead.proofs.Order.{subset-le, meet-left}
+use Rattle.lookahead.proofs.Concat.{concat-join}
+
+module _ (k x y : ℕ) where
+  pub join-bound : x < 2 ^ k → y < 2 ^ k → join x y < 2 ^ k
+  unfolding join
+  join-bound h i = or-lt k x y h i
+
+  pub meet-bound : x < 2 ^ k → meet x y < 2 ^ k
+  meet-bound h = omega (arith, subset-le (meet x y) x (meet-left x y))
+
+  pub concat-bound : x < 2 ^ k → y < 2 ^ k → concat x y < 2 ^ k
+  concat-bound h i = omega (arith, subset-le (concat x y) (join x y) (concat-join x y), join-bound h i)

@@ -1,0 +1,14 @@
+pub mod Booleans
+pub mod Elements
+pub mod Powers
+pub mod Weights
+pub mod Operations
+pub mod Cases
+pub mod Emptiness
+pub mod Order
+pub mod Pairs
+pub mod Concat
+pub mod Bounds
+pub mod Over
+pub mod Size
+pub mod Examples

@@ -1,0 +1,59 @@
+-- A set's size is the count of ones in its number, and the number of its elements, however many terminals there are.
+use mathlib.Core.Path.{_≡_, refl, sym, ap, _∙_}
+use mathlib.Core.Bool.{Bool, false}
+use mathlib.Core.Logic.{_⊎_, inl, inr}
+use Prim.Native.Nat.{ℕ, zero, suc, _+_, _/_, _^_, _≤_, _<_}
+use native.Mathlib.Nat.{pow-suc}
+use native.Mathlib.Omega.{arith}
+use native.Mathlib.Decide.{le-ind}
+use lib.Count.{ones, ones-step}
+use Rattle.lookahead.specs.Elements.{nothing, has, one, Over, count, width, size}
+use Rattle.lookahead.proofs.Booleans.{is-false}
+use Rattle.lookahead.proofs.Elements as elements
+
+count-cong : (k : ℕ) (p q : ℕ → Bool) → ((l : ℕ) → l < k → p l ≡ q l) → count k p ≡ count k q
+unfolding count
+count-cong zero p q h = refl
+count-cong (suc k) p q h = rw (h k (omega arith), count-cong k p q (λ l b. h l (omega arith)))
+
+count-first : (k : ℕ) (p : ℕ → Bool) → count (suc k) p ≡ one (p 0) + count k (λ l. p (suc l))
+unfolding count
+count-first zero p = refl
+count-first (suc k) p = omega (arith, count-first k p)
+
+-- the ones of a number of k digits are its elements below k
+pub ones-count : (k n : ℕ) → n < 2 ^ k → ones n ≡ count k (has n)
+unfolding count ones
+ones-count zero n h = let e : n ≡ 0 = omega arith in rw e
+ones-count (suc k) n h =
+    let p = pow-suc 2 k in
+    ones-step n
+    ∙ rw (elements.lowest n, ones-count k (n / 2) (omega arith), count-cong k (has (n / 2)) (λ l. has n (suc l)) (λ l b. sym (elements.has-suc n l)))
+    (sym (count-first k (has n)))
+
+-- the language's count of ones is the size
+pub ones-size : (n : ℕ) → n < 2 ^ width → ones n ≡ size n
+unfolding size
+ones-size n h = ones-count width n h
+
+-- numbers that do not pass add nothing
+count-stop : (p : ℕ → Bool) (k m : ℕ) → k ≤ m → ((l : ℕ) → k ≤ l → l < m → p l ≡ false) → count m p ≡ count k p
+unfolding count
+count-stop p k =
+    le-ind (λ (m : ℕ). ((l : ℕ) → k ≤ l → l < m → p l ≡ false) → count m p ≡ count k p) (λ f. refl)
+    (λ m h e f. let z : p m ≡ false = f m h (omega arith) in rw z (omega (arith, e (λ l b d. f l b (omega arith)))))
+
+count-suc : (k : ℕ) (p : ℕ → Bool) → count (suc k) p ≡ one (p k) + count k p
+unfolding count
+count-suc k p = refl
+
+-- with t terminals, the size is how many of them are in the set, and one more where nothing is
+pub size-over : (t x : ℕ) → t ≤ nothing → Over t x → size x ≡ one (has x nothing) + count t (has x)
+unfolding size
+size-over t x h o =
+    count-stop (has x) (suc nothing) width (omega arith) (λ l b d. absent l (omega arith) (inr b))
+    ∙ count-suc nothing (has x)
+    ∙ ap (λ (n : ℕ). one (has x nothing) + n) (count-stop (has x) t nothing h (λ l b d. absent l b (inl d)))
+  where
+    absent : (l : ℕ) → t ≤ l → (l < nothing) ⊎ (nothing < l) → has x l ≡ false
+    absent l b d = is-false (has x l) (λ s. elim (o l s) [ inl u ↦ omega arith | inr e ↦ elim d [ inl u ↦ omega arith | inr u ↦ omega arith ] ])

@@ -1,0 +1,47 @@
+-- A lookahead set (document 01: event set) is a number, the sum of its elements' weights.
+use mathlib.Core.Path.{_≡_}
+use mathlib.Core.Bool.{Bool, true, false}
+use mathlib.Core.Logic.{_⊎_}
+use Prim.Native.Nat.{ℕ, zero, suc, _+_, _*_, _/_, _%_, _^_, _<_}
+use lib.Dec.{T, eqb}
+
+-- the element for the end of the input and the empty string (document 01: "nothing"); the numbers below it are the terminals
+abbrev pub nothing : ℕ
+nothing = 24
+
+abbrev pub weight : ℕ → ℕ
+weight l = 2 ^ l
+
+-- l is an element of the set s
+unfoldable pub has : ℕ → ℕ → Bool
+has s l = eqb (s / weight l % 2) 1
+
+-- every element of x is one of y
+abbrev pub Subset : ℕ → ℕ → Type 0
+Subset x y = (l : ℕ) → T (has x l) → T (has y l)
+
+-- s has no elements but nothing and the first t terminals: a set over a grammar with t terminals
+abbrev pub Over : ℕ → ℕ → Type 0
+Over t s = (l : ℕ) → T (has s l) → (l < t) ⊎ (l ≡ nothing)
+
+abbrev pub one : Bool → ℕ
+one true = 1
+one false = 0
+
+-- how many numbers below k pass the test
+unfoldable pub count : ℕ → (ℕ → Bool) → ℕ
+count zero p = 0
+count (suc k) p = one (p k) + count k p
+
+-- the weights of the numbers below k that pass the test, added up
+unfoldable pub total : ℕ → (ℕ → Bool) → ℕ
+total zero p = 0
+total (suc k) p = one (p k) * weight k + total k p
+
+-- the bits of a set's number
+abbrev pub width : ℕ
+width = 32
+
+-- how many elements a set has
+unfoldable pub size : ℕ → ℕ
+size s = count width (has s)
