@@ -12,7 +12,7 @@ use Rattle.grammar.specs.Examples.{Example, emptyRules, examples}
 
 -- each row has the outcome that stands beside it
 pub examples-read : map (λ e. reading (e .words)) examples ≡ map (λ e. e .outcome) examples
-unfolding examples emptyRules map reading opened headed within scan finished onStep stepped counted decoded ofKind heading bare
+unfolding examples emptyRules reading opened headed within scan finished onStep stepped counted decoded ofKind heading bare
 examples-read = refl
 
 -- the words of each card encode its grammar
