@@ -1,0 +1,9 @@
+pub mod Quantifiers
+pub mod Rounds
+pub mod Valuations
+pub mod LeftRecursion
+pub mod Strings
+pub mod Families
+pub mod Descent
+pub mod Calls
+pub mod Memo

@@ -1,0 +1,27 @@
+-- 'Some', 'every' and 'how many', as tests over lists and over the numbers below a bound.
+use mathlib.Core.Bool.{Bool, true, false, _&&_, _||_}
+use mathlib.Core.List.{List, [], _∷_}
+use Prim.Native.Nat.{ℕ, zero, suc, _+_}
+
+module _ {A : Type 0} where
+  unfoldable pub any : (A → Bool) → List A → Bool
+  any p [] = false
+  any p (x ∷ xs) = p x || any p xs
+
+  unfoldable pub all : (A → Bool) → List A → Bool
+  all p [] = true
+  all p (x ∷ xs) = p x && all p xs
+
+-- some number below n passes
+unfoldable pub below : ℕ → (ℕ → Bool) → Bool
+below zero p = false
+below (suc n) p = p n || below n p
+
+abbrev pub one : Bool → ℕ
+one true = 1
+one false = 0
+
+-- how many numbers below n pass
+unfoldable pub count : ℕ → (ℕ → Bool) → ℕ
+count zero p = 0
+count (suc n) p = one (p n) + count n p
