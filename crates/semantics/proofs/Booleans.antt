@@ -7,6 +7,17 @@ use lib.Dec.{T}
 pub T-subst : {a b : Bool} → a ≡ b → T a → T b
 T-subst e t = rw e at t
 
+pub T-true : (b : Bool) → T b → b ≡ true
+T-true true t = refl
+T-true false t = absurd t
+
+pub T-false : (b : Bool) → T (not b) → b ≡ false
+T-false true t = absurd t
+T-false false t = refl
+
+pub true-T : (b : Bool) → b ≡ true → T b
+true-T b e = rw e tt
+
 pub and-l : (a b : Bool) → T (a && b) → T a
 and-l true b t = tt
 and-l false b t = t

@@ -163,7 +163,7 @@ module _ (G : Grammar) (t : Table) (k : ℕ) (w : List ℕ)
       go [] h a f = let e : length w ≡ j = h refl in omega arith
       go (b ∷ ps) h a f = run-forward w (call G t k w n) f b i j iw (and-l (endsAt (run (call G t k w n) w b i) j) _ a)
 
-  -- THEOREM: a call that ends where it starts is one of a nullable nonterminal, with any fuel
+  -- a call that ends where it starts is one of a nullable nonterminal, with any fuel
   pub ends-empty : WellScoped G → (n : ℕ) → EmptyNull G w (call G t k w n)
   unfolding agrees call nullStep
   ends-empty c zero A i j iw e u = absurd u

@@ -16,7 +16,7 @@ use Rattle.semantics.specs.Strings.{look, Over}
 use Rattle.semantics.specs.Descent.{Failed, End, read, run, agrees, confirm, conclude, obey, select, call}
 use Rattle.semantics.proofs.Check.{belowTest, scopedTest, scopedTest-sound, fallsTest, fallsTest-sound}
 use Rattle.semantics.proofs.Predict.{same, member, keep, joins, prefixed, strings, Sets, firstBody, firstRule, followBody, find, allAt, predict, table, firstTest, followTest, tableTest, everyTest, predictive, predictive-verdict}
-use Rattle.semantics.proofs.ExamplesValuations.{balanced, ranking, balanced-closed, balanced-falls}
+use Rattle.semantics.proofs.ExamplesValuations.{balanced, ranking, balanced-scoped, balanced-falls}
 
 -- aⁿbⁿ but for ab, with one token
 abbrev first1 : Sets
@@ -29,7 +29,7 @@ follow1 (suc A) = [] ∷ (1 ∷ []) ∷ []
 balanced-right : (w : List ℕ) → Over 2 w → (v : Valuation) → Solves balanced w v
     → (call balanced (table balanced 1 first1 follow1) 1 w (levels balanced ranking w) 0 0 ≡ End (length w)) ↔ (v 0 0 (length w) ≡ true)
 unfolding predictive firstTest followTest tableTest everyTest allAt all any member same keep joins prefixed strings firstBody firstRule followBody find predict table
-balanced-right = predictive-verdict balanced 1 first1 follow1 ranking balanced-closed balanced-falls tt (omega arith)
+balanced-right = predictive-verdict balanced 1 first1 follow1 ranking balanced-scoped balanced-falls tt (omega arith)
 
 aabb : call balanced (table balanced 1 first1 follow1) 1 (0 ∷ 0 ∷ 1 ∷ 1 ∷ []) 10 0 0 ≡ End 4
 unfolding call obey select conclude agrees confirm run read look allAt all any member same keep joins prefixed strings firstBody firstRule find predict table
@@ -40,8 +40,8 @@ unfolding call obey select conclude agrees confirm run read look allAt all any m
 ab = refl
 
 -- (ab)ⁿac but for ac: S → T & ¬ X, T → a b T, T → a c, X → a c. One token does not tell T's rules apart
-abbrev pairs : Grammar
-pairs = record {
+abbrev repeated : Grammar
+repeated = record {
   nonterminals = 3;
   terminals = 3;
   rules =
@@ -51,13 +51,13 @@ pairs = record {
       ∷ record { head = 2; positives = (Terminal 0 ∷ Terminal 2 ∷ []) ∷ []; negatives = [] } ∷ [];
 }
 
-pairs-closed : WellScoped pairs
+repeated-scoped : WellScoped repeated
 unfolding scopedTest belowTest all
-pairs-closed = scopedTest-sound pairs tt
+repeated-scoped = scopedTest-sound repeated tt
 
-pairs-falls : Falls pairs ranking
+repeated-falls : Falls repeated ranking
 unfolding fallsTest allLeft all any nullable after nullStep allNullable
-pairs-falls = fallsTest-sound pairs ranking tt
+repeated-falls = fallsTest-sound repeated ranking tt
 
 abbrev first2 : Sets
 first2 zero = (0 ∷ 1 ∷ []) ∷ (0 ∷ 2 ∷ []) ∷ []
@@ -67,25 +67,25 @@ first2 (suc (suc A)) = (0 ∷ 2 ∷ []) ∷ []
 abbrev follow2 : Sets
 follow2 A = [] ∷ []
 
-pairs-right : (w : List ℕ) → Over 3 w → (v : Valuation) → Solves pairs w v
-    → (call pairs (table pairs 2 first2 follow2) 2 w (levels pairs ranking w) 0 0 ≡ End (length w)) ↔ (v 0 0 (length w) ≡ true)
+repeated-right : (w : List ℕ) → Over 3 w → (v : Valuation) → Solves repeated w v
+    → (call repeated (table repeated 2 first2 follow2) 2 w (levels repeated ranking w) 0 0 ≡ End (length w)) ↔ (v 0 0 (length w) ≡ true)
 unfolding predictive firstTest followTest tableTest everyTest allAt all any member same keep joins prefixed strings firstBody firstRule followBody find predict table
-pairs-right = predictive-verdict pairs 2 first2 follow2 ranking pairs-closed pairs-falls tt (omega arith)
+repeated-right = predictive-verdict repeated 2 first2 follow2 ranking repeated-scoped repeated-falls tt (omega arith)
 
 -- with one token the families are closed, and the table is what the test refuses
-pairs-one : (firstTest pairs 1 (λ _. (0 ∷ []) ∷ []) && followTest pairs 1 (λ _. (0 ∷ []) ∷ []) follow2) ≡ true
+repeated-one : (firstTest repeated 1 (λ _. (0 ∷ []) ∷ []) && followTest repeated 1 (λ _. (0 ∷ []) ∷ []) follow2) ≡ true
 unfolding predictive firstTest followTest tableTest everyTest allAt all any member same keep joins prefixed strings firstBody firstRule followBody find predict table
-pairs-one = refl
+repeated-one = refl
 
-pairs-clash : tableTest pairs 1 (λ _. (0 ∷ []) ∷ []) follow2 ≡ false
+repeated-clash : tableTest repeated 1 (λ _. (0 ∷ []) ∷ []) follow2 ≡ false
 unfolding predictive firstTest followTest tableTest everyTest allAt all any member same keep joins prefixed strings firstBody firstRule followBody find predict table
-pairs-clash = refl
+repeated-clash = refl
 
-abac : call pairs (table pairs 2 first2 follow2) 2 (0 ∷ 1 ∷ 0 ∷ 2 ∷ []) 10 0 0 ≡ End 4
+abac : call repeated (table repeated 2 first2 follow2) 2 (0 ∷ 1 ∷ 0 ∷ 2 ∷ []) 10 0 0 ≡ End 4
 unfolding call obey select conclude agrees confirm run read look allAt all any member same keep joins prefixed strings firstBody firstRule find predict table
 abac = refl
 
-ac : call pairs (table pairs 2 first2 follow2) 2 (0 ∷ 2 ∷ []) 10 0 0 ≡ Failed
+ac : call repeated (table repeated 2 first2 follow2) 2 (0 ∷ 2 ∷ []) 10 0 0 ≡ Failed
 unfolding call obey select conclude agrees confirm run read look allAt all any member same keep joins prefixed strings firstBody firstRule find predict table
 ac = refl
 
@@ -99,9 +99,9 @@ others = record {
       ∷ record { head = 1; positives = (Terminal 0 ∷ []) ∷ []; negatives = [] } ∷ [];
 }
 
-others-closed : WellScoped others
+others-scoped : WellScoped others
 unfolding scopedTest belowTest all
-others-closed = scopedTest-sound others tt
+others-scoped = scopedTest-sound others tt
 
 others-falls : Falls others ranking
 unfolding fallsTest allLeft all any nullable after nullStep allNullable
@@ -110,7 +110,7 @@ others-falls = fallsTest-sound others ranking tt
 others-right : (w : List ℕ) → Over 1 w → (v : Valuation) → Solves others w v
     → (call others (table others 1 first1 follow2) 1 w (levels others ranking w) 0 0 ≡ End (length w)) ↔ (v 0 0 (length w) ≡ true)
 unfolding predictive firstTest followTest tableTest everyTest allAt all any member same keep joins prefixed strings firstBody firstRule followBody find predict table
-others-right = predictive-verdict others 1 first1 follow2 ranking others-closed others-falls tt (omega arith)
+others-right = predictive-verdict others 1 first1 follow2 ranking others-scoped others-falls tt (omega arith)
 
 -- with no token all but the last part of the test passes
 others-none : (firstTest others 0 (λ _. [] ∷ []) && (followTest others 0 (λ _. [] ∷ []) follow2 && tableTest others 0 (λ _. [] ∷ []) follow2)) ≡ true

@@ -29,16 +29,16 @@ abbrev pub ranking : ℕ → ℕ
 ranking zero = 1
 ranking (suc n) = 0
 
-pub balanced-closed : WellScoped balanced
+pub balanced-scoped : WellScoped balanced
 unfolding scopedTest belowTest all
-balanced-closed = scopedTest-sound balanced tt
+balanced-scoped = scopedTest-sound balanced tt
 
 pub balanced-falls : Falls balanced ranking
 unfolding fallsTest allLeft all any nullable after nullStep allNullable
 balanced-falls = fallsTest-sound balanced ranking tt
 
-balanced-keeps : (w : List ℕ) → Solves balanced w (solution balanced ranking w)
-balanced-keeps = solution-solves balanced ranking balanced-closed balanced-falls
+balanced-solves : (w : List ℕ) → Solves balanced w (solution balanced ranking w)
+balanced-solves = solution-solves balanced ranking balanced-scoped balanced-falls
 
 -- by four rounds, the count that matters here
 aabb : rounds balanced (0 ∷ 0 ∷ 1 ∷ 1 ∷ []) 4 (λ _ _ _. false) 0 0 4 ≡ true
@@ -72,4 +72,4 @@ ab-whole = refl
 -- the test for left recursion, run
 balanced-free : NoLeftRecursion balanced
 unfolding fallsTest allLeft all any nullable after nullStep allNullable rank grounded count
-balanced-free = fallsTest-iff balanced balanced-closed .0 tt
+balanced-free = fallsTest-iff balanced balanced-scoped .0 tt

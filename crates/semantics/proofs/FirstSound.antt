@@ -20,7 +20,7 @@ use Rattle.semantics.proofs.Nullable.{nullable-closed}
 use Rattle.semantics.proofs.Unique.{solution-solves, solution-unique}
 use Rattle.semantics.proofs.Strings.{take-cut, span-none, span-split, span-cons, all-span, take-short}
 
--- what a round keeps and the empty valuation has, the solution has
+-- what one round of the rules preserves holds of every solution
 module _ (G : Grammar) (rank : ℕ → ℕ) (c : WellScoped G) (f : Falls G rank) (w : List ℕ) where
   after-rounds : (P : ℕ → ℕ → ℕ → Type 0) → ((u : Valuation) → ((A i j : ℕ) → A < G .nonterminals → i ≤ j → j ≤ length w → T (u A i j) → P A i j)
       → (A i j : ℕ) → A < G .nonterminals → i ≤ j → j ≤ length w → T (byRules G w u A i j) → P A i j)
@@ -110,7 +110,7 @@ module _ (G : Grammar) (c : WellScoped G) (w : List ℕ) (v : Valuation) where
       (λ b n. contains-null h b i j ij jw e (c .nonterminals r m b (Memᴰ·append-left (r .negatives) n)))
       (and-l (all (λ b. contains v w b i j) (r .positives)) _ (and-r (eqb (r .head) A) _ u)))) t)
 
--- THE THEOREMS
+-- for every solution: the first k tokens of a span that A derives are in FIRST of A; the same for a body; and what derives an empty span is nullable
 module _ (G : Grammar) (rank : ℕ → ℕ) (c : WellScoped G) (f : Falls G rank) (w : List ℕ) (v : Valuation) (solves : Solves G w v) where
   pub first-sound : (k : ℕ) (F : Family) → FirstClosed G k F → Over (G .terminals) w → FirstSound G k F w v
   first-sound k F fc ws = by-rounds G rank c f w (λ A i j. F A (take k (span w i j))) (λ u h. byRules-first G k F w u c fc ws h) v solves

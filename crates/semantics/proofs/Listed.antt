@@ -50,15 +50,15 @@ module _ (w m : List ℕ) where
   listed-elim zero x h = absurd (List·Memᴰ·not-nil h)
   listed-elim (suc n) x h = go (written m n) (λ u. u) h (listed-elim n x)
     where
-      fromEnd : Below n x → Below (suc n) x
-      fromEnd b = (b .0, omega (arith, b .1), b .2)
+      weaken : Below n x → Below (suc n) x
+      weaken b = (b .0, omega (arith, b .1), b .2)
 
       top : T (written m n) → x ≡ nth w n → Below (suc n) x
       top u e = let d = nth-indexOf w n in rw e (d .0, omega (arith, d .1), rw (d .1) u)
 
       go : (z : Bool) → (T z → T (written m n)) → List·Memᴰ x (pick z (nth w n ∷ listed w m n) (listed w m n)) → (List·Memᴰ x (listed w m n) → Below n x) → Below (suc n) x
-      go true g h f = elim (List·Memᴰ·cases-cons h) [ inl e ↦ top (g tt) e | inr k ↦ fromEnd (f k) ]
-      go false g h f = fromEnd (f h)
+      go true g h f = elim (List·Memᴰ·cases-cons h) [ inl e ↦ top (g tt) e | inr k ↦ weaken (f k) ]
+      go false g h f = weaken (f h)
 
   pub listed-make : (n : ℕ) (x : Call) → Below n x → List·Memᴰ x (listed w m n)
   unfolding listed pick

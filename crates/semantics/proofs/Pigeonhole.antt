@@ -9,7 +9,6 @@ use Rattle.semantics.specs.Rounds.{Set, _⊆_}
 use Rattle.semantics.proofs.Booleans.{test}
 use Rattle.semantics.proofs.Quantified.{below-elim, below-make, count-le, count-lt}
 
--- among more than N numbers below N two are the same
 module _ (N : ℕ) (f : ℕ → ℕ) (small : (k : ℕ) → f k < N) where
   abbrev Twice : Type 0
   Twice = (a : ℕ) × (b : ℕ) × (a < b) × (f a ≡ f b)

@@ -252,14 +252,14 @@ module _ (G : Grammar) (k : ℕ) (s l : Sets) where
 unfoldable pub predictive : Grammar → ℕ → Sets → Sets → Bool
 predictive G k s l = firstTest G k s && (followTest G k s l && (tableTest G k s l && everyTest G k l))
 
--- THE VERDICT, for families that pass the test
+-- for families that pass the test the descent accepts just what the solution gives to the start
 pub predictive-verdict : (G : Grammar) (k : ℕ) (s l : Sets) (rank : ℕ → ℕ) → WellScoped G → Falls G rank → T (predictive G k s l) → 0 < G .nonterminals
     → (w : List ℕ) → Over (G .terminals) w → (v : Valuation) → Solves G w v
     → (call G (table G k s l) k w (levels G rank w) 0 0 ≡ End (length w)) ↔ (v 0 0 (length w) ≡ true)
 unfolding predictive
-predictive-verdict G k s l rank c f t a w ws v keeps =
+predictive-verdict G k s l rank c f t a w ws v solves =
     let t′ = and-r (firstTest G k s) (followTest G k s l && (tableTest G k s l && everyTest G k l)) t in
     let t″ = and-r (followTest G k s l) (tableTest G k s l && everyTest G k l) t′ in
     verdict G k (In s) (In l) (table G k s l) rank c f
     (first-closed G k s l (and-l (firstTest G k s) _ t)) (follow-closed G k s l (and-l (followTest G k s l) _ t′))
-    (table-right G k s l (and-l (tableTest G k s l) _ t″)) (every-ends G k s l (and-r (tableTest G k s l) (everyTest G k l) t″)) w ws v keeps a
+    (table-right G k s l (and-l (tableTest G k s l) _ t″)) (every-ends G k s l (and-r (tableTest G k s l) (everyTest G k l) t″)) w ws v solves a

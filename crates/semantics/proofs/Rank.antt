@@ -124,6 +124,7 @@ module _ (G : Grammar) (c : WellScoped G) where
       go (inl y) g = let r = g y in (r .0, omega arith, r .2, r .3)
       go (inr k) g = (n, omega arith, k, t)
 
+  -- in a grammar with no left recursion the rank falls along left dependence
   pub rank-falls : NoLeftRecursion G → Falls G (rank G)
   unfolding rank after
   rank-falls free A B d =
@@ -136,12 +137,12 @@ module _ (G : Grammar) (c : WellScoped G) where
       (λ n u. not-T (g n A) (λ t. T-not (g n B) u (grounded-left (g n) A B (after-grows (grounded G) grounded-mono n A t) d)))
       (m .0) (m .1) (not-T (not (g (m .0) B)) (λ u. T-not (g (m .0) B) u (grounded-left (g (m .0)) A B (m .3) d))) (m .2)
 
--- THE THEOREM, for a grammar with no left recursion
+-- a grammar with no left recursion has exactly one solution on each input
 pub one-solution : (G : Grammar) → WellScoped G → NoLeftRecursion G → (w : List ℕ)
     → (v : Valuation) × Solves G w v × ((v′ : Valuation) → Solves G w v′ → (A i j : ℕ) → A < G .nonterminals → i ≤ j → j ≤ length w → v′ A i j ≡ v A i j)
 one-solution G c free w = exactly-one G (rank G) c (rank-falls G c free) w
 
--- and a rank that falls leaves no left recursion
+-- where ranks fall there is no left recursion
 pub falls-free : (G : Grammar) (rank : ℕ → ℕ) → Falls G rank → NoLeftRecursion G
 falls-free G rank f A p = absurd (omega (arith, go A p))
   where
@@ -149,6 +150,6 @@ falls-free G rank f A p = absurd (omega (arith, go A p))
     go B (once d) = f A B d
     go C (more {B = B} q d) = omega (arith, go B q, f B C d)
 
--- left recursion is decided by a test
+-- the test on the rank passes just where there is no left recursion
 pub fallsTest-iff : (G : Grammar) → WellScoped G → T (fallsTest G (rank G)) ↔ NoLeftRecursion G
 fallsTest-iff G c = (λ t. falls-free G (rank G) (fallsTest-sound G (rank G) t), λ h. fallsTest-complete G (rank G) (rank-falls G c h))

@@ -15,7 +15,7 @@ module _ (Φ : Set → Set) (mono : (s s′ : Set) → s ⊆ s′ → Φ s ⊆ �
   after-grows zero A t = absurd t
   after-grows (suc n) A t = mono (after Φ n) (after Φ (suc n)) (after-grows n) A t
 
-  -- the least set that the operator keeps
+  -- contained in every set that is closed under the operator
   pub after-least : (s : Set) → Φ s ⊆ s → (n : ℕ) → after Φ n ⊆ s
   unfolding after
   after-least s h zero A t = absurd t

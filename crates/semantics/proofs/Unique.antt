@@ -159,7 +159,7 @@ module _ (G : Grammar) (s : ℕ → Bool) (w : List ℕ) (rank : ℕ → ℕ) (K
   unfolding Same
   unique v v′ k k′ A i j a ij jw = (solutions-agree (suc (length w) * K) v v′ k k′ A i j a ij jw (level-top A i j a jw)) .0
 
--- THE THEOREM
+-- the computed solution solves the grammar, and every solution equals it on all spans of the input
 module _ (G : Grammar) (rank : ℕ → ℕ) (c : WellScoped G) (f : Falls G rank) (w : List ℕ) where
   pub solution-solves : Solves G w (solution G rank w)
   unfolding solution

@@ -16,7 +16,7 @@ use Rattle.semantics.specs.LeftRecursion.{nullable, LeftIn, here, there,
 use Rattle.semantics.specs.Strings.{span, look, Over}
 use Rattle.semantics.specs.Families.{Family, FirstClosed, FollowBody, FollowClosed, Table, TableRight, EveryEnds}
 use Rattle.semantics.specs.Descent.{Outcome, End, endsAt, onward, Outcomes, read, run, agrees, call}
-use Rattle.semantics.proofs.Booleans.{T-subst, both, and-l, and-r, and-make, and-cong, and-twist}
+use Rattle.semantics.proofs.Booleans.{T-true, true-T, T-subst, both, and-l, and-r, and-make, and-cong, and-twist}
 use Rattle.semantics.proofs.Quantified.{any-cong, all-cong, any-make, any-elim, below-cong, below-elim, below-make}
 use Rattle.semantics.proofs.Unique.{rank-below}
 use Rattle.semantics.proofs.Strings.{look-split, look-end, look-none, all-span, take-short}
@@ -142,22 +142,15 @@ module _ (G : Grammar) (k : ℕ) (F L : Family) (t : Table) (w : List ℕ) (v : 
           (λ o. let z = every r m o in sym (look-none k w j (z .0) jw (z .1 (look k w j) y′)))
           (T-subst (sym (same r m e)) x)
 
-  -- THE LOCAL VERDICT
+  -- where the string at j is in FOLLOW of A, a call of A at i ends at j just when the solution gives it the span
   pub verdict-at : (n : ℕ) → Verdicts n
   verdict-at zero A i j a ij jw l y = absurd (omega arith)
   verdict-at (suc n) A i j a ij jw l y = climb n (verdict-at n) A i j a ij jw l y ∙ sym (solves A i j a ij jw)
 
-T-true : (b : Bool) → T b → b ≡ true
-T-true true t = refl
-T-true false t = absurd t
-
-true-T : (b : Bool) → b ≡ true → T b
-true-T b e = rw e tt
-
 ends-iff : (o : Outcome) (j : ℕ) (b : Bool) → endsAt o j ≡ b → (o ≡ End j) ↔ (b ≡ true)
 ends-iff o j b e = (λ p. T-true b (T-subst e (end-ends o j p)), λ p. ends-end o j (T-subst (sym e) (true-T b p)))
 
--- THE THEOREMS
+-- the same in words of outcomes, and for the start and the whole input
 module _ (G : Grammar) (k : ℕ) (F L : Family) (t : Table) (rank : ℕ → ℕ) (closed : WellScoped G) (falls : Falls G rank)
     (firsts : FirstClosed G k F) (follows : FollowClosed G k F L) (right : TableRight G k F L t) (every : EveryEnds G k L)
     (w : List ℕ) (over : Over (G .terminals) w) (v : Valuation) (solves : Solves G w v) where

@@ -20,7 +20,7 @@ use Rattle.semantics.specs.Families.{Table, OwnEntries}
 use Rattle.semantics.specs.Descent.{Outcome, Failed, End, endsAt, Outcomes, select}
 use Rattle.semantics.specs.Calls.{Call, callAt, InRange, Results, callComesTo, Called, start, more, Listing}
 use Rattle.semantics.specs.Memo.{Memo, Memoized, memoized, pick, memoObey, memoCall, encode, decode, indexOf, entry, counted, stored, blank, written, filled, Recorded, Fits, uncalledCode, failedCode}
-use Rattle.semantics.proofs.Booleans.{and-r, both, test}
+use Rattle.semantics.proofs.Booleans.{T-true, T-false, and-r, both, test}
 use Rattle.semantics.proofs.Quantified.{count-le}
 use Rattle.semantics.proofs.Unique.{rank-below}
 use Rattle.semantics.proofs.Plan.{Plan, Done, Ask, value, asked, through, plan, plan-value, plan-asked, plan-through}
@@ -52,14 +52,6 @@ decode-encode n (End j) s h = go (eqb j failedCode) (eqb→eq j failedCode)
     go true f = absurd (omega (arith, f tt, h j (eqb-refl j)))
     go false f = refl
 
-T-true : (b : Bool) → T b → b ≡ true
-T-true true t = refl
-T-true false t = absurd t
-
-T-false : (b : Bool) → T (not b) → b ≡ false
-T-false true t = absurd t
-T-false false t = refl
-
 highest : (a b : ℕ) → (a ≤ pick (ltb a b) b a) × (b ≤ pick (ltb a b) b a) × ((pick (ltb a b) b a ≡ a) ⊎ (pick (ltb a b) b a ≡ b))
 unfolding pick
 highest a b = go (ltb a b) (ltb→lt a b) (nltb→le a b)
@@ -89,8 +81,8 @@ module _ (G : Grammar) (w : List ℕ) (m : List ℕ) (size : length m ≡ G .non
     | no e ↦ let s = getD-set-other m (indexOf w x) (indexOf w y) v uncalledCode e in inr ((h .0, rw s at (h .1)), s)
   ]
 
-  store-keeps : (y : Call) → Has G w m y → Has G w after y
-  store-keeps y h = elim (ℕ-discrete (indexOf w y) (indexOf w x)) [
+  store-stays : (y : Call) → Has G w m y → Has G w after y
+  store-stays y h = elim (ℕ-discrete (indexOf w y) (indexOf w x)) [
     | yes e ↦ let d : y ≡ x = indexOf-injective w y x (h .0 .1) (ranged .1) e in rw d store-this
     | no e ↦ let s = getD-set-other m (indexOf w x) (indexOf w y) v uncalledCode e in (h .0, rw s (h .1))
   ]
@@ -128,39 +120,39 @@ module _ (G : Grammar) (t : Table) (k : ℕ) (w : List ℕ) (rank : ℕ → ℕ)
 
   -- from m to m′: what was written stays; what is new is below b, and all that it comes to is written
   record Grows (b : ℕ) (m m′ : List ℕ) : Type 0 where
-    pub keeps : (x : Call) → Has G w m x → Has G w m′ x
+    pub stays : (x : Call) → Has G w m x → Has G w m′ x
     pub fresh : (x : Call) → Has G w m′ x → Has G w m x ⊎ ((level w rank K x < b) × ((y : Call) → List·Memᴰ y (callComesTo G t k w c x) → Has G w m′ y))
 
   grows-same : (b : ℕ) (m : List ℕ) → Grows b m m
-  grows-same b m = record { keeps = λ x h. h; fresh = λ x h. inl h }
+  grows-same b m = record { stays = λ x h. h; fresh = λ x h. inl h }
 
   grows-more : (b b′ : ℕ) (m m′ : List ℕ) → b ≤ b′ → Grows b m m′ → Grows b′ m m′
   grows-more b b′ m m′ l g = record {
-    keeps = g .keeps;
+    stays = g .stays;
     fresh = λ x h. elim (g .fresh x h) [ inl a ↦ inl a | inr a ↦ inr (omega (arith, a .0), a .1) ];
   }
 
   grows-then : (b : ℕ) (m m′ m″ : List ℕ) → Grows b m m′ → Grows b m′ m″ → Grows b m m″
   grows-then b m m′ m″ g g′ = record {
-    keeps = λ x h. g′ .keeps x (g .keeps x h);
+    stays = λ x h. g′ .stays x (g .stays x h);
     fresh = λ x h. elim (g′ .fresh x h) [
-      | inl a ↦ elim (g .fresh x a) [ inl a ↦ inl a | inr a ↦ inr (a .0, λ y n. g′ .keeps y (a .1 y n)) ]
+      | inl a ↦ elim (g .fresh x a) [ inl a ↦ inl a | inr a ↦ inr (a .0, λ y n. g′ .stays y (a .1 y n)) ]
       | inr a ↦ inr a
     ];
   }
 
   -- and the counters from m to m′: a new entry is one more call, no farther than `farthest`, which is that of an entry unless it stayed
-  record Tallies (m m′ : Memo) : Type 0 where
+  record Counters (m m′ : Memo) : Type 0 where
     pub counts : m′ .calls + filled (m .entries) ≡ m .calls + filled (m′ .entries)
     pub rises : m .farthest ≤ m′ .farthest
     pub covers : (x : Call) → Has G w (m′ .entries) x → Has G w (m .entries) x ⊎ (x .place ≤ m′ .farthest)
     pub attained : (m′ .farthest ≡ m .farthest) ⊎ ((x : Call) × Has G w (m′ .entries) x × (x .place ≡ m′ .farthest))
 
-  tallies-same : (m : Memo) → Tallies m m
-  tallies-same m = record { counts = refl; rises = omega arith; covers = λ x h. inl h; attained = inl refl }
+  counters-same : (m : Memo) → Counters m m
+  counters-same m = record { counts = refl; rises = omega arith; covers = λ x h. inl h; attained = inl refl }
 
-  tallies-then : (b : ℕ) (m m′ m″ : Memo) → Tallies m m′ → Grows b (m′ .entries) (m″ .entries) → Tallies m′ m″ → Tallies m m″
-  tallies-then b m m′ m″ h g h′ = record {
+  counters-then : (b : ℕ) (m m′ m″ : Memo) → Counters m m′ → Grows b (m′ .entries) (m″ .entries) → Counters m′ m″ → Counters m m″
+  counters-then b m m′ m″ h g h′ = record {
     counts = omega (arith, h .counts, h′ .counts);
     rises = omega (arith, h .rises, h′ .rises);
     covers = λ x u. elim (h′ .covers x u) [
@@ -170,7 +162,7 @@ module _ (G : Grammar) (t : Table) (k : ℕ) (w : List ℕ) (rank : ℕ → ℕ)
     attained = elim (h′ .attained) [
       | inl e ↦ elim (h .attained) [
         | inl d ↦ inl (e ∙ d)
-        | inr a ↦ inr (a .0, g .keeps (a .0) (a .1), a .2 ∙ sym e)
+        | inr a ↦ inr (a .0, g .stays (a .0) (a .1), a .2 ∙ sym e)
       ]
       | inr a ↦ inr a
     ];
@@ -183,7 +175,7 @@ module _ (G : Grammar) (t : Table) (k : ℕ) (w : List ℕ) (rank : ℕ → ℕ)
       pub sound : Sound G w c P (r .memo .entries)
       pub grows : Grows b (m .entries) (r .memo .entries)
       pub holds : (x : Call) → List·Memᴰ x l → Has G w (r .memo .entries) x
-      pub tally : Tallies m (r .memo)
+      pub counters : Counters m (r .memo)
 
     abbrev GoodCalls : ℕ → Type 0
     GoodCalls f = (x : Call) (m : Memo) → InRange G w x → level w rank K x < f → Sound G w c P (m .entries) → P x
@@ -194,7 +186,7 @@ module _ (G : Grammar) (t : Table) (k : ℕ) (w : List ℕ) (rank : ℕ → ℕ)
         → Good b (value c p) (asked c p) m (through (memoCall G t k w f) p m)
     unfolding value asked through
     through-good f b bf calls (Done o) m s h =
-        record { tells = refl; sound = s; grows = grows-same b (m .entries); holds = λ x n. absurd (List·Memᴰ·not-nil n); tally = tallies-same m }
+        record { tells = refl; sound = s; grows = grows-same b (m .entries); holds = λ x n. absurd (List·Memᴰ·not-nil n); counters = counters-same m }
     through-good f b bf calls (Ask A i q) m s h =
         let a = h (callAt A i) (List·Memᴰ·head refl) in
         let g = calls (callAt A i) m (a .0) (omega (arith, a .1)) s (a .2) in
@@ -205,10 +197,10 @@ module _ (G : Grammar) (t : Table) (k : ℕ) (w : List ℕ) (rank : ℕ → ℕ)
           sound = r .sound;
           grows = grows-then b (m .entries) (m₁ .entries) _ (grows-more _ b (m .entries) (m₁ .entries) (a .1) (g .grows)) (r .grows);
           holds = λ x n. elim (List·Memᴰ·cases-cons n) [
-            | inl e ↦ r .grows .keeps x (g .holds x (List·Memᴰ·head e))
+            | inl e ↦ r .grows .stays x (g .holds x (List·Memᴰ·head e))
             | inr n ↦ r .holds x n
           ];
-          tally = tallies-then b m m₁ _ (g .tally) (r .grows) (r .tally);
+          counters = counters-then b m m₁ _ (g .counters) (r .grows) (r .counters);
         })
 
     -- a new call: the rule was run from the memo with the call counted, and the outcome is stored
@@ -222,7 +214,7 @@ module _ (G : Grammar) (t : Table) (k : ℕ) (w : List ℕ) (rank : ℕ → ℕ)
         let size = g .sound .size in
         let is : v ≡ encode (c (x .nonterminal) (x .place)) = ap encode (g .tells) in
         let real : T (not (eqb v uncalledCode)) = rw is (encode-written (length w) (c (x .nonterminal) (x .place)) short (small x ranged)) in
-        let keep = store-keeps G w m₁ size x ranged v real in
+        let keep = store-stays G w m₁ size x ranged v real in
         let has = store-this G w m₁ size x ranged v real in
         let back = store-back G w m₁ size x ranged v real in
         let still : Has G w m₁ x → ⊥ = λ h. elim (g .grows .fresh x h) [ inl a ↦ unset a | inr a ↦ absurd (omega (arith, a .0)) ] in
@@ -237,7 +229,7 @@ module _ (G : Grammar) (t : Table) (k : ℕ) (w : List ℕ) (rank : ℕ → ℕ)
             ];
           };
           grows = record {
-            keeps = λ y h. keep y (g .grows .keeps y h);
+            stays = λ y h. keep y (g .grows .stays y h);
             fresh = λ y h. elim (back y h) [
               | inl e ↦ inr (rw e (omega arith, λ z n. keep z (g .holds z n)))
               | inr a ↦ elim (g .grows .fresh y (a .0)) [
@@ -247,14 +239,14 @@ module _ (G : Grammar) (t : Table) (k : ℕ) (w : List ℕ) (rank : ℕ → ℕ)
             ];
           };
           holds = λ y n. elim (List·Memᴰ·cases-cons n) [ inl e ↦ rw e has | inr n ↦ absurd (List·Memᴰ·not-nil n) ];
-          tally = record {
-            counts = omega (arith, g .tally .counts, store-filled G w m₁ size x ranged v real still);
-            rises = omega (arith, g .tally .rises, top .0);
+          counters = record {
+            counts = omega (arith, g .counters .counts, store-filled G w m₁ size x ranged v real still);
+            rises = omega (arith, g .counters .rises, top .0);
             covers = λ y h. elim (back y h) [
-              | inl e ↦ inr (rw e (omega (arith, g .tally .rises, top .1)))
-              | inr a ↦ g .tally .covers y (a .0)
+              | inl e ↦ inr (rw e (omega (arith, g .counters .rises, top .1)))
+              | inr a ↦ g .counters .covers y (a .0)
             ];
-            attained = elim (g .tally .attained) [
+            attained = elim (g .counters .attained) [
               | inl e ↦ elim (top .2) [ inl d ↦ inl (e ∙ d) | inr d ↦ inr (x, has, sym (e ∙ d)) ]
               | inr a ↦ inr (a .0, keep (a .0) (a .1), a .2)
             ];
@@ -275,7 +267,7 @@ module _ (G : Grammar) (t : Table) (k : ℕ) (w : List ℕ) (rank : ℕ → ℕ)
           sound = s;
           grows = grows-same _ (m .entries);
           holds = λ y n. elim (List·Memᴰ·cases-cons n) [ inl e ↦ rw e (ranged, u) | inr n ↦ absurd (List·Memᴰ·not-nil n) ];
-          tally = tallies-same m;
+          counters = counters-same m;
         }
 
         ran : GoodCalls f → Good (level w rank K x) (c (x .nonterminal) (x .place)) (callComesTo G t k w c x) (counted (x .place) m) (memoObey (memoCall G t k w f) w o (x .place) (counted (x .place) m))
@@ -294,7 +286,7 @@ module _ (G : Grammar) (t : Table) (k : ℕ) (w : List ℕ) (rank : ℕ → ℕ)
             (store-good x m _ ranged p (λ h. T-not (eqb (entry w (m .entries) x) uncalledCode) (h .1) u) (ran calls))
         go (inr u) calls = rw (T-false (eqb (entry w (m .entries) x) uncalledCode) u) (found u)
 
-  -- THE MEMO IS TRANSPARENT
+  -- the memo table changes no outcome: from entries that hold results, a call gives its result and leaves such entries
   pub transparent : (f A i : ℕ) (m : Memo) → A < G .nonterminals → i ≤ length w → level w rank K (callAt A i) < f → Sound G w c (λ _. Unit {0}) (m .entries)
       → (memoCall G t k w f A i m .outcome ≡ c A i) × Sound G w c (λ _. Unit {0}) (memoCall G t k w f A i m .memo .entries)
   transparent f A i m a iw l s =
@@ -339,7 +331,7 @@ module _ (G : Grammar) (t : Table) (k : ℕ) (w : List ℕ) (rank : ℕ → ℕ)
         elim (test (eqb v uncalledCode)) [ inl u ↦ eqb→eq v uncalledCode u | inr u ↦ absurd (h (written-called x (ranged, u))) ]
 
     memo-calls : last .calls ≡ filled (last .entries)
-    memo-calls = omega (arith, good .tally .counts, blank-filled)
+    memo-calls = omega (arith, good .counters .counts, blank-filled)
 
     calls-list : (l : List Call) → Listing G t k w c l → last .calls ≡ length l
     unfolding filled
@@ -373,7 +365,7 @@ module _ (G : Grammar) (t : Table) (k : ℕ) (w : List ℕ) (rank : ℕ → ℕ)
       ]
     ]
 
-    -- THE NOTEBOOK
+    -- with any fuel that is enough the start gives its result, and the memo in the end records just the calls made
     pub memo-correct-fuel : (memoCall G t k w f 0 0 (blank G w) .outcome ≡ c 0 0) × Recorded G t k w c (memoCall G t k w f 0 0 (blank G w) .memo)
     unfolding filled
     memo-correct-fuel = (
@@ -386,18 +378,18 @@ module _ (G : Grammar) (t : Table) (k : ℕ) (w : List ℕ) (rank : ℕ → ℕ)
         total = memo-calls;
         count = calls-list;
         bounded = omega (arith, memo-calls, count-le (length (last .entries)) (written (last .entries)), good .sound .size);
-        farthest-most = λ x h. elim (good .tally .covers x (called-written x h)) [ inl a ↦ absurd (blank-none x a) | inr a ↦ a ];
-        farthest-called = elim (good .tally .attained) [ inl e ↦ (callAt 0 0, start, sym e) | inr a ↦ (a .0, written-called (a .0) (a .1), a .2) ];
+        farthest-most = λ x h. elim (good .counters .covers x (called-written x h)) [ inl a ↦ absurd (blank-none x a) | inr a ↦ a ];
+        farthest-called = elim (good .counters .attained) [ inl e ↦ (callAt 0 0, start, sym e) | inr a ↦ (a .0, written-called (a .0) (a .1), a .2) ];
         listing = (listed w (last .entries) (G .nonterminals * suc (length w)), listing);
         decided = told;
       },
     )
 
--- THE THEOREM: the memo in the end, for a grammar with no left recursion
+-- under ranks that fall, the descent with a memo table gives the start's result and records just the calls made
 pub memo-correct : (G : Grammar) (t : Table) (k : ℕ) (rank : ℕ → ℕ) → WellScoped G → Falls G rank
     → OwnEntries G t
     → 0 < G .nonterminals → (w : List ℕ) → Fits w → (c : Outcomes) → Results G t k w c
     → (memoCall G t k w (levels G rank w) 0 0 (blank G w) .outcome ≡ c 0 0) × Recorded G t k w c (memoCall G t k w (levels G rank w) 0 0 (blank G w) .memo)
-memo-correct G t k rank closed falls chosen named w short c results =
-    memo-correct-fuel G t k w rank _ closed falls (rank-below rank (G .nonterminals)) chosen c results short named (levels G rank w)
-    (level-top G rank w (callAt 0 0) (named, omega arith))
+memo-correct G t k rank closed falls chosen nonempty w short c results =
+    memo-correct-fuel G t k w rank _ closed falls (rank-below rank (G .nonterminals)) chosen c results short nonempty (levels G rank w)
+    (level-top G rank w (callAt 0 0) (nonempty, omega arith))
