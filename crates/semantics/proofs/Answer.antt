@@ -31,16 +31,17 @@ pub answer : (G : Grammar) (k : ℕ) (F L : Family) (t : Table) (rank : ℕ → 
     → FirstClosed G k F → FollowClosed G k F L → TableRight G k F L t → EveryEnds G k L → 0 < G .nonterminals
     → (w : List ℕ) → Fits w → Over (G .terminals) w → (v : Valuation) → Solves G w v
     → (memoCall G t k w (levels G rank w) 0 0 (blank G w) .outcome ≡ End (length w)) ↔ (v 0 0 (length w) ≡ true)
-answer G k F L t rank closed falls firsts follows right every nonempty w short over v solves =
-    let e = memo-correct G t k rank closed falls (right .chosen) nonempty w short _ (call-results G t k w rank _ closed falls (rank-below rank (G .nonterminals)) (right .chosen) (levels G rank w) (level-top G rank w)) .0 in
-    rw e (verdict G k F L t rank closed falls firsts follows right every w over v solves nonempty)
+answer G k F L t rank wellScoped falls firsts follows right every nonempty w short over v solves =
+    let results = call-results G t k w rank _ wellScoped falls (rank-below rank (G .nonterminals)) (right .chosen) (levels G rank w) (level-top G rank w) in
+    let e = memo-correct G t k rank wellScoped falls (right .chosen) nonempty w short _ results .0 in
+    rw e (verdict G k F L t rank wellScoped falls firsts follows right every w over v solves nonempty)
 
 -- grammar, table and input settle the calls: any two results have the same
 pub calls-unique : (G : Grammar) (t : Table) (k : ℕ) (rank : ℕ → ℕ) → WellScoped G → Falls G rank
     → OwnEntries G t
     → 0 < G .nonterminals → (w : List ℕ) → Fits w → (c c′ : Outcomes) → Results G t k w c → Results G t k w c′
     → (x : Call) → Called G t k w c x → Called G t k w c′ x
-calls-unique G t k rank closed falls chosen nonempty w short c c′ r r′ x h =
-    let b = memo-correct G t k rank closed falls chosen nonempty w short c r .1 in
-    let b′ = memo-correct G t k rank closed falls chosen nonempty w short c′ r′ .1 in
+calls-unique G t k rank wellScoped falls chosen nonempty w short c c′ r r′ x h =
+    let b = memo-correct G t k rank wellScoped falls chosen nonempty w short c r .1 in
+    let b′ = memo-correct G t k rank wellScoped falls chosen nonempty w short c′ r′ .1 in
     b′ .exact x .1 (b .exact x .0 h)

@@ -26,10 +26,12 @@ belowTest-sound n (Nonterminal A ∷ b) t = (ltb→lt A n (and-l (ltb A n) (belo
 unfoldable pub scopedTest : Grammar → Bool
 scopedTest G = all (λ r. ltb (r .head) (G .nonterminals) && all (belowTest (G .nonterminals)) (bodies r)) (G .rules)
 
+-- a grammar that passes the test is well scoped
 pub scopedTest-sound : (G : Grammar) → T (scopedTest G) → WellScoped G
 unfolding scopedTest
 scopedTest-sound G t =
-    let at : (r : Rule) → List·Memᴰ r (G .rules) → T (ltb (r .head) (G .nonterminals) && all (belowTest (G .nonterminals)) (bodies r)) = all-elim _ (G .rules) t in
+    let at : (r : Rule) → List·Memᴰ r (G .rules) → T (ltb (r .head) (G .nonterminals) && all (belowTest (G .nonterminals)) (bodies r)) =
+    all-elim _ (G .rules) t in
     record {
       heads = λ r m. ltb→lt (r .head) (G .nonterminals) (and-l (ltb (r .head) (G .nonterminals)) _ (at r m));
       nonterminals = λ r m b n. belowTest-sound (G .nonterminals) b (all-elim (belowTest (G .nonterminals)) (bodies r) (and-r (ltb (r .head) (G .nonterminals)) _ (at r m)) b n);
@@ -47,6 +49,7 @@ allLeft-elim s p (Nonterminal C ∷ b) t B (there u l) = go (or-cases (not (s C)
 unfoldable pub fallsTest : Grammar → (ℕ → ℕ) → Bool
 fallsTest G rank = all (λ r. all (allLeft (nullable G) (λ B. ltb (rank B) (rank (r .head)))) (bodies r)) (G .rules)
 
+-- ranks that pass the test fall
 pub fallsTest-sound : (G : Grammar) (rank : ℕ → ℕ) → T (fallsTest G rank) → Falls G rank
 unfolding fallsTest
 fallsTest-sound G rank t A B d =
@@ -65,6 +68,7 @@ allLeft-make s p (Nonterminal C ∷ b) h = and-make (p C) (not (s C) || allLeft 
     go (inl u) f = or-r (not (s C)) (allLeft s p b) (f (λ B l. h B (there u l)))
     go (inr n) f = or-l (not (s C)) (allLeft s p b) n
 
+-- ranks that fall pass the test
 pub fallsTest-complete : (G : Grammar) (rank : ℕ → ℕ) → Falls G rank → T (fallsTest G rank)
 unfolding fallsTest
 fallsTest-complete G rank f =

@@ -80,7 +80,8 @@ pub mem-nth : (l : List Rule) (r : Rule) → List·Memᴰ r l → (q : ℕ) × (
 mem-nth (x ∷ l) r (List·Memᴰ·head e) = (zero, (cc))
 mem-nth (x ∷ l) r (List·Memᴰ·tail m) = let s = mem-nth l r m in (suc (s .0), s .1)
 
-pub obey-elim : (o : Body → Outcome) (n : ℕ) (x : Option Rule) (j : ℕ) → T (endsAt (obey o n x) j) → (r : Rule) × (x ≡ some r) × T (endsAt (conclude o n (r .positives) (r .negatives)) j)
+pub obey-elim : (o : Body → Outcome) (n : ℕ) (x : Option Rule) (j : ℕ) → T (endsAt (obey o n x) j)
+    → (r : Rule) × (x ≡ some r) × T (endsAt (conclude o n (r .positives) (r .negatives)) j)
 unfolding obey
 obey-elim o n none j t = absurd t
 obey-elim o n (some r) j t = (r, refl, t)
@@ -152,6 +153,7 @@ module _ (G : Grammar) (t : Table) (k : ℕ) (w : List ℕ)
   unfolding call obey select
   call-make n A i j q r e d h u = rw (e, d) (conclude-make (λ b. run (call G t k w n) w b i) (length w) (r .positives) (r .negatives) j h u)
 
+  -- a call ends between its start and the end of the input, with any fuel
   pub call-forward : (n : ℕ) → Forward w (call G t k w n)
   unfolding agrees all call
   call-forward zero A i j iw u = absurd u
@@ -159,7 +161,8 @@ module _ (G : Grammar) (t : Table) (k : ℕ) (w : List ℕ)
       let r = call-elim n A i j u in
       go (r .0 .positives) (r .3) (and-l (all (λ b. endsAt (run (call G t k w n) w b i) j) (r .0 .positives)) _ (r .4)) (call-forward n)
     where
-      go : (ps : List Body) → (ps ≡ [] → length w ≡ j) → T (all (λ b. endsAt (run (call G t k w n) w b i) j) ps) → Forward w (call G t k w n) → (i ≤ j) × (j ≤ length w)
+      go : (ps : List Body) → (ps ≡ [] → length w ≡ j) → T (all (λ b. endsAt (run (call G t k w n) w b i) j) ps) → Forward w (call G t k w n)
+          → (i ≤ j) × (j ≤ length w)
       go [] h a f = let e : length w ≡ j = h refl in omega arith
       go (b ∷ ps) h a f = run-forward w (call G t k w n) f b i j iw (and-l (endsAt (run (call G t k w n) w b i) j) _ a)
 

@@ -15,7 +15,8 @@ use Rattle.semantics.specs.LeftRecursion.{allNullable, nullStep, nullabl
 use Rattle.semantics.specs.Strings.{look, Over}
 use Rattle.semantics.specs.Descent.{Failed, End, read, run, agrees, confirm, conclude, obey, select, call}
 use Rattle.semantics.proofs.Check.{belowTest, scopedTest, scopedTest-sound, fallsTest, fallsTest-sound}
-use Rattle.semantics.proofs.Predict.{same, member, keep, joins, prefixed, strings, Sets, firstBody, firstRule, followBody, find, allAt, predict, table, firstTest, followTest, tableTest, everyTest, predictive, predictive-verdict}
+use Rattle.semantics.proofs.Predict.{same, member, keep, joins, prefixed, strings, Sets, firstBody, firstRule, followBody, find, allAt}
+use Rattle.semantics.proofs.Predict.{predict, table, firstTest, followTest, tableTest, everyTest, predictive, predictive-verdict}
 use Rattle.semantics.proofs.ExamplesValuations.{balanced, ranking, balanced-scoped, balanced-falls}
 
 -- aⁿbⁿ but for ab, with one token

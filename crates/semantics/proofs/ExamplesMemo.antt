@@ -9,7 +9,8 @@ use Rattle.semantics.specs.Strings.{look}
 use Rattle.semantics.specs.Families.{Table}
 use Rattle.semantics.specs.Descent.{Failed, End, Outcomes, read, run, select}
 use Rattle.semantics.specs.Calls.{callAt, bodyComesTo, negativesComeTo, positivesComeTo, ruleComesTo}
-use Rattle.semantics.specs.Memo.{memoized, pick, andThen, memoRun, memoNegatives, memoPositives, memoRule, memoObey, memoCall, encode, decode, counted, stored, blank}
+use Rattle.semantics.specs.Memo.{memoized, pick, andThen, memoRun, memoNegatives, memoPositives, memoRule, memoObey, memoCall, encode, decode}
+use Rattle.semantics.specs.Memo.{counted, stored, blank}
 use Rattle.semantics.proofs.ExamplesValuations.{balanced}
 
 -- aⁿbⁿ but for ab, with one token

@@ -40,7 +40,8 @@ module _ (G : Grammar) (k : ℕ) (F : Family) (w : List ℕ) (v : Valuation) whe
   abbrev pub FirstSound : Type 0
   FirstSound = (A i j : ℕ) → A < G .nonterminals → i ≤ j → j ≤ length w → T (v A i j) → F A (take k (span w i j))
 
-  pub contains-first : FirstSound → (b : Body) (i j : ℕ) → i ≤ j → j ≤ length w → NonterminalsBelow (G .nonterminals) b → T (contains v w b i j) → FirstBody k F b (take k (span w i j))
+  pub contains-first : FirstSound → (b : Body) (i j : ℕ) → i ≤ j → j ≤ length w → NonterminalsBelow (G .nonterminals) b → T (contains v w b i j)
+      → FirstBody k F b (take k (span w i j))
   unfolding contains
   contains-first h [] i j ij jw scoped t =
       let e : i ≡ j = eqb→eq i j t in
@@ -89,7 +90,8 @@ abbrev pub NullSound : Grammar → List ℕ → Valuation → Type 0
 NullSound G w v = (A i j : ℕ) → A < G .nonterminals → i ≤ j → j ≤ length w → T (v A i j) → i ≡ j → T (nullable G A)
 
 module _ (G : Grammar) (c : WellScoped G) (w : List ℕ) (v : Valuation) where
-  contains-null : NullSound G w v → (b : Body) (i j : ℕ) → i ≤ j → j ≤ length w → i ≡ j → NonterminalsBelow (G .nonterminals) b → T (contains v w b i j) → T (allNullable (nullable G) b)
+  contains-null : NullSound G w v → (b : Body) (i j : ℕ) → i ≤ j → j ≤ length w → i ≡ j → NonterminalsBelow (G .nonterminals) b → T (contains v w b i j)
+      → T (allNullable (nullable G) b)
   unfolding contains allNullable
   contains-null h [] i j ij jw e scoped t = tt
   contains-null h (Terminal a ∷ b) i j ij jw e scoped t = absurd (omega (arith, ltb→lt i j (and-l (ltb i j) _ t)))

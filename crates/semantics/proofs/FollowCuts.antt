@@ -22,5 +22,6 @@ module _ (k : ℕ) (F L : Family) (y : List ℕ) where
   cuts-follow (Terminal a ∷ b) h = cuts-follow b (λ μ ν A e. h (Terminal a ∷ μ) ν A (ap (λ l. Terminal a ∷ l) e))
   cuts-follow (Nonterminal B ∷ b) h = (h [] b B refl, cuts-follow b (λ μ ν A e. h (Nonterminal B ∷ μ) ν A (ap (λ l. Nonterminal B ∷ l) e)))
 
+  -- the definition by recursion on the body and the one by cuts agree
   pub follow-cuts : (b : Body) → FollowBody k F L y b ↔ Cuts b
   follow-cuts b = (λ h μ ν A e. follow-at μ ν A (rw e at h), cuts-follow b)

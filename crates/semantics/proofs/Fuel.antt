@@ -43,21 +43,24 @@ agrees-cong o o′ ps ns j h =
     let q = any-cong (λ b. endsAt (o b) j) (λ b. endsAt (o′ b) j) ns (λ b m. ap (λ x. endsAt x j) (h b (Memᴰ·append-right ps m))) in
     cc
 
-conclude-cong : (o o′ : Body → Outcome) (n : ℕ) (ps ns : List Body) → ((b : Body) → List·Memᴰ b (ps ++ ns) → o b ≡ o′ b) → conclude o n ps ns ≡ conclude o′ n ps ns
+conclude-cong : (o o′ : Body → Outcome) (n : ℕ) (ps ns : List Body) → ((b : Body) → List·Memᴰ b (ps ++ ns) → o b ≡ o′ b)
+    → conclude o n ps ns ≡ conclude o′ n ps ns
 unfolding conclude confirm
 conclude-cong o o′ n [] ns h = ap (λ x. guard x n) (agrees-cong o o′ [] ns n h)
 conclude-cong o o′ n (b ∷ ps) ns h =
     onward-cong (o b) _ _ (λ e _. ap (λ x. guard x e) (agrees-cong o o′ ps ns e (λ b m. h b (List·Memᴰ·tail m))))
     ∙ ap (λ x. onward x (λ e. confirm o′ ps ns e)) (h b (List·Memᴰ·head refl))
 
-pub obey-cong : (o o′ : Body → Outcome) (n : ℕ) (x : Option Rule) → ((r : Rule) → x ≡ some r → (b : Body) → List·Memᴰ b (bodies r) → o b ≡ o′ b) → obey o n x ≡ obey o′ n x
+pub obey-cong : (o o′ : Body → Outcome) (n : ℕ) (x : Option Rule) → ((r : Rule) → x ≡ some r → (b : Body) → List·Memᴰ b (bodies r) → o b ≡ o′ b)
+    → obey o n x ≡ obey o′ n x
 unfolding obey
 obey-cong o o′ n none h = refl
 obey-cong o o′ n (some r) h = conclude-cong o o′ n (r .positives) (r .negatives) (h r refl)
 
 module _ (G : Grammar) (w : List ℕ) (c c′ : Outcomes) (forward : Forward w c) (empty : EmptyNull G w c) (B start : ℕ)
     (H : (A i : ℕ) → A < G .nonterminals → start ≤ i → i ≤ length w → (i ≡ start → LeftDepends G (nullable G) B A) → c A i ≡ c′ A i) where
-  pub run-same : (b : Body) (i : ℕ) → start ≤ i → i ≤ length w → NonterminalsBelow (G .nonterminals) b → (i ≡ start → (A : ℕ) → LeftIn (nullable G) A b → LeftDepends G (nullable G) B A)
+  pub run-same : (b : Body) (i : ℕ) → start ≤ i → i ≤ length w → NonterminalsBelow (G .nonterminals) b
+      → (i ≡ start → (A : ℕ) → LeftIn (nullable G) A b → LeftDepends G (nullable G) B A)
       → run c w b i ≡ run c′ w b i
   unfolding run read
   run-same [] i si iw scoped front = refl
@@ -73,21 +76,24 @@ module _ (G : Grammar) (w : List ℕ) (c c′ : Outcomes) (forward : Forward w c
       run-same b m (omega arith) (omega arith) (scoped .1) (λ e C l. front (omega arith) C (there (empty A i m iw (omega arith) t) l)))
       ∙ ap (λ x. onward x (λ m. run c′ w b m)) (H A i (scoped .0) si iw (λ e. front e A here))
 
-module _ (G : Grammar) (t : Table) (k : ℕ) (w : List ℕ) (rank : ℕ → ℕ) (K : ℕ) (closed : WellScoped G) (falls : Falls G rank)
+module _ (G : Grammar) (t : Table) (k : ℕ) (w : List ℕ) (rank : ℕ → ℕ) (K : ℕ) (wellScoped : WellScoped G) (falls : Falls G rank)
     (high : (A : ℕ) → A < G .nonterminals → rank A < K)
     (chosen : OwnEntries G t) where
-  pub fuel-same : (n n′ A i : ℕ) → A < G .nonterminals → i ≤ length w → (length w - i) * K + rank A < n → (length w - i) * K + rank A < n′ → call G t k w n A i ≡ call G t k w n′ A i
+  -- two fuels above a call's level give the same outcome
+  pub fuel-same : (n n′ A i : ℕ) → A < G .nonterminals → i ≤ length w → (length w - i) * K + rank A < n → (length w - i) * K + rank A < n′
+      → call G t k w n A i ≡ call G t k w n′ A i
   unfolding call
   fuel-same zero n′ A i a iw l l′ = absurd (omega arith)
   fuel-same (suc n) zero A i a iw l l′ = absurd (omega arith)
   fuel-same (suc n) (suc n′) B i b iw l l′ = go (fuel-same n n′)
     where
       go : ((A i′ : ℕ) → A < G .nonterminals → i′ ≤ length w → (length w - i′) * K + rank A < n → (length w - i′) * K + rank A < n′ → call G t k w n A i′ ≡ call G t k w n′ A i′)
-          → obey (λ b. run (call G t k w n) w b i) (length w) (select G (t B (look k w i))) ≡ obey (λ b. run (call G t k w n′) w b i) (length w) (select G (t B (look k w i)))
+          → obey (λ b. run (call G t k w n) w b i) (length w) (select G (t B (look k w i)))
+          ≡ obey (λ b. run (call G t k w n′) w b i) (length w) (select G (t B (look k w i)))
       go h = obey-cong _ _ (length w) (select G (t B (look k w i))) (λ r e b m.
           let s = selected G t k w chosen B (look k w i) r e in
-          run-same G w (call G t k w n) (call G t k w n′) (call-forward G t k w chosen n) (ends-empty G t k w chosen closed n) B i H b i (omega arith) iw
-          (closed .nonterminals r (s .0) b m) (λ _ A x. record { rule = r; body = b; listed = s .0; heads = s .1; held = m; left = x }))
+          run-same G w (call G t k w n) (call G t k w n′) (call-forward G t k w chosen n) (ends-empty G t k w chosen wellScoped n) B i H b i (omega arith) iw
+          (wellScoped .nonterminals r (s .0) b m) (λ _ A x. record { rule = r; body = b; listed = s .0; heads = s .1; held = m; left = x }))
         where
           H : (A i′ : ℕ) → A < G .nonterminals → i ≤ i′ → i′ ≤ length w → (i′ ≡ i → LeftDepends G (nullable G) B A) → call G t k w n A i′ ≡ call G t k w n′ A i′
           H A i′ a ii iw′ left = let x = lower G rank K falls high (length w) A B i i′ a ii iw′ left in h A i′ a iw′ (omega arith) (omega arith)

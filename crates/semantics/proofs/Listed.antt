@@ -15,8 +15,10 @@ use Rattle.semantics.specs.Memo.{pick, indexOf, written}
 
 pub indexOf-injective : (w : List ℕ) (x y : Call) → x .place ≤ length w → y .place ≤ length w → indexOf w x ≡ indexOf w y → x ≡ y
 indexOf-injective w x y h h′ e =
-    let a : x .nonterminal ≡ y .nonterminal = sym (digits-div (x .nonterminal) (omega arith)) ∙ ap (λ z. z / suc (length w)) e ∙ digits-div (y .nonterminal) (omega arith) in
-    let b : x .place ≡ y .place = sym (digits-mod (x .nonterminal) (omega arith)) ∙ ap (λ z. z % suc (length w)) e ∙ digits-mod (y .nonterminal) (omega arith) in
+    let a : x .nonterminal ≡ y .nonterminal =
+    sym (digits-div (x .nonterminal) (omega arith)) ∙ ap (λ z. z / suc (length w)) e ∙ digits-div (y .nonterminal) (omega arith) in
+    let b : x .place ≡ y .place =
+    sym (digits-mod (x .nonterminal) (omega arith)) ∙ ap (λ z. z % suc (length w)) e ∙ digits-mod (y .nonterminal) (omega arith) in
     let s : callAt (x .nonterminal) (x .place) ≡ callAt (y .nonterminal) (y .place) = cc in
     s
 
@@ -56,7 +58,8 @@ module _ (w m : List ℕ) where
       top : T (written m n) → x ≡ nth w n → Below (suc n) x
       top u e = let d = nth-indexOf w n in rw e (d .0, omega (arith, d .1), rw (d .1) u)
 
-      go : (z : Bool) → (T z → T (written m n)) → List·Memᴰ x (pick z (nth w n ∷ listed w m n) (listed w m n)) → (List·Memᴰ x (listed w m n) → Below n x) → Below (suc n) x
+      go : (z : Bool) → (T z → T (written m n)) → List·Memᴰ x (pick z (nth w n ∷ listed w m n) (listed w m n))
+          → (List·Memᴰ x (listed w m n) → Below n x) → Below (suc n) x
       go true g h f = elim (List·Memᴰ·cases-cons h) [ inl e ↦ top (g tt) e | inr k ↦ weaken (f k) ]
       go false g h f = weaken (f h)
 

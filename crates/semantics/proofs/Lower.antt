@@ -78,7 +78,8 @@ module _ (G : Grammar) (w : List ℕ) (c : Outcomes) (forward : ForwardIn G w c)
   abbrev Low : Call → Type 0
   Low x = InRange G w x × (start ≤ x .place) × (x .place ≡ start → LeftDepends G (nullable G) B (x .nonterminal))
 
-  body-low : (b : Body) (i : ℕ) → start ≤ i → i ≤ length w → NonterminalsBelow (G .nonterminals) b → (i ≡ start → (A : ℕ) → LeftIn (nullable G) A b → LeftDepends G (nullable G) B A)
+  body-low : (b : Body) (i : ℕ) → start ≤ i → i ≤ length w → NonterminalsBelow (G .nonterminals) b
+      → (i ≡ start → (A : ℕ) → LeftIn (nullable G) A b → LeftDepends G (nullable G) B A)
       → (x : Call) → List·Memᴰ x (bodyComesTo c w b i) → Low x
   unfolding bodyComesTo read
   body-low [] i si iw scoped front x m = absurd (List·Memᴰ·not-nil m)
@@ -96,10 +97,11 @@ module _ (G : Grammar) (w : List ℕ) (c : Outcomes) (forward : ForwardIn G w c)
         body-low b (s .0) (omega arith) (omega arith) (scoped .1) (λ e C l. front (omega arith) C (there (empty A i (s .0) (scoped .0) iw (omega arith) (s .1)) l)) x (s .2)
   ]
 
-module _ (G : Grammar) (t : Table) (k : ℕ) (w : List ℕ) (rank : ℕ → ℕ) (K : ℕ) (closed : WellScoped G) (falls : Falls G rank)
+module _ (G : Grammar) (t : Table) (k : ℕ) (w : List ℕ) (rank : ℕ → ℕ) (K : ℕ) (wellScoped : WellScoped G) (falls : Falls G rank)
     (high : (A : ℕ) → A < G .nonterminals → rank A < K)
     (chosen : OwnEntries G t)
     (c : Outcomes) (forward : ForwardIn G w c) (empty : EmptyNullIn G w c) where
+  -- each call that a call's rule comes to is in range and of a lower level
   pub call-low : (x : Call) → InRange G w x → (y : Call) → List·Memᴰ y (callComesTo G t k w c x) → InRange G w y × (level w rank K y < level w rank K x)
   unfolding callComesTo level
   call-low x h y m =
@@ -107,6 +109,6 @@ module _ (G : Grammar) (t : Table) (k : ℕ) (w : List ℕ) (rank : ℕ → ℕ)
       chosen-in c w (x .place) (Low G w c forward empty (x .nonterminal) (x .place)) (select G (t (x .nonterminal) (look k w (x .place))))
       (λ r e b n.
       let s = selected G t k w chosen (x .nonterminal) (look k w (x .place)) r e in
-      body-low G w c forward empty (x .nonterminal) (x .place) b (x .place) (omega arith) (h .1) (closed .nonterminals r (s .0) b n)
+      body-low G w c forward empty (x .nonterminal) (x .place) b (x .place) (omega arith) (h .1) (wellScoped .nonterminals r (s .0) b n)
       (λ _ A l. record { rule = r; body = b; listed = s .0; heads = s .1; held = n; left = l })) y m in
       (low .0, lower G rank K falls high (length w) (y .nonterminal) (x .nonterminal) (x .place) (y .place) (low .0 .0) (low .1) (low .0 .1) (low .2))

@@ -39,6 +39,7 @@ module _ (G : Grammar) where
         let e : r .0 .head ≡ A = eqb→eq (r .0 .head) A (and-l (eqb (r .0 .head) A) _ (r .2)) in
         rw e at (c .heads (r .0) (r .1))
 
+    -- whatever the rules make nullable is in the set
     pub nullable-closed : nullStep G (nullable G) ⊆ nullable G
     unfolding nullable
     nullable-closed = after-closed (nullStep G) nullStep-mono (G .nonterminals) head-below

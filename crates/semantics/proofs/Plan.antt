@@ -87,7 +87,8 @@ module _ (c : Outcomes) (w : List ℕ) where
   positives-value i e (b ∷ ps) ns = body-value b i _ ∙ go (endsAt (run c w b i) e) (positives-value i e ps ns)
     where
       go : (x : Bool) → value c (positivesPlan w i e ps ns) ≡ confirm (λ b. run c w b i) ps ns e
-          → value c (pick x (positivesPlan w i e ps ns) (Done Failed)) ≡ guard ((x && all (λ b. endsAt (run c w b i) e) ps) && not (any (λ b. endsAt (run c w b i) e) ns)) e
+          → value c (pick x (positivesPlan w i e ps ns) (Done Failed))
+          ≡ guard ((x && all (λ b. endsAt (run c w b i) e) ps) && not (any (λ b. endsAt (run c w b i) e) ns)) e
       go true h = h
       go false h = refl
 
@@ -170,7 +171,8 @@ module _ (M : MemoCalls) (w : List ℕ) where
       go false h = refl
   body-through (Nonterminal A ∷ b) i next m = go (M A i m .outcome) (M A i m .memo) (λ j m′. body-through b j next m′)
     where
-      go : (o : Outcome) (m : Memo) → ((j : ℕ) (m : Memo) → through M (bodyPlan w b j next) m ≡ through M (next (memoRun M w b j m .outcome)) (memoRun M w b j m .memo))
+      go : (o : Outcome) (m : Memo)
+          → ((j : ℕ) (m : Memo) → through M (bodyPlan w b j next) m ≡ through M (next (memoRun M w b j m .outcome)) (memoRun M w b j m .memo))
           → through M (choose o (next Failed) (λ m. bodyPlan w b m next)) m
           ≡ through M (next (andThen o m (λ j m′. memoRun M w b j m′) .outcome)) (andThen o m (λ j m′. memoRun M w b j m′) .memo)
       go Failed m h = refl
@@ -201,7 +203,8 @@ module _ (M : MemoCalls) (w : List ℕ) where
   rule-through n [] ns i m = negatives-through i n ns m
   rule-through n (b ∷ ps) ns i m = body-through b i _ m ∙ go (memoRun M w b i m .outcome) (memoRun M w b i m .memo)
     where
-      go : (o : Outcome) (m : Memo) → through M (choose o (Done Failed) (λ e. positivesPlan w i e ps ns)) m ≡ andThen o m (λ e m′. memoPositives M w i e ps ns m′)
+      go : (o : Outcome) (m : Memo)
+          → through M (choose o (Done Failed) (λ e. positivesPlan w i e ps ns)) m ≡ andThen o m (λ e m′. memoPositives M w i e ps ns m′)
       go Failed m = refl
       go (End e) m = positives-through i e ps ns m
 

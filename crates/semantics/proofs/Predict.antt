@@ -1,6 +1,7 @@
 -- Families written out as lists, the table that they give, and the strong LL(k) test, under which the verdict theorem applies.
 use mathlib.Core.Bool.{Bool, true, false, not, _&&_, _||_}
-use mathlib.Core.List.{List, [], _∷_, _++_, map, List·Memᴰ, List·Memᴰ·head, List·Memᴰ·tail, List·Memᴰ·cases-cons, List·Memᴰ·not-nil, Memᴰ·cast, Memᴰ·map, Memᴰ·append-left, Memᴰ·append-right}
+use mathlib.Core.List.{List, [], _∷_, _++_, map, List·Memᴰ, List·Memᴰ·head, List·Memᴰ·tail, List·Memᴰ·cases-cons, List·Memᴰ·not-nil, Memᴰ·cast}
+use mathlib.Core.List.{Memᴰ·map, Memᴰ·append-left, Memᴰ·append-right}
 use mathlib.Core.Logic.{_↔_, _⊎_, inl, inr}
 use mathlib.Core.Option.{Option, none, some}
 use mathlib.Core.Path.{_≡_, refl, ap, _∙_}
@@ -62,7 +63,8 @@ unfolding keep
 keep-mem p [] x m t = m
 keep-mem p (y ∷ l) x m t = go (List·Memᴰ·cases-cons m) (p y) refl (λ n. keep-mem p l x n t)
   where
-    go : (x ≡ y) ⊎ List·Memᴰ x l → (b : Bool) → p y ≡ b → (List·Memᴰ x l → List·Memᴰ x (keep p l)) → List·Memᴰ x (elim b [ true ↦ y ∷ keep p l | false ↦ keep p l ])
+    go : (x ≡ y) ⊎ List·Memᴰ x l → (b : Bool) → p y ≡ b → (List·Memᴰ x l → List·Memᴰ x (keep p l))
+        → List·Memᴰ x (elim b [ true ↦ y ∷ keep p l | false ↦ keep p l ])
     go (inl e) true q f = List·Memᴰ·head e
     go (inl e) false q f = absurd (T-subst (ap p e ∙ q) t)
     go (inr n) true q f = List·Memᴰ·tail (f n)
@@ -78,7 +80,8 @@ unfolding joins
 joins-mem k [] ys u y m n = absurd (List·Memᴰ·not-nil m)
 joins-mem k (x ∷ us) ys u y m n = go (List·Memᴰ·cases-cons m) (λ m. joins-mem k us ys u y m n)
   where
-    go : (u ≡ x) ⊎ List·Memᴰ u us → (List·Memᴰ u us → List·Memᴰ (take k (u ++ y)) (joins k us ys)) → List·Memᴰ (take k (u ++ y)) (map (λ y. take k (x ++ y)) ys ++ joins k us ys)
+    go : (u ≡ x) ⊎ List·Memᴰ u us → (List·Memᴰ u us → List·Memᴰ (take k (u ++ y)) (joins k us ys))
+        → List·Memᴰ (take k (u ++ y)) (map (λ y. take k (x ++ y)) ys ++ joins k us ys)
     go (inl e) f = rw e (Memᴰ·append-left (joins k us ys) (Memᴰ·map (λ y. take k (x ++ y)) n))
     go (inr m) f = Memᴰ·append-right (map (λ y. take k (x ++ y)) ys) (f m)
 
@@ -130,7 +133,8 @@ first-body k s [] x h = List·Memᴰ·head h
 first-body k s (Terminal a ∷ b) x h = Memᴰ·cast (h .4) (joins-mem k (take k (a ∷ []) ∷ []) (firstBody k s b) (h .0) (h .1) (List·Memᴰ·head (h .2)) (first-body k s b (h .1) (h .3)))
 first-body k s (Nonterminal A ∷ b) x h = Memᴰ·cast (h .4) (joins-mem k (s A) (firstBody k s b) (h .0) (h .1) (h .2) (first-body k s b (h .1) (h .3)))
 
-first-rule : (k n : ℕ) (s : Sets) (ps : List Body) (x : List ℕ) → Lookahead k n x → ((b : Body) → List·Memᴰ b ps → FirstBody k (In s) b x) → List·Memᴰ x (firstRule k n s ps)
+first-rule : (k n : ℕ) (s : Sets) (ps : List Body) (x : List ℕ) → Lookahead k n x → ((b : Body) → List·Memᴰ b ps → FirstBody k (In s) b x)
+    → List·Memᴰ x (firstRule k n s ps)
 unfolding firstRule
 first-rule k n s [] x l h = strings-mem k n x l
 first-rule k n s (b ∷ ps) x l h =
@@ -161,7 +165,8 @@ find-nth p [] q e = let z : _≡_ {A = ℕ} 0 1 = cc in absurd (omega arith)
 find-nth p (r ∷ l) q e = go (p r) refl (find p l) (find-nth p l) e
   where
     go : (b : Bool) → p r ≡ b → (o : Option ℕ) → ((q : ℕ) → o ≡ some q → (r : Rule) × (getElem? l q ≡ some r) × T (p r))
-        → elim b as (λ _. Option ℕ) [ true ↦ some 0 | false ↦ elim o [ none ↦ none | some q ↦ some (suc q) ] ] ≡ some q → (x : Rule) × (getElem? (r ∷ l) q ≡ some x) × T (p x)
+        → elim b as (λ _. Option ℕ) [ true ↦ some 0 | false ↦ elim o [ none ↦ none | some q ↦ some (suc q) ] ] ≡ some q
+        → (x : Rule) × (getElem? (r ∷ l) q ≡ some x) × T (p x)
     go true d o f e = let z : 0 ≡ q = cc in rw (← z) (r, refl, rw d tt)
     go false d none f e = let z : _≡_ {A = ℕ} 0 1 = cc in absurd (omega arith)
     go false d (some m) f e = let z : suc m ≡ q = cc in rw (← z) (f m refl)

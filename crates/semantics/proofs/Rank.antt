@@ -12,7 +12,8 @@ use Rattle.grammar.specs.Syntax.{Body, Grammar, bodies, NonterminalsBelow, Well
 use Rattle.grammar.specs.declared.Symbol.the-variants.{Terminal, Nonterminal}
 use Rattle.semantics.specs.Rounds.{Set, _⊆_, after}
 use Rattle.semantics.specs.Valuations.{Valuation, Solves}
-use Rattle.semantics.specs.LeftRecursion.{nullable, LeftIn, here, there, LeftDepends, Falls, allLeft, grounded, NoLeftRecursion, rank, LeftReaches, once, more}
+use Rattle.semantics.specs.LeftRecursion.{nullable, LeftIn, here, there, LeftDepends, Falls, allLeft, grounded, NoLeftRecursion, rank}
+use Rattle.semantics.specs.LeftRecursion.{LeftReaches, once, more}
 use Rattle.semantics.proofs.Booleans.{test, and-l, and-r, and-make, or-map, or-cases, not-and, not-or-l, not-or-r}
 use Rattle.semantics.proofs.Quantified.{all-map, all-elim, not-all, count-lt}
 use Rattle.semantics.proofs.Rounds.{after-grows, after-closed}
@@ -58,7 +59,8 @@ module _ (G : Grammar) (c : WellScoped G) where
   grounded-bound p A t = ltb→lt A (G .nonterminals) (and-l (ltb A (G .nonterminals)) _ t)
 
   -- a nonterminal that is not grounded has a left neighbour that is not
-  not-grounded : (p : Set) (A : ℕ) → A < G .nonterminals → T (not (grounded G p A)) → (B : ℕ) × LeftDepends G (nullable G) A B × (B < G .nonterminals) × T (not (p B))
+  not-grounded : (p : Set) (A : ℕ) → A < G .nonterminals → T (not (grounded G p A))
+      → (B : ℕ) × LeftDepends G (nullable G) A B × (B < G .nonterminals) × T (not (p B))
   unfolding grounded
   not-grounded p A a t =
       let r = not-all _ (G .rules) (not-and (ltb A (G .nonterminals)) _ t (lt→ltb A (G .nonterminals) a)) in

@@ -51,6 +51,7 @@ module _ (Φ : Set → Set) (mono : (s s′ : Set) → s ⊆ s′ → Φ s ⊆ �
           | inr k ↦ inl (stable-next n (old k))
         ]
 
+    -- after N rounds the set is closed under the operator
     pub after-closed : Φ (after Φ N) ⊆ after Φ N
     unfolding after
     after-closed A t = elim (grow N) [ inl h ↦ h A t | inr h ↦ count-full N (after Φ N) h A (bound (after Φ N) A t) ]

@@ -20,7 +20,8 @@ use Rattle.semantics.proofs.Nullable.{nullable-closed}
 -- Two valuations that agree on each piece that a body's reading of i .. j can ask for read the body alike. H's last premise: a piece that is the
 -- whole span is one on which A left-depends. Its result: they agree there, and what derives an empty span is in s
 module _ (G : Grammar) (s : ℕ → Bool) (w : List ℕ) (v v′ : Valuation) (A i j : ℕ)
-    (H : (B k m : ℕ) → B < G .nonterminals → i ≤ k → k ≤ m → m ≤ j → (k ≡ i → m ≡ j → LeftDepends G s A B) → (v B k m ≡ v′ B k m) × (k ≡ m → T (v B k m) → T (s B))) where
+    (H : (B k m : ℕ) → B < G .nonterminals → i ≤ k → k ≤ m → m ≤ j → (k ≡ i → m ≡ j → LeftDepends G s A B)
+    → (v B k m ≡ v′ B k m) × (k ≡ m → T (v B k m) → T (s B))) where
   contains-same : (b : Body) (k : ℕ) → i ≤ k → k ≤ j → NonterminalsBelow (G .nonterminals) b → (k ≡ i → (B : ℕ) → LeftIn s B b → LeftDepends G s A B)
       → contains v w b k j ≡ contains v′ w b k j
   unfolding contains
@@ -92,7 +93,7 @@ rank-below rank (suc n) A h = go (ℕ-discrete A n) (rank-below rank n A)
 
 -- The levels: a span's length counts first, then the rank
 module _ (G : Grammar) (s : ℕ → Bool) (w : List ℕ) (rank : ℕ → ℕ) (K : ℕ)
-    (closed : WellScoped G)
+    (wellScoped : WellScoped G)
     (null : (A : ℕ) → A < G .nonterminals → T (nullStep G s A) → T (s A))
     (high : (A : ℕ) → A < G .nonterminals → rank A < K)
     (falls : (A B : ℕ) → LeftDepends G s A B → rank B < rank A) where
@@ -114,9 +115,10 @@ module _ (G : Grammar) (s : ℕ → Bool) (w : List ℕ) (rank : ℕ → ℕ) (K
 
   climb : (n : ℕ) (v v′ : Valuation) → Same n v v′ → Same (suc n) (byRules G w v) (byRules G w v′)
   unfolding Same
-  climb n v v′ h A i j a ij jw l = (byRules-same G s w v v′ A i j H closed ij, λ e t. null A a (byRules-null G s w v v′ A i j H closed ij e t))
+  climb n v v′ h A i j a ij jw l = (byRules-same G s w v v′ A i j H wellScoped ij, λ e t. null A a (byRules-null G s w v v′ A i j H wellScoped ij e t))
     where
-      H : (B k m : ℕ) → B < G .nonterminals → i ≤ k → k ≤ m → m ≤ j → (k ≡ i → m ≡ j → LeftDepends G s A B) → (v B k m ≡ v′ B k m) × (k ≡ m → T (v B k m) → T (s B))
+      H : (B k m : ℕ) → B < G .nonterminals → i ≤ k → k ≤ m → m ≤ j → (k ≡ i → m ≡ j → LeftDepends G s A B)
+          → (v B k m ≡ v′ B k m) × (k ≡ m → T (v B k m) → T (s B))
       H B k m b ik km mj left = h B k m b km (omega arith) (go (decLt (m - k) (j - i)))
         where
           go : Dec (m - k < j - i) → level B k m < n

@@ -21,7 +21,8 @@ use Rattle.semantics.proofs.Quantified.{any-cong, all-cong, any-make, a
 use Rattle.semantics.proofs.Unique.{rank-below}
 use Rattle.semantics.proofs.Strings.{look-split, look-end, look-none, all-span, take-short}
 use Rattle.semantics.proofs.FirstSound.{FirstSound, NullSound, contains-first, rule-first, first-sound, null-sound}
-use Rattle.semantics.proofs.Ends.{ends-end, end-ends, onward-elim, onward-make, onward-guard, mem-nth, Forward, run-forward, EmptyNull, call-elim, call-make, call-forward, ends-empty}
+use Rattle.semantics.proofs.Ends.{ends-end, end-ends, onward-elim, onward-make, onward-guard, mem-nth, Forward, run-forward, EmptyNull}
+use Rattle.semantics.proofs.Ends.{call-elim, call-make, call-forward, ends-empty}
 use Rattle.semantics.proofs.Fuel.{lower}
 
 -- to go on from where o ends is to go on from some place between
@@ -39,10 +40,11 @@ onward-below o f i j h = both _ _
     onward-make o f j (s .0) (and-l (endsAt o (s .0)) _ u) (and-r (endsAt o (s .0)) _ u))
 
 -- A body of B started at `start`, that ends at j, where y follows. H: the calls that it makes have the right verdict
-module _ (G : Grammar) (k : ℕ) (F L : Family) (w : List ℕ) (v : Valuation) (c : Outcomes) (closed : WellScoped G)
+module _ (G : Grammar) (k : ℕ) (F L : Family) (w : List ℕ) (v : Valuation) (c : Outcomes) (wellScoped : WellScoped G)
     (first : FirstSound G k F w v) (null : NullSound G w v) (forward : Forward w c) (empty : EmptyNull G w c)
     (B start j : ℕ) (jw : j ≤ length w)
-    (H : (A i m : ℕ) → A < G .nonterminals → start ≤ i → i ≤ m → m ≤ length w → (i ≡ start → LeftDepends G (nullable G) B A) → L A (look k w m) → endsAt (c A i) m ≡ v A i m) where
+    (H : (A i m : ℕ) → A < G .nonterminals → start ≤ i → i ≤ m → m ≤ length w → (i ≡ start → LeftDepends G (nullable G) B A) → L A (look k w m)
+    → endsAt (c A i) m ≡ v A i m) where
   run-contains : (b : Body) (i : ℕ) → start ≤ i → i ≤ j → NonterminalsBelow (G .nonterminals) b → FollowBody k F L (look k w j) b
       → (i ≡ start → (A : ℕ) → LeftIn (nullable G) A b → LeftDepends G (nullable G) B A)
       → endsAt (run c w b i) j ≡ contains v w b i j
@@ -50,7 +52,8 @@ module _ (G : Grammar) (k : ℕ) (F L : Family) (w : List ℕ) (v : Valuation) (
   run-contains [] i si ij scoped follow front = refl
   run-contains (Terminal a ∷ b) i si ij scoped follow front =
       let x : Bool = eqb (getD w i 0) a in
-      let next : suc i ≤ j → endsAt (run c w b (suc i)) j ≡ contains v w b (suc i) j = λ l. run-contains b (suc i) (omega arith) l scoped follow (λ e. absurd (omega arith)) in
+      let next : suc i ≤ j → endsAt (run c w b (suc i)) j ≡ contains v w b (suc i) j =
+      λ l. run-contains b (suc i) (omega arith) l scoped follow (λ e. absurd (omega arith)) in
       onward-guard (ltb i (length w) && x) (suc i) (λ m. run c w b m) j ∙ both _ _
       (λ t.
       let p = and-l (ltb i (length w) && x) _ t in
@@ -81,11 +84,12 @@ module _ (G : Grammar) (k : ℕ) (F L : Family) (w : List ℕ) (v : Valuation) (
   module _ (sj : start ≤ j) (follows : FollowClosed G k F L) (y : L B (look k w j)) where
     body-same : (r : Rule) → List·Memᴰ r (G .rules) → r .head ≡ B → (b : Body) → List·Memᴰ b (bodies r) → endsAt (run c w b start) j ≡ contains v w b start j
     body-same r m e b n =
-        run-contains b start (omega arith) sj (closed .nonterminals r m b n) (follows .follows r m b n (look k w j) (rw e y))
+        run-contains b start (omega arith) sj (wellScoped .nonterminals r m b n) (follows .follows r m b n (look k w j) (rw e y))
         (λ _ A l. record { rule = r; body = b; listed = m; heads = e; held = n; left = l })
 
     pub rule-same : (r : Rule) → List·Memᴰ r (G .rules) → r .head ≡ B
-        → agrees (λ b. run c w b start) (r .positives) (r .negatives) j ≡ (all (λ b. contains v w b start j) (r .positives) && not (any (λ b. contains v w b start j) (r .negatives)))
+        → agrees (λ b. run c w b start) (r .positives) (r .negatives) j
+        ≡ (all (λ b. contains v w b start j) (r .positives) && not (any (λ b. contains v w b start j) (r .negatives)))
     unfolding agrees
     rule-same r m e =
         let p = all-cong (λ b. endsAt (run c w b start) j) (λ b. contains v w b start j) (r .positives) (λ b n. body-same r m e b (Memᴰ·append-left (r .negatives) n)) in
@@ -93,7 +97,7 @@ module _ (G : Grammar) (k : ℕ) (F L : Family) (w : List ℕ) (v : Valuation) (
         cc
 
 module _ (G : Grammar) (k : ℕ) (F L : Family) (t : Table) (w : List ℕ) (v : Valuation) (rank : ℕ → ℕ) (K : ℕ)
-    (closed : WellScoped G) (falls : Falls G rank) (solves : Solves G w v)
+    (wellScoped : WellScoped G) (falls : Falls G rank) (solves : Solves G w v)
     (high : (A : ℕ) → A < G .nonterminals → rank A < K)
     (over : Over (G .terminals) w)
     (firsts : FirstClosed G k F) (follows : FollowClosed G k F L) (right : TableRight G k F L t) (every : EveryEnds G k L) where
@@ -109,15 +113,17 @@ module _ (G : Grammar) (k : ℕ) (F L : Family) (t : Table) (w : List ℕ) (v : 
   climb n h B i j b ij jw l y = both _ _ there′ back
     where
       first : FirstSound G k F w v
-      first = first-sound G rank closed falls w v solves k F firsts over
+      first = first-sound G rank wellScoped falls w v solves k F firsts over
 
-      H : (A i′ m : ℕ) → A < G .nonterminals → i ≤ i′ → i′ ≤ m → m ≤ length w → (i′ ≡ i → LeftDepends G (nullable G) B A) → L A (look k w m) → endsAt (calls n A i′) m ≡ v A i′ m
+      H : (A i′ m : ℕ) → A < G .nonterminals → i ≤ i′ → i′ ≤ m → m ≤ length w → (i′ ≡ i → LeftDepends G (nullable G) B A) → L A (look k w m)
+          → endsAt (calls n A i′) m ≡ v A i′ m
       H A i′ m a ii im mw left z = let x = lower G rank K falls high (length w) A B i i′ a ii (omega arith) left in h A i′ m a im mw (omega arith) z
 
       same : (r : Rule) → List·Memᴰ r (G .rules) → r .head ≡ B
-          → agrees (λ b. run (calls n) w b i) (r .positives) (r .negatives) j ≡ (all (λ b. contains v w b i j) (r .positives) && not (any (λ b. contains v w b i j) (r .negatives)))
-      same = rule-same G k F L w v (calls n) closed first (null-sound G rank closed falls w v solves)
-          (call-forward G t k w (right .chosen) n) (ends-empty G t k w (right .chosen) closed n) B i j jw H ij follows y
+          → agrees (λ b. run (calls n) w b i) (r .positives) (r .negatives) j
+          ≡ (all (λ b. contains v w b i j) (r .positives) && not (any (λ b. contains v w b i j) (r .negatives)))
+      same = rule-same G k F L w v (calls n) wellScoped first (null-sound G rank wellScoped falls w v solves)
+          (call-forward G t k w (right .chosen) n) (ends-empty G t k w (right .chosen) wellScoped n) B i j jw H ij follows y
 
       there′ : T (endsAt (calls (suc n) B i) j) → T (any (derives v w B i j) (G .rules))
       there′ u =
@@ -135,7 +141,7 @@ module _ (G : Grammar) (k : ℕ) (F L : Family) (t : Table) (w : List ℕ) (v : 
           let p = and-l (all (λ b. contains v w b i j) (r .positives)) _ x in
           let q = mem-nth (G .rules) r m in
           let y′ : L (r .head) (look k w j) = rw e y in
-          let f = rule-first G k F w v closed first i j ij jw r m p in
+          let f = rule-first G k F w v wellScoped first i j ij jw r m p in
           let d = right .chooses (q .0) r (q .1) (take k (span w i j)) (look k w j) (take-short k (span w i j), all-span _ k w i j over) f y′ in
           let d′ : t B (look k w i) ≡ some (q .0) = cc (look-split k w i j ij) in
           call-make G t k w (right .chosen) n B i j (q .0) r d′ (q .1)
@@ -151,14 +157,15 @@ ends-iff : (o : Outcome) (j : ℕ) (b : Bool) → endsAt o j ≡ b → (o ≡ En
 ends-iff o j b e = (λ p. T-true b (T-subst e (end-ends o j p)), λ p. ends-end o j (T-subst (sym e) (true-T b p)))
 
 -- the same in words of outcomes, and for the start and the whole input
-module _ (G : Grammar) (k : ℕ) (F L : Family) (t : Table) (rank : ℕ → ℕ) (closed : WellScoped G) (falls : Falls G rank)
+module _ (G : Grammar) (k : ℕ) (F L : Family) (t : Table) (rank : ℕ → ℕ) (wellScoped : WellScoped G) (falls : Falls G rank)
     (firsts : FirstClosed G k F) (follows : FollowClosed G k F L) (right : TableRight G k F L t) (every : EveryEnds G k L)
     (w : List ℕ) (over : Over (G .terminals) w) (v : Valuation) (solves : Solves G w v) where
-  pub local-verdict : (n A i j : ℕ) → A < G .nonterminals → i ≤ j → j ≤ length w → (length w - i) * suc (totalRank rank (G .nonterminals)) + rank A < n → L A (look k w j)
+  pub local-verdict : (n A i j : ℕ) → A < G .nonterminals → i ≤ j → j ≤ length w → (length w - i) * suc (totalRank rank (G .nonterminals)) + rank A < n
+      → L A (look k w j)
       → (call G t k w n A i ≡ End j) ↔ (v A i j ≡ true)
   local-verdict n A i j a ij jw l y =
       ends-iff (call G t k w n A i) j (v A i j)
-      (verdict-at G k F L t w v rank (suc (totalRank rank (G .nonterminals))) closed falls solves (rank-below rank (G .nonterminals)) over firsts follows right every n A i j a ij jw l y)
+      (verdict-at G k F L t w v rank (suc (totalRank rank (G .nonterminals))) wellScoped falls solves (rank-below rank (G .nonterminals)) over firsts follows right every n A i j a ij jw l y)
 
   pub verdict : 0 < G .nonterminals → (call G t k w (levels G rank w) 0 0 ≡ End (length w)) ↔ (v 0 0 (length w) ≡ true)
   verdict a =

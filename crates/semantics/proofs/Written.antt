@@ -19,7 +19,8 @@ use Rattle.semantics.specs.Strings.{look}
 use Rattle.semantics.specs.Families.{Table, OwnEntries}
 use Rattle.semantics.specs.Descent.{Outcome, Failed, End, endsAt, Outcomes, select}
 use Rattle.semantics.specs.Calls.{Call, callAt, InRange, Results, callComesTo, Called, start, more, Listing}
-use Rattle.semantics.specs.Memo.{Memo, Memoized, memoized, pick, memoObey, memoCall, encode, decode, indexOf, entry, counted, stored, blank, written, filled, Recorded, Fits, uncalledCode, failedCode}
+use Rattle.semantics.specs.Memo.{Memo, Memoized, memoized, pick, memoObey, memoCall, encode, decode, indexOf, entry, counted, stored, blank}
+use Rattle.semantics.specs.Memo.{written, filled, Recorded, Fits, uncalledCode, failedCode}
 use Rattle.semantics.proofs.Booleans.{T-true, T-false, and-r, both, test}
 use Rattle.semantics.proofs.Quantified.{count-le}
 use Rattle.semantics.proofs.Unique.{rank-below}
@@ -94,8 +95,10 @@ module _ (G : Grammar) (w : List ℕ) (m : List ℕ) (size : length m ≡ G .non
       let n = indexOf w x in
       let l : n < length m = rw size (digits-lt (ranged .0) (omega arith)) in
       let d : length after ≡ length m = length-set m n v in
-      let s : count (length m) (written after) ≡ suc (count (length m) (λ y. written after y && not (eqb y n))) = count-but (length m) (written after) n l (store-this .1) in
-      let r : count (length m) (λ y. written after y && not (eqb y n)) ≡ count (length m) (written m) = count-cong (length m) _ (written m) (λ y _. same y (ℕ-discrete y n)) in
+      let s : count (length m) (written after) ≡ suc (count (length m) (λ y. written after y && not (eqb y n))) =
+      count-but (length m) (written after) n l (store-this .1) in
+      let r : count (length m) (λ y. written after y && not (eqb y n)) ≡ count (length m) (written m) =
+      count-cong (length m) _ (written m) (λ y _. same y (ℕ-discrete y n)) in
       rw d (s ∙ ap suc r)
     where
       same : (y : ℕ) → Dec (y ≡ indexOf w x) → (written after y && not (eqb y (indexOf w x))) ≡ written m y
@@ -106,17 +109,17 @@ module _ (G : Grammar) (w : List ℕ) (m : List ℕ) (size : length m ≡ G .non
           let s = getD-set-other m (indexOf w x) y v uncalledCode e in
           but-same (written after y) y (indexOf w x) e ∙ ap (λ z. not (eqb z uncalledCode)) s
 
-module _ (G : Grammar) (t : Table) (k : ℕ) (w : List ℕ) (rank : ℕ → ℕ) (K : ℕ) (closed : WellScoped G) (falls : Falls G rank)
+module _ (G : Grammar) (t : Table) (k : ℕ) (w : List ℕ) (rank : ℕ → ℕ) (K : ℕ) (wellScoped : WellScoped G) (falls : Falls G rank)
     (high : (A : ℕ) → A < G .nonterminals → rank A < K)
     (chosen : OwnEntries G t)
     (c : Outcomes) (results : Results G t k w c) (short : Fits w) where
   small : (x : Call) → InRange G w x → (j : ℕ) → T (endsAt (c (x .nonterminal) (x .place)) j) → j ≤ length w
-  small x h j u = results-forward G t k w rank K closed falls high chosen c results (x .nonterminal) (x .place) j (h .0) (h .1) u .1
+  small x h j u = results-forward G t k w rank K wellScoped falls high chosen c results (x .nonterminal) (x .place) j (h .0) (h .1) u .1
 
   low : (x : Call) → InRange G w x → (y : Call) → List·Memᴰ y (callComesTo G t k w c x) → InRange G w y × (level w rank K y < level w rank K x)
   low =
-      call-low G t k w rank K closed falls high chosen c (results-forward G t k w rank K closed falls high chosen c results)
-      (results-empty G t k w rank K closed falls high chosen c results)
+      call-low G t k w rank K wellScoped falls high chosen c (results-forward G t k w rank K wellScoped falls high chosen c results)
+      (results-empty G t k w rank K wellScoped falls high chosen c results)
 
   -- from m to m′: what was written stays; what is new is below b, and all that it comes to is written
   record Grows (b : ℕ) (m m′ : List ℕ) : Type 0 where
@@ -261,7 +264,8 @@ module _ (G : Grammar) (t : Table) (k : ℕ) (w : List ℕ) (rank : ℕ → ℕ)
         o : Option Rule
         o = select G (t (x .nonterminal) (look k w (x .place)))
 
-        found : T (not (eqb (entry w (m .entries) x) uncalledCode)) → Good (suc (level w rank K x)) (c (x .nonterminal) (x .place)) (x ∷ []) m (memoized (decode (entry w (m .entries) x)) m)
+        found : T (not (eqb (entry w (m .entries) x) uncalledCode))
+            → Good (suc (level w rank K x)) (c (x .nonterminal) (x .place)) (x ∷ []) m (memoized (decode (entry w (m .entries) x)) m)
         found u = record {
           tells = rw (s .right x (ranged, u) .0) (decode-encode (length w) (c (x .nonterminal) (x .place)) short (small x ranged));
           sound = s;
@@ -270,13 +274,15 @@ module _ (G : Grammar) (t : Table) (k : ℕ) (w : List ℕ) (rank : ℕ → ℕ)
           counters = counters-same m;
         }
 
-        ran : GoodCalls f → Good (level w rank K x) (c (x .nonterminal) (x .place)) (callComesTo G t k w c x) (counted (x .place) m) (memoObey (memoCall G t k w f) w o (x .place) (counted (x .place) m))
+        ran : GoodCalls f
+            → Good (level w rank K x) (c (x .nonterminal) (x .place)) (callComesTo G t k w c x) (counted (x .place) m) (memoObey (memoCall G t k w f) w o (x .place) (counted (x .place) m))
         ran calls =
             let g = through-good f (level w rank K x) (omega arith) calls (plan w o (x .place)) (counted (x .place) m) s (λ y n.
             let n′ : List·Memᴰ y (callComesTo G t k w c x) = rw (plan-asked c w o (x .place)) at n in
             let d = low x ranged y n′ in
             (d .0, d .1, onward x ranged p y n′)) in
-            let e : value c (plan w o (x .place)) ≡ c (x .nonterminal) (x .place) = plan-value c w o (x .place) ∙ sym (results (x .nonterminal) (x .place) (ranged .0) (ranged .1)) in
+            let e : value c (plan w o (x .place)) ≡ c (x .nonterminal) (x .place) =
+            plan-value c w o (x .place) ∙ sym (results (x .nonterminal) (x .place) (ranged .0) (ranged .1)) in
             rw (plan-asked c w o (x .place), plan-through (memoCall G t k w f) w o (x .place) (counted (x .place) m), e) at g
 
         go : T (eqb (entry w (m .entries) x) uncalledCode) ⊎ T (not (eqb (entry w (m .entries) x) uncalledCode)) → GoodCalls f
@@ -390,6 +396,6 @@ pub memo-correct : (G : Grammar) (t : Table) (k : ℕ) (rank : ℕ → ℕ) → 
     → OwnEntries G t
     → 0 < G .nonterminals → (w : List ℕ) → Fits w → (c : Outcomes) → Results G t k w c
     → (memoCall G t k w (levels G rank w) 0 0 (blank G w) .outcome ≡ c 0 0) × Recorded G t k w c (memoCall G t k w (levels G rank w) 0 0 (blank G w) .memo)
-memo-correct G t k rank closed falls chosen nonempty w short c results =
-    memo-correct-fuel G t k w rank _ closed falls (rank-below rank (G .nonterminals)) chosen c results short nonempty (levels G rank w)
+memo-correct G t k rank wellScoped falls chosen nonempty w short c results =
+    memo-correct-fuel G t k w rank _ wellScoped falls (rank-below rank (G .nonterminals)) chosen c results short nonempty (levels G rank w)
     (level-top G rank w (callAt 0 0) (nonempty, omega arith))

@@ -49,7 +49,8 @@ OwnEntries G t = (A : ℕ) (x : List ℕ) (q : ℕ) → t A x ≡ some q → (r 
 
 -- the table has each rule wherever the rule claims an entry (document 01: a rule claims columns)
 pub record TableRight (G : Grammar) (k : ℕ) (F L : Family) (t : Table) : Type 0 where
-  pub chooses : (q : ℕ) (r : Rule) → getElem? (G .rules) q ≡ some r → (u y : List ℕ) → Lookahead k (G .terminals) u → FirstRule k F r u → L (r .head) y → t (r .head) (take k (u ++ y)) ≡ some q
+  pub chooses : (q : ℕ) (r : Rule) → getElem? (G .rules) q ≡ some r → (u y : List ℕ) → Lookahead k (G .terminals) u → FirstRule k F r u → L (r .head) y
+      → t (r .head) (take k (u ++ y)) ≡ some q
   pub chosen : OwnEntries G t
 
 -- a rule with no positive body takes all that is left: only the end may follow
