@@ -8,16 +8,18 @@ use native.Mathlib.Omega.{arith}
 use lib.ListN.{length}
 use Rattle.grammar.specs.Syntax.{Grammar, WellScoped}
 use Rattle.grammar.specs.declared.Symbol.the-variants.{Terminal, Nonterminal}
-use Rattle.semantics.specs.Quantifiers.{any, all}
+use Rattle.semantics.specs.Quantifiers.{pick, any, all, below, lowest}
 use Rattle.semantics.specs.Rounds.{after}
-use Rattle.semantics.specs.Valuations.{Valuation, Solves, levels}
-use Rattle.semantics.specs.LeftRecursion.{allNullable, nullStep, nullable, Falls, allLeft}
+use Rattle.semantics.specs.Valuations.{Valuation, Solves}
+use Rattle.semantics.specs.LeftRecursion.{allNullable, nullStep, nullable, NoLeftRecursion, leftIn, leftDepends, reachStep, leftReaches, leftRecursive}
+use Rattle.semantics.specs.LeftRecursion.{lowestLeftRecursive}
 use Rattle.semantics.specs.Strings.{look, Over}
-use Rattle.semantics.specs.Descent.{Failed, End, read, run, agrees, confirm, conclude, obey, select, call}
-use Rattle.semantics.proofs.Check.{belowTest, scopedTest, scopedTest-sound, fallsTest, fallsTest-sound}
+use Rattle.semantics.specs.Descent.{Failed, End, read, run, agrees, confirm, conclude, obey, select, byTable, within, descend}
+use Rattle.semantics.proofs.Check.{belowTest, scopedTest, scopedTest-sound}
+use Rattle.semantics.proofs.LeftRecursion.{lowestLeftRecursive-none}
 use Rattle.semantics.proofs.Predict.{same, member, keep, joins, prefixed, strings, Sets, firstBody, firstRule, followBody, find, allAt}
 use Rattle.semantics.proofs.Predict.{predict, table, firstTest, followTest, tableTest, everyTest, predictive, predictive-verdict}
-use Rattle.semantics.proofs.ExamplesValuations.{balanced, ranking, balanced-scoped, balanced-falls}
+use Rattle.semantics.proofs.ExamplesValuations.{balanced, balanced-scoped, balanced-free}
 
 -- aⁿbⁿ but for ab, with one token
 abbrev first1 : Sets
@@ -28,16 +30,16 @@ follow1 zero = [] ∷ []
 follow1 (suc A) = [] ∷ (1 ∷ []) ∷ []
 
 balanced-right : (w : List ℕ) → Over 2 w → (v : Valuation) → Solves balanced w v
-    → (call balanced (table balanced 1 first1 follow1) 1 w (levels balanced ranking w) 0 0 ≡ End (length w)) ↔ (v 0 0 (length w) ≡ true)
+    → (descend balanced (table balanced 1 first1 follow1) 1 w 0 0 ≡ End (length w)) ↔ (v 0 0 (length w) ≡ true)
 unfolding predictive firstTest followTest tableTest everyTest allAt all any member same keep joins prefixed strings firstBody firstRule followBody find predict table
-balanced-right = predictive-verdict balanced 1 first1 follow1 ranking balanced-scoped balanced-falls tt (omega arith)
+balanced-right = predictive-verdict balanced 1 first1 follow1 balanced-scoped balanced-free tt (omega arith)
 
-aabb : call balanced (table balanced 1 first1 follow1) 1 (0 ∷ 0 ∷ 1 ∷ 1 ∷ []) 10 0 0 ≡ End 4
-unfolding call obey select conclude agrees confirm run read look allAt all any member same keep joins prefixed strings firstBody firstRule find predict table
+aabb : descend balanced (table balanced 1 first1 follow1) 1 (0 ∷ 0 ∷ 1 ∷ 1 ∷ []) 0 0 ≡ End 4
+unfolding descend within byTable obey select conclude agrees confirm run read look allAt all any member same keep joins prefixed strings firstBody firstRule find predict table
 aabb = refl
 
-ab : call balanced (table balanced 1 first1 follow1) 1 (0 ∷ 1 ∷ []) 10 0 0 ≡ Failed
-unfolding call obey select conclude agrees confirm run read look allAt all any member same keep joins prefixed strings firstBody firstRule find predict table
+ab : descend balanced (table balanced 1 first1 follow1) 1 (0 ∷ 1 ∷ []) 0 0 ≡ Failed
+unfolding descend within byTable obey select conclude agrees confirm run read look allAt all any member same keep joins prefixed strings firstBody firstRule find predict table
 ab = refl
 
 -- (ab)ⁿac but for ac: S → T & ¬ X, T → a b T, T → a c, X → a c. One token does not tell T's rules apart
@@ -56,9 +58,9 @@ repeated-scoped : WellScoped repeated
 unfolding scopedTest belowTest all
 repeated-scoped = scopedTest-sound repeated tt
 
-repeated-falls : Falls repeated ranking
-unfolding fallsTest allLeft all any nullable after nullStep allNullable
-repeated-falls = fallsTest-sound repeated ranking tt
+repeated-free : NoLeftRecursion repeated
+unfolding lowestLeftRecursive lowest leftRecursive leftReaches reachStep leftDepends leftIn nullable nullStep allNullable after below any all pick
+repeated-free = lowestLeftRecursive-none repeated repeated-scoped .0 refl
 
 abbrev first2 : Sets
 first2 zero = (0 ∷ 1 ∷ []) ∷ (0 ∷ 2 ∷ []) ∷ []
@@ -69,9 +71,9 @@ abbrev follow2 : Sets
 follow2 A = [] ∷ []
 
 repeated-right : (w : List ℕ) → Over 3 w → (v : Valuation) → Solves repeated w v
-    → (call repeated (table repeated 2 first2 follow2) 2 w (levels repeated ranking w) 0 0 ≡ End (length w)) ↔ (v 0 0 (length w) ≡ true)
+    → (descend repeated (table repeated 2 first2 follow2) 2 w 0 0 ≡ End (length w)) ↔ (v 0 0 (length w) ≡ true)
 unfolding predictive firstTest followTest tableTest everyTest allAt all any member same keep joins prefixed strings firstBody firstRule followBody find predict table
-repeated-right = predictive-verdict repeated 2 first2 follow2 ranking repeated-scoped repeated-falls tt (omega arith)
+repeated-right = predictive-verdict repeated 2 first2 follow2 repeated-scoped repeated-free tt (omega arith)
 
 -- with one token the families are closed, and the table is what the test refuses
 repeated-one : (firstTest repeated 1 (λ _. (0 ∷ []) ∷ []) && followTest repeated 1 (λ _. (0 ∷ []) ∷ []) follow2) ≡ true
@@ -82,12 +84,12 @@ repeated-clash : tableTest repeated 1 (λ _. (0 ∷ []) ∷ []) follow2 ≡ fals
 unfolding predictive firstTest followTest tableTest everyTest allAt all any member same keep joins prefixed strings firstBody firstRule followBody find predict table
 repeated-clash = refl
 
-abac : call repeated (table repeated 2 first2 follow2) 2 (0 ∷ 1 ∷ 0 ∷ 2 ∷ []) 10 0 0 ≡ End 4
-unfolding call obey select conclude agrees confirm run read look allAt all any member same keep joins prefixed strings firstBody firstRule find predict table
+abac : descend repeated (table repeated 2 first2 follow2) 2 (0 ∷ 1 ∷ 0 ∷ 2 ∷ []) 0 0 ≡ End 4
+unfolding descend within byTable obey select conclude agrees confirm run read look allAt all any member same keep joins prefixed strings firstBody firstRule find predict table
 abac = refl
 
-ac : call repeated (table repeated 2 first2 follow2) 2 (0 ∷ 2 ∷ []) 10 0 0 ≡ Failed
-unfolding call obey select conclude agrees confirm run read look allAt all any member same keep joins prefixed strings firstBody firstRule find predict table
+ac : descend repeated (table repeated 2 first2 follow2) 2 (0 ∷ 2 ∷ []) 0 0 ≡ Failed
+unfolding descend within byTable obey select conclude agrees confirm run read look allAt all any member same keep joins prefixed strings firstBody firstRule find predict table
 ac = refl
 
 -- every word but a: S → ¬ X, X → a
@@ -104,14 +106,14 @@ others-scoped : WellScoped others
 unfolding scopedTest belowTest all
 others-scoped = scopedTest-sound others tt
 
-others-falls : Falls others ranking
-unfolding fallsTest allLeft all any nullable after nullStep allNullable
-others-falls = fallsTest-sound others ranking tt
+others-free : NoLeftRecursion others
+unfolding lowestLeftRecursive lowest leftRecursive leftReaches reachStep leftDepends leftIn nullable nullStep allNullable after below any all pick
+others-free = lowestLeftRecursive-none others others-scoped .0 refl
 
 others-right : (w : List ℕ) → Over 1 w → (v : Valuation) → Solves others w v
-    → (call others (table others 1 first1 follow2) 1 w (levels others ranking w) 0 0 ≡ End (length w)) ↔ (v 0 0 (length w) ≡ true)
+    → (descend others (table others 1 first1 follow2) 1 w 0 0 ≡ End (length w)) ↔ (v 0 0 (length w) ≡ true)
 unfolding predictive firstTest followTest tableTest everyTest allAt all any member same keep joins prefixed strings firstBody firstRule followBody find predict table
-others-right = predictive-verdict others 1 first1 follow2 ranking others-scoped others-falls tt (omega arith)
+others-right = predictive-verdict others 1 first1 follow2 others-scoped others-free tt (omega arith)
 
 -- with no token all but the last part of the test passes
 others-none : (firstTest others 0 (λ _. [] ∷ []) && (followTest others 0 (λ _. [] ∷ []) follow2 && tableTest others 0 (λ _. [] ∷ []) follow2)) ≡ true
@@ -122,10 +124,10 @@ others-end : everyTest others 0 follow2 ≡ false
 unfolding predictive firstTest followTest tableTest everyTest allAt all any member same keep joins prefixed strings firstBody firstRule followBody find predict table
 others-end = refl
 
-a : call others (table others 1 first1 follow2) 1 (0 ∷ []) 10 0 0 ≡ Failed
-unfolding call obey select conclude agrees confirm run read look allAt all any member same keep joins prefixed strings firstBody firstRule find predict table
+a : descend others (table others 1 first1 follow2) 1 (0 ∷ []) 0 0 ≡ Failed
+unfolding descend within byTable obey select conclude agrees confirm run read look allAt all any member same keep joins prefixed strings firstBody firstRule find predict table
 a = refl
 
-aa : call others (table others 1 first1 follow2) 1 (0 ∷ 0 ∷ []) 10 0 0 ≡ End 2
-unfolding call obey select conclude agrees confirm run read look allAt all any member same keep joins prefixed strings firstBody firstRule find predict table
+aa : descend others (table others 1 first1 follow2) 1 (0 ∷ 0 ∷ []) 0 0 ≡ End 2
+unfolding descend within byTable obey select conclude agrees confirm run read look allAt all any member same keep joins prefixed strings firstBody firstRule find predict table
 aa = refl

@@ -13,11 +13,11 @@ use lib.ListN.{length, take, getElem?}
 use Rattle.grammar.specs.Syntax.{Body, Rule, Grammar, bodies, WellScoped}
 use Rattle.grammar.specs.declared.Symbol.the-variants.{Terminal, Nonterminal}
 use Rattle.semantics.specs.Quantifiers.{any, all}
-use Rattle.semantics.specs.Valuations.{Valuation, Solves, levels}
-use Rattle.semantics.specs.LeftRecursion.{Falls}
+use Rattle.semantics.specs.Valuations.{Valuation, Solves}
+use Rattle.semantics.specs.LeftRecursion.{NoLeftRecursion}
 use Rattle.semantics.specs.Strings.{Lookahead, Over}
 use Rattle.semantics.specs.Families.{Family, FirstBody, FirstClosed, FollowBody, FollowClosed, Table, TableRight, EveryEnds}
-use Rattle.semantics.specs.Descent.{End, call}
+use Rattle.semantics.specs.Descent.{End, descend}
 use Rattle.semantics.proofs.Booleans.{T-subst, and-l, and-r, and-make, or-cases}
 use Rattle.semantics.proofs.Quantified.{all-elim, all-make, any-elim, any-make}
 use Rattle.semantics.proofs.Verdict.{verdict}
@@ -258,13 +258,13 @@ unfoldable pub predictive : Grammar → ℕ → Sets → Sets → Bool
 predictive G k s l = firstTest G k s && (followTest G k s l && (tableTest G k s l && everyTest G k l))
 
 -- for families that pass the test the descent accepts just what the solution gives to the start
-pub predictive-verdict : (G : Grammar) (k : ℕ) (s l : Sets) (rank : ℕ → ℕ) → WellScoped G → Falls G rank → T (predictive G k s l) → 0 < G .nonterminals
+pub predictive-verdict : (G : Grammar) (k : ℕ) (s l : Sets) → WellScoped G → NoLeftRecursion G → T (predictive G k s l) → 0 < G .nonterminals
     → (w : List ℕ) → Over (G .terminals) w → (v : Valuation) → Solves G w v
-    → (call G (table G k s l) k w (levels G rank w) 0 0 ≡ End (length w)) ↔ (v 0 0 (length w) ≡ true)
+    → (descend G (table G k s l) k w 0 0 ≡ End (length w)) ↔ (v 0 0 (length w) ≡ true)
 unfolding predictive
-predictive-verdict G k s l rank c f t a w ws v solves =
+predictive-verdict G k s l c free t a w ws v solves =
     let t′ = and-r (firstTest G k s) (followTest G k s l && (tableTest G k s l && everyTest G k l)) t in
     let t″ = and-r (followTest G k s l) (tableTest G k s l && everyTest G k l) t′ in
-    verdict G k (In s) (In l) (table G k s l) rank c f
+    verdict G c free k (In s) (In l) (table G k s l)
     (first-closed G k s l (and-l (firstTest G k s) _ t)) (follow-closed G k s l (and-l (followTest G k s l) _ t′))
     (table-right G k s l (and-l (tableTest G k s l) _ t″)) (every-ends G k s l (and-r (tableTest G k s l) (everyTest G k l) t″)) w ws v solves a
