@@ -1,5 +1,6 @@
 pub mod Booleans
 pub mod Quantified
+pub mod FiniteSets
 pub mod Rounds
 pub mod Pigeonhole
 pub mod Nullable

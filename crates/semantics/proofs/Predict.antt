@@ -43,28 +43,28 @@ unfolding same
 same-refl [] = tt
 same-refl (x ∷ xs) = and-make (eqb x x) _ (eqb-refl x) (same-refl xs)
 
-unfoldable pub member : List ℕ → List (List ℕ) → Bool
-member x l = any (same x) l
+unfoldable pub among : List ℕ → List (List ℕ) → Bool
+among x l = any (same x) l
 
-member-mem : (x : List ℕ) (l : List (List ℕ)) → T (member x l) → List·Memᴰ x l
-unfolding member
-member-mem x l t = let r = any-elim (same x) l t in Memᴰ·cast (same-eq x (r .0) (r .2)) (r .1)
+among-mem : (x : List ℕ) (l : List (List ℕ)) → T (among x l) → List·Memᴰ x l
+unfolding among
+among-mem x l t = let r = any-elim (same x) l t in Memᴰ·cast (same-eq x (r .0) (r .2)) (r .1)
 
-mem-member : (x : List ℕ) (l : List (List ℕ)) → List·Memᴰ x l → T (member x l)
-unfolding member
-mem-member x l m = any-make (same x) l x m (same-refl x)
+mem-among : (x : List ℕ) (l : List (List ℕ)) → List·Memᴰ x l → T (among x l)
+unfolding among
+mem-among x l m = any-make (same x) l x m (same-refl x)
 
-unfoldable pub keep : (List ℕ → Bool) → List (List ℕ) → List (List ℕ)
-keep p [] = []
-keep p (x ∷ l) = elim (p x) [ true ↦ x ∷ keep p l | false ↦ keep p l ]
+unfoldable pub sift : (List ℕ → Bool) → List (List ℕ) → List (List ℕ)
+sift p [] = []
+sift p (x ∷ l) = elim (p x) [ true ↦ x ∷ sift p l | false ↦ sift p l ]
 
-keep-mem : (p : List ℕ → Bool) (l : List (List ℕ)) (x : List ℕ) → List·Memᴰ x l → T (p x) → List·Memᴰ x (keep p l)
-unfolding keep
-keep-mem p [] x m t = m
-keep-mem p (y ∷ l) x m t = go (List·Memᴰ·cases-cons m) (p y) refl (λ n. keep-mem p l x n t)
+sift-mem : (p : List ℕ → Bool) (l : List (List ℕ)) (x : List ℕ) → List·Memᴰ x l → T (p x) → List·Memᴰ x (sift p l)
+unfolding sift
+sift-mem p [] x m t = m
+sift-mem p (y ∷ l) x m t = go (List·Memᴰ·cases-cons m) (p y) refl (λ n. sift-mem p l x n t)
   where
-    go : (x ≡ y) ⊎ List·Memᴰ x l → (b : Bool) → p y ≡ b → (List·Memᴰ x l → List·Memᴰ x (keep p l))
-        → List·Memᴰ x (elim b [ true ↦ y ∷ keep p l | false ↦ keep p l ])
+    go : (x ≡ y) ⊎ List·Memᴰ x l → (b : Bool) → p y ≡ b → (List·Memᴰ x l → List·Memᴰ x (sift p l))
+        → List·Memᴰ x (elim b [ true ↦ y ∷ sift p l | false ↦ sift p l ])
     go (inl e) true q f = List·Memᴰ·head e
     go (inl e) false q f = absurd (T-subst (ap p e ∙ q) t)
     go (inr n) true q f = List·Memᴰ·tail (f n)
@@ -125,7 +125,7 @@ firstBody k s (Nonterminal A ∷ b) = joins k (s A) (firstBody k s b)
 
 unfoldable pub firstRule : ℕ → ℕ → Sets → List Body → List (List ℕ)
 firstRule k n s [] = strings k n
-firstRule k n s (b ∷ ps) = keep (λ x. all (λ p. member x (firstBody k s p)) ps) (firstBody k s b)
+firstRule k n s (b ∷ ps) = sift (λ x. all (λ p. among x (firstBody k s p)) ps) (firstBody k s b)
 
 first-body : (k : ℕ) (s : Sets) (b : Body) (x : List ℕ) → FirstBody k (In s) b x → List·Memᴰ x (firstBody k s b)
 unfolding firstBody
@@ -138,21 +138,21 @@ first-rule : (k n : ℕ) (s : Sets) (ps : List Body) (x : List ℕ) → Lookahea
 unfolding firstRule
 first-rule k n s [] x l h = strings-mem k n x l
 first-rule k n s (b ∷ ps) x l h =
-    keep-mem _ (firstBody k s b) x (first-body k s b x (h b (List·Memᴰ·head refl)))
-    (all-make _ ps (λ p m. mem-member x (firstBody k s p) (first-body k s p x (h p (List·Memᴰ·tail m)))))
+    sift-mem _ (firstBody k s b) x (first-body k s b x (h b (List·Memᴰ·head refl)))
+    (all-make _ ps (λ p m. mem-among x (firstBody k s p) (first-body k s p x (h p (List·Memᴰ·tail m)))))
 
 unfoldable pub followBody : ℕ → Sets → Sets → List ℕ → Body → Bool
 followBody k s l y [] = true
 followBody k s l y (Terminal a ∷ b) = followBody k s l y b
-followBody k s l y (Nonterminal A ∷ b) = all (λ u. member (take k (u ++ y)) (l A)) (firstBody k s b) && followBody k s l y b
+followBody k s l y (Nonterminal A ∷ b) = all (λ u. among (take k (u ++ y)) (l A)) (firstBody k s b) && followBody k s l y b
 
 follow-body : (k : ℕ) (s l : Sets) (y : List ℕ) (b : Body) → T (followBody k s l y b) → FollowBody k (In s) (In l) y b
 unfolding followBody
 follow-body k s l y [] t = tt
 follow-body k s l y (Terminal a ∷ b) t = follow-body k s l y b t
 follow-body k s l y (Nonterminal A ∷ b) t =
-    let p : Bool = all (λ u. member (take k (u ++ y)) (l A)) (firstBody k s b) in
-    (λ u h. member-mem (take k (u ++ y)) (l A) (all-elim _ (firstBody k s b) (and-l p _ t) u (first-body k s b u h)), follow-body k s l y b (and-r p _ t))
+    let p : Bool = all (λ u. among (take k (u ++ y)) (l A)) (firstBody k s b) in
+    (λ u h. among-mem (take k (u ++ y)) (l A) (all-elim _ (firstBody k s b) (and-l p _ t) u (first-body k s b u h)), follow-body k s l y b (and-r p _ t))
 
 -- the number of the first rule that passes
 unfoldable pub find : (Rule → Bool) → List Rule → Option ℕ
@@ -194,7 +194,7 @@ unfoldable pub predict : Grammar → ℕ → Sets → Sets → Rule → List (Li
 predict G k s l r = joins k (firstRule k (G .terminals) s (r .positives)) (l (r .head))
 
 unfoldable pub table : Grammar → ℕ → Sets → Sets → Table
-table G k s l A x = find (λ r. eqb (r .head) A && member x (predict G k s l r)) (G .rules)
+table G k s l A x = find (λ r. eqb (r .head) A && among x (predict G k s l r)) (G .rules)
 
 abbrev pub isNil : List ℕ → Bool
 isNil [] = true
@@ -205,10 +205,10 @@ noBody [] = true
 noBody (b ∷ ps) = false
 
 unfoldable pub firstTest : Grammar → ℕ → Sets → Bool
-firstTest G k s = all (λ r. all (λ x. member x (s (r .head))) (firstRule k (G .terminals) s (r .positives))) (G .rules)
+firstTest G k s = all (λ r. all (λ x. among x (s (r .head))) (firstRule k (G .terminals) s (r .positives))) (G .rules)
 
 unfoldable pub followTest : Grammar → ℕ → Sets → Sets → Bool
-followTest G k s l = member [] (l 0) && all (λ r. all (λ b. all (λ y. followBody k s l y b) (l (r .head))) (bodies r)) (G .rules)
+followTest G k s l = among [] (l 0) && all (λ r. all (λ b. all (λ y. followBody k s l y b) (l (r .head))) (bodies r)) (G .rules)
 
 unfoldable pub tableTest : Grammar → ℕ → Sets → Sets → Bool
 tableTest G k s l = allAt (λ q r. all (λ x. isAt (table G k s l (r .head) x) q) (predict G k s l r)) (G .rules)
@@ -221,13 +221,13 @@ module _ (G : Grammar) (k : ℕ) (s l : Sets) where
   unfolding firstTest
   first-closed t r m x a h =
       let u = all-elim _ (G .rules) t r m in
-      member-mem x (s (r .head)) (all-elim _ (firstRule k (G .terminals) s (r .positives)) u x (first-rule k (G .terminals) s (r .positives) x a h))
+      among-mem x (s (r .head)) (all-elim _ (firstRule k (G .terminals) s (r .positives)) u x (first-rule k (G .terminals) s (r .positives) x a h))
 
   pub follow-closed : T (followTest G k s l) → FollowClosed G k (In s) (In l)
   unfolding followTest
   follow-closed t = record {
-    start = member-mem [] (l 0) (and-l (member [] (l 0)) _ t);
-    follows = λ r m b n y h. follow-body k s l y b (all-elim _ (l (r .head)) (all-elim _ (bodies r) (all-elim _ (G .rules) (and-r (member [] (l 0)) _ t) r m) b n) y h);
+    start = among-mem [] (l 0) (and-l (among [] (l 0)) _ t);
+    follows = λ r m b n y h. follow-body k s l y b (all-elim _ (l (r .head)) (all-elim _ (bodies r) (all-elim _ (G .rules) (and-r (among [] (l 0)) _ t) r m) b n) y h);
   }
 
   pub table-right : T (tableTest G k s l) → TableRight G k (In s) (In l) (table G k s l)
@@ -237,7 +237,7 @@ module _ (G : Grammar) (k : ℕ) (s l : Sets) where
         is-at _ q (all-elim _ (predict G k s l r) (all-at _ (G .rules) t q r e) (take k (u ++ y))
         (joins-mem k (firstRule k (G .terminals) s (r .positives)) (l (r .head)) u y (first-rule k (G .terminals) s (r .positives) u a h) m));
     chosen = λ A x q e.
-        let f = find-nth (λ r. eqb (r .head) A && member x (predict G k s l r)) (G .rules) q e in
+        let f = find-nth (λ r. eqb (r .head) A && among x (predict G k s l r)) (G .rules) q e in
         (f .0, f .1, eqb→eq (f .0 .head) A (and-l (eqb (f .0 .head) A) _ (f .2)));
   }
 

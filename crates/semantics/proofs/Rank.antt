@@ -10,13 +10,16 @@ use lib.Dec.{T, T-not, not-T, eqb, ltb, eqb→eq, eqb-refl, ltb→lt, lt→ltb}
 use lib.ListN.{length}
 use Rattle.grammar.specs.Syntax.{Body, Grammar, bodies, NonterminalsBelow, WellScoped}
 use Rattle.grammar.specs.declared.Symbol.the-variants.{Terminal, Nonterminal}
-use Rattle.semantics.specs.Rounds.{Set, _⊆_, after}
+use Rattle.semantics.specs.Quantifiers.{any}
+use Rattle.semantics.specs.FiniteSets.{member, numbers}
+use Rattle.semantics.specs.Rounds.{Set, _⊆_, settle, after, least}
 use Rattle.semantics.specs.Valuations.{Valuation, Solves}
 use Rattle.semantics.specs.LeftRecursion.{nullable, LeftIn, here, there, LeftDepends, Falls, allLeft, grounded, NoLeftRecursion, rank}
 use Rattle.semantics.specs.LeftRecursion.{LeftReaches, once, more}
 use Rattle.semantics.proofs.Booleans.{test, and-l, and-r, and-make, or-map, or-cases, not-and, not-or-l, not-or-r}
 use Rattle.semantics.proofs.Quantified.{all-map, all-elim, not-all, count-lt}
-use Rattle.semantics.proofs.Rounds.{after-grows, after-closed}
+use Rattle.semantics.proofs.FiniteSets.{numbers-equality, numbers-make, numbers-length}
+use Rattle.semantics.proofs.Rounds.{after-next, after-grows, least-after, least-closed}
 use Rattle.semantics.proofs.Pigeonhole.{pigeonhole}
 use Rattle.semantics.proofs.Unique.{exactly-one}
 use Rattle.semantics.proofs.Check.{allLeft-elim, fallsTest, fallsTest-sound, fallsTest-complete}
@@ -87,12 +90,13 @@ module _ (G : Grammar) (c : WellScoped G) where
       ]
 
   abbrev Ungrounded : Type 0
-  Ungrounded = (A : ℕ) × (A < G .nonterminals) × T (not (after (grounded G) (G .nonterminals) A))
+  Ungrounded = (A : ℕ) × (A < G .nonterminals) × T (not (least eqb (numbers (G .nonterminals)) (grounded G) A))
 
   onward : (x : Ungrounded) → (y : Ungrounded) × LeftDepends G (nullable G) (x .0) (y .0)
   onward x =
-      let g = after (grounded G) (G .nonterminals) in
-      let n = not-T (grounded G g (x .0)) (λ t. T-not (g (x .0)) (x .2) (after-closed (grounded G) grounded-mono (G .nonterminals) grounded-bound (x .0) t)) in
+      let N = G .nonterminals in
+      let g = least eqb (numbers N) (grounded G) in
+      let n = not-T (grounded G g (x .0)) (λ t. T-not (g (x .0)) (x .2) (least-closed eqb numbers-equality (numbers N) (grounded G) grounded-mono (x .0) (numbers-make N (x .0) (x .1)) t)) in
       let r = not-grounded g (x .0) (x .1) n in
       ((r .0, r .2, r .3), r .1)
 
@@ -128,16 +132,20 @@ module _ (G : Grammar) (c : WellScoped G) where
 
   -- in a grammar with no left recursion the rank falls along left dependence
   pub rank-falls : NoLeftRecursion G → Falls G (rank G)
-  unfolding rank after
+  unfolding rank after settle member any
   rank-falls free A B d =
       let N = G .nonterminals in
-      let g = after (grounded G) in
+      let g = after eqb (numbers N) (grounded G) in
+      let back : (n : ℕ) → T (g (suc n) A) → T (grounded G (g n) A) = λ n t. after-next eqb numbers-equality (numbers N) (grounded G) grounded-mono n A .0 t .1 in
       let a : A < N = rw (d .heads) at (c .heads (d .rule) (d .listed)) in
-      let top : T (g N A) = elim (test (g N A)) [ inl t ↦ t | inr n ↦ absurd (let z = ungrounded-cycle (A, a, n) in free (z .0) (z .1)) ] in
+      let top : T (g N A) = elim (test (least eqb (numbers N) (grounded G) A)) [
+        | inl t ↦ rw (numbers-length N) at (least-after eqb numbers-equality (numbers N) (grounded G) A t)
+        | inr n ↦ absurd (let z = ungrounded-cycle (A, a, n) in free (z .0) (z .1))
+      ] in
       let m = turn (λ n. g n A) N tt top in
       count-lt N (λ n. not (g n B)) (λ n. not (g n A))
-      (λ n u. not-T (g n A) (λ t. T-not (g n B) u (grounded-left (g n) A B (after-grows (grounded G) grounded-mono n A t) d)))
-      (m .0) (m .1) (not-T (not (g (m .0) B)) (λ u. T-not (g (m .0) B) u (grounded-left (g (m .0)) A B (m .3) d))) (m .2)
+      (λ n u. not-T (g n A) (λ t. T-not (g n B) u (grounded-left (g n) A B (back n (after-grows eqb numbers-equality (numbers N) (grounded G) grounded-mono n A t)) d)))
+      (m .0) (m .1) (not-T (not (g (m .0) B)) (λ u. T-not (g (m .0) B) u (grounded-left (g (m .0)) A B (back (m .0) (m .3)) d))) (m .2)
 
 -- a grammar with no left recursion has exactly one solution on each input
 pub one-solution : (G : Grammar) → WellScoped G → NoLeftRecursion G → (w : List ℕ)

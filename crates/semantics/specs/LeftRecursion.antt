@@ -7,7 +7,8 @@ use lib.Dec.{T, ltb, eqb}
 use Rattle.grammar.specs.declared.Symbol.the-variants.{Terminal, Nonterminal}
 use Rattle.grammar.specs.Syntax.{Body, Rule, Grammar, bodies}
 use Rattle.semantics.specs.Quantifiers.{any, all, count}
-use Rattle.semantics.specs.Rounds.{Set, after}
+use Rattle.semantics.specs.FiniteSets.{numbers}
+use Rattle.semantics.specs.Rounds.{Set, after, least}
 
 -- the body consists of nonterminals of the set
 unfoldable pub allNullable : Set → Body → Bool
@@ -20,7 +21,7 @@ nullStep G s A = any (λ r. eqb (r .head) A && all (allNullable s) (r .positives
 
 -- (document 01: maybe-empty)
 unfoldable pub nullable : Grammar → Set
-nullable G = after (nullStep G) (G .nonterminals)
+nullable G = least eqb (numbers (G .nonterminals)) (nullStep G)
 
 -- B stands in the body behind nonterminals of the set alone
 pub data LeftIn (s : Set) (B : ℕ) : Body → Type 0 where
@@ -56,7 +57,7 @@ grounded G p A = ltb A (G .nonterminals) && all (λ r. not (eqb (r .head) A) || 
 
 -- the number of rounds before A is grounded (document 01: leaning rank)
 unfoldable pub rank : Grammar → ℕ → ℕ
-rank G A = count (G .nonterminals) (λ n. not (after (grounded G) n A))
+rank G A = count (G .nonterminals) (λ n. not (after eqb (numbers (G .nonterminals)) (grounded G) n A))
 
 -- the ranks fall along left dependence
 abbrev pub Falls : Grammar → (ℕ → ℕ) → Type 0

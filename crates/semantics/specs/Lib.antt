@@ -1,4 +1,5 @@
 pub mod Quantifiers
+pub mod FiniteSets
 pub mod Rounds
 pub mod Valuations
 pub mod LeftRecursion
