@@ -9,7 +9,7 @@ use lib.ListN.{length}
 use Rattle.grammar.specs.Syntax.{Grammar, WellScoped}
 use Rattle.grammar.specs.declared.Symbol.the-variants.{Terminal, Nonterminal}
 use Rattle.semantics.specs.Quantifiers.{any, all}
-use Rattle.semantics.specs.FiniteSets.{member, keep, numbers}
+use Rattle.semantics.specs.FiniteSets.{member, keep, numbersFrom, numbers}
 use Rattle.semantics.specs.Rounds.{round, settle, after, members, least}
 use Rattle.semantics.specs.Valuations.{Valuation, Solves, levels}
 use Rattle.semantics.specs.LeftRecursion.{allNullable, nullStep, nullable, Falls, allLeft}
@@ -58,7 +58,7 @@ unfolding scopedTest belowTest all
 repeated-scoped = scopedTest-sound repeated tt
 
 repeated-falls : Falls repeated ranking
-unfolding fallsTest allLeft all any nullable least members settle round keep member numbers nullStep allNullable
+unfolding fallsTest allLeft all any nullable least members settle round keep member numbersFrom numbers nullStep allNullable
 repeated-falls = fallsTest-sound repeated ranking tt
 
 abbrev first2 : Sets
@@ -106,7 +106,7 @@ unfolding scopedTest belowTest all
 others-scoped = scopedTest-sound others tt
 
 others-falls : Falls others ranking
-unfolding fallsTest allLeft all any nullable least members settle round keep member numbers nullStep allNullable
+unfolding fallsTest allLeft all any nullable least members settle round keep member numbersFrom numbers nullStep allNullable
 others-falls = fallsTest-sound others ranking tt
 
 others-right : (w : List ℕ) → Over 1 w → (v : Valuation) → Solves others w v

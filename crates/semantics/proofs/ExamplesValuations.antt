@@ -7,7 +7,7 @@ use native.Mathlib.Omega.{arith}
 use Rattle.grammar.specs.Syntax.{Grammar, WellScoped}
 use Rattle.grammar.specs.declared.Symbol.the-variants.{Terminal, Nonterminal}
 use Rattle.semantics.specs.Quantifiers.{any, all, below, count}
-use Rattle.semantics.specs.FiniteSets.{member, keep, numbers}
+use Rattle.semantics.specs.FiniteSets.{member, keep, numbersFrom, numbers}
 use Rattle.semantics.specs.Rounds.{round, settle, after, members, least}
 use Rattle.semantics.specs.Valuations.{Valuation, contains, derives, byRules, rounds, Solves, totalRank, solution}
 use Rattle.semantics.specs.LeftRecursion.{NoLeftRecursion, rank, grounded, allNullable, nullStep, nullable, Falls, allLeft}
@@ -35,7 +35,7 @@ unfolding scopedTest belowTest all
 balanced-scoped = scopedTest-sound balanced tt
 
 pub balanced-falls : Falls balanced ranking
-unfolding fallsTest allLeft all any nullable least members settle round keep member numbers nullStep allNullable
+unfolding fallsTest allLeft all any nullable least members settle round keep member numbersFrom numbers nullStep allNullable
 balanced-falls = fallsTest-sound balanced ranking tt
 
 balanced-solves : (w : List ℕ) → Solves balanced w (solution balanced ranking w)
@@ -72,5 +72,5 @@ ab-whole = refl
 
 -- the test for left recursion, run
 balanced-free : NoLeftRecursion balanced
-unfolding fallsTest allLeft all any nullable least members settle round keep member numbers nullStep allNullable rank after grounded count
+unfolding fallsTest allLeft all any nullable least members settle round keep member numbersFrom numbers nullStep allNullable rank after grounded count
 balanced-free = fallsTest-iff balanced balanced-scoped .0 tt

@@ -4,13 +4,13 @@ use mathlib.Core.List.{List, [], _∷_, _++_, map, List·Memᴰ, List·Memᴰ·h
 use mathlib.Core.List.{Memᴰ·map, Memᴰ·of-map, Memᴰ·append-left, Memᴰ·append-right, List·Memᴰ·append-cases}
 use mathlib.Core.Logic.{_⊎_, inl, inr}
 use mathlib.Core.Path.{_≡_, refl, ap, _∙_}
-use Prim.Native.Nat.{ℕ, zero, suc, _≤_, _<_}
+use Prim.Native.Nat.{ℕ, zero, suc, _+_, _≤_, _<_}
 use native.Mathlib.Decide.{ℕ-discrete}
 use native.Mathlib.Omega.{arith}
 use lib.Dec.{T, eqb, eqb→eq, eqb-refl}
 use lib.ListN.{length}
 use Rattle.semantics.specs.Quantifiers.{any}
-use Rattle.semantics.specs.FiniteSets.{member, keep, numbers, combine}
+use Rattle.semantics.specs.FiniteSets.{member, keep, distinct, numbersFrom, numbers, combine}
 use Rattle.semantics.proofs.Booleans.{T-subst, T-true, true-T}
 use Rattle.semantics.proofs.Quantified.{any-elim, any-make}
 
@@ -30,6 +30,29 @@ module _ {X : Type 0} (same : X → X → Bool) (eq : Equality same) where
   pub mem-member : (l : List X) (x : X) → List·Memᴰ x l → T (member same l x)
   unfolding member
   mem-member l x m = any-make (same x) l x m (eq .itself x)
+
+  -- to leave out repetitions changes no membership
+  pub distinct-make : (l : List X) (x : X) → List·Memᴰ x l → List·Memᴰ x (distinct same l)
+  unfolding distinct
+  distinct-make [] x m = m
+  distinct-make (y ∷ l) x m = go (List·Memᴰ·cases-cons m) (member same (distinct same l) y) refl (distinct-make l x)
+    where
+      go : (x ≡ y) ⊎ List·Memᴰ x l → (b : Bool) → member same (distinct same l) y ≡ b → (List·Memᴰ x l → List·Memᴰ x (distinct same l))
+          → List·Memᴰ x (elim b [ true ↦ distinct same l | false ↦ y ∷ distinct same l ])
+      go (inl e) true d f = Memᴰ·cast e (member-mem (distinct same l) y (true-T _ d))
+      go (inl e) false d f = List·Memᴰ·head e
+      go (inr n) true d f = f n
+      go (inr n) false d f = List·Memᴰ·tail (f n)
+
+  pub distinct-elim : (l : List X) (x : X) → List·Memᴰ x (distinct same l) → List·Memᴰ x l
+  unfolding distinct
+  distinct-elim [] x m = m
+  distinct-elim (y ∷ l) x m = go (member same (distinct same l) y) (distinct-elim l x) m
+    where
+      go : (b : Bool) → (List·Memᴰ x (distinct same l) → List·Memᴰ x l) → List·Memᴰ x (elim b [ true ↦ distinct same l | false ↦ y ∷ distinct same l ])
+          → List·Memᴰ x (y ∷ l)
+      go true f n = List·Memᴰ·tail (f n)
+      go false f n = elim (List·Memᴰ·cases-cons n) [ inl e ↦ List·Memᴰ·head e | inr k ↦ List·Memᴰ·tail (f k) ]
 
 module _ {X : Type 0} where
   pub keep-make : (p : X → Bool) (l : List X) (x : X) → List·Memᴰ x l → T (p x) → List·Memᴰ x (keep p l)
@@ -100,28 +123,40 @@ module _ {X : Type 0} where
   keep-none [] = refl
   keep-none (x ∷ l) = keep-none l
 
-pub numbers-make : (n a : ℕ) → a < n → List·Memᴰ a (numbers n)
-unfolding numbers
-numbers-make zero a h = absurd (omega arith)
-numbers-make (suc n) a h = go (ℕ-discrete a n) (numbers-make n a)
+numbersFrom-make : (a n b : ℕ) → a ≤ b → b < a + n → List·Memᴰ b (numbersFrom a n)
+unfolding numbersFrom
+numbersFrom-make a zero b h l = absurd (omega arith)
+numbersFrom-make a (suc n) b h l = go (ℕ-discrete b a) (numbersFrom-make (suc a) n b)
   where
-    go : Dec (a ≡ n) → (a < n → List·Memᴰ a (numbers n)) → List·Memᴰ a (n ∷ numbers n)
+    go : Dec (b ≡ a) → (suc a ≤ b → b < suc a + n → List·Memᴰ b (numbersFrom (suc a) n)) → List·Memᴰ b (a ∷ numbersFrom (suc a) n)
     go (yes e) f = List·Memᴰ·head e
-    go (no e) f = List·Memᴰ·tail (f (omega arith))
+    go (no e) f = List·Memᴰ·tail (f (omega arith) (omega arith))
 
-pub numbers-elim : (n a : ℕ) → List·Memᴰ a (numbers n) → a < n
-unfolding numbers
-numbers-elim zero a m = absurd (List·Memᴰ·not-nil m)
-numbers-elim (suc n) a m = go (List·Memᴰ·cases-cons m) (numbers-elim n a)
+numbersFrom-elim : (a n b : ℕ) → List·Memᴰ b (numbersFrom a n) → b < a + n
+unfolding numbersFrom
+numbersFrom-elim a zero b m = absurd (List·Memᴰ·not-nil m)
+numbersFrom-elim a (suc n) b m = go (List·Memᴰ·cases-cons m) (numbersFrom-elim (suc a) n b)
   where
-    go : (a ≡ n) ⊎ List·Memᴰ a (numbers n) → (List·Memᴰ a (numbers n) → a < n) → a < suc n
+    go : (b ≡ a) ⊎ List·Memᴰ b (numbersFrom (suc a) n) → (List·Memᴰ b (numbersFrom (suc a) n) → b < suc a + n) → b < a + suc n
     go (inl e) f = omega arith
     go (inr k) f = omega (arith, f k)
 
+numbersFrom-length : (a n : ℕ) → length (numbersFrom a n) ≡ n
+unfolding numbersFrom
+numbersFrom-length a zero = refl
+numbersFrom-length a (suc n) = ap suc (numbersFrom-length (suc a) n)
+
+pub numbers-make : (n a : ℕ) → a < n → List·Memᴰ a (numbers n)
+unfolding numbers
+numbers-make n a h = numbersFrom-make 0 n a (omega arith) (omega arith)
+
+pub numbers-elim : (n a : ℕ) → List·Memᴰ a (numbers n) → a < n
+unfolding numbers
+numbers-elim n a m = omega (arith, numbersFrom-elim 0 n a m)
+
 pub numbers-length : (n : ℕ) → length (numbers n) ≡ n
 unfolding numbers
-numbers-length zero = refl
-numbers-length (suc n) = ap suc (numbers-length n)
+numbers-length n = numbersFrom-length 0 n
 
 module _ {X Y Z : Type 0} (f : X → Y → Z) where
   pub combine-make : (xs : List X) (ys : List Y) (x : X) (y : Y) → List·Memᴰ x xs → List·Memᴰ y ys → List·Memᴰ (f x y) (combine f xs ys)

@@ -8,6 +8,10 @@ pub mod Unique
 pub mod Check
 pub mod Rank
 pub mod Strings
+pub mod LookaheadSets
+pub mod First
+pub mod FirstNullable
+pub mod Follow
 pub mod FirstSound
 pub mod Ends
 pub mod Fuel

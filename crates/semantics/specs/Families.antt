@@ -6,12 +6,17 @@ use Prim.Native.Nat.{ℕ, _<_}
 use lib.ListN.{take, getElem?}
 use Rattle.grammar.specs.declared.Symbol.{Symbol}
 use Rattle.grammar.specs.declared.Symbol.the-variants.{Terminal, Nonterminal}
-use Rattle.grammar.specs.Syntax.{Body, Rule, Grammar, bodies}
+use Rattle.grammar.specs.Syntax.{Body, Rule, Grammar, bodies, TerminalsBelow}
 use Rattle.semantics.specs.Strings.{Lookahead}
 
 -- for each nonterminal a set of lookahead strings
 abbrev pub Family : Type 1
 Family = ℕ → List ℕ → Type 0
+
+-- closed under a condition, and contained in every family that is
+pub record Least (Closed : Family → Type 0) (F : Family) : Type 1 where
+  pub closed : Closed F
+  pub smallest : (F′ : Family) → Closed F′ → (A : ℕ) (x : List ℕ) → F A x → F′ A x
 
 abbrev pub FirstOf : ℕ → Family → Symbol → List ℕ → Type 0
 FirstOf k F (Terminal a) x = x ≡ take k (a ∷ [])
@@ -38,6 +43,10 @@ FollowBody k F L y (Nonterminal A ∷ b) = ((u : List ℕ) → FirstBody k F b u
 pub record FollowClosed (G : Grammar) (k : ℕ) (F L : Family) : Type 0 where
   pub start : L 0 []
   pub follows : (r : Rule) → List·Memᴰ r (G .rules) → (b : Body) → List·Memᴰ b (bodies r) → (y : List ℕ) → L (r .head) y → FollowBody k F L y b
+
+-- the terminals of the bodies are the grammar's own
+abbrev pub OwnTerminals : Grammar → Type 0
+OwnTerminals G = (r : Rule) → List·Memᴰ r (G .rules) → (b : Body) → List·Memᴰ b (bodies r) → TerminalsBelow (G .terminals) b
 
 -- for a nonterminal and a lookahead string the number of a rule, or none
 abbrev pub Table : Type 0

@@ -14,10 +14,19 @@ module _ {X : Type 0} where
   keep p [] = []
   keep p (x ∷ l) = elim (p x) [ true ↦ x ∷ keep p l | false ↦ keep p l ]
 
+  -- each member once
+  unfoldable pub distinct : (X → X → Bool) → List X → List X
+  distinct same [] = []
+  distinct same (x ∷ l) = let d = distinct same l in elim (member same d x) [ true ↦ d | false ↦ x ∷ d ]
+
+-- n numbers from a on
+unfoldable pub numbersFrom : ℕ → ℕ → List ℕ
+numbersFrom a zero = []
+numbersFrom a (suc n) = a ∷ numbersFrom (suc a) n
+
 -- the numbers below n
 unfoldable pub numbers : ℕ → List ℕ
-numbers zero = []
-numbers (suc n) = n ∷ numbers n
+numbers n = numbersFrom 0 n
 
 -- one of the first list with one of the second, in every way
 module _ {X Y Z : Type 0} (f : X → Y → Z) where

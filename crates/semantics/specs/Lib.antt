@@ -8,3 +8,5 @@ pub mod Families
 pub mod Descent
 pub mod Calls
 pub mod Memo
+pub mod FirstFollow
+pub mod Examples
