@@ -152,11 +152,11 @@ module _ (G : Grammar) (k : ℕ) where
   follow-lookahead A x t =
       entries-elim G k (A, x) (least-kept sameEntry entries-equality (entries G k) (followStep G k) (λ e. List·Memᴰ e (entries G k)) (λ s h e m u. m) (A, x) t)
 
-  first-in : (A : ℕ) (x : List ℕ) → In (firstSets G k) A x → First G k A x
+  pub first-in : (A : ℕ) (x : List ℕ) → In (firstSets G k) A x → First G k A x
   unfolding firstSets
   first-in A x m = sets-elim G k (first G k) A x m .1
 
-  in-first : (A : ℕ) (x : List ℕ) → First G k A x → In (firstSets G k) A x
+  pub in-first : (A : ℕ) (x : List ℕ) → First G k A x → In (firstSets G k) A x
   unfolding firstSets
   in-first A x t = sets-make G k (first G k) A x (first-lookahead G k A x t .1) t
 

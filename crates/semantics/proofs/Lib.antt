@@ -12,11 +12,14 @@ pub mod LookaheadSets
 pub mod First
 pub mod FirstNullable
 pub mod Follow
+pub mod Positions
+pub mod Claims
 pub mod FirstSound
 pub mod Ends
 pub mod Fuel
 pub mod Verdict
 pub mod FollowCuts
+pub mod Predictive
 pub mod Plan
 pub mod Lower
 pub mod Results
@@ -24,7 +27,5 @@ pub mod Counted
 pub mod Listed
 pub mod Written
 pub mod Answer
-pub mod Predict
 pub mod ExamplesValuations
-pub mod ExamplesDescent
 pub mod ExamplesMemo

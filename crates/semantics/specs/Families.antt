@@ -56,10 +56,30 @@ Table = ℕ → List ℕ → Option ℕ
 abbrev pub OwnEntries : Grammar → Table → Type 0
 OwnEntries G t = (A : ℕ) (x : List ℕ) (q : ℕ) → t A x ≡ some q → (r : Rule) × (getElem? (G .rules) q ≡ some r) × (r .head ≡ A)
 
--- the table has each rule wherever the rule claims an entry (document 01: a rule claims columns)
+-- rule q of A claims the string: one that all its positive bodies can begin with, then one that can follow A, cut to k
+-- (document 01: a rule claims columns)
+pub record Claims (G : Grammar) (k : ℕ) (F L : Family) (q A : ℕ) (x : List ℕ) : Type 0 where
+  pub rule : Rule
+  pub numbered : getElem? (G .rules) q ≡ some rule
+  pub heads : rule .head ≡ A
+  pub begins : List ℕ
+  pub lookahead : Lookahead k (G .terminals) begins
+  pub meets : FirstRule k F rule begins
+  pub behind : List ℕ
+  pub follows : L A behind
+  pub makes : x ≡ take k (begins ++ behind)
+
+-- two different rules claim one entry
+pub record Clash (G : Grammar) (k : ℕ) (F L : Family) (A : ℕ) (x : List ℕ) : Type 0 where
+  pub one : ℕ
+  pub other : ℕ
+  pub different : one < other
+  pub claimsOne : Claims G k F L one A x
+  pub claimsOther : Claims G k F L other A x
+
+-- the table has each rule wherever the rule claims an entry
 pub record TableRight (G : Grammar) (k : ℕ) (F L : Family) (t : Table) : Type 0 where
-  pub chooses : (q : ℕ) (r : Rule) → getElem? (G .rules) q ≡ some r → (u y : List ℕ) → Lookahead k (G .terminals) u → FirstRule k F r u → L (r .head) y
-      → t (r .head) (take k (u ++ y)) ≡ some q
+  pub chooses : (q A : ℕ) (x : List ℕ) → Claims G k F L q A x → t A x ≡ some q
   pub chosen : OwnEntries G t
 
 -- a rule with no positive body takes all that is left: only the end may follow

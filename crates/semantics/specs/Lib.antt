@@ -10,3 +10,4 @@ pub mod Calls
 pub mod Memo
 pub mod FirstFollow
 pub mod Examples
+pub mod Claims
