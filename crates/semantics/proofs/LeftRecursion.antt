@@ -9,12 +9,14 @@ use lib.Dec.{T, T-not, not-T, eqb, eqb→eq, eqb-refl}
 use Rattle.grammar.specs.Syntax.{Body, Grammar, bodies, NonterminalsBelow, WellScoped}
 use Rattle.grammar.specs.declared.Symbol.the-variants.{Terminal, Nonterminal}
 use Rattle.semantics.specs.Quantifiers.{any, below}
-use Rattle.semantics.specs.Rounds.{Set, _⊆_, after}
+use Rattle.semantics.specs.FiniteSets.{numbers}
+use Rattle.semantics.specs.Rounds.{Set, _⊆_}
 use Rattle.semantics.specs.LeftRecursion.{nullable, LeftIn, here, there, LeftDepends, LeftReaches, once, more, NoLeftRecursion}
 use Rattle.semantics.specs.LeftRecursion.{leftIn, leftDepends, reachStep, leftReaches, leftRecursive, lowestLeftRecursive}
 use Rattle.semantics.proofs.Booleans.{and-l, and-r, and-make, or-cases, or-map, or-l, or-r}
 use Rattle.semantics.proofs.Quantified.{any-elim, any-make, below-elim, below-make, lowest-some, lowest-none}
-use Rattle.semantics.proofs.Rounds.{after-closed}
+use Rattle.semantics.proofs.FiniteSets.{numbers-equality, numbers-make}
+use Rattle.semantics.proofs.Rounds.{least-kept, least-closed}
 
 leftIn-sound : (s : Set) (B : ℕ) (b : Body) → T (leftIn s B b) → LeftIn s B b
 unfolding leftIn
@@ -71,18 +73,15 @@ module _ (G : Grammar) where
       below-make (G .nonterminals) _ (r .0) (r .1)
       (and-make (s′ (r .0)) (leftDepends G (r .0) B) (h (r .0) (and-l (s (r .0)) _ (r .2))) (and-r (s (r .0)) _ (r .2)))) t
 
-  after-sound : (A n B : ℕ) → T (after (reachStep G A) n B) → LeftReaches G A B
-  unfolding after reachStep
-  after-sound A zero B t = absurd t
-  after-sound A (suc n) B t = go (or-cases (leftDepends G A B) _ t) (after-sound A n)
-    where
-      go : T (leftDepends G A B) ⊎ T (below (G .nonterminals) (λ C. after (reachStep G A) n C && leftDepends G C B))
-          → ((C : ℕ) → T (after (reachStep G A) n C) → LeftReaches G A C) → LeftReaches G A B
-      go (inl u) f = once (leftDepends-sound A B u)
-      go (inr u) f =
-          let r = below-elim (G .nonterminals) _ u in
-          let s : Set = after (reachStep G A) n in
-          more (f (r .0) (and-l (s (r .0)) _ (r .2))) (leftDepends-sound (r .0) B (and-r (s (r .0)) (leftDepends G (r .0) B) (r .2)))
+  leftReaches-sound : (A B : ℕ) → T (leftReaches G A B) → LeftReaches G A B
+  unfolding leftReaches reachStep
+  leftReaches-sound A = least-kept eqb numbers-equality (numbers (G .nonterminals)) (reachStep G A) (LeftReaches G A) (λ s h B _ t.
+      elim (or-cases (leftDepends G A B) _ t) [
+        | inl u ↦ once (leftDepends-sound A B u)
+        | inr u ↦
+            let r = below-elim (G .nonterminals) _ u in
+            more (h (r .0) (and-l (s (r .0)) _ (r .2))) (leftDepends-sound (r .0) B (and-r (s (r .0)) (leftDepends G (r .0) B) (r .2)))
+      ])
 
   module _ (c : WellScoped G) where
     pub source-below : (A B : ℕ) → LeftDepends G A B → A < G .nonterminals
@@ -106,7 +105,9 @@ module _ (G : Grammar) where
 
     leftReaches-closed : (A : ℕ) → reachStep G A (leftReaches G A) ⊆ leftReaches G A
     unfolding leftReaches
-    leftReaches-closed A = after-closed (reachStep G A) (reachStep-mono A) (G .nonterminals) (reachStep-below A)
+    leftReaches-closed A B t =
+        least-closed eqb numbers-equality (numbers (G .nonterminals)) (reachStep G A) (reachStep-mono A) B
+        (numbers-make (G .nonterminals) B (reachStep-below A (leftReaches G A) B t)) t
 
     leftReaches-complete : (A B : ℕ) → LeftReaches G A B → T (leftReaches G A B)
     unfolding reachStep
@@ -117,8 +118,7 @@ module _ (G : Grammar) where
 
     -- the computed set of what A left-reaches holds just that
     pub leftReaches-iff : (A B : ℕ) → T (leftReaches G A B) ↔ LeftReaches G A B
-    unfolding leftReaches
-    leftReaches-iff A B = (after-sound A (G .nonterminals) B, leftReaches-complete A B)
+    leftReaches-iff A B = (leftReaches-sound A B, leftReaches-complete A B)
 
     -- the test for left recursion of a nonterminal passes just where it left-reaches itself
     pub leftRecursive-iff : (A : ℕ) → T (leftRecursive G A) ↔ LeftReaches G A A

@@ -1,4 +1,4 @@
--- `nullable`, computed in as many rounds as there are nonterminals, is closed under the rules, and is the least such set.
+-- `nullable`, computed in at most as many rounds as there are nonterminals, is closed under the rules, and is the least such set.
 use mathlib.Core.List.{[], _∷_}
 use mathlib.Core.Path.{_≡_}
 use Prim.Native.Nat.{ℕ, _<_}
@@ -6,11 +6,13 @@ use lib.Dec.{T, eqb, eqb→eq}
 use Rattle.grammar.specs.Syntax.{Body, Grammar, WellScoped}
 use Rattle.grammar.specs.declared.Symbol.the-variants.{Terminal, Nonterminal}
 use Rattle.semantics.specs.Quantifiers.{all}
+use Rattle.semantics.specs.FiniteSets.{numbers}
 use Rattle.semantics.specs.Rounds.{Set, _⊆_}
 use Rattle.semantics.specs.LeftRecursion.{allNullable, nullStep, nullable}
 use Rattle.semantics.proofs.Booleans.{and-l, and-r, and-make}
 use Rattle.semantics.proofs.Quantified.{all-map, any-map, any-elim}
-use Rattle.semantics.proofs.Rounds.{after-least, after-closed}
+use Rattle.semantics.proofs.FiniteSets.{numbers-equality, numbers-make}
+use Rattle.semantics.proofs.Rounds.{least-least, least-closed}
 
 allNullable-mono : (s s′ : Set) → s ⊆ s′ → (b : Body) → T (allNullable s b) → T (allNullable s′ b)
 unfolding allNullable
@@ -29,7 +31,7 @@ module _ (G : Grammar) where
   -- the least set: any set that is closed holds it
   pub nullable-least : (s : Set) → nullStep G s ⊆ s → nullable G ⊆ s
   unfolding nullable
-  nullable-least s h = after-least (nullStep G) nullStep-mono s h (G .nonterminals)
+  nullable-least = least-least eqb numbers-equality (numbers (G .nonterminals)) (nullStep G) nullStep-mono
 
   module _ (c : WellScoped G) where
     head-below : (s : Set) (A : ℕ) → T (nullStep G s A) → A < G .nonterminals
@@ -42,4 +44,5 @@ module _ (G : Grammar) where
     -- whatever the rules make nullable is in the set
     pub nullable-closed : nullStep G (nullable G) ⊆ nullable G
     unfolding nullable
-    nullable-closed = after-closed (nullStep G) nullStep-mono (G .nonterminals) head-below
+    nullable-closed A t =
+        least-closed eqb numbers-equality (numbers (G .nonterminals)) (nullStep G) nullStep-mono A (numbers-make (G .nonterminals) A (head-below (nullable G) A t)) t

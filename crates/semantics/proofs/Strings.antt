@@ -57,7 +57,7 @@ pub look-none : (k : ℕ) (w : List ℕ) (i : ℕ) → 0 < k → i ≤ length w 
 unfolding look
 look-none k w i h l e = omega (arith, length-take k (drop i w), length-drop i w, ap length e)
 
-all-take : (p : ℕ → Bool) (n : ℕ) (l : List ℕ) → T (all p l) → T (all p (take n l))
+pub all-take : (p : ℕ → Bool) (n : ℕ) (l : List ℕ) → T (all p l) → T (all p (take n l))
 unfolding all
 all-take p zero l t = tt
 all-take p (suc n) [] t = tt

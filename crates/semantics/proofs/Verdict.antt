@@ -164,9 +164,18 @@ module _ (G : Grammar) (scoped : WellScoped G) (free : NoLeftRecursion G) (k : �
           let q = mem-nth (G .rules) r m in
           let y′ : L (r .head) (look k w j) = rw e y in
           let f = rule-first G k F w v scoped first i j ij jw r m p in
-          let d = right .chooses (q .0) r (q .1) (take k (span w i j)) (look k w j) (take-short k (span w i j), all-span _ k w i j over) f y′ in
-          let d′ : t B (look k w i) ≡ some (q .0) = cc (look-split k w i j ij) in
-          byTable-make G t k w (right .chosen) outcomes B i j (q .0) r d′ (q .1)
+          let d : t B (look k w i) ≡ some (q .0) = right .chooses (q .0) B (look k w i) (record {
+            rule = r;
+            numbered = q .1;
+            heads = e;
+            begins = take k (span w i j);
+            lookahead = (take-short k (span w i j), all-span _ k w i j over);
+            meets = f;
+            behind = look k w j;
+            follows = y;
+            makes = look-split k w i j ij;
+          }) in
+          byTable-make G t k w (right .chosen) outcomes B i j (q .0) r d (q .1)
           (λ o. let z = every r m o in sym (look-none k w j (z .0) jw (z .1 (look k w j) y′)))
           (T-subst (sym (same r m e)) x)
 

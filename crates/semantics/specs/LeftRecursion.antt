@@ -8,7 +8,8 @@ use lib.Dec.{T, eqb}
 use Rattle.grammar.specs.declared.Symbol.the-variants.{Terminal, Nonterminal}
 use Rattle.grammar.specs.Syntax.{Body, Rule, Grammar, bodies}
 use Rattle.semantics.specs.Quantifiers.{any, all, below, count, lowest}
-use Rattle.semantics.specs.Rounds.{Set, after}
+use Rattle.semantics.specs.FiniteSets.{numbers}
+use Rattle.semantics.specs.Rounds.{Set, least}
 
 -- the body consists of nonterminals of the set
 unfoldable pub allNullable : Set → Body → Bool
@@ -21,7 +22,7 @@ nullStep G s A = any (λ r. eqb (r .head) A && all (allNullable s) (r .positives
 
 -- (document 01: maybe-empty)
 unfoldable pub nullable : Grammar → Set
-nullable G = after (nullStep G) (G .nonterminals)
+nullable G = least eqb (numbers (G .nonterminals)) (nullStep G)
 
 -- B stands in the body behind nonterminals of the set alone
 pub data LeftIn (s : Set) (B : ℕ) : Body → Type 0 where
@@ -58,7 +59,7 @@ unfoldable pub reachStep : Grammar → ℕ → Set → Set
 reachStep G A s B = leftDepends G A B || below (G .nonterminals) (λ C. s C && leftDepends G C B)
 
 unfoldable pub leftReaches : Grammar → ℕ → Set
-leftReaches G A = after (reachStep G A) (G .nonterminals)
+leftReaches G A = least eqb (numbers (G .nonterminals)) (reachStep G A)
 
 unfoldable pub leftRecursive : Grammar → Set
 leftRecursive G A = leftReaches G A A

@@ -1,4 +1,5 @@
 pub mod Quantifiers
+pub mod FiniteSets
 pub mod Rounds
 pub mod Valuations
 pub mod LeftRecursion
@@ -7,3 +8,6 @@ pub mod Families
 pub mod Descent
 pub mod Calls
 pub mod Memo
+pub mod FirstFollow
+pub mod Examples
+pub mod Claims
