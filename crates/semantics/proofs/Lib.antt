@@ -30,3 +30,4 @@ pub mod Memo
 pub mod Check
 pub mod ExamplesValuations
 pub mod ExamplesMemo
+pub mod Rows

@@ -15,7 +15,7 @@ use Rattle.semantics.specs.Valuations.{Valuation, contains, derives, byR
 use Rattle.semantics.specs.LeftRecursion.{nullable, LeftIn, here, there, LeftDepends, NoLeftRecursion, level}
 use Rattle.semantics.specs.Strings.{span, look, Over}
 use Rattle.semantics.specs.Families.{Family, FirstClosed, FollowBody, FollowClosed, Table, TableRight, EveryEnds}
-use Rattle.semantics.specs.Descent.{Outcome, End, endsAt, onward, Outcomes, read, run, agrees, byTable, descend}
+use Rattle.semantics.specs.Descent.{Outcome, End, endsAt, onward, Outcomes, read, run, agrees, byTable, descend, accepts}
 use Rattle.semantics.proofs.Booleans.{T-true, true-T, T-subst, both, and-l, and-r, and-make, and-cong, and-twist}
 use Rattle.semantics.proofs.Quantified.{any-cong, all-cong, any-make, any-elim, below-cong, below-elim, below-make}
 use Rattle.semantics.proofs.Rank.{level-onward, level-top}
@@ -238,6 +238,7 @@ module _ (G : Grammar) (scoped : WellScoped G) (free : NoLeftRecursion G) (k : �
         },
       )
 
-  -- the verdict: the start called at 0 ends at the end of the input just when the solution gives it the whole input
-  pub verdict : 0 < G .nonterminals → (outcomes 0 0 ≡ End (length w)) ↔ (v 0 0 (length w) ≡ true)
-  verdict a = local-verdict 0 0 (length w) a (omega arith) (omega arith) (rw (look-end k w) (follows .start))
+  -- the verdict: the input is accepted just when the solution gives the whole of it to the start
+  pub verdict : 0 < G .nonterminals → accepts G t k w ≡ v 0 0 (length w)
+  unfolding accepts
+  verdict a = verdict-at 0 0 (length w) a (omega arith) (omega arith) (rw (look-end k w) (follows .start))

@@ -79,3 +79,7 @@ within G t k w (suc n) A i = byTable G t k w (within G t k w n) A i
 -- the result of calling A at i: no call goes deeper than there are pairs
 unfoldable pub descend : Grammar → Table → ℕ → List ℕ → Outcomes
 descend G t k w = within G t k w (pairs G w)
+
+-- the start called at 0 ends at the end of the input (document 01: the log is accepted)
+unfoldable pub accepts : Grammar → Table → ℕ → List ℕ → Bool
+accepts G t k w = endsAt (descend G t k w 0 0) (length w)
