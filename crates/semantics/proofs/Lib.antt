@@ -31,3 +31,4 @@ pub mod Check
 pub mod ExamplesValuations
 pub mod ExamplesMemo
 pub mod Rows
+pub mod Theorems

@@ -13,3 +13,4 @@ pub mod Calls
 pub mod Memo
 pub mod Examples
 pub mod Rows
+pub mod Theorems
