@@ -31,5 +31,6 @@ scopedTest-sound G t =
     all-elim _ (G .rules) t in
     record {
       heads = λ r m. ltb→lt (r .head) (G .nonterminals) (and-l (ltb (r .head) (G .nonterminals)) _ (at r m));
-      nonterminals = λ r m b n. belowTest-sound (G .nonterminals) b (all-elim (belowTest (G .nonterminals)) (bodies r) (and-r (ltb (r .head) (G .nonterminals)) _ (at r m)) b n);
+      nonterminals = λ r m b n. belowTest-sound (G .nonterminals) b
+          (all-elim (belowTest (G .nonterminals)) (bodies r) (and-r (ltb (r .head) (G .nonterminals)) _ (at r m)) b n);
     }

@@ -34,7 +34,8 @@ balanced-scoped = scopedTest-sound balanced tt
 
 -- no nonterminal is found that left-reaches itself
 pub balanced-free : NoLeftRecursion balanced
-unfolding lowestLeftRecursive lowest leftRecursive leftReaches reachStep leftDepends leftIn nullable nullStep allNullable least members settle round keep member numbersFrom numbers below any all pick
+unfolding lowestLeftRecursive lowest leftRecursive leftReaches reachStep leftDepends leftIn nullable nullStep allNullable
+    least members settle round keep member numbersFrom numbers below any all pick
 balanced-free = lowestLeftRecursive-none balanced balanced-scoped .0 refl
 
 balanced-solves : (w : List ℕ) → Solves balanced w (solution balanced w)
@@ -54,7 +55,8 @@ abbrev liar : Grammar
 liar = record { nonterminals = 1; terminals = 0; rules = record { head = 0; positives = []; negatives = (Nonterminal 0 ∷ []) ∷ [] } ∷ [] }
 
 liar-lowest : lowestLeftRecursive liar ≡ some 0
-unfolding lowestLeftRecursive lowest leftRecursive leftReaches reachStep leftDepends leftIn nullable nullStep allNullable least members settle round keep member numbersFrom numbers below any all pick
+unfolding lowestLeftRecursive lowest leftRecursive leftReaches reachStep leftDepends leftIn nullable nullStep allNullable
+    least members settle round keep member numbersFrom numbers below any all pick
 liar-lowest = refl
 
 liar-flips : (b : Bool) → b ≡ (not (((b && true) || false) || false) || false) → ⊥
@@ -84,5 +86,6 @@ circular = record {
 }
 
 circular-lowest : lowestLeftRecursive circular ≡ some 0
-unfolding lowestLeftRecursive lowest leftRecursive leftReaches reachStep leftDepends leftIn nullable nullStep allNullable least members settle round keep member numbersFrom numbers below any all pick
+unfolding lowestLeftRecursive lowest leftRecursive leftReaches reachStep leftDepends leftIn nullable nullStep allNullable
+    least members settle round keep member numbersFrom numbers below any all pick
 circular-lowest = refl
