@@ -12,6 +12,7 @@ pub mod LookaheadSets
 pub mod First
 pub mod FirstNullable
 pub mod Follow
+pub mod Concatenation
 pub mod Positions
 pub mod Claims
 pub mod FirstSound
@@ -29,3 +30,5 @@ pub mod Written
 pub mod Answer
 pub mod ExamplesValuations
 pub mod ExamplesMemo
+pub mod Computing
+pub mod ExamplesTables
