@@ -102,7 +102,7 @@ module _ (G : Grammar) (k : ℕ) where
       back none e h = refl
       back (some q) e h = absurd (h q (claims-elim q A x (position-some (claims G k (A, x)) (G .rules) q e)))
 
-  table-claims : (A : ℕ) (x : List ℕ) (q : ℕ) → tableOf G k A x ≡ some q → ClaimsAt q A x
+  pub table-claims : (A : ℕ) (x : List ℕ) (q : ℕ) → tableOf G k A x ≡ some q → ClaimsAt q A x
   unfolding tableOf
   table-claims A x q e = claims-elim q A x (position-some (claims G k (A, x)) (G .rules) q e)
 

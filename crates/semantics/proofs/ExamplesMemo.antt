@@ -1,16 +1,16 @@
--- Examples of the memo table: entries, count and farthest by computation, and what a rule that stops early does not come to.
+-- Examples of the memo table by computation, and what a rule that stops early does not come to.
 use mathlib.Core.List.{[], _∷_}
 use mathlib.Core.Option.{some}
 use mathlib.Core.Path.{_≡_, refl}
 use Prim.Native.Nat.{ℕ, zero, suc}
 use Rattle.grammar.specs.Syntax.{Body}
 use Rattle.grammar.specs.declared.Symbol.the-variants.{Terminal, Nonterminal}
+use Rattle.semantics.specs.Quantifiers.{pick}
 use Rattle.semantics.specs.Strings.{look}
 use Rattle.semantics.specs.Families.{Table}
 use Rattle.semantics.specs.Descent.{Failed, End, Outcomes, read, run, select}
 use Rattle.semantics.specs.Calls.{callAt, bodyComesTo, negativesComeTo, positivesComeTo, ruleComesTo}
-use Rattle.semantics.specs.Memo.{memoized, pick, andThen, memoRun, memoNegatives, memoPositives, memoRule, memoObey, memoCall, encode, decode}
-use Rattle.semantics.specs.Memo.{counted, stored, blank}
+use Rattle.semantics.specs.Memo.{memoized, andThen, memoRun, memoNegatives, memoPositives, memoRule, memoObey, memoCall, memoStart, encode, decode, stored}
 use Rattle.semantics.proofs.ExamplesValuations.{balanced}
 
 -- aⁿbⁿ but for ab, with one token
@@ -20,21 +20,17 @@ balancedTable (suc A) [] = some 2
 balancedTable (suc A) (zero ∷ x) = some 1
 balancedTable (suc A) (suc a ∷ x) = some 2
 
-aabb : memoCall balanced balancedTable 1 (0 ∷ 0 ∷ 1 ∷ 1 ∷ []) 15 0 0 (blank balanced (0 ∷ 0 ∷ 1 ∷ 1 ∷ []))
-    ≡ memoized (End 4) (record {
-      entries =
-          4 ∷ 65535 ∷ 65535 ∷ 65535 ∷ 65535
-          ∷ 4 ∷ 3 ∷ 2 ∷ 65535 ∷ 65535 ∷ [];
-      calls = 4;
-      farthest = 2;
-    })
-unfolding memoCall memoObey memoRule memoPositives memoNegatives memoRun andThen pick stored counted encode decode select look
+aabb : memoStart balanced balancedTable 1 (0 ∷ 0 ∷ 1 ∷ 1 ∷ [])
+    ≡ memoized (End 4) (
+    4 ∷ 65535 ∷ 65535 ∷ 65535 ∷ 65535
+    ∷ 4 ∷ 3 ∷ 2 ∷ 65535 ∷ 65535 ∷ []
+    )
+unfolding memoStart memoCall memoObey memoRule memoPositives memoNegatives memoRun andThen pick stored encode decode select look
 aabb = refl
 
 -- T ends at 2, and a b ends there: the rule fails
-ab : memoCall balanced balancedTable 1 (0 ∷ 1 ∷ []) 15 0 0 (blank balanced (0 ∷ 1 ∷ []))
-    ≡ memoized Failed (record { entries = 65534 ∷ 65535 ∷ 65535 ∷ 2 ∷ 1 ∷ 65535 ∷ []; calls = 3; farthest = 1 })
-unfolding memoCall memoObey memoRule memoPositives memoNegatives memoRun andThen pick stored counted encode decode select look
+ab : memoStart balanced balancedTable 1 (0 ∷ 1 ∷ []) ≡ memoized Failed (65534 ∷ 65535 ∷ 65535 ∷ 2 ∷ 1 ∷ 65535 ∷ [])
+unfolding memoStart memoCall memoObey memoRule memoPositives memoNegatives memoRun andThen pick stored encode decode select look
 ab = refl
 
 -- results for the laws of `ruleComesTo`: 1 and 2 end at 1, 3 ends at 2, 4 fails

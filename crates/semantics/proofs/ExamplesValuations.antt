@@ -1,19 +1,21 @@
 -- Examples: a grammar with its solution, and one that no valuation solves.
 use mathlib.Core.Bool.{Bool, true, false, not, _&&_, _||_, true≢false, false≢true}
 use mathlib.Core.List.{List, [], _∷_}
+use mathlib.Core.Option.{some}
 use mathlib.Core.Path.{_≡_, refl}
 use Prim.Native.Nat.{ℕ, zero, suc}
 use native.Mathlib.Omega.{arith}
 use Rattle.grammar.specs.Syntax.{Grammar, WellScoped}
 use Rattle.grammar.specs.declared.Symbol.the-variants.{Terminal, Nonterminal}
-use Rattle.semantics.specs.Quantifiers.{any, all, below, count}
+use Rattle.semantics.specs.Quantifiers.{pick, any, all, below, lowest}
 use Rattle.semantics.specs.FiniteSets.{member, keep, numbersFrom, numbers}
-use Rattle.semantics.specs.Rounds.{round, settle, after, members, least}
-use Rattle.semantics.specs.Valuations.{Valuation, contains, derives, byRules, rounds, Solves, totalRank, solution}
-use Rattle.semantics.specs.LeftRecursion.{NoLeftRecursion, rank, grounded, allNullable, nullStep, nullable, Falls, allLeft}
+use Rattle.semantics.specs.Rounds.{round, settle, members, least}
+use Rattle.semantics.specs.Valuations.{Valuation, contains, derives, byRules, rounds, Solves, solution}
+use Rattle.semantics.specs.LeftRecursion.{allNullable, nullStep, nullable, NoLeftRecursion, leftIn, leftDepends, reachStep, leftReaches, leftRecursive}
+use Rattle.semantics.specs.LeftRecursion.{lowestLeftRecursive}
+use Rattle.semantics.proofs.LeftRecursion.{lowestLeftRecursive-none}
 use Rattle.semantics.proofs.Unique.{solution-solves}
-use Rattle.semantics.proofs.Check.{belowTest, scopedTest, scopedTest-sound, fallsTest, fallsTest-sound}
-use Rattle.semantics.proofs.Rank.{fallsTest-iff}
+use Rattle.semantics.proofs.Check.{belowTest, scopedTest, scopedTest-sound}
 
 -- S → T & ¬ a b, T → a T b, T → ε: the words aⁿbⁿ but for ab
 abbrev pub balanced : Grammar
@@ -26,20 +28,17 @@ balanced = record {
       ∷ record { head = 1; positives = [] ∷ []; negatives = [] } ∷ [];
 }
 
-abbrev pub ranking : ℕ → ℕ
-ranking zero = 1
-ranking (suc n) = 0
-
 pub balanced-scoped : WellScoped balanced
 unfolding scopedTest belowTest all
 balanced-scoped = scopedTest-sound balanced tt
 
-pub balanced-falls : Falls balanced ranking
-unfolding fallsTest allLeft all any nullable least members settle round keep member numbersFrom numbers nullStep allNullable
-balanced-falls = fallsTest-sound balanced ranking tt
+-- no nonterminal is found that left-reaches itself
+pub balanced-free : NoLeftRecursion balanced
+unfolding lowestLeftRecursive lowest leftRecursive leftReaches reachStep leftDepends leftIn nullable nullStep allNullable least members settle round keep member numbersFrom numbers below any all pick
+balanced-free = lowestLeftRecursive-none balanced balanced-scoped .0 refl
 
-balanced-solves : (w : List ℕ) → Solves balanced w (solution balanced ranking w)
-balanced-solves = solution-solves balanced ranking balanced-scoped balanced-falls
+balanced-solves : (w : List ℕ) → Solves balanced w (solution balanced w)
+balanced-solves = solution-solves balanced balanced-scoped balanced-free
 
 -- by four rounds, the count that matters here
 aabb : rounds balanced (0 ∷ 0 ∷ 1 ∷ 1 ∷ []) 4 (λ _ _ _. false) 0 0 4 ≡ true
@@ -50,9 +49,13 @@ ab : rounds balanced (0 ∷ 1 ∷ []) 4 (λ _ _ _. false) 0 0 2 ≡ false
 unfolding rounds byRules derives contains any all below
 ab = refl
 
--- S → ¬ S: no valuation solves it, so the theorem's rank is needed
+-- S → ¬ S: left-recursive by its negative body, and no valuation solves it
 abbrev liar : Grammar
 liar = record { nonterminals = 1; terminals = 0; rules = record { head = 0; positives = []; negatives = (Nonterminal 0 ∷ []) ∷ [] } ∷ [] }
+
+liar-lowest : lowestLeftRecursive liar ≡ some 0
+unfolding lowestLeftRecursive lowest leftRecursive leftReaches reachStep leftDepends leftIn nullable nullStep allNullable least members settle round keep member numbersFrom numbers below any all pick
+liar-lowest = refl
 
 liar-flips : (b : Bool) → b ≡ (not (((b && true) || false) || false) || false) → ⊥
 liar-flips true e = true≢false e
@@ -62,15 +65,24 @@ liar-none : (w : List ℕ) (v : Valuation) → Solves liar w v → ⊥
 unfolding byRules derives contains any all below
 liar-none w v k = liar-flips (v 0 0 0) (k 0 0 0 (omega arith) (omega arith) (omega arith))
 
-aabb-whole : solution balanced ranking (0 ∷ 0 ∷ 1 ∷ 1 ∷ []) 0 0 4 ≡ true
-unfolding solution totalRank rounds byRules derives contains any all below
+aabb-whole : solution balanced (0 ∷ 0 ∷ 1 ∷ 1 ∷ []) 0 0 4 ≡ true
+unfolding solution rounds byRules derives contains any all below
 aabb-whole = refl
 
-ab-whole : solution balanced ranking (0 ∷ 1 ∷ []) 0 0 2 ≡ false
-unfolding solution totalRank rounds byRules derives contains any all below
+ab-whole : solution balanced (0 ∷ 1 ∷ []) 0 0 2 ≡ false
+unfolding solution rounds byRules derives contains any all below
 ab-whole = refl
 
--- the test for left recursion, run
-balanced-free : NoLeftRecursion balanced
-unfolding fallsTest allLeft all any nullable least members settle round keep member numbersFrom numbers nullStep allNullable rank after grounded count
-balanced-free = fallsTest-iff balanced balanced-scoped .0 tt
+-- S → T a, T → S: both left-reach themselves, and S is the lower
+abbrev circular : Grammar
+circular = record {
+  nonterminals = 2;
+  terminals = 1;
+  rules =
+      record { head = 0; positives = (Nonterminal 1 ∷ Terminal 0 ∷ []) ∷ []; negatives = [] }
+      ∷ record { head = 1; positives = (Nonterminal 0 ∷ []) ∷ []; negatives = [] } ∷ [];
+}
+
+circular-lowest : lowestLeftRecursive circular ≡ some 0
+unfolding lowestLeftRecursive lowest leftRecursive leftReaches reachStep leftDepends leftIn nullable nullStep allNullable least members settle round keep member numbersFrom numbers below any all pick
+circular-lowest = refl

@@ -11,7 +11,7 @@ use Rattle.grammar.specs.Syntax.{Body, Rule, Grammar, NonterminalsBelow, WellSc
 use Rattle.grammar.specs.declared.Symbol.the-variants.{Terminal, Nonterminal}
 use Rattle.semantics.specs.Quantifiers.{all}
 use Rattle.semantics.specs.Valuations.{Valuation, contains, derives, byRules, rounds, Solves, solution}
-use Rattle.semantics.specs.LeftRecursion.{allNullable, nullStep, nullable, Falls}
+use Rattle.semantics.specs.LeftRecursion.{allNullable, nullStep, nullable, NoLeftRecursion}
 use Rattle.semantics.specs.Strings.{span, Over}
 use Rattle.semantics.specs.Families.{Family, FirstBody, FirstRule, FirstClosed}
 use Rattle.semantics.proofs.Booleans.{T-subst, and-l, and-r, and-make}
@@ -21,7 +21,7 @@ use Rattle.semantics.proofs.Unique.{solution-solves, solution-unique}
 use Rattle.semantics.proofs.Strings.{take-cut, span-none, span-split, span-cons, all-span, take-short}
 
 -- what one round of the rules preserves holds of every solution
-module _ (G : Grammar) (rank : ℕ → ℕ) (c : WellScoped G) (f : Falls G rank) (w : List ℕ) where
+module _ (G : Grammar) (c : WellScoped G) (free : NoLeftRecursion G) (w : List ℕ) where
   after-rounds : (P : ℕ → ℕ → ℕ → Type 0) → ((u : Valuation) → ((A i j : ℕ) → A < G .nonterminals → i ≤ j → j ≤ length w → T (u A i j) → P A i j)
       → (A i j : ℕ) → A < G .nonterminals → i ≤ j → j ≤ length w → T (byRules G w u A i j) → P A i j)
       → (n : ℕ) (A i j : ℕ) → A < G .nonterminals → i ≤ j → j ≤ length w → T (rounds G w n (λ _ _ _. false) A i j) → P A i j
@@ -34,7 +34,7 @@ module _ (G : Grammar) (rank : ℕ → ℕ) (c : WellScoped G) (f : Falls G rank
       → (v : Valuation) → Solves G w v → (A i j : ℕ) → A < G .nonterminals → i ≤ j → j ≤ length w → T (v A i j) → P A i j
   unfolding solution
   by-rounds P h v k A i j a ij jw t =
-      after-rounds P h _ A i j a ij jw (T-subst (solution-unique G rank c f w v (solution G rank w) k (solution-solves G rank c f w) A i j a ij jw) t)
+      after-rounds P h _ A i j a ij jw (T-subst (solution-unique G c free w v (solution G w) k (solution-solves G c free w) A i j a ij jw) t)
 
 module _ (G : Grammar) (k : ℕ) (F : Family) (w : List ℕ) (v : Valuation) where
   abbrev pub FirstSound : Type 0
@@ -113,13 +113,13 @@ module _ (G : Grammar) (c : WellScoped G) (w : List ℕ) (v : Valuation) where
       (and-l (all (λ b. contains v w b i j) (r .positives)) _ (and-r (eqb (r .head) A) _ u)))) t)
 
 -- for every solution: the first k tokens of a span that A derives are in FIRST of A; the same for a body; and what derives an empty span is nullable
-module _ (G : Grammar) (rank : ℕ → ℕ) (c : WellScoped G) (f : Falls G rank) (w : List ℕ) (v : Valuation) (solves : Solves G w v) where
+module _ (G : Grammar) (c : WellScoped G) (free : NoLeftRecursion G) (w : List ℕ) (v : Valuation) (solves : Solves G w v) where
   pub first-sound : (k : ℕ) (F : Family) → FirstClosed G k F → Over (G .terminals) w → FirstSound G k F w v
-  first-sound k F fc ws = by-rounds G rank c f w (λ A i j. F A (take k (span w i j))) (λ u h. byRules-first G k F w u c fc ws h) v solves
+  first-sound k F fc ws = by-rounds G c free w (λ A i j. F A (take k (span w i j))) (λ u h. byRules-first G k F w u c fc ws h) v solves
 
   pub first-sound-body : (k : ℕ) (F : Family) → FirstClosed G k F → Over (G .terminals) w
       → (b : Body) (i j : ℕ) → i ≤ j → j ≤ length w → NonterminalsBelow (G .nonterminals) b → T (contains v w b i j) → FirstBody k F b (take k (span w i j))
   first-sound-body k F fc ws = contains-first G k F w v (first-sound k F fc ws)
 
   pub null-sound : NullSound G w v
-  null-sound = by-rounds G rank c f w (λ A i j. i ≡ j → T (nullable G A)) (λ u h. byRules-null G c w u h) v solves
+  null-sound = by-rounds G c free w (λ A i j. i ≡ j → T (nullable G A)) (λ u h. byRules-null G c w u h) v solves

@@ -1,14 +1,15 @@
--- Laws of `any`, `all`, `below` and `count`: how to make, read and compare them.
+-- Laws of `any`, `all`, `below`, `count` and `lowest`: how to make, read and compare them.
 use mathlib.Core.Bool.{Bool, true, false, not, _||_}
 use mathlib.Core.List.{List, [], _∷_, List·Memᴰ, List·Memᴰ·head, List·Memᴰ·tail, List·Memᴰ·cases-cons, List·Memᴰ·not-nil}
-use mathlib.Core.Logic.{_⊎_, inl, inr}
+use mathlib.Core.Logic.{_↔_, _⊎_, inl, inr}
+use mathlib.Core.Option.{none, some}
 use mathlib.Core.Path.{_≡_, refl}
 use Prim.Native.Nat.{ℕ, zero, suc, _+_, _≤_, _<_}
-use native.Mathlib.Decide.{ℕ-discrete}
+use native.Mathlib.Decide.{decLt, ℕ-discrete}
 use native.Mathlib.Omega.{arith}
-use lib.Dec.{T}
-use Rattle.semantics.specs.Quantifiers.{one, below, all, count, any}
-use Rattle.semantics.proofs.Booleans.{or-r, or-cases, and-make, not-and, and-l, test, and-r, or-l}
+use lib.Dec.{T, T-not, not-T}
+use Rattle.semantics.specs.Quantifiers.{pick, one, below, all, count, any, lowest}
+use Rattle.semantics.proofs.Booleans.{T-true, T-false, or-r, or-cases, and-make, not-and, and-l, test, and-r, or-l}
 
 module _ {A : Type 0} where
   pub any-cong : (p q : A → Bool) (l : List A) → ((x : A) → List·Memᴰ x l → p x ≡ q x) → any p l ≡ any q l
@@ -154,3 +155,65 @@ count-full (suc n) p h m l = go (ℕ-discrete m n) (count-full n p)
     go : Dec (m ≡ n) → (n ≤ count n p → (k : ℕ) → k < n → T (p k)) → T (p m)
     go (yes e) r = rw e (one-full (p n) (omega (arith, count-le n p)))
     go (no e) r = r (omega (arith, one-le (p n))) m (omega arith)
+
+-- where one does not pass, not all are counted
+pub count-short : (n : ℕ) (p : ℕ → Bool) (m : ℕ) → m < n → T (not (p m)) → count n p < n
+count-short n p m l t = elim (decLt (count n p) n) [
+  | yes h ↦ h
+  | no h ↦ absurd (T-not (p m) t (count-full n p (omega arith) m l))
+]
+
+-- none below n passes
+abbrev pub NoneBelow : ℕ → (ℕ → Bool) → Type 0
+NoneBelow n p = (k : ℕ) → k < n → T (not (p k))
+
+none-below : (n : ℕ) (p : ℕ → Bool) → T (not (below n p)) → NoneBelow n p
+none-below n p t k l = not-T (p k) (λ u. T-not (below n p) t (below-make n p k l u))
+
+lowest-found : (n : ℕ) (p : ℕ → Bool) → ((lowest n p ≡ none) × NoneBelow n p) ⊎ ((m : ℕ) × (lowest n p ≡ some m) × (m < n) × T (p m) × NoneBelow m p)
+unfolding lowest pick
+lowest-found zero p = inl (refl, λ k l. absurd (omega arith))
+lowest-found (suc n) p = go (test (below n p)) (test (p n)) (lowest-found n p)
+  where
+    go : T (below n p) ⊎ T (not (below n p)) → T (p n) ⊎ T (not (p n))
+        → ((lowest n p ≡ none) × NoneBelow n p) ⊎ ((m : ℕ) × (lowest n p ≡ some m) × (m < n) × T (p m) × NoneBelow m p)
+        → ((lowest (suc n) p ≡ none) × NoneBelow (suc n) p) ⊎ ((m : ℕ) × (lowest (suc n) p ≡ some m) × (m < suc n) × T (p m) × NoneBelow m p)
+    go (inl b) q (inl h) = let r = below-elim n p b in absurd (T-not (p (r .0)) (h .1 (r .0) (r .1)) (r .2))
+    go (inl b) q (inr h) = inr (h .0, rw (T-true (below n p) b) (h .1), omega (arith, h .2), h .3, h .4)
+    go (inr b) (inl q) h = inr (n, rw (T-false (below n p) b, T-true (p n) q) refl, omega arith, q, none-below n p b)
+    go (inr b) (inr q) h = inl (
+      rw (T-false (below n p) b, T-false (p n) q) refl,
+      λ k l. elim (ℕ-discrete k n) [
+        | yes e ↦ rw e q
+        | no e ↦ none-below n p b k (omega arith)
+      ],
+    )
+
+-- the lowest passes and none below it does
+pub lowest-some : (n : ℕ) (p : ℕ → Bool) (m : ℕ) → (lowest n p ≡ some m) ↔ ((m < n) × T (p m) × NoneBelow m p)
+lowest-some n p m = elim (lowest-found n p) [
+  | inl h ↦ (
+    λ e. let z : _≡_ {A = ℕ} 0 1 = cc (h .0) in absurd (omega arith),
+    λ f. absurd (T-not (p m) (h .1 m (f .0)) (f .1)),
+  )
+  | inr h ↦ (
+    λ e. let d : m ≡ h .0 = cc (h .1) in rw d (h .2, h .3, h .4),
+    λ f. elim (decLt m (h .0)) [
+      | yes l ↦ absurd (T-not (p m) (h .4 m l) (f .1))
+      | no l ↦ elim (decLt (h .0) m) [
+        | yes l′ ↦ absurd (T-not (p (h .0)) (f .2 (h .0) l′) (h .3))
+        | no l′ ↦ let d : m ≡ h .0 = omega arith in cc (h .1)
+      ]
+    ],
+  )
+]
+
+-- there is no lowest just where none passes
+pub lowest-none : (n : ℕ) (p : ℕ → Bool) → (lowest n p ≡ none) ↔ NoneBelow n p
+lowest-none n p = elim (lowest-found n p) [
+  | inl h ↦ (λ _. h .1, λ _. h .0)
+  | inr h ↦ (
+    λ e. let z : _≡_ {A = ℕ} 0 1 = cc (h .1) in absurd (omega arith),
+    λ f. absurd (T-not (p (h .0)) (f (h .0) (h .2)) (h .3)),
+  )
+]

@@ -1,16 +1,20 @@
--- Which calls the descent makes: the start at 0, and every nonterminal that the running of a call's rule comes to before it stops.
-use mathlib.Core.Path.{_≡_}
-use mathlib.Core.Bool.{Bool, true, false, not}
+-- Which calls the descent makes: the start at 0, and every nonterminal that the running of a call's rule comes to before it stops;
+-- and the same computed: the list of the calls, their number and the farthest place of one.
+use mathlib.Core.Bool.{Bool, true, false, not, _&&_}
 use mathlib.Core.List.{List, [], _∷_, _++_, List·Memᴰ}
 use mathlib.Core.Option.{Option, none, some}
-use Prim.Native.Nat.{ℕ, _≤_, _<_}
+use Prim.Native.Nat.{ℕ, zero, suc, _+_, _-_, _*_, _/_, _%_, _≤_, _<_, max}
 use lib.ListN.{length}
+use lib.Dec.{eqb}
 use Rattle.grammar.specs.declared.Symbol.{Symbol}
 use Rattle.grammar.specs.declared.Symbol.the-variants.{Terminal, Nonterminal}
 use Rattle.grammar.specs.Syntax.{Body, Rule, Grammar}
+use Rattle.semantics.specs.Quantifiers.{any, pick}
+use Rattle.semantics.specs.Valuations.{pairs}
+use Rattle.semantics.specs.LeftRecursion.{level}
 use Rattle.semantics.specs.Strings.{look}
 use Rattle.semantics.specs.Families.{Table}
-use Rattle.semantics.specs.Descent.{Outcome, Failed, End, endsAt, Outcomes, read, run, obey, select}
+use Rattle.semantics.specs.Descent.{Outcome, Failed, End, endsAt, Outcomes, read, run, select, descend}
 
 -- (document 01: a pair)
 pub record Call : Type 0 where
@@ -24,9 +28,9 @@ callAt A i = record { nonterminal = A; place = i }
 abbrev pub InRange : Grammar → List ℕ → Call → Type 0
 InRange G w x = (x .nonterminal < G .nonterminals) × (x .place ≤ length w)
 
--- each call gives what its rule gives: the results of the definition without a memo table
-abbrev pub Results : Grammar → Table → ℕ → List ℕ → Outcomes → Type 0
-Results G t k w c = (A i : ℕ) → A < G .nonterminals → i ≤ length w → c A i ≡ obey (λ b. run c w b i) (length w) (select G (t A (look k w i)))
+-- the tokens left, then the rank: what falls from a call to those that it makes
+unfoldable pub measure : Grammar → List ℕ → Call → ℕ
+measure G w x = level G (length w - x .place) (x .nonterminal)
 
 abbrev pub symbolComesTo : Symbol → ℕ → List Call
 symbolComesTo (Terminal a) i = []
@@ -65,13 +69,13 @@ selectedComesTo c w none i = []
 selectedComesTo c w (some r) i = ruleComesTo c w (length w) (r .positives) (r .negatives) i
 
 -- what the running of a call's rule comes to
-unfoldable pub callComesTo : Grammar → Table → ℕ → List ℕ → Outcomes → Call → List Call
-callComesTo G t k w c x = selectedComesTo c w (select G (t (x .nonterminal) (look k w (x .place)))) (x .place)
+unfoldable pub callComesTo : Grammar → Table → ℕ → List ℕ → Call → List Call
+callComesTo G t k w x = selectedComesTo (descend G t k w) w (select G (t (x .nonterminal) (look k w (x .place)))) (x .place)
 
 -- (document 01: the called pairs)
-pub data Called (G : Grammar) (t : Table) (k : ℕ) (w : List ℕ) (c : Outcomes) : Call → Type 0 where
-  start : Called G t k w c (callAt 0 0)
-  more : {x y : Call} → Called G t k w c x → List·Memᴰ y (callComesTo G t k w c x) → Called G t k w c y
+pub data Called (G : Grammar) (t : Table) (k : ℕ) (w : List ℕ) : Call → Type 0 where
+  start : Called G t k w (callAt 0 0)
+  more : {x y : Call} → Called G t k w x → List·Memᴰ y (callComesTo G t k w x) → Called G t k w y
 
 module _ {A : Type 0} where
   -- no element twice
@@ -80,7 +84,46 @@ module _ {A : Type 0} where
   Distinct (x ∷ l) = (List·Memᴰ x l → ⊥) × Distinct l
 
 -- a list of just the calls made, each once
-pub record Listing (G : Grammar) (t : Table) (k : ℕ) (w : List ℕ) (c : Outcomes) (l : List Call) : Type 0 where
+pub record Listing (G : Grammar) (t : Table) (k : ℕ) (w : List ℕ) (l : List Call) : Type 0 where
   pub distinct : Distinct l
-  pub sound : (x : Call) → List·Memᴰ x l → Called G t k w c x
-  pub full : (x : Call) → Called G t k w c x → List·Memᴰ x l
+  pub sound : (x : Call) → List·Memᴰ x l → Called G t k w x
+  pub full : (x : Call) → Called G t k w x → List·Memᴰ x l
+
+unfoldable pub gather : (Call → List Call) → List Call → List Call
+gather f [] = []
+gather f (x ∷ l) = f x ++ gather f l
+
+-- x and the calls below it, at most n deep, each as often as the descent without a memo table makes it
+unfoldable pub callsWithin : Grammar → Table → ℕ → List ℕ → ℕ → Call → List Call
+callsWithin G t k w zero x = []
+callsWithin G t k w (suc n) x = x ∷ gather (callsWithin G t k w n) (callComesTo G t k w x)
+
+abbrev pub sameCall : Call → Call → Bool
+sameCall x y = eqb (x .nonterminal) (y .nonterminal) && eqb (x .place) (y .place)
+
+-- calls are numbered by nonterminal, then place (document 01: notebook order)
+abbrev pub indexOf : List ℕ → Call → ℕ
+indexOf w x = x .nonterminal * suc (length w) + x .place
+
+abbrev pub callOf : List ℕ → ℕ → Call
+callOf w n = callAt (n / suc (length w)) (n % suc (length w))
+
+-- the calls with a number below n that pass, in order
+unfoldable pub passing : List ℕ → (Call → Bool) → ℕ → List Call
+passing w p zero = []
+passing w p (suc n) = passing w p n ++ pick (p (callOf w n)) (callOf w n ∷ []) []
+
+unfoldable pub calls : Grammar → Table → ℕ → List ℕ → List Call
+calls G t k w = passing w (λ x. any (sameCall x) (callsWithin G t k w (pairs G w) (callAt 0 0))) (pairs G w)
+
+-- (document 01: the count)
+unfoldable pub callCount : Grammar → Table → ℕ → List ℕ → ℕ
+callCount G t k w = length (calls G t k w)
+
+unfoldable pub greatestPlace : List Call → ℕ
+greatestPlace [] = 0
+greatestPlace (x ∷ l) = max (x .place) (greatestPlace l)
+
+-- (document 01: far)
+unfoldable pub farthest : Grammar → Table → ℕ → List ℕ → ℕ
+farthest G t k w = greatestPlace (calls G t k w)

@@ -1,14 +1,16 @@
--- Recursive descent with k tokens of lookahead (document 01: the descent), as a function with fuel.
+-- Recursive descent with k tokens of lookahead (document 01: the descent), without a memo table.
+use mathlib.Core.Path.{_≡_}
 use mathlib.Core.Bool.{Bool, true, false, not, _&&_}
 use mathlib.Core.List.{List, [], _∷_}
 use mathlib.Core.Option.{Option, none, some}
-use Prim.Native.Nat.{ℕ, zero, suc}
+use Prim.Native.Nat.{ℕ, zero, suc, _≤_, _<_}
 use lib.ListN.{length, getD, getElem?}
 use lib.Dec.{ltb, eqb}
 use Rattle.grammar.specs.declared.Symbol.{Symbol}
 use Rattle.grammar.specs.declared.Symbol.the-variants.{Terminal, Nonterminal}
 use Rattle.grammar.specs.Syntax.{Body, Rule, Grammar}
 use Rattle.semantics.specs.Quantifiers.{any, all}
+use Rattle.semantics.specs.Valuations.{pairs}
 use Rattle.semantics.specs.Strings.{look}
 use Rattle.semantics.specs.Families.{Table}
 
@@ -61,7 +63,23 @@ unfoldable pub select : Grammar → Option ℕ → Option Rule
 select G none = none
 select G (some q) = getElem? (G .rules) q
 
--- a nonterminal called at i, with fuel
-unfoldable pub call : Grammar → Table → ℕ → List ℕ → ℕ → Outcomes
-call G t k w zero A i = Failed
-call G t k w (suc n) A i = obey (λ b. run (call G t k w n) w b i) (length w) (select G (t A (look k w i)))
+-- what the table's rule gives a call of A at i, where the calls that it makes give c
+unfoldable pub byTable : Grammar → Table → ℕ → List ℕ → Outcomes → Outcomes
+byTable G t k w c A i = obey (λ b. run c w b i) (length w) (select G (t A (look k w i)))
+
+-- each call gives what its rule gives
+abbrev pub Results : Grammar → Table → ℕ → List ℕ → Outcomes → Type 0
+Results G t k w c = (A i : ℕ) → A < G .nonterminals → i ≤ length w → c A i ≡ byTable G t k w c A i
+
+-- calls at most n deep; deeper ones fail
+unfoldable pub within : Grammar → Table → ℕ → List ℕ → ℕ → Outcomes
+within G t k w zero A i = Failed
+within G t k w (suc n) A i = byTable G t k w (within G t k w n) A i
+
+-- the result of calling A at i: no call goes deeper than there are pairs
+unfoldable pub descend : Grammar → Table → ℕ → List ℕ → Outcomes
+descend G t k w = within G t k w (pairs G w)
+
+-- the start called at 0 ends at the end of the input (document 01: the log is accepted)
+unfoldable pub accepts : Grammar → Table → ℕ → List ℕ → Bool
+accepts G t k w = endsAt (descend G t k w 0 0) (length w)

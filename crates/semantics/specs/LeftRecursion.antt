@@ -1,14 +1,15 @@
--- Nullable nonterminals, left dependence and left recursion, and the rank that falls where there is none.
+-- Nullable nonterminals, left dependence, left recursion and its lowest nonterminal, and the rank that falls where there is none.
 use mathlib.Core.Path.{_≡_}
-use mathlib.Core.Bool.{Bool, true, false, not, _&&_, _||_}
+use mathlib.Core.Bool.{Bool, true, false, _&&_, _||_}
 use mathlib.Core.List.{[], _∷_, List·Memᴰ}
-use Prim.Native.Nat.{ℕ, _<_}
-use lib.Dec.{T, ltb, eqb}
+use mathlib.Core.Option.{Option}
+use Prim.Native.Nat.{ℕ, _+_, _*_}
+use lib.Dec.{T, eqb}
 use Rattle.grammar.specs.declared.Symbol.the-variants.{Terminal, Nonterminal}
 use Rattle.grammar.specs.Syntax.{Body, Rule, Grammar, bodies}
-use Rattle.semantics.specs.Quantifiers.{any, all, count}
+use Rattle.semantics.specs.Quantifiers.{any, all, below, count, lowest}
 use Rattle.semantics.specs.FiniteSets.{numbers}
-use Rattle.semantics.specs.Rounds.{Set, after, least}
+use Rattle.semantics.specs.Rounds.{Set, least}
 
 -- the body consists of nonterminals of the set
 unfoldable pub allNullable : Set → Body → Bool
@@ -29,36 +30,47 @@ pub data LeftIn (s : Set) (B : ℕ) : Body → Type 0 where
   there : {C : ℕ} {b : Body} → T (s C) → LeftIn s B b → LeftIn s B (Nonterminal C ∷ b)
 
 -- a body of A, positive or negative, has B at its left (document 01: A leans on B)
-pub record LeftDepends (G : Grammar) (s : Set) (A B : ℕ) : Type 0 where
+pub record LeftDepends (G : Grammar) (A B : ℕ) : Type 0 where
   pub rule : Rule
   pub body : Body
   pub listed : List·Memᴰ rule (G .rules)
   pub heads : rule .head ≡ A
   pub held : List·Memᴰ body (bodies rule)
-  pub left : LeftIn s B body
+  pub left : LeftIn (nullable G) B body
 
 -- in one or more steps
 pub data LeftReaches (G : Grammar) (A : ℕ) : ℕ → Type 0 where
-  once : {B : ℕ} → LeftDepends G (nullable G) A B → LeftReaches G A B
-  more : {B C : ℕ} → LeftReaches G A B → LeftDepends G (nullable G) B C → LeftReaches G A C
+  once : {B : ℕ} → LeftDepends G A B → LeftReaches G A B
+  more : {B C : ℕ} → LeftReaches G A B → LeftDepends G B C → LeftReaches G A C
 
 abbrev pub NoLeftRecursion : Grammar → Type 0
 NoLeftRecursion G = (A : ℕ) → LeftReaches G A A → ⊥
 
--- every nonterminal at the left of the body is in p
-unfoldable pub allLeft : Set → Set → Body → Bool
-allLeft s p [] = true
-allLeft s p (Terminal a ∷ b) = true
-allLeft s p (Nonterminal C ∷ b) = p C && (not (s C) || allLeft s p b)
+-- the same as tests
+unfoldable pub leftIn : Set → ℕ → Body → Bool
+leftIn s B [] = false
+leftIn s B (Terminal a ∷ b) = false
+leftIn s B (Nonterminal C ∷ b) = eqb C B || (s C && leftIn s B b)
 
--- all that A left-depends on is in p
-unfoldable pub grounded : Grammar → Set → Set
-grounded G p A = ltb A (G .nonterminals) && all (λ r. not (eqb (r .head) A) || all (allLeft (nullable G) p) (bodies r)) (G .rules)
+unfoldable pub leftDepends : Grammar → ℕ → Set
+leftDepends G A B = any (λ r. eqb (r .head) A && any (leftIn (nullable G) B) (bodies r)) (G .rules)
 
--- the number of rounds before A is grounded (document 01: leaning rank)
+unfoldable pub reachStep : Grammar → ℕ → Set → Set
+reachStep G A s B = leftDepends G A B || below (G .nonterminals) (λ C. s C && leftDepends G C B)
+
+unfoldable pub leftReaches : Grammar → ℕ → Set
+leftReaches G A = least eqb (numbers (G .nonterminals)) (reachStep G A)
+
+unfoldable pub leftRecursive : Grammar → Set
+leftRecursive G A = leftReaches G A A
+
+unfoldable pub lowestLeftRecursive : Grammar → Option ℕ
+lowestLeftRecursive G = lowest (G .nonterminals) (leftRecursive G)
+
+-- how many nonterminals A left-reaches (document 01: leaning rank)
 unfoldable pub rank : Grammar → ℕ → ℕ
-rank G A = count (G .nonterminals) (λ n. not (after eqb (numbers (G .nonterminals)) (grounded G) n A))
+rank G A = count (G .nonterminals) (leftReaches G A)
 
--- the ranks fall along left dependence
-abbrev pub Falls : Grammar → (ℕ → ℕ) → Type 0
-Falls G ranks = (A B : ℕ) → LeftDepends G (nullable G) A B → ranks B < ranks A
+-- a length first, then the rank: the measure of a span, and of a call by the tokens left
+unfoldable pub level : Grammar → ℕ → ℕ → ℕ
+level G d A = d * G .nonterminals + rank G A

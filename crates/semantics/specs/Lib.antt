@@ -5,9 +5,12 @@ pub mod Valuations
 pub mod LeftRecursion
 pub mod Strings
 pub mod Families
+pub mod FirstFollow
+pub mod Claims
+pub mod Predictive
 pub mod Descent
 pub mod Calls
 pub mod Memo
-pub mod FirstFollow
 pub mod Examples
-pub mod Claims
+pub mod Rows
+pub mod Theorems

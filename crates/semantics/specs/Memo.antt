@@ -1,19 +1,19 @@
--- The descent with a memo table, as a pure function: a call looks its entry up, else is counted, runs its rule and stores the outcome.
+-- The descent with a memo table, as a pure function: a call looks its entry up, else runs its rule and stores the outcome.
 use mathlib.Core.Path.{_≡_}
 use mathlib.Core.Bool.{Bool, true, false, not, _&&_}
-use mathlib.Core.Logic.{_⊎_, _↔_}
 use mathlib.Core.List.{List, [], _∷_}
 use mathlib.Core.Option.{Option, none, some}
-use Prim.Native.Nat.{ℕ, zero, suc, _+_, _*_, _≤_, _<_}
+use Prim.Native.Nat.{ℕ, zero, suc, _<_}
 use lib.ListN.{length, getD, set, replicate}
-use lib.Dec.{T, ltb, eqb}
+use lib.Dec.{ltb, eqb}
 use Rattle.grammar.specs.declared.Symbol.the-variants.{Terminal, Nonterminal}
 use Rattle.grammar.specs.Syntax.{Body, Rule, Grammar}
-use Rattle.semantics.specs.Quantifiers.{count}
+use Rattle.semantics.specs.Quantifiers.{pick}
+use Rattle.semantics.specs.Valuations.{pairs}
 use Rattle.semantics.specs.Strings.{look}
 use Rattle.semantics.specs.Families.{Table}
-use Rattle.semantics.specs.Descent.{Outcome, Failed, End, endsAt, Outcomes, select}
-use Rattle.semantics.specs.Calls.{Call, InRange, Called, Listing}
+use Rattle.semantics.specs.Descent.{Outcome, Failed, End, endsAt, select, descend}
+use Rattle.semantics.specs.Calls.{Call, callAt, InRange, Called, indexOf, passing, calls}
 
 abbrev pub failedCode : ℕ
 failedCode = 65534
@@ -25,11 +25,9 @@ uncalledCode = 65535
 abbrev pub Fits : List ℕ → Type 0
 Fits w = length w < failedCode
 
--- the memo table (document 01: notebook), the number of calls, and the greatest place of one (document 01: far)
-pub record Memo : Type 0 where
-  pub entries : List ℕ
-  pub calls : ℕ
-  pub farthest : ℕ
+-- an entry for each pair of a nonterminal and a place (document 01: notebook)
+abbrev pub Memo : Type 0
+Memo = List ℕ
 
 -- an outcome, and the memo after it
 pub record Memoized : Type 0 where
@@ -38,10 +36,6 @@ pub record Memoized : Type 0 where
 
 abbrev pub memoized : Outcome → Memo → Memoized
 memoized o m = record { outcome = o; memo = m }
-
-unfoldable pub pick : {A : Type 0} → Bool → A → A → A
-pick true a b = a
-pick false a b = b
 
 unfoldable pub andThen : Outcome → Memo → (ℕ → Memo → Memoized) → Memoized
 andThen Failed m f = memoized Failed m
@@ -84,53 +78,35 @@ encode (End e) = e
 unfoldable pub decode : ℕ → Outcome
 decode v = pick (eqb v failedCode) Failed (End v)
 
-abbrev pub index : List ℕ → ℕ → ℕ → ℕ
-index w A i = A * suc (length w) + i
-
--- a new call at i is counted
-unfoldable pub counted : ℕ → Memo → Memo
-counted i m = record { entries = m .entries; calls = suc (m .calls); farthest = pick (ltb (m .farthest) i) i (m .farthest) }
+abbrev pub entry : List ℕ → Memo → Call → ℕ
+entry w m x = getD m (indexOf w x) uncalledCode
 
 unfoldable pub stored : ℕ → Memoized → Memoized
-stored x r = memoized (r .outcome) (record { entries = set (r .memo .entries) x (encode (r .outcome)); calls = r .memo .calls; farthest = r .memo .farthest })
+stored x r = memoized (r .outcome) (set (r .memo) x (encode (r .outcome)))
 
--- a nonterminal called at i, with fuel
+-- a nonterminal called at i, at most n calls deep
 unfoldable pub memoCall : Grammar → Table → ℕ → List ℕ → ℕ → MemoCalls
 memoCall G t k w zero A i m = memoized Failed m
-memoCall G t k w (suc f) A i m =
-    pick (eqb (getD (m .entries) (index w A i) uncalledCode) uncalledCode)
-    (stored (index w A i) (memoObey (memoCall G t k w f) w (select G (t A (look k w i))) i (counted i m)))
-    (memoized (decode (getD (m .entries) (index w A i) uncalledCode)) m)
+memoCall G t k w (suc n) A i m =
+    pick (eqb (entry w m (callAt A i)) uncalledCode)
+    (stored (indexOf w (callAt A i)) (memoObey (memoCall G t k w n) w (select G (t A (look k w i))) i m))
+    (memoized (decode (entry w m (callAt A i))) m)
 
 -- before the first call
 abbrev pub blank : Grammar → List ℕ → Memo
-blank G w = record { entries = replicate (G .nonterminals * suc (length w)) uncalledCode; calls = 0; farthest = 0 }
+blank G w = replicate (pairs G w) uncalledCode
 
--- the x-th entry is that of a call
-abbrev pub written : List ℕ → ℕ → Bool
-written m x = not (eqb (getD m x uncalledCode) uncalledCode)
+-- the start called at 0
+unfoldable pub memoStart : Grammar → Table → ℕ → List ℕ → Memoized
+memoStart G t k w = memoCall G t k w (pairs G w) 0 0 (blank G w)
 
--- how many entries are
-unfoldable pub filled : List ℕ → ℕ
-filled m = count (length m) (written m)
+-- the call has an entry
+abbrev pub written : List ℕ → Memo → Call → Bool
+written w m x = not (eqb (entry w m x) uncalledCode)
 
-abbrev pub indexOf : List ℕ → Call → ℕ
-indexOf w x = index w (x .nonterminal) (x .place)
-
-abbrev pub entry : List ℕ → List ℕ → Call → ℕ
-entry w m x = getD m (indexOf w x) uncalledCode
-
--- the memo in the end holds the results c at the calls made and nothing else, with their number and farthest place
-pub record Recorded (G : Grammar) (t : Table) (k : ℕ) (w : List ℕ) (c : Outcomes) (m : Memo) : Type 0 where
-  pub size : length (m .entries) ≡ G .nonterminals * suc (length w)
-  pub exact : (x : Call) → Called G t k w c x ↔ (InRange G w x × T (written (m .entries) (indexOf w x)))
-  pub called : (x : Call) → Called G t k w c x → entry w (m .entries) x ≡ encode (c (x .nonterminal) (x .place))
-  pub uncalled : (x : Call) → InRange G w x → (Called G t k w c x → ⊥) → entry w (m .entries) x ≡ uncalledCode
-  pub total : m .calls ≡ filled (m .entries)
-  pub count : (l : List Call) → Listing G t k w c l → m .calls ≡ length l
-  pub bounded : m .calls ≤ G .nonterminals * suc (length w)
-  pub farthest-most : (x : Call) → Called G t k w c x → x .place ≤ m .farthest
-  pub farthest-called : (x : Call) × Called G t k w c x × (x .place ≡ m .farthest)
-  -- and the calls can be listed, and told from the others
-  pub listing : (l : List Call) × Listing G t k w c l
-  pub decided : (x : Call) → Called G t k w c x ⊎ (Called G t k w c x → ⊥)
+-- the memo holds the results of the calls made and nothing else, and so a scan of it gives the calls
+pub record Recorded (G : Grammar) (t : Table) (k : ℕ) (w : List ℕ) (m : Memo) : Type 0 where
+  pub size : length m ≡ pairs G w
+  pub called : (x : Call) → Called G t k w x → entry w m x ≡ encode (descend G t k w (x .nonterminal) (x .place))
+  pub uncalled : (x : Call) → InRange G w x → (Called G t k w x → ⊥) → entry w m x ≡ uncalledCode
+  pub scanned : passing w (written w m) (pairs G w) ≡ calls G t k w

@@ -1,7 +1,12 @@
--- 'Some', 'every' and 'how many', as tests over lists and over the numbers below a bound.
+-- 'Some', 'every', 'how many' and 'the lowest', as functions of a test over a list or over the numbers below a bound.
 use mathlib.Core.Bool.{Bool, true, false, _&&_, _||_}
 use mathlib.Core.List.{List, [], _∷_}
+use mathlib.Core.Option.{Option, none, some}
 use Prim.Native.Nat.{ℕ, zero, suc, _+_}
+
+unfoldable pub pick : {A : Type 0} → Bool → A → A → A
+pick true a b = a
+pick false a b = b
 
 module _ {A : Type 0} where
   unfoldable pub any : (A → Bool) → List A → Bool
@@ -25,3 +30,8 @@ one false = 0
 unfoldable pub count : ℕ → (ℕ → Bool) → ℕ
 count zero p = 0
 count (suc n) p = one (p n) + count n p
+
+-- the lowest number below n that passes
+unfoldable pub lowest : ℕ → (ℕ → Bool) → Option ℕ
+lowest zero p = none
+lowest (suc n) p = pick (below n p) (lowest n p) (pick (p n) (some n) none)

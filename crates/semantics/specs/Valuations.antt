@@ -2,7 +2,7 @@
 use mathlib.Core.Path.{_≡_}
 use mathlib.Core.Bool.{Bool, false, not, _&&_}
 use mathlib.Core.List.{List, [], _∷_}
-use Prim.Native.Nat.{ℕ, zero, suc, _+_, _*_, _≤_, _<_}
+use Prim.Native.Nat.{ℕ, zero, suc, _*_, _≤_, _<_}
 use lib.ListN.{length, getD}
 use lib.Dec.{leb, ltb, eqb}
 use Rattle.grammar.specs.declared.Symbol.the-variants.{Terminal, Nonterminal}
@@ -36,15 +36,10 @@ rounds G w (suc n) v = byRules G w (rounds G w n v)
 abbrev pub Solves : Grammar → List ℕ → Valuation → Type 0
 Solves G w v = (A i j : ℕ) → A < G .nonterminals → i ≤ j → j ≤ length w → v A i j ≡ byRules G w v A i j
 
--- the sum of the ranks of the first n nonterminals
-unfoldable pub totalRank : (ℕ → ℕ) → ℕ → ℕ
-totalRank rank zero = 0
-totalRank rank (suc n) = rank n + totalRank rank n
-
--- how many levels a span's length and a nonterminal's rank make: so many rounds, or so deep a descent, are enough
-abbrev pub levels : Grammar → (ℕ → ℕ) → List ℕ → ℕ
-levels G rank w = suc (length w) * suc (totalRank rank (G .nonterminals))
+-- how many pairs of a nonterminal and a place there are: so many rounds, and so deep a descent, are enough
+abbrev pub pairs : Grammar → List ℕ → ℕ
+pairs G w = G .nonterminals * suc (length w)
 
 -- the valuation that solves the grammar, computed
-unfoldable pub solution : Grammar → (ℕ → ℕ) → List ℕ → Valuation
-solution G rank w = rounds G w (levels G rank w) (λ _ _ _. false)
+unfoldable pub solution : Grammar → List ℕ → Valuation
+solution G w = rounds G w (pairs G w) (λ _ _ _. false)

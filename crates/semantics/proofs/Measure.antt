@@ -1,34 +1,25 @@
--- What the running of a call's rule comes to is in range and of a lower level.
+-- What the running of a call's rule comes to is in range and of a lower measure: fewer tokens left, or as many and a lower rank.
 use mathlib.Core.Bool.{Bool, true, false, not, _&&_}
 use mathlib.Core.List.{List, [], _∷_, _++_, List·Memᴰ, List·Memᴰ·head, List·Memᴰ·tail, List·Memᴰ·cases-cons, List·Memᴰ·not-nil, List·Memᴰ·append-cases}
 use mathlib.Core.Logic.{inl, inr}
 use mathlib.Core.Option.{Option, none, some}
 use mathlib.Core.Path.{_≡_, refl}
-use Prim.Native.Nat.{ℕ, suc, _+_, _*_, _-_, _≤_, _<_}
+use Prim.Native.Nat.{ℕ, suc, _≤_, _<_}
 use native.Mathlib.Omega.{arith}
 use lib.Dec.{T, ltb, eqb, ltb→lt, eqb-refl}
 use lib.ListN.{length, getD}
 use Rattle.grammar.specs.Syntax.{Body, Rule, Grammar, bodies, NonterminalsBelow, WellScoped}
 use Rattle.grammar.specs.declared.Symbol.the-variants.{Terminal, Nonterminal}
-use Rattle.semantics.specs.LeftRecursion.{nullable, LeftIn, here, there, LeftDepends, Falls}
+use Rattle.semantics.specs.LeftRecursion.{nullable, LeftIn, here, there, LeftDepends, NoLeftRecursion}
 use Rattle.semantics.specs.Strings.{look}
 use Rattle.semantics.specs.Families.{Table, OwnEntries}
-use Rattle.semantics.specs.Descent.{Outcome, Failed, End, endsAt, guard, Outcomes, read, run, select}
-use Rattle.semantics.specs.Calls.{Call, InRange, fromEnd, when, bodyComesTo, negativesComeTo, positivesComeTo, ruleComesTo, selectedComesTo, callComesTo}
+use Rattle.semantics.specs.Descent.{Outcome, Failed, End, endsAt, guard, Outcomes, read, run, select, descend}
+use Rattle.semantics.specs.Calls.{Call, InRange, measure, fromEnd, when, bodyComesTo, negativesComeTo, positivesComeTo, ruleComesTo}
+use Rattle.semantics.specs.Calls.{selectedComesTo, callComesTo}
 use Rattle.semantics.proofs.Booleans.{and-l}
-use Rattle.semantics.proofs.Ends.{guard-elim, selected}
-use Rattle.semantics.proofs.Fuel.{lower}
-
--- what is left of the input counts first, then the rank
-unfoldable pub level : List ℕ → (ℕ → ℕ) → ℕ → Call → ℕ
-level w rank K x = (length w - x .place) * K + rank (x .nonterminal)
-
--- a call ends between its start and the end of the input, and at its start only for a nullable nonterminal
-abbrev pub ForwardIn : Grammar → List ℕ → Outcomes → Type 0
-ForwardIn G w c = (A i j : ℕ) → A < G .nonterminals → i ≤ length w → T (endsAt (c A i) j) → (i ≤ j) × (j ≤ length w)
-
-abbrev pub EmptyNullIn : Grammar → List ℕ → Outcomes → Type 0
-EmptyNullIn G w c = (A i j : ℕ) → A < G .nonterminals → i ≤ length w → i ≡ j → T (endsAt (c A i) j) → T (nullable G A)
+use Rattle.semantics.proofs.Rank.{level-onward}
+use Rattle.semantics.proofs.Outcomes.{guard-elim}
+use Rattle.semantics.proofs.Ends.{Forward, EmptyNull, selected, descend-forward, descend-null}
 
 fromEnd-elim : (o : Outcome) (f : ℕ → List Call) (x : Call) → List·Memᴰ x (fromEnd o f) → (m : ℕ) × T (endsAt o m) × List·Memᴰ x (f m)
 fromEnd-elim Failed f x m = absurd (List·Memᴰ·not-nil m)
@@ -74,12 +65,12 @@ module _ (c : Outcomes) (w : List ℕ) (i : ℕ) (Q : Call → Type 0) where
   chosen-in none h x m = absurd (List·Memᴰ·not-nil m)
   chosen-in (some r) h x m = rule-in (length w) (r .positives) (r .negatives) (h r refl) x m
 
-module _ (G : Grammar) (w : List ℕ) (c : Outcomes) (forward : ForwardIn G w c) (empty : EmptyNullIn G w c) (B start : ℕ) where
+module _ (G : Grammar) (w : List ℕ) (c : Outcomes) (forward : Forward w c) (empty : EmptyNull G w c) (B start : ℕ) where
   abbrev Low : Call → Type 0
-  Low x = InRange G w x × (start ≤ x .place) × (x .place ≡ start → LeftDepends G (nullable G) B (x .nonterminal))
+  Low x = InRange G w x × (start ≤ x .place) × (x .place ≡ start → LeftDepends G B (x .nonterminal))
 
   body-low : (b : Body) (i : ℕ) → start ≤ i → i ≤ length w → NonterminalsBelow (G .nonterminals) b
-      → (i ≡ start → (A : ℕ) → LeftIn (nullable G) A b → LeftDepends G (nullable G) B A)
+      → (i ≡ start → (A : ℕ) → LeftIn (nullable G) A b → LeftDepends G B A)
       → (x : Call) → List·Memᴰ x (bodyComesTo c w b i) → Low x
   unfolding bodyComesTo read
   body-low [] i si iw scoped front x m = absurd (List·Memᴰ·not-nil m)
@@ -93,22 +84,22 @@ module _ (G : Grammar) (w : List ℕ) (c : Outcomes) (forward : ForwardIn G w c)
     | inl e ↦ rw e ((scoped .0, iw), si, λ d. front d A here)
     | inr n ↦
         let s = fromEnd-elim (c A i) (λ m. bodyComesTo c w b m) x n in
-        let p : (i ≤ s .0) × (s .0 ≤ length w) = forward A i (s .0) (scoped .0) iw (s .1) in
-        body-low b (s .0) (omega arith) (omega arith) (scoped .1) (λ e C l. front (omega arith) C (there (empty A i (s .0) (scoped .0) iw (omega arith) (s .1)) l)) x (s .2)
+        let p : (i ≤ s .0) × (s .0 ≤ length w) = forward A i (s .0) iw (s .1) in
+        body-low b (s .0) (omega arith) (omega arith) (scoped .1) (λ e C l. front (omega arith) C (there (empty A i (s .0) iw (omega arith) (s .1)) l)) x (s .2)
   ]
 
-module _ (G : Grammar) (t : Table) (k : ℕ) (w : List ℕ) (rank : ℕ → ℕ) (K : ℕ) (wellScoped : WellScoped G) (falls : Falls G rank)
-    (high : (A : ℕ) → A < G .nonterminals → rank A < K)
-    (chosen : OwnEntries G t)
-    (c : Outcomes) (forward : ForwardIn G w c) (empty : EmptyNullIn G w c) where
-  -- each call that a call's rule comes to is in range and of a lower level
-  pub call-low : (x : Call) → InRange G w x → (y : Call) → List·Memᴰ y (callComesTo G t k w c x) → InRange G w y × (level w rank K y < level w rank K x)
-  unfolding callComesTo level
-  call-low x h y m =
-      let low : Low G w c forward empty (x .nonterminal) (x .place) y =
-      chosen-in c w (x .place) (Low G w c forward empty (x .nonterminal) (x .place)) (select G (t (x .nonterminal) (look k w (x .place))))
+module _ (G : Grammar) (t : Table) (k : ℕ) (w : List ℕ) (scoped : WellScoped G) (free : NoLeftRecursion G) (own : OwnEntries G t) where
+  -- each call that a call's rule comes to is in range and of a lower measure
+  pub measure-falls : (x : Call) → InRange G w x → (y : Call) → List·Memᴰ y (callComesTo G t k w x) → InRange G w y × (measure G w y < measure G w x)
+  unfolding callComesTo measure
+  measure-falls x h y m =
+      let c : Outcomes = descend G t k w in
+      let forward = descend-forward G t k w own in
+      let null = descend-null G t k w own scoped in
+      let low = Low G w c forward null (x .nonterminal) (x .place) in
+      let l : low y = chosen-in c w (x .place) low (select G (t (x .nonterminal) (look k w (x .place))))
       (λ r e b n.
-      let s = selected G t k w chosen (x .nonterminal) (look k w (x .place)) r e in
-      body-low G w c forward empty (x .nonterminal) (x .place) b (x .place) (omega arith) (h .1) (wellScoped .nonterminals r (s .0) b n)
-      (λ _ A l. record { rule = r; body = b; listed = s .0; heads = s .1; held = n; left = l })) y m in
-      (low .0, lower G rank K falls high (length w) (y .nonterminal) (x .nonterminal) (x .place) (y .place) (low .0 .0) (low .1) (low .0 .1) (low .2))
+      let s = selected G t k w own (x .nonterminal) (look k w (x .place)) r e in
+      body-low G w c forward null (x .nonterminal) (x .place) b (x .place) (omega arith) (h .1) (scoped .nonterminals r (s .0) b n)
+      (λ _ A z. record { rule = r; body = b; listed = s .0; heads = s .1; held = n; left = z })) y m in
+      (l .0, level-onward G scoped free (x .nonterminal) (y .nonterminal) (length w) (x .place) (y .place) (l .0 .0) (l .1) (l .0 .1) (l .2))
