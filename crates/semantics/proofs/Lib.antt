@@ -11,6 +11,7 @@ pub mod LookaheadSets
 pub mod First
 pub mod FirstNullable
 pub mod Follow
+pub mod Concatenation
 pub mod FollowCuts
 pub mod Positions
 pub mod Claims
@@ -30,5 +31,7 @@ pub mod Memo
 pub mod Check
 pub mod ExamplesValuations
 pub mod ExamplesMemo
+pub mod Computing
+pub mod ExamplesTables
 pub mod Rows
 pub mod Theorems
