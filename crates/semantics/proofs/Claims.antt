@@ -1,22 +1,19 @@
 -- The computed claims are the ones defined, clashes are decided, and without clash the table has exactly the claiming rules.
-use mathlib.Core.Bool.{Bool, true, false, not, _&&_, _||_}
-use mathlib.Core.List.{List, [], _∷_, _++_, List·Memᴰ, List·Memᴰ·head, List·Memᴰ·not-nil, Memᴰ·cast}
+use mathlib.Core.Bool.{not, _&&_, _||_}
+use mathlib.Core.List.{List, [], _∷_, List·Memᴰ, List·Memᴰ·head, List·Memᴰ·not-nil, Memᴰ·cast}
 use mathlib.Core.Logic.{_↔_, _⊎_, inl, inr}
 use mathlib.Core.Option.{Option, none, some}
 use mathlib.Core.Path.{_≡_, refl, sym, ap, subst}
-use Prim.Native.Nat.{ℕ, zero, suc, _≤_, _<_}
-use native.Mathlib.Decide.{ℕ-discrete, decLt}
+use Prim.Native.Nat.{ℕ, _<_}
+use native.Mathlib.Decide.{decLt}
 use native.Mathlib.Omega.{arith}
-use lib.Dec.{T, T-not, eqb, ltb, eqb→eq, eqb-refl, ltb→lt, lt→ltb}
-use lib.ListN.{take, getElem?}
+use lib.Dec.{T, eqb, ltb, eqb→eq, eqb-refl, ltb→lt, lt→ltb}
 use Rattle.grammar.specs.Syntax.{Body, Rule, Grammar}
 use Rattle.semantics.specs.Quantifiers.{all}
-use Rattle.semantics.specs.FiniteSets.{member, keep}
-use Rattle.semantics.specs.Strings.{Lookahead}
 use Rattle.semantics.specs.Families.{Claims, Clash, TableRight, EveryEnds}
-use Rattle.semantics.specs.FirstFollow.{strings, sameString, Entry, entries, setsOf, firstSets, firstRule, First, follow, followSets, Follow}
-use Rattle.semantics.specs.Claims.{several, position, meeting, claimed, claims, clashes, tableOf, without, everyEnds}
-use Rattle.semantics.proofs.Booleans.{and-l, and-r, and-make, or-cases, or-l, or-r}
+use Rattle.semantics.specs.FirstFollow.{strings, sameString, Entry, entries, firstSets, firstRule, First, follow, followSets, Follow}
+use Rattle.semantics.specs.Claims.{meeting, claimed, claims, clashes, tableOf, without, everyEnds}
+use Rattle.semantics.proofs.Booleans.{and-l, and-r, and-make, or-cases}
 use Rattle.semantics.proofs.Quantified.{all-elim, all-make}
 use Rattle.semantics.proofs.FiniteSets.{member-mem, mem-member, keep-make, keep-elim}
 use Rattle.semantics.proofs.LookaheadSets.{strings-equality, strings-make, strings-elim, entries-make, sets-make, sets-elim, concat-make, concat-elim, cut-lookahead}

@@ -1,7 +1,7 @@
 -- The definitions that things compute by, to be named together: `unfolding tables-compute` for sets, clashes and tables, and so on.
 use Rattle.semantics.specs.Quantifiers.{pick, any, all, below, lowest}
 use Rattle.semantics.specs.FiniteSets.{member, keep, distinct, numbersFrom, numbers, combine}
-use Rattle.semantics.specs.Rounds.{round, settle, after, members, least}
+use Rattle.semantics.specs.Rounds.{round, settle, members, least}
 use Rattle.semantics.specs.LeftRecursion.{allNullable, nullStep, nullable, leftIn, leftDepends, reachStep, leftReaches, leftRecursive}
 use Rattle.semantics.specs.LeftRecursion.{lowestLeftRecursive}
 use Rattle.semantics.specs.Strings.{look}
@@ -13,7 +13,7 @@ use Rattle.semantics.specs.Calls.{bodyComesTo, negativesComeTo, positive
 use Rattle.semantics.specs.Calls.{passing, calls, callCount, greatestPlace, farthest}
 
 unfoldable pub tables-compute : Unit {0}
-unfolding any all member keep distinct numbersFrom numbers combine round settle after members least strings sameString concat sameEntry entries setsOf
+unfolding any all member keep distinct numbersFrom numbers combine round settle members least strings sameString concat sameEntry entries setsOf
     firstOf firstBody firstRule firstStep first firstSets behind followStep follow followSets several position meeting claimed claims clashes tableOf everyEnds
 tables-compute = tt
 

@@ -6,8 +6,8 @@ use mathlib.Core.Path.{_≡_, refl}
 use Prim.Native.Nat.{ℕ, _+_, _^_}
 use Rattle.grammar.specs.Syntax.{Grammar}
 use Rattle.grammar.specs.declared.Symbol.the-variants.{Terminal, Nonterminal}
-use Rattle.semantics.specs.FiniteSets.{numbers}
-use Rattle.semantics.specs.Rounds.{after}
+use Rattle.semantics.specs.FiniteSets.{member, numbers}
+use Rattle.semantics.specs.Rounds.{settle}
 use Rattle.semantics.specs.FirstFollow.{strings, sameEntry, entries, firstStep, firstSets, followSets}
 use Rattle.semantics.specs.Claims.{clashes, tableOf, everyEnds}
 use Rattle.semantics.specs.Examples.{grammarR, grammarM, grammarE}
@@ -47,7 +47,9 @@ unfolding tables-compute weight sheet
 sheets = refl
 
 -- as many rounds as there are nonterminals do not suffice: R has one, and a is in its FIRST set after two
-rounds-needed : _≡_ {A = List Bool} (map (λ n. after sameEntry (entries grammarR 1) (firstStep grammarR 1) n (0, 0 ∷ [])) (numbers 3)) (false ∷ false ∷ true ∷ [])
+rounds-needed : _≡_ {A = List Bool}
+    (map (λ n. member sameEntry (settle sameEntry (entries grammarR 1) (firstStep grammarR 1) n []) (0, 0 ∷ [])) (numbers 3))
+    (false ∷ false ∷ true ∷ [])
 unfolding tables-compute
 rounds-needed = refl
 

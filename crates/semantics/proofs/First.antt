@@ -1,21 +1,17 @@
 -- FIRST_k, computed in rounds, is the least family that the rules close.
-use mathlib.Core.Bool.{Bool, true, false, _&&_}
-use mathlib.Core.List.{List, [], _∷_, _++_, List·Memᴰ, List·Memᴰ·head, List·Memᴰ·eq-of-singleton, Memᴰ·cast, Memᴰ·append-left}
+use mathlib.Core.Bool.{Bool}
+use mathlib.Core.List.{List, [], _∷_, List·Memᴰ, List·Memᴰ·head, List·Memᴰ·eq-of-singleton, Memᴰ·cast}
 use mathlib.Core.Logic.{_↔_}
-use mathlib.Core.Path.{_≡_, refl}
-use Prim.Native.Nat.{ℕ, zero, suc, _<_}
-use native.Mathlib.Omega.{arith}
+use mathlib.Core.Path.{_≡_}
+use Prim.Native.Nat.{ℕ, _<_}
 use lib.Dec.{T, eqb, eqb→eq, eqb-refl}
-use lib.ListN.{length, take}
 use Rattle.grammar.specs.declared.Symbol.{Symbol}
 use Rattle.grammar.specs.declared.Symbol.the-variants.{Terminal, Nonterminal}
 use Rattle.grammar.specs.Syntax.{Body, Rule, Grammar, WellScoped}
-use Rattle.semantics.specs.Quantifiers.{any, all}
-use Rattle.semantics.specs.FiniteSets.{member}
 use Rattle.semantics.specs.Rounds.{_⊆_}
 use Rattle.semantics.specs.Strings.{Lookahead}
 use Rattle.semantics.specs.Families.{Family, Least, FirstOf, FirstBody, FirstRule, FirstClosed}
-use Rattle.semantics.specs.FirstFollow.{sameString, concat, Entry, sameEntry, entries, Sets, setsOf, firstOf, firstBody, firstRule, firstStep, first, First}
+use Rattle.semantics.specs.FirstFollow.{sameString, Entry, sameEntry, entries, Sets, setsOf, firstOf, firstBody, firstRule, firstStep, first, First}
 use Rattle.semantics.proofs.Booleans.{and-l, and-r, and-make}
 use Rattle.semantics.proofs.Quantified.{any-elim, any-make, all-elim, all-make}
 use Rattle.semantics.proofs.FiniteSets.{member-mem, mem-member}

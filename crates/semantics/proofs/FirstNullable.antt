@@ -2,7 +2,7 @@
 use mathlib.Core.List.{List, [], _∷_, _++_}
 use mathlib.Core.Logic.{_↔_}
 use mathlib.Core.Path.{_≡_, refl, sym, ap, _∙_}
-use Prim.Native.Nat.{ℕ, zero, suc, _<_, _≤_}
+use Prim.Native.Nat.{ℕ, zero, suc, _<_}
 use native.Mathlib.Omega.{arith}
 use lib.Dec.{T, eqb, eqb→eq, eqb-refl}
 use lib.ListN.{length, take}
@@ -10,7 +10,7 @@ use lib.Seq.{take-nil}
 use Rattle.grammar.specs.declared.Symbol.the-variants.{Terminal, Nonterminal}
 use Rattle.grammar.specs.Syntax.{Body, Grammar, WellScoped}
 use Rattle.semantics.specs.Quantifiers.{all}
-use Rattle.semantics.specs.Rounds.{Set, _⊆_}
+use Rattle.semantics.specs.Rounds.{Set}
 use Rattle.semantics.specs.LeftRecursion.{allNullable, nullStep, nullable}
 use Rattle.semantics.specs.Families.{Family, FirstBody}
 use Rattle.semantics.specs.FirstFollow.{sameEntry, entries, setsOf, firstStep, first, First}

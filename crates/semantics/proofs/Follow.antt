@@ -1,12 +1,12 @@
 -- FOLLOW_k, computed in rounds, is the least family that the rules close over FIRST_k.
-use mathlib.Core.Bool.{Bool, true, false, _&&_, _||_}
+use mathlib.Core.Bool.{Bool, true, false}
 use mathlib.Core.List.{List, [], _∷_, _++_, List·Memᴰ, List·Memᴰ·not-nil, List·Memᴰ·append-cases, Memᴰ·cast, Memᴰ·append-left, Memᴰ·append-right}
 use mathlib.Core.Logic.{_⊎_, inl, inr}
-use mathlib.Core.Path.{_≡_, refl, sym, _∙_}
+use mathlib.Core.Path.{_≡_, refl}
 use Prim.Native.Nat.{ℕ, _<_}
 use native.Mathlib.Omega.{arith}
 use lib.Dec.{T, eqb, ltb, eqb→eq, eqb-refl, lt→ltb}
-use lib.ListN.{length, take}
+use lib.ListN.{take}
 use Rattle.grammar.specs.declared.Symbol.the-variants.{Terminal, Nonterminal}
 use Rattle.grammar.specs.Syntax.{Body, Rule, Grammar, bodies, NonterminalsBelow, TerminalsBelow, WellScoped}
 use Rattle.semantics.specs.Quantifiers.{any, all}
@@ -15,12 +15,12 @@ use Rattle.semantics.specs.Rounds.{_⊆_}
 use Rattle.semantics.specs.Strings.{Over, Lookahead}
 use Rattle.semantics.specs.Families.{Family, Least, FirstBody, FollowBody, FollowClosed, OwnTerminals}
 use Rattle.semantics.specs.FirstFollow.{sameString, concat, Entry, sameEntry, entries, Sets, setsOf, firstBody, first, firstSets, First, behind, followStep, follow, Follow}
-use Rattle.semantics.proofs.Booleans.{T-subst, true-T, and-l, and-r, and-make, or-cases, or-l, or-r}
+use Rattle.semantics.proofs.Booleans.{true-T, and-make, or-cases, or-l, or-r}
 use Rattle.semantics.proofs.Quantified.{any-elim, any-make}
 use Rattle.semantics.proofs.FiniteSets.{member-mem, mem-member}
 use Rattle.semantics.proofs.Rounds.{least-kept, least-closed}
 use Rattle.semantics.proofs.Strings.{all-take}
-use Rattle.semantics.proofs.LookaheadSets.{strings-equality, entries-equality, entries-make, entries-elim, sets-make, sets-elim, concat-make, concat-elim, cut-lookahead, over-append}
+use Rattle.semantics.proofs.LookaheadSets.{strings-equality, entries-equality, entries-make, entries-elim, sets-make, sets-elim, concat-make, concat-elim, cut-lookahead}
 use Rattle.semantics.proofs.First.{In, firstBody-mono, firstBody-make, firstBody-elim, first-lookahead}
 
 -- a string of the set of a body over n terminals is one over n terminals

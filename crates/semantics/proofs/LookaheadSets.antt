@@ -1,7 +1,7 @@
 -- Laws of finite sets of lookahead strings: which strings and entries there are, and what a concatenation holds.
-use mathlib.Core.Bool.{Bool, true, false, _&&_}
+use mathlib.Core.Bool.{Bool}
 use mathlib.Core.List.{List, [], _∷_, _++_, List·Memᴰ, List·Memᴰ·head, List·Memᴰ·append-cases, List·Memᴰ·eq-of-singleton, Memᴰ·append-left, Memᴰ·append-right}
-use mathlib.Core.Logic.{_↔_, _⊎_, inl, inr}
+use mathlib.Core.Logic.{_⊎_, inl, inr}
 use mathlib.Core.Path.{_≡_, refl}
 use Prim.Native.Nat.{ℕ, zero, suc, _<_}
 use native.Mathlib.Omega.{arith}
@@ -98,7 +98,7 @@ pub concat-elim : (k : ℕ) (us ys : List (List ℕ)) (x : List ℕ) → List·M
 unfolding concat
 concat-elim k us ys x m = combine-elim (λ u y. take k (u ++ y)) us ys x (distinct-elim sameString strings-equality _ x m)
 
-pub over-append : (n : ℕ) (x y : List ℕ) → Over n x → Over n y → Over n (x ++ y)
+over-append : (n : ℕ) (x y : List ℕ) → Over n x → Over n y → Over n (x ++ y)
 unfolding all
 over-append n [] y h l = l
 over-append n (a ∷ x) y h l = and-make (ltb a n) (all (λ a. ltb a n) (x ++ y)) (and-l (ltb a n) _ h) (over-append n x y (and-r (ltb a n) (all (λ a. ltb a n) x) h) l)

@@ -1,8 +1,7 @@
 -- What an operator builds in rounds within a finite universe is closed under it there, and is the least such set.
 use mathlib.Core.Bool.{Bool, true, false}
 use mathlib.Core.List.{List, [], List·Memᴰ}
-use mathlib.Core.Logic.{_↔_}
-use mathlib.Core.Path.{_≡_, refl, sym, ap, _∙_}
+use mathlib.Core.Path.{_≡_, refl, sym, ap}
 use Prim.Native.Nat.{ℕ, zero, suc, _+_, _≤_, _<_}
 use native.Mathlib.Decide.{ℕ-discrete}
 use native.Mathlib.Omega.{arith}
@@ -10,7 +9,7 @@ use lib.Dec.{T, eqb, eqb→eq, eqb-refl}
 use lib.ListN.{length}
 use Rattle.semantics.specs.Quantifiers.{any}
 use Rattle.semantics.specs.FiniteSets.{member, keep}
-use Rattle.semantics.specs.Rounds.{_⊆_, round, settle, after, members, least}
+use Rattle.semantics.specs.Rounds.{_⊆_, round, settle, members, least}
 use Rattle.semantics.proofs.Booleans.{T-subst, true-T}
 use Rattle.semantics.proofs.FiniteSets.{Equality, member-mem, mem-member, keep-make, keep-elim, keep-grows, keep-same, keep-all, keep-none}
 
@@ -47,22 +46,12 @@ module _ {X : Type 0} (same : X → X → Bool) (eq : Equality same) (U : List X
       go false f = f
 
   -- induction on the rounds
-  pub after-kept : (P : X → Type 0) → Kept P → (n : ℕ) (x : X) → T (after same U Φ n x) → P x
-  unfolding after member any
-  after-kept P h n = settle-kept P h n [] (λ x t. absurd t)
-
-  pub least-after : (x : X) → T (least same U Φ x) → T (after same U Φ (length U) x)
-  unfolding least members after
-  least-after x t = t
-
   pub least-kept : (P : X → Type 0) → Kept P → (x : X) → T (least same U Φ x) → P x
-  least-kept P h x t = after-kept P h (length U) x (least-after x t)
+  unfolding least members member any
+  least-kept P h = settle-kept P h (length U) [] (λ x t. absurd t)
 
   module _ (mono : (s s′ : X → Bool) → s ⊆ s′ → Φ s ⊆ Φ s′) where
     -- contained in every set that is closed under the operator
-    pub after-least : (s : X → Bool) → Φ s ⊆ s → (n : ℕ) → after same U Φ n ⊆ s
-    after-least s h = after-kept (λ x. T (s x)) (λ p k x m t. h x (mono p s k x t))
-
     pub least-least : (s : X → Bool) → Φ s ⊆ s → least same U Φ ⊆ s
     least-least s h = least-kept (λ x. T (s x)) (λ p k x m t. h x (mono p s k x t))
 
@@ -119,36 +108,6 @@ module _ {X : Type 0} (same : X → X → Bool) (eq : Equality same) (U : List X
             → Closed (elim b [ true ↦ s | false ↦ settle same U Φ n (round same U Φ s) ])
         go true e f = stops s g (eqb→eq _ _ (true-T _ e))
         go false e f = f (omega (arith, unequal (length (round same U Φ s)) (length s) e (round-longer s g)))
-
-    -- one round more is a round on what the rounds so far have built
-    abbrev Next : List X → List X → Type 0
-    Next s s′ = (x : X) → T (member same s′ x) ↔ (List·Memᴰ x U × T (Φ (member same s) x))
-
-    settle-next : (n : ℕ) (s : List X) → Growing s → Next (settle same U Φ n s) (settle same U Φ (suc n) s)
-    unfolding settle
-    settle-next zero s g = go (eqb (length (round same U Φ s)) (length s)) refl
-      where
-        go : (b : Bool) → eqb (length (round same U Φ s)) (length s) ≡ b → Next s (elim b [ true ↦ s | false ↦ round same U Φ s ])
-        go true e x = (growing-in s g x, λ h. stops s g (eqb→eq _ _ (true-T _ e)) x (h .0) (h .1))
-        go false e x = (round-elim s x, λ h. round-make s x (h .0) (h .1))
-    settle-next (suc n) s g = go (eqb (length (round same U Φ s)) (length s)) refl (settle-next n (round same U Φ s) (growing-next s g))
-      where
-        go : (b : Bool) → eqb (length (round same U Φ s)) (length s) ≡ b
-            → Next (settle same U Φ n (round same U Φ s)) (settle same U Φ (suc n) (round same U Φ s))
-            → Next (elim b [ true ↦ s | false ↦ settle same U Φ n (round same U Φ s) ]) (elim b [ true ↦ s | false ↦ settle same U Φ (suc n) (round same U Φ s) ])
-        go true e f x = (growing-in s g x, λ h. stops s g (eqb→eq _ _ (true-T _ e)) x (h .0) (h .1))
-        go false e f x = f x
-
-    pub after-next : (n : ℕ) (x : X) → T (after same U Φ (suc n) x) ↔ (List·Memᴰ x U × T (Φ (after same U Φ n) x))
-    unfolding after
-    after-next n = settle-next n [] growing-none
-
-    pub after-grows : (n : ℕ) → after same U Φ n ⊆ after same U Φ (suc n)
-    unfolding after member any settle
-    after-grows zero x t = absurd t
-    after-grows (suc n) x t =
-        let r = after-next n x .0 t in
-        after-next (suc n) x .1 (r .0, mono (after same U Φ n) (after same U Φ (suc n)) (after-grows n) x (r .1))
 
     -- whatever of the universe the operator gives from the set is in it
     pub least-closed : (x : X) → List·Memᴰ x U → T (Φ (least same U Φ) x) → T (least same U Φ x)

@@ -23,9 +23,6 @@ module _ {X : Type 0} (same : X → X → Bool) (universe : List X) (Φ : (X →
   settle zero s = s
   settle (suc n) s = let s′ = round s in elim (eqb (length s′) (length s)) [ true ↦ s | false ↦ settle n s′ ]
 
-  unfoldable pub after : ℕ → X → Bool
-  after n = member same (settle n [])
-
   -- as many rounds as the universe has members are enough
   unfoldable pub members : List X
   members = settle (length universe) []
