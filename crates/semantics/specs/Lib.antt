@@ -1,0 +1,16 @@
+pub mod Quantifiers
+pub mod FiniteSets
+pub mod Rounds
+pub mod Valuations
+pub mod LeftRecursion
+pub mod Strings
+pub mod Families
+pub mod FirstFollow
+pub mod Claims
+pub mod Predictive
+pub mod Descent
+pub mod Calls
+pub mod Memo
+pub mod Examples
+pub mod Rows
+pub mod Theorems

@@ -1,0 +1,1 @@
+// What a Boolean grammar means and what recursive descent makes of it: definitions in specs/, theorems in proofs/, no code.
