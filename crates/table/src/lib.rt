@@ -1,0 +1,1 @@
+// First and follow sets, left recursion and the LL(1) table of an encoded grammar.
