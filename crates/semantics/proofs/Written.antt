@@ -17,15 +17,15 @@ use Rattle.semantics.specs.LeftRecursion.{NoLeftRecursion}
 use Rattle.semantics.specs.Strings.{look}
 use Rattle.semantics.specs.Families.{Table, OwnEntries}
 use Rattle.semantics.specs.Descent.{Outcome, Failed, End, endsAt, Outcomes, select, byTable, descend}
-use Rattle.semantics.specs.Calls.{Call, callAt, InRange, measure, indexOf, callComesTo, Called, start, more, passing, calls}
-use Rattle.semantics.specs.Memo.{Memo, Memoized, memoized, memoObey, memoCall, memoStart, encode, decode, entry, stored, blank}
-use Rattle.semantics.specs.Memo.{written, Recorded, Fits, uncalledCode, failedCode}
+use Rattle.semantics.specs.Calls.{Call, callAt, InRange, measure, callComesTo}
+use Rattle.semantics.specs.Memo.{Memo, Memoized, memoized, memoObey, memoCall, encode, decode, indexOf, entry, stored}
+use Rattle.semantics.specs.Memo.{written, Fits, uncalledCode, failedCode}
 use Rattle.semantics.proofs.Booleans.{T-true, T-false, both, test}
 use Rattle.semantics.proofs.Plan.{Plan, Done, Ask, value, asked, through, plan, plan-value, plan-asked, plan-through}
 use Rattle.semantics.proofs.Ends.{descend-forward}
 use Rattle.semantics.proofs.Results.{descend-results}
 use Rattle.semantics.proofs.Measure.{measure-falls}
-use Rattle.semantics.proofs.Numbered.{index-injective, index-range, range-index, call-index, passing-same}
+use Rattle.semantics.proofs.Range.{index-injective, index-range}
 
 -- a call's entry is written
 abbrev pub Has : Grammar → List ℕ → Memo → Call → Type 0
@@ -57,7 +57,7 @@ module _ (G : Grammar) (w : List ℕ) (m : Memo) (size : length m ≡ pairs G w)
   after = set m (indexOf w x) v
 
   this : entry w after x ≡ v
-  this = let l = index-range w G x ranged in getD-set-same m (indexOf w x) v uncalledCode (omega arith)
+  this = let l = index-range G w x ranged in getD-set-same m (indexOf w x) v uncalledCode (omega arith)
 
   store-this : Has G w after x
   store-this = (ranged, rw this real)

@@ -3,13 +3,13 @@
 use mathlib.Core.Bool.{Bool, true, false, not, _&&_}
 use mathlib.Core.List.{List, [], _∷_, _++_, List·Memᴰ}
 use mathlib.Core.Option.{Option, none, some}
-use Prim.Native.Nat.{ℕ, zero, suc, _+_, _-_, _*_, _/_, _%_, _≤_, _<_, max}
+use Prim.Native.Nat.{ℕ, zero, suc, _-_, _≤_, _<_, max}
 use lib.ListN.{length}
 use lib.Dec.{eqb}
 use Rattle.grammar.specs.declared.Symbol.{Symbol}
 use Rattle.grammar.specs.declared.Symbol.the-variants.{Terminal, Nonterminal}
 use Rattle.grammar.specs.Syntax.{Body, Rule, Grammar}
-use Rattle.semantics.specs.Quantifiers.{any, pick}
+use Rattle.semantics.specs.FiniteSets.{member, keep, numbers, combine}
 use Rattle.semantics.specs.Valuations.{pairs}
 use Rattle.semantics.specs.LeftRecursion.{level}
 use Rattle.semantics.specs.Strings.{look}
@@ -101,20 +101,13 @@ callsWithin G t k w (suc n) x = x ∷ gather (callsWithin G t k w n) (callComesT
 abbrev pub sameCall : Call → Call → Bool
 sameCall x y = eqb (x .nonterminal) (y .nonterminal) && eqb (x .place) (y .place)
 
--- calls are numbered by nonterminal, then place (document 01: notebook order)
-abbrev pub indexOf : List ℕ → Call → ℕ
-indexOf w x = x .nonterminal * suc (length w) + x .place
+-- every call in range, by nonterminal, then place (document 01: notebook order)
+unfoldable pub allCalls : Grammar → List ℕ → List Call
+allCalls G w = combine callAt (numbers (G .nonterminals)) (numbers (suc (length w)))
 
-abbrev pub callOf : List ℕ → ℕ → Call
-callOf w n = callAt (n / suc (length w)) (n % suc (length w))
-
--- the calls with a number below n that pass, in order
-unfoldable pub passing : List ℕ → (Call → Bool) → ℕ → List Call
-passing w p zero = []
-passing w p (suc n) = passing w p n ++ pick (p (callOf w n)) (callOf w n ∷ []) []
-
+-- the calls made, each once, in that order
 unfoldable pub calls : Grammar → Table → ℕ → List ℕ → List Call
-calls G t k w = passing w (λ x. any (sameCall x) (callsWithin G t k w (pairs G w) (callAt 0 0))) (pairs G w)
+calls G t k w = keep (member sameCall (callsWithin G t k w (pairs G w) (callAt 0 0))) (allCalls G w)
 
 -- (document 01: the count)
 unfoldable pub callCount : Grammar → Table → ℕ → List ℕ → ℕ

@@ -3,17 +3,18 @@ use mathlib.Core.Path.{_≡_}
 use mathlib.Core.Bool.{Bool, true, false, not, _&&_}
 use mathlib.Core.List.{List, [], _∷_}
 use mathlib.Core.Option.{Option, none, some}
-use Prim.Native.Nat.{ℕ, zero, suc, _<_}
+use Prim.Native.Nat.{ℕ, zero, suc, _+_, _*_, _<_}
 use lib.ListN.{length, getD, set, replicate}
 use lib.Dec.{ltb, eqb}
 use Rattle.grammar.specs.declared.Symbol.the-variants.{Terminal, Nonterminal}
 use Rattle.grammar.specs.Syntax.{Body, Rule, Grammar}
 use Rattle.semantics.specs.Quantifiers.{pick}
+use Rattle.semantics.specs.FiniteSets.{keep}
 use Rattle.semantics.specs.Valuations.{pairs}
 use Rattle.semantics.specs.Strings.{look}
 use Rattle.semantics.specs.Families.{Table}
 use Rattle.semantics.specs.Descent.{Outcome, Failed, End, endsAt, select, descend}
-use Rattle.semantics.specs.Calls.{Call, callAt, InRange, Called, indexOf, passing, calls}
+use Rattle.semantics.specs.Calls.{Call, callAt, InRange, Called, allCalls, calls}
 
 abbrev pub failedCode : ℕ
 failedCode = 65534
@@ -78,6 +79,10 @@ encode (End e) = e
 unfoldable pub decode : ℕ → Outcome
 decode v = pick (eqb v failedCode) Failed (End v)
 
+-- a row for each nonterminal, with an entry for each place (document 01: name × (events + 1) + place)
+abbrev pub indexOf : List ℕ → Call → ℕ
+indexOf w x = x .nonterminal * suc (length w) + x .place
+
 abbrev pub entry : List ℕ → Memo → Call → ℕ
 entry w m x = getD m (indexOf w x) uncalledCode
 
@@ -109,4 +114,4 @@ pub record Recorded (G : Grammar) (t : Table) (k : ℕ) (w : List ℕ) (m : Memo
   pub size : length m ≡ pairs G w
   pub called : (x : Call) → Called G t k w x → entry w m x ≡ encode (descend G t k w (x .nonterminal) (x .place))
   pub uncalled : (x : Call) → InRange G w x → (Called G t k w x → ⊥) → entry w m x ≡ uncalledCode
-  pub scanned : passing w (written w m) (pairs G w) ≡ calls G t k w
+  pub scanned : keep (written w m) (allCalls G w) ≡ calls G t k w
