@@ -2,8 +2,8 @@
 use Rattle.semantics.specs.Quantifiers.{any, all}
 use Rattle.semantics.specs.FiniteSets.{member, keep, distinct, numbersFrom, numbers, combine}
 use Rattle.semantics.specs.Rounds.{round, settle, members, least}
-use Rattle.semantics.specs.FirstFollow.{strings, sameString, concat, sameEntry, entries, setsOf, firstOf, firstBody, firstRule, firstStep, first, firstSets}
-use Rattle.semantics.specs.FirstFollow.{behind, followStep, follow, followSets}
+use Rattle.semantics.specs.FirstFollow.{strings, sameString, concat, sameEntry, entries, setsOf, firstOf, firstBody, firstRule, firstStep, first}
+use Rattle.semantics.specs.FirstFollow.{firstSets, behind, followStep, follow, followSets}
 use Rattle.semantics.specs.Claims.{several, position, meeting, claimed, claims, clashes, tableOf, everyEnds}
 
 unfoldable pub tables-compute : Unit {0}
