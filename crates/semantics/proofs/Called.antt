@@ -112,7 +112,8 @@ module _ (G : Grammar) (t : Table) (k : ℕ) (w : List ℕ) where
       unfolding measure
       all-within x start = within-self (pairs G w) (callAt 0 0) (omega (arith, level-top G scoped free w 0 (length w) nonempty (omega arith)))
       all-within y (more {x = x} h m) =
-          within-closed (pairs G w) (callAt 0 0) x y (nonempty, omega arith) (level-top G scoped free w 0 (length w - 0) nonempty (omega arith)) (all-within x h) m
+          within-closed (pairs G w) (callAt 0 0) x y (nonempty, omega arith) (level-top G scoped free w 0 (length w - 0) nonempty (omega arith))
+          (all-within x h) m
 
       -- the test by which the computed list is made passes just the calls
       pub called-test : (x : Call) → T (any (sameCall x) (callsWithin G t k w (pairs G w) (callAt 0 0))) ↔ Called G t k w x

@@ -70,7 +70,8 @@ module _ (G : Grammar) (t : Table) (k : ℕ) (w : List ℕ) (own : OwnEntries G 
   module _ (c : Outcomes) where
     -- a call ends at j by a rule of its own, all of whose bodies agree on j
     pub byTable-elim : (A i j : ℕ) → T (endsAt (byTable G t k w c A i) j)
-        → (r : Rule) × List·Memᴰ r (G .rules) × (r .head ≡ A) × (r .positives ≡ [] → length w ≡ j) × T (agrees (λ b. run c w b i) (r .positives) (r .negatives) j)
+        → (r : Rule) × List·Memᴰ r (G .rules) × (r .head ≡ A) × (r .positives ≡ [] → length w ≡ j)
+        × T (agrees (λ b. run c w b i) (r .positives) (r .negatives) j)
     unfolding byTable
     byTable-elim A i j u =
         let o = obey-elim (λ b. run c w b i) (length w) (select G (t A (look k w i))) j u in

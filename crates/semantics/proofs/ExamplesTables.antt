@@ -79,7 +79,7 @@ unfolding tables-compute weight sheet
 meets-sheet = refl
 
 -- (ab)ⁿac but for ac: S → T & ¬ X, T → a b T, T → a c, X → a c
-abbrev repeated : Grammar
+abbrev pub repeated : Grammar
 repeated = record {
   nonterminals = 3;
   terminals = 3;
@@ -106,7 +106,7 @@ unfolding tables-compute
 repeated-table = refl
 
 -- every word but a: S → ¬ X, X → a. Nothing but the end follows S, and it takes a token to see that
-abbrev others : Grammar
+abbrev pub others : Grammar
 others = record {
   nonterminals = 2;
   terminals = 1;

@@ -7,15 +7,13 @@ use Prim.Native.Nat.{ℕ, zero, suc}
 use native.Mathlib.Omega.{arith}
 use Rattle.grammar.specs.Syntax.{Grammar, WellScoped}
 use Rattle.grammar.specs.declared.Symbol.the-variants.{Terminal, Nonterminal}
-use Rattle.semantics.specs.Quantifiers.{pick, any, all, below, lowest}
-use Rattle.semantics.specs.FiniteSets.{member, keep, numbersFrom, numbers}
-use Rattle.semantics.specs.Rounds.{round, settle, members, least}
+use Rattle.semantics.specs.Quantifiers.{any, all, below}
 use Rattle.semantics.specs.Valuations.{Valuation, contains, derives, byRules, rounds, Solves, solution}
-use Rattle.semantics.specs.LeftRecursion.{allNullable, nullStep, nullable, NoLeftRecursion, leftIn, leftDepends, reachStep, leftReaches, leftRecursive}
-use Rattle.semantics.specs.LeftRecursion.{lowestLeftRecursive}
+use Rattle.semantics.specs.LeftRecursion.{NoLeftRecursion, lowestLeftRecursive}
 use Rattle.semantics.proofs.LeftRecursion.{lowestLeftRecursive-none}
 use Rattle.semantics.proofs.Unique.{solution-solves}
 use Rattle.semantics.proofs.Check.{belowTest, scopedTest, scopedTest-sound}
+use Rattle.semantics.proofs.Computing.{left-recursion-computes}
 
 -- S → T & ¬ a b, T → a T b, T → ε: the words aⁿbⁿ but for ab
 abbrev pub balanced : Grammar
@@ -34,7 +32,7 @@ balanced-scoped = scopedTest-sound balanced tt
 
 -- no nonterminal is found that left-reaches itself
 pub balanced-free : NoLeftRecursion balanced
-unfolding lowestLeftRecursive lowest leftRecursive leftReaches reachStep leftDepends leftIn nullable nullStep allNullable least members settle round keep member numbersFrom numbers below any all pick
+unfolding left-recursion-computes
 balanced-free = lowestLeftRecursive-none balanced balanced-scoped .0 refl
 
 balanced-solves : (w : List ℕ) → Solves balanced w (solution balanced w)
@@ -54,7 +52,7 @@ abbrev liar : Grammar
 liar = record { nonterminals = 1; terminals = 0; rules = record { head = 0; positives = []; negatives = (Nonterminal 0 ∷ []) ∷ [] } ∷ [] }
 
 liar-lowest : lowestLeftRecursive liar ≡ some 0
-unfolding lowestLeftRecursive lowest leftRecursive leftReaches reachStep leftDepends leftIn nullable nullStep allNullable least members settle round keep member numbersFrom numbers below any all pick
+unfolding left-recursion-computes
 liar-lowest = refl
 
 liar-flips : (b : Bool) → b ≡ (not (((b && true) || false) || false) || false) → ⊥
@@ -84,5 +82,5 @@ circular = record {
 }
 
 circular-lowest : lowestLeftRecursive circular ≡ some 0
-unfolding lowestLeftRecursive lowest leftRecursive leftReaches reachStep leftDepends leftIn nullable nullStep allNullable least members settle round keep member numbersFrom numbers below any all pick
+unfolding left-recursion-computes
 circular-lowest = refl

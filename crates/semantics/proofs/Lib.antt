@@ -33,5 +33,6 @@ pub mod ExamplesValuations
 pub mod ExamplesMemo
 pub mod Computing
 pub mod ExamplesTables
+pub mod ExamplesDescent
 pub mod Rows
 pub mod Theorems

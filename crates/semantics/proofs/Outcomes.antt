@@ -68,7 +68,8 @@ unfolding conclude confirm
 conclude-make o n [] ns j h t = rw (h refl) (guard-make (agrees o [] ns j) j t)
 conclude-make o n (b ∷ ps) ns j h t =
     let u : T (endsAt (o b) j && agrees o ps ns j) = rw (agrees-cons o b ps ns j) at t in
-    onward-make (o b) (λ e. confirm o ps ns e) j j (and-l (endsAt (o b) j) (agrees o ps ns j) u) (guard-make (agrees o ps ns j) j (and-r (endsAt (o b) j) (agrees o ps ns j) u))
+    onward-make (o b) (λ e. confirm o ps ns e) j j (and-l (endsAt (o b) j) (agrees o ps ns j) u)
+    (guard-make (agrees o ps ns j) j (and-r (endsAt (o b) j) (agrees o ps ns j) u))
 
 -- the q-th rule is a rule, and every rule has a number
 pub nth-mem : (l : List Rule) (q : ℕ) (r : Rule) → getElem? l q ≡ some r → List·Memᴰ r l

@@ -191,7 +191,8 @@ module _ (M : MemoCalls) (w : List ℕ) where
   positives-through : (i e : ℕ) (ps ns : List Body) (m : Memo) → through M (positivesPlan w i e ps ns) m ≡ memoPositives M w i e ps ns m
   unfolding through positivesPlan memoPositives pick
   positives-through i e [] ns m = negatives-through i e ns m
-  positives-through i e (b ∷ ps) ns m = body-through b i _ m ∙ go (endsAt (memoRun M w b i m .outcome) e) (memoRun M w b i m .memo) (positives-through i e ps ns)
+  positives-through i e (b ∷ ps) ns m =
+      body-through b i _ m ∙ go (endsAt (memoRun M w b i m .outcome) e) (memoRun M w b i m .memo) (positives-through i e ps ns)
     where
       go : (x : Bool) (m : Memo) → ((m : Memo) → through M (positivesPlan w i e ps ns) m ≡ memoPositives M w i e ps ns m)
           → through M (pick x (positivesPlan w i e ps ns) (Done Failed)) m ≡ pick x (memoPositives M w i e ps ns m) (memoized Failed m)

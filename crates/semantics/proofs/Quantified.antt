@@ -32,7 +32,8 @@ module _ {A : Type 0} where
   unfolding all
   all-map p q [] h t = tt
   all-map p q (x ∷ xs) h t =
-      and-make (q x) (all q xs) (h x (List·Memᴰ·head refl) (and-l (p x) (all p xs) t)) (all-map p q xs (λ y m. h y (List·Memᴰ·tail m)) (and-r (p x) (all p xs) t))
+      and-make (q x) (all q xs) (h x (List·Memᴰ·head refl) (and-l (p x) (all p xs) t))
+      (all-map p q xs (λ y m. h y (List·Memᴰ·tail m)) (and-r (p x) (all p xs) t))
 
   pub any-map : (p q : A → Bool) (l : List A) → ((x : A) → List·Memᴰ x l → T (p x) → T (q x)) → T (any p l) → T (any q l)
   unfolding any

@@ -17,7 +17,8 @@ use Rattle.semantics.proofs.FirstSound.{first-sound, first-sound-body, 
 use Rattle.semantics.proofs.Outcomes.{end-ends}
 use Rattle.semantics.proofs.Ends.{descend-forward, descend-null}
 use Rattle.semantics.proofs.Results.{descend-results, results-unique}
-use Rattle.semantics.proofs.Predictive.{table-own, table-local-verdict, table-local-verdict-body, table-verdict}
+use Rattle.semantics.proofs.Predictive.{table-own, own-guides}
+use Rattle.semantics.proofs.Verdict.{local-verdict, local-verdict-body, local-verdict-piece, verdict}
 use Rattle.semantics.proofs.Measure.{measure-falls}
 use Rattle.semantics.proofs.Called.{calls-listing, count-listing, count-bound, farthest-most, farthest-called}
 use Rattle.semantics.proofs.Memo.{memo-recorded}
@@ -53,10 +54,11 @@ theorems = record {
     empty = λ A i a iw t. null-sound G scoped free w v solves A i i a (omega arith) iw t refl;
   };
   local-verdict = λ G k p w over v solves. record {
-    nonterminal = table-local-verdict G k p w over v solves;
-    rest = table-local-verdict-body G k p w over v solves;
+    nonterminal = local-verdict (p .scoped) (p .unrecursive) (own-guides G k p) w over v solves;
+    rest = local-verdict-body (p .scoped) (p .unrecursive) (own-guides G k p) w over v solves;
+    piece = local-verdict-piece (p .scoped) (p .unrecursive) (own-guides G k p) w over v solves;
   };
-  verdict = table-verdict;
+  verdict = λ G k p w over v solves. verdict (p .scoped) (p .unrecursive) (own-guides G k p) w over v solves (p .start);
   descent-ends = λ G scoped free t own k w. record {
     unfolds = descend-results G t k w scoped free own;
     only = results-unique G t k w scoped free own;

@@ -39,8 +39,8 @@ module _ (G : Grammar) (w : List ℕ) (v v′ : Valuation) (A i j : ℕ)
       front (omega arith) C (there (same .1 (omega arith) u) l)))))
 
   -- a body that an empty span holds is one of nullable nonterminals
-  contains-allNullable : i ≡ j → (b : Body) (k : ℕ) → i ≤ k → k ≤ j → NonterminalsBelow (G .nonterminals) b → ((B : ℕ) → LeftIn (nullable G) B b → LeftDepends G A B)
-      → T (contains v w b k j) → T (allNullable (nullable G) b)
+  contains-allNullable : i ≡ j → (b : Body) (k : ℕ) → i ≤ k → k ≤ j → NonterminalsBelow (G .nonterminals) b
+      → ((B : ℕ) → LeftIn (nullable G) B b → LeftDepends G A B) → T (contains v w b k j) → T (allNullable (nullable G) b)
   unfolding contains allNullable
   contains-allNullable ij [] k ik kj scoped front t = tt
   contains-allNullable ij (Terminal a ∷ b) k ik kj scoped front t = absurd (omega (arith, ltb→lt k j (and-l (ltb k j) _ t)))
@@ -55,7 +55,8 @@ module _ (G : Grammar) (w : List ℕ) (v v′ : Valuation) (A i j : ℕ)
       (contains-allNullable ij b m (omega arith) (omega arith) (scoped .1) (λ C l. front C (there null l)) (and-r (v B k m) _ rest))
 
   module _ (c : WellScoped G) (ij : i ≤ j) where
-    dependence : (r : Rule) → List·Memᴰ r (G .rules) → T (eqb (r .head) A) → (b : Body) → List·Memᴰ b (bodies r) → (B : ℕ) → LeftIn (nullable G) B b → LeftDepends G A B
+    dependence : (r : Rule) → List·Memᴰ r (G .rules) → T (eqb (r .head) A) → (b : Body) → List·Memᴰ b (bodies r)
+        → (B : ℕ) → LeftIn (nullable G) B b → LeftDepends G A B
     dependence r m t b n B l = record { rule = r; body = b; listed = m; heads = eqb→eq (r .head) A t; held = n; left = l }
 
     byRules-same : byRules G w v A i j ≡ byRules G w v′ A i j

@@ -14,7 +14,9 @@ use Rattle.semantics.specs.Quantifiers.{any, all, below}
 use Rattle.semantics.specs.Valuations.{Valuation, contains, derives, byRules, Solves, pairs}
 use Rattle.semantics.specs.LeftRecursion.{nullable, LeftIn, here, there, LeftDepends, NoLeftRecursion, level}
 use Rattle.semantics.specs.Strings.{span, look, Over}
-use Rattle.semantics.specs.Families.{Family, FirstClosed, FollowBody, FollowClosed, Table, TableRight, EveryEnds}
+use Rattle.semantics.specs.Families.{Family, FollowBody, Table}
+use Rattle.semantics.specs.Predictive.{Guides}
+use Rattle.semantics.specs.Theorems.{Piece}
 use Rattle.semantics.specs.Descent.{Outcome, End, endsAt, onward, Outcomes, read, run, agrees, byTable, descend, accepts}
 use Rattle.semantics.proofs.Booleans.{T-true, true-T, T-subst, both, and-l, and-r, and-make, and-cong, and-twist}
 use Rattle.semantics.proofs.Quantified.{any-cong, all-cong, any-make, any-elim, below-cong, below-elim, below-make}
@@ -65,7 +67,8 @@ module _ (G : Grammar) (k : ℕ) (F L : Family) (w : List ℕ) (v : Valuation) (
       (λ t.
       let d : i < j = ltb→lt i j (and-l (ltb i j) _ t) in
       let p : T (x && contains v w b (suc i) j) = and-r (ltb i j) _ t in
-      and-make (ltb i (length w) && x) _ (and-make (ltb i (length w)) x (lt→ltb i (length w) (omega arith)) (and-l x _ p)) (T-subst (sym (next d)) (and-r x _ p)))
+      and-make (ltb i (length w) && x) _ (and-make (ltb i (length w)) x (lt→ltb i (length w) (omega arith)) (and-l x _ p))
+      (T-subst (sym (next d)) (and-r x _ p)))
   run-contains (Nonterminal A ∷ b) i si ij scoped follow front =
       onward-below (c A i) (λ m. run c w b m) i j
       (λ m t u.
@@ -92,29 +95,20 @@ below-rest n [] b h = h
 below-rest n (Terminal x ∷ a) b h = below-rest n a b h
 below-rest n (Nonterminal A ∷ a) b h = below-rest n a b (h .1)
 
--- A called at i ends at m, and the rest b of the body runs on to j
-pub record Piece (k : ℕ) (L : Family) (w : List ℕ) (v : Valuation) (c : Outcomes) (A : ℕ) (b : Body) (i m j : ℕ) : Type 0 where
-  pub ends : c A i ≡ End m
-  pub rest : run c w b m ≡ End j
-  pub onward : (i ≤ m) × (m ≤ j)
-  pub follow : L A (look k w m)
-  pub derived : v A i m ≡ true
-
 -- Everything about a grammar, its families and table, an input and its solution that the verdict needs
-module _ (G : Grammar) (scoped : WellScoped G) (free : NoLeftRecursion G) (k : ℕ) (F L : Family) (t : Table)
-    (firsts : FirstClosed G k F) (follows : FollowClosed G k F L) (right : TableRight G k F L t) (every : EveryEnds G k L)
+module _ {G : Grammar} {k : ℕ} {F L : Family} {t : Table} (scoped : WellScoped G) (free : NoLeftRecursion G) (guides : Guides G k F L t)
     (w : List ℕ) (over : Over (G .terminals) w) (v : Valuation) (solves : Solves G w v) where
   abbrev outcomes : Outcomes
   outcomes = descend G t k w
 
   forward : Forward w outcomes
-  forward = descend-forward G t k w (right .chosen)
+  forward = descend-forward G t k w (guides .table .chosen)
 
   empty : EmptyNull G w outcomes
-  empty = descend-null G t k w (right .chosen) scoped
+  empty = descend-null G t k w (guides .table .chosen) scoped
 
   first : FirstSound G k F w v
-  first = first-sound G scoped free w v solves k F firsts over
+  first = first-sound G scoped free w v solves k F (guides .firsts) over
 
   null : NullSound G w v
   null = null-sound G scoped free w v solves
@@ -135,7 +129,7 @@ module _ (G : Grammar) (scoped : WellScoped G) (free : NoLeftRecursion G) (k : �
       body : (r : Rule) → List·Memᴰ r (G .rules) → r .head ≡ B → (b : Body) → List·Memᴰ b (bodies r) → endsAt (run outcomes w b i) j ≡ contains v w b i j
       body r m e b n =
           run-contains G k F L w v outcomes first null forward empty (LeftDepends G B) i j jw H b i (omega arith) ij (scoped .nonterminals r m b n)
-          (follows .follows r m b n (look k w j) (rw e y)) (λ _ A l. record { rule = r; body = b; listed = m; heads = e; held = n; left = l })
+          (guides .follows .follows r m b n (look k w j) (rw e y)) (λ _ A l. record { rule = r; body = b; listed = m; heads = e; held = n; left = l })
 
       same : (r : Rule) → List·Memᴰ r (G .rules) → r .head ≡ B
           → agrees (λ b. run outcomes w b i) (r .positives) (r .negatives) j
@@ -149,7 +143,7 @@ module _ (G : Grammar) (scoped : WellScoped G) (free : NoLeftRecursion G) (k : �
 
       there′ : T (endsAt (byTable G t k w outcomes B i) j) → T (any (derives v w B i j) (G .rules))
       there′ u =
-          let r = byTable-elim G t k w (right .chosen) outcomes B i j u in
+          let r = byTable-elim G t k w (guides .table .chosen) outcomes B i j u in
           let named : T (eqb (r .0 .head) B) = rw (r .2) (eqb-refl B) in
           any-make (derives v w B i j) (G .rules) (r .0) (r .1) (and-make (eqb (r .0 .head) B) _ named (T-subst (same (r .0) (r .1) (r .2)) (r .4)))
 
@@ -164,7 +158,7 @@ module _ (G : Grammar) (scoped : WellScoped G) (free : NoLeftRecursion G) (k : �
           let q = mem-nth (G .rules) r m in
           let y′ : L (r .head) (look k w j) = rw e y in
           let f = rule-first G k F w v scoped first i j ij jw r m p in
-          let d : t B (look k w i) ≡ some (q .0) = right .chooses (q .0) B (look k w i) (record {
+          let d : t B (look k w i) ≡ some (q .0) = guides .table .chooses (q .0) B (look k w i) (record {
             rule = r;
             numbered = q .1;
             heads = e;
@@ -175,15 +169,15 @@ module _ (G : Grammar) (scoped : WellScoped G) (free : NoLeftRecursion G) (k : �
             follows = y;
             makes = look-split k w i j ij;
           }) in
-          byTable-make G t k w (right .chosen) outcomes B i j (q .0) r d (q .1)
-          (λ o. let z = every r m o in sym (look-none k w j (z .0) jw (z .1 (look k w j) y′)))
+          byTable-make G t k w (guides .table .chosen) outcomes B i j (q .0) r d (q .1)
+          (λ o. let z = guides .ends r m o in sym (look-none k w j (z .0) jw (z .1 (look k w j) y′)))
           (T-subst (sym (same r m e)) x)
 
   verdict-below : (n : ℕ) → Verdicts n
   unfolding Verdicts
   verdict-below zero A i j a ij jw l y = absurd (omega arith)
   verdict-below (suc n) A i j a ij jw l y =
-      ap (λ o. endsAt o j) (descend-results G t k w scoped free (right .chosen) A i a (omega arith))
+      ap (λ o. endsAt o j) (descend-results G t k w scoped free (guides .table .chosen) A i a (omega arith))
       ∙ climb n (verdict-below n) A i j a ij jw l y ∙ sym (solves A i j a ij jw)
 
   verdict-at : (A i j : ℕ) → A < G .nonterminals → i ≤ j → j ≤ length w → L A (look k w j) → endsAt (outcomes A i) j ≡ v A i j
@@ -207,7 +201,7 @@ module _ (G : Grammar) (scoped : WellScoped G) (free : NoLeftRecursion G) (k : �
     rest-below = below-rest (G .nonterminals) front rest (scoped .nonterminals r listed (front ++ rest) held)
 
     rest-follow : FollowBody k F L (look k w j) rest
-    rest-follow = follow-rest k F L (look k w j) front rest (follows .follows r listed (front ++ rest) held (look k w j) y)
+    rest-follow = follow-rest k F L (look k w j) front rest (guides .follows .follows r listed (front ++ rest) held (look k w j) y)
 
     -- the local verdict for bodies: run from i it ends at j just when it contains the span by the solution
     pub local-verdict-body : (run outcomes w rest i ≡ End j) ↔ (contains v w rest i j ≡ true)
@@ -241,4 +235,4 @@ module _ (G : Grammar) (scoped : WellScoped G) (free : NoLeftRecursion G) (k : �
   -- the verdict: the input is accepted just when the solution gives the whole of it to the start
   pub verdict : 0 < G .nonterminals → accepts G t k w ≡ v 0 0 (length w)
   unfolding accepts
-  verdict a = verdict-at 0 0 (length w) a (omega arith) (omega arith) (rw (look-end k w) (follows .start))
+  verdict a = verdict-at 0 0 (length w) a (omega arith) (omega arith) (rw (look-end k w) (guides .follows .start))

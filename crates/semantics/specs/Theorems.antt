@@ -1,18 +1,19 @@
 -- What this crate proves, on one page: nine records of statements, and in the end what each of them needs. All of it is given in proofs/Theorems.
 use mathlib.Core.Path.{_≡_}
 use mathlib.Core.Bool.{true}
-use mathlib.Core.List.{List, [], _++_, map, List·Memᴰ}
+use mathlib.Core.List.{List, [], _∷_, _++_, map, List·Memᴰ}
 use mathlib.Core.Logic.{_↔_}
 use mathlib.Core.Option.{none, some}
 use Prim.Native.Nat.{ℕ, _≤_, _<_}
 use lib.Dec.{T}
 use lib.ListN.{length, take}
+use Rattle.grammar.specs.declared.Symbol.the-variants.{Nonterminal}
 use Rattle.grammar.specs.Syntax.{Body, Rule, Grammar, bodies, NonterminalsBelow, WellScoped}
 use Rattle.semantics.specs.Rounds.{Set, _⊆_}
 use Rattle.semantics.specs.Valuations.{Valuation, contains, Solves, pairs, solution}
 use Rattle.semantics.specs.LeftRecursion.{nullStep, nullable, LeftDepends, LeftReaches, NoLeftRecursion, leftRecursive, lowestLeftRecursive, rank}
 use Rattle.semantics.specs.Strings.{span, look, Over}
-use Rattle.semantics.specs.Families.{Least, FirstBody, FirstClosed, FollowClosed, Claims, Clash, EveryEnds, OwnTerminals, Table, OwnEntries}
+use Rattle.semantics.specs.Families.{Family, Least, FirstBody, FirstClosed, FollowClosed, Claims, Clash, EveryEnds, OwnTerminals, Table, OwnEntries}
 use Rattle.semantics.specs.FirstFollow.{First, Follow}
 use Rattle.semantics.specs.Claims.{clashes, tableOf, everyEnds}
 use Rattle.semantics.specs.Descent.{End, Outcomes, run, Results, descend, accepts}
@@ -53,13 +54,25 @@ pub record SoundFirst (G : Grammar) (k : ℕ) (w : List ℕ) (v : Valuation) : T
       → FirstBody k (First G k) b (take k (span w i j))
   pub empty : (A i : ℕ) → A < G .nonterminals → i ≤ length w → T (v A i i) → T (nullable G A)
 
--- 5. The local verdict for a solution v, where the lookahead string at j can follow: for a nonterminal, and for the rest of a body of a rule
+-- A called at i ends at m, whose lookahead string can follow A, and the body's rest b runs on to j
+pub record Piece (k : ℕ) (L : Family) (w : List ℕ) (v : Valuation) (c : Outcomes) (A : ℕ) (b : Body) (i m j : ℕ) : Type 0 where
+  pub ends : c A i ≡ End m
+  pub rest : run c w b m ≡ End j
+  pub onward : (i ≤ m) × (m ≤ j)
+  pub follow : L A (look k w m)
+  pub derived : v A i m ≡ true
+
+-- 5. The local verdict for a solution v, where the lookahead string at j can follow: for a nonterminal, for the rest of a body of a rule,
+-- and so for each nonterminal that such a rest begins with
 pub record LocalVerdict (G : Grammar) (k : ℕ) (w : List ℕ) (v : Valuation) : Type 0 where
   pub nonterminal : (A i j : ℕ) → A < G .nonterminals → i ≤ j → j ≤ length w → Follow G k A (look k w j)
       → (descend G (tableOf G k) k w A i ≡ End j) ↔ (v A i j ≡ true)
   pub rest : (r : Rule) → List·Memᴰ r (G .rules) → (front rest : Body) → List·Memᴰ (front ++ rest) (bodies r)
       → (i j : ℕ) → i ≤ j → j ≤ length w → Follow G k (r .head) (look k w j)
       → (run (descend G (tableOf G k) k w) w rest i ≡ End j) ↔ (contains v w rest i j ≡ true)
+  pub piece : (r : Rule) → List·Memᴰ r (G .rules) → (front : Body) (A : ℕ) (b : Body) → List·Memᴰ (front ++ (Nonterminal A ∷ b)) (bodies r)
+      → (i j : ℕ) → i ≤ j → j ≤ length w → Follow G k (r .head) (look k w j) → run (descend G (tableOf G k) k w) w (Nonterminal A ∷ b) i ≡ End j
+      → (m : ℕ) × Piece k (Follow G k) w v (descend G (tableOf G k) k w) A b i m j
 
 -- 6. The verdict for a solution v
 abbrev pub Verdict : Grammar → ℕ → List ℕ → Valuation → Type 0
