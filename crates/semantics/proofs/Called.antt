@@ -1,9 +1,9 @@
 -- The computed list of the calls holds just the calls, each once; its length is that of any such list, and its farthest place that of a call.
-use mathlib.Core.List.{List, [], _∷_, _++_, List·Memᴰ, List·Memᴰ·head, List·Memᴰ·tail, List·Memᴰ·cases-cons, List·Memᴰ·not-nil}
+use mathlib.Core.List.{List, [], _∷_, List·Memᴰ, List·Memᴰ·head, List·Memᴰ·tail, List·Memᴰ·cases-cons, List·Memᴰ·not-nil}
 use mathlib.Core.List.{List·Memᴰ·append-cases, Memᴰ·append-left, Memᴰ·append-right}
 use mathlib.Core.Logic.{_↔_, inl, inr}
 use mathlib.Core.Path.{_≡_, refl}
-use Prim.Native.Nat.{ℕ, zero, suc, _-_, _≤_, _<_, max}
+use Prim.Native.Nat.{ℕ, zero, suc, _-_, _≤_, _<_}
 use native.Mathlib.Decide.{decLt}
 use native.Mathlib.Omega.{arith}
 use lib.Dec.{T}
@@ -13,7 +13,8 @@ use Rattle.semantics.specs.FiniteSets.{member}
 use Rattle.semantics.specs.Valuations.{pairs}
 use Rattle.semantics.specs.LeftRecursion.{NoLeftRecursion}
 use Rattle.semantics.specs.Families.{Table, OwnEntries}
-use Rattle.semantics.specs.Calls.{Call, callAt, InRange, measure, callComesTo, Called, start, more, Listing, gather, callsWithin, sameCall}
+use Rattle.semantics.specs.ComesTo.{Call, callAt, InRange, measure, callComesTo}
+use Rattle.semantics.specs.Calls.{Called, start, more, Listing, gather, callsWithin, sameCall}
 use Rattle.semantics.specs.Calls.{allCalls, calls, callCount, greatestPlace, farthest}
 use Rattle.semantics.proofs.FiniteSets.{member-mem, mem-member, keep-make, keep-elim}
 use Rattle.semantics.proofs.Rank.{level-top}

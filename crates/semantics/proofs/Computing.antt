@@ -9,7 +9,8 @@ use Rattle.semantics.specs.FirstFollow.{strings, sameString, concat, sam
 use Rattle.semantics.specs.FirstFollow.{first, firstSets, behind, followStep, follow, followSets}
 use Rattle.semantics.specs.Claims.{several, position, meeting, claimed, claims, clashes, tableOf, everyEnds}
 use Rattle.semantics.specs.Descent.{read, run, agrees, confirm, conclude, obey, select, byTable, within, descend, accepts}
-use Rattle.semantics.specs.Calls.{bodyComesTo, negativesComeTo, positivesComeTo, ruleComesTo, selectedComesTo, callComesTo, gather, callsWithin}
+use Rattle.semantics.specs.ComesTo.{bodyComesTo, negativesComeTo, positivesComeTo, ruleComesTo, selectedComesTo, callComesTo}
+use Rattle.semantics.specs.Calls.{gather, callsWithin}
 use Rattle.semantics.specs.Calls.{allCalls, calls, callCount, greatestPlace, farthest}
 
 unfoldable pub tables-compute : Unit {0}

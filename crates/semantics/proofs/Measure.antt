@@ -14,8 +14,8 @@ use Rattle.semantics.specs.LeftRecursion.{nullable, LeftIn, here, there,
 use Rattle.semantics.specs.Strings.{look}
 use Rattle.semantics.specs.Families.{Table, OwnEntries}
 use Rattle.semantics.specs.Descent.{Outcome, Failed, End, endsAt, guard, Outcomes, read, run, select, descend}
-use Rattle.semantics.specs.Calls.{Call, InRange, measure, fromEnd, when, bodyComesTo, negativesComeTo, positivesComeTo, ruleComesTo}
-use Rattle.semantics.specs.Calls.{selectedComesTo, callComesTo}
+use Rattle.semantics.specs.ComesTo.{Call, InRange, measure, fromEnd, when, bodyComesTo, negativesComeTo, positivesComeTo, ruleComesTo}
+use Rattle.semantics.specs.ComesTo.{selectedComesTo, callComesTo}
 use Rattle.semantics.proofs.Booleans.{and-l}
 use Rattle.semantics.proofs.Rank.{level-onward}
 use Rattle.semantics.proofs.Outcomes.{guard-elim}

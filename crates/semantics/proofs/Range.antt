@@ -1,16 +1,17 @@
 -- The calls in range: all of them are listed, each once, and each has an entry of its own in the memo table.
-use mathlib.Core.List.{List, List·Memᴰ, Memᴰ·cast}
+use mathlib.Core.List.{List, List·Memᴰ}
 use mathlib.Core.Logic.{_↔_}
 use mathlib.Core.Path.{_≡_, refl, sym, ap, _∙_}
 use Prim.Native.Nat.{ℕ, suc, _/_, _%_, _≤_, _<_}
 use native.Mathlib.Omega.{arith}
 use lib.Arith.{digits-div, digits-mod, digits-lt}
-use lib.Dec.{T, eqb, eqb→eq, eqb-refl}
+use lib.Dec.{eqb, eqb→eq, eqb-refl}
 use lib.ListN.{length}
 use Rattle.grammar.specs.Syntax.{Grammar}
 use Rattle.semantics.specs.FiniteSets.{numbers}
 use Rattle.semantics.specs.Valuations.{pairs}
-use Rattle.semantics.specs.Calls.{Call, callAt, InRange, sameCall, allCalls, Distinct}
+use Rattle.semantics.specs.ComesTo.{Call, callAt, InRange}
+use Rattle.semantics.specs.Calls.{sameCall, allCalls, Distinct}
 use Rattle.semantics.specs.Memo.{indexOf}
 use Rattle.semantics.proofs.Booleans.{and-l, and-r, and-make}
 use Rattle.semantics.proofs.FiniteSets.{Equality, numbers-make, numbers-elim, numbers-length, combine-make, combine-elim}

@@ -8,12 +8,12 @@ use Rattle.semantics.specs.Theorems.{Theorems}
 use Rattle.semantics.proofs.Nullable.{nullable-closed, nullable-least}
 use Rattle.semantics.proofs.LeftRecursion.{leftRecursive-iff, lowestLeftRecursive-some, lowestLeftRecursive-none}
 use Rattle.semantics.proofs.Rank.{rank-falls, rank-below}
-use Rattle.semantics.proofs.Unique.{solution-solves, solution-unique}
+use Rattle.semantics.proofs.Unique.{solution-solves, solution-unique, solution-null}
 use Rattle.semantics.proofs.First.{first-closed, first-least}
 use Rattle.semantics.proofs.FirstNullable.{first-none}
 use Rattle.semantics.proofs.Follow.{follow-least}
 use Rattle.semantics.proofs.Claims.{clashes-elim, clashes-make, table-some, table-none, everyEnds-elim, everyEnds-make}
-use Rattle.semantics.proofs.FirstSound.{first-sound, first-sound-body, null-sound}
+use Rattle.semantics.proofs.FirstSound.{first-sound, first-sound-body}
 use Rattle.semantics.proofs.Outcomes.{end-ends}
 use Rattle.semantics.proofs.Ends.{descend-forward, descend-null}
 use Rattle.semantics.proofs.Results.{descend-results, results-unique}
@@ -51,7 +51,7 @@ theorems = record {
   sound-first = λ G scoped free k w over v solves. record {
     nonterminal = first-sound G scoped free w v solves k (First G k) (first-closed G k scoped) over;
     body = λ b n i j ij jw. first-sound-body G scoped free w v solves k (First G k) (first-closed G k scoped) over b i j ij jw n;
-    empty = λ A i a iw t. null-sound G scoped free w v solves A i i a (omega arith) iw t refl;
+    empty = λ A i a iw t. solution-null G scoped free w v solves A i i a (omega arith) iw t refl;
   };
   local-verdict = λ G k p w over v solves. record {
     nonterminal = local-verdict (p .scoped) (p .unrecursive) (own-guides G k p) w over v solves;

@@ -7,8 +7,8 @@ use mathlib.Core.Path.{_≡_, refl, sym, ap, _∙_}
 use Prim.Native.Nat.{ℕ, zero, suc, _≤_, _<_}
 use native.Mathlib.Decide.{ℕ-discrete}
 use native.Mathlib.Omega.{arith}
-use lib.Dec.{T, T-not, not-T, eqb, eqb→eq, eqb-refl}
-use lib.ListN.{length, getD, set, replicate, length-set, length-replicate, getD-replicate}
+use lib.Dec.{T, not-T, eqb, eqb→eq, eqb-refl}
+use lib.ListN.{length, getD, set, length-set}
 use lib.Seq.{getD-set-same, getD-set-other}
 use Rattle.grammar.specs.Syntax.{Rule, Grammar, WellScoped}
 use Rattle.semantics.specs.Quantifiers.{pick}
@@ -17,10 +17,10 @@ use Rattle.semantics.specs.LeftRecursion.{NoLeftRecursion}
 use Rattle.semantics.specs.Strings.{look}
 use Rattle.semantics.specs.Families.{Table, OwnEntries}
 use Rattle.semantics.specs.Descent.{Outcome, Failed, End, endsAt, Outcomes, select, byTable, descend}
-use Rattle.semantics.specs.Calls.{Call, callAt, InRange, measure, callComesTo}
+use Rattle.semantics.specs.ComesTo.{Call, callAt, InRange, measure, callComesTo}
 use Rattle.semantics.specs.Memo.{Memo, Memoized, memoized, memoObey, memoCall, encode, decode, indexOf, entry, stored}
 use Rattle.semantics.specs.Memo.{written, Fits, uncalledCode, failedCode}
-use Rattle.semantics.proofs.Booleans.{T-true, T-false, both, test}
+use Rattle.semantics.proofs.Booleans.{T-true, T-false, test}
 use Rattle.semantics.proofs.Plan.{Plan, Done, Ask, value, asked, through, plan, plan-value, plan-asked, plan-through}
 use Rattle.semantics.proofs.Ends.{descend-forward}
 use Rattle.semantics.proofs.Results.{descend-results}

@@ -9,6 +9,7 @@ pub mod FirstFollow
 pub mod Claims
 pub mod Predictive
 pub mod Descent
+pub mod ComesTo
 pub mod Calls
 pub mod Memo
 pub mod Examples

@@ -1,6 +1,6 @@
 -- The descent with a memo table, as a pure function: a call looks its entry up, else runs its rule and stores the outcome.
 use mathlib.Core.Path.{_≡_}
-use mathlib.Core.Bool.{Bool, true, false, not, _&&_}
+use mathlib.Core.Bool.{Bool, not, _&&_}
 use mathlib.Core.List.{List, [], _∷_}
 use mathlib.Core.Option.{Option, none, some}
 use Prim.Native.Nat.{ℕ, zero, suc, _+_, _*_, _<_}
@@ -14,7 +14,8 @@ use Rattle.semantics.specs.Valuations.{pairs}
 use Rattle.semantics.specs.Strings.{look}
 use Rattle.semantics.specs.Families.{Table}
 use Rattle.semantics.specs.Descent.{Outcome, Failed, End, endsAt, select, descend}
-use Rattle.semantics.specs.Calls.{Call, callAt, InRange, Called, allCalls, calls}
+use Rattle.semantics.specs.ComesTo.{Call, callAt, InRange}
+use Rattle.semantics.specs.Calls.{Called, allCalls, calls}
 
 abbrev pub failedCode : ℕ
 failedCode = 65534

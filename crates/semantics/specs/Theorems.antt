@@ -17,10 +17,11 @@ use Rattle.semantics.specs.Families.{Family, Least, FirstBody, FirstClos
 use Rattle.semantics.specs.FirstFollow.{First, Follow}
 use Rattle.semantics.specs.Claims.{clashes, tableOf, everyEnds}
 use Rattle.semantics.specs.Descent.{End, Outcomes, run, Results, descend, accepts}
-use Rattle.semantics.specs.Calls.{Call, InRange, measure, callComesTo, Called, Listing, calls, callCount, farthest}
+use Rattle.semantics.specs.ComesTo.{Call, InRange, measure, callComesTo}
+use Rattle.semantics.specs.Calls.{Called, Listing, calls, callCount, farthest}
 use Rattle.semantics.specs.Memo.{memoStart, Recorded, Fits}
 use Rattle.semantics.specs.Predictive.{Predictive}
-use Rattle.semantics.specs.Rows.{Row, starred, judged}
+use Rattle.semantics.specs.Rows.{starred, judged}
 
 -- 1. Without left recursion exactly one valuation solves the grammar on an input
 pub record OneSolution (G : Grammar) (w : List ℕ) : Type 0 where
