@@ -76,11 +76,11 @@ module _ (G : Grammar) (t : Table) (k : ℕ) (w : List ℕ) where
     within-closed (suc n) x y z h l m c = elim (List·Memᴰ·cases-cons m) [
       | inl e ↦
           let c′ : List·Memᴰ z (callComesTo G t k w x) = rw e at c in
-          let f = measure-falls G t k w scoped free own x h z c′ in
+          let f = measure-falls G t k w scoped own free x h z c′ in
           List·Memᴰ·tail (gather-make (callsWithin G t k w n) (callComesTo G t k w x) z z c′ (within-self n z (omega (arith, f .1))))
       | inr k′ ↦
           let r = gather-elim (callsWithin G t k w n) (callComesTo G t k w x) y k′ in
-          let f = measure-falls G t k w scoped free own x h (r .0) (r .1) in
+          let f = measure-falls G t k w scoped own free x h (r .0) (r .1) in
           List·Memᴰ·tail (gather-make (callsWithin G t k w n) (callComesTo G t k w x) (r .0) z (r .1)
           (within-closed n (r .0) y z (f .0) (omega (arith, f .1)) (r .2) c))
     ]
@@ -89,7 +89,7 @@ module _ (G : Grammar) (t : Table) (k : ℕ) (w : List ℕ) where
       -- every call is of the grammar and within the input
       pub called-range : (x : Call) → Called G t k w x → InRange G w x
       called-range x start = (nonempty, omega arith)
-      called-range y (more {x = x} h m) = measure-falls G t k w scoped free own x (called-range x h) y m .0
+      called-range y (more {x = x} h m) = measure-falls G t k w scoped own free x (called-range x h) y m .0
 
       all-within : (x : Call) → Called G t k w x → List·Memᴰ x (callsWithin G t k w (pairs G w) (callAt 0 0))
       unfolding measure

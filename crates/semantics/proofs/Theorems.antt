@@ -19,7 +19,7 @@ use Rattle.semantics.proofs.Ends.{descend-forward, descend-null}
 use Rattle.semantics.proofs.Results.{descend-results, results-unique}
 use Rattle.semantics.proofs.Predictive.{table-own, own-guides}
 use Rattle.semantics.proofs.Verdict.{local-verdict, local-verdict-body, local-verdict-piece, verdict}
-use Rattle.semantics.proofs.Measure.{measure-falls}
+use Rattle.semantics.proofs.Measure.{tokens-then-rank}
 use Rattle.semantics.proofs.Called.{calls-listing, count-listing, count-bound, farthest-most, farthest-called}
 use Rattle.semantics.proofs.Memo.{memo-recorded}
 use Rattle.semantics.proofs.Rows.{starred-rows}
@@ -64,7 +64,7 @@ theorems = record {
     only = results-unique G t k w scoped free own;
     forward = λ A i j iw e. descend-forward G t k w own A i j iw (end-ends (descend G t k w A i) j e);
     empty = λ A i iw e. descend-null G t k w own scoped A i i iw refl (end-ends (descend G t k w A i) i e);
-    falls = measure-falls G t k w scoped free own;
+    falls = tokens-then-rank G t k w scoped own free;
   };
   calls-counted = λ G scoped free start t own k w. record {
     listing = calls-listing G t k w scoped free own start;

@@ -196,7 +196,7 @@ module _ (G : Grammar) (t : Table) (k : ℕ) (w : List ℕ) (scoped : WellScoped
             let c : Outcomes = descend G t k w in
             let g = through-good n (measure G w x) (omega arith) good (plan w o (x .place)) m s (λ y a.
             let a′ : List·Memᴰ y (callComesTo G t k w x) = rw (plan-asked c w o (x .place)) at a in
-            let d = measure-falls G t k w scoped free own x ranged y a′ in
+            let d = measure-falls G t k w scoped own free x ranged y a′ in
             (d .0, d .1, onward x ranged p y a′)) in
             let e : value c (plan w o (x .place)) ≡ result x =
             plan-value c w o (x .place) ∙ sym (descend-results G t k w scoped free own (x .nonterminal) (x .place) (ranged .0) (ranged .1)) in
