@@ -15,7 +15,8 @@ use Rattle.semantics.specs.Families.{Table, OwnEntries}
 use Rattle.semantics.specs.Descent.{descend}
 use Rattle.semantics.specs.ComesTo.{Call, callAt, measure}
 use Rattle.semantics.specs.Calls.{Called, start, more, allCalls, calls}
-use Rattle.semantics.specs.Memo.{Memo, memoCall, memoStart, indexOf, entry, blank, written, Recorded, Fits, uncalledCode}
+use Rattle.semantics.specs.Memo.{Memo, indexOf, entry, blank, written, Recorded, Fits, uncalledCode}
+use Rattle.semantics.specs.MemoDescent.{memoCall, memoStart}
 use Rattle.semantics.proofs.Booleans.{both, test}
 use Rattle.semantics.proofs.Rank.{level-top}
 use Rattle.semantics.proofs.Range.{index-range, all-range}

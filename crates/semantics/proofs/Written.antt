@@ -18,8 +18,8 @@ use Rattle.semantics.specs.Strings.{look}
 use Rattle.semantics.specs.Families.{Table, OwnEntries}
 use Rattle.semantics.specs.Descent.{Outcome, Failed, End, endsAt, Outcomes, select, byTable, descend}
 use Rattle.semantics.specs.ComesTo.{Call, callAt, InRange, measure, callComesTo}
-use Rattle.semantics.specs.Memo.{Memo, Memoized, memoized, memoObey, memoCall, encode, decode, indexOf, entry, stored}
-use Rattle.semantics.specs.Memo.{written, Fits, uncalledCode, failedCode}
+use Rattle.semantics.specs.Memo.{Memo, encode, decode, indexOf, entry, written, Fits, uncalledCode, failedCode}
+use Rattle.semantics.specs.MemoDescent.{Memoized, memoized, memoObey, memoCall, stored}
 use Rattle.semantics.proofs.Booleans.{T-true, T-false, test}
 use Rattle.semantics.proofs.Plan.{Plan, Done, Ask, value, asked, through, plan, plan-value, plan-asked, plan-through}
 use Rattle.semantics.proofs.Ends.{descend-forward}

@@ -12,6 +12,7 @@ pub mod Descent
 pub mod ComesTo
 pub mod Calls
 pub mod Memo
+pub mod MemoDescent
 pub mod Examples
 pub mod Rows
 pub mod Theorems

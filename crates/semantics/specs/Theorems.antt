@@ -19,7 +19,8 @@ use Rattle.semantics.specs.Claims.{clashes, tableOf, everyEnds}
 use Rattle.semantics.specs.Descent.{End, Outcomes, run, Results, descend, accepts}
 use Rattle.semantics.specs.ComesTo.{Call, InRange, callComesTo}
 use Rattle.semantics.specs.Calls.{Called, Listing, calls, callCount, farthest}
-use Rattle.semantics.specs.Memo.{memoStart, Recorded, Fits}
+use Rattle.semantics.specs.Memo.{Recorded, Fits}
+use Rattle.semantics.specs.MemoDescent.{memoStart}
 use Rattle.semantics.specs.Predictive.{Predictive}
 use Rattle.semantics.specs.Rows.{starred, judged}
 
