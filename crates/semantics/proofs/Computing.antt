@@ -9,8 +9,9 @@ use Rattle.semantics.specs.FirstFollow.{strings, sameString, concat, sam
 use Rattle.semantics.specs.FirstFollow.{first, firstSets, behind, followStep, follow, followSets}
 use Rattle.semantics.specs.Claims.{several, position, meeting, claimed, claims, clashes, tableOf, everyEnds}
 use Rattle.semantics.specs.Descent.{read, run, agrees, confirm, conclude, obey, select, byTable, within, descend, accepts}
-use Rattle.semantics.specs.Calls.{bodyComesTo, negativesComeTo, positivesComeTo, ruleComesTo, selectedComesTo, callComesTo, gather, callsWithin}
-use Rattle.semantics.specs.Calls.{passing, calls, callCount, greatestPlace, farthest}
+use Rattle.semantics.specs.ComesTo.{bodyComesTo, negativesComeTo, positivesComeTo, ruleComesTo, selectedComesTo, callComesTo}
+use Rattle.semantics.specs.Calls.{gather, callsWithin}
+use Rattle.semantics.specs.Calls.{allCalls, calls, callCount, greatestPlace, farthest}
 
 unfoldable pub tables-compute : Unit {0}
 unfolding any all member keep distinct numbersFrom numbers combine round settle members least strings sameString concat sameEntry entries setsOf
@@ -27,6 +28,6 @@ unfolding any all look read run agrees confirm conclude obey select byTable with
 descent-computes = tt
 
 unfoldable pub calls-compute : Unit {0}
-unfolding any pick bodyComesTo negativesComeTo positivesComeTo ruleComesTo selectedComesTo callComesTo gather callsWithin
-    passing calls callCount greatestPlace farthest
+unfolding any member keep numbersFrom numbers combine bodyComesTo negativesComeTo positivesComeTo ruleComesTo selectedComesTo callComesTo gather callsWithin
+    allCalls calls callCount greatestPlace farthest
 calls-compute = tt

@@ -1,6 +1,5 @@
 -- Grammars that one or two tokens are enough for, and descents by their own tables, by computation.
-use mathlib.Core.Bool.{true, false}
-use mathlib.Core.List.{List, [], _∷_}
+use mathlib.Core.List.{[], _∷_}
 use mathlib.Core.Path.{_≡_, refl}
 use Rattle.semantics.specs.Claims.{tableOf}
 use Rattle.semantics.specs.Descent.{Failed, End, descend}

@@ -9,9 +9,9 @@ use Rattle.semantics.specs.Quantifiers.{pick}
 use Rattle.semantics.specs.Strings.{look}
 use Rattle.semantics.specs.Families.{Table}
 use Rattle.semantics.specs.Descent.{Failed, End, Outcomes, read, run, select}
-use Rattle.semantics.specs.Calls.{callAt, bodyComesTo, negativesComeTo, positivesComeTo, ruleComesTo}
-use Rattle.semantics.specs.Memo.{memoized, andThen, memoRun, memoNegatives, memoPositives, memoRule, memoObey, memoCall, memoStart}
-use Rattle.semantics.specs.Memo.{encode, decode, stored}
+use Rattle.semantics.specs.ComesTo.{callAt, bodyComesTo, negativesComeTo, positivesComeTo, ruleComesTo}
+use Rattle.semantics.specs.Memo.{encode, decode}
+use Rattle.semantics.specs.MemoDescent.{memoized, andThen, memoRun, memoNegatives, memoPositives, memoRule, memoObey, memoCall, memoStart, stored}
 use Rattle.semantics.proofs.ExamplesValuations.{balanced}
 
 -- aⁿbⁿ but for ab, with one token

@@ -122,3 +122,8 @@ others-sheet = refl
 others-ends : _≡_ {A = List Bool} (everyEnds others 0 ∷ everyEnds others 1 ∷ []) (false ∷ true ∷ [])
 unfolding tables-compute
 others-ends = refl
+
+-- with two tokens such a rule can begin with every string of at most two of the grammar's own terminals
+others-two : firstSets others 2 0 ≡ (0 ∷ 0 ∷ []) ∷ (0 ∷ []) ∷ [] ∷ []
+unfolding tables-compute
+others-two = refl

@@ -23,7 +23,7 @@ pub mod Verdict
 pub mod Predictive
 pub mod Measure
 pub mod Distinct
-pub mod Numbered
+pub mod Range
 pub mod Called
 pub mod Plan
 pub mod Written

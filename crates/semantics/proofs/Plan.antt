@@ -10,8 +10,9 @@ use Rattle.grammar.specs.Syntax.{Body, Rule}
 use Rattle.grammar.specs.declared.Symbol.the-variants.{Terminal, Nonterminal}
 use Rattle.semantics.specs.Quantifiers.{pick, any, all}
 use Rattle.semantics.specs.Descent.{Outcome, Failed, End, endsAt, onward, guard, Outcomes, read, run, agrees, confirm, conclude, obey}
-use Rattle.semantics.specs.Calls.{Call, callAt, fromEnd, when, bodyComesTo, negativesComeTo, positivesComeTo, ruleComesTo, selectedComesTo}
-use Rattle.semantics.specs.Memo.{Memo, Memoized, memoized, andThen, MemoCalls, memoRun, memoNegatives, memoPositives, memoRule, memoObey}
+use Rattle.semantics.specs.ComesTo.{Call, callAt, fromEnd, when, bodyComesTo, negativesComeTo, positivesComeTo, ruleComesTo, selectedComesTo}
+use Rattle.semantics.specs.Memo.{Memo}
+use Rattle.semantics.specs.MemoDescent.{Memoized, memoized, andThen, MemoCalls, memoRun, memoNegatives, memoPositives, memoRule, memoObey}
 
 pub data Plan : Type 0 where
   Done : Outcome → Plan

@@ -1,5 +1,5 @@
 -- The descent gives the solution's verdict wherever the lookahead string at the end is in the FOLLOW set, for any k.
-use mathlib.Core.Bool.{Bool, true, false, not, _&&_}
+use mathlib.Core.Bool.{Bool, true, not, _&&_}
 use mathlib.Core.List.{List, [], _∷_, _++_, List·Memᴰ, Memᴰ·append-left, Memᴰ·append-right}
 use mathlib.Core.Logic.{_↔_}
 use mathlib.Core.Option.{some}
@@ -18,11 +18,12 @@ use Rattle.semantics.specs.Families.{Family, FollowBody, Table}
 use Rattle.semantics.specs.Predictive.{Guides}
 use Rattle.semantics.specs.Theorems.{Piece}
 use Rattle.semantics.specs.Descent.{Outcome, End, endsAt, onward, Outcomes, read, run, agrees, byTable, descend, accepts}
-use Rattle.semantics.proofs.Booleans.{T-true, true-T, T-subst, both, and-l, and-r, and-make, and-cong, and-twist}
+use Rattle.semantics.proofs.Booleans.{T-subst, both, and-l, and-r, and-make, and-cong, and-twist}
 use Rattle.semantics.proofs.Quantified.{any-cong, all-cong, any-make, any-elim, below-cong, below-elim, below-make}
 use Rattle.semantics.proofs.Rank.{level-onward, level-top}
+use Rattle.semantics.proofs.Unique.{NullSound, solution-null}
 use Rattle.semantics.proofs.Strings.{look-split, look-end, look-none, all-span, take-short}
-use Rattle.semantics.proofs.FirstSound.{FirstSound, NullSound, contains-first, rule-first, first-sound, null-sound}
+use Rattle.semantics.proofs.FirstSound.{FirstSound, contains-first, rule-first, first-sound}
 use Rattle.semantics.proofs.Outcomes.{ends-end, end-ends, ends-iff, onward-elim, onward-make, onward-guard, mem-nth}
 use Rattle.semantics.proofs.Ends.{Forward, run-forward, EmptyNull, byTable-elim, byTable-make, descend-forward, descend-null}
 use Rattle.semantics.proofs.Results.{descend-results}
@@ -111,7 +112,7 @@ module _ {G : Grammar} {k : ℕ} {F L : Family} {t : Table} (scoped : WellScoped
   first = first-sound G scoped free w v solves k F (guides .firsts) over
 
   null : NullSound G w v
-  null = null-sound G scoped free w v solves
+  null = solution-null G scoped free w v solves
 
   Verdicts : ℕ → Type 0
   Verdicts n = (A i j : ℕ) → A < G .nonterminals → i ≤ j → j ≤ length w → level G (length w - i) A < n → L A (look k w j)

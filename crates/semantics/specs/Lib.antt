@@ -9,8 +9,10 @@ pub mod FirstFollow
 pub mod Claims
 pub mod Predictive
 pub mod Descent
+pub mod ComesTo
 pub mod Calls
 pub mod Memo
+pub mod MemoDescent
 pub mod Examples
 pub mod Rows
 pub mod Theorems
