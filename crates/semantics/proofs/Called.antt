@@ -129,7 +129,8 @@ module _ (G : Grammar) (t : Table) (k : ℕ) (w : List ℕ) where
       unfolding callCount
       count-bound =
           let c = calls-listing in
-          omega (arith, all-length G w, distinct-length (calls G t k w) (allCalls G w) (c .distinct) (λ x m. all-range G w x .1 (called-range x (c .sound x m))))
+          let h = distinct-length (calls G t k w) (allCalls G w) (c .distinct) (λ x m. all-range G w x .1 (called-range x (c .sound x m))) in
+          omega (arith, all-length G w)
 
       -- no call is beyond the farthest place
       pub farthest-most : (x : Call) → Called G t k w x → x .place ≤ farthest G t k w

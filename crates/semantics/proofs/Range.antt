@@ -44,12 +44,14 @@ module _ (G : Grammar) (w : List ℕ) where
 
   pub all-distinct : Distinct (allCalls G w)
   unfolding allCalls
-  all-distinct = distinct-combine callAt (λ A B i j e. ap (λ (x : Call). x .nonterminal) e) (λ A B i j e. ap (λ (x : Call). x .place) e) (numbers (G .nonterminals)) (numbers (suc (length w)))
-      (distinct-numbers (G .nonterminals)) (distinct-numbers (suc (length w)))
+  all-distinct = distinct-combine callAt (λ A B i j e. ap (λ (x : Call). x .nonterminal) e) (λ A B i j e. ap (λ (x : Call). x .place) e)
+      (numbers (G .nonterminals)) (numbers (suc (length w))) (distinct-numbers (G .nonterminals)) (distinct-numbers (suc (length w)))
 
   pub all-length : length (allCalls G w) ≡ pairs G w
   unfolding allCalls
-  all-length = combine-length callAt (numbers (G .nonterminals)) (numbers (suc (length w))) ∙ rw (numbers-length (G .nonterminals), numbers-length (suc (length w)))
+  all-length =
+      combine-length callAt (numbers (G .nonterminals)) (numbers (suc (length w)))
+      ∙ rw (numbers-length (G .nonterminals), numbers-length (suc (length w)))
 
   pub index-range : (x : Call) → InRange G w x → indexOf w x < pairs G w
   index-range x h = digits-lt (h .0) (omega (arith, h .1))
