@@ -1,6 +1,6 @@
 -- The computed list of the calls holds just the calls, each once; its length is that of any such list, and its farthest place that of a call.
 use mathlib.Core.List.{List, [], _∷_, List·Memᴰ, List·Memᴰ·head, List·Memᴰ·tail, List·Memᴰ·cases-cons, List·Memᴰ·not-nil}
-use mathlib.Core.List.{List·Memᴰ·append-cases, Memᴰ·append-left, Memᴰ·append-right}
+use mathlib.Core.List.{flatMap, List·Memᴰ·append-cases, Memᴰ·append-left, Memᴰ·append-right}
 use mathlib.Core.Logic.{_↔_, inl, inr}
 use mathlib.Core.Path.{_≡_, refl}
 use Prim.Native.Nat.{ℕ, zero, suc, _-_, _≤_, _<_}
@@ -14,7 +14,7 @@ use Rattle.semantics.specs.Valuations.{pairs}
 use Rattle.semantics.specs.LeftRecursion.{NoLeftRecursion}
 use Rattle.semantics.specs.Families.{Table, OwnEntries}
 use Rattle.semantics.specs.ComesTo.{Call, callAt, InRange, measure, callComesTo}
-use Rattle.semantics.specs.Calls.{Called, start, more, Listing, gather, callsWithin, sameCall}
+use Rattle.semantics.specs.Calls.{Called, start, more, Listing, callsWithin, sameCall}
 use Rattle.semantics.specs.Calls.{allCalls, calls, callCount, greatestPlace, farthest}
 use Rattle.semantics.proofs.FiniteSets.{member-mem, mem-member, keep-make, keep-elim}
 use Rattle.semantics.proofs.Rank.{level-top}
@@ -22,18 +22,18 @@ use Rattle.semantics.proofs.Measure.{measure-falls}
 use Rattle.semantics.proofs.Distinct.{distinct-length, distinct-keep}
 use Rattle.semantics.proofs.Range.{calls-equality, all-range, all-distinct, all-length}
 
-gather-elim : (f : Call → List Call) (l : List Call) (y : Call) → List·Memᴰ y (gather f l) → (x : Call) × List·Memᴰ x l × List·Memᴰ y (f x)
-unfolding gather
-gather-elim f [] y m = absurd (List·Memᴰ·not-nil m)
-gather-elim f (x ∷ l) y m = elim (List·Memᴰ·append-cases (f x) m) [
+flatMap-elim : (f : Call → List Call) (l : List Call) (y : Call) → List·Memᴰ y (flatMap f l) → (x : Call) × List·Memᴰ x l × List·Memᴰ y (f x)
+unfolding flatMap
+flatMap-elim f [] y m = absurd (List·Memᴰ·not-nil m)
+flatMap-elim f (x ∷ l) y m = elim (List·Memᴰ·append-cases (f x) m) [
   | inl k ↦ (x, List·Memᴰ·head refl, k)
-  | inr k ↦ let r = gather-elim f l y k in (r .0, List·Memᴰ·tail (r .1), r .2)
+  | inr k ↦ let r = flatMap-elim f l y k in (r .0, List·Memᴰ·tail (r .1), r .2)
 ]
 
-gather-make : (f : Call → List Call) (l : List Call) (x y : Call) → List·Memᴰ x l → List·Memᴰ y (f x) → List·Memᴰ y (gather f l)
-unfolding gather
-gather-make f (z ∷ l) x y (List·Memᴰ·head e) m = Memᴰ·append-left (gather f l) (rw e at m)
-gather-make f (z ∷ l) x y (List·Memᴰ·tail k) m = Memᴰ·append-right (f z) (gather-make f l x y k m)
+flatMap-make : (f : Call → List Call) (l : List Call) (x y : Call) → List·Memᴰ x l → List·Memᴰ y (f x) → List·Memᴰ y (flatMap f l)
+unfolding flatMap
+flatMap-make f (z ∷ l) x y (List·Memᴰ·head e) m = Memᴰ·append-left (flatMap f l) (rw e at m)
+flatMap-make f (z ∷ l) x y (List·Memᴰ·tail k) m = Memᴰ·append-right (f z) (flatMap-make f l x y k m)
 
 greatest-most : (l : List Call) (x : Call) → List·Memᴰ x l → x .place ≤ greatestPlace l
 unfolding greatestPlace
@@ -58,7 +58,7 @@ module _ (G : Grammar) (t : Table) (k : ℕ) (w : List ℕ) where
   within-called (suc n) x y h m = elim (List·Memᴰ·cases-cons m) [
     | inl e ↦ rw e h
     | inr k′ ↦
-        let r = gather-elim (callsWithin G t k w n) (callComesTo G t k w x) y k′ in
+        let r = flatMap-elim (callsWithin G t k w n) (callComesTo G t k w x) y k′ in
         within-called n (r .0) y (more h (r .1)) (r .2)
   ]
 
@@ -77,11 +77,11 @@ module _ (G : Grammar) (t : Table) (k : ℕ) (w : List ℕ) where
       | inl e ↦
           let c′ : List·Memᴰ z (callComesTo G t k w x) = rw e at c in
           let f = measure-falls G t k w scoped own free x h z c′ in
-          List·Memᴰ·tail (gather-make (callsWithin G t k w n) (callComesTo G t k w x) z z c′ (within-self n z (omega (arith, f .1))))
+          List·Memᴰ·tail (flatMap-make (callsWithin G t k w n) (callComesTo G t k w x) z z c′ (within-self n z (omega (arith, f .1))))
       | inr k′ ↦
-          let r = gather-elim (callsWithin G t k w n) (callComesTo G t k w x) y k′ in
+          let r = flatMap-elim (callsWithin G t k w n) (callComesTo G t k w x) y k′ in
           let f = measure-falls G t k w scoped own free x h (r .0) (r .1) in
-          List·Memᴰ·tail (gather-make (callsWithin G t k w n) (callComesTo G t k w x) (r .0) z (r .1)
+          List·Memᴰ·tail (flatMap-make (callsWithin G t k w n) (callComesTo G t k w x) (r .0) z (r .1)
           (within-closed n (r .0) y z (f .0) (omega (arith, f .1)) (r .2) c))
     ]
 
@@ -129,7 +129,8 @@ module _ (G : Grammar) (t : Table) (k : ℕ) (w : List ℕ) where
       unfolding callCount
       count-bound =
           let c = calls-listing in
-          omega (arith, all-length G w, distinct-length (calls G t k w) (allCalls G w) (c .distinct) (λ x m. all-range G w x .1 (called-range x (c .sound x m))))
+          let h = distinct-length (calls G t k w) (allCalls G w) (c .distinct) (λ x m. all-range G w x .1 (called-range x (c .sound x m))) in
+          omega (arith, all-length G w)
 
       -- no call is beyond the farthest place
       pub farthest-most : (x : Call) → Called G t k w x → x .place ≤ farthest G t k w

@@ -1,4 +1,5 @@
 -- The definitions that things compute by, to be named together: `unfolding tables-compute` for sets, clashes and tables, and so on.
+use mathlib.Core.List.{flatMap}
 use Rattle.semantics.specs.Quantifiers.{pick, any, all, below, lowest}
 use Rattle.semantics.specs.FiniteSets.{member, keep, distinct, numbersFrom, numbers, combine}
 use Rattle.semantics.specs.Rounds.{round, settle, members, least}
@@ -10,8 +11,7 @@ use Rattle.semantics.specs.FirstFollow.{first, firstSets, behind, follow
 use Rattle.semantics.specs.Claims.{several, position, meeting, claimed, claims, clashes, tableOf, everyEnds}
 use Rattle.semantics.specs.Descent.{read, run, agrees, confirm, conclude, obey, select, byTable, within, descend, accepts}
 use Rattle.semantics.specs.ComesTo.{bodyComesTo, negativesComeTo, positivesComeTo, ruleComesTo, selectedComesTo, callComesTo}
-use Rattle.semantics.specs.Calls.{gather, callsWithin}
-use Rattle.semantics.specs.Calls.{allCalls, calls, callCount, greatestPlace, farthest}
+use Rattle.semantics.specs.Calls.{callsWithin, allCalls, calls, callCount, greatestPlace, farthest}
 
 unfoldable pub tables-compute : Unit {0}
 unfolding any all member keep distinct numbersFrom numbers combine round settle members least strings sameString concat sameEntry entries setsOf
@@ -28,6 +28,6 @@ unfolding any all look read run agrees confirm conclude obey select byTable with
 descent-computes = tt
 
 unfoldable pub calls-compute : Unit {0}
-unfolding any member keep numbersFrom numbers combine bodyComesTo negativesComeTo positivesComeTo ruleComesTo selectedComesTo callComesTo gather callsWithin
+unfolding any member keep numbersFrom numbers combine bodyComesTo negativesComeTo positivesComeTo ruleComesTo selectedComesTo callComesTo flatMap callsWithin
     allCalls calls callCount greatestPlace farthest
 calls-compute = tt

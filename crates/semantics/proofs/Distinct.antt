@@ -67,7 +67,8 @@ pub distinct-numbers : (n : ℕ) → Distinct (numbers n)
 unfolding numbers
 distinct-numbers n = distinct-from 0 n
 
-module _ {X Y Z : Type 0} (f : X → Y → Z) (one : (x x′ : X) (y y′ : Y) → f x y ≡ f x′ y′ → x ≡ x′) (two : (x x′ : X) (y y′ : Y) → f x y ≡ f x′ y′ → y ≡ y′) where
+module _ {X Y Z : Type 0} (f : X → Y → Z)
+    (one : (x x′ : X) (y y′ : Y) → f x y ≡ f x′ y′ → x ≡ x′) (two : (x x′ : X) (y y′ : Y) → f x y ≡ f x′ y′ → y ≡ y′) where
   map-elim : (x : X) (ys : List Y) (z : Z) → List·Memᴰ z (map (f x) ys) → (y : Y) × List·Memᴰ y ys × (z ≡ f x y)
   map-elim x [] z m = absurd (List·Memᴰ·not-nil m)
   map-elim x (y ∷ ys) z m = elim (List·Memᴰ·cases-cons m) [

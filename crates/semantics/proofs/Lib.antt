@@ -19,6 +19,7 @@ pub mod FirstSound
 pub mod Outcomes
 pub mod Ends
 pub mod Results
+pub mod BodyVerdict
 pub mod Verdict
 pub mod Predictive
 pub mod Measure

@@ -21,6 +21,7 @@ use Rattle.semantics.proofs.Predictive.{table-own, own-guides}
 use Rattle.semantics.proofs.Verdict.{local-verdict, local-verdict-body, local-verdict-piece, verdict}
 use Rattle.semantics.proofs.Measure.{tokens-then-rank}
 use Rattle.semantics.proofs.Called.{calls-listing, count-listing, count-bound, farthest-most, farthest-called}
+use Rattle.semantics.proofs.Range.{all-ordered}
 use Rattle.semantics.proofs.Memo.{memo-recorded}
 use Rattle.semantics.proofs.Rows.{starred-rows}
 
@@ -75,7 +76,7 @@ theorems = record {
   };
   memo-right = λ G scoped free start t own k w fits.
       let r = memo-recorded G t k w scoped free own fits start in
-      record { outcome = r .0; recorded = r .1 };
+      record { outcome = r .0; recorded = r .1; ordered = all-ordered G w };
   own-entries = table-own;
   starred-rows = starred-rows;
 }

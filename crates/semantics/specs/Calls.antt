@@ -1,6 +1,6 @@
 -- Which calls the descent makes, and the same computed: the list of the calls, their number and the farthest place of one.
 use mathlib.Core.Bool.{Bool, _&&_}
-use mathlib.Core.List.{List, [], _∷_, _++_, List·Memᴰ}
+use mathlib.Core.List.{List, [], _∷_, flatMap, List·Memᴰ}
 use Prim.Native.Nat.{ℕ, zero, suc, max}
 use lib.ListN.{length}
 use lib.Dec.{eqb}
@@ -27,14 +27,10 @@ pub record Listing (G : Grammar) (t : Table) (k : ℕ) (w : List ℕ) (l : List 
   pub sound : (x : Call) → List·Memᴰ x l → Called G t k w x
   pub full : (x : Call) → Called G t k w x → List·Memᴰ x l
 
-unfoldable pub gather : (Call → List Call) → List Call → List Call
-gather f [] = []
-gather f (x ∷ l) = f x ++ gather f l
-
 -- x and the calls below it, at most n deep, each as often as the descent without a memo table makes it
 unfoldable pub callsWithin : Grammar → Table → ℕ → List ℕ → ℕ → Call → List Call
 callsWithin G t k w zero x = []
-callsWithin G t k w (suc n) x = x ∷ gather (callsWithin G t k w n) (callComesTo G t k w x)
+callsWithin G t k w (suc n) x = x ∷ flatMap (callsWithin G t k w n) (callComesTo G t k w x)
 
 abbrev pub sameCall : Call → Call → Bool
 sameCall x y = eqb (x .nonterminal) (y .nonterminal) && eqb (x .place) (y .place)

@@ -6,7 +6,7 @@ use mathlib.Core.Logic.{_↔_}
 use mathlib.Core.Option.{none, some}
 use Prim.Native.Nat.{ℕ, suc, _*_, _≤_, _<_}
 use lib.Dec.{T}
-use lib.ListN.{length, take}
+use lib.ListN.{length, getD, take}
 use Rattle.grammar.specs.declared.Symbol.the-variants.{Nonterminal}
 use Rattle.grammar.specs.Syntax.{Body, Rule, Grammar, bodies, NonterminalsBelow, WellScoped}
 use Rattle.semantics.specs.Rounds.{Set, _⊆_}
@@ -18,8 +18,8 @@ use Rattle.semantics.specs.FirstFollow.{First, Follow}
 use Rattle.semantics.specs.Claims.{clashes, tableOf, everyEnds}
 use Rattle.semantics.specs.Descent.{End, Outcomes, run, Results, descend, accepts}
 use Rattle.semantics.specs.ComesTo.{Call, InRange, callComesTo}
-use Rattle.semantics.specs.Calls.{Called, Listing, calls, callCount, farthest}
-use Rattle.semantics.specs.Memo.{Recorded, Fits}
+use Rattle.semantics.specs.Calls.{Called, Listing, allCalls, calls, callCount, farthest}
+use Rattle.semantics.specs.Memo.{indexOf, Recorded, Fits}
 use Rattle.semantics.specs.MemoDescent.{memoStart}
 use Rattle.semantics.specs.Predictive.{Predictive}
 use Rattle.semantics.specs.Rows.{starred, judged}
@@ -98,10 +98,11 @@ pub record CallsCounted (G : Grammar) (t : Table) (k : ℕ) (w : List ℕ) : Typ
   pub farthest-most : (x : Call) → Called G t k w x → x .place ≤ farthest G t k w
   pub farthest-called : (x : Call) × Called G t k w x × (x .place ≡ farthest G t k w)
 
--- 9. The memo table changes no outcome, and in the end holds the results of the calls and nothing else
+-- 9. The memo table changes no outcome, and in the end holds the results of the calls and nothing else; the list of all calls is in its order
 pub record MemoRight (G : Grammar) (t : Table) (k : ℕ) (w : List ℕ) : Type 0 where
   pub outcome : memoStart G t k w .outcome ≡ descend G t k w 0 0
   pub recorded : Recorded G t k w (memoStart G t k w .memo)
+  pub ordered : (x z : Call) → InRange G w x → getD (allCalls G w) (indexOf w x) z ≡ x
 
 -- The theorems, with what they need
 pub record Theorems : Type 1 where
