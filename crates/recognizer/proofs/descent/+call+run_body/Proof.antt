@@ -1,0 +1,1173 @@
+use Prim.Native.Nat.{ℕ, _<_}
+use borrow.Fn.Kinds.{In}
+use borrow.Fn.PlainCycle.{Measures, is, falls, and}
+use Rattle.recognizer.proofs.descent.call.Reads as call
+use Rattle.recognizer.proofs.descent.call.Kinds as call-kinds
+use Rattle.recognizer.proofs.descent.+call+run_body.Lts-call as call-lts
+use Rattle.recognizer.proofs.descent.run_body.Reads as run-body
+use Rattle.recognizer.proofs.descent.run_body.Kinds as run-body-kinds
+use Rattle.recognizer.proofs.descent.+call+run_body.Lts-run_body as run-body-lts
+use Rattle.grammar.proofs.word.decode.Reads as decode-reads
+use Rattle.recognizer.proofs.descent.body_end.Reads as body-end-reads
+use Rattle.recognizer.proofs.descent.chosen.Reads as chosen-reads
+use Rattle.recognizer.proofs.descent.code.Reads as code-reads
+use Rattle.recognizer.proofs.descent.conclude.Reads as conclude-reads
+use Rattle.recognizer.proofs.descent.goes_on.Reads as goes-on-reads
+use Rattle.recognizer.proofs.descent.joined.Reads as joined-reads
+use Rattle.recognizer.proofs.descent.matches.Reads as matches-reads
+use Rattle.recognizer.proofs.descent.recall.Reads as recall-reads
+use Rattle.recognizer.proofs.descent.sign_at.Reads as sign-at-reads
+use Rattle.recognizer.proofs.descent.+call+run_body.{statement}
+use Rattle.recognizer.proofs.descent.+call+run_body.Tie.{close}
+
+abbrev μ-call : Measures 5 call-kinds.ps ℕ
+μ-call κs a = ?
+
+abbrev μ-run-body : Measures 5 run-body-kinds.ps ℕ
+μ-run-body κs a = ?
+
+abbrev call-at : ℕ → In 5 call-kinds.ps
+call-at t = and 5 call-kinds.ps (is 5 call-kinds.ps μ-call t) call.Pre
+
+abbrev call-below : ℕ → In 5 call-kinds.ps
+call-below t = and 5 call-kinds.ps (falls 5 call-kinds.ps _<_ μ-call t) call.Pre
+
+abbrev run-body-at : ℕ → In 5 run-body-kinds.ps
+run-body-at t = and 5 run-body-kinds.ps (is 5 run-body-kinds.ps μ-run-body t) run-body.Pre
+
+abbrev run-body-below : ℕ → In 5 run-body-kinds.ps
+run-body-below t =
+    and 5 run-body-kinds.ps (falls 5 run-body-kinds.ps _<_ μ-run-body t) run-body.Pre
+
+abbrev call-Inv-loop : call-lts.InvT-loop
+call-Inv-loop nonterminal words starts table input memo₀ place entry known rule at₀ sign₀ agreement₀ memo at sign agreement =
+    ?
+
+abbrev call-μ-loop : call-lts.MeasureT-loop
+call-μ-loop nonterminal words starts table input memo₀ place entry known rule at₀ sign₀ agreement₀ memo at sign agreement =
+    ?
+
+-- src/descent.rt:283:32
+call-add-entry : (t : ℕ) → call-lts.Need-add-entry (
+  recall-reads.Asked,
+  recall-reads.Learnt,
+  chosen-reads.Asked,
+  chosen-reads.Learnt,
+  sign-at-reads.Asked,
+  sign-at-reads.Learnt,
+  goes-on-reads.Asked,
+  goes-on-reads.Learnt,
+  run-body-below t,
+  run-body.Post,
+  joined-reads.Asked,
+  joined-reads.Learnt,
+  body-end-reads.Asked,
+  body-end-reads.Learnt,
+  conclude-reads.Asked,
+  conclude-reads.Learnt,
+  code-reads.Asked,
+  code-reads.Learnt,
+) (call-at t) call.Post call-Inv-loop call-μ-loop
+call-add-entry t c = ?
+
+-- src/descent.rt:283:17
+call-mul-entry : (t : ℕ) → call-lts.Need-mul-entry (
+  recall-reads.Asked,
+  recall-reads.Learnt,
+  chosen-reads.Asked,
+  chosen-reads.Learnt,
+  sign-at-reads.Asked,
+  sign-at-reads.Learnt,
+  goes-on-reads.Asked,
+  goes-on-reads.Learnt,
+  run-body-below t,
+  run-body.Post,
+  joined-reads.Asked,
+  joined-reads.Learnt,
+  body-end-reads.Asked,
+  body-end-reads.Learnt,
+  conclude-reads.Asked,
+  conclude-reads.Learnt,
+  code-reads.Asked,
+  code-reads.Learnt,
+) (call-at t) call.Post call-Inv-loop call-μ-loop
+call-mul-entry t c = ?
+
+-- src/descent.rt:283:17
+call-add-entry-2 : (t : ℕ) → call-lts.Need-add-entry-2 (
+  recall-reads.Asked,
+  recall-reads.Learnt,
+  chosen-reads.Asked,
+  chosen-reads.Learnt,
+  sign-at-reads.Asked,
+  sign-at-reads.Learnt,
+  goes-on-reads.Asked,
+  goes-on-reads.Learnt,
+  run-body-below t,
+  run-body.Post,
+  joined-reads.Asked,
+  joined-reads.Learnt,
+  body-end-reads.Asked,
+  body-end-reads.Learnt,
+  conclude-reads.Asked,
+  conclude-reads.Learnt,
+  code-reads.Asked,
+  code-reads.Learnt,
+) (call-at t) call.Post call-Inv-loop call-μ-loop
+call-add-entry-2 t c = ?
+
+-- src/descent.rt:284:17
+call-mul-known : (t : ℕ) → call-lts.Need-mul-known (
+  recall-reads.Asked,
+  recall-reads.Learnt,
+  chosen-reads.Asked,
+  chosen-reads.Learnt,
+  sign-at-reads.Asked,
+  sign-at-reads.Learnt,
+  goes-on-reads.Asked,
+  goes-on-reads.Learnt,
+  run-body-below t,
+  run-body.Post,
+  joined-reads.Asked,
+  joined-reads.Learnt,
+  body-end-reads.Asked,
+  body-end-reads.Learnt,
+  conclude-reads.Asked,
+  conclude-reads.Learnt,
+  code-reads.Asked,
+  code-reads.Learnt,
+) (call-at t) call.Post call-Inv-loop call-μ-loop
+call-mul-known t c = ?
+
+-- src/descent.rt:284:17
+call-slice-read-known : (t : ℕ) → call-lts.Need-slice-read-known (
+  recall-reads.Asked,
+  recall-reads.Learnt,
+  chosen-reads.Asked,
+  chosen-reads.Learnt,
+  sign-at-reads.Asked,
+  sign-at-reads.Learnt,
+  goes-on-reads.Asked,
+  goes-on-reads.Learnt,
+  run-body-below t,
+  run-body.Post,
+  joined-reads.Asked,
+  joined-reads.Learnt,
+  body-end-reads.Asked,
+  body-end-reads.Learnt,
+  conclude-reads.Asked,
+  conclude-reads.Learnt,
+  code-reads.Asked,
+  code-reads.Learnt,
+) (call-at t) call.Post call-Inv-loop call-μ-loop
+call-slice-read-known t c = ?
+
+-- src/descent.rt:286:9
+call-recall-requires : (t : ℕ) → call-lts.Need-recall-requires (
+  recall-reads.Asked,
+  recall-reads.Learnt,
+  chosen-reads.Asked,
+  chosen-reads.Learnt,
+  sign-at-reads.Asked,
+  sign-at-reads.Learnt,
+  goes-on-reads.Asked,
+  goes-on-reads.Learnt,
+  run-body-below t,
+  run-body.Post,
+  joined-reads.Asked,
+  joined-reads.Learnt,
+  body-end-reads.Asked,
+  body-end-reads.Learnt,
+  conclude-reads.Asked,
+  conclude-reads.Learnt,
+  code-reads.Asked,
+  code-reads.Learnt,
+) (call-at t) call.Post call-Inv-loop call-μ-loop
+call-recall-requires t c κs = ?
+
+-- src/descent.rt:286:9
+call-returns : (t : ℕ) → call-lts.Need-returns (
+  recall-reads.Asked,
+  recall-reads.Learnt,
+  chosen-reads.Asked,
+  chosen-reads.Learnt,
+  sign-at-reads.Asked,
+  sign-at-reads.Learnt,
+  goes-on-reads.Asked,
+  goes-on-reads.Learnt,
+  run-body-below t,
+  run-body.Post,
+  joined-reads.Asked,
+  joined-reads.Learnt,
+  body-end-reads.Asked,
+  body-end-reads.Learnt,
+  conclude-reads.Asked,
+  conclude-reads.Learnt,
+  code-reads.Asked,
+  code-reads.Learnt,
+) (call-at t) call.Post call-Inv-loop call-μ-loop
+call-returns t c = ?
+
+-- src/descent.rt:288:9
+call-chosen-requires : (t : ℕ) → call-lts.Need-chosen-requires (
+  recall-reads.Asked,
+  recall-reads.Learnt,
+  chosen-reads.Asked,
+  chosen-reads.Learnt,
+  sign-at-reads.Asked,
+  sign-at-reads.Learnt,
+  goes-on-reads.Asked,
+  goes-on-reads.Learnt,
+  run-body-below t,
+  run-body.Post,
+  joined-reads.Asked,
+  joined-reads.Learnt,
+  body-end-reads.Asked,
+  body-end-reads.Learnt,
+  conclude-reads.Asked,
+  conclude-reads.Learnt,
+  code-reads.Asked,
+  code-reads.Learnt,
+) (call-at t) call.Post call-Inv-loop call-μ-loop
+call-chosen-requires t c κs = ?
+
+-- src/descent.rt:290:9
+call-mul-memo : (t : ℕ) → call-lts.Need-mul-memo (
+  recall-reads.Asked,
+  recall-reads.Learnt,
+  chosen-reads.Asked,
+  chosen-reads.Learnt,
+  sign-at-reads.Asked,
+  sign-at-reads.Learnt,
+  goes-on-reads.Asked,
+  goes-on-reads.Learnt,
+  run-body-below t,
+  run-body.Post,
+  joined-reads.Asked,
+  joined-reads.Learnt,
+  body-end-reads.Asked,
+  body-end-reads.Learnt,
+  conclude-reads.Asked,
+  conclude-reads.Learnt,
+  code-reads.Asked,
+  code-reads.Learnt,
+) (call-at t) call.Post call-Inv-loop call-μ-loop
+call-mul-memo t c = ?
+
+-- src/descent.rt:290:9
+call-slice-write-memo : (t : ℕ) → call-lts.Need-slice-write-memo (
+  recall-reads.Asked,
+  recall-reads.Learnt,
+  chosen-reads.Asked,
+  chosen-reads.Learnt,
+  sign-at-reads.Asked,
+  sign-at-reads.Learnt,
+  goes-on-reads.Asked,
+  goes-on-reads.Learnt,
+  run-body-below t,
+  run-body.Post,
+  joined-reads.Asked,
+  joined-reads.Learnt,
+  body-end-reads.Asked,
+  body-end-reads.Learnt,
+  conclude-reads.Asked,
+  conclude-reads.Learnt,
+  code-reads.Asked,
+  code-reads.Learnt,
+) (call-at t) call.Post call-Inv-loop call-μ-loop
+call-slice-write-memo t c = ?
+
+-- src/descent.rt:291:9
+call-same-length : (t : ℕ) → call-lts.Need-same-length (
+  recall-reads.Asked,
+  recall-reads.Learnt,
+  chosen-reads.Asked,
+  chosen-reads.Learnt,
+  sign-at-reads.Asked,
+  sign-at-reads.Learnt,
+  goes-on-reads.Asked,
+  goes-on-reads.Learnt,
+  run-body-below t,
+  run-body.Post,
+  joined-reads.Asked,
+  joined-reads.Learnt,
+  body-end-reads.Asked,
+  body-end-reads.Learnt,
+  conclude-reads.Asked,
+  conclude-reads.Learnt,
+  code-reads.Asked,
+  code-reads.Learnt,
+) (call-at t) call.Post call-Inv-loop call-μ-loop
+call-same-length t c = ?
+
+-- src/descent.rt:291:9
+call-returns-2 : (t : ℕ) → call-lts.Need-returns-2 (
+  recall-reads.Asked,
+  recall-reads.Learnt,
+  chosen-reads.Asked,
+  chosen-reads.Learnt,
+  sign-at-reads.Asked,
+  sign-at-reads.Learnt,
+  goes-on-reads.Asked,
+  goes-on-reads.Learnt,
+  run-body-below t,
+  run-body.Post,
+  joined-reads.Asked,
+  joined-reads.Learnt,
+  body-end-reads.Asked,
+  body-end-reads.Learnt,
+  conclude-reads.Asked,
+  conclude-reads.Learnt,
+  code-reads.Asked,
+  code-reads.Learnt,
+) (call-at t) call.Post call-Inv-loop call-μ-loop
+call-returns-2 t c = ?
+
+-- src/descent.rt:293:25
+call-cast-at : (t : ℕ) → call-lts.Need-cast-at (
+  recall-reads.Asked,
+  recall-reads.Learnt,
+  chosen-reads.Asked,
+  chosen-reads.Learnt,
+  sign-at-reads.Asked,
+  sign-at-reads.Learnt,
+  goes-on-reads.Asked,
+  goes-on-reads.Learnt,
+  run-body-below t,
+  run-body.Post,
+  joined-reads.Asked,
+  joined-reads.Learnt,
+  body-end-reads.Asked,
+  body-end-reads.Learnt,
+  conclude-reads.Asked,
+  conclude-reads.Learnt,
+  code-reads.Asked,
+  code-reads.Learnt,
+) (call-at t) call.Post call-Inv-loop call-μ-loop
+call-cast-at t c = ?
+
+-- src/descent.rt:293:18
+call-mul-at : (t : ℕ) → call-lts.Need-mul-at (
+  recall-reads.Asked,
+  recall-reads.Learnt,
+  chosen-reads.Asked,
+  chosen-reads.Learnt,
+  sign-at-reads.Asked,
+  sign-at-reads.Learnt,
+  goes-on-reads.Asked,
+  goes-on-reads.Learnt,
+  run-body-below t,
+  run-body.Post,
+  joined-reads.Asked,
+  joined-reads.Learnt,
+  body-end-reads.Asked,
+  body-end-reads.Learnt,
+  conclude-reads.Asked,
+  conclude-reads.Learnt,
+  code-reads.Asked,
+  code-reads.Learnt,
+) (call-at t) call.Post call-Inv-loop call-μ-loop
+call-mul-at t c = ?
+
+-- src/descent.rt:293:18
+call-element-copy-out-at : (t : ℕ) → call-lts.Need-element-copy-out-at (
+  recall-reads.Asked,
+  recall-reads.Learnt,
+  chosen-reads.Asked,
+  chosen-reads.Learnt,
+  sign-at-reads.Asked,
+  sign-at-reads.Learnt,
+  goes-on-reads.Asked,
+  goes-on-reads.Learnt,
+  run-body-below t,
+  run-body.Post,
+  joined-reads.Asked,
+  joined-reads.Learnt,
+  body-end-reads.Asked,
+  body-end-reads.Learnt,
+  conclude-reads.Asked,
+  conclude-reads.Learnt,
+  code-reads.Asked,
+  code-reads.Learnt,
+) (call-at t) call.Post call-Inv-loop call-μ-loop
+call-element-copy-out-at t c = ?
+
+-- src/descent.rt:293:18
+call-add-at : (t : ℕ) → call-lts.Need-add-at (
+  recall-reads.Asked,
+  recall-reads.Learnt,
+  chosen-reads.Asked,
+  chosen-reads.Learnt,
+  sign-at-reads.Asked,
+  sign-at-reads.Learnt,
+  goes-on-reads.Asked,
+  goes-on-reads.Learnt,
+  run-body-below t,
+  run-body.Post,
+  joined-reads.Asked,
+  joined-reads.Learnt,
+  body-end-reads.Asked,
+  body-end-reads.Learnt,
+  conclude-reads.Asked,
+  conclude-reads.Learnt,
+  code-reads.Asked,
+  code-reads.Learnt,
+) (call-at t) call.Post call-Inv-loop call-μ-loop
+call-add-at t c = ?
+
+-- src/descent.rt:294:9
+call-sign-at-requires : (t : ℕ) → call-lts.Need-sign-at-requires (
+  recall-reads.Asked,
+  recall-reads.Learnt,
+  chosen-reads.Asked,
+  chosen-reads.Learnt,
+  sign-at-reads.Asked,
+  sign-at-reads.Learnt,
+  goes-on-reads.Asked,
+  goes-on-reads.Learnt,
+  run-body-below t,
+  run-body.Post,
+  joined-reads.Asked,
+  joined-reads.Learnt,
+  body-end-reads.Asked,
+  body-end-reads.Learnt,
+  conclude-reads.Asked,
+  conclude-reads.Learnt,
+  code-reads.Asked,
+  code-reads.Learnt,
+) (call-at t) call.Post call-Inv-loop call-μ-loop
+call-sign-at-requires t c κs = ?
+
+-- src/descent.rt:296:5
+call-loop-holds : (t : ℕ) → call-lts.Need-loop-holds (
+  recall-reads.Asked,
+  recall-reads.Learnt,
+  chosen-reads.Asked,
+  chosen-reads.Learnt,
+  sign-at-reads.Asked,
+  sign-at-reads.Learnt,
+  goes-on-reads.Asked,
+  goes-on-reads.Learnt,
+  run-body-below t,
+  run-body.Post,
+  joined-reads.Asked,
+  joined-reads.Learnt,
+  body-end-reads.Asked,
+  body-end-reads.Learnt,
+  conclude-reads.Asked,
+  conclude-reads.Learnt,
+  code-reads.Asked,
+  code-reads.Learnt,
+) (call-at t) call.Post call-Inv-loop call-μ-loop
+call-loop-holds t c = ?
+
+-- src/descent.rt:296:11
+call-goes-on-requires : (t : ℕ) → call-lts.Need-goes-on-requires (
+  recall-reads.Asked,
+  recall-reads.Learnt,
+  chosen-reads.Asked,
+  chosen-reads.Learnt,
+  sign-at-reads.Asked,
+  sign-at-reads.Learnt,
+  goes-on-reads.Asked,
+  goes-on-reads.Learnt,
+  run-body-below t,
+  run-body.Post,
+  joined-reads.Asked,
+  joined-reads.Learnt,
+  body-end-reads.Asked,
+  body-end-reads.Learnt,
+  conclude-reads.Asked,
+  conclude-reads.Learnt,
+  code-reads.Asked,
+  code-reads.Learnt,
+) (call-at t) call.Post call-Inv-loop call-μ-loop
+call-goes-on-requires t c κs = ?
+
+-- src/descent.rt:304:13
+call-add-run-body : (t : ℕ) → call-lts.Need-add-run-body (
+  recall-reads.Asked,
+  recall-reads.Learnt,
+  chosen-reads.Asked,
+  chosen-reads.Learnt,
+  sign-at-reads.Asked,
+  sign-at-reads.Learnt,
+  goes-on-reads.Asked,
+  goes-on-reads.Learnt,
+  run-body-below t,
+  run-body.Post,
+  joined-reads.Asked,
+  joined-reads.Learnt,
+  body-end-reads.Asked,
+  body-end-reads.Learnt,
+  conclude-reads.Asked,
+  conclude-reads.Learnt,
+  code-reads.Asked,
+  code-reads.Learnt,
+) (call-at t) call.Post call-Inv-loop call-μ-loop
+call-add-run-body t c = ?
+
+-- src/descent.rt:297:13
+call-run-body-requires : (t : ℕ) → call-lts.Need-run-body-requires (
+  recall-reads.Asked,
+  recall-reads.Learnt,
+  chosen-reads.Asked,
+  chosen-reads.Learnt,
+  sign-at-reads.Asked,
+  sign-at-reads.Learnt,
+  goes-on-reads.Asked,
+  goes-on-reads.Learnt,
+  run-body-below t,
+  run-body.Post,
+  joined-reads.Asked,
+  joined-reads.Learnt,
+  body-end-reads.Asked,
+  body-end-reads.Learnt,
+  conclude-reads.Asked,
+  conclude-reads.Learnt,
+  code-reads.Asked,
+  code-reads.Learnt,
+) (call-at t) call.Post call-Inv-loop call-μ-loop
+call-run-body-requires t c κs = ?
+
+-- src/descent.rt:307:9
+call-joined-requires : (t : ℕ) → call-lts.Need-joined-requires (
+  recall-reads.Asked,
+  recall-reads.Learnt,
+  chosen-reads.Asked,
+  chosen-reads.Learnt,
+  sign-at-reads.Asked,
+  sign-at-reads.Learnt,
+  goes-on-reads.Asked,
+  goes-on-reads.Learnt,
+  run-body-below t,
+  run-body.Post,
+  joined-reads.Asked,
+  joined-reads.Learnt,
+  body-end-reads.Asked,
+  body-end-reads.Learnt,
+  conclude-reads.Asked,
+  conclude-reads.Learnt,
+  code-reads.Asked,
+  code-reads.Learnt,
+) (call-at t) call.Post call-Inv-loop call-μ-loop
+call-joined-requires t c κs = ?
+
+-- src/descent.rt:308:30
+call-add-body-end : (t : ℕ) → call-lts.Need-add-body-end (
+  recall-reads.Asked,
+  recall-reads.Learnt,
+  chosen-reads.Asked,
+  chosen-reads.Learnt,
+  sign-at-reads.Asked,
+  sign-at-reads.Learnt,
+  goes-on-reads.Asked,
+  goes-on-reads.Learnt,
+  run-body-below t,
+  run-body.Post,
+  joined-reads.Asked,
+  joined-reads.Learnt,
+  body-end-reads.Asked,
+  body-end-reads.Learnt,
+  conclude-reads.Asked,
+  conclude-reads.Learnt,
+  code-reads.Asked,
+  code-reads.Learnt,
+) (call-at t) call.Post call-Inv-loop call-μ-loop
+call-add-body-end t c = ?
+
+-- src/descent.rt:308:9
+call-body-end-requires : (t : ℕ) → call-lts.Need-body-end-requires (
+  recall-reads.Asked,
+  recall-reads.Learnt,
+  chosen-reads.Asked,
+  chosen-reads.Learnt,
+  sign-at-reads.Asked,
+  sign-at-reads.Learnt,
+  goes-on-reads.Asked,
+  goes-on-reads.Learnt,
+  run-body-below t,
+  run-body.Post,
+  joined-reads.Asked,
+  joined-reads.Learnt,
+  body-end-reads.Asked,
+  body-end-reads.Learnt,
+  conclude-reads.Asked,
+  conclude-reads.Learnt,
+  code-reads.Asked,
+  code-reads.Learnt,
+) (call-at t) call.Post call-Inv-loop call-μ-loop
+call-body-end-requires t c κs = ?
+
+-- src/descent.rt:309:9
+call-sign-at-requires-2 : (t : ℕ) → call-lts.Need-sign-at-requires-2 (
+  recall-reads.Asked,
+  recall-reads.Learnt,
+  chosen-reads.Asked,
+  chosen-reads.Learnt,
+  sign-at-reads.Asked,
+  sign-at-reads.Learnt,
+  goes-on-reads.Asked,
+  goes-on-reads.Learnt,
+  run-body-below t,
+  run-body.Post,
+  joined-reads.Asked,
+  joined-reads.Learnt,
+  body-end-reads.Asked,
+  body-end-reads.Learnt,
+  conclude-reads.Asked,
+  conclude-reads.Learnt,
+  code-reads.Asked,
+  code-reads.Learnt,
+) (call-at t) call.Post call-Inv-loop call-μ-loop
+call-sign-at-requires-2 t c κs = ?
+
+-- src/descent.rt:296:5
+call-loop-less : (t : ℕ) → call-lts.Need-loop-less (
+  recall-reads.Asked,
+  recall-reads.Learnt,
+  chosen-reads.Asked,
+  chosen-reads.Learnt,
+  sign-at-reads.Asked,
+  sign-at-reads.Learnt,
+  goes-on-reads.Asked,
+  goes-on-reads.Learnt,
+  run-body-below t,
+  run-body.Post,
+  joined-reads.Asked,
+  joined-reads.Learnt,
+  body-end-reads.Asked,
+  body-end-reads.Learnt,
+  conclude-reads.Asked,
+  conclude-reads.Learnt,
+  code-reads.Asked,
+  code-reads.Learnt,
+) (call-at t) call.Post call-Inv-loop call-μ-loop
+call-loop-less t c = ?
+
+-- src/descent.rt:296:5
+call-loop-again : (t : ℕ) → call-lts.Need-loop-again (
+  recall-reads.Asked,
+  recall-reads.Learnt,
+  chosen-reads.Asked,
+  chosen-reads.Learnt,
+  sign-at-reads.Asked,
+  sign-at-reads.Learnt,
+  goes-on-reads.Asked,
+  goes-on-reads.Learnt,
+  run-body-below t,
+  run-body.Post,
+  joined-reads.Asked,
+  joined-reads.Learnt,
+  body-end-reads.Asked,
+  body-end-reads.Learnt,
+  conclude-reads.Asked,
+  conclude-reads.Learnt,
+  code-reads.Asked,
+  code-reads.Learnt,
+) (call-at t) call.Post call-Inv-loop call-μ-loop
+call-loop-again t c = ?
+
+-- src/descent.rt:311:9
+call-conclude-requires : (t : ℕ) → call-lts.Need-conclude-requires (
+  recall-reads.Asked,
+  recall-reads.Learnt,
+  chosen-reads.Asked,
+  chosen-reads.Learnt,
+  sign-at-reads.Asked,
+  sign-at-reads.Learnt,
+  goes-on-reads.Asked,
+  goes-on-reads.Learnt,
+  run-body-below t,
+  run-body.Post,
+  joined-reads.Asked,
+  joined-reads.Learnt,
+  body-end-reads.Asked,
+  body-end-reads.Learnt,
+  conclude-reads.Asked,
+  conclude-reads.Learnt,
+  code-reads.Asked,
+  code-reads.Learnt,
+) (call-at t) call.Post call-Inv-loop call-μ-loop
+call-conclude-requires t c κs = ?
+
+-- src/descent.rt:312:19
+call-code-requires : (t : ℕ) → call-lts.Need-code-requires (
+  recall-reads.Asked,
+  recall-reads.Learnt,
+  chosen-reads.Asked,
+  chosen-reads.Learnt,
+  sign-at-reads.Asked,
+  sign-at-reads.Learnt,
+  goes-on-reads.Asked,
+  goes-on-reads.Learnt,
+  run-body-below t,
+  run-body.Post,
+  joined-reads.Asked,
+  joined-reads.Learnt,
+  body-end-reads.Asked,
+  body-end-reads.Learnt,
+  conclude-reads.Asked,
+  conclude-reads.Learnt,
+  code-reads.Asked,
+  code-reads.Learnt,
+) (call-at t) call.Post call-Inv-loop call-μ-loop
+call-code-requires t c κs = ?
+
+-- src/descent.rt:312:5
+call-mul-memo-2 : (t : ℕ) → call-lts.Need-mul-memo-2 (
+  recall-reads.Asked,
+  recall-reads.Learnt,
+  chosen-reads.Asked,
+  chosen-reads.Learnt,
+  sign-at-reads.Asked,
+  sign-at-reads.Learnt,
+  goes-on-reads.Asked,
+  goes-on-reads.Learnt,
+  run-body-below t,
+  run-body.Post,
+  joined-reads.Asked,
+  joined-reads.Learnt,
+  body-end-reads.Asked,
+  body-end-reads.Learnt,
+  conclude-reads.Asked,
+  conclude-reads.Learnt,
+  code-reads.Asked,
+  code-reads.Learnt,
+) (call-at t) call.Post call-Inv-loop call-μ-loop
+call-mul-memo-2 t c = ?
+
+-- src/descent.rt:312:5
+call-slice-write-memo-2 : (t : ℕ) → call-lts.Need-slice-write-memo-2 (
+  recall-reads.Asked,
+  recall-reads.Learnt,
+  chosen-reads.Asked,
+  chosen-reads.Learnt,
+  sign-at-reads.Asked,
+  sign-at-reads.Learnt,
+  goes-on-reads.Asked,
+  goes-on-reads.Learnt,
+  run-body-below t,
+  run-body.Post,
+  joined-reads.Asked,
+  joined-reads.Learnt,
+  body-end-reads.Asked,
+  body-end-reads.Learnt,
+  conclude-reads.Asked,
+  conclude-reads.Learnt,
+  code-reads.Asked,
+  code-reads.Learnt,
+) (call-at t) call.Post call-Inv-loop call-μ-loop
+call-slice-write-memo-2 t c = ?
+
+-- src/descent.rt:271:1
+call-same-length-2 : (t : ℕ) → call-lts.Need-same-length-2 (
+  recall-reads.Asked,
+  recall-reads.Learnt,
+  chosen-reads.Asked,
+  chosen-reads.Learnt,
+  sign-at-reads.Asked,
+  sign-at-reads.Learnt,
+  goes-on-reads.Asked,
+  goes-on-reads.Learnt,
+  run-body-below t,
+  run-body.Post,
+  joined-reads.Asked,
+  joined-reads.Learnt,
+  body-end-reads.Asked,
+  body-end-reads.Learnt,
+  conclude-reads.Asked,
+  conclude-reads.Learnt,
+  code-reads.Asked,
+  code-reads.Learnt,
+) (call-at t) call.Post call-Inv-loop call-μ-loop
+call-same-length-2 t c = ?
+
+-- src/descent.rt:271:1
+call-returns-3 : (t : ℕ) → call-lts.Need-returns-3 (
+  recall-reads.Asked,
+  recall-reads.Learnt,
+  chosen-reads.Asked,
+  chosen-reads.Learnt,
+  sign-at-reads.Asked,
+  sign-at-reads.Learnt,
+  goes-on-reads.Asked,
+  goes-on-reads.Learnt,
+  run-body-below t,
+  run-body.Post,
+  joined-reads.Asked,
+  joined-reads.Learnt,
+  body-end-reads.Asked,
+  body-end-reads.Learnt,
+  conclude-reads.Asked,
+  conclude-reads.Learnt,
+  code-reads.Asked,
+  code-reads.Learnt,
+) (call-at t) call.Post call-Inv-loop call-μ-loop
+call-returns-3 t c = ?
+
+abbrev run-body-Inv-loop : run-body-lts.InvT-loop
+run-body-Inv-loop nonterminal words starts table input memo₀ from start at₀ place₀ memo at place =
+    ?
+
+abbrev run-body-μ-loop : run-body-lts.MeasureT-loop
+run-body-μ-loop nonterminal words starts table input memo₀ from start at₀ place₀ memo at place = ?
+
+-- src/descent.rt:245:5
+run-body-loop-holds : (t : ℕ) → run-body-lts.Need-loop-holds (
+  decode-reads.Asked,
+  decode-reads.Learnt,
+  matches-reads.Asked,
+  matches-reads.Learnt,
+  call-below t,
+  call.Post,
+) (run-body-at t) run-body.Post run-body-Inv-loop run-body-μ-loop
+run-body-loop-holds t c = ?
+
+-- src/descent.rt:246:27
+run-body-mul-decode : (t : ℕ) → run-body-lts.Need-mul-decode (
+  decode-reads.Asked,
+  decode-reads.Learnt,
+  matches-reads.Asked,
+  matches-reads.Learnt,
+  call-below t,
+  call.Post,
+) (run-body-at t) run-body.Post run-body-Inv-loop run-body-μ-loop
+run-body-mul-decode t c = ?
+
+-- src/descent.rt:246:27
+run-body-shared-slice-read-decode : (t : ℕ) → run-body-lts.Need-shared-slice-read-decode (
+  decode-reads.Asked,
+  decode-reads.Learnt,
+  matches-reads.Asked,
+  matches-reads.Learnt,
+  call-below t,
+  call.Post,
+) (run-body-at t) run-body.Post run-body-Inv-loop run-body-μ-loop
+run-body-shared-slice-read-decode t c = ?
+
+-- src/descent.rt:246:13
+run-body-decode-requires : (t : ℕ) → run-body-lts.Need-decode-requires (
+  decode-reads.Asked,
+  decode-reads.Learnt,
+  matches-reads.Asked,
+  matches-reads.Learnt,
+  call-below t,
+  call.Post,
+) (run-body-at t) run-body.Post run-body-Inv-loop run-body-μ-loop
+run-body-decode-requires t c κs = ?
+
+-- src/descent.rt:247:26
+run-body-enum-known-word : (t : ℕ) → run-body-lts.Need-enum-known-word (
+  decode-reads.Asked,
+  decode-reads.Learnt,
+  matches-reads.Asked,
+  matches-reads.Learnt,
+  call-below t,
+  call.Post,
+) (run-body-at t) run-body.Post run-body-Inv-loop run-body-μ-loop
+run-body-enum-known-word t c = ?
+
+-- src/descent.rt:248:13
+run-body-same-length : (t : ℕ) → run-body-lts.Need-same-length (
+  decode-reads.Asked,
+  decode-reads.Learnt,
+  matches-reads.Asked,
+  matches-reads.Learnt,
+  call-below t,
+  call.Post,
+) (run-body-at t) run-body.Post run-body-Inv-loop run-body-μ-loop
+run-body-same-length t c = ?
+
+-- src/descent.rt:248:13
+run-body-returns : (t : ℕ) → run-body-lts.Need-returns (
+  decode-reads.Asked,
+  decode-reads.Learnt,
+  matches-reads.Asked,
+  matches-reads.Learnt,
+  call-below t,
+  call.Post,
+) (run-body-at t) run-body.Post run-body-Inv-loop run-body-μ-loop
+run-body-returns t c = ?
+
+-- src/descent.rt:251:30
+run-body-enum-known-symbol : (t : ℕ) → run-body-lts.Need-enum-known-symbol (
+  decode-reads.Asked,
+  decode-reads.Learnt,
+  matches-reads.Asked,
+  matches-reads.Learnt,
+  call-below t,
+  call.Post,
+) (run-body-at t) run-body.Post run-body-Inv-loop run-body-μ-loop
+run-body-enum-known-symbol t c = ?
+
+-- src/descent.rt:252:21
+run-body-matches-requires : (t : ℕ) → run-body-lts.Need-matches-requires (
+  decode-reads.Asked,
+  decode-reads.Learnt,
+  matches-reads.Asked,
+  matches-reads.Learnt,
+  call-below t,
+  call.Post,
+) (run-body-at t) run-body.Post run-body-Inv-loop run-body-μ-loop
+run-body-matches-requires t c κs = ?
+
+-- src/descent.rt:253:21
+run-body-same-length-2 : (t : ℕ) → run-body-lts.Need-same-length-2 (
+  decode-reads.Asked,
+  decode-reads.Learnt,
+  matches-reads.Asked,
+  matches-reads.Learnt,
+  call-below t,
+  call.Post,
+) (run-body-at t) run-body.Post run-body-Inv-loop run-body-μ-loop
+run-body-same-length-2 t c = ?
+
+-- src/descent.rt:253:21
+run-body-returns-2 : (t : ℕ) → run-body-lts.Need-returns-2 (
+  decode-reads.Asked,
+  decode-reads.Learnt,
+  matches-reads.Asked,
+  matches-reads.Learnt,
+  call-below t,
+  call.Post,
+) (run-body-at t) run-body.Post run-body-Inv-loop run-body-μ-loop
+run-body-returns-2 t c = ?
+
+-- src/descent.rt:255:25
+run-body-add-place : (t : ℕ) → run-body-lts.Need-add-place (
+  decode-reads.Asked,
+  decode-reads.Learnt,
+  matches-reads.Asked,
+  matches-reads.Learnt,
+  call-below t,
+  call.Post,
+) (run-body-at t) run-body.Post run-body-Inv-loop run-body-μ-loop
+run-body-add-place t c = ?
+
+-- src/descent.rt:257:33
+run-body-enum-known-symbol-2 : (t : ℕ) → run-body-lts.Need-enum-known-symbol-2 (
+  decode-reads.Asked,
+  decode-reads.Learnt,
+  matches-reads.Asked,
+  matches-reads.Learnt,
+  call-below t,
+  call.Post,
+) (run-body-at t) run-body.Post run-body-Inv-loop run-body-μ-loop
+run-body-enum-known-symbol-2 t c = ?
+
+-- src/descent.rt:258:36
+run-body-cast-call : (t : ℕ) → run-body-lts.Need-cast-call (
+  decode-reads.Asked,
+  decode-reads.Learnt,
+  matches-reads.Asked,
+  matches-reads.Learnt,
+  call-below t,
+  call.Post,
+) (run-body-at t) run-body.Post run-body-Inv-loop run-body-μ-loop
+run-body-cast-call t c = ?
+
+-- src/descent.rt:258:21
+run-body-call-requires : (t : ℕ) → run-body-lts.Need-call-requires (
+  decode-reads.Asked,
+  decode-reads.Learnt,
+  matches-reads.Asked,
+  matches-reads.Learnt,
+  call-below t,
+  call.Post,
+) (run-body-at t) run-body.Post run-body-Inv-loop run-body-μ-loop
+run-body-call-requires t c κs = ?
+
+-- src/descent.rt:259:34
+run-body-enum-known-outcome : (t : ℕ) → run-body-lts.Need-enum-known-outcome (
+  decode-reads.Asked,
+  decode-reads.Learnt,
+  matches-reads.Asked,
+  matches-reads.Learnt,
+  call-below t,
+  call.Post,
+) (run-body-at t) run-body.Post run-body-Inv-loop run-body-μ-loop
+run-body-enum-known-outcome t c = ?
+
+-- src/descent.rt:260:21
+run-body-enum-told : (t : ℕ) → run-body-lts.Need-enum-told (
+  decode-reads.Asked,
+  decode-reads.Learnt,
+  matches-reads.Asked,
+  matches-reads.Learnt,
+  call-below t,
+  call.Post,
+) (run-body-at t) run-body.Post run-body-Inv-loop run-body-μ-loop
+run-body-enum-told t c = ?
+
+-- src/descent.rt:260:21
+run-body-same-length-3 : (t : ℕ) → run-body-lts.Need-same-length-3 (
+  decode-reads.Asked,
+  decode-reads.Learnt,
+  matches-reads.Asked,
+  matches-reads.Learnt,
+  call-below t,
+  call.Post,
+) (run-body-at t) run-body.Post run-body-Inv-loop run-body-μ-loop
+run-body-same-length-3 t c = ?
+
+-- src/descent.rt:260:21
+run-body-returns-3 : (t : ℕ) → run-body-lts.Need-returns-3 (
+  decode-reads.Asked,
+  decode-reads.Learnt,
+  matches-reads.Asked,
+  matches-reads.Learnt,
+  call-below t,
+  call.Post,
+) (run-body-at t) run-body.Post run-body-Inv-loop run-body-μ-loop
+run-body-returns-3 t c = ?
+
+-- src/descent.rt:265:14
+run-body-add-at : (t : ℕ) → run-body-lts.Need-add-at (
+  decode-reads.Asked,
+  decode-reads.Learnt,
+  matches-reads.Asked,
+  matches-reads.Learnt,
+  call-below t,
+  call.Post,
+) (run-body-at t) run-body.Post run-body-Inv-loop run-body-μ-loop
+run-body-add-at t c = ?
+
+-- src/descent.rt:245:5
+run-body-loop-less : (t : ℕ) → run-body-lts.Need-loop-less (
+  decode-reads.Asked,
+  decode-reads.Learnt,
+  matches-reads.Asked,
+  matches-reads.Learnt,
+  call-below t,
+  call.Post,
+) (run-body-at t) run-body.Post run-body-Inv-loop run-body-μ-loop
+run-body-loop-less t c = ?
+
+-- src/descent.rt:245:5
+run-body-loop-again : (t : ℕ) → run-body-lts.Need-loop-again (
+  decode-reads.Asked,
+  decode-reads.Learnt,
+  matches-reads.Asked,
+  matches-reads.Learnt,
+  call-below t,
+  call.Post,
+) (run-body-at t) run-body.Post run-body-Inv-loop run-body-μ-loop
+run-body-loop-again t c = ?
+
+-- src/descent.rt:230:1
+run-body-same-length-4 : (t : ℕ) → run-body-lts.Need-same-length-4 (
+  decode-reads.Asked,
+  decode-reads.Learnt,
+  matches-reads.Asked,
+  matches-reads.Learnt,
+  call-below t,
+  call.Post,
+) (run-body-at t) run-body.Post run-body-Inv-loop run-body-μ-loop
+run-body-same-length-4 t c = ?
+
+-- src/descent.rt:230:1
+run-body-returns-4 : (t : ℕ) → run-body-lts.Need-returns-4 (
+  decode-reads.Asked,
+  decode-reads.Learnt,
+  matches-reads.Asked,
+  matches-reads.Learnt,
+  call-below t,
+  call.Post,
+) (run-body-at t) run-body.Post run-body-Inv-loop run-body-μ-loop
+run-body-returns-4 t c = ?
+
+pub +call+run-body-spec : {M : Type 1} → statement M
++call+run-body-spec = close μ-call μ-run-body (λ t. call-lts.spec (
+  recall-reads.Asked,
+  recall-reads.Learnt,
+  chosen-reads.Asked,
+  chosen-reads.Learnt,
+  sign-at-reads.Asked,
+  sign-at-reads.Learnt,
+  goes-on-reads.Asked,
+  goes-on-reads.Learnt,
+  run-body-below t,
+  run-body.Post,
+  joined-reads.Asked,
+  joined-reads.Learnt,
+  body-end-reads.Asked,
+  body-end-reads.Learnt,
+  conclude-reads.Asked,
+  conclude-reads.Learnt,
+  code-reads.Asked,
+  code-reads.Learnt,
+)
+    (call-at t)
+    call.Post
+    call-Inv-loop
+    call-μ-loop
+    (call-add-entry t)
+    (call-mul-entry t)
+    (call-add-entry-2 t)
+    (call-mul-known t)
+    (call-slice-read-known t)
+    (call-recall-requires t)
+    (call-returns t)
+    (call-chosen-requires t)
+    (call-mul-memo t)
+    (call-slice-write-memo t)
+    (call-same-length t)
+    (call-returns-2 t)
+    (call-cast-at t)
+    (call-mul-at t)
+    (call-element-copy-out-at t)
+    (call-add-at t)
+    (call-sign-at-requires t)
+    (call-loop-holds t)
+    (call-goes-on-requires t)
+    (call-add-run-body t)
+    (call-run-body-requires t)
+    (call-joined-requires t)
+    (call-add-body-end t)
+    (call-body-end-requires t)
+    (call-sign-at-requires-2 t)
+    (call-loop-less t)
+    (call-loop-again t)
+    (call-conclude-requires t)
+    (call-code-requires t)
+    (call-mul-memo-2 t)
+    (call-slice-write-memo-2 t)
+    (call-same-length-2 t)
+    (call-returns-3 t))
+    λ t. run-body-lts.spec (
+      decode-reads.Asked,
+      decode-reads.Learnt,
+      matches-reads.Asked,
+      matches-reads.Learnt,
+      call-below t,
+      call.Post,
+    )
+    (run-body-at t)
+    run-body.Post
+    run-body-Inv-loop
+    run-body-μ-loop
+    (run-body-loop-holds t)
+    (run-body-mul-decode t)
+    (run-body-shared-slice-read-decode t)
+    (run-body-decode-requires t)
+    (run-body-enum-known-word t)
+    (run-body-same-length t)
+    (run-body-returns t)
+    (run-body-enum-known-symbol t)
+    (run-body-matches-requires t)
+    (run-body-same-length-2 t)
+    (run-body-returns-2 t)
+    (run-body-add-place t)
+    (run-body-enum-known-symbol-2 t)
+    (run-body-cast-call t)
+    (run-body-call-requires t)
+    (run-body-enum-known-outcome t)
+    (run-body-enum-told t)
+    (run-body-same-length-3 t)
+    (run-body-returns-3 t)
+    (run-body-add-at t)
+    (run-body-loop-less t)
+    (run-body-loop-again t)
+    (run-body-same-length-4 t)
+    (run-body-returns-4 t)
