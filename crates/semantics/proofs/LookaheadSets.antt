@@ -1,0 +1,143 @@
+-- Laws of finite sets of lookahead strings: which strings and entries there are, and what a concatenation holds.
+use mathlib.Core.Bool.{Bool}
+use mathlib.Core.List.{List, [], _∷_, _++_, List·Memᴰ, List·Memᴰ·head, List·Memᴰ·append-cases, List·Memᴰ·eq-of-singleton}
+use mathlib.Core.List.{Memᴰ·append-left, Memᴰ·append-right}
+use mathlib.Core.Logic.{_⊎_, inl, inr}
+use mathlib.Core.Path.{_≡_, refl}
+use Prim.Native.Nat.{ℕ, zero, suc, _<_}
+use native.Mathlib.Omega.{arith}
+use lib.Dec.{T, eqb, ltb, eqb→eq, eqb-refl, ltb→lt, lt→ltb}
+use lib.ListN.{length, take}
+use Rattle.grammar.specs.Syntax.{Grammar}
+use Rattle.semantics.specs.Quantifiers.{all}
+use Rattle.semantics.specs.FiniteSets.{numbers, combine}
+use Rattle.semantics.specs.Rounds.{_⊆_, least}
+use Rattle.semantics.specs.Strings.{Over, Lookahead}
+use Rattle.semantics.specs.Families.{Family}
+use Rattle.semantics.specs.FirstFollow.{strings, sameString, concat, Entry, sameEntry, entries, setsOf}
+use Rattle.semantics.proofs.Booleans.{and-l, and-r, and-make}
+use Rattle.semantics.proofs.Strings.{all-take, take-short}
+use Rattle.semantics.proofs.FiniteSets.{Equality, distinct-make, distinct-elim, keep-make, keep-elim, numbers-make, numbers-elim}
+use Rattle.semantics.proofs.FiniteSets.{combine-make, combine-elim}
+use Rattle.semantics.proofs.Rounds.{least-kept, least-closed}
+
+string-equal : (x y : List ℕ) → T (sameString x y) → x ≡ y
+unfolding sameString
+string-equal [] [] t = refl
+string-equal [] (y ∷ ys) t = absurd t
+string-equal (x ∷ xs) [] t = absurd t
+string-equal (x ∷ xs) (y ∷ ys) t =
+    let e : x ≡ y = eqb→eq x y (and-l (eqb x y) _ t) in
+    let f : xs ≡ ys = string-equal xs ys (and-r (eqb x y) _ t) in
+    cc
+
+string-itself : (x : List ℕ) → T (sameString x x)
+unfolding sameString
+string-itself [] = tt
+string-itself (x ∷ xs) = and-make (eqb x x) _ (eqb-refl x) (string-itself xs)
+
+pub strings-equality : Equality sameString
+strings-equality = record { equal = string-equal; itself = string-itself }
+
+pub entries-equality : Equality sameEntry
+unfolding sameEntry
+entries-equality = record {
+  equal = λ e d t.
+      let a : e .0 ≡ d .0 = eqb→eq (e .0) (d .0) (and-l (eqb (e .0) (d .0)) _ t) in
+      let b : e .1 ≡ d .1 = string-equal (e .1) (d .1) (and-r (eqb (e .0) (d .0)) _ t) in
+      let c : _≡_ {A = Entry} (e .0, e .1) (d .0, d .1) = cc in
+      c;
+  itself = λ e. and-make (eqb (e .0) (e .0)) _ (eqb-refl (e .0)) (string-itself (e .1));
+}
+
+-- the strings of at most k terminals below n
+pub strings-make : (k n : ℕ) (x : List ℕ) → Lookahead k n x → List·Memᴰ x (strings k n)
+unfolding strings all
+strings-make zero n [] h = List·Memᴰ·head refl
+strings-make zero n (a ∷ x) h = absurd (omega arith)
+strings-make (suc k) n [] h = Memᴰ·append-right (combine (λ a x. a ∷ x) (numbers n) (strings k n)) (List·Memᴰ·head refl)
+strings-make (suc k) n (a ∷ x) h =
+    Memᴰ·append-left ([] ∷ []) (combine-make (λ a x. a ∷ x) (numbers n) (strings k n) a x (numbers-make n a (ltb→lt a n (and-l (ltb a n) _ (h .1))))
+    (strings-make k n x (omega arith, and-r (ltb a n) (all (λ a. ltb a n) x) (h .1))))
+
+pub strings-elim : (k n : ℕ) (x : List ℕ) → List·Memᴰ x (strings k n) → Lookahead k n x
+unfolding strings all
+strings-elim zero n x m = rw (List·Memᴰ·eq-of-singleton m) (omega arith, tt)
+strings-elim (suc k) n x m = go (List·Memᴰ·append-cases (combine (λ a y. a ∷ y) (numbers n) (strings k n)) m) (strings-elim k n)
+  where
+    go : List·Memᴰ x (combine (λ a y. a ∷ y) (numbers n) (strings k n)) ⊎ List·Memᴰ x ([] ∷ [])
+        → ((y : List ℕ) → List·Memᴰ y (strings k n) → Lookahead k n y) → Lookahead (suc k) n x
+    go (inl l) f =
+        let r = combine-elim (λ a y. a ∷ y) (numbers n) (strings k n) x l in
+        let h = f (r .1) (r .3) in
+        let i : length (r .1) < suc k = omega (arith, h .0) in
+        rw (r .4) (i, and-make (ltb (r .0) n) (all (λ a. ltb a n) (r .1)) (lt→ltb (r .0) n (numbers-elim n (r .0) (r .2))) (h .1))
+    go (inr l) f = rw (List·Memᴰ·eq-of-singleton l) (omega arith, tt)
+
+module _ (G : Grammar) (k : ℕ) where
+  pub entries-make : (A : ℕ) (x : List ℕ) → A < G .nonterminals → Lookahead k (G .terminals) x → List·Memᴰ (A, x) (entries G k)
+  unfolding entries
+  entries-make A x a l =
+      combine-make {Z = Entry} (λ A x. (A, x)) (numbers (G .nonterminals)) (strings k (G .terminals)) A x
+      (numbers-make (G .nonterminals) A a) (strings-make k (G .terminals) x l)
+
+  pub entries-elim : (e : Entry) → List·Memᴰ e (entries G k) → (e .0 < G .nonterminals) × Lookahead k (G .terminals) (e .1)
+  unfolding entries
+  entries-elim e m =
+      let r = combine-elim {Z = Entry} (λ A x. (A, x)) (numbers (G .nonterminals)) (strings k (G .terminals)) e m in
+      rw (r .4) (numbers-elim (G .nonterminals) (r .0) (r .2), strings-elim k (G .terminals) (r .1) (r .3))
+
+  pub sets-make : (p : Entry → Bool) (A : ℕ) (x : List ℕ) → Lookahead k (G .terminals) x → T (p (A, x)) → List·Memᴰ x (setsOf G k p A)
+  unfolding setsOf
+  sets-make p A x l t = keep-make (λ x. p (A, x)) (strings k (G .terminals)) x (strings-make k (G .terminals) x l) t
+
+  pub sets-elim : (p : Entry → Bool) (A : ℕ) (x : List ℕ) → List·Memᴰ x (setsOf G k p A) → Lookahead k (G .terminals) x × T (p (A, x))
+  unfolding setsOf
+  sets-elim p A x m = let r = keep-elim (λ x. p (A, x)) (strings k (G .terminals)) x m in (strings-elim k (G .terminals) x (r .0), r .1)
+
+-- the law of rounds, for entries of a grammar
+module _ (G : Grammar) (k : ℕ) (Φ : (Entry → Bool) → Entry → Bool) where
+  abbrev built : Entry → Bool
+  built = least sameEntry (entries G k) Φ
+
+  pub entry-lookahead : (A : ℕ) (x : List ℕ) → T (built (A, x)) → (A < G .nonterminals) × Lookahead k (G .terminals) x
+  entry-lookahead A x t =
+      entries-elim G k (A, x) (least-kept sameEntry entries-equality (entries G k) Φ (λ e. List·Memᴰ e (entries G k)) (λ p h e m u. m) (A, x) t)
+
+  pub entry-sets : (A : ℕ) (x : List ℕ) → T (built (A, x)) → List·Memᴰ x (setsOf G k built A)
+  entry-sets A x t = sets-make G k built A x (entry-lookahead A x t .1) t
+
+  pub entry-kept : (F : Family) → ((p : Entry → Bool) → ((A : ℕ) (x : List ℕ) → List·Memᴰ x (setsOf G k p A) → F A x)
+      → (A : ℕ) (x : List ℕ) → Lookahead k (G .terminals) x → T (Φ p (A, x)) → F A x)
+      → (A : ℕ) (x : List ℕ) → T (built (A, x)) → F A x
+  entry-kept F kept A x =
+      least-kept sameEntry entries-equality (entries G k) Φ (λ e. F (e .0) (e .1))
+      (λ p h e m. kept p (λ B y i. h (B, y) (sets-elim G k p B y i .1)) (e .0) (e .1) (entries-elim G k e m .1)) (A, x)
+
+  pub entry-closed : ((p q : Entry → Bool) → p ⊆ q → Φ p ⊆ Φ q)
+      → (A : ℕ) (x : List ℕ) → A < G .nonterminals → Lookahead k (G .terminals) x → T (Φ built (A, x)) → T (built (A, x))
+  entry-closed mono A x a l = least-closed sameEntry entries-equality (entries G k) Φ mono (A, x) (entries-make G k A x a l)
+
+-- a larger test gives larger sets
+pub sets-mono : (G : Grammar) (k : ℕ) (p q : Entry → Bool) → p ⊆ q → (A : ℕ) (x : List ℕ) → List·Memᴰ x (setsOf G k p A) → List·Memᴰ x (setsOf G k q A)
+sets-mono G k p q h A x m = let s = sets-elim G k p A x m in sets-make G k q A x (s .0) (h (A, x) (s .1))
+
+-- one string of each set, one behind the other, and the first k of that
+pub concat-make : (k : ℕ) (us ys : List (List ℕ)) (u y : List ℕ) → List·Memᴰ u us → List·Memᴰ y ys → List·Memᴰ (take k (u ++ y)) (concat k us ys)
+unfolding concat
+concat-make k us ys u y m n = distinct-make sameString strings-equality _ _ (combine-make (λ u y. take k (u ++ y)) us ys u y m n)
+
+pub concat-elim : (k : ℕ) (us ys : List (List ℕ)) (x : List ℕ) → List·Memᴰ x (concat k us ys)
+    → (u : List ℕ) × (y : List ℕ) × List·Memᴰ u us × List·Memᴰ y ys × (x ≡ take k (u ++ y))
+unfolding concat
+concat-elim k us ys x m = combine-elim (λ u y. take k (u ++ y)) us ys x (distinct-elim sameString strings-equality _ x m)
+
+over-append : (n : ℕ) (x y : List ℕ) → Over n x → Over n y → Over n (x ++ y)
+unfolding all
+over-append n [] y h l = l
+over-append n (a ∷ x) y h l =
+    and-make (ltb a n) (all (λ a. ltb a n) (x ++ y)) (and-l (ltb a n) _ h) (over-append n x y (and-r (ltb a n) (all (λ a. ltb a n) x) h) l)
+
+-- the concatenation, cut to k, of strings over n terminals is a lookahead string
+pub cut-lookahead : (k n : ℕ) (x y : List ℕ) → Over n x → Over n y → Lookahead k n (take k (x ++ y))
+cut-lookahead k n x y h l = (take-short k (x ++ y), all-take _ k (x ++ y) (over-append n x y h l))

@@ -1,0 +1,82 @@
+-- The theorems of specs/Theorems, each by citing the file that proves it.
+use mathlib.Core.Path.{refl}
+use native.Mathlib.Omega.{arith}
+use Rattle.semantics.specs.Valuations.{solution}
+use Rattle.semantics.specs.FirstFollow.{First}
+use Rattle.semantics.specs.Descent.{descend}
+use Rattle.semantics.specs.Theorems.{Theorems}
+use Rattle.semantics.proofs.Nullable.{nullable-closed, nullable-least}
+use Rattle.semantics.proofs.LeftRecursion.{leftRecursive-iff, lowestLeftRecursive-some, lowestLeftRecursive-none}
+use Rattle.semantics.proofs.Rank.{rank-falls, rank-below}
+use Rattle.semantics.proofs.Unique.{solution-solves, solution-unique, solution-null}
+use Rattle.semantics.proofs.First.{first-closed, first-least}
+use Rattle.semantics.proofs.FirstNullable.{first-none}
+use Rattle.semantics.proofs.Follow.{follow-least}
+use Rattle.semantics.proofs.Claims.{clashes-elim, clashes-make, table-some, table-none, everyEnds-elim, everyEnds-make}
+use Rattle.semantics.proofs.FirstSound.{first-sound, first-sound-body}
+use Rattle.semantics.proofs.Outcomes.{end-ends}
+use Rattle.semantics.proofs.Ends.{descend-forward, descend-null}
+use Rattle.semantics.proofs.Results.{descend-results, results-unique}
+use Rattle.semantics.proofs.Predictive.{table-own, own-guides}
+use Rattle.semantics.proofs.Verdict.{local-verdict, local-verdict-body, local-verdict-piece, verdict}
+use Rattle.semantics.proofs.Measure.{tokens-then-rank}
+use Rattle.semantics.proofs.Called.{calls-listing, count-listing, count-bound, farthest-most, farthest-called}
+use Rattle.semantics.proofs.Range.{all-ordered}
+use Rattle.semantics.proofs.Memo.{memo-recorded}
+use Rattle.semantics.proofs.Rows.{starred-rows}
+
+pub theorems : Theorems
+theorems = record {
+  one-solution = λ G scoped free w. record {
+    solves = solution-solves G scoped free w;
+    only = λ v s. solution-unique G scoped free w v (solution G w) s (solution-solves G scoped free w);
+  };
+  left-recursion-decided = λ G scoped. record {
+    test = leftRecursive-iff G scoped;
+    lowest = lowestLeftRecursive-some G scoped;
+    absent = lowestLeftRecursive-none G scoped;
+    falls = rank-falls G scoped;
+    below = rank-below G scoped;
+  };
+  least-sets = λ G scoped terminals start k. record {
+    nullable-closed = nullable-closed G scoped;
+    nullable-least = nullable-least G;
+    first = first-least G k scoped;
+    follow = follow-least G k scoped terminals start;
+    nothing = first-none G k scoped;
+    clash = λ A x. (clashes-elim G k A x, clashes-make G k A x);
+    claimed = table-some G k;
+    unclaimed = table-none G k;
+    ends = (everyEnds-elim G k, everyEnds-make G k);
+  };
+  sound-first = λ G scoped free k w over v solves. record {
+    nonterminal = first-sound G scoped free w v solves k (First G k) (first-closed G k scoped) over;
+    body = λ b n i j ij jw. first-sound-body G scoped free w v solves k (First G k) (first-closed G k scoped) over b i j ij jw n;
+    empty = λ A i a iw t. solution-null G scoped free w v solves A i i a (omega arith) iw t refl;
+  };
+  local-verdict = λ G k p w over v solves. record {
+    nonterminal = local-verdict (p .scoped) (p .unrecursive) (own-guides G k p) w over v solves;
+    rest = local-verdict-body (p .scoped) (p .unrecursive) (own-guides G k p) w over v solves;
+    piece = local-verdict-piece (p .scoped) (p .unrecursive) (own-guides G k p) w over v solves;
+  };
+  verdict = λ G k p w over v solves. verdict (p .scoped) (p .unrecursive) (own-guides G k p) w over v solves (p .start);
+  descent-ends = λ G scoped free t own k w. record {
+    unfolds = descend-results G t k w scoped free own;
+    only = results-unique G t k w scoped free own;
+    forward = λ A i j iw e. descend-forward G t k w own A i j iw (end-ends (descend G t k w A i) j e);
+    empty = λ A i iw e. descend-null G t k w own scoped A i i iw refl (end-ends (descend G t k w A i) i e);
+    falls = tokens-then-rank G t k w scoped own free;
+  };
+  calls-counted = λ G scoped free start t own k w. record {
+    listing = calls-listing G t k w scoped free own start;
+    count = count-listing G t k w scoped free own start;
+    bounded = count-bound G t k w scoped free own start;
+    farthest-most = farthest-most G t k w scoped free own start;
+    farthest-called = farthest-called G t k w scoped free own start;
+  };
+  memo-right = λ G scoped free start t own k w fits.
+      let r = memo-recorded G t k w scoped free own fits start in
+      record { outcome = r .0; recorded = r .1; ordered = all-ordered G w };
+  own-entries = table-own;
+  starred-rows = starred-rows;
+}

@@ -1,0 +1,49 @@
+-- What a rule claims, the entries that two rules claim, and the table of a grammar.
+use mathlib.Core.Bool.{Bool, true, false, not, _&&_, _||_}
+use mathlib.Core.List.{List, [], _∷_}
+use mathlib.Core.Option.{Option, none, some}
+use Prim.Native.Nat.{ℕ, suc}
+use lib.Dec.{eqb, ltb}
+use Rattle.grammar.specs.Syntax.{Body, Rule, Grammar}
+use Rattle.semantics.specs.Quantifiers.{any, all}
+use Rattle.semantics.specs.FiniteSets.{member, keep}
+use Rattle.semantics.specs.Families.{Table}
+use Rattle.semantics.specs.FirstFollow.{strings, sameString, concat, Entry, entries, firstSets, firstRule, followSets}
+
+module _ {X : Type 0} (p : X → Bool) where
+  -- two members at different places pass
+  unfoldable pub several : List X → Bool
+  several [] = false
+  several (x ∷ l) = (p x && any p l) || several l
+
+  -- the place of the first member that passes
+  unfoldable pub position : List X → Option ℕ
+  position [] = none
+  position (x ∷ l) = elim (p x) [ true ↦ some 0 | false ↦ elim (position l) [ none ↦ none | some q ↦ some (suc q) ] ]
+
+-- the meeting of the sets of a rule's positive bodies
+unfoldable pub meeting : Grammar → ℕ → Rule → List (List ℕ)
+meeting G k r = keep (firstRule k (firstSets G k) r) (strings k (G .terminals))
+
+-- the strings that a rule claims for its head (document 01: a rule claims columns)
+unfoldable pub claimed : Grammar → ℕ → Rule → List (List ℕ)
+claimed G k r = concat k (meeting G k r) (followSets G k (r .head))
+
+unfoldable pub claims : Grammar → ℕ → Entry → Rule → Bool
+claims G k e r = eqb (r .head) (e .0) && member sameString (claimed G k r) (e .1)
+
+-- the entries that two rules claim, in order (document 01: two rules claim a cell)
+unfoldable pub clashes : Grammar → ℕ → List Entry
+clashes G k = keep (λ e. several (claims G k e) (G .rules)) (entries G k)
+
+-- the number of the rule that claims an entry
+unfoldable pub tableOf : Grammar → ℕ → Table
+tableOf G k A x = position (claims G k (A, x)) (G .rules)
+
+abbrev pub without : List Body → Bool
+without [] = true
+without (b ∷ l) = false
+
+-- a head of a rule without positives is followed by the end alone
+unfoldable pub everyEnds : Grammar → ℕ → Bool
+everyEnds G k = all (λ r. not (without (r .positives)) || (ltb 0 k && all (sameString []) (followSets G k (r .head)))) (G .rules)

@@ -1,0 +1,87 @@
+-- FIRST and FOLLOW families for any lookahead k, what closes them under the rules, and the table that they ask for.
+use mathlib.Core.Path.{_≡_}
+use mathlib.Core.List.{List, [], _∷_, _++_, List·Memᴰ}
+use mathlib.Core.Option.{Option, some}
+use Prim.Native.Nat.{ℕ, _<_}
+use lib.ListN.{take, getElem?}
+use Rattle.grammar.specs.declared.Symbol.{Symbol}
+use Rattle.grammar.specs.declared.Symbol.the-variants.{Terminal, Nonterminal}
+use Rattle.grammar.specs.Syntax.{Body, Rule, Grammar, bodies, TerminalsBelow}
+use Rattle.semantics.specs.Strings.{Lookahead}
+
+-- for each nonterminal a set of lookahead strings
+abbrev pub Family : Type 1
+Family = ℕ → List ℕ → Type 0
+
+-- closed under a condition, and contained in every family that is
+pub record Least (Closed : Family → Type 0) (F : Family) : Type 1 where
+  pub closed : Closed F
+  pub smallest : (F′ : Family) → Closed F′ → (A : ℕ) (x : List ℕ) → F A x → F′ A x
+
+abbrev pub FirstOf : ℕ → Family → Symbol → List ℕ → Type 0
+FirstOf k F (Terminal a) x = x ≡ take k (a ∷ [])
+FirstOf k F (Nonterminal A) x = F A x
+
+-- the concatenation, cut to k, of the sets of a body's symbols (document 01, k = 1: a body strings its symbols' first sets)
+abbrev pub FirstBody : ℕ → Family → Body → List ℕ → Type 0
+FirstBody k F [] x = x ≡ []
+FirstBody k F (X ∷ b) x = (u : List ℕ) × (y : List ℕ) × FirstOf k F X u × FirstBody k F b y × (x ≡ take k (u ++ y))
+
+-- in the set of every positive body
+abbrev pub FirstRule : ℕ → Family → Rule → List ℕ → Type 0
+FirstRule k F r x = (b : Body) → List·Memᴰ b (r .positives) → FirstBody k F b x
+
+abbrev pub FirstClosed : Grammar → ℕ → Family → Type 0
+FirstClosed G k F = (r : Rule) → List·Memᴰ r (G .rules) → (x : List ℕ) → Lookahead k (G .terminals) x → FirstRule k F r x → F (r .head) x
+
+-- behind each nonterminal of a body that y follows: what its rest can begin with, then y
+abbrev pub FollowBody : ℕ → Family → Family → List ℕ → Body → Type 0
+FollowBody k F L y [] = Unit {0}
+FollowBody k F L y (Terminal a ∷ b) = FollowBody k F L y b
+FollowBody k F L y (Nonterminal A ∷ b) = ((u : List ℕ) → FirstBody k F b u → L A (take k (u ++ y))) × FollowBody k F L y b
+
+pub record FollowClosed (G : Grammar) (k : ℕ) (F L : Family) : Type 0 where
+  pub start : L 0 []
+  pub follows : (r : Rule) → List·Memᴰ r (G .rules) → (b : Body) → List·Memᴰ b (bodies r) → (y : List ℕ) → L (r .head) y → FollowBody k F L y b
+
+-- the terminals of the bodies are the grammar's own
+abbrev pub OwnTerminals : Grammar → Type 0
+OwnTerminals G = (r : Rule) → List·Memᴰ r (G .rules) → (b : Body) → List·Memᴰ b (bodies r) → TerminalsBelow (G .terminals) b
+
+-- for a nonterminal and a lookahead string the number of a rule, or none
+abbrev pub Table : Type 0
+Table = ℕ → List ℕ → Option ℕ
+
+-- each entry of a nonterminal is the number of one of its rules
+abbrev pub OwnEntries : Grammar → Table → Type 0
+OwnEntries G t = (A : ℕ) (x : List ℕ) (q : ℕ) → t A x ≡ some q → (r : Rule) × (getElem? (G .rules) q ≡ some r) × (r .head ≡ A)
+
+-- rule q of A claims the string: one that all its positive bodies can begin with, then one that can follow A, cut to k
+-- (document 01: a rule claims columns)
+pub record Claims (G : Grammar) (k : ℕ) (F L : Family) (q A : ℕ) (x : List ℕ) : Type 0 where
+  pub rule : Rule
+  pub numbered : getElem? (G .rules) q ≡ some rule
+  pub heads : rule .head ≡ A
+  pub begins : List ℕ
+  pub lookahead : Lookahead k (G .terminals) begins
+  pub meets : FirstRule k F rule begins
+  pub behind : List ℕ
+  pub follows : L A behind
+  pub makes : x ≡ take k (begins ++ behind)
+
+-- two different rules claim one entry
+pub record Clash (G : Grammar) (k : ℕ) (F L : Family) (A : ℕ) (x : List ℕ) : Type 0 where
+  pub one : ℕ
+  pub other : ℕ
+  pub different : one < other
+  pub claimsOne : Claims G k F L one A x
+  pub claimsOther : Claims G k F L other A x
+
+-- the table has each rule wherever the rule claims an entry
+pub record TableRight (G : Grammar) (k : ℕ) (F L : Family) (t : Table) : Type 0 where
+  pub chooses : (q A : ℕ) (x : List ℕ) → Claims G k F L q A x → t A x ≡ some q
+  pub chosen : OwnEntries G t
+
+-- a rule with no positive body takes all that is left: only the end may follow
+abbrev pub EveryEnds : Grammar → ℕ → Family → Type 0
+EveryEnds G k L = (r : Rule) → List·Memᴰ r (G .rules) → r .positives ≡ [] → (0 < k) × ((y : List ℕ) → L (r .head) y → y ≡ [])

@@ -1,0 +1,58 @@
+-- The memo table (document 01: notebook): its entries, and what they are once the descent has ended.
+use mathlib.Core.Path.{_≡_}
+use mathlib.Core.Bool.{Bool, not}
+use mathlib.Core.List.{List}
+use Prim.Native.Nat.{ℕ, suc, _+_, _*_, _<_}
+use lib.ListN.{length, getD, replicate}
+use lib.Dec.{eqb}
+use Rattle.grammar.specs.Syntax.{Grammar}
+use Rattle.semantics.specs.Quantifiers.{pick}
+use Rattle.semantics.specs.FiniteSets.{keep}
+use Rattle.semantics.specs.Valuations.{pairs}
+use Rattle.semantics.specs.Families.{Table}
+use Rattle.semantics.specs.Descent.{Outcome, Failed, End, descend}
+use Rattle.semantics.specs.ComesTo.{Call, InRange}
+use Rattle.semantics.specs.Calls.{Called, allCalls, calls}
+
+abbrev pub failedCode : ℕ
+failedCode = 65534
+
+abbrev pub uncalledCode : ℕ
+uncalledCode = 65535
+
+-- every place of the input is below the two codes
+abbrev pub Fits : List ℕ → Type 0
+Fits w = length w < failedCode
+
+-- an entry for each pair of a nonterminal and a place
+abbrev pub Memo : Type 0
+Memo = List ℕ
+
+unfoldable pub encode : Outcome → ℕ
+encode Failed = failedCode
+encode (End e) = e
+
+unfoldable pub decode : ℕ → Outcome
+decode v = pick (eqb v failedCode) Failed (End v)
+
+-- a row for each nonterminal, with an entry for each place (document 01: name × (events + 1) + place)
+abbrev pub indexOf : List ℕ → Call → ℕ
+indexOf w x = x .nonterminal * suc (length w) + x .place
+
+abbrev pub entry : List ℕ → Memo → Call → ℕ
+entry w m x = getD m (indexOf w x) uncalledCode
+
+-- before the first call
+abbrev pub blank : Grammar → List ℕ → Memo
+blank G w = replicate (pairs G w) uncalledCode
+
+-- the call has an entry
+abbrev pub written : List ℕ → Memo → Call → Bool
+written w m x = not (eqb (entry w m x) uncalledCode)
+
+-- the memo holds the results of the calls made and nothing else, and so a scan of it gives the calls
+pub record Recorded (G : Grammar) (t : Table) (k : ℕ) (w : List ℕ) (m : Memo) : Type 0 where
+  pub size : length m ≡ pairs G w
+  pub called : (x : Call) → Called G t k w x → entry w m x ≡ encode (descend G t k w (x .nonterminal) (x .place))
+  pub uncalled : (x : Call) → InRange G w x → (Called G t k w x → ⊥) → entry w m x ≡ uncalledCode
+  pub scanned : keep (written w m) (allCalls G w) ≡ calls G t k w

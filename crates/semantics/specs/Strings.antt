@@ -1,0 +1,20 @@
+-- The tokens of a span, the lookahead string at a place, and the strings that a lookahead string can be.
+use mathlib.Core.List.{List}
+use Prim.Native.Nat.{ℕ, _-_, _≤_}
+use lib.ListN.{length, take, drop}
+use lib.Dec.{T, ltb}
+use Rattle.semantics.specs.Quantifiers.{all}
+
+unfoldable pub span : List ℕ → ℕ → ℕ → List ℕ
+span w i j = take (j - i) (drop i w)
+
+-- the first k tokens from i on, fewer at the end
+unfoldable pub look : ℕ → List ℕ → ℕ → List ℕ
+look k w i = take k (drop i w)
+
+-- a string over n terminals
+abbrev pub Over : ℕ → List ℕ → Type 0
+Over n x = T (all (λ a. ltb a n) x)
+
+abbrev pub Lookahead : ℕ → ℕ → List ℕ → Type 0
+Lookahead k n x = (length x ≤ k) × Over n x

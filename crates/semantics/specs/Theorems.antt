@@ -1,0 +1,122 @@
+-- What this crate proves, on one page: nine records of statements, and in the end what each of them needs. All of it is given in proofs/Theorems.
+use mathlib.Core.Path.{_≡_}
+use mathlib.Core.Bool.{true}
+use mathlib.Core.List.{List, [], _∷_, _++_, map, List·Memᴰ}
+use mathlib.Core.Logic.{_↔_}
+use mathlib.Core.Option.{none, some}
+use Prim.Native.Nat.{ℕ, suc, _*_, _≤_, _<_}
+use lib.Dec.{T}
+use lib.ListN.{length, getD, take}
+use Rattle.grammar.specs.declared.Symbol.the-variants.{Nonterminal}
+use Rattle.grammar.specs.Syntax.{Body, Rule, Grammar, bodies, NonterminalsBelow, WellScoped}
+use Rattle.semantics.specs.Rounds.{Set, _⊆_}
+use Rattle.semantics.specs.Valuations.{Valuation, contains, Solves, solution}
+use Rattle.semantics.specs.LeftRecursion.{nullStep, nullable, LeftDepends, LeftReaches, NoLeftRecursion, leftRecursive, lowestLeftRecursive, rank}
+use Rattle.semantics.specs.Strings.{span, look, Over}
+use Rattle.semantics.specs.Families.{Family, Least, FirstBody, FirstClosed, FollowClosed, Claims, Clash, EveryEnds, OwnTerminals, Table, OwnEntries}
+use Rattle.semantics.specs.FirstFollow.{First, Follow}
+use Rattle.semantics.specs.Claims.{clashes, tableOf, everyEnds}
+use Rattle.semantics.specs.Descent.{End, Outcomes, run, Results, descend, accepts}
+use Rattle.semantics.specs.ComesTo.{Call, InRange, callComesTo}
+use Rattle.semantics.specs.Calls.{Called, Listing, allCalls, calls, callCount, farthest}
+use Rattle.semantics.specs.Memo.{indexOf, Recorded, Fits}
+use Rattle.semantics.specs.MemoDescent.{memoStart}
+use Rattle.semantics.specs.Predictive.{Predictive}
+use Rattle.semantics.specs.Rows.{starred, judged}
+
+-- 1. Without left recursion exactly one valuation solves the grammar on an input
+pub record OneSolution (G : Grammar) (w : List ℕ) : Type 0 where
+  pub solves : Solves G w (solution G w)
+  pub only : (v : Valuation) → Solves G w v → (A i j : ℕ) → A < G .nonterminals → i ≤ j → j ≤ length w → v A i j ≡ solution G w A i j
+
+-- 2. Left recursion is decided, with the lowest nonterminal that reaches itself; without it the rank falls along left dependence
+pub record LeftRecursionDecided (G : Grammar) : Type 0 where
+  pub test : (A : ℕ) → T (leftRecursive G A) ↔ LeftReaches G A A
+  pub lowest : (A : ℕ) → (lowestLeftRecursive G ≡ some A) ↔ (LeftReaches G A A × ((B : ℕ) → B < A → LeftReaches G B B → ⊥))
+  pub absent : (lowestLeftRecursive G ≡ none) ↔ NoLeftRecursion G
+  pub falls : NoLeftRecursion G → (A B : ℕ) → LeftDepends G A B → rank G B < rank G A
+  pub below : NoLeftRecursion G → (A : ℕ) → A < G .nonterminals → rank G A < G .nonterminals
+
+-- 3. The sets as computed are least; clashes and the table are as the rules claim
+pub record LeastSets (G : Grammar) (k : ℕ) : Type 1 where
+  pub nullable-closed : nullStep G (nullable G) ⊆ nullable G
+  pub nullable-least : (s : Set) → nullStep G s ⊆ s → nullable G ⊆ s
+  pub first : Least (FirstClosed G k) (First G k)
+  pub follow : Least (FollowClosed G k (First G k)) (Follow G k)
+  pub nothing : 0 < k → (A : ℕ) → First G k A [] ↔ T (nullable G A)
+  pub clash : (A : ℕ) (x : List ℕ) → List·Memᴰ (A, x) (clashes G k) ↔ Clash G k (First G k) (Follow G k) A x
+  pub claimed : clashes G k ≡ [] → (A : ℕ) (x : List ℕ) (q : ℕ) → (tableOf G k A x ≡ some q) ↔ Claims G k (First G k) (Follow G k) q A x
+  pub unclaimed : (A : ℕ) (x : List ℕ) → (tableOf G k A x ≡ none) ↔ ((q : ℕ) → Claims G k (First G k) (Follow G k) q A x → ⊥)
+  pub ends : T (everyEnds G k) ↔ EveryEnds G k (Follow G k)
+
+-- 4. FIRST sets are sound for a solution v: a span begins as its nonterminal or body says, and what derives an empty span is nullable
+pub record SoundFirst (G : Grammar) (k : ℕ) (w : List ℕ) (v : Valuation) : Type 0 where
+  pub nonterminal : (A i j : ℕ) → A < G .nonterminals → i ≤ j → j ≤ length w → T (v A i j) → First G k A (take k (span w i j))
+  pub body : (b : Body) → NonterminalsBelow (G .nonterminals) b → (i j : ℕ) → i ≤ j → j ≤ length w → T (contains v w b i j)
+      → FirstBody k (First G k) b (take k (span w i j))
+  pub empty : (A i : ℕ) → A < G .nonterminals → i ≤ length w → T (v A i i) → T (nullable G A)
+
+-- A called at i ends at m, whose lookahead string can follow A, and the body's rest b runs on to j
+pub record Piece (k : ℕ) (L : Family) (w : List ℕ) (v : Valuation) (c : Outcomes) (A : ℕ) (b : Body) (i m j : ℕ) : Type 0 where
+  pub ends : c A i ≡ End m
+  pub rest : run c w b m ≡ End j
+  pub onward : (i ≤ m) × (m ≤ j)
+  pub follow : L A (look k w m)
+  pub derived : v A i m ≡ true
+
+-- 5. The local verdict for a solution v, where the lookahead string at j can follow: for a nonterminal, for the rest of a body of a rule,
+-- and so for each nonterminal that such a rest begins with
+pub record LocalVerdict (G : Grammar) (k : ℕ) (w : List ℕ) (v : Valuation) : Type 0 where
+  pub nonterminal : (A i j : ℕ) → A < G .nonterminals → i ≤ j → j ≤ length w → Follow G k A (look k w j)
+      → (descend G (tableOf G k) k w A i ≡ End j) ↔ (v A i j ≡ true)
+  pub rest : (r : Rule) → List·Memᴰ r (G .rules) → (front rest : Body) → List·Memᴰ (front ++ rest) (bodies r)
+      → (i j : ℕ) → i ≤ j → j ≤ length w → Follow G k (r .head) (look k w j)
+      → (run (descend G (tableOf G k) k w) w rest i ≡ End j) ↔ (contains v w rest i j ≡ true)
+  pub piece : (r : Rule) → List·Memᴰ r (G .rules) → (front : Body) (A : ℕ) (b : Body) → List·Memᴰ (front ++ (Nonterminal A ∷ b)) (bodies r)
+      → (i j : ℕ) → i ≤ j → j ≤ length w → Follow G k (r .head) (look k w j) → run (descend G (tableOf G k) k w) w (Nonterminal A ∷ b) i ≡ End j
+      → (m : ℕ) × Piece k (Follow G k) w v (descend G (tableOf G k) k w) A b i m j
+
+-- 6. The verdict for a solution v
+abbrev pub Verdict : Grammar → ℕ → List ℕ → Valuation → Type 0
+Verdict G k w v = accepts G (tableOf G k) k w ≡ v 0 0 (length w)
+
+-- 7. The descent ends: its outcomes are what the rules give and the only such ones; from each call to those it makes the tokens left fall, or else
+-- the rank does
+pub record DescentEnds (G : Grammar) (t : Table) (k : ℕ) (w : List ℕ) : Type 0 where
+  pub unfolds : Results G t k w (descend G t k w)
+  pub only : (c : Outcomes) → Results G t k w c → (A i : ℕ) → A < G .nonterminals → i ≤ length w → c A i ≡ descend G t k w A i
+  pub forward : (A i j : ℕ) → i ≤ length w → descend G t k w A i ≡ End j → (i ≤ j) × (j ≤ length w)
+  pub empty : (A i : ℕ) → i ≤ length w → descend G t k w A i ≡ End i → T (nullable G A)
+  pub falls : (x : Call) → InRange G w x → (y : Call) → List·Memᴰ y (callComesTo G t k w x)
+      → InRange G w y × (x .place ≤ y .place) × (y .place ≡ x .place → rank G (y .nonterminal) < rank G (x .nonterminal))
+
+-- 8. The calls are listed, each once; any such list has their number; they are at most one for each nonterminal and place; the farthest place is a call's
+pub record CallsCounted (G : Grammar) (t : Table) (k : ℕ) (w : List ℕ) : Type 0 where
+  pub listing : Listing G t k w (calls G t k w)
+  pub count : (l : List Call) → Listing G t k w l → length l ≡ callCount G t k w
+  pub bounded : callCount G t k w ≤ G .nonterminals * suc (length w)
+  pub farthest-most : (x : Call) → Called G t k w x → x .place ≤ farthest G t k w
+  pub farthest-called : (x : Call) × Called G t k w x × (x .place ≡ farthest G t k w)
+
+-- 9. The memo table changes no outcome, and in the end holds the results of the calls and nothing else; the list of all calls is in its order
+pub record MemoRight (G : Grammar) (t : Table) (k : ℕ) (w : List ℕ) : Type 0 where
+  pub outcome : memoStart G t k w .outcome ≡ descend G t k w 0 0
+  pub recorded : Recorded G t k w (memoStart G t k w .memo)
+  pub ordered : (x z : Call) → InRange G w x → getD (allCalls G w) (indexOf w x) z ≡ x
+
+-- The theorems, with what they need
+pub record Theorems : Type 1 where
+  pub one-solution : (G : Grammar) → WellScoped G → NoLeftRecursion G → (w : List ℕ) → OneSolution G w
+  pub left-recursion-decided : (G : Grammar) → WellScoped G → LeftRecursionDecided G
+  pub least-sets : (G : Grammar) → WellScoped G → OwnTerminals G → 0 < G .nonterminals → (k : ℕ) → LeastSets G k
+  pub sound-first : (G : Grammar) → WellScoped G → NoLeftRecursion G → (k : ℕ) (w : List ℕ) → Over (G .terminals) w
+      → (v : Valuation) → Solves G w v → SoundFirst G k w v
+  pub local-verdict : (G : Grammar) (k : ℕ) → Predictive G k → (w : List ℕ) → Over (G .terminals) w → (v : Valuation) → Solves G w v → LocalVerdict G k w v
+  pub verdict : (G : Grammar) (k : ℕ) → Predictive G k → (w : List ℕ) → Over (G .terminals) w → (v : Valuation) → Solves G w v → Verdict G k w v
+  pub descent-ends : (G : Grammar) → WellScoped G → NoLeftRecursion G → (t : Table) → OwnEntries G t → (k : ℕ) (w : List ℕ) → DescentEnds G t k w
+  pub calls-counted : (G : Grammar) → WellScoped G → NoLeftRecursion G → 0 < G .nonterminals
+      → (t : Table) → OwnEntries G t → (k : ℕ) (w : List ℕ) → CallsCounted G t k w
+  pub memo-right : (G : Grammar) → WellScoped G → NoLeftRecursion G → 0 < G .nonterminals
+      → (t : Table) → OwnEntries G t → (k : ℕ) (w : List ℕ) → Fits w → MemoRight G t k w
+  pub own-entries : (G : Grammar) (k : ℕ) → OwnEntries G (tableOf G k)
+  pub starred-rows : map (λ r. judged (r .grammar) (r .input)) starred ≡ starred
