@@ -30,18 +30,6 @@ pub and-make : (a b : Bool) → T a → T b → T (a && b)
 and-make true b t u = u
 and-make false b t u = t
 
-pub not-and : (a b : Bool) → T (not (a && b)) → T a → T (not b)
-not-and true b t u = t
-not-and false b t u = absurd u
-
-pub not-or-l : (a b : Bool) → T (not (not a || b)) → T a
-not-or-l true b t = tt
-not-or-l false b t = t
-
-pub not-or-r : (a b : Bool) → T (not (a || b)) → T (not b)
-not-or-r true b t = absurd t
-not-or-r false b t = t
-
 pub or-map : (a b b′ : Bool) → (T b → T b′) → T (a || b) → T (a || b′)
 or-map true b b′ f t = tt
 or-map false b b′ f t = f t

@@ -1,56 +1,39 @@
 -- The computed list of the calls holds just the calls, each once; its length is that of any such list, and its farthest place that of a call.
-use mathlib.Core.Bool.{Bool, true, false, _&&_}
-use mathlib.Core.List.{List, [], _∷_, _++_, List·Memᴰ, List·Memᴰ·head, List·Memᴰ·tail, List·Memᴰ·cases-cons, List·Memᴰ·not-nil, Memᴰ·cast}
-use mathlib.Core.List.{List·Memᴰ·append-cases, Memᴰ·append-left, Memᴰ·append-right}
-use mathlib.Core.Logic.{_↔_, _⊎_, inl, inr}
-use mathlib.Core.Path.{_≡_, refl, sym}
-use Prim.Native.Nat.{ℕ, zero, suc, _-_, _≤_, _<_, max}
+use mathlib.Core.List.{List, [], _∷_, List·Memᴰ, List·Memᴰ·head, List·Memᴰ·tail, List·Memᴰ·cases-cons, List·Memᴰ·not-nil}
+use mathlib.Core.List.{flatMap, List·Memᴰ·append-cases, Memᴰ·append-left, Memᴰ·append-right}
+use mathlib.Core.Logic.{_↔_, inl, inr}
+use mathlib.Core.Path.{_≡_, refl}
+use Prim.Native.Nat.{ℕ, zero, suc, _-_, _≤_, _<_}
 use native.Mathlib.Decide.{decLt}
 use native.Mathlib.Omega.{arith}
-use lib.Dec.{T, eqb, eqb→eq, eqb-refl}
+use lib.Dec.{T}
 use lib.ListN.{length}
 use Rattle.grammar.specs.Syntax.{Grammar, WellScoped}
-use Rattle.semantics.specs.Quantifiers.{any}
+use Rattle.semantics.specs.FiniteSets.{member}
 use Rattle.semantics.specs.Valuations.{pairs}
 use Rattle.semantics.specs.LeftRecursion.{NoLeftRecursion}
 use Rattle.semantics.specs.Families.{Table, OwnEntries}
-use Rattle.semantics.specs.Calls.{Call, callAt, InRange, measure, callComesTo, Called, start, more, Listing, gather, callsWithin, sameCall}
-use Rattle.semantics.specs.Calls.{passing, calls, callCount, greatestPlace, farthest}
-use Rattle.semantics.proofs.Booleans.{and-l, and-r, and-make}
-use Rattle.semantics.proofs.Quantified.{any-elim, any-make}
+use Rattle.semantics.specs.ComesTo.{Call, callAt, InRange, measure, callComesTo}
+use Rattle.semantics.specs.Calls.{Called, start, more, Listing, callsWithin, sameCall}
+use Rattle.semantics.specs.Calls.{allCalls, calls, callCount, greatestPlace, farthest}
+use Rattle.semantics.proofs.FiniteSets.{member-mem, mem-member, keep-make, keep-elim}
 use Rattle.semantics.proofs.Rank.{level-top}
 use Rattle.semantics.proofs.Measure.{measure-falls}
-use Rattle.semantics.proofs.Distinct.{distinct-length}
-use Rattle.semantics.proofs.Numbered.{index-range, passing-elim, passing-make, passing-distinct, passing-short}
+use Rattle.semantics.proofs.Distinct.{distinct-length, distinct-keep}
+use Rattle.semantics.proofs.Range.{calls-equality, all-range, all-distinct, all-length}
 
-gather-elim : (f : Call → List Call) (l : List Call) (y : Call) → List·Memᴰ y (gather f l) → (x : Call) × List·Memᴰ x l × List·Memᴰ y (f x)
-unfolding gather
-gather-elim f [] y m = absurd (List·Memᴰ·not-nil m)
-gather-elim f (x ∷ l) y m = elim (List·Memᴰ·append-cases (f x) m) [
+flatMap-elim : (f : Call → List Call) (l : List Call) (y : Call) → List·Memᴰ y (flatMap f l) → (x : Call) × List·Memᴰ x l × List·Memᴰ y (f x)
+unfolding flatMap
+flatMap-elim f [] y m = absurd (List·Memᴰ·not-nil m)
+flatMap-elim f (x ∷ l) y m = elim (List·Memᴰ·append-cases (f x) m) [
   | inl k ↦ (x, List·Memᴰ·head refl, k)
-  | inr k ↦ let r = gather-elim f l y k in (r .0, List·Memᴰ·tail (r .1), r .2)
+  | inr k ↦ let r = flatMap-elim f l y k in (r .0, List·Memᴰ·tail (r .1), r .2)
 ]
 
-gather-make : (f : Call → List Call) (l : List Call) (x y : Call) → List·Memᴰ x l → List·Memᴰ y (f x) → List·Memᴰ y (gather f l)
-unfolding gather
-gather-make f (z ∷ l) x y (List·Memᴰ·head e) m = Memᴰ·append-left (gather f l) (rw e at m)
-gather-make f (z ∷ l) x y (List·Memᴰ·tail k) m = Memᴰ·append-right (f z) (gather-make f l x y k m)
-
-same-call : (x y : Call) → T (sameCall x y) → x ≡ y
-same-call x y t =
-    let a : x .nonterminal ≡ y .nonterminal = eqb→eq (x .nonterminal) (y .nonterminal) (and-l (eqb (x .nonterminal) (y .nonterminal)) _ t) in
-    let b : x .place ≡ y .place = eqb→eq (x .place) (y .place) (and-r (eqb (x .nonterminal) (y .nonterminal)) (eqb (x .place) (y .place)) t) in
-    let s : callAt (x .nonterminal) (x .place) ≡ callAt (y .nonterminal) (y .place) = cc in
-    s
-
-call-same : (x : Call) → T (sameCall x x)
-call-same x = and-make (eqb (x .nonterminal) (x .nonterminal)) (eqb (x .place) (x .place)) (eqb-refl (x .nonterminal)) (eqb-refl (x .place))
-
-member-elim : (l : List Call) (x : Call) → T (any (sameCall x) l) → List·Memᴰ x l
-member-elim l x t = let r = any-elim (sameCall x) l t in Memᴰ·cast (same-call x (r .0) (r .2)) (r .1)
-
-member-make : (l : List Call) (x : Call) → List·Memᴰ x l → T (any (sameCall x) l)
-member-make l x m = any-make (sameCall x) l x m (call-same x)
+flatMap-make : (f : Call → List Call) (l : List Call) (x y : Call) → List·Memᴰ x l → List·Memᴰ y (f x) → List·Memᴰ y (flatMap f l)
+unfolding flatMap
+flatMap-make f (z ∷ l) x y (List·Memᴰ·head e) m = Memᴰ·append-left (flatMap f l) (rw e at m)
+flatMap-make f (z ∷ l) x y (List·Memᴰ·tail k) m = Memᴰ·append-right (f z) (flatMap-make f l x y k m)
 
 greatest-most : (l : List Call) (x : Call) → List·Memᴰ x l → x .place ≤ greatestPlace l
 unfolding greatestPlace
@@ -75,7 +58,7 @@ module _ (G : Grammar) (t : Table) (k : ℕ) (w : List ℕ) where
   within-called (suc n) x y h m = elim (List·Memᴰ·cases-cons m) [
     | inl e ↦ rw e h
     | inr k′ ↦
-        let r = gather-elim (callsWithin G t k w n) (callComesTo G t k w x) y k′ in
+        let r = flatMap-elim (callsWithin G t k w n) (callComesTo G t k w x) y k′ in
         within-called n (r .0) y (more h (r .1)) (r .2)
   ]
 
@@ -93,12 +76,12 @@ module _ (G : Grammar) (t : Table) (k : ℕ) (w : List ℕ) where
     within-closed (suc n) x y z h l m c = elim (List·Memᴰ·cases-cons m) [
       | inl e ↦
           let c′ : List·Memᴰ z (callComesTo G t k w x) = rw e at c in
-          let f = measure-falls G t k w scoped free own x h z c′ in
-          List·Memᴰ·tail (gather-make (callsWithin G t k w n) (callComesTo G t k w x) z z c′ (within-self n z (omega (arith, f .1))))
+          let f = measure-falls G t k w scoped own free x h z c′ in
+          List·Memᴰ·tail (flatMap-make (callsWithin G t k w n) (callComesTo G t k w x) z z c′ (within-self n z (omega (arith, f .1))))
       | inr k′ ↦
-          let r = gather-elim (callsWithin G t k w n) (callComesTo G t k w x) y k′ in
-          let f = measure-falls G t k w scoped free own x h (r .0) (r .1) in
-          List·Memᴰ·tail (gather-make (callsWithin G t k w n) (callComesTo G t k w x) (r .0) z (r .1)
+          let r = flatMap-elim (callsWithin G t k w n) (callComesTo G t k w x) y k′ in
+          let f = measure-falls G t k w scoped own free x h (r .0) (r .1) in
+          List·Memᴰ·tail (flatMap-make (callsWithin G t k w n) (callComesTo G t k w x) (r .0) z (r .1)
           (within-closed n (r .0) y z (f .0) (omega (arith, f .1)) (r .2) c))
     ]
 
@@ -106,7 +89,7 @@ module _ (G : Grammar) (t : Table) (k : ℕ) (w : List ℕ) where
       -- every call is of the grammar and within the input
       pub called-range : (x : Call) → Called G t k w x → InRange G w x
       called-range x start = (nonempty, omega arith)
-      called-range y (more {x = x} h m) = measure-falls G t k w scoped free own x (called-range x h) y m .0
+      called-range y (more {x = x} h m) = measure-falls G t k w scoped own free x (called-range x h) y m .0
 
       all-within : (x : Call) → Called G t k w x → List·Memᴰ x (callsWithin G t k w (pairs G w) (callAt 0 0))
       unfolding measure
@@ -116,18 +99,20 @@ module _ (G : Grammar) (t : Table) (k : ℕ) (w : List ℕ) where
           (all-within x h) m
 
       -- the test by which the computed list is made passes just the calls
-      pub called-test : (x : Call) → T (any (sameCall x) (callsWithin G t k w (pairs G w) (callAt 0 0))) ↔ Called G t k w x
+      pub called-test : (x : Call) → T (member sameCall (callsWithin G t k w (pairs G w) (callAt 0 0)) x) ↔ Called G t k w x
       called-test x =
-          let made = callsWithin G t k w (pairs G w) (callAt 0 0) in
-          (λ u. within-called (pairs G w) (callAt 0 0) x start (member-elim made x u), λ h. member-make made x (all-within x h))
+          let made = callsWithin G t k w (pairs G w) (callAt 0 0) in (
+            λ u. within-called (pairs G w) (callAt 0 0) x start (member-mem sameCall calls-equality made x u),
+            λ h. mem-member sameCall calls-equality made x (all-within x h),
+          )
 
       -- the computed list holds just the calls, each once
       pub calls-listing : Listing G t k w (calls G t k w)
       unfolding calls
       calls-listing = record {
-        distinct = passing-distinct w _ (pairs G w);
-        sound = λ x m. called-test x .0 (passing-elim w _ (pairs G w) x m .2);
-        full = λ x h. let r = called-range x h in passing-make w _ (pairs G w) x (r .1, index-range w G x r, called-test x .1 h);
+        distinct = distinct-keep _ (allCalls G w) (all-distinct G w);
+        sound = λ x m. called-test x .0 (keep-elim _ (allCalls G w) x m .1);
+        full = λ x h. keep-make _ (allCalls G w) x (all-range G w x .1 (called-range x h)) (called-test x .1 h);
       }
 
       -- any list of just the calls, each once, is as long as the count
@@ -141,8 +126,11 @@ module _ (G : Grammar) (t : Table) (k : ℕ) (w : List ℕ) where
 
       -- at most one call for each nonterminal and place
       pub count-bound : callCount G t k w ≤ pairs G w
-      unfolding callCount calls
-      count-bound = passing-short w _ (pairs G w)
+      unfolding callCount
+      count-bound =
+          let c = calls-listing in
+          let h = distinct-length (calls G t k w) (allCalls G w) (c .distinct) (λ x m. all-range G w x .1 (called-range x (c .sound x m))) in
+          omega (arith, all-length G w)
 
       -- no call is beyond the farthest place
       pub farthest-most : (x : Call) → Called G t k w x → x .place ≤ farthest G t k w

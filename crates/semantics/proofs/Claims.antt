@@ -11,14 +11,14 @@ use lib.Dec.{T, eqb, ltb, eqb→eq, eqb-refl, ltb→lt, lt→ltb}
 use Rattle.grammar.specs.Syntax.{Body, Rule, Grammar}
 use Rattle.semantics.specs.Quantifiers.{all}
 use Rattle.semantics.specs.Families.{Claims, Clash, TableRight, EveryEnds}
-use Rattle.semantics.specs.FirstFollow.{strings, sameString, Entry, entries, firstSets, firstRule, First, follow, followSets, Follow}
+use Rattle.semantics.specs.FirstFollow.{strings, sameString, Entry, entries, firstSets, firstRule, First, followSets, Follow}
 use Rattle.semantics.specs.Claims.{meeting, claimed, claims, clashes, tableOf, without, everyEnds}
 use Rattle.semantics.proofs.Booleans.{and-l, and-r, and-make, or-cases}
 use Rattle.semantics.proofs.Quantified.{all-elim, all-make}
 use Rattle.semantics.proofs.FiniteSets.{member-mem, mem-member, keep-make, keep-elim}
-use Rattle.semantics.proofs.LookaheadSets.{strings-equality, strings-make, strings-elim, entries-make, sets-make, sets-elim, concat-make, concat-elim, cut-lookahead}
-use Rattle.semantics.proofs.First.{In, firstBody-mono, firstRule-make, firstRule-elim}
-use Rattle.semantics.proofs.Follow.{first-in, in-first, follow-lookahead}
+use Rattle.semantics.proofs.LookaheadSets.{strings-equality, strings-make, strings-elim, entries-make, concat-make, concat-elim, cut-lookahead}
+use Rattle.semantics.proofs.First.{In, firstBody-mono, firstRule-make, firstRule-elim, in-first, first-in}
+use Rattle.semantics.proofs.Follow.{follow-lookahead, in-follow, follow-in}
 use Rattle.semantics.proofs.Positions.{PassesAt, several-elim, several-make, position-some, position-none}
 
 module _ (G : Grammar) (k : ℕ) where
@@ -30,26 +30,24 @@ module _ (G : Grammar) (k : ℕ) where
   ClashAt = Clash G k (First G k) (Follow G k)
 
   claims-make : (q A : ℕ) (x : List ℕ) → ClaimsAt q A x → PassesAt (claims G k (A, x)) (G .rules) q
-  unfolding claims claimed meeting followSets
+  unfolding claims claimed meeting
   claims-make q A x c =
       let r : Rule = c .rule in
       let u : T (firstRule k (firstSets G k) r (c .begins)) =
       firstRule-make k (firstSets G k) r (c .begins) (λ b m. firstBody-mono k (First G k) (In (firstSets G k)) (in-first G k) b (c .begins) (c .meets b m)) in
       let m = keep-make (firstRule k (firstSets G k) r) (strings k (G .terminals)) (c .begins) (strings-make k (G .terminals) (c .begins) (c .lookahead)) u in
-      let y : Follow G k (r .head) (c .behind) = rw (c .heads) (c .follows) in
-      let n = sets-make G k (follow G k) (r .head) (c .behind) (follow-lookahead G k (r .head) (c .behind) y .1) y in (
-        r,
-        c .numbered,
-        and-make (eqb (r .head) A) _ (rw (c .heads) (eqb-refl A))
-            (mem-member sameString strings-equality (claimed G k r) x (Memᴰ·cast (c .makes) (concat-make k (meeting G k r) (followSets G k (r .head)) (c .begins) (c .behind) m n))),
-      )
+      let n : In (followSets G k) (r .head) (c .behind) = rw (c .heads) (in-follow G k A (c .behind) (c .follows)) in
+      let i = concat-make k (meeting G k r) (followSets G k (r .head)) (c .begins) (c .behind) m n in
+      let named : T (eqb (r .head) A) = rw (c .heads) (eqb-refl A) in
+      (r, c .numbered, and-make (eqb (r .head) A) _ named (mem-member sameString strings-equality (claimed G k r) x (Memᴰ·cast (c .makes) i)))
 
   claims-elim : (q A : ℕ) (x : List ℕ) → PassesAt (claims G k (A, x)) (G .rules) q → ClaimsAt q A x
-  unfolding claims claimed meeting followSets
+  unfolding claims claimed meeting
   claims-elim q A x h =
       let r : Rule = h .0 in
       let e : r .head ≡ A = eqb→eq (r .head) A (and-l (eqb (r .head) A) _ (h .2)) in
-      let c = concat-elim k (meeting G k r) (followSets G k (r .head)) x (member-mem sameString strings-equality (claimed G k r) x (and-r (eqb (r .head) A) _ (h .2))) in
+      let i = member-mem sameString strings-equality (claimed G k r) x (and-r (eqb (r .head) A) _ (h .2)) in
+      let c = concat-elim k (meeting G k r) (followSets G k (r .head)) x i in
       let m = keep-elim (firstRule k (firstSets G k) r) (strings k (G .terminals)) (c .0) (c .2) in
       record {
         rule = r;
@@ -59,7 +57,7 @@ module _ (G : Grammar) (k : ℕ) where
         lookahead = strings-elim k (G .terminals) (c .0) (m .0);
         meets = λ b n. firstBody-mono k (In (firstSets G k)) (First G k) (first-in G k) b (c .0) (firstRule-elim k (firstSets G k) r (c .0) (m .1) b n);
         behind = c .1;
-        follows = subst (λ B. Follow G k B (c .1)) e (sets-elim G k (follow G k) (r .head) (c .1) (c .3) .1);
+        follows = subst (λ B. Follow G k B (c .1)) e (follow-in G k (r .head) (c .1) (c .3));
         makes = c .4;
       }
 
@@ -79,8 +77,10 @@ module _ (G : Grammar) (k : ℕ) where
   pub clashes-make : (A : ℕ) (x : List ℕ) → ClashAt A x → List·Memᴰ (A, x) (clashes G k)
   unfolding clashes
   clashes-make A x c =
+      let one = claims-make (c .one) A x (c .claimsOne) in
+      let other = claims-make (c .other) A x (c .claimsOther) in
       keep-make _ (entries G k) (A, x) (claims-entry (c .one) A x (c .claimsOne))
-      (several-make (claims G k (A, x)) (G .rules) (c .one) (c .other) (c .different) (claims-make (c .one) A x (c .claimsOne)) (claims-make (c .other) A x (c .claimsOther)))
+      (several-make (claims G k (A, x)) (G .rules) (c .one) (c .other) (c .different) one other)
 
   -- either no entry is claimed twice, or the first of the clashes is
   pub clash-decided : ((A : ℕ) (x : List ℕ) → ClashAt A x → ⊥) ⊎ ((A : ℕ) × (x : List ℕ) × ClashAt A x)
@@ -131,23 +131,25 @@ module _ (G : Grammar) (k : ℕ) where
 
   -- the condition on rules without positive bodies is decided
   pub everyEnds-elim : T (everyEnds G k) → EveryEnds G k (Follow G k)
-  unfolding everyEnds followSets
-  everyEnds-elim t r m e = go (or-cases (not (without (r .positives))) (ltb 0 k && all (sameString []) (followSets G k (r .head))) (all-elim _ (G .rules) t r m))
+  unfolding everyEnds
+  everyEnds-elim t r m e = go (or-cases (not (without (r .positives))) (ltb 0 k && all (sameString []) ys) (all-elim _ (G .rules) t r m))
     where
-      go : T (not (without (r .positives))) ⊎ T (ltb 0 k && all (sameString []) (followSets G k (r .head))) → (0 < k) × ((y : List ℕ) → Follow G k (r .head) y → y ≡ [])
+      ys : List (List ℕ)
+      ys = followSets G k (r .head)
+
+      go : T (not (without (r .positives))) ⊎ T (ltb 0 k && all (sameString []) ys) → (0 < k) × ((y : List ℕ) → Follow G k (r .head) y → y ≡ [])
       go (inl n) = absurd (rw e at n)
-      go (inr u) = (
-        ltb→lt 0 k (and-l (ltb 0 k) _ u),
-        λ y f. sym (strings-equality .equal [] y (all-elim (sameString []) (followSets G k (r .head)) (and-r (ltb 0 k) (all (sameString []) (followSets G k (r .head))) u) y
-            (sets-make G k (follow G k) (r .head) y (follow-lookahead G k (r .head) y f .1) f))),
-      )
+      go (inr u) =
+          let only = all-elim (sameString []) ys (and-r (ltb 0 k) (all (sameString []) ys) u) in
+          (ltb→lt 0 k (and-l (ltb 0 k) _ u), λ y f. sym (strings-equality .equal [] y (only y (in-follow G k (r .head) y f))))
 
   pub everyEnds-make : EveryEnds G k (Follow G k) → T (everyEnds G k)
-  unfolding everyEnds followSets
+  unfolding everyEnds
   everyEnds-make h = all-make _ (G .rules) (λ r m. go r (r .positives) refl (h r m))
     where
       go : (r : Rule) (ps : List Body) → r .positives ≡ ps → (r .positives ≡ [] → (0 < k) × ((y : List ℕ) → Follow G k (r .head) y → y ≡ []))
           → T (not (without ps) || (ltb 0 k && all (sameString []) (followSets G k (r .head))))
       go r [] e f = and-make (ltb 0 k) _ (lt→ltb 0 k (f e .0)) (all-make (sameString []) (followSets G k (r .head)) (λ y n.
-          let d : y ≡ [] = f e .1 y (sets-elim G k (follow G k) (r .head) y n .1) in rw d (strings-equality .itself [])))
+          let d : y ≡ [] = f e .1 y (follow-in G k (r .head) y n) in
+          rw d (strings-equality .itself [])))
       go r (b ∷ ps) e f = tt

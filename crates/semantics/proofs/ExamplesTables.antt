@@ -10,7 +10,7 @@ use Rattle.semantics.specs.FiniteSets.{member, numbers}
 use Rattle.semantics.specs.Rounds.{settle}
 use Rattle.semantics.specs.FirstFollow.{strings, sameEntry, entries, firstStep, firstSets, followSets}
 use Rattle.semantics.specs.Claims.{clashes, tableOf, everyEnds}
-use Rattle.semantics.specs.Examples.{grammarR, grammarM, grammarE}
+use Rattle.grammar.specs.Cards.{grammarR, grammarM, grammarE}
 use Rattle.semantics.proofs.Computing.{tables-compute}
 
 -- the number of a set at k = 1: a terminal a weighs 2 ^ a, the empty string 2 ^ 24
@@ -122,3 +122,8 @@ others-sheet = refl
 others-ends : _≡_ {A = List Bool} (everyEnds others 0 ∷ everyEnds others 1 ∷ []) (false ∷ true ∷ [])
 unfolding tables-compute
 others-ends = refl
+
+-- with two tokens such a rule can begin with every string of at most two of the grammar's own terminals
+others-two : firstSets others 2 0 ≡ (0 ∷ 0 ∷ []) ∷ (0 ∷ []) ∷ [] ∷ []
+unfolding tables-compute
+others-two = refl

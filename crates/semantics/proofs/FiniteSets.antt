@@ -89,7 +89,7 @@ module _ {X : Type 0} where
   keep-grows p q (y ∷ l) h = go (p y) (q y) refl refl (keep-grows p q l (λ x m. h x (List·Memᴰ·tail m)))
     where
       go : (a b : Bool) → p y ≡ a → q y ≡ b → length (keep p l) ≤ length (keep q l)
-          → length {A = X} (elim a as (λ _. List X) [ true ↦ y ∷ keep p l | false ↦ keep p l ]) ≤ length {A = X} (elim b as (λ _. List X) [ true ↦ y ∷ keep q l | false ↦ keep q l ])
+          → length {A = X} (elim a [ true ↦ y ∷ keep p l | false ↦ keep p l ]) ≤ length {A = X} (elim b [ true ↦ y ∷ keep q l | false ↦ keep q l ])
       go true true d e i = omega arith
       go true false d e i = absurd (T-subst e (h y (List·Memᴰ·head refl) (true-T (p y) d)))
       go false true d e i = omega arith
@@ -99,10 +99,11 @@ module _ {X : Type 0} where
   unfolding keep
   keep-same p q [] h le x m t = absurd (List·Memᴰ·not-nil m)
   keep-same p q (y ∷ l) h le x m t =
-      go (p y) (q y) refl refl le (keep-grows p q l (λ z n. h z (List·Memᴰ·tail n))) (λ le n. keep-same p q l (λ z n. h z (List·Memᴰ·tail n)) le x n t) (List·Memᴰ·cases-cons m)
+      let rest : Within p q l = λ z n. h z (List·Memᴰ·tail n) in
+      go (p y) (q y) refl refl le (keep-grows p q l rest) (λ le n. keep-same p q l rest le x n t) (List·Memᴰ·cases-cons m)
     where
       go : (a b : Bool) → p y ≡ a → q y ≡ b
-          → length {A = X} (elim b as (λ _. List X) [ true ↦ y ∷ keep q l | false ↦ keep q l ]) ≤ length {A = X} (elim a as (λ _. List X) [ true ↦ y ∷ keep p l | false ↦ keep p l ])
+          → length {A = X} (elim b [ true ↦ y ∷ keep q l | false ↦ keep q l ]) ≤ length {A = X} (elim a [ true ↦ y ∷ keep p l | false ↦ keep p l ])
           → length (keep p l) ≤ length (keep q l) → (length (keep q l) ≤ length (keep p l) → List·Memᴰ x l → T (p x)) → (x ≡ y) ⊎ List·Memᴰ x l → T (p x)
       go true b d e le i f (inl z) = true-T (p x) (ap p z ∙ d)
       go false true d e le i f (inl z) = absurd (omega arith)

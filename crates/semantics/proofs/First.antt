@@ -11,12 +11,12 @@ use Rattle.grammar.specs.Syntax.{Body, Rule, Grammar, WellScoped}
 use Rattle.semantics.specs.Rounds.{_⊆_}
 use Rattle.semantics.specs.Strings.{Lookahead}
 use Rattle.semantics.specs.Families.{Family, Least, FirstOf, FirstBody, FirstRule, FirstClosed}
-use Rattle.semantics.specs.FirstFollow.{sameString, Entry, sameEntry, entries, Sets, setsOf, firstOf, firstBody, firstRule, firstStep, first, First}
+use Rattle.semantics.specs.FirstFollow.{sameString, Entry, Sets, setsOf, firstOf, firstBody, firstRule, firstStep, first, firstSets, First}
 use Rattle.semantics.proofs.Booleans.{and-l, and-r, and-make}
 use Rattle.semantics.proofs.Quantified.{any-elim, any-make, all-elim, all-make}
 use Rattle.semantics.proofs.FiniteSets.{member-mem, mem-member}
-use Rattle.semantics.proofs.Rounds.{least-kept, least-closed}
-use Rattle.semantics.proofs.LookaheadSets.{strings-equality, entries-equality, entries-make, entries-elim, sets-make, sets-elim, concat-make, concat-elim}
+use Rattle.semantics.proofs.LookaheadSets.{strings-equality, sets-elim, sets-mono, concat-make, concat-elim}
+use Rattle.semantics.proofs.LookaheadSets.{entry-lookahead, entry-sets, entry-kept, entry-closed}
 
 -- two least families are one
 pub least-unique : (Closed : Family → Type 0) (F F′ : Family) → Least Closed F → Least Closed F′ → (A : ℕ) (x : List ℕ) → F A x ↔ F′ A x
@@ -71,43 +71,47 @@ module _ (k : ℕ) (s : Sets) where
 module _ (G : Grammar) (k : ℕ) where
   firstStep-make : (p : Entry → Bool) (r : Rule) (x : List ℕ) → List·Memᴰ r (G .rules) → FirstRule k (In (setsOf G k p)) r x → T (firstStep G k p (r .head, x))
   unfolding firstStep
-  firstStep-make p r x m f = any-make _ (G .rules) r m (and-make (eqb (r .head) (r .head)) _ (eqb-refl (r .head)) (firstRule-make k (setsOf G k p) r x f))
+  firstStep-make p r x m f =
+      any-make _ (G .rules) r m (and-make (eqb (r .head) (r .head)) _ (eqb-refl (r .head)) (firstRule-make k (setsOf G k p) r x f))
 
-  pub firstStep-elim : (p : Entry → Bool) (e : Entry) → T (firstStep G k p e)
-      → (r : Rule) × List·Memᴰ r (G .rules) × (r .head ≡ e .0) × FirstRule k (In (setsOf G k p)) r (e .1)
+  pub firstStep-elim : (p : Entry → Bool) (A : ℕ) (x : List ℕ) → T (firstStep G k p (A, x))
+      → (r : Rule) × List·Memᴰ r (G .rules) × (r .head ≡ A) × FirstRule k (In (setsOf G k p)) r x
   unfolding firstStep
-  firstStep-elim p e t =
+  firstStep-elim p A x t =
       let r = any-elim _ (G .rules) t in
-      (r .0, r .1, eqb→eq (r .0 .head) (e .0) (and-l (eqb (r .0 .head) (e .0)) _ (r .2)), firstRule-elim k (setsOf G k p) (r .0) (e .1) (and-r (eqb (r .0 .head) (e .0)) _ (r .2)))
+      let named = and-l (eqb (r .0 .head) A) _ (r .2) in
+      (r .0, r .1, eqb→eq (r .0 .head) A named, firstRule-elim k (setsOf G k p) (r .0) x (and-r (eqb (r .0 .head) A) _ (r .2)))
 
   firstStep-mono : (p q : Entry → Bool) → p ⊆ q → firstStep G k p ⊆ firstStep G k q
   firstStep-mono p q h e t =
-      let r = firstStep-elim p e t in
-      rw (r .2) at (firstStep-make q (r .0) (e .1) (r .1) (λ b m. firstBody-mono k (In (setsOf G k p)) (In (setsOf G k q))
-      (λ A x n. let s = sets-elim G k p A x n in sets-make G k q A x (s .0) (h (A, x) (s .1))) b (e .1) (r .3 b m)))
+      let x : List ℕ = e .1 in
+      let r = firstStep-elim p (e .0) x t in
+      rw (r .2) at (firstStep-make q (r .0) x (r .1) (λ b m. firstBody-mono k (In (setsOf G k p)) (In (setsOf G k q)) (sets-mono G k p q h) b x (r .3 b m)))
 
   -- the members are lookahead strings of the grammar's nonterminals
   pub first-lookahead : (A : ℕ) (x : List ℕ) → First G k A x → (A < G .nonterminals) × Lookahead k (G .terminals) x
   unfolding first
-  first-lookahead A x t =
-      entries-elim G k (A, x) (least-kept sameEntry entries-equality (entries G k) (firstStep G k) (λ e. List·Memᴰ e (entries G k)) (λ s h e m u. m) (A, x) t)
+  first-lookahead = entry-lookahead G k (firstStep G k)
 
-  first-sets : (A : ℕ) (x : List ℕ) → First G k A x → In (setsOf G k (first G k)) A x
-  first-sets A x t = sets-make G k (first G k) A x (first-lookahead A x t .1) t
+  pub in-first : (A : ℕ) (x : List ℕ) → First G k A x → In (firstSets G k) A x
+  unfolding firstSets first
+  in-first = entry-sets G k (firstStep G k)
+
+  pub first-in : (A : ℕ) (x : List ℕ) → In (firstSets G k) A x → First G k A x
+  unfolding firstSets
+  first-in A x m = sets-elim G k (first G k) A x m .1
 
   pub first-closed : WellScoped G → FirstClosed G k (First G k)
-  unfolding first
+  unfolding first firstSets
   first-closed c r m x l f =
-      least-closed sameEntry entries-equality (entries G k) (firstStep G k) firstStep-mono (r .head, x) (entries-make G k (r .head) x (c .heads r m) l)
-      (firstStep-make (first G k) r x m (λ b n. firstBody-mono k (First G k) (In (setsOf G k (first G k))) first-sets b x (f b n)))
+      entry-closed G k (firstStep G k) firstStep-mono (r .head) x (c .heads r m) l
+      (firstStep-make (first G k) r x m (λ b n. firstBody-mono k (First G k) (In (firstSets G k)) in-first b x (f b n)))
 
   pub first-smallest : (F : Family) → FirstClosed G k F → (A : ℕ) (x : List ℕ) → First G k A x → F A x
   unfolding first
-  first-smallest F closed A x =
-      least-kept sameEntry entries-equality (entries G k) (firstStep G k) (λ e. F (e .0) (e .1)) (λ p h e m t.
-      let r = firstStep-elim p e t in
-      rw (r .2) at (closed (r .0) (r .1) (e .1) (entries-elim G k e m .1) (λ b n.
-      firstBody-mono k (In (setsOf G k p)) F (λ B y i. h (B, y) (sets-elim G k p B y i .1)) b (e .1) (r .3 b n)))) (A, x)
+  first-smallest F closed = entry-kept G k (firstStep G k) F (λ p h A x l t.
+      let r = firstStep-elim p A x t in
+      rw (r .2) at (closed (r .0) (r .1) x l (λ b n. firstBody-mono k (In (setsOf G k p)) F h b x (r .3 b n))))
 
   -- FIRST_k is the least family that is closed under the rules
   pub first-least : WellScoped G → Least (FirstClosed G k) (First G k)

@@ -1,5 +1,5 @@
 -- With a token of lookahead, FIRST_k has the empty string just where a nonterminal is nullable.
-use mathlib.Core.List.{List, [], _∷_, _++_}
+use mathlib.Core.List.{List, [], _∷_, _++_, List·Memᴰ}
 use mathlib.Core.Logic.{_↔_}
 use mathlib.Core.Path.{_≡_, refl, sym, ap, _∙_}
 use Prim.Native.Nat.{ℕ, zero, suc, _<_}
@@ -13,12 +13,11 @@ use Rattle.semantics.specs.Quantifiers.{all}
 use Rattle.semantics.specs.Rounds.{Set}
 use Rattle.semantics.specs.LeftRecursion.{allNullable, nullStep, nullable}
 use Rattle.semantics.specs.Families.{Family, FirstBody}
-use Rattle.semantics.specs.FirstFollow.{sameEntry, entries, setsOf, firstStep, first, First}
+use Rattle.semantics.specs.FirstFollow.{setsOf, firstStep, first, First}
 use Rattle.semantics.proofs.Booleans.{and-l, and-r, and-make}
 use Rattle.semantics.proofs.Quantified.{any-elim, any-make, all-elim, all-make}
-use Rattle.semantics.proofs.Rounds.{least-kept}
 use Rattle.semantics.proofs.Nullable.{nullable-least, nullable-closed}
-use Rattle.semantics.proofs.LookaheadSets.{entries-equality, sets-elim}
+use Rattle.semantics.proofs.LookaheadSets.{entry-kept}
 use Rattle.semantics.proofs.First.{In, firstStep-elim, first-closed}
 
 cut-none : (k : ℕ) (u y : List ℕ) → 0 < k → take k (u ++ y) ≡ [] → (u ≡ []) × (y ≡ [])
@@ -49,12 +48,12 @@ none-body k F s n (Nonterminal A ∷ b) t =
 module _ (G : Grammar) (k : ℕ) (c : WellScoped G) where
   first-nullable : 0 < k → (A : ℕ) → First G k A [] → T (nullable G A)
   unfolding first nullStep
-  first-nullable h A t =
-      least-kept sameEntry entries-equality (entries G k) (firstStep G k) (λ e. e .1 ≡ [] → T (nullable G (e .0))) (λ p f e m u d.
-      let r = firstStep-elim G k p e u in
-      nullable-closed G c (e .0) (any-make _ (G .rules) (r .0) (r .1) (and-make (eqb (r .0 .head) (e .0)) _ (rw (r .2) (eqb-refl (e .0)))
-      (all-make (allNullable (nullable G)) (r .0 .positives) (λ b n.
-      body-none k (In (setsOf G k p)) (nullable G) h (λ B i. f (B, []) (sets-elim G k p B [] i .1) refl) b (rw d at (r .3 b n))))))) (A, []) t refl
+  first-nullable h A t = entry-kept G k (firstStep G k) (λ B x. x ≡ [] → T (nullable G B)) (λ p f B x l u e.
+      let r = firstStep-elim G k p B x u in
+      let none : (b : Body) → List·Memᴰ b (r .0 .positives) → T (allNullable (nullable G) b) =
+      λ b n. body-none k (In (setsOf G k p)) (nullable G) h (λ C i. f C [] i refl) b (rw e at (r .3 b n)) in
+      nullable-closed G c B (any-make _ (G .rules) (r .0) (r .1)
+      (and-make (eqb (r .0 .head) B) _ (rw (r .2) (eqb-refl B)) (all-make (allNullable (nullable G)) (r .0 .positives) none)))) A [] t refl
 
   nullable-first : (A : ℕ) → T (nullable G A) → First G k A []
   unfolding nullStep all

@@ -1,4 +1,4 @@
--- A span that a nonterminal derives begins as its FIRST set says, and a nonterminal that derives an empty span is nullable.
+-- A span that a nonterminal derives, or that a body contains, begins as its FIRST set says.
 use mathlib.Core.Bool.{false, _&&_}
 use mathlib.Core.List.{List, [], _∷_, List·Memᴰ, Memᴰ·append-left}
 use mathlib.Core.Path.{_≡_, refl}
@@ -11,12 +11,11 @@ use Rattle.grammar.specs.Syntax.{Body, Rule, Grammar, NonterminalsBelow, WellSc
 use Rattle.grammar.specs.declared.Symbol.the-variants.{Terminal, Nonterminal}
 use Rattle.semantics.specs.Quantifiers.{all}
 use Rattle.semantics.specs.Valuations.{Valuation, contains, derives, byRules, rounds, Solves, solution}
-use Rattle.semantics.specs.LeftRecursion.{allNullable, nullStep, nullable, NoLeftRecursion}
+use Rattle.semantics.specs.LeftRecursion.{NoLeftRecursion}
 use Rattle.semantics.specs.Strings.{span, Over}
 use Rattle.semantics.specs.Families.{Family, FirstBody, FirstRule, FirstClosed}
-use Rattle.semantics.proofs.Booleans.{T-subst, and-l, and-r, and-make}
-use Rattle.semantics.proofs.Quantified.{all-map, all-elim, any-map, any-elim, below-elim}
-use Rattle.semantics.proofs.Nullable.{nullable-closed}
+use Rattle.semantics.proofs.Booleans.{T-subst, and-l, and-r}
+use Rattle.semantics.proofs.Quantified.{all-elim, any-elim, below-elim}
 use Rattle.semantics.proofs.Unique.{solution-solves, solution-unique}
 use Rattle.semantics.proofs.Strings.{take-cut, span-none, span-split, span-cons, all-span, take-short}
 
@@ -29,7 +28,7 @@ module _ (G : Grammar) (c : WellScoped G) (free : NoLeftRecursion G) (w : List �
   after-rounds P h zero A i j a ij jw t = absurd t
   after-rounds P h (suc n) A i j a ij jw t = h (rounds G w n (λ _ _ _. false)) (after-rounds P h n) A i j a ij jw t
 
-  pub by-rounds : (P : ℕ → ℕ → ℕ → Type 0) → ((u : Valuation) → ((A i j : ℕ) → A < G .nonterminals → i ≤ j → j ≤ length w → T (u A i j) → P A i j)
+  by-rounds : (P : ℕ → ℕ → ℕ → Type 0) → ((u : Valuation) → ((A i j : ℕ) → A < G .nonterminals → i ≤ j → j ≤ length w → T (u A i j) → P A i j)
       → (A i j : ℕ) → A < G .nonterminals → i ≤ j → j ≤ length w → T (byRules G w u A i j) → P A i j)
       → (v : Valuation) → Solves G w v → (A i j : ℕ) → A < G .nonterminals → i ≤ j → j ≤ length w → T (v A i j) → P A i j
   unfolding solution
@@ -75,7 +74,7 @@ module _ (G : Grammar) (k : ℕ) (F : Family) (w : List ℕ) (v : Valuation) whe
   rule-first c h i j ij jw r m t b n =
       contains-first h b i j ij jw (c .nonterminals r m b (Memᴰ·append-left (r .negatives) n)) (all-elim (λ b. contains v w b i j) (r .positives) t b n)
 
-  pub byRules-first : WellScoped G → FirstClosed G k F → Over (G .terminals) w → FirstSound
+  byRules-first : WellScoped G → FirstClosed G k F → Over (G .terminals) w → FirstSound
       → (A i j : ℕ) → A < G .nonterminals → i ≤ j → j ≤ length w → T (byRules G w v A i j) → F A (take k (span w i j))
   unfolding byRules derives
   byRules-first c fc ws h A i j a ij jw t =
@@ -85,34 +84,7 @@ module _ (G : Grammar) (k : ℕ) (F : Family) (w : List ℕ) (v : Valuation) whe
       let ps = and-l (all (λ b. contains v w b i j) (R .positives)) _ (and-r (eqb (R .head) A) _ (r .2)) in
       rw e at (fc R (r .1) (take k (span w i j)) (take-short k (span w i j), all-span _ k w i j ws) (rule-first c h i j ij jw R (r .1) ps))
 
--- what derives an empty span is nullable
-abbrev pub NullSound : Grammar → List ℕ → Valuation → Type 0
-NullSound G w v = (A i j : ℕ) → A < G .nonterminals → i ≤ j → j ≤ length w → T (v A i j) → i ≡ j → T (nullable G A)
-
-module _ (G : Grammar) (c : WellScoped G) (w : List ℕ) (v : Valuation) where
-  contains-null : NullSound G w v → (b : Body) (i j : ℕ) → i ≤ j → j ≤ length w → i ≡ j → NonterminalsBelow (G .nonterminals) b → T (contains v w b i j)
-      → T (allNullable (nullable G) b)
-  unfolding contains allNullable
-  contains-null h [] i j ij jw e scoped t = tt
-  contains-null h (Terminal a ∷ b) i j ij jw e scoped t = absurd (omega (arith, ltb→lt i j (and-l (ltb i j) _ t)))
-  contains-null h (Nonterminal A ∷ b) i j ij jw e scoped t =
-      let r = below-elim (suc j) _ t in
-      let m : ℕ = r .0 in
-      let mj : m < suc j = r .1 in
-      let im : i ≤ m = leb→le i m (and-l (leb i m) _ (r .2)) in
-      let rest : T (v A i m && contains v w b m j) = and-r (leb i m) _ (r .2) in
-      and-make (nullable G A) (allNullable (nullable G) b) (h A i m (scoped .0) im (omega arith) (and-l (v A i m) _ rest) (omega arith))
-      (contains-null h b m j (omega arith) jw (omega arith) (scoped .1) (and-r (v A i m) _ rest))
-
-  pub byRules-null : NullSound G w v → (A i j : ℕ) → A < G .nonterminals → i ≤ j → j ≤ length w → T (byRules G w v A i j) → i ≡ j → T (nullable G A)
-  unfolding byRules derives nullStep
-  byRules-null h A i j a ij jw t e = nullable-closed G c A (any-map _ _ (G .rules) (λ r m u.
-      and-make (eqb (r .head) A) (all (allNullable (nullable G)) (r .positives)) (and-l (eqb (r .head) A) _ u)
-      (all-map (λ b. contains v w b i j) (allNullable (nullable G)) (r .positives)
-      (λ b n. contains-null h b i j ij jw e (c .nonterminals r m b (Memᴰ·append-left (r .negatives) n)))
-      (and-l (all (λ b. contains v w b i j) (r .positives)) _ (and-r (eqb (r .head) A) _ u)))) t)
-
--- for every solution: the first k tokens of a span that A derives are in FIRST of A; the same for a body; and what derives an empty span is nullable
+-- for every solution: the first k tokens of a span that A derives are in FIRST of A; the same for a body
 module _ (G : Grammar) (c : WellScoped G) (free : NoLeftRecursion G) (w : List ℕ) (v : Valuation) (solves : Solves G w v) where
   pub first-sound : (k : ℕ) (F : Family) → FirstClosed G k F → Over (G .terminals) w → FirstSound G k F w v
   first-sound k F fc ws = by-rounds G c free w (λ A i j. F A (take k (span w i j))) (λ u h. byRules-first G k F w u c fc ws h) v solves
@@ -120,6 +92,3 @@ module _ (G : Grammar) (c : WellScoped G) (free : NoLeftRecursion G) (w : List �
   pub first-sound-body : (k : ℕ) (F : Family) → FirstClosed G k F → Over (G .terminals) w
       → (b : Body) (i j : ℕ) → i ≤ j → j ≤ length w → NonterminalsBelow (G .nonterminals) b → T (contains v w b i j) → FirstBody k F b (take k (span w i j))
   first-sound-body k F fc ws = contains-first G k F w v (first-sound k F fc ws)
-
-  pub null-sound : NullSound G w v
-  null-sound = by-rounds G c free w (λ A i j. i ≡ j → T (nullable G A)) (λ u h. byRules-null G c w u h) v solves

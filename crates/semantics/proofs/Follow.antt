@@ -2,29 +2,30 @@
 use mathlib.Core.Bool.{Bool, true, false}
 use mathlib.Core.List.{List, [], _∷_, _++_, List·Memᴰ, List·Memᴰ·not-nil, List·Memᴰ·append-cases, Memᴰ·cast, Memᴰ·append-left, Memᴰ·append-right}
 use mathlib.Core.Logic.{_⊎_, inl, inr}
-use mathlib.Core.Path.{_≡_, refl}
+use mathlib.Core.Path.{_≡_, refl, ap}
 use Prim.Native.Nat.{ℕ, _<_}
 use native.Mathlib.Omega.{arith}
 use lib.Dec.{T, eqb, ltb, eqb→eq, eqb-refl, lt→ltb}
 use lib.ListN.{take}
 use Rattle.grammar.specs.declared.Symbol.the-variants.{Terminal, Nonterminal}
 use Rattle.grammar.specs.Syntax.{Body, Rule, Grammar, bodies, NonterminalsBelow, TerminalsBelow, WellScoped}
-use Rattle.semantics.specs.Quantifiers.{any, all}
-use Rattle.semantics.specs.FiniteSets.{member}
+use Rattle.semantics.specs.Quantifiers.{all}
 use Rattle.semantics.specs.Rounds.{_⊆_}
 use Rattle.semantics.specs.Strings.{Over, Lookahead}
 use Rattle.semantics.specs.Families.{Family, Least, FirstBody, FollowBody, FollowClosed, OwnTerminals}
-use Rattle.semantics.specs.FirstFollow.{sameString, concat, Entry, sameEntry, entries, Sets, setsOf, firstBody, first, firstSets, First, behind, followStep, follow, Follow}
+use Rattle.semantics.specs.FirstFollow.{sameString, concat, Entry, sameEntry, Sets, setsOf, firstBody, firstSets, First}
+use Rattle.semantics.specs.FirstFollow.{behind, followStep, follow, followSets, Follow}
 use Rattle.semantics.proofs.Booleans.{true-T, and-make, or-cases, or-l, or-r}
 use Rattle.semantics.proofs.Quantified.{any-elim, any-make}
 use Rattle.semantics.proofs.FiniteSets.{member-mem, mem-member}
-use Rattle.semantics.proofs.Rounds.{least-kept, least-closed}
 use Rattle.semantics.proofs.Strings.{all-take}
-use Rattle.semantics.proofs.LookaheadSets.{strings-equality, entries-equality, entries-make, entries-elim, sets-make, sets-elim, concat-make, concat-elim, cut-lookahead}
-use Rattle.semantics.proofs.First.{In, firstBody-mono, firstBody-make, firstBody-elim, first-lookahead}
+use Rattle.semantics.proofs.LookaheadSets.{strings-equality, entries-equality, sets-elim, sets-mono, concat-make, concat-elim, cut-lookahead}
+use Rattle.semantics.proofs.LookaheadSets.{entry-lookahead, entry-sets, entry-kept, entry-closed}
+use Rattle.semantics.proofs.First.{In, firstBody-mono, firstBody-make, firstBody-elim, first-lookahead, in-first, first-in}
 
 -- a string of the set of a body over n terminals is one over n terminals
-firstBody-over : (k n : ℕ) (F : Family) → ((A : ℕ) (x : List ℕ) → F A x → Over n x) → (b : Body) → TerminalsBelow n b → (x : List ℕ) → FirstBody k F b x → Over n x
+firstBody-over : (k n : ℕ) (F : Family) → ((A : ℕ) (x : List ℕ) → F A x → Over n x) → (b : Body) → TerminalsBelow n b
+    → (x : List ℕ) → FirstBody k F b x → Over n x
 unfolding all
 firstBody-over k n F h [] t x f = rw f tt
 firstBody-over k n F h (Terminal a ∷ b) t x f =
@@ -110,17 +111,15 @@ module _ (G : Grammar) (k : ℕ) where
     pub held : List·Memᴰ body (bodies rule)
     pub stands : List·Memᴰ x (behind k (firstSets G k) A (setsOf G k p (rule .head)) body)
 
-  followStep-elim : (p : Entry → Bool) (e : Entry) → T (followStep G k p e) → (e ≡ (0, [])) ⊎ Behind p (e .0) (e .1)
+  followStep-elim : (p : Entry → Bool) (A : ℕ) (x : List ℕ) → T (followStep G k p (A, x)) → (_≡_ {A = Entry} (A, x) (0, [])) ⊎ Behind p A x
   unfolding followStep
-  followStep-elim p e t = go (or-cases (sameEntry e (0, [])) _ t)
-    where
-      go : T (sameEntry e (0, [])) ⊎ T (any (λ r. any (λ b. member sameString (behind k (firstSets G k) (e .0) (setsOf G k p (r .head)) b) (e .1)) (bodies r)) (G .rules))
-          → (e ≡ (0, [])) ⊎ Behind p (e .0) (e .1)
-      go (inl u) = inl (entries-equality .equal e (0, []) u)
-      go (inr u) =
-          let r = any-elim _ (G .rules) u in
-          let b = any-elim _ (bodies (r .0)) (r .2) in
-          inr (record { rule = r .0; body = b .0; listed = r .1; held = b .1; stands = member-mem sameString strings-equality _ (e .1) (b .2) })
+  followStep-elim p A x t = elim (or-cases (sameEntry (A, x) (0, [])) _ t) [
+    | inl u ↦ inl (entries-equality .equal (A, x) (0, []) u)
+    | inr u ↦
+        let r = any-elim _ (G .rules) u in
+        let b = any-elim _ (bodies (r .0)) (r .2) in
+        inr (record { rule = r .0; body = b .0; listed = r .1; held = b .1; stands = member-mem sameString strings-equality _ x (b .2) })
+  ]
 
   followStep-start : (p : Entry → Bool) → T (followStep G k p (0, []))
   unfolding followStep
@@ -133,64 +132,68 @@ module _ (G : Grammar) (k : ℕ) where
       (mem-member sameString strings-equality _ x (d .stands))))
 
   followStep-mono : (p q : Entry → Bool) → p ⊆ q → followStep G k p ⊆ followStep G k q
-  followStep-mono p q h e t = go (followStep-elim p e t)
-    where
-      go : (e ≡ (0, [])) ⊎ Behind p (e .0) (e .1) → T (followStep G k q e)
-      go (inl d) = rw d (followStep-start q)
-      go (inr d) = followStep-make q (e .0) (e .1) (record {
-        rule = d .rule;
-        body = d .body;
-        listed = d .listed;
-        held = d .held;
-        stands = behind-mono k (firstSets G k) _ _ (λ y m. let s = sets-elim G k p (d .rule .head) y m in sets-make G k q (d .rule .head) y (s .0) (h (d .rule .head, y) (s .1)))
-            (e .0) (d .body) (e .1) (d .stands);
-      })
+  followStep-mono p q h e t = elim (followStep-elim p (e .0) (e .1) t) [
+    | inl d ↦ rw d (followStep-start q)
+    | inr d ↦ followStep-make q (e .0) (e .1) (record {
+      rule = d .rule;
+      body = d .body;
+      listed = d .listed;
+      held = d .held;
+      stands = behind-mono k (firstSets G k) _ _ (sets-mono G k p q h (d .rule .head)) (e .0) (d .body) (e .1) (d .stands);
+    })
+  ]
 
   -- the members are lookahead strings of the grammar's nonterminals
   pub follow-lookahead : (A : ℕ) (x : List ℕ) → Follow G k A x → (A < G .nonterminals) × Lookahead k (G .terminals) x
   unfolding follow
-  follow-lookahead A x t =
-      entries-elim G k (A, x) (least-kept sameEntry entries-equality (entries G k) (followStep G k) (λ e. List·Memᴰ e (entries G k)) (λ s h e m u. m) (A, x) t)
+  follow-lookahead = entry-lookahead G k (followStep G k)
 
-  pub first-in : (A : ℕ) (x : List ℕ) → In (firstSets G k) A x → First G k A x
-  unfolding firstSets
-  first-in A x m = sets-elim G k (first G k) A x m .1
+  pub in-follow : (A : ℕ) (x : List ℕ) → Follow G k A x → In (followSets G k) A x
+  unfolding followSets follow
+  in-follow = entry-sets G k (followStep G k)
 
-  pub in-first : (A : ℕ) (x : List ℕ) → First G k A x → In (firstSets G k) A x
-  unfolding firstSets
-  in-first A x t = sets-make G k (first G k) A x (first-lookahead G k A x t .1) t
+  pub follow-in : (A : ℕ) (x : List ℕ) → In (followSets G k) A x → Follow G k A x
+  unfolding followSets
+  follow-in A x m = sets-elim G k (follow G k) A x m .1
 
   follow-mono : (F F′ L : Family) → ((A : ℕ) (x : List ℕ) → F A x → F′ A x) → (y : List ℕ) (b : Body) → FollowBody k F′ L y b → FollowBody k F L y b
   follow-mono F F′ L h y [] f = tt
   follow-mono F F′ L h y (Terminal a ∷ b) f = follow-mono F F′ L h y b f
   follow-mono F F′ L h y (Nonterminal A ∷ b) f = (λ u i. f .0 u (firstBody-mono k F F′ h b u i), follow-mono F F′ L h y b (f .1))
 
-  pub follow-closed : WellScoped G → OwnTerminals G → 0 < G .nonterminals → FollowClosed G k (First G k) (Follow G k)
-  unfolding follow
-  follow-closed c o n = record {
-    start = least-closed sameEntry entries-equality (entries G k) (followStep G k) followStep-mono (0, []) (entries-make G k 0 [] n (omega arith, none)) (followStep-start (follow G k));
-    follows = λ r m b i y l. follow-mono (First G k) (In (firstSets G k)) (Follow G k) in-first y b
-        (behind-follow k (firstSets G k) (setsOf G k (follow G k) (r .head)) (Follow G k) (G .terminals) (G .nonterminals)
-        (λ A x j. first-lookahead G k A x (first-in A x j) .1 .1) (λ z j. sets-elim G k (follow G k) (r .head) z j .0 .1) b (c .nonterminals r m b i) (o r m b i)
-        (λ A x a v j. least-closed sameEntry entries-equality (entries G k) (followStep G k) followStep-mono (A, x) (entries-make G k A x a v)
-        (followStep-make (follow G k) A x (record { rule = r; body = b; listed = m; held = i; stands = j })))
-        y (sets-make G k (follow G k) (r .head) y (follow-lookahead (r .head) y l .1) l));
-  }
-    where
-      none : Over (G .terminals) []
-      none = unfold all in tt
+  module _ (c : WellScoped G) (own : OwnTerminals G) (n : 0 < G .nonterminals) where
+    follow-start : Follow G k 0 []
+    unfolding follow all
+    follow-start = entry-closed G k (followStep G k) followStep-mono 0 [] n (omega arith, tt) (followStep-start (follow G k))
+
+    follow-follows : (r : Rule) → List·Memᴰ r (G .rules) → (b : Body) → List·Memᴰ b (bodies r) → (y : List ℕ) → Follow G k (r .head) y
+        → FollowBody k (First G k) (Follow G k) y b
+    unfolding follow followSets
+    follow-follows r m b i y l =
+        follow-mono (First G k) (In (firstSets G k)) (Follow G k) (in-first G k) y b
+        (behind-follow k (firstSets G k) (followSets G k (r .head)) (Follow G k) (G .terminals) (G .nonterminals)
+        (λ A x j. first-lookahead G k A x (first-in G k A x j) .1 .1) (λ x j. follow-lookahead (r .head) x (follow-in (r .head) x j) .1 .1)
+        b (c .nonterminals r m b i) (own r m b i) stands y (in-follow (r .head) y l))
+      where
+        stands : (A : ℕ) (x : List ℕ) → A < G .nonterminals → Lookahead k (G .terminals) x
+            → List·Memᴰ x (behind k (firstSets G k) A (followSets G k (r .head)) b) → Follow G k A x
+        stands A x a v j =
+            entry-closed G k (followStep G k) followStep-mono A x a v
+            (followStep-make (follow G k) A x (record { rule = r; body = b; listed = m; held = i; stands = j }))
+
+    pub follow-closed : FollowClosed G k (First G k) (Follow G k)
+    follow-closed = record { start = follow-start; follows = follow-follows }
 
   pub follow-smallest : (L : Family) → FollowClosed G k (First G k) L → (A : ℕ) (x : List ℕ) → Follow G k A x → L A x
   unfolding follow
-  follow-smallest L closed A x = least-kept sameEntry entries-equality (entries G k) (followStep G k) (λ e. L (e .0) (e .1)) kept (A, x)
-    where
-      kept : (p : Entry → Bool) → ((e : Entry) → T (p e) → L (e .0) (e .1)) → (e : Entry) → List·Memᴰ e (entries G k) → T (followStep G k p e) → L (e .0) (e .1)
-      kept p h e m t = elim (followStep-elim p e t) [
-        | inl d ↦ rw d (closed .start)
-        | inr d ↦ follow-behind k (firstSets G k) (setsOf G k p (d .rule .head)) (First G k) L first-in (d .body)
-            (λ y i. closed .follows (d .rule) (d .listed) (d .body) (d .held) y (h (d .rule .head, y) (sets-elim G k p (d .rule .head) y i .1))) (e .0) (e .1) (d .stands)
-      ]
+  follow-smallest L closed = entry-kept G k (followStep G k) L (λ p h A x l t. elim (followStep-elim p A x t) [
+    | inl d ↦ rw (ap {B = ℕ} (λ e. e .0) d, ap {B = List ℕ} (λ e. e .1) d) (closed .start)
+    | inr d ↦
+        let ys = setsOf G k p (d .rule .head) in
+        follow-behind k (firstSets G k) ys (First G k) L (first-in G k) (d .body)
+        (λ y i. closed .follows (d .rule) (d .listed) (d .body) (d .held) y (h (d .rule .head) y i)) A x (d .stands)
+  ])
 
   -- FOLLOW_k is the least family that is closed under the rules over FIRST_k
   pub follow-least : WellScoped G → OwnTerminals G → 0 < G .nonterminals → Least (FollowClosed G k (First G k)) (Follow G k)
-  follow-least c o n = record { closed = follow-closed c o n; smallest = follow-smallest }
+  follow-least c own n = record { closed = follow-closed c own n; smallest = follow-smallest }

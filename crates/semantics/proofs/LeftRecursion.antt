@@ -1,10 +1,10 @@
 -- Left recursion is decided: the tests hold just where the relations do, and the lowest left-recursive nonterminal is found.
-use mathlib.Core.Bool.{Bool, true, false, not, _&&_, _||_}
+use mathlib.Core.Bool.{not, _&&_}
 use mathlib.Core.List.{[], _∷_}
 use mathlib.Core.Logic.{_↔_, _⊎_, inl, inr}
 use mathlib.Core.Option.{none, some}
 use mathlib.Core.Path.{_≡_, refl}
-use Prim.Native.Nat.{ℕ, zero, suc, _<_}
+use Prim.Native.Nat.{ℕ, _<_}
 use lib.Dec.{T, T-not, not-T, eqb, eqb→eq, eqb-refl}
 use Rattle.grammar.specs.Syntax.{Body, Grammar, bodies, NonterminalsBelow, WellScoped}
 use Rattle.grammar.specs.declared.Symbol.the-variants.{Terminal, Nonterminal}
@@ -84,13 +84,13 @@ module _ (G : Grammar) where
       ])
 
   module _ (c : WellScoped G) where
-    pub source-below : (A B : ℕ) → LeftDepends G A B → A < G .nonterminals
+    source-below : (A B : ℕ) → LeftDepends G A B → A < G .nonterminals
     source-below A B d = rw (d .heads) at (c .heads (d .rule) (d .listed))
 
     pub target-below : (A B : ℕ) → LeftDepends G A B → B < G .nonterminals
     target-below A B d = left-below (G .nonterminals) (nullable G) B (d .body) (c .nonterminals (d .rule) (d .listed) (d .body) (d .held)) (d .left)
 
-    pub reacher-below : (A B : ℕ) → LeftReaches G A B → A < G .nonterminals
+    reacher-below : (A B : ℕ) → LeftReaches G A B → A < G .nonterminals
     reacher-below A B (once d) = source-below A B d
     reacher-below A B (more {B = C} p d) = reacher-below A C p
 

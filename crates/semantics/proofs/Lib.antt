@@ -19,11 +19,12 @@ pub mod FirstSound
 pub mod Outcomes
 pub mod Ends
 pub mod Results
+pub mod BodyVerdict
 pub mod Verdict
 pub mod Predictive
 pub mod Measure
 pub mod Distinct
-pub mod Numbered
+pub mod Range
 pub mod Called
 pub mod Plan
 pub mod Written

@@ -1,6 +1,7 @@
 -- Laws of finite sets of lookahead strings: which strings and entries there are, and what a concatenation holds.
 use mathlib.Core.Bool.{Bool}
-use mathlib.Core.List.{List, [], _∷_, _++_, List·Memᴰ, List·Memᴰ·head, List·Memᴰ·append-cases, List·Memᴰ·eq-of-singleton, Memᴰ·append-left, Memᴰ·append-right}
+use mathlib.Core.List.{List, [], _∷_, _++_, List·Memᴰ, List·Memᴰ·head, List·Memᴰ·append-cases, List·Memᴰ·eq-of-singleton}
+use mathlib.Core.List.{Memᴰ·append-left, Memᴰ·append-right}
 use mathlib.Core.Logic.{_⊎_, inl, inr}
 use mathlib.Core.Path.{_≡_, refl}
 use Prim.Native.Nat.{ℕ, zero, suc, _<_}
@@ -10,11 +11,15 @@ use lib.ListN.{length, take}
 use Rattle.grammar.specs.Syntax.{Grammar}
 use Rattle.semantics.specs.Quantifiers.{all}
 use Rattle.semantics.specs.FiniteSets.{numbers, combine}
+use Rattle.semantics.specs.Rounds.{_⊆_, least}
 use Rattle.semantics.specs.Strings.{Over, Lookahead}
+use Rattle.semantics.specs.Families.{Family}
 use Rattle.semantics.specs.FirstFollow.{strings, sameString, concat, Entry, sameEntry, entries, setsOf}
 use Rattle.semantics.proofs.Booleans.{and-l, and-r, and-make}
 use Rattle.semantics.proofs.Strings.{all-take, take-short}
-use Rattle.semantics.proofs.FiniteSets.{Equality, distinct-make, distinct-elim, keep-make, keep-elim, numbers-make, numbers-elim, combine-make, combine-elim}
+use Rattle.semantics.proofs.FiniteSets.{Equality, distinct-make, distinct-elim, keep-make, keep-elim, numbers-make, numbers-elim}
+use Rattle.semantics.proofs.FiniteSets.{combine-make, combine-elim}
+use Rattle.semantics.proofs.Rounds.{least-kept, least-closed}
 
 string-equal : (x y : List ℕ) → T (sameString x y) → x ≡ y
 unfolding sameString
@@ -60,7 +65,8 @@ unfolding strings all
 strings-elim zero n x m = rw (List·Memᴰ·eq-of-singleton m) (omega arith, tt)
 strings-elim (suc k) n x m = go (List·Memᴰ·append-cases (combine (λ a y. a ∷ y) (numbers n) (strings k n)) m) (strings-elim k n)
   where
-    go : List·Memᴰ x (combine (λ a y. a ∷ y) (numbers n) (strings k n)) ⊎ List·Memᴰ x ([] ∷ []) → ((y : List ℕ) → List·Memᴰ y (strings k n) → Lookahead k n y) → Lookahead (suc k) n x
+    go : List·Memᴰ x (combine (λ a y. a ∷ y) (numbers n) (strings k n)) ⊎ List·Memᴰ x ([] ∷ [])
+        → ((y : List ℕ) → List·Memᴰ y (strings k n) → Lookahead k n y) → Lookahead (suc k) n x
     go (inl l) f =
         let r = combine-elim (λ a y. a ∷ y) (numbers n) (strings k n) x l in
         let h = f (r .1) (r .3) in
@@ -72,7 +78,8 @@ module _ (G : Grammar) (k : ℕ) where
   pub entries-make : (A : ℕ) (x : List ℕ) → A < G .nonterminals → Lookahead k (G .terminals) x → List·Memᴰ (A, x) (entries G k)
   unfolding entries
   entries-make A x a l =
-      combine-make {Z = Entry} (λ A x. (A, x)) (numbers (G .nonterminals)) (strings k (G .terminals)) A x (numbers-make (G .nonterminals) A a) (strings-make k (G .terminals) x l)
+      combine-make {Z = Entry} (λ A x. (A, x)) (numbers (G .nonterminals)) (strings k (G .terminals)) A x
+      (numbers-make (G .nonterminals) A a) (strings-make k (G .terminals) x l)
 
   pub entries-elim : (e : Entry) → List·Memᴰ e (entries G k) → (e .0 < G .nonterminals) × Lookahead k (G .terminals) (e .1)
   unfolding entries
@@ -88,6 +95,33 @@ module _ (G : Grammar) (k : ℕ) where
   unfolding setsOf
   sets-elim p A x m = let r = keep-elim (λ x. p (A, x)) (strings k (G .terminals)) x m in (strings-elim k (G .terminals) x (r .0), r .1)
 
+-- the law of rounds, for entries of a grammar
+module _ (G : Grammar) (k : ℕ) (Φ : (Entry → Bool) → Entry → Bool) where
+  abbrev built : Entry → Bool
+  built = least sameEntry (entries G k) Φ
+
+  pub entry-lookahead : (A : ℕ) (x : List ℕ) → T (built (A, x)) → (A < G .nonterminals) × Lookahead k (G .terminals) x
+  entry-lookahead A x t =
+      entries-elim G k (A, x) (least-kept sameEntry entries-equality (entries G k) Φ (λ e. List·Memᴰ e (entries G k)) (λ p h e m u. m) (A, x) t)
+
+  pub entry-sets : (A : ℕ) (x : List ℕ) → T (built (A, x)) → List·Memᴰ x (setsOf G k built A)
+  entry-sets A x t = sets-make G k built A x (entry-lookahead A x t .1) t
+
+  pub entry-kept : (F : Family) → ((p : Entry → Bool) → ((A : ℕ) (x : List ℕ) → List·Memᴰ x (setsOf G k p A) → F A x)
+      → (A : ℕ) (x : List ℕ) → Lookahead k (G .terminals) x → T (Φ p (A, x)) → F A x)
+      → (A : ℕ) (x : List ℕ) → T (built (A, x)) → F A x
+  entry-kept F kept A x =
+      least-kept sameEntry entries-equality (entries G k) Φ (λ e. F (e .0) (e .1))
+      (λ p h e m. kept p (λ B y i. h (B, y) (sets-elim G k p B y i .1)) (e .0) (e .1) (entries-elim G k e m .1)) (A, x)
+
+  pub entry-closed : ((p q : Entry → Bool) → p ⊆ q → Φ p ⊆ Φ q)
+      → (A : ℕ) (x : List ℕ) → A < G .nonterminals → Lookahead k (G .terminals) x → T (Φ built (A, x)) → T (built (A, x))
+  entry-closed mono A x a l = least-closed sameEntry entries-equality (entries G k) Φ mono (A, x) (entries-make G k A x a l)
+
+-- a larger test gives larger sets
+pub sets-mono : (G : Grammar) (k : ℕ) (p q : Entry → Bool) → p ⊆ q → (A : ℕ) (x : List ℕ) → List·Memᴰ x (setsOf G k p A) → List·Memᴰ x (setsOf G k q A)
+sets-mono G k p q h A x m = let s = sets-elim G k p A x m in sets-make G k q A x (s .0) (h (A, x) (s .1))
+
 -- one string of each set, one behind the other, and the first k of that
 pub concat-make : (k : ℕ) (us ys : List (List ℕ)) (u y : List ℕ) → List·Memᴰ u us → List·Memᴰ y ys → List·Memᴰ (take k (u ++ y)) (concat k us ys)
 unfolding concat
@@ -101,7 +135,8 @@ concat-elim k us ys x m = combine-elim (λ u y. take k (u ++ y)) us ys x (distin
 over-append : (n : ℕ) (x y : List ℕ) → Over n x → Over n y → Over n (x ++ y)
 unfolding all
 over-append n [] y h l = l
-over-append n (a ∷ x) y h l = and-make (ltb a n) (all (λ a. ltb a n) (x ++ y)) (and-l (ltb a n) _ h) (over-append n x y (and-r (ltb a n) (all (λ a. ltb a n) x) h) l)
+over-append n (a ∷ x) y h l =
+    and-make (ltb a n) (all (λ a. ltb a n) (x ++ y)) (and-l (ltb a n) _ h) (over-append n x y (and-r (ltb a n) (all (λ a. ltb a n) x) h) l)
 
 -- the concatenation, cut to k, of strings over n terminals is a lookahead string
 pub cut-lookahead : (k n : ℕ) (x y : List ℕ) → Over n x → Over n y → Lookahead k n (take k (x ++ y))

@@ -10,14 +10,14 @@ use lib.Dec.{T, ltb, eqb, ltb→lt, eqb-refl}
 use lib.ListN.{length, getD}
 use Rattle.grammar.specs.Syntax.{Body, Rule, Grammar, bodies, NonterminalsBelow, WellScoped}
 use Rattle.grammar.specs.declared.Symbol.the-variants.{Terminal, Nonterminal}
-use Rattle.semantics.specs.LeftRecursion.{nullable, LeftIn, here, there, LeftDepends, NoLeftRecursion}
+use Rattle.semantics.specs.LeftRecursion.{nullable, LeftIn, here, there, LeftDepends, NoLeftRecursion, rank}
 use Rattle.semantics.specs.Strings.{look}
 use Rattle.semantics.specs.Families.{Table, OwnEntries}
 use Rattle.semantics.specs.Descent.{Outcome, Failed, End, endsAt, guard, Outcomes, read, run, select, descend}
-use Rattle.semantics.specs.Calls.{Call, InRange, measure, fromEnd, when, bodyComesTo, negativesComeTo, positivesComeTo, ruleComesTo}
-use Rattle.semantics.specs.Calls.{selectedComesTo, callComesTo}
+use Rattle.semantics.specs.ComesTo.{Call, InRange, measure, fromEnd, when, bodyComesTo, negativesComeTo, positivesComeTo, ruleComesTo}
+use Rattle.semantics.specs.ComesTo.{selectedComesTo, callComesTo}
 use Rattle.semantics.proofs.Booleans.{and-l}
-use Rattle.semantics.proofs.Rank.{level-onward}
+use Rattle.semantics.proofs.Rank.{rank-falls, level-onward}
 use Rattle.semantics.proofs.Outcomes.{guard-elim}
 use Rattle.semantics.proofs.Ends.{Forward, EmptyNull, selected, descend-forward, descend-null}
 
@@ -26,6 +26,7 @@ fromEnd-elim Failed f x m = absurd (List·Memᴰ·not-nil m)
 fromEnd-elim (End j) f x m = (j, eqb-refl j, m)
 
 when-elim : (b : Bool) (l : List Call) (x : Call) → List·Memᴰ x (when b l) → List·Memᴰ x l
+unfolding when
 when-elim true l x m = m
 when-elim false l x m = absurd (List·Memᴰ·not-nil m)
 
@@ -39,7 +40,7 @@ module _ (c : Outcomes) (w : List ℕ) (i : ℕ) (Q : Call → Type 0) where
   negatives-in e [] h x m = absurd (List·Memᴰ·not-nil m)
   negatives-in e (b ∷ ns) h x m = elim (List·Memᴰ·append-cases (bodyComesTo c w b i) m) [
     | inl n ↦ h b (List·Memᴰ·head refl) x n
-    | inr n ↦ negatives-in e ns (λ b′ k. h b′ (List·Memᴰ·tail k)) x (when-elim (not (endsAt (run c w b i) e)) _ x n)
+    | inr n ↦ negatives-in e ns (λ b′ k. h b′ (List·Memᴰ·tail k)) x (when-elim _ _ x n)
   ]
 
   positives-in : (e : ℕ) (ps ns : List Body) → Bodies (ps ++ ns) → (x : Call) → List·Memᴰ x (positivesComeTo c w i e ps ns) → Q x
@@ -47,7 +48,7 @@ module _ (c : Outcomes) (w : List ℕ) (i : ℕ) (Q : Call → Type 0) where
   positives-in e [] ns h x m = negatives-in e ns h x m
   positives-in e (b ∷ ps) ns h x m = elim (List·Memᴰ·append-cases (bodyComesTo c w b i) m) [
     | inl n ↦ h b (List·Memᴰ·head refl) x n
-    | inr n ↦ positives-in e ps ns (λ b′ k. h b′ (List·Memᴰ·tail k)) x (when-elim (endsAt (run c w b i) e) _ x n)
+    | inr n ↦ positives-in e ps ns (λ b′ k. h b′ (List·Memᴰ·tail k)) x (when-elim _ _ x n)
   ]
 
   rule-in : (n : ℕ) (ps ns : List Body) → Bodies (ps ++ ns) → (x : Call) → List·Memᴰ x (ruleComesTo c w n ps ns i) → Q x
@@ -88,18 +89,32 @@ module _ (G : Grammar) (w : List ℕ) (c : Outcomes) (forward : Forward w c) (em
         body-low b (s .0) (omega arith) (omega arith) (scoped .1) (λ e C l. front (omega arith) C (there (empty A i (s .0) iw (omega arith) (s .1)) l)) x (s .2)
   ]
 
-module _ (G : Grammar) (t : Table) (k : ℕ) (w : List ℕ) (scoped : WellScoped G) (free : NoLeftRecursion G) (own : OwnEntries G t) where
-  -- each call that a call's rule comes to is in range and of a lower measure
-  pub measure-falls : (x : Call) → InRange G w x → (y : Call) → List·Memᴰ y (callComesTo G t k w x) → InRange G w y × (measure G w y < measure G w x)
-  unfolding callComesTo measure
-  measure-falls x h y m =
+module _ (G : Grammar) (t : Table) (k : ℕ) (w : List ℕ) (scoped : WellScoped G) (own : OwnEntries G t) where
+  -- each call that a call's rule comes to is in range, and lies farther on, or at the same place at the left of one of its bodies
+  comes-onward : (x : Call) → InRange G w x → (y : Call) → List·Memᴰ y (callComesTo G t k w x)
+      → InRange G w y × (x .place ≤ y .place) × (y .place ≡ x .place → LeftDepends G (x .nonterminal) (y .nonterminal))
+  unfolding callComesTo
+  comes-onward x h y m =
       let c : Outcomes = descend G t k w in
       let forward = descend-forward G t k w own in
       let null = descend-null G t k w own scoped in
-      let low = Low G w c forward null (x .nonterminal) (x .place) in
-      let l : low y = chosen-in c w (x .place) low (select G (t (x .nonterminal) (look k w (x .place))))
+      chosen-in c w (x .place) (Low G w c forward null (x .nonterminal) (x .place)) (select G (t (x .nonterminal) (look k w (x .place))))
       (λ r e b n.
       let s = selected G t k w own (x .nonterminal) (look k w (x .place)) r e in
       body-low G w c forward null (x .nonterminal) (x .place) b (x .place) (omega arith) (h .1) (scoped .nonterminals r (s .0) b n)
-      (λ _ A z. record { rule = r; body = b; listed = s .0; heads = s .1; held = n; left = z })) y m in
-      (l .0, level-onward G scoped free (x .nonterminal) (y .nonterminal) (length w) (x .place) (y .place) (l .0 .0) (l .1) (l .0 .1) (l .2))
+      (λ _ A z. record { rule = r; body = b; listed = s .0; heads = s .1; held = n; left = z })) y m
+
+  module _ (free : NoLeftRecursion G) where
+    -- the tokens left fall from a call to one that it makes, or else the rank does
+    pub tokens-then-rank : (x : Call) → InRange G w x → (y : Call) → List·Memᴰ y (callComesTo G t k w x)
+        → InRange G w y × (x .place ≤ y .place) × (y .place ≡ x .place → rank G (y .nonterminal) < rank G (x .nonterminal))
+    tokens-then-rank x h y m =
+        let l = comes-onward x h y m in
+        (l .0, l .1, λ e. rank-falls G scoped free (x .nonterminal) (y .nonterminal) (l .2 e))
+
+    -- and so the measure falls
+    pub measure-falls : (x : Call) → InRange G w x → (y : Call) → List·Memᴰ y (callComesTo G t k w x) → InRange G w y × (measure G w y < measure G w x)
+    unfolding measure
+    measure-falls x h y m =
+        let l = comes-onward x h y m in
+        (l .0, level-onward G scoped free (x .nonterminal) (y .nonterminal) (length w) (x .place) (y .place) (l .0 .0) (l .1) (l .0 .1) (l .2))

@@ -1,5 +1,6 @@
 -- The descent with a memo table gives the start's result, and its memo in the end records just the calls made.
-use mathlib.Core.List.{List, [], _∷_, List·Memᴰ·head}
+use mathlib.Core.Bool.{Bool, true, false, true≢false, false≢true}
+use mathlib.Core.List.{List, [], _∷_, List·Memᴰ, List·Memᴰ·head, List·Memᴰ·tail}
 use mathlib.Core.Logic.{inl, inr}
 use mathlib.Core.Path.{_≡_, refl, ap}
 use Prim.Native.Nat.{ℕ, suc, _-_, _≤_, _<_}
@@ -7,17 +8,33 @@ use native.Mathlib.Omega.{arith}
 use lib.Dec.{T, T-not, eqb, eqb→eq}
 use lib.ListN.{length, length-replicate, getD-replicate}
 use Rattle.grammar.specs.Syntax.{Grammar, WellScoped}
+use Rattle.semantics.specs.FiniteSets.{keep}
 use Rattle.semantics.specs.Valuations.{pairs}
 use Rattle.semantics.specs.LeftRecursion.{NoLeftRecursion}
 use Rattle.semantics.specs.Families.{Table, OwnEntries}
 use Rattle.semantics.specs.Descent.{descend}
-use Rattle.semantics.specs.Calls.{Call, callAt, callOf, InRange, measure, indexOf, Called, start, more, passing, calls}
-use Rattle.semantics.specs.Memo.{Memo, memoCall, memoStart, entry, blank, written, Recorded, Fits, uncalledCode}
+use Rattle.semantics.specs.ComesTo.{Call, callAt, measure}
+use Rattle.semantics.specs.Calls.{Called, start, more, allCalls, calls}
+use Rattle.semantics.specs.Memo.{Memo, indexOf, entry, blank, written, Recorded, Fits, uncalledCode}
+use Rattle.semantics.specs.MemoDescent.{memoCall, memoStart}
 use Rattle.semantics.proofs.Booleans.{both, test}
 use Rattle.semantics.proofs.Rank.{level-top}
-use Rattle.semantics.proofs.Numbered.{index-range, range-index, call-index, passing-same}
+use Rattle.semantics.proofs.Range.{index-range, all-range}
 use Rattle.semantics.proofs.Called.{called-test}
 use Rattle.semantics.proofs.Written.{Has, Sound, Good, good-calls}
+
+-- tests that agree on a list keep the same of it
+keep-cong : (p q : Call → Bool) (l : List Call) → ((x : Call) → List·Memᴰ x l → p x ≡ q x) → keep p l ≡ keep q l
+unfolding keep
+keep-cong p q [] h = refl
+keep-cong p q (x ∷ l) h = go (p x) (q x) (h x (List·Memᴰ·head refl)) (keep-cong p q l (λ y m. h y (List·Memᴰ·tail m)))
+  where
+    go : (b c : Bool) → b ≡ c → keep p l ≡ keep q l
+        → _≡_ {A = List Call} (elim b [ true ↦ x ∷ keep p l | false ↦ keep p l ]) (elim c [ true ↦ x ∷ keep q l | false ↦ keep q l ])
+    go true true e r = ap {B = List Call} (λ s. x ∷ s) r
+    go true false e r = absurd (true≢false e)
+    go false true e r = absurd (false≢true e)
+    go false false e r = r
 
 module _ (G : Grammar) (t : Table) (k : ℕ) (w : List ℕ) (scoped : WellScoped G) (free : NoLeftRecursion G) (own : OwnEntries G t) (fits : Fits w) where
   -- the memo table changes no outcome: from entries that hold results, a call gives its result and leaves such entries
@@ -29,7 +46,7 @@ module _ (G : Grammar) (t : Table) (k : ℕ) (w : List ℕ) (scoped : WellScoped
 
   blank-none : (x : Call) → Has G w (blank G w) x → ⊥
   blank-none x h =
-      let e : entry w (blank G w) x ≡ uncalledCode = getD-replicate (pairs G w) (indexOf w x) uncalledCode uncalledCode (index-range w G x (h .0)) in
+      let e : entry w (blank G w) x ≡ uncalledCode = getD-replicate (pairs G w) (indexOf w x) uncalledCode uncalledCode (index-range G w x (h .0)) in
       T-not (eqb (entry w (blank G w) x) uncalledCode) (h .1) (rw e tt)
 
   module _ (nonempty : 0 < G .nonterminals) (n : ℕ) (deep : measure G w (callAt 0 0) < n) where
@@ -60,12 +77,9 @@ module _ (G : Grammar) (t : Table) (k : ℕ) (w : List ℕ) (scoped : WellScoped
           | inl u ↦ eqb→eq (entry w last x) uncalledCode u
           | inr u ↦ absurd (h (written-called x (ranged, u)))
         ];
-        scanned = passing-same w _ _ (pairs G w) (λ m l.
-            let x = callOf w m in
-            let d = call-index w m in
-            let ranged = range-index w G x (d .0) (rw (d .1) l) in
+        scanned = keep-cong _ _ (allCalls G w) (λ x m.
             let iff = called-test G t k w scoped free own nonempty x in
-            both _ _ (λ u. iff .1 (written-called x (ranged, u))) (λ u. called-written x (iff .0 u) .1));
+            both _ _ (λ u. iff .1 (written-called x (all-range G w x .0 m, u))) (λ u. called-written x (iff .0 u) .1));
       },
     )
 

@@ -45,4 +45,5 @@ module _ (G : Grammar) where
     pub nullable-closed : nullStep G (nullable G) ⊆ nullable G
     unfolding nullable
     nullable-closed A t =
-        least-closed eqb numbers-equality (numbers (G .nonterminals)) (nullStep G) nullStep-mono A (numbers-make (G .nonterminals) A (head-below (nullable G) A t)) t
+        let m = numbers-make (G .nonterminals) A (head-below (nullable G) A t) in
+        least-closed eqb numbers-equality (numbers (G .nonterminals)) (nullStep G) nullStep-mono A m t

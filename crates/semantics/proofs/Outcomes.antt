@@ -37,7 +37,7 @@ pub guard-elim : (x : Bool) (e j : ℕ) → T (endsAt (guard x e) j) → T x × 
 guard-elim true e j t = (tt, eqb→eq e j t)
 guard-elim false e j t = absurd t
 
-pub guard-make : (x : Bool) (e : ℕ) → T x → T (endsAt (guard x e) e)
+guard-make : (x : Bool) (e : ℕ) → T x → T (endsAt (guard x e) e)
 guard-make true e t = eqb-refl e
 guard-make false e t = t
 

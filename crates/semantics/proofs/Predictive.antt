@@ -1,5 +1,4 @@
 -- A grammar's own families and its own table are guides for the descent.
-use mathlib.Core.Path.{_≡_}
 use Prim.Native.Nat.{ℕ}
 use Rattle.grammar.specs.Syntax.{Grammar}
 use Rattle.semantics.specs.Families.{OwnEntries}

@@ -9,7 +9,7 @@ use native.Mathlib.Decide.{decLt, ℕ-discrete}
 use native.Mathlib.Omega.{arith}
 use lib.Dec.{T, T-not, not-T}
 use Rattle.semantics.specs.Quantifiers.{pick, one, below, all, count, any, lowest}
-use Rattle.semantics.proofs.Booleans.{T-true, T-false, or-r, or-cases, and-make, not-and, and-l, test, and-r, or-l}
+use Rattle.semantics.proofs.Booleans.{T-true, T-false, or-r, or-cases, and-make, and-l, test, and-r, or-l}
 
 module _ {A : Type 0} where
   pub any-cong : (p q : A → Bool) (l : List A) → ((x : A) → List·Memᴰ x l → p x ≡ q x) → any p l ≡ any q l
@@ -57,15 +57,6 @@ module _ {A : Type 0} where
   unfolding all
   all-make p [] h = tt
   all-make p (x ∷ xs) h = and-make (p x) (all p xs) (h x (List·Memᴰ·head refl)) (all-make p xs (λ y m. h y (List·Memᴰ·tail m)))
-
-  pub not-all : (p : A → Bool) (l : List A) → T (not (all p l)) → (x : A) × List·Memᴰ x l × T (not (p x))
-  unfolding all
-  not-all p [] t = absurd t
-  not-all p (x ∷ xs) t = go (test (p x)) (not-all p xs)
-    where
-      go : T (p x) ⊎ T (not (p x)) → (T (not (all p xs)) → (y : A) × List·Memᴰ y xs × T (not (p y))) → (y : A) × List·Memᴰ y (x ∷ xs) × T (not (p y))
-      go (inr a) f = (x, List·Memᴰ·head refl, a)
-      go (inl a) f = let r = f (not-and (p x) (all p xs) t a) in (r .0, List·Memᴰ·tail (r .1), r .2)
 
   pub any-elim : (p : A → Bool) (l : List A) → T (any p l) → (x : A) × List·Memᴰ x l × T (p x)
   unfolding any
@@ -129,12 +120,12 @@ one-full : (b : Bool) → 1 ≤ one b → T b
 one-full true h = tt
 one-full false h = absurd (omega arith)
 
-pub count-le : (n : ℕ) (p : ℕ → Bool) → count n p ≤ n
+count-le : (n : ℕ) (p : ℕ → Bool) → count n p ≤ n
 unfolding count
 count-le zero p = omega arith
 count-le (suc n) p = omega (arith, one-le (p n), count-le n p)
 
-pub count-mono : (n : ℕ) (p q : ℕ → Bool) → ((m : ℕ) → T (p m) → T (q m)) → count n p ≤ count n q
+count-mono : (n : ℕ) (p q : ℕ → Bool) → ((m : ℕ) → T (p m) → T (q m)) → count n p ≤ count n q
 unfolding count
 count-mono zero p q h = omega arith
 count-mono (suc n) p q h = omega (arith, one-mono (p n) (q n) (h n), count-mono n p q h)
@@ -148,7 +139,7 @@ count-lt (suc n) p q h m l f g = go (ℕ-discrete m n) (count-lt n p q h m)
     go (yes e) r = omega (arith, one-lt (p n) (q n) (rw e at f) (rw e at g), count-mono n p q h)
     go (no e) r = omega (arith, one-mono (p n) (q n) (h n), r (omega arith) f g)
 
-pub count-full : (n : ℕ) (p : ℕ → Bool) → n ≤ count n p → (m : ℕ) → m < n → T (p m)
+count-full : (n : ℕ) (p : ℕ → Bool) → n ≤ count n p → (m : ℕ) → m < n → T (p m)
 unfolding count
 count-full zero p h m l = absurd (omega arith)
 count-full (suc n) p h m l = go (ℕ-discrete m n) (count-full n p)

@@ -9,17 +9,9 @@ use lib.Dec.{not-T}
 use lib.ListN.{length}
 use Rattle.grammar.specs.Syntax.{Grammar, WellScoped}
 use Rattle.semantics.specs.Valuations.{pairs}
-use Rattle.semantics.specs.LeftRecursion.{LeftDepends, LeftReaches, once, more, NoLeftRecursion, leftReaches, rank, level}
+use Rattle.semantics.specs.LeftRecursion.{LeftDepends, once, NoLeftRecursion, leftReaches, rank, level}
 use Rattle.semantics.proofs.Quantified.{count-lt, count-short}
 use Rattle.semantics.proofs.LeftRecursion.{reaches-then, target-below, leftReaches-iff}
-
--- where some ranks fall there is no left recursion
-pub falls-free : (G : Grammar) (ranks : ℕ → ℕ) → ((A B : ℕ) → LeftDepends G A B → ranks B < ranks A) → NoLeftRecursion G
-falls-free G ranks falls A p = absurd (omega (arith, go A p))
-  where
-    go : (B : ℕ) → LeftReaches G A B → ranks B < ranks A
-    go B (once d) = falls A B d
-    go C (more {B = B} q d) = omega (arith, go B q, falls B C d)
 
 module _ (G : Grammar) (c : WellScoped G) (free : NoLeftRecursion G) where
   -- the rank falls along left dependence

@@ -21,7 +21,7 @@ use Rattle.semantics.proofs.Ends.{Forward, EmptyNull, selected, within-
 -- outcomes that agree on the calls that a body makes agree on the body
 module _ (G : Grammar) (w : List ℕ) (c c′ : Outcomes) (forward : Forward w c) (empty : EmptyNull G w c) (B start : ℕ)
     (H : (A i : ℕ) → A < G .nonterminals → start ≤ i → i ≤ length w → (i ≡ start → LeftDepends G B A) → c A i ≡ c′ A i) where
-  pub run-same : (b : Body) (i : ℕ) → start ≤ i → i ≤ length w → NonterminalsBelow (G .nonterminals) b
+  run-same : (b : Body) (i : ℕ) → start ≤ i → i ≤ length w → NonterminalsBelow (G .nonterminals) b
       → (i ≡ start → (A : ℕ) → LeftIn (nullable G) A b → LeftDepends G B A)
       → run c w b i ≡ run c′ w b i
   unfolding run read

@@ -38,7 +38,8 @@ module _ {X : Type 0} (same : X → X → Bool) (eq : Equality same) (U : List X
   unfolding settle
   settle-kept P h zero s k = k
   settle-kept P h (suc n) s k =
-      go (eqb (length (round same U Φ s)) (length s)) (settle-kept P h n (round same U Φ s) (λ x t. let r = round-elim s x t in h (member same s) k x (r .0) (r .1)))
+      let next : (x : X) → T (member same (round same U Φ s) x) → P x = λ x t. let r = round-elim s x t in h (member same s) k x (r .0) (r .1) in
+      go (eqb (length (round same U Φ s)) (length s)) (settle-kept P h n (round same U Φ s) next)
     where
       go : (b : Bool) → ((x : X) → T (member same (settle same U Φ n (round same U Φ s)) x) → P x)
           → (x : X) → T (member same (elim b [ true ↦ s | false ↦ settle same U Φ n (round same U Φ s) ]) x) → P x

@@ -8,19 +8,20 @@ use Rattle.semantics.specs.Theorems.{Theorems}
 use Rattle.semantics.proofs.Nullable.{nullable-closed, nullable-least}
 use Rattle.semantics.proofs.LeftRecursion.{leftRecursive-iff, lowestLeftRecursive-some, lowestLeftRecursive-none}
 use Rattle.semantics.proofs.Rank.{rank-falls, rank-below}
-use Rattle.semantics.proofs.Unique.{solution-solves, solution-unique}
+use Rattle.semantics.proofs.Unique.{solution-solves, solution-unique, solution-null}
 use Rattle.semantics.proofs.First.{first-closed, first-least}
 use Rattle.semantics.proofs.FirstNullable.{first-none}
 use Rattle.semantics.proofs.Follow.{follow-least}
 use Rattle.semantics.proofs.Claims.{clashes-elim, clashes-make, table-some, table-none, everyEnds-elim, everyEnds-make}
-use Rattle.semantics.proofs.FirstSound.{first-sound, first-sound-body, null-sound}
+use Rattle.semantics.proofs.FirstSound.{first-sound, first-sound-body}
 use Rattle.semantics.proofs.Outcomes.{end-ends}
 use Rattle.semantics.proofs.Ends.{descend-forward, descend-null}
 use Rattle.semantics.proofs.Results.{descend-results, results-unique}
 use Rattle.semantics.proofs.Predictive.{table-own, own-guides}
 use Rattle.semantics.proofs.Verdict.{local-verdict, local-verdict-body, local-verdict-piece, verdict}
-use Rattle.semantics.proofs.Measure.{measure-falls}
+use Rattle.semantics.proofs.Measure.{tokens-then-rank}
 use Rattle.semantics.proofs.Called.{calls-listing, count-listing, count-bound, farthest-most, farthest-called}
+use Rattle.semantics.proofs.Range.{all-ordered}
 use Rattle.semantics.proofs.Memo.{memo-recorded}
 use Rattle.semantics.proofs.Rows.{starred-rows}
 
@@ -51,7 +52,7 @@ theorems = record {
   sound-first = λ G scoped free k w over v solves. record {
     nonterminal = first-sound G scoped free w v solves k (First G k) (first-closed G k scoped) over;
     body = λ b n i j ij jw. first-sound-body G scoped free w v solves k (First G k) (first-closed G k scoped) over b i j ij jw n;
-    empty = λ A i a iw t. null-sound G scoped free w v solves A i i a (omega arith) iw t refl;
+    empty = λ A i a iw t. solution-null G scoped free w v solves A i i a (omega arith) iw t refl;
   };
   local-verdict = λ G k p w over v solves. record {
     nonterminal = local-verdict (p .scoped) (p .unrecursive) (own-guides G k p) w over v solves;
@@ -64,7 +65,7 @@ theorems = record {
     only = results-unique G t k w scoped free own;
     forward = λ A i j iw e. descend-forward G t k w own A i j iw (end-ends (descend G t k w A i) j e);
     empty = λ A i iw e. descend-null G t k w own scoped A i i iw refl (end-ends (descend G t k w A i) i e);
-    falls = measure-falls G t k w scoped free own;
+    falls = tokens-then-rank G t k w scoped own free;
   };
   calls-counted = λ G scoped free start t own k w. record {
     listing = calls-listing G t k w scoped free own start;
@@ -75,7 +76,7 @@ theorems = record {
   };
   memo-right = λ G scoped free start t own k w fits.
       let r = memo-recorded G t k w scoped free own fits start in
-      record { outcome = r .0; recorded = r .1 };
+      record { outcome = r .0; recorded = r .1; ordered = all-ordered G w };
   own-entries = table-own;
   starred-rows = starred-rows;
 }

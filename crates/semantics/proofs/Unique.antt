@@ -1,5 +1,5 @@
 -- Exactly one valuation solves a grammar with no left recursion.
-use mathlib.Core.Bool.{Bool, false, _&&_}
+use mathlib.Core.Bool.{false, _&&_}
 use mathlib.Core.List.{List, [], _∷_, List·Memᴰ, Memᴰ·append-left, Memᴰ·append-right}
 use mathlib.Core.Path.{_≡_, refl, sym, ap, _∙_}
 use Prim.Native.Nat.{ℕ, zero, suc, _-_, _≤_, _<_}
@@ -83,6 +83,10 @@ unfolding rounds
 rounds-byRules G w zero v = refl
 rounds-byRules G w (suc n) v = ap (byRules G w) (rounds-byRules G w n v)
 
+-- what derives an empty span is nullable
+abbrev pub NullSound : Grammar → List ℕ → Valuation → Type 0
+NullSound G w v = (A i j : ℕ) → A < G .nonterminals → i ≤ j → j ≤ length w → T (v A i j) → i ≡ j → T (nullable G A)
+
 module _ (G : Grammar) (c : WellScoped G) (free : NoLeftRecursion G) (w : List ℕ) where
   -- what two valuations share below a level, a span's length counting first
   Same : ℕ → Valuation → Valuation → Type 0
@@ -134,3 +138,8 @@ module _ (G : Grammar) (c : WellScoped G) (free : NoLeftRecursion G) (w : List �
   pub solution-unique : (v v′ : Valuation) → Solves G w v → Solves G w v′ → (A i j : ℕ) → A < G .nonterminals → i ≤ j → j ≤ length w → v A i j ≡ v′ A i j
   unfolding Same
   solution-unique v v′ k k′ A i j a ij jw = (solutions-agree (pairs G w) v v′ k k′ A i j a ij jw (level-top G c free w A (j - i) a (omega arith))) .0
+
+  -- what derives an empty span is nullable
+  pub solution-null : (v : Valuation) → Solves G w v → NullSound G w v
+  unfolding Same
+  solution-null v k A i j a ij jw t e = (solutions-agree (pairs G w) v v k k A i j a ij jw (level-top G c free w A (j - i) a (omega arith))) .1 e t

@@ -1,99 +1,33 @@
 -- The descent gives the solution's verdict wherever the lookahead string at the end is in the FOLLOW set, for any k.
-use mathlib.Core.Bool.{Bool, true, false, not, _&&_}
-use mathlib.Core.List.{List, [], _∷_, _++_, List·Memᴰ, Memᴰ·append-left, Memᴰ·append-right}
+use mathlib.Core.Bool.{Bool, true, not, _&&_}
+use mathlib.Core.List.{List, _∷_, _++_, List·Memᴰ, Memᴰ·append-left, Memᴰ·append-right}
 use mathlib.Core.Logic.{_↔_}
 use mathlib.Core.Option.{some}
 use mathlib.Core.Path.{_≡_, refl, sym, ap, _∙_}
 use Prim.Native.Nat.{ℕ, zero, suc, _-_, _≤_, _<_}
 use native.Mathlib.Omega.{arith}
-use lib.Dec.{T, leb, ltb, eqb, leb→le, le→leb, ltb→lt, lt→ltb, eqb→eq, eqb-refl}
-use lib.ListN.{length, getD, take}
+use lib.Dec.{T, eqb, eqb→eq, eqb-refl}
+use lib.ListN.{length, take}
 use Rattle.grammar.specs.Syntax.{Body, Rule, Grammar, bodies, NonterminalsBelow, WellScoped}
-use Rattle.grammar.specs.declared.Symbol.the-variants.{Terminal, Nonterminal}
+use Rattle.grammar.specs.declared.Symbol.the-variants.{Nonterminal}
 use Rattle.semantics.specs.Quantifiers.{any, all, below}
 use Rattle.semantics.specs.Valuations.{Valuation, contains, derives, byRules, Solves, pairs}
-use Rattle.semantics.specs.LeftRecursion.{nullable, LeftIn, here, there, LeftDepends, NoLeftRecursion, level}
+use Rattle.semantics.specs.LeftRecursion.{here, there, LeftDepends, NoLeftRecursion, level}
 use Rattle.semantics.specs.Strings.{span, look, Over}
 use Rattle.semantics.specs.Families.{Family, FollowBody, Table}
 use Rattle.semantics.specs.Predictive.{Guides}
 use Rattle.semantics.specs.Theorems.{Piece}
 use Rattle.semantics.specs.Descent.{Outcome, End, endsAt, onward, Outcomes, read, run, agrees, byTable, descend, accepts}
-use Rattle.semantics.proofs.Booleans.{T-true, true-T, T-subst, both, and-l, and-r, and-make, and-cong, and-twist}
-use Rattle.semantics.proofs.Quantified.{any-cong, all-cong, any-make, any-elim, below-cong, below-elim, below-make}
+use Rattle.semantics.proofs.Booleans.{T-subst, both, and-l, and-r, and-make}
+use Rattle.semantics.proofs.Quantified.{any-cong, all-cong, any-make, any-elim}
 use Rattle.semantics.proofs.Rank.{level-onward, level-top}
+use Rattle.semantics.proofs.Unique.{NullSound, solution-null}
 use Rattle.semantics.proofs.Strings.{look-split, look-end, look-none, all-span, take-short}
-use Rattle.semantics.proofs.FirstSound.{FirstSound, NullSound, contains-first, rule-first, first-sound, null-sound}
-use Rattle.semantics.proofs.Outcomes.{ends-end, end-ends, ends-iff, onward-elim, onward-make, onward-guard, mem-nth}
+use Rattle.semantics.proofs.FirstSound.{FirstSound, contains-first, rule-first, first-sound}
+use Rattle.semantics.proofs.Outcomes.{ends-end, end-ends, ends-iff, onward-elim, mem-nth}
 use Rattle.semantics.proofs.Ends.{Forward, run-forward, EmptyNull, byTable-elim, byTable-make, descend-forward, descend-null}
 use Rattle.semantics.proofs.Results.{descend-results}
-
--- to go on from where o ends is to go on from some place between
-onward-below : (o : Outcome) (f : ℕ → Outcome) (i j : ℕ) → ((m : ℕ) → T (endsAt o m) → T (endsAt (f m) j) → (i ≤ m) × (m ≤ j))
-    → endsAt (onward o f) j ≡ below (suc j) (λ m. leb i m && (endsAt o m && endsAt (f m) j))
-onward-below o f i j h = both _ _
-    (λ t.
-    let s = onward-elim o f j t in
-    let b : (i ≤ s .0) × (s .0 ≤ j) = h (s .0) (s .1) (s .2) in
-    below-make (suc j) _ (s .0) (omega arith)
-    (and-make (leb i (s .0)) _ (le→leb i (s .0) (b .0)) (and-make (endsAt o (s .0)) (endsAt (f (s .0)) j) (s .1) (s .2))))
-    (λ t.
-    let s = below-elim (suc j) _ t in
-    let u : T (endsAt o (s .0) && endsAt (f (s .0)) j) = and-r (leb i (s .0)) _ (s .2) in
-    onward-make o f j (s .0) (and-l (endsAt o (s .0)) _ u) (and-r (endsAt o (s .0)) _ u))
-
--- A body run from places at or behind `start`, that ends at j. H: the calls that it makes have the right verdict, those at `start` if
--- they are of nonterminals in Left, which all at the left of the body are
-module _ (G : Grammar) (k : ℕ) (F L : Family) (w : List ℕ) (v : Valuation) (c : Outcomes)
-    (first : FirstSound G k F w v) (null : NullSound G w v) (forward : Forward w c) (empty : EmptyNull G w c)
-    (Left : ℕ → Type 0) (start j : ℕ) (jw : j ≤ length w)
-    (H : (A i m : ℕ) → A < G .nonterminals → start ≤ i → i ≤ m → m ≤ length w → (i ≡ start → Left A) → L A (look k w m)
-    → endsAt (c A i) m ≡ v A i m) where
-  run-contains : (b : Body) (i : ℕ) → start ≤ i → i ≤ j → NonterminalsBelow (G .nonterminals) b → FollowBody k F L (look k w j) b
-      → (i ≡ start → (A : ℕ) → LeftIn (nullable G) A b → Left A)
-      → endsAt (run c w b i) j ≡ contains v w b i j
-  unfolding contains run read
-  run-contains [] i si ij scoped follow front = refl
-  run-contains (Terminal a ∷ b) i si ij scoped follow front =
-      let x : Bool = eqb (getD w i 0) a in
-      let next : suc i ≤ j → endsAt (run c w b (suc i)) j ≡ contains v w b (suc i) j =
-      λ l. run-contains b (suc i) (omega arith) l scoped follow (λ e. absurd (omega arith)) in
-      onward-guard (ltb i (length w) && x) (suc i) (λ m. run c w b m) j ∙ both _ _
-      (λ t.
-      let p = and-l (ltb i (length w) && x) _ t in
-      let r = and-r (ltb i (length w) && x) (endsAt (run c w b (suc i)) j) t in
-      let l : i < length w = ltb→lt i (length w) (and-l (ltb i (length w)) _ p) in
-      let d : suc i ≤ j = (run-forward w c forward b (suc i) j l r) .0 in
-      and-make (ltb i j) _ (lt→ltb i j d) (and-make x _ (and-r (ltb i (length w)) _ p) (T-subst (next d) r)))
-      (λ t.
-      let d : i < j = ltb→lt i j (and-l (ltb i j) _ t) in
-      let p : T (x && contains v w b (suc i) j) = and-r (ltb i j) _ t in
-      and-make (ltb i (length w) && x) _ (and-make (ltb i (length w)) x (lt→ltb i (length w) (omega arith)) (and-l x _ p))
-      (T-subst (sym (next d)) (and-r x _ p)))
-  run-contains (Nonterminal A ∷ b) i si ij scoped follow front =
-      onward-below (c A i) (λ m. run c w b m) i j
-      (λ m t u.
-      let p : (i ≤ m) × (m ≤ length w) = forward A i m (omega arith) t in
-      (p .0, (run-forward w c forward b m j (p .1) u) .0))
-      ∙ below-cong (suc j) _ _ (λ m mj. and-cong (leb i m) (leb i m) _ _ refl (λ t.
-      let im : i ≤ m = leb→le i m t in
-      let rest : (i ≡ m → T (nullable G A)) → endsAt (run c w b m) j ≡ contains v w b m j =
-      λ n. run-contains b m (omega arith) (omega arith) (scoped .1) (follow .1) (λ e C l. front (omega arith) C (there (n (omega arith)) l)) in
-      and-twist (endsAt (c A i) m) (v A i m) (endsAt (run c w b m) j) (contains v w b m j)
-      (λ u. rest (λ e. empty A i m (omega arith) e u))
-      (λ u. rest (λ e. null A i m (scoped .0) im (omega arith) u e))
-      (λ u.
-      let x = contains-first G k F w v first b m j (omega arith) jw (scoped .1) u in
-      H A i m (scoped .0) si im (omega arith) (λ e. front e A here) (rw (look-split k w m j (omega arith)) (follow .0 (take k (span w m j)) x)))))
-
-follow-rest : (k : ℕ) (F L : Family) (y : List ℕ) (a b : Body) → FollowBody k F L y (a ++ b) → FollowBody k F L y b
-follow-rest k F L y [] b h = h
-follow-rest k F L y (Terminal x ∷ a) b h = follow-rest k F L y a b h
-follow-rest k F L y (Nonterminal A ∷ a) b h = follow-rest k F L y a b (h .1)
-
-below-rest : (n : ℕ) (a b : Body) → NonterminalsBelow n (a ++ b) → NonterminalsBelow n b
-below-rest n [] b h = h
-below-rest n (Terminal x ∷ a) b h = below-rest n a b h
-below-rest n (Nonterminal A ∷ a) b h = below-rest n a b (h .1)
+use Rattle.semantics.proofs.BodyVerdict.{run-contains, follow-rest, below-rest}
 
 -- Everything about a grammar, its families and table, an input and its solution that the verdict needs
 module _ {G : Grammar} {k : ℕ} {F L : Family} {t : Table} (scoped : WellScoped G) (free : NoLeftRecursion G) (guides : Guides G k F L t)
@@ -111,7 +45,7 @@ module _ {G : Grammar} {k : ℕ} {F L : Family} {t : Table} (scoped : WellScoped
   first = first-sound G scoped free w v solves k F (guides .firsts) over
 
   null : NullSound G w v
-  null = null-sound G scoped free w v solves
+  null = solution-null G scoped free w v solves
 
   Verdicts : ℕ → Type 0
   Verdicts n = (A i j : ℕ) → A < G .nonterminals → i ≤ j → j ≤ length w → level G (length w - i) A < n → L A (look k w j)

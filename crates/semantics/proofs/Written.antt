@@ -7,8 +7,8 @@ use mathlib.Core.Path.{_≡_, refl, sym, ap, _∙_}
 use Prim.Native.Nat.{ℕ, zero, suc, _≤_, _<_}
 use native.Mathlib.Decide.{ℕ-discrete}
 use native.Mathlib.Omega.{arith}
-use lib.Dec.{T, T-not, not-T, eqb, eqb→eq, eqb-refl}
-use lib.ListN.{length, getD, set, replicate, length-set, length-replicate, getD-replicate}
+use lib.Dec.{T, not-T, eqb, eqb→eq, eqb-refl}
+use lib.ListN.{length, getD, set, length-set}
 use lib.Seq.{getD-set-same, getD-set-other}
 use Rattle.grammar.specs.Syntax.{Rule, Grammar, WellScoped}
 use Rattle.semantics.specs.Quantifiers.{pick}
@@ -17,15 +17,15 @@ use Rattle.semantics.specs.LeftRecursion.{NoLeftRecursion}
 use Rattle.semantics.specs.Strings.{look}
 use Rattle.semantics.specs.Families.{Table, OwnEntries}
 use Rattle.semantics.specs.Descent.{Outcome, Failed, End, endsAt, Outcomes, select, byTable, descend}
-use Rattle.semantics.specs.Calls.{Call, callAt, InRange, measure, indexOf, callComesTo, Called, start, more, passing, calls}
-use Rattle.semantics.specs.Memo.{Memo, Memoized, memoized, memoObey, memoCall, memoStart, encode, decode, entry, stored, blank}
-use Rattle.semantics.specs.Memo.{written, Recorded, Fits, uncalledCode, failedCode}
-use Rattle.semantics.proofs.Booleans.{T-true, T-false, both, test}
+use Rattle.semantics.specs.ComesTo.{Call, callAt, InRange, measure, callComesTo}
+use Rattle.semantics.specs.Memo.{Memo, encode, decode, indexOf, entry, written, Fits, uncalledCode, failedCode}
+use Rattle.semantics.specs.MemoDescent.{Memoized, memoized, memoObey, memoCall, stored}
+use Rattle.semantics.proofs.Booleans.{T-true, T-false, test}
 use Rattle.semantics.proofs.Plan.{Plan, Done, Ask, value, asked, through, plan, plan-value, plan-asked, plan-through}
 use Rattle.semantics.proofs.Ends.{descend-forward}
 use Rattle.semantics.proofs.Results.{descend-results}
 use Rattle.semantics.proofs.Measure.{measure-falls}
-use Rattle.semantics.proofs.Numbered.{index-injective, index-range, range-index, call-index, passing-same}
+use Rattle.semantics.proofs.Range.{index-injective, index-range}
 
 -- a call's entry is written
 abbrev pub Has : Grammar → List ℕ → Memo → Call → Type 0
@@ -57,7 +57,7 @@ module _ (G : Grammar) (w : List ℕ) (m : Memo) (size : length m ≡ pairs G w)
   after = set m (indexOf w x) v
 
   this : entry w after x ≡ v
-  this = let l = index-range w G x ranged in getD-set-same m (indexOf w x) v uncalledCode (omega arith)
+  this = let l = index-range G w x ranged in getD-set-same m (indexOf w x) v uncalledCode (omega arith)
 
   store-this : Has G w after x
   store-this = (ranged, rw this real)
@@ -196,7 +196,7 @@ module _ (G : Grammar) (t : Table) (k : ℕ) (w : List ℕ) (scoped : WellScoped
             let c : Outcomes = descend G t k w in
             let g = through-good n (measure G w x) (omega arith) good (plan w o (x .place)) m s (λ y a.
             let a′ : List·Memᴰ y (callComesTo G t k w x) = rw (plan-asked c w o (x .place)) at a in
-            let d = measure-falls G t k w scoped free own x ranged y a′ in
+            let d = measure-falls G t k w scoped own free x ranged y a′ in
             (d .0, d .1, onward x ranged p y a′)) in
             let e : value c (plan w o (x .place)) ≡ result x =
             plan-value c w o (x .place) ∙ sym (descend-results G t k w scoped free own (x .nonterminal) (x .place) (ranged .0) (ranged .1)) in

@@ -9,8 +9,9 @@ pub mod FirstFollow
 pub mod Claims
 pub mod Predictive
 pub mod Descent
+pub mod ComesTo
 pub mod Calls
 pub mod Memo
-pub mod Examples
+pub mod MemoDescent
 pub mod Rows
 pub mod Theorems

@@ -4,23 +4,25 @@ use mathlib.Core.Bool.{true}
 use mathlib.Core.List.{List, [], _∷_, _++_, map, List·Memᴰ}
 use mathlib.Core.Logic.{_↔_}
 use mathlib.Core.Option.{none, some}
-use Prim.Native.Nat.{ℕ, _≤_, _<_}
+use Prim.Native.Nat.{ℕ, suc, _*_, _≤_, _<_}
 use lib.Dec.{T}
-use lib.ListN.{length, take}
+use lib.ListN.{length, getD, take}
 use Rattle.grammar.specs.declared.Symbol.the-variants.{Nonterminal}
 use Rattle.grammar.specs.Syntax.{Body, Rule, Grammar, bodies, NonterminalsBelow, WellScoped}
 use Rattle.semantics.specs.Rounds.{Set, _⊆_}
-use Rattle.semantics.specs.Valuations.{Valuation, contains, Solves, pairs, solution}
+use Rattle.semantics.specs.Valuations.{Valuation, contains, Solves, solution}
 use Rattle.semantics.specs.LeftRecursion.{nullStep, nullable, LeftDepends, LeftReaches, NoLeftRecursion, leftRecursive, lowestLeftRecursive, rank}
 use Rattle.semantics.specs.Strings.{span, look, Over}
 use Rattle.semantics.specs.Families.{Family, Least, FirstBody, FirstClosed, FollowClosed, Claims, Clash, EveryEnds, OwnTerminals, Table, OwnEntries}
 use Rattle.semantics.specs.FirstFollow.{First, Follow}
 use Rattle.semantics.specs.Claims.{clashes, tableOf, everyEnds}
 use Rattle.semantics.specs.Descent.{End, Outcomes, run, Results, descend, accepts}
-use Rattle.semantics.specs.Calls.{Call, InRange, measure, callComesTo, Called, Listing, calls, callCount, farthest}
-use Rattle.semantics.specs.Memo.{memoStart, Recorded, Fits}
+use Rattle.semantics.specs.ComesTo.{Call, InRange, callComesTo}
+use Rattle.semantics.specs.Calls.{Called, Listing, allCalls, calls, callCount, farthest}
+use Rattle.semantics.specs.Memo.{indexOf, Recorded, Fits}
+use Rattle.semantics.specs.MemoDescent.{memoStart}
 use Rattle.semantics.specs.Predictive.{Predictive}
-use Rattle.semantics.specs.Rows.{Row, starred, judged}
+use Rattle.semantics.specs.Rows.{starred, judged}
 
 -- 1. Without left recursion exactly one valuation solves the grammar on an input
 pub record OneSolution (G : Grammar) (w : List ℕ) : Type 0 where
@@ -35,7 +37,7 @@ pub record LeftRecursionDecided (G : Grammar) : Type 0 where
   pub falls : NoLeftRecursion G → (A B : ℕ) → LeftDepends G A B → rank G B < rank G A
   pub below : NoLeftRecursion G → (A : ℕ) → A < G .nonterminals → rank G A < G .nonterminals
 
--- 3. The sets as computed are least, and so is the table right
+-- 3. The sets as computed are least; clashes and the table are as the rules claim
 pub record LeastSets (G : Grammar) (k : ℕ) : Type 1 where
   pub nullable-closed : nullStep G (nullable G) ⊆ nullable G
   pub nullable-least : (s : Set) → nullStep G s ⊆ s → nullable G ⊆ s
@@ -78,26 +80,29 @@ pub record LocalVerdict (G : Grammar) (k : ℕ) (w : List ℕ) (v : Valuation) :
 abbrev pub Verdict : Grammar → ℕ → List ℕ → Valuation → Type 0
 Verdict G k w v = accepts G (tableOf G k) k w ≡ v 0 0 (length w)
 
--- 7. The descent ends: its outcomes are what the rules give and the only such ones, and a measure falls from each call to those it makes
+-- 7. The descent ends: its outcomes are what the rules give and the only such ones; from each call to those it makes the tokens left fall, or else
+-- the rank does
 pub record DescentEnds (G : Grammar) (t : Table) (k : ℕ) (w : List ℕ) : Type 0 where
   pub unfolds : Results G t k w (descend G t k w)
   pub only : (c : Outcomes) → Results G t k w c → (A i : ℕ) → A < G .nonterminals → i ≤ length w → c A i ≡ descend G t k w A i
   pub forward : (A i j : ℕ) → i ≤ length w → descend G t k w A i ≡ End j → (i ≤ j) × (j ≤ length w)
   pub empty : (A i : ℕ) → i ≤ length w → descend G t k w A i ≡ End i → T (nullable G A)
-  pub falls : (x : Call) → InRange G w x → (y : Call) → List·Memᴰ y (callComesTo G t k w x) → InRange G w y × (measure G w y < measure G w x)
+  pub falls : (x : Call) → InRange G w x → (y : Call) → List·Memᴰ y (callComesTo G t k w x)
+      → InRange G w y × (x .place ≤ y .place) × (y .place ≡ x .place → rank G (y .nonterminal) < rank G (x .nonterminal))
 
--- 8. The calls are listed, each once; any such list has their number; they are no more than the pairs; the farthest place is a call's
+-- 8. The calls are listed, each once; any such list has their number; they are at most one for each nonterminal and place; the farthest place is a call's
 pub record CallsCounted (G : Grammar) (t : Table) (k : ℕ) (w : List ℕ) : Type 0 where
   pub listing : Listing G t k w (calls G t k w)
   pub count : (l : List Call) → Listing G t k w l → length l ≡ callCount G t k w
-  pub bounded : callCount G t k w ≤ pairs G w
+  pub bounded : callCount G t k w ≤ G .nonterminals * suc (length w)
   pub farthest-most : (x : Call) → Called G t k w x → x .place ≤ farthest G t k w
   pub farthest-called : (x : Call) × Called G t k w x × (x .place ≡ farthest G t k w)
 
--- 9. The memo table changes no outcome, and in the end holds the results of the calls and nothing else
+-- 9. The memo table changes no outcome, and in the end holds the results of the calls and nothing else; the list of all calls is in its order
 pub record MemoRight (G : Grammar) (t : Table) (k : ℕ) (w : List ℕ) : Type 0 where
   pub outcome : memoStart G t k w .outcome ≡ descend G t k w 0 0
   pub recorded : Recorded G t k w (memoStart G t k w .memo)
+  pub ordered : (x z : Call) → InRange G w x → getD (allCalls G w) (indexOf w x) z ≡ x
 
 -- The theorems, with what they need
 pub record Theorems : Type 1 where
