@@ -7,7 +7,7 @@ use Rattle.grammar.specs.Syntax.{Rule, Grammar, Body}
 abbrev rule : ℕ → List Body → List Body → Rule
 rule A ps ns = record { head = A; positives = ps; negatives = ns }
 
--- the inputs aⁿ
+-- S → a S | ε
 abbrev pub grammarR : Grammar
 grammarR = record {
   nonterminals = 1;
@@ -21,7 +21,7 @@ abbrev pub wordsR : List ℕ
 wordsR =
     0x10000101 ∷ 0x20000000 ∷ 0x30000000 ∷ 0x50000000 ∷ 0x60000000 ∷ 0x20000000 ∷ 0x30000000 ∷ 0x70000000 ∷ []
 
--- the inputs aⁱbʲcʲ with different i and j, over the nonterminals S A B C D
+-- S → A D & ¬ B C, A → a A | ε, B → a B b | ε, C → c C | ε, D → b D c | ε: the inputs aⁱbʲcʲ with different i and j
 abbrev pub grammarM : Grammar
 grammarM = record {
   nonterminals = 5;
@@ -45,7 +45,7 @@ wordsM =
     ∷ 0x30000000 ∷ 0x20000003 ∷ 0x30000000 ∷ 0x50000002 ∷ 0x60000003 ∷ 0x20000003 ∷ 0x30000000 ∷ 0x20000004 ∷ 0x30000000 ∷ 0x50000001
     ∷ 0x60000004 ∷ 0x50000002 ∷ 0x20000004 ∷ 0x30000000 ∷ 0x70000000 ∷ []
 
--- Ab where A derives B but not bC, over the nonterminals S A B C
+-- S → A b, A → B & ¬ b C, B → a | b, C → ε
 abbrev pub grammarE : Grammar
 grammarE = record {
   nonterminals = 4;

@@ -10,7 +10,7 @@ use Rattle.semantics.specs.FirstFollow.{strings, sameString, concat, sam
 use Rattle.semantics.specs.FirstFollow.{first, firstSets, behind, followStep, follow, followSets}
 use Rattle.semantics.specs.Claims.{several, position, meeting, claimed, claims, clashes, tableOf, everyEnds}
 use Rattle.semantics.specs.Descent.{read, run, agrees, confirm, conclude, obey, select, byTable, within, descend, accepts}
-use Rattle.semantics.specs.ComesTo.{bodyComesTo, negativesComeTo, positivesComeTo, ruleComesTo, selectedComesTo, callComesTo}
+use Rattle.semantics.specs.ComesTo.{when, bodyComesTo, negativesComeTo, positivesComeTo, ruleComesTo, selectedComesTo, callComesTo}
 use Rattle.semantics.specs.Calls.{callsWithin, allCalls, calls, callCount, greatestPlace, farthest}
 
 unfoldable pub tables-compute : Unit {0}
@@ -28,6 +28,6 @@ unfolding any all look read run agrees confirm conclude obey select byTable with
 descent-computes = tt
 
 unfoldable pub calls-compute : Unit {0}
-unfolding any member keep numbersFrom numbers combine bodyComesTo negativesComeTo positivesComeTo ruleComesTo selectedComesTo callComesTo flatMap callsWithin
+unfolding any member keep numbersFrom numbers combine when bodyComesTo negativesComeTo positivesComeTo ruleComesTo selectedComesTo callComesTo flatMap callsWithin
     allCalls calls callCount greatestPlace farthest
 calls-compute = tt

@@ -4,7 +4,7 @@ use mathlib.Core.Path.{_≡_, refl}
 use Rattle.semantics.specs.Claims.{tableOf}
 use Rattle.semantics.specs.Descent.{Failed, End, descend}
 use Rattle.semantics.specs.Predictive.{Predictive}
-use Rattle.semantics.specs.Examples.{grammarR, grammarM, grammarE}
+use Rattle.grammar.specs.Cards.{grammarR, grammarM, grammarE}
 use Rattle.semantics.proofs.Check.{belowTest, scopedTest, terminalsTest, ownTest, predictive}
 use Rattle.semantics.proofs.Computing.{left-recursion-computes, tables-compute, descent-computes}
 use Rattle.semantics.proofs.ExamplesTables.{repeated, others}

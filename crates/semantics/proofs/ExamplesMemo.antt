@@ -9,7 +9,7 @@ use Rattle.semantics.specs.Quantifiers.{pick}
 use Rattle.semantics.specs.Strings.{look}
 use Rattle.semantics.specs.Families.{Table}
 use Rattle.semantics.specs.Descent.{Failed, End, Outcomes, read, run, select}
-use Rattle.semantics.specs.ComesTo.{callAt, bodyComesTo, negativesComeTo, positivesComeTo, ruleComesTo}
+use Rattle.semantics.specs.ComesTo.{callAt, when, bodyComesTo, negativesComeTo, positivesComeTo, ruleComesTo}
 use Rattle.semantics.specs.Memo.{encode, decode}
 use Rattle.semantics.specs.MemoDescent.{memoized, andThen, memoRun, memoNegatives, memoPositives, memoRule, memoObey, memoCall, memoStart, stored}
 use Rattle.semantics.proofs.ExamplesValuations.{balanced}
@@ -57,20 +57,20 @@ reads = refl
 
 -- a positive body that ends elsewhere stops the rule
 elsewhere : ruleComesTo given (0 ∷ 0 ∷ []) 2 (only 1 ∷ only 2 ∷ only 3 ∷ only 1 ∷ []) (only 4 ∷ []) 0 ≡ callAt 1 0 ∷ callAt 2 0 ∷ callAt 3 0 ∷ []
-unfolding ruleComesTo positivesComeTo negativesComeTo bodyComesTo run read
+unfolding ruleComesTo positivesComeTo negativesComeTo when bodyComesTo run read
 elsewhere = refl
 
 -- the first positive body fails
 first : ruleComesTo given (0 ∷ 0 ∷ []) 2 (only 4 ∷ only 2 ∷ []) (only 3 ∷ []) 0 ≡ callAt 4 0 ∷ []
-unfolding ruleComesTo positivesComeTo negativesComeTo bodyComesTo run read
+unfolding ruleComesTo positivesComeTo negativesComeTo when bodyComesTo run read
 first = refl
 
 -- a negative body that fails or ends elsewhere does not stop the rule; one that ends there does
 negatives : ruleComesTo given (0 ∷ 0 ∷ []) 2 (only 1 ∷ []) (only 4 ∷ only 3 ∷ only 2 ∷ only 1 ∷ []) 0 ≡ callAt 1 0 ∷ callAt 4 0 ∷ callAt 3 0 ∷ callAt 2 0 ∷ []
-unfolding ruleComesTo positivesComeTo negativesComeTo bodyComesTo run read
+unfolding ruleComesTo positivesComeTo negativesComeTo when bodyComesTo run read
 negatives = refl
 
 -- without a positive body the end is the length
 no-positive : ruleComesTo given (0 ∷ 0 ∷ []) 2 [] (only 2 ∷ only 3 ∷ only 1 ∷ []) 0 ≡ callAt 2 0 ∷ callAt 3 0 ∷ []
-unfolding ruleComesTo positivesComeTo negativesComeTo bodyComesTo run read
+unfolding ruleComesTo positivesComeTo negativesComeTo when bodyComesTo run read
 no-positive = refl

@@ -10,7 +10,7 @@ use Rattle.semantics.specs.FiniteSets.{member, numbers}
 use Rattle.semantics.specs.Rounds.{settle}
 use Rattle.semantics.specs.FirstFollow.{strings, sameEntry, entries, firstStep, firstSets, followSets}
 use Rattle.semantics.specs.Claims.{clashes, tableOf, everyEnds}
-use Rattle.semantics.specs.Examples.{grammarR, grammarM, grammarE}
+use Rattle.grammar.specs.Cards.{grammarR, grammarM, grammarE}
 use Rattle.semantics.proofs.Computing.{tables-compute}
 
 -- the number of a set at k = 1: a terminal a weighs 2 ^ a, the empty string 2 ^ 24

@@ -26,6 +26,7 @@ fromEnd-elim Failed f x m = absurd (List·Memᴰ·not-nil m)
 fromEnd-elim (End j) f x m = (j, eqb-refl j, m)
 
 when-elim : (b : Bool) (l : List Call) (x : Call) → List·Memᴰ x (when b l) → List·Memᴰ x l
+unfolding when
 when-elim true l x m = m
 when-elim false l x m = absurd (List·Memᴰ·not-nil m)
 
@@ -39,7 +40,7 @@ module _ (c : Outcomes) (w : List ℕ) (i : ℕ) (Q : Call → Type 0) where
   negatives-in e [] h x m = absurd (List·Memᴰ·not-nil m)
   negatives-in e (b ∷ ns) h x m = elim (List·Memᴰ·append-cases (bodyComesTo c w b i) m) [
     | inl n ↦ h b (List·Memᴰ·head refl) x n
-    | inr n ↦ negatives-in e ns (λ b′ k. h b′ (List·Memᴰ·tail k)) x (when-elim (not (endsAt (run c w b i) e)) _ x n)
+    | inr n ↦ negatives-in e ns (λ b′ k. h b′ (List·Memᴰ·tail k)) x (when-elim _ _ x n)
   ]
 
   positives-in : (e : ℕ) (ps ns : List Body) → Bodies (ps ++ ns) → (x : Call) → List·Memᴰ x (positivesComeTo c w i e ps ns) → Q x
@@ -47,7 +48,7 @@ module _ (c : Outcomes) (w : List ℕ) (i : ℕ) (Q : Call → Type 0) where
   positives-in e [] ns h x m = negatives-in e ns h x m
   positives-in e (b ∷ ps) ns h x m = elim (List·Memᴰ·append-cases (bodyComesTo c w b i) m) [
     | inl n ↦ h b (List·Memᴰ·head refl) x n
-    | inr n ↦ positives-in e ps ns (λ b′ k. h b′ (List·Memᴰ·tail k)) x (when-elim (endsAt (run c w b i) e) _ x n)
+    | inr n ↦ positives-in e ps ns (λ b′ k. h b′ (List·Memᴰ·tail k)) x (when-elim _ _ x n)
   ]
 
   rule-in : (n : ℕ) (ps ns : List Body) → Bodies (ps ++ ns) → (x : Call) → List·Memᴰ x (ruleComesTo c w n ps ns i) → Q x

@@ -125,7 +125,7 @@ module _ (c : Outcomes) (w : List ℕ) where
       go (End m) h = h m
 
   negatives-asked : (i e : ℕ) (ns : List Body) → asked c (negativesPlan w i e ns) ≡ negativesComeTo c w i e ns
-  unfolding asked negativesPlan negativesComeTo pick
+  unfolding asked negativesPlan negativesComeTo when pick
   negatives-asked i e [] = refl
   negatives-asked i e (b ∷ ns) = body-asked b i _ ∙ ap (bodyComesTo c w b i ++_) (go (endsAt (run c w b i) e) (negatives-asked i e ns))
     where
@@ -135,7 +135,7 @@ module _ (c : Outcomes) (w : List ℕ) where
       go false h = h
 
   positives-asked : (i e : ℕ) (ps ns : List Body) → asked c (positivesPlan w i e ps ns) ≡ positivesComeTo c w i e ps ns
-  unfolding asked positivesPlan positivesComeTo pick
+  unfolding asked positivesPlan positivesComeTo when pick
   positives-asked i e [] ns = negatives-asked i e ns
   positives-asked i e (b ∷ ps) ns = body-asked b i _ ∙ ap (bodyComesTo c w b i ++_) (go (endsAt (run c w b i) e) (positives-asked i e ps ns))
     where

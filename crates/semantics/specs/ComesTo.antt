@@ -32,7 +32,7 @@ abbrev pub fromEnd : Outcome → (ℕ → List Call) → List Call
 fromEnd Failed f = []
 fromEnd (End m) f = f m
 
-abbrev pub when : Bool → List Call → List Call
+unfoldable pub when : Bool → List Call → List Call
 when true l = l
 when false l = []
 

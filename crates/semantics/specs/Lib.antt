@@ -13,6 +13,5 @@ pub mod ComesTo
 pub mod Calls
 pub mod Memo
 pub mod MemoDescent
-pub mod Examples
 pub mod Rows
 pub mod Theorems

@@ -6,7 +6,7 @@ use Rattle.grammar.specs.Syntax.{Grammar}
 use Rattle.semantics.specs.Claims.{tableOf}
 use Rattle.semantics.specs.Descent.{accepts}
 use Rattle.semantics.specs.Calls.{callCount, farthest}
-use Rattle.semantics.specs.Examples.{grammarR, grammarM, grammarE}
+use Rattle.grammar.specs.Cards.{grammarR, grammarM, grammarE}
 
 pub record Row : Type 0 where
   pub grammar : Grammar
