@@ -1,6 +1,7 @@
 pub mod Heading
 pub mod Scanning
 pub mod WellFormed
+pub mod Suffixes
 pub mod Begins
 pub mod WellRead
 pub mod Examples

@@ -22,7 +22,7 @@ returns c = search needs
 
 -- src/descent.rt:164:1
 returns-2 : tie.Need-returns-2
-returns-2 c = ?
+returns-2 c = rw (c .before .agreement .given .1)
 
 -- src/descent.rt:164:1
 returns-3 : tie.Need-returns-3

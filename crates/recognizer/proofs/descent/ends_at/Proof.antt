@@ -18,7 +18,7 @@ returns c = search needs
 
 -- src/descent.rt:111:1
 returns-2 : tie.Need-returns-2
-returns-2 c = ?
+returns-2 c = rw (c .before .outcome .given .1)
 
 pub ends-at-spec : {M : Type 1} → statement M
 ends-at-spec = tie.close (tie.spec enum-told enum-known-outcome returns returns-2)

@@ -37,7 +37,7 @@ returns c = search needs
 
 -- src/descent.rt:154:1
 returns-2 : tie.Need-returns-2
-returns-2 c = ?
+returns-2 c = rw (c .before .before .before .agreement .given .1, ← c .before .ends-at .ensures) (c .kept .ensures)
 
 -- src/descent.rt:154:1
 returns-3 : tie.Need-returns-3

@@ -18,7 +18,7 @@ enum-told-3 c = search needs
 
 -- src/descent.rt:131:1
 returns : tie.Need-returns
-returns c = ?
+returns c = rw (c .before .enum-told .given .1, c .if1 .taken)
 
 -- src/descent.rt:131:1
 returns-2 : tie.Need-returns-2
@@ -30,7 +30,7 @@ returns-3 c = search needs
 
 -- src/descent.rt:131:1
 returns-4 : tie.Need-returns-4
-returns-4 c = ?
+returns-4 c = rw (c .before .enum-told2 .given .1, c .if2 .left)
 
 -- src/descent.rt:131:1
 returns-5 : tie.Need-returns-5

@@ -1,3 +1,5 @@
+use borrow.Author.Tests.{lt-ltb, le-ltb}
+use Rattle.recognizer.specs.Rule.{signAt}
 use borrow.Author.Needs.{needs}
 use Rattle.recognizer.proofs.descent.sign_at.Statement.{statement}
 use Rattle.recognizer.proofs.descent.sign_at.Tie as tie
@@ -24,11 +26,13 @@ sign-of-requires c κs = search needs
 
 -- src/descent.rt:64:1
 returns : tie.Need-returns
-returns c = ?
+unfolding signAt
+returns c = rw (lt-ltb _ _ (c .before .before .before .if1 .taken), ← c .before .decode .ensures) (c .sign-of .ensures)
 
 -- src/descent.rt:64:1
 returns-2 : tie.Need-returns-2
-returns-2 c = ?
+unfolding signAt
+returns-2 c = rw (le-ltb _ _ (c .if1 .left))
 
 pub sign-at-spec : {M : Type 1} → statement M
 sign-at-spec =
