@@ -32,7 +32,7 @@ pub parse-over : (words : List ℕ) (at : ℕ) → length words ≤ at → parse
 parse-over words at h = rw (drop-of-length-le words h)
 
 -- a symbol leaves the progress of a reading as it is
-symbol-reads : (words : List ℕ) (at : ℕ) (p : Progress) (z : Sizes) (X : grammar.Symbol) → at < length words → decoded (getD words at 0) ≡ Symbol X
+pub symbol-reads : (words : List ℕ) (at : ℕ) (p : Progress) (z : Sizes) (X : grammar.Symbol) → at < length words → decoded (getD words at 0) ≡ Symbol X
     → scan p at (drop at words) ≡ Read z → scan p (at + 1) (drop (at + 1) words) ≡ Read z
 symbol-reads words at p z X h x e =
     let n = scan-next words at p z h e in

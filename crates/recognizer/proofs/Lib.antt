@@ -1,3 +1,4 @@
 pub mod Headings
 pub mod Choosing
 pub mod Bodies
+pub mod Running

@@ -88,6 +88,8 @@ pub record RunGiven (words starts table input memo : List ℕ) (A from start : �
   pub listed : List·Memᴰ rule (grammarOf words .rules)
   pub heads : rule .head ≡ A
   pub held : List·Memᴰ (parse (drop from words) .body) (bodies rule)
+  pub progress : Progress
+  pub reads : scan progress from (drop from words) ≡ reading words
 
 pub record CallDone (words input memo : List ℕ) (A place : ℕ) (r : code.Outcome) (memo′ : List ℕ) : Type 0 where
   pub model : (n : ℕ) → measure (grammarOf words) input (callAt A place) < n
