@@ -224,7 +224,7 @@ rules-more End p = omega arith
 rules-more (Heading n t) p = omega arith
 rules-more Invalid p = omega arith
 
-in-range-same : (w : Word) (y z : Sizes) → z .nonterminals ≡ y .nonterminals → z .terminals ≡ y .terminals → inRange w y ≡ inRange w z
+pub in-range-same : (w : Word) (y z : Sizes) → z .nonterminals ≡ y .nonterminals → z .terminals ≡ y .terminals → inRange w y ≡ inRange w z
 in-range-same (RuleWord A) y z n t = rw n
 in-range-same Positive y z n t = refl
 in-range-same Negative y z n t = refl

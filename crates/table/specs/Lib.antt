@@ -1,3 +1,6 @@
 pub mod Lists
+pub mod Least
+pub mod Naming
+pub mod First
 pub mod Sets
 pub mod Layout
