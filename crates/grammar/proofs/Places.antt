@@ -76,7 +76,7 @@ pub record Opened (w : ℕ) (ws : List ℕ) (z : Sizes) : Type 0 where
   pub some : 0 < declaredBy (decoded w) .nonterminals
   pub rest : scan (fresh (declaredBy (decoded w))) 1 ws ≡ Read z
 
-read-opened : (w : ℕ) (ws : List ℕ) (z : Sizes) → reading (w ∷ ws) ≡ Read z → Opened w ws z
+pub read-opened : (w : ℕ) (ws : List ℕ) (z : Sizes) → reading (w ∷ ws) ≡ Read z → Opened w ws z
 unfolding reading opened headed
 read-opened w ws z e =
     let s = refused (ltb maxWords (length (w ∷ ws))) (opened (w ∷ ws)) z e in
@@ -85,7 +85,7 @@ read-opened w ws z e =
     let b = both (within (d .nonterminals) maxNonterminals) (within (d .terminals) maxTerminals) (c .0) in
     record { some = within-limits (d .nonterminals) maxNonterminals (b .0) .some; rest = c .1 }
 
-read-none : (z : Sizes) → reading [] ≡ Read z → ⊥
+pub read-none : (z : Sizes) → reading [] ≡ Read z → ⊥
 unfolding reading opened
 read-none z e = faulty HeadingFault z (refused (ltb maxWords 0) (Faulty HeadingFault) z e .1)
 
