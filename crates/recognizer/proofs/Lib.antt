@@ -2,3 +2,4 @@ pub mod Headings
 pub mod Choosing
 pub mod Bodies
 pub mod Running
+pub mod Calling
