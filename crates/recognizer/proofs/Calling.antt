@@ -1,12 +1,13 @@
 -- Calling a nonterminal: the bodies of its rule agree on the end that the descent with a memo table gives. Assumes nothing.
 use mathlib.Core.Path.{_≡_, refl, sym, ap, _∙_}
-use mathlib.Core.Bool.{Bool, true, false, false≢true}
+use mathlib.Core.Bool.{Bool, true, false, true≢false, false≢true}
 use mathlib.Core.List.{List, [], _∷_, _++_, List·Memᴰ, List·Memᴰ·head, List·Memᴰ·tail, List·Memᴰ·append-cases, Memᴰ·append-left, Memᴰ·append-right}
 use mathlib.Core.Logic.{inl, inr}
 use mathlib.Core.Option.{Option, none, some}
 use Prim.Native.Nat.{ℕ, zero, suc, _+_, _*_, _-_, _≤_, _<_}
 use native.Mathlib.Omega.{arith}
 use native.Mathlib.Numerals.{add-one}
+use native.Mathlib.Decide.{decLt}
 use lib.Dec.{T, ltb, eqb}
 use lib.ListN.{length, getD, drop, set, getElem?}
 use lib.Seq.{drop-cons}
@@ -33,7 +34,7 @@ use Rattle.recognizer.specs.declared.descent.Sign.{Sign}
 use Rattle.recognizer.specs.declared.descent.Sign.the-variants.{Positive, Negative, Neither}
 use Rattle.recognizer.specs.declared.descent.Agreement.{Agreement}
 use Rattle.recognizer.specs.declared.descent.Agreement.the-variants as agreement
-use Rattle.recognizer.specs.Rule.{meant, signOf, signAt, goesOn, joinedBy, concluded}
+use Rattle.recognizer.specs.Rule.{meant, signOf, signAt, beginsBody, goesOn, joinedBy, concluded}
 use Rattle.recognizer.specs.Descent.{BodyEnd, MemoSound, Given, CallGiven, RunGiven, CallDone, RunDone}
 use Rattle.recognizer.proofs.Bodies.{parse-here, parse-over}
 use Rattle.recognizer.proofs.Running.{deep, level}
@@ -300,3 +301,55 @@ module _ {words starts table input memo₀ : List ℕ} {A place : ℕ} (g : Call
         opens = λ q. absurd (opens-no-more sign agreed (meant o) goes (sym j ∙ q));
         boundary = b .boundary;
       }
+
+-- a word that begins no conjunct and is no symbol ends the rule
+ends-rule : (w : Word) (p : Parsed) (s : State) → allows w s ≡ true → signOf w ≡ Neither → ((X : grammar.Symbol) → w ≡ Symbol X → ⊥)
+    → (onWord w p .positives ≡ []) × (onWord w p .negatives ≡ [])
+unfolding onWord
+ends-rule (word.Heading n t) p s a e h = absurd (false≢true a)
+ends-rule (word.Rule A) p s a e h = (refl, refl)
+ends-rule word.Positive p s a e h = absurd (omega (arith, sign-apart Positive Neither e))
+ends-rule word.Negative p s a e h = absurd (omega (arith, sign-apart Negative Neither e))
+ends-rule (word.Symbol X) p s a e h = absurd (h X refl)
+ends-rule word.End p s a e h = (refl, refl)
+ends-rule word.Invalid p s a e h = absurd (false≢true a)
+
+nothing-left : (parse [] .positives ≡ []) × (parse [] .negatives ≡ [])
+unfolding parse
+nothing-left = (refl, refl)
+
+module _ {words starts table input memo₀ : List ℕ} {A place : ℕ} (g : CallGiven words starts table input memo₀ A place) {r : Rule}
+    {memo : List ℕ} {at : ℕ} {sign : Sign} {agreed : Agreement} (v : Calling words input memo₀ A place r memo at sign agreed) where
+  -- where no conjunct begins nothing is left of the rule
+  none-left : sign ≡ Neither → (parse (drop at words) .positives ≡ []) × (parse (drop at words) .negatives ≡ [])
+  unfolding signAt
+  none-left e = go (decLt at (length words))
+    where
+      go : Dec (at < length words) → (parse (drop at words) .positives ≡ []) × (parse (drop at words) .negatives ≡ [])
+      go (yes l) =
+          let n = scan-next words at (v .progress) (g .given .sizes) l (v .reads ∙ g .given .read) in
+          let s : signOf (decoded (getD words at 0)) ≡ Neither = (rw (lt-ltb at (length words) l) at (sym (v .signed))) ∙ e in
+          rw (parse-here words at l) (ends-rule (decoded (getD words at 0)) (parse (drop (at + 1) words)) (v .progress .state) (n .passed .allowed) s (λ X. v .boundary X l))
+      go (no l) = over (parse-over words at (omega arith))
+        where
+          over : parse (drop at words) ≡ parse [] → (parse (drop at words) .positives ≡ []) × (parse (drop at words) .negatives ≡ [])
+          over p = rw p nothing-left
+
+  -- the rule has run: its bodies agree, or it has failed
+  pub calling-done : goesOn sign agreed ≡ false → (n : ℕ) → level words input A place ≤ n
+      → memoObey (deep words input n) input (some r) place memo₀ ≡ memoized (concluded agreed) memo
+  unfolding memoRest memoPositives memoNegatives
+  calling-done stops n l = v .rest n l ∙ go agreed refl stops
+    where
+      neither : (s : Sign) → beginsBody s ≡ false → s ≡ Neither
+      neither Positive e = absurd (true≢false e)
+      neither Negative e = absurd (true≢false e)
+      neither Neither e = refl
+
+      go : (a : Agreement) → agreed ≡ a → goesOn sign a ≡ false
+          → memoRest (deep words input n) input place a (parse (drop at words) .positives) (parse (drop at words) .negatives) memo ≡ memoized (concluded a) memo
+      go agreement.Open e t =
+          let f = reads (v .progress) at (drop at words) (g .given .sizes) (v .reads ∙ g .given .read) .fits in
+          absurd ((rw (v .opens e) at (f .shape)) .1 (none-left (neither sign t) .0))
+      go (agreement.At x) e t = let k = none-left (neither sign t) in rw (k .0, k .1)
+      go agreement.Failed e t = refl

@@ -3,3 +3,4 @@ pub mod Choosing
 pub mod Bodies
 pub mod Running
 pub mod Calling
+pub mod Storing
