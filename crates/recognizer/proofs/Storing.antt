@@ -77,3 +77,41 @@ module _ {words starts table input memo : List ℕ} {A place : ℕ} (g : CallGiv
         forward = λ x q. descend-forward G (tableOf G 1) 1 input own A place x (g .placed) (end-ends _ x (sym told ∙ q));
         idle = λ q. descend-null G (tableOf G 1) 1 input own (r .formed .scoped) A place place (g .placed) refl (end-ends _ place (sym told ∙ q));
       }
+
+getD-any : (l : List ℕ) (i d d′ : ℕ) → i < length l → getD l i d ≡ getD l i d′
+getD-any [] i d d′ h = absurd (omega arith)
+getD-any (x ∷ l) zero d d′ h = refl
+getD-any (x ∷ l) (suc i) d d′ h = getD-any l i d d′ (omega arith)
+
+module _ {words starts table input memo : List ℕ} {A place : ℕ} (g : CallGiven words starts table input memo A place) where
+  -- the index of the call's entry
+  pub index-is : A * (length input + 1) + place ≡ indexOf input (callAt A place)
+  index-is = rw (add-one (length input))
+
+  pub index-low : A * (length input + 1) + place < length memo
+  index-low = let l = index-range (grammarOf words) input (callAt A place) (g .named, g .placed) in omega (arith, index-is, g .given .sound .size)
+
+  entry-is : entry input memo (callAt A place) ≡ getD memo (A * (length input + 1) + place) 0
+  entry-is = getD-any memo (indexOf input (callAt A place)) uncalledCode 0 (omega (arith, index-low, index-is)) ∙ ap (λ i. getD memo i 0) (sym index-is)
+
+  -- an entry that is written is recalled
+  pub call-recalled : {o : code.Outcome} → (getD memo (A * (length input + 1) + place) 0 ≡ uncalledCode → ⊥)
+      → meant o ≡ decode (getD memo (A * (length input + 1) + place) 0) → CallDone words input memo A place o memo
+  unfolding memoCall pick
+  call-recalled {o} known d = call-done g model
+    where
+      model : (n : ℕ) → level words input A place < n → deep words input n A place memo ≡ memoized (meant o) memo
+      model zero l = absurd (omega arith)
+      model (suc n) l = rw (entry-is, ne-eqb (getD memo (A * (length input + 1) + place) 0) uncalledCode known, d)
+
+  module _ (fresh : getD memo (A * (length input + 1) + place) 0 ≡ uncalledCode) where
+    -- a rule, or none, has been run, and the outcome is stored
+    pub call-stored : (x : Option Rule) → select (grammarOf words) (tableOf (grammarOf words) 1 A (look 1 input place)) ≡ x → {o : code.Outcome} {memo₁ : List ℕ} {v : ℕ}
+        → ((n : ℕ) → level words input A place ≤ n → memoObey (deep words input n) input x place memo ≡ memoized (meant o) memo₁)
+        → v ≡ encode (meant o) → CallDone words input memo A place o (set memo₁ (A * (length input + 1) + place) v)
+    unfolding memoCall pick stored
+    call-stored x s {o} {memo₁} {v} run e = call-done g model
+      where
+        model : (n : ℕ) → level words input A place < n → deep words input n A place memo ≡ memoized (meant o) (set memo₁ (A * (length input + 1) + place) v)
+        model zero l = absurd (omega arith)
+        model (suc n) l = rw (entry-is, fresh, s, run n (omega arith), index-is, e)
