@@ -4,3 +4,4 @@ pub mod Bodies
 pub mod Running
 pub mod Calling
 pub mod Storing
+pub mod Starting
