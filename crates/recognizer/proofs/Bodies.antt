@@ -39,8 +39,8 @@ symbol-reads words at p z X h x e =
     let k = rw x at (n .passed) in
     let r : n .progress .sizes .rules ≡ p .sizes .rules = omega (arith, k .rules) in
     let same : _≡_ {A = Progress}
-        (record { state = n .progress .state; sizes = record { nonterminals = n .progress .sizes .nonterminals; terminals = n .progress .sizes .terminals; rules = n .progress .sizes .rules } })
-        (record { state = p .state; sizes = record { nonterminals = p .sizes .nonterminals; terminals = p .sizes .terminals; rules = p .sizes .rules } }) =
+    (record { state = n .progress .state; sizes = record { nonterminals = n .progress .sizes .nonterminals; terminals = n .progress .sizes .terminals; rules = n .progress .sizes .rules } })
+    (record { state = p .state; sizes = record { nonterminals = p .sizes .nonterminals; terminals = p .sizes .terminals; rules = p .sizes .rules } }) =
     cc (k .state, k .nonterminals, k .terminals, r) in
     rw (same) at (n .reads)
 

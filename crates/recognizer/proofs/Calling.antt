@@ -27,7 +27,9 @@ use Rattle.grammar.specs.declared.reading.Progress.{Progress}
 use Rattle.grammar.proofs.Suffixes.{Next, scan-next}
 use Rattle.grammar.proofs.WellFormed.{Fits, Shape, reads}
 use Rattle.semantics.specs.Quantifiers.{pick}
-use Rattle.semantics.specs.Descent.{Outcome, Failed, End, endsAt}
+use Rattle.semantics.specs.Strings.{look}
+use Rattle.semantics.specs.Claims.{tableOf}
+use Rattle.semantics.specs.Descent.{Outcome, Failed, End, endsAt, select}
 use Rattle.semantics.specs.MemoDescent.{Memoized, memoized, andThen, MemoCalls, memoRun, memoNegatives, memoPositives, memoRule, memoObey, memoCall}
 use Rattle.recognizer.specs.declared.descent.Outcome as code
 use Rattle.recognizer.specs.declared.descent.Sign.{Sign}
@@ -35,7 +37,7 @@ use Rattle.recognizer.specs.declared.descent.Sign.the-variants.{Positive
 use Rattle.recognizer.specs.declared.descent.Agreement.{Agreement}
 use Rattle.recognizer.specs.declared.descent.Agreement.the-variants as agreement
 use Rattle.recognizer.specs.Rule.{meant, signOf, signAt, beginsBody, goesOn, joinedBy, concluded}
-use Rattle.recognizer.specs.Descent.{BodyEnd, MemoSound, Given, CallGiven, RunGiven, CallDone, RunDone}
+use Rattle.recognizer.specs.Descent.{Short, BodyEnd, MemoSound, Given, CallGiven, RunGiven, CallDone, RunDone}
 use Rattle.recognizer.proofs.Bodies.{parse-here, parse-over}
 use Rattle.recognizer.proofs.Running.{deep, level}
 
@@ -353,3 +355,42 @@ module _ {words starts table input memo₀ : List ℕ} {A place : ℕ} (g : Call
           absurd ((rw (v .opens e) at (f .shape)) .1 (none-left (neither sign t) .0))
       go (agreement.At x) e t = let k = none-left (neither sign t) in rw (k .0, k .1)
       go agreement.Failed e t = refl
+
+-- a call that runs a rule
+pub record InRule (words input memo₀ : List ℕ) (A place : ℕ) (memo : List ℕ) (at : ℕ) (sign : Sign) (agreed : Agreement) : Type 0 where
+  pub rule : Rule
+  pub listed : List·Memᴰ rule (grammarOf words .rules)
+  pub heads : rule .head ≡ A
+  pub selected : select (grammarOf words) (tableOf (grammarOf words) 1 A (look 1 input place)) ≡ some rule
+  pub calling : Calling words input memo₀ A place rule memo at sign agreed
+
+concluded-at : (a : Agreement) (e : ℕ) → concluded a ≡ End e → a ≡ agreement.At e
+concluded-at agreement.Open e q = let z : _≡_ {A = ℕ} 0 1 = cc in absurd (omega arith)
+concluded-at (agreement.At x) e q = let z : x ≡ e = cc in ap agreement.At z
+concluded-at agreement.Failed e q = let z : _≡_ {A = ℕ} 0 1 = cc in absurd (omega arith)
+
+module _ {words starts table input memo₀ : List ℕ} {A place : ℕ} (g : CallGiven words starts table input memo₀ A place)
+    {memo : List ℕ} {at : ℕ} {sign : Sign} {agreed : Agreement} (v : InRule words input memo₀ A place memo at sign agreed) where
+  pub rule-conjunct : goesOn sign agreed ≡ true → at < length words
+  rule-conjunct goes = conjunct g (v .rule) (v .listed) (v .heads) (v .calling) goes .low
+
+  pub rule-run : goesOn sign agreed ≡ true → RunGiven words starts table input memo A (at + 1) place
+  rule-run goes = calling-run g (v .rule) (v .listed) (v .heads) (v .calling) (conjunct g (v .rule) (v .listed) (v .heads) (v .calling) goes)
+
+  pub rule-turn : goesOn sign agreed ≡ true → {o : code.Outcome} {memo′ : List ℕ} {at′ : ℕ} {sign′ : Sign} {agreed′ : Agreement}
+      → RunDone words input memo A (at + 1) place o memo′ → agreed′ ≡ joinedBy sign agreed (meant o) → BodyEnd words (at + 1) at′ → sign′ ≡ signAt words at′
+      → InRule words input memo₀ A place memo′ at′ sign′ agreed′
+  rule-turn goes d j b s = record {
+    rule = v .rule;
+    listed = v .listed;
+    heads = v .heads;
+    selected = v .selected;
+    calling = calling-turn g (v .rule) (v .listed) (v .heads) (v .calling) goes d j b s;
+  }
+
+  pub rule-short : (o : code.Outcome) → meant o ≡ concluded agreed → Short (meant o)
+  rule-short o c e q = let l = v .calling .ends e (concluded-at agreed e (sym c ∙ q)) in omega (arith, g .given .short)
+
+  pub rule-done : goesOn sign agreed ≡ false → (o : code.Outcome) → meant o ≡ concluded agreed
+      → (n : ℕ) → level words input A place ≤ n → memoObey (deep words input n) input (some (v .rule)) place memo₀ ≡ memoized (meant o) memo
+  rule-done stops o c n l = calling-done g (v .calling) stops n l ∙ ap (λ x. memoized x memo) (sym c)

@@ -20,7 +20,7 @@ use Rattle.semantics.specs.Strings.{look, Over}
 use Rattle.semantics.specs.Quantifiers.{all}
 use Rattle.semantics.specs.Claims.{tableOf}
 use Rattle.table.specs.Layout.{columnString, columns, entryAt, entryWord}
-use Rattle.recognizer.specs.Descent.{columnAt, ChosenGiven}
+use Rattle.recognizer.specs.Descent.{columnAt, ChosenGiven, CallGiven}
 use Rattle.recognizer.proofs.Headings.{HeadingTells, heading-tells}
 
 -- every token is a terminal of the grammar
@@ -61,7 +61,7 @@ module _ {words table input : List ℕ} {A place : ℕ} (g : ChosenGiven words t
   pub placed : {c : ℕ} → c ≡ columnAt input place (getD words 0 0 / 256 % 256) → Placed c
   placed {c} e =
       let f = mul-le-mul {n₁ = A} {m₁ = getD words 0 0 / 256 % 256 + 1} {n₂ = 31} {m₂ = 25}
-          (omega (arith, g .named, r .nonterminals, r .fewNonterminals)) (omega (arith, tells .terminals, r .terminals, r .fewTerminals)) in
+      (omega (arith, g .named, r .nonterminals, r .fewNonterminals)) (omega (arith, tells .terminals, r .terminals, r .fewTerminals)) in
       let k = column-look (grammarOf words .terminals) input (g .tokens) place .0 in
       let d : c ≡ columnAt input place (grammarOf words .terminals) = e ∙ ap (λ n. columnAt input place n) (tells .terminals) in
       record {
@@ -78,3 +78,7 @@ module _ {words table input : List ℕ} {A place : ℕ} (g : ChosenGiven words t
       let d : c ≡ columnAt input place (grammarOf words .terminals) = e ∙ ap (λ n. columnAt input place n) (tells .terminals) in
       let at = g .entries A c (g .named) (rw d (k .0)) in
       rw (tells .nonterminals, tells .terminals, add-one) (at ∙ ap (λ x. entryWord (tableOf (grammarOf words) 1 A x)) (ap (columnString (grammarOf words .terminals)) d ∙ k .1))
+
+-- a call has what choosing its rule asks
+pub chosen-given : {words starts table input memo : List ℕ} {A place : ℕ} → CallGiven words starts table input memo A place → ChosenGiven words table input A place
+chosen-given g = record { sizes = g .given .sizes; read = g .given .read; entries = g .given .entries; tokens = g .given .tokens; named = g .named }

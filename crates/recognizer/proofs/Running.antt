@@ -57,6 +57,11 @@ pub record Running (words input memo₀ : List ℕ) (A from start : ℕ) (memo :
   pub progress : Progress
   pub reads : scan progress at (drop at words) ≡ reading words
 
+-- where two ways meet
+pub running-as : {words input memo₀ : List ℕ} {A from start : ℕ} {memo memo′ : List ℕ} {at place place′ : ℕ} → memo′ ≡ memo → place′ ≡ place
+    → Running words input memo₀ A from start memo at place → Running words input memo₀ A from start memo′ at place′
+running-as m p v = rw (m, p) v
+
 module _ {words starts table input memo₀ : List ℕ} {A from start : ℕ} (g : RunGiven words starts table input memo₀ A from start) where
   abbrev G : Grammar
   G = grammarOf words
@@ -185,6 +190,9 @@ module _ {words starts table input memo₀ : List ℕ} {A from start : ℕ} (g :
       named = known-here (Nonterminal B) h x .0;
       placed = v .placed;
     }
+
+    pub running-small : B < 32
+    running-small = omega (arith, known-here (Nonterminal B) h x .0, r g .nonterminals, r g .fewNonterminals)
 
     pub running-falls : level words input B place < level words input A start
     unfolding measure

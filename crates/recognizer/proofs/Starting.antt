@@ -26,8 +26,9 @@ use Rattle.grammar.proofs.WellRead.{well-read}
 use Rattle.semantics.specs.Strings.{look}
 use Rattle.semantics.specs.Families.{OwnEntries}
 use Rattle.semantics.specs.Claims.{tableOf}
-use Rattle.semantics.specs.Descent.{select}
-use Rattle.semantics.specs.MemoDescent.{memoObey}
+use Rattle.semantics.specs.Descent.{Failed, select}
+use Rattle.semantics.specs.Memo.{failedCode, encode}
+use Rattle.semantics.specs.MemoDescent.{MemoCalls, memoized, memoObey}
 use Rattle.semantics.proofs.Outcomes.{nth-mem}
 use Rattle.semantics.proofs.Theorems.{theorems}
 use Rattle.table.specs.Layout.{noEntry, entryWord}
@@ -35,7 +36,7 @@ use Rattle.recognizer.specs.declared.descent.Sign.{Sign}
 use Rattle.recognizer.specs.declared.descent.Agreement.the-variants as agreement
 use Rattle.recognizer.specs.Rule.{signAt}
 use Rattle.recognizer.specs.Descent.{Given, CallGiven}
-use Rattle.recognizer.proofs.Calling.{memoRest, Calling}
+use Rattle.recognizer.proofs.Calling.{memoRest, Calling, InRule}
 
 nth-below : (l : List Rule) (q : ℕ) (r : Rule) → getElem? l q ≡ some r → q < length l
 nth-below [] q r e = let z : _≡_ {A = ℕ} 0 1 = cc in absurd (omega arith)
@@ -145,3 +146,19 @@ module _ {words starts table input memo : List ℕ} {A place : ℕ} (g : CallGiv
             let a : allows (word.Symbol X) state.Opened ≡ true = rw (x, n .2) at (w .passed .allowed) in
             false≢true a;
       }
+
+  pub select-none : chosenEntry ≡ none → select G chosenEntry ≡ none
+  unfolding select
+  select-none e = rw e
+
+  pub start-rule : (q : ℕ) (k : Chosen q) {sign : Sign} → sign ≡ signAt words (getD starts q 0 + 1) → InRule words input memo A place memo (getD starts q 0 + 1) sign agreement.Open
+  start-rule q k s = record { rule = k .rule; listed = k .listed; heads = k .heads; selected = k .selected; calling = calling-start q k s }
+
+-- without a rule a call fails
+pub none-fails : (M : MemoCalls) (w : List ℕ) (i : ℕ) (m : List ℕ) → memoObey M w none i m ≡ memoized Failed m
+unfolding memoObey
+none-fails M w i m = refl
+
+pub encode-failed : failedCode ≡ encode Failed
+unfolding encode
+encode-failed = refl

@@ -36,6 +36,9 @@ use Rattle.recognizer.specs.Rule.{meant}
 use Rattle.recognizer.specs.Descent.{MemoSound, Given, CallGiven, CallDone}
 use Rattle.recognizer.proofs.Running.{deep, level}
 
+pub memo-same : {words input memo memo′ : List ℕ} → MemoSound words input memo → MemoSound words input memo′ → length memo ≡ length memo′
+memo-same m m′ = m .size ∙ sym (m′ .size)
+
 -- the two ways to say that a memo table is sound
 sound-out : {words input memo : List ℕ} → MemoSound words input memo → Sound (grammarOf words) input (descend (grammarOf words) (tableOf (grammarOf words) 1) 1 input) (λ _. Unit {0}) memo
 sound-out {words} {input} {memo} m = record {

@@ -194,7 +194,13 @@ fn column(input: &[u8], place: usize, terminals: usize) -> usize
 }
 
 // The entry of the table for a nonterminal and the token at a place.
-fn chosen(words: &[u32], table: &[u32; TABLE_WORDS], input: &[u8], nonterminal: usize, place: usize) -> u32
+fn chosen(
+    words: &[u32],
+    table: &[u32; TABLE_WORDS],
+    input: &[u8],
+    nonterminal: usize,
+    place: usize,
+) -> u32
     requires { ⌜ ChosenGiven (now words) (now table) (now input) nonterminal place ⌝ }
     ensures { λ r. ⌜ r ≡ entryWord (tableOf (grammarOf (now (words .entry))) 1 nonterminal (look 1 (now (input .entry)) place)) ⌝ }
 {

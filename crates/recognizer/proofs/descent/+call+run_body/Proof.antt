@@ -1,3 +1,19 @@
+-- The descent ends and is the one of the semantics: each call gives what its rule gives, and a rule what its bodies agree on.
+-- From a call to a body that it runs, and on to the calls that the body makes, the tokens left fall, or else the rank does.
+use mathlib.Core.Path.{_≡_, refl, sym, ap, _∙_}
+use mathlib.Core.Logic.{⊎-elim}
+use mathlib.Core.Option.{none, some}
+use Prim.Native.Nat.{_+_, _-_, _*_}
+use native.Mathlib.Omega.{arith}
+use lib.ListN.{length, length-set}
+use borrow.Author.Tests.{not-true, not-false}
+use Rattle.grammar.specs.declared.word.Word.the-variants.{Symbol}
+use Rattle.recognizer.proofs.Bodies.{no-symbol}
+use Rattle.recognizer.proofs.Choosing.{chosen-given}
+use Rattle.recognizer.proofs.Running.{level, Running, running-as, running-start, running-done, running-over, running-terminal, running-mismatch, running-given, running-small, running-falls, running-call, running-failed}
+use Rattle.recognizer.proofs.Calling.{InRule, rule-conjunct, rule-run, rule-turn, rule-short, rule-done}
+use Rattle.recognizer.proofs.Storing.{memo-same, index-low, call-recalled, call-stored}
+use Rattle.recognizer.proofs.Starting.{no-rule, some-rule, rule-chosen, start-rule, select-none, none-fails, encode-failed}
 use Prim.Native.Nat.{ℕ, _<_}
 use borrow.Fn.Kinds.{In}
 use borrow.Fn.PlainCycle.{Measures, is, falls, and}
@@ -21,10 +37,10 @@ use Rattle.recognizer.proofs.descent.+call+run_body.{statement}
 use Rattle.recognizer.proofs.descent.+call+run_body.Tie.{close}
 
 abbrev μ-call : Measures 5 call-kinds.ps ℕ
-μ-call κs a = ?
+μ-call κs a = 2 * level (a .1 .0 .now) (a .1 .1 .1 .1 .0 .now) (a .0) (a .1 .1 .1 .1 .1 .1 .0) + 1
 
 abbrev μ-run-body : Measures 5 run-body-kinds.ps ℕ
-μ-run-body κs a = ?
+μ-run-body κs a = 2 * level (a .1 .0 .now) (a .1 .1 .1 .1 .0 .now) (a .0) (a .1 .1 .1 .1 .1 .1 .1 .0)
 
 abbrev call-at : ℕ → In 5 call-kinds.ps
 call-at t = and 5 call-kinds.ps (is 5 call-kinds.ps μ-call t) call.Pre
@@ -41,11 +57,11 @@ run-body-below t =
 
 abbrev call-Inv-loop : call-lts.InvT-loop
 call-Inv-loop nonterminal words starts table input memo₀ place entry known rule at₀ sign₀ agreement₀ memo at sign agreement =
-    ?
+    InRule words input memo₀ nonterminal place memo at sign agreement
 
 abbrev call-μ-loop : call-lts.MeasureT-loop
 call-μ-loop nonterminal words starts table input memo₀ place entry known rule at₀ sign₀ agreement₀ memo at sign agreement =
-    ?
+    length words - at
 
 -- src/descent.rt:283:32
 call-add-entry : (t : ℕ) → call-lts.Need-add-entry (
@@ -68,7 +84,7 @@ call-add-entry : (t : ℕ) → call-lts.Need-add-entry (
   code-reads.Asked,
   code-reads.Learnt,
 ) (call-at t) call.Post call-Inv-loop call-μ-loop
-call-add-entry t c = ?
+call-add-entry t c = omega (arith, c .before .before .before .pre .1 .given .short)
 
 -- src/descent.rt:283:17
 call-mul-entry : (t : ℕ) → call-lts.Need-mul-entry (
@@ -91,7 +107,7 @@ call-mul-entry : (t : ℕ) → call-lts.Need-mul-entry (
   code-reads.Asked,
   code-reads.Learnt,
 ) (call-at t) call.Post call-Inv-loop call-μ-loop
-call-mul-entry t c = ?
+call-mul-entry t c = omega (arith, index-low (c .before .before .before .pre .1))
 
 -- src/descent.rt:283:17
 call-add-entry-2 : (t : ℕ) → call-lts.Need-add-entry-2 (
@@ -114,7 +130,7 @@ call-add-entry-2 : (t : ℕ) → call-lts.Need-add-entry-2 (
   code-reads.Asked,
   code-reads.Learnt,
 ) (call-at t) call.Post call-Inv-loop call-μ-loop
-call-add-entry-2 t c = ?
+call-add-entry-2 t c = omega (arith, index-low (c .before .before .before .pre .1))
 
 -- src/descent.rt:284:17
 call-mul-known : (t : ℕ) → call-lts.Need-mul-known (
@@ -137,7 +153,7 @@ call-mul-known : (t : ℕ) → call-lts.Need-mul-known (
   code-reads.Asked,
   code-reads.Learnt,
 ) (call-at t) call.Post call-Inv-loop call-μ-loop
-call-mul-known t c = ?
+call-mul-known t c = omega (arith, index-low (c .before .before .before .pre .1))
 
 -- src/descent.rt:284:17
 call-slice-read-known : (t : ℕ) → call-lts.Need-slice-read-known (
@@ -160,7 +176,7 @@ call-slice-read-known : (t : ℕ) → call-lts.Need-slice-read-known (
   code-reads.Asked,
   code-reads.Learnt,
 ) (call-at t) call.Post call-Inv-loop call-μ-loop
-call-slice-read-known t c = ?
+call-slice-read-known t c = index-low (c .before .before .before .before .pre .1)
 
 -- src/descent.rt:286:9
 call-recall-requires : (t : ℕ) → call-lts.Need-recall-requires (
@@ -183,7 +199,7 @@ call-recall-requires : (t : ℕ) → call-lts.Need-recall-requires (
   code-reads.Asked,
   code-reads.Learnt,
 ) (call-at t) call.Post call-Inv-loop call-μ-loop
-call-recall-requires t c κs = ?
+call-recall-requires t c κs = tt
 
 -- src/descent.rt:286:9
 call-returns : (t : ℕ) → call-lts.Need-returns (
@@ -206,7 +222,7 @@ call-returns : (t : ℕ) → call-lts.Need-returns (
   code-reads.Asked,
   code-reads.Learnt,
 ) (call-at t) call.Post call-Inv-loop call-μ-loop
-call-returns t c = ?
+call-returns t c = call-recalled (c .before .before .before .before .before .before .pre .1) (c .before .if1 .taken) (c .recall .ensures)
 
 -- src/descent.rt:288:9
 call-chosen-requires : (t : ℕ) → call-lts.Need-chosen-requires (
@@ -229,7 +245,7 @@ call-chosen-requires : (t : ℕ) → call-lts.Need-chosen-requires (
   code-reads.Asked,
   code-reads.Learnt,
 ) (call-at t) call.Post call-Inv-loop call-μ-loop
-call-chosen-requires t c κs = ?
+call-chosen-requires t c κs = chosen-given (c .before .before .before .before .before .pre .1)
 
 -- src/descent.rt:290:9
 call-mul-memo : (t : ℕ) → call-lts.Need-mul-memo (
@@ -252,7 +268,7 @@ call-mul-memo : (t : ℕ) → call-lts.Need-mul-memo (
   code-reads.Asked,
   code-reads.Learnt,
 ) (call-at t) call.Post call-Inv-loop call-μ-loop
-call-mul-memo t c = ?
+call-mul-memo t c = omega (arith, index-low (c .before .before .before .before .before .before .before .pre .1))
 
 -- src/descent.rt:290:9
 call-slice-write-memo : (t : ℕ) → call-lts.Need-slice-write-memo (
@@ -275,7 +291,7 @@ call-slice-write-memo : (t : ℕ) → call-lts.Need-slice-write-memo (
   code-reads.Asked,
   code-reads.Learnt,
 ) (call-at t) call.Post call-Inv-loop call-μ-loop
-call-slice-write-memo t c = ?
+call-slice-write-memo t c = index-low (c .before .before .before .before .before .before .before .pre .1)
 
 -- src/descent.rt:291:9
 call-same-length : (t : ℕ) → call-lts.Need-same-length (
@@ -298,7 +314,7 @@ call-same-length : (t : ℕ) → call-lts.Need-same-length (
   code-reads.Asked,
   code-reads.Learnt,
 ) (call-at t) call.Post call-Inv-loop call-μ-loop
-call-same-length t c = ?
+call-same-length t c = simp length-set
 
 -- src/descent.rt:291:9
 call-returns-2 : (t : ℕ) → call-lts.Need-returns-2 (
@@ -321,7 +337,7 @@ call-returns-2 : (t : ℕ) → call-lts.Need-returns-2 (
   code-reads.Asked,
   code-reads.Learnt,
 ) (call-at t) call.Post call-Inv-loop call-μ-loop
-call-returns-2 t c = ?
+call-returns-2 t c = call-stored (c .before .before .before .before .before .before .before .pre .1) (c .before .before .if1 .left) none (select-none (c .before .before .before .before .before .before .before .pre .1) (no-rule (c .before .before .before .before .before .before .before .pre .1) (c .before .chosen .ensures) (c .if2 .taken))) (λ n l. none-fails _ _ _ _) encode-failed
 
 -- src/descent.rt:293:25
 call-cast-at : (t : ℕ) → call-lts.Need-cast-at (
@@ -344,7 +360,7 @@ call-cast-at : (t : ℕ) → call-lts.Need-cast-at (
   code-reads.Asked,
   code-reads.Learnt,
 ) (call-at t) call.Post call-Inv-loop call-μ-loop
-call-cast-at t c = ?
+call-cast-at t c = let k = rule-chosen (c .before .before .before .before .before .before .before .pre .1) _ (some-rule (c .before .before .before .before .before .before .before .pre .1) (c .before .chosen .ensures) (c .if2 .left)) in omega (arith, k .low)
 
 -- src/descent.rt:293:18
 call-mul-at : (t : ℕ) → call-lts.Need-mul-at (
@@ -367,7 +383,7 @@ call-mul-at : (t : ℕ) → call-lts.Need-mul-at (
   code-reads.Asked,
   code-reads.Learnt,
 ) (call-at t) call.Post call-Inv-loop call-μ-loop
-call-mul-at t c = ?
+call-mul-at t c = let k = rule-chosen (c .before .before .before .before .before .before .before .pre .1) _ (some-rule (c .before .before .before .before .before .before .before .pre .1) (c .before .chosen .ensures) (c .if2 .left)) in omega (arith, k .low)
 
 -- src/descent.rt:293:18
 call-element-copy-out-at : (t : ℕ) → call-lts.Need-element-copy-out-at (
@@ -390,7 +406,7 @@ call-element-copy-out-at : (t : ℕ) → call-lts.Need-element-copy-out-at (
   code-reads.Asked,
   code-reads.Learnt,
 ) (call-at t) call.Post call-Inv-loop call-μ-loop
-call-element-copy-out-at t c = ?
+call-element-copy-out-at t c = rule-chosen (c .before .before .before .before .before .before .before .pre .1) _ (some-rule (c .before .before .before .before .before .before .before .pre .1) (c .before .chosen .ensures) (c .if2 .left)) .low
 
 -- src/descent.rt:293:18
 call-add-at : (t : ℕ) → call-lts.Need-add-at (
@@ -413,7 +429,7 @@ call-add-at : (t : ℕ) → call-lts.Need-add-at (
   code-reads.Asked,
   code-reads.Learnt,
 ) (call-at t) call.Post call-Inv-loop call-μ-loop
-call-add-at t c = ?
+call-add-at t c = let k = rule-chosen (c .before .before .before .before .before .before .before .before .pre .1) _ (some-rule (c .before .before .before .before .before .before .before .before .pre .1) (c .before .before .chosen .ensures) (c .before .if2 .left)) in omega (arith, k .begun .high)
 
 -- src/descent.rt:294:9
 call-sign-at-requires : (t : ℕ) → call-lts.Need-sign-at-requires (
@@ -436,7 +452,7 @@ call-sign-at-requires : (t : ℕ) → call-lts.Need-sign-at-requires (
   code-reads.Asked,
   code-reads.Learnt,
 ) (call-at t) call.Post call-Inv-loop call-μ-loop
-call-sign-at-requires t c κs = ?
+call-sign-at-requires t c κs = tt
 
 -- src/descent.rt:296:5
 call-loop-holds : (t : ℕ) → call-lts.Need-loop-holds (
@@ -459,7 +475,7 @@ call-loop-holds : (t : ℕ) → call-lts.Need-loop-holds (
   code-reads.Asked,
   code-reads.Learnt,
 ) (call-at t) call.Post call-Inv-loop call-μ-loop
-call-loop-holds t c = ?
+call-loop-holds t c = let k = rule-chosen (c .before .before .before .before .before .before .before .before .before .pre .1) _ (some-rule (c .before .before .before .before .before .before .before .before .before .pre .1) (c .before .before .before .chosen .ensures) (c .before .before .if2 .left)) in start-rule (c .before .before .before .before .before .before .before .before .before .pre .1) _ k (c .sign-at .ensures)
 
 -- src/descent.rt:296:11
 call-goes-on-requires : (t : ℕ) → call-lts.Need-goes-on-requires (
@@ -482,7 +498,7 @@ call-goes-on-requires : (t : ℕ) → call-lts.Need-goes-on-requires (
   code-reads.Asked,
   code-reads.Learnt,
 ) (call-at t) call.Post call-Inv-loop call-μ-loop
-call-goes-on-requires t c κs = ?
+call-goes-on-requires t c κs = tt
 
 -- src/descent.rt:304:13
 call-add-run-body : (t : ℕ) → call-lts.Need-add-run-body (
@@ -505,7 +521,7 @@ call-add-run-body : (t : ℕ) → call-lts.Need-add-run-body (
   code-reads.Asked,
   code-reads.Learnt,
 ) (call-at t) call.Post call-Inv-loop call-μ-loop
-call-add-run-body t c = ?
+call-add-run-body t c = omega (arith, rule-conjunct (c .before .before .before .before .before .before .before .before .before .before .before .before .before .pre .1) (c .before .before .before .loop .inv) (sym (c .before .before .goes-on .ensures) ∙ c .before .if3 .taken))
 
 -- src/descent.rt:297:13
 call-run-body-requires : (t : ℕ) → call-lts.Need-run-body-requires (
@@ -528,7 +544,7 @@ call-run-body-requires : (t : ℕ) → call-lts.Need-run-body-requires (
   code-reads.Asked,
   code-reads.Learnt,
 ) (call-at t) call.Post call-Inv-loop call-μ-loop
-call-run-body-requires t c κs = ?
+call-run-body-requires t c κs = (omega (arith, c .before .before .before .before .before .before .before .before .before .before .before .before .before .pre .0), rule-run (c .before .before .before .before .before .before .before .before .before .before .before .before .before .pre .1) (c .before .before .before .loop .inv) (sym (c .before .before .goes-on .ensures) ∙ c .before .if3 .taken))
 
 -- src/descent.rt:307:9
 call-joined-requires : (t : ℕ) → call-lts.Need-joined-requires (
@@ -551,7 +567,7 @@ call-joined-requires : (t : ℕ) → call-lts.Need-joined-requires (
   code-reads.Asked,
   code-reads.Learnt,
 ) (call-at t) call.Post call-Inv-loop call-μ-loop
-call-joined-requires t c κs = ?
+call-joined-requires t c κs = tt
 
 -- src/descent.rt:308:30
 call-add-body-end : (t : ℕ) → call-lts.Need-add-body-end (
@@ -574,7 +590,7 @@ call-add-body-end : (t : ℕ) → call-lts.Need-add-body-end (
   code-reads.Asked,
   code-reads.Learnt,
 ) (call-at t) call.Post call-Inv-loop call-μ-loop
-call-add-body-end t c = ?
+call-add-body-end t c = omega (arith, rule-conjunct (c .before .before .before .before .before .before .before .before .before .before .before .before .before .before .before .before .before .pre .1) (c .before .before .before .before .before .before .before .loop .inv) (sym (c .before .before .before .before .before .before .goes-on .ensures) ∙ c .before .before .before .before .before .if3 .taken))
 
 -- src/descent.rt:308:9
 call-body-end-requires : (t : ℕ) → call-lts.Need-body-end-requires (
@@ -597,7 +613,7 @@ call-body-end-requires : (t : ℕ) → call-lts.Need-body-end-requires (
   code-reads.Asked,
   code-reads.Learnt,
 ) (call-at t) call.Post call-Inv-loop call-μ-loop
-call-body-end-requires t c κs = ?
+call-body-end-requires t c κs = omega (arith, rule-conjunct (c .before .before .before .before .before .before .before .before .before .before .before .before .before .before .before .before .before .pre .1) (c .before .before .before .before .before .before .before .loop .inv) (sym (c .before .before .before .before .before .before .goes-on .ensures) ∙ c .before .before .before .before .before .if3 .taken))
 
 -- src/descent.rt:309:9
 call-sign-at-requires-2 : (t : ℕ) → call-lts.Need-sign-at-requires-2 (
@@ -620,7 +636,7 @@ call-sign-at-requires-2 : (t : ℕ) → call-lts.Need-sign-at-requires-2 (
   code-reads.Asked,
   code-reads.Learnt,
 ) (call-at t) call.Post call-Inv-loop call-μ-loop
-call-sign-at-requires-2 t c κs = ?
+call-sign-at-requires-2 t c κs = tt
 
 -- src/descent.rt:296:5
 call-loop-less : (t : ℕ) → call-lts.Need-loop-less (
@@ -643,7 +659,7 @@ call-loop-less : (t : ℕ) → call-lts.Need-loop-less (
   code-reads.Asked,
   code-reads.Learnt,
 ) (call-at t) call.Post call-Inv-loop call-μ-loop
-call-loop-less t c = ?
+call-loop-less t c = omega (arith, rule-conjunct (c .before .before .before .before .before .before .before .before .before .before .before .before .before .before .before .before .before .before .before .pre .1) (c .before .before .before .before .before .before .before .before .before .loop .inv) (sym (c .before .before .before .before .before .before .before .before .goes-on .ensures) ∙ c .before .before .before .before .before .before .before .if3 .taken), c .before .body-end .ensures .on)
 
 -- src/descent.rt:296:5
 call-loop-again : (t : ℕ) → call-lts.Need-loop-again (
@@ -666,7 +682,7 @@ call-loop-again : (t : ℕ) → call-lts.Need-loop-again (
   code-reads.Asked,
   code-reads.Learnt,
 ) (call-at t) call.Post call-Inv-loop call-μ-loop
-call-loop-again t c = ?
+call-loop-again t c = rule-turn (c .before .before .before .before .before .before .before .before .before .before .before .before .before .before .before .before .before .before .before .pre .1) (c .before .before .before .before .before .before .before .before .before .loop .inv) (sym (c .before .before .before .before .before .before .before .before .goes-on .ensures) ∙ c .before .before .before .before .before .before .before .if3 .taken) (c .before .before .before .before .before .run-body .ensures) (c .before .before .joined .ensures) (c .before .body-end .ensures) (c .sign-at2 .ensures)
 
 -- src/descent.rt:311:9
 call-conclude-requires : (t : ℕ) → call-lts.Need-conclude-requires (
@@ -689,7 +705,7 @@ call-conclude-requires : (t : ℕ) → call-lts.Need-conclude-requires (
   code-reads.Asked,
   code-reads.Learnt,
 ) (call-at t) call.Post call-Inv-loop call-μ-loop
-call-conclude-requires t c κs = ?
+call-conclude-requires t c κs = tt
 
 -- src/descent.rt:312:19
 call-code-requires : (t : ℕ) → call-lts.Need-code-requires (
@@ -712,7 +728,7 @@ call-code-requires : (t : ℕ) → call-lts.Need-code-requires (
   code-reads.Asked,
   code-reads.Learnt,
 ) (call-at t) call.Post call-Inv-loop call-μ-loop
-call-code-requires t c κs = ?
+call-code-requires t c κs = rule-short (c .before .before .before .before .before .before .before .before .before .before .before .before .before .pre .1) (c .before .before .before .loop .inv) (c .conclude .result) (c .conclude .ensures)
 
 -- src/descent.rt:312:5
 call-mul-memo-2 : (t : ℕ) → call-lts.Need-mul-memo-2 (
@@ -735,7 +751,7 @@ call-mul-memo-2 : (t : ℕ) → call-lts.Need-mul-memo-2 (
   code-reads.Asked,
   code-reads.Learnt,
 ) (call-at t) call.Post call-Inv-loop call-μ-loop
-call-mul-memo-2 t c = ?
+call-mul-memo-2 t c = omega (arith, index-low (c .before .before .before .before .before .before .before .before .before .before .before .before .before .before .pre .1))
 
 -- src/descent.rt:312:5
 call-slice-write-memo-2 : (t : ℕ) → call-lts.Need-slice-write-memo-2 (
@@ -758,7 +774,7 @@ call-slice-write-memo-2 : (t : ℕ) → call-lts.Need-slice-write-memo-2 (
   code-reads.Asked,
   code-reads.Learnt,
 ) (call-at t) call.Post call-Inv-loop call-μ-loop
-call-slice-write-memo-2 t c = ?
+call-slice-write-memo-2 t c = omega (arith, index-low (c .before .before .before .before .before .before .before .before .before .before .before .before .before .before .pre .1), memo-same (c .before .before .before .before .loop .inv .calling .sound) (c .before .before .before .before .before .before .before .before .before .before .before .before .before .before .pre .1 .given .sound))
 
 -- src/descent.rt:271:1
 call-same-length-2 : (t : ℕ) → call-lts.Need-same-length-2 (
@@ -781,7 +797,7 @@ call-same-length-2 : (t : ℕ) → call-lts.Need-same-length-2 (
   code-reads.Asked,
   code-reads.Learnt,
 ) (call-at t) call.Post call-Inv-loop call-μ-loop
-call-same-length-2 t c = ?
+call-same-length-2 t c = simp length-set (memo-same (c .before .before .before .before .loop .inv .calling .sound) (c .before .before .before .before .before .before .before .before .before .before .before .before .before .before .pre .1 .given .sound))
 
 -- src/descent.rt:271:1
 call-returns-3 : (t : ℕ) → call-lts.Need-returns-3 (
@@ -804,14 +820,19 @@ call-returns-3 : (t : ℕ) → call-lts.Need-returns-3 (
   code-reads.Asked,
   code-reads.Learnt,
 ) (call-at t) call.Post call-Inv-loop call-μ-loop
-call-returns-3 t c = ?
+call-returns-3 t c =
+    let rule = c .before .before .before .before .loop .inv in
+    let stops = sym (c .before .before .before .goes-on .ensures) ∙ c .before .before .if3 .left in
+    call-stored (c .before .before .before .before .before .before .before .before .before .before .before .before .before .before .pre .1) (c .before .before .before .before .before .before .before .before .before .if1 .left) (some (rule .rule)) (rule .selected)
+    (rule-done (c .before .before .before .before .before .before .before .before .before .before .before .before .before .before .pre .1) rule stops (c .before .conclude .result) (c .before .conclude .ensures)) (c .code .ensures)
 
 abbrev run-body-Inv-loop : run-body-lts.InvT-loop
 run-body-Inv-loop nonterminal words starts table input memo₀ from start at₀ place₀ memo at place =
-    ?
+    Running words input memo₀ nonterminal from start memo at place
 
 abbrev run-body-μ-loop : run-body-lts.MeasureT-loop
-run-body-μ-loop nonterminal words starts table input memo₀ from start at₀ place₀ memo at place = ?
+run-body-μ-loop nonterminal words starts table input memo₀ from start at₀ place₀ memo at place =
+    length words - at
 
 -- src/descent.rt:245:5
 run-body-loop-holds : (t : ℕ) → run-body-lts.Need-loop-holds (
@@ -822,7 +843,7 @@ run-body-loop-holds : (t : ℕ) → run-body-lts.Need-loop-holds (
   call-below t,
   call.Post,
 ) (run-body-at t) run-body.Post run-body-Inv-loop run-body-μ-loop
-run-body-loop-holds t c = ?
+run-body-loop-holds t c = running-start (c .before .before .before .pre .1)
 
 -- src/descent.rt:246:27
 run-body-mul-decode : (t : ℕ) → run-body-lts.Need-mul-decode (
@@ -833,7 +854,7 @@ run-body-mul-decode : (t : ℕ) → run-body-lts.Need-mul-decode (
   call-below t,
   call.Post,
 ) (run-body-at t) run-body.Post run-body-Inv-loop run-body-μ-loop
-run-body-mul-decode t c = ?
+run-body-mul-decode t c = omega arith
 
 -- src/descent.rt:246:27
 run-body-shared-slice-read-decode : (t : ℕ) → run-body-lts.Need-shared-slice-read-decode (
@@ -844,7 +865,7 @@ run-body-shared-slice-read-decode : (t : ℕ) → run-body-lts.Need-shared-slice
   call-below t,
   call.Post,
 ) (run-body-at t) run-body.Post run-body-Inv-loop run-body-μ-loop
-run-body-shared-slice-read-decode t c = ?
+run-body-shared-slice-read-decode t c = omega arith
 
 -- src/descent.rt:246:13
 run-body-decode-requires : (t : ℕ) → run-body-lts.Need-decode-requires (
@@ -855,7 +876,7 @@ run-body-decode-requires : (t : ℕ) → run-body-lts.Need-decode-requires (
   call-below t,
   call.Post,
 ) (run-body-at t) run-body.Post run-body-Inv-loop run-body-μ-loop
-run-body-decode-requires t c κs = ?
+run-body-decode-requires t c κs = tt
 
 -- src/descent.rt:247:26
 run-body-enum-known-word : (t : ℕ) → run-body-lts.Need-enum-known-word (
@@ -866,7 +887,7 @@ run-body-enum-known-word : (t : ℕ) → run-body-lts.Need-enum-known-word (
   call-below t,
   call.Post,
 ) (run-body-at t) run-body.Post run-body-Inv-loop run-body-μ-loop
-run-body-enum-known-word t c = ?
+run-body-enum-known-word t c = c .match .keys1
 
 -- src/descent.rt:248:13
 run-body-same-length : (t : ℕ) → run-body-lts.Need-same-length (
@@ -877,7 +898,7 @@ run-body-same-length : (t : ℕ) → run-body-lts.Need-same-length (
   call-below t,
   call.Post,
 ) (run-body-at t) run-body.Post run-body-Inv-loop run-body-μ-loop
-run-body-same-length t c = ?
+run-body-same-length t c = memo-same (c .before .before .before .before .loop .inv .sound) (c .before .before .before .before .before .before .before .before .pre .1 .call .given .sound)
 
 -- src/descent.rt:248:13
 run-body-returns : (t : ℕ) → run-body-lts.Need-returns (
@@ -888,7 +909,7 @@ run-body-returns : (t : ℕ) → run-body-lts.Need-returns (
   call-below t,
   call.Post,
 ) (run-body-at t) run-body.Post run-body-Inv-loop run-body-μ-loop
-run-body-returns t c = ?
+run-body-returns t c = running-done (c .before .before .before .before .before .before .before .before .pre .1) (c .before .before .before .before .loop .inv) _ (c .before .before .before .loop-test .taken) (c .before .decode .ensures) (no-symbol _ (c .match .keys2))
 
 -- src/descent.rt:251:30
 run-body-enum-known-symbol : (t : ℕ) → run-body-lts.Need-enum-known-symbol (
@@ -899,7 +920,7 @@ run-body-enum-known-symbol : (t : ℕ) → run-body-lts.Need-enum-known-symbol (
   call-below t,
   call.Post,
 ) (run-body-at t) run-body.Post run-body-Inv-loop run-body-μ-loop
-run-body-enum-known-symbol t c = ?
+run-body-enum-known-symbol t c = c .match2 .keys1
 
 -- src/descent.rt:252:21
 run-body-matches-requires : (t : ℕ) → run-body-lts.Need-matches-requires (
@@ -910,7 +931,7 @@ run-body-matches-requires : (t : ℕ) → run-body-lts.Need-matches-requires (
   call-below t,
   call.Post,
 ) (run-body-at t) run-body.Post run-body-Inv-loop run-body-μ-loop
-run-body-matches-requires t c κs = ?
+run-body-matches-requires t c κs = tt
 
 -- src/descent.rt:253:21
 run-body-same-length-2 : (t : ℕ) → run-body-lts.Need-same-length-2 (
@@ -921,7 +942,7 @@ run-body-same-length-2 : (t : ℕ) → run-body-lts.Need-same-length-2 (
   call-below t,
   call.Post,
 ) (run-body-at t) run-body.Post run-body-Inv-loop run-body-μ-loop
-run-body-same-length-2 t c = ?
+run-body-same-length-2 t c = memo-same (c .before .before .before .before .before .before .before .before .before .before .before .loop .inv .sound) (c .before .before .before .before .before .before .before .before .before .before .before .before .before .before .before .pre .1 .call .given .sound)
 
 -- src/descent.rt:253:21
 run-body-returns-2 : (t : ℕ) → run-body-lts.Need-returns-2 (
@@ -932,7 +953,7 @@ run-body-returns-2 : (t : ℕ) → run-body-lts.Need-returns-2 (
   call-below t,
   call.Post,
 ) (run-body-at t) run-body.Post run-body-Inv-loop run-body-μ-loop
-run-body-returns-2 t c = ?
+run-body-returns-2 t c = running-mismatch (c .before .before .before .before .before .before .before .before .before .before .before .before .before .before .before .pre .1) (c .before .before .before .before .before .before .before .before .before .before .before .loop .inv) _ (c .before .before .before .before .before .before .before .before .before .before .loop-test .taken) (sym (c .before .before .before .before .before .before .before .before .decode .ensures) ∙ c .before .before .before .before .before .before .word .given .1 ∙ ap Symbol (c .before .before .before .symbol .given .1)) (sym (c .before .matches .ensures) ∙ not-true _ (c .if1 .taken))
 
 -- src/descent.rt:255:25
 run-body-add-place : (t : ℕ) → run-body-lts.Need-add-place (
@@ -943,7 +964,7 @@ run-body-add-place : (t : ℕ) → run-body-lts.Need-add-place (
   call-below t,
   call.Post,
 ) (run-body-at t) run-body.Post run-body-Inv-loop run-body-μ-loop
-run-body-add-place t c = ?
+run-body-add-place t c = omega (arith, c .before .before .before .before .before .before .before .before .before .before .before .loop .inv .placed, c .before .before .before .before .before .before .before .before .before .before .before .before .before .before .before .pre .1 .call .given .short)
 
 -- src/descent.rt:257:33
 run-body-enum-known-symbol-2 : (t : ℕ) → run-body-lts.Need-enum-known-symbol-2 (
@@ -954,7 +975,7 @@ run-body-enum-known-symbol-2 : (t : ℕ) → run-body-lts.Need-enum-known-symbol
   call-below t,
   call.Post,
 ) (run-body-at t) run-body.Post run-body-Inv-loop run-body-μ-loop
-run-body-enum-known-symbol-2 t c = ?
+run-body-enum-known-symbol-2 t c = c .match2 .keys2
 
 -- src/descent.rt:258:36
 run-body-cast-call : (t : ℕ) → run-body-lts.Need-cast-call (
@@ -965,7 +986,7 @@ run-body-cast-call : (t : ℕ) → run-body-lts.Need-cast-call (
   call-below t,
   call.Post,
 ) (run-body-at t) run-body.Post run-body-Inv-loop run-body-μ-loop
-run-body-cast-call t c = ?
+run-body-cast-call t c = omega (arith, running-small (c .before .before .before .before .before .before .before .before .before .before .before .before .before .pre .1) (c .before .before .before .before .before .before .before .before .before .loop .inv) _ (c .before .before .before .before .before .before .before .before .loop-test .taken) (sym (c .before .before .before .before .before .before .decode .ensures) ∙ c .before .before .before .before .word .given .1 ∙ ap Symbol (c .before .symbol2 .given .1)))
 
 -- src/descent.rt:258:21
 run-body-call-requires : (t : ℕ) → run-body-lts.Need-call-requires (
@@ -976,7 +997,7 @@ run-body-call-requires : (t : ℕ) → run-body-lts.Need-call-requires (
   call-below t,
   call.Post,
 ) (run-body-at t) run-body.Post run-body-Inv-loop run-body-μ-loop
-run-body-call-requires t c κs = ?
+run-body-call-requires t c κs = (omega (arith, running-falls (c .before .before .before .before .before .before .before .before .before .before .before .before .before .before .pre .1) (c .before .before .before .before .before .before .before .before .before .before .loop .inv) _ (c .before .before .before .before .before .before .before .before .before .loop-test .taken) (sym (c .before .before .before .before .before .before .before .decode .ensures) ∙ c .before .before .before .before .before .word .given .1 ∙ ap Symbol (c .before .before .symbol2 .given .1)), c .before .before .before .before .before .before .before .before .before .before .before .before .before .before .pre .0), running-given (c .before .before .before .before .before .before .before .before .before .before .before .before .before .before .pre .1) (c .before .before .before .before .before .before .before .before .before .before .loop .inv) _ (c .before .before .before .before .before .before .before .before .before .loop-test .taken) (sym (c .before .before .before .before .before .before .before .decode .ensures) ∙ c .before .before .before .before .before .word .given .1 ∙ ap Symbol (c .before .before .symbol2 .given .1)))
 
 -- src/descent.rt:259:34
 run-body-enum-known-outcome : (t : ℕ) → run-body-lts.Need-enum-known-outcome (
@@ -987,7 +1008,7 @@ run-body-enum-known-outcome : (t : ℕ) → run-body-lts.Need-enum-known-outcome
   call-below t,
   call.Post,
 ) (run-body-at t) run-body.Post run-body-Inv-loop run-body-μ-loop
-run-body-enum-known-outcome t c = ?
+run-body-enum-known-outcome t c = c .match3 .keys1
 
 -- src/descent.rt:260:21
 run-body-enum-told : (t : ℕ) → run-body-lts.Need-enum-told (
@@ -998,7 +1019,7 @@ run-body-enum-told : (t : ℕ) → run-body-lts.Need-enum-told (
   call-below t,
   call.Post,
 ) (run-body-at t) run-body.Post run-body-Inv-loop run-body-μ-loop
-run-body-enum-told t c = ?
+run-body-enum-told t c = c .match3 .keys2
 
 -- src/descent.rt:260:21
 run-body-same-length-3 : (t : ℕ) → run-body-lts.Need-same-length-3 (
@@ -1009,7 +1030,7 @@ run-body-same-length-3 : (t : ℕ) → run-body-lts.Need-same-length-3 (
   call-below t,
   call.Post,
 ) (run-body-at t) run-body.Post run-body-Inv-loop run-body-μ-loop
-run-body-same-length-3 t c = ?
+run-body-same-length-3 t c = memo-same (c .before .before .before .before .call .ensures .sound) (c .before .before .before .before .before .before .before .before .before .before .before .before .before .before .before .before .before .before .before .pre .1 .call .given .sound)
 
 -- src/descent.rt:260:21
 run-body-returns-3 : (t : ℕ) → run-body-lts.Need-returns-3 (
@@ -1020,7 +1041,7 @@ run-body-returns-3 : (t : ℕ) → run-body-lts.Need-returns-3 (
   call-below t,
   call.Post,
 ) (run-body-at t) run-body.Post run-body-Inv-loop run-body-μ-loop
-run-body-returns-3 t c = ?
+run-body-returns-3 t c = running-failed (c .before .before .before .before .before .before .before .before .before .before .before .before .before .before .before .before .before .before .before .pre .1) (c .before .before .before .before .before .before .before .before .before .before .before .before .before .before .before .loop .inv) _ (c .before .before .before .before .before .before .before .before .before .before .before .before .before .before .loop-test .taken) (sym (c .before .before .before .before .before .before .before .before .before .before .before .before .decode .ensures) ∙ c .before .before .before .before .before .before .before .before .before .before .word .given .1 ∙ ap Symbol (c .before .before .before .before .before .before .before .symbol2 .given .1)) (c .before .before .before .before .call .ensures) (c .enum-told .given .1)
 
 -- src/descent.rt:265:14
 run-body-add-at : (t : ℕ) → run-body-lts.Need-add-at (
@@ -1031,7 +1052,7 @@ run-body-add-at : (t : ℕ) → run-body-lts.Need-add-at (
   call-below t,
   call.Post,
 ) (run-body-at t) run-body.Post run-body-Inv-loop run-body-μ-loop
-run-body-add-at t c = ?
+run-body-add-at t c = omega arith
 
 -- src/descent.rt:245:5
 run-body-loop-less : (t : ℕ) → run-body-lts.Need-loop-less (
@@ -1042,7 +1063,7 @@ run-body-loop-less : (t : ℕ) → run-body-lts.Need-loop-less (
   call-below t,
   call.Post,
 ) (run-body-at t) run-body.Post run-body-Inv-loop run-body-μ-loop
-run-body-loop-less t c = ?
+run-body-loop-less t c = omega arith
 
 -- src/descent.rt:245:5
 run-body-loop-again : (t : ℕ) → run-body-lts.Need-loop-again (
@@ -1053,7 +1074,17 @@ run-body-loop-again : (t : ℕ) → run-body-lts.Need-loop-again (
   call-below t,
   call.Post,
 ) (run-body-at t) run-body.Post run-body-Inv-loop run-body-μ-loop
-run-body-loop-again t c = ?
+run-body-loop-again t c =
+    let given = c .before .before .before .before .before .before .before .before .before .before .before .pre .1 in
+    let run = c .before .before .before .before .before .before .before .loop .inv in
+    let low = c .before .before .before .before .before .before .loop-test .taken in
+    let word = sym (c .before .before .before .before .decode .ensures) ∙ c .before .before .word .given .1 in
+    ⊎-elim
+    (λ w.
+    running-as (w .5) (w .6)
+    (running-terminal given run _ low (word ∙ ap Symbol (w .1 .given .1)) (sym (w .3 .ensures) ∙ not-false _ (w .4 .left))))
+    (λ w. running-as (w .10) (w .11) (running-call given run _ low (word ∙ ap Symbol (w .1 .given .1)) (w .4 .ensures) _ (w .8 .given .1)))
+    (c .match2 .came)
 
 -- src/descent.rt:230:1
 run-body-same-length-4 : (t : ℕ) → run-body-lts.Need-same-length-4 (
@@ -1064,7 +1095,7 @@ run-body-same-length-4 : (t : ℕ) → run-body-lts.Need-same-length-4 (
   call-below t,
   call.Post,
 ) (run-body-at t) run-body.Post run-body-Inv-loop run-body-μ-loop
-run-body-same-length-4 t c = ?
+run-body-same-length-4 t c = memo-same (c .before .loop .inv .sound) (c .before .before .before .before .before .pre .1 .call .given .sound)
 
 -- src/descent.rt:230:1
 run-body-returns-4 : (t : ℕ) → run-body-lts.Need-returns-4 (
@@ -1075,7 +1106,7 @@ run-body-returns-4 : (t : ℕ) → run-body-lts.Need-returns-4 (
   call-below t,
   call.Post,
 ) (run-body-at t) run-body.Post run-body-Inv-loop run-body-μ-loop
-run-body-returns-4 t c = ?
+run-body-returns-4 t c = running-over (c .before .before .before .before .before .pre .1) (c .before .loop .inv) (c .loop-test .left)
 
 pub +call+run-body-spec : {M : Type 1} → statement M
 +call+run-body-spec = close μ-call μ-run-body (λ t. call-lts.spec (
