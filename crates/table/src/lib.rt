@@ -1,1 +1,2 @@
 // First and follow sets, left recursion and the LL(1) table of an encoded grammar.
+mod entries;
