@@ -1,4 +1,5 @@
 pub mod Lists
+pub mod Least
 pub mod Sets
 pub mod Layout
 pub mod Entries

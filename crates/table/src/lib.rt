@@ -1,2 +1,3 @@
 // First and follow sets, left recursion and the LL(1) table of an encoded grammar.
 mod entries;
+mod family;

@@ -1,0 +1,51 @@
+-- Families of sets, a set for each nonterminal, and the least family that a condition closes; what "closed" means is a parameter.
+use mathlib.Core.Path.{_≡_}
+use mathlib.Core.Bool.{Bool, true, false, not, _||_}
+use mathlib.Core.List.{List, [], _∷_}
+use Prim.Native.Nat.{ℕ, _+_, _^_, _≤_, _<_}
+use lib.Dec.{eqb}
+use lib.ListN.{getD, set}
+use Rattle.lookahead.specs.Elements.{Subset, one, width}
+use Rattle.lookahead.specs.Operations.{join}
+
+-- for each nonterminal the number of a set
+abbrev pub SetFamily : Type 0
+SetFamily = ℕ → ℕ
+
+-- the family that an array holds
+abbrev pub at : List ℕ → SetFamily
+at l n = getD l n 0
+
+-- each set of F is contained in that of G
+abbrev pub Under : SetFamily → SetFamily → Type 0
+Under F G = (n : ℕ) → Subset (F n) (G n)
+
+-- closed, and under every closed family
+pub record Least (Closed : SetFamily → Type 0) (l : List ℕ) : Type 0 where
+  pub closed : Closed (at l)
+  pub least : (G : SetFamily) → Closed G → Under (at l) G
+
+-- v is joined into the set of n, and it is told whether a set has grown so far
+pub record Adds (l : List ℕ) (n v : ℕ) (grown : Bool) (l′ : List ℕ) (r : Bool) : Type 0 where
+  pub list : l′ ≡ set l n (join (at l n) v)
+  pub told : r ≡ (grown || not (eqb (join (at l n) v) (at l n)))
+
+-- the numbers of an array together: what rises where a set grows
+unfoldable pub sum : List ℕ → ℕ
+sum [] = 0
+sum (s ∷ l) = s + sum l
+
+-- a pass that has gone through the rules of Closed, from l₀ to l: what it has added, each family of Whole has
+pub record Passing (Whole Closed : SetFamily → Type 0) (l₀ l : List ℕ) (grown : Bool) : Type 0 where
+  pub grows : sum l₀ + one grown ≤ sum l
+  pub still : grown ≡ false → Closed (at l)
+  pub below : (G : SetFamily) → Whole G → Under (at l₀) G → Under (at l) G
+
+-- each number fits a word
+pub record Small (l : List ℕ) : Type 0 where
+  pub each : (n : ℕ) → at l n < 2 ^ width
+
+-- a pass through all the rules
+pub record Passes (Closed : SetFamily → Type 0) (l₀ l : List ℕ) (grown : Bool) : Type 0 where
+  pub passing : Passing Closed Closed l₀ l grown
+  pub small : Small l
