@@ -27,15 +27,15 @@ use Rattle.grammar.proofs.WellFormed.{faulty, Reads, reads}
 use Rattle.grammar.proofs.Begins.{begins, as-many}
 
 -- a choice that is read was taken on its good side
-chosen : (b : Bool) (o : Outcome) (z : Sizes) → choose b o (Faulty HeadingFault) ≡ Read z → (b ≡ true) × (o ≡ Read z)
+pub chosen : (b : Bool) (o : Outcome) (z : Sizes) → choose b o (Faulty HeadingFault) ≡ Read z → (b ≡ true) × (o ≡ Read z)
 chosen true o z e = (refl, e)
 chosen false o z e = absurd (faulty HeadingFault z e)
 
-refused : (b : Bool) (o : Outcome) (z : Sizes) → choose b (Faulty Length) o ≡ Read z → (b ≡ false) × (o ≡ Read z)
+pub refused : (b : Bool) (o : Outcome) (z : Sizes) → choose b (Faulty Length) o ≡ Read z → (b ≡ false) × (o ≡ Read z)
 refused true o z e = absurd (faulty Length z e)
 refused false o z e = (refl, e)
 
-both : (a b : Bool) → (a && b) ≡ true → (a ≡ true) × (b ≡ true)
+pub both : (a b : Bool) → (a && b) ≡ true → (a ≡ true) × (b ≡ true)
 both true b e = (refl, e)
 both false b e = absurd (false≢true e)
 
@@ -43,7 +43,7 @@ pub record Within (n limit : ℕ) : Type 0 where
   pub some : 0 < n
   pub few : n ≤ limit
 
-within-limits : (n limit : ℕ) → within n limit ≡ true → Within n limit
+pub within-limits : (n limit : ℕ) → within n limit ≡ true → Within n limit
 unfolding within
 within-limits n limit e = let h = both (ltb 0 n) (leb n limit) e in record { some = ltb-true 0 n (h .0); few = leb-true n limit (h .1) }
 

@@ -20,20 +20,20 @@ use Rattle.table.specs.declared.entries.Conflict.{Conflict}
 use Rattle.table.specs.declared.entries.Conflict.the-variants.{Absent, At}
 use Rattle.table.specs.Sets.{stringOf}
 use Rattle.table.specs.Layout.{columnString}
-use Rattle.table.specs.Entries.{columnOf, firstOf, elementOf, conflictFrom}
+use Rattle.table.specs.Entries.{columnOf, firstOf, columnElement, conflictFrom}
 
 -- the string of a column is that of the column's element, and its column is the column
 module _ (t c : ℕ) (few : t ≤ nothing) (h : c ≤ t) where
-  pub column-string : stringOf (elementOf t c) ≡ columnString t c
-  unfolding stringOf elementOf columnString
+  pub column-string : stringOf (columnElement t c) ≡ columnString t c
+  unfolding stringOf columnElement columnString
   column-string = go (ℕ-discrete c t)
     where
       go : Dec (c ≡ t) → choose (eqb (choose (eqb c t) nothing c) nothing) [] (choose (eqb c t) nothing c ∷ []) ≡ choose (eqb c t) [] (c ∷ [])
       go (yes e) = rw (eq-eqb c t e)
       go (no ne) = rw (ne-eqb c t ne, ne-eqb c nothing (λ e. omega arith))
 
-  pub element-small : elementOf t c < suc nothing
-  unfolding elementOf
+  pub element-small : columnElement t c < suc nothing
+  unfolding columnElement
   element-small = go (ℕ-discrete c t)
     where
       go : Dec (c ≡ t) → choose (eqb c t) nothing c < suc nothing
@@ -97,7 +97,7 @@ module _ (t : ℕ) where
       rw (e, cells-split (A * suc t) (suc t) (n * suc t), next, r, rows-cells (suc A) n)
 
   pub record InCells (i n : ℕ) (twice : List ℕ) (p : Entry → Bool) : Type 0 where
-    pub each : (j : ℕ) → i ≤ j → j < i + n → has (getD twice (j / suc t) 0) (elementOf t (j % suc t)) ≡ p (cell j)
+    pub each : (j : ℕ) → i ≤ j → j < i + n → has (getD twice (j / suc t) 0) (columnElement t (j % suc t)) ≡ p (cell j)
 
   found : (few : t ≤ nothing) (twice : List ℕ) (p : Entry → Bool) (i n : ℕ) → InCells i n twice p → conflictFrom twice t i n ≡ firstOf t (keep p (cells i n))
   unfolding conflictFrom cells keep
@@ -129,11 +129,11 @@ first-clash G few twice h =
     s = omega arith
 
     each : (j : ℕ) → 0 ≤ j → j < 0 + G .nonterminals * suc t
-        → has (getD twice (j / suc t) 0) (elementOf t (j % suc t)) ≡ several (claims G 1 (j / suc t, columnString t (j % suc t))) (G .rules)
+        → has (getD twice (j / suc t) 0) (columnElement t (j % suc t)) ≡ several (claims G 1 (j / suc t, columnString t (j % suc t))) (G .rules)
     each j _ b =
         let z : 0 < suc t = omega arith in
         let m = mod-lt j z in
         let c : j % suc t ≤ t = omega arith in
         let A : j / suc t < G .nonterminals = div-lt-iff-lt-mul {x = j} {y = G .nonterminals} z .1 (omega arith) in
-        h (j / suc t) (elementOf t (j % suc t)) A (element-small t (j % suc t) few c)
+        h (j / suc t) (columnElement t (j % suc t)) A (element-small t (j % suc t) few c)
         ∙ ap (λ x. several (claims G 1 (j / suc t, x)) (G .rules)) (column-string t (j % suc t) few c)

@@ -24,7 +24,7 @@ use Rattle.semantics.specs.FirstFollow.{sameString, Entry}
 use Rattle.semantics.specs.Claims.{several, position, claimed, claims, tableOf}
 use Rattle.table.specs.Sets.{stringOf}
 use Rattle.table.specs.Layout.{columnString, columns}
-use Rattle.table.specs.Entries.{elementOf, FilledRow, Noted, wordOf, entryOver, FilledRows}
+use Rattle.table.specs.Entries.{columnElement, FilledRow, Noted, wordOf, entryOver, FilledRows}
 use Rattle.table.proofs.Cells.{column-string, element-small}
 
 -- the elements that a rule claims
@@ -137,7 +137,7 @@ module _ {G : Grammar} {rs : List Rule} {q : ℕ} {once twice before table once�
       → getD table′ (wordOf G (r .head) c) 0 ≡ entryOver q (getD before (wordOf G (r .head) c) 0) (position (claims G 1 (r .head, columnString (G .terminals) c)) (r ∷ rs))
   own-row c h =
       let i : 2 * G .nonterminals + r .head * columns G + c ≡ wordOf G (r .head) c = omega arith in
-      let e = is .each (elementOf (G .terminals) c) (element-small (G .terminals) c few h)
+      let e = is .each (columnElement (G .terminals) c) (element-small (G .terminals) c few h)
       ∙ ap (λ x. member sameString (claimed G 1 r) x) (column-string (G .terminals) c few h) ∙ sym (claims-own (columnString (G .terminals) c)) in
       (rw (i, e) at (w .inside c (omega arith))) ∙ go (claims G 1 (r .head, columnString (G .terminals) c) r) refl
     where

@@ -1,73 +1,155 @@
--- Sets of strings of at most one terminal and the numbers that stand for them.
-use mathlib.Core.Path.{_≡_, sym, ap, ap₂, _∙_}
-use mathlib.Core.Bool.{Bool}
+-- With one token of lookahead: strings of at most one terminal and the elements of sets, one to one, and First_1 of a concatenation. Assumes nothing.
+use mathlib.Core.Path.{_≡_, refl, sym, ap, ap₂, _∙_}
+use mathlib.Core.Bool.{Bool, true, false, _&&_, _||_, or-true}
 use mathlib.Core.List.{List, [], _∷_, _++_}
-use Prim.Native.Nat.{ℕ, suc, _<_}
-use native.Mathlib.Decide.{ℕ-discrete}
+use mathlib.Core.Logic.{_⊎_, inl, inr}
+use Prim.Native.Nat.{ℕ, zero, suc, _≤_, _<_}
 use native.Mathlib.Omega.{arith}
-use lib.Dec.{T, eqb}
+use lib.Dec.{T, eqb, ltb, ltb→lt, lt→ltb, eqb→eq, eqb-refl}
 use lib.ListN.{length, take}
-use borrow.Author.Tests.{eq-eqb, ne-eqb}
+use borrow.Author.Tests.{eqb-true, eq-eqb, ne-eqb, lt-ltb}
+use mir.Facts.{and-yes, yes-and}
 use Rattle.grammar.specs.Choice.{choose}
-use Rattle.lookahead.specs.Elements.{nothing, has}
-use Rattle.lookahead.specs.Operations.{pick, concat}
+use Rattle.grammar.specs.declared.Symbol.{Symbol}
+use Rattle.grammar.specs.declared.Symbol.the-variants.{Terminal, Nonterminal}
+use Rattle.grammar.specs.Syntax.{Body, TerminalsBelow}
+use Rattle.semantics.specs.Quantifiers.{all}
+use Rattle.semantics.specs.Strings.{Lookahead}
+use Rattle.semantics.specs.Families.{Family, FirstOf, FirstBody}
+use Rattle.lookahead.specs.Elements.{nothing, has, total}
+use Rattle.lookahead.specs.Operations.{pick, end, terminal, full, concat}
+use Rattle.lookahead.proofs.Operations.{has-end, has-terminal, has-full}
+use Rattle.lookahead.proofs.Over.{over-full}
 use Rattle.lookahead.proofs.Pairs.{first, concat-pair}
 use Rattle.lookahead.proofs.Concat.{paired}
-use Rattle.semantics.proofs.Concatenation.{Cut}
-use Rattle.table.specs.Sets.{stringOf}
+use Rattle.lookahead.proofs.Weights.{has-total}
+use Rattle.table.specs.Least.{SetFamily}
+use Rattle.table.specs.Sets.{stringOf, numberOf}
+use Rattle.table.specs.First.{symbolFirst, bodyFirst}
 
--- an element and its string
-module _ (l : ℕ) where
-  pub string-nothing : l ≡ nothing → stringOf l ≡ []
-  unfolding stringOf
-  string-nothing e = rw (eq-eqb l nothing e)
+-- the element that stands for a string
+abbrev pub elementOf : List ℕ → ℕ
+elementOf [] = nothing
+elementOf (a ∷ x) = a
 
-  pub string-terminal : (l ≡ nothing → ⊥) → stringOf l ≡ l ∷ []
-  unfolding stringOf
-  string-terminal ne = rw (ne-eqb l nothing ne)
-
--- different elements have different strings
-pub string-injective : (l m : ℕ) → stringOf l ≡ stringOf m → l ≡ m
-string-injective l m e = go (ℕ-discrete l nothing) (ℕ-discrete m nothing)
+pub element-string : (l : ℕ) → elementOf (stringOf l) ≡ l
+unfolding stringOf
+element-string l = go (eqb l nothing) refl
   where
-    go : Dec (l ≡ nothing) → Dec (m ≡ nothing) → l ≡ m
-    go (yes a) (yes b) = a ∙ sym b
-    go (yes a) (no b) = let z : [] ≡ m ∷ [] = sym (string-nothing l a) ∙ e ∙ string-terminal m b in absurd (omega (arith, ap length z))
-    go (no a) (yes b) = let z : l ∷ [] ≡ [] = sym (string-terminal l a) ∙ e ∙ string-nothing m b in absurd (omega (arith, ap length z))
-    go (no a) (no b) = let z : l ∷ [] ≡ m ∷ [] = sym (string-terminal l a) ∙ e ∙ string-terminal m b in cc
+    go : (b : Bool) → eqb l nothing ≡ b → elementOf (choose b [] (l ∷ [])) ≡ l
+    go true e = sym (eqb-true l nothing e)
+    go false e = refl
 
-take-string : (l : ℕ) → take 1 (stringOf l) ≡ stringOf l
-take-string l = go (ℕ-discrete l nothing)
+pub string-nothing : stringOf nothing ≡ []
+unfolding stringOf
+string-nothing = refl
+
+pub string-terminal : (a : ℕ) → a < nothing → stringOf a ≡ a ∷ []
+unfolding stringOf
+string-terminal a h = rw (ne-eqb a nothing (λ e. omega arith))
+
+-- strings follow one another as elements do
+pub string-first : (a b : ℕ) → take 1 (stringOf a ++ stringOf b) ≡ stringOf (first a b)
+unfolding stringOf first
+string-first a b = go (eqb a nothing) refl (eqb b nothing) refl
   where
-    go : Dec (l ≡ nothing) → take 1 (stringOf l) ≡ stringOf l
-    go (yes e) = rw (string-nothing l e)
-    go (no ne) = rw (string-terminal l ne)
+    go : (c : Bool) → eqb a nothing ≡ c → (d : Bool) → eqb b nothing ≡ d
+        → take 1 (choose c [] (a ∷ []) ++ choose d [] (b ∷ [])) ≡ choose (eqb (pick c b a) nothing) [] (pick c b a ∷ [])
+    go true e true f = rw f
+    go true e false f = rw f
+    go false e d f = rw e
 
--- what comes first of two elements is what comes first of their strings
-pub string-first : (a b : ℕ) → stringOf (first a b) ≡ take 1 (stringOf a ++ stringOf b)
-unfolding first
-string-first a b = go (ℕ-discrete a nothing)
-  where
-    go : Dec (a ≡ nothing) → stringOf (pick (eqb a nothing) b a) ≡ take 1 (stringOf a ++ stringOf b)
-    go (yes e) = rw (eq-eqb a nothing e, string-nothing a e) (sym (take-string b))
-    go (no ne) = rw (ne-eqb a nothing ne, string-terminal a ne)
+-- over t terminals these are the lookahead strings
+pub string-lookahead : (t l : ℕ) → t ≤ nothing → (l < t) ⊎ (l ≡ nothing) → Lookahead 1 t (stringOf l)
+unfolding all
+string-lookahead t l h (inl b) = rw (string-terminal l (omega arith)) (omega arith, yes-and (ltb l t) true (lt→ltb l t b) tt)
+string-lookahead t l h (inr e) = rw (e, string-nothing) (omega arith, tt)
 
--- the number s stands for the strings of which P holds
-pub record StandsFor (P : List ℕ → Type 0) (s : ℕ) : Type 0 where
-  pub string : (l : ℕ) → T (has s l) → P (stringOf l)
-  pub element : (x : List ℕ) → P x → (l : ℕ) × T (has s l) × (x ≡ stringOf l)
+pub record Stands (t : ℕ) (x : List ℕ) : Type 0 where
+  pub over : (elementOf x < t) ⊎ (elementOf x ≡ nothing)
+  pub is : x ≡ stringOf (elementOf x)
 
-pub stands-element : {P : List ℕ → Type 0} {s : ℕ} → StandsFor P s → (l : ℕ) → P (stringOf l) → T (has s l)
-stands-element {P} {s} h l p = let r = h .element (stringOf l) p in rw (string-injective l (r .0) (r .2)) (r .1)
+pub lookahead-string : (t : ℕ) (x : List ℕ) → t ≤ nothing → Lookahead 1 t x → Stands t x
+unfolding all
+lookahead-string t [] h l = record { over = inr refl; is = sym string-nothing }
+lookahead-string t (a ∷ []) h l =
+    let b = ltb→lt a t (and-yes (ltb a t) true (l .1) .0) in record { over = inl b; is = sym (string-terminal a (omega arith)) }
+lookahead-string t (a ∷ b ∷ x) h l = absurd (omega arith)
 
--- the concatenation of two numbers stands for the concatenation, cut to one terminal, of what they stand for
-pub stands-concat : {P Q : List ℕ → Type 0} {x y : ℕ} → StandsFor P x → StandsFor Q y → StandsFor (Cut 1 P Q) (concat x y)
-stands-concat {P} {Q} {x} {y} p q = record {
-  string = λ l t.
-      let r = concat-pair x y l t in
-      (stringOf (r .a), stringOf (r .b), p .string (r .a) (r .a-in), q .string (r .b) (r .b-in), ap stringOf (sym (r .is-first)) ∙ string-first (r .a) (r .b));
-  element = λ z c.
-      let a = p .element (c .0) (c .2) in
-      let b = q .element (c .1) (c .3) in
-      (first (a .0) (b .0), paired x y (a .0) (b .0) (a .1) (b .1), c .4 ∙ ap₂ (λ u v. take 1 (u ++ v)) (a .2) (b .2) ∙ sym (string-first (a .0) (b .0)));
-}
+-- so no element is above nothing
+pub lookahead-bound : (t l : ℕ) → t ≤ nothing → Lookahead 1 t (stringOf l) → l ≤ nothing
+lookahead-bound t l h k = elim (rw (element-string l) at (lookahead-string t (stringOf l) h k .over)) [ inl b ↦ omega arith | inr e ↦ omega arith ]
+
+-- and the elements of the full set
+pub lookahead-full : (t l : ℕ) → t ≤ nothing → T (has (full t) l) → Lookahead 1 t (stringOf l)
+lookahead-full t l h s = string-lookahead t l h (over-full t l s)
+
+pub full-has : (t l : ℕ) → t ≤ nothing → (l < t) ⊎ (l ≡ nothing) → T (has (full t) l)
+full-has t l h (inl b) = rw (has-full t l, lt-ltb l (suc nothing) (omega arith), lt-ltb l t b) tt
+full-has t l h (inr e) = rw (has-full t l, lt-ltb l (suc nothing) (omega arith), eq-eqb l nothing e, or-true (ltb l t)) tt
+
+-- a string whose element is in a set
+abbrev pub StringIn : ℕ → List ℕ → Type 0
+StringIn s x = (l : ℕ) × T (has s l) × (x ≡ stringOf l)
+
+-- a family of sets as one of strings
+abbrev pub stringsOf : SetFamily → Family
+stringsOf F A x = StringIn (F A) x
+
+pub string-in : (s l : ℕ) → T (has s l) → StringIn s (stringOf l)
+string-in s l t = (l, t, refl)
+
+pub in-element : (s : ℕ) (x : List ℕ) → StringIn s x → T (has s (elementOf x))
+in-element s x i = rw (i .2, element-string (i .0)) (i .1)
+
+pub in-string : (s l : ℕ) → StringIn s (stringOf l) → T (has s l)
+in-string s l i = rw (element-string l) at (in-element s (stringOf l) i)
+
+-- the number of a set of strings has the elements of the strings that it holds
+pub number-has : (p : List ℕ → Bool) (l : ℕ) → T (has (numberOf p) l) → T (p (stringOf l))
+unfolding numberOf
+number-has p l t = and-yes (ltb l (suc nothing)) (p (stringOf l)) (rw (has-total (suc nothing) (λ l. p (stringOf l)) l) at t) .1
+
+pub has-number : (p : List ℕ → Bool) (l : ℕ) → l ≤ nothing → T (p (stringOf l)) → T (has (numberOf p) l)
+unfolding numberOf
+has-number p l h t = rw (has-total (suc nothing) (λ l. p (stringOf l)) l) (yes-and (ltb l (suc nothing)) (p (stringOf l)) (lt→ltb l (suc nothing) (omega arith)) t)
+
+-- the first sets of bodies, in strings and in numbers
+module _ (F : SetFamily) (t : ℕ) (few : t ≤ nothing) where
+  symbol-in : (X : Symbol) (b : Body) → TerminalsBelow t (X ∷ b) → (x : List ℕ) → FirstOf 1 (stringsOf F) X x → StringIn (symbolFirst F X) x
+  unfolding symbolFirst
+  symbol-in (Terminal a) b h x e =
+      (a, rw (has-terminal a a) (yes-and (ltb a nothing) (eqb a a) (lt→ltb a nothing (omega (arith, h .0))) (eqb-refl a)), e ∙ sym (string-terminal a (omega (arith, h .0))))
+  symbol-in (Nonterminal A) b h x i = i
+
+  in-symbol : (X : Symbol) (x : List ℕ) → StringIn (symbolFirst F X) x → FirstOf 1 (stringsOf F) X x
+  unfolding symbolFirst
+  in-symbol (Terminal a) x i =
+      let s = and-yes (ltb a nothing) (eqb (i .0) a) (rw (has-terminal a (i .0)) at (i .1)) in
+      let e : i .0 ≡ a = eqb→eq (i .0) a (s .1) in
+      i .2 ∙ ap stringOf e ∙ string-terminal a (ltb→lt a nothing (s .0))
+  in-symbol (Nonterminal A) x i = i
+
+  rest-below : (X : Symbol) (b : Body) → TerminalsBelow t (X ∷ b) → TerminalsBelow t b
+  rest-below (Terminal a) b h = h .1
+  rest-below (Nonterminal A) b h = h
+
+  pub body-in : (b : Body) → TerminalsBelow t b → (x : List ℕ) → FirstBody 1 (stringsOf F) b x → StringIn (bodyFirst F b) x
+  unfolding bodyFirst
+  body-in [] h x e = (nothing, rw (has-end nothing) tt, e ∙ sym string-nothing)
+  body-in (X ∷ b) h x f =
+      let i = symbol-in X b h (f .0) (f .2) in
+      let j = body-in b (rest-below X b h) (f .1) (f .3) in
+      (first (i .0) (j .0), paired (symbolFirst F X) (bodyFirst F b) (i .0) (j .0) (i .1) (j .1), f .4 ∙ ap₂ (λ u y. take 1 (u ++ y)) (i .2) (j .2) ∙ string-first (i .0) (j .0))
+
+  pub in-body : (b : Body) (x : List ℕ) → StringIn (bodyFirst F b) x → FirstBody 1 (stringsOf F) b x
+  unfolding bodyFirst
+  in-body [] x i = let e : i .0 ≡ nothing = eqb→eq (i .0) nothing (rw (has-end (i .0)) at (i .1)) in i .2 ∙ ap stringOf e ∙ string-nothing
+  in-body (X ∷ b) x i =
+      let p = concat-pair (symbolFirst F X) (bodyFirst F b) (i .0) (i .1) in (
+        stringOf (p .a),
+        stringOf (p .b),
+        in-symbol X (stringOf (p .a)) (string-in (symbolFirst F X) (p .a) (p .a-in)),
+        in-body b (stringOf (p .b)) (string-in (bodyFirst F b) (p .b) (p .b-in)),
+        i .2 ∙ ap stringOf (sym (p .is-first)) ∙ sym (string-first (p .a) (p .b)),
+      )

@@ -40,20 +40,20 @@ unfoldable pub entriesOf : Grammar → Entries
 entriesOf G = entriesWith (firstOf (G .terminals) (clashes G 1)) (filled (tableWords G))
 
 -- the element of a column: the terminals in order, then the end
-unfoldable pub elementOf : ℕ → ℕ → ℕ
-elementOf terminals c = choose (eqb c terminals) nothing c
+unfoldable pub columnElement : ℕ → ℕ → ℕ
+columnElement terminals c = choose (eqb c terminals) nothing c
 
 -- the first of n entries, from one on, that is in the sets claimed twice
 unfoldable pub conflictFrom : List ℕ → ℕ → ℕ → ℕ → Conflict
 conflictFrom twice terminals i zero = Absent
 conflictFrom twice terminals i (suc n) =
-    choose (has (getD twice (i / suc terminals) 0) (elementOf terminals (i % suc terminals))) (At (i / suc terminals) (i % suc terminals))
+    choose (has (getD twice (i / suc terminals) 0) (columnElement terminals (i % suc terminals))) (At (i / suc terminals) (i % suc terminals))
     (conflictFrom twice terminals (suc i) n)
 
 -- the first n columns of a row have the rule where it claims them
 pub record FilledRow (before : List ℕ) (row terminals n claim rule : ℕ) (after : List ℕ) : Type 0 where
   pub long : length after ≡ length before
-  pub inside : (c : ℕ) → c < n → getD after (row + c) 0 ≡ choose (has claim (elementOf terminals c)) rule (getD before (row + c) 0)
+  pub inside : (c : ℕ) → c < n → getD after (row + c) 0 ≡ choose (has claim (columnElement terminals c)) rule (getD before (row + c) 0)
   pub outside : (i : ℕ) → (i < row) ⊎ (row + n ≤ i) → getD after i 0 ≡ getD before i 0
 
 -- the sets of the first n nonterminals are in their words

@@ -2,10 +2,11 @@
 use mathlib.Core.Path.{_≡_}
 use mathlib.Core.Bool.{Bool, true, false, not, _||_}
 use mathlib.Core.List.{List, [], _∷_}
-use Prim.Native.Nat.{ℕ, _+_, _^_, _≤_, _<_}
+use mathlib.Core.Option.{Option, none, some}
+use Prim.Native.Nat.{ℕ, _+_, _≤_}
 use lib.Dec.{eqb}
-use lib.ListN.{getD, set}
-use Rattle.lookahead.specs.Elements.{Subset, one, width}
+use lib.ListN.{length, getD, set}
+use Rattle.lookahead.specs.Elements.{Subset, one}
 use Rattle.lookahead.specs.Operations.{join}
 
 -- for each nonterminal the number of a set
@@ -30,6 +31,11 @@ pub record Adds (l : List ℕ) (n v : ℕ) (grown : Bool) (l′ : List ℕ) (r :
   pub list : l′ ≡ set l n (join (at l n) v)
   pub told : r ≡ (grown || not (eqb (join (at l n) v) (at l n)))
 
+-- the same where there is such an n; else nothing changes
+abbrev pub AddsTo : Option ℕ → List ℕ → ℕ → Bool → List ℕ → Bool → Type 0
+AddsTo none l v grown l′ r = (l′ ≡ l) × (r ≡ grown)
+AddsTo (some n) l v grown l′ r = Adds l n v grown l′ r
+
 -- the numbers of an array together: what rises where a set grows
 unfoldable pub sum : List ℕ → ℕ
 sum [] = 0
@@ -37,15 +43,11 @@ sum (s ∷ l) = s + sum l
 
 -- a pass that has gone through the rules of Closed, from l₀ to l: what it has added, each family of Whole has
 pub record Passing (Whole Closed : SetFamily → Type 0) (l₀ l : List ℕ) (grown : Bool) : Type 0 where
+  pub long : length l ≡ length l₀
   pub grows : sum l₀ + one grown ≤ sum l
   pub still : grown ≡ false → Closed (at l)
   pub below : (G : SetFamily) → Whole G → Under (at l₀) G → Under (at l) G
 
--- each number fits a word
-pub record Small (l : List ℕ) : Type 0 where
-  pub each : (n : ℕ) → at l n < 2 ^ width
-
 -- a pass through all the rules
-pub record Passes (Closed : SetFamily → Type 0) (l₀ l : List ℕ) (grown : Bool) : Type 0 where
-  pub passing : Passing Closed Closed l₀ l grown
-  pub small : Small l
+abbrev pub Passes : (SetFamily → Type 0) → List ℕ → List ℕ → Bool → Type 0
+Passes Closed l₀ l grown = Passing Closed Closed l₀ l grown

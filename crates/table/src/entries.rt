@@ -5,7 +5,7 @@ ghost use lib.ListN.{length};
 ghost use Rattle.grammar.specs.Choice.{choose};
 ghost use Rattle.grammar.specs.Limits.{maxNonterminals, maxTerminals, tableWords as memoryWords};
 ghost use Rattle.lookahead.specs.Elements.{has};
-ghost use Rattle.table.specs.Entries.{elementOf, conflictFrom, FilledRow, FilledSets, Noted};
+ghost use Rattle.table.specs.Entries.{columnElement, conflictFrom, FilledRow, FilledSets, Noted};
 use grammar::limits::TABLE_WORDS;
 use grammar::reading::Sizes;
 use lookahead::LookaheadSet;
@@ -27,7 +27,7 @@ pub struct Entries {
 
 // The element of a column: the terminals in order, then the end.
 fn element(terminals: u32, column: u32) -> u32
-    ensures { λ r. ⌜ r ≡ elementOf terminals column ⌝ }
+    ensures { λ r. ⌜ r ≡ columnElement terminals column ⌝ }
 {
     if column == terminals { NOTHING } else { column }
 }
