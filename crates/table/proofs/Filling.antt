@@ -34,6 +34,7 @@ pub record ClaimOf (G : Grammar) (r : Rule) (claim : ℕ) : Type 0 where
 -- the rules rs have been gone through, the first of them numbered q
 pub record Filling (G : Grammar) (rs : List Rule) (q : ℕ) (once twice before table : List ℕ) : Type 0 where
   pub long : (length once ≡ maxNonterminals) × (length twice ≡ maxNonterminals)
+  pub same : length table ≡ length before
   pub claimed-once : (A l : ℕ) → A < G .nonterminals → l < suc nothing → has (getD once A 0) l ≡ any (claims G 1 (A, stringOf l)) rs
   pub claimed-twice : (A l : ℕ) → A < G .nonterminals → l < suc nothing → has (getD twice A 0) l ≡ several (claims G 1 (A, stringOf l)) rs
   pub rows : (A c : ℕ) → A < G .nonterminals → c ≤ G .terminals
@@ -50,6 +51,7 @@ pub filling-none : (G : Grammar) (q : ℕ) (table : List ℕ) → Filling G [] q
 unfolding any several position
 filling-none G q table = record {
   long = (length-replicate {A = ℕ} maxNonterminals 0, length-replicate {A = ℕ} maxNonterminals 0);
+  same = refl;
   claimed-once = λ A l _ _. rw (getD-zeros maxNonterminals A) (has-empty l);
   claimed-twice = λ A l _ _. rw (getD-zeros maxNonterminals A) (has-empty l);
   rows = λ A c _ _. refl;
@@ -154,6 +156,7 @@ module _ {G : Grammar} {rs : List Rule} {q : ℕ} {once twice before table once�
   pub filling-rule : Filling G (r ∷ rs) q once′ twice′ before table′
   filling-rule = record {
     long = (ap length (n .first) ∙ length-set once (r .head) _ ∙ f .long .0, ap length (n .again) ∙ length-set twice (r .head) _ ∙ f .long .1);
+    same = w .long ∙ f .same;
     claimed-once = λ A l a h. rw (n .first) (at-once A l a h (ℕ-discrete A (r .head)));
     claimed-twice = λ A l a h. rw (n .again) (at-twice A l a h (ℕ-discrete A (r .head)));
     rows = λ A c a h. at-row A c a h (ℕ-discrete A (r .head));

@@ -14,13 +14,18 @@ use borrow.Author.Tests.{eq-eqb, ne-eqb}
 use lib.Dec.{eqb}
 use Rattle.grammar.specs.Choice.{choose}
 use Rattle.grammar.specs.Limits.{maxNonterminals, maxTerminals, tableWords as memoryWords}
+use Rattle.grammar.specs.declared.reading.Sizes.{Sizes}
+use Rattle.grammar.specs.Encoding.{grammarOf}
 use Rattle.grammar.specs.Syntax.{Grammar}
+use Rattle.grammar.proofs.WellRead.{well-read}
 use Rattle.semantics.specs.Claims.{tableOf}
+use Rattle.table.specs.declared.entries.Conflict.{Conflict}
 use Rattle.table.specs.Lists.{listed}
 use Rattle.table.specs.Sets.{firstNumber, followNumber}
 use Rattle.table.specs.Layout.{noEntry, entryWord, columnString, columns, entryAt, setWord, rowWord, tableWords}
-use Rattle.table.specs.Entries.{filled, wordOf, entryOver, FilledSets, FilledRows}
+use Rattle.table.specs.Entries.{filled, tableWith, entriesOf, conflictFrom, wordOf, entryOver, Given, FilledSets, FilledRows}
 use Rattle.table.proofs.Lists.{length-listed, getD-listed}
+use Rattle.table.proofs.Cells.{first-clash}
 
 -- a word of two lists, one behind the other
 at-first : (xs ys : List ℕ) (m i d : ℕ) → length xs ≡ m → i < m → getD (xs ++ ys) i d ≡ getD xs i d
@@ -115,3 +120,17 @@ module _ (G : Grammar) (few : G .nonterminals ≤ maxNonterminals) (few′ : G .
       let m : length (filled (tableWords G)) ≡ memoryWords =
       omega (arith, length-append (tableWords G) (replicate (memoryWords - length (tableWords G)) noEntry), length-replicate {A = ℕ} (memoryWords - length (tableWords G)) noEntry, table-length, room) in
       ext-getD 0 table (filled (tableWords G)) (l ∙ sym m) (λ i h. each i (omega arith))
+
+-- with the first conflict found, this is the result
+pub entries-right : {words : List ℕ} {z : Sizes} {firsts follows half table twice : List ℕ} {conflict : Conflict} → Given words z firsts follows
+    → FilledSets (replicate memoryWords noEntry) (z .nonterminals) firsts follows half → FilledRows (grammarOf words) half table twice
+    → conflict ≡ conflictFrom twice (z .terminals) 0 (z .nonterminals * suc (z .terminals)) → tableWith conflict table ≡ entriesOf (grammarOf words)
+unfolding entriesOf
+entries-right {words} {z} {firsts} {follows} {half} {table} {twice} {conflict} g sets rows e =
+    let k = well-read words z (g .read) in
+    let G = grammarOf words in
+    let n : G .nonterminals ≤ maxNonterminals = omega (arith, k .fewNonterminals, k .nonterminals) in
+    let t : G .terminals ≤ maxTerminals = omega (arith, k .fewTerminals, k .terminals) in
+    let w = table-filled G n t (g .first) (g .follow) (rw (k .nonterminals) at sets) rows in
+    let c = (rw (k .nonterminals, k .terminals) at e) ∙ first-clash G t twice (rows .clashing) in
+    rw (w, c)

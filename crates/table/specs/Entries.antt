@@ -1,5 +1,6 @@
 -- The first entry that two rules claim, and the table's words in the memory that holds them; and what each part of the code adds to it.
 use mathlib.Core.Path.{_≡_}
+use mathlib.Core.Bool.{true}
 use mathlib.Core.List.{List, [], _∷_, _++_}
 use mathlib.Core.Logic.{_⊎_}
 use mathlib.Core.Option.{Option, none, some}
@@ -7,16 +8,22 @@ use Prim.Native.Nat.{ℕ, zero, suc, _+_, _-_, _*_, _/_, _%_, _≤_, _<_}
 use lib.Dec.{eqb}
 use lib.ListN.{length, getD, set, replicate}
 use Rattle.grammar.specs.Choice.{choose}
-use Rattle.grammar.specs.Limits.{tableWords as memoryWords}
+use Rattle.grammar.specs.declared.word.Word.{Word}
+use Rattle.grammar.specs.declared.reading.Sizes.{Sizes}
+use Rattle.grammar.specs.declared.reading.Outcome.the-variants.{Read}
+use Rattle.grammar.specs.Encoding.{grammarOf}
+use Rattle.grammar.specs.Limits.{maxNonterminals, maxTerminals, maxRules, tableWords as memoryWords}
+use Rattle.grammar.specs.Reading.{inRange, beginsRule, reading}
 use Rattle.grammar.specs.Syntax.{Grammar}
 use Rattle.lookahead.specs.Elements.{nothing, has}
-use Rattle.lookahead.specs.Operations.{join, meet}
+use Rattle.lookahead.specs.Operations.{join, meet, concat}
 use Rattle.semantics.specs.FirstFollow.{Entry}
 use Rattle.semantics.specs.Claims.{several, claims, clashes, tableOf}
 use Rattle.table.specs.declared.entries.Conflict.{Conflict}
 use Rattle.table.specs.declared.entries.Conflict.the-variants.{Absent, At}
-use Rattle.table.specs.declared.entries.Entries.{Entries}
-use Rattle.table.specs.Sets.{stringOf}
+use Rattle.table.specs.declared.entries.Table.{Table}
+use Rattle.table.specs.Lists.{listed}
+use Rattle.table.specs.Sets.{stringOf, firstNumber, followNumber}
 use Rattle.table.specs.Layout.{noEntry, columnString, columns, tableWords}
 
 -- the column of a lookahead string
@@ -33,11 +40,11 @@ firstOf terminals (e ∷ es) = At (e .0) (columnOf terminals (e .1))
 unfoldable pub filled : List ℕ → List ℕ
 filled l = l ++ replicate (memoryWords - length l) noEntry
 
-abbrev pub entriesWith : Conflict → List ℕ → Entries
-entriesWith c l = record { conflict = c; words = l }
+abbrev pub tableWith : Conflict → List ℕ → Table
+tableWith c l = record { conflict = c; words = l }
 
-unfoldable pub entriesOf : Grammar → Entries
-entriesOf G = entriesWith (firstOf (G .terminals) (clashes G 1)) (filled (tableWords G))
+unfoldable pub entriesOf : Grammar → Table
+entriesOf G = tableWith (firstOf (G .terminals) (clashes G 1)) (filled (tableWords G))
 
 -- the element of a column: the terminals in order, then the end
 unfoldable pub columnElement : ℕ → ℕ → ℕ
@@ -67,6 +74,41 @@ pub record FilledSets (before : List ℕ) (n : ℕ) (firsts follows after : List
 pub record Noted (once twice : List ℕ) (head claim : ℕ) (once′ twice′ : List ℕ) : Type 0 where
   pub first : once′ ≡ set once head (join (getD once head 0) claim)
   pub again : twice′ ≡ set twice head (join (getD twice head 0) (meet (getD once head 0) claim))
+
+-- what the rules behind a place have filled: the memory, the sets claimed once and twice, and the number of the first of these rules
+pub record Tables : Type 0 where
+  pub words : List ℕ
+  pub once : List ℕ
+  pub twice : List ℕ
+  pub rule : ℕ
+
+abbrev pub tables : List ℕ → List ℕ → List ℕ → ℕ → Tables
+tables l o t q = record { words = l; once = o; twice = t; rule = q }
+
+-- the rule before them claims a set for A
+pub record RuleClaims (z : Sizes) (A claim : ℕ) (before after : Tables) : Type 0 where
+  pub numbered : before .rule ≡ suc (after .rule)
+  pub noted : Noted (before .once) (before .twice) A claim (after .once) (after .twice)
+  pub row : FilledRow (before .words) (2 * z .nonterminals + A * suc (z .terminals)) (z .terminals) (suc (z .terminals)) claim (after .rule) (after .words)
+
+-- by the word before them: a rule of A that begins with it claims what its positives and then the end of A begin with
+abbrev pub WordClaims : Option ℕ → Sizes → List ℕ → ℕ → Tables → Tables → Type 0
+WordClaims none z follows meet before after = after ≡ before
+WordClaims (some A) z follows meet before after = RuleClaims z A (concat meet (getD follows A 0)) before after
+
+pub record MayClaim (z : Sizes) (w : Word) (before : Tables) : Type 0 where
+  pub long : length (before .words) ≡ memoryWords
+  pub fewNonterminals : z .nonterminals ≤ maxNonterminals
+  pub fewTerminals : z .terminals ≤ maxTerminals
+  pub ranged : inRange w z ≡ true
+  pub numbered : beginsRule w ≡ true → 0 < before .rule
+  pub fewRules : before .rule ≤ maxRules
+
+-- a grammar that has been read, and its sets
+pub record Given (words : List ℕ) (z : Sizes) (firsts follows : List ℕ) : Type 0 where
+  pub read : reading words ≡ Read z
+  pub first : firsts ≡ listed maxNonterminals (firstNumber (grammarOf words))
+  pub follow : follows ≡ listed maxNonterminals (followNumber (grammarOf words))
 
 -- the word of an entry: in the rows, which stand behind the sets
 abbrev pub wordOf : Grammar → ℕ → ℕ → ℕ

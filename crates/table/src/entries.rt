@@ -5,9 +5,15 @@ ghost use lib.ListN.{length};
 ghost use Rattle.grammar.specs.Choice.{choose};
 ghost use Rattle.grammar.specs.Limits.{maxNonterminals, maxTerminals, tableWords as memoryWords};
 ghost use Rattle.lookahead.specs.Elements.{has};
-ghost use Rattle.table.specs.Entries.{columnElement, conflictFrom, FilledRow, FilledSets, Noted};
+ghost use Rattle.grammar.specs.Encoding.{grammarOf};
+ghost use Rattle.table.specs.Naming.{ruleHead};
+ghost use Rattle.table.specs.Entries.{columnElement, conflictFrom, FilledRow, FilledSets, Noted, tables, MayClaim, WordClaims, Given, FilledRows, entriesOf};
+use super::first::no_rest;
+use super::first::onto;
 use grammar::limits::TABLE_WORDS;
 use grammar::reading::Sizes;
+use grammar::word::Word;
+use grammar::word::decode;
 use lookahead::LookaheadSet;
 use lookahead::NOTHING;
 
@@ -20,7 +26,7 @@ pub enum Conflict {
     At { nonterminal: u8, column: u8 },
 }
 
-pub struct Entries {
+pub struct Table {
     pub conflict: Conflict,
     pub words: [u32; TABLE_WORDS],
 }
@@ -87,6 +93,73 @@ fn note(once: &mut [u32; 32], twice: &mut [u32; 32], head: usize, claim: Lookahe
     once[head] = before.join(claim).bits;
 }
 
+// Where a rule begins, it claims for its head what its positives' meet, and then what may follow the head, begins with. Tells
+// the number of the first rule from the word on.
+fn claim(
+    word: Word,
+    meet: LookaheadSet,
+    sizes: Sizes,
+    follows: &[u32; 32],
+    table: &mut [u32; TABLE_WORDS],
+    once: &mut [u32; 32],
+    twice: &mut [u32; 32],
+    behind: usize,
+) -> usize
+    requires { ⌜ MayClaim sizes word (tables (now table) (now once) (now twice) behind) ⌝ }
+    ensures { λ r. ⌜ WordClaims (ruleHead word) sizes (now (follows .entry)) (meet .bits) (tables (now (table .entry)) (now (once .entry)) (now (twice .entry)) behind) (tables (now (table .exit)) (now (once .exit)) (now (twice .exit)) r) ⌝ }
+{
+    let Word::Rule(head) = word else {
+        return behind;
+    };
+    let nonterminals = sizes.nonterminals;
+    let terminals = sizes.terminals;
+    let row = 2 * nonterminals + head * (terminals + 1);
+    let rule = behind - 1;
+    let claimed = meet.concat(LookaheadSet {
+        bits: follows[head as usize],
+    });
+    note(once, twice, head as usize, claimed);
+    fill_row(table, row as usize, terminals, claimed, rule as u32);
+    rule
+}
+
+// Goes through the rules from the last on and writes each into the entries that it claims. The elements that two rules claim, for
+// each nonterminal.
+fn fill_rows(
+    words: &[u32],
+    sizes: Sizes,
+    firsts: &[u32; 32],
+    follows: &[u32; 32],
+    table: &mut [u32; TABLE_WORDS],
+) -> [u32; 32]
+    requires { ⌜ Given (now words) sizes (now firsts) (now follows) × (length (now table) ≡ memoryWords) ⌝ }
+    ensures { λ r. ⌜ FilledRows (grammarOf (now (words .entry))) (now (table .entry)) (now (table .exit)) r ⌝ }
+{
+    let terminals = sizes.terminals;
+    let mut once = [0u32; 32];
+    let mut twice = [0u32; 32];
+    let mut rest = no_rest(terminals);
+    let mut rule = sizes.rules;
+    let mut at = words.len();
+    while 0 < at {
+        at = at - 1;
+        let word = decode(words[at]);
+        let meet = rest.meet;
+        rest = onto(word, rest, firsts, terminals);
+        rule = claim(
+            word,
+            meet,
+            sizes,
+            follows,
+            table,
+            &mut once,
+            &mut twice,
+            rule,
+        );
+    }
+    twice
+}
+
 // The first entry that is claimed twice.
 fn first_conflict(twice: &[u32; 32], sizes: Sizes) -> Conflict
     requires { ⌜ (sizes .nonterminals ≤ maxNonterminals) × (sizes .terminals ≤ maxTerminals) ⌝ }
@@ -112,4 +185,21 @@ fn first_conflict(twice: &[u32; 32], sizes: Sizes) -> Conflict
         at = at + 1;
     }
     Conflict::Absent
+}
+
+// The first conflict of a grammar that has been read, by its first and follow sets, and the table's words: where two rules
+// claim an entry, the first of them has it.
+pub(crate) fn entries(words: &[u32], sizes: Sizes, firsts: &[u32; 32], follows: &[u32; 32]) -> Table
+    requires { ⌜ Given (now words) sizes (now firsts) (now follows) ⌝ }
+    ensures { λ r. ⌜ r ≡ entriesOf (grammarOf (now (words .entry))) ⌝ }
+{
+    let nonterminals = sizes.nonterminals;
+    let mut table = [NO_ENTRY; TABLE_WORDS];
+    fill_sets(&mut table, nonterminals as usize, firsts, follows);
+    let twice = fill_rows(words, sizes, firsts, follows, &mut table);
+    let conflict = first_conflict(&twice, sizes);
+    Table {
+        conflict,
+        words: table,
+    }
 }
