@@ -91,7 +91,7 @@ module _ (G : Grammar) (formed : WellFormed G) (many : G .nonterminals ≤ maxNo
   abbrev pub followArray : List ℕ
   followArray = listed maxNonterminals (followNumber G)
 
-  first-array : (A : ℕ) (x : List ℕ) → StringIn (at firstArray A) x ↔ First G 1 A x
+  pub first-array : (A : ℕ) (x : List ℕ) → StringIn (at firstArray A) x ↔ First G 1 A x
   first-array = in-array (First G 1) (firstNumber G) first-number (λ A x f. first-lookahead G 1 A x f .0)
 
   follow-lists : (A : ℕ) → Lists (followSets G 1 A) (at followArray A)

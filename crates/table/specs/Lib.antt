@@ -5,3 +5,4 @@ pub mod First
 pub mod Sets
 pub mod Layout
 pub mod Entries
+pub mod Left

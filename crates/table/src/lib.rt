@@ -2,3 +2,4 @@
 mod entries;
 mod family;
 mod first;
+mod left;
