@@ -32,7 +32,7 @@ use Rattle.table.proofs.Strings.{elementOf, Stands, lookahead-string, l
 
 -- an element of a rule's set is one of every positive body's, over the terminals
 module _ (t : ℕ) (F : SetFamily) (l : ℕ) where
-  rule-has : (bs : List Body) → T (has (full t) l) → ((b : Body) → List·Memᴰ b bs → T (has (bodyFirst F b) l)) → T (has (ruleFirst t F bs) l)
+  pub rule-has : (bs : List Body) → T (has (full t) l) → ((b : Body) → List·Memᴰ b bs → T (has (bodyFirst F b) l)) → T (has (ruleFirst t F bs) l)
   unfolding ruleFirst
   rule-has [] f h = f
   rule-has (b ∷ bs) f h = rw (has-meet (bodyFirst F b) (ruleFirst t F bs) l) (yes-and (has (bodyFirst F b) l) (has (ruleFirst t F bs) l) (h b (List·Memᴰ·head refl)) (rule-has bs f (λ c m. h c (List·Memᴰ·tail m))))

@@ -4,3 +4,5 @@ pub mod Naming
 pub mod First
 pub mod Sets
 pub mod Layout
+pub mod Entries
+pub mod Left

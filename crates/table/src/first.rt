@@ -77,7 +77,7 @@ pub(crate) fn onto(word: Word, rest: Rest, firsts: &[u32; 32], terminals: u32) -
 }
 
 // Where a rule begins, the meet of its positives goes into the set of its head.
-fn close_rule(word: Word, meet: u32, firsts: &mut [u32; 32], grown: bool) -> bool
+pub(crate) fn close_rule(word: Word, meet: u32, firsts: &mut [u32; 32], grown: bool) -> bool
     requires { ⌜ Indexed word ⌝ }
     ensures { λ r. ⌜ AddsTo (ruleHead word) (now (firsts .entry)) meet grown (now (firsts .exit)) r ⌝ }
 {
