@@ -23,6 +23,7 @@ use Rattle.table.specs.declared.first.Rest.{Rest}
 use Rattle.table.specs.Naming.{ruleHead, Indexed}
 use Rattle.table.specs.Least.{SetFamily, at, Under, AddsTo, Passes}
 use Rattle.table.specs.First.{symbolFirst, bodyFirst, ruleFirst, FirstClosed, sets, restOf, noRest, Onto}
+use Rattle.table.proofs.Words.{parse-before}
 use Rattle.table.proofs.Rising.{passing-none, passing-add}
 
 -- larger families give larger first sets
@@ -110,13 +111,6 @@ module _ {t : ℕ} {p : Parsed} {l₀ l : List ℕ} {grown : Bool} {rest : Rest}
   gone-turn End n i o k = gone-on End (o .onto p (g .is)) refl k
   gone-turn (Heading m u) n i o k = gone-on (Heading m u) (o .onto p (g .is)) refl k
   gone-turn Invalid n i o k = gone-on Invalid (o .onto p (g .is)) refl k
-
--- the word before a place, and what the words from the place on say
-pub parse-before : (words : List ℕ) (i : ℕ) → 0 < i → i ≤ length words → parse (drop (i - 1) words) ≡ onWord (decoded (getD words (i - 1) 0)) (parse (drop i words))
-unfolding parse
-parse-before words i h k =
-    let e : suc (i - 1) ≡ i = omega arith in
-    rw (drop-cons words (i - 1) 0 (omega arith)) (ap (λ (k : ℕ). onWord (decoded (getD words (i - 1) 0)) (parse (drop k words))) e)
 
 -- the invariant of a pass: the words from i on have been gone through
 pub record FirstWalk (t : ℕ) (words l₀ l : List ℕ) (grown : Bool) (rest : Rest) (i : ℕ) : Type 0 where

@@ -21,7 +21,7 @@ use Rattle.semantics.specs.FirstFollow.{first, First}
 use Rattle.semantics.proofs.First.{firstBody-mono, first-lookahead, first-closed, first-smallest}
 use Rattle.lookahead.specs.Elements.{nothing, has, Subset}
 use Rattle.lookahead.specs.Operations.{full, meet}
-use Rattle.lookahead.proofs.Order.{subset-antisym, meet-left, meet-right}
+use Rattle.lookahead.proofs.Order.{subset-antisym, empty-least, meet-left, meet-right}
 use Rattle.lookahead.proofs.Operations.{has-meet}
 use Rattle.table.specs.Least.{SetFamily, at, Under, Least}
 use Rattle.table.specs.Lists.{listed}
@@ -70,12 +70,22 @@ module _ (G : Grammar) (formed : WellFormed G) (few : G .terminals ≤ nothing) 
   unfolding firstNumber
   string-first A l f = has-number (λ x. first G 1 (A, x)) l (lookahead-bound (G .terminals) l few (first-lookahead G 1 A (stringOf l) f .1)) f
 
+  pub first-in : (A : ℕ) (x : List ℕ) → First G 1 A x → StringIn (firstNumber G A) x
+  first-in A x f =
+      let e = lookahead-string (G .terminals) x few (first-lookahead G 1 A x f .1) .is in
+      (elementOf x, string-first A (elementOf x) (rw e at f), e)
+
   -- and are a closed family
   numbers-closed : FirstClosed (G .terminals) (G .rules) (firstNumber G)
   numbers-closed r m l s =
       let i = has-rule (G .terminals) (firstNumber G) l (r .positives) s in
       string-first (r .head) l (first-closed G 1 (formed .scoped) r m (stringOf l) (lookahead-full (G .terminals) l few (i .0))
       (λ b n. firstBody-mono 1 (stringsOf (firstNumber G)) (First G 1) first-string b (stringOf l) (in-body (firstNumber G) (G .terminals) few b (stringOf l) (string-in (bodyFirst (firstNumber G) b) l (i .1 b n)))))
+
+  -- a number that is no nonterminal's has the empty set
+  pub first-outside : (A : ℕ) → G .nonterminals ≤ A → firstNumber G A ≡ 0
+  first-outside A h =
+      subset-antisym (firstNumber G A) 0 (λ l s. absurd (omega (arith, first-lookahead G 1 A (stringOf l) (first-string A (stringOf l) (string-in (firstNumber G A) l s)) .0))) (empty-least (firstNumber G A))
 
   -- THE THEOREM
   pub first-numbers : (l : List ℕ) → Least (FirstClosed (G .terminals) (G .rules)) l → (A : ℕ) → at l A ≡ firstNumber G A

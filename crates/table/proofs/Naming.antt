@@ -3,7 +3,7 @@ use mathlib.Core.Path.{_≡_, refl}
 use mathlib.Core.Bool.{true}
 use mathlib.Core.List.{List, [], _∷_}
 use mathlib.Core.Logic.{_⊎_, ⊎-elim}
-use mathlib.Core.Option.{none}
+use mathlib.Core.Option.{Option, none, some}
 use Prim.Native.Nat.{ℕ, suc, _≤_, _<_}
 use native.Mathlib.Omega.{arith}
 use denote.Enum.Declared.{tagOf}
@@ -21,7 +21,7 @@ use Rattle.grammar.specs.Words.{decoded}
 use Rattle.grammar.specs.Reading.{inRange, reading}
 use Rattle.grammar.proofs.Places.{read-place}
 use Rattle.grammar.proofs.WellRead.{well-read}
-use Rattle.table.specs.Naming.{ruleHead, Indexed}
+use Rattle.table.specs.Naming.{ruleHead, headAfter, nonterminalOf, Indexed}
 
 -- every kind of word but a rule's begin has no head
 pub no-head : (w : Word) → OneOf (0 ∷ 2 ∷ 3 ∷ 4 ∷ 5 ∷ 6 ∷ []) (tagOf the-type w) → ruleHead w ≡ none
@@ -33,6 +33,41 @@ no-head Negative h = refl
 no-head (Symbol X) h = refl
 no-head End h = refl
 no-head Invalid h = refl
+
+-- every kind of word but a symbol names no nonterminal of a body
+pub no-name : (w : Word) → OneOf (0 ∷ 1 ∷ 2 ∷ 3 ∷ 5 ∷ 6 ∷ []) (tagOf the-type w) → nonterminalOf w ≡ none
+no-name (Symbol X) h =
+    absurd (⊎-elim (λ e. omega arith) (⊎-elim (λ e. omega arith) (⊎-elim (λ e. omega arith) (⊎-elim (λ e. omega arith) (⊎-elim (λ e. omega arith) (λ e. omega arith))))) h)
+no-name (Heading n t) h = refl
+no-name (Rule A) h = refl
+no-name Positive h = refl
+no-name Negative h = refl
+no-name End h = refl
+no-name Invalid h = refl
+
+-- what is named has a set
+abbrev pub IndexedName : Option ℕ → Type 0
+IndexedName none = Unit {0}
+IndexedName (some A) = A < maxNonterminals
+
+pub name-indexed : (w : Word) → Indexed w → IndexedName (nonterminalOf w)
+name-indexed (Symbol (Terminal a)) h = tt
+name-indexed (Symbol (Nonterminal A)) h = h
+name-indexed (Heading n t) h = tt
+name-indexed (Rule A) h = tt
+name-indexed Positive h = tt
+name-indexed Negative h = tt
+name-indexed End h = tt
+name-indexed Invalid h = tt
+
+pub head-indexed : (w : Word) (B : ℕ) → Indexed w → B < maxNonterminals → headAfter w B < maxNonterminals
+head-indexed (Rule A) B h b = h
+head-indexed (Symbol X) B h b = b
+head-indexed (Heading n t) B h b = b
+head-indexed Positive B h b = b
+head-indexed Negative B h b = b
+head-indexed End B h b = b
+head-indexed Invalid B h b = b
 
 in-range-indexed : (w : Word) (z : Sizes) → z .nonterminals ≤ maxNonterminals → inRange w z ≡ true → Indexed w
 in-range-indexed (Rule A) z h e = omega (arith, ltb-true A (z .nonterminals) e)

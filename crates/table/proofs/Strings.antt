@@ -5,6 +5,7 @@ use mathlib.Core.List.{List, [], _∷_, _++_}
 use mathlib.Core.Logic.{_⊎_, inl, inr}
 use Prim.Native.Nat.{ℕ, zero, suc, _≤_, _<_}
 use native.Mathlib.Omega.{arith}
+use native.Mathlib.Decide.{decLt}
 use lib.Dec.{T, eqb, ltb, ltb→lt, lt→ltb, eqb→eq, eqb-refl}
 use lib.ListN.{length, take}
 use borrow.Author.Tests.{eqb-true, eq-eqb, ne-eqb, lt-ltb}
@@ -16,7 +17,7 @@ use Rattle.grammar.specs.Syntax.{Body, TerminalsBelow}
 use Rattle.semantics.specs.Quantifiers.{all}
 use Rattle.semantics.specs.Strings.{Lookahead}
 use Rattle.semantics.specs.Families.{Family, FirstOf, FirstBody}
-use Rattle.lookahead.specs.Elements.{nothing, has, total}
+use Rattle.lookahead.specs.Elements.{nothing, has, total, Over}
 use Rattle.lookahead.specs.Operations.{pick, end, terminal, full, concat}
 use Rattle.lookahead.proofs.Operations.{has-end, has-terminal, has-full}
 use Rattle.lookahead.proofs.Over.{over-full}
@@ -113,6 +114,17 @@ number-has p l t = and-yes (ltb l (suc nothing)) (p (stringOf l)) (rw (has-total
 pub has-number : (p : List ℕ → Bool) (l : ℕ) → l ≤ nothing → T (p (stringOf l)) → T (has (numberOf p) l)
 unfolding numberOf
 has-number p l h t = rw (has-total (suc nothing) (λ l. p (stringOf l)) l) (yes-and (ltb l (suc nothing)) (p (stringOf l)) (lt→ltb l (suc nothing) (omega arith)) t)
+
+-- and no others
+pub number-over : (p : List ℕ → Bool) → Over nothing (numberOf p)
+unfolding numberOf
+number-over p l t =
+    let b = ltb→lt l (suc nothing) (and-yes (ltb l (suc nothing)) (p (stringOf l)) (rw (has-total (suc nothing) (λ l. p (stringOf l)) l) at t) .0) in
+    go (decLt l nothing) b
+  where
+    go : Dec (l < nothing) → l < suc nothing → (l < nothing) ⊎ (l ≡ nothing)
+    go (yes h) b = inl h
+    go (no h) b = inr (omega arith)
 
 -- the first sets of bodies, in strings and in numbers
 module _ (F : SetFamily) (t : ℕ) (few : t ≤ nothing) where
