@@ -1,8 +1,9 @@
 -- One pass over the words joins into the nonterminals' sets what comes behind them in the bodies. Assumes nothing.
-use mathlib.Core.Path.{_≡_, refl, sym, ap, _∙_}
+use mathlib.Core.Path.{_≡_, refl, ap, _∙_}
 use mathlib.Core.Bool.{Bool, false}
-use mathlib.Core.List.{List, [], _∷_, _++_, List·Memᴰ, List·Memᴰ·head, List·Memᴰ·tail, List·Memᴰ·cases-cons, List·Memᴰ·not-nil, List·Memᴰ·append-cases, Memᴰ·append-left, Memᴰ·append-right}
-use mathlib.Core.Logic.{_⊎_, inl, inr}
+use mathlib.Core.List.{List, _++_, List·Memᴰ, List·Memᴰ·head, List·Memᴰ·tail}
+use mathlib.Core.List.{List·Memᴰ·append-cases, Memᴰ·append-left, Memᴰ·append-right}
+use mathlib.Core.Logic.{inl, inr}
 use mathlib.Core.Option.{Option, none, some}
 use Prim.Native.Nat.{ℕ, suc, _+_, _≤_, _<_}
 use native.Mathlib.Omega.{arith}
@@ -15,7 +16,7 @@ use Rattle.grammar.specs.Limits.{maxNonterminals}
 use Rattle.grammar.specs.Syntax.{Body, Rule, bodies}
 use Rattle.grammar.specs.Words.{decoded}
 use Rattle.grammar.specs.Encoding.{Parsed, ruleOf, onWord, parse}
-use Rattle.grammar.proofs.WellFormed.{Empty}
+use Rattle.grammar.proofs.WellFormed.{none-in, more-in, Empty}
 use Rattle.grammar.proofs.Places.{Behind, read-place, read-whole}
 use Rattle.lookahead.specs.Elements.{Subset}
 use Rattle.lookahead.specs.Operations.{end, join, concat}
@@ -28,12 +29,6 @@ use Rattle.table.specs.Follow.{FollowBody, FollowClosed, Rests, FollowGi
 use Rattle.table.proofs.Words.{parse-here, parse-over}
 use Rattle.table.proofs.Naming.{IndexedName, name-indexed, head-indexed, word-indexed}
 use Rattle.table.proofs.Rising.{passing-none, passing-on, passing-add}
-
-none-in : {A : Type 0} (P : A → Type 0) (x : A) → List·Memᴰ x [] → P x
-none-in P x m = absurd (List·Memᴰ·not-nil m)
-
-more-in : {A : Type 0} (P : A → Type 0) (y : A) (l : List A) → P y → ((x : A) → List·Memᴰ x l → P x) → (x : A) → List·Memᴰ x (y ∷ l) → P x
-more-in P y l h f x m = elim (List·Memᴰ·cases-cons m) [ inl e ↦ rw e h | inr n ↦ f x n ]
 
 -- every body of a rule asks its own
 abbrev RuleAsks : SetFamily → SetFamily → Rule → Type 0
@@ -99,7 +94,12 @@ module _ (F : SetFamily) (B : ℕ) (p : Parsed) (L : SetFamily) where
 
   asked-up : (w : Word) → Asked F (headAfter w B) p L → NameAsks F B (p .body) L (nonterminalOf w) → Asked F B (onWord w p) L
   unfolding onWord
-  asked-up (RuleWord A) o a = record { body = tt; positives = none-in _; negatives = none-in _; rules = more-in (RuleAsks F L) (ruleOf A p) (p .rules) both (o .rules) }
+  asked-up (RuleWord A) o a = record {
+    body = tt;
+    positives = none-in _;
+    negatives = none-in _;
+    rules = more-in (RuleAsks F L) (ruleOf A p) (p .rules) both (o .rules);
+  }
     where
       both : (b : Body) → List·Memᴰ b (p .positives ++ p .negatives) → FollowBody F L A b
       both b m = elim (List·Memᴰ·append-cases (p .positives) m) [ inl n ↦ o .positives b n | inr n ↦ o .negatives b n ]
@@ -149,12 +149,17 @@ module _ {F : SetFamily} {words l₀ l : List ℕ} {B : ℕ} {grown : Bool} {i :
           → Asked F (headAfter w B) rest (at l) → Asked F 0 (parse words) (at l)
       back c a o = c (rw (parse-here words i h, ← e) (asked-up F B rest (at l) w o a))
 
+      grows : (G : SetFamily) → Under (at l) G → Subset (concat (bodyFirst F (rest .body)) (at l B)) (concat (bodyFirst F (rest .body)) (G B))
+      grows G u =
+          let begins = bodyFirst F (rest .body) in
+          concat-mono begins (at l B) begins (G B) (subset-refl begins) (u B)
+
       named : (o : Option ℕ) → nonterminalOf w ≡ o → IndexedName o → AddsTo o l (concat (bodyFirst F (rest .body)) (at l B)) grown l′ r
           → Passing (FollowClosed F (parse words .rules)) (λ L. Asked F (headAfter w B) rest L → Asked F 0 (parse words) L) l₀ l′ r
       named none f b k = rw (k .0, k .1) (passing-on (v .passing) (λ c. back c (rw f tt)))
       named (some A) f b k =
           passing-add (v .passing) (rw n b) (λ G c. c)
-          (λ G c u x s. rw f at (next G c .1) x (concat-mono (bodyFirst F (rest .body)) (at l B) (bodyFirst F (rest .body)) (G B) (subset-refl (bodyFirst F (rest .body))) (u B) x s))
+          (λ G c u x s. rw f at (next G c .1) x (grows G u x s))
           (λ c s. back c (rw f s)) k
 
 walk-end : {F : SetFamily} {words l₀ l l′ : List ℕ} {B : ℕ} {grown r : Bool} {i : ℕ} → FollowWalk F words l₀ l B grown i → length words ≤ i → 0 < length l
@@ -162,7 +167,10 @@ walk-end : {F : SetFamily} {words l₀ l l′ : List ℕ} {B : ℕ} {grown r : B
 unfolding parse
 walk-end {F} {words} {l = l} {B = B} {i = i} v h n a =
     passing-add (v .passing) n (λ G c. c) (λ G c u. c .start)
-    (λ c s. record { start = s; follows = c (rw (parse-over words i h) (record { body = tt; positives = none-in _; negatives = none-in _; rules = none-in _ })) .rules }) a
+    (λ c s. record { start = s; follows = c over .rules }) a
+  where
+    over : Asked F B (parse (drop i words)) (at l)
+    over = rw (parse-over words i h) (record { body = tt; positives = none-in _; negatives = none-in _; rules = none-in _ })
 
 -- the invariant of a pass, whatever first sets the rests come from
 pub record FollowLoop (words rests l₀ l : List ℕ) (B : ℕ) (grown : Bool) (i : ℕ) : Type 0 where
@@ -181,7 +189,7 @@ loop-start words rests l g = record {
 
 module _ {words rests l₀ l : List ℕ} {B : ℕ} {grown : Bool} {i : ℕ} (v : FollowLoop words rests l₀ l B grown i) (g : FollowGiven words l₀) where
   pub loop-indexed : {w : Word} → i < length words → w ≡ decoded (getD words i 0) → Indexed w
-  loop-indexed h e = word-indexed words i (g .read) h e
+  loop-indexed h e = word-indexed words (g .read) h e
 
   pub loop-turn : {w : Word} {B′ : ℕ} {l′ : List ℕ} {r : Bool} → i < length words → w ≡ decoded (getD words i 0)
       → AddsTo (nonterminalOf w) l (concat (getD rests i 0) (at l B)) grown l′ r → B′ ≡ headAfter w B → FollowLoop words rests l₀ l′ B′ r (i + 1)
@@ -189,7 +197,9 @@ module _ {words rests l₀ l : List ℕ} {B : ℕ} {grown : Bool} {i : ℕ} (v :
     within = h;
     head = head-indexed w B (loop-indexed h e) (v .head);
     long = added-long (concat (getD rests i 0) (at l B)) (nonterminalOf w) k ∙ v .long;
-    walk = λ F x. walk-turn (v .walk F x) h w e (v .long ∙ g .long) (loop-indexed h e) (rw (← e) at (read-place words (g .sizes) (g .read) i h .behind)) (rw (x .each i h) at k);
+    walk = λ F x.
+        let behind = rw (← e) at (read-place words (g .sizes) (g .read) i h .behind) in
+        walk-turn (v .walk F x) h w e (v .long ∙ g .long) (loop-indexed h e) behind (rw (x .each i h) at k);
   })
     where
       added-long : (u : ℕ) (o : Option ℕ) → AddsTo o l u grown l′ r → length l′ ≡ length l

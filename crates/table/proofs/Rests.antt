@@ -45,7 +45,8 @@ rests-turn {F = F} {words} {rests} {rest} {i = i} {w} v h e o = record {
         → getD (set rests (i - 1) (rest .body .bits)) k 0 ≡ bodyFirst F (parse (drop (suc k) words) .body)
     at-place k a b (yes d) =
         let s : suc k ≡ i = omega arith in
-        rw (d, getD-set-same rests (i - 1) (rest .body .bits) 0 (omega (arith, v .long, v .within))) (ap (λ (r : Rest). r .body .bits) (v .is) ∙ sym (rw (← d, s)))
+        rw (d, getD-set-same rests (i - 1) (rest .body .bits) 0 (omega (arith, v .long, v .within)))
+        (ap (λ (r : Rest). r .body .bits) (v .is) ∙ sym (rw (← d, s)))
     at-place k a b (no d) = rw (getD-set-other rests (i - 1) k (rest .body .bits) 0 d) (v .each k (omega arith) b)
 
 pub rests-end : {t : ℕ} {F : SetFamily} {words rests : List ℕ} {rest : Rest} {i : ℕ} → RestsWalk t F words rests rest i → i ≤ 0 → Rests F words rests

@@ -11,6 +11,7 @@ ghost use Rattle.table.specs.Least.{at as family, AddsTo};
 ghost use Rattle.table.specs.Lists.{listed};
 ghost use Rattle.table.specs.Naming.{headAfter, nonterminalOf, Indexed};
 ghost use Rattle.table.specs.Sets.{firstNumber, followNumber};
+use super::family::SETS;
 use super::family::add;
 use super::first::no_rest;
 use super::first::onto;
@@ -22,7 +23,7 @@ use grammar::word::decode;
 use lookahead::LookaheadSet;
 
 // At each place the first set of what is left of the body behind the word there.
-fn rests_behind(words: &[u32], sizes: Sizes, firsts: &[u32; 32]) -> [u32; WORDS]
+fn rests_behind(words: &[u32], sizes: Sizes, firsts: &[u32; SETS]) -> [u32; WORDS]
     requires { ⌜ reading (now words) ≡ Read sizes ⌝ }
     ensures { λ r. ⌜ Rests (family (now (firsts .entry))) (now (words .entry)) r ⌝ }
 {
@@ -50,7 +51,7 @@ fn head_after(word: Word, head: u32) -> u32
 }
 
 // Behind a nonterminal in a body of head comes what is left of the body, then what follows head.
-fn add_behind(word: Word, rest: u32, head: u32, follows: &mut [u32; 32], grown: bool) -> bool
+fn add_behind(word: Word, rest: u32, head: u32, follows: &mut [u32; SETS], grown: bool) -> bool
     requires { ⌜ Indexed word × (head < maxNonterminals) ⌝ }
     ensures { λ r. ⌜ AddsTo (nonterminalOf word) (now (follows .entry)) (concatOf rest (family (now (follows .entry)) head)) grown (now (follows .exit)) r ⌝ }
 {
@@ -68,7 +69,7 @@ fn add_behind(word: Word, rest: u32, head: u32, follows: &mut [u32; 32], grown: 
 }
 
 // One pass; whether a set has grown.
-fn follow_pass(words: &[u32], rests: &[u32; WORDS], follows: &mut [u32; 32]) -> bool
+fn follow_pass(words: &[u32], rests: &[u32; WORDS], follows: &mut [u32; SETS]) -> bool
     requires { ⌜ FollowGiven (now words) (now follows) ⌝ }
     ensures { λ r. ⌜ FollowPasses (now (words .entry)) (now (rests .entry)) (now (follows .entry)) (now (follows .exit)) r ⌝ }
 {
@@ -85,12 +86,12 @@ fn follow_pass(words: &[u32], rests: &[u32; WORDS], follows: &mut [u32; 32]) -> 
 }
 
 // The follow sets of a grammar that has been read, one for each nonterminal.
-pub(crate) fn follow_sets(words: &[u32], sizes: Sizes, firsts: &[u32; 32]) -> [u32; 32]
+pub(crate) fn follow_sets(words: &[u32], sizes: Sizes, firsts: &[u32; SETS]) -> [u32; SETS]
     requires { ⌜ (reading (now words) ≡ Read sizes) × (now firsts ≡ listed maxNonterminals (firstNumber (grammarOf (now words)))) ⌝ }
     ensures { λ r. ⌜ r ≡ listed maxNonterminals (followNumber (grammarOf (now (words .entry)))) ⌝ }
 {
     let rests = rests_behind(words, sizes, firsts);
-    let mut follows = [0u32; 32];
+    let mut follows = [0u32; SETS];
     while follow_pass(words, &rests, &mut follows) {}
     follows
 }

@@ -9,8 +9,7 @@ enum-known-word : tie.Need-enum-known-word
 enum-known-word c = search needs
 
 returns : tie.Need-returns
-returns c =
-    rw (no-name (c .before .args .word) (c .match .keys2)) (refl, refl)
+returns c = rw (no-name (c .before .args .word) (c .match .keys2)) (refl, refl)
 
 enum-known-symbol : tie.Need-enum-known-symbol
 enum-known-symbol c = search needs
@@ -19,8 +18,7 @@ enum-told : tie.Need-enum-told
 enum-told c = search needs
 
 returns-2 : tie.Need-returns-2
-returns-2 c =
-    rw (c .before .before .before .word .given .1, c .enum-told .given .1) (refl, refl)
+returns-2 c = rw (c .before .before .before .word .given .1, c .enum-told .given .1) (refl, refl)
 
 mul-t11 : tie.Need-mul-t11
 mul-t11 c = search needs
@@ -33,11 +31,14 @@ concat-requires c κs = search needs
 
 add-requires : tie.Need-add-requires
 add-requires c κs =
-    rw (c .before .before .before .before .before .before .before .word .given .1, c .before .before .before .before .symbol .given .1) at (c .before .before .before .before .before .before .before .before .before .pre .0)
+    let start = c .before .before .before .before .before .before .before .before .before in
+    rw (c .before .before .before .before .before .before .before .word .given .1, c .before .before .before .before .symbol .given .1) at (start .pre .0)
 
 returns-3 : tie.Need-returns-3
 returns-3 c =
-    rw (c .before .before .before .before .before .before .before .before .word .given .1, c .before .before .before .before .before .symbol .given .1, ← c .before .before .concat .ensures .is) (c .add .ensures)
+    let word = c .before .before .before .before .before .before .before .before .word .given .1 in
+    let symbol = c .before .before .before .before .before .symbol .given .1 in
+    rw (word, symbol, ← c .before .before .concat .ensures .is) (c .add .ensures)
 
 pub add-behind-spec : {M : Type 1} → statement M
 add-behind-spec =

@@ -26,26 +26,31 @@ loop-holds : tie.Need-loop-holds Inv-loop μ-loop
 loop-holds c = (refl, below-none _ 32)
 
 follow-pass-requires : tie.Need-follow-pass-requires Inv-loop μ-loop
-follow-pass-requires c κs = record { sizes = c .before .before .before .before .before .args .sizes; read = c .before .before .before .before .before .pre .0; long = c .before .before .loop .inv .0 }
+follow-pass-requires c κs =
+    let start = c .before .before .before .before .before in
+    record { sizes = start .args .sizes; read = start .pre .0; long = c .before .before .loop .inv .0 }
 
 loop-less : tie.Need-loop-less Inv-loop μ-loop
 loop-less c =
     let start = c .before .before .before .before .before .before .before in
-    missing-falls (c .before .follow-pass .ensures .passes _ (c .before .before .before .before .before .rests-behind .ensures)) (c .before .before .before .before .loop .inv .1)
-    _ _ (full-closed _ (firsts-over (start .args .words .now) (start .args .sizes) (start .pre .0) (start .args .firsts .now) (start .pre .1)) (parse (start .args .words .now) .rules))
-    (λ n. omega arith) (c .if1 .taken)
+    let pass = c .before .follow-pass .ensures .passes _ (c .before .before .before .before .before .rests-behind .ensures) in
+    let over = firsts-over (start .args .words .now) (start .args .sizes) (start .pre .0) (start .args .firsts .now) (start .pre .1) in
+    missing-falls pass (c .before .before .before .before .loop .inv .1) _ _
+    (full-closed _ over (parse (start .args .words .now) .rules)) (λ n. omega arith) (c .if1 .taken)
 
 loop-again : tie.Need-loop-again Inv-loop μ-loop
 loop-again c =
     let pass = c .before .follow-pass .ensures .passes _ (c .before .before .before .before .before .rests-behind .ensures) in
-    (pass .long ∙ c .before .before .before .before .loop .inv .0, below-pass pass (c .before .before .before .before .loop .inv .1))
+    let loop = c .before .before .before .before in
+    (pass .long ∙ loop .loop .inv .0, below-pass pass (loop .loop .inv .1))
 
 returns : tie.Need-returns Inv-loop μ-loop
 returns c =
     let start = c .before .before .before .before .before .before .before in
+    let loop = c .before .before .before .before in
     let pass = c .before .follow-pass .ensures .passes _ (c .before .before .before .before .before .rests-behind .ensures) in
     follow-listed (start .args .words .now) (start .args .sizes) (start .pre .0) (start .args .firsts .now) (start .pre .1) _
-    (pass .long ∙ c .before .before .before .before .loop .inv .0) (least-pass pass (c .before .before .before .before .loop .inv .1) (c .if1 .left))
+    (pass .long ∙ loop .loop .inv .0) (least-pass pass (loop .loop .inv .1) (c .if1 .left))
 
 pub follow-sets-spec : {M : Type 1} → statement M
 follow-sets-spec =

@@ -8,8 +8,7 @@ enum-known-word : tie.Need-enum-known-word
 enum-known-word c = search needs
 
 returns : tie.Need-returns
-returns c =
-    rw (no-head (c .before .args .word) (c .match .keys2))
+returns c = rw (no-head (c .before .args .word) (c .match .keys2))
 
 returns-2 : tie.Need-returns-2
 returns-2 c = search needs
