@@ -89,13 +89,14 @@ pub read-none : (z : Sizes) → reading [] ≡ Read z → ⊥
 unfolding reading opened
 read-none z e = faulty HeadingFault z (refused (ltb maxWords 0) (Faulty HeadingFault) z e .1)
 
--- THE THEOREM, for every place
-pub read-place : (words : List ℕ) (z : Sizes) → reading words ≡ Read z → (i : ℕ) → i < length words → Place z (decoded (getD words i 0)) (parse (drop (suc i) words))
+-- at every place of a row that is read the word is in range, and what may stand behind it does
+pub read-place : (words : List ℕ) (z : Sizes) → reading words ≡ Read z → (i : ℕ) → i < length words
+    → Place z (decoded (getD words i 0)) (parse (drop (suc i) words))
 read-place [] z e i h = absurd (read-none z e)
 read-place (w ∷ ws) z e zero h = heading-place (decoded w) z (parse ws) (read-opened w ws z e .some) .0
 read-place (w ∷ ws) z e (suc i) h = let o = read-opened w ws z e in places (fresh (declaredBy (decoded w))) 1 ws z (o .rest) i (omega arith)
 
--- the whole row: its rules are the grammar's, and nothing stands outside them
+-- of the whole row: its rules are the grammar's, and nothing stands outside them
 pub record Whole (words : List ℕ) : Type 0 where
   pub rules : grammarOf words .rules ≡ parse words .rules
   pub empty : Empty (parse words)

@@ -62,10 +62,11 @@ pub record Fits (s : State) (z : Sizes) (p : Parsed) : Type 0 where
   pub rules : (r : Rule) → List·Memᴰ r (p .rules) → RuleFits z r
   pub shape : Shape s p
 
-none-in : {A : Type 0} (P : A → Type 0) (x : A) → List·Memᴰ x [] → P x
+-- what holds of every member, of no list and of one more
+pub none-in : {A : Type 0} (P : A → Type 0) (x : A) → List·Memᴰ x [] → P x
 none-in P x m = absurd (List·Memᴰ·not-nil m)
 
-more-in : {A : Type 0} (P : A → Type 0) (y : A) (l : List A) → P y → ((x : A) → List·Memᴰ x l → P x) → (x : A) → List·Memᴰ x (y ∷ l) → P x
+pub more-in : {A : Type 0} (P : A → Type 0) (y : A) (l : List A) → P y → ((x : A) → List·Memᴰ x l → P x) → (x : A) → List·Memᴰ x (y ∷ l) → P x
 more-in P y l h f x m = elim (List·Memᴰ·cases-cons m) [ inl e ↦ rw e h | inr n ↦ f x n ]
 
 empty : Empty (parsed [] [] [] [])

@@ -16,7 +16,7 @@ use Rattle.lookahead.proofs.Operations.{has-empty}
 use Rattle.lookahead.proofs.Pairs.{first, concat-pair}
 use Rattle.lookahead.proofs.Concat.{paired}
 use Rattle.semantics.specs.Strings.{Lookahead}
-use Rattle.semantics.specs.Families.{Family}
+use Rattle.semantics.specs.Families.{FirstBody}
 use Rattle.semantics.specs.FiniteSets.{member}
 use Rattle.semantics.specs.FirstFollow.{strings, sameString, concat, firstSets, firstRule, First, follow, followSets, Follow}
 use Rattle.semantics.specs.Claims.{meeting, claimed}
@@ -28,10 +28,9 @@ use Rattle.table.specs.Lists.{listed}
 use Rattle.table.specs.Sets.{stringOf, firstNumber, followNumber}
 use Rattle.table.specs.Least.{SetFamily, at}
 use Rattle.table.specs.First.{bodyFirst, ruleFirst}
-use Rattle.table.proofs.Lists.{length-listed, getD-listed}
-use Rattle.table.proofs.Strings.{elementOf, element-string, string-first, lookahead-string, lookahead-bound, lookahead-full, full-has, StringIn, stringsOf}
-use Rattle.table.proofs.Strings.{string-in, in-element, in-string, number-has, has-number, body-in, in-body}
-use Rattle.table.proofs.FirstTie.{rule-has, has-rule, first-string, string-first as first-element}
+use Rattle.table.proofs.Strings.{elementOf, string-first, lookahead-string, lookahead-full, full-has, StringIn, string-in, in-element, in-string}
+use Rattle.table.proofs.Numbers.{number-string, in-number}
+use Rattle.table.proofs.FirstTie.{rule-has, has-full-rule, has-rule, body-begins, begins-body}
 use Rattle.table.proofs.Filling.{ClaimOf}
 
 -- the number s has the elements of the strings that are listed
@@ -52,84 +51,47 @@ concat-lists us ys s t f g x = (
       (concat-make 1 us ys (stringOf (p .a)) (stringOf (p .b)) (f _ .1 (string-in s (p .a) (p .a-in))) (g _ .1 (string-in t (p .b) (p .b-in)))),
 )
 
-module _ (G : Grammar) (formed : WellFormed G) (many : G .nonterminals ≤ maxNonterminals) (few : G .terminals ≤ nothing) where
+module _ (G : Grammar) (formed : WellFormed G) (few : G .terminals ≤ nothing) where
   abbrev t : ℕ
   t = G .terminals
 
-  -- the arrays of sets hold the strings of FIRST_1 and FOLLOW_1
-  in-array : (S : Family) (f : ℕ → ℕ) → ((A : ℕ) (x : List ℕ) → StringIn (f A) x ↔ S A x) → ((A : ℕ) (x : List ℕ) → S A x → A < G .nonterminals)
-      → (A : ℕ) (x : List ℕ) → StringIn (at (listed maxNonterminals f) A) x ↔ S A x
-  in-array S f h own A x = go (decLt A maxNonterminals)
-    where
-      go : Dec (A < maxNonterminals) → StringIn (at (listed maxNonterminals f) A) x ↔ S A x
-      go (yes l) = rw (getD-listed maxNonterminals f A 0 l) (h A x)
-      go (no l) =
-          let z : at (listed maxNonterminals f) A ≡ 0 = List·getD-eq-default (listed maxNonterminals f) 0 (omega (arith, length-listed maxNonterminals f)) in
-          rw z (λ i. absurd (rw (has-empty (i .0)) at (i .1)), λ s. absurd (omega (arith, own A x s)))
-
-  first-number : (A : ℕ) (x : List ℕ) → StringIn (firstNumber G A) x ↔ First G 1 A x
-  first-number A x = (
-    first-string G formed few A x,
-    λ f.
-        let s = lookahead-string t x few (first-lookahead G 1 A x f .1) in
-        (elementOf x, first-element G formed few A (elementOf x) (rw (s .is) at f), s .is),
+  follow-lists : (A : ℕ) → Lists (followSets G 1 A) (followNumber G A)
+  unfolding followSets followNumber
+  follow-lists A x = (
+    λ m. in-number G few (follow G 1) (follow-lookahead G 1) A x (sets-elim G 1 (follow G 1) A x m .1),
+    λ i. let f = number-string G few (follow G 1) (follow-lookahead G 1) A x i in sets-make G 1 (follow G 1) A x (follow-lookahead G 1 A x f .1) f,
   )
-
-  follow-number : (A : ℕ) (x : List ℕ) → StringIn (followNumber G A) x ↔ Follow G 1 A x
-  unfolding followNumber
-  follow-number A x = (
-    λ i. rw (i .2) (number-has (λ x. follow G 1 (A, x)) (i .0) (i .1)),
-    λ f.
-        let s = lookahead-string t x few (follow-lookahead G 1 A x f .1) in
-        let g : Follow G 1 A (stringOf (elementOf x)) = rw (s .is) at f in
-        (elementOf x, has-number (λ x. follow G 1 (A, x)) (elementOf x) (lookahead-bound t (elementOf x) few (follow-lookahead G 1 A (stringOf (elementOf x)) g .1)) g, s .is),
-  )
-
-  abbrev pub firstArray : List ℕ
-  firstArray = listed maxNonterminals (firstNumber G)
-
-  abbrev pub followArray : List ℕ
-  followArray = listed maxNonterminals (followNumber G)
-
-  pub first-array : (A : ℕ) (x : List ℕ) → StringIn (at firstArray A) x ↔ First G 1 A x
-  first-array = in-array (First G 1) (firstNumber G) first-number (λ A x f. first-lookahead G 1 A x f .0)
-
-  follow-lists : (A : ℕ) → Lists (followSets G 1 A) (at followArray A)
-  unfolding followSets
-  follow-lists A x =
-      let r = in-array (Follow G 1) (followNumber G) follow-number (λ A x f. follow-lookahead G 1 A x f .0) A x in
-      (λ m. r .1 (sets-elim G 1 (follow G 1) A x m .1), λ i. let f = r .0 i in sets-make G 1 (follow G 1) A x (follow-lookahead G 1 A x f .1) f)
 
   -- the meeting of a rule's positives
-  meeting-lists : (r : Rule) → List·Memᴰ r (G .rules) → Lists (meeting G 1 r) (ruleFirst t (at firstArray) (r .positives))
+  meeting-lists : (r : Rule) → List·Memᴰ r (G .rules) → Lists (meeting G 1 r) (ruleFirst t (firstNumber G) (r .positives))
   unfolding meeting
   meeting-lists r m x = (
     λ n.
         let k = keep-elim (firstRule 1 (firstSets G 1) r) (strings 1 t) x n in
-        let s = lookahead-string t x few (strings-elim 1 t x (k .0)) in (
+        let s = lookahead-string t x few (strings-elim 1 t x (k .0)) in
+        let begins : (b : Body) → List·Memᴰ b (r .positives) → FirstBody 1 (First G 1) b x =
+        λ b n. firstBody-mono 1 (In (firstSets G 1)) (First G 1) (first-in G 1) b x (firstRule-elim 1 (firstSets G 1) r x (k .1) b n) in (
           elementOf x,
-          rule-has t (at firstArray) (elementOf x) (r .positives) (full-has t (elementOf x) few (s .over)) (λ b n.
-              in-element (bodyFirst (at firstArray) b) x (body-in (at firstArray) t few b (formed .terminals r m b (Memᴰ·append-left (r .negatives) n)) x
-              (firstBody-mono 1 (In (firstSets G 1)) (stringsOf (at firstArray)) (λ A y i. first-array A y .1 (first-in G 1 A y i)) b x
-              (firstRule-elim 1 (firstSets G 1) r x (k .1) b n)))),
+          rule-has t (firstNumber G) (elementOf x) (r .positives) (full-has t (elementOf x) few (s .over)) (λ b n.
+              in-element (bodyFirst (firstNumber G) b) x (begins-body G formed few b (formed .terminals r m b (Memᴰ·append-left (r .negatives) n)) x (begins b n))),
           s .is,
         ),
     λ i.
-        let h = has-rule t (at firstArray) (i .0) (r .positives) (i .1) in
-        let l : Lookahead 1 t x = rw (i .2) (lookahead-full t (i .0) few (h .0)) in
+        let l : Lookahead 1 t x = rw (i .2) (lookahead-full t (i .0) few (has-full-rule t (firstNumber G) (i .0) (r .positives) (i .1))) in
         keep-make (firstRule 1 (firstSets G 1) r) (strings 1 t) x (strings-make 1 t x l) (firstRule-make 1 (firstSets G 1) r x (λ b n.
-        firstBody-mono 1 (stringsOf (at firstArray)) (In (firstSets G 1)) (λ A y j. in-first G 1 A y (first-array A y .0 j)) b x
-        (in-body (at firstArray) t few b x (rw (i .2) (string-in (bodyFirst (at firstArray) b) (i .0) (h .1 b n)))))),
+        firstBody-mono 1 (First G 1) (In (firstSets G 1)) (in-first G 1) b x
+        (rw (i .2) (body-begins G formed few b (i .0) (has-rule t (firstNumber G) (i .0) (r .positives) (i .1) b n))))),
   )
 
   -- a rule claims just the strings whose elements its number has
-  pub claim-of : (r : Rule) → List·Memᴰ r (G .rules) → ClaimOf G r (concatNumbers (ruleFirst t (at firstArray) (r .positives)) (at followArray (r .head)))
+  pub claim-of : (r : Rule) → List·Memᴰ r (G .rules) → ClaimOf G r (concatNumbers (ruleFirst t (firstNumber G) (r .positives)) (followNumber G (r .head)))
   unfolding claimed
-  claim-of r m = record {
-    each = λ l h.
-        let s = concatNumbers (ruleFirst t (at firstArray) (r .positives)) (at followArray (r .head)) in
-        let f = concat-lists (meeting G 1 r) (followSets G 1 (r .head)) (ruleFirst t (at firstArray) (r .positives)) (at followArray (r .head)) (meeting-lists r m) (follow-lists (r .head)) (stringOf l) in
-        both-ways (has s l) (member sameString (claimed G 1 r) (stringOf l))
-        (λ u. mem-member sameString strings-equality (claimed G 1 r) (stringOf l) (f .1 (string-in s l u)))
-        (λ u. in-string s l (f .0 (member-mem sameString strings-equality (claimed G 1 r) (stringOf l) u)));
-  }
+  claim-of r m =
+      let first = ruleFirst t (firstNumber G) (r .positives) in
+      let follow = followNumber G (r .head) in
+      let lists = concat-lists (meeting G 1 r) (followSets G 1 (r .head)) first follow (meeting-lists r m) (follow-lists (r .head)) in
+      record {
+        each = λ l h. both-ways (has (concatNumbers first follow) l) (member sameString (claimed G 1 r) (stringOf l))
+            (λ u. mem-member sameString strings-equality (claimed G 1 r) (stringOf l) (lists (stringOf l) .1 (string-in (concatNumbers first follow) l u)))
+            (λ u. in-string (concatNumbers first follow) l (lists (stringOf l) .0 (member-mem sameString strings-equality (claimed G 1 r) (stringOf l) u)));
+      }

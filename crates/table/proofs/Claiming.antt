@@ -1,5 +1,5 @@
 -- The words are gone through from their end: each that begins a rule makes the rule claim its entries.
-use mathlib.Core.Path.{_≡_, refl, sym, ap, subst, _∙_}
+use mathlib.Core.Path.{_≡_, refl, sym, ap, subst, fun-ext, _∙_}
 use mathlib.Core.Bool.{Bool, true, false}
 use mathlib.Core.List.{List, [], _∷_, List·Memᴰ, List·Memᴰ·head, List·Memᴰ·tail}
 use mathlib.Core.Option.{none, some}
@@ -8,7 +8,7 @@ use native.Mathlib.Nat.{mul-le-mul}
 use native.Mathlib.Numerals.{add-one}
 use native.Mathlib.Omega.{arith}
 use lib.Arith.{digits-lt}
-use lib.ListN.{length, getD, drop, replicate, drop-of-length-le}
+use lib.ListN.{length, getD, drop, replicate}
 use borrow.Author.Tests.{ltb-true}
 use Rattle.grammar.specs.declared.word.Word.{Word}
 use Rattle.grammar.specs.declared.word.Word.the-variants.{Heading, Rule as RuleWord, Positive, Negative, Symbol, End, Invalid}
@@ -23,7 +23,11 @@ use Rattle.grammar.specs.WellRead.{WellRead}
 use Rattle.grammar.proofs.WellRead.{well-read}
 use Rattle.grammar.proofs.Places.{read-place, read-whole}
 use Rattle.lookahead.specs.Operations.{concat}
+use Rattle.lookahead.specs.Elements.{nothing}
+use Rattle.semantics.specs.FirstFollow.{first, follow}
 use Rattle.semantics.specs.Claims.{tableOf}
+use Rattle.semantics.proofs.First.{first-lookahead}
+use Rattle.semantics.proofs.Follow.{follow-lookahead}
 use Rattle.table.specs.declared.first.Rest.{Rest}
 use Rattle.table.specs.Lists.{listed}
 use Rattle.table.specs.Sets.{firstNumber, followNumber}
@@ -31,7 +35,8 @@ use Rattle.table.specs.Least.{at as family}
 use Rattle.table.specs.Naming.{ruleHead}
 use Rattle.table.specs.First.{bodyFirst, ruleFirst, restOf, noRest, Onto}
 use Rattle.table.specs.Entries.{FilledRow, Noted, Tables, tables, RuleClaims, WordClaims, MayClaim, Given, FilledRows}
-use Rattle.table.proofs.FirstPasses.{parse-before}
+use Rattle.table.proofs.Words.{parse-before, parse-over}
+use Rattle.table.proofs.Numbers.{array-at}
 use Rattle.table.proofs.Filling.{ClaimOf, Filling, filling-none, filling-rule}
 use Rattle.table.proofs.Claimed.{claim-of}
 
@@ -98,6 +103,20 @@ module _ {words : List ℕ} {z : Sizes} {firsts follows : List ℕ} (g : Given w
   known : WellRead words z
   known = well-read words z (g .read)
 
+  many : grammarOf words .nonterminals ≤ maxNonterminals
+  many = omega (arith, known .fewNonterminals, known .nonterminals)
+
+  few : grammarOf words .terminals ≤ nothing
+  few = omega (arith, known .fewTerminals, known .terminals)
+
+  firsts-are : family firsts ≡ firstNumber (grammarOf words)
+  unfolding firstNumber
+  firsts-are = rw (g .first) (fun-ext (array-at (grammarOf words) few (first (grammarOf words) 1) (first-lookahead (grammarOf words) 1) many))
+
+  follow-is : (A : ℕ) → getD follows A 0 ≡ followNumber (grammarOf words) A
+  unfolding followNumber
+  follow-is A = rw (g .follow) (array-at (grammarOf words) few (follow (grammarOf words) 1) (follow-lookahead (grammarOf words) 1) many A)
+
   all-rules : length (grammarOf words .rules) ≡ length (parse words .rules)
   all-rules = ap length (read-whole words z (g .read) .rules)
 
@@ -105,10 +124,9 @@ module _ {words : List ℕ} {z : Sizes} {firsts follows : List ℕ} (g : Given w
       → Claiming words z firsts table rest (tables table (replicate maxNonterminals 0) (replicate maxNonterminals 0) (z .rules)) (length words)
   unfolding parse bodyFirst ruleFirst
   claiming-start table e =
-      let k : length words ≤ length words = omega arith in
-      let none : drop (length words) words ≡ [] = drop-of-length-le words k in
+      let none = parse-over words (length words) (omega arith) in
       record {
-        within = k;
+        within = omega arith;
         is = rw none e;
         filling = rw none (filling-none (grammarOf words) (z .rules) table);
         counted = rw none (omega arith);
@@ -145,12 +163,6 @@ module _ {words : List ℕ} {z : Sizes} {firsts follows : List ℕ} (g : Given w
       fewRules = omega (arith, v .counted, known .fewRules);
     }
 
-    many : grammarOf words .nonterminals ≤ maxNonterminals
-    many = omega (arith, known .fewNonterminals, known .nonterminals)
-
-    few : grammarOf words .terminals ≤ 24
-    few = omega (arith, known .fewTerminals, known .terminals)
-
     -- the claim of the rule that begins here
     claimed : (A : ℕ) → w ≡ RuleWord A → ClaimOf (grammarOf words) (ruleOf A p) (concat (rest .meet .bits) (getD follows A 0))
     unfolding onWord
@@ -158,7 +170,7 @@ module _ {words : List ℕ} {z : Sizes} {firsts follows : List ℕ} (g : Given w
         let r = ruleOf A p in
         let m : List·Memᴰ r (parse (drop (i - 1) words) .rules) = rw (from-here, d) (List·Memᴰ·head refl) in
         let n : List·Memᴰ r (grammarOf words .rules) = rw (read-whole words z (g .read) .rules) (rule-from (i - 1) words r m) in
-        rw (v .is, g .first, g .follow, known .terminals) (claim-of (grammarOf words) (known .formed) many few r n)
+        rw (v .is, known .terminals, firsts-are, follow-is A) (claim-of (grammarOf words) (known .formed) few r n)
 
     filled : (w′ : Word) → w ≡ w′ → (b′ : Tables) → WordClaims (ruleHead w′) z follows (rest .meet .bits) b b′
         → Filling (grammarOf words) (onWord w′ p .rules) (b′ .rule) (b′ .once) (b′ .twice) before (b′ .words)

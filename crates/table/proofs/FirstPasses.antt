@@ -1,28 +1,28 @@
 -- One pass over the words, from their end, joins into the heads' sets what the rules behind each place give. Assumes nothing.
-use mathlib.Core.Path.{_≡_, refl, sym, ap, _∙_}
+use mathlib.Core.Path.{_≡_, refl, _∙_}
 use mathlib.Core.Bool.{Bool, false}
-use mathlib.Core.List.{List, [], _∷_, List·Memᴰ, List·Memᴰ·head, List·Memᴰ·tail, List·Memᴰ·cases-cons, List·Memᴰ·not-nil}
-use mathlib.Core.Logic.{_⊎_, inl, inr}
-use Prim.Native.Nat.{ℕ, suc, _-_, _≤_, _<_}
+use mathlib.Core.List.{List, [], _∷_, List·Memᴰ·head, List·Memᴰ·tail}
+use Prim.Native.Nat.{ℕ, _-_, _≤_, _<_}
 use native.Mathlib.Omega.{arith}
-use lib.ListN.{length, getD, drop, drop-of-length-le}
-use lib.Seq.{drop-cons}
+use lib.ListN.{length, getD, drop}
 use Rattle.grammar.specs.declared.Symbol.{Symbol as GrammarSymbol}
 use Rattle.grammar.specs.declared.Symbol.the-variants.{Terminal, Nonterminal}
 use Rattle.grammar.specs.declared.word.Word.{Word}
 use Rattle.grammar.specs.declared.word.Word.the-variants.{Heading, Rule as RuleWord, Positive, Negative, Symbol, End, Invalid}
 use Rattle.grammar.specs.Limits.{maxNonterminals}
-use Rattle.grammar.specs.Syntax.{Body, Rule}
+use Rattle.grammar.specs.Syntax.{Body}
 use Rattle.grammar.specs.Words.{decoded}
 use Rattle.grammar.specs.Encoding.{Parsed, ruleOf, onWord, parse}
+use Rattle.grammar.proofs.WellFormed.{none-in, more-in}
 use Rattle.lookahead.specs.Elements.{Subset}
 use Rattle.lookahead.specs.Operations.{end, terminal, full, meet, concat}
 use Rattle.lookahead.proofs.Order.{subset-refl, meet-mono}
 use Rattle.lookahead.proofs.Concat.{concat-mono}
 use Rattle.table.specs.declared.first.Rest.{Rest}
 use Rattle.table.specs.Naming.{ruleHead, Indexed}
-use Rattle.table.specs.Least.{SetFamily, at, Under, AddsTo, Passes}
+use Rattle.table.specs.Least.{SetFamily, at, Under, Adds, AddsTo, Passes}
 use Rattle.table.specs.First.{symbolFirst, bodyFirst, ruleFirst, FirstClosed, sets, restOf, noRest, Onto}
+use Rattle.table.proofs.Words.{parse-before, parse-over}
 use Rattle.table.proofs.Rising.{passing-none, passing-add}
 
 -- larger families give larger first sets
@@ -44,7 +44,8 @@ module _ (F G : SetFamily) (u : Under F G) where
 
 -- what `onto` returns, by the kind of word
 module _ {t : ℕ} {F : SetFamily} {w : Word} {rest : Rest} where
-  pub onto-symbol : {X : GrammarSymbol} {x y : ℕ} → w ≡ Symbol X → x ≡ symbolFirst F X → y ≡ concat x (rest .body .bits) → Onto t F w rest (sets y (rest .meet .bits))
+  pub onto-symbol : {X : GrammarSymbol} {x y : ℕ} → w ≡ Symbol X → x ≡ symbolFirst F X → y ≡ concat x (rest .body .bits)
+      → Onto t F w rest (sets y (rest .meet .bits))
   unfolding onWord bodyFirst
   onto-symbol e f g = record { onto = λ p h. rw (e, g, f, h) }
 
@@ -72,51 +73,37 @@ module _ {t : ℕ} {F : SetFamily} {w : Word} {rest : Rest} where
   unfolding onWord
   onto-invalid e = record { onto = λ p h. rw e h }
 
--- the rest and the sets, where the rules p have been gone through
+-- the rest and the sets, where what p says has been gone through
 pub record Gone (t : ℕ) (p : Parsed) (l₀ l : List ℕ) (grown : Bool) (rest : Rest) : Type 0 where
   pub is : rest ≡ restOf t (at l) p
   pub passing : Passes (FirstClosed t (p .rules)) l₀ l grown
 
-none-closed : (t : ℕ) (F : SetFamily) → FirstClosed t [] F
-none-closed t F r m = absurd (List·Memᴰ·not-nil m)
-
+-- one word more, in front of p
 module _ {t : ℕ} {p : Parsed} {l₀ l : List ℕ} {grown : Bool} {rest : Rest} (g : Gone t p l₀ l grown rest) where
-  -- a word that begins no rule
-  gone-on : (w : Word) {l′ : List ℕ} {r : Bool} {next : Rest} → next ≡ restOf t (at l) (onWord w p) → onWord w p .rules ≡ p .rules → (l′ ≡ l) × (r ≡ grown)
+  gone-on : (w : Word) {l′ : List ℕ} {r : Bool} {next : Rest} → onWord w p .rules ≡ p .rules → Onto t (at l) w rest next → (l′ ≡ l) × (r ≡ grown)
       → Gone t (onWord w p) l₀ l′ r next
-  gone-on w e f k = rw (k .0, k .1) (record { is = e; passing = rw f (g .passing) })
+  gone-on w f o k = rw (k .0, k .1) (record { is = o .onto p (g .is); passing = rw f (g .passing) })
 
-  gone-rule : (A : ℕ) {l′ : List ℕ} {r : Bool} {next : Rest} → A < length l → next ≡ restOf t (at l) (onWord (RuleWord A) p)
-      → AddsTo (ruleHead (RuleWord A)) l (rest .meet .bits) grown l′ r → Gone t (onWord (RuleWord A) p) l₀ l′ r next
+  gone-rule : (A : ℕ) {l′ : List ℕ} {r : Bool} {next : Rest} → A < length l → Onto t (at l) (RuleWord A) rest next
+      → Adds l A (rest .meet .bits) grown l′ r → Gone t (onWord (RuleWord A) p) l₀ l′ r next
   unfolding onWord bodyFirst ruleFirst
-  gone-rule A h e k = record {
-    is = e;
+  gone-rule A h o k = record {
+    is = o .onto p (g .is);
     passing = passing-add (g .passing) h (λ G c r m. c r (List·Memᴰ·tail m))
-        (λ G c u x s. c (ruleOf A p) (List·Memᴰ·head refl) x (rule-mono (at l) G u t (p .positives) x (rw (g .is) at s))) (λ c s r m. closed c (rw (g .is) at s) r (List·Memᴰ·cases-cons m)) k;
+        (λ G c u x s. c (ruleOf A p) (List·Memᴰ·head refl) x (rule-mono (at l) G u t (p .positives) x (rw (g .is) at s)))
+        (λ c s. more-in (λ r. Subset (ruleFirst t (at l) (r .positives)) (at l (r .head))) (ruleOf A p) (p .rules) (rw (g .is) at s) c) k;
   }
-    where
-      closed : FirstClosed t (p .rules) (at l) → Subset (ruleFirst t (at l) (p .positives)) (at l A)
-          → (r : Rule) → (r ≡ ruleOf A p) ⊎ List·Memᴰ r (p .rules) → Subset (ruleFirst t (at l) (r .positives)) (at l (r .head))
-      closed c s r (inl e) = rw e s
-      closed c s r (inr m) = c r m
 
-  gone-turn : (w : Word) {l′ : List ℕ} {r : Bool} {next : Rest} → length l ≡ maxNonterminals → Indexed w → Onto t (at l) w rest next → AddsTo (ruleHead w) l (rest .meet .bits) grown l′ r
-      → Gone t (onWord w p) l₀ l′ r next
+  gone-turn : (w : Word) {l′ : List ℕ} {r : Bool} {next : Rest} → length l ≡ maxNonterminals → Indexed w → Onto t (at l) w rest next
+      → AddsTo (ruleHead w) l (rest .meet .bits) grown l′ r → Gone t (onWord w p) l₀ l′ r next
   unfolding onWord
-  gone-turn (RuleWord A) n i o k = gone-rule A (rw n i) (o .onto p (g .is)) k
-  gone-turn Positive n i o k = gone-on Positive (o .onto p (g .is)) refl k
-  gone-turn Negative n i o k = gone-on Negative (o .onto p (g .is)) refl k
-  gone-turn (Symbol X) n i o k = gone-on (Symbol X) (o .onto p (g .is)) refl k
-  gone-turn End n i o k = gone-on End (o .onto p (g .is)) refl k
-  gone-turn (Heading m u) n i o k = gone-on (Heading m u) (o .onto p (g .is)) refl k
-  gone-turn Invalid n i o k = gone-on Invalid (o .onto p (g .is)) refl k
-
--- the word before a place, and what the words from the place on say
-pub parse-before : (words : List ℕ) (i : ℕ) → 0 < i → i ≤ length words → parse (drop (i - 1) words) ≡ onWord (decoded (getD words (i - 1) 0)) (parse (drop i words))
-unfolding parse
-parse-before words i h k =
-    let e : suc (i - 1) ≡ i = omega arith in
-    rw (drop-cons words (i - 1) 0 (omega arith)) (ap (λ (k : ℕ). onWord (decoded (getD words (i - 1) 0)) (parse (drop k words))) e)
+  gone-turn (RuleWord A) n i o k = gone-rule A (rw n i) o k
+  gone-turn Positive n i o k = gone-on Positive refl o k
+  gone-turn Negative n i o k = gone-on Negative refl o k
+  gone-turn (Symbol X) n i o k = gone-on (Symbol X) refl o k
+  gone-turn End n i o k = gone-on End refl o k
+  gone-turn (Heading m u) n i o k = gone-on (Heading m u) refl o k
+  gone-turn Invalid n i o k = gone-on Invalid refl o k
 
 -- the invariant of a pass: the words from i on have been gone through
 pub record FirstWalk (t : ℕ) (words l₀ l : List ℕ) (grown : Bool) (rest : Rest) (i : ℕ) : Type 0 where
@@ -125,9 +112,10 @@ pub record FirstWalk (t : ℕ) (words l₀ l : List ℕ) (grown : Bool) (rest : 
 
 pub walk-start : (t : ℕ) (words l : List ℕ) {rest : Rest} → rest ≡ noRest t → FirstWalk t words l l false rest (length words)
 unfolding parse bodyFirst ruleFirst
-walk-start t words l e =
-    let k : length words ≤ length words = omega arith in
-    record { within = k; gone = rw (drop-of-length-le words k) (record { is = e; passing = passing-none l (none-closed t (at l)) }) }
+walk-start t words l e = record {
+  within = omega arith;
+  gone = rw (parse-over words (length words) (omega arith)) (record { is = e; passing = passing-none l (none-in _) });
+}
 
 pub walk-turn : {t : ℕ} {words l₀ l : List ℕ} {grown : Bool} {rest : Rest} {i : ℕ} → FirstWalk t words l₀ l grown rest i → 0 < i → length l₀ ≡ maxNonterminals
     → {w : Word} {l′ : List ℕ} {r : Bool} {next : Rest} → w ≡ decoded (getD words (i - 1) 0) → Indexed w → Onto t (at l) w rest next

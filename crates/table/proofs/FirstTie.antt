@@ -1,90 +1,102 @@
 -- The least family of sets that the rules close is FIRST_1 of the grammar, in numbers. Assumes nothing.
-use mathlib.Core.Path.{_≡_, refl, sym, ap, _∙_}
-use mathlib.Core.List.{List, [], _∷_, List·Memᴰ, List·Memᴰ·head, List·Memᴰ·tail, List·Memᴰ·cases-cons, List·Memᴰ·not-nil, Memᴰ·append-left}
-use mathlib.Core.Logic.{_⊎_, inl, inr}
+use mathlib.Core.Path.{_≡_, refl}
+use mathlib.Core.List.{List, [], _∷_, List·Memᴰ, List·Memᴰ·head, List·Memᴰ·tail, Memᴰ·append-left}
 use Prim.Native.Nat.{ℕ, _≤_}
 use native.Mathlib.Omega.{arith}
 use lib.Dec.{T}
-use mir.Facts.{yes-and}
 use lib.ListN.{length}
+use mir.Facts.{yes-and}
 use Rattle.grammar.specs.declared.reading.Sizes.{Sizes}
 use Rattle.grammar.specs.declared.reading.Outcome.the-variants.{Read}
 use Rattle.grammar.specs.Limits.{maxNonterminals}
+use Rattle.grammar.specs.Syntax.{Body, Rule, Grammar, WellFormed, TerminalsBelow}
 use Rattle.grammar.specs.Encoding.{parse, grammarOf}
 use Rattle.grammar.specs.Reading.{reading}
 use Rattle.grammar.proofs.Places.{read-whole}
+use Rattle.grammar.proofs.WellFormed.{none-in, more-in}
 use Rattle.grammar.proofs.WellRead.{well-read}
-use Rattle.grammar.specs.Syntax.{Body, Rule, Grammar, WellFormed, TerminalsBelow}
-use Rattle.semantics.specs.Strings.{Lookahead}
 use Rattle.semantics.specs.Families.{FirstBody, FirstClosed as FirstClosedStrings}
 use Rattle.semantics.specs.FirstFollow.{first, First}
 use Rattle.semantics.proofs.First.{firstBody-mono, first-lookahead, first-closed, first-smallest}
-use Rattle.lookahead.specs.Elements.{nothing, has, Subset}
-use Rattle.lookahead.specs.Operations.{full, meet}
-use Rattle.lookahead.proofs.Order.{subset-antisym, meet-left, meet-right}
+use Rattle.lookahead.specs.Elements.{nothing, has}
+use Rattle.lookahead.specs.Operations.{full}
 use Rattle.lookahead.proofs.Operations.{has-meet}
-use Rattle.table.specs.Least.{SetFamily, at, Under, Least}
+use Rattle.lookahead.proofs.Order.{meet-left, meet-right}
+use Rattle.table.specs.Least.{SetFamily, at, Least}
 use Rattle.table.specs.Lists.{listed}
 use Rattle.table.specs.Sets.{stringOf, firstNumber}
 use Rattle.table.specs.First.{bodyFirst, ruleFirst, FirstClosed}
 use Rattle.table.proofs.Lists.{listed-is}
-use Rattle.table.proofs.Strings.{elementOf, Stands, lookahead-string, lookahead-bound, lookahead-full, full-has, StringIn, stringsOf, string-in, in-element, in-string, number-has, has-number, body-in, in-body}
+use Rattle.table.proofs.Strings.{elementOf, lookahead-string, lookahead-full, full-has, StringIn, stringsOf, string-in, in-element, body-in, in-body}
+use Rattle.table.proofs.Numbers.{number-string, string-number, in-number, least-numbers}
 
--- an element of a rule's set is one of every positive body's, over the terminals
+-- an element of a rule's set is one of the full set, and of every positive body's
 module _ (t : ℕ) (F : SetFamily) (l : ℕ) where
   pub rule-has : (bs : List Body) → T (has (full t) l) → ((b : Body) → List·Memᴰ b bs → T (has (bodyFirst F b) l)) → T (has (ruleFirst t F bs) l)
   unfolding ruleFirst
   rule-has [] f h = f
-  rule-has (b ∷ bs) f h = rw (has-meet (bodyFirst F b) (ruleFirst t F bs) l) (yes-and (has (bodyFirst F b) l) (has (ruleFirst t F bs) l) (h b (List·Memᴰ·head refl)) (rule-has bs f (λ c m. h c (List·Memᴰ·tail m))))
+  rule-has (b ∷ bs) f h =
+      rw (has-meet (bodyFirst F b) (ruleFirst t F bs) l) (yes-and (has (bodyFirst F b) l) (has (ruleFirst t F bs) l)
+      (h b (List·Memᴰ·head refl)) (rule-has bs f (λ c m. h c (List·Memᴰ·tail m))))
 
-  pub has-rule : (bs : List Body) → T (has (ruleFirst t F bs) l) → T (has (full t) l) × ((b : Body) → List·Memᴰ b bs → T (has (bodyFirst F b) l))
+  pub has-full-rule : (bs : List Body) → T (has (ruleFirst t F bs) l) → T (has (full t) l)
   unfolding ruleFirst
-  has-rule [] s = (s, λ b m. absurd (List·Memᴰ·not-nil m))
+  has-full-rule [] s = s
+  has-full-rule (b ∷ bs) s = has-full-rule bs (meet-right (bodyFirst F b) (ruleFirst t F bs) l s)
+
+  pub has-rule : (bs : List Body) → T (has (ruleFirst t F bs) l) → (b : Body) → List·Memᴰ b bs → T (has (bodyFirst F b) l)
+  unfolding ruleFirst
+  has-rule [] s = none-in _
   has-rule (b ∷ bs) s =
-      let i = has-rule bs (meet-right (bodyFirst F b) (ruleFirst t F bs) l s) in
-      (i .0, λ c m. elim (List·Memᴰ·cases-cons m) [ inl e ↦ rw e (meet-left (bodyFirst F b) (ruleFirst t F bs) l s) | inr n ↦ i .1 c n ])
+      more-in (λ c. T (has (bodyFirst F c) l)) b bs (meet-left (bodyFirst F b) (ruleFirst t F bs) l s)
+      (has-rule bs (meet-right (bodyFirst F b) (ruleFirst t F bs) l s))
 
 module _ (G : Grammar) (formed : WellFormed G) (few : G .terminals ≤ nothing) where
-  positive-below : (r : Rule) → List·Memᴰ r (G .rules) → (b : Body) → List·Memᴰ b (r .positives) → TerminalsBelow (G .terminals) b
-  positive-below r m b n = formed .terminals r m b (Memᴰ·append-left (r .negatives) n)
-
   -- a closed family of numbers is one of strings, which FIRST_1 is contained in
   strings-closed : (F : SetFamily) → FirstClosed (G .terminals) (G .rules) F → FirstClosedStrings G 1 (stringsOf F)
   strings-closed F c r m x l f =
-      let s = lookahead-string (G .terminals) x few l in (
+      let s = lookahead-string (G .terminals) x few l in
+      let full = full-has (G .terminals) (elementOf x) few (s .over) in (
         elementOf x,
-        c r m (elementOf x) (rule-has (G .terminals) F (elementOf x) (r .positives) (full-has (G .terminals) (elementOf x) few (s .over))
-            (λ b n. in-element (bodyFirst F b) x (body-in F (G .terminals) few b (positive-below r m b n) x (f b n)))),
+        c r m (elementOf x) (rule-has (G .terminals) F (elementOf x) (r .positives) full
+            (λ b n. in-element (bodyFirst F b) x (body-in F (G .terminals) few b (below b n) x (f b n)))),
         s .is,
       )
+    where
+      below : (b : Body) → List·Memᴰ b (r .positives) → TerminalsBelow (G .terminals) b
+      below b n = formed .terminals r m b (Memᴰ·append-left (r .negatives) n)
 
-  pub first-within : (F : SetFamily) → FirstClosed (G .terminals) (G .rules) F → (A : ℕ) (x : List ℕ) → First G 1 A x → StringIn (F A) x
-  first-within F c = first-smallest G 1 (stringsOf F) (strings-closed F c)
-
-  -- the numbers of FIRST_1 hold its strings and no others
-  pub first-string : (A : ℕ) (x : List ℕ) → StringIn (firstNumber G A) x → First G 1 A x
+  -- the set of a body under the numbers of FIRST_1 holds the strings that the body can begin with
+  pub body-begins : (b : Body) (l : ℕ) → T (has (bodyFirst (firstNumber G) b) l) → FirstBody 1 (First G 1) b (stringOf l)
   unfolding firstNumber
-  first-string A x i = rw (i .2) (number-has (λ x. first G 1 (A, x)) (i .0) (i .1))
+  body-begins b l h =
+      firstBody-mono 1 (stringsOf (firstNumber G)) (First G 1) (number-string G few (first G 1) (first-lookahead G 1)) b (stringOf l)
+      (in-body (firstNumber G) (G .terminals) few b (stringOf l) (string-in (bodyFirst (firstNumber G) b) l h))
 
-  pub string-first : (A l : ℕ) → First G 1 A (stringOf l) → T (has (firstNumber G A) l)
+  pub begins-body : (b : Body) → TerminalsBelow (G .terminals) b → (x : List ℕ) → FirstBody 1 (First G 1) b x → StringIn (bodyFirst (firstNumber G) b) x
   unfolding firstNumber
-  string-first A l f = has-number (λ x. first G 1 (A, x)) l (lookahead-bound (G .terminals) l few (first-lookahead G 1 A (stringOf l) f .1)) f
+  begins-body b t x f =
+      body-in (firstNumber G) (G .terminals) few b t x
+      (firstBody-mono 1 (First G 1) (stringsOf (firstNumber G)) (in-number G few (first G 1) (first-lookahead G 1)) b x f)
 
-  -- and are a closed family
+  -- and these numbers are a closed family
   numbers-closed : FirstClosed (G .terminals) (G .rules) (firstNumber G)
+  unfolding firstNumber
   numbers-closed r m l s =
-      let i = has-rule (G .terminals) (firstNumber G) l (r .positives) s in
-      string-first (r .head) l (first-closed G 1 (formed .scoped) r m (stringOf l) (lookahead-full (G .terminals) l few (i .0))
-      (λ b n. firstBody-mono 1 (stringsOf (firstNumber G)) (First G 1) first-string b (stringOf l) (in-body (firstNumber G) (G .terminals) few b (stringOf l) (string-in (bodyFirst (firstNumber G) b) l (i .1 b n)))))
+      string-number G few (first G 1) (first-lookahead G 1) (r .head) l (first-closed G 1 (formed .scoped) r m (stringOf l)
+      (lookahead-full (G .terminals) l few (has-full-rule (G .terminals) (firstNumber G) l (r .positives) s))
+      (λ b n. body-begins b l (has-rule (G .terminals) (firstNumber G) l (r .positives) s b n)))
 
-  -- THE THEOREM
+  -- the least closed array of a well-formed grammar holds its FIRST_1
   pub first-numbers : (l : List ℕ) → Least (FirstClosed (G .terminals) (G .rules)) l → (A : ℕ) → at l A ≡ firstNumber G A
-  first-numbers l least A = subset-antisym (at l A) (firstNumber G A) (least .least (firstNumber G) numbers-closed A)
-      (λ k s. in-string (at l A) k (first-within (at l) (least .closed) A (stringOf k) (first-string A (stringOf k) (string-in (firstNumber G A) k s))))
+  unfolding firstNumber
+  first-numbers l least =
+      least-numbers G few (first G 1) (first-lookahead G 1) (FirstClosed (G .terminals) (G .rules)) numbers-closed l least
+      (first-smallest G 1 (stringsOf (at l)) (strings-closed (at l) (least .closed)))
 
 -- the sets of all terminals and nothing are a closed family, which bounds the others
 pub full-closed : (t : ℕ) (rs : List Rule) → FirstClosed t rs (λ A. full t)
-full-closed t rs r m l s = has-rule t (λ A. full t) l (r .positives) s .0
+full-closed t rs r m l s = has-full-rule t (λ A. full t) l (r .positives) s
 
 -- and so for the words of a grammar that has been read
 pub first-listed : (words : List ℕ) (z : Sizes) → reading words ≡ Read z → (l : List ℕ) → length l ≡ maxNonterminals

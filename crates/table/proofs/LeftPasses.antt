@@ -5,7 +5,7 @@ use mathlib.Core.List.{List, [], _∷_, _++_}
 use Prim.Native.Nat.{ℕ, suc, _-_, _*_, _%_, _^_, _≤_, _<_}
 use native.Mathlib.Omega.{arith}
 use lib.Bits.{bitOr}
-use lib.ListN.{length, getD, drop, drop-of-length-le}
+use lib.ListN.{length, getD, drop}
 use lib.Pow.{shl-exact}
 use Rattle.grammar.specs.declared.Symbol.{Symbol as GrammarSymbol}
 use Rattle.grammar.specs.declared.Symbol.the-variants.{Terminal, Nonterminal}
@@ -26,7 +26,7 @@ use Rattle.table.specs.Least.{SetFamily, at, Under, AddsTo, Passes}
 use Rattle.table.specs.Left.{symbolLeft, bodyLeft, bodiesLeft, ReachClosed, lefts, leftOf, OntoLeft}
 use Rattle.table.proofs.Rising.{passing-none}
 use Rattle.table.proofs.Closing.{Closes, closes-none, closes-word}
-use Rattle.table.proofs.FirstPasses.{parse-before}
+use Rattle.table.proofs.Words.{parse-before, parse-over}
 
 -- larger families have more at the left
 module _ (s : Set) (F G : SetFamily) (u : Under F G) where
@@ -128,9 +128,8 @@ pub record LeftWalk (s : Set) (words l₀ l : List ℕ) (grown : Bool) (left : L
 pub walk-start : (s : Set) (words l : List ℕ) → LeftWalk s words l l false (lefts 0 0) (length words)
 unfolding parse bodyLeft bodiesLeft
 walk-start s words l =
-    let k : length words ≤ length words = omega arith in
-    let none : drop (length words) words ≡ [] = drop-of-length-le words k in
-    record { within = k; is = rw none; passing = rw none (passing-none l (closes-none (ruleLeft s) (at l))) }
+    let none = parse-over words (length words) (omega arith) in
+    record { within = omega arith; is = rw none; passing = rw none (passing-none l (closes-none (ruleLeft s) (at l))) }
 
 -- the state behind a word does not change with the sets: where they do, a rule begins and nothing stands open
 kept : (s : Set) (w : Word) (p : Parsed) (l l′ : List ℕ) (v : ℕ) (grown r : Bool) → AddsTo (ruleHead w) l v grown l′ r → leftOf s (at l) (onWord w p) ≡ leftOf s (at l′) (onWord w p)

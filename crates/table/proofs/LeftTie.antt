@@ -26,9 +26,10 @@ use Rattle.lookahead.proofs.Powers.{has-pow}
 use Rattle.lookahead.proofs.Weights.{has-total}
 use Rattle.semantics.specs.Quantifiers.{lowest}
 use Rattle.semantics.specs.Rounds.{Set}
-use Rattle.semantics.specs.FirstFollow.{First}
+use Rattle.semantics.specs.FirstFollow.{first}
 use Rattle.semantics.specs.LeftRecursion.{nullable, LeftIn, here, there, LeftDepends, LeftReaches, once, more, leftReaches, leftRecursive, lowestLeftRecursive}
 use Rattle.semantics.proofs.Booleans.{T-true, T-subst, and-l, and-r, and-make, or-cases, both}
+use Rattle.semantics.proofs.First.{first-lookahead}
 use Rattle.semantics.proofs.FirstNullable.{first-none}
 use Rattle.semantics.proofs.LeftRecursion.{reaches-then, target-below, leftReaches-iff}
 use Rattle.table.specs.declared.left.Lowest.{Lowest}
@@ -36,9 +37,9 @@ use Rattle.table.specs.Lists.{listed}
 use Rattle.table.specs.Sets.{stringOf, firstNumber, reachNumber}
 use Rattle.table.specs.Least.{SetFamily, at, Least}
 use Rattle.table.specs.Left.{emptyIn, symbolLeft, bodyLeft, bodiesLeft, ReachClosed, GivenFirsts, ownIn, lowestOf}
-use Rattle.table.proofs.Lists.{listed-is, getD-listed}
-use Rattle.table.proofs.Strings.{string-nothing, string-in, in-string}
-use Rattle.table.proofs.Claimed.{first-array}
+use Rattle.table.proofs.Lists.{listed-is, listed-at}
+use Rattle.table.proofs.Strings.{string-nothing}
+use Rattle.table.proofs.Numbers.{number-string, string-number, array-at}
 use Rattle.table.proofs.Lowest.{lowest-cong}
 
 -- B is C, or C reaches it by the family R
@@ -170,13 +171,13 @@ module _ {words : List ℕ} {z : Sizes} {firsts : List ℕ} (g : GivenFirsts wor
 
   -- nothing is in the first sets of the nullable nonterminals
   nullable-in : (A : ℕ) → T (emptyIn (at firsts) A) ↔ T (nullable (grammarOf words) A)
+  unfolding firstNumber
   nullable-in A =
       let G = grammarOf words in
-      let f = first-array G (well-read words z (g .read) .formed) many few A [] in
       let n = first-none G 1 scoped (omega arith) A in
-      rw (g .first) (
-        λ t. n .0 (f .0 (nothing, t, sym string-nothing)),
-        λ t. in-string (at (listed maxNonterminals (firstNumber G)) A) nothing (rw string-nothing (f .1 (n .1 t))),
+      rw (g .first, array-at G few (first G 1) (first-lookahead G 1) many A) (
+        λ t. n .0 (number-string G few (first G 1) (first-lookahead G 1) A [] (nothing, t, sym string-nothing)),
+        λ t. string-number G few (first G 1) (first-lookahead G 1) A nothing (rw string-nothing (n .1 t)),
       )
 
   pub reach-closed : ReachClosed (emptyIn (at firsts)) (parse words .rules) (reachNumber (grammarOf words))
@@ -201,7 +202,7 @@ module _ {words : List ℕ} {z : Sizes} {firsts : List ℕ} (g : GivenFirsts wor
       let G = grammarOf words in
       let k = well-read words z (g .read) in
       let same : lowest (G .nonterminals) (ownIn l) ≡ lowest (G .nonterminals) (leftRecursive G) = lowest-cong (G .nonterminals) (ownIn l) (leftRecursive G) (λ A h.
-      rw (e, getD-listed maxNonterminals (reachNumber G) A 0 (omega (arith, many))) (own-reached A h)) in
+      rw (e, listed-at maxNonterminals (reachNumber G) A (omega (arith, many))) (own-reached A h)) in
       f ∙ rw (k .nonterminals, same)
     where
       own-reached : (A : ℕ) → A < grammarOf words .nonterminals → has (reachNumber (grammarOf words) A) A ≡ leftRecursive (grammarOf words) A

@@ -13,13 +13,14 @@ listed-is zero f (x ∷ l) e h = absurd (omega arith)
 listed-is (suc n) f [] e h = absurd (omega arith)
 listed-is (suc n) f (x ∷ l) e h = ap₂ _∷_ (h 0) (listed-is n (λ i. f (suc i)) l (omega arith) (λ i. h (suc i)))
 
-pub length-listed : (n : ℕ) (f : ℕ → ℕ) → length (listed n f) ≡ n
+-- and such a list has the function's values, and zeros behind them
+pub listed-long : (n : ℕ) (f : ℕ → ℕ) → length (listed n f) ≡ n
 unfolding listed
-length-listed zero f = refl
-length-listed (suc n) f = ap suc (length-listed n (λ i. f (suc i)))
+listed-long zero f = refl
+listed-long (suc n) f = ap suc (listed-long n (λ i. f (suc i)))
 
-pub getD-listed : (n : ℕ) (f : ℕ → ℕ) (i d : ℕ) → i < n → getD (listed n f) i d ≡ f i
+pub listed-at : (n : ℕ) (f : ℕ → ℕ) (i : ℕ) → i < n → getD (listed n f) i 0 ≡ f i
 unfolding listed
-getD-listed zero f i d h = absurd (omega arith)
-getD-listed (suc n) f zero d h = refl
-getD-listed (suc n) f (suc i) d h = getD-listed n (λ i. f (suc i)) i d (omega arith)
+listed-at zero f i h = absurd (omega arith)
+listed-at (suc n) f zero h = refl
+listed-at (suc n) f (suc i) h = listed-at n (λ k. f (suc k)) i (omega arith)

@@ -1,12 +1,13 @@
 -- With one token of lookahead: strings of at most one terminal and the elements of sets, one to one, and First_1 of a concatenation. Assumes nothing.
 use mathlib.Core.Path.{_≡_, refl, sym, ap, ap₂, _∙_}
-use mathlib.Core.Bool.{Bool, true, false, _&&_, _||_, or-true}
+use mathlib.Core.Bool.{Bool, true, false, or-true}
 use mathlib.Core.List.{List, [], _∷_, _++_}
 use mathlib.Core.Logic.{_⊎_, inl, inr}
-use Prim.Native.Nat.{ℕ, zero, suc, _≤_, _<_}
+use Prim.Native.Nat.{ℕ, suc, _≤_, _<_}
 use native.Mathlib.Omega.{arith}
+use native.Mathlib.Decide.{decLt}
 use lib.Dec.{T, eqb, ltb, ltb→lt, lt→ltb, eqb→eq, eqb-refl}
-use lib.ListN.{length, take}
+use lib.ListN.{take}
 use borrow.Author.Tests.{eqb-true, eq-eqb, ne-eqb, lt-ltb}
 use mir.Facts.{and-yes, yes-and}
 use Rattle.grammar.specs.Choice.{choose}
@@ -16,8 +17,8 @@ use Rattle.grammar.specs.Syntax.{Body, TerminalsBelow}
 use Rattle.semantics.specs.Quantifiers.{all}
 use Rattle.semantics.specs.Strings.{Lookahead}
 use Rattle.semantics.specs.Families.{Family, FirstOf, FirstBody}
-use Rattle.lookahead.specs.Elements.{nothing, has, total}
-use Rattle.lookahead.specs.Operations.{pick, end, terminal, full, concat}
+use Rattle.lookahead.specs.Elements.{nothing, has, Over}
+use Rattle.lookahead.specs.Operations.{pick, full}
 use Rattle.lookahead.proofs.Operations.{has-end, has-terminal, has-full}
 use Rattle.lookahead.proofs.Over.{over-full}
 use Rattle.lookahead.proofs.Pairs.{first, concat-pair}
@@ -112,14 +113,27 @@ number-has p l t = and-yes (ltb l (suc nothing)) (p (stringOf l)) (rw (has-total
 
 pub has-number : (p : List ℕ → Bool) (l : ℕ) → l ≤ nothing → T (p (stringOf l)) → T (has (numberOf p) l)
 unfolding numberOf
-has-number p l h t = rw (has-total (suc nothing) (λ l. p (stringOf l)) l) (yes-and (ltb l (suc nothing)) (p (stringOf l)) (lt→ltb l (suc nothing) (omega arith)) t)
+has-number p l h t =
+    rw (has-total (suc nothing) (λ l. p (stringOf l)) l) (yes-and (ltb l (suc nothing)) (p (stringOf l)) (lt→ltb l (suc nothing) (omega arith)) t)
+
+-- and no others
+pub number-over : (p : List ℕ → Bool) → Over nothing (numberOf p)
+unfolding numberOf
+number-over p l t =
+    let b = ltb→lt l (suc nothing) (and-yes (ltb l (suc nothing)) (p (stringOf l)) (rw (has-total (suc nothing) (λ l. p (stringOf l)) l) at t) .0) in
+    go (decLt l nothing) b
+  where
+    go : Dec (l < nothing) → l < suc nothing → (l < nothing) ⊎ (l ≡ nothing)
+    go (yes h) b = inl h
+    go (no h) b = inr (omega arith)
 
 -- the first sets of bodies, in strings and in numbers
 module _ (F : SetFamily) (t : ℕ) (few : t ≤ nothing) where
   symbol-in : (X : Symbol) (b : Body) → TerminalsBelow t (X ∷ b) → (x : List ℕ) → FirstOf 1 (stringsOf F) X x → StringIn (symbolFirst F X) x
   unfolding symbolFirst
   symbol-in (Terminal a) b h x e =
-      (a, rw (has-terminal a a) (yes-and (ltb a nothing) (eqb a a) (lt→ltb a nothing (omega (arith, h .0))) (eqb-refl a)), e ∙ sym (string-terminal a (omega (arith, h .0))))
+      let low : a < nothing = omega (arith, h .0) in
+      (a, rw (has-terminal a a) (yes-and (ltb a nothing) (eqb a a) (lt→ltb a nothing low) (eqb-refl a)), e ∙ sym (string-terminal a low))
   symbol-in (Nonterminal A) b h x i = i
 
   in-symbol : (X : Symbol) (x : List ℕ) → StringIn (symbolFirst F X) x → FirstOf 1 (stringsOf F) X x
@@ -139,8 +153,11 @@ module _ (F : SetFamily) (t : ℕ) (few : t ≤ nothing) where
   body-in [] h x e = (nothing, rw (has-end nothing) tt, e ∙ sym string-nothing)
   body-in (X ∷ b) h x f =
       let i = symbol-in X b h (f .0) (f .2) in
-      let j = body-in b (rest-below X b h) (f .1) (f .3) in
-      (first (i .0) (j .0), paired (symbolFirst F X) (bodyFirst F b) (i .0) (j .0) (i .1) (j .1), f .4 ∙ ap₂ (λ u y. take 1 (u ++ y)) (i .2) (j .2) ∙ string-first (i .0) (j .0))
+      let j = body-in b (rest-below X b h) (f .1) (f .3) in (
+        first (i .0) (j .0),
+        paired (symbolFirst F X) (bodyFirst F b) (i .0) (j .0) (i .1) (j .1),
+        f .4 ∙ ap₂ (λ u y. take 1 (u ++ y)) (i .2) (j .2) ∙ string-first (i .0) (j .0),
+      )
 
   pub in-body : (b : Body) (x : List ℕ) → StringIn (bodyFirst F b) x → FirstBody 1 (stringsOf F) b x
   unfolding bodyFirst

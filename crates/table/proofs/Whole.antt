@@ -24,7 +24,7 @@ use Rattle.table.specs.Lists.{listed}
 use Rattle.table.specs.Sets.{firstNumber, followNumber}
 use Rattle.table.specs.Layout.{noEntry, entryWord, columnString, columns, entryAt, setWord, rowWord, tableWords}
 use Rattle.table.specs.Entries.{filled, tableWith, entriesOf, conflictFrom, wordOf, entryOver, Given, FilledSets, FilledRows}
-use Rattle.table.proofs.Lists.{length-listed, getD-listed}
+use Rattle.table.proofs.Lists.{listed-long, listed-at}
 use Rattle.table.proofs.Cells.{first-clash}
 
 -- a word of two lists, one behind the other
@@ -55,7 +55,7 @@ module _ (G : Grammar) (few : G .nonterminals ≤ maxNonterminals) (few′ : G .
 
   table-length : length (tableWords G) ≡ setWords + rowWords
   unfolding tableWords
-  table-length = omega (arith, length-append (listed setWords (setWord G)) (listed rowWords (rowWord G)), length-listed setWords (setWord G), length-listed rowWords (rowWord G))
+  table-length = omega (arith, length-append (listed setWords (setWord G)) (listed rowWords (rowWord G)), listed-long setWords (setWord G), listed-long rowWords (rowWord G))
 
   -- the sets
   in-sets : (i : ℕ) → i < setWords → getD table i 0 ≡ setWord G i
@@ -71,10 +71,10 @@ module _ (G : Grammar) (few : G .nonterminals ≤ maxNonterminals) (few′ : G .
       go : Dec (i % 2 ≡ 0) → getD half i 0 ≡ choose (eqb (i % 2) 0) (firstNumber G A) (followNumber G A)
       go (yes e) =
           let at : 2 * A ≡ i = omega arith in
-          rw (eq-eqb (i % 2) 0 e) ((rw at at (sets .first A own)) ∙ (rw f (getD-listed maxNonterminals (firstNumber G) A 0 (omega arith))))
+          rw (eq-eqb (i % 2) 0 e) ((rw at at (sets .first A own)) ∙ (rw f (listed-at maxNonterminals (firstNumber G) A (omega arith))))
       go (no ne) =
           let at : 2 * A + 1 ≡ i = omega arith in
-          rw (ne-eqb (i % 2) 0 ne) ((rw at at (sets .follow A own)) ∙ (rw g (getD-listed maxNonterminals (followNumber G) A 0 (omega arith))))
+          rw (ne-eqb (i % 2) 0 ne) ((rw at at (sets .follow A own)) ∙ (rw g (listed-at maxNonterminals (followNumber G) A (omega arith))))
 
   -- the rows
   in-rows : (i : ℕ) → i < rowWords → getD table (setWords + i) 0 ≡ rowWord G i
@@ -98,14 +98,14 @@ module _ (G : Grammar) (few : G .nonterminals ≤ maxNonterminals) (few′ : G .
       go : Dec (i < setWords) → Dec (i < setWords + rowWords) → getD table i 0 ≡ getD ((listed setWords (setWord G) ++ listed rowWords (rowWord G)) ++ rest) i 0
       go (yes a) d =
           in-sets i a ∙ sym (at-first (tableWords G) rest (setWords + rowWords) i 0 table-length (omega arith)
-          ∙ at-first (listed setWords (setWord G)) (listed rowWords (rowWord G)) setWords i 0 (length-listed setWords (setWord G)) a
-          ∙ getD-listed setWords (setWord G) i 0 a)
+          ∙ at-first (listed setWords (setWord G)) (listed rowWords (rowWord G)) setWords i 0 (listed-long setWords (setWord G)) a
+          ∙ listed-at setWords (setWord G) i a)
       go (no a) (yes b) =
           let j : setWords + (i - setWords) ≡ i = omega arith in
           let k : i - setWords < rowWords = omega arith in
           (rw j at (in-rows (i - setWords) k)) ∙ sym (at-first (tableWords G) rest (setWords + rowWords) i 0 table-length b
-          ∙ (rw j at (at-second (listed setWords (setWord G)) (listed rowWords (rowWord G)) setWords (i - setWords) 0 (length-listed setWords (setWord G))))
-          ∙ getD-listed rowWords (rowWord G) (i - setWords) 0 k)
+          ∙ (rw j at (at-second (listed setWords (setWord G)) (listed rowWords (rowWord G)) setWords (i - setWords) 0 (listed-long setWords (setWord G))))
+          ∙ listed-at rowWords (rowWord G) (i - setWords) k)
       go (no a) (no b) =
           let j : setWords + rowWords + (i - (setWords + rowWords)) ≡ i = omega arith in
           rows .outside i (inr (omega arith)) ∙ sets .behind i (omega arith) ∙ getD-replicate memoryWords i noEntry 0 h

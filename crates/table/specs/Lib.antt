@@ -2,6 +2,7 @@ pub mod Lists
 pub mod Least
 pub mod Naming
 pub mod First
+pub mod Follow
 pub mod Sets
 pub mod Layout
 pub mod Entries

@@ -8,6 +8,7 @@ ghost use Rattle.lookahead.specs.Elements.{has};
 ghost use Rattle.grammar.specs.Encoding.{grammarOf};
 ghost use Rattle.table.specs.Naming.{ruleHead};
 ghost use Rattle.table.specs.Entries.{columnElement, conflictFrom, FilledRow, FilledSets, Noted, tables, MayClaim, WordClaims, Given, FilledRows, entriesOf};
+use super::family::SETS;
 use super::first::no_rest;
 use super::first::onto;
 use grammar::limits::TABLE_WORDS;
@@ -68,8 +69,8 @@ fn fill_row(
 fn fill_sets(
     table: &mut [u32; TABLE_WORDS],
     nonterminals: usize,
-    firsts: &[u32; 32],
-    follows: &[u32; 32],
+    firsts: &[u32; SETS],
+    follows: &[u32; SETS],
 )
     requires { ⌜ (length (now table) ≡ memoryWords) × (nonterminals ≤ maxNonterminals) ⌝ }
     ensures { λ _. ⌜ FilledSets (now (table .entry)) nonterminals (now (firsts .entry)) (now (follows .entry)) (now (table .exit)) ⌝ }
@@ -83,7 +84,7 @@ fn fill_sets(
 }
 
 // Joins a claim for a nonterminal: what was claimed before is claimed twice.
-fn note(once: &mut [u32; 32], twice: &mut [u32; 32], head: usize, claim: LookaheadSet)
+fn note(once: &mut [u32; SETS], twice: &mut [u32; SETS], head: usize, claim: LookaheadSet)
     requires { ⌜ head < maxNonterminals ⌝ }
     ensures { λ _. ⌜ Noted (now (once .entry)) (now (twice .entry)) head (claim .bits) (now (once .exit)) (now (twice .exit)) ⌝ }
 {
@@ -99,10 +100,10 @@ fn claim(
     word: Word,
     meet: LookaheadSet,
     sizes: Sizes,
-    follows: &[u32; 32],
+    follows: &[u32; SETS],
     table: &mut [u32; TABLE_WORDS],
-    once: &mut [u32; 32],
-    twice: &mut [u32; 32],
+    once: &mut [u32; SETS],
+    twice: &mut [u32; SETS],
     behind: usize,
 ) -> usize
     requires { ⌜ MayClaim sizes word (tables (now table) (now once) (now twice) behind) ⌝ }
@@ -128,16 +129,16 @@ fn claim(
 fn fill_rows(
     words: &[u32],
     sizes: Sizes,
-    firsts: &[u32; 32],
-    follows: &[u32; 32],
+    firsts: &[u32; SETS],
+    follows: &[u32; SETS],
     table: &mut [u32; TABLE_WORDS],
-) -> [u32; 32]
+) -> [u32; SETS]
     requires { ⌜ Given (now words) sizes (now firsts) (now follows) × (length (now table) ≡ memoryWords) ⌝ }
     ensures { λ r. ⌜ FilledRows (grammarOf (now (words .entry))) (now (table .entry)) (now (table .exit)) r ⌝ }
 {
     let terminals = sizes.terminals;
-    let mut once = [0u32; 32];
-    let mut twice = [0u32; 32];
+    let mut once = [0u32; SETS];
+    let mut twice = [0u32; SETS];
     let mut rest = no_rest(terminals);
     let mut rule = sizes.rules;
     let mut at = words.len();
@@ -161,7 +162,7 @@ fn fill_rows(
 }
 
 // The first entry that is claimed twice.
-fn first_conflict(twice: &[u32; 32], sizes: Sizes) -> Conflict
+fn first_conflict(twice: &[u32; SETS], sizes: Sizes) -> Conflict
     requires { ⌜ (sizes .nonterminals ≤ maxNonterminals) × (sizes .terminals ≤ maxTerminals) ⌝ }
     ensures { λ r. ⌜ r ≡ conflictFrom (now (twice .entry)) (sizes .terminals) 0 (sizes .nonterminals * suc (sizes .terminals)) ⌝ }
 {
@@ -189,7 +190,12 @@ fn first_conflict(twice: &[u32; 32], sizes: Sizes) -> Conflict
 
 // The first conflict of a grammar that has been read, by its first and follow sets, and the table's words: where two rules
 // claim an entry, the first of them has it.
-pub(crate) fn entries(words: &[u32], sizes: Sizes, firsts: &[u32; 32], follows: &[u32; 32]) -> Table
+pub(crate) fn entries(
+    words: &[u32],
+    sizes: Sizes,
+    firsts: &[u32; SETS],
+    follows: &[u32; SETS],
+) -> Table
     requires { ⌜ Given (now words) sizes (now firsts) (now follows) ⌝ }
     ensures { λ r. ⌜ r ≡ entriesOf (grammarOf (now (words .entry))) ⌝ }
 {

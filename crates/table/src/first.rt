@@ -10,6 +10,7 @@ ghost use Rattle.table.specs.Least.{at as family, AddsTo, Passes};
 ghost use Rattle.table.specs.Lists.{listed};
 ghost use Rattle.table.specs.Naming.{ruleHead, IndexedSymbol, Indexed};
 ghost use Rattle.table.specs.Sets.{firstNumber};
+use super::family::SETS;
 use super::family::add;
 use grammar::Symbol;
 use grammar::reading::Sizes;
@@ -34,7 +35,7 @@ pub(crate) fn no_rest(terminals: u32) -> Rest
     }
 }
 
-fn symbol_first(symbol: Symbol, firsts: &[u32; 32]) -> LookaheadSet
+fn symbol_first(symbol: Symbol, firsts: &[u32; SETS]) -> LookaheadSet
     requires { ⌜ IndexedSymbol symbol ⌝ }
     ensures { λ r. ⌜ r .bits ≡ symbolFirst (family (now (firsts .entry))) symbol ⌝ }
 {
@@ -47,7 +48,7 @@ fn symbol_first(symbol: Symbol, firsts: &[u32; 32]) -> LookaheadSet
 }
 
 // The rest with a word in front.
-pub(crate) fn onto(word: Word, rest: Rest, firsts: &[u32; 32], terminals: u32) -> Rest
+pub(crate) fn onto(word: Word, rest: Rest, firsts: &[u32; SETS], terminals: u32) -> Rest
     requires { ⌜ Indexed word ⌝ }
     ensures { λ r. ⌜ Onto terminals (family (now (firsts .entry))) word rest r ⌝ }
 {
@@ -77,7 +78,7 @@ pub(crate) fn onto(word: Word, rest: Rest, firsts: &[u32; 32], terminals: u32) -
 }
 
 // Where a rule begins, the meet of its positives goes into the set of its head.
-pub(crate) fn close_rule(word: Word, meet: u32, firsts: &mut [u32; 32], grown: bool) -> bool
+pub(crate) fn close_rule(word: Word, meet: u32, firsts: &mut [u32; SETS], grown: bool) -> bool
     requires { ⌜ Indexed word ⌝ }
     ensures { λ r. ⌜ AddsTo (ruleHead word) (now (firsts .entry)) meet grown (now (firsts .exit)) r ⌝ }
 {
@@ -88,7 +89,7 @@ pub(crate) fn close_rule(word: Word, meet: u32, firsts: &mut [u32; 32], grown: b
 }
 
 // One pass; whether a set has grown.
-fn first_pass(words: &[u32], sizes: Sizes, firsts: &mut [u32; 32]) -> bool
+fn first_pass(words: &[u32], sizes: Sizes, firsts: &mut [u32; SETS]) -> bool
     requires { ⌜ (reading (now words) ≡ Read sizes) × (length (now firsts) ≡ maxNonterminals) ⌝ }
     ensures { λ r. ⌜ Passes (FirstClosed (sizes .terminals) (parse (now (words .entry)) .rules)) (now (firsts .entry)) (now (firsts .exit)) r ⌝ }
 {
@@ -107,11 +108,11 @@ fn first_pass(words: &[u32], sizes: Sizes, firsts: &mut [u32; 32]) -> bool
 }
 
 // The first sets of a grammar that has been read, one for each nonterminal.
-pub(crate) fn first_sets(words: &[u32], sizes: Sizes) -> [u32; 32]
+pub(crate) fn first_sets(words: &[u32], sizes: Sizes) -> [u32; SETS]
     requires { ⌜ reading (now words) ≡ Read sizes ⌝ }
     ensures { λ r. ⌜ r ≡ listed maxNonterminals (firstNumber (grammarOf (now (words .entry)))) ⌝ }
 {
-    let mut firsts = [0u32; 32];
+    let mut firsts = [0u32; SETS];
     while first_pass(words, sizes, &mut firsts) {}
     firsts
 }

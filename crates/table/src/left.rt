@@ -13,6 +13,7 @@ ghost use Rattle.table.specs.Left.{emptyIn, symbolLeft, OntoLeft, ReachC
 ghost use Rattle.table.specs.Lists.{listed};
 ghost use Rattle.table.specs.Naming.{IndexedSymbol, Indexed};
 ghost use Rattle.table.specs.Sets.{reachNumber};
+use super::family::SETS;
 use super::first::close_rule;
 use grammar::Symbol;
 use grammar::reading::Sizes;
@@ -34,7 +35,7 @@ pub(crate) enum Lowest {
 }
 
 // What is at the left of a body that begins with a symbol: the nonterminal and, if it is nullable, what is at the left behind it.
-fn symbol_left(symbol: Symbol, behind: u32, firsts: &[u32; 32], reach: &[u32; 32]) -> u32
+fn symbol_left(symbol: Symbol, behind: u32, firsts: &[u32; SETS], reach: &[u32; SETS]) -> u32
     requires { ⌜ IndexedSymbol symbol ⌝ }
     ensures { λ r. ⌜ r ≡ symbolLeft (emptyIn (family (now (firsts .entry)))) (family (now (reach .entry))) symbol behind ⌝ }
 {
@@ -52,7 +53,7 @@ fn symbol_left(symbol: Symbol, behind: u32, firsts: &[u32; 32], reach: &[u32; 32
 }
 
 // The same with a word in front.
-fn onto_left(word: Word, left: Left, firsts: &[u32; 32], reach: &[u32; 32]) -> Left
+fn onto_left(word: Word, left: Left, firsts: &[u32; SETS], reach: &[u32; SETS]) -> Left
     requires { ⌜ Indexed word ⌝ }
     ensures { λ r. ⌜ OntoLeft (emptyIn (family (now (firsts .entry)))) (family (now (reach .entry))) word left r ⌝ }
 {
@@ -82,7 +83,7 @@ fn onto_left(word: Word, left: Left, firsts: &[u32; 32], reach: &[u32; 32]) -> L
 }
 
 // One pass; whether a set has grown.
-fn reach_pass(words: &[u32], sizes: Sizes, firsts: &[u32; 32], reach: &mut [u32; 32]) -> bool
+fn reach_pass(words: &[u32], sizes: Sizes, firsts: &[u32; SETS], reach: &mut [u32; SETS]) -> bool
     requires { ⌜ (reading (now words) ≡ Read sizes) × (length (now reach) ≡ maxNonterminals) ⌝ }
     ensures { λ r. ⌜ Passes (ReachClosed (emptyIn (family (now (firsts .entry)))) (parse (now (words .entry)) .rules)) (now (reach .entry)) (now (reach .exit)) r ⌝ }
 {
@@ -100,17 +101,17 @@ fn reach_pass(words: &[u32], sizes: Sizes, firsts: &[u32; 32], reach: &mut [u32;
 }
 
 // What each nonterminal of a grammar that has been read left-reaches, by its first sets.
-fn reached(words: &[u32], sizes: Sizes, firsts: &[u32; 32]) -> [u32; 32]
+fn reached(words: &[u32], sizes: Sizes, firsts: &[u32; SETS]) -> [u32; SETS]
     requires { ⌜ GivenFirsts (now words) sizes (now firsts) ⌝ }
     ensures { λ r. ⌜ r ≡ listed maxNonterminals (reachNumber (grammarOf (now (words .entry)))) ⌝ }
 {
-    let mut reach = [0u32; 32];
+    let mut reach = [0u32; SETS];
     while reach_pass(words, sizes, firsts, &mut reach) {}
     reach
 }
 
 // The lowest nonterminal that is in its own set.
-fn lowest_own(reach: &[u32; 32], nonterminals: u32) -> Lowest
+fn lowest_own(reach: &[u32; SETS], nonterminals: u32) -> Lowest
     requires { ⌜ nonterminals ≤ maxNonterminals ⌝ }
     ensures { λ r. ⌜ r ≡ lowestOf (lowest nonterminals (ownIn (now (reach .entry)))) ⌝ }
 {
@@ -128,7 +129,7 @@ fn lowest_own(reach: &[u32; 32], nonterminals: u32) -> Lowest
 }
 
 // The lowest nonterminal that left-reaches itself.
-pub(crate) fn lowest_left_recursive(words: &[u32], sizes: Sizes, firsts: &[u32; 32]) -> Lowest
+pub(crate) fn lowest_left_recursive(words: &[u32], sizes: Sizes, firsts: &[u32; SETS]) -> Lowest
     requires { ⌜ GivenFirsts (now words) sizes (now firsts) ⌝ }
     ensures { λ r. ⌜ r ≡ lowestOf (lowestLeftRecursive (grammarOf (now (words .entry)))) ⌝ }
 {

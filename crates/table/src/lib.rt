@@ -2,4 +2,5 @@
 mod entries;
 mod family;
 mod first;
+mod follow;
 mod left;

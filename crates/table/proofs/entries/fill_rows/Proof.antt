@@ -31,7 +31,7 @@ decode-requires : tie.Need-decode-requires Inv-loop μ-loop
 decode-requires c κs = tt
 
 onto-requires : tie.Need-onto-requires Inv-loop μ-loop
-onto-requires c κs = word-indexed _ _ (c .before .before .before .before .before .before .before .pre .0 .read) (omega (arith, c .before .before .before .before .loop .inv .within)) (c .before .decode .ensures)
+onto-requires c κs = word-indexed _ (c .before .before .before .before .before .before .before .pre .0 .read) (omega (arith, c .before .before .before .before .loop .inv .within)) (c .before .decode .ensures)
 
 claim-requires : tie.Need-claim-requires Inv-loop μ-loop
 claim-requires c κs = may-claim (c .before .before .before .before .before .before .before .before .before .before .before .pre .0) (c .before .before .before .before .before .before .before .before .loop .inv) (c .before .before .before .before .before .before .before .loop-test .taken) (c .before .before .before .before .before .decode .ensures) (c .before .before .before .before .before .before .before .before .before .before .before .pre .1)

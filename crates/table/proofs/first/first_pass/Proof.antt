@@ -1,6 +1,6 @@
 -- The loop keeps `FirstWalk`: the words from `at` on have been gone through.
 use native.Mathlib.Omega.{arith}
-use Rattle.table.proofs.Naming.{word-indexed}
+use Rattle.table.proofs.Naming.{before-indexed}
 use Rattle.table.proofs.FirstPasses.{FirstWalk, walk-start, walk-turn, walk-end}
 use Rattle.table.proofs.first.first_pass.Statement.{statement}
 use Rattle.table.proofs.first.first_pass.Tie as tie
@@ -12,49 +12,53 @@ abbrev μ-loop : tie.MeasureT-loop
 μ-loop words firsts₀ terminals grown₀ rest₀ at₀ firsts grown rest at = at
 
 no-rest-requires : tie.Need-no-rest-requires Inv-loop μ-loop
-no-rest-requires c κs =
-    tt
+no-rest-requires c κs = tt
 
 loop-holds : tie.Need-loop-holds Inv-loop μ-loop
 loop-holds c =
-    walk-start _ (c .before .before .args .words .now) (c .before .before .args .firsts .now) (c .no-rest .ensures)
+    let start = c .before .before in
+    walk-start _ (start .args .words .now) (start .args .firsts .now) (c .no-rest .ensures)
 
 sub-at : tie.Need-sub-at Inv-loop μ-loop
-sub-at c =
-    omega arith
+sub-at c = omega arith
 
 mul-decode : tie.Need-mul-decode Inv-loop μ-loop
-mul-decode c =
-    omega (arith, c .before .loop .inv .within)
+mul-decode c = omega (arith, c .before .loop .inv .within)
 
 shared-slice-read-decode : tie.Need-shared-slice-read-decode Inv-loop μ-loop
-shared-slice-read-decode c =
-    omega (arith, c .before .before .loop .inv .within)
+shared-slice-read-decode c = omega (arith, c .before .before .loop .inv .within)
 
 decode-requires : tie.Need-decode-requires Inv-loop μ-loop
-decode-requires c κs =
-    tt
+decode-requires c κs = tt
 
 onto-requires : tie.Need-onto-requires Inv-loop μ-loop
 onto-requires c κs =
-    word-indexed (c .before .before .before .before .before .before .before .args .words .now) _ (c .before .before .before .before .before .before .before .pre .0) (omega (arith, c .before .before .before .before .loop .inv .within)) (c .before .decode .ensures)
+    let start = c .before .before .before .before .before .before .before in
+    let loop = c .before .before .before .before in
+    let some = c .before .before .before .loop-test .taken in
+    before-indexed (start .args .words .now) (start .pre .0) some (loop .loop .inv .within) (c .before .decode .ensures)
 
 close-rule-requires : tie.Need-close-rule-requires Inv-loop μ-loop
 close-rule-requires c κs =
-    word-indexed (c .before .before .before .before .before .before .before .before .before .args .words .now) _ (c .before .before .before .before .before .before .before .before .before .pre .0) (omega (arith, c .before .before .before .before .before .before .loop .inv .within)) (c .before .before .before .decode .ensures)
+    let start = c .before .before .before .before .before .before .before .before .before in
+    let loop = c .before .before .before .before .before .before in
+    let some = c .before .before .before .before .before .loop-test .taken in
+    before-indexed (start .args .words .now) (start .pre .0) some (loop .loop .inv .within) (c .before .before .before .decode .ensures)
 
 loop-less : tie.Need-loop-less Inv-loop μ-loop
-loop-less c =
-    omega (arith, c .before .before .before .before .before .before .loop-test .taken)
+loop-less c = omega (arith, c .before .before .before .before .before .before .loop-test .taken)
 
 loop-again : tie.Need-loop-again Inv-loop μ-loop
 loop-again c =
-    let i = word-indexed (c .before .before .before .before .before .before .before .before .before .before .args .words .now) _ (c .before .before .before .before .before .before .before .before .before .before .pre .0) (omega (arith, c .before .before .before .before .before .before .before .loop .inv .within)) (c .before .before .before .before .decode .ensures) in
-    walk-turn (c .before .before .before .before .before .before .before .loop .inv) (c .before .before .before .before .before .before .loop-test .taken) (c .before .before .before .before .before .before .before .before .before .before .pre .1) (c .before .before .before .before .decode .ensures) i (c .before .before .onto .ensures) (c .close-rule .ensures)
+    let start = c .before .before .before .before .before .before .before .before .before .before in
+    let loop = c .before .before .before .before .before .before .before in
+    let some = c .before .before .before .before .before .before .loop-test .taken in
+    let word = c .before .before .before .before .decode .ensures in
+    walk-turn (loop .loop .inv) some (start .pre .1) word (before-indexed (start .args .words .now) (start .pre .0) some (loop .loop .inv .within) word)
+    (c .before .before .onto .ensures) (c .close-rule .ensures)
 
 returns : tie.Need-returns Inv-loop μ-loop
-returns c =
-    walk-end (c .before .loop .inv) (c .loop-test .left)
+returns c = walk-end (c .before .loop .inv) (c .loop-test .left)
 
 pub first-pass-spec : {M : Type 1} → statement M
 first-pass-spec =

@@ -26,18 +26,23 @@ first-pass-requires c κs = (c .before .before .before .pre, c .before .loop .in
 
 loop-less : tie.Need-loop-less Inv-loop μ-loop
 loop-less c =
-    missing-falls (c .before .first-pass .ensures) (c .before .before .before .loop .inv .1)
-    _ _ (full-closed (c .before .before .before .before .before .args .sizes .terminals) (parse (c .before .before .before .before .before .args .words .now) .rules)) (λ n. omega arith) (c .if1 .taken)
+    let start = c .before .before .before .before .before in
+    missing-falls (c .before .first-pass .ensures) (c .before .before .before .loop .inv .1) _ _
+    (full-closed (start .args .sizes .terminals) (parse (start .args .words .now) .rules)) (λ n. omega arith) (c .if1 .taken)
 
 loop-again : tie.Need-loop-again Inv-loop μ-loop
 loop-again c =
-    (c .before .first-pass .ensures .long ∙ c .before .before .before .loop .inv .0, below-pass (c .before .first-pass .ensures) (c .before .before .before .loop .inv .1))
+    let pass = c .before .first-pass .ensures in
+    let loop = c .before .before .before in
+    (pass .long ∙ loop .loop .inv .0, below-pass pass (loop .loop .inv .1))
 
 returns : tie.Need-returns Inv-loop μ-loop
 returns c =
-    first-listed (c .before .before .before .before .before .args .words .now) (c .before .before .before .before .before .args .sizes) (c .before .before .before .before .before .pre) _
-    (c .before .first-pass .ensures .long ∙ c .before .before .before .loop .inv .0)
-    (least-pass (c .before .first-pass .ensures) (c .before .before .before .loop .inv .1) (c .if1 .left))
+    let start = c .before .before .before .before .before in
+    let loop = c .before .before .before in
+    let pass = c .before .first-pass .ensures in
+    first-listed (start .args .words .now) (start .args .sizes) (start .pre) _
+    (pass .long ∙ loop .loop .inv .0) (least-pass pass (loop .loop .inv .1) (c .if1 .left))
 
 pub first-sets-spec : {M : Type 1} → statement M
 first-sets-spec =

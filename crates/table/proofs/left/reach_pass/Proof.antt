@@ -29,16 +29,16 @@ decode-requires : tie.Need-decode-requires Inv-loop μ-loop
 decode-requires c κs = tt
 
 onto-left-requires : tie.Need-onto-left-requires Inv-loop μ-loop
-onto-left-requires c κs = word-indexed _ _ (c .before .before .before .before .before .before .pre .0) (omega (arith, c .before .before .before .before .loop .inv .within)) (c .before .decode .ensures)
+onto-left-requires c κs = word-indexed _ (c .before .before .before .before .before .before .pre .0) (omega (arith, c .before .before .before .before .loop .inv .within)) (c .before .decode .ensures)
 
 close-rule-requires : tie.Need-close-rule-requires Inv-loop μ-loop
-close-rule-requires c κs = word-indexed _ _ (c .before .before .before .before .before .before .before .before .pre .0) (omega (arith, c .before .before .before .before .before .before .loop .inv .within)) (c .before .before .before .decode .ensures)
+close-rule-requires c κs = word-indexed _ (c .before .before .before .before .before .before .before .before .pre .0) (omega (arith, c .before .before .before .before .before .before .loop .inv .within)) (c .before .before .before .decode .ensures)
 
 loop-less : tie.Need-loop-less Inv-loop μ-loop
 loop-less c = omega (arith, c .before .before .before .before .before .before .loop-test .taken)
 
 loop-again : tie.Need-loop-again Inv-loop μ-loop
-loop-again c = walk-turn (c .before .before .before .before .before .before .before .loop .inv) (c .before .before .before .before .before .before .loop-test .taken) (c .before .before .before .before .before .before .before .before .before .pre .1) (c .before .before .before .before .decode .ensures) (word-indexed _ _ (c .before .before .before .before .before .before .before .before .before .pre .0) (omega (arith, c .before .before .before .before .before .before .before .loop .inv .within)) (c .before .before .before .before .decode .ensures)) (c .before .before .onto-left .ensures) (c .close-rule .ensures)
+loop-again c = walk-turn (c .before .before .before .before .before .before .before .loop .inv) (c .before .before .before .before .before .before .loop-test .taken) (c .before .before .before .before .before .before .before .before .before .pre .1) (c .before .before .before .before .decode .ensures) (word-indexed _ (c .before .before .before .before .before .before .before .before .before .pre .0) (omega (arith, c .before .before .before .before .before .before .before .loop .inv .within)) (c .before .before .before .before .decode .ensures)) (c .before .before .onto-left .ensures) (c .close-rule .ensures)
 
 returns : tie.Need-returns Inv-loop μ-loop
 returns c = walk-end (c .before .loop .inv) (c .loop-test .left)
