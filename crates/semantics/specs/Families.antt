@@ -48,7 +48,7 @@ pub record FollowClosed (G : Grammar) (k : ℕ) (F L : Family) : Type 0 where
 abbrev pub OwnTerminals : Grammar → Type 0
 OwnTerminals G = (r : Rule) → List·Memᴰ r (G .rules) → (b : Body) → List·Memᴰ b (bodies r) → TerminalsBelow (G .terminals) b
 
--- for a nonterminal and a lookahead string the number of a rule, or none
+-- for a nonterminal and a lookahead string the number of a rule, or none (document 01: the cells)
 abbrev pub Table : Type 0
 Table = ℕ → List ℕ → Option ℕ
 
@@ -69,7 +69,7 @@ pub record Claims (G : Grammar) (k : ℕ) (F L : Family) (q A : ℕ) (x : List �
   pub follows : L A behind
   pub makes : x ≡ take k (begins ++ behind)
 
--- two different rules claim one entry
+-- two different rules claim one entry; rules differ by their numbers (document 01: two rules claim a cell)
 pub record Clash (G : Grammar) (k : ℕ) (F L : Family) (A : ℕ) (x : List ℕ) : Type 0 where
   pub one : ℕ
   pub other : ℕ
@@ -77,11 +77,11 @@ pub record Clash (G : Grammar) (k : ℕ) (F L : Family) (A : ℕ) (x : List ℕ)
   pub claimsOne : Claims G k F L one A x
   pub claimsOther : Claims G k F L other A x
 
--- the table has each rule wherever the rule claims an entry
+-- the table has each rule wherever the rule claims an entry; of an entry that none claims it is only asked that a rule there be the nonterminal's own
 pub record TableRight (G : Grammar) (k : ℕ) (F L : Family) (t : Table) : Type 0 where
   pub chooses : (q A : ℕ) (x : List ℕ) → Claims G k F L q A x → t A x ≡ some q
   pub chosen : OwnEntries G t
 
--- a rule with no positive body takes all that is left: only the end may follow
+-- a rule without positive bodies takes all that is left: only the end may follow its head, and it takes a token of lookahead to see that
 abbrev pub EveryEnds : Grammar → ℕ → Family → Type 0
 EveryEnds G k L = (r : Rule) → List·Memᴰ r (G .rules) → r .positives ≡ [] → (0 < k) × ((y : List ℕ) → L (r .head) y → y ≡ [])

@@ -12,7 +12,7 @@ use Rattle.semantics.specs.FiniteSets.{member, keep, distinct, numbers, 
 use Rattle.semantics.specs.Rounds.{least}
 use Rattle.semantics.specs.Families.{Family}
 
--- every string of at most k terminals below n: by the first terminal in order, and the empty string behind them
+-- every string of at most k terminals below n: by the first terminal in order, and the empty string last (document 01, k = 1: the columns of a row)
 unfoldable pub strings : ℕ → ℕ → List (List ℕ)
 strings zero n = [] ∷ []
 strings (suc k) n = combine (λ a x. a ∷ x) (numbers n) (strings k n) ++ [] ∷ []

@@ -1,4 +1,4 @@
--- What this crate proves, on one page: nine records of statements, and in the end what each of them needs. All of it is given in proofs/Theorems.
+-- What this crate proves, on one page: nine statements, and in the end what each of them needs and the starred rows. All of it is given in proofs/Theorems.
 use mathlib.Core.Path.{_≡_}
 use mathlib.Core.Bool.{true}
 use mathlib.Core.List.{List, [], _∷_, _++_, map, List·Memᴰ}
