@@ -11,7 +11,7 @@ use Rattle.grammar.specs.Syntax.{Body}
 use Rattle.semantics.specs.Families.{Family, FirstOf, FirstBody}
 use Rattle.semantics.proofs.Strings.{take-short}
 
--- a string of the first set and one of the second behind it, cut to k
+-- a string of the first set and one of the second after it, cut to k
 abbrev pub Cut : ℕ → (List ℕ → Type 0) → (List ℕ → Type 0) → List ℕ → Type 0
 Cut k P Q x = (u : List ℕ) × (y : List ℕ) × P u × Q y × (x ≡ take k (u ++ y))
 

@@ -17,7 +17,7 @@ use Rattle.semantics.proofs.FirstSound.{first-sound, first-sound-body}
 use Rattle.semantics.proofs.Outcomes.{end-ends}
 use Rattle.semantics.proofs.Ends.{descend-forward, descend-null}
 use Rattle.semantics.proofs.Results.{descend-results, results-unique}
-use Rattle.semantics.proofs.Predictive.{table-own, own-guides}
+use Rattle.semantics.proofs.Predictive.{table-own, own-guides, passed-iff}
 use Rattle.semantics.proofs.Verdict.{local-verdict, local-verdict-body, local-verdict-piece, verdict}
 use Rattle.semantics.proofs.Measure.{tokens-then-rank}
 use Rattle.semantics.proofs.Called.{calls-listing, count-listing, count-bound, farthest-most, farthest-called}
@@ -78,5 +78,6 @@ theorems = record {
       let r = memo-recorded G t k w scoped free own fits start in
       record { outcome = r .0; recorded = r .1; ordered = all-ordered G w };
   own-entries = table-own;
+  passed = passed-iff;
   starred-rows = starred-rows;
 }

@@ -34,7 +34,7 @@ FirstRule k F r x = (b : Body) → List·Memᴰ b (r .positives) → FirstBody k
 abbrev pub FirstClosed : Grammar → ℕ → Family → Type 0
 FirstClosed G k F = (r : Rule) → List·Memᴰ r (G .rules) → (x : List ℕ) → Lookahead k (G .terminals) x → FirstRule k F r x → F (r .head) x
 
--- behind each nonterminal of a body that y follows: what its rest can begin with, then y
+-- after each nonterminal of a body that y follows: what its rest can begin with, then y
 abbrev pub FollowBody : ℕ → Family → Family → List ℕ → Body → Type 0
 FollowBody k F L y [] = Unit {0}
 FollowBody k F L y (Terminal a ∷ b) = FollowBody k F L y b

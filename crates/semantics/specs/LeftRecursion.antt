@@ -24,7 +24,7 @@ nullStep G s A = any (λ r. eqb (r .head) A && all (allNullable s) (r .positives
 unfoldable pub nullable : Grammar → Set
 nullable G = least eqb (numbers (G .nonterminals)) (nullStep G)
 
--- B stands in the body behind nonterminals of the set alone
+-- B stands in the body after nonterminals of the set alone
 pub data LeftIn (s : Set) (B : ℕ) : Body → Type 0 where
   here : {b : Body} → LeftIn s B (Nonterminal B ∷ b)
   there : {C : ℕ} {b : Body} → T (s C) → LeftIn s B b → LeftIn s B (Nonterminal C ∷ b)

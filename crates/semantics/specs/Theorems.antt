@@ -8,7 +8,7 @@ use Prim.Native.Nat.{ℕ, suc, _*_, _≤_, _<_}
 use lib.Dec.{T}
 use lib.ListN.{length, getD, take}
 use Rattle.grammar.specs.declared.Symbol.the-variants.{Nonterminal}
-use Rattle.grammar.specs.Syntax.{Body, Rule, Grammar, bodies, NonterminalsBelow, WellScoped}
+use Rattle.grammar.specs.Syntax.{Body, Rule, Grammar, bodies, NonterminalsBelow, WellScoped, WellFormed}
 use Rattle.semantics.specs.Rounds.{Set, _⊆_}
 use Rattle.semantics.specs.Valuations.{Valuation, contains, Solves, solution}
 use Rattle.semantics.specs.LeftRecursion.{nullStep, nullable, LeftDepends, LeftReaches, NoLeftRecursion, leftRecursive, lowestLeftRecursive, rank}
@@ -119,4 +119,5 @@ pub record Theorems : Type 1 where
   pub memo-right : (G : Grammar) → WellScoped G → NoLeftRecursion G → 0 < G .nonterminals
       → (t : Table) → OwnEntries G t → (k : ℕ) (w : List ℕ) → Fits w → MemoRight G t k w
   pub own-entries : (G : Grammar) (k : ℕ) → OwnEntries G (tableOf G k)
+  pub passed : (G : Grammar) (k : ℕ) → WellFormed G → 0 < G .nonterminals → ((lowestLeftRecursive G ≡ none) × (clashes G k ≡ [])) ↔ Predictive G k
   pub starred-rows : map (λ r. judged (r .grammar) (r .input)) starred ≡ starred
