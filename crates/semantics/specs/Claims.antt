@@ -36,6 +36,11 @@ claims G k e r = eqb (r .head) (e .0) && member sameString (claimed G k r) (e .1
 unfoldable pub clashes : Grammar → ℕ → List Entry
 clashes G k = keep (λ e. several (claims G k e) (G .rules)) (entries G k)
 
+-- where an entry stands in its row of n terminals, for one token of lookahead: the terminals in order, then the end (document 01: the column)
+abbrev pub column : ℕ → List ℕ → ℕ
+column n [] = n
+column n (a ∷ x) = a
+
 -- the number of the first rule that claims an entry; where nothing clashes it is the only one
 unfoldable pub tableOf : Grammar → ℕ → Table
 tableOf G k A x = position (claims G k (A, x)) (G .rules)

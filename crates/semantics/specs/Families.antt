@@ -1,6 +1,7 @@
 -- FIRST and FOLLOW families for any lookahead k, what closes them under the rules, and the table that they ask for.
 use mathlib.Core.Path.{_≡_}
 use mathlib.Core.List.{List, [], _∷_, _++_, List·Memᴰ}
+use mathlib.Core.Logic.{_⊎_}
 use mathlib.Core.Option.{Option, some}
 use Prim.Native.Nat.{ℕ, _<_}
 use lib.ListN.{take, getElem?}
@@ -27,9 +28,18 @@ abbrev pub FirstBody : ℕ → Family → Body → List ℕ → Type 0
 FirstBody k F [] x = x ≡ []
 FirstBody k F (X ∷ b) x = (u : List ℕ) × (y : List ℕ) × FirstOf k F X u × FirstBody k F b y × (x ≡ take k (u ++ y))
 
+-- with one token of lookahead the same in document 01's words, stringing: nothing where the second set is empty, else the terminals of the first and,
+-- where the first has the empty string, all of the second
+abbrev pub Strung : (List ℕ → Type 0) → (List ℕ → Type 0) → List ℕ → Type 0
+Strung P Q x = ((y : List ℕ) × Q y) × ((P x × ((x ≡ []) → ⊥)) ⊎ (P [] × Q x))
+
 -- in the set of every positive body
 abbrev pub FirstRule : ℕ → Family → Rule → List ℕ → Type 0
 FirstRule k F r x = (b : Body) → List·Memᴰ b (r .positives) → FirstBody k F b x
+
+-- the meeting of the sets of a rule's positive bodies
+abbrev pub Meeting : Grammar → ℕ → Family → Rule → List ℕ → Type 0
+Meeting G k F r x = Lookahead k (G .terminals) x × FirstRule k F r x
 
 abbrev pub FirstClosed : Grammar → ℕ → Family → Type 0
 FirstClosed G k F = (r : Rule) → List·Memᴰ r (G .rules) → (x : List ℕ) → Lookahead k (G .terminals) x → FirstRule k F r x → F (r .head) x
