@@ -1,20 +1,20 @@
 -- With one token of lookahead the concatenation cut to k is document 01's stringing.
-use mathlib.Core.List.{List, [], _∷_, _++_, List·Memᴰ}
+use mathlib.Core.List.{List, [], _∷_, _++_}
 use mathlib.Core.Logic.{_↔_, _⊎_, inl, inr}
 use mathlib.Core.Option.{some}
 use mathlib.Core.Path.{_≡_, refl, sym, ap, _∙_}
-use Prim.Native.Nat.{ℕ, _≤_, _<_}
+use Prim.Native.Nat.{ℕ, _≤_}
 use native.Mathlib.Omega.{arith}
 use lib.ListN.{length, take, getElem?}
 use Rattle.grammar.specs.declared.Symbol.{Symbol}
 use Rattle.grammar.specs.declared.Symbol.the-variants.{Terminal, Nonterminal}
-use Rattle.grammar.specs.Syntax.{Body, Rule, Grammar, bodies, WellScoped}
-use Rattle.semantics.specs.Families.{Family, FirstOf, FirstBody, Strung, Meeting, OwnTerminals, Claims}
+use Rattle.grammar.specs.Syntax.{Body, Rule, Grammar}
+use Rattle.semantics.specs.Families.{Family, Short, FirstOf, FirstBody, Strung, Meeting, FollowBody, FollowClosed, FollowStrung, Claims}
 use Rattle.semantics.specs.FirstFollow.{First, Follow}
 use Rattle.semantics.proofs.Strings.{take-short}
 use Rattle.semantics.proofs.First.{first-lookahead}
-use Rattle.semantics.proofs.Follow.{follow-lookahead, follow-closed}
-use Rattle.semantics.proofs.FollowCuts.{follow-cuts}
+use Rattle.semantics.proofs.Follow.{follow-lookahead}
+use Rattle.semantics.proofs.FollowCuts.{Cuts, follow-cuts}
 
 -- a string of the first set and one of the second after it, cut to k
 abbrev pub Cut : ℕ → (List ℕ → Type 0) → (List ℕ → Type 0) → List ℕ → Type 0
@@ -42,10 +42,6 @@ cut-one P Q p q x = (λ c. there (c .0) (c .1) (c .2) (c .3) (c .4), λ s. back 
         full (a ∷ c ∷ z) h n = absurd (omega arith)
     back y b (inr s) = ([], x, s .0, s .1, sym (take-one x (q x (s .1))))
 
--- a family whose strings are at most k long
-abbrev Short : ℕ → Family → Type 0
-Short k F = (A : ℕ) (x : List ℕ) → F A x → length x ≤ k
-
 firstOf-short : (k : ℕ) (F : Family) → Short k F → (X : Symbol) (x : List ℕ) → FirstOf k F X x → length x ≤ k
 firstOf-short k F h (Terminal a) x f = rw f (take-short k (a ∷ []))
 firstOf-short k F h (Nonterminal A) x f = h A x f
@@ -66,14 +62,28 @@ module _ (G : Grammar) where
   pub first-strung : (X : Symbol) (b : Body) (x : List ℕ) → FirstBody 1 (First G 1) (X ∷ b) x ↔ Strung (FirstOf 1 (First G 1) X) (FirstBody 1 (First G 1) b) x
   first-strung = body-strung (First G 1) (λ A x f. first-lookahead G 1 A x f .1 .0)
 
-  -- FOLLOW of a nonterminal in a body holds the FIRST set of the body's rest strung with FOLLOW of the head
-  pub follow-strung : WellScoped G → OwnTerminals G → 0 < G .nonterminals → (r : Rule) → List·Memᴰ r (G .rules)
-      → (front : Body) (A : ℕ) (b : Body) → List·Memᴰ (front ++ (Nonterminal A ∷ b)) (bodies r)
-      → (x : List ℕ) → Strung (FirstBody 1 (First G 1) b) (Follow G 1 (r .head)) x → Follow G 1 A x
-  follow-strung scoped terminals start r m front A b n x s =
-      let c = cut-one (FirstBody 1 (First G 1) b) (Follow G 1 (r .head)) (firstBody-short 1 (First G 1) b) (follow-short (r .head)) x .1 s in
-      let f = follow-closed G 1 scoped terminals start .follows r m (front ++ (Nonterminal A ∷ b)) n (c .1) (c .3) in
-      rw (c .4) (follow-cuts 1 (First G 1) (Follow G 1) (c .1) (front ++ (Nonterminal A ∷ b)) .0 f front b A refl (c .0) (c .2))
+  -- a family of such strings is closed as FOLLOW is to be just where it holds what comes after a nonterminal strung with what can follow the head
+  pub follow-strung : (L : Family) → Short 1 L → FollowClosed G 1 (First G 1) L ↔ FollowStrung G (First G 1) L
+  follow-strung L short = (
+    λ h. record {
+      start = h .start;
+      follows = λ r m front A b n x s.
+          let c = strung (r .head) b x .1 s in
+          let f = h .follows r m (front ++ (Nonterminal A ∷ b)) n (c .1) (c .3) in
+          rw (c .4) (cuts (c .1) (front ++ (Nonterminal A ∷ b)) .0 f front b A refl (c .0) (c .2));
+    },
+    λ h. record {
+      start = h .start;
+      follows = λ r m b n y l. cuts y b .1 (λ front rest A e u f.
+          h .follows r m front A rest (rw e at n) (take 1 (u ++ y)) (strung (r .head) rest (take 1 (u ++ y)) .0 (u, y, f, l, refl)));
+    },
+  )
+    where
+      strung : (A : ℕ) (b : Body) (x : List ℕ) → Cut 1 (FirstBody 1 (First G 1) b) (L A) x ↔ Strung (FirstBody 1 (First G 1) b) (L A) x
+      strung A b = cut-one (FirstBody 1 (First G 1) b) (L A) (firstBody-short 1 (First G 1) b) (short A)
+
+      cuts : (y : List ℕ) (b : Body) → FollowBody 1 (First G 1) L y b ↔ Cuts 1 (First G 1) L y b
+      cuts y b = follow-cuts 1 (First G 1) L y b
 
   -- a rule claims the meeting of its positive bodies' sets strung with FOLLOW of its head
   pub claims-strung : (q A : ℕ) (x : List ℕ) → Claims G 1 (First G 1) (Follow G 1) q A x

@@ -54,9 +54,9 @@ theorems = record {
     ends = (everyEnds-elim G k, everyEnds-make G k);
   };
   least-unique = least-unique;
-  one-token = λ G scoped terminals start. record {
+  one-token = λ G. record {
     first = first-strung G;
-    follow = follow-strung G scoped terminals start;
+    follow = follow-strung G;
     claims = claims-strung G;
     columns = strings-columns (G .terminals);
     first-clash = first-clash G;

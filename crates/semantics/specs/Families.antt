@@ -3,8 +3,8 @@ use mathlib.Core.Path.{_≡_}
 use mathlib.Core.List.{List, [], _∷_, _++_, List·Memᴰ}
 use mathlib.Core.Logic.{_⊎_}
 use mathlib.Core.Option.{Option, some}
-use Prim.Native.Nat.{ℕ, _<_}
-use lib.ListN.{take, getElem?}
+use Prim.Native.Nat.{ℕ, _≤_, _<_}
+use lib.ListN.{length, take, getElem?}
 use Rattle.grammar.specs.declared.Symbol.{Symbol}
 use Rattle.grammar.specs.declared.Symbol.the-variants.{Terminal, Nonterminal}
 use Rattle.grammar.specs.Syntax.{Body, Rule, Grammar, bodies, TerminalsBelow}
@@ -18,6 +18,10 @@ Family = ℕ → List ℕ → Type 0
 pub record Least (Closed : Family → Type 0) (F : Family) : Type 1 where
   pub closed : Closed F
   pub smallest : (F′ : Family) → Closed F′ → (A : ℕ) (x : List ℕ) → F A x → F′ A x
+
+-- of strings that are at most k long
+abbrev pub Short : ℕ → Family → Type 0
+Short k F = (A : ℕ) (x : List ℕ) → F A x → length x ≤ k
 
 abbrev pub FirstOf : ℕ → Family → Symbol → List ℕ → Type 0
 FirstOf k F (Terminal a) x = x ≡ take k (a ∷ [])
@@ -53,6 +57,12 @@ FollowBody k F L y (Nonterminal A ∷ b) = ((u : List ℕ) → FirstBody k F b u
 pub record FollowClosed (G : Grammar) (k : ℕ) (F L : Family) : Type 0 where
   pub start : L 0 []
   pub follows : (r : Rule) → List·Memᴰ r (G .rules) → (b : Body) → List·Memᴰ b (bodies r) → (y : List ℕ) → L (r .head) y → FollowBody k F L y b
+
+-- with one token of lookahead the same by stringing: for each nonterminal in a body, what comes after it strung with what can follow the head
+pub record FollowStrung (G : Grammar) (F L : Family) : Type 0 where
+  pub start : L 0 []
+  pub follows : (r : Rule) → List·Memᴰ r (G .rules) → (front : Body) (A : ℕ) (b : Body) → List·Memᴰ (front ++ (Nonterminal A ∷ b)) (bodies r)
+      → (x : List ℕ) → Strung (FirstBody 1 F b) (L (r .head)) x → L A x
 
 -- the terminals of the bodies are the grammar's own
 abbrev pub OwnTerminals : Grammar → Type 0

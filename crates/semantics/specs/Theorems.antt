@@ -15,8 +15,8 @@ use Rattle.semantics.specs.Rounds.{Set, _⊆_}
 use Rattle.semantics.specs.Valuations.{Valuation, contains, Solves, solution}
 use Rattle.semantics.specs.LeftRecursion.{nullStep, nullable, LeftDepends, LeftReaches, NoLeftRecursion, leftRecursive, lowestLeftRecursive, rank}
 use Rattle.semantics.specs.Strings.{span, look, Over, Lookahead}
-use Rattle.semantics.specs.Families.{Family, Least, FirstOf, FirstBody, Strung, Meeting, FirstClosed, FollowClosed, Claims, Clash, EveryEnds}
-use Rattle.semantics.specs.Families.{OwnTerminals, Table, OwnEntries}
+use Rattle.semantics.specs.Families.{Family, Least, Short, FirstOf, FirstBody, Strung, Meeting, FirstClosed, FollowClosed, FollowStrung, Claims, Clash}
+use Rattle.semantics.specs.Families.{EveryEnds, OwnTerminals, Table, OwnEntries}
 use Rattle.semantics.specs.FirstFollow.{strings, Entry, First, Follow}
 use Rattle.semantics.specs.Claims.{clashes, column, tableOf, everyEnds}
 use Rattle.semantics.specs.Descent.{End, Outcomes, run, Results, descend, accepts}
@@ -56,10 +56,9 @@ pub record LeastSets (G : Grammar) (k : ℕ) : Type 1 where
 
 -- With one token of lookahead, in document 01's words: sets are strung together, and the entries of a row are its columns, terminals in order and the
 -- end last; the first clash is the first by nonterminal, then by column
-pub record OneToken (G : Grammar) : Type 0 where
+pub record OneToken (G : Grammar) : Type 1 where
   pub first : (X : Symbol) (b : Body) (x : List ℕ) → FirstBody 1 (First G 1) (X ∷ b) x ↔ Strung (FirstOf 1 (First G 1) X) (FirstBody 1 (First G 1) b) x
-  pub follow : (r : Rule) → List·Memᴰ r (G .rules) → (front : Body) (A : ℕ) (b : Body) → List·Memᴰ (front ++ (Nonterminal A ∷ b)) (bodies r)
-      → (x : List ℕ) → Strung (FirstBody 1 (First G 1) b) (Follow G 1 (r .head)) x → Follow G 1 A x
+  pub follow : (L : Family) → Short 1 L → FollowClosed G 1 (First G 1) L ↔ FollowStrung G (First G 1) L
   pub claims : (q A : ℕ) (x : List ℕ) → Claims G 1 (First G 1) (Follow G 1) q A x
       ↔ ((r : Rule) × (getElem? (G .rules) q ≡ some r) × (r .head ≡ A) × Strung (Meeting G 1 (First G 1) r) (Follow G 1 A) x)
   pub columns : strings 1 (G .terminals) ≡ map (λ a. a ∷ []) (numbers (G .terminals)) ++ ([] ∷ [])
@@ -127,7 +126,7 @@ pub record Theorems : Type 1 where
   pub left-recursion-decided : (G : Grammar) → WellScoped G → LeftRecursionDecided G
   pub least-sets : (G : Grammar) → WellScoped G → OwnTerminals G → 0 < G .nonterminals → (k : ℕ) → LeastSets G k
   pub least-unique : (Closed : Family → Type 0) (F F′ : Family) → Least Closed F → Least Closed F′ → (A : ℕ) (x : List ℕ) → F A x ↔ F′ A x
-  pub one-token : (G : Grammar) → WellScoped G → OwnTerminals G → 0 < G .nonterminals → OneToken G
+  pub one-token : (G : Grammar) → OneToken G
   pub sound-first : (G : Grammar) → WellScoped G → NoLeftRecursion G → (k : ℕ) (w : List ℕ) → Over (G .terminals) w
       → (v : Valuation) → Solves G w v → SoundFirst G k w v
   pub local-verdict : (G : Grammar) (k : ℕ) → Predictive G k → (w : List ℕ) → Over (G .terminals) w → (v : Valuation) → Solves G w v → LocalVerdict G k w v
