@@ -23,7 +23,8 @@ use Rattle.semantics.specs.Claims.{meeting, claimed}
 use Rattle.semantics.proofs.FiniteSets.{member-mem, mem-member, keep-make, keep-elim}
 use Rattle.semantics.proofs.LookaheadSets.{strings-equality, strings-make, strings-elim, sets-make, sets-elim, concat-make, concat-elim}
 use Rattle.semantics.proofs.First.{In, firstBody-mono, firstRule-make, firstRule-elim, first-lookahead}
-use Rattle.semantics.proofs.Follow.{first-in, in-first, follow-lookahead}
+use Rattle.semantics.proofs.First.{first-in, in-first}
+use Rattle.semantics.proofs.Follow.{follow-lookahead}
 use Rattle.table.specs.Lists.{listed}
 use Rattle.table.specs.Sets.{stringOf, firstNumber, followNumber}
 use Rattle.table.specs.Least.{SetFamily, at}

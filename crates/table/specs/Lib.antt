@@ -7,3 +7,4 @@ pub mod Sets
 pub mod Layout
 pub mod Entries
 pub mod Left
+pub mod Analysis
