@@ -1,32 +1,27 @@
 -- One pass over the words, from their end, joins into each head's set what is at the left of its bodies. Assumes nothing.
-use mathlib.Core.Path.{_≡_, refl, sym, ap, _∙_}
+use mathlib.Core.Path.{_≡_, refl, ap, _∙_}
 use mathlib.Core.Bool.{Bool, true, false}
 use mathlib.Core.List.{List, [], _∷_, _++_}
-use Prim.Native.Nat.{ℕ, suc, _-_, _*_, _%_, _^_, _≤_, _<_}
+use Prim.Native.Nat.{ℕ, _*_, _%_, _^_, _<_}
 use native.Mathlib.Omega.{arith}
 use lib.Bits.{bitOr}
-use lib.ListN.{length, getD, drop}
+use lib.ListN.{length}
 use lib.Pow.{shl-exact}
 use Rattle.grammar.specs.declared.Symbol.{Symbol as GrammarSymbol}
 use Rattle.grammar.specs.declared.Symbol.the-variants.{Terminal, Nonterminal}
 use Rattle.grammar.specs.declared.word.Word.{Word}
 use Rattle.grammar.specs.declared.word.Word.the-variants.{Heading, Rule as RuleWord, Positive, Negative, Symbol, End, Invalid}
 use Rattle.grammar.specs.Choice.{choose}
-use Rattle.grammar.specs.Limits.{maxNonterminals}
 use Rattle.grammar.specs.Syntax.{Body, Rule, bodies}
-use Rattle.grammar.specs.Words.{decoded}
-use Rattle.grammar.specs.Encoding.{Parsed, ruleOf, onWord, parse}
+use Rattle.grammar.specs.Encoding.{onWord, parse}
 use Rattle.lookahead.specs.Elements.{weight, width, Subset}
 use Rattle.lookahead.specs.Operations.{empty, join}
 use Rattle.lookahead.proofs.Order.{subset-refl, subset-antisym, join-left, join-right, join-least, join-mono}
 use Rattle.semantics.specs.Rounds.{Set}
 use Rattle.table.specs.declared.left.Left.{Left}
-use Rattle.table.specs.Naming.{ruleHead, Indexed}
-use Rattle.table.specs.Least.{SetFamily, at, Under, AddsTo, Passes}
-use Rattle.table.specs.Left.{symbolLeft, bodyLeft, bodiesLeft, ReachClosed, lefts, leftOf, OntoLeft}
-use Rattle.table.proofs.Rising.{passing-none}
-use Rattle.table.proofs.Closing.{Closes, closes-none, closes-word}
-use Rattle.table.proofs.Words.{parse-before, parse-over}
+use Rattle.table.specs.Least.{SetFamily, Under}
+use Rattle.table.specs.Left.{symbolLeft, bodyLeft, bodiesLeft, lefts, leftOf, OntoLeft}
+use Rattle.table.proofs.Walk.{Analysis, Walk, start}
 
 -- larger families have more at the left
 module _ (s : Set) (F G : SetFamily) (u : Under F G) where
@@ -115,45 +110,17 @@ module _ {s : Set} {R : SetFamily} {w : Word} {left : Left} where
   unfolding onWord
   onto-invalid e = record { onto = λ p h. rw e h }
 
--- what a rule gives
-abbrev ruleLeft : Set → SetFamily → Rule → ℕ
+-- what a rule gives, and the analysis of a pass
+abbrev pub ruleLeft : Set → SetFamily → Rule → ℕ
 ruleLeft s R r = bodiesLeft s R (bodies r)
 
--- the invariant of a pass: the words from i on have been gone through
-pub record LeftWalk (s : Set) (words l₀ l : List ℕ) (grown : Bool) (left : Left) (i : ℕ) : Type 0 where
-  pub within : i ≤ length words
-  pub is : left ≡ leftOf s (at l) (parse (drop i words))
-  pub passing : Passes (ReachClosed s (parse (drop i words) .rules)) l₀ l grown
+pub leftward : (s : Set) → Analysis (leftOf s) (ruleLeft s) (λ l. l .rule)
+unfolding onWord bodyLeft bodiesLeft
+leftward s = record { larger = λ F G u r. bodies-mono s F G u (bodies r); gives = λ F A p. refl; fresh = λ F G A p. refl }
+
+abbrev pub LeftWalk : Set → List ℕ → List ℕ → List ℕ → Bool → Left → ℕ → Type 0
+LeftWalk s = Walk (leftOf s) (ruleLeft s)
 
 pub walk-start : (s : Set) (words l : List ℕ) → LeftWalk s words l l false (lefts 0 0) (length words)
 unfolding parse bodyLeft bodiesLeft
-walk-start s words l =
-    let none = parse-over words (length words) (omega arith) in
-    record { within = omega arith; is = rw none; passing = rw none (passing-none l (closes-none (ruleLeft s) (at l))) }
-
--- the state behind a word does not change with the sets: where they do, a rule begins and nothing stands open
-kept : (s : Set) (w : Word) (p : Parsed) (l l′ : List ℕ) (v : ℕ) (grown r : Bool) → AddsTo (ruleHead w) l v grown l′ r → leftOf s (at l) (onWord w p) ≡ leftOf s (at l′) (onWord w p)
-unfolding onWord bodyLeft bodiesLeft
-kept s (RuleWord A) p l l′ v grown r a = refl
-kept s Positive p l l′ v grown r a = rw (a .0)
-kept s Negative p l l′ v grown r a = rw (a .0)
-kept s (Symbol X) p l l′ v grown r a = rw (a .0)
-kept s End p l l′ v grown r a = refl
-kept s (Heading m n) p l l′ v grown r a = rw (a .0)
-kept s Invalid p l l′ v grown r a = rw (a .0)
-
-pub walk-turn : {s : Set} {words l₀ l : List ℕ} {grown : Bool} {left : Left} {i : ℕ} → LeftWalk s words l₀ l grown left i → 0 < i → length l₀ ≡ maxNonterminals
-    → {w : Word} {l′ : List ℕ} {r : Bool} {next : Left} → w ≡ decoded (getD words (i - 1) 0) → Indexed w → OntoLeft s (at l) w left next
-    → AddsTo (ruleHead w) l (left .rule) grown l′ r → LeftWalk s words l₀ l′ r next (i - 1)
-walk-turn {s} {words} {l₀} {l} {grown} {left} {i} v h n {w} {l′} {r} {next} e f o a =
-    let p = parse (drop i words) in
-    let from-here : parse (drop (i - 1) words) ≡ onWord w p = parse-before words i h (v .within) ∙ rw e in
-    record {
-      within = omega (arith, v .within);
-      is = rw from-here (o .onto p (v .is) ∙ kept s w p l l′ (left .rule) grown r a);
-      passing = rw from-here (closes-word (ruleLeft s) (λ F G u r. bodies-mono s F G u (bodies r)) p (v .passing) w (left .rule) (v .passing .long ∙ n) f (λ A d. ap (λ x. x .rule) (v .is)) a);
-    }
-
-pub walk-end : {s : Set} {words l₀ l : List ℕ} {grown : Bool} {left : Left} {i : ℕ} → LeftWalk s words l₀ l grown left i → i ≤ 0
-    → Passes (ReachClosed s (parse words .rules)) l₀ l grown
-walk-end {i = i} v h = let e : i ≡ 0 = omega arith in rw e at (v .passing)
+walk-start s words l = start (leftOf s) (ruleLeft s) words l refl

@@ -3,7 +3,8 @@ use native.Mathlib.Omega.{arith}
 use Rattle.table.specs.Least.{at as family}
 use Rattle.table.specs.Left.{emptyIn}
 use Rattle.table.proofs.Naming.{word-indexed}
-use Rattle.table.proofs.LeftPasses.{LeftWalk, walk-start, walk-turn, walk-end}
+use Rattle.table.proofs.Walk.{turn, finish}
+use Rattle.table.proofs.LeftPasses.{LeftWalk, walk-start, leftward}
 use Rattle.table.proofs.left.reach_pass.Statement.{statement}
 use Rattle.table.proofs.left.reach_pass.Tie as tie
 
@@ -38,10 +39,10 @@ loop-less : tie.Need-loop-less Inv-loop μ-loop
 loop-less c = omega (arith, c .before .before .before .before .before .before .loop-test .taken)
 
 loop-again : tie.Need-loop-again Inv-loop μ-loop
-loop-again c = walk-turn (c .before .before .before .before .before .before .before .loop .inv) (c .before .before .before .before .before .before .loop-test .taken) (c .before .before .before .before .before .before .before .before .before .pre .1) (c .before .before .before .before .decode .ensures) (word-indexed _ (c .before .before .before .before .before .before .before .before .before .pre .0) (omega (arith, c .before .before .before .before .before .before .before .loop .inv .within)) (c .before .before .before .before .decode .ensures)) (c .before .before .onto-left .ensures) (c .close-rule .ensures)
+loop-again c = turn (leftward _) (c .before .before .before .before .before .before .before .loop .inv) (c .before .before .before .before .before .before .loop-test .taken) (c .before .before .before .before .before .before .before .before .before .pre .1) (c .before .before .before .before .decode .ensures) (word-indexed _ (c .before .before .before .before .before .before .before .before .before .pre .0) (omega (arith, c .before .before .before .before .before .before .before .loop .inv .within)) (c .before .before .before .before .decode .ensures)) (c .before .before .onto-left .ensures .onto) (c .close-rule .ensures)
 
 returns : tie.Need-returns Inv-loop μ-loop
-returns c = walk-end (c .before .loop .inv) (c .loop-test .left)
+returns c = finish (c .before .loop .inv) (c .loop-test .left)
 
 pub reach-pass-spec : {M : Type 1} → statement M
 reach-pass-spec =
