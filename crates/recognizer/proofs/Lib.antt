@@ -5,3 +5,5 @@ pub mod Running
 pub mod Calling
 pub mod Storing
 pub mod Starting
+pub mod Front
+pub mod Checking

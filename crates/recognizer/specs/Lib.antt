@@ -1,2 +1,5 @@
 pub mod Rule
 pub mod Descent
+pub mod Memory
+pub mod Answers
+pub mod Properties
