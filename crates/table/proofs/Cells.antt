@@ -16,8 +16,7 @@ use Rattle.lookahead.specs.Elements.{nothing, has}
 use Rattle.semantics.specs.FiniteSets.{keep, numbersFrom, numbers, combine}
 use Rattle.semantics.specs.FirstFollow.{strings, Entry, entries}
 use Rattle.semantics.specs.Claims.{several, claims, clashes}
-use Rattle.table.specs.declared.entries.Conflict.{Conflict}
-use Rattle.table.specs.declared.entries.Conflict.the-variants.{Absent, At}
+use Rattle.table.specs.declared.entries.Conflict.the-variants.{At}
 use Rattle.table.specs.Sets.{stringOf}
 use Rattle.table.specs.Layout.{columnString}
 use Rattle.table.specs.Entries.{columnOf, firstOf, columnElement, conflictFrom}

@@ -1,32 +1,25 @@
 -- The number of what a rule claims holds the elements of the strings that it claims.
-use mathlib.Core.Path.{_≡_, refl, sym, ap, ap₂, _∙_}
+use mathlib.Core.Path.{sym, ap, ap₂, _∙_}
 use mathlib.Core.List.{List, _++_, List·Memᴰ, Memᴰ·append-left, Memᴰ·cast}
 use mathlib.Core.Logic.{_↔_}
-use Prim.Native.Nat.{ℕ, suc, _≤_, _<_}
-use native.Mathlib.Decide.{decLt}
-use native.Mathlib.Omega.{arith}
-use lib.Dec.{T}
-use lib.ListN.{take, List·getD-eq-default}
-use Rattle.grammar.specs.Limits.{maxNonterminals}
+use Prim.Native.Nat.{ℕ, _≤_}
+use lib.ListN.{take}
 use Rattle.grammar.specs.Syntax.{Body, Rule, Grammar, WellFormed}
 use Rattle.lookahead.specs.Elements.{nothing, has}
-use Rattle.lookahead.specs.Operations.{full, concat as concatNumbers}
+use Rattle.lookahead.specs.Operations.{concat as concatNumbers}
 use Rattle.lookahead.proofs.Booleans.{both-ways}
-use Rattle.lookahead.proofs.Operations.{has-empty}
 use Rattle.lookahead.proofs.Pairs.{first, concat-pair}
 use Rattle.lookahead.proofs.Concat.{paired}
 use Rattle.semantics.specs.Strings.{Lookahead}
 use Rattle.semantics.specs.Families.{FirstBody}
 use Rattle.semantics.specs.FiniteSets.{member}
-use Rattle.semantics.specs.FirstFollow.{strings, sameString, concat, firstSets, firstRule, First, follow, followSets, Follow}
+use Rattle.semantics.specs.FirstFollow.{strings, sameString, concat, firstSets, firstRule, First, follow, followSets}
 use Rattle.semantics.specs.Claims.{meeting, claimed}
 use Rattle.semantics.proofs.FiniteSets.{member-mem, mem-member, keep-make, keep-elim}
 use Rattle.semantics.proofs.LookaheadSets.{strings-equality, strings-make, strings-elim, sets-make, sets-elim, concat-make, concat-elim}
-use Rattle.semantics.proofs.First.{In, firstBody-mono, firstRule-make, firstRule-elim, first-lookahead}
+use Rattle.semantics.proofs.First.{In, firstBody-mono, firstRule-make, firstRule-elim}
 use Rattle.semantics.proofs.Follow.{first-in, in-first, follow-lookahead}
-use Rattle.table.specs.Lists.{listed}
 use Rattle.table.specs.Sets.{stringOf, firstNumber, followNumber}
-use Rattle.table.specs.Least.{SetFamily, at}
 use Rattle.table.specs.First.{bodyFirst, ruleFirst}
 use Rattle.table.proofs.Strings.{elementOf, string-first, lookahead-string, lookahead-full, full-has, StringIn, string-in, in-element, in-string}
 use Rattle.table.proofs.Numbers.{number-string, in-number}
@@ -73,7 +66,8 @@ module _ (G : Grammar) (formed : WellFormed G) (few : G .terminals ≤ nothing) 
         λ b n. firstBody-mono 1 (In (firstSets G 1)) (First G 1) (first-in G 1) b x (firstRule-elim 1 (firstSets G 1) r x (k .1) b n) in (
           elementOf x,
           rule-has t (firstNumber G) (elementOf x) (r .positives) (full-has t (elementOf x) few (s .over)) (λ b n.
-              in-element (bodyFirst (firstNumber G) b) x (begins-body G formed few b (formed .terminals r m b (Memᴰ·append-left (r .negatives) n)) x (begins b n))),
+              in-element (bodyFirst (firstNumber G) b) x
+              (begins-body G formed few b (formed .terminals r m b (Memᴰ·append-left (r .negatives) n)) x (begins b n))),
           s .is,
         ),
     λ i.

@@ -32,7 +32,8 @@ loop-less c =
 
 loop-again : tie.Need-loop-again Inv-loop μ-loop
 loop-again c =
-    (c .before .reach-pass .ensures .long ∙ c .before .before .before .loop .inv .0, below-pass (c .before .reach-pass .ensures) (c .before .before .before .loop .inv .1))
+    let loop = c .before .before .before in
+    (c .before .reach-pass .ensures .long ∙ loop .loop .inv .0, below-pass (c .before .reach-pass .ensures) (loop .loop .inv .1))
 
 returns : tie.Need-returns Inv-loop μ-loop
 returns c =
