@@ -19,7 +19,8 @@ use Rattle.semantics.specs.Claims.{several, claims, clashes}
 use Rattle.table.specs.declared.entries.Conflict.the-variants.{At}
 use Rattle.table.specs.Sets.{stringOf}
 use Rattle.table.specs.Layout.{columnString}
-use Rattle.table.specs.Entries.{columnOf, firstOf, columnElement, conflictFrom}
+use Rattle.table.specs.Entries.{columnOf, firstOf}
+use Rattle.table.specs.Filling.{columnElement, conflictFrom}
 
 -- the string of a column is that of the column's element, and its column is the column
 module _ (t c : ℕ) (few : t ≤ nothing) (h : c ≤ t) where

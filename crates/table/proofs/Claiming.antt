@@ -32,7 +32,8 @@ use Rattle.table.specs.Sets.{firstNumber, followNumber}
 use Rattle.table.specs.Least.{at as family}
 use Rattle.table.specs.Naming.{ruleHead}
 use Rattle.table.specs.First.{bodyFirst, ruleFirst, restOf, noRest, Onto}
-use Rattle.table.specs.Entries.{FilledRow, Noted, Tables, tables, WordClaims, MayClaim, Given, FilledRows}
+use Rattle.table.specs.Entries.{Given}
+use Rattle.table.specs.Filling.{FilledRow, Noted, Tables, tables, WordClaims, MayClaim, FilledRows}
 use Rattle.table.proofs.Words.{parse-before, parse-over}
 use Rattle.table.proofs.Numbers.{array-at}
 use Rattle.table.proofs.Filling.{ClaimOf, Filling, filling-none, filling-rule}

@@ -14,7 +14,7 @@ use Rattle.grammar.specs.Choice.{choose}
 use Rattle.grammar.specs.Limits.{maxNonterminals, maxTerminals}
 use Rattle.lookahead.specs.Elements.{has}
 use Rattle.table.specs.declared.entries.Conflict.the-variants.{Absent, At}
-use Rattle.table.specs.Entries.{columnElement, conflictFrom, FilledRow, FilledSets}
+use Rattle.table.specs.Filling.{columnElement, conflictFrom, FilledRow, FilledSets}
 
 -- the columns of a row
 pub row-none : (table : List ℕ) (row terminals claim rule : ℕ) → FilledRow table row terminals 0 claim rule table

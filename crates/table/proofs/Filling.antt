@@ -23,7 +23,7 @@ use Rattle.semantics.specs.FirstFollow.{sameString}
 use Rattle.semantics.specs.Claims.{several, position, claimed, claims}
 use Rattle.table.specs.Sets.{stringOf}
 use Rattle.table.specs.Layout.{columnString, columns}
-use Rattle.table.specs.Entries.{columnElement, FilledRow, Noted, wordOf, entryOver}
+use Rattle.table.specs.Filling.{columnElement, FilledRow, Noted, wordOf, entryOver}
 use Rattle.table.proofs.Cells.{column-string, element-small}
 
 -- the elements that a rule claims

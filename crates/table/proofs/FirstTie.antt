@@ -33,19 +33,19 @@ use Rattle.table.proofs.Numbers.{number-string, string-number, in-numbe
 
 -- an element of a rule's set is one of the full set, and of every positive body's
 module _ (t : ℕ) (F : SetFamily) (l : ℕ) where
-  pub rule-has : (bs : List Body) → T (has (full t) l) → ((b : Body) → List·Memᴰ b bs → T (has (bodyFirst F b) l)) → T (has (ruleFirst t F bs) l)
+  rule-has : (bs : List Body) → T (has (full t) l) → ((b : Body) → List·Memᴰ b bs → T (has (bodyFirst F b) l)) → T (has (ruleFirst t F bs) l)
   unfolding ruleFirst
   rule-has [] f h = f
   rule-has (b ∷ bs) f h =
       rw (has-meet (bodyFirst F b) (ruleFirst t F bs) l) (yes-and (has (bodyFirst F b) l) (has (ruleFirst t F bs) l)
       (h b (List·Memᴰ·head refl)) (rule-has bs f (λ c m. h c (List·Memᴰ·tail m))))
 
-  pub has-full-rule : (bs : List Body) → T (has (ruleFirst t F bs) l) → T (has (full t) l)
+  has-full-rule : (bs : List Body) → T (has (ruleFirst t F bs) l) → T (has (full t) l)
   unfolding ruleFirst
   has-full-rule [] s = s
   has-full-rule (b ∷ bs) s = has-full-rule bs (meet-right (bodyFirst F b) (ruleFirst t F bs) l s)
 
-  pub has-rule : (bs : List Body) → T (has (ruleFirst t F bs) l) → (b : Body) → List·Memᴰ b bs → T (has (bodyFirst F b) l)
+  has-rule : (bs : List Body) → T (has (ruleFirst t F bs) l) → (b : Body) → List·Memᴰ b bs → T (has (bodyFirst F b) l)
   unfolding ruleFirst
   has-rule [] s = none-in _
   has-rule (b ∷ bs) s =

@@ -22,7 +22,8 @@ use Rattle.table.specs.declared.entries.Conflict.{Conflict}
 use Rattle.table.specs.Lists.{listed}
 use Rattle.table.specs.Sets.{firstNumber, followNumber}
 use Rattle.table.specs.Layout.{noEntry, entryWord, columnString, columns, entryAt, setWord, rowWord, tableWords}
-use Rattle.table.specs.Entries.{filled, tableWith, entriesOf, conflictFrom, entryOver, Given, FilledSets, FilledRows}
+use Rattle.table.specs.Entries.{filled, tableWith, entriesOf, Given}
+use Rattle.table.specs.Filling.{conflictFrom, entryOver, FilledSets, FilledRows}
 use Rattle.table.proofs.Lists.{listed-long, listed-at}
 use Rattle.table.proofs.Cells.{first-clash}
 

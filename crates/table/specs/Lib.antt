@@ -6,4 +6,5 @@ pub mod Follow
 pub mod Sets
 pub mod Layout
 pub mod Entries
+pub mod Filling
 pub mod Left

@@ -7,8 +7,9 @@ ghost use Rattle.grammar.specs.Limits.{maxNonterminals, maxTerminals, tableWord
 ghost use Rattle.lookahead.specs.Elements.{has};
 ghost use Rattle.grammar.specs.Encoding.{grammarOf};
 ghost use Rattle.table.specs.Naming.{ruleHead};
-ghost use Rattle.table.specs.Entries.{columnElement, conflictFrom, Given, entriesOf};
-ghost use Rattle.table.specs.Entries.{FilledRow, FilledSets, Noted, tables, MayClaim, WordClaims, FilledRows};
+ghost use Rattle.table.specs.Entries.{Given, entriesOf};
+ghost use Rattle.table.specs.Filling.{columnElement, conflictFrom};
+ghost use Rattle.table.specs.Filling.{FilledRow, FilledSets, Noted, tables, MayClaim, WordClaims, FilledRows};
 use super::family::SETS;
 use super::first::no_rest;
 use super::first::onto;

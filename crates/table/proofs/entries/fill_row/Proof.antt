@@ -2,7 +2,7 @@
 use mathlib.Core.Path.{_≡_}
 use Prim.Native.Nat.{suc, _-_, _≤_}
 use native.Mathlib.Omega.{arith}
-use Rattle.table.specs.Entries.{FilledRow}
+use Rattle.table.specs.Filling.{FilledRow}
 use Rattle.table.proofs.Filled.{row-none, row-more}
 use Rattle.table.proofs.entries.fill_row.Statement.{statement}
 use Rattle.table.proofs.entries.fill_row.Tie as tie

@@ -1,6 +1,6 @@
 -- The loop keeps `Claiming`: the rules of the words from the index on have claimed their entries.
 use native.Mathlib.Omega.{arith}
-use Rattle.table.specs.Entries.{tables}
+use Rattle.table.specs.Filling.{tables}
 use Rattle.table.proofs.Naming.{before-indexed}
 use Rattle.table.proofs.Claiming.{Claiming, claiming-start, may-claim, claiming-turn, claiming-end}
 use Rattle.table.proofs.entries.fill_rows.Statement.{statement}

@@ -2,7 +2,7 @@
 use mathlib.Core.Path.{_≡_}
 use Prim.Native.Nat.{_-_, _≤_}
 use native.Mathlib.Omega.{arith}
-use Rattle.table.specs.Entries.{FilledSets}
+use Rattle.table.specs.Filling.{FilledSets}
 use Rattle.table.proofs.Filled.{sets-none, sets-more}
 use Rattle.table.proofs.entries.fill_sets.Statement.{statement}
 use Rattle.table.proofs.entries.fill_sets.Tie as tie

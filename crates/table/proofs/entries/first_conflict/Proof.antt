@@ -2,7 +2,7 @@
 use mathlib.Core.Path.{_≡_, sym, _∙_}
 use Prim.Native.Nat.{suc, _-_, _*_, _≤_}
 use native.Mathlib.Omega.{arith}
-use Rattle.table.specs.Entries.{conflictFrom}
+use Rattle.table.specs.Filling.{conflictFrom}
 use Rattle.table.proofs.Filled.{conflict-all, conflict-here, conflict-later, conflict-none, few-entries, few-rows, few-columns}
 use Rattle.table.proofs.entries.first_conflict.Statement.{statement}
 use Rattle.table.proofs.entries.first_conflict.Tie as tie
