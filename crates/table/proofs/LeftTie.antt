@@ -162,7 +162,10 @@ reach-bound G few A = bound width (reachNumber G A) (λ B t.
     omega arith)
 
 -- the words of a grammar that has been read, with its first sets
-module _ {words : List ℕ} {z : Sizes} {firsts : List ℕ} (g : GivenFirsts words z firsts) where
+module _ {words firsts : List ℕ} (g : GivenFirsts words firsts) where
+  abbrev z : Sizes
+  z = g .sizes
+
   scoped : WellScoped (grammarOf words)
   scoped = well-read words z (g .read) .formed .scoped
 

@@ -34,14 +34,14 @@ onto-left-requires c κs =
     let start = c .before .before .before .before .before .before in
     let loop = c .before .before .before .before in
     let some = c .before .before .before .loop-test .taken in
-    before-indexed _ (start .pre .0) some (loop .loop .inv .within) (c .before .decode .ensures)
+    before-indexed _ (start .pre .read) some (loop .loop .inv .within) (c .before .decode .ensures)
 
 close-rule-requires : tie.Need-close-rule-requires Inv-loop μ-loop
 close-rule-requires c κs =
     let start = c .before .before .before .before .before .before .before .before in
     let loop = c .before .before .before .before .before .before in
     let some = c .before .before .before .before .before .loop-test .taken in
-    before-indexed _ (start .pre .0) some (loop .loop .inv .within) (c .before .before .before .decode .ensures)
+    before-indexed _ (start .pre .read) some (loop .loop .inv .within) (c .before .before .before .decode .ensures)
 
 loop-less : tie.Need-loop-less Inv-loop μ-loop
 loop-less c = omega (arith, c .before .before .before .before .before .before .loop-test .taken)
@@ -52,8 +52,8 @@ loop-again c =
     let loop = c .before .before .before .before .before .before .before in
     let some = c .before .before .before .before .before .before .loop-test .taken in
     let word = c .before .before .before .before .decode .ensures in
-    let indexed = before-indexed _ (start .pre .0) some (loop .loop .inv .within) word in
-    turn (leftward _) (loop .loop .inv) some (start .pre .1) word indexed (c .before .before .onto-left .ensures .onto) (c .close-rule .ensures)
+    let indexed = before-indexed _ (start .pre .read) some (loop .loop .inv .within) word in
+    turn (leftward _) (loop .loop .inv) some (start .pre .long) word indexed (c .before .before .onto-left .ensures .onto) (c .close-rule .ensures)
 
 returns : tie.Need-returns Inv-loop μ-loop
 returns c = finish (c .before .loop .inv) (c .loop-test .left)
