@@ -1,37 +1,30 @@
 -- The number of what a rule claims holds the elements of the strings that it claims.
-use mathlib.Core.Path.{_≡_, refl, sym, ap, ap₂, _∙_}
-use mathlib.Core.List.{List, _++_, List·Memᴰ, Memᴰ·append-left, Memᴰ·cast}
+use mathlib.Core.Path.{sym, ap, ap₂, _∙_}
+use mathlib.Core.List.{List, _++_, List·Memᴰ, Memᴰ·cast}
 use mathlib.Core.Logic.{_↔_}
-use Prim.Native.Nat.{ℕ, suc, _≤_, _<_}
-use native.Mathlib.Decide.{decLt}
-use native.Mathlib.Omega.{arith}
-use lib.Dec.{T}
-use lib.ListN.{take, List·getD-eq-default}
-use Rattle.grammar.specs.Limits.{maxNonterminals}
-use Rattle.grammar.specs.Syntax.{Body, Rule, Grammar, WellFormed}
+use Prim.Native.Nat.{ℕ, _≤_}
+use lib.ListN.{take}
+use Rattle.grammar.specs.Syntax.{Rule, Grammar, WellFormed}
 use Rattle.lookahead.specs.Elements.{nothing, has}
-use Rattle.lookahead.specs.Operations.{full, concat as concatNumbers}
+use Rattle.lookahead.specs.Operations.{concat as concatNumbers}
 use Rattle.lookahead.proofs.Booleans.{both-ways}
-use Rattle.lookahead.proofs.Operations.{has-empty}
 use Rattle.lookahead.proofs.Pairs.{first, concat-pair}
 use Rattle.lookahead.proofs.Concat.{paired}
 use Rattle.semantics.specs.Strings.{Lookahead}
-use Rattle.semantics.specs.Families.{FirstBody}
+use Rattle.semantics.specs.Families.{FirstRule}
 use Rattle.semantics.specs.FiniteSets.{member}
-use Rattle.semantics.specs.FirstFollow.{strings, sameString, concat, firstSets, firstRule, First, follow, followSets, Follow}
+use Rattle.semantics.specs.FirstFollow.{strings, sameString, concat, firstSets, firstRule, First, follow, followSets}
 use Rattle.semantics.specs.Claims.{meeting, claimed}
 use Rattle.semantics.proofs.FiniteSets.{member-mem, mem-member, keep-make, keep-elim}
 use Rattle.semantics.proofs.LookaheadSets.{strings-equality, strings-make, strings-elim, sets-make, sets-elim, concat-make, concat-elim}
-use Rattle.semantics.proofs.First.{In, firstBody-mono, firstRule-make, firstRule-elim, first-lookahead}
+use Rattle.semantics.proofs.First.{In, firstBody-mono, firstRule-make, firstRule-elim}
 use Rattle.semantics.proofs.First.{first-in, in-first}
 use Rattle.semantics.proofs.Follow.{follow-lookahead}
-use Rattle.table.specs.Lists.{listed}
 use Rattle.table.specs.Sets.{stringOf, firstNumber, followNumber}
-use Rattle.table.specs.Least.{SetFamily, at}
-use Rattle.table.specs.First.{bodyFirst, ruleFirst}
-use Rattle.table.proofs.Strings.{elementOf, string-first, lookahead-string, lookahead-full, full-has, StringIn, string-in, in-element, in-string}
+use Rattle.table.specs.First.{ruleFirst}
+use Rattle.table.proofs.Strings.{string-first, StringIn, string-in, in-string}
 use Rattle.table.proofs.Numbers.{number-string, in-number}
-use Rattle.table.proofs.FirstTie.{rule-has, has-full-rule, has-rule, body-begins, begins-body}
+use Rattle.table.proofs.FirstTie.{rule-begins, begins-rule}
 use Rattle.table.proofs.Filling.{ClaimOf}
 
 -- the number s has the elements of the strings that are listed
@@ -69,19 +62,12 @@ module _ (G : Grammar) (formed : WellFormed G) (few : G .terminals ≤ nothing) 
   meeting-lists r m x = (
     λ n.
         let k = keep-elim (firstRule 1 (firstSets G 1) r) (strings 1 t) x n in
-        let s = lookahead-string t x few (strings-elim 1 t x (k .0)) in
-        let begins : (b : Body) → List·Memᴰ b (r .positives) → FirstBody 1 (First G 1) b x =
-        λ b n. firstBody-mono 1 (In (firstSets G 1)) (First G 1) (first-in G 1) b x (firstRule-elim 1 (firstSets G 1) r x (k .1) b n) in (
-          elementOf x,
-          rule-has t (firstNumber G) (elementOf x) (r .positives) (full-has t (elementOf x) few (s .over)) (λ b n.
-              in-element (bodyFirst (firstNumber G) b) x (begins-body G formed few b (formed .terminals r m b (Memᴰ·append-left (r .negatives) n)) x (begins b n))),
-          s .is,
-        ),
+        begins-rule G formed few r m x (strings-elim 1 t x (k .0))
+        (λ b n. firstBody-mono 1 (In (firstSets G 1)) (First G 1) (first-in G 1) b x (firstRule-elim 1 (firstSets G 1) r x (k .1) b n)),
     λ i.
-        let l : Lookahead 1 t x = rw (i .2) (lookahead-full t (i .0) few (has-full-rule t (firstNumber G) (i .0) (r .positives) (i .1))) in
-        keep-make (firstRule 1 (firstSets G 1) r) (strings 1 t) x (strings-make 1 t x l) (firstRule-make 1 (firstSets G 1) r x (λ b n.
-        firstBody-mono 1 (First G 1) (In (firstSets G 1)) (in-first G 1) b x
-        (rw (i .2) (body-begins G formed few b (i .0) (has-rule t (firstNumber G) (i .0) (r .positives) (i .1) b n))))),
+        let k : Lookahead 1 t x × FirstRule 1 (First G 1) r x = rw (i .2) (rule-begins G formed few r (i .0) (i .1)) in
+        keep-make (firstRule 1 (firstSets G 1) r) (strings 1 t) x (strings-make 1 t x (k .0))
+        (firstRule-make 1 (firstSets G 1) r x (λ b n. firstBody-mono 1 (First G 1) (In (firstSets G 1)) (in-first G 1) b x (k .1 b n))),
   )
 
   -- a rule claims just the strings whose elements its number has

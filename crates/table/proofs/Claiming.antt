@@ -1,8 +1,8 @@
 -- The words are gone through from their end: each that begins a rule makes the rule claim its entries.
 use mathlib.Core.Path.{_≡_, refl, sym, ap, subst, fun-ext, _∙_}
-use mathlib.Core.Bool.{Bool, true, false}
+use mathlib.Core.Bool.{true}
 use mathlib.Core.List.{List, [], _∷_, List·Memᴰ, List·Memᴰ·head, List·Memᴰ·tail}
-use mathlib.Core.Option.{none, some}
+use mathlib.Core.Option.{none}
 use Prim.Native.Nat.{ℕ, zero, suc, _+_, _-_, _*_, _≤_, _<_}
 use native.Mathlib.Nat.{mul-le-mul}
 use native.Mathlib.Numerals.{add-one}
@@ -13,12 +13,11 @@ use borrow.Author.Tests.{ltb-true}
 use Rattle.grammar.specs.declared.word.Word.{Word}
 use Rattle.grammar.specs.declared.word.Word.the-variants.{Heading, Rule as RuleWord, Positive, Negative, Symbol, End, Invalid}
 use Rattle.grammar.specs.declared.reading.Sizes.{Sizes}
-use Rattle.grammar.specs.declared.reading.Outcome.the-variants.{Read}
-use Rattle.grammar.specs.Limits.{maxNonterminals, maxTerminals, maxRules, tableWords as memoryWords}
-use Rattle.grammar.specs.Syntax.{Rule, Grammar}
+use Rattle.grammar.specs.Limits.{maxNonterminals, tableWords as memoryWords}
+use Rattle.grammar.specs.Syntax.{Rule}
 use Rattle.grammar.specs.Words.{decoded}
 use Rattle.grammar.specs.Encoding.{Parsed, ruleOf, onWord, parse, grammarOf}
-use Rattle.grammar.specs.Reading.{inRange, beginsRule, reading}
+use Rattle.grammar.specs.Reading.{beginsRule}
 use Rattle.grammar.specs.WellRead.{WellRead}
 use Rattle.grammar.proofs.WellRead.{well-read}
 use Rattle.grammar.proofs.Places.{read-place, read-whole}
@@ -29,12 +28,12 @@ use Rattle.semantics.specs.Claims.{tableOf}
 use Rattle.semantics.proofs.First.{first-lookahead}
 use Rattle.semantics.proofs.Follow.{follow-lookahead}
 use Rattle.table.specs.declared.first.Rest.{Rest}
-use Rattle.table.specs.Lists.{listed}
 use Rattle.table.specs.Sets.{firstNumber, followNumber}
 use Rattle.table.specs.Least.{at as family}
 use Rattle.table.specs.Naming.{ruleHead}
 use Rattle.table.specs.First.{bodyFirst, ruleFirst, restOf, noRest, Onto}
-use Rattle.table.specs.Entries.{FilledRow, Noted, Tables, tables, RuleClaims, WordClaims, MayClaim, Given, FilledRows}
+use Rattle.table.specs.Entries.{Given}
+use Rattle.table.specs.Filling.{FilledRow, Noted, Tables, tables, WordClaims, MayClaim, FilledRows}
 use Rattle.table.proofs.Words.{parse-before, parse-over}
 use Rattle.table.proofs.Numbers.{array-at}
 use Rattle.table.proofs.Filling.{ClaimOf, Filling, filling-none, filling-rule}
@@ -132,7 +131,8 @@ module _ {words : List ℕ} {z : Sizes} {firsts follows : List ℕ} (g : Given w
         counted = rw none (omega arith);
       }
 
-  module _ {before : List ℕ} {rest : Rest} {b : Tables} {i : ℕ} (v : Claiming words z firsts before rest b i) (h : 0 < i) {w : Word} (e : w ≡ decoded (getD words (i - 1) 0)) where
+  module _ {before : List ℕ} {rest : Rest} {b : Tables} {i : ℕ} (v : Claiming words z firsts before rest b i) (h : 0 < i)
+      {w : Word} (e : w ≡ decoded (getD words (i - 1) 0)) where
     abbrev p : Parsed
     p = parse (drop i words)
 
@@ -176,7 +176,7 @@ module _ {words : List ℕ} {z : Sizes} {firsts follows : List ℕ} (g : Given w
         → Filling (grammarOf words) (onWord w′ p .rules) (b′ .rule) (b′ .once) (b′ .twice) before (b′ .words)
     unfolding onWord
     filled (RuleWord A) d b′ c =
-        filling-rule (rw (c .numbered) at (v .filling)) (ruleOf A p) few many
+        filling-rule (rw (c .numbered) at (v .filling)) few many (ruleOf A p)
         (rw (known .nonterminals) at (ltb-true A (z .nonterminals) (rw (← e, d) at (read-place words z (g .read) (i - 1) (omega (arith, v .within)) .ranged))))
         (claimed A d) (c .noted) (rw (known .nonterminals, known .terminals) at (c .row))
     filled Positive d b′ c = rw c (v .filling)
@@ -186,7 +186,8 @@ module _ {words : List ℕ} {z : Sizes} {firsts follows : List ℕ} (g : Given w
     filled (Heading n t) d b′ c = rw c (v .filling)
     filled Invalid d b′ c = rw c (v .filling)
 
-    counts : (w′ : Word) (b′ : Tables) → WordClaims (ruleHead w′) z follows (rest .meet .bits) b b′ → b .rule + length (p .rules) ≡ b′ .rule + length (onWord w′ p .rules)
+    counts : (w′ : Word) (b′ : Tables) → WordClaims (ruleHead w′) z follows (rest .meet .bits) b b′
+        → b .rule + length (p .rules) ≡ b′ .rule + length (onWord w′ p .rules)
     unfolding onWord
     counts (RuleWord A) b′ c = omega (arith, c .numbered)
     counts Positive b′ c = rw c
@@ -196,7 +197,8 @@ module _ {words : List ℕ} {z : Sizes} {firsts follows : List ℕ} (g : Given w
     counts (Heading n t) b′ c = rw c
     counts Invalid b′ c = rw c
 
-    pub claiming-turn : {next : Rest} (b′ : Tables) → Onto (z .terminals) (family firsts) w rest next → WordClaims (ruleHead w) z follows (rest .meet .bits) b b′
+    pub claiming-turn : {next : Rest} (b′ : Tables) → Onto (z .terminals) (family firsts) w rest next
+        → WordClaims (ruleHead w) z follows (rest .meet .bits) b b′
         → Claiming words z firsts before next b′ (i - 1)
     claiming-turn b′ o c = record {
       within = omega (arith, v .within);
@@ -214,5 +216,6 @@ module _ {words : List ℕ} {z : Sizes} {firsts follows : List ℕ} (g : Given w
       let counted : z .rules ≡ b .rule + length (parse words .rules) = rw e at (v .counted) in
       let first : b .rule ≡ 0 = omega (arith, known .rules, all-rules) in
       let f : Filling (grammarOf words) (grammarOf words .rules) (b .rule) (b .once) (b .twice) before (b .words) =
-      subst (λ rs. Filling (grammarOf words) rs (b .rule) (b .once) (b .twice) before (b .words)) (sym (read-whole words z (g .read) .rules)) (rw e at (v .filling)) in
+      subst (λ rs. Filling (grammarOf words) rs (b .rule) (b .once) (b .twice) before (b .words)) (sym (read-whole words z (g .read) .rules))
+      (rw e at (v .filling)) in
       record { long = f .same; rows = λ A c a k. rw first at (f .rows A c a k); outside = f .outside; clashing = f .claimed-twice }

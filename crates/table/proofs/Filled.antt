@@ -1,5 +1,5 @@
 -- One turn of each loop that fills the table or looks for a conflict.
-use mathlib.Core.Path.{_≡_, refl, sym, ap, _∙_}
+use mathlib.Core.Path.{_≡_, refl, _∙_}
 use mathlib.Core.Bool.{Bool, true, false}
 use mathlib.Core.List.{List}
 use mathlib.Core.Logic.{_⊎_, inl, inr}
@@ -14,21 +14,23 @@ use Rattle.grammar.specs.Choice.{choose}
 use Rattle.grammar.specs.Limits.{maxNonterminals, maxTerminals}
 use Rattle.lookahead.specs.Elements.{has}
 use Rattle.table.specs.declared.entries.Conflict.the-variants.{Absent, At}
-use Rattle.table.specs.Entries.{columnElement, conflictFrom, FilledRow, FilledSets}
+use Rattle.table.specs.Filling.{columnElement, conflictFrom, FilledRow, FilledSets}
 
 -- the columns of a row
 pub row-none : (table : List ℕ) (row terminals claim rule : ℕ) → FilledRow table row terminals 0 claim rule table
 row-none table row terminals claim rule = record { long = refl; inside = λ c h. absurd (omega arith); outside = λ i h. refl }
 
-pub row-more : {before : List ℕ} {row terminals n claim rule : ℕ} {after : List ℕ} {v : ℕ} → FilledRow before row terminals n claim rule after → row + n < length after
-    → v ≡ choose (has claim (columnElement terminals n)) rule (getD after (row + n) 0) → FilledRow before row terminals (n + 1) claim rule (set after (row + n) v)
+pub row-more : {before : List ℕ} {row terminals n claim rule : ℕ} {after : List ℕ} {v : ℕ} → FilledRow before row terminals n claim rule after
+    → row + n < length after → v ≡ choose (has claim (columnElement terminals n)) rule (getD after (row + n) 0)
+    → FilledRow before row terminals (n + 1) claim rule (set after (row + n) v)
 row-more {before} {row} {terminals} {n} {claim} {rule} {after} {v} f h e = record {
   long = length-set after (row + n) v ∙ f .long;
   inside = λ c l. within c l (ℕ-discrete c n);
   outside = λ i o. getD-set-other after (row + n) i v 0 (apart i o) ∙ f .outside i (wider i o);
 }
   where
-    within : (c : ℕ) → c < n + 1 → Dec (c ≡ n) → getD (set after (row + n) v) (row + c) 0 ≡ choose (has claim (columnElement terminals c)) rule (getD before (row + c) 0)
+    within : (c : ℕ) → c < n + 1 → Dec (c ≡ n)
+        → getD (set after (row + n) v) (row + c) 0 ≡ choose (has claim (columnElement terminals c)) rule (getD before (row + c) 0)
     within c l (yes d) = rw (d, getD-set-same after (row + n) v 0 h, e, f .outside (row + n) (inr (omega arith)))
     within c l (no ne) = getD-set-other after (row + n) (row + c) v 0 (λ d. ne (omega arith)) ∙ f .inside c (omega arith)
 
@@ -84,7 +86,8 @@ module _ (twice : List ℕ) (terminals : ℕ) {i m : ℕ} (h : i < m) where
   unfolding conflictFrom
   conflict-later e = rw (one-less, ← add-one terminals, e, add-one i)
 
-pub conflict-all : (twice : List ℕ) (terminals n : ℕ) → conflictFrom twice terminals 0 (n * (terminals + 1) - 0) ≡ conflictFrom twice terminals 0 (n * suc terminals)
+pub conflict-all : (twice : List ℕ) (terminals n : ℕ)
+    → conflictFrom twice terminals 0 (n * (terminals + 1) - 0) ≡ conflictFrom twice terminals 0 (n * suc terminals)
 conflict-all twice terminals n = let e : n * (terminals + 1) - 0 ≡ n * (terminals + 1) = omega arith in rw (e, add-one terminals)
 
 pub conflict-none : (twice : List ℕ) (terminals i m : ℕ) → m ≤ i → conflictFrom twice terminals i (m - i) ≡ Absent

@@ -8,7 +8,6 @@ use Prim.Native.Nat.{ℕ, zero, suc, _+_, _*_, _≤_, _<_}
 use native.Mathlib.Decide.{ℕ-discrete, decLt}
 use native.Mathlib.Nat.{suc-mul, mul-le-mul-right}
 use native.Mathlib.Omega.{arith}
-use lib.Dec.{eqb}
 use lib.ListN.{length, getD, set, replicate, length-set, length-replicate}
 use lib.Seq.{getD-set-same, getD-set-other}
 use borrow.Author.Tests.{eq-eqb, ne-eqb}
@@ -20,11 +19,11 @@ use Rattle.lookahead.specs.Operations.{join, meet}
 use Rattle.lookahead.proofs.Operations.{has-empty, has-join, has-meet}
 use Rattle.semantics.specs.Quantifiers.{any}
 use Rattle.semantics.specs.FiniteSets.{member}
-use Rattle.semantics.specs.FirstFollow.{sameString, Entry}
-use Rattle.semantics.specs.Claims.{several, position, claimed, claims, tableOf}
+use Rattle.semantics.specs.FirstFollow.{sameString}
+use Rattle.semantics.specs.Claims.{several, position, claimed, claims}
 use Rattle.table.specs.Sets.{stringOf}
 use Rattle.table.specs.Layout.{columnString, columns}
-use Rattle.table.specs.Entries.{columnElement, FilledRow, Noted, wordOf, entryOver, FilledRows}
+use Rattle.table.specs.Filling.{columnElement, FilledRow, Noted, wordOf, entryOver}
 use Rattle.table.proofs.Cells.{column-string, element-small}
 
 -- the elements that a rule claims
@@ -103,9 +102,9 @@ other-row A B c t h ne = go (decLt A B)
     go (no l) = let k : suc B ≤ A = omega arith in inr (omega (arith, suc-mul B (suc t), mul-le-mul-right (suc t) k))
 
 -- one rule more
-module _ {G : Grammar} {rs : List Rule} {q : ℕ} {once twice before table once′ twice′ table′ : List ℕ} {claim : ℕ} (f : Filling G rs (suc q) once twice before table)
-    (r : Rule) (few : G .terminals ≤ nothing) (many : G .nonterminals ≤ maxNonterminals) (own : r .head < G .nonterminals) (is : ClaimOf G r claim)
-    (n : Noted once twice (r .head) claim once′ twice′)
+module _ {G : Grammar} {rs : List Rule} {q : ℕ} {once twice before table once′ twice′ table′ : List ℕ} {claim : ℕ}
+    (f : Filling G rs (suc q) once twice before table) (few : G .terminals ≤ nothing) (many : G .nonterminals ≤ maxNonterminals)
+    (r : Rule) (own : r .head < G .nonterminals) (is : ClaimOf G r claim) (n : Noted once twice (r .head) claim once′ twice′)
     (w : FilledRow table (2 * G .nonterminals + r .head * columns G) (G .terminals) (columns G) claim q table′) where
   abbrev claimsAt : ℕ → ℕ → Rule → Bool
   claimsAt A l = claims G 1 (A, stringOf l)
@@ -136,7 +135,8 @@ module _ {G : Grammar} {rs : List Rule} {q : ℕ} {once twice before table once�
       ∙ or-comm (several (claimsAt (r .head) l) rs) (claimsAt (r .head) l r && any (claimsAt (r .head) l) rs)
 
   own-row : (c : ℕ) → c ≤ G .terminals
-      → getD table′ (wordOf G (r .head) c) 0 ≡ entryOver q (getD before (wordOf G (r .head) c) 0) (position (claims G 1 (r .head, columnString (G .terminals) c)) (r ∷ rs))
+      → getD table′ (wordOf G (r .head) c) 0
+      ≡ entryOver q (getD before (wordOf G (r .head) c) 0) (position (claims G 1 (r .head, columnString (G .terminals) c)) (r ∷ rs))
   own-row c h =
       let i : 2 * G .nonterminals + r .head * columns G + c ≡ wordOf G (r .head) c = omega arith in
       let e = is .each (columnElement (G .terminals) c) (element-small (G .terminals) c few h)
@@ -178,7 +178,8 @@ module _ {G : Grammar} {rs : List Rule} {q : ℕ} {once twice before table once�
 
       at-twice : (A l : ℕ) → A < G .nonterminals → l < suc nothing → Dec (A ≡ r .head)
           → has (getD (set twice (r .head) (join (getD twice (r .head) 0) (meet (getD once (r .head) 0) claim))) A 0) l ≡ several (claimsAt A l) (r ∷ rs)
-      at-twice A l a h (yes e) = rw (e, getD-set-same twice (r .head) (join (getD twice (r .head) 0) (meet (getD once (r .head) 0) claim)) 0 room′) (own-twice l h)
+      at-twice A l a h (yes e) =
+          rw (e, getD-set-same twice (r .head) (join (getD twice (r .head) 0) (meet (getD once (r .head) 0) claim)) 0 room′) (own-twice l h)
       at-twice A l a h (no ne) =
           rw (getD-set-other twice (r .head) A (join (getD twice (r .head) 0) (meet (getD once (r .head) 0) claim)) 0 ne)
           (f .claimed-twice A l a h ∙ sym (several-later (claimsAt A l) r rs 0 0 (claims-other A (stringOf l) ne)))
@@ -188,7 +189,8 @@ module _ {G : Grammar} {rs : List Rule} {q : ℕ} {once twice before table once�
       at-row A c a h (yes e) = rw e (own-row c h)
       at-row A c a h (no ne) =
           w .outside (wordOf G A c) (apart (other-row A (r .head) c (G .terminals) h ne)) ∙ f .rows A c a h
-          ∙ position-later (claims G 1 (A, columnString (G .terminals) c)) r rs q (getD before (wordOf G A c) 0) (claims-other A (columnString (G .terminals) c) ne)
+          ∙ position-later (claims G 1 (A, columnString (G .terminals) c)) r rs q (getD before (wordOf G A c) 0)
+          (claims-other A (columnString (G .terminals) c) ne)
         where
           apart : (A * columns G + c < r .head * columns G) ⊎ (r .head * columns G + columns G ≤ A * columns G + c)
               → (wordOf G A c < 2 * G .nonterminals + r .head * columns G) ⊎ (2 * G .nonterminals + r .head * columns G + columns G ≤ wordOf G A c)

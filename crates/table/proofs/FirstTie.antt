@@ -15,7 +15,8 @@ use Rattle.grammar.specs.Reading.{reading}
 use Rattle.grammar.proofs.Places.{read-whole}
 use Rattle.grammar.proofs.WellFormed.{none-in, more-in}
 use Rattle.grammar.proofs.WellRead.{well-read}
-use Rattle.semantics.specs.Families.{FirstBody, FirstClosed as FirstClosedStrings}
+use Rattle.semantics.specs.Strings.{Lookahead}
+use Rattle.semantics.specs.Families.{FirstBody, FirstRule, FirstClosed as FirstClosedStrings}
 use Rattle.semantics.specs.FirstFollow.{first, First}
 use Rattle.semantics.proofs.First.{firstBody-mono, first-lookahead, first-closed, first-smallest}
 use Rattle.lookahead.specs.Elements.{nothing, has}
@@ -32,19 +33,19 @@ use Rattle.table.proofs.Numbers.{number-string, string-number, in-numbe
 
 -- an element of a rule's set is one of the full set, and of every positive body's
 module _ (t : ℕ) (F : SetFamily) (l : ℕ) where
-  pub rule-has : (bs : List Body) → T (has (full t) l) → ((b : Body) → List·Memᴰ b bs → T (has (bodyFirst F b) l)) → T (has (ruleFirst t F bs) l)
+  rule-has : (bs : List Body) → T (has (full t) l) → ((b : Body) → List·Memᴰ b bs → T (has (bodyFirst F b) l)) → T (has (ruleFirst t F bs) l)
   unfolding ruleFirst
   rule-has [] f h = f
   rule-has (b ∷ bs) f h =
       rw (has-meet (bodyFirst F b) (ruleFirst t F bs) l) (yes-and (has (bodyFirst F b) l) (has (ruleFirst t F bs) l)
       (h b (List·Memᴰ·head refl)) (rule-has bs f (λ c m. h c (List·Memᴰ·tail m))))
 
-  pub has-full-rule : (bs : List Body) → T (has (ruleFirst t F bs) l) → T (has (full t) l)
+  has-full-rule : (bs : List Body) → T (has (ruleFirst t F bs) l) → T (has (full t) l)
   unfolding ruleFirst
   has-full-rule [] s = s
   has-full-rule (b ∷ bs) s = has-full-rule bs (meet-right (bodyFirst F b) (ruleFirst t F bs) l s)
 
-  pub has-rule : (bs : List Body) → T (has (ruleFirst t F bs) l) → (b : Body) → List·Memᴰ b bs → T (has (bodyFirst F b) l)
+  has-rule : (bs : List Body) → T (has (ruleFirst t F bs) l) → (b : Body) → List·Memᴰ b bs → T (has (bodyFirst F b) l)
   unfolding ruleFirst
   has-rule [] s = none-in _
   has-rule (b ∷ bs) s =
@@ -52,19 +53,24 @@ module _ (t : ℕ) (F : SetFamily) (l : ℕ) where
       (has-rule bs (meet-right (bodyFirst F b) (ruleFirst t F bs) l s))
 
 module _ (G : Grammar) (formed : WellFormed G) (few : G .terminals ≤ nothing) where
-  -- a closed family of numbers is one of strings, which FIRST_1 is contained in
-  strings-closed : (F : SetFamily) → FirstClosed (G .terminals) (G .rules) F → FirstClosedStrings G 1 (stringsOf F)
-  strings-closed F c r m x l f =
+  -- what every positive body of a rule can begin with is in the rule's set
+  rule-in : (F : SetFamily) (r : Rule) → List·Memᴰ r (G .rules) → (x : List ℕ) → Lookahead 1 (G .terminals) x → FirstRule 1 (stringsOf F) r x
+      → StringIn (ruleFirst (G .terminals) F (r .positives)) x
+  rule-in F r m x l f =
       let s = lookahead-string (G .terminals) x few l in
       let full = full-has (G .terminals) (elementOf x) few (s .over) in (
         elementOf x,
-        c r m (elementOf x) (rule-has (G .terminals) F (elementOf x) (r .positives) full
-            (λ b n. in-element (bodyFirst F b) x (body-in F (G .terminals) few b (below b n) x (f b n)))),
+        rule-has (G .terminals) F (elementOf x) (r .positives) full
+            (λ b n. in-element (bodyFirst F b) x (body-in F (G .terminals) few b (below b n) x (f b n))),
         s .is,
       )
     where
       below : (b : Body) → List·Memᴰ b (r .positives) → TerminalsBelow (G .terminals) b
       below b n = formed .terminals r m b (Memᴰ·append-left (r .negatives) n)
+
+  -- so a closed family of numbers is one of strings, which FIRST_1 is contained in
+  strings-closed : (F : SetFamily) → FirstClosed (G .terminals) (G .rules) F → FirstClosedStrings G 1 (stringsOf F)
+  strings-closed F c r m x l f = let i = rule-in F r m x l f in (i .0, c r m (i .0) (i .1), i .2)
 
   -- the set of a body under the numbers of FIRST_1 holds the strings that the body can begin with
   pub body-begins : (b : Body) (l : ℕ) → T (has (bodyFirst (firstNumber G) b) l) → FirstBody 1 (First G 1) b (stringOf l)
@@ -79,13 +85,27 @@ module _ (G : Grammar) (formed : WellFormed G) (few : G .terminals ≤ nothing) 
       body-in (firstNumber G) (G .terminals) few b t x
       (firstBody-mono 1 (First G 1) (stringsOf (firstNumber G)) (in-number G few (first G 1) (first-lookahead G 1)) b x f)
 
-  -- and these numbers are a closed family
+  -- and that of a rule the strings that all its positive bodies can begin with
+  pub rule-begins : (r : Rule) (l : ℕ) → T (has (ruleFirst (G .terminals) (firstNumber G) (r .positives)) l)
+      → Lookahead 1 (G .terminals) (stringOf l) × FirstRule 1 (First G 1) r (stringOf l)
+  rule-begins r l s = (
+    lookahead-full (G .terminals) l few (has-full-rule (G .terminals) (firstNumber G) l (r .positives) s),
+    λ b n. body-begins b l (has-rule (G .terminals) (firstNumber G) l (r .positives) s b n),
+  )
+
+  pub begins-rule : (r : Rule) → List·Memᴰ r (G .rules) → (x : List ℕ) → Lookahead 1 (G .terminals) x → FirstRule 1 (First G 1) r x
+      → StringIn (ruleFirst (G .terminals) (firstNumber G) (r .positives)) x
+  unfolding firstNumber
+  begins-rule r m x l f =
+      rule-in (firstNumber G) r m x l
+      (λ b n. firstBody-mono 1 (First G 1) (stringsOf (firstNumber G)) (in-number G few (first G 1) (first-lookahead G 1)) b x (f b n))
+
+  -- so these numbers are a closed family
   numbers-closed : FirstClosed (G .terminals) (G .rules) (firstNumber G)
   unfolding firstNumber
   numbers-closed r m l s =
-      string-number G few (first G 1) (first-lookahead G 1) (r .head) l (first-closed G 1 (formed .scoped) r m (stringOf l)
-      (lookahead-full (G .terminals) l few (has-full-rule (G .terminals) (firstNumber G) l (r .positives) s))
-      (λ b n. body-begins b l (has-rule (G .terminals) (firstNumber G) l (r .positives) s b n)))
+      let i = rule-begins r l s in
+      string-number G few (first G 1) (first-lookahead G 1) (r .head) l (first-closed G 1 (formed .scoped) r m (stringOf l) (i .0) (i .1))
 
   -- the least closed array of a well-formed grammar holds its FIRST_1
   pub first-numbers : (l : List ℕ) → Least (FirstClosed (G .terminals) (G .rules)) l → (A : ℕ) → at l A ≡ firstNumber G A

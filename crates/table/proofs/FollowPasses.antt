@@ -23,9 +23,9 @@ use Rattle.lookahead.specs.Operations.{end, join, concat}
 use Rattle.lookahead.proofs.Order.{subset-refl}
 use Rattle.lookahead.proofs.Concat.{concat-mono}
 use Rattle.table.specs.Naming.{headAfter, nonterminalOf, Indexed}
-use Rattle.table.specs.Least.{SetFamily, at, Under, Adds, AddsTo, Passing, Passes}
+use Rattle.table.specs.Least.{PassGiven, SetFamily, at, Under, Adds, AddsTo, Passing, Passes}
 use Rattle.table.specs.First.{bodyFirst}
-use Rattle.table.specs.Follow.{FollowBody, FollowClosed, Rests, FollowGiven, FollowPasses}
+use Rattle.table.specs.Follow.{FollowBody, FollowClosed, Rests, FollowPasses}
 use Rattle.table.proofs.Words.{parse-here, parse-over}
 use Rattle.table.proofs.Naming.{IndexedName, name-indexed, head-indexed, word-indexed}
 use Rattle.table.proofs.Rising.{passing-none, passing-on, passing-add}
@@ -179,7 +179,7 @@ pub record FollowLoop (words rests l₀ l : List ℕ) (B : ℕ) (grown : Bool) (
   pub long : length l ≡ length l₀
   pub walk : (F : SetFamily) → Rests F words rests → FollowWalk F words l₀ l B grown i
 
-pub loop-start : (words rests l : List ℕ) → FollowGiven words l → FollowLoop words rests l l 0 false 0
+pub loop-start : (words rests l : List ℕ) → PassGiven words l → FollowLoop words rests l l 0 false 0
 loop-start words rests l g = record {
   within = omega arith;
   head = omega arith;
@@ -187,7 +187,7 @@ loop-start words rests l g = record {
   walk = λ F x. walk-start F words l (read-whole words (g .sizes) (g .read) .empty);
 }
 
-module _ {words rests l₀ l : List ℕ} {B : ℕ} {grown : Bool} {i : ℕ} (v : FollowLoop words rests l₀ l B grown i) (g : FollowGiven words l₀) where
+module _ {words rests l₀ l : List ℕ} {B : ℕ} {grown : Bool} {i : ℕ} (v : FollowLoop words rests l₀ l B grown i) (g : PassGiven words l₀) where
   pub loop-indexed : {w : Word} → i < length words → w ≡ decoded (getD words i 0) → Indexed w
   loop-indexed h e = word-indexed words (g .read) h e
 

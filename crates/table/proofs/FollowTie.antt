@@ -4,9 +4,8 @@ use mathlib.Core.List.{List, [], _∷_, _++_}
 use mathlib.Core.Logic.{inl}
 use Prim.Native.Nat.{ℕ, _≤_, _<_}
 use native.Mathlib.Omega.{arith}
-use native.Mathlib.Decide.{decLt}
 use lib.Dec.{eqb, ltb, eqb→eq, ltb→lt}
-use lib.ListN.{length, take, List·getD-eq-default}
+use lib.ListN.{length, take}
 use mir.Facts.{and-yes}
 use Rattle.grammar.specs.declared.Symbol.{Symbol}
 use Rattle.grammar.specs.declared.Symbol.the-variants.{Terminal, Nonterminal}
@@ -33,9 +32,9 @@ use Rattle.table.specs.Lists.{listed}
 use Rattle.table.specs.Sets.{stringOf, firstNumber, followNumber}
 use Rattle.table.specs.First.{symbolFirst, bodyFirst}
 use Rattle.table.specs.Follow.{FollowBody, FollowClosed}
-use Rattle.table.proofs.Lists.{listed-is, listed-long, listed-at}
+use Rattle.table.proofs.Lists.{listed-is}
 use Rattle.table.proofs.Strings.{string-nothing, string-first, StringIn, stringsOf, string-in, number-over}
-use Rattle.table.proofs.Numbers.{array-at, number-string, string-number, number-outside, least-numbers}
+use Rattle.table.proofs.Numbers.{array-at, number-string, string-number, least-numbers}
 use Rattle.table.proofs.FirstTie.{body-begins, begins-body}
 
 module _ (G : Grammar) (formed : WellFormed G) (few : G .terminals ≤ nothing) (some : 0 < G .nonterminals) where

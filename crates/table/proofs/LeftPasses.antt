@@ -33,7 +33,8 @@ module _ (s : Set) (F G : SetFamily) (u : Under F G) where
       own : Subset (join (weight A) (F A)) (join (weight A) (G A))
       own = join-mono (weight A) (F A) (weight A) (G A) (subset-refl (weight A)) (u A)
 
-      go : (b : Bool) → Subset (choose b (join (join (weight A) (F A)) x) (join (weight A) (F A))) (choose b (join (join (weight A) (G A)) y) (join (weight A) (G A)))
+      go : (b : Bool)
+          → Subset (choose b (join (join (weight A) (F A)) x) (join (weight A) (F A))) (choose b (join (join (weight A) (G A)) y) (join (weight A) (G A)))
       go true = join-mono (join (weight A) (F A)) x (join (weight A) (G A)) y own h
       go false = own
 
@@ -56,7 +57,8 @@ join-swap x y z = subset-antisym (join x (join y z)) (join y (join x z)) (half x
         join-least x (join y z) (join y (join x z)) (λ l t. join-right y (join x z) l (join-left x z l t))
         (join-least y z (join y (join x z)) (join-left y (join x z)) (λ l t. join-right y (join x z) l (join-right x z l t)))
 
-bodies-between : (s : Set) (R : SetFamily) (ps : List Body) (b : Body) (ns : List Body) → join (bodyLeft s R b) (bodiesLeft s R (ps ++ ns)) ≡ bodiesLeft s R (ps ++ (b ∷ ns))
+bodies-between : (s : Set) (R : SetFamily) (ps : List Body) (b : Body) (ns : List Body)
+    → join (bodyLeft s R b) (bodiesLeft s R (ps ++ ns)) ≡ bodiesLeft s R (ps ++ (b ∷ ns))
 unfolding bodiesLeft
 bodies-between s R [] b ns = refl
 bodies-between s R (p ∷ ps) b ns =

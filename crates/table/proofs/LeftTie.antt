@@ -5,20 +5,18 @@ use mathlib.Core.List.{List, [], _∷_, List·Memᴰ, List·Memᴰ·head, List·
 use mathlib.Core.Logic.{_↔_, _⊎_, inl, inr}
 use Prim.Native.Nat.{ℕ, _^_, _≤_, _<_}
 use native.Mathlib.Omega.{arith}
-use lib.Dec.{T, eqb, ltb, eqb→eq, eqb-refl, ltb→lt, lt→ltb}
-use lib.ListN.{length, getD}
+use lib.Dec.{T, ltb, eqb→eq, eqb-refl, ltb→lt, lt→ltb}
+use lib.ListN.{length}
 use Rattle.grammar.specs.declared.Symbol.the-variants.{Terminal, Nonterminal}
 use Rattle.grammar.specs.declared.reading.Sizes.{Sizes}
-use Rattle.grammar.specs.declared.reading.Outcome.the-variants.{Read}
 use Rattle.grammar.specs.Choice.{choose}
 use Rattle.grammar.specs.Limits.{maxNonterminals}
-use Rattle.grammar.specs.Syntax.{Body, Rule, Grammar, WellScoped, bodies}
+use Rattle.grammar.specs.Syntax.{Body, Grammar, WellScoped, bodies}
 use Rattle.grammar.specs.Encoding.{parse, grammarOf}
-use Rattle.grammar.specs.Reading.{reading}
 use Rattle.grammar.proofs.WellRead.{well-read}
 use Rattle.grammar.proofs.Places.{read-whole}
-use Rattle.lookahead.specs.Elements.{nothing, weight, has, total, width, Subset}
-use Rattle.lookahead.specs.Operations.{empty, join}
+use Rattle.lookahead.specs.Elements.{nothing, weight, has, width}
+use Rattle.lookahead.specs.Operations.{join}
 use Rattle.lookahead.proofs.Elements.{bound}
 use Rattle.lookahead.proofs.Operations.{has-empty, has-join}
 use Rattle.lookahead.proofs.Order.{subset-antisym, join-left, join-right}
@@ -28,13 +26,13 @@ use Rattle.semantics.specs.Quantifiers.{lowest}
 use Rattle.semantics.specs.Rounds.{Set}
 use Rattle.semantics.specs.FirstFollow.{first}
 use Rattle.semantics.specs.LeftRecursion.{nullable, LeftIn, here, there, LeftDepends, LeftReaches, once, more, leftReaches, leftRecursive, lowestLeftRecursive}
-use Rattle.semantics.proofs.Booleans.{T-true, T-subst, and-l, and-r, and-make, or-cases, both}
+use Rattle.semantics.proofs.Booleans.{T-true, and-l, and-r, and-make, or-cases}
 use Rattle.semantics.proofs.First.{first-lookahead}
 use Rattle.semantics.proofs.FirstNullable.{first-none}
 use Rattle.semantics.proofs.LeftRecursion.{reaches-then, target-below, leftReaches-iff}
 use Rattle.table.specs.declared.left.Lowest.{Lowest}
 use Rattle.table.specs.Lists.{listed}
-use Rattle.table.specs.Sets.{stringOf, firstNumber, reachNumber}
+use Rattle.table.specs.Sets.{firstNumber, reachNumber}
 use Rattle.table.specs.Least.{SetFamily, at, Least}
 use Rattle.table.specs.Left.{emptyIn, symbolLeft, bodyLeft, bodiesLeft, ReachClosed, GivenFirsts, ownIn, lowestOf}
 use Rattle.table.proofs.Lists.{listed-is, listed-at}
@@ -70,10 +68,12 @@ module _ (R : SetFamily) where
 
         go : (c : Bool) → s A ≡ c → T (has (choose c (join (join (weight A) (R A)) (bodyLeft s R b)) (join (weight A) (R A))) B)
             → (T (has (bodyLeft s R b) B) → (C : ℕ) × LeftIn s C b × AtOrFrom R C B) → (C : ℕ) × LeftIn s C (Nonterminal A ∷ b) × AtOrFrom R C B
-        go true e t f = elim (or-cases (has (join (weight A) (R A)) B) (has (bodyLeft s R b) B) (rw (has-join (join (weight A) (R A)) (bodyLeft s R b) B) at t)) [
-          | inl u ↦ own u
-          | inr u ↦ let r = f u in (r .0, there {C = A} (rw e tt) (r .1), r .2)
-        ]
+        go true e t f =
+            let u = rw (has-join (join (weight A) (R A)) (bodyLeft s R b) B) at t in
+            elim (or-cases (has (join (weight A) (R A)) B) (has (bodyLeft s R b) B) u) [
+              | inl o ↦ own o
+              | inr o ↦ let r = f o in (r .0, there {C = A} (rw e tt) (r .1), r .2)
+            ]
         go false e t f = own t
 
     body-make : (b : Body) (B C : ℕ) → LeftIn s C b → AtOrFrom R C B → T (has (bodyLeft s R b) B)
@@ -89,10 +89,12 @@ module _ (R : SetFamily) where
     bodies-elim : (bs : List Body) (B : ℕ) → T (has (bodiesLeft s R bs) B) → (b : Body) × List·Memᴰ b bs × T (has (bodyLeft s R b) B)
     unfolding bodiesLeft
     bodies-elim [] B t = absurd (rw (has-empty B) at t)
-    bodies-elim (b ∷ bs) B t = elim (or-cases (has (bodyLeft s R b) B) (has (bodiesLeft s R bs) B) (rw (has-join (bodyLeft s R b) (bodiesLeft s R bs) B) at t)) [
-      | inl u ↦ (b, List·Memᴰ·head refl, u)
-      | inr u ↦ let r = bodies-elim bs B u in (r .0, List·Memᴰ·tail (r .1), r .2)
-    ]
+    bodies-elim (b ∷ bs) B t =
+        let u = rw (has-join (bodyLeft s R b) (bodiesLeft s R bs) B) at t in
+        elim (or-cases (has (bodyLeft s R b) B) (has (bodiesLeft s R bs) B) u) [
+          | inl o ↦ (b, List·Memᴰ·head refl, o)
+          | inr o ↦ let r = bodies-elim bs B o in (r .0, List·Memᴰ·tail (r .1), r .2)
+        ]
 
     bodies-make : (bs : List Body) (B : ℕ) (b : Body) → List·Memᴰ b bs → T (has (bodyLeft s R b) B) → T (has (bodiesLeft s R bs) B)
     unfolding bodiesLeft
@@ -131,7 +133,8 @@ module _ (G : Grammar) (scoped : WellScoped G) (s : Set) (is : (A : ℕ) → T (
   reaches-number : (A B : ℕ) → LeftReaches G A B → T (has (reachNumber G A) B)
   unfolding reachNumber
   reaches-number A B p =
-      rw (has-total (G .nonterminals) (leftReaches G A) B) (and-make (ltb B (G .nonterminals)) (leftReaches G A B) (lt→ltb B (G .nonterminals) (target A B p)) (leftReaches-iff G scoped A B .1 p))
+      rw (has-total (G .nonterminals) (leftReaches G A) B) (and-make (ltb B (G .nonterminals)) (leftReaches G A B)
+      (lt→ltb B (G .nonterminals) (target A B p)) (leftReaches-iff G scoped A B .1 p))
 
   -- are a closed family
   pub numbers-closed : ReachClosed s (G .rules) (reachNumber G)
@@ -159,7 +162,10 @@ reach-bound G few A = bound width (reachNumber G A) (λ B t.
     omega arith)
 
 -- the words of a grammar that has been read, with its first sets
-module _ {words : List ℕ} {z : Sizes} {firsts : List ℕ} (g : GivenFirsts words z firsts) where
+module _ {words firsts : List ℕ} (g : GivenFirsts words firsts) where
+  abbrev z : Sizes
+  z = g .sizes
+
   scoped : WellScoped (grammarOf words)
   scoped = well-read words z (g .read) .formed .scoped
 
@@ -195,13 +201,15 @@ module _ {words : List ℕ} {z : Sizes} {firsts : List ℕ} (g : GivenFirsts wor
       (reach-numbers (grammarOf words) scoped (emptyIn (at firsts)) nullable-in l (rw (← read-whole words z (g .read) .rules) at least))
 
   -- the lowest that is in its own set is the lowest that left-reaches itself
-  pub lowest-reached : {l : List ℕ} {r : Lowest} → l ≡ listed maxNonterminals (reachNumber (grammarOf words)) → r ≡ lowestOf (lowest (z .nonterminals) (ownIn l))
+  pub lowest-reached : {l : List ℕ} {r : Lowest} → l ≡ listed maxNonterminals (reachNumber (grammarOf words))
+      → r ≡ lowestOf (lowest (z .nonterminals) (ownIn l))
       → r ≡ lowestOf (lowestLeftRecursive (grammarOf words))
   unfolding lowestLeftRecursive leftRecursive reachNumber
   lowest-reached {l} e f =
       let G = grammarOf words in
       let k = well-read words z (g .read) in
-      let same : lowest (G .nonterminals) (ownIn l) ≡ lowest (G .nonterminals) (leftRecursive G) = lowest-cong (G .nonterminals) (ownIn l) (leftRecursive G) (λ A h.
+      let same : lowest (G .nonterminals) (ownIn l) ≡ lowest (G .nonterminals) (leftRecursive G) =
+      lowest-cong (G .nonterminals) (ownIn l) (leftRecursive G) (λ A h.
       rw (e, listed-at maxNonterminals (reachNumber G) A (omega (arith, many))) (own-reached A h)) in
       f ∙ rw (k .nonterminals, same)
     where

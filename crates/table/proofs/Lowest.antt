@@ -1,12 +1,11 @@
 -- The lowest number that passes a test, looked for from 0 on.
 use mathlib.Core.Path.{_≡_, refl, sym, ap}
 use mathlib.Core.Bool.{Bool, true, false, not}
-use mathlib.Core.Option.{none, some}
 use Prim.Native.Nat.{ℕ, zero, suc, _+_, _≤_, _<_}
 use native.Mathlib.Decide.{ℕ-discrete}
 use native.Mathlib.Omega.{arith}
 use lib.Dec.{T}
-use Rattle.semantics.specs.Quantifiers.{pick, below, lowest}
+use Rattle.semantics.specs.Quantifiers.{lowest}
 use Rattle.semantics.proofs.Booleans.{true-T}
 use Rattle.semantics.proofs.Quantified.{NoneBelow, below-cong, lowest-some, lowest-none}
 use Rattle.table.specs.declared.left.Lowest.the-variants.{Absent, At}

@@ -1,8 +1,8 @@
 -- A pass over the words, from their end, for any analysis: of what the words behind a place say a state is kept, and where a rule begins,
 -- what it gives is joined into the set of its head. Assumes nothing.
-use mathlib.Core.Path.{_≡_, refl, sym, _∙_}
+use mathlib.Core.Path.{_≡_, refl, _∙_}
 use mathlib.Core.Bool.{Bool, false}
-use mathlib.Core.List.{List, [], _∷_, List·Memᴰ, List·Memᴰ·head, List·Memᴰ·tail}
+use mathlib.Core.List.{List, [], List·Memᴰ, List·Memᴰ·head, List·Memᴰ·tail}
 use Prim.Native.Nat.{ℕ, _-_, _≤_, _<_}
 use native.Mathlib.Omega.{arith}
 use lib.ListN.{length, getD, drop}
@@ -45,11 +45,13 @@ module _ {S : Type 0} (state : SetFamily → Parsed → S) (given : SetFamily �
 module _ {S : Type 0} {state : SetFamily → Parsed → S} {given : SetFamily → Rule → ℕ} {value : S → ℕ} (a : Analysis state given value) where
   -- one word more, in front of p: the sets, and the state
   module _ (p : Parsed) {l₀ l : List ℕ} {grown : Bool} (k : Passes (Closes given (p .rules)) l₀ l grown) (n : length l ≡ maxNonterminals) where
-    closes-word : (w : Word) {l′ : List ℕ} {r : Bool} → Indexed w → AddsTo (ruleHead w) l (value (state (at l) p)) grown l′ r → Passes (Closes given (onWord w p .rules)) l₀ l′ r
+    closes-word : (w : Word) {l′ : List ℕ} {r : Bool} → Indexed w → AddsTo (ruleHead w) l (value (state (at l) p)) grown l′ r
+        → Passes (Closes given (onWord w p .rules)) l₀ l′ r
     unfolding onWord
     closes-word (RuleWord A) i d =
         let e = a .gives (at l) A p in
-        passing-add k (rw n i) (λ G c r m. c r (List·Memᴰ·tail m)) (λ G c u x s. c (ruleOf A p) (List·Memᴰ·head refl) x (a .larger (at l) G u (ruleOf A p) x (rw e at s)))
+        passing-add k (rw n i) (λ G c r m. c r (List·Memᴰ·tail m))
+        (λ G c u x s. c (ruleOf A p) (List·Memᴰ·head refl) x (a .larger (at l) G u (ruleOf A p) x (rw e at s)))
         (λ c s. more-in (λ r. Subset (given (at l) r) (at l (r .head))) (ruleOf A p) (p .rules) (rw e at s) c) d
     closes-word Positive i d = rw (d .0, d .1) k
     closes-word Negative i d = rw (d .0, d .1) k
@@ -58,7 +60,8 @@ module _ {S : Type 0} {state : SetFamily → Parsed → S} {given : SetFamily �
     closes-word (Heading m t) i d = rw (d .0, d .1) k
     closes-word Invalid i d = rw (d .0, d .1) k
 
-  state-word : (w : Word) (p : Parsed) (l l′ : List ℕ) (v : ℕ) (grown r : Bool) → AddsTo (ruleHead w) l v grown l′ r → state (at l) (onWord w p) ≡ state (at l′) (onWord w p)
+  state-word : (w : Word) (p : Parsed) (l l′ : List ℕ) (v : ℕ) (grown r : Bool) → AddsTo (ruleHead w) l v grown l′ r
+      → state (at l) (onWord w p) ≡ state (at l′) (onWord w p)
   state-word (RuleWord A) p l l′ v grown r d = a .fresh (at l) (at l′) A p
   state-word Positive p l l′ v grown r d = rw (d .0)
   state-word Negative p l l′ v grown r d = rw (d .0)

@@ -1,6 +1,5 @@
 -- The memory once the sets and the rows are filled: the words of the table, and behind them no entries.
-use mathlib.Core.Path.{_≡_, refl, sym, ap, _∙_}
-use mathlib.Core.Bool.{Bool, true, false}
+use mathlib.Core.Path.{_≡_, refl, sym, _∙_}
 use mathlib.Core.List.{List, _++_}
 use mathlib.Core.Logic.{inl, inr}
 use mathlib.Core.Option.{Option, none, some}
@@ -23,7 +22,8 @@ use Rattle.table.specs.declared.entries.Conflict.{Conflict}
 use Rattle.table.specs.Lists.{listed}
 use Rattle.table.specs.Sets.{firstNumber, followNumber}
 use Rattle.table.specs.Layout.{noEntry, entryWord, columnString, columns, entryAt, setWord, rowWord, tableWords}
-use Rattle.table.specs.Entries.{filled, tableWith, entriesOf, conflictFrom, wordOf, entryOver, Given, FilledSets, FilledRows}
+use Rattle.table.specs.Entries.{filled, tableWith, entriesOf, Given}
+use Rattle.table.specs.Filling.{conflictFrom, entryOver, FilledSets, FilledRows}
 use Rattle.table.proofs.Lists.{listed-long, listed-at}
 use Rattle.table.proofs.Cells.{first-clash}
 
@@ -55,7 +55,9 @@ module _ (G : Grammar) (few : G .nonterminals ≤ maxNonterminals) (few′ : G .
 
   table-length : length (tableWords G) ≡ setWords + rowWords
   unfolding tableWords
-  table-length = omega (arith, length-append (listed setWords (setWord G)) (listed rowWords (rowWord G)), listed-long setWords (setWord G), listed-long rowWords (rowWord G))
+  table-length =
+      let sum = length-append (listed setWords (setWord G)) (listed rowWords (rowWord G)) in
+      omega (arith, listed-long setWords (setWord G), listed-long rowWords (rowWord G))
 
   -- the sets
   in-sets : (i : ℕ) → i < setWords → getD table i 0 ≡ setWord G i
@@ -83,7 +85,8 @@ module _ (G : Grammar) (few : G .nonterminals ≤ maxNonterminals) (few′ : G .
       let z : 0 < columns G = omega arith in
       let A : i / columns G < G .nonterminals = div-lt-iff-lt-mul {x = i} {y = G .nonterminals} z .1 h in
       let c : i % columns G ≤ G .terminals = omega (arith, mod-lt i z) in
-      let fresh : getD half (setWords + i) 0 ≡ noEntry = sets .behind (setWords + i) (omega arith) ∙ getD-replicate memoryWords (setWords + i) noEntry 0 (omega (arith, room)) in
+      let fresh : getD half (setWords + i) 0 ≡ noEntry =
+      sets .behind (setWords + i) (omega arith) ∙ getD-replicate memoryWords (setWords + i) noEntry 0 (omega (arith, room)) in
       let r = rw (div-add-mod' i (columns G), fresh) at (rows .rows (i / columns G) (i % columns G) A c) in
       r ∙ fresh-entry (tableOf G 1 (i / columns G) (columnString (G .terminals) (i % columns G)))
 
@@ -117,8 +120,9 @@ module _ (G : Grammar) (few : G .nonterminals ≤ maxNonterminals) (few′ : G .
   unfolding filled
   table-filled =
       let l : length table ≡ memoryWords = rows .long ∙ sets .long ∙ length-replicate {A = ℕ} memoryWords noEntry in
-      let m : length (filled (tableWords G)) ≡ memoryWords =
-      omega (arith, length-append (tableWords G) (replicate (memoryWords - length (tableWords G)) noEntry), length-replicate {A = ℕ} (memoryWords - length (tableWords G)) noEntry, table-length, room) in
+      let rest = replicate {A = ℕ} (memoryWords - length (tableWords G)) noEntry in
+      let long = length-replicate {A = ℕ} (memoryWords - length (tableWords G)) noEntry in
+      let m : length (filled (tableWords G)) ≡ memoryWords = omega (arith, length-append (tableWords G) rest, long, table-length, room) in
       ext-getD 0 table (filled (tableWords G)) (l ∙ sym m) (λ i h. each i (omega arith))
 
 -- with the first conflict found, this is the result

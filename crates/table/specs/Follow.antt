@@ -5,12 +5,8 @@ use mathlib.Core.List.{List, [], _∷_, List·Memᴰ}
 use Prim.Native.Nat.{ℕ, suc, _<_}
 use lib.ListN.{length, getD, drop}
 use Rattle.grammar.specs.declared.Symbol.the-variants.{Terminal, Nonterminal}
-use Rattle.grammar.specs.declared.reading.Sizes.{Sizes}
-use Rattle.grammar.specs.declared.reading.Outcome.the-variants.{Read}
-use Rattle.grammar.specs.Limits.{maxNonterminals}
 use Rattle.grammar.specs.Syntax.{Body, Rule, bodies}
 use Rattle.grammar.specs.Encoding.{parse}
-use Rattle.grammar.specs.Reading.{reading}
 use Rattle.lookahead.specs.Elements.{Subset}
 use Rattle.lookahead.specs.Operations.{end, concat}
 use Rattle.table.specs.Least.{SetFamily, Passes}
@@ -30,12 +26,6 @@ pub record FollowClosed (F : SetFamily) (rs : List Rule) (L : SetFamily) : Type 
 -- at each place the first set of what is left of the body behind the word there
 pub record Rests (F : SetFamily) (words rests : List ℕ) : Type 0 where
   pub each : (i : ℕ) → i < length words → getD rests i 0 ≡ bodyFirst F (parse (drop (suc i) words) .body)
-
--- what a pass over the words of a grammar that has been read needs
-pub record FollowGiven (words follows : List ℕ) : Type 0 where
-  pub sizes : Sizes
-  pub read : reading words ≡ Read sizes
-  pub long : length follows ≡ maxNonterminals
 
 -- a pass, by the first sets that the rests come from
 pub record FollowPasses (words rests l₀ l : List ℕ) (grown : Bool) : Type 0 where

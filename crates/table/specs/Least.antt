@@ -6,6 +6,10 @@ use mathlib.Core.Option.{Option, none, some}
 use Prim.Native.Nat.{ℕ, _+_, _≤_}
 use lib.Dec.{eqb}
 use lib.ListN.{length, getD, set}
+use Rattle.grammar.specs.declared.reading.Sizes.{Sizes}
+use Rattle.grammar.specs.declared.reading.Outcome.the-variants.{Read}
+use Rattle.grammar.specs.Limits.{maxNonterminals}
+use Rattle.grammar.specs.Reading.{reading}
 use Rattle.lookahead.specs.Elements.{Subset, one}
 use Rattle.lookahead.specs.Operations.{join}
 
@@ -51,3 +55,9 @@ pub record Passing (Whole Closed : SetFamily → Type 0) (l₀ l : List ℕ) (gr
 -- a pass through all the rules
 abbrev pub Passes : (SetFamily → Type 0) → List ℕ → List ℕ → Bool → Type 0
 Passes Closed l₀ l grown = Passing Closed Closed l₀ l grown
+
+-- what a pass over the words of a grammar that has been read needs
+pub record PassGiven (words sets : List ℕ) : Type 0 where
+  pub sizes : Sizes
+  pub read : reading words ≡ Read sizes
+  pub long : length sets ≡ maxNonterminals

@@ -56,8 +56,9 @@ pub record OntoLeft (s : Set) (R : SetFamily) (w : Word) (left r : Left) : Type 
   pub onto : (p : Parsed) → left ≡ leftOf s R p → r ≡ leftOf s R (onWord w p)
 
 -- a grammar that has been read, and its first sets
-pub record GivenFirsts (words : List ℕ) (z : Sizes) (firsts : List ℕ) : Type 0 where
-  pub read : reading words ≡ Read z
+pub record GivenFirsts (words firsts : List ℕ) : Type 0 where
+  pub sizes : Sizes
+  pub read : reading words ≡ Read sizes
   pub first : firsts ≡ listed maxNonterminals (firstNumber (grammarOf words))
 
 -- the nonterminals that are in their own sets

@@ -6,5 +6,6 @@ pub mod Follow
 pub mod Sets
 pub mod Layout
 pub mod Entries
+pub mod Filling
 pub mod Left
 pub mod Analysis

@@ -7,7 +7,9 @@ ghost use Rattle.grammar.specs.Limits.{maxNonterminals, maxTerminals, tableWord
 ghost use Rattle.lookahead.specs.Elements.{has};
 ghost use Rattle.grammar.specs.Encoding.{grammarOf};
 ghost use Rattle.table.specs.Naming.{ruleHead};
-ghost use Rattle.table.specs.Entries.{columnElement, conflictFrom, FilledRow, FilledSets, Noted, tables, MayClaim, WordClaims, Given, FilledRows, entriesOf};
+ghost use Rattle.table.specs.Entries.{Given, entriesOf};
+ghost use Rattle.table.specs.Filling.{columnElement, conflictFrom};
+ghost use Rattle.table.specs.Filling.{FilledRow, FilledSets, Noted, tables, MayClaim, WordClaims, FilledRows};
 use super::family::SETS;
 use super::first::no_rest;
 use super::first::onto;
@@ -22,12 +24,13 @@ use lookahead::NOTHING;
 const NO_ENTRY: u32 = 4294967295;
 
 // The first entry that two rules claim, by nonterminal and then by column.
-pub enum Conflict {
+pub(crate) enum Conflict {
     Absent,
     At { nonterminal: u8, column: u8 },
 }
 
-pub struct Table {
+// The words stand in the memory of the largest table.
+pub(crate) struct Table {
     pub conflict: Conflict,
     pub words: [u32; TABLE_WORDS],
 }
@@ -107,7 +110,9 @@ fn claim(
     behind: usize,
 ) -> usize
     requires { ⌜ MayClaim sizes word (tables (now table) (now once) (now twice) behind) ⌝ }
-    ensures { λ r. ⌜ WordClaims (ruleHead word) sizes (now (follows .entry)) (meet .bits) (tables (now (table .entry)) (now (once .entry)) (now (twice .entry)) behind) (tables (now (table .exit)) (now (once .exit)) (now (twice .exit)) r) ⌝ }
+    ensures { λ r. ⌜ WordClaims (ruleHead word) sizes (now (follows .entry)) (meet .bits)
+        (tables (now (table .entry)) (now (once .entry)) (now (twice .entry)) behind)
+        (tables (now (table .exit)) (now (once .exit)) (now (twice .exit)) r) ⌝ }
 {
     let Word::Rule(head) = word else {
         return behind;

@@ -6,8 +6,8 @@ ghost use Rattle.grammar.specs.Encoding.{grammarOf};
 ghost use Rattle.grammar.specs.Limits.{maxNonterminals};
 ghost use Rattle.grammar.specs.Reading.{reading};
 ghost use Rattle.lookahead.specs.Operations.{concat as concatOf};
-ghost use Rattle.table.specs.Follow.{Rests, FollowGiven, FollowPasses};
-ghost use Rattle.table.specs.Least.{at as family, AddsTo};
+ghost use Rattle.table.specs.Follow.{Rests, FollowPasses};
+ghost use Rattle.table.specs.Least.{PassGiven, at as family, AddsTo};
 ghost use Rattle.table.specs.Lists.{listed};
 ghost use Rattle.table.specs.Naming.{headAfter, nonterminalOf, Indexed};
 ghost use Rattle.table.specs.Sets.{firstNumber, followNumber};
@@ -70,7 +70,7 @@ fn add_behind(word: Word, rest: u32, head: u32, follows: &mut [u32; SETS], grown
 
 // One pass; whether a set has grown.
 fn follow_pass(words: &[u32], rests: &[u32; WORDS], follows: &mut [u32; SETS]) -> bool
-    requires { ⌜ FollowGiven (now words) (now follows) ⌝ }
+    requires { ⌜ PassGiven (now words) (now follows) ⌝ }
     ensures { λ r. ⌜ FollowPasses (now (words .entry)) (now (rests .entry)) (now (follows .entry)) (now (follows .exit)) r ⌝ }
 {
     let mut grown = false;

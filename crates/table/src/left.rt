@@ -1,18 +1,17 @@
 // Left recursion: what each nonterminal left-reaches, by passes over the words, from their end, until one adds nothing.
 ghost use mathlib.Core.Path.{_≡_};
 ghost use Prim.Native.Nat.{_≤_};
-ghost use lib.ListN.{length};
 ghost use Rattle.grammar.specs.declared.reading.Outcome.the-variants.{Read};
 ghost use Rattle.grammar.specs.Encoding.{parse, grammarOf};
 ghost use Rattle.grammar.specs.Limits.{maxNonterminals};
 ghost use Rattle.grammar.specs.Reading.{reading};
 ghost use Rattle.semantics.specs.Quantifiers.{lowest};
 ghost use Rattle.semantics.specs.LeftRecursion.{lowestLeftRecursive};
-ghost use Rattle.table.specs.Least.{at as family, Passes};
+ghost use Rattle.table.specs.Least.{at as family, Passes, PassGiven};
 ghost use Rattle.table.specs.Left.{emptyIn, symbolLeft, OntoLeft, ReachClosed, GivenFirsts, ownIn, lowestOf};
 ghost use Rattle.table.specs.Lists.{listed};
 ghost use Rattle.table.specs.Naming.{IndexedSymbol, Indexed};
-ghost use Rattle.table.specs.Sets.{reachNumber};
+ghost use Rattle.table.specs.Sets.{firstNumber, reachNumber};
 use super::family::SETS;
 use super::first::close_rule;
 use grammar::Symbol;
@@ -83,8 +82,8 @@ fn onto_left(word: Word, left: Left, firsts: &[u32; SETS], reach: &[u32; SETS]) 
 }
 
 // One pass; whether a set has grown.
-fn reach_pass(words: &[u32], sizes: Sizes, firsts: &[u32; SETS], reach: &mut [u32; SETS]) -> bool
-    requires { ⌜ (reading (now words) ≡ Read sizes) × (length (now reach) ≡ maxNonterminals) ⌝ }
+fn reach_pass(words: &[u32], firsts: &[u32; SETS], reach: &mut [u32; SETS]) -> bool
+    requires { ⌜ PassGiven (now words) (now reach) ⌝ }
     ensures { λ r. ⌜ Passes (ReachClosed (emptyIn (family (now (firsts .entry)))) (parse (now (words .entry)) .rules)) (now (reach .entry)) (now (reach .exit)) r ⌝ }
 {
     let mut grown = false;
@@ -101,12 +100,12 @@ fn reach_pass(words: &[u32], sizes: Sizes, firsts: &[u32; SETS], reach: &mut [u3
 }
 
 // What each nonterminal of a grammar that has been read left-reaches, by its first sets.
-fn reached(words: &[u32], sizes: Sizes, firsts: &[u32; SETS]) -> [u32; SETS]
-    requires { ⌜ GivenFirsts (now words) sizes (now firsts) ⌝ }
+fn reached(words: &[u32], firsts: &[u32; SETS]) -> [u32; SETS]
+    requires { ⌜ GivenFirsts (now words) (now firsts) ⌝ }
     ensures { λ r. ⌜ r ≡ listed maxNonterminals (reachNumber (grammarOf (now (words .entry)))) ⌝ }
 {
     let mut reach = [0u32; SETS];
-    while reach_pass(words, sizes, firsts, &mut reach) {}
+    while reach_pass(words, firsts, &mut reach) {}
     reach
 }
 
@@ -130,10 +129,10 @@ fn lowest_own(reach: &[u32; SETS], nonterminals: u32) -> Lowest
 
 // The lowest nonterminal that left-reaches itself.
 pub(crate) fn lowest_left_recursive(words: &[u32], sizes: Sizes, firsts: &[u32; SETS]) -> Lowest
-    requires { ⌜ GivenFirsts (now words) sizes (now firsts) ⌝ }
+    requires { ⌜ (reading (now words) ≡ Read sizes) × (now firsts ≡ listed maxNonterminals (firstNumber (grammarOf (now words)))) ⌝ }
     ensures { λ r. ⌜ r ≡ lowestOf (lowestLeftRecursive (grammarOf (now (words .entry)))) ⌝ }
 {
     let nonterminals = sizes.nonterminals;
-    let reach = reached(words, sizes, firsts);
+    let reach = reached(words, firsts);
     lowest_own(&reach, nonterminals)
 }

@@ -44,19 +44,28 @@ cast-note : tie.Need-cast-note
 cast-note c = search needs
 
 note-requires : tie.Need-note-requires
-note-requires c κs = omega (arith, own (c .before .before .before .before .before .before .before .pre) (c .before .before .before .before .before .word .given .1))
+note-requires c κs =
+    let word = c .before .before .before .before .before in
+    omega (arith, own (word .before .before .pre) (word .word .given .1))
 
 cast-fill-row : tie.Need-cast-fill-row
-cast-fill-row c = omega (arith, row-room (c .before .before .before .before .before .before .before .before .before .pre) (c .before .before .before .before .before .before .before .word .given .1))
+cast-fill-row c =
+    let word = c .before .before .before .before .before .before .before in
+    omega (arith, row-room (word .before .before .pre) (word .word .given .1))
 
 cast-fill-row-2 : tie.Need-cast-fill-row-2
 cast-fill-row-2 c = search needs
 
 fill-row-requires : tie.Need-fill-row-requires
-fill-row-requires c κs = (c .before .before .before .before .before .before .before .before .before .pre .long, omega (arith, row-room (c .before .before .before .before .before .before .before .before .before .pre) (c .before .before .before .before .before .before .before .word .given .1)))
+fill-row-requires c κs =
+    let word = c .before .before .before .before .before .before .before in
+    (word .before .before .pre .long, omega (arith, row-room (word .before .before .pre) (word .word .given .1)))
 
 returns-2 : tie.Need-returns-2
-returns-2 c = claim-made (c .before .before .before .before .before .before .before .before .before .before .pre) (c .before .before .before .before .before .before .before .before .word .given .1) _ _ (c .before .before .before .before .before .concat .ensures .is) (c .before .before .note .ensures) (c .fill-row .ensures)
+returns-2 c =
+    let word = c .before .before .before .before .before .before .before .before in
+    let claimed = c .before .before .before .before .before .concat .ensures .is in
+    claim-made (word .before .before .pre) (word .word .given .1) _ _ claimed (c .before .before .note .ensures) (c .fill-row .ensures)
 
 pub claim-spec : {M : Type 1} → statement M
 claim-spec =

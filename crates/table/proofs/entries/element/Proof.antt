@@ -1,6 +1,6 @@
 -- By whether the column is the last.
 use borrow.Author.Tests.{eq-eqb, ne-eqb}
-use Rattle.table.specs.Entries.{columnElement}
+use Rattle.table.specs.Filling.{columnElement}
 use Rattle.table.proofs.entries.element.Statement.{statement}
 use Rattle.table.proofs.entries.element.Tie as tie
 

@@ -19,7 +19,9 @@ first-conflict-requires : tie.Need-first-conflict-requires
 first-conflict-requires c κs = let k = well-read _ _ (c .before .before .before .before .before .before .pre .read) in (k .fewNonterminals, k .fewTerminals)
 
 returns : tie.Need-returns
-returns c = entries-right (c .before .before .before .before .before .before .before .pre) (c .before .before .before .before .fill-sets .ensures) (c .before .before .fill-rows .ensures) (c .first-conflict .ensures)
+returns c =
+    let start = c .before .before .before .before .before .before .before in
+    entries-right (start .pre) (c .before .before .before .before .fill-sets .ensures) (c .before .before .fill-rows .ensures) (c .first-conflict .ensures)
 
 pub entries-spec : {M : Type 1} → statement M
 entries-spec =

@@ -1,8 +1,8 @@
 -- The loop has filled the columns before the one that it stands at.
-use mathlib.Core.Path.{_≡_, refl, sym, ap, _∙_}
-use Prim.Native.Nat.{ℕ, suc, _+_, _-_, _*_, _≤_, _<_}
+use mathlib.Core.Path.{_≡_}
+use Prim.Native.Nat.{suc, _-_, _≤_}
 use native.Mathlib.Omega.{arith}
-use Rattle.table.specs.Entries.{FilledRow}
+use Rattle.table.specs.Filling.{FilledRow}
 use Rattle.table.proofs.Filled.{row-none, row-more}
 use Rattle.table.proofs.entries.fill_row.Statement.{statement}
 use Rattle.table.proofs.entries.fill_row.Tie as tie
@@ -47,7 +47,10 @@ loop-less : tie.Need-loop-less Inv-loop μ-loop
 loop-less c = omega arith
 
 loop-again : tie.Need-loop-again Inv-loop μ-loop
-loop-again c = (omega arith, row-more (c .before .before .before .before .loop .inv .1) (omega (arith, c .before .before .before .before .loop .inv .1 .long)) (rw (c .before .before .element .ensures) at (c .entry .ensures)))
+loop-again c =
+    let loop = c .before .before .before .before in
+    let value = rw (c .before .before .element .ensures) at (c .entry .ensures) in
+    (omega arith, row-more (loop .loop .inv .1) (omega (arith, loop .loop .inv .1 .long)) value)
 
 returns : tie.Need-returns Inv-loop μ-loop
 returns c = let e : c .before .loop .column ≡ suc (c .before .before .args .terminals) = omega arith in rw e at (c .before .loop .inv .1)

@@ -1,8 +1,8 @@
 -- The loop has written the sets of the nonterminals before the one that it stands at.
-use mathlib.Core.Path.{_≡_, refl, sym, ap, _∙_}
-use Prim.Native.Nat.{ℕ, suc, _+_, _-_, _*_, _≤_, _<_}
+use mathlib.Core.Path.{_≡_}
+use Prim.Native.Nat.{_-_, _≤_}
 use native.Mathlib.Omega.{arith}
-use Rattle.table.specs.Entries.{FilledSets}
+use Rattle.table.specs.Filling.{FilledSets}
 use Rattle.table.proofs.Filled.{sets-none, sets-more}
 use Rattle.table.proofs.entries.fill_sets.Statement.{statement}
 use Rattle.table.proofs.entries.fill_sets.Tie as tie

@@ -2,7 +2,7 @@
 use mathlib.Core.Path.{_≡_, sym, _∙_}
 use Prim.Native.Nat.{suc, _-_, _*_, _≤_}
 use native.Mathlib.Omega.{arith}
-use Rattle.table.specs.Entries.{conflictFrom}
+use Rattle.table.specs.Filling.{conflictFrom}
 use Rattle.table.proofs.Filled.{conflict-all, conflict-here, conflict-later, conflict-none, few-entries, few-rows, few-columns}
 use Rattle.table.proofs.entries.first_conflict.Statement.{statement}
 use Rattle.table.proofs.entries.first_conflict.Tie as tie
@@ -48,19 +48,29 @@ cast-t18 : tie.Need-cast-t18 Inv-loop μ-loop
 cast-t18 c = omega (arith, few-rows _ _ _ (c .before .before .before .before .loop-test .taken))
 
 cast-t19 : tie.Need-cast-t19 Inv-loop μ-loop
-cast-t19 c = omega (arith, few-columns (c .before .before .before .before .before .loop .at) (c .before .before .before .before .before .before .args .sizes .terminals))
+cast-t19 c =
+    let loop = c .before .before .before .before .before in
+    omega (arith, few-columns (loop .loop .at) (loop .before .args .sizes .terminals))
 
 returns : tie.Need-returns Inv-loop μ-loop
-returns c = sym (conflict-here _ _ (c .before .before .before .before .loop-test .taken) (rw (c .before .before .element .ensures) at (sym (c .before .contains .ensures) ∙ c .if1 .taken))) ∙ c .before .before .before .before .before .loop .inv .1
+returns c =
+    let turn = c .before .before .before .before in
+    let here = rw (c .before .before .element .ensures) at (sym (c .before .contains .ensures) ∙ c .if1 .taken) in
+    sym (conflict-here _ _ (turn .loop-test .taken) here) ∙ turn .before .loop .inv .1
 
 add-at : tie.Need-add-at Inv-loop μ-loop
-add-at c = omega (arith, few-entries (c .before .before .before .before .before .before .pre .0) (c .before .before .before .before .before .before .pre .1))
+add-at c =
+    let start = c .before .before .before .before .before .before in
+    omega (arith, few-entries (start .pre .0) (start .pre .1))
 
 loop-less : tie.Need-loop-less Inv-loop μ-loop
 loop-less c = omega arith
 
 loop-again : tie.Need-loop-again Inv-loop μ-loop
-loop-again c = (omega arith, sym (conflict-later _ _ (c .before .before .before .before .loop-test .taken) (rw (c .before .before .element .ensures) at (sym (c .before .contains .ensures) ∙ c .if1 .left))) ∙ c .before .before .before .before .before .loop .inv .1)
+loop-again c =
+    let turn = c .before .before .before .before in
+    let here = rw (c .before .before .element .ensures) at (sym (c .before .contains .ensures) ∙ c .if1 .left) in
+    (omega arith, sym (conflict-later _ _ (turn .loop-test .taken) here) ∙ turn .before .loop .inv .1)
 
 returns-2 : tie.Need-returns-2 Inv-loop μ-loop
 returns-2 c = sym (conflict-none _ _ _ _ (c .loop-test .left)) ∙ c .before .loop .inv .1

@@ -1,6 +1,4 @@
 -- Two stores.
-use mathlib.Core.Path.{_≡_, refl, sym, ap, _∙_}
-use lib.ListN.{set}
 use borrow.Author.Needs.{needs}
 use Rattle.table.proofs.entries.note.Statement.{statement}
 use Rattle.table.proofs.entries.note.Tie as tie

@@ -1,7 +1,8 @@
 -- The loop keeps `FirstWalk`: the words from `at` on have been gone through.
 use native.Mathlib.Omega.{arith}
 use Rattle.table.proofs.Naming.{before-indexed}
-use Rattle.table.proofs.FirstPasses.{FirstWalk, walk-start, walk-turn, walk-end}
+use Rattle.table.proofs.Walk.{turn, finish}
+use Rattle.table.proofs.FirstPasses.{FirstWalk, walk-start, firstward}
 use Rattle.table.proofs.first.first_pass.Statement.{statement}
 use Rattle.table.proofs.first.first_pass.Tie as tie
 
@@ -54,11 +55,11 @@ loop-again c =
     let loop = c .before .before .before .before .before .before .before in
     let some = c .before .before .before .before .before .before .loop-test .taken in
     let word = c .before .before .before .before .decode .ensures in
-    walk-turn (loop .loop .inv) some (start .pre .1) word (before-indexed (start .args .words .now) (start .pre .0) some (loop .loop .inv .within) word)
-    (c .before .before .onto .ensures) (c .close-rule .ensures)
+    turn (firstward _) (loop .loop .inv) some (start .pre .1) word (before-indexed (start .args .words .now) (start .pre .0) some (loop .loop .inv .within) word)
+    (c .before .before .onto .ensures .onto) (c .close-rule .ensures)
 
 returns : tie.Need-returns Inv-loop μ-loop
-returns c = walk-end (c .before .loop .inv) (c .loop-test .left)
+returns c = finish (c .before .loop .inv) (c .loop-test .left)
 
 pub first-pass-spec : {M : Type 1} → statement M
 first-pass-spec =

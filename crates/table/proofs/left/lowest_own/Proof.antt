@@ -1,5 +1,5 @@
 -- The loop has passed nonterminals that are not in their own sets.
-use mathlib.Core.Path.{_≡_, sym, _∙_}
+use mathlib.Core.Path.{sym, _∙_}
 use Prim.Native.Nat.{_-_, _≤_}
 use native.Mathlib.Omega.{arith}
 use Rattle.semantics.proofs.Quantified.{NoneBelow}
@@ -33,7 +33,10 @@ cast-t12 : tie.Need-cast-t12 Inv-loop μ-loop
 cast-t12 c = omega arith
 
 returns : tie.Need-returns Inv-loop μ-loop
-returns c = lowest-found (ownIn (c .before .before .before .before .before .args .reach .now)) (c .before .before .before .loop-test .taken) (c .before .before .before .before .loop .inv .1) (sym (c .before .contains .ensures) ∙ c .if1 .taken)
+returns c =
+    let loop = c .before .before .before .before in
+    let own = sym (c .before .contains .ensures) ∙ c .if1 .taken in
+    lowest-found (ownIn (loop .before .args .reach .now)) (c .before .before .before .loop-test .taken) (loop .loop .inv .1) own
 
 add-nonterminal : tie.Need-add-nonterminal Inv-loop μ-loop
 add-nonterminal c = omega arith
@@ -42,7 +45,10 @@ loop-less : tie.Need-loop-less Inv-loop μ-loop
 loop-less c = omega arith
 
 loop-again : tie.Need-loop-again Inv-loop μ-loop
-loop-again c = (omega arith, none-more _ (ownIn (c .before .before .before .before .before .args .reach .now)) (c .before .before .before .before .loop .inv .1) (sym (c .before .contains .ensures) ∙ c .if1 .left))
+loop-again c =
+    let loop = c .before .before .before .before in
+    let other = sym (c .before .contains .ensures) ∙ c .if1 .left in
+    (omega arith, none-more _ (ownIn (loop .before .args .reach .now)) (loop .loop .inv .1) other)
 
 returns-2 : tie.Need-returns-2 Inv-loop μ-loop
 returns-2 c = lowest-absent (ownIn (c .before .before .args .reach .now)) (c .loop-test .left) (c .before .loop .inv .1)

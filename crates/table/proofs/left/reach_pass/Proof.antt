@@ -2,7 +2,7 @@
 use native.Mathlib.Omega.{arith}
 use Rattle.table.specs.Least.{at as family}
 use Rattle.table.specs.Left.{emptyIn}
-use Rattle.table.proofs.Naming.{word-indexed}
+use Rattle.table.proofs.Naming.{before-indexed}
 use Rattle.table.proofs.Walk.{turn, finish}
 use Rattle.table.proofs.LeftPasses.{LeftWalk, walk-start, leftward}
 use Rattle.table.proofs.left.reach_pass.Statement.{statement}
@@ -30,16 +30,30 @@ decode-requires : tie.Need-decode-requires Inv-loop μ-loop
 decode-requires c κs = tt
 
 onto-left-requires : tie.Need-onto-left-requires Inv-loop μ-loop
-onto-left-requires c κs = word-indexed _ (c .before .before .before .before .before .before .pre .0) (omega (arith, c .before .before .before .before .loop .inv .within)) (c .before .decode .ensures)
+onto-left-requires c κs =
+    let start = c .before .before .before .before .before .before in
+    let loop = c .before .before .before .before in
+    let some = c .before .before .before .loop-test .taken in
+    before-indexed _ (start .pre .read) some (loop .loop .inv .within) (c .before .decode .ensures)
 
 close-rule-requires : tie.Need-close-rule-requires Inv-loop μ-loop
-close-rule-requires c κs = word-indexed _ (c .before .before .before .before .before .before .before .before .pre .0) (omega (arith, c .before .before .before .before .before .before .loop .inv .within)) (c .before .before .before .decode .ensures)
+close-rule-requires c κs =
+    let start = c .before .before .before .before .before .before .before .before in
+    let loop = c .before .before .before .before .before .before in
+    let some = c .before .before .before .before .before .loop-test .taken in
+    before-indexed _ (start .pre .read) some (loop .loop .inv .within) (c .before .before .before .decode .ensures)
 
 loop-less : tie.Need-loop-less Inv-loop μ-loop
 loop-less c = omega (arith, c .before .before .before .before .before .before .loop-test .taken)
 
 loop-again : tie.Need-loop-again Inv-loop μ-loop
-loop-again c = turn (leftward _) (c .before .before .before .before .before .before .before .loop .inv) (c .before .before .before .before .before .before .loop-test .taken) (c .before .before .before .before .before .before .before .before .before .pre .1) (c .before .before .before .before .decode .ensures) (word-indexed _ (c .before .before .before .before .before .before .before .before .before .pre .0) (omega (arith, c .before .before .before .before .before .before .before .loop .inv .within)) (c .before .before .before .before .decode .ensures)) (c .before .before .onto-left .ensures .onto) (c .close-rule .ensures)
+loop-again c =
+    let start = c .before .before .before .before .before .before .before .before .before in
+    let loop = c .before .before .before .before .before .before .before in
+    let some = c .before .before .before .before .before .before .loop-test .taken in
+    let word = c .before .before .before .before .decode .ensures in
+    let indexed = before-indexed _ (start .pre .read) some (loop .loop .inv .within) word in
+    turn (leftward _) (loop .loop .inv) some (start .pre .long) word indexed (c .before .before .onto-left .ensures .onto) (c .close-rule .ensures)
 
 returns : tie.Need-returns Inv-loop μ-loop
 returns c = finish (c .before .loop .inv) (c .loop-test .left)

@@ -13,17 +13,19 @@ use Rattle.table.proofs.left.reached.Statement.{statement}
 use Rattle.table.proofs.left.reached.Tie as tie
 
 abbrev Inv-loop : tie.InvT-loop
-Inv-loop words sizes firsts reach₀ reach =
+Inv-loop words firsts reach₀ reach =
     (length reach ≡ maxNonterminals) × Below (ReachClosed (emptyIn (family firsts)) (parse words .rules)) reach
 
 abbrev μ-loop : tie.MeasureT-loop
-μ-loop words sizes firsts reach₀ reach = missing (2 ^ width) reach
+μ-loop words firsts reach₀ reach = missing (2 ^ width) reach
 
 loop-holds : tie.Need-loop-holds Inv-loop μ-loop
 loop-holds c = (refl, below-none _ 32)
 
 reach-pass-requires : tie.Need-reach-pass-requires Inv-loop μ-loop
-reach-pass-requires c κs = (c .before .before .before .pre .read, c .before .loop .inv .0)
+reach-pass-requires c κs =
+    let given = c .before .before .before .pre in
+    record { sizes = given .sizes; read = given .read; long = c .before .loop .inv .0 }
 
 loop-less : tie.Need-loop-less Inv-loop μ-loop
 loop-less c =
@@ -32,7 +34,8 @@ loop-less c =
 
 loop-again : tie.Need-loop-again Inv-loop μ-loop
 loop-again c =
-    (c .before .reach-pass .ensures .long ∙ c .before .before .before .loop .inv .0, below-pass (c .before .reach-pass .ensures) (c .before .before .before .loop .inv .1))
+    let loop = c .before .before .before in
+    (c .before .reach-pass .ensures .long ∙ loop .loop .inv .0, below-pass (c .before .reach-pass .ensures) (loop .loop .inv .1))
 
 returns : tie.Need-returns Inv-loop μ-loop
 returns c =

@@ -37,10 +37,16 @@ contains-requires : tie.Need-contains-requires
 contains-requires c κs = search needs
 
 returns-2 : tie.Need-returns-2
-returns-2 c = left-on _ _ _ (c .before .before .before .before .before .symbol .given .1) (rw (c .before .before .before .before .before .symbol .given .1) at (c .before .before .before .before .before .before .before .pre)) refl (sym (c .before .contains .ensures) ∙ c .if1 .taken)
+returns-2 c =
+    let symbol = c .before .before .before .before .before in
+    let low = rw (symbol .symbol .given .1) at (symbol .before .before .pre) in
+    left-on _ _ _ (symbol .symbol .given .1) low refl (sym (c .before .contains .ensures) ∙ c .if1 .taken)
 
 returns-3 : tie.Need-returns-3
-returns-3 c = left-stop _ _ _ (c .before .before .before .before .before .symbol .given .1) (rw (c .before .before .before .before .before .symbol .given .1) at (c .before .before .before .before .before .before .before .pre)) refl (sym (c .before .contains .ensures) ∙ c .if1 .left)
+returns-3 c =
+    let symbol = c .before .before .before .before .before in
+    let low = rw (symbol .symbol .given .1) at (symbol .before .before .pre) in
+    left-stop _ _ _ (symbol .symbol .given .1) low refl (sym (c .before .contains .ensures) ∙ c .if1 .left)
 
 pub symbol-left-spec : {M : Type 1} → statement M
 symbol-left-spec =
