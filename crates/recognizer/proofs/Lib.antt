@@ -5,5 +5,7 @@ pub mod Running
 pub mod Calling
 pub mod Storing
 pub mod Starting
+pub mod Appending
+pub mod Tallying
 pub mod Front
 pub mod Checking

@@ -81,7 +81,8 @@ module _ {words starts table input memo : List ℕ} {A place : ℕ} (g : CallGiv
         idle = λ q. descend-null G (tableOf G 1) 1 input own (r .formed .scoped) A place place (g .placed) refl (end-ends _ place (sym told ∙ q));
       }
 
-getD-any : (l : List ℕ) (i d d′ : ℕ) → i < length l → getD l i d ≡ getD l i d′
+-- an index within a list has one element, whatever the default
+pub getD-any : (l : List ℕ) (i d d′ : ℕ) → i < length l → getD l i d ≡ getD l i d′
 getD-any [] i d d′ h = absurd (omega arith)
 getD-any (x ∷ l) zero d d′ h = refl
 getD-any (x ∷ l) (suc i) d d′ h = getD-any l i d d′ (omega arith)

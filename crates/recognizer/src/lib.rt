@@ -9,6 +9,7 @@ use table::analyze;
 
 mod descent;
 mod lending;
+mod tally;
 
 // Checks an encoded grammar, and fills the lent table with its sets and its entries.
 pub fn check(words: &[u32], table: &mut [u32]) -> Answer
