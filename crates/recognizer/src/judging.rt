@@ -1,0 +1,45 @@
+// Judging an input by a grammar that has passed.
+ghost use mathlib.Core.Path.{_≡_};
+ghost use lib.ListN.{length};
+ghost use Rattle.recognizer.specs.Judging.{unknownAt, DescendGiven, Descended, JudgeGiven, JudgedBy};
+use super::descent::{call, ends_at};
+use super::lending::lend;
+use super::tally::{clear, tally};
+use answer::{Answer, Error};
+use grammar::limits::{TABLE_WORDS, TOKENS};
+use grammar::reading::{Sizes, rule_starts};
+
+pub enum Unknown {
+    Absent,
+    At(usize),
+}
+
+// The first token that is no terminal.
+fn first_unknown(input: &[u8], terminals: u32) -> Unknown
+    ensures { λ r. ⌜ r ≡ unknownAt terminals (now (input .entry)) ⌝ }
+{
+    let mut at = 0;
+    while at < input.len() {
+        if terminals <= input[at] as u32 {
+            return Unknown::At(at);
+        }
+        at = at + 1;
+    }
+    Unknown::Absent
+}
+
+// Runs the descent in a memo table of just the entries that it needs.
+fn descend(words: &[u32], sizes: Sizes, entries: &[u32; TABLE_WORDS], input: &[u8], memo: &mut [u16]) -> Answer
+    requires { ⌜ DescendGiven (now words) sizes (now entries) (now input) (now memo) ⌝ }
+    ensures { λ r. ⌜ Descended (now (words .entry)) (now (input .entry)) r (now (memo .exit)) ⌝ }
+{
+    clear(memo);
+    let starts = rule_starts(words);
+    let outcome = call(0, words, &starts, entries, input, memo, 0);
+    let calls = tally(memo, sizes.nonterminals as usize, input.len());
+    if ends_at(outcome, input.len()) {
+        Answer::Accepted(calls)
+    } else {
+        Answer::Rejected(calls)
+    }
+}
