@@ -9,3 +9,4 @@ pub mod Appending
 pub mod Tallying
 pub mod Front
 pub mod Checking
+pub mod Deciding

@@ -10,6 +10,8 @@ use Rattle.answer.specs.declared.Error.the-variants.{TableTooShort, MemoTooShor
 use Rattle.answer.specs.declared.Calls.{Calls}
 use Rattle.answer.specs.declared.Answer.{Answer}
 use Rattle.answer.specs.declared.Answer.the-variants.{Refused, Passed, Rejected, Accepted}
+use Rattle.recognizer.specs.declared.judging.Unknown.{Unknown}
+use Rattle.recognizer.specs.declared.judging.Unknown.the-variants.{Absent, At}
 use Rattle.grammar.specs.Choice.{choose}
 use Rattle.grammar.specs.Limits.{maxTokens, tableWords, memoEntries}
 use Rattle.grammar.specs.Syntax.{Grammar}
@@ -25,9 +27,13 @@ unless true e = some e
 unless false e = none
 
 -- the first token that is no terminal of the grammar, of an input whose first token has the index `at`
-unfoldable pub unknownFrom : ℕ → ℕ → List ℕ → Option Error
-unknownFrom n at [] = none
-unknownFrom n at (a ∷ w) = choose (ltb a n) (unknownFrom n (suc at) w) (some (UnknownToken at))
+unfoldable pub unknownFrom : ℕ → ℕ → List ℕ → Unknown
+unknownFrom n at [] = Absent
+unknownFrom n at (a ∷ w) = choose (ltb a n) (unknownFrom n (suc at) w) (At at)
+
+abbrev pub unknownFault : Unknown → Option Error
+unknownFault Absent = none
+unknownFault (At i) = some (UnknownToken i)
 
 -- the first fault of a list
 abbrev pub firstOf : List (Option Error) → Option Error
@@ -47,7 +53,7 @@ judgeFault table memo words input =
     ∷ unless (ltb memo memoEntries) MemoTooShort
     ∷ fault words
     ∷ unless (ltb maxTokens (length input)) InputTooLong
-    ∷ unknownFrom (grammarOf words .terminals) 0 input
+    ∷ unknownFault (unknownFrom (grammarOf words .terminals) 0 input)
     ∷ [])
 
 abbrev pub refusedOr : Option Error → Answer → Answer

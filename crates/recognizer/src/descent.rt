@@ -108,7 +108,7 @@ fn begins(sign: Sign) -> bool
     }
 }
 
-fn ends_at(outcome: Outcome, place: usize) -> bool
+pub(crate) fn ends_at(outcome: Outcome, place: usize) -> bool
     ensures { λ r. ⌜ r ≡ endsAt (meant outcome) place ⌝ }
 {
     match outcome {
@@ -274,7 +274,7 @@ fn run_body(
 }
 
 // Calls a nonterminal at a place: recalls its outcome, or runs the bodies of the rule that the table chooses and records it.
-fn call(
+pub(crate) fn call(
     nonterminal: usize,
     words: &[u32],
     starts: &[usize; RULES],

@@ -1,13 +1,15 @@
 // Judging an input by a grammar that has passed.
 ghost use mathlib.Core.Path.{_≡_};
-ghost use lib.ListN.{length};
-ghost use Rattle.recognizer.specs.Judging.{unknownAt, DescendGiven, Descended, JudgeGiven, JudgedBy};
-use super::descent::{call, ends_at};
-use super::lending::lend;
-use super::tally::{clear, tally};
-use answer::{Answer, Error};
-use grammar::limits::{TABLE_WORDS, TOKENS};
-use grammar::reading::{Sizes, rule_starts};
+ghost use Rattle.recognizer.specs.Answers.{unknownFrom};
+ghost use Rattle.recognizer.specs.Judging.{DescendGiven, Descended};
+use super::descent::call;
+use super::descent::ends_at;
+use super::tally::clear;
+use super::tally::tally;
+use answer::Answer;
+use grammar::limits::TABLE_WORDS;
+use grammar::reading::Sizes;
+use grammar::reading::rule_starts;
 
 pub enum Unknown {
     Absent,
@@ -16,7 +18,7 @@ pub enum Unknown {
 
 // The first token that is no terminal.
 fn first_unknown(input: &[u8], terminals: u32) -> Unknown
-    ensures { λ r. ⌜ r ≡ unknownAt terminals (now (input .entry)) ⌝ }
+    ensures { λ r. ⌜ r ≡ unknownFrom terminals 0 (now (input .entry)) ⌝ }
 {
     let mut at = 0;
     while at < input.len() {
@@ -29,7 +31,13 @@ fn first_unknown(input: &[u8], terminals: u32) -> Unknown
 }
 
 // Runs the descent in a memo table of just the entries that it needs.
-fn descend(words: &[u32], sizes: Sizes, entries: &[u32; TABLE_WORDS], input: &[u8], memo: &mut [u16]) -> Answer
+fn descend(
+    words: &[u32],
+    sizes: Sizes,
+    entries: &[u32; TABLE_WORDS],
+    input: &[u8],
+    memo: &mut [u16],
+) -> Answer
     requires { ⌜ DescendGiven (now words) sizes (now entries) (now input) (now memo) ⌝ }
     ensures { λ r. ⌜ Descended (now (words .entry)) (now (input .entry)) r (now (memo .exit)) ⌝ }
 {

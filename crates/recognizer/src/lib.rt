@@ -8,6 +8,7 @@ use table::Finding;
 use table::analyze;
 
 mod descent;
+mod judging;
 mod lending;
 mod tally;
 

@@ -63,7 +63,6 @@ abbrev call-μ-loop : call-lts.MeasureT-loop
 call-μ-loop nonterminal words starts table input memo₀ place entry known rule at₀ sign₀ agreement₀ memo at sign agreement =
     length words - at
 
--- src/descent.rt:283:32
 call-add-entry : (t : ℕ) → call-lts.Need-add-entry (
   recall-reads.Asked,
   recall-reads.Learnt,
@@ -86,7 +85,6 @@ call-add-entry : (t : ℕ) → call-lts.Need-add-entry (
 ) (call-at t) call.Post call-Inv-loop call-μ-loop
 call-add-entry t c = omega (arith, c .before .before .before .pre .1 .given .short)
 
--- src/descent.rt:283:17
 call-mul-entry : (t : ℕ) → call-lts.Need-mul-entry (
   recall-reads.Asked,
   recall-reads.Learnt,
@@ -109,7 +107,6 @@ call-mul-entry : (t : ℕ) → call-lts.Need-mul-entry (
 ) (call-at t) call.Post call-Inv-loop call-μ-loop
 call-mul-entry t c = omega (arith, index-low (c .before .before .before .pre .1))
 
--- src/descent.rt:283:17
 call-add-entry-2 : (t : ℕ) → call-lts.Need-add-entry-2 (
   recall-reads.Asked,
   recall-reads.Learnt,
@@ -132,7 +129,6 @@ call-add-entry-2 : (t : ℕ) → call-lts.Need-add-entry-2 (
 ) (call-at t) call.Post call-Inv-loop call-μ-loop
 call-add-entry-2 t c = omega (arith, index-low (c .before .before .before .pre .1))
 
--- src/descent.rt:284:17
 call-mul-known : (t : ℕ) → call-lts.Need-mul-known (
   recall-reads.Asked,
   recall-reads.Learnt,
@@ -155,7 +151,6 @@ call-mul-known : (t : ℕ) → call-lts.Need-mul-known (
 ) (call-at t) call.Post call-Inv-loop call-μ-loop
 call-mul-known t c = omega (arith, index-low (c .before .before .before .pre .1))
 
--- src/descent.rt:284:17
 call-slice-read-known : (t : ℕ) → call-lts.Need-slice-read-known (
   recall-reads.Asked,
   recall-reads.Learnt,
@@ -178,7 +173,6 @@ call-slice-read-known : (t : ℕ) → call-lts.Need-slice-read-known (
 ) (call-at t) call.Post call-Inv-loop call-μ-loop
 call-slice-read-known t c = index-low (c .before .before .before .before .pre .1)
 
--- src/descent.rt:286:9
 call-recall-requires : (t : ℕ) → call-lts.Need-recall-requires (
   recall-reads.Asked,
   recall-reads.Learnt,
@@ -201,7 +195,6 @@ call-recall-requires : (t : ℕ) → call-lts.Need-recall-requires (
 ) (call-at t) call.Post call-Inv-loop call-μ-loop
 call-recall-requires t c κs = tt
 
--- src/descent.rt:286:9
 call-returns : (t : ℕ) → call-lts.Need-returns (
   recall-reads.Asked,
   recall-reads.Learnt,
@@ -224,7 +217,6 @@ call-returns : (t : ℕ) → call-lts.Need-returns (
 ) (call-at t) call.Post call-Inv-loop call-μ-loop
 call-returns t c = call-recalled (c .before .before .before .before .before .before .pre .1) (c .before .if1 .taken) (c .recall .ensures)
 
--- src/descent.rt:288:9
 call-chosen-requires : (t : ℕ) → call-lts.Need-chosen-requires (
   recall-reads.Asked,
   recall-reads.Learnt,
@@ -247,7 +239,6 @@ call-chosen-requires : (t : ℕ) → call-lts.Need-chosen-requires (
 ) (call-at t) call.Post call-Inv-loop call-μ-loop
 call-chosen-requires t c κs = chosen-given (c .before .before .before .before .before .pre .1)
 
--- src/descent.rt:290:9
 call-mul-memo : (t : ℕ) → call-lts.Need-mul-memo (
   recall-reads.Asked,
   recall-reads.Learnt,
@@ -270,7 +261,6 @@ call-mul-memo : (t : ℕ) → call-lts.Need-mul-memo (
 ) (call-at t) call.Post call-Inv-loop call-μ-loop
 call-mul-memo t c = omega (arith, index-low (c .before .before .before .before .before .before .before .pre .1))
 
--- src/descent.rt:290:9
 call-slice-write-memo : (t : ℕ) → call-lts.Need-slice-write-memo (
   recall-reads.Asked,
   recall-reads.Learnt,
@@ -293,7 +283,6 @@ call-slice-write-memo : (t : ℕ) → call-lts.Need-slice-write-memo (
 ) (call-at t) call.Post call-Inv-loop call-μ-loop
 call-slice-write-memo t c = index-low (c .before .before .before .before .before .before .before .pre .1)
 
--- src/descent.rt:291:9
 call-same-length : (t : ℕ) → call-lts.Need-same-length (
   recall-reads.Asked,
   recall-reads.Learnt,
@@ -316,7 +305,6 @@ call-same-length : (t : ℕ) → call-lts.Need-same-length (
 ) (call-at t) call.Post call-Inv-loop call-μ-loop
 call-same-length t c = simp length-set
 
--- src/descent.rt:291:9
 call-returns-2 : (t : ℕ) → call-lts.Need-returns-2 (
   recall-reads.Asked,
   recall-reads.Learnt,
@@ -339,7 +327,6 @@ call-returns-2 : (t : ℕ) → call-lts.Need-returns-2 (
 ) (call-at t) call.Post call-Inv-loop call-μ-loop
 call-returns-2 t c = call-stored (c .before .before .before .before .before .before .before .pre .1) (c .before .before .if1 .left) none (select-none (c .before .before .before .before .before .before .before .pre .1) (no-rule (c .before .before .before .before .before .before .before .pre .1) (c .before .chosen .ensures) (c .if2 .taken))) (λ n l. none-fails _ _ _ _) encode-failed
 
--- src/descent.rt:293:25
 call-cast-at : (t : ℕ) → call-lts.Need-cast-at (
   recall-reads.Asked,
   recall-reads.Learnt,
@@ -362,7 +349,6 @@ call-cast-at : (t : ℕ) → call-lts.Need-cast-at (
 ) (call-at t) call.Post call-Inv-loop call-μ-loop
 call-cast-at t c = let k = rule-chosen (c .before .before .before .before .before .before .before .pre .1) _ (some-rule (c .before .before .before .before .before .before .before .pre .1) (c .before .chosen .ensures) (c .if2 .left)) in omega (arith, k .low)
 
--- src/descent.rt:293:18
 call-mul-at : (t : ℕ) → call-lts.Need-mul-at (
   recall-reads.Asked,
   recall-reads.Learnt,
@@ -385,7 +371,6 @@ call-mul-at : (t : ℕ) → call-lts.Need-mul-at (
 ) (call-at t) call.Post call-Inv-loop call-μ-loop
 call-mul-at t c = let k = rule-chosen (c .before .before .before .before .before .before .before .pre .1) _ (some-rule (c .before .before .before .before .before .before .before .pre .1) (c .before .chosen .ensures) (c .if2 .left)) in omega (arith, k .low)
 
--- src/descent.rt:293:18
 call-element-copy-out-at : (t : ℕ) → call-lts.Need-element-copy-out-at (
   recall-reads.Asked,
   recall-reads.Learnt,
@@ -408,7 +393,6 @@ call-element-copy-out-at : (t : ℕ) → call-lts.Need-element-copy-out-at (
 ) (call-at t) call.Post call-Inv-loop call-μ-loop
 call-element-copy-out-at t c = rule-chosen (c .before .before .before .before .before .before .before .pre .1) _ (some-rule (c .before .before .before .before .before .before .before .pre .1) (c .before .chosen .ensures) (c .if2 .left)) .low
 
--- src/descent.rt:293:18
 call-add-at : (t : ℕ) → call-lts.Need-add-at (
   recall-reads.Asked,
   recall-reads.Learnt,
@@ -431,7 +415,6 @@ call-add-at : (t : ℕ) → call-lts.Need-add-at (
 ) (call-at t) call.Post call-Inv-loop call-μ-loop
 call-add-at t c = let k = rule-chosen (c .before .before .before .before .before .before .before .before .pre .1) _ (some-rule (c .before .before .before .before .before .before .before .before .pre .1) (c .before .before .chosen .ensures) (c .before .if2 .left)) in omega (arith, k .begun .high)
 
--- src/descent.rt:294:9
 call-sign-at-requires : (t : ℕ) → call-lts.Need-sign-at-requires (
   recall-reads.Asked,
   recall-reads.Learnt,
@@ -454,7 +437,6 @@ call-sign-at-requires : (t : ℕ) → call-lts.Need-sign-at-requires (
 ) (call-at t) call.Post call-Inv-loop call-μ-loop
 call-sign-at-requires t c κs = tt
 
--- src/descent.rt:296:5
 call-loop-holds : (t : ℕ) → call-lts.Need-loop-holds (
   recall-reads.Asked,
   recall-reads.Learnt,
@@ -477,7 +459,6 @@ call-loop-holds : (t : ℕ) → call-lts.Need-loop-holds (
 ) (call-at t) call.Post call-Inv-loop call-μ-loop
 call-loop-holds t c = let k = rule-chosen (c .before .before .before .before .before .before .before .before .before .pre .1) _ (some-rule (c .before .before .before .before .before .before .before .before .before .pre .1) (c .before .before .before .chosen .ensures) (c .before .before .if2 .left)) in start-rule (c .before .before .before .before .before .before .before .before .before .pre .1) _ k (c .sign-at .ensures)
 
--- src/descent.rt:296:11
 call-goes-on-requires : (t : ℕ) → call-lts.Need-goes-on-requires (
   recall-reads.Asked,
   recall-reads.Learnt,
@@ -500,7 +481,6 @@ call-goes-on-requires : (t : ℕ) → call-lts.Need-goes-on-requires (
 ) (call-at t) call.Post call-Inv-loop call-μ-loop
 call-goes-on-requires t c κs = tt
 
--- src/descent.rt:304:13
 call-add-run-body : (t : ℕ) → call-lts.Need-add-run-body (
   recall-reads.Asked,
   recall-reads.Learnt,
@@ -523,7 +503,6 @@ call-add-run-body : (t : ℕ) → call-lts.Need-add-run-body (
 ) (call-at t) call.Post call-Inv-loop call-μ-loop
 call-add-run-body t c = omega (arith, rule-conjunct (c .before .before .before .before .before .before .before .before .before .before .before .before .before .pre .1) (c .before .before .before .loop .inv) (sym (c .before .before .goes-on .ensures) ∙ c .before .if3 .taken))
 
--- src/descent.rt:297:13
 call-run-body-requires : (t : ℕ) → call-lts.Need-run-body-requires (
   recall-reads.Asked,
   recall-reads.Learnt,
@@ -546,7 +525,6 @@ call-run-body-requires : (t : ℕ) → call-lts.Need-run-body-requires (
 ) (call-at t) call.Post call-Inv-loop call-μ-loop
 call-run-body-requires t c κs = (omega (arith, c .before .before .before .before .before .before .before .before .before .before .before .before .before .pre .0), rule-run (c .before .before .before .before .before .before .before .before .before .before .before .before .before .pre .1) (c .before .before .before .loop .inv) (sym (c .before .before .goes-on .ensures) ∙ c .before .if3 .taken))
 
--- src/descent.rt:307:9
 call-joined-requires : (t : ℕ) → call-lts.Need-joined-requires (
   recall-reads.Asked,
   recall-reads.Learnt,
@@ -569,7 +547,6 @@ call-joined-requires : (t : ℕ) → call-lts.Need-joined-requires (
 ) (call-at t) call.Post call-Inv-loop call-μ-loop
 call-joined-requires t c κs = tt
 
--- src/descent.rt:308:30
 call-add-body-end : (t : ℕ) → call-lts.Need-add-body-end (
   recall-reads.Asked,
   recall-reads.Learnt,
@@ -592,7 +569,6 @@ call-add-body-end : (t : ℕ) → call-lts.Need-add-body-end (
 ) (call-at t) call.Post call-Inv-loop call-μ-loop
 call-add-body-end t c = omega (arith, rule-conjunct (c .before .before .before .before .before .before .before .before .before .before .before .before .before .before .before .before .before .pre .1) (c .before .before .before .before .before .before .before .loop .inv) (sym (c .before .before .before .before .before .before .goes-on .ensures) ∙ c .before .before .before .before .before .if3 .taken))
 
--- src/descent.rt:308:9
 call-body-end-requires : (t : ℕ) → call-lts.Need-body-end-requires (
   recall-reads.Asked,
   recall-reads.Learnt,
@@ -615,7 +591,6 @@ call-body-end-requires : (t : ℕ) → call-lts.Need-body-end-requires (
 ) (call-at t) call.Post call-Inv-loop call-μ-loop
 call-body-end-requires t c κs = omega (arith, rule-conjunct (c .before .before .before .before .before .before .before .before .before .before .before .before .before .before .before .before .before .pre .1) (c .before .before .before .before .before .before .before .loop .inv) (sym (c .before .before .before .before .before .before .goes-on .ensures) ∙ c .before .before .before .before .before .if3 .taken))
 
--- src/descent.rt:309:9
 call-sign-at-requires-2 : (t : ℕ) → call-lts.Need-sign-at-requires-2 (
   recall-reads.Asked,
   recall-reads.Learnt,
@@ -638,7 +613,6 @@ call-sign-at-requires-2 : (t : ℕ) → call-lts.Need-sign-at-requires-2 (
 ) (call-at t) call.Post call-Inv-loop call-μ-loop
 call-sign-at-requires-2 t c κs = tt
 
--- src/descent.rt:296:5
 call-loop-less : (t : ℕ) → call-lts.Need-loop-less (
   recall-reads.Asked,
   recall-reads.Learnt,
@@ -661,7 +635,6 @@ call-loop-less : (t : ℕ) → call-lts.Need-loop-less (
 ) (call-at t) call.Post call-Inv-loop call-μ-loop
 call-loop-less t c = omega (arith, rule-conjunct (c .before .before .before .before .before .before .before .before .before .before .before .before .before .before .before .before .before .before .before .pre .1) (c .before .before .before .before .before .before .before .before .before .loop .inv) (sym (c .before .before .before .before .before .before .before .before .goes-on .ensures) ∙ c .before .before .before .before .before .before .before .if3 .taken), c .before .body-end .ensures .on)
 
--- src/descent.rt:296:5
 call-loop-again : (t : ℕ) → call-lts.Need-loop-again (
   recall-reads.Asked,
   recall-reads.Learnt,
@@ -684,7 +657,6 @@ call-loop-again : (t : ℕ) → call-lts.Need-loop-again (
 ) (call-at t) call.Post call-Inv-loop call-μ-loop
 call-loop-again t c = rule-turn (c .before .before .before .before .before .before .before .before .before .before .before .before .before .before .before .before .before .before .before .pre .1) (c .before .before .before .before .before .before .before .before .before .loop .inv) (sym (c .before .before .before .before .before .before .before .before .goes-on .ensures) ∙ c .before .before .before .before .before .before .before .if3 .taken) (c .before .before .before .before .before .run-body .ensures) (c .before .before .joined .ensures) (c .before .body-end .ensures) (c .sign-at2 .ensures)
 
--- src/descent.rt:311:9
 call-conclude-requires : (t : ℕ) → call-lts.Need-conclude-requires (
   recall-reads.Asked,
   recall-reads.Learnt,
@@ -707,7 +679,6 @@ call-conclude-requires : (t : ℕ) → call-lts.Need-conclude-requires (
 ) (call-at t) call.Post call-Inv-loop call-μ-loop
 call-conclude-requires t c κs = tt
 
--- src/descent.rt:312:19
 call-code-requires : (t : ℕ) → call-lts.Need-code-requires (
   recall-reads.Asked,
   recall-reads.Learnt,
@@ -730,7 +701,6 @@ call-code-requires : (t : ℕ) → call-lts.Need-code-requires (
 ) (call-at t) call.Post call-Inv-loop call-μ-loop
 call-code-requires t c κs = rule-short (c .before .before .before .before .before .before .before .before .before .before .before .before .before .pre .1) (c .before .before .before .loop .inv) (c .conclude .result) (c .conclude .ensures)
 
--- src/descent.rt:312:5
 call-mul-memo-2 : (t : ℕ) → call-lts.Need-mul-memo-2 (
   recall-reads.Asked,
   recall-reads.Learnt,
@@ -753,7 +723,6 @@ call-mul-memo-2 : (t : ℕ) → call-lts.Need-mul-memo-2 (
 ) (call-at t) call.Post call-Inv-loop call-μ-loop
 call-mul-memo-2 t c = omega (arith, index-low (c .before .before .before .before .before .before .before .before .before .before .before .before .before .before .pre .1))
 
--- src/descent.rt:312:5
 call-slice-write-memo-2 : (t : ℕ) → call-lts.Need-slice-write-memo-2 (
   recall-reads.Asked,
   recall-reads.Learnt,
@@ -776,7 +745,6 @@ call-slice-write-memo-2 : (t : ℕ) → call-lts.Need-slice-write-memo-2 (
 ) (call-at t) call.Post call-Inv-loop call-μ-loop
 call-slice-write-memo-2 t c = omega (arith, index-low (c .before .before .before .before .before .before .before .before .before .before .before .before .before .before .pre .1), memo-same (c .before .before .before .before .loop .inv .calling .sound) (c .before .before .before .before .before .before .before .before .before .before .before .before .before .before .pre .1 .given .sound))
 
--- src/descent.rt:271:1
 call-same-length-2 : (t : ℕ) → call-lts.Need-same-length-2 (
   recall-reads.Asked,
   recall-reads.Learnt,
@@ -799,7 +767,6 @@ call-same-length-2 : (t : ℕ) → call-lts.Need-same-length-2 (
 ) (call-at t) call.Post call-Inv-loop call-μ-loop
 call-same-length-2 t c = simp length-set (memo-same (c .before .before .before .before .loop .inv .calling .sound) (c .before .before .before .before .before .before .before .before .before .before .before .before .before .before .pre .1 .given .sound))
 
--- src/descent.rt:271:1
 call-returns-3 : (t : ℕ) → call-lts.Need-returns-3 (
   recall-reads.Asked,
   recall-reads.Learnt,
@@ -834,7 +801,6 @@ abbrev run-body-μ-loop : run-body-lts.MeasureT-loop
 run-body-μ-loop nonterminal words starts table input memo₀ from start at₀ place₀ memo at place =
     length words - at
 
--- src/descent.rt:245:5
 run-body-loop-holds : (t : ℕ) → run-body-lts.Need-loop-holds (
   decode-reads.Asked,
   decode-reads.Learnt,
@@ -845,7 +811,6 @@ run-body-loop-holds : (t : ℕ) → run-body-lts.Need-loop-holds (
 ) (run-body-at t) run-body.Post run-body-Inv-loop run-body-μ-loop
 run-body-loop-holds t c = running-start (c .before .before .before .pre .1)
 
--- src/descent.rt:246:27
 run-body-mul-decode : (t : ℕ) → run-body-lts.Need-mul-decode (
   decode-reads.Asked,
   decode-reads.Learnt,
@@ -856,7 +821,6 @@ run-body-mul-decode : (t : ℕ) → run-body-lts.Need-mul-decode (
 ) (run-body-at t) run-body.Post run-body-Inv-loop run-body-μ-loop
 run-body-mul-decode t c = omega arith
 
--- src/descent.rt:246:27
 run-body-shared-slice-read-decode : (t : ℕ) → run-body-lts.Need-shared-slice-read-decode (
   decode-reads.Asked,
   decode-reads.Learnt,
@@ -867,7 +831,6 @@ run-body-shared-slice-read-decode : (t : ℕ) → run-body-lts.Need-shared-slice
 ) (run-body-at t) run-body.Post run-body-Inv-loop run-body-μ-loop
 run-body-shared-slice-read-decode t c = omega arith
 
--- src/descent.rt:246:13
 run-body-decode-requires : (t : ℕ) → run-body-lts.Need-decode-requires (
   decode-reads.Asked,
   decode-reads.Learnt,
@@ -878,7 +841,6 @@ run-body-decode-requires : (t : ℕ) → run-body-lts.Need-decode-requires (
 ) (run-body-at t) run-body.Post run-body-Inv-loop run-body-μ-loop
 run-body-decode-requires t c κs = tt
 
--- src/descent.rt:247:26
 run-body-enum-known-word : (t : ℕ) → run-body-lts.Need-enum-known-word (
   decode-reads.Asked,
   decode-reads.Learnt,
@@ -889,7 +851,6 @@ run-body-enum-known-word : (t : ℕ) → run-body-lts.Need-enum-known-word (
 ) (run-body-at t) run-body.Post run-body-Inv-loop run-body-μ-loop
 run-body-enum-known-word t c = c .match .keys1
 
--- src/descent.rt:248:13
 run-body-same-length : (t : ℕ) → run-body-lts.Need-same-length (
   decode-reads.Asked,
   decode-reads.Learnt,
@@ -900,7 +861,6 @@ run-body-same-length : (t : ℕ) → run-body-lts.Need-same-length (
 ) (run-body-at t) run-body.Post run-body-Inv-loop run-body-μ-loop
 run-body-same-length t c = memo-same (c .before .before .before .before .loop .inv .sound) (c .before .before .before .before .before .before .before .before .pre .1 .call .given .sound)
 
--- src/descent.rt:248:13
 run-body-returns : (t : ℕ) → run-body-lts.Need-returns (
   decode-reads.Asked,
   decode-reads.Learnt,
@@ -911,7 +871,6 @@ run-body-returns : (t : ℕ) → run-body-lts.Need-returns (
 ) (run-body-at t) run-body.Post run-body-Inv-loop run-body-μ-loop
 run-body-returns t c = running-done (c .before .before .before .before .before .before .before .before .pre .1) (c .before .before .before .before .loop .inv) _ (c .before .before .before .loop-test .taken) (c .before .decode .ensures) (no-symbol _ (c .match .keys2))
 
--- src/descent.rt:251:30
 run-body-enum-known-symbol : (t : ℕ) → run-body-lts.Need-enum-known-symbol (
   decode-reads.Asked,
   decode-reads.Learnt,
@@ -922,7 +881,6 @@ run-body-enum-known-symbol : (t : ℕ) → run-body-lts.Need-enum-known-symbol (
 ) (run-body-at t) run-body.Post run-body-Inv-loop run-body-μ-loop
 run-body-enum-known-symbol t c = c .match2 .keys1
 
--- src/descent.rt:252:21
 run-body-matches-requires : (t : ℕ) → run-body-lts.Need-matches-requires (
   decode-reads.Asked,
   decode-reads.Learnt,
@@ -933,7 +891,6 @@ run-body-matches-requires : (t : ℕ) → run-body-lts.Need-matches-requires (
 ) (run-body-at t) run-body.Post run-body-Inv-loop run-body-μ-loop
 run-body-matches-requires t c κs = tt
 
--- src/descent.rt:253:21
 run-body-same-length-2 : (t : ℕ) → run-body-lts.Need-same-length-2 (
   decode-reads.Asked,
   decode-reads.Learnt,
@@ -944,7 +901,6 @@ run-body-same-length-2 : (t : ℕ) → run-body-lts.Need-same-length-2 (
 ) (run-body-at t) run-body.Post run-body-Inv-loop run-body-μ-loop
 run-body-same-length-2 t c = memo-same (c .before .before .before .before .before .before .before .before .before .before .before .loop .inv .sound) (c .before .before .before .before .before .before .before .before .before .before .before .before .before .before .before .pre .1 .call .given .sound)
 
--- src/descent.rt:253:21
 run-body-returns-2 : (t : ℕ) → run-body-lts.Need-returns-2 (
   decode-reads.Asked,
   decode-reads.Learnt,
@@ -955,7 +911,6 @@ run-body-returns-2 : (t : ℕ) → run-body-lts.Need-returns-2 (
 ) (run-body-at t) run-body.Post run-body-Inv-loop run-body-μ-loop
 run-body-returns-2 t c = running-mismatch (c .before .before .before .before .before .before .before .before .before .before .before .before .before .before .before .pre .1) (c .before .before .before .before .before .before .before .before .before .before .before .loop .inv) _ (c .before .before .before .before .before .before .before .before .before .before .loop-test .taken) (sym (c .before .before .before .before .before .before .before .before .decode .ensures) ∙ c .before .before .before .before .before .before .word .given .1 ∙ ap Symbol (c .before .before .before .symbol .given .1)) (sym (c .before .matches .ensures) ∙ not-true _ (c .if1 .taken))
 
--- src/descent.rt:255:25
 run-body-add-place : (t : ℕ) → run-body-lts.Need-add-place (
   decode-reads.Asked,
   decode-reads.Learnt,
@@ -966,7 +921,6 @@ run-body-add-place : (t : ℕ) → run-body-lts.Need-add-place (
 ) (run-body-at t) run-body.Post run-body-Inv-loop run-body-μ-loop
 run-body-add-place t c = omega (arith, c .before .before .before .before .before .before .before .before .before .before .before .loop .inv .placed, c .before .before .before .before .before .before .before .before .before .before .before .before .before .before .before .pre .1 .call .given .short)
 
--- src/descent.rt:257:33
 run-body-enum-known-symbol-2 : (t : ℕ) → run-body-lts.Need-enum-known-symbol-2 (
   decode-reads.Asked,
   decode-reads.Learnt,
@@ -977,7 +931,6 @@ run-body-enum-known-symbol-2 : (t : ℕ) → run-body-lts.Need-enum-known-symbol
 ) (run-body-at t) run-body.Post run-body-Inv-loop run-body-μ-loop
 run-body-enum-known-symbol-2 t c = c .match2 .keys2
 
--- src/descent.rt:258:36
 run-body-cast-call : (t : ℕ) → run-body-lts.Need-cast-call (
   decode-reads.Asked,
   decode-reads.Learnt,
@@ -988,7 +941,6 @@ run-body-cast-call : (t : ℕ) → run-body-lts.Need-cast-call (
 ) (run-body-at t) run-body.Post run-body-Inv-loop run-body-μ-loop
 run-body-cast-call t c = omega (arith, running-small (c .before .before .before .before .before .before .before .before .before .before .before .before .before .pre .1) (c .before .before .before .before .before .before .before .before .before .loop .inv) _ (c .before .before .before .before .before .before .before .before .loop-test .taken) (sym (c .before .before .before .before .before .before .decode .ensures) ∙ c .before .before .before .before .word .given .1 ∙ ap Symbol (c .before .symbol2 .given .1)))
 
--- src/descent.rt:258:21
 run-body-call-requires : (t : ℕ) → run-body-lts.Need-call-requires (
   decode-reads.Asked,
   decode-reads.Learnt,
@@ -999,7 +951,6 @@ run-body-call-requires : (t : ℕ) → run-body-lts.Need-call-requires (
 ) (run-body-at t) run-body.Post run-body-Inv-loop run-body-μ-loop
 run-body-call-requires t c κs = (omega (arith, running-falls (c .before .before .before .before .before .before .before .before .before .before .before .before .before .before .pre .1) (c .before .before .before .before .before .before .before .before .before .before .loop .inv) _ (c .before .before .before .before .before .before .before .before .before .loop-test .taken) (sym (c .before .before .before .before .before .before .before .decode .ensures) ∙ c .before .before .before .before .before .word .given .1 ∙ ap Symbol (c .before .before .symbol2 .given .1)), c .before .before .before .before .before .before .before .before .before .before .before .before .before .before .pre .0), running-given (c .before .before .before .before .before .before .before .before .before .before .before .before .before .before .pre .1) (c .before .before .before .before .before .before .before .before .before .before .loop .inv) _ (c .before .before .before .before .before .before .before .before .before .loop-test .taken) (sym (c .before .before .before .before .before .before .before .decode .ensures) ∙ c .before .before .before .before .before .word .given .1 ∙ ap Symbol (c .before .before .symbol2 .given .1)))
 
--- src/descent.rt:259:34
 run-body-enum-known-outcome : (t : ℕ) → run-body-lts.Need-enum-known-outcome (
   decode-reads.Asked,
   decode-reads.Learnt,
@@ -1010,7 +961,6 @@ run-body-enum-known-outcome : (t : ℕ) → run-body-lts.Need-enum-known-outcome
 ) (run-body-at t) run-body.Post run-body-Inv-loop run-body-μ-loop
 run-body-enum-known-outcome t c = c .match3 .keys1
 
--- src/descent.rt:260:21
 run-body-enum-told : (t : ℕ) → run-body-lts.Need-enum-told (
   decode-reads.Asked,
   decode-reads.Learnt,
@@ -1021,7 +971,6 @@ run-body-enum-told : (t : ℕ) → run-body-lts.Need-enum-told (
 ) (run-body-at t) run-body.Post run-body-Inv-loop run-body-μ-loop
 run-body-enum-told t c = c .match3 .keys2
 
--- src/descent.rt:260:21
 run-body-same-length-3 : (t : ℕ) → run-body-lts.Need-same-length-3 (
   decode-reads.Asked,
   decode-reads.Learnt,
@@ -1032,7 +981,6 @@ run-body-same-length-3 : (t : ℕ) → run-body-lts.Need-same-length-3 (
 ) (run-body-at t) run-body.Post run-body-Inv-loop run-body-μ-loop
 run-body-same-length-3 t c = memo-same (c .before .before .before .before .call .ensures .sound) (c .before .before .before .before .before .before .before .before .before .before .before .before .before .before .before .before .before .before .before .pre .1 .call .given .sound)
 
--- src/descent.rt:260:21
 run-body-returns-3 : (t : ℕ) → run-body-lts.Need-returns-3 (
   decode-reads.Asked,
   decode-reads.Learnt,
@@ -1043,7 +991,6 @@ run-body-returns-3 : (t : ℕ) → run-body-lts.Need-returns-3 (
 ) (run-body-at t) run-body.Post run-body-Inv-loop run-body-μ-loop
 run-body-returns-3 t c = running-failed (c .before .before .before .before .before .before .before .before .before .before .before .before .before .before .before .before .before .before .before .pre .1) (c .before .before .before .before .before .before .before .before .before .before .before .before .before .before .before .loop .inv) _ (c .before .before .before .before .before .before .before .before .before .before .before .before .before .before .loop-test .taken) (sym (c .before .before .before .before .before .before .before .before .before .before .before .before .decode .ensures) ∙ c .before .before .before .before .before .before .before .before .before .before .word .given .1 ∙ ap Symbol (c .before .before .before .before .before .before .before .symbol2 .given .1)) (c .before .before .before .before .call .ensures) (c .enum-told .given .1)
 
--- src/descent.rt:265:14
 run-body-add-at : (t : ℕ) → run-body-lts.Need-add-at (
   decode-reads.Asked,
   decode-reads.Learnt,
@@ -1054,7 +1001,6 @@ run-body-add-at : (t : ℕ) → run-body-lts.Need-add-at (
 ) (run-body-at t) run-body.Post run-body-Inv-loop run-body-μ-loop
 run-body-add-at t c = omega arith
 
--- src/descent.rt:245:5
 run-body-loop-less : (t : ℕ) → run-body-lts.Need-loop-less (
   decode-reads.Asked,
   decode-reads.Learnt,
@@ -1065,7 +1011,6 @@ run-body-loop-less : (t : ℕ) → run-body-lts.Need-loop-less (
 ) (run-body-at t) run-body.Post run-body-Inv-loop run-body-μ-loop
 run-body-loop-less t c = omega arith
 
--- src/descent.rt:245:5
 run-body-loop-again : (t : ℕ) → run-body-lts.Need-loop-again (
   decode-reads.Asked,
   decode-reads.Learnt,
@@ -1086,7 +1031,6 @@ run-body-loop-again t c =
     (λ w. running-as (w .10) (w .11) (running-call given run _ low (word ∙ ap Symbol (w .1 .given .1)) (w .4 .ensures) _ (w .8 .given .1)))
     (c .match2 .came)
 
--- src/descent.rt:230:1
 run-body-same-length-4 : (t : ℕ) → run-body-lts.Need-same-length-4 (
   decode-reads.Asked,
   decode-reads.Learnt,
@@ -1097,7 +1041,6 @@ run-body-same-length-4 : (t : ℕ) → run-body-lts.Need-same-length-4 (
 ) (run-body-at t) run-body.Post run-body-Inv-loop run-body-μ-loop
 run-body-same-length-4 t c = memo-same (c .before .loop .inv .sound) (c .before .before .before .before .before .pre .1 .call .given .sound)
 
--- src/descent.rt:230:1
 run-body-returns-4 : (t : ℕ) → run-body-lts.Need-returns-4 (
   decode-reads.Asked,
   decode-reads.Learnt,

@@ -1,0 +1,158 @@
+-- From a descent that has ended to its answer and to what the memo table then holds. Assumes nothing.
+use mathlib.Core.Path.{_≡_, refl, sym, ap, subst, _∙_}
+use mathlib.Core.Bool.{Bool, true, false}
+use mathlib.Core.List.{List, [], _∷_, map}
+use mathlib.Core.Logic.{_↔_}
+use Prim.Native.Nat.{ℕ, zero, suc, _+_, _*_, _/_, _%_, _≤_, _<_}
+use native.Mathlib.Nat.{mod-lt, div-add-mod', div-lt-iff-lt-mul}
+use native.Mathlib.Numerals.{add-one}
+use native.Mathlib.Omega.{arith}
+use lib.Dec.{T, ltb, eqb}
+use lib.ListN.{length, getD, drop, replicate, length-map, length-replicate, getD-replicate, List·getD-map, drop-of-length-le}
+use lib.Seq.{drop-cons, ext-getD}
+use borrow.Author.Tests.{lt-ltb, le-ltb}
+use Rattle.answer.specs.declared.Answer.{Answer}
+use Rattle.answer.specs.declared.Answer.the-variants.{Rejected, Accepted}
+use Rattle.answer.specs.declared.Calls.{Calls}
+use Rattle.grammar.specs.Choice.{choose}
+use Rattle.grammar.specs.Syntax.{Grammar, WellScoped}
+use Rattle.grammar.specs.Encoding.{grammarOf}
+use Rattle.grammar.specs.Starts.{ruleStarts}
+use Rattle.grammar.specs.WellRead.{WellRead}
+use Rattle.grammar.specs.declared.reading.Sizes.{Sizes}
+use Rattle.grammar.proofs.WellRead.{well-read}
+use Rattle.semantics.specs.FiniteSets.{member}
+use Rattle.semantics.specs.Valuations.{pairs}
+use Rattle.semantics.specs.LeftRecursion.{NoLeftRecursion}
+use Rattle.semantics.specs.Families.{OwnEntries}
+use Rattle.semantics.specs.Claims.{tableOf}
+use Rattle.semantics.specs.Descent.{endsAt, descend, accepts}
+use Rattle.semantics.specs.ComesTo.{Call, callAt, InRange}
+use Rattle.semantics.specs.Calls.{Called, Listing, sameCall, allCalls, calls}
+use Rattle.semantics.specs.Memo.{Fits, encode, entry, indexOf, blank, uncalledCode, Recorded}
+use Rattle.semantics.specs.MemoDescent.{memoized, memoCall}
+use Rattle.semantics.proofs.FiniteSets.{member-mem, mem-member}
+use Rattle.semantics.proofs.Range.{calls-equality, all-length, all-ordered, index-range}
+use Rattle.semantics.proofs.Memo.{memo-recorded-within}
+use Rattle.semantics.proofs.Theorems.{theorems}
+use Rattle.recognizer.specs.declared.descent.Outcome as code
+use Rattle.recognizer.specs.declared.judging.Unknown.the-variants.{Absent, At}
+use Rattle.recognizer.specs.Rule.{meant}
+use Rattle.recognizer.specs.Descent.{MemoSound, CallGiven, CallDone}
+use Rattle.recognizer.specs.Tally.{tallyOf, recordedCalls}
+use Rattle.recognizer.specs.Memory.{memoWord, memoWords}
+use Rattle.recognizer.specs.Answers.{unknownFrom, callsOf, verdictOf}
+use Rattle.recognizer.specs.Judging.{DescendGiven, Descended}
+use Rattle.recognizer.proofs.Running.{level}
+use Rattle.recognizer.proofs.Storing.{getD-any}
+use Rattle.recognizer.proofs.Tallying.{tally-recorded}
+
+-- the search for an unknown token, by the token at an index
+module _ (n : ℕ) (input : List ℕ) (at : ℕ) where
+  unknown-at : at < length input → unknownFrom n at (drop at input) ≡ choose (ltb (getD input at 0) n) (unknownFrom n (suc at) (drop (suc at) input)) (At at)
+  unfolding unknownFrom
+  unknown-at h = rw (drop-cons input at 0 h)
+
+  pub unknown-next : at < length input → getD input at 0 < n → unknownFrom n (at + 1) (drop (at + 1) input) ≡ unknownFrom n at (drop at input)
+  unknown-next h l = sym (unknown-at h ∙ rw (lt-ltb (getD input at 0) n l, add-one at))
+
+  pub unknown-here : at < length input → n ≤ getD input at 0 → At at ≡ unknownFrom n at (drop at input)
+  unknown-here h l = sym (unknown-at h ∙ rw (le-ltb (getD input at 0) n l))
+
+  pub unknown-none : length input ≤ at → Absent ≡ unknownFrom n at (drop at input)
+  unfolding unknownFrom
+  unknown-none h = rw (drop-of-length-le input h)
+
+-- a memo table in which no call is recorded is sound
+pub blank-sound : (words input : List ℕ) → MemoSound words input (blank (grammarOf words) input)
+blank-sound words input = record {
+  size = length-replicate (pairs (grammarOf words) input) uncalledCode;
+  right = λ x h n. absurd (n (getD-replicate (pairs (grammarOf words) input) (indexOf input x) uncalledCode uncalledCode (index-range (grammarOf words) input x h)));
+}
+
+-- the entries of the calls in order are what the memo table records
+module _ (G : Grammar) (w : List ℕ) (scoped : WellScoped G) (free : NoLeftRecursion G) (nonempty : 0 < G .nonterminals) {m : List ℕ} (r : Recorded G (tableOf G 1) 1 w m) where
+  listing : Listing G (tableOf G 1) 1 w (calls G (tableOf G 1) 1 w)
+  listing = theorems .calls-counted G scoped free nonempty (tableOf G 1) (theorems .own-entries G 1) 1 w .listing
+
+  word-is : (x : Call) → InRange G w x → entry w m x ≡ memoWord G w x
+  unfolding memoWord
+  word-is x h = go (member sameCall (calls G (tableOf G 1) 1 w) x) refl
+    where
+      go : (b : Bool) → member sameCall (calls G (tableOf G 1) 1 w) x ≡ b
+          → entry w m x ≡ choose b (encode (descend G (tableOf G 1) 1 w (x .nonterminal) (x .place))) uncalledCode
+      go true e = r .called x (listing .sound x (member-mem sameCall calls-equality (calls G (tableOf G 1) 1 w) x (rw e tt)))
+      go false e = r .uncalled x h (λ c. rw e at (mem-member sameCall calls-equality (calls G (tableOf G 1) 1 w) x (listing .full x c)))
+
+  pub words-recorded : m ≡ memoWords G w
+  unfolding memoWords
+  words-recorded =
+      ext-getD uncalledCode m (map (memoWord G w) (allCalls G w)) (r .size ∙ sym (length-map (allCalls G w) (memoWord G w) ∙ all-length G w)) same
+    where
+      same : (i : ℕ) → i < length m → getD m i uncalledCode ≡ getD (map (memoWord G w) (allCalls G w)) i uncalledCode
+      same i h =
+          let n = suc (length w) in
+          let x = callAt (i / n) (i % n) in
+          let z : 0 < n = omega arith in
+          let d : indexOf w x ≡ i = div-add-mod' i n in
+          let low : i < G .nonterminals * n = omega (arith, r .size) in
+          let inside : InRange G w x = (div-lt-iff-lt-mul z .1 low, omega (arith, mod-lt i z)) in
+          let here : getD (allCalls G w) i x ≡ x = ap (λ j. getD (allCalls G w) j x) (sym d) ∙ all-ordered G w x x inside in
+          let k : i < length (map (memoWord G w) (allCalls G w)) = omega (arith, length-map (allCalls G w) (memoWord G w), all-length G w, r .size) in
+          ap (λ j. getD m j uncalledCode) (sym d) ∙ word-is x inside ∙ ap (memoWord G w) (sym here) ∙ sym (List·getD-map (memoWord G w) (allCalls G w) i x)
+          ∙ getD-any (map (memoWord G w) (allCalls G w)) i (memoWord G w x) uncalledCode k
+
+-- the start's call has been made in a blank memo table
+module _ {words : List ℕ} {z : Sizes} {entries input memo : List ℕ} (g : DescendGiven words z entries input memo) where
+  r : WellRead words z
+  r = well-read words z (g .read)
+
+  abbrev G : Grammar
+  G = grammarOf words
+
+  some-nonterminal : 0 < G .nonterminals
+  some-nonterminal = omega (arith, r .nonterminals, r .someNonterminal)
+
+  pub start-given : {starts blanked : List ℕ} → starts ≡ ruleStarts words → blanked ≡ replicate (length memo) uncalledCode
+      → CallGiven words starts entries input blanked 0 0
+  start-given s b = record {
+    given = record {
+      sizes = z;
+      read = g .read;
+      free = g .free;
+      begins = s;
+      entries = g .table;
+      tokens = g .tokens;
+      short = g .short;
+      sound = rw (b, g .size) (blank-sound words input);
+    };
+    named = some-nonterminal;
+    placed = omega arith;
+  }
+
+  module _ {o : code.Outcome} {blanked memo′ : List ℕ} (b : blanked ≡ replicate (length memo) uncalledCode) (d : CallDone words input blanked 0 0 o memo′) where
+    fits : Fits input
+    fits = omega (arith, g .short)
+
+    done : (meant o ≡ descend G (tableOf G 1) 1 input 0 0) × Recorded G (tableOf G 1) 1 input memo′
+    done =
+        let n = suc (level words input 0 0) in
+        let l : level words input 0 0 < n = omega arith in
+        let m : memoCall G (tableOf G 1) 1 input n 0 0 (blank G input) ≡ memoized (meant o) memo′ =
+        ap (λ x. memoCall G (tableOf G 1) 1 input n 0 0 x) (sym (b ∙ ap (λ k. replicate k uncalledCode) (g .size))) ∙ d .model n l in
+        let k = memo-recorded-within G (tableOf G 1) 1 input (r .formed .scoped) (g .free) (theorems .own-entries G 1) fits some-nonterminal n l in
+        (sym (ap (λ x. x .outcome) m) ∙ k .0, subst (λ x. Recorded G (tableOf G 1) 1 input x) (ap (λ x. x .memo) m) (k .1))
+
+    pub memo-long : length memo′ ≡ z .nonterminals * (length input + 1)
+    memo-long = d .sound .size ∙ rw (r .nonterminals, add-one (length input))
+
+    pub descended : {c : Calls} {t : Bool} {a : Answer} → c ≡ tallyOf (recordedCalls memo′ (z .nonterminals) (length input)) → t ≡ endsAt (meant o) (length input)
+        → a ≡ choose t (Accepted c) (Rejected c) → Descended words input a memo′
+    unfolding verdictOf accepts
+    descended {c} {t} {a} tallied told e =
+        let k = done in
+        let counted : c ≡ callsOf G input = tally-recorded (k .1) (r .nonterminals) tallied in
+        record {
+          answer = e ∙ rw (told, k .0, counted);
+          entries = words-recorded G input (r .formed .scoped) (g .free) some-nonterminal (k .1);
+        }
