@@ -1,32 +1,28 @@
 -- The promises of the public calls, on one page: what each answers, what lent memory holds, and what that means.
 use mathlib.Core.Path.{_≡_}
-use mathlib.Core.Bool.{Bool, true, false}
+use mathlib.Core.Bool.{Bool}
 use mathlib.Core.List.{List, []}
-use mathlib.Core.Logic.{_↔_, _⊎_}
+use mathlib.Core.Logic.{_↔_}
 use mathlib.Core.Option.{none, some}
 use Prim.Native.Nat.{ℕ, _≤_}
 use lib.Dec.{T}
 use lib.ListN.{length}
 use Rattle.answer.specs.declared.Answer.{Answer}
-use Rattle.answer.specs.declared.Answer.the-variants.{Passed, Accepted, Rejected}
-use Rattle.answer.specs.declared.Calls.{Calls}
-use Rattle.grammar.specs.Limits.{tableWords as memoryWords, memoEntries, maxTokens}
+use Rattle.answer.specs.declared.Answer.the-variants.{Passed}
+use Rattle.grammar.specs.Limits.{tableWords as memoryWords}
 use Rattle.grammar.specs.Syntax.{Grammar}
 use Rattle.grammar.specs.Encoding.{grammarOf}
 use Rattle.grammar.specs.Reading.{reading}
 use Rattle.grammar.specs.WellRead.{WellRead}
 use Rattle.grammar.specs.declared.reading.Sizes.{Sizes}
 use Rattle.grammar.specs.declared.reading.Outcome.the-variants.{Read}
-use Rattle.semantics.specs.Valuations.{solution}
 use Rattle.semantics.specs.LeftRecursion.{NoLeftRecursion}
-use Rattle.semantics.specs.Strings.{Over}
 use Rattle.semantics.specs.Families.{FirstClosed, FollowClosed, Claims, Clash}
 use Rattle.semantics.specs.FirstFollow.{First, Follow}
 use Rattle.semantics.specs.Claims.{clashes, tableOf}
-use Rattle.semantics.specs.Theorems.{OneSolution, CallsCounted}
 use Rattle.table.specs.Layout.{tableWords}
-use Rattle.recognizer.specs.Memory.{lentBack, memoWords}
-use Rattle.recognizer.specs.Answers.{checkFault, judgeFault, refusedOr, callsOf, verdictOf}
+use Rattle.recognizer.specs.Memory.{lentBack}
+use Rattle.recognizer.specs.Answers.{checkFault, refusedOr}
 
 -- a grammar that passes (document 01: a passed card): read without a fault, not left-recursive, and no entry is claimed by two rules
 pub record PassedGrammar (words : List ℕ) : Type 0 where
@@ -53,26 +49,3 @@ pub record Checks (words before : List ℕ) (r : Answer) (after : List ℕ) : Ty
   pub passed : memoryWords ≤ length before → (r ≡ Passed) ↔ PassedGrammar words
   -- a grammar that is read is of the sizes told, and its sets and entries are the least ones
   pub least : (z : Sizes) → reading words ≡ Read z → WellRead words z × LeastFamilies (grammarOf words)
-
--- property 3: on a passed grammar and an input of its terminals exactly one valuation solves the grammar, the answer is acceptance exactly
--- when that valuation gives the whole input to the start, and its numbers are those of the calls of the descent
-pub record Recognizes (words input : List ℕ) (r : Answer) : Type 0 where
-  pub one-solution : OneSolution (grammarOf words) input
-  pub accepted : ((c : Calls) × (r ≡ Accepted c)) ↔ (solution (grammarOf words) input 0 0 (length input) ≡ true)
-  pub rejected : ((c : Calls) × (r ≡ Rejected c)) ↔ (solution (grammarOf words) input 0 0 (length input) ≡ false)
-  pub calls : CallsCounted (grammarOf words) (tableOf (grammarOf words) 1) 1 input
-  pub count : (c : Calls) → (r ≡ Accepted c) ⊎ (r ≡ Rejected c) → c ≡ callsOf (grammarOf words) input
-
--- an input of at most 500 tokens, all of them terminals of the grammar
-pub record Readable (words input : List ℕ) : Type 0 where
-  pub short : length input ≤ maxTokens
-  pub tokens : Over (grammarOf words .terminals) input
-
--- judging an input with a lent table and memo table: properties 1 and 3
-pub record Judges (words input table memo : List ℕ) (r : Answer) (table′ memo′ : List ℕ) : Type 0 where
-  -- the first refusal that holds decides, and a refusal changes nothing; else both memories hold what is defined, and later words stay
-  pub answer : r ≡ refusedOr (judgeFault (length table) (length memo) words input) (verdictOf (grammarOf words) input)
-  pub lent-table : table′ ≡ lentBack (judgeFault (length table) (length memo) words input) (tableWords (grammarOf words)) table
-  pub lent-memo : memo′ ≡ lentBack (judgeFault (length table) (length memo) words input) (memoWords (grammarOf words) input) memo
-  -- where the memories are long enough every passed grammar and readable input is judged, by its one meaning
-  pub recognizes : memoryWords ≤ length table → memoEntries ≤ length memo → PassedGrammar words → Readable words input → Recognizes words input r

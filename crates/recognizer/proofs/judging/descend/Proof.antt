@@ -1,3 +1,5 @@
+-- The start is called in a blank memo table, and the calls are read off it afterwards.
+use Rattle.recognizer.proofs.Deciding.{start-given, memo-long, descended}
 use borrow.Author.Needs.{needs}
 use Rattle.recognizer.proofs.judging.descend.Statement.{statement}
 use Rattle.recognizer.proofs.judging.descend.Tie as tie
@@ -19,7 +21,7 @@ rule-starts-requires c κs = search needs
 
 -- src/judging.rt:46:9
 call-requires : tie.Need-call-requires
-call-requires c κs = ?
+call-requires c κs = start-given (c .before .before .before .before .before .before .before .before .before .before .pre) (c .before .before .rule-starts .ensures) (c .before .before .before .before .before .clear .ensures)
 
 -- src/judging.rt:47:29
 cast-tally : tie.Need-cast-tally
@@ -27,7 +29,7 @@ cast-tally c = search needs
 
 -- src/judging.rt:47:9
 tally-requires : tie.Need-tally-requires
-tally-requires c κs = ?
+tally-requires c κs = memo-long (c .before .before .before .before .before .before .before .before .before .before .before .before .before .before .before .pre) (c .before .before .before .before .before .before .before .before .before .before .clear .ensures) (c .before .before .before .before .call .ensures)
 
 -- src/judging.rt:48:8
 ends-at-requires : tie.Need-ends-at-requires
@@ -39,7 +41,7 @@ same-length c = search needs
 
 -- src/judging.rt:34:1
 returns : tie.Need-returns
-returns c = ?
+returns c = descended (c .before .before .before .before .before .before .before .before .before .before .before .before .before .before .before .before .before .before .pre) (c .before .before .before .before .before .before .before .before .before .before .before .before .before .clear .ensures) (c .before .before .before .before .before .before .before .call .ensures) (c .before .before .tally .ensures) (c .before .ends-at .ensures) (rw (c .if1 .taken))
 
 -- src/judging.rt:34:1
 same-length-2 : tie.Need-same-length-2
@@ -47,7 +49,7 @@ same-length-2 c = search needs
 
 -- src/judging.rt:34:1
 returns-2 : tie.Need-returns-2
-returns-2 c = ?
+returns-2 c = descended (c .before .before .before .before .before .before .before .before .before .before .before .before .before .before .before .before .before .before .pre) (c .before .before .before .before .before .before .before .before .before .before .before .before .before .clear .ensures) (c .before .before .before .before .before .before .before .call .ensures) (c .before .before .tally .ensures) (c .before .ends-at .ensures) (rw (c .if1 .left))
 
 pub descend-spec : {M : Type 1} → statement M
 descend-spec =

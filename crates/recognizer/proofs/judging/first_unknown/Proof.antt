@@ -1,45 +1,52 @@
+-- The loop keeps what the search finds from the index on.
+use mathlib.Core.Path.{_≡_, refl, _∙_}
+use Prim.Native.Nat.{_-_}
+use native.Mathlib.Omega.{arith}
+use lib.ListN.{length, drop}
+use Rattle.recognizer.specs.Answers.{unknownFrom}
+use Rattle.recognizer.proofs.Deciding.{unknown-next, unknown-here, unknown-none}
 use Rattle.recognizer.proofs.judging.first_unknown.Statement.{statement}
 use Rattle.recognizer.proofs.judging.first_unknown.Tie as tie
 use Rattle.recognizer.proofs.judging.first_unknown.Reads as reads
 use Rattle.recognizer.proofs.judging.first_unknown.Lts as lts
 
 abbrev Inv-loop : tie.InvT-loop
-Inv-loop input terminals at₀ at = ?
+Inv-loop input terminals at₀ at = unknownFrom terminals at (drop at input) ≡ unknownFrom terminals 0 input
 
 abbrev μ-loop : tie.MeasureT-loop
-μ-loop input terminals at₀ at = ?
+μ-loop input terminals at₀ at = length input - at
 
 -- src/judging.rt:24:5
 loop-holds : tie.Need-loop-holds Inv-loop μ-loop
-loop-holds c = ?
+loop-holds c = refl
 
 -- src/judging.rt:25:25
 shared-slice-read-if1 : tie.Need-shared-slice-read-if1 Inv-loop μ-loop
-shared-slice-read-if1 c = ?
+shared-slice-read-if1 c = omega arith
 
 -- src/judging.rt:25:25
 cast-if1 : tie.Need-cast-if1 Inv-loop μ-loop
-cast-if1 c = ?
+cast-if1 c = omega (arith, c .shared-slice-known .given (c .before .before .loop .at))
 
 -- src/judging.rt:26:13
 returns : tie.Need-returns Inv-loop μ-loop
-returns c = ?
+returns c = unknown-here (c .before .before .before .before .args .terminals) (c .before .before .before .before .args .input .now) (c .before .before .before .loop .at) (c .before .before .loop-test .taken) (c .if1 .taken) ∙ c .before .before .before .loop .inv
 
 -- src/judging.rt:28:14
 add-at : tie.Need-add-at Inv-loop μ-loop
-add-at c = ?
+add-at c = omega arith
 
 -- src/judging.rt:24:5
 loop-less : tie.Need-loop-less Inv-loop μ-loop
-loop-less c = ?
+loop-less c = omega arith
 
 -- src/judging.rt:24:5
 loop-again : tie.Need-loop-again Inv-loop μ-loop
-loop-again c = ?
+loop-again c = unknown-next (c .before .before .before .before .args .terminals) (c .before .before .before .before .args .input .now) (c .before .before .before .loop .at) (c .before .before .loop-test .taken) (c .if1 .left) ∙ c .before .before .before .loop .inv
 
 -- src/judging.rt:20:1
 returns-2 : tie.Need-returns-2 Inv-loop μ-loop
-returns-2 c = ?
+returns-2 c = unknown-none (c .before .before .args .terminals) (c .before .before .args .input .now) (c .before .loop .at) (c .loop-test .left) ∙ c .before .loop .inv
 
 pub first-unknown-spec : {M : Type 1} → statement M
 first-unknown-spec =
