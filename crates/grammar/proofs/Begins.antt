@@ -30,33 +30,37 @@ rules-on Invalid p = refl
 pub record Begins (at i : ℕ) (ws : List ℕ) (r : Option Rule) : Type 0 where
   pub low : at ≤ i
   pub high : i < at + length ws
+  pub word : beginsRule (decoded (getD ws (i - at) 0)) ≡ true
   pub rule : r ≡ some (firstRule (drop (i - at) ws))
 
-begins-here : (at w : ℕ) (ws : List ℕ) (r : Option Rule) → r ≡ some (ruleOf (headOf (decoded w)) (parse ws)) → Begins at at (w ∷ ws) r
+begins-here : (at w : ℕ) (ws : List ℕ) (r : Option Rule) → beginsRule (decoded w) ≡ true → r ≡ some (ruleOf (headOf (decoded w)) (parse ws)) → Begins at at (w ∷ ws) r
 unfolding firstRule
-begins-here at w ws r e = record { low = omega arith; high = omega arith; rule = let z : at - at ≡ 0 = omega arith in rw z e }
+begins-here at w ws r b e =
+    let z : at - at ≡ 0 = omega arith in
+    record { low = omega arith; high = omega arith; word = rw z b; rule = rw z e }
 
 begins-later : (at i w : ℕ) (ws : List ℕ) (r : Option Rule) → Begins (suc at) i ws r → Begins at i (w ∷ ws) r
 begins-later at i w ws r b = record {
   low = omega (arith, b .low);
   high = omega (arith, b .high);
+  word = let z : i - at ≡ suc (i - suc at) = omega (arith, b .low) in rw z (b .word);
   rule = let z : i - at ≡ suc (i - suc at) = omega (arith, b .low) in rw z (b .rule);
 }
 
 pub begins : (at : ℕ) (ws : List ℕ) (q : ℕ) → q < length (starts at ws) → Begins at (getD (starts at ws) q 0) ws (getElem? (parse ws .rules) q)
 unfolding starts parse
 begins at [] q h = absurd (omega arith)
-begins at (w ∷ ws) q h = rw (rules-on (decoded w) (parse ws)) (go (beginsRule (decoded w)) q h (begins (suc at) ws))
+begins at (w ∷ ws) q h = rw (rules-on (decoded w) (parse ws)) (go (beginsRule (decoded w)) refl q h (begins (suc at) ws))
   where
     later : List Rule
     later = parse ws .rules
 
-    go : (b : Bool) (q : ℕ) → q < length (choose b (at ∷ starts (suc at) ws) (starts (suc at) ws))
+    go : (b : Bool) → beginsRule (decoded w) ≡ b → (q : ℕ) → q < length (choose b (at ∷ starts (suc at) ws) (starts (suc at) ws))
         → ((q : ℕ) → q < length (starts (suc at) ws) → Begins (suc at) (getD (starts (suc at) ws) q 0) ws (getElem? later q))
         → Begins at (getD (choose b (at ∷ starts (suc at) ws) (starts (suc at) ws)) q 0) (w ∷ ws) (getElem? (choose b (ruleOf (headOf (decoded w)) (parse ws) ∷ later) later) q)
-    go true zero h f = begins-here at w ws _ refl
-    go true (suc q) h f = begins-later at _ w ws _ (f q (omega arith))
-    go false q h f = begins-later at _ w ws _ (f q h)
+    go true b zero h f = begins-here at w ws _ b refl
+    go true b (suc q) h f = begins-later at _ w ws _ (f q (omega arith))
+    go false b q h f = begins-later at _ w ws _ (f q h)
 
 pub as-many : (at : ℕ) (ws : List ℕ) → length (starts at ws) ≡ length (parse ws .rules)
 unfolding starts parse

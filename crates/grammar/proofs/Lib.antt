@@ -1,7 +1,9 @@
 pub mod Heading
 pub mod Scanning
 pub mod WellFormed
+pub mod Suffixes
 pub mod Begins
 pub mod WellRead
 pub mod Examples
 pub mod Starts
+pub mod Places

@@ -16,7 +16,7 @@ use Rattle.grammar.specs.Words.{decoded}
 use Rattle.grammar.specs.Reading.{allows, inRange, beginsRule, after, progress, counted, stepped, onStep, finished, scan}
 
 -- the row from an index on: its first word, and the rest
-scan-here : (words : List ℕ) (p : Progress) (at : ℕ) → at < length words
+pub scan-here : (words : List ℕ) (p : Progress) (at : ℕ) → at < length words
     → scan p at (drop at words) ≡ onStep (stepped (decoded (getD words at 0)) p at) (λ q. scan q (suc at) (drop (suc at) words))
 unfolding scan
 scan-here words p at h = rw (drop-cons words at 0 h)

@@ -29,7 +29,7 @@ use Rattle.grammar.specs.Words.{decoded}
 use Rattle.grammar.specs.Encoding.{Parsed, parsed, ruleOf, onWord, parse}
 use Rattle.grammar.specs.Reading.{row, allows, inRange, symbolInRange, beginsRule, after, progress, oneMore, counted, stepped, onStep, finished, scan}
 
-abbrev one : Bool → ℕ
+abbrev pub one : Bool → ℕ
 one true = 1
 one false = 0
 
@@ -62,10 +62,11 @@ pub record Fits (s : State) (z : Sizes) (p : Parsed) : Type 0 where
   pub rules : (r : Rule) → List·Memᴰ r (p .rules) → RuleFits z r
   pub shape : Shape s p
 
-none-in : {A : Type 0} (P : A → Type 0) (x : A) → List·Memᴰ x [] → P x
+-- what holds of every member, of no list and of one more
+pub none-in : {A : Type 0} (P : A → Type 0) (x : A) → List·Memᴰ x [] → P x
 none-in P x m = absurd (List·Memᴰ·not-nil m)
 
-more-in : {A : Type 0} (P : A → Type 0) (y : A) (l : List A) → P y → ((x : A) → List·Memᴰ x l → P x) → (x : A) → List·Memᴰ x (y ∷ l) → P x
+pub more-in : {A : Type 0} (P : A → Type 0) (y : A) (l : List A) → P y → ((x : A) → List·Memᴰ x l → P x) → (x : A) → List·Memᴰ x (y ∷ l) → P x
 more-in P y l h f x m = elim (List·Memᴰ·cases-cons m) [ inl e ↦ rw e h | inr n ↦ f x n ]
 
 empty : Empty (parsed [] [] [] [])
@@ -150,14 +151,14 @@ fits-word (Heading n t) s z p a i h = absurd (false≢true a)
 fits-word Invalid s z p a i h = absurd (false≢true a)
 
 -- what a word that stops no reading has passed
-record Passed (w : Word) (p q : Progress) : Type 0 where
-  allowed : allows w (p .state) ≡ true
-  ranged : inRange w (p .sizes) ≡ true
-  state : q .state ≡ after w (p .state)
-  nonterminals : q .sizes .nonterminals ≡ p .sizes .nonterminals
-  terminals : q .sizes .terminals ≡ p .sizes .terminals
-  rules : q .sizes .rules ≡ p .sizes .rules + one (beginsRule w)
-  room : p .sizes .rules ≤ maxRules → q .sizes .rules ≤ maxRules
+pub record Passed (w : Word) (p q : Progress) : Type 0 where
+  pub allowed : allows w (p .state) ≡ true
+  pub ranged : inRange w (p .sizes) ≡ true
+  pub state : q .state ≡ after w (p .state)
+  pub nonterminals : q .sizes .nonterminals ≡ p .sizes .nonterminals
+  pub terminals : q .sizes .terminals ≡ p .sizes .terminals
+  pub rules : q .sizes .rules ≡ p .sizes .rules + one (beginsRule w)
+  pub room : p .sizes .rules ≤ maxRules → q .sizes .rules ≤ maxRules
 
 go-same : (p q : Progress) → Go p ≡ Go q → q ≡ p
 go-same p q e = cc
@@ -165,7 +166,7 @@ go-same p q e = cc
 never : (x : Error) (q : Progress) → Stop x ≡ Go q → ⊥
 never x q e = let n : _≡_ {A = ℕ} 0 1 = cc in omega arith
 
-passed : (w : Word) (p q : Progress) (at : ℕ) → stepped w p at ≡ Go q → Passed w p q
+pub passed : (w : Word) (p q : Progress) (at : ℕ) → stepped w p at ≡ Go q → Passed w p q
 unfolding stepped counted
 passed w p q at e = go (allows w (p .state)) refl (inRange w (p .sizes)) refl (beginsRule w) refl (leb maxRules (p .sizes .rules)) refl e
   where
@@ -201,7 +202,7 @@ passed w p q at e = go (allows w (p .state)) refl (inRange w (p .sizes)) refl (b
         })
 
 -- a reading that goes on behind a word
-onward : (r : Step) (f : Progress → Outcome) (z : Sizes) → onStep r f ≡ Read z → (q : Progress) × (r ≡ Go q) × (f q ≡ Read z)
+pub onward : (r : Step) (f : Progress → Outcome) (z : Sizes) → onStep r f ≡ Read z → (q : Progress) × (r ≡ Go q) × (f q ≡ Read z)
 unfolding onStep
 onward (Go q) f z e = (q, refl, e)
 onward (Stop x) f z e = let n : _≡_ {A = ℕ} 0 1 = cc in absurd (omega arith)
@@ -224,7 +225,7 @@ rules-more End p = omega arith
 rules-more (Heading n t) p = omega arith
 rules-more Invalid p = omega arith
 
-in-range-same : (w : Word) (y z : Sizes) → z .nonterminals ≡ y .nonterminals → z .terminals ≡ y .terminals → inRange w y ≡ inRange w z
+pub in-range-same : (w : Word) (y z : Sizes) → z .nonterminals ≡ y .nonterminals → z .terminals ≡ y .terminals → inRange w y ≡ inRange w z
 in-range-same (RuleWord A) y z n t = rw n
 in-range-same Positive y z n t = refl
 in-range-same Negative y z n t = refl

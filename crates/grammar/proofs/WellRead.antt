@@ -22,20 +22,20 @@ use Rattle.grammar.specs.Words.{decoded}
 use Rattle.grammar.specs.Encoding.{declaredBy, parse, grammarOf}
 use Rattle.grammar.specs.Reading.{beginsRule, fresh, scan, within, headed, opened, reading}
 use Rattle.grammar.specs.Starts.{starts, ruleStarts}
-use Rattle.grammar.specs.WellRead.{firstRule, WellRead}
+use Rattle.grammar.specs.WellRead.{firstRule, Begun, WellRead}
 use Rattle.grammar.proofs.WellFormed.{faulty, Reads, reads}
-use Rattle.grammar.proofs.Begins.{begins, as-many}
+use Rattle.grammar.proofs.Begins.{Begins, begins, as-many}
 
 -- a choice that is read was taken on its good side
-chosen : (b : Bool) (o : Outcome) (z : Sizes) → choose b o (Faulty HeadingFault) ≡ Read z → (b ≡ true) × (o ≡ Read z)
+pub chosen : (b : Bool) (o : Outcome) (z : Sizes) → choose b o (Faulty HeadingFault) ≡ Read z → (b ≡ true) × (o ≡ Read z)
 chosen true o z e = (refl, e)
 chosen false o z e = absurd (faulty HeadingFault z e)
 
-refused : (b : Bool) (o : Outcome) (z : Sizes) → choose b (Faulty Length) o ≡ Read z → (b ≡ false) × (o ≡ Read z)
+pub refused : (b : Bool) (o : Outcome) (z : Sizes) → choose b (Faulty Length) o ≡ Read z → (b ≡ false) × (o ≡ Read z)
 refused true o z e = absurd (faulty Length z e)
 refused false o z e = (refl, e)
 
-both : (a b : Bool) → (a && b) ≡ true → (a ≡ true) × (b ≡ true)
+pub both : (a b : Bool) → (a && b) ≡ true → (a ≡ true) × (b ≡ true)
 both true b e = (refl, e)
 both false b e = absurd (false≢true e)
 
@@ -43,7 +43,7 @@ pub record Within (n limit : ℕ) : Type 0 where
   pub some : 0 < n
   pub few : n ≤ limit
 
-within-limits : (n limit : ℕ) → within n limit ≡ true → Within n limit
+pub within-limits : (n limit : ℕ) → within n limit ≡ true → Within n limit
 unfolding within
 within-limits n limit e = let h = both (ltb 0 n) (leb n limit) e in record { some = ltb-true 0 n (h .0); few = leb-true n limit (h .1) }
 
@@ -75,15 +75,32 @@ module _ (w : ℕ) (ws : List ℕ) (z : Sizes) (short : length (w ∷ ws) ≤ ma
   few : z .rules ≤ maxRules
   few = r .room (omega arith)
 
-  begin : (q : ℕ) → q < z .rules → getElem? (parse ws .rules) q ≡ some (firstRule (drop (getD (ruleStarts (w ∷ ws)) q 0) (w ∷ ws)))
+  -- the begin of a rule, among the words behind the heading and among all
+  start-index : (q : ℕ) → q < z .rules → getD (ruleStarts (w ∷ ws)) q 0 ≡ getD (starts 1 ws) q 0
   unfolding ruleStarts
-  begin q h =
-      let l : q < length (starts 1 ws) = omega (arith, count, as-many 1 ws) in
-      let b = begins 1 ws q l in
-      let i : getD (ruleStarts (w ∷ ws)) q 0 ≡ getD (starts 1 ws) q 0 =
-      ap (λ xs. getD (take maxRules (xs ++ replicate maxRules 0)) q 0) no-begin ∙ start-kept (starts 1 ws) maxRules q (omega (arith, few, count, as-many 1 ws)) l in
+  start-index q h =
+      ap (λ xs. getD (take maxRules (xs ++ replicate maxRules 0)) q 0) no-begin
+      ∙ start-kept (starts 1 ws) maxRules q (omega (arith, few, count, as-many 1 ws)) (omega (arith, count, as-many 1 ws))
+
+  start : (q : ℕ) → q < z .rules → Begins 1 (getD (starts 1 ws) q 0) ws (getElem? (parse ws .rules) q)
+  start q h = begins 1 ws q (omega (arith, count, as-many 1 ws))
+
+  begun : (q : ℕ) → q < z .rules → Begun (w ∷ ws) (getD (ruleStarts (w ∷ ws)) q 0)
+  begun q h =
+      let b = start q h in
+      let i = start-index q h in
       let k : getD (starts 1 ws) q 0 ≡ suc (getD (starts 1 ws) q 0 - 1) = omega (arith, b .low) in
-      b .rule ∙ ap (λ j. some (firstRule (drop j (w ∷ ws)))) (sym k ∙ sym i)
+      record {
+        low = omega (arith, i, b .low);
+        high = omega (arith, i, b .high);
+        word = rw (i, k) (b .word);
+      }
+
+  begin : (q : ℕ) → q < z .rules → getElem? (parse ws .rules) q ≡ some (firstRule (drop (getD (ruleStarts (w ∷ ws)) q 0) (w ∷ ws)))
+  begin q h =
+      let b = start q h in
+      let k : getD (starts 1 ws) q 0 ≡ suc (getD (starts 1 ws) q 0 - 1) = omega (arith, b .low) in
+      b .rule ∙ ap (λ j. some (firstRule (drop j (w ∷ ws)))) (sym k ∙ sym (start-index q h))
 
   read-well : WellRead (w ∷ ws) z
   unfolding grammarOf
@@ -105,6 +122,7 @@ module _ (w : ℕ) (ws : List ℕ) (z : Sizes) (short : length (w ∷ ws) ≤ ma
       terminals = λ x m b k. rw (r .terminals) at (r .fits .rules x m .inRange b k .1);
       positive = λ x m. r .fits .rules x m .positive;
     };
+    begun = begun;
     begins = begin;
   }
 

@@ -17,7 +17,7 @@ pub record Rule : Type 0 where
 abbrev pub bodies : Rule → List Body
 bodies r = r .positives ++ r .negatives
 
--- nonterminals and terminals are numbered from 0, and nonterminal 0 is the start
+-- nonterminals and terminals (document 01: names and letters) are numbered from 0, and nonterminal 0 is the start
 pub record Grammar : Type 0 where
   pub nonterminals : ℕ
   pub terminals : ℕ

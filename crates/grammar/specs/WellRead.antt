@@ -1,5 +1,6 @@
 -- What a reading without a fault tells: the grammar is well formed, of these sizes, and its rules begin where they are said to.
 use mathlib.Core.Path.{_≡_}
+use mathlib.Core.Bool.{true}
 use mathlib.Core.List.{List, [], _∷_}
 use mathlib.Core.Option.{some}
 use Prim.Native.Nat.{ℕ, _≤_, _<_}
@@ -11,6 +12,7 @@ use Rattle.grammar.specs.Limits.{maxWords, maxNonterminals, maxTerminals
 use Rattle.grammar.specs.Syntax.{Rule, WellFormed}
 use Rattle.grammar.specs.Words.{decoded}
 use Rattle.grammar.specs.Encoding.{ruleOf, parse, grammarOf}
+use Rattle.grammar.specs.Reading.{beginsRule}
 use Rattle.grammar.specs.Starts.{ruleStarts}
 
 -- the nonterminal that a rule defines
@@ -28,6 +30,12 @@ unfoldable pub firstRule : List ℕ → Rule
 firstRule [] = ruleOf 0 (parse [])
 firstRule (w ∷ ws) = ruleOf (headOf (decoded w)) (parse ws)
 
+-- a rule begins at an index behind the heading
+pub record Begun (words : List ℕ) (i : ℕ) : Type 0 where
+  pub low : 0 < i
+  pub high : i < length words
+  pub word : beginsRule (decoded (getD words i 0)) ≡ true
+
 pub record WellRead (words : List ℕ) (z : Sizes) : Type 0 where
   pub short : length words ≤ maxWords
   pub nonterminals : z .nonterminals ≡ grammarOf words .nonterminals
@@ -39,4 +47,5 @@ pub record WellRead (words : List ℕ) (z : Sizes) : Type 0 where
   pub rules : z .rules ≡ length (grammarOf words .rules)
   pub fewRules : z .rules ≤ maxRules
   pub formed : WellFormed (grammarOf words)
+  pub begun : (q : ℕ) → q < z .rules → Begun words (getD (ruleStarts words) q 0)
   pub begins : (q : ℕ) → q < z .rules → getElem? (grammarOf words .rules) q ≡ some (firstRule (drop (getD (ruleStarts words) q 0) words))

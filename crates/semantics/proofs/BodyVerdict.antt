@@ -36,7 +36,7 @@ onward-below o f i j h = both _ _
     let u : T (endsAt o (s .0) && endsAt (f (s .0)) j) = and-r (leb i (s .0)) _ (s .2) in
     onward-make o f j (s .0) (and-l (endsAt o (s .0)) _ u) (and-r (endsAt o (s .0)) _ u))
 
--- A body run from places at or behind `start`, that ends at j. H: the calls that it makes have the right verdict, those at `start` if
+-- A body run from places at or after `start`, that ends at j. H: the calls that it makes have the right verdict, those at `start` if
 -- they are of nonterminals in Left, which all at the left of the body are
 module _ (G : Grammar) (k : ℕ) (F L : Family) (w : List ℕ) (v : Valuation) (c : Outcomes)
     (first : FirstSound G k F w v) (null : NullSound G w v) (forward : Forward w c) (empty : EmptyNull G w c)

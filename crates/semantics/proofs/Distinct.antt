@@ -50,7 +50,7 @@ module _ {A : Type 0} where
   )
 
 -- what is less than all numbers of a list is not in it
-from-above : (a n x : ℕ) → List·Memᴰ x (numbersFrom a n) → a ≤ x
+pub from-above : (a n x : ℕ) → List·Memᴰ x (numbersFrom a n) → a ≤ x
 unfolding numbersFrom
 from-above a zero x m = absurd (List·Memᴰ·not-nil m)
 from-above a (suc n) x m = elim (List·Memᴰ·cases-cons m) [

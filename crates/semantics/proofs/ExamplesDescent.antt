@@ -1,12 +1,20 @@
 -- Grammars that one or two tokens are enough for, and descents by their own tables, by computation.
+use mathlib.Core.Bool.{false}
 use mathlib.Core.List.{[], _∷_}
 use mathlib.Core.Path.{_≡_, refl}
+use Rattle.grammar.specs.Syntax.{Grammar}
+use Rattle.grammar.specs.declared.Symbol.the-variants.{Terminal, Nonterminal}
+use Rattle.semantics.specs.Quantifiers.{any, all, below}
+use Rattle.semantics.specs.Valuations.{contains, derives, byRules, rounds, pairs, solution}
 use Rattle.semantics.specs.Claims.{tableOf}
 use Rattle.semantics.specs.Descent.{Failed, End, descend}
+use Rattle.semantics.specs.ComesTo.{callAt}
+use Rattle.semantics.specs.Calls.{callsWithin}
 use Rattle.semantics.specs.Predictive.{Predictive}
+use Rattle.semantics.specs.Rows.{row, accepted, rejected, judged}
 use Rattle.grammar.specs.Cards.{grammarR, grammarM, grammarE}
 use Rattle.semantics.proofs.Check.{belowTest, scopedTest, terminalsTest, ownTest, predictive}
-use Rattle.semantics.proofs.Computing.{left-recursion-computes, tables-compute, descent-computes}
+use Rattle.semantics.proofs.Computing.{left-recursion-computes, tables-compute, descent-computes, calls-compute}
 use Rattle.semantics.proofs.ExamplesTables.{repeated, others}
 
 -- document 01's grammars
@@ -47,3 +55,69 @@ a = refl
 aa : descend others (tableOf others 1) 1 (0 ∷ 0 ∷ []) 0 0 ≡ End 2
 unfolding tables-compute descent-computes
 aa = refl
+
+-- an end is not membership: on ba the descent has A of grammar E end at 1, yet A does not derive b
+ba-ends : descend grammarE (tableOf grammarE 1) 1 (1 ∷ 0 ∷ []) 1 0 ≡ End 1
+unfolding tables-compute descent-computes
+ba-ends = refl
+
+ba-solution : solution grammarE (1 ∷ 0 ∷ []) 1 0 1 ≡ false
+unfolding solution rounds byRules derives contains any all below
+ba-solution = refl
+
+-- S → a: on aa the start ends at 1, before the input does, and aa is rejected
+abbrev single : Grammar
+single = record { nonterminals = 1; terminals = 1; rules = record { head = 0; positives = (Terminal 0 ∷ []) ∷ []; negatives = [] } ∷ [] }
+
+early-end : descend single (tableOf single 1) 1 (0 ∷ 0 ∷ []) 0 0 ≡ End 1
+unfolding tables-compute descent-computes
+early-end = refl
+
+early-rejected : judged single (0 ∷ 0 ∷ []) ≡ row single (0 ∷ 0 ∷ []) rejected 1 0
+unfolding judged tables-compute descent-computes calls-compute
+early-rejected = refl
+
+-- S → A & ¬ A a, A → a: on a the start comes to A at 0 twice, and the call is counted once
+abbrev again : Grammar
+again = record {
+  nonterminals = 2;
+  terminals = 1;
+  rules =
+      record { head = 0; positives = (Nonterminal 1 ∷ []) ∷ []; negatives = (Nonterminal 1 ∷ Terminal 0 ∷ []) ∷ [] }
+      ∷ record { head = 1; positives = (Terminal 0 ∷ []) ∷ []; negatives = [] } ∷ [];
+}
+
+met-twice : callsWithin again (tableOf again 1) 1 (0 ∷ []) (pairs again (0 ∷ [])) (callAt 0 0) ≡ callAt 0 0 ∷ callAt 1 0 ∷ callAt 1 0 ∷ []
+unfolding tables-compute descent-computes calls-compute
+met-twice = refl
+
+counted-once : judged again (0 ∷ []) ≡ row again (0 ∷ []) accepted 2 0
+unfolding judged tables-compute descent-computes calls-compute
+counted-once = refl
+
+-- S → A & B, A → a, B → a a: on aa the second positive body ends elsewhere, and no other end is searched for
+abbrev apart : Grammar
+apart = record {
+  nonterminals = 3;
+  terminals = 1;
+  rules =
+      record { head = 0; positives = (Nonterminal 1 ∷ []) ∷ (Nonterminal 2 ∷ []) ∷ []; negatives = [] }
+      ∷ record { head = 1; positives = (Terminal 0 ∷ []) ∷ []; negatives = [] }
+      ∷ record { head = 2; positives = (Terminal 0 ∷ Terminal 0 ∷ []) ∷ []; negatives = [] } ∷ [];
+}
+
+first-ends : descend apart (tableOf apart 1) 1 (0 ∷ 0 ∷ []) 1 0 ≡ End 1
+unfolding tables-compute descent-computes
+first-ends = refl
+
+second-ends : descend apart (tableOf apart 1) 1 (0 ∷ 0 ∷ []) 2 0 ≡ End 2
+unfolding tables-compute descent-computes
+second-ends = refl
+
+both-fail : descend apart (tableOf apart 1) 1 (0 ∷ 0 ∷ []) 0 0 ≡ Failed
+unfolding tables-compute descent-computes
+both-fail = refl
+
+apart-rejected : judged apart (0 ∷ 0 ∷ []) ≡ row apart (0 ∷ 0 ∷ []) rejected 3 0
+unfolding judged tables-compute descent-computes calls-compute
+apart-rejected = refl

@@ -45,7 +45,7 @@ given (suc (suc (suc (suc A)))) i = Failed
 abbrev only : ℕ → Body
 only A = Nonterminal A ∷ []
 
--- a symbol that fails is come to, and nothing behind it
+-- a symbol that fails is come to, and nothing after it
 fails : bodyComesTo given (0 ∷ 0 ∷ []) (Nonterminal 1 ∷ Nonterminal 4 ∷ Nonterminal 2 ∷ []) 0 ≡ callAt 1 0 ∷ callAt 4 1 ∷ []
 unfolding bodyComesTo read
 fails = refl

@@ -61,7 +61,7 @@ module _ (k : ℕ) (s : Sets) (ys : List (List ℕ)) where
       go true e n = elim (List·Memᴰ·append-cases (concat k (firstBody k s b) ys) n) [ inl i ↦ inl (eqb→eq A B (true-T (eqb A B) e), i) | inr i ↦ inr i ]
       go false e n = inr n
 
-  -- a family that holds what stands behind the nonterminals of a body has what `FollowBody` asks
+  -- a family that holds what stands after the nonterminals of a body has what `FollowBody` asks
   behind-follow : (L : Family) (n N : ℕ) → ((A : ℕ) (x : List ℕ) → In s A x → Over n x) → ((y : List ℕ) → List·Memᴰ y ys → Over n y)
       → (b : Body) → NonterminalsBelow N b → TerminalsBelow n b → ((A : ℕ) (x : List ℕ) → A < N → Lookahead k n x → List·Memᴰ x (behind k s A ys b) → L A x)
       → (y : List ℕ) → List·Memᴰ y ys → FollowBody k (In s) L y b
@@ -103,7 +103,7 @@ behind-mono k s ys zs h A (Nonterminal B ∷ b) x m = go (behind-elim k s ys A B
         rw (← i .0) (behind-here k s zs A b x (Memᴰ·cast (r .4) (concat-make k (firstBody k s b) zs (r .0) (r .1) (r .2) (h (r .1) (r .3)))))
 
 module _ (G : Grammar) (k : ℕ) where
-  -- an entry stands behind a nonterminal of some body, over the entries that pass
+  -- an entry stands after a nonterminal of some body, over the entries that pass
   pub record Behind (p : Entry → Bool) (A : ℕ) (x : List ℕ) : Type 0 where
     pub rule : Rule
     pub body : Body

@@ -1,4 +1,4 @@
--- `FollowBody` in the usual words: for every nonterminal of the body, with what stands before and behind it.
+-- `FollowBody` in the usual words: for every nonterminal of the body, with what stands before and after it.
 use mathlib.Core.List.{List, [], _∷_, _++_}
 use mathlib.Core.Logic.{_↔_}
 use mathlib.Core.Path.{_≡_, refl, ap}

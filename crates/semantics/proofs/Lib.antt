@@ -15,6 +15,7 @@ pub mod Concatenation
 pub mod FollowCuts
 pub mod Positions
 pub mod Claims
+pub mod Columns
 pub mod FirstSound
 pub mod Outcomes
 pub mod Ends

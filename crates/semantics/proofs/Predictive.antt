@@ -1,13 +1,19 @@
--- A grammar's own families and its own table are guides for the descent.
-use Prim.Native.Nat.{ℕ}
-use Rattle.grammar.specs.Syntax.{Grammar}
+-- A grammar's own families and its own table are guides for the descent, and which well-formed grammars k tokens are enough for.
+use mathlib.Core.List.{[]}
+use mathlib.Core.Logic.{_↔_}
+use mathlib.Core.Option.{none}
+use mathlib.Core.Path.{_≡_}
+use Prim.Native.Nat.{ℕ, _<_}
+use Rattle.grammar.specs.Syntax.{Grammar, WellFormed}
+use Rattle.semantics.specs.LeftRecursion.{lowestLeftRecursive}
 use Rattle.semantics.specs.Families.{OwnEntries}
 use Rattle.semantics.specs.FirstFollow.{First, Follow}
-use Rattle.semantics.specs.Claims.{tableOf}
+use Rattle.semantics.specs.Claims.{clashes, tableOf}
 use Rattle.semantics.specs.Predictive.{Guides, Predictive}
+use Rattle.semantics.proofs.LeftRecursion.{lowestLeftRecursive-none}
 use Rattle.semantics.proofs.First.{first-closed}
 use Rattle.semantics.proofs.Follow.{follow-closed}
-use Rattle.semantics.proofs.Claims.{table-claims, table-right, everyEnds-elim}
+use Rattle.semantics.proofs.Claims.{table-claims, table-right, everyEnds-elim, everyEnds-make}
 
 -- each entry of the computed table is the number of a rule of its nonterminal
 pub table-own : (G : Grammar) (k : ℕ) → OwnEntries G (tableOf G k)
@@ -21,3 +27,21 @@ own-guides G k p = record {
   table = table-right G k (p .clashless);
   ends = everyEnds-elim G k (p .ends);
 }
+
+-- k tokens are enough for a well-formed grammar in which nothing is left-recursive and nothing clashes
+pub passed : (G : Grammar) (k : ℕ) → WellFormed G → 0 < G .nonterminals → lowestLeftRecursive G ≡ none → clashes G k ≡ [] → Predictive G k
+passed G k formed start lowest clash = record {
+  scoped = formed .scoped;
+  terminals = formed .terminals;
+  start = start;
+  unrecursive = lowestLeftRecursive-none G (formed .scoped) .0 lowest;
+  clashless = clash;
+  ends = everyEnds-make G k (λ r m e. absurd (formed .positive r m e));
+}
+
+-- and for no other well-formed grammar
+pub passed-iff : (G : Grammar) (k : ℕ) → WellFormed G → 0 < G .nonterminals → ((lowestLeftRecursive G ≡ none) × (clashes G k ≡ [])) ↔ Predictive G k
+passed-iff G k formed start = (
+  λ h. passed G k formed start (h .0) (h .1),
+  λ p. (lowestLeftRecursive-none G (p .scoped) .1 (p .unrecursive), p .clashless),
+)

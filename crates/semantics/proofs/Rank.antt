@@ -37,7 +37,7 @@ module _ (G : Grammar) (c : WellScoped G) (free : NoLeftRecursion G) where
   unfolding level
   level-left A B d h = omega (arith, rank-falls A B h)
 
-  -- a nonterminal met at place j behind i, or at i itself at the left of a body of A, has a lower level, by what is left up to n
+  -- a nonterminal met at place j after i, or at i itself at the left of a body of A, has a lower level, by what is left up to n
   pub level-onward : (A B n i j : ℕ) → B < G .nonterminals → i ≤ j → j ≤ n → (j ≡ i → LeftDepends G A B) → level G (n - j) B < level G (n - i) A
   level-onward A B n i j b ij jn left = go (decLt i j)
     where

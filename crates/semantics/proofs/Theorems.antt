@@ -9,15 +9,17 @@ use Rattle.semantics.proofs.Nullable.{nullable-closed, nullable-least}
 use Rattle.semantics.proofs.LeftRecursion.{leftRecursive-iff, lowestLeftRecursive-some, lowestLeftRecursive-none}
 use Rattle.semantics.proofs.Rank.{rank-falls, rank-below}
 use Rattle.semantics.proofs.Unique.{solution-solves, solution-unique, solution-null}
-use Rattle.semantics.proofs.First.{first-closed, first-least}
+use Rattle.semantics.proofs.First.{first-closed, first-least, first-lookahead, least-unique}
 use Rattle.semantics.proofs.FirstNullable.{first-none}
-use Rattle.semantics.proofs.Follow.{follow-least}
+use Rattle.semantics.proofs.Follow.{follow-least, follow-lookahead}
+use Rattle.semantics.proofs.Concatenation.{first-strung, follow-strung, claims-strung}
 use Rattle.semantics.proofs.Claims.{clashes-elim, clashes-make, table-some, table-none, everyEnds-elim, everyEnds-make}
+use Rattle.semantics.proofs.Columns.{strings-columns, first-clash}
 use Rattle.semantics.proofs.FirstSound.{first-sound, first-sound-body}
 use Rattle.semantics.proofs.Outcomes.{end-ends}
 use Rattle.semantics.proofs.Ends.{descend-forward, descend-null}
 use Rattle.semantics.proofs.Results.{descend-results, results-unique}
-use Rattle.semantics.proofs.Predictive.{table-own, own-guides}
+use Rattle.semantics.proofs.Predictive.{table-own, own-guides, passed-iff}
 use Rattle.semantics.proofs.Verdict.{local-verdict, local-verdict-body, local-verdict-piece, verdict}
 use Rattle.semantics.proofs.Measure.{tokens-then-rank}
 use Rattle.semantics.proofs.Called.{calls-listing, count-listing, count-bound, farthest-most, farthest-called}
@@ -43,11 +45,21 @@ theorems = record {
     nullable-least = nullable-least G;
     first = first-least G k scoped;
     follow = follow-least G k scoped terminals start;
+    first-lookahead = first-lookahead G k;
+    follow-lookahead = follow-lookahead G k;
     nothing = first-none G k scoped;
     clash = λ A x. (clashes-elim G k A x, clashes-make G k A x);
     claimed = table-some G k;
     unclaimed = table-none G k;
     ends = (everyEnds-elim G k, everyEnds-make G k);
+  };
+  least-unique = least-unique;
+  one-token = λ G. record {
+    first = first-strung G;
+    follow = follow-strung G;
+    claims = claims-strung G;
+    columns = strings-columns (G .terminals);
+    first-clash = first-clash G;
   };
   sound-first = λ G scoped free k w over v solves. record {
     nonterminal = first-sound G scoped free w v solves k (First G k) (first-closed G k scoped) over;
@@ -78,5 +90,6 @@ theorems = record {
       let r = memo-recorded G t k w scoped free own fits start in
       record { outcome = r .0; recorded = r .1; ordered = all-ordered G w };
   own-entries = table-own;
+  passed = passed-iff;
   starred-rows = starred-rows;
 }

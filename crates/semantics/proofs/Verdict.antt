@@ -128,7 +128,7 @@ module _ {G : Grammar} {k : ℕ} {F L : Family} {t : Table} (scoped : WellScoped
       run-contains G k F L w v outcomes first null forward empty (λ _. Unit {0}) i j jw (λ A i′ m a _ im mw _ y. verdict-at A i′ m a im mw y)
       b i (omega arith) ij n f (λ _ A _. tt)
 
-  -- A body's rest: what stands behind some front in a body of a rule r, where the lookahead string at j is in FOLLOW of r's head
+  -- A body's rest: what stands after some front in a body of a rule r, where the lookahead string at j is in FOLLOW of r's head
   module _ (r : Rule) (listed : List·Memᴰ r (G .rules)) (front rest : Body) (held : List·Memᴰ (front ++ rest) (bodies r))
       (i j : ℕ) (ij : i ≤ j) (jw : j ≤ length w) (y : L (r .head) (look k w j)) where
     rest-below : NonterminalsBelow (G .nonterminals) rest

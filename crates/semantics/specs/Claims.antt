@@ -32,11 +32,16 @@ claimed G k r = concat k (meeting G k r) (followSets G k (r .head))
 unfoldable pub claims : Grammar → ℕ → Entry → Rule → Bool
 claims G k e r = eqb (r .head) (e .0) && member sameString (claimed G k r) (e .1)
 
--- the entries that two rules claim, in order (document 01: two rules claim a cell)
+-- the entries that two rules claim, by nonterminal, then in the order of `strings` (document 01, k = 1: by name, then column)
 unfoldable pub clashes : Grammar → ℕ → List Entry
 clashes G k = keep (λ e. several (claims G k e) (G .rules)) (entries G k)
 
--- the number of the rule that claims an entry
+-- where an entry stands in its row of n terminals, for one token of lookahead: the terminals in order, then the end (document 01: the column)
+abbrev pub column : ℕ → List ℕ → ℕ
+column n [] = n
+column n (a ∷ x) = a
+
+-- the number of the first rule that claims an entry; where nothing clashes it is the only one
 unfoldable pub tableOf : Grammar → ℕ → Table
 tableOf G k A x = position (claims G k (A, x)) (G .rules)
 

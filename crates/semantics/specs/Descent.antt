@@ -76,7 +76,7 @@ unfoldable pub within : Grammar → Table → ℕ → List ℕ → ℕ → Outco
 within G t k w zero A i = Failed
 within G t k w (suc n) A i = byTable G t k w (within G t k w n) A i
 
--- the result of calling A at i: no call goes deeper than there are pairs
+-- the result of calling A at i: without left recursion no call goes deeper than there are pairs
 unfoldable pub descend : Grammar → Table → ℕ → List ℕ → Outcomes
 descend G t k w = within G t k w (pairs G w)
 

@@ -1,9 +1,10 @@
 -- FIRST and FOLLOW families for any lookahead k, what closes them under the rules, and the table that they ask for.
 use mathlib.Core.Path.{_≡_}
 use mathlib.Core.List.{List, [], _∷_, _++_, List·Memᴰ}
+use mathlib.Core.Logic.{_⊎_}
 use mathlib.Core.Option.{Option, some}
-use Prim.Native.Nat.{ℕ, _<_}
-use lib.ListN.{take, getElem?}
+use Prim.Native.Nat.{ℕ, _≤_, _<_}
+use lib.ListN.{length, take, getElem?}
 use Rattle.grammar.specs.declared.Symbol.{Symbol}
 use Rattle.grammar.specs.declared.Symbol.the-variants.{Terminal, Nonterminal}
 use Rattle.grammar.specs.Syntax.{Body, Rule, Grammar, bodies, TerminalsBelow}
@@ -18,6 +19,10 @@ pub record Least (Closed : Family → Type 0) (F : Family) : Type 1 where
   pub closed : Closed F
   pub smallest : (F′ : Family) → Closed F′ → (A : ℕ) (x : List ℕ) → F A x → F′ A x
 
+-- of strings that are at most k long
+abbrev pub Short : ℕ → Family → Type 0
+Short k F = (A : ℕ) (x : List ℕ) → F A x → length x ≤ k
+
 abbrev pub FirstOf : ℕ → Family → Symbol → List ℕ → Type 0
 FirstOf k F (Terminal a) x = x ≡ take k (a ∷ [])
 FirstOf k F (Nonterminal A) x = F A x
@@ -27,14 +32,23 @@ abbrev pub FirstBody : ℕ → Family → Body → List ℕ → Type 0
 FirstBody k F [] x = x ≡ []
 FirstBody k F (X ∷ b) x = (u : List ℕ) × (y : List ℕ) × FirstOf k F X u × FirstBody k F b y × (x ≡ take k (u ++ y))
 
+-- with one token of lookahead the same in document 01's words, stringing: nothing where the second set is empty, else the terminals of the first and,
+-- where the first has the empty string, all of the second
+abbrev pub Strung : (List ℕ → Type 0) → (List ℕ → Type 0) → List ℕ → Type 0
+Strung P Q x = ((y : List ℕ) × Q y) × ((P x × ((x ≡ []) → ⊥)) ⊎ (P [] × Q x))
+
 -- in the set of every positive body
 abbrev pub FirstRule : ℕ → Family → Rule → List ℕ → Type 0
 FirstRule k F r x = (b : Body) → List·Memᴰ b (r .positives) → FirstBody k F b x
 
+-- the meeting of the sets of a rule's positive bodies
+abbrev pub Meeting : Grammar → ℕ → Family → Rule → List ℕ → Type 0
+Meeting G k F r x = Lookahead k (G .terminals) x × FirstRule k F r x
+
 abbrev pub FirstClosed : Grammar → ℕ → Family → Type 0
 FirstClosed G k F = (r : Rule) → List·Memᴰ r (G .rules) → (x : List ℕ) → Lookahead k (G .terminals) x → FirstRule k F r x → F (r .head) x
 
--- behind each nonterminal of a body that y follows: what its rest can begin with, then y
+-- after each nonterminal of a body that y follows: what its rest can begin with, then y
 abbrev pub FollowBody : ℕ → Family → Family → List ℕ → Body → Type 0
 FollowBody k F L y [] = Unit {0}
 FollowBody k F L y (Terminal a ∷ b) = FollowBody k F L y b
@@ -44,11 +58,17 @@ pub record FollowClosed (G : Grammar) (k : ℕ) (F L : Family) : Type 0 where
   pub start : L 0 []
   pub follows : (r : Rule) → List·Memᴰ r (G .rules) → (b : Body) → List·Memᴰ b (bodies r) → (y : List ℕ) → L (r .head) y → FollowBody k F L y b
 
+-- with one token of lookahead the same by stringing: for each nonterminal in a body, what comes after it strung with what can follow the head
+pub record FollowStrung (G : Grammar) (F L : Family) : Type 0 where
+  pub start : L 0 []
+  pub follows : (r : Rule) → List·Memᴰ r (G .rules) → (front : Body) (A : ℕ) (b : Body) → List·Memᴰ (front ++ (Nonterminal A ∷ b)) (bodies r)
+      → (x : List ℕ) → Strung (FirstBody 1 F b) (L (r .head)) x → L A x
+
 -- the terminals of the bodies are the grammar's own
 abbrev pub OwnTerminals : Grammar → Type 0
 OwnTerminals G = (r : Rule) → List·Memᴰ r (G .rules) → (b : Body) → List·Memᴰ b (bodies r) → TerminalsBelow (G .terminals) b
 
--- for a nonterminal and a lookahead string the number of a rule, or none
+-- for a nonterminal and a lookahead string the number of a rule, or none (document 01: the cells)
 abbrev pub Table : Type 0
 Table = ℕ → List ℕ → Option ℕ
 
@@ -69,7 +89,7 @@ pub record Claims (G : Grammar) (k : ℕ) (F L : Family) (q A : ℕ) (x : List �
   pub follows : L A behind
   pub makes : x ≡ take k (begins ++ behind)
 
--- two different rules claim one entry
+-- two different rules claim one entry; rules differ by their numbers (document 01: two rules claim a cell)
 pub record Clash (G : Grammar) (k : ℕ) (F L : Family) (A : ℕ) (x : List ℕ) : Type 0 where
   pub one : ℕ
   pub other : ℕ
@@ -77,11 +97,11 @@ pub record Clash (G : Grammar) (k : ℕ) (F L : Family) (A : ℕ) (x : List ℕ)
   pub claimsOne : Claims G k F L one A x
   pub claimsOther : Claims G k F L other A x
 
--- the table has each rule wherever the rule claims an entry
+-- the table has each rule wherever the rule claims an entry; of an entry that none claims it is only asked that a rule there be the nonterminal's own
 pub record TableRight (G : Grammar) (k : ℕ) (F L : Family) (t : Table) : Type 0 where
   pub chooses : (q A : ℕ) (x : List ℕ) → Claims G k F L q A x → t A x ≡ some q
   pub chosen : OwnEntries G t
 
--- a rule with no positive body takes all that is left: only the end may follow
+-- a rule without positive bodies takes all that is left: only the end may follow its head, and it takes a token of lookahead to see that
 abbrev pub EveryEnds : Grammar → ℕ → Family → Type 0
 EveryEnds G k L = (r : Rule) → List·Memᴰ r (G .rules) → r .positives ≡ [] → (0 < k) × ((y : List ℕ) → L (r .head) y → y ≡ [])

@@ -12,7 +12,7 @@ use Rattle.semantics.specs.FiniteSets.{member, keep, distinct, numbers, 
 use Rattle.semantics.specs.Rounds.{least}
 use Rattle.semantics.specs.Families.{Family}
 
--- every string of at most k terminals below n: by the first terminal in order, and the empty string behind them
+-- every string of at most k terminals below n: by the first terminal in order, and the empty string last (document 01, k = 1: the columns of a row)
 unfoldable pub strings : ℕ → ℕ → List (List ℕ)
 strings zero n = [] ∷ []
 strings (suc k) n = combine (λ a x. a ∷ x) (numbers n) (strings k n) ++ [] ∷ []
@@ -67,13 +67,13 @@ first G k = least sameEntry (entries G k) (firstStep G k)
 unfoldable pub firstSets : Grammar → ℕ → Sets
 firstSets G k = setsOf G k (first G k)
 
--- what can stand behind A in a body that one of ys follows
+-- what can stand after A in a body that one of ys follows
 unfoldable pub behind : ℕ → Sets → ℕ → List (List ℕ) → Body → List (List ℕ)
 behind k s A ys [] = []
 behind k s A ys (Terminal a ∷ b) = behind k s A ys b
 behind k s A ys (Nonterminal B ∷ b) = elim (eqb A B) [ true ↦ concat k (firstBody k s b) ys ++ behind k s A ys b | false ↦ behind k s A ys b ]
 
--- the end follows the start, and behind a nonterminal of a body, positive or negative, stands what its rest and the head's set allow
+-- the end follows the start, and after a nonterminal of a body, positive or negative, stands what its rest and the head's set allow
 unfoldable pub followStep : Grammar → ℕ → (Entry → Bool) → Entry → Bool
 followStep G k p e =
     sameEntry e (0, []) || any (λ r. any (λ b. member sameString (behind k (firstSets G k) (e .0) (setsOf G k p (r .head)) b) (e .1)) (bodies r)) (G .rules)

@@ -24,7 +24,7 @@ nullStep G s A = any (λ r. eqb (r .head) A && all (allNullable s) (r .positives
 unfoldable pub nullable : Grammar → Set
 nullable G = least eqb (numbers (G .nonterminals)) (nullStep G)
 
--- B stands in the body behind nonterminals of the set alone
+-- B stands in the body after nonterminals of the set alone
 pub data LeftIn (s : Set) (B : ℕ) : Body → Type 0 where
   here : {b : Body} → LeftIn s B (Nonterminal B ∷ b)
   there : {C : ℕ} {b : Body} → T (s C) → LeftIn s B b → LeftIn s B (Nonterminal C ∷ b)
@@ -38,11 +38,12 @@ pub record LeftDepends (G : Grammar) (A B : ℕ) : Type 0 where
   pub held : List·Memᴰ body (bodies rule)
   pub left : LeftIn (nullable G) B body
 
--- in one or more steps
+-- in one or more steps (document 01: a name reaches another)
 pub data LeftReaches (G : Grammar) (A : ℕ) : ℕ → Type 0 where
   once : {B : ℕ} → LeftDepends G A B → LeftReaches G A B
   more : {B C : ℕ} → LeftReaches G A B → LeftDepends G B C → LeftReaches G A C
 
+-- no nonterminal reaches itself (document 01: a card that is not left-recursive)
 abbrev pub NoLeftRecursion : Grammar → Type 0
 NoLeftRecursion G = (A : ℕ) → LeftReaches G A A → ⊥
 

@@ -14,9 +14,11 @@ use Rattle.semantics.specs.Descent.{Outcome, Failed, End, descend}
 use Rattle.semantics.specs.ComesTo.{Call, InRange}
 use Rattle.semantics.specs.Calls.{Called, allCalls, calls}
 
+-- (document 01: failed)
 abbrev pub failedCode : ℕ
 failedCode = 65534
 
+-- (document 01: not called)
 abbrev pub uncalledCode : ℕ
 uncalledCode = 65535
 

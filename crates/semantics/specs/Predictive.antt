@@ -15,7 +15,7 @@ pub record Guides (G : Grammar) (k : ℕ) (F L : Family) (t : Table) : Type 0 wh
   pub table : TableRight G k F L t
   pub ends : EveryEnds G k L
 
--- k tokens are enough: the grammar's own families and table are such guides (document 01, k = 1: a passed card)
+-- k tokens are enough: the grammar's own families and table are such guides (document 01, k = 1: a passed card, but for the limits; see `passed` in Theorems)
 pub record Predictive (G : Grammar) (k : ℕ) : Type 0 where
   pub scoped : WellScoped G
   pub terminals : OwnTerminals G

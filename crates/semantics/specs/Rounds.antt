@@ -27,6 +27,6 @@ module _ {X : Type 0} (same : X → X → Bool) (universe : List X) (Φ : (X →
   unfoldable pub members : List X
   members = settle (length universe) []
 
-  -- the least set that is closed under the operator
+  -- for an operator that gives more from more: the least set that is closed under it
   unfoldable pub least : X → Bool
   least = member same members

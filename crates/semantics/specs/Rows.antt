@@ -15,13 +15,13 @@ pub record Row : Type 0 where
   pub count : ℕ
   pub far : ℕ
 
-abbrev row : Grammar → List ℕ → Bool → ℕ → ℕ → Row
+abbrev pub row : Grammar → List ℕ → Bool → ℕ → ℕ → Row
 row G w v c f = record { grammar = G; input = w; verdict = v; count = c; far = f }
 
-abbrev accepted : Bool
+abbrev pub accepted : Bool
 accepted = true
 
-abbrev rejected : Bool
+abbrev pub rejected : Bool
 rejected = false
 
 abbrev pub starred : List Row

@@ -5,6 +5,7 @@ use lib.ListN.{length, take, drop}
 use lib.Dec.{T, ltb}
 use Rattle.semantics.specs.Quantifiers.{all}
 
+-- from i to j (document 01: the events of a stretch)
 unfoldable pub span : List ℕ → ℕ → ℕ → List ℕ
 span w i j = take (j - i) (drop i w)
 
@@ -16,5 +17,6 @@ look k w i = take k (drop i w)
 abbrev pub Over : ℕ → List ℕ → Type 0
 Over n x = T (all (λ a. ltb a n) x)
 
+-- one of at most k terminals; the empty one stands for the end (document 01, k = 1: a letter or "nothing")
 abbrev pub Lookahead : ℕ → ℕ → List ℕ → Type 0
 Lookahead k n x = (length x ≤ k) × Over n x

@@ -1,21 +1,24 @@
--- What this crate proves, on one page: nine records of statements, and in the end what each of them needs. All of it is given in proofs/Theorems.
+-- What this crate proves, on one page: nine statements, and in the end what each of them needs and the starred rows. All of it is given in proofs/Theorems.
 use mathlib.Core.Path.{_≡_}
 use mathlib.Core.Bool.{true}
 use mathlib.Core.List.{List, [], _∷_, _++_, map, List·Memᴰ}
-use mathlib.Core.Logic.{_↔_}
+use mathlib.Core.Logic.{_↔_, _⊎_}
 use mathlib.Core.Option.{none, some}
 use Prim.Native.Nat.{ℕ, suc, _*_, _≤_, _<_}
 use lib.Dec.{T}
-use lib.ListN.{length, getD, take}
+use lib.ListN.{length, getD, getElem?, take}
+use Rattle.grammar.specs.declared.Symbol.{Symbol}
 use Rattle.grammar.specs.declared.Symbol.the-variants.{Nonterminal}
-use Rattle.grammar.specs.Syntax.{Body, Rule, Grammar, bodies, NonterminalsBelow, WellScoped}
+use Rattle.grammar.specs.Syntax.{Body, Rule, Grammar, bodies, NonterminalsBelow, WellScoped, WellFormed}
+use Rattle.semantics.specs.FiniteSets.{numbers}
 use Rattle.semantics.specs.Rounds.{Set, _⊆_}
 use Rattle.semantics.specs.Valuations.{Valuation, contains, Solves, solution}
 use Rattle.semantics.specs.LeftRecursion.{nullStep, nullable, LeftDepends, LeftReaches, NoLeftRecursion, leftRecursive, lowestLeftRecursive, rank}
-use Rattle.semantics.specs.Strings.{span, look, Over}
-use Rattle.semantics.specs.Families.{Family, Least, FirstBody, FirstClosed, FollowClosed, Claims, Clash, EveryEnds, OwnTerminals, Table, OwnEntries}
-use Rattle.semantics.specs.FirstFollow.{First, Follow}
-use Rattle.semantics.specs.Claims.{clashes, tableOf, everyEnds}
+use Rattle.semantics.specs.Strings.{span, look, Over, Lookahead}
+use Rattle.semantics.specs.Families.{Family, Least, Short, FirstOf, FirstBody, Strung, Meeting, FirstClosed, FollowClosed, FollowStrung, Claims, Clash}
+use Rattle.semantics.specs.Families.{EveryEnds, OwnTerminals, Table, OwnEntries}
+use Rattle.semantics.specs.FirstFollow.{strings, Entry, First, Follow}
+use Rattle.semantics.specs.Claims.{clashes, column, tableOf, everyEnds}
 use Rattle.semantics.specs.Descent.{End, Outcomes, run, Results, descend, accepts}
 use Rattle.semantics.specs.ComesTo.{Call, InRange, callComesTo}
 use Rattle.semantics.specs.Calls.{Called, Listing, allCalls, calls, callCount, farthest}
@@ -43,11 +46,24 @@ pub record LeastSets (G : Grammar) (k : ℕ) : Type 1 where
   pub nullable-least : (s : Set) → nullStep G s ⊆ s → nullable G ⊆ s
   pub first : Least (FirstClosed G k) (First G k)
   pub follow : Least (FollowClosed G k (First G k)) (Follow G k)
+  pub first-lookahead : (A : ℕ) (x : List ℕ) → First G k A x → (A < G .nonterminals) × Lookahead k (G .terminals) x
+  pub follow-lookahead : (A : ℕ) (x : List ℕ) → Follow G k A x → (A < G .nonterminals) × Lookahead k (G .terminals) x
   pub nothing : 0 < k → (A : ℕ) → First G k A [] ↔ T (nullable G A)
   pub clash : (A : ℕ) (x : List ℕ) → List·Memᴰ (A, x) (clashes G k) ↔ Clash G k (First G k) (Follow G k) A x
   pub claimed : clashes G k ≡ [] → (A : ℕ) (x : List ℕ) (q : ℕ) → (tableOf G k A x ≡ some q) ↔ Claims G k (First G k) (Follow G k) q A x
   pub unclaimed : (A : ℕ) (x : List ℕ) → (tableOf G k A x ≡ none) ↔ ((q : ℕ) → Claims G k (First G k) (Follow G k) q A x → ⊥)
   pub ends : T (everyEnds G k) ↔ EveryEnds G k (Follow G k)
+
+-- With one token of lookahead, in document 01's words: sets are strung together, and the entries of a row are its columns, terminals in order and the
+-- end last; the first clash is the first by nonterminal, then by column
+pub record OneToken (G : Grammar) : Type 1 where
+  pub first : (X : Symbol) (b : Body) (x : List ℕ) → FirstBody 1 (First G 1) (X ∷ b) x ↔ Strung (FirstOf 1 (First G 1) X) (FirstBody 1 (First G 1) b) x
+  pub follow : (L : Family) → Short 1 L → FollowClosed G 1 (First G 1) L ↔ FollowStrung G (First G 1) L
+  pub claims : (q A : ℕ) (x : List ℕ) → Claims G 1 (First G 1) (Follow G 1) q A x
+      ↔ ((r : Rule) × (getElem? (G .rules) q ≡ some r) × (r .head ≡ A) × Strung (Meeting G 1 (First G 1) r) (Follow G 1 A) x)
+  pub columns : strings 1 (G .terminals) ≡ map (λ a. a ∷ []) (numbers (G .terminals)) ++ ([] ∷ [])
+  pub first-clash : (A : ℕ) (x : List ℕ) (l : List Entry) → clashes G 1 ≡ (A, x) ∷ l → (B : ℕ) (y : List ℕ) → Clash G 1 (First G 1) (Follow G 1) B y
+      → (A < B) ⊎ ((A ≡ B) × (column (G .terminals) x ≤ column (G .terminals) y))
 
 -- 4. FIRST sets are sound for a solution v: a span begins as its nonterminal or body says, and what derives an empty span is nullable
 pub record SoundFirst (G : Grammar) (k : ℕ) (w : List ℕ) (v : Valuation) : Type 0 where
@@ -109,6 +125,8 @@ pub record Theorems : Type 1 where
   pub one-solution : (G : Grammar) → WellScoped G → NoLeftRecursion G → (w : List ℕ) → OneSolution G w
   pub left-recursion-decided : (G : Grammar) → WellScoped G → LeftRecursionDecided G
   pub least-sets : (G : Grammar) → WellScoped G → OwnTerminals G → 0 < G .nonterminals → (k : ℕ) → LeastSets G k
+  pub least-unique : (Closed : Family → Type 0) (F F′ : Family) → Least Closed F → Least Closed F′ → (A : ℕ) (x : List ℕ) → F A x ↔ F′ A x
+  pub one-token : (G : Grammar) → OneToken G
   pub sound-first : (G : Grammar) → WellScoped G → NoLeftRecursion G → (k : ℕ) (w : List ℕ) → Over (G .terminals) w
       → (v : Valuation) → Solves G w v → SoundFirst G k w v
   pub local-verdict : (G : Grammar) (k : ℕ) → Predictive G k → (w : List ℕ) → Over (G .terminals) w → (v : Valuation) → Solves G w v → LocalVerdict G k w v
@@ -118,5 +136,7 @@ pub record Theorems : Type 1 where
       → (t : Table) → OwnEntries G t → (k : ℕ) (w : List ℕ) → CallsCounted G t k w
   pub memo-right : (G : Grammar) → WellScoped G → NoLeftRecursion G → 0 < G .nonterminals
       → (t : Table) → OwnEntries G t → (k : ℕ) (w : List ℕ) → Fits w → MemoRight G t k w
+  -- the needs of 5 to 9 are met: the computed table has own entries, and of the well-formed grammars just those that pass are predictive
   pub own-entries : (G : Grammar) (k : ℕ) → OwnEntries G (tableOf G k)
+  pub passed : (G : Grammar) (k : ℕ) → WellFormed G → 0 < G .nonterminals → ((lowestLeftRecursive G ≡ none) × (clashes G k ≡ [])) ↔ Predictive G k
   pub starred-rows : map (λ r. judged (r .grammar) (r .input)) starred ≡ starred

@@ -36,10 +36,10 @@ rounds G w (suc n) v = byRules G w (rounds G w n v)
 abbrev pub Solves : Grammar → List ℕ → Valuation → Type 0
 Solves G w v = (A i j : ℕ) → A < G .nonterminals → i ≤ j → j ≤ length w → v A i j ≡ byRules G w v A i j
 
--- how many pairs of a nonterminal and a place there are: so many rounds, and so deep a descent, are enough
+-- how many pairs of a nonterminal and a place there are: without left recursion so many rounds, and so deep a descent, are enough
 abbrev pub pairs : Grammar → List ℕ → ℕ
 pairs G w = G .nonterminals * suc (length w)
 
--- the valuation that solves the grammar, computed
+-- the valuation that solves a grammar without left recursion, computed
 unfoldable pub solution : Grammar → List ℕ → Valuation
 solution G w = rounds G w (pairs G w) (λ _ _ _. false)

@@ -1,0 +1,396 @@
+-- Calling a nonterminal: the bodies of its rule agree on the end that the descent with a memo table gives. Assumes nothing.
+use mathlib.Core.Path.{_≡_, refl, sym, ap, _∙_}
+use mathlib.Core.Bool.{Bool, true, false, true≢false, false≢true}
+use mathlib.Core.List.{List, [], _∷_, _++_, List·Memᴰ, List·Memᴰ·head, List·Memᴰ·tail, List·Memᴰ·append-cases, Memᴰ·append-left, Memᴰ·append-right}
+use mathlib.Core.Logic.{inl, inr}
+use mathlib.Core.Option.{Option, none, some}
+use Prim.Native.Nat.{ℕ, zero, suc, _+_, _*_, _-_, _≤_, _<_}
+use native.Mathlib.Omega.{arith}
+use native.Mathlib.Numerals.{add-one}
+use native.Mathlib.Decide.{decLt}
+use lib.Dec.{T, ltb, eqb}
+use lib.ListN.{length, getD, drop, set, getElem?}
+use lib.Seq.{drop-cons}
+use borrow.Author.Tests.{lt-ltb, le-ltb, ltb-true}
+use Rattle.grammar.specs.Choice.{choose}
+use Rattle.grammar.specs.Syntax.{Body, Rule, Grammar, bodies}
+use Rattle.grammar.specs.Words.{decoded}
+use Rattle.grammar.specs.Encoding.{Parsed, onWord, parse, grammarOf}
+use Rattle.grammar.specs.Reading.{allows, row, after, scan, reading}
+use Rattle.grammar.specs.declared.Symbol as grammar
+use Rattle.grammar.specs.declared.word.Word.{Word}
+use Rattle.grammar.specs.declared.word.Word.the-variants as word
+use Rattle.grammar.specs.declared.word.Word.the-variants.{Symbol}
+use Rattle.grammar.specs.declared.reading.State.{State}
+use Rattle.grammar.specs.declared.reading.State.the-variants as state
+use Rattle.grammar.specs.declared.reading.Progress.{Progress}
+use Rattle.grammar.proofs.Suffixes.{Next, scan-next}
+use Rattle.grammar.proofs.WellFormed.{Fits, Shape, reads}
+use Rattle.semantics.specs.Quantifiers.{pick}
+use Rattle.semantics.specs.Strings.{look}
+use Rattle.semantics.specs.Claims.{tableOf}
+use Rattle.semantics.specs.Descent.{Outcome, Failed, End, endsAt, select}
+use Rattle.semantics.specs.MemoDescent.{Memoized, memoized, andThen, MemoCalls, memoRun, memoNegatives, memoPositives, memoRule, memoObey, memoCall}
+use Rattle.recognizer.specs.declared.descent.Outcome as code
+use Rattle.recognizer.specs.declared.descent.Sign.{Sign}
+use Rattle.recognizer.specs.declared.descent.Sign.the-variants.{Positive, Negative, Neither}
+use Rattle.recognizer.specs.declared.descent.Agreement.{Agreement}
+use Rattle.recognizer.specs.declared.descent.Agreement.the-variants as agreement
+use Rattle.recognizer.specs.Rule.{meant, signOf, signAt, beginsBody, goesOn, joinedBy, concluded}
+use Rattle.recognizer.specs.Descent.{Short, BodyEnd, MemoSound, Given, CallGiven, RunGiven, CallDone, RunDone}
+use Rattle.recognizer.proofs.Bodies.{parse-here, parse-over}
+use Rattle.recognizer.proofs.Running.{deep, level}
+
+-- what is left of a rule: of positives ps and negatives ns, where the bodies before them have agreed
+unfoldable pub memoRest : MemoCalls → List ℕ → ℕ → Agreement → List Body → List Body → List ℕ → Memoized
+memoRest M w i agreement.Open ps ns m = memoRule M w (length w) ps ns i m
+memoRest M w i (agreement.At e) ps ns m = memoPositives M w i e ps ns m
+memoRest M w i agreement.Failed ps ns m = memoized Failed m
+
+-- a rule that has come to an index: a conjunct begins there, or the rule ends
+pub record Calling (words input memo₀ : List ℕ) (A place : ℕ) (r : Rule) (memo : List ℕ) (at : ℕ) (sign : Sign) (agreed : Agreement) : Type 0 where
+  pub sound : MemoSound words input memo
+  pub within : at ≤ length words
+  pub signed : sign ≡ signAt words at
+  pub ends : (e : ℕ) → agreed ≡ agreement.At e → e ≤ length input
+  pub rest : (n : ℕ) → level words input A place ≤ n
+      → memoObey (deep words input n) input (some r) place memo₀ ≡ memoRest (deep words input n) input place agreed (parse (drop at words) .positives) (parse (drop at words) .negatives) memo
+  pub positives : (b : Body) → List·Memᴰ b (parse (drop at words) .positives) → List·Memᴰ b (bodies r)
+  pub negatives : (b : Body) → List·Memᴰ b (parse (drop at words) .negatives) → List·Memᴰ b (bodies r)
+  pub progress : Progress
+  pub reads : scan progress at (drop at words) ≡ reading words
+  pub opens : agreed ≡ agreement.Open → progress .state ≡ state.Opened
+  pub boundary : (X : grammar.Symbol) → at < length words → decoded (getD words at 0) ≡ Symbol X → ⊥
+
+-- one body more of what is left
+module _ (M : MemoCalls) (w : List ℕ) (i : ℕ) (b : Body) (ns : List Body) (m m′ : List ℕ) (o : Outcome) (run : memoRun M w b i m ≡ memoized o m′) where
+  positive-opens : (ps : List Body) → memoRest M w i agreement.Open (b ∷ ps) ns m ≡ memoRest M w i (joinedBy Positive agreement.Open o) ps ns m′
+  unfolding memoRest memoRule andThen
+  positive-opens ps = rw run (go o)
+    where
+      go : (x : Outcome) → andThen x m′ (λ e m″. memoPositives M w i e ps ns m″) ≡ memoRest M w i (joinedBy Positive agreement.Open x) ps ns m′
+      go Failed = refl
+      go (End e) = refl
+
+  positive-keeps : (e : ℕ) (ps : List Body) → memoRest M w i (agreement.At e) (b ∷ ps) ns m ≡ memoRest M w i (joinedBy Positive (agreement.At e) o) ps ns m′
+  unfolding memoRest memoPositives pick
+  positive-keeps e ps = rw run (go (endsAt o e))
+    where
+      go : (x : Bool) → pick x (memoPositives M w i e ps ns m′) (memoized Failed m′) ≡ memoRest M w i (choose x (agreement.At e) agreement.Failed) ps ns m′
+      go true = refl
+      go false = refl
+
+  negative-keeps : (e : ℕ) → memoRest M w i (agreement.At e) [] (b ∷ ns) m ≡ memoRest M w i (joinedBy Negative (agreement.At e) o) [] ns m′
+  unfolding memoRest memoPositives memoNegatives pick
+  negative-keeps e = rw run (go (endsAt o e))
+    where
+      go : (x : Bool) → pick x (memoized Failed m′) (memoNegatives M w i e ns m′) ≡ memoRest M w i (choose x agreement.Failed (agreement.At e)) [] ns m′
+      go true = refl
+      go false = refl
+
+-- the two signs are told apart by a number
+abbrev signNumber : Sign → ℕ
+signNumber Neither = 0
+signNumber Positive = 1
+signNumber Negative = 2
+
+sign-apart : (s s′ : Sign) → s ≡ s′ → signNumber s ≡ signNumber s′
+sign-apart s s′ e = ap signNumber e
+
+-- the word that a sign tells of
+sign-positive : (w : Word) → signOf w ≡ Positive → w ≡ word.Positive
+sign-positive (word.Heading n t) e = absurd (omega (arith, sign-apart Neither Positive e))
+sign-positive (word.Rule A) e = absurd (omega (arith, sign-apart Neither Positive e))
+sign-positive word.Positive e = refl
+sign-positive word.Negative e = absurd (omega (arith, sign-apart Negative Positive e))
+sign-positive (word.Symbol X) e = absurd (omega (arith, sign-apart Neither Positive e))
+sign-positive word.End e = absurd (omega (arith, sign-apart Neither Positive e))
+sign-positive word.Invalid e = absurd (omega (arith, sign-apart Neither Positive e))
+
+sign-negative : (w : Word) → signOf w ≡ Negative → w ≡ word.Negative
+sign-negative (word.Heading n t) e = absurd (omega (arith, sign-apart Neither Negative e))
+sign-negative (word.Rule A) e = absurd (omega (arith, sign-apart Neither Negative e))
+sign-negative word.Positive e = absurd (omega (arith, sign-apart Positive Negative e))
+sign-negative word.Negative e = refl
+sign-negative (word.Symbol X) e = absurd (omega (arith, sign-apart Neither Negative e))
+sign-negative word.End e = absurd (omega (arith, sign-apart Neither Negative e))
+sign-negative word.Invalid e = absurd (omega (arith, sign-apart Neither Negative e))
+
+-- a sign but neither stands within the words
+sign-within : (words : List ℕ) (at : ℕ) → (signAt words at ≡ Neither → ⊥) → (at < length words) × (signAt words at ≡ signOf (decoded (getD words at 0)))
+unfolding signAt
+sign-within words at h = go (ltb at (length words)) refl h
+  where
+    go : (b : Bool) → ltb at (length words) ≡ b → (choose b (signOf (decoded (getD words at 0))) Neither ≡ Neither → ⊥)
+        → (at < length words) × (choose b (signOf (decoded (getD words at 0))) Neither ≡ signOf (decoded (getD words at 0)))
+    go true e h = (ltb-true at (length words) e, refl)
+    go false e h = absurd (h refl)
+
+-- an agreement that is joined to is open no more, and ends where the body or the bodies before it did
+opens-no-more : (s : Sign) (g : Agreement) (o : Outcome) → goesOn s g ≡ true → joinedBy s g o ≡ agreement.Open → ⊥
+opens-no-more s agreement.Open Failed t e = let n : _≡_ {A = ℕ} 0 1 = cc in omega arith
+opens-no-more s agreement.Open (End x) t e = let n : _≡_ {A = ℕ} 0 1 = cc in omega arith
+opens-no-more Positive (agreement.At x) o t e = go (endsAt o x) e
+  where
+    go : (b : Bool) → choose b (agreement.At x) agreement.Failed ≡ agreement.Open → ⊥
+    go true e = let n : _≡_ {A = ℕ} 0 1 = cc in omega arith
+    go false e = let n : _≡_ {A = ℕ} 0 1 = cc in omega arith
+opens-no-more Negative (agreement.At x) o t e = go (endsAt o x) e
+  where
+    go : (b : Bool) → choose b agreement.Failed (agreement.At x) ≡ agreement.Open → ⊥
+    go true e = let n : _≡_ {A = ℕ} 0 1 = cc in omega arith
+    go false e = let n : _≡_ {A = ℕ} 0 1 = cc in omega arith
+opens-no-more Neither (agreement.At x) o t e = false≢true t
+opens-no-more s agreement.Failed o t e = false≢true t
+
+ends-joined : (n : ℕ) (s : Sign) (g : Agreement) (o : Outcome) → ((e : ℕ) → g ≡ agreement.At e → e ≤ n) → ((e : ℕ) → o ≡ End e → e ≤ n)
+    → (e : ℕ) → joinedBy s g o ≡ agreement.At e → e ≤ n
+ends-joined n s agreement.Open Failed h k e q = let z : _≡_ {A = ℕ} 0 1 = cc in absurd (omega arith)
+ends-joined n s agreement.Open (End x) h k e q = let z : x ≡ e = cc in omega (arith, k x refl)
+ends-joined n Positive (agreement.At x) o h k e q = go (endsAt o x) q
+  where
+    go : (b : Bool) → choose b (agreement.At x) agreement.Failed ≡ agreement.At e → e ≤ n
+    go true q = let z : x ≡ e = cc in omega (arith, h x refl)
+    go false q = let z : _≡_ {A = ℕ} 0 1 = cc in absurd (omega arith)
+ends-joined n Negative (agreement.At x) o h k e q = go (endsAt o x) q
+  where
+    go : (b : Bool) → choose b agreement.Failed (agreement.At x) ≡ agreement.At e → e ≤ n
+    go true q = let z : _≡_ {A = ℕ} 0 1 = cc in absurd (omega arith)
+    go false q = let z : x ≡ e = cc in omega (arith, h x refl)
+ends-joined n Neither (agreement.At x) o h k e q = let z : _≡_ {A = ℕ} 0 1 = cc in absurd (omega arith)
+ends-joined n s agreement.Failed o h k e q = let z : _≡_ {A = ℕ} 0 1 = cc in absurd (omega arith)
+
+module _ {words starts table input memo₀ : List ℕ} {A place : ℕ} (g : CallGiven words starts table input memo₀ A place) (r : Rule)
+    (listed : List·Memᴰ r (grammarOf words .rules)) (heads : r .head ≡ A)
+    {memo : List ℕ} {at : ℕ} {sign : Sign} {agreed : Agreement} (v : Calling words input memo₀ A place r memo at sign agreed) where
+  -- the call with the memo as it is now
+  pub calling-given : CallGiven words starts table input memo A place
+  calling-given = record {
+    given = record {
+      sizes = g .given .sizes;
+      read = g .given .read;
+      free = g .given .free;
+      begins = g .given .begins;
+      entries = g .given .entries;
+      tokens = g .given .tokens;
+      short = g .given .short;
+      sound = v .sound;
+    };
+    named = g .named;
+    placed = g .placed;
+  }
+
+  -- the words behind the one at the index
+  abbrev Q : Parsed
+  Q = parse (drop (at + 1) words)
+
+  -- a conjunct begins at the index: its body is one of the rule's, and what is left behind it
+  pub record Conjunct : Type 0 where
+    pub low : at < length words
+    pub held : List·Memᴰ (Q .body) (bodies r)
+    pub positives : (b : Body) → List·Memᴰ b (Q .positives) → List·Memᴰ b (bodies r)
+    pub negatives : (b : Body) → List·Memᴰ b (Q .negatives) → List·Memᴰ b (bodies r)
+    pub progress : Progress
+    pub reads : scan progress (at + 1) (drop (at + 1) words) ≡ reading words
+    pub joins : (n : ℕ) (m′ : List ℕ) (o : Outcome) → memoRun (deep words input n) input (Q .body) place memo ≡ memoized o m′
+        → memoRest (deep words input n) input place agreed (parse (drop at words) .positives) (parse (drop at words) .negatives) memo
+        ≡ memoRest (deep words input n) input place (joinedBy sign agreed o) (Q .positives) (Q .negatives) m′
+
+  module _ (h : at < length words) where
+    next : Next words at (v .progress) (g .given .sizes)
+    next = scan-next words at (v .progress) (g .given .sizes) h (v .reads ∙ g .given .read)
+
+    next-reads : scan (next .progress) (at + 1) (drop (at + 1) words) ≡ reading words
+    next-reads = next .reads ∙ sym (g .given .read)
+
+    fits : Fits (next .progress .state) (g .given .sizes) Q
+    fits = reads (next .progress) (at + 1) (drop (at + 1) words) (g .given .sizes) (next .reads) .fits
+
+    module _ (goes : goesOn sign agreed ≡ true) where
+      -- a positive conjunct
+      positive : decoded (getD words at 0) ≡ word.Positive → sign ≡ Positive → Conjunct
+      unfolding onWord
+      positive x s =
+          let p : parse (drop at words) ≡ onWord word.Positive Q = parse-here words at h ∙ ap (λ w. onWord w Q) x in
+          let ps : parse (drop at words) .positives ≡ Q .body ∷ Q .positives = ap (λ q. q .positives) p in
+          let ns : parse (drop at words) .negatives ≡ Q .negatives = ap (λ q. q .negatives) p in
+          record {
+            low = h;
+            held = v .positives (Q .body) (rw ps (List·Memᴰ·head refl));
+            positives = λ b k. v .positives b (rw ps (List·Memᴰ·tail k));
+            negatives = λ b k. v .negatives b (rw ns k);
+            progress = next .progress;
+            reads = next-reads;
+            joins = λ n m′ o run. rw (ps, ns, s) (join agreed (rw s at goes) n m′ o run);
+          }
+        where
+          join : (a : Agreement) → goesOn Positive a ≡ true → (n : ℕ) (m′ : List ℕ) (o : Outcome) → memoRun (deep words input n) input (Q .body) place memo ≡ memoized o m′
+              → memoRest (deep words input n) input place a (Q .body ∷ Q .positives) (Q .negatives) memo
+              ≡ memoRest (deep words input n) input place (joinedBy Positive a o) (Q .positives) (Q .negatives) m′
+          join agreement.Open t n m′ o run = positive-opens (deep words input n) input place (Q .body) (Q .negatives) memo m′ o run (Q .positives)
+          join (agreement.At e) t n m′ o run = positive-keeps (deep words input n) input place (Q .body) (Q .negatives) memo m′ o run e (Q .positives)
+          join agreement.Failed t n m′ o run = absurd (false≢true t)
+
+      -- a negative conjunct: no positive one stands behind it, and one stood before it
+      negative : decoded (getD words at 0) ≡ word.Negative → sign ≡ Negative → Conjunct
+      unfolding onWord
+      negative x s =
+          let p : parse (drop at words) ≡ onWord word.Negative Q = parse-here words at h ∙ ap (λ w. onWord w Q) x in
+          let allowed : allows word.Negative (v .progress .state) ≡ true = rw x at (next .passed .allowed) in
+          let after-negative : next .progress .state ≡ state.InNegative = rw x at (next .passed .state) in
+          let none : Q .positives ≡ [] = rw after-negative at (fits .shape) in
+          let ps : parse (drop at words) .positives ≡ Q .positives = ap (λ q. q .positives) p in
+          let ns : parse (drop at words) .negatives ≡ Q .body ∷ Q .negatives = ap (λ q. q .negatives) p in
+          record {
+            low = h;
+            held = v .negatives (Q .body) (rw ns (List·Memᴰ·head refl));
+            positives = λ b k. v .positives b (rw ps k);
+            negatives = λ b k. v .negatives b (rw ns (List·Memᴰ·tail k));
+            progress = next .progress;
+            reads = next-reads;
+            joins = λ n m′ o run. rw (ps, ns, s, none) (join agreed refl allowed (rw s at goes) n m′ o run);
+          }
+        where
+          join : (a : Agreement) → agreed ≡ a → allows word.Negative (v .progress .state) ≡ true → goesOn Negative a ≡ true
+              → (n : ℕ) (m′ : List ℕ) (o : Outcome) → memoRun (deep words input n) input (Q .body) place memo ≡ memoized o m′
+              → memoRest (deep words input n) input place a [] (Q .body ∷ Q .negatives) memo
+              ≡ memoRest (deep words input n) input place (joinedBy Negative a o) [] (Q .negatives) m′
+          join agreement.Open e w t n m′ o run = absurd (false≢true (rw (v .opens e) at w))
+          join (agreement.At x) e w t n m′ o run = negative-keeps (deep words input n) input place (Q .body) (Q .negatives) memo m′ o run x
+          join agreement.Failed e w t n m′ o run = absurd (false≢true t)
+
+  -- where the rule goes on a conjunct begins
+  pub conjunct : goesOn sign agreed ≡ true → Conjunct
+  conjunct goes = go sign refl
+    where
+      begins : (s : Sign) (a : Agreement) → goesOn s a ≡ true → s ≡ Neither → ⊥
+      begins s agreement.Open t e = false≢true (rw e at t)
+      begins s (agreement.At x) t e = false≢true (rw e at t)
+      begins s agreement.Failed t e = false≢true t
+
+      within : (sign ≡ Neither → ⊥) → (at < length words) × (sign ≡ signOf (decoded (getD words at 0)))
+      within n = let k = sign-within words at (λ e. n (v .signed ∙ e)) in (k .0, v .signed ∙ k .1)
+
+      go : (s : Sign) → sign ≡ s → Conjunct
+      go Positive e =
+          let k = within (begins sign agreed goes) in
+          positive (k .0) goes (sign-positive (decoded (getD words at 0)) (sym (k .1) ∙ e)) e
+      go Negative e =
+          let k = within (begins sign agreed goes) in
+          negative (k .0) goes (sign-negative (decoded (getD words at 0)) (sym (k .1) ∙ e)) e
+      go Neither e = absurd (begins sign agreed goes e)
+
+  -- the run of its body
+  pub calling-run : (k : Conjunct) → RunGiven words starts table input memo A (at + 1) place
+  calling-run k = record { call = calling-given; rule = r; listed = listed; heads = heads; held = k .held; progress = k .progress; reads = k .reads }
+
+  -- one body more
+  pub calling-turn : goesOn sign agreed ≡ true → {o : code.Outcome} {memo′ : List ℕ} {at′ : ℕ} {sign′ : Sign} {agreed′ : Agreement}
+      → RunDone words input memo A (at + 1) place o memo′ → agreed′ ≡ joinedBy sign agreed (meant o) → BodyEnd words (at + 1) at′ → sign′ ≡ signAt words at′
+      → Calling words input memo₀ A place r memo′ at′ sign′ agreed′
+  calling-turn goes {o} {memo′} {at′} {sign′} {agreed′} d j b s =
+      let k = conjunct goes in
+      record {
+        sound = d .sound;
+        within = b .within;
+        signed = s;
+        ends = λ e q. ends-joined (length input) sign agreed (meant o) (v .ends) (d .within) e (sym j ∙ q);
+        rest = λ n l. v .rest n l ∙ k .joins n memo′ (meant o) (d .model n l) ∙ sym (rw (j, b .positives, b .negatives));
+        positives = λ x m. k .positives x (rw (b .positives) at m);
+        negatives = λ x m. k .negatives x (rw (b .negatives) at m);
+        progress = k .progress;
+        reads = b .reads (k .progress) (g .given .sizes) (k .reads ∙ g .given .read) ∙ sym (g .given .read);
+        opens = λ q. absurd (opens-no-more sign agreed (meant o) goes (sym j ∙ q));
+        boundary = b .boundary;
+      }
+
+-- a word that begins no conjunct and is no symbol ends the rule
+ends-rule : (w : Word) (p : Parsed) (s : State) → allows w s ≡ true → signOf w ≡ Neither → ((X : grammar.Symbol) → w ≡ Symbol X → ⊥)
+    → (onWord w p .positives ≡ []) × (onWord w p .negatives ≡ [])
+unfolding onWord
+ends-rule (word.Heading n t) p s a e h = absurd (false≢true a)
+ends-rule (word.Rule A) p s a e h = (refl, refl)
+ends-rule word.Positive p s a e h = absurd (omega (arith, sign-apart Positive Neither e))
+ends-rule word.Negative p s a e h = absurd (omega (arith, sign-apart Negative Neither e))
+ends-rule (word.Symbol X) p s a e h = absurd (h X refl)
+ends-rule word.End p s a e h = (refl, refl)
+ends-rule word.Invalid p s a e h = absurd (false≢true a)
+
+nothing-left : (parse [] .positives ≡ []) × (parse [] .negatives ≡ [])
+unfolding parse
+nothing-left = (refl, refl)
+
+module _ {words starts table input memo₀ : List ℕ} {A place : ℕ} (g : CallGiven words starts table input memo₀ A place) {r : Rule}
+    {memo : List ℕ} {at : ℕ} {sign : Sign} {agreed : Agreement} (v : Calling words input memo₀ A place r memo at sign agreed) where
+  -- where no conjunct begins nothing is left of the rule
+  none-left : sign ≡ Neither → (parse (drop at words) .positives ≡ []) × (parse (drop at words) .negatives ≡ [])
+  unfolding signAt
+  none-left e = go (decLt at (length words))
+    where
+      go : Dec (at < length words) → (parse (drop at words) .positives ≡ []) × (parse (drop at words) .negatives ≡ [])
+      go (yes l) =
+          let n = scan-next words at (v .progress) (g .given .sizes) l (v .reads ∙ g .given .read) in
+          let s : signOf (decoded (getD words at 0)) ≡ Neither = (rw (lt-ltb at (length words) l) at (sym (v .signed))) ∙ e in
+          rw (parse-here words at l) (ends-rule (decoded (getD words at 0)) (parse (drop (at + 1) words)) (v .progress .state) (n .passed .allowed) s (λ X. v .boundary X l))
+      go (no l) = over (parse-over words at (omega arith))
+        where
+          over : parse (drop at words) ≡ parse [] → (parse (drop at words) .positives ≡ []) × (parse (drop at words) .negatives ≡ [])
+          over p = rw p nothing-left
+
+  -- the rule has run: its bodies agree, or it has failed
+  pub calling-done : goesOn sign agreed ≡ false → (n : ℕ) → level words input A place ≤ n
+      → memoObey (deep words input n) input (some r) place memo₀ ≡ memoized (concluded agreed) memo
+  unfolding memoRest memoPositives memoNegatives
+  calling-done stops n l = v .rest n l ∙ go agreed refl stops
+    where
+      neither : (s : Sign) → beginsBody s ≡ false → s ≡ Neither
+      neither Positive e = absurd (true≢false e)
+      neither Negative e = absurd (true≢false e)
+      neither Neither e = refl
+
+      go : (a : Agreement) → agreed ≡ a → goesOn sign a ≡ false
+          → memoRest (deep words input n) input place a (parse (drop at words) .positives) (parse (drop at words) .negatives) memo ≡ memoized (concluded a) memo
+      go agreement.Open e t =
+          let f = reads (v .progress) at (drop at words) (g .given .sizes) (v .reads ∙ g .given .read) .fits in
+          absurd ((rw (v .opens e) at (f .shape)) .1 (none-left (neither sign t) .0))
+      go (agreement.At x) e t = let k = none-left (neither sign t) in rw (k .0, k .1)
+      go agreement.Failed e t = refl
+
+-- a call that runs a rule
+pub record InRule (words input memo₀ : List ℕ) (A place : ℕ) (memo : List ℕ) (at : ℕ) (sign : Sign) (agreed : Agreement) : Type 0 where
+  pub rule : Rule
+  pub listed : List·Memᴰ rule (grammarOf words .rules)
+  pub heads : rule .head ≡ A
+  pub selected : select (grammarOf words) (tableOf (grammarOf words) 1 A (look 1 input place)) ≡ some rule
+  pub calling : Calling words input memo₀ A place rule memo at sign agreed
+
+concluded-at : (a : Agreement) (e : ℕ) → concluded a ≡ End e → a ≡ agreement.At e
+concluded-at agreement.Open e q = let z : _≡_ {A = ℕ} 0 1 = cc in absurd (omega arith)
+concluded-at (agreement.At x) e q = let z : x ≡ e = cc in ap agreement.At z
+concluded-at agreement.Failed e q = let z : _≡_ {A = ℕ} 0 1 = cc in absurd (omega arith)
+
+module _ {words starts table input memo₀ : List ℕ} {A place : ℕ} (g : CallGiven words starts table input memo₀ A place)
+    {memo : List ℕ} {at : ℕ} {sign : Sign} {agreed : Agreement} (v : InRule words input memo₀ A place memo at sign agreed) where
+  pub rule-conjunct : goesOn sign agreed ≡ true → at < length words
+  rule-conjunct goes = conjunct g (v .rule) (v .listed) (v .heads) (v .calling) goes .low
+
+  pub rule-run : goesOn sign agreed ≡ true → RunGiven words starts table input memo A (at + 1) place
+  rule-run goes = calling-run g (v .rule) (v .listed) (v .heads) (v .calling) (conjunct g (v .rule) (v .listed) (v .heads) (v .calling) goes)
+
+  pub rule-turn : goesOn sign agreed ≡ true → {o : code.Outcome} {memo′ : List ℕ} {at′ : ℕ} {sign′ : Sign} {agreed′ : Agreement}
+      → RunDone words input memo A (at + 1) place o memo′ → agreed′ ≡ joinedBy sign agreed (meant o) → BodyEnd words (at + 1) at′ → sign′ ≡ signAt words at′
+      → InRule words input memo₀ A place memo′ at′ sign′ agreed′
+  rule-turn goes d j b s = record {
+    rule = v .rule;
+    listed = v .listed;
+    heads = v .heads;
+    selected = v .selected;
+    calling = calling-turn g (v .rule) (v .listed) (v .heads) (v .calling) goes d j b s;
+  }
+
+  pub rule-short : (o : code.Outcome) → meant o ≡ concluded agreed → Short (meant o)
+  rule-short o c e q = let l = v .calling .ends e (concluded-at agreed e (sym c ∙ q)) in omega (arith, g .given .short)
+
+  pub rule-done : goesOn sign agreed ≡ false → (o : code.Outcome) → meant o ≡ concluded agreed
+      → (n : ℕ) → level words input A place ≤ n → memoObey (deep words input n) input (some (v .rule)) place memo₀ ≡ memoized (meant o) memo
+  rule-done stops o c n l = calling-done g (v .calling) stops n l ∙ ap (λ x. memoized x memo) (sym c)

@@ -1,0 +1,201 @@
+-- What checking answers and leaves in the lent table, by what is found of the grammar; and what it means to pass. Assumes nothing.
+use mathlib.Core.Path.{_≡_, refl, sym, ap, _∙_}
+use mathlib.Core.Bool.{true, false}
+use mathlib.Core.List.{List, [], _∷_, _++_, List·Memᴰ·head, List·Memᴰ·not-nil}
+use mathlib.Core.Logic.{_↔_}
+use mathlib.Core.Option.{Option, none, some}
+use Prim.Native.Nat.{ℕ, suc, _+_, _-_, _*_, _≤_, _<_}
+use native.Mathlib.Nat.{mul-add, mul-le-mul}
+use native.Mathlib.Numerals.{add-one}
+use native.Mathlib.Omega.{arith}
+use lib.Dec.{T, ltb}
+use lib.ListN.{length, take, drop, replicate, length-append, length-replicate}
+use lib.Seq.{take-at}
+use borrow.Author.Tests.{lt-ltb, le-ltb}
+use Rattle.answer.specs.declared.Error.{Error}
+use Rattle.answer.specs.declared.Error.the-variants.{TableTooShort}
+use Rattle.answer.specs.declared.Answer.{Answer}
+use Rattle.answer.specs.declared.Answer.the-variants.{Refused, Passed}
+use Rattle.grammar.specs.Limits.{tableWords as memoryWords}
+use Rattle.grammar.specs.Syntax.{Grammar}
+use Rattle.grammar.specs.Encoding.{grammarOf}
+use Rattle.grammar.specs.Reading.{reading}
+use Rattle.grammar.specs.WellRead.{WellRead}
+use Rattle.grammar.specs.declared.reading.Sizes.{Sizes}
+use Rattle.grammar.specs.declared.reading.Outcome.{Outcome}
+use Rattle.grammar.specs.declared.reading.Outcome.the-variants.{Read, Faulty}
+use Rattle.grammar.proofs.WellRead.{well-read}
+use Rattle.semantics.specs.LeftRecursion.{NoLeftRecursion, lowestLeftRecursive}
+use Rattle.semantics.specs.Families.{Clash}
+use Rattle.semantics.specs.FirstFollow.{Entry, First, Follow}
+use Rattle.semantics.specs.Claims.{clashes}
+use Rattle.semantics.specs.Theorems.{LeastSets}
+use Rattle.semantics.proofs.Theorems.{theorems}
+use Rattle.table.specs.declared.Finding.{Finding}
+use Rattle.table.specs.declared.Finding.the-variants as finding
+use Rattle.table.specs.declared.Analysis.{Analysis}
+use Rattle.table.specs.Lists.{listed}
+use Rattle.table.specs.Layout.{noEntry, columns, setWord, rowWord, tableWords}
+use Rattle.table.specs.Entries.{filled}
+use Rattle.table.specs.Analysis.{firstFault, leftFault, clashFault, grammarFault, readingFault, fault, findingOf, tableIf, analyzed}
+use Rattle.table.proofs.Lists.{listed-long}
+use Rattle.recognizer.specs.Memory.{lentBack, wordCount, LendGiven, Lent}
+use Rattle.recognizer.specs.Answers.{firstOf, checkFault, refusedOr}
+use Rattle.recognizer.specs.Properties.{PassedGrammar, LeastFamilies, Checks}
+
+-- how long a table is
+table-long : (G : Grammar) → length (tableWords G) ≡ G .nonterminals * (G .terminals + 3)
+unfolding tableWords
+table-long G =
+    let a = listed-long (2 * G .nonterminals) (setWord G) in
+    let b = listed-long (G .nonterminals * columns G) (rowWord G) in
+    let m = mul-add (G .nonterminals) (G .terminals) 3 in
+    let k = mul-add (G .nonterminals) (G .terminals) 1 in
+    let c : G .nonterminals * columns G ≡ G .nonterminals * (G .terminals + 1) = rw (add-one (G .terminals)) in
+    length-append (listed (2 * G .nonterminals) (setWord G)) (listed (G .nonterminals * columns G) (rowWord G)) ∙ omega arith
+
+-- two faults, of which neither is one
+none-first : (f g : Option Error) → firstFault f g ≡ none → (f ≡ none) × (g ≡ none)
+none-first none g e = (refl, e)
+none-first (some x) g e = let z : _≡_ {A = ℕ} 0 1 = cc in absurd (omega arith)
+
+none-left : (o : Option ℕ) → leftFault o ≡ none → o ≡ none
+none-left none e = refl
+none-left (some A) e = let z : _≡_ {A = ℕ} 0 1 = cc in absurd (omega arith)
+
+none-clash : (t : ℕ) (l : List Entry) → clashFault t l ≡ none → l ≡ []
+none-clash t [] e = refl
+none-clash t (x ∷ l) e = let z : _≡_ {A = ℕ} 0 1 = cc in absurd (omega arith)
+
+read-some : (o : Outcome) → readingFault o ≡ none → (z : Sizes) × (o ≡ Read z)
+read-some (Read z) e = (z, refl)
+read-some (Faulty x) e = let z : _≡_ {A = ℕ} 0 1 = cc in absurd (omega arith)
+
+-- the theorems of the semantics about a grammar that is read
+pub least : (words : List ℕ) (z : Sizes) → reading words ≡ Read z → LeastSets (grammarOf words) 1
+least words z e =
+    let r = well-read words z e in
+    theorems .least-sets (grammarOf words) (r .formed .scoped) (r .formed .terminals) (omega (arith, r .nonterminals, r .someNonterminal)) 1
+
+families : (words : List ℕ) (z : Sizes) → reading words ≡ Read z → LeastFamilies (grammarOf words)
+families words z e =
+    let l = least words z e in
+    record {
+      first-closed = l .first .closed;
+      first-least = λ F c A x h. l .first .smallest (λ B y. T (F B y)) c A x h;
+      follow-closed = l .follow .closed;
+      follow-least = λ L c A x h. l .follow .smallest (λ B y. T (L B y)) c A x h;
+      claimed = l .claimed;
+      unclaimed = l .unclaimed;
+    }
+
+-- a grammar passes exactly when it has no fault
+pub passed-fault : (words : List ℕ) → fault words ≡ none → PassedGrammar words
+unfolding fault grammarFault
+passed-fault words e =
+    let f = none-first (readingFault (reading words)) (grammarFault (grammarOf words)) e in
+    let z = read-some (reading words) (f .0) in
+    let h = none-first (leftFault (lowestLeftRecursive (grammarOf words))) (clashFault (grammarOf words .terminals) (clashes (grammarOf words) 1)) (f .1) in
+    let none-clashes : clashes (grammarOf words) 1 ≡ [] = none-clash _ (clashes (grammarOf words) 1) (h .1) in
+    let r = well-read words (z .0) (z .1) in
+    record {
+      sizes = z .0;
+      read = z .1;
+      free = theorems .left-recursion-decided (grammarOf words) (r .formed .scoped) .absent .0 (none-left (lowestLeftRecursive (grammarOf words)) (h .0));
+      clashless = λ A x c. List·Memᴰ·not-nil (rw none-clashes at (least words (z .0) (z .1) .clash A x .1 c));
+    }
+
+pub fault-passed : (words : List ℕ) → PassedGrammar words → fault words ≡ none
+unfolding fault grammarFault
+fault-passed words p =
+    let r = well-read words (p .sizes) (p .read) in
+    let free : lowestLeftRecursive (grammarOf words) ≡ none = theorems .left-recursion-decided (grammarOf words) (r .formed .scoped) .absent .1 (p .free) in
+    rw (p .read, free, no-clash (clashes (grammarOf words) 1) refl)
+  where
+    no-clash : (l : List Entry) → clashes (grammarOf words) 1 ≡ l → clashFault (grammarOf words .terminals) l ≡ none
+    no-clash [] e = refl
+    no-clash (x ∷ l) e =
+        absurd (p .clashless (x .0) (x .1) (least words (p .sizes) (p .read) .clash (x .0) (x .1) .0 (rw e (List·Memᴰ·head refl))))
+
+-- with a table that is long enough only the grammar's faults are left
+check-fault-long : (n : ℕ) (words : List ℕ) → memoryWords ≤ n → checkFault n words ≡ fault words
+unfolding checkFault
+check-fault-long n words h = rw (le-ltb n memoryWords h) (only (fault words))
+  where
+    only : (f : Option Error) → firstOf (none ∷ f ∷ []) ≡ f
+    only none = refl
+    only (some e) = refl
+
+refused-passed : (f : Option Error) → refusedOr f Passed ≡ Passed → f ≡ none
+refused-passed none e = refl
+refused-passed (some x) e = let z : _≡_ {A = ℕ} 0 1 = cc in absurd (omega arith)
+
+-- the promise from the answer and the table
+checks : {words before after : List ℕ} {r : Answer} → r ≡ refusedOr (checkFault (length before) words) Passed
+    → after ≡ lentBack (checkFault (length before) words) (tableWords (grammarOf words)) before → Checks words before r after
+checks {words} {before} {after} {r} a t = record {
+  answer = a;
+  table = t;
+  passed = λ long.
+      let f = check-fault-long (length before) words long in (
+        λ p. passed-fault words (sym f ∙ refused-passed (checkFault (length before) words) (sym a ∙ p)),
+        λ p. a ∙ rw (f, fault-passed words p),
+      );
+  least = λ z e. (well-read words z e, families words z e);
+}
+
+pub check-short : {words before : List ℕ} → length before < memoryWords → Checks words before (Refused TableTooShort) before
+unfolding checkFault
+check-short {words} {before} h = checks (rw (lt-ltb (length before) memoryWords h)) (rw (lt-ltb (length before) memoryWords h))
+
+-- what is found tells the fault
+found-refused : (o : Outcome) (g : Option Error) (x : Error) → findingOf (firstFault (readingFault o) g) o ≡ finding.Refused x → firstFault (readingFault o) g ≡ some x
+found-refused (Faulty y) g x q = let z : y ≡ x = cc in ap some z
+found-refused (Read z) none x q = let n : _≡_ {A = ℕ} 0 1 = cc in absurd (omega arith)
+found-refused (Read z) (some y) x q = let z : y ≡ x = cc in ap some z
+
+found-passed : (o : Outcome) (g : Option Error) (z : Sizes) → findingOf (firstFault (readingFault o) g) o ≡ finding.Passed z → (firstFault (readingFault o) g ≡ none) × (o ≡ Read z)
+found-passed (Faulty y) g z q = let n : _≡_ {A = ℕ} 0 1 = cc in absurd (omega arith)
+found-passed (Read y) none z q = let e : y ≡ z = cc in (refl, ap Read e)
+found-passed (Read y) (some x) z q = let n : _≡_ {A = ℕ} 0 1 = cc in absurd (omega arith)
+
+module _ (words before : List ℕ) (long : memoryWords ≤ length before) {a : Analysis} (e : a ≡ analyzed words) where
+  pub check-refused : {x : Error} → a .finding ≡ finding.Refused x → Checks words before (Refused x) before
+  unfolding analyzed fault
+  check-refused {x} q =
+      let f : fault words ≡ some x = found-refused (reading words) (grammarFault (grammarOf words)) x (sym (ap (λ y. y .finding) e) ∙ q) in
+      let c : checkFault (length before) words ≡ some x = check-fault-long (length before) words long ∙ f in
+      checks (sym (ap (λ y. refusedOr y Passed) c)) (sym (ap (λ y. lentBack y (tableWords (grammarOf words)) before) c))
+
+  pub check-passed : {z : Sizes} {after : List ℕ} → a .finding ≡ finding.Passed z → Lent before (a .table) z after → Checks words before Passed after
+  unfolding analyzed fault filled
+  check-passed {z} {after} q l =
+      let k = found-passed (reading words) (grammarFault (grammarOf words)) z (sym (ap (λ y. y .finding) e) ∙ q) in
+      let f : fault words ≡ none = k .0 in
+      let c : checkFault (length before) words ≡ none = check-fault-long (length before) words long ∙ f in
+      let r = well-read words z (k .1) in
+      let n : length (tableWords (grammarOf words)) ≡ wordCount z = table-long (grammarOf words) ∙ rw (r .nonterminals, r .terminals) in
+      let t : a .table ≡ tableWords (grammarOf words) ++ replicate (memoryWords - length (tableWords (grammarOf words))) noEntry =
+      ap (λ y. y .table) e ∙ ap (λ y. tableIf y (filled (tableWords (grammarOf words)))) f in
+      let w : take (wordCount z) (a .table) ≡ tableWords (grammarOf words) =
+      ap (take (wordCount z)) t ∙ take-at (tableWords (grammarOf words)) (replicate (memoryWords - length (tableWords (grammarOf words))) noEntry) (wordCount z) n in
+      checks (sym (ap (λ y. refusedOr y Passed) c))
+      (l .words ∙ ap (λ y. y ++ drop (wordCount z) before) w ∙ ap (λ y. tableWords (grammarOf words) ++ drop y before) (sym n)
+      ∙ sym (ap (λ y. lentBack y (tableWords (grammarOf words)) before) c))
+
+  pub lend-given : {z : Sizes} → a .finding ≡ finding.Passed z → LendGiven before (a .table) z
+  unfolding analyzed fault filled
+  lend-given {z} q =
+      let k = found-passed (reading words) (grammarFault (grammarOf words)) z (sym (ap (λ y. y .finding) e) ∙ q) in
+      let r = well-read words z (k .1) in
+      let f : fault words ≡ none = k .0 in
+      let m = mul-le-mul {n₁ = z .nonterminals} {m₁ = z .terminals + 3} {n₂ = 32} {m₂ = 27} (r .fewNonterminals) (omega (arith, r .fewTerminals)) in
+      let n : length (tableWords (grammarOf words)) ≡ wordCount z = table-long (grammarOf words) ∙ rw (r .nonterminals, r .terminals) in
+      let t : a .table ≡ tableWords (grammarOf words) ++ replicate (memoryWords - length (tableWords (grammarOf words))) noEntry =
+      ap (λ y. y .table) e ∙ ap (λ y. tableIf y (filled (tableWords (grammarOf words)))) f in
+      record {
+        long = long;
+        whole = ap length t ∙ length-append (tableWords (grammarOf words)) _ ∙ rw length-replicate (omega arith);
+        fewNonterminals = r .fewNonterminals;
+        fewTerminals = r .fewTerminals;
+      }

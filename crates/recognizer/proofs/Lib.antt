@@ -1,0 +1,11 @@
+pub mod Headings
+pub mod Choosing
+pub mod Bodies
+pub mod Running
+pub mod Calling
+pub mod Storing
+pub mod Starting
+pub mod Appending
+pub mod Tallying
+pub mod Front
+pub mod Checking

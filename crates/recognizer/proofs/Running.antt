@@ -1,0 +1,234 @@
+-- Running a body: what the descent with a memo table gives for the rest of the body is what it gave for the whole. Assumes nothing.
+use mathlib.Core.Path.{_≡_, refl, sym, ap, _∙_}
+use mathlib.Core.Bool.{Bool, true, false, _&&_, false≢true}
+use mathlib.Core.List.{List, [], _∷_, List·Memᴰ}
+use Prim.Native.Nat.{ℕ, suc, _+_, _-_, _≤_, _<_}
+use native.Mathlib.Omega.{arith}
+use native.Mathlib.Numerals.{add-one}
+use lib.Dec.{T, ltb, eqb}
+use lib.ListN.{length, getD, drop}
+use borrow.Author.Tests.{ltb-true}
+use Rattle.grammar.specs.Syntax.{Body, Grammar, NonterminalsBelow}
+use Rattle.grammar.specs.Words.{decoded}
+use Rattle.grammar.specs.Encoding.{Parsed, onWord, parse, grammarOf}
+use Rattle.grammar.specs.Reading.{allows, scan, reading}
+use Rattle.grammar.specs.WellRead.{WellRead}
+use Rattle.grammar.specs.declared.Symbol as grammar
+use Rattle.grammar.specs.declared.Symbol.the-variants.{Terminal, Nonterminal}
+use Rattle.grammar.specs.declared.word.Word.{Word}
+use Rattle.grammar.specs.declared.word.Word.the-variants.{Heading, Rule, Positive, Negative, Symbol, End as EndWord, Invalid}
+use Rattle.grammar.specs.declared.reading.State.{State}
+use Rattle.grammar.specs.declared.reading.Progress.{Progress}
+use Rattle.grammar.specs.declared.reading.Outcome.the-variants.{Read}
+use Rattle.grammar.proofs.Suffixes.{scan-next}
+use Rattle.grammar.proofs.WellRead.{well-read}
+use Rattle.semantics.specs.Quantifiers.{pick}
+use Rattle.semantics.specs.LeftRecursion.{nullable, LeftIn, here, there, LeftDepends, NoLeftRecursion}
+use Rattle.semantics.specs.Claims.{tableOf}
+use Rattle.semantics.specs.Descent.{Outcome, Failed, End}
+use Rattle.semantics.specs.ComesTo.{callAt, measure}
+use Rattle.semantics.specs.MemoDescent.{memoized, andThen, MemoCalls, memoRun, memoCall}
+use Rattle.semantics.proofs.Rank.{level-onward}
+use Rattle.recognizer.specs.declared.descent.Outcome as code
+use Rattle.recognizer.specs.declared.descent.Outcome.the-variants as outcome
+use Rattle.recognizer.specs.Rule.{meant}
+use Rattle.recognizer.specs.Descent.{matchesAt, MemoSound, Given, CallGiven, RunGiven, CallDone, RunDone}
+use Rattle.recognizer.proofs.Bodies.{parse-here, parse-over, symbol-reads}
+
+-- the calls at most n deep, on the words' grammar and table
+abbrev pub deep : List ℕ → List ℕ → ℕ → MemoCalls
+deep words input n = memoCall (grammarOf words) (tableOf (grammarOf words) 1) 1 input n
+
+abbrev pub level : List ℕ → List ℕ → ℕ → ℕ → ℕ
+level words input A place = measure (grammarOf words) input (callAt A place)
+
+pub body-at : List ℕ → ℕ → Body
+body-at words at = parse (drop at words) .body
+
+-- a run that has come to an index and a place
+pub record Running (words input memo₀ : List ℕ) (A from start : ℕ) (memo : List ℕ) (at place : ℕ) : Type 0 where
+  pub behind : start ≤ place
+  pub placed : place ≤ length input
+  pub sound : MemoSound words input memo
+  pub rest : (n : ℕ) → level words input A start ≤ n
+      → memoRun (deep words input n) input (body-at words from) start memo₀ ≡ memoRun (deep words input n) input (body-at words at) place memo
+  pub known : NonterminalsBelow (grammarOf words .nonterminals) (body-at words at)
+  pub front : place ≡ start → (B : ℕ) → LeftIn (nullable (grammarOf words)) B (body-at words at) → LeftDepends (grammarOf words) A B
+  pub progress : Progress
+  pub reads : scan progress at (drop at words) ≡ reading words
+
+-- where two ways meet
+pub running-as : {words input memo₀ : List ℕ} {A from start : ℕ} {memo memo′ : List ℕ} {at place place′ : ℕ} → memo′ ≡ memo → place′ ≡ place
+    → Running words input memo₀ A from start memo at place → Running words input memo₀ A from start memo′ at place′
+running-as m p v = rw (m, p) v
+
+module _ {words starts table input memo₀ : List ℕ} {A from start : ℕ} (g : RunGiven words starts table input memo₀ A from start) where
+  abbrev G : Grammar
+  G = grammarOf words
+
+  r : WellRead words (g .call .given .sizes)
+  r = well-read words (g .call .given .sizes) (g .call .given .read)
+
+  pub running-start : Running words input memo₀ A from start memo₀ from start
+  unfolding body-at
+  running-start = record {
+    behind = omega arith;
+    placed = g .call .placed;
+    sound = g .call .given .sound;
+    rest = λ n l. refl;
+    known = r .formed .scoped .nonterminals (g .rule) (g .listed) (parse (drop from words) .body) (g .held);
+    front = λ e B l. record { rule = g .rule; body = parse (drop from words) .body; listed = g .listed; heads = g .heads; held = g .held; left = l };
+    progress = g .progress;
+    reads = g .reads;
+  }
+
+both : (a b : Bool) → (a && b) ≡ true → a ≡ true
+both true b e = refl
+both false b e = absurd (false≢true e)
+
+end-same : (i j : ℕ) → End i ≡ End j → i ≡ j
+end-same i j e = cc
+
+failed-end : (j : ℕ) → Failed ≡ End j → ⊥
+failed-end j e = let n : _≡_ {A = ℕ} 0 1 = cc in omega arith
+
+-- the words that are no symbol end a body
+body-none : (w : Word) (p : Parsed) (s : State) → allows w s ≡ true → ((X : grammar.Symbol) → w ≡ Symbol X → ⊥) → onWord w p .body ≡ []
+unfolding onWord
+body-none (Heading n t) p s a h = absurd (false≢true a)
+body-none (Rule A) p s a h = refl
+body-none Positive p s a h = refl
+body-none Negative p s a h = refl
+body-none (Symbol X) p s a h = absurd (h X refl)
+body-none EndWord p s a h = refl
+body-none Invalid p s a h = absurd (false≢true a)
+
+module _ {words starts table input memo₀ : List ℕ} {A from start : ℕ} (g : RunGiven words starts table input memo₀ A from start)
+    {memo : List ℕ} {at place : ℕ} (v : Running words input memo₀ A from start memo at place) where
+  -- a run that comes to a word that is no symbol, or to the end of the words, has ended
+  done : body-at words at ≡ [] → RunDone words input memo₀ A from start (outcome.End place) memo
+  unfolding body-at memoRun
+  done e = record {
+    model = λ n l. v .rest n l ∙ ap (λ b. memoRun (deep words input n) input b place memo) e;
+    sound = v .sound;
+    within = λ x q. let e : place ≡ x = end-same place x q in omega (arith, v .placed);
+  }
+
+  pub running-done : (w : Word) → at < length words → w ≡ decoded (getD words at 0) → ((X : grammar.Symbol) → w ≡ Symbol X → ⊥)
+      → RunDone words input memo₀ A from start (outcome.End place) memo
+  unfolding body-at
+  running-done w h e n =
+      let s = scan-next words at (v .progress) (g .call .given .sizes) h (v .reads ∙ g .call .given .read) in
+      let k = parse-here words at h in
+      done (ap (λ p. p .body) k ∙ body-none (decoded (getD words at 0)) (parse (drop (at + 1) words)) (v .progress .state) (s .passed .allowed) (λ X x. n X (e ∙ x)))
+
+  pub running-over : length words ≤ at → RunDone words input memo₀ A from start (outcome.End place) memo
+  unfolding body-at parse
+  running-over h = done (ap (λ p. p .body) (parse-over words at h))
+
+  -- the body from a symbol on
+  module _ (X : grammar.Symbol) (h : at < length words) (x : decoded (getD words at 0) ≡ Symbol X) where
+    body-here : body-at words at ≡ X ∷ body-at words (at + 1)
+    unfolding body-at onWord
+    body-here = ap (λ p. p .body) (parse-here words at h ∙ ap (λ w. onWord w (parse (drop (at + 1) words))) x)
+
+    next-reads : scan (v .progress) (at + 1) (drop (at + 1) words) ≡ reading words
+    next-reads =
+        let z = g .call .given .sizes in
+        symbol-reads words at (v .progress) z X h x (v .reads ∙ g .call .given .read) ∙ sym (g .call .given .read)
+
+    known-here : NonterminalsBelow (grammarOf words .nonterminals) (X ∷ body-at words (at + 1))
+    known-here = rw body-here at (v .known)
+
+    front-here : place ≡ start → (B : ℕ) → LeftIn (nullable (grammarOf words)) B (X ∷ body-at words (at + 1)) → LeftDepends (grammarOf words) A B
+    front-here = rw body-here at (v .front)
+
+    rest-here : (n : ℕ) → level words input A start ≤ n
+        → memoRun (deep words input n) input (body-at words from) start memo₀ ≡ memoRun (deep words input n) input (X ∷ body-at words (at + 1)) place memo
+    rest-here n l = v .rest n l ∙ ap (λ b. memoRun (deep words input n) input b place memo) body-here
+
+  module _ (a : ℕ) (h : at < length words) (x : decoded (getD words at 0) ≡ Symbol (Terminal a)) where
+    -- a token that is the terminal
+    pub running-terminal : matchesAt input place a ≡ true → Running words input memo₀ A from start memo (at + 1) (place + 1)
+    unfolding memoRun matchesAt pick
+    running-terminal m =
+        let l : place < length input = ltb-true place (length input) (both (ltb place (length input)) (eqb (getD input place 0) a) m) in
+        record {
+          behind = omega (arith, v .behind);
+          placed = omega arith;
+          sound = v .sound;
+          rest = λ n k. rest-here (Terminal a) h x n k ∙ rw (m, add-one place);
+          known = known-here (Terminal a) h x;
+          front = λ e. absurd (omega (arith, v .behind));
+          progress = v .progress;
+          reads = next-reads (Terminal a) h x;
+        }
+
+    -- another token, or the end
+    pub running-mismatch : matchesAt input place a ≡ false → RunDone words input memo₀ A from start outcome.Failed memo
+    unfolding body-at memoRun matchesAt pick
+    running-mismatch m = record {
+      model = λ n k. rest-here (Terminal a) h x n k ∙ rw m;
+      sound = v .sound;
+      within = λ e q. absurd (failed-end e q);
+    }
+
+  module _ (B : ℕ) (h : at < length words) (x : decoded (getD words at 0) ≡ Symbol (Nonterminal B)) where
+    -- the call that a nonterminal makes
+    pub running-given : CallGiven words starts table input memo B place
+    running-given = record {
+      given = record {
+        sizes = g .call .given .sizes;
+        read = g .call .given .read;
+        free = g .call .given .free;
+        begins = g .call .given .begins;
+        entries = g .call .given .entries;
+        tokens = g .call .given .tokens;
+        short = g .call .given .short;
+        sound = v .sound;
+      };
+      named = known-here (Nonterminal B) h x .0;
+      placed = v .placed;
+    }
+
+    pub running-small : B < 32
+    running-small = omega (arith, known-here (Nonterminal B) h x .0, r g .nonterminals, r g .fewNonterminals)
+
+    pub running-falls : level words input B place < level words input A start
+    unfolding measure
+    running-falls =
+        level-onward (grammarOf words) (r g .formed .scoped) (g .call .given .free) A B (length input) start place
+        (known-here (Nonterminal B) h x .0) (v .behind) (v .placed) (λ e. front-here (Nonterminal B) h x e B here)
+
+    module _ {o : code.Outcome} {memo′ : List ℕ} (d : CallDone words input memo B place o memo′) where
+      called : (n : ℕ) → level words input A start ≤ n → deep words input n B place memo ≡ memoized (meant o) memo′
+      called n l = d .model n (omega (arith, running-falls))
+
+      -- one that ends
+      pub running-call : (e : ℕ) → o ≡ outcome.End e → Running words input memo₀ A from start memo′ (at + 1) e
+      unfolding memoRun andThen
+      running-call e q =
+          let m : meant o ≡ End e = ap meant q in
+          let f = d .forward e m in
+          record {
+            behind = omega (arith, v .behind);
+            placed = f .1;
+            sound = d .sound;
+            rest = λ n l. rest-here (Nonterminal B) h x n l ∙ rw (called n l, m);
+            known = known-here (Nonterminal B) h x .1;
+            front = λ s C l.
+                let i : place ≡ start = omega (arith, v .behind) in
+                let j : e ≡ place = omega arith in
+                front-here (Nonterminal B) h x i C (there (d .idle (m ∙ ap End j)) l);
+            progress = v .progress;
+            reads = next-reads (Nonterminal B) h x;
+          }
+
+      -- one that fails
+      pub running-failed : o ≡ outcome.Failed → RunDone words input memo₀ A from start outcome.Failed memo′
+      unfolding body-at memoRun andThen
+      running-failed q = record {
+        model = λ n l. rest-here (Nonterminal B) h x n l ∙ rw (called n l, ap meant q);
+        sound = d .sound;
+        within = λ e q. absurd (failed-end e q);
+      }

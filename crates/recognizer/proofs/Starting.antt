@@ -1,0 +1,164 @@
+-- The rule that the table chooses: where it begins, and that its bodies are all still to be run. Assumes nothing.
+use mathlib.Core.Path.{_≡_, refl, sym, ap, _∙_}
+use mathlib.Core.Bool.{Bool, true, false, false≢true}
+use mathlib.Core.List.{List, [], _∷_, List·Memᴰ, Memᴰ·append-left, Memᴰ·append-right}
+use mathlib.Core.Option.{Option, none, some}
+use Prim.Native.Nat.{ℕ, zero, suc, _+_, _-_, _≤_, _<_}
+use native.Mathlib.Omega.{arith}
+use native.Mathlib.Numerals.{add-one}
+use lib.ListN.{length, getD, drop, getElem?}
+use lib.Seq.{drop-cons}
+use Rattle.grammar.specs.Limits.{maxRules}
+use Rattle.grammar.specs.Syntax.{Rule, Grammar, bodies}
+use Rattle.grammar.specs.Words.{decoded}
+use Rattle.grammar.specs.Encoding.{parse, grammarOf}
+use Rattle.grammar.specs.Reading.{allows, after, beginsRule, scan, reading}
+use Rattle.grammar.specs.Starts.{ruleStarts}
+use Rattle.grammar.specs.WellRead.{firstRule, Begun, WellRead}
+use Rattle.grammar.specs.declared.Symbol as grammar
+use Rattle.grammar.specs.declared.word.Word.{Word}
+use Rattle.grammar.specs.declared.word.Word.the-variants as word
+use Rattle.grammar.specs.declared.reading.State.{State}
+use Rattle.grammar.specs.declared.reading.State.the-variants as state
+use Rattle.grammar.specs.declared.reading.Progress.{Progress}
+use Rattle.grammar.proofs.Suffixes.{Reached, read-reaches, Next, scan-next}
+use Rattle.grammar.proofs.WellRead.{well-read}
+use Rattle.semantics.specs.Strings.{look}
+use Rattle.semantics.specs.Families.{OwnEntries}
+use Rattle.semantics.specs.Claims.{tableOf}
+use Rattle.semantics.specs.Descent.{Failed, select}
+use Rattle.semantics.specs.Memo.{failedCode, encode}
+use Rattle.semantics.specs.MemoDescent.{MemoCalls, memoized, memoObey}
+use Rattle.semantics.proofs.Outcomes.{nth-mem}
+use Rattle.semantics.proofs.Theorems.{theorems}
+use Rattle.table.specs.Layout.{noEntry, entryWord}
+use Rattle.recognizer.specs.declared.descent.Sign.{Sign}
+use Rattle.recognizer.specs.declared.descent.Agreement.the-variants as agreement
+use Rattle.recognizer.specs.Rule.{signAt}
+use Rattle.recognizer.specs.Descent.{Given, CallGiven}
+use Rattle.recognizer.proofs.Calling.{memoRest, Calling, InRule}
+
+nth-below : (l : List Rule) (q : ℕ) (r : Rule) → getElem? l q ≡ some r → q < length l
+nth-below [] q r e = let z : _≡_ {A = ℕ} 0 1 = cc in absurd (omega arith)
+nth-below (x ∷ l) zero r e = omega arith
+nth-below (x ∷ l) (suc q) r e = omega (arith, nth-below l q r e)
+
+rule-opens : (w : Word) (s : State) → beginsRule w ≡ true → after w s ≡ state.Opened
+rule-opens (word.Heading n t) s e = absurd (false≢true e)
+rule-opens (word.Rule A) s e = refl
+rule-opens word.Positive s e = absurd (false≢true e)
+rule-opens word.Negative s e = absurd (false≢true e)
+rule-opens (word.Symbol X) s e = absurd (false≢true e)
+rule-opens word.End s e = absurd (false≢true e)
+rule-opens word.Invalid s e = absurd (false≢true e)
+
+module _ {words starts table input memo : List ℕ} {A place : ℕ} (g : CallGiven words starts table input memo A place) where
+  abbrev G : Grammar
+  G = grammarOf words
+
+  abbrev chosenEntry : Option ℕ
+  chosenEntry = tableOf G 1 A (look 1 input place)
+
+  r : WellRead words (g .given .sizes)
+  r = well-read words (g .given .sizes) (g .given .read)
+
+  own : OwnEntries G (tableOf G 1)
+  own = theorems .own-entries G 1
+
+  -- the number of a rule is no word for no entry
+  pub no-rule : {v : ℕ} → v ≡ entryWord chosenEntry → v ≡ noEntry → chosenEntry ≡ none
+  no-rule {v} e n = go chosenEntry refl (sym e ∙ n)
+    where
+      go : (x : Option ℕ) → chosenEntry ≡ x → entryWord x ≡ noEntry → chosenEntry ≡ none
+      go none c q = c
+      go (some q) c z = let k = own A (look 1 input place) q c in absurd (omega (arith, nth-below (G .rules) q (k .0) (k .1), r .rules, r .fewRules))
+
+  pub some-rule : {v : ℕ} → v ≡ entryWord chosenEntry → (v ≡ noEntry → ⊥) → chosenEntry ≡ some v
+  some-rule {v} e n = go chosenEntry refl e
+    where
+      go : (x : Option ℕ) → chosenEntry ≡ x → v ≡ entryWord x → chosenEntry ≡ some v
+      go none c q = absurd (n q)
+      go (some q) c z = c ∙ ap some (sym z)
+
+  -- the rule with the number q, as it stands in the words
+  pub record Chosen (q : ℕ) : Type 0 where
+    pub rule : Rule
+    pub listed : List·Memᴰ rule (G .rules)
+    pub heads : rule .head ≡ A
+    pub selected : select G chosenEntry ≡ some rule
+    pub low : q < maxRules
+    pub begun : Begun words (getD starts q 0)
+    pub positives : rule .positives ≡ parse (drop (getD starts q 0 + 1) words) .positives
+    pub negatives : rule .negatives ≡ parse (drop (getD starts q 0 + 1) words) .negatives
+
+  pub rule-chosen : (q : ℕ) → chosenEntry ≡ some q → Chosen q
+  unfolding select firstRule
+  rule-chosen q c =
+      let k = own A (look 1 input place) q c in
+      let l : q < g .given .sizes .rules = omega (arith, nth-below (G .rules) q (k .0) (k .1), r .rules) in
+      let i : getD starts q 0 ≡ getD (ruleStarts words) q 0 = ap (λ s. getD s q 0) (g .given .begins) in
+      let b : Begun words (getD starts q 0) = rw i (r .begun q l) in
+      let f : k .0 ≡ firstRule (drop (getD starts q 0) words) = some-same (k .0) _ (sym (k .1) ∙ r .begins q l ∙ ap (λ j. some (firstRule (drop j words))) (sym i)) in
+      let d = drop-cons words (getD starts q 0) 0 (b .high) in
+      let e : k .0 ≡ firstRule (getD words (getD starts q 0) 0 ∷ drop (getD starts q 0 + 1) words) = f ∙ (rw (add-one (getD starts q 0)) (ap firstRule d)) in
+      record {
+        rule = k .0;
+        listed = nth-mem (G .rules) q (k .0) (k .1);
+        heads = k .2;
+        selected = rw c (k .1);
+        low = omega (arith, r .fewRules);
+        begun = b;
+        positives = ap (λ x. x .positives) e;
+        negatives = ap (λ x. x .negatives) e;
+      }
+    where
+      some-same : (x y : Rule) → some x ≡ some y → x ≡ y
+      some-same x y e = cc
+
+  -- the reading has come to the rule's begin, and goes on behind it
+  begin-next : (i : ℕ) → Begun words i → (p : Progress) × (scan p (i + 1) (drop (i + 1) words) ≡ reading words) × (p .state ≡ state.Opened)
+  begin-next zero b = absurd (omega (arith, b .low))
+  begin-next (suc i) b =
+      let at = read-reaches words (g .given .sizes) (g .given .read) i (omega (arith, b .high)) in
+      let n = scan-next words (suc i) (at .progress) (g .given .sizes) (b .high) (at .reads) in
+      (n .progress, n .reads ∙ sym (g .given .read), n .passed .state ∙ rule-opens (decoded (getD words (suc i) 0)) (at .progress .state) (b .word))
+
+  -- before its first body
+  pub calling-start : (q : ℕ) (k : Chosen q) {sign : Sign} → sign ≡ signAt words (getD starts q 0 + 1)
+      → Calling words input memo A place (k .rule) memo (getD starts q 0 + 1) sign agreement.Open
+  unfolding memoRest memoObey
+  calling-start q k s =
+      let at = getD starts q 0 + 1 in
+      let n = begin-next (getD starts q 0) (k .begun) in
+      record {
+        sound = g .given .sound;
+        within = omega (arith, k .begun .high);
+        signed = s;
+        ends = λ e c. let z : _≡_ {A = ℕ} 0 1 = cc in absurd (omega arith);
+        rest = λ m l. rw (k .positives, k .negatives);
+        positives = λ b m. let h : List·Memᴰ b (k .rule .positives) = rw (k .positives) m in Memᴰ·append-left (k .rule .negatives) h;
+        negatives = λ b m. let h : List·Memᴰ b (k .rule .negatives) = rw (k .negatives) m in Memᴰ·append-right (k .rule .positives) h;
+        progress = n .0;
+        reads = n .1;
+        opens = λ _. n .2;
+        boundary = λ X l x.
+            let w = scan-next words at (n .0) (g .given .sizes) l (n .1 ∙ g .given .read) in
+            let a : allows (word.Symbol X) state.Opened ≡ true = rw (x, n .2) at (w .passed .allowed) in
+            false≢true a;
+      }
+
+  pub select-none : chosenEntry ≡ none → select G chosenEntry ≡ none
+  unfolding select
+  select-none e = rw e
+
+  pub start-rule : (q : ℕ) (k : Chosen q) {sign : Sign} → sign ≡ signAt words (getD starts q 0 + 1) → InRule words input memo A place memo (getD starts q 0 + 1) sign agreement.Open
+  start-rule q k s = record { rule = k .rule; listed = k .listed; heads = k .heads; selected = k .selected; calling = calling-start q k s }
+
+-- without a rule a call fails
+pub none-fails : (M : MemoCalls) (w : List ℕ) (i : ℕ) (m : List ℕ) → memoObey M w none i m ≡ memoized Failed m
+unfolding memoObey
+none-fails M w i m = refl
+
+pub encode-failed : failedCode ≡ encode Failed
+unfolding encode
+encode-failed = refl

@@ -1,0 +1,44 @@
+-- What checking answers, by the table's length and by what is found of the grammar.
+use Rattle.recognizer.proofs.Checking.{check-short, lend-given, check-refused, check-passed}
+use borrow.Author.Needs.{needs}
+use Rattle.recognizer.proofs.check.Statement.{statement}
+use Rattle.recognizer.proofs.check.Tie as tie
+
+returns : tie.Need-returns
+returns c = check-short (c .if1 .taken)
+
+analyze-requires : tie.Need-analyze-requires
+analyze-requires c κs = search needs
+
+enum-known-finding : tie.Need-enum-known-finding
+enum-known-finding c = search needs
+
+enum-known-finding-2 : tie.Need-enum-known-finding-2
+enum-known-finding-2 c = search needs
+
+lend-requires : tie.Need-lend-requires
+lend-requires c κs = lend-given (c .before .before .before .before .before .before .before .before .before .before .args .words .now) (c .before .before .before .before .before .before .before .before .before .before .args .table .now) (c .before .before .before .before .before .before .before .if1 .left) (c .before .before .before .before .before .before .analyze .ensures) (c .before .before .before .finding2 .given .1)
+
+returns-2 : tie.Need-returns-2
+returns-2 c = check-refused (c .before .before .before .before .before .before .before .before .args .words .now) (c .before .before .before .before .before .before .before .before .args .table .now) (c .before .before .before .before .before .if1 .left) (c .before .before .before .before .analyze .ensures) (c .before .finding .given .1)
+
+same-length : tie.Need-same-length
+same-length c = search needs
+
+returns-3 : tie.Need-returns-3
+returns-3 c =
+    let given = c .before .before .before .before .before .before .before .before .before .before .before .before .before .args in
+    check-passed (given .words .now) (given .table .now) (c .before .before .before .before .before .before .before .before .before .before .if1 .left) (c .before .before .before .before .before .before .before .before .before .analyze .ensures) (c .before .before .before .before .before .before .finding2 .given .1) (c .before .before .lend .ensures)
+
+pub check-spec : {M : Type 1} → statement M
+check-spec =
+    tie.close
+    (tie.spec
+    returns
+    analyze-requires
+    enum-known-finding
+    enum-known-finding-2
+    lend-requires
+    returns-2
+    same-length
+    returns-3)

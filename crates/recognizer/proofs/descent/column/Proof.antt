@@ -1,0 +1,29 @@
+use native.Mathlib.Omega.{arith}
+use borrow.Author.Tests.{lt-ltb, le-ltb}
+use Rattle.recognizer.specs.Descent.{columnAt}
+use borrow.Author.Needs.{needs}
+use Rattle.recognizer.proofs.descent.column.Statement.{statement}
+use Rattle.recognizer.proofs.descent.column.Tie as tie
+use Rattle.recognizer.proofs.descent.column.Reads as reads
+use Rattle.recognizer.proofs.descent.column.Lts as lts
+
+-- src/descent.rt:190:9
+shared-slice-read-result : tie.Need-shared-slice-read-result
+shared-slice-read-result c = search needs
+
+-- src/descent.rt:190:9
+cast-result : tie.Need-cast-result
+cast-result c = omega (arith, c .shared-slice-known .given (c .before .before .args .place))
+
+-- src/descent.rt:186:1
+returns : tie.Need-returns
+unfolding columnAt
+returns c = rw (lt-ltb _ _ (c .before .if1 .taken))
+
+-- src/descent.rt:186:1
+returns-2 : tie.Need-returns-2
+unfolding columnAt
+returns-2 c = rw (le-ltb _ _ (c .if1 .left))
+
+pub column-spec : {M : Type 1} → statement M
+column-spec = tie.close (tie.spec shared-slice-read-result cast-result returns returns-2)

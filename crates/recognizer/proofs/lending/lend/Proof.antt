@@ -1,0 +1,78 @@
+-- The loop keeps the words before the index those of the table.
+use mathlib.Core.Path.{_≡_, refl, _∙_}
+use Prim.Native.Nat.{_-_, _≤_}
+use native.Mathlib.Omega.{arith}
+use lib.ListN.{length, length-set}
+use Rattle.recognizer.specs.Memory.{wordCount}
+use Rattle.recognizer.proofs.Front.{front, front-more, count-low}
+use Rattle.recognizer.proofs.lending.lend.Statement.{statement}
+use Rattle.recognizer.proofs.lending.lend.Tie as tie
+
+abbrev Inv-loop : tie.InvT-loop
+Inv-loop table₀ entries count i₀ table i = (count ≤ 864) × (i ≤ count) × (length table ≡ length table₀) × (table ≡ front entries i table₀)
+
+abbrev μ-loop : tie.MeasureT-loop
+μ-loop table₀ entries count i₀ table i = count - i
+
+cast-count : tie.Need-cast-count Inv-loop μ-loop
+cast-count c = omega (arith, c .before .pre .fewNonterminals)
+
+cast-count-2 : tie.Need-cast-count-2 Inv-loop μ-loop
+cast-count-2 c = omega (arith, c .before .before .pre .fewTerminals)
+
+add-count : tie.Need-add-count Inv-loop μ-loop
+add-count c = omega (arith, c .before .before .pre .fewTerminals)
+
+mul-count : tie.Need-mul-count Inv-loop μ-loop
+mul-count c = omega (arith, count-low (c .before .before .args .table .now) (c .before .before .args .entries .now) (c .before .before .args .sizes) (c .before .before .pre))
+
+loop-holds : tie.Need-loop-holds Inv-loop μ-loop
+loop-holds c = (count-low (c .before .before .args .table .now) (c .before .before .args .entries .now) (c .before .before .args .sizes) (c .before .before .pre), omega arith, refl, refl)
+
+mul-table : tie.Need-mul-table Inv-loop μ-loop
+mul-table c = omega arith
+
+element-copy-out-table : tie.Need-element-copy-out-table Inv-loop μ-loop
+element-copy-out-table c = omega arith
+
+mul-table-2 : tie.Need-mul-table-2 Inv-loop μ-loop
+mul-table-2 c = omega arith
+
+slice-write-table : tie.Need-slice-write-table Inv-loop μ-loop
+slice-write-table c = omega (arith, c .before .before .before .before .before .pre .long)
+
+add-i : tie.Need-add-i Inv-loop μ-loop
+add-i c = omega arith
+
+loop-less : tie.Need-loop-less Inv-loop μ-loop
+loop-less c = omega arith
+
+loop-again : tie.Need-loop-again Inv-loop μ-loop
+loop-again c = (omega arith, omega arith, simp length-set (c .before .before .loop .inv .2), front-more (c .before .before .before .before .before .args .entries .now) (c .before .before .before .before .before .args .table .now) (c .before .before .loop .table) (c .before .before .loop .i) (c .before .before .loop .inv .3) (omega (arith, c .before .before .before .before .before .pre .whole)) (omega (arith, c .before .before .before .before .before .pre .long)))
+
+same-length : tie.Need-same-length Inv-loop μ-loop
+same-length c = c .before .loop .inv .2
+
+returns : tie.Need-returns Inv-loop μ-loop
+returns c = let e : c .before .loop .i ≡ wordCount (c .before .before .before .before .args .sizes) = omega arith in record { words = c .before .loop .inv .3 ∙ rw e }
+
+pub lend-spec : {M : Type 1} → statement M
+lend-spec =
+    tie.close
+    (tie.spec
+    Inv-loop
+    μ-loop
+    cast-count
+    cast-count-2
+    add-count
+    mul-count
+    loop-holds
+    mul-table
+    element-copy-out-table
+    mul-table-2
+    slice-write-table
+    add-i
+    loop-less
+    loop-again
+    same-length
+    returns)

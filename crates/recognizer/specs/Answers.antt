@@ -1,0 +1,63 @@
+-- What a call answers: the first refusal that holds, in document 01's order, or else a verdict.
+use mathlib.Core.Bool.{Bool, true, false}
+use mathlib.Core.List.{List, [], _∷_}
+use mathlib.Core.Option.{Option, none, some}
+use Prim.Native.Nat.{ℕ, suc}
+use lib.Dec.{ltb}
+use lib.ListN.{length}
+use Rattle.answer.specs.declared.Error.{Error}
+use Rattle.answer.specs.declared.Error.the-variants.{TableTooShort, MemoTooShort, InputTooLong, UnknownToken}
+use Rattle.answer.specs.declared.Calls.{Calls}
+use Rattle.answer.specs.declared.Answer.{Answer}
+use Rattle.answer.specs.declared.Answer.the-variants.{Refused, Passed, Rejected, Accepted}
+use Rattle.grammar.specs.Choice.{choose}
+use Rattle.grammar.specs.Limits.{maxTokens, tableWords, memoEntries}
+use Rattle.grammar.specs.Syntax.{Grammar}
+use Rattle.grammar.specs.Encoding.{grammarOf}
+use Rattle.semantics.specs.Claims.{tableOf}
+use Rattle.semantics.specs.Descent.{accepts}
+use Rattle.semantics.specs.Calls.{callCount, farthest}
+use Rattle.table.specs.Analysis.{fault}
+
+-- an error where a test holds
+abbrev pub unless : Bool → Error → Option Error
+unless true e = some e
+unless false e = none
+
+-- the first token that is no terminal of the grammar, of an input whose first token has the index `at`
+unfoldable pub unknownFrom : ℕ → ℕ → List ℕ → Option Error
+unknownFrom n at [] = none
+unknownFrom n at (a ∷ w) = choose (ltb a n) (unknownFrom n (suc at) w) (some (UnknownToken at))
+
+-- the first fault of a list
+abbrev pub firstOf : List (Option Error) → Option Error
+firstOf [] = none
+firstOf (none ∷ l) = firstOf l
+firstOf (some e ∷ l) = some e
+
+-- the refusals of checking: the table's length, then the grammar's faults
+unfoldable pub checkFault : ℕ → List ℕ → Option Error
+checkFault table words = firstOf (unless (ltb table tableWords) TableTooShort ∷ fault words ∷ [])
+
+-- and of judging
+unfoldable pub judgeFault : ℕ → ℕ → List ℕ → List ℕ → Option Error
+judgeFault table memo words input =
+    firstOf
+    (unless (ltb table tableWords) TableTooShort
+    ∷ unless (ltb memo memoEntries) MemoTooShort
+    ∷ fault words
+    ∷ unless (ltb maxTokens (length input)) InputTooLong
+    ∷ unknownFrom (grammarOf words .terminals) 0 input
+    ∷ [])
+
+abbrev pub refusedOr : Option Error → Answer → Answer
+refusedOr (some e) a = Refused e
+refusedOr none a = a
+
+-- the calls that the descent makes, counted
+abbrev pub callsOf : Grammar → List ℕ → Calls
+callsOf G w = record { count = callCount G (tableOf G 1) 1 w; farthest = farthest G (tableOf G 1) 1 w }
+
+-- the verdict of the descent
+unfoldable pub verdictOf : Grammar → List ℕ → Answer
+verdictOf G w = choose (accepts G (tableOf G 1) 1 w) (Accepted (callsOf G w)) (Rejected (callsOf G w))

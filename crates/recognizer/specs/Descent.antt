@@ -1,0 +1,105 @@
+-- What calling a nonterminal and running a body require and ensure: they are the descent with a memo table, for every depth that is enough.
+use mathlib.Core.Path.{_≡_}
+use mathlib.Core.Bool.{Bool, _&&_}
+use mathlib.Core.List.{List, [], _∷_, List·Memᴰ}
+use Prim.Native.Nat.{ℕ, _+_, _*_, _≤_, _<_}
+use lib.Dec.{T, ltb, eqb}
+use lib.ListN.{length, getD, drop}
+use Rattle.grammar.specs.Choice.{choose}
+use Rattle.grammar.specs.Limits.{maxTokens}
+use Rattle.grammar.specs.Syntax.{Rule, Grammar, bodies}
+use Rattle.grammar.specs.Words.{decoded}
+use Rattle.grammar.specs.Encoding.{parse, grammarOf}
+use Rattle.grammar.specs.Reading.{scan, reading}
+use Rattle.grammar.specs.Starts.{ruleStarts}
+use Rattle.grammar.specs.declared.Symbol as grammar
+use Rattle.grammar.specs.declared.word.Word.the-variants.{Symbol}
+use Rattle.grammar.specs.declared.reading.Sizes.{Sizes}
+use Rattle.grammar.specs.declared.reading.Progress.{Progress}
+use Rattle.grammar.specs.declared.reading.Outcome.the-variants.{Read}
+use Rattle.semantics.specs.Valuations.{pairs}
+use Rattle.semantics.specs.LeftRecursion.{nullable, NoLeftRecursion}
+use Rattle.semantics.specs.Strings.{look, Over}
+use Rattle.semantics.specs.Claims.{tableOf}
+use Rattle.semantics.specs.Descent.{Outcome, End, descend}
+use Rattle.semantics.specs.ComesTo.{Call, callAt, InRange, measure}
+use Rattle.semantics.specs.Memo.{Memo, encode, entry, uncalledCode, failedCode}
+use Rattle.semantics.specs.MemoDescent.{memoized, memoRun, memoCall}
+use Rattle.table.specs.Layout.{columns, entryAt, entryWord}
+use Rattle.recognizer.specs.declared.descent.Outcome as code
+use Rattle.recognizer.specs.Rule.{meant}
+
+unfoldable pub matchesAt : List ℕ → ℕ → ℕ → Bool
+matchesAt input place a = ltb place (length input) && eqb (getD input place 0) a
+
+-- the column of the token at a place, or of the end
+unfoldable pub columnAt : List ℕ → ℕ → ℕ → ℕ
+columnAt input place terminals = choose (ltb place (length input)) (getD input place 0) terminals
+
+-- an end that a memo entry can hold
+abbrev pub Short : Outcome → Type 0
+Short o = (e : ℕ) → o ≡ End e → e < failedCode
+
+-- r is where the body at an index ends: the rest of the rule is the same from there on, and so is what a reading makes of it
+pub record BodyEnd (words : List ℕ) (from r : ℕ) : Type 0 where
+  pub on : from ≤ r
+  pub within : r ≤ length words
+  pub positives : parse (drop r words) .positives ≡ parse (drop from words) .positives
+  pub negatives : parse (drop r words) .negatives ≡ parse (drop from words) .negatives
+  pub reads : (p : Progress) (z : Sizes) → scan p from (drop from words) ≡ Read z → scan p r (drop r words) ≡ Read z
+  pub boundary : (X : grammar.Symbol) → r < length words → decoded (getD words r 0) ≡ Symbol X → ⊥
+
+-- the table holds the entries of the grammar
+abbrev pub Entries : Grammar → List ℕ → Type 0
+Entries G table = (A c : ℕ) → A < G .nonterminals → c < columns G → getD table (2 * G .nonterminals + A * columns G + c) 0 ≡ entryAt G A c
+
+pub record ChosenGiven (words table input : List ℕ) (A place : ℕ) : Type 0 where
+  pub sizes : Sizes
+  pub read : reading words ≡ Read sizes
+  pub entries : Entries (grammarOf words) table
+  pub tokens : Over (grammarOf words .terminals) input
+  pub named : A < grammarOf words .nonterminals
+
+-- each entry that is written holds the outcome of its call
+pub record MemoSound (words input memo : List ℕ) : Type 0 where
+  pub size : length memo ≡ pairs (grammarOf words) input
+  pub right : (x : Call) → InRange (grammarOf words) input x → (entry input memo x ≡ uncalledCode → ⊥)
+      → entry input memo x ≡ encode (descend (grammarOf words) (tableOf (grammarOf words) 1) 1 input (x .nonterminal) (x .place))
+
+pub record Given (words starts table input memo : List ℕ) : Type 0 where
+  pub sizes : Sizes
+  pub read : reading words ≡ Read sizes
+  pub free : NoLeftRecursion (grammarOf words)
+  pub begins : starts ≡ ruleStarts words
+  pub entries : Entries (grammarOf words) table
+  pub tokens : Over (grammarOf words .terminals) input
+  pub short : length input ≤ maxTokens
+  pub sound : MemoSound words input memo
+
+pub record CallGiven (words starts table input memo : List ℕ) (A place : ℕ) : Type 0 where
+  pub given : Given words starts table input memo
+  pub named : A < grammarOf words .nonterminals
+  pub placed : place ≤ length input
+
+-- the body at an index is one of a rule of the nonterminal
+pub record RunGiven (words starts table input memo : List ℕ) (A from start : ℕ) : Type 0 where
+  pub call : CallGiven words starts table input memo A start
+  pub rule : Rule
+  pub listed : List·Memᴰ rule (grammarOf words .rules)
+  pub heads : rule .head ≡ A
+  pub held : List·Memᴰ (parse (drop from words) .body) (bodies rule)
+  pub progress : Progress
+  pub reads : scan progress from (drop from words) ≡ reading words
+
+pub record CallDone (words input memo : List ℕ) (A place : ℕ) (r : code.Outcome) (memo′ : List ℕ) : Type 0 where
+  pub model : (n : ℕ) → measure (grammarOf words) input (callAt A place) < n
+      → memoCall (grammarOf words) (tableOf (grammarOf words) 1) 1 input n A place memo ≡ memoized (meant r) memo′
+  pub sound : MemoSound words input memo′
+  pub forward : (e : ℕ) → meant r ≡ End e → (place ≤ e) × (e ≤ length input)
+  pub idle : meant r ≡ End place → T (nullable (grammarOf words) A)
+
+pub record RunDone (words input memo : List ℕ) (A from start : ℕ) (r : code.Outcome) (memo′ : List ℕ) : Type 0 where
+  pub model : (n : ℕ) → measure (grammarOf words) input (callAt A start) ≤ n
+      → memoRun (memoCall (grammarOf words) (tableOf (grammarOf words) 1) 1 input n) input (parse (drop from words) .body) start memo ≡ memoized (meant r) memo′
+  pub sound : MemoSound words input memo′
+  pub within : (e : ℕ) → meant r ≡ End e → e ≤ length input

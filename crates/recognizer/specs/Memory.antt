@@ -1,0 +1,45 @@
+-- What lent memory holds after a call.
+use mathlib.Core.Path.{_≡_}
+use mathlib.Core.Bool.{Bool}
+use mathlib.Core.List.{List, _++_, map}
+use mathlib.Core.Option.{Option, none, some}
+use Prim.Native.Nat.{ℕ, _+_, _*_, _≤_}
+use lib.ListN.{length, take, drop}
+use Rattle.answer.specs.declared.Error.{Error}
+use Rattle.grammar.specs.Choice.{choose}
+use Rattle.grammar.specs.Limits.{maxNonterminals, maxTerminals, tableWords as memoryWords}
+use Rattle.grammar.specs.Syntax.{Grammar}
+use Rattle.grammar.specs.declared.reading.Sizes.{Sizes}
+use Rattle.semantics.specs.FiniteSets.{member}
+use Rattle.semantics.specs.Claims.{tableOf}
+use Rattle.semantics.specs.Descent.{descend}
+use Rattle.semantics.specs.ComesTo.{Call}
+use Rattle.semantics.specs.Calls.{sameCall, allCalls, calls}
+use Rattle.semantics.specs.Memo.{encode, uncalledCode}
+use Rattle.table.specs.Layout.{tableWords}
+
+-- by whether a call is refused: what was there, or new words in front of what was there
+abbrev pub lentBack : Option Error → List ℕ → List ℕ → List ℕ
+lentBack (some e) new old = old
+lentBack none new old = new ++ drop (length new) old
+
+-- the entry of a call: its outcome where it was made
+unfoldable pub memoWord : Grammar → List ℕ → Call → ℕ
+memoWord G w x = choose (member sameCall (calls G (tableOf G 1) 1 w) x) (encode (descend G (tableOf G 1) 1 w (x .nonterminal) (x .place))) uncalledCode
+
+-- (document 01: the notebook)
+unfoldable pub memoWords : Grammar → List ℕ → List ℕ
+memoWords G w = map (memoWord G w) (allCalls G w)
+
+-- how many words a table has: two sets, and a row of an entry for each terminal and for the end
+abbrev pub wordCount : Sizes → ℕ
+wordCount z = z .nonterminals * (z .terminals + 3)
+
+pub record LendGiven (table entries : List ℕ) (z : Sizes) : Type 0 where
+  pub long : memoryWords ≤ length table
+  pub whole : length entries ≡ memoryWords
+  pub fewNonterminals : z .nonterminals ≤ maxNonterminals
+  pub fewTerminals : z .terminals ≤ maxTerminals
+
+pub record Lent (before entries : List ℕ) (z : Sizes) (after : List ℕ) : Type 0 where
+  pub words : after ≡ take (wordCount z) entries ++ drop (wordCount z) before

@@ -1,0 +1,67 @@
+-- How the bodies of a rule, run one after the other, come to agree on an end.
+use mathlib.Core.Bool.{Bool, true, false}
+use mathlib.Core.List.{List}
+use Prim.Native.Nat.{ℕ}
+use lib.Dec.{ltb}
+use lib.ListN.{length, getD}
+use Rattle.grammar.specs.Choice.{choose}
+use Rattle.grammar.specs.Words.{decoded}
+use Rattle.grammar.specs.declared.word.Word.{Word}
+use Rattle.grammar.specs.declared.word.Word.the-variants as word
+use Rattle.semantics.specs.Descent as semantics
+use Rattle.semantics.specs.Descent.{endsAt}
+use Rattle.recognizer.specs.declared.descent.Outcome as code
+use Rattle.recognizer.specs.declared.descent.Outcome.the-variants as outcome
+use Rattle.recognizer.specs.declared.descent.Sign.{Sign}
+use Rattle.recognizer.specs.declared.descent.Sign.the-variants.{Positive, Negative, Neither}
+use Rattle.recognizer.specs.declared.descent.Agreement.{Agreement}
+use Rattle.recognizer.specs.declared.descent.Agreement.the-variants.{Open, At, Failed}
+
+-- the outcome that a value of the code stands for
+abbrev pub meant : code.Outcome → semantics.Outcome
+meant outcome.Failed = semantics.Failed
+meant (outcome.End e) = semantics.End e
+
+abbrev pub signOf : Word → Sign
+signOf word.Positive = Positive
+signOf word.Negative = Negative
+signOf (word.Rule A) = Neither
+signOf (word.Symbol X) = Neither
+signOf word.End = Neither
+signOf (word.Heading n t) = Neither
+signOf word.Invalid = Neither
+
+-- what begins at an index
+unfoldable pub signAt : List ℕ → ℕ → Sign
+signAt words at = choose (ltb at (length words)) (signOf (decoded (getD words at 0))) Neither
+
+abbrev pub beginsBody : Sign → Bool
+beginsBody Positive = true
+beginsBody Negative = true
+beginsBody Neither = false
+
+abbrev pub goesOn : Sign → Agreement → Bool
+goesOn s Open = beginsBody s
+goesOn s (At e) = beginsBody s
+goesOn s Failed = false
+
+-- the first body sets the end
+abbrev pub openedBy : semantics.Outcome → Agreement
+openedBy semantics.Failed = Failed
+openedBy (semantics.End e) = At e
+
+-- a later positive body has to end there, and a negative one must not
+abbrev pub keptBy : Sign → ℕ → Bool → Agreement
+keptBy Positive e there = choose there (At e) Failed
+keptBy Negative e there = choose there Failed (At e)
+keptBy Neither e there = Failed
+
+abbrev pub joinedBy : Sign → Agreement → semantics.Outcome → Agreement
+joinedBy s Open o = openedBy o
+joinedBy s (At e) o = keptBy s e (endsAt o e)
+joinedBy s Failed o = Failed
+
+abbrev pub concluded : Agreement → semantics.Outcome
+concluded Open = semantics.Failed
+concluded (At e) = semantics.End e
+concluded Failed = semantics.Failed

@@ -1,0 +1,84 @@
+-- The number of what a rule claims holds the elements of the strings that it claims.
+use mathlib.Core.Path.{sym, ap, ap₂, _∙_}
+use mathlib.Core.List.{List, _++_, List·Memᴰ, Memᴰ·cast}
+use mathlib.Core.Logic.{_↔_}
+use Prim.Native.Nat.{ℕ, _≤_}
+use lib.ListN.{take}
+use Rattle.grammar.specs.Syntax.{Rule, Grammar, WellFormed}
+use Rattle.lookahead.specs.Elements.{nothing, has}
+use Rattle.lookahead.specs.Operations.{concat as concatNumbers}
+use Rattle.lookahead.proofs.Booleans.{both-ways}
+use Rattle.lookahead.proofs.Pairs.{first, concat-pair}
+use Rattle.lookahead.proofs.Concat.{paired}
+use Rattle.semantics.specs.Strings.{Lookahead}
+use Rattle.semantics.specs.Families.{FirstRule}
+use Rattle.semantics.specs.FiniteSets.{member}
+use Rattle.semantics.specs.FirstFollow.{strings, sameString, concat, firstSets, firstRule, First, follow, followSets}
+use Rattle.semantics.specs.Claims.{meeting, claimed}
+use Rattle.semantics.proofs.FiniteSets.{member-mem, mem-member, keep-make, keep-elim}
+use Rattle.semantics.proofs.LookaheadSets.{strings-equality, strings-make, strings-elim, sets-make, sets-elim, concat-make, concat-elim}
+use Rattle.semantics.proofs.First.{In, firstBody-mono, firstRule-make, firstRule-elim}
+use Rattle.semantics.proofs.First.{first-in, in-first}
+use Rattle.semantics.proofs.Follow.{follow-lookahead}
+use Rattle.table.specs.Sets.{stringOf, firstNumber, followNumber}
+use Rattle.table.specs.First.{ruleFirst}
+use Rattle.table.proofs.Strings.{string-first, StringIn, string-in, in-string}
+use Rattle.table.proofs.Numbers.{number-string, in-number}
+use Rattle.table.proofs.FirstTie.{rule-begins, begins-rule}
+use Rattle.table.proofs.Filling.{ClaimOf}
+
+-- the number s has the elements of the strings that are listed
+abbrev Lists : List (List ℕ) → ℕ → Type 0
+Lists us s = (x : List ℕ) → List·Memᴰ x us ↔ StringIn s x
+
+-- a concatenation lists what the concatenation of the numbers has
+concat-lists : (us ys : List (List ℕ)) (s t : ℕ) → Lists us s → Lists ys t → Lists (concat 1 us ys) (concatNumbers s t)
+concat-lists us ys s t f g x = (
+  λ m.
+      let r = concat-elim 1 us ys x m in
+      let i = f (r .0) .0 (r .2) in
+      let j = g (r .1) .0 (r .3) in
+      (first (i .0) (j .0), paired s t (i .0) (j .0) (i .1) (j .1), r .4 ∙ ap₂ (λ u y. take 1 (u ++ y)) (i .2) (j .2) ∙ string-first (i .0) (j .0)),
+  λ i.
+      let p = concat-pair s t (i .0) (i .1) in
+      Memᴰ·cast (i .2 ∙ ap stringOf (sym (p .is-first)) ∙ sym (string-first (p .a) (p .b)))
+      (concat-make 1 us ys (stringOf (p .a)) (stringOf (p .b)) (f _ .1 (string-in s (p .a) (p .a-in))) (g _ .1 (string-in t (p .b) (p .b-in)))),
+)
+
+module _ (G : Grammar) (formed : WellFormed G) (few : G .terminals ≤ nothing) where
+  abbrev t : ℕ
+  t = G .terminals
+
+  follow-lists : (A : ℕ) → Lists (followSets G 1 A) (followNumber G A)
+  unfolding followSets followNumber
+  follow-lists A x = (
+    λ m. in-number G few (follow G 1) (follow-lookahead G 1) A x (sets-elim G 1 (follow G 1) A x m .1),
+    λ i. let f = number-string G few (follow G 1) (follow-lookahead G 1) A x i in sets-make G 1 (follow G 1) A x (follow-lookahead G 1 A x f .1) f,
+  )
+
+  -- the meeting of a rule's positives
+  meeting-lists : (r : Rule) → List·Memᴰ r (G .rules) → Lists (meeting G 1 r) (ruleFirst t (firstNumber G) (r .positives))
+  unfolding meeting
+  meeting-lists r m x = (
+    λ n.
+        let k = keep-elim (firstRule 1 (firstSets G 1) r) (strings 1 t) x n in
+        begins-rule G formed few r m x (strings-elim 1 t x (k .0))
+        (λ b n. firstBody-mono 1 (In (firstSets G 1)) (First G 1) (first-in G 1) b x (firstRule-elim 1 (firstSets G 1) r x (k .1) b n)),
+    λ i.
+        let k : Lookahead 1 t x × FirstRule 1 (First G 1) r x = rw (i .2) (rule-begins G formed few r (i .0) (i .1)) in
+        keep-make (firstRule 1 (firstSets G 1) r) (strings 1 t) x (strings-make 1 t x (k .0))
+        (firstRule-make 1 (firstSets G 1) r x (λ b n. firstBody-mono 1 (First G 1) (In (firstSets G 1)) (in-first G 1) b x (k .1 b n))),
+  )
+
+  -- a rule claims just the strings whose elements its number has
+  pub claim-of : (r : Rule) → List·Memᴰ r (G .rules) → ClaimOf G r (concatNumbers (ruleFirst t (firstNumber G) (r .positives)) (followNumber G (r .head)))
+  unfolding claimed
+  claim-of r m =
+      let first = ruleFirst t (firstNumber G) (r .positives) in
+      let follow = followNumber G (r .head) in
+      let lists = concat-lists (meeting G 1 r) (followSets G 1 (r .head)) first follow (meeting-lists r m) (follow-lists (r .head)) in
+      record {
+        each = λ l h. both-ways (has (concatNumbers first follow) l) (member sameString (claimed G 1 r) (stringOf l))
+            (λ u. mem-member sameString strings-equality (claimed G 1 r) (stringOf l) (lists (stringOf l) .1 (string-in (concatNumbers first follow) l u)))
+            (λ u. in-string (concatNumbers first follow) l (lists (stringOf l) .0 (member-mem sameString strings-equality (claimed G 1 r) (stringOf l) u)));
+      }

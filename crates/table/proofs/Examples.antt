@@ -1,0 +1,59 @@
+-- The first and follow sets of document 01's grammars R, M and E, as numbers, and the words of their tables, by computation.
+use mathlib.Core.List.{List, [], _∷_}
+use mathlib.Core.Path.{_≡_, refl}
+use Prim.Native.Nat.{ℕ}
+use Rattle.grammar.specs.Cards.{grammarR, grammarM, grammarE}
+use Rattle.grammar.specs.declared.Symbol.the-variants.{Terminal, Nonterminal}
+use Rattle.grammar.specs.Syntax.{Body, Rule, Grammar}
+use Rattle.lookahead.specs.Elements.{total}
+use Rattle.semantics.specs.FirstFollow.{first, follow}
+use Rattle.semantics.specs.Claims.{clashes, tableOf}
+use Rattle.semantics.specs.LeftRecursion.{lowestLeftRecursive}
+use Rattle.semantics.proofs.Computing.{tables-compute, left-recursion-computes}
+use Rattle.table.specs.declared.entries.Conflict.the-variants.{At}
+use Rattle.table.specs.declared.left.Lowest.the-variants.{At as LowestAt}
+use Rattle.table.specs.Lists.{listed}
+use Rattle.table.specs.Sets.{stringOf, numberOf, firstNumber, followNumber}
+use Rattle.table.specs.Layout.{noEntry, columnString, entryAt, setWord, rowWord, tableWords}
+use Rattle.table.specs.Entries.{firstOf}
+use Rattle.table.specs.Left.{lowestOf}
+
+abbrev numbers : Grammar → List ℕ × List ℕ
+numbers G = (listed (G .nonterminals) (firstNumber G), listed (G .nonterminals) (followNumber G))
+
+sheets : _≡_ {A = List (List ℕ × List ℕ)} (numbers grammarR ∷ numbers grammarM ∷ numbers grammarE ∷ []) (
+    (16777217 ∷ [], 16777216 ∷ [])
+    ∷ (16777219 ∷ 16777217 ∷ 16777217 ∷ 16777220 ∷ 16777218 ∷ [], 16777216 ∷ 16777218 ∷ 16777222 ∷ 16777216 ∷ 16777220 ∷ [])
+    ∷ (3 ∷ 3 ∷ 3 ∷ 16777216 ∷ [], 16777216 ∷ 2 ∷ 2 ∷ 2 ∷ []) ∷ []
+    )
+unfolding tables-compute listed total stringOf numberOf firstNumber followNumber first follow
+sheets = refl
+
+-- the words of their tables: the sets, and the rows
+tables : _≡_ {A = List (List ℕ)} (tableWords grammarR ∷ tableWords grammarM ∷ tableWords grammarE ∷ []) (
+    (16777217 ∷ 16777216 ∷ 0 ∷ 1 ∷ [])
+    ∷ (16777219 ∷ 16777216 ∷ 16777217 ∷ 16777218 ∷ 16777217 ∷ 16777222 ∷ 16777220 ∷ 16777216 ∷ 16777218 ∷ 16777220
+    ∷ 0 ∷ 0 ∷ noEntry ∷ 0 ∷ 1 ∷ 2 ∷ noEntry ∷ 2 ∷ 3 ∷ 4 ∷ 4 ∷ 4 ∷ noEntry ∷ noEntry ∷ 5 ∷ 6 ∷ noEntry ∷ 7 ∷ 8 ∷ 8 ∷ [])
+    ∷ (3 ∷ 16777216 ∷ 3 ∷ 2 ∷ 3 ∷ 2 ∷ 16777216 ∷ 2
+    ∷ 0 ∷ 0 ∷ noEntry ∷ 1 ∷ 1 ∷ noEntry ∷ 2 ∷ 3 ∷ noEntry ∷ noEntry ∷ 4 ∷ noEntry ∷ []) ∷ []
+    )
+unfolding tables-compute listed total stringOf numberOf firstNumber followNumber first follow tableWords setWord rowWord entryAt columnString tableOf
+tables = refl
+
+-- document 01's grammars with an error: two rules that claim one entry, and left recursion through a negative conjunct
+abbrev ruleA : List Body → Rule
+ruleA ns = record { head = 0; positives = (Terminal 0 ∷ []) ∷ []; negatives = ns }
+
+abbrev twiceA : Grammar
+twiceA = record { nonterminals = 1; terminals = 1; rules = ruleA [] ∷ ruleA [] ∷ [] }
+
+abbrev notItself : Grammar
+notItself = record { nonterminals = 1; terminals = 1; rules = ruleA ((Nonterminal 0 ∷ []) ∷ []) ∷ [] }
+
+claimed-twice : firstOf 1 (clashes twiceA 1) ≡ At 0 0
+unfolding tables-compute clashes
+claimed-twice = refl
+
+reaches-itself : lowestOf (lowestLeftRecursive notItself) ≡ LowestAt 0
+unfolding left-recursion-computes lowestLeftRecursive
+reaches-itself = refl

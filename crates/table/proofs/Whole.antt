@@ -1,0 +1,140 @@
+-- The memory once the sets and the rows are filled: the words of the table, and behind them no entries.
+use mathlib.Core.Path.{_≡_, refl, sym, _∙_}
+use mathlib.Core.List.{List, _++_}
+use mathlib.Core.Logic.{inl, inr}
+use mathlib.Core.Option.{Option, none, some}
+use Prim.Native.Nat.{ℕ, suc, _+_, _-_, _*_, _/_, _%_, _≤_, _<_}
+use native.Mathlib.Decide.{ℕ-discrete, decLt}
+use native.Mathlib.Nat.{mul-le-mul, mod-lt, div-add-mod', div-lt-iff-lt-mul}
+use native.Mathlib.Omega.{arith}
+use lib.ListN.{length, getD, replicate, length-append, length-replicate, getD-replicate, List·getD-append}
+use lib.Seq.{ext-getD, getD-append-add}
+use borrow.Author.Tests.{eq-eqb, ne-eqb}
+use lib.Dec.{eqb}
+use Rattle.grammar.specs.Choice.{choose}
+use Rattle.grammar.specs.Limits.{maxNonterminals, maxTerminals, tableWords as memoryWords}
+use Rattle.grammar.specs.declared.reading.Sizes.{Sizes}
+use Rattle.grammar.specs.Encoding.{grammarOf}
+use Rattle.grammar.specs.Syntax.{Grammar}
+use Rattle.grammar.proofs.WellRead.{well-read}
+use Rattle.semantics.specs.Claims.{tableOf}
+use Rattle.table.specs.declared.entries.Conflict.{Conflict}
+use Rattle.table.specs.Lists.{listed}
+use Rattle.table.specs.Sets.{firstNumber, followNumber}
+use Rattle.table.specs.Layout.{noEntry, entryWord, columnString, columns, entryAt, setWord, rowWord, tableWords}
+use Rattle.table.specs.Entries.{filled, tableWith, entriesOf, Given}
+use Rattle.table.specs.Filling.{conflictFrom, entryOver, FilledSets, FilledRows}
+use Rattle.table.proofs.Lists.{listed-long, listed-at}
+use Rattle.table.proofs.Cells.{first-clash}
+
+-- a word of two lists, one behind the other
+at-first : (xs ys : List ℕ) (m i d : ℕ) → length xs ≡ m → i < m → getD (xs ++ ys) i d ≡ getD xs i d
+at-first xs ys m i d e h = List·getD-append xs ys d i (omega arith)
+
+at-second : (xs ys : List ℕ) (m i d : ℕ) → length xs ≡ m → getD (xs ++ ys) (m + i) d ≡ getD ys i d
+at-second xs ys m i d e = rw (← e) (getD-append-add xs ys i d)
+
+fresh-entry : (o : Option ℕ) → entryOver 0 noEntry o ≡ entryWord o
+fresh-entry none = refl
+fresh-entry (some q) = omega arith
+
+module _ (G : Grammar) (few : G .nonterminals ≤ maxNonterminals) (few′ : G .terminals ≤ maxTerminals) {firsts follows : List ℕ}
+    (f : firsts ≡ listed maxNonterminals (firstNumber G)) (g : follows ≡ listed maxNonterminals (followNumber G)) {half table twice : List ℕ}
+    (sets : FilledSets (replicate memoryWords noEntry) (G .nonterminals) firsts follows half) (rows : FilledRows G half table twice) where
+  abbrev before : List ℕ
+  before = replicate memoryWords noEntry
+
+  abbrev setWords : ℕ
+  setWords = 2 * G .nonterminals
+
+  abbrev rowWords : ℕ
+  rowWords = G .nonterminals * columns G
+
+  room : setWords + rowWords ≤ memoryWords
+  room = let l : columns G ≤ 25 = omega arith in omega (arith, mul-le-mul few l)
+
+  table-length : length (tableWords G) ≡ setWords + rowWords
+  unfolding tableWords
+  table-length =
+      let sum = length-append (listed setWords (setWord G)) (listed rowWords (rowWord G)) in
+      omega (arith, listed-long setWords (setWord G), listed-long rowWords (rowWord G))
+
+  -- the sets
+  in-sets : (i : ℕ) → i < setWords → getD table i 0 ≡ setWord G i
+  unfolding setWord
+  in-sets i h = rows .outside i (inl h) ∙ go (ℕ-discrete (i % 2) 0)
+    where
+      A : ℕ
+      A = i / 2
+
+      own : A < G .nonterminals
+      own = omega arith
+
+      go : Dec (i % 2 ≡ 0) → getD half i 0 ≡ choose (eqb (i % 2) 0) (firstNumber G A) (followNumber G A)
+      go (yes e) =
+          let at : 2 * A ≡ i = omega arith in
+          rw (eq-eqb (i % 2) 0 e) ((rw at at (sets .first A own)) ∙ (rw f (listed-at maxNonterminals (firstNumber G) A (omega arith))))
+      go (no ne) =
+          let at : 2 * A + 1 ≡ i = omega arith in
+          rw (ne-eqb (i % 2) 0 ne) ((rw at at (sets .follow A own)) ∙ (rw g (listed-at maxNonterminals (followNumber G) A (omega arith))))
+
+  -- the rows
+  in-rows : (i : ℕ) → i < rowWords → getD table (setWords + i) 0 ≡ rowWord G i
+  unfolding rowWord entryAt
+  in-rows i h =
+      let z : 0 < columns G = omega arith in
+      let A : i / columns G < G .nonterminals = div-lt-iff-lt-mul {x = i} {y = G .nonterminals} z .1 h in
+      let c : i % columns G ≤ G .terminals = omega (arith, mod-lt i z) in
+      let fresh : getD half (setWords + i) 0 ≡ noEntry =
+      sets .behind (setWords + i) (omega arith) ∙ getD-replicate memoryWords (setWords + i) noEntry 0 (omega (arith, room)) in
+      let r = rw (div-add-mod' i (columns G), fresh) at (rows .rows (i / columns G) (i % columns G) A c) in
+      r ∙ fresh-entry (tableOf G 1 (i / columns G) (columnString (G .terminals) (i % columns G)))
+
+  -- every word
+  each : (i : ℕ) → i < memoryWords → getD table i 0 ≡ getD (filled (tableWords G)) i 0
+  unfolding filled tableWords
+  each i h = go (decLt i setWords) (decLt i (setWords + rowWords))
+    where
+      rest : List ℕ
+      rest = replicate (memoryWords - length (tableWords G)) noEntry
+
+      go : Dec (i < setWords) → Dec (i < setWords + rowWords) → getD table i 0 ≡ getD ((listed setWords (setWord G) ++ listed rowWords (rowWord G)) ++ rest) i 0
+      go (yes a) d =
+          in-sets i a ∙ sym (at-first (tableWords G) rest (setWords + rowWords) i 0 table-length (omega arith)
+          ∙ at-first (listed setWords (setWord G)) (listed rowWords (rowWord G)) setWords i 0 (listed-long setWords (setWord G)) a
+          ∙ listed-at setWords (setWord G) i a)
+      go (no a) (yes b) =
+          let j : setWords + (i - setWords) ≡ i = omega arith in
+          let k : i - setWords < rowWords = omega arith in
+          (rw j at (in-rows (i - setWords) k)) ∙ sym (at-first (tableWords G) rest (setWords + rowWords) i 0 table-length b
+          ∙ (rw j at (at-second (listed setWords (setWord G)) (listed rowWords (rowWord G)) setWords (i - setWords) 0 (listed-long setWords (setWord G))))
+          ∙ listed-at rowWords (rowWord G) (i - setWords) k)
+      go (no a) (no b) =
+          let j : setWords + rowWords + (i - (setWords + rowWords)) ≡ i = omega arith in
+          rows .outside i (inr (omega arith)) ∙ sets .behind i (omega arith) ∙ getD-replicate memoryWords i noEntry 0 h
+          ∙ sym ((rw j at (at-second (tableWords G) rest (setWords + rowWords) (i - (setWords + rowWords)) 0 table-length))
+          ∙ getD-replicate (memoryWords - length (tableWords G)) (i - (setWords + rowWords)) noEntry 0 (omega (arith, table-length)))
+
+  -- the memory is the table, with no entries behind it
+  pub table-filled : table ≡ filled (tableWords G)
+  unfolding filled
+  table-filled =
+      let l : length table ≡ memoryWords = rows .long ∙ sets .long ∙ length-replicate {A = ℕ} memoryWords noEntry in
+      let rest = replicate {A = ℕ} (memoryWords - length (tableWords G)) noEntry in
+      let long = length-replicate {A = ℕ} (memoryWords - length (tableWords G)) noEntry in
+      let m : length (filled (tableWords G)) ≡ memoryWords = omega (arith, length-append (tableWords G) rest, long, table-length, room) in
+      ext-getD 0 table (filled (tableWords G)) (l ∙ sym m) (λ i h. each i (omega arith))
+
+-- with the first conflict found, this is the result
+pub entries-right : {words : List ℕ} {z : Sizes} {firsts follows half table twice : List ℕ} {conflict : Conflict} → Given words z firsts follows
+    → FilledSets (replicate memoryWords noEntry) (z .nonterminals) firsts follows half → FilledRows (grammarOf words) half table twice
+    → conflict ≡ conflictFrom twice (z .terminals) 0 (z .nonterminals * suc (z .terminals)) → tableWith conflict table ≡ entriesOf (grammarOf words)
+unfolding entriesOf
+entries-right {words} {z} {firsts} {follows} {half} {table} {twice} {conflict} g sets rows e =
+    let k = well-read words z (g .read) in
+    let G = grammarOf words in
+    let n : G .nonterminals ≤ maxNonterminals = omega (arith, k .fewNonterminals, k .nonterminals) in
+    let t : G .terminals ≤ maxTerminals = omega (arith, k .fewTerminals, k .terminals) in
+    let w = table-filled G n t (g .first) (g .follow) (rw (k .nonterminals) at sets) rows in
+    let c = (rw (k .nonterminals, k .terminals) at e) ∙ first-clash G t twice (rows .clashing) in
+    rw (w, c)
