@@ -18,6 +18,7 @@ digits-enough (suc f) (suc g) n h k = go (digits-enough f g (n / 10) (tenth f h)
   where
     tenth : (e : ℕ) → n < 10 ^ suc (suc e) → n / 10 < 10 ^ suc e
     tenth e l = omega (arith, pow-suc 10 (suc e))
+
     go : digits (suc f) (n / 10) ≡ digits (suc g) (n / 10) → Dec (n < 10) → digits (suc (suc f)) n ≡ digits (suc (suc g)) n
     go rest (yes l) = rw (lt-ltb n 10 l)
     go rest (no l) = let e : 10 ≤ n = omega arith in rw (le-ltb n 10 e) (ap (λ d. d ++ (digit (n % 10) ∷ [])) rest)

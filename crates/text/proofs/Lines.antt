@@ -8,6 +8,7 @@ use lib.ListN.{length, getD}
 use borrow.Author.Tests.{eq-eqb, ne-eqb}
 use Rattle.answer.specs.declared.Error.{Error}
 use Rattle.answer.specs.Numbers.{coded}
+use Rattle.grammar.specs.Limits.{maxNonterminals, maxTerminals}
 use Rattle.lookahead.specs.Elements.{size}
 use Rattle.text.specs.Ascii.{ascii}
 use Rattle.text.specs.Decimal.{decimal, labelled}
@@ -24,6 +25,10 @@ getD-within (x ∷ xs) (suc i) d e h = getD-within xs i d e (omega arith)
 -- the entries of a memo table are few enough to be counted
 pub few-entries : (n t : ℕ) → n < 2 ^ 32 → t < 2 ^ 16 → n * (t + 1) < 2 ^ 64
 few-entries n t h k = let l : n ≤ 2 ^ 32 = omega arith in omega (arith, mul-le-mul-right (t + 1) l)
+
+-- the rows before a nonterminal's are few words
+pub row-start : (A t : ℕ) → A < maxNonterminals → t ≤ maxTerminals → A * (t + 1) ≤ 775
+row-start A t h k = let l : A ≤ 31 = omega arith in omega (arith, mul-le-mul-right (t + 1) l)
 
 module _ {l m : List ℕ} {at next : ℕ} where
   pub refusal-put : (e : Error) {n p : ℕ} → n ≡ coded e .code → p ≡ coded e .position →

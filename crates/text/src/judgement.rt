@@ -18,6 +18,7 @@ use answer::position;
 
 // The memo table's codes; any other entry is an end.
 const FAILED: u16 = 65534;
+
 const UNCALLED: u16 = 65535;
 
 pub fn put_refusal(out: &mut [u8], at: usize, error: Error) -> usize
@@ -32,11 +33,7 @@ pub fn put_refusal(out: &mut [u8], at: usize, error: Error) -> usize
 fn entry_at(memo: &[u16], at: usize) -> u16
     ensures { λ r. ⌜ r ≡ getD (now (memo .entry)) at uncalled ⌝ }
 {
-    if at < memo.len() {
-        memo[at]
-    } else {
-        UNCALLED
-    }
+    if at < memo.len() { memo[at] } else { UNCALLED }
 }
 
 fn put_end(out: &mut [u8], at: usize, entry: u16) -> usize
@@ -84,7 +81,13 @@ fn put_verdict(out: &mut [u8], at: usize, verdict: &[u8], calls: Calls) -> usize
 }
 
 // What is printed of an answer about an input of so many tokens.
-pub fn put_judgement(out: &mut [u8], answer: Answer, nonterminals: u32, tokens: u16, memo: &[u16]) -> usize
+pub fn put_judgement(
+    out: &mut [u8],
+    answer: Answer,
+    nonterminals: u32,
+    tokens: u16,
+    memo: &[u16],
+) -> usize
     ensures { λ r. ⌜ Put (now (out .entry)) 0 (judgementText answer nonterminals tokens (now (memo .entry))) (now (out .exit)) r ⌝ }
 {
     match answer {

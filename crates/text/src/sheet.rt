@@ -92,7 +92,13 @@ fn put_entries(out: &mut [u8], at: usize, table: &[u32], start: usize, columns: 
     put_bytes(out, at, b"\n")
 }
 
-fn put_nonterminal(out: &mut [u8], at: usize, sizes: Sizes, table: &[u32], nonterminal: u32) -> usize
+fn put_nonterminal(
+    out: &mut [u8],
+    at: usize,
+    sizes: Sizes,
+    table: &[u32],
+    nonterminal: u32,
+) -> usize
     requires { ⌜ (sizes .nonterminals ≤ maxNonterminals) × (sizes .terminals ≤ maxTerminals) × (nonterminal < maxNonterminals) ⌝ }
     ensures { λ r. ⌜ Put (now (out .entry)) at (nonterminalText sizes (now (table .entry)) nonterminal) (now (out .exit)) r ⌝ }
 {

@@ -30,13 +30,13 @@ same-length : tie.Need-same-length
 same-length c = search needs
 
 returns-2 : tie.Need-returns-2
-returns-2 c = 
+returns-2 c =
     let last = c .before .before in
     let third = last .before .before .before .before .before in
     let second = third .before .before .before .before in
     let first = second .before .before .before .before .before in
     let test = first .before .before in
-    call-put _ _ _ (test .if1 .left) (put-then (first .put-number .ensures) (put-then (second .put-labelled .ensures) (put-then (third .put-end .ensures) (last .put-bytes .ensures))))
+    call-put _ _ _ (test .if1 .left) (put-then (put-then (put-then (first .put-number .ensures) (second .put-labelled .ensures)) (third .put-end .ensures)) (last .put-bytes .ensures))
 
 pub put-call-spec : {M : Type 1} → statement M
 put-call-spec =

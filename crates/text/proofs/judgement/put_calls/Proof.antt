@@ -39,7 +39,7 @@ put-call-requires : tie.Need-put-call-requires Inv-loop μ-loop
 put-call-requires c κs = tt
 
 add-k : tie.Need-add-k Inv-loop μ-loop
-add-k c = omega arith
+add-k c = omega (arith, few-entries (c .before .before .before .before .before .before .before .before .before .args .nonterminals) (c .before .before .before .before .before .before .before .before .before .args .tokens) (omega arith) (omega arith))
 
 loop-less : tie.Need-loop-less Inv-loop μ-loop
 loop-less c = omega arith

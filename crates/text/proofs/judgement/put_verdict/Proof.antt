@@ -23,11 +23,11 @@ same-length : tie.Need-same-length
 same-length c = search needs
 
 returns : tie.Need-returns
-returns c = 
+returns c =
     let last = c .before .before in
     let second = last .before .before .before .before .before in
     let first = second .before .before .before .before .before in
-    put-then (first .put-labelled .ensures) (put-then (second .put-labelled2 .ensures) (last .put-bytes .ensures))
+    put-then (put-then (first .put-labelled .ensures) (second .put-labelled2 .ensures)) (last .put-bytes .ensures)
 
 pub put-verdict-spec : {M : Type 1} → statement M
 put-verdict-spec =

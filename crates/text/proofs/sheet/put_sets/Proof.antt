@@ -48,14 +48,14 @@ same-length : tie.Need-same-length
 same-length c = search needs
 
 returns : tie.Need-returns
-returns c = 
+returns c =
     let last = c .before .before in
     let third = last .before .before .before .before .before in
     let second = third .before .before .before .before .before in
     let first = second .before .before .before .before .before in
     let begun = first .before .before .before in
     let begin = begun .before in
-    sets-put _ _ (begin .word-at .ensures) (begun .word-at2 .ensures) (put-then (first .put-labelled .ensures) (put-then (second .put-set .ensures) (put-then (third .put-set2 .ensures) (last .put-bytes .ensures))))
+    sets-put _ _ (begin .word-at .ensures) (begun .word-at2 .ensures) (put-then (put-then (put-then (first .put-labelled .ensures) (second .put-set .ensures)) (third .put-set2 .ensures)) (last .put-bytes .ensures))
 
 pub put-sets-spec : {M : Type 1} → statement M
 put-sets-spec =
