@@ -1,9 +1,11 @@
 -- The sheet of a grammar (document 01: the sheet), line by line, from the words of its table.
-use mathlib.Core.List.{List, _++_}
+use mathlib.Core.List.{List, [], _++_}
 use Prim.Native.Nat.{ℕ, _+_, _*_}
 use Prim.Native.String.{String}
 use lib.Dec.{eqb}
 use lib.ListN.{getD}
+use Rattle.answer.specs.declared.Answer.{Answer}
+use Rattle.answer.specs.declared.Answer.the-variants.{Refused, Passed, Rejected, Accepted}
 use Rattle.grammar.specs.declared.reading.Sizes.{Sizes}
 use Rattle.grammar.specs.declared.reading.Outcome.{Outcome}
 use Rattle.grammar.specs.declared.reading.Outcome.the-variants.{Read, Faulty}
@@ -51,3 +53,10 @@ nonterminalText z table A =
 unfoldable pub sheetText : Outcome → List ℕ → List ℕ
 sheetText (Read z) table = sizesLine z ++ upTo (z .nonterminals) (nonterminalText z table)
 sheetText (Faulty e) table = refusalText e
+
+-- what is printed of a check: the refusal, or the sheet; a check gives no verdict
+unfoldable pub checkText : Answer → Outcome → List ℕ → List ℕ
+checkText (Refused e) outcome table = refusalText e
+checkText Passed outcome table = sheetText outcome table
+checkText (Rejected c) outcome table = []
+checkText (Accepted c) outcome table = []

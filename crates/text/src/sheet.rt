@@ -7,10 +7,11 @@ ghost use Rattle.grammar.specs.Limits.{maxNonterminals, maxTerminals};
 ghost use Rattle.lookahead.specs.Elements.{size as sizeOf};
 ghost use Rattle.text.specs.Decimal.{decimal, labelled};
 ghost use Rattle.text.specs.Writing.{Put, upTo};
-ghost use Rattle.text.specs.Sheet.{wordAt, sizesLine, setsLine, entryText, entriesLine, nonterminalText, sheetText};
+ghost use Rattle.text.specs.Sheet.{wordAt, sizesLine, setsLine, entryText, entriesLine, nonterminalText, sheetText, checkText};
 use super::judgement::put_refusal;
 use super::put::put_bytes;
 use super::put::put_labelled;
+use answer::Answer;
 use grammar::reading::Outcome;
 use grammar::reading::Sizes;
 use grammar::reading::read;
@@ -133,5 +134,17 @@ pub fn put_sheet(out: &mut [u8], words: &[u32], table: &[u32]) -> usize
             put_nonterminals(out, at, sizes, table)
         }
         Outcome::Faulty(error) => put_refusal(out, 0, error),
+    }
+}
+
+// What is printed of a check: the refusal, or the sheet.
+pub fn put_check(out: &mut [u8], answer: Answer, words: &[u32], table: &[u32]) -> usize
+    ensures { λ r. ⌜ Put (now (out .entry)) 0 (checkText answer (reading (now (words .entry))) (now (table .entry))) (now (out .exit)) r ⌝ }
+{
+    match answer {
+        Answer::Refused(error) => put_refusal(out, 0, error),
+        Answer::Passed => put_sheet(out, words, table),
+        Answer::Rejected(_) => 0,
+        Answer::Accepted(_) => 0,
     }
 }
