@@ -1,0 +1,77 @@
+-- What loading a file tells of its words, and what is printed of them. Assumes nothing.
+use mathlib.Core.Path.{_≡_, refl, sym, ap, _∙_}
+use mathlib.Core.Bool.{Bool, true, false, _&&_}
+use mathlib.Core.List.{List, [], _++_}
+use Prim.Native.Nat.{ℕ, _+_, _*_, _/_, _%_, _≤_}
+use native.Mathlib.Omega.{arith}
+use lib.Dec.{leb, eqb}
+use lib.ListN.{length, take, drop}
+use lib.Seq.{sets, sets-eq, length-sets, take-at, length-take-le}
+use borrow.Author.Tests.{leb-true}
+use Rattle.answer.specs.declared.Answer.{Answer}
+use Rattle.answer.specs.declared.Error.the-variants.{Length}
+use Rattle.grammar.specs.Choice.{choose}
+use Rattle.grammar.specs.Limits.{maxWords, tableWords as memoryWords}
+use Rattle.grammar.specs.Reading.{reading}
+use Rattle.recognizer.specs.Properties.{Checks}
+use Rattle.text.specs.declared.words.Loaded.{Loaded}
+use Rattle.text.specs.declared.words.Loaded.the-variants.{Words, NotWords}
+use Rattle.text.specs.Words.{bytesOfWord, wordsOf, areWords, Loading}
+use Rattle.text.specs.Writing.{Put}
+use Rattle.text.specs.Sheet.{checkText}
+use Rattle.text.specs.Judgement.{refusalText}
+use Rattle.text.proofs.Fours.{length-words}
+use Rattle.text.proofs.Writing.{put-length}
+use Rattle.report.specs.Report.{Printed, blankTable, checkedText, sheetOf}
+
+-- the words of a file that was loaded
+pub record Found (bytes after : List ℕ) (n : ℕ) : Type 0 where
+  pub are : areWords bytes ≡ true
+  pub few : n ≤ length after
+  pub part : n ≡ length (take n after)
+  pub words : take n after ≡ wordsOf bytes
+
+short : (a b : Bool) → (a && b) ≡ true → a ≡ true
+short true b e = refl
+short false b e = e
+
+pub found : {bytes before after : List ℕ} {r : Loaded} {n : ℕ} → Loading bytes before r after → r ≡ Words n → length before ≡ maxWords → Found bytes after n
+unfolding areWords
+found {bytes} {before} {after} {r} {n} l told size = go (areWords bytes) refl
+  where
+    go : (b : Bool) → areWords bytes ≡ b → Found bytes after n
+    go true e =
+        let m : n ≡ length bytes / bytesOfWord = cc (rw e at (l .told)) in
+        let w : after ≡ sets before 0 (wordsOf bytes) = rw e at (l .words) in
+        let k : length bytes ≤ bytesOfWord * maxWords = leb-true _ _ (short (leb (length bytes) (bytesOfWord * maxWords)) (eqb (length bytes % bytesOfWord) 0) e) in
+        let j : length (wordsOf bytes) ≡ n = length-words bytes ∙ sym m in
+        let a : length after ≡ length before = ap length w ∙ length-sets before 0 (wordsOf bytes) in
+        record {
+          are = e;
+          few = omega arith;
+          part = sym (length-take-le n after (omega arith));
+          words = rw (w, sets-eq (wordsOf bytes) before 0 (omega arith)) (take-at (wordsOf bytes) (drop (0 + length (wordsOf bytes)) before) n j);
+        }
+    go false e = let z : _≡_ {A = ℕ} 0 1 = cc (rw e at (l .told)) in absurd (omega arith)
+
+pub not-found : {bytes before after : List ℕ} {r : Loaded} → Loading bytes before r after → r ≡ NotWords → areWords bytes ≡ false
+not-found {bytes} {before} {after} {r} l told = go (areWords bytes) refl
+  where
+    go : (b : Bool) → areWords bytes ≡ b → areWords bytes ≡ false
+    go true e = let z : _≡_ {A = ℕ} 0 1 = cc (rw e at (l .told)) in absurd (omega arith)
+    go false e = e
+
+module _ {l m : List ℕ} {k : ℕ} where
+  printed : {text : List ℕ} → Put l 0 text m k → Printed text l m k
+  printed p =
+      let h : k ≤ length m = omega (arith, p .position, put-length p) in
+      record { put = p; fits = h; part = sym (length-take-le k m h) }
+
+  pub refused-length : (bytes : List ℕ) → areWords bytes ≡ false → Put l 0 (refusalText Length) m k → Printed (sheetOf bytes) l m k
+  unfolding sheetOf
+  refused-length bytes e p = rw e (printed p)
+
+  pub checked : {bytes words table : List ℕ} {n : ℕ} {answer : Answer} → Found bytes words n → length blankTable ≡ memoryWords →
+      Checks (take n words) blankTable answer table → Put l 0 (checkText answer (reading (take n words)) table) m k → Printed (sheetOf bytes) l m k
+  unfolding sheetOf checkedText
+  checked f size c p = rw (f .are, ← f .words, ← size, ← c .answer, ← c .table) (printed p)

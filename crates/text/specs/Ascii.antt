@@ -1,0 +1,9 @@
+-- A quoted text as the bytes that are printed.
+use mathlib.Core.List.{List, [], _∷_}
+use Prim.Native.Nat.{ℕ}
+use Prim.Native.Char.{Char, code}
+use Prim.Native.String.{String, [] as ε, _∷_ as _▹_}
+
+abbrev pub ascii : String → List ℕ
+ascii ε = []
+ascii (c ▹ s) = code c ∷ ascii s
