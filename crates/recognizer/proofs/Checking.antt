@@ -41,10 +41,11 @@ use Rattle.table.specs.Analysis.{firstFault, leftFault, clashFault, grammarFaul
 use Rattle.table.proofs.Lists.{listed-long}
 use Rattle.recognizer.specs.Memory.{lentBack, wordCount, LendGiven, Lent}
 use Rattle.recognizer.specs.Answers.{firstOf, checkFault, refusedOr}
+use Rattle.recognizer.specs.Judging.{Found}
 use Rattle.recognizer.specs.Properties.{PassedGrammar, LeastFamilies, Checks}
 
 -- how long a table is
-table-long : (G : Grammar) → length (tableWords G) ≡ G .nonterminals * (G .terminals + 3)
+pub table-long : (G : Grammar) → length (tableWords G) ≡ G .nonterminals * (G .terminals + 3)
 unfolding tableWords
 table-long G =
     let a = listed-long (2 * G .nonterminals) (setWord G) in
@@ -105,17 +106,20 @@ passed-fault words e =
       clashless = λ A x c. List·Memᴰ·not-nil (rw none-clashes at (least words (z .0) (z .1) .clash A x .1 c));
     }
 
+pub no-clashes : (words : List ℕ) → PassedGrammar words → clashes (grammarOf words) 1 ≡ []
+no-clashes words p = go (clashes (grammarOf words) 1) refl
+  where
+    go : (l : List Entry) → clashes (grammarOf words) 1 ≡ l → clashes (grammarOf words) 1 ≡ []
+    go [] e = e
+    go (x ∷ l) e = absurd (p .clashless (x .0) (x .1) (least words (p .sizes) (p .read) .clash (x .0) (x .1) .0 (rw e (List·Memᴰ·head refl))))
+
+pub not-left-recursive : (words : List ℕ) → PassedGrammar words → lowestLeftRecursive (grammarOf words) ≡ none
+not-left-recursive words p =
+    theorems .left-recursion-decided (grammarOf words) (well-read words (p .sizes) (p .read) .formed .scoped) .absent .1 (p .free)
+
 pub fault-passed : (words : List ℕ) → PassedGrammar words → fault words ≡ none
 unfolding fault grammarFault
-fault-passed words p =
-    let r = well-read words (p .sizes) (p .read) in
-    let free : lowestLeftRecursive (grammarOf words) ≡ none = theorems .left-recursion-decided (grammarOf words) (r .formed .scoped) .absent .1 (p .free) in
-    rw (p .read, free, no-clash (clashes (grammarOf words) 1) refl)
-  where
-    no-clash : (l : List Entry) → clashes (grammarOf words) 1 ≡ l → clashFault (grammarOf words .terminals) l ≡ none
-    no-clash [] e = refl
-    no-clash (x ∷ l) e =
-        absurd (p .clashless (x .0) (x .1) (least words (p .sizes) (p .read) .clash (x .0) (x .1) .0 (rw e (List·Memᴰ·head refl))))
+fault-passed words p = rw (p .read, not-left-recursive words p, no-clashes words p)
 
 -- with a table that is long enough only the grammar's faults are left
 check-fault-long : (n : ℕ) (words : List ℕ) → memoryWords ≤ n → checkFault n words ≡ fault words
@@ -159,43 +163,48 @@ found-passed (Faulty y) g z q = let n : _≡_ {A = ℕ} 0 1 = cc in absurd (omeg
 found-passed (Read y) none z q = let e : y ≡ z = cc in (refl, ap Read e)
 found-passed (Read y) (some x) z q = let n : _≡_ {A = ℕ} 0 1 = cc in absurd (omega arith)
 
-module _ (words before : List ℕ) (long : memoryWords ≤ length before) {a : Analysis} (e : a ≡ analyzed words) where
-  pub check-refused : {x : Error} → a .finding ≡ finding.Refused x → Checks words before (Refused x) before
-  unfolding analyzed fault
-  check-refused {x} q =
-      let f : fault words ≡ some x = found-refused (reading words) (grammarFault (grammarOf words)) x (sym (ap (λ y. y .finding) e) ∙ q) in
-      let c : checkFault (length before) words ≡ some x = check-fault-long (length before) words long ∙ f in
-      checks (sym (ap (λ y. refusedOr y Passed) c)) (sym (ap (λ y. lentBack y (tableWords (grammarOf words)) before) c))
+-- an analysis that finds no fault tells the sizes and the whole table
+pub found : (words : List ℕ) {a : Analysis} {z : Sizes} → a ≡ analyzed words → a .finding ≡ finding.Passed z → Found words z (a .table)
+unfolding analyzed fault
+found words {a} {z} e q =
+    let k = found-passed (reading words) (grammarFault (grammarOf words)) z (sym (ap (λ y. y .finding) e) ∙ q) in
+    record { read = k .1; faultless = k .0; table = ap (λ y. y .table) e ∙ ap (λ y. tableIf y (filled (tableWords (grammarOf words)))) (k .0) }
 
-  pub check-passed : {z : Sizes} {after : List ℕ} → a .finding ≡ finding.Passed z → Lent before (a .table) z after → Checks words before Passed after
-  unfolding analyzed fault filled
-  check-passed {z} {after} q l =
-      let k = found-passed (reading words) (grammarFault (grammarOf words)) z (sym (ap (λ y. y .finding) e) ∙ q) in
-      let f : fault words ≡ none = k .0 in
-      let c : checkFault (length before) words ≡ none = check-fault-long (length before) words long ∙ f in
-      let r = well-read words z (k .1) in
-      let n : length (tableWords (grammarOf words)) ≡ wordCount z = table-long (grammarOf words) ∙ rw (r .nonterminals, r .terminals) in
-      let t : a .table ≡ tableWords (grammarOf words) ++ replicate (memoryWords - length (tableWords (grammarOf words))) noEntry =
-      ap (λ y. y .table) e ∙ ap (λ y. tableIf y (filled (tableWords (grammarOf words)))) f in
-      let w : take (wordCount z) (a .table) ≡ tableWords (grammarOf words) =
-      ap (take (wordCount z)) t ∙ take-at (tableWords (grammarOf words)) (replicate (memoryWords - length (tableWords (grammarOf words))) noEntry) (wordCount z) n in
-      checks (sym (ap (λ y. refusedOr y Passed) c))
-      (l .words ∙ ap (λ y. y ++ drop (wordCount z) before) w ∙ ap (λ y. tableWords (grammarOf words) ++ drop y before) (sym n)
-      ∙ sym (ap (λ y. lentBack y (tableWords (grammarOf words)) before) c))
+pub found-fault : (words : List ℕ) {a : Analysis} {x : Error} → a ≡ analyzed words → a .finding ≡ finding.Refused x → fault words ≡ some x
+unfolding analyzed fault
+found-fault words {a} {x} e q = found-refused (reading words) (grammarFault (grammarOf words)) x (sym (ap (λ y. y .finding) e) ∙ q)
 
-  pub lend-given : {z : Sizes} → a .finding ≡ finding.Passed z → LendGiven before (a .table) z
-  unfolding analyzed fault filled
-  lend-given {z} q =
-      let k = found-passed (reading words) (grammarFault (grammarOf words)) z (sym (ap (λ y. y .finding) e) ∙ q) in
-      let r = well-read words z (k .1) in
-      let f : fault words ≡ none = k .0 in
+-- the table of a grammar that passes, lent back
+module _ (words before : List ℕ) (long : memoryWords ≤ length before) {z : Sizes} {entries : List ℕ} (f : Found words z entries) where
+  words-count : length (tableWords (grammarOf words)) ≡ wordCount z
+  words-count = let r = well-read words z (f .read) in table-long (grammarOf words) ∙ rw (r .nonterminals, r .terminals)
+
+  pub lend-given : LendGiven before entries z
+  unfolding filled
+  lend-given =
+      let r = well-read words z (f .read) in
       let m = mul-le-mul {n₁ = z .nonterminals} {m₁ = z .terminals + 3} {n₂ = 32} {m₂ = 27} (r .fewNonterminals) (omega (arith, r .fewTerminals)) in
-      let n : length (tableWords (grammarOf words)) ≡ wordCount z = table-long (grammarOf words) ∙ rw (r .nonterminals, r .terminals) in
-      let t : a .table ≡ tableWords (grammarOf words) ++ replicate (memoryWords - length (tableWords (grammarOf words))) noEntry =
-      ap (λ y. y .table) e ∙ ap (λ y. tableIf y (filled (tableWords (grammarOf words)))) f in
       record {
         long = long;
-        whole = ap length t ∙ length-append (tableWords (grammarOf words)) _ ∙ rw length-replicate (omega arith);
+        whole = ap length (f .table) ∙ length-append (tableWords (grammarOf words)) _ ∙ rw length-replicate (omega (arith, words-count));
         fewNonterminals = r .fewNonterminals;
         fewTerminals = r .fewTerminals;
       }
+
+  pub lent-table : {after : List ℕ} → Lent before entries z after → after ≡ tableWords (grammarOf words) ++ drop (length (tableWords (grammarOf words))) before
+  unfolding filled
+  lent-table l =
+      let w : take (wordCount z) entries ≡ tableWords (grammarOf words) =
+      ap (take (wordCount z)) (f .table)
+      ∙ take-at (tableWords (grammarOf words)) (replicate (memoryWords - length (tableWords (grammarOf words))) noEntry) (wordCount z) words-count in
+      l .words ∙ ap (λ y. y ++ drop (wordCount z) before) w ∙ ap (λ y. tableWords (grammarOf words) ++ drop y before) (sym words-count)
+
+  pub check-passed : {after : List ℕ} → Lent before entries z after → Checks words before Passed after
+  check-passed l =
+      let c : checkFault (length before) words ≡ none = check-fault-long (length before) words long ∙ f .faultless in
+      checks (sym (ap (λ y. refusedOr y Passed) c)) (lent-table l ∙ sym (ap (λ y. lentBack y (tableWords (grammarOf words)) before) c))
+
+pub check-refused : (words before : List ℕ) → memoryWords ≤ length before → {x : Error} → fault words ≡ some x → Checks words before (Refused x) before
+check-refused words before long {x} f =
+    let c : checkFault (length before) words ≡ some x = check-fault-long (length before) words long ∙ f in
+    checks (sym (ap (λ y. refusedOr y Passed) c)) (sym (ap (λ y. lentBack y (tableWords (grammarOf words)) before) c))

@@ -10,3 +10,4 @@ pub mod Tallying
 pub mod Front
 pub mod Checking
 pub mod Deciding
+pub mod Judged

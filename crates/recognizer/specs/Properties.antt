@@ -1,6 +1,6 @@
 -- The promises of the public calls, on one page: what each answers, what lent memory holds, and what that means.
 use mathlib.Core.Path.{_≡_}
-use mathlib.Core.Bool.{Bool}
+use mathlib.Core.Bool.{Bool, true, false}
 use mathlib.Core.List.{List, []}
 use mathlib.Core.Logic.{_↔_}
 use mathlib.Core.Option.{none, some}
@@ -8,21 +8,24 @@ use Prim.Native.Nat.{ℕ, _≤_}
 use lib.Dec.{T}
 use lib.ListN.{length}
 use Rattle.answer.specs.declared.Answer.{Answer}
-use Rattle.answer.specs.declared.Answer.the-variants.{Passed}
-use Rattle.grammar.specs.Limits.{tableWords as memoryWords}
+use Rattle.answer.specs.declared.Answer.the-variants.{Passed, Accepted, Rejected}
+use Rattle.grammar.specs.Limits.{tableWords as memoryWords, memoEntries, maxTokens}
 use Rattle.grammar.specs.Syntax.{Grammar}
 use Rattle.grammar.specs.Encoding.{grammarOf}
 use Rattle.grammar.specs.Reading.{reading}
 use Rattle.grammar.specs.WellRead.{WellRead}
 use Rattle.grammar.specs.declared.reading.Sizes.{Sizes}
 use Rattle.grammar.specs.declared.reading.Outcome.the-variants.{Read}
+use Rattle.semantics.specs.Valuations.{Valuation, Solves}
 use Rattle.semantics.specs.LeftRecursion.{NoLeftRecursion}
+use Rattle.semantics.specs.Strings.{Over}
 use Rattle.semantics.specs.Families.{FirstClosed, FollowClosed, Claims, Clash}
 use Rattle.semantics.specs.FirstFollow.{First, Follow}
 use Rattle.semantics.specs.Claims.{clashes, tableOf}
+use Rattle.semantics.specs.Theorems.{OneSolution, CallsCounted}
 use Rattle.table.specs.Layout.{tableWords}
-use Rattle.recognizer.specs.Memory.{lentBack}
-use Rattle.recognizer.specs.Answers.{checkFault, refusedOr}
+use Rattle.recognizer.specs.Memory.{lentBack, memoWords}
+use Rattle.recognizer.specs.Answers.{checkFault, judgeFault, refusedOr, callsOf, verdictOf}
 
 -- a grammar that passes (document 01: a passed card): read without a fault, not left-recursive, and no entry is claimed by two rules
 pub record PassedGrammar (words : List ℕ) : Type 0 where
@@ -49,3 +52,27 @@ pub record Checks (words before : List ℕ) (r : Answer) (after : List ℕ) : Ty
   pub passed : memoryWords ≤ length before → (r ≡ Passed) ↔ PassedGrammar words
   -- a grammar that is read is of the sizes told, and its sets and entries are the least ones
   pub least : (z : Sizes) → reading words ≡ Read z → WellRead words z × LeastFamilies (grammarOf words)
+
+-- an input of at most 500 tokens, all of them terminals of the grammar
+pub record Readable (words input : List ℕ) : Type 0 where
+  pub short : length input ≤ maxTokens
+  pub tokens : Over (grammarOf words .terminals) input
+
+-- property 3, of the answer for a passed grammar and a readable input: exactly one valuation solves the grammar on the input, the answer is
+-- acceptance exactly when it gives the whole input to the start, and the answer's numbers are those of the calls that the descent makes
+pub record Recognizes (words input : List ℕ) (r : Answer) : Type 0 where
+  pub one-solution : OneSolution (grammarOf words) input
+  pub accepted : (v : Valuation) → Solves (grammarOf words) input v → (r ≡ Accepted (callsOf (grammarOf words) input)) ↔ (v 0 0 (length input) ≡ true)
+  pub rejected : (v : Valuation) → Solves (grammarOf words) input v → (r ≡ Rejected (callsOf (grammarOf words) input)) ↔ (v 0 0 (length input) ≡ false)
+  pub calls : CallsCounted (grammarOf words) (tableOf (grammarOf words) 1) 1 input
+
+-- judging an input with a lent table and a lent memo table: properties 1 and 3
+pub record Judges (words input table memo : List ℕ) (r : Answer) (table′ memo′ : List ℕ) : Type 0 where
+  -- the first refusal that holds decides, and a refusal changes nothing; else both memories hold what is defined, and later words stay
+  pub answer : r ≡ refusedOr (judgeFault (length table) (length memo) words input) (verdictOf (grammarOf words) input)
+  pub lent-table : table′ ≡ lentBack (judgeFault (length table) (length memo) words input) (tableWords (grammarOf words)) table
+  pub lent-memo : memo′ ≡ lentBack (judgeFault (length table) (length memo) words input) (memoWords (grammarOf words) input) memo
+  -- where judging is not refused, the table is as checking leaves it
+  pub as-checked : judgeFault (length table) (length memo) words input ≡ none → (c : Answer) (checked : List ℕ) → Checks words table c checked → table′ ≡ checked
+  -- where the memories are long enough, each passed grammar and readable input is judged by its one meaning, whatever the memories held
+  pub recognizes : memoryWords ≤ length table → memoEntries ≤ length memo → PassedGrammar words → Readable words input → Recognizes words input r

@@ -1,13 +1,17 @@
 // Judging an input by a grammar that has passed.
 ghost use mathlib.Core.Path.{_≡_};
 ghost use Rattle.recognizer.specs.Answers.{unknownFrom};
-ghost use Rattle.recognizer.specs.Judging.{DescendGiven, Descended};
+ghost use Rattle.recognizer.specs.Judging.{PassedGiven, DescendGiven, Descended};
+ghost use Rattle.recognizer.specs.Properties.{Judges};
 use super::descent::call;
 use super::descent::ends_at;
+use super::lending::lend;
 use super::tally::clear;
 use super::tally::tally;
 use answer::Answer;
+use answer::Error;
 use grammar::limits::TABLE_WORDS;
+use grammar::limits::TOKENS;
 use grammar::reading::Sizes;
 use grammar::reading::rule_starts;
 
@@ -49,5 +53,31 @@ fn descend(
         Answer::Accepted(calls)
     } else {
         Answer::Rejected(calls)
+    }
+}
+
+// A grammar that has passed: the input's length, its tokens, and then the descent.
+pub(crate) fn judge_passed(
+    words: &[u32],
+    sizes: Sizes,
+    entries: &[u32; TABLE_WORDS],
+    input: &[u8],
+    table: &mut [u32],
+    memo: &mut [u16],
+) -> Answer
+    requires { ⌜ PassedGiven (now words) sizes (now entries) (now table) (now memo) ⌝ }
+    ensures { λ r. ⌜ Judges (now (words .entry)) (now (input .entry)) (now (table .entry)) (now (memo .entry)) r (now (table .exit)) (now (memo .exit)) ⌝ }
+{
+    if TOKENS < input.len() {
+        return Answer::Refused(Error::InputTooLong);
+    }
+    let unknown = first_unknown(input, sizes.terminals);
+    match unknown {
+        Unknown::At(at) => Answer::Refused(Error::UnknownToken(at)),
+        Unknown::Absent => {
+            lend(table, entries, sizes);
+            let needed = sizes.nonterminals as usize * (input.len() + 1);
+            descend(words, sizes, entries, input, &mut memo[..needed])
+        }
     }
 }

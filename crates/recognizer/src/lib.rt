@@ -1,8 +1,10 @@
 // Recognizing an input by memoized recursive descent, in memory that the caller lends.
-ghost use Rattle.recognizer.specs.Properties.{Checks};
+ghost use Rattle.recognizer.specs.Properties.{Checks, Judges};
 use answer::Answer;
 use answer::Error;
+use grammar::limits::MEMO_ENTRIES;
 use grammar::limits::TABLE_WORDS;
+use judging::judge_passed;
 use lending::lend;
 use table::Finding;
 use table::analyze;
@@ -28,5 +30,24 @@ pub fn check(words: &[u32], table: &mut [u32]) -> Answer
             lend(table, &entries, sizes);
             Answer::Passed
         }
+    }
+}
+
+// Judges an input by an encoded grammar, and fills the lent table and memo table.
+pub fn judge(words: &[u32], input: &[u8], table: &mut [u32], memo: &mut [u16]) -> Answer
+    ensures { λ r. ⌜ Judges (now (words .entry)) (now (input .entry)) (now (table .entry)) (now (memo .entry)) r (now (table .exit)) (now (memo .exit)) ⌝ }
+{
+    if table.len() < TABLE_WORDS {
+        return Answer::Refused(Error::TableTooShort);
+    }
+    if memo.len() < MEMO_ENTRIES {
+        return Answer::Refused(Error::MemoTooShort);
+    }
+    let analysis = analyze(words);
+    let finding = analysis.finding;
+    let entries = analysis.table;
+    match finding {
+        Finding::Refused(error) => Answer::Refused(error),
+        Finding::Passed(sizes) => judge_passed(words, sizes, &entries, input, table, memo),
     }
 }

@@ -1,5 +1,5 @@
 -- What checking answers, by the table's length and by what is found of the grammar.
-use Rattle.recognizer.proofs.Checking.{check-short, lend-given, check-refused, check-passed}
+use Rattle.recognizer.proofs.Checking.{check-short, found, found-fault, lend-given, check-refused, check-passed}
 use borrow.Author.Needs.{needs}
 use Rattle.recognizer.proofs.check.Statement.{statement}
 use Rattle.recognizer.proofs.check.Tie as tie
@@ -17,10 +17,16 @@ enum-known-finding-2 : tie.Need-enum-known-finding-2
 enum-known-finding-2 c = search needs
 
 lend-requires : tie.Need-lend-requires
-lend-requires c κs = lend-given (c .before .before .before .before .before .before .before .before .before .before .args .words .now) (c .before .before .before .before .before .before .before .before .before .before .args .table .now) (c .before .before .before .before .before .before .before .if1 .left) (c .before .before .before .before .before .before .analyze .ensures) (c .before .before .before .finding2 .given .1)
+lend-requires c κs =
+    let given = c .before .before .before .before .before .before .before .before .before .before .args in
+    lend-given (given .words .now) (given .table .now) (c .before .before .before .before .before .before .before .if1 .left)
+    (found (given .words .now) (c .before .before .before .before .before .before .analyze .ensures) (c .before .before .before .finding2 .given .1))
 
 returns-2 : tie.Need-returns-2
-returns-2 c = check-refused (c .before .before .before .before .before .before .before .before .args .words .now) (c .before .before .before .before .before .before .before .before .args .table .now) (c .before .before .before .before .before .if1 .left) (c .before .before .before .before .analyze .ensures) (c .before .finding .given .1)
+returns-2 c =
+    let given = c .before .before .before .before .before .before .before .before .args in
+    check-refused (given .words .now) (given .table .now) (c .before .before .before .before .before .if1 .left)
+    (found-fault (given .words .now) (c .before .before .before .before .analyze .ensures) (c .before .finding .given .1))
 
 same-length : tie.Need-same-length
 same-length c = search needs
@@ -28,7 +34,9 @@ same-length c = search needs
 returns-3 : tie.Need-returns-3
 returns-3 c =
     let given = c .before .before .before .before .before .before .before .before .before .before .before .before .before .args in
-    check-passed (given .words .now) (given .table .now) (c .before .before .before .before .before .before .before .before .before .before .if1 .left) (c .before .before .before .before .before .before .before .before .before .analyze .ensures) (c .before .before .before .before .before .before .finding2 .given .1) (c .before .before .lend .ensures)
+    check-passed (given .words .now) (given .table .now) (c .before .before .before .before .before .before .before .before .before .before .if1 .left)
+    (found (given .words .now) (c .before .before .before .before .before .before .before .before .before .analyze .ensures) (c .before .before .before .before .before .before .finding2 .given .1))
+    (c .before .before .lend .ensures)
 
 pub check-spec : {M : Type 1} → statement M
 check-spec =
