@@ -12,7 +12,7 @@ use lib.Arith.{digits-lt, digits-div, digits-mod}
 use lib.Dec.{T, ltb}
 use lib.ListN.{length, getD, take, drop, replicate, length-append, List·getD-append, length-map}
 use lib.Seq.{getD-append-add, length-take-le}
-use borrow.Author.Tests.{lt-ltb, le-ltb}
+use borrow.Author.Tests.{lt-ltb, le-ltb, ltb-false}
 use Rattle.answer.specs.declared.Error.{Error}
 use Rattle.answer.specs.declared.Error.the-variants.{TableTooShort, MemoTooShort, InputTooLong, UnknownToken}
 use Rattle.answer.specs.declared.Calls.{Calls}
@@ -111,6 +111,21 @@ unfolding judgeFault checkFault
 judged-checked words input table memo e =
     checked-first (unless (ltb table memoryWords) TableTooShort) (unless (ltb memo memoEntries) MemoTooShort) (fault words)
     (unless (ltb maxTokens (length input)) InputTooLong ∷ unknownFault (unknownFrom (grammarOf words .terminals) 0 input) ∷ []) e
+
+-- and is read and not too long
+readable-first : (a b c : Option Error) (t : Bool) (x : Error) (l : List (Option Error)) → firstOf (a ∷ b ∷ c ∷ unless t x ∷ l) ≡ none → (c ≡ none) × (t ≡ false)
+readable-first none none none false x l e = (refl, refl)
+readable-first none none none true x l e = let z : _≡_ {A = ℕ} 0 1 = cc in absurd (omega arith)
+readable-first none none (some y) t x l e = let z : _≡_ {A = ℕ} 0 1 = cc in absurd (omega arith)
+readable-first none (some y) c t x l e = let z : _≡_ {A = ℕ} 0 1 = cc in absurd (omega arith)
+readable-first (some y) b c t x l e = let z : _≡_ {A = ℕ} 0 1 = cc in absurd (omega arith)
+
+pub judged-readable : (words input : List ℕ) (table memo : ℕ) → judgeFault table memo words input ≡ none → (fault words ≡ none) × (length input ≤ maxTokens)
+unfolding judgeFault
+judged-readable words input table memo e =
+    let k = readable-first (unless (ltb table memoryWords) TableTooShort) (unless (ltb memo memoEntries) MemoTooShort) (fault words)
+    (ltb maxTokens (length input)) InputTooLong (unknownFault (unknownFrom (grammarOf words .terminals) 0 input) ∷ []) e in
+    (k .0, ltb-false maxTokens (length input) (k .1))
 
 -- a verdict by a test tells the test
 verdict-tells : {r : Answer} (b : Bool) (c : Calls) → r ≡ choose b (Accepted c) (Rejected c) → ((r ≡ Accepted c) ↔ (b ≡ true)) × ((r ≡ Rejected c) ↔ (b ≡ false))

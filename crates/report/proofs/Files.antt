@@ -1,28 +1,24 @@
--- What loading a file tells of its words, and what is printed of them. Assumes nothing.
+-- What loading a file tells of its words, and what is printed by whether there are any. Assumes nothing.
 use mathlib.Core.Path.{_≡_, refl, sym, ap, _∙_}
 use mathlib.Core.Bool.{Bool, true, false, _&&_}
-use mathlib.Core.List.{List, [], _++_}
+use mathlib.Core.List.{List, []}
 use Prim.Native.Nat.{ℕ, _+_, _*_, _/_, _%_, _≤_}
 use native.Mathlib.Omega.{arith}
 use lib.Dec.{leb, eqb}
 use lib.ListN.{length, take, drop}
 use lib.Seq.{sets, sets-eq, length-sets, take-at, length-take-le}
 use borrow.Author.Tests.{leb-true}
-use Rattle.answer.specs.declared.Answer.{Answer}
 use Rattle.answer.specs.declared.Error.the-variants.{Length}
 use Rattle.grammar.specs.Choice.{choose}
-use Rattle.grammar.specs.Limits.{maxWords, tableWords as memoryWords}
-use Rattle.grammar.specs.Reading.{reading}
-use Rattle.recognizer.specs.Properties.{Checks}
+use Rattle.grammar.specs.Limits.{maxWords}
 use Rattle.text.specs.declared.words.Loaded.{Loaded}
 use Rattle.text.specs.declared.words.Loaded.the-variants.{Words, NotWords}
 use Rattle.text.specs.Words.{bytesOfWord, wordsOf, areWords, Loading}
 use Rattle.text.specs.Writing.{Put}
-use Rattle.text.specs.Sheet.{checkText}
 use Rattle.text.specs.Judgement.{refusalText}
 use Rattle.text.proofs.Fours.{length-words}
 use Rattle.text.proofs.Writing.{put-length}
-use Rattle.report.specs.Report.{Printed, blankTable, checkedText, sheetOf}
+use Rattle.report.specs.Report.{Printed, checkedText, sheetOf, judgedText, judgementOf}
 
 -- the words of a file that was loaded
 pub record Found (bytes after : List ℕ) (n : ℕ) : Type 0 where
@@ -62,16 +58,25 @@ not-found {bytes} {before} {after} {r} l told = go (areWords bytes) refl
     go false e = e
 
 module _ {l m : List ℕ} {k : ℕ} where
-  printed : {text : List ℕ} → Put l 0 text m k → Printed text l m k
+  pub printed : {text : List ℕ} → Put l 0 text m k → Printed text l m k
   printed p =
       let h : k ≤ length m = omega (arith, p .position, put-length p) in
       record { put = p; fits = h; part = sym (length-take-le k m h) }
 
-  pub refused-length : (bytes : List ℕ) → areWords bytes ≡ false → Put l 0 (refusalText Length) m k → Printed (sheetOf bytes) l m k
+  -- by whether a file's bytes are words
+  pub sheet-refused : (bytes : List ℕ) → areWords bytes ≡ false → Put l 0 (refusalText Length) m k → Printed (sheetOf bytes) l m k
   unfolding sheetOf
-  refused-length bytes e p = rw e (printed p)
+  sheet-refused bytes e p = rw e (printed p)
 
-  pub checked : {bytes words table : List ℕ} {n : ℕ} {answer : Answer} → Found bytes words n → length blankTable ≡ memoryWords →
-      Checks (take n words) blankTable answer table → Put l 0 (checkText answer (reading (take n words)) table) m k → Printed (sheetOf bytes) l m k
-  unfolding sheetOf checkedText
-  checked f size c p = rw (f .are, ← f .words, ← size, ← c .answer, ← c .table) (printed p)
+  pub sheet-checked : {bytes words : List ℕ} {n : ℕ} → Found bytes words n → Put l 0 (checkedText (take n words)) m k → Printed (sheetOf bytes) l m k
+  unfolding sheetOf
+  sheet-checked f p = rw (f .are, ← f .words) (printed p)
+
+  pub judgement-refused : (bytes input : List ℕ) → areWords bytes ≡ false → Put l 0 (refusalText Length) m k → Printed (judgementOf bytes input) l m k
+  unfolding judgementOf
+  judgement-refused bytes input e p = rw e (printed p)
+
+  pub judgement-judged : {bytes words : List ℕ} {n : ℕ} → Found bytes words n → (input : List ℕ) → Put l 0 (judgedText (take n words) input) m k
+      → Printed (judgementOf bytes input) l m k
+  unfolding judgementOf
+  judgement-judged f input p = rw (f .are, ← f .words) (printed p)

@@ -2,20 +2,24 @@
 use mathlib.Core.Path.{_≡_}
 use mathlib.Core.List.{List}
 use Prim.Native.Nat.{ℕ, _≤_}
+use lib.Dec.{leb}
 use lib.ListN.{length, take, replicate}
 use Rattle.answer.specs.declared.Answer.the-variants.{Passed}
 use Rattle.answer.specs.declared.Error.the-variants.{Length}
 use Rattle.grammar.specs.Choice.{choose}
-use Rattle.grammar.specs.Limits.{tableWords as memoryWords}
+use Rattle.grammar.specs.declared.reading.Outcome.{Outcome}
+use Rattle.grammar.specs.declared.reading.Outcome.the-variants.{Read, Faulty}
+use Rattle.grammar.specs.Limits.{maxTokens, memoEntries, tableWords as memoryWords}
 use Rattle.grammar.specs.Encoding.{grammarOf}
 use Rattle.grammar.specs.Reading.{reading}
+use Rattle.semantics.specs.Memo.{uncalledCode}
 use Rattle.table.specs.Layout.{noEntry, tableWords}
-use Rattle.recognizer.specs.Answers.{checkFault, refusedOr}
-use Rattle.recognizer.specs.Memory.{lentBack}
+use Rattle.recognizer.specs.Answers.{checkFault, judgeFault, refusedOr, verdictOf}
+use Rattle.recognizer.specs.Memory.{lentBack, memoWords}
 use Rattle.text.specs.Words.{wordsOf, areWords}
 use Rattle.text.specs.Writing.{Put}
 use Rattle.text.specs.Sheet.{checkText}
-use Rattle.text.specs.Judgement.{refusalText}
+use Rattle.text.specs.Judgement.{refusalText, judgementText}
 
 -- a text put from the buffer's front on, of which so many bytes stand there
 pub record Printed (text before after : List ℕ) (n : ℕ) : Type 0 where
@@ -36,3 +40,27 @@ checkedText words =
 -- (document 01: the first program) the sheet of a file's words; bytes that are no words have a refused length
 unfoldable pub sheetOf : List ℕ → List ℕ
 sheetOf bytes = choose (areWords bytes) (checkedText (wordsOf bytes)) (refusalText Length)
+
+-- the memory that is lent for the memo table
+unfoldable pub blankMemo : List ℕ
+blankMemo = replicate memoEntries uncalledCode
+
+-- what is printed of an input that is judged by words, by the answer and the memo table that judging gives
+unfoldable pub judgedText : List ℕ → List ℕ → List ℕ
+judgedText words input =
+    let f = judgeFault memoryWords memoEntries words input in
+    judgementText (refusedOr f (verdictOf (grammarOf words) input)) (grammarOf words .nonterminals) (length input)
+    (lentBack f (memoWords (grammarOf words) input) blankMemo)
+
+-- (document 01: the second program) the judgement of an input by a file's words
+unfoldable pub judgementOf : List ℕ → List ℕ → List ℕ
+judgementOf bytes input = choose (areWords bytes) (judgedText (wordsOf bytes) input) (refusalText Length)
+
+-- how many nonterminals words have that are read
+abbrev pub nonterminalsOf : Outcome → ℕ
+nonterminalsOf (Read z) = z .nonterminals
+nonterminalsOf (Faulty e) = 0
+
+-- how many tokens an input has that is not too long
+unfoldable pub tokensOf : List ℕ → ℕ
+tokensOf input = choose (leb (length input) maxTokens) (length input) 0

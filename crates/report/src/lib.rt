@@ -1,9 +1,18 @@
 // What the programs print: from the bytes of files to the bytes of the text.
-ghost use Rattle.report.specs.Report.{Printed, sheetOf};
+ghost use mathlib.Core.Path.{_≡_};
+ghost use Rattle.grammar.specs.Reading.{reading};
+ghost use Rattle.text.specs.Writing.{Put};
+ghost use Rattle.report.specs.Report.{Printed, nonterminalsOf, tokensOf, checkedText, sheetOf, judgedText, judgementOf};
 use answer::Error;
+use grammar::limits::MEMO_ENTRIES;
 use grammar::limits::TABLE_WORDS;
+use grammar::limits::TOKENS;
 use grammar::limits::WORDS;
+use grammar::reading::Outcome;
+use grammar::reading::read;
 use recognizer::check;
+use recognizer::judge;
+use text::judgement::put_judgement;
 use text::judgement::put_refusal;
 use text::sheet::put_check;
 use text::words::Loaded;
@@ -16,11 +25,58 @@ pub fn sheet(card: &[u8], out: &mut [u8]) -> usize
     let mut words = [0u32; WORDS];
     let loaded = load(card, &mut words);
     match loaded {
-        Loaded::Words(n) => {
-            let mut table = [4294967295u32; TABLE_WORDS];
-            let answer = check(&words[..n], &mut table);
-            put_check(out, answer, &words[..n], &table)
-        }
+        Loaded::Words(n) => put_checked(&words[..n], out),
         Loaded::NotWords => put_refusal(out, 0, Error::Length),
+    }
+}
+
+// The judgement of an input by the grammar that a file's bytes are, or why there is none.
+pub fn judgement(card: &[u8], input: &[u8], out: &mut [u8]) -> usize
+    ensures { λ r. ⌜ Printed (judgementOf (now (card .entry)) (now (input .entry))) (now (out .entry)) (now (out .exit)) r ⌝ }
+{
+    let mut words = [0u32; WORDS];
+    let loaded = load(card, &mut words);
+    match loaded {
+        Loaded::Words(n) => put_judged(&words[..n], input, out),
+        Loaded::NotWords => put_refusal(out, 0, Error::Length),
+    }
+}
+
+fn put_checked(words: &[u32], out: &mut [u8]) -> usize
+    ensures { λ r. ⌜ Put (now (out .entry)) 0 (checkedText (now (words .entry))) (now (out .exit)) r ⌝ }
+{
+    let mut table = [4294967295u32; TABLE_WORDS];
+    let answer = check(words, &mut table);
+    put_check(out, answer, words, &table)
+}
+
+fn put_judged(words: &[u32], input: &[u8], out: &mut [u8]) -> usize
+    ensures { λ r. ⌜ Put (now (out .entry)) 0 (judgedText (now (words .entry)) (now (input .entry))) (now (out .exit)) r ⌝ }
+{
+    let mut table = [4294967295u32; TABLE_WORDS];
+    let mut memo = [65535u16; MEMO_ENTRIES];
+    let answer = judge(words, input, &mut table, &mut memo);
+    put_judgement(out, answer, nonterminals(words), tokens(input), &memo)
+}
+
+// How many nonterminals words have that are read.
+fn nonterminals(words: &[u32]) -> u32
+    ensures { λ r. ⌜ r ≡ nonterminalsOf (reading (now (words .entry))) ⌝ }
+{
+    let outcome = read(words);
+    match outcome {
+        Outcome::Read(sizes) => sizes.nonterminals,
+        Outcome::Faulty(_) => 0,
+    }
+}
+
+// How many tokens an input has that is not too long.
+fn tokens(input: &[u8]) -> u16
+    ensures { λ r. ⌜ r ≡ tokensOf (now (input .entry)) ⌝ }
+{
+    if input.len() <= TOKENS {
+        input.len() as u16
+    } else {
+        0
     }
 }

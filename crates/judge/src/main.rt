@@ -1,0 +1,34 @@
+// Judges the input on standard input by the grammar whose words are in the file card.bin.
+ghost use Rattle.io.specs.Counts.{Counts};
+use libc::STDIN_FILENO;
+use libc::STDOUT_FILENO;
+
+// One byte more than the longest file of words, and than the longest input.
+const CARD: usize = 8193;
+
+const LOG: usize = 501;
+// Room for a line for each entry of the memo table.
+const TEXT: usize = 196608;
+
+// The start of the file; one that cannot be opened is read as no words.
+fn read_card(card: &mut [u8; CARD]) -> usize
+    ensures { λ r. ⌜ Counts r (now (card .exit)) ⌝ }
+{
+    let fd = os::open_read(b"card.bin");
+    if fd < 0 {
+        return 0;
+    }
+    let n = io::read_full(fd, card);
+    libc::close(fd);
+    n
+}
+
+fn main() {
+    let mut card = [0u8; CARD];
+    let n = read_card(&mut card);
+    let mut log = [0u8; LOG];
+    let m = io::read_full(STDIN_FILENO, &mut log);
+    let mut text = [0u8; TEXT];
+    let length = report::judgement(&card[..n], &log[..m], &mut text);
+    io::write_all(STDOUT_FILENO, &text[..length]);
+}

@@ -1,0 +1,1 @@
+../../judge/src/main.rt

@@ -1,0 +1,57 @@
+-- What is printed of words that are checked and of an input that is judged, from what the two calls promise. Assumes nothing.
+use mathlib.Core.Path.{_≡_, refl, ap, ap₂, subst, _∙_}
+use mathlib.Core.List.{List}
+use mathlib.Core.Option.{Option, none, some}
+use Prim.Native.Nat.{ℕ, _≤_}
+use lib.ListN.{length}
+use borrow.Author.Tests.{le-leb}
+use Rattle.answer.specs.declared.Error.{Error}
+use Rattle.answer.specs.declared.Answer.{Answer}
+use Rattle.grammar.specs.Limits.{maxTokens, memoEntries, tableWords as memoryWords}
+use Rattle.grammar.specs.Encoding.{grammarOf}
+use Rattle.grammar.specs.Reading.{reading}
+use Rattle.grammar.proofs.WellRead.{well-read}
+use Rattle.recognizer.specs.Properties.{Checks, Judges}
+use Rattle.recognizer.specs.Answers.{judgeFault, refusedOr, verdictOf}
+use Rattle.recognizer.specs.Memory.{lentBack, memoWords}
+use Rattle.recognizer.proofs.Judged.{judged-readable}
+use Rattle.recognizer.proofs.Checking.{passed-fault}
+use Rattle.text.specs.Writing.{Put}
+use Rattle.text.specs.Sheet.{checkText}
+use Rattle.text.specs.Judgement.{judgementText}
+use Rattle.report.specs.Report.{blankTable, blankMemo, checkedText, judgedText, nonterminalsOf, tokensOf}
+
+-- the numbers of nonterminals and tokens are those printed, wherever judging is not refused
+module _ (words input memo : List ℕ) (v : Answer) where
+  abbrev f : Option Error
+  f = judgeFault memoryWords memoEntries words input
+
+  same-sizes : (g : Option Error) → f ≡ g
+      → judgementText (refusedOr f v) (nonterminalsOf (reading words)) (tokensOf input) memo ≡ judgementText (refusedOr f v) (grammarOf words .nonterminals) (length input) memo
+  unfolding judgementText tokensOf
+  same-sizes (some x) e = rw e
+  same-sizes none e =
+      let k = judged-readable words input memoryWords memoEntries e in
+      let p = passed-fault words (k .0) in
+      let n : nonterminalsOf (reading words) ≡ grammarOf words .nonterminals = ap nonterminalsOf (p .read) ∙ well-read words (p .sizes) (p .read) .nonterminals in
+      let t : tokensOf input ≡ length input = rw (le-leb (length input) maxTokens (k .1)) in
+      ap₂ (λ a b. judgementText (refusedOr f v) a b memo) n t
+
+module _ {l m : List ℕ} {k : ℕ} where
+  pub put-checked-text : {words table : List ℕ} {answer : Answer} → length blankTable ≡ memoryWords → Checks words blankTable answer table
+      → Put l 0 (checkText answer (reading words) table) m k → Put l 0 (checkedText words) m k
+  unfolding checkedText
+  put-checked-text size c p = rw (← size, ← c .answer, ← c .table) p
+
+  pub put-judged-text : {words input table table′ memo : List ℕ} {answer : Answer} {nonterminals tokens : ℕ} → length table ≡ memoryWords → length blankMemo ≡ memoEntries
+      → nonterminals ≡ nonterminalsOf (reading words) → tokens ≡ tokensOf input → Judges words input table blankMemo answer table′ memo
+      → Put l 0 (judgementText answer nonterminals tokens memo) m k → Put l 0 (judgedText words input) m k
+  unfolding judgedText
+  put-judged-text {words} {input} {table} {table′} {memo} {answer} size room n w j p =
+      let g = judgeFault memoryWords memoEntries words input in
+      let same : judgeFault (length table) (length blankMemo) words input ≡ g = ap₂ (λ a b. judgeFault a b words input) size room in
+      let a : answer ≡ refusedOr g (verdictOf (grammarOf words) input) = j .answer ∙ ap (λ y. refusedOr y (verdictOf (grammarOf words) input)) same in
+      let b : memo ≡ lentBack g (memoWords (grammarOf words) input) blankMemo = j .lent-memo ∙ ap (λ y. lentBack y (memoWords (grammarOf words) input) blankMemo) same in
+      let t = ap₂ (λ x y. judgementText x (nonterminalsOf (reading words)) (tokensOf input) y) a b
+          ∙ same-sizes words input (lentBack g (memoWords (grammarOf words) input) blankMemo) (verdictOf (grammarOf words) input) g refl in
+      subst (λ x. Put l 0 x m k) t (rw (n, w) at p)

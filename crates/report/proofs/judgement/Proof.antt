@@ -1,0 +1,60 @@
+-- The words loaded are judged by, and bytes that are no words are refused.
+use Prim.Native.Nat.{ℕ}
+use lib.ListN.{length-replicate}
+use Rattle.report.proofs.Files.{found, not-found, judgement-refused, judgement-judged}
+use borrow.Author.Needs.{needs}
+use Rattle.report.proofs.judgement.Statement.{statement}
+use Rattle.report.proofs.judgement.Tie as tie
+
+load-requires : tie.Need-load-requires
+load-requires c κs = search needs
+
+enum-known-loaded : tie.Need-enum-known-loaded
+enum-known-loaded c = search needs
+
+array-share-prefix-words : tie.Need-array-share-prefix-words
+array-share-prefix-words c = found (c .before .before .before .load .ensures) (c .before .loaded .given .1) (length-replicate {A = ℕ} 2048 0) .few
+
+slice-aggregate-put-judged : tie.Need-slice-aggregate-put-judged
+slice-aggregate-put-judged c = found (c .before .before .before .before .load .ensures) (c .before .before .loaded .given .1) (length-replicate {A = ℕ} 2048 0) .part
+
+put-judged-requires : tie.Need-put-judged-requires
+put-judged-requires c κs = search needs
+
+enum-told : tie.Need-enum-told
+enum-told c = search needs
+
+put-refusal-requires : tie.Need-put-refusal-requires
+put-refusal-requires c κs = search needs
+
+same-length : tie.Need-same-length
+same-length c = search needs
+
+returns : tie.Need-returns
+returns c = 
+    let s = c .before .before .before .before .before .before .before .before .before .before .before .before .before in
+    judgement-judged (found (c .before .before .before .before .before .before .before .before .load .ensures) (c .before .before .before .before .before .before .loaded .given .1) (length-replicate {A = ℕ} 2048 0)) (s .args .input .now) (c .before .before .put-judged .ensures)
+
+same-length-2 : tie.Need-same-length-2
+same-length-2 c = search needs
+
+returns-2 : tie.Need-returns-2
+returns-2 c = 
+    let s = c .before .before .before .before .before .before .before .before .before .before .before in
+    judgement-refused (s .args .card .now) (s .args .input .now) (not-found (c .before .before .before .before .before .before .load .ensures) (c .before .before .before .before .enum-told .given .1)) (c .before .before .put-refusal .ensures)
+
+pub judgement-spec : {M : Type 1} → statement M
+judgement-spec =
+    tie.close
+    (tie.spec
+    load-requires
+    enum-known-loaded
+    array-share-prefix-words
+    slice-aggregate-put-judged
+    put-judged-requires
+    enum-told
+    put-refusal-requires
+    same-length
+    returns
+    same-length-2
+    returns-2)

@@ -1,0 +1,38 @@
+-- What is printed follows from what the check answers and leaves.
+use Prim.Native.Nat.{ℕ}
+use lib.ListN.{length-replicate}
+use Rattle.report.specs.Report.{blankTable}
+use Rattle.report.proofs.Answers.{put-checked-text}
+use borrow.Author.Needs.{needs}
+use Rattle.report.proofs.put_checked.Statement.{statement}
+use Rattle.report.proofs.put_checked.Tie as tie
+
+slice-aggregate-check : tie.Need-slice-aggregate-check
+slice-aggregate-check c = search needs
+
+check-requires : tie.Need-check-requires
+check-requires c κs = search needs
+
+slice-aggregate-put-check : tie.Need-slice-aggregate-put-check
+slice-aggregate-put-check c = search needs
+
+put-check-requires : tie.Need-put-check-requires
+put-check-requires c κs = search needs
+
+same-length : tie.Need-same-length
+same-length c = search needs
+
+returns : tie.Need-returns
+unfolding blankTable
+returns c = put-checked-text (length-replicate {A = ℕ} 864 4294967295) (c .before .before .before .before .before .before .check .ensures) (c .before .before .put-check .ensures)
+
+pub put-checked-spec : {M : Type 1} → statement M
+put-checked-spec =
+    tie.close
+    (tie.spec
+    slice-aggregate-check
+    check-requires
+    slice-aggregate-put-check
+    put-check-requires
+    same-length
+    returns)

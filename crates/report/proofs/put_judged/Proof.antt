@@ -1,0 +1,50 @@
+-- What is printed follows from what the judge answers and leaves.
+use Prim.Native.Nat.{ℕ}
+use lib.ListN.{length-replicate}
+use Rattle.report.specs.Report.{blankMemo}
+use Rattle.report.proofs.Answers.{put-judged-text}
+use borrow.Author.Needs.{needs}
+use Rattle.report.proofs.put_judged.Statement.{statement}
+use Rattle.report.proofs.put_judged.Tie as tie
+
+slice-aggregate-judge : tie.Need-slice-aggregate-judge
+slice-aggregate-judge c = search needs
+
+slice-aggregate-judge-2 : tie.Need-slice-aggregate-judge-2
+slice-aggregate-judge-2 c = search needs
+
+judge-requires : tie.Need-judge-requires
+judge-requires c κs = search needs
+
+nonterminals-requires : tie.Need-nonterminals-requires
+nonterminals-requires c κs = search needs
+
+tokens-requires : tie.Need-tokens-requires
+tokens-requires c κs = search needs
+
+slice-aggregate-put-judgement : tie.Need-slice-aggregate-put-judgement
+slice-aggregate-put-judgement c = search needs
+
+put-judgement-requires : tie.Need-put-judgement-requires
+put-judgement-requires c κs = search needs
+
+same-length : tie.Need-same-length
+same-length c = search needs
+
+returns : tie.Need-returns
+unfolding blankMemo
+returns c = put-judged-text (length-replicate {A = ℕ} 864 4294967295) (length-replicate {A = ℕ} 16032 65535) (c .before .before .before .before .before .nonterminals .ensures) (c .before .before .before .before .tokens .ensures) (c .before .before .before .before .before .before .before .before .before .judge .ensures) (c .before .before .put-judgement .ensures)
+
+pub put-judged-spec : {M : Type 1} → statement M
+put-judged-spec =
+    tie.close
+    (tie.spec
+    slice-aggregate-judge
+    slice-aggregate-judge-2
+    judge-requires
+    nonterminals-requires
+    tokens-requires
+    slice-aggregate-put-judgement
+    put-judgement-requires
+    same-length
+    returns)
