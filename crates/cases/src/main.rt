@@ -1,35 +1,111 @@
-// Document 01's limit cases of checking: each grammar is a file, and behind its name stands what the sheet program prints of it.
+// Document 01's limit cases. Each grammar is a file; behind its name stands what the program sheet prints of it, or, for
+// each input, the first line of what the program judge prints.
+ghost use Rattle.io.specs.Counts.{Counts};
 use libc::STDOUT_FILENO;
 
-// One byte more than the longest file of words, and room for the longest sheet.
+// One byte more than the longest file of words, and than the longest input.
 const CARD: usize = 8193;
 
+const LOG: usize = 501;
+// Room for the longest sheet, and for a line.
 const TEXT: usize = 8192;
 
-fn show(path: &[u8]) {
+const LINE: usize = 32;
+
+// The start of a file; one that cannot be opened is read as no words.
+fn read(path: &[u8], card: &mut [u8; CARD]) -> usize
+    ensures { λ r. ⌜ Counts r (now (card .exit)) ⌝ }
+{
     let file = os::open_read(path);
-    if 0 <= file {
-        let mut card = [0u8; CARD];
-        let n = io::read_full(file, &mut card);
-        libc::close(file);
-        let mut text = [0u8; TEXT];
-        let length = report::sheet(&card[..n], &mut text);
-        io::write_all(STDOUT_FILENO, path);
-        io::write_all(STDOUT_FILENO, b"\n");
-        io::write_all(STDOUT_FILENO, &text[..length]);
+    if file < 0 {
+        return 0;
     }
+    let n = io::read_full(file, card);
+    libc::close(file);
+    n
+}
+
+// Where the first line ends: behind its line feed.
+fn first_line(text: &[u8]) -> usize
+    ensures { λ r. ⌜ Counts r (now (text .entry)) ⌝ }
+{
+    let mut at = 0;
+    while at < text.len() {
+        if text[at] == 10 {
+            return at + 1;
+        }
+        at = at + 1;
+    }
+    at
+}
+
+fn write_line(text: &[u8]) {
+    let length = first_line(text);
+    io::write_all(STDOUT_FILENO, &text[..length]);
+}
+
+fn name(path: &[u8]) {
+    io::write_all(STDOUT_FILENO, path);
+    io::write_all(STDOUT_FILENO, b"\n");
+}
+
+// The sheet of a grammar.
+fn checked(path: &[u8]) {
+    name(path);
+    let mut card = [0u8; CARD];
+    let n = read(path, &mut card);
+    let mut text = [0u8; TEXT];
+    let length = report::sheet(&card[..n], &mut text);
+    io::write_all(STDOUT_FILENO, &text[..length]);
+}
+
+// The verdict on an input, by a grammar.
+fn judged(path: &[u8], log: &[u8]) {
+    let mut card = [0u8; CARD];
+    let n = read(path, &mut card);
+    let mut text = [0u8; LINE];
+    let length = report::judgement(&card[..n], log, &mut text);
+    write_line(&text[..length]);
+}
+
+fn limits_of_checking() {
+    checked(b"names_32");
+    checked(b"names_33");
+    checked(b"letters_24");
+    checked(b"letters_25");
+    checked(b"words_2048");
+    checked(b"words_2049");
+    checked(b"rules_128");
+    checked(b"rules_129");
+    checked(b"left_recursive");
+    checked(b"claimed_twice");
+    checked(b"no_rule");
+}
+
+// No token, one, 500 and 501, and four of which the third is unknown.
+fn limits_of_judging(path: &[u8]) {
+    name(path);
+    let mut log = [0u8; LOG];
+    judged(path, &log[..0]);
+    judged(path, &log[..1]);
+    judged(path, &log[..500]);
+    judged(path, &log[..501]);
+    log[2] = 1;
+    judged(path, &log[..4]);
+}
+
+// The most nested calls there can be: 32 nonterminals, each at 501 places.
+fn deepest(path: &[u8]) {
+    name(path);
+    let log = [0u8; LOG];
+    judged(path, &log[..500]);
 }
 
 fn main() {
-    show(b"names_32");
-    show(b"names_33");
-    show(b"letters_24");
-    show(b"letters_25");
-    show(b"words_2048");
-    show(b"words_2049");
-    show(b"rules_128");
-    show(b"rules_129");
-    show(b"left_recursive");
-    show(b"claimed_twice");
-    show(b"no_rule");
+    limits_of_checking();
+    limits_of_judging(b"repeated");
+    limits_of_judging(b"no_rule");
+    deepest(b"chain");
+    deepest(b"chain_of_two_musts");
+    deepest(b"chain_of_must_nots");
 }

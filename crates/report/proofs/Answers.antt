@@ -53,5 +53,5 @@ module _ {l m : List ℕ} {k : ℕ} where
       let a : answer ≡ refusedOr g (verdictOf (grammarOf words) input) = j .answer ∙ ap (λ y. refusedOr y (verdictOf (grammarOf words) input)) same in
       let b : memo ≡ lentBack g (memoWords (grammarOf words) input) blankMemo = j .lent-memo ∙ ap (λ y. lentBack y (memoWords (grammarOf words) input) blankMemo) same in
       let t = ap₂ (λ x y. judgementText x (nonterminalsOf (reading words)) (tokensOf input) y) a b
-          ∙ same-sizes words input (lentBack g (memoWords (grammarOf words) input) blankMemo) (verdictOf (grammarOf words) input) g refl in
+      ∙ same-sizes words input (lentBack g (memoWords (grammarOf words) input) blankMemo) (verdictOf (grammarOf words) input) g refl in
       subst (λ x. Put l 0 x m k) t (rw (n, w) at p)

@@ -31,7 +31,7 @@ same-length : tie.Need-same-length
 same-length c = search needs
 
 returns : tie.Need-returns
-returns c = 
+returns c =
     let s = c .before .before .before .before .before .before .before .before .before .before .before .before .before in
     judgement-judged (found (c .before .before .before .before .before .before .before .before .load .ensures) (c .before .before .before .before .before .before .loaded .given .1) (length-replicate {A = ℕ} 2048 0)) (s .args .input .now) (c .before .before .put-judged .ensures)
 
@@ -39,7 +39,7 @@ same-length-2 : tie.Need-same-length-2
 same-length-2 c = search needs
 
 returns-2 : tie.Need-returns-2
-returns-2 c = 
+returns-2 c =
     let s = c .before .before .before .before .before .before .before .before .before .before .before in
     judgement-refused (s .args .card .now) (s .args .input .now) (not-found (c .before .before .before .before .before .before .load .ensures) (c .before .before .before .before .enum-told .given .1)) (c .before .before .put-refusal .ensures)
 
