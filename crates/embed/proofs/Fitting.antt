@@ -1,0 +1,130 @@
+-- Each answer of the two calls fits the fields, and the fields give it back. Assumes nothing.
+use mathlib.Core.Path.{_≡_, refl, sym, _∙_}
+use mathlib.Core.Bool.{Bool, true, false}
+use mathlib.Core.List.{List}
+use mathlib.Core.Option.{Option, none, some}
+use Prim.Native.Nat.{ℕ, suc, _+_, _*_, _/_, _%_, _≤_, _<_}
+use native.Mathlib.Nat.{mul-le-mul}
+use native.Mathlib.Omega.{arith}
+use lib.ListN.{length}
+use Rattle.answer.specs.declared.Error.{Error}
+use Rattle.answer.specs.declared.Error.the-variants.{TableTooShort, MemoTooShort, Length, Heading, UnexpectedWord, OutOfRange, TooManyRules, LeftRecursive, Conflict, InputTooLong, UnknownToken}
+use Rattle.answer.specs.declared.Calls.{Calls}
+use Rattle.answer.specs.declared.Answer.{Answer}
+use Rattle.answer.specs.declared.Answer.the-variants.{Refused, Passed, Rejected, Accepted}
+use Rattle.answer.specs.Numbers.{coded, numbers, Numbers}
+use Rattle.grammar.specs.Choice.{choose}
+use Rattle.grammar.specs.Limits.{maxWords, maxTokens}
+use Rattle.grammar.specs.Encoding.{grammarOf}
+use Rattle.grammar.proofs.WellRead.{well-read}
+use Rattle.semantics.specs.Claims.{tableOf}
+use Rattle.semantics.specs.Descent.{accepts}
+use Rattle.semantics.proofs.Called.{called-range}
+use Rattle.semantics.proofs.Theorems.{theorems}
+use Rattle.recognizer.specs.Answers.{checkFault, judgeFault, refusedOr, callsOf, verdictOf}
+use Rattle.recognizer.specs.Properties.{Checks, Judges}
+use Rattle.recognizer.proofs.Checking.{passed-fault}
+use Rattle.recognizer.proofs.Judged.{judged-readable}
+use Rattle.embed.specs.Packing.{Fit, Fits, joined, packed, Unpacks}
+use Rattle.embed.specs.Exports.{CheckExported, JudgeExported}
+use Rattle.embed.proofs.Places.{LowFault, check-low, judge-low}
+
+code-low : (e : Error) → coded e .code < 256
+code-low TableTooShort = omega arith
+code-low MemoTooShort = omega arith
+code-low Length = omega arith
+code-low Heading = omega arith
+code-low (UnexpectedWord at) = omega arith
+code-low (OutOfRange at) = omega arith
+code-low (TooManyRules at) = omega arith
+code-low (LeftRecursive A) = omega arith
+code-low (Conflict A c) = omega arith
+code-low InputTooLong = omega arith
+code-low (UnknownToken at) = omega arith
+
+refused-fits : (e : Error) → coded e .position ≤ maxWords → Fits (numbers (Refused e))
+refused-fits e h = record { verdict = omega arith; number = code-low e; place = omega arith; count = omega arith; farthest = omega arith }
+
+-- a check
+pub check-fits : {words before after : List ℕ} {a : Answer} → Checks words before a after → Fits (numbers a)
+check-fits {words} {before} {after} {a} c = rw (c .answer) (go (checkFault (length before) words) (check-low (length before) words))
+  where
+    go : (f : Option Error) → LowFault maxWords f → Fits (numbers (refusedOr f Passed))
+    go none l = record { verdict = omega arith; number = omega arith; place = omega arith; count = omega arith; farthest = omega arith }
+    go (some e) l = refused-fits e (l .low e refl)
+
+-- the calls of a descent are few, and none is far
+calls-fit : (words input : List ℕ) (table memo : ℕ) → judgeFault table memo words input ≡ none
+    → (callsOf (grammarOf words) input .count < 65536) × (callsOf (grammarOf words) input .farthest < 65536)
+calls-fit words input table memo e =
+    let G = grammarOf words in
+    let k = judged-readable words input table memo e in
+    let p = passed-fault words (k .0) in
+    let r = well-read words (p .sizes) (p .read) in
+    let some-nonterminal : 0 < G .nonterminals = omega (arith, r .nonterminals, r .someNonterminal) in
+    let own = theorems .own-entries G 1 in
+    let c = theorems .calls-counted G (r .formed .scoped) (p .free) some-nonterminal (tableOf G 1) own 1 input in
+    let m = mul-le-mul {n₁ = G .nonterminals} {m₁ = suc (length input)} {n₂ = 32} {m₂ = 501} (omega (arith, r .nonterminals, r .fewNonterminals)) (omega (arith, k .1)) in
+    let far = c .farthest-called in
+    let within = called-range G (tableOf G 1) 1 input (r .formed .scoped) (p .free) own some-nonterminal (far .0) (far .1) in
+    (omega (arith, c .bounded), omega (arith, far .2, within .1, k .1))
+
+-- a judgement
+pub judge-fits : {words input table memo table′ memo′ : List ℕ} {a : Answer} → Judges words input table memo a table′ memo′ → Fits (numbers a)
+unfolding verdictOf
+judge-fits {words} {input} {table} {memo} {table′} {memo′} {a} j =
+    rw (j .answer) (go (judgeFault (length table) (length memo) words input) refl (judge-low (length table) (length memo) words input))
+  where
+    verdict : (b : Bool) (c : Calls) → (c .count < 65536) × (c .farthest < 65536) → Fits (numbers (choose b (Accepted c) (Rejected c)))
+    verdict true c h = record { verdict = omega arith; number = omega arith; place = omega arith; count = h .0; farthest = h .1 }
+    verdict false c h = record { verdict = omega arith; number = omega arith; place = omega arith; count = h .0; farthest = h .1 }
+
+    go : (f : Option Error) → judgeFault (length table) (length memo) words input ≡ f → LowFault maxWords f
+        → Fits (numbers (refusedOr f (choose (accepts (grammarOf words) (tableOf (grammarOf words) 1) 1 input) (Accepted (callsOf (grammarOf words) input)) (Rejected (callsOf (grammarOf words) input)))))
+    go none e l = verdict (accepts (grammarOf words) (tableOf (grammarOf words) 1) 1 input) (callsOf (grammarOf words) input) (calls-fit words input (length table) (length memo) e)
+    go (some x) e l = refused-fits x (l .low x refl)
+
+-- packing, by the answer
+module _ {a : Answer} where
+  pub refused-fields : {e : Error} {n p : ℕ} → Fits (numbers a) → a ≡ Refused e → n ≡ coded e .code → p ≡ coded e .position → Fit 0 n p 0 0
+  refused-fields f q n p = rw (n, p) (rw q at f)
+
+  pub refused-packed : {e : Error} {n p r : ℕ} → a ≡ Refused e → n ≡ coded e .code → p ≡ coded e .position → r ≡ joined 0 n p 0 0 → r ≡ packed (numbers a)
+  unfolding packed
+  refused-packed q n p r = r ∙ rw (n, p, q)
+
+  pub passed-packed : {r : ℕ} → a ≡ Passed → r ≡ joined 1 0 0 0 0 → r ≡ packed (numbers a)
+  unfolding packed
+  passed-packed q r = r ∙ rw q
+
+  pub rejected-fields : {c : Calls} → Fits (numbers a) → a ≡ Rejected c → Fit 2 0 0 (c .count) (c .farthest)
+  rejected-fields f q = rw q at f
+
+  pub rejected-packed : {c : Calls} {r : ℕ} → a ≡ Rejected c → r ≡ joined 2 0 0 (c .count) (c .farthest) → r ≡ packed (numbers a)
+  unfolding packed
+  rejected-packed q r = r ∙ rw q
+
+  pub accepted-fields : {c : Calls} → Fits (numbers a) → a ≡ Accepted c → Fit 3 0 0 (c .count) (c .farthest)
+  accepted-fields f q = rw q at f
+
+  pub accepted-packed : {c : Calls} {r : ℕ} → a ≡ Accepted c → r ≡ joined 3 0 0 (c .count) (c .farthest) → r ≡ packed (numbers a)
+  unfolding packed
+  accepted-packed q r = r ∙ rw q
+
+-- the fields of a joined number
+unpacks : {r : ℕ} (n : Numbers) → Fits n → r ≡ packed n → Unpacks r n
+unfolding packed
+unpacks {r} n f e = record {
+  verdict = omega (arith, e, f .verdict, f .number, f .place, f .count, f .farthest);
+  number = omega (arith, e, f .verdict, f .number, f .place, f .count, f .farthest);
+  place = omega (arith, e, f .verdict, f .number, f .place, f .count, f .farthest);
+  count = omega (arith, e, f .verdict, f .number, f .place, f .count, f .farthest);
+  farthest = omega (arith, e, f .verdict, f .number, f .place, f .count, f .farthest);
+}
+
+pub check-exported : {words before after : List ℕ} {a : Answer} {r : ℕ} → Checks words before a after → r ≡ packed (numbers a) → CheckExported words before r after
+check-exported {a = a} c e = record { answer = a; checks = c; packs = e; unpacks = unpacks (numbers a) (check-fits c) e }
+
+pub judge-exported : {words input table memo table′ memo′ : List ℕ} {a : Answer} {r : ℕ} → Judges words input table memo a table′ memo′ → r ≡ packed (numbers a)
+    → JudgeExported words input table memo r table′ memo′
+judge-exported {a = a} j e = record { answer = a; judges = j; packs = e; unpacks = unpacks (numbers a) (judge-fits j) e }

@@ -1,0 +1,189 @@
+-- The place of a refusal is a small number: an index of a word or a token, a nonterminal, or an entry of the table. Assumes nothing.
+use mathlib.Core.Path.{_≡_, refl, sym, ap, _∙_}
+use mathlib.Core.Bool.{Bool, true, false, _&&_}
+use mathlib.Core.List.{List, [], _∷_, List·Memᴰ, List·Memᴰ·head}
+use mathlib.Core.Option.{Option, none, some}
+use Prim.Native.Nat.{ℕ, suc, _+_, _*_, _≤_, _<_}
+use native.Mathlib.Omega.{arith}
+use lib.Dec.{ltb, leb, ltb→lt}
+use lib.ListN.{length}
+use borrow.Author.Tests.{ltb-false}
+use Rattle.answer.specs.declared.Error.{Error}
+use Rattle.answer.specs.declared.Error.the-variants.{TableTooShort, MemoTooShort, Length, Heading, UnexpectedWord, OutOfRange, TooManyRules, LeftRecursive, Conflict, InputTooLong, UnknownToken}
+use Rattle.answer.specs.Numbers.{coded}
+use Rattle.grammar.specs.Choice.{choose}
+use Rattle.grammar.specs.Limits.{maxWords, maxRules, maxTokens, tableWords as memoryWords, memoEntries, maxNonterminals, maxTerminals}
+use Rattle.grammar.specs.Syntax.{Grammar}
+use Rattle.grammar.specs.Encoding.{declaredBy, grammarOf}
+use Rattle.grammar.specs.Words.{decoded}
+use Rattle.grammar.specs.Reading.{row, allows, inRange, beginsRule, after, progress, oneMore, counted, stepped, onStep, finished, scan, fresh, within, headed, opened, reading}
+use Rattle.grammar.specs.declared.word.Word.{Word}
+use Rattle.grammar.specs.declared.reading.State.{State}
+use Rattle.grammar.specs.declared.reading.Sizes.{Sizes}
+use Rattle.grammar.specs.declared.reading.Progress.{Progress}
+use Rattle.grammar.specs.declared.reading.Step.{Step}
+use Rattle.grammar.specs.declared.reading.Step.the-variants.{Go, Stop}
+use Rattle.grammar.specs.declared.reading.Outcome.{Outcome}
+use Rattle.grammar.specs.declared.reading.Outcome.the-variants.{Read, Faulty}
+use Rattle.grammar.proofs.WellRead.{well-read}
+use Rattle.semantics.specs.Quantifiers.{all}
+use Rattle.semantics.specs.Strings.{Over}
+use Rattle.semantics.specs.LeftRecursion.{leftRecursive, lowestLeftRecursive}
+use Rattle.semantics.specs.FirstFollow.{Entry, entries}
+use Rattle.semantics.specs.Claims.{clashes}
+use Rattle.semantics.proofs.Booleans.{and-l}
+use Rattle.semantics.proofs.FiniteSets.{keep-elim}
+use Rattle.semantics.proofs.Quantified.{lowest-some}
+use Rattle.semantics.proofs.LookaheadSets.{entries-elim}
+use Rattle.table.specs.Entries.{columnOf}
+use Rattle.table.specs.Analysis.{firstFault, leftFault, clashFault, grammarFault, readingFault, fault}
+use Rattle.recognizer.specs.declared.judging.Unknown.the-variants.{Absent, At}
+use Rattle.recognizer.specs.Answers.{unless, unknownFrom, unknownFault, firstOf, checkFault, judgeFault}
+
+-- what tells an error tells it at most at a place
+record LowStep (n : ℕ) (s : Step) : Type 0 where
+  low : (e : Error) → s ≡ Stop e → coded e .position ≤ n
+
+record LowOutcome (n : ℕ) (o : Outcome) : Type 0 where
+  low : (e : Error) → o ≡ Faulty e → coded e .position ≤ n
+
+pub record LowFault (n : ℕ) (f : Option Error) : Type 0 where
+  pub low : (e : Error) → f ≡ some e → coded e .position ≤ n
+
+module _ (n : ℕ) where
+  go-low : (p : Progress) → LowStep n (Go p)
+  go-low p = record { low = λ e q. let z : _≡_ {A = ℕ} 0 1 = cc in absurd (omega arith) }
+
+  stop-low : (x : Error) → coded x .position ≤ n → LowStep n (Stop x)
+  stop-low x h = record { low = λ e q. let z : e ≡ x = cc in rw z h }
+
+  read-low : (z : Sizes) → LowOutcome n (Read z)
+  read-low z = record { low = λ e q. let y : _≡_ {A = ℕ} 0 1 = cc in absurd (omega arith) }
+
+  faulty-low : (x : Error) → coded x .position ≤ n → LowOutcome n (Faulty x)
+  faulty-low x h = record { low = λ e q. let z : e ≡ x = cc in rw z h }
+
+  none-low : LowFault n none
+  none-low = record { low = λ e q. let z : _≡_ {A = ℕ} 0 1 = cc in absurd (omega arith) }
+
+  some-low : (x : Error) → coded x .position ≤ n → LowFault n (some x)
+  some-low x h = record { low = λ e q. let z : e ≡ x = cc in rw z h }
+
+  -- reading: at most the index behind the last word
+  choose-step : (b : Bool) (x y : Step) → LowStep n x → LowStep n y → LowStep n (choose b x y)
+  choose-step true x y l k = l
+  choose-step false x y l k = k
+
+  choose-outcome : (b : Bool) (x y : Outcome) → LowOutcome n x → LowOutcome n y → LowOutcome n (choose b x y)
+  choose-outcome true x y l k = l
+  choose-outcome false x y l k = k
+
+  on-step : (s : Step) (f : Progress → Outcome) → LowStep n s → ((q : Progress) → LowOutcome n (f q)) → LowOutcome n (onStep s f)
+  unfolding onStep
+  on-step (Go p) f l g = g p
+  on-step (Stop e) f l g = faulty-low e (l .low e refl)
+
+  step-low : (w : Word) (p : Progress) (at : ℕ) → at ≤ n → LowStep n (stepped w p at)
+  unfolding stepped counted
+  step-low w p at h =
+      choose-step (allows w (p .state)) _ _
+      (choose-step (inRange w (p .sizes)) _ _
+      (choose-step (beginsRule w) _ _ (choose-step (leb maxRules (p .sizes .rules)) _ _ (stop-low (TooManyRules at) h) (go-low _)) (go-low _)) (stop-low (OutOfRange at) h))
+      (stop-low (UnexpectedWord at) h)
+
+  scan-low : (ws : List ℕ) (p : Progress) (at : ℕ) → at + length ws ≤ n → LowOutcome n (scan p at ws)
+  unfolding scan finished
+  scan-low [] p at h = choose-outcome (row false false false false true (p .state)) _ _ (read-low (p .sizes)) (faulty-low (UnexpectedWord at) (omega arith))
+  scan-low (w ∷ ws) p at h = on-step (stepped (decoded w) p at) _ (step-low (decoded w) p at (omega arith)) (λ q. scan-low ws q (suc at) (omega arith))
+
+opened-low : (words : List ℕ) → length words ≤ maxWords → LowOutcome maxWords (opened words)
+unfolding opened headed
+opened-low [] h = faulty-low maxWords Heading (omega arith)
+opened-low (w ∷ ws) h =
+    let z = declaredBy (decoded w) in
+    choose-outcome maxWords (within (z .nonterminals) maxNonterminals && within (z .terminals) maxTerminals) _ _ (scan-low maxWords ws (fresh (declaredBy (decoded w))) 1 (omega arith)) (faulty-low maxWords Heading (omega arith))
+
+reading-low : (words : List ℕ) → LowOutcome maxWords (reading words)
+unfolding reading
+reading-low words = go (ltb maxWords (length words)) refl
+  where
+    go : (b : Bool) → ltb maxWords (length words) ≡ b → LowOutcome maxWords (choose b (Faulty Length) (opened words))
+    go true e = faulty-low maxWords Length (omega arith)
+    go false e = opened-low words (ltb-false maxWords (length words) e)
+
+-- left recursion and conflicts: a nonterminal, and an entry of the table
+module _ (G : Grammar) (few : G .nonterminals ≤ maxNonterminals) (small : G .terminals ≤ maxTerminals) where
+  left-low : (o : Option ℕ) → lowestLeftRecursive G ≡ o → LowFault maxWords (leftFault o)
+  unfolding lowestLeftRecursive
+  left-low none e = none-low maxWords
+  left-low (some A) e = some-low maxWords (LeftRecursive A) (omega (arith, lowest-some (G .nonterminals) (leftRecursive G) A .0 e .0))
+
+  column-low : (x : List ℕ) → Over (G .terminals) x → columnOf (G .terminals) x ≤ maxTerminals
+  unfolding all
+  column-low [] h = small
+  column-low (a ∷ x) h = omega (arith, ltb→lt a (G .terminals) (and-l (ltb a (G .terminals)) _ h))
+
+  clash-low : (l : List Entry) → clashes G 1 ≡ l → LowFault maxWords (clashFault (G .terminals) l)
+  unfolding clashes
+  clash-low [] q = none-low maxWords
+  clash-low (e ∷ es) q =
+      let m : List·Memᴰ e (clashes G 1) = rw q (List·Memᴰ·head refl) in
+      let k = entries-elim G 1 e (keep-elim _ (entries G 1) e m .0) in
+      some-low maxWords (Conflict (e .0) (columnOf (G .terminals) (e .1))) (omega (arith, k .0, column-low (e .1) (k .1 .1)))
+
+first-low : (n : ℕ) (f g : Option Error) → LowFault n f → LowFault n g → LowFault n (firstFault f g)
+first-low n none g l k = k
+first-low n (some e) g l k = l
+
+fault-low : (words : List ℕ) → LowFault maxWords (fault words)
+unfolding fault grammarFault
+fault-low words = go (reading words) refl (reading-low words)
+  where
+    go : (o : Outcome) → reading words ≡ o → LowOutcome maxWords o → LowFault maxWords (firstFault (readingFault o) (firstFault (leftFault (lowestLeftRecursive (grammarOf words))) (clashFault (grammarOf words .terminals) (clashes (grammarOf words) 1))))
+    go (Faulty e) q l = some-low maxWords e (l .low e refl)
+    go (Read z) q l =
+        let r = well-read words z q in
+        let few : grammarOf words .nonterminals ≤ maxNonterminals = omega (arith, r .nonterminals, r .fewNonterminals) in
+        let small : grammarOf words .terminals ≤ maxTerminals = omega (arith, r .terminals, r .fewTerminals) in
+        first-low maxWords (leftFault (lowestLeftRecursive (grammarOf words))) _ (left-low (grammarOf words) few small _ refl) (clash-low (grammarOf words) few small _ refl)
+
+-- the lists of faults of the two calls
+list-low : (n : ℕ) (f : Option Error) (l : List (Option Error)) → LowFault n f → LowFault n (firstOf l) → LowFault n (firstOf (f ∷ l))
+list-low n none l h k = k
+list-low n (some e) l h k = h
+
+unless-low : (n : ℕ) (b : Bool) (e : Error) → coded e .position ≤ n → LowFault n (unless b e)
+unless-low n true e h = some-low n e h
+unless-low n false e h = none-low n
+
+unknown-low : (n t at : ℕ) (w : List ℕ) → at + length w ≤ n → LowFault n (unknownFault (unknownFrom t at w))
+unfolding unknownFrom
+unknown-low n t at [] h = none-low n
+unknown-low n t at (a ∷ w) h = go (ltb a t) (unknown-low n t (suc at) w (omega arith))
+  where
+    go : (b : Bool) → LowFault n (unknownFault (unknownFrom t (suc at) w)) → LowFault n (unknownFault (choose b (unknownFrom t (suc at) w) (At at)))
+    go true k = k
+    go false k = some-low n (UnknownToken at) (omega arith)
+
+pub check-low : (table : ℕ) (words : List ℕ) → LowFault maxWords (checkFault table words)
+unfolding checkFault
+check-low table words =
+    list-low maxWords (unless (ltb table memoryWords) TableTooShort) (fault words ∷ []) (unless-low maxWords (ltb table memoryWords) TableTooShort (omega arith))
+    (list-low maxWords (fault words) [] (fault-low words) (none-low maxWords))
+
+pub judge-low : (table memo : ℕ) (words input : List ℕ) → LowFault maxWords (judgeFault table memo words input)
+unfolding judgeFault
+judge-low table memo words input =
+    let long = unless (ltb maxTokens (length input)) InputTooLong in
+    let unknown = unknownFault (unknownFrom (grammarOf words .terminals) 0 input) in
+    let short = unless (ltb memo memoEntries) MemoTooShort in
+    list-low maxWords (unless (ltb table memoryWords) TableTooShort) (short ∷ fault words ∷ long ∷ unknown ∷ []) (unless-low maxWords (ltb table memoryWords) TableTooShort (omega arith))
+    (list-low maxWords short (fault words ∷ long ∷ unknown ∷ []) (unless-low maxWords (ltb memo memoEntries) MemoTooShort (omega arith))
+    (list-low maxWords (fault words) (long ∷ unknown ∷ []) (fault-low words) (go (ltb maxTokens (length input)) refl)))
+  where
+    go : (b : Bool) → ltb maxTokens (length input) ≡ b
+        → LowFault maxWords (firstOf (unless b InputTooLong ∷ unknownFault (unknownFrom (grammarOf words .terminals) 0 input) ∷ []))
+    go true e = some-low maxWords InputTooLong (omega arith)
+    go false e =
+        list-low maxWords (unknownFault (unknownFrom (grammarOf words .terminals) 0 input)) []
+        (unknown-low maxWords (grammarOf words .terminals) 0 input (omega (arith, ltb-false maxTokens (length input) e))) (none-low maxWords)

@@ -1,0 +1,20 @@
+-- The answer of a check fits, and packed it is what is told.
+use Rattle.embed.proofs.Fitting.{check-fits, check-exported}
+use borrow.Author.Needs.{needs}
+use Rattle.embed.proofs.vinegarspit_check.Statement.{statement}
+use Rattle.embed.proofs.vinegarspit_check.Tie as tie
+
+check-requires : tie.Need-check-requires
+check-requires c κs = search needs
+
+pack-requires : tie.Need-pack-requires
+pack-requires c κs = check-fits (c .before .before .check .ensures)
+
+same-length : tie.Need-same-length
+same-length c = search needs
+
+returns : tie.Need-returns
+returns c = check-exported (c .before .before .before .check .ensures) (c .pack .ensures)
+
+pub vinegarspit-check-spec : {M : Type 1} → statement M
+vinegarspit-check-spec = tie.close (tie.spec check-requires pack-requires same-length returns)

@@ -1,0 +1,51 @@
+// The public calls for programs in C and Rust: the library's answers, packed into one number.
+ghost use mathlib.Core.Path.{_≡_};
+ghost use Rattle.answer.specs.Numbers.{numbers};
+ghost use Rattle.embed.specs.Packing.{Fit, Fits, joined, packed};
+ghost use Rattle.embed.specs.Exports.{CheckExported, JudgeExported};
+use answer::Answer;
+use answer::code;
+use answer::position;
+use recognizer::check;
+use recognizer::judge;
+
+// The five fields side by side.
+fn join(verdict: u64, number: u64, place: u64, count: u64, farthest: u64) -> u64
+    requires { ⌜ Fit verdict number place count farthest ⌝ }
+    ensures { λ r. ⌜ r ≡ joined verdict number place count farthest ⌝ }
+{
+    verdict + number * 256 + place * 65536 + count * 4294967296 + farthest * 281474976710656
+}
+
+fn pack(answer: Answer) -> u64
+    requires { ⌜ Fits (numbers answer) ⌝ }
+    ensures { λ r. ⌜ r ≡ packed (numbers answer) ⌝ }
+{
+    match answer {
+        Answer::Refused(error) => join(0, code(error) as u64, position(error) as u64, 0, 0),
+        Answer::Passed => join(1, 0, 0, 0, 0),
+        Answer::Rejected(calls) => join(2, 0, 0, calls.count as u64, calls.farthest as u64),
+        Answer::Accepted(calls) => join(3, 0, 0, calls.count as u64, calls.farthest as u64),
+    }
+}
+
+#[no_mangle]
+pub extern "C" fn vinegarspit_check(card: &[u32], table: &mut [u32]) -> u64
+    ensures { λ r. ⌜ CheckExported (now (card .entry)) (now (table .entry)) r (now (table .exit)) ⌝ }
+{
+    let answer = check(card, table);
+    pack(answer)
+}
+
+#[no_mangle]
+pub extern "C" fn vinegarspit_judge(
+    card: &[u32],
+    log: &[u8],
+    table: &mut [u32],
+    memo: &mut [u16],
+) -> u64
+    ensures { λ r. ⌜ JudgeExported (now (card .entry)) (now (log .entry)) (now (table .entry)) (now (memo .entry)) r (now (table .exit)) (now (memo .exit)) ⌝ }
+{
+    let answer = judge(card, log, table, memo);
+    pack(answer)
+}

@@ -1,0 +1,82 @@
+/* Checking encoded Boolean grammars and judging inputs by them, in memory that the caller lends.
+ *
+ * A grammar (a card) is a row of 32-bit words; an input (a log) is a row of bytes, each the number of a terminal.
+ * Both calls take any lengths, keep nothing, allocate nothing, and end. A pointer that goes with the length 0 is not read, but must not be
+ * null; a row of words must be aligned as its type asks, and memory that is written must not overlap anything else that is passed.
+ *
+ * Link with the archive that `rt staticlib embed` writes, target/staticlib/libembed.a. */
+#ifndef VINEGARSPIT_H
+#define VINEGARSPIT_H
+
+#include <stddef.h>
+#include <stdint.h>
+
+#ifdef __cplusplus
+extern "C" {
+#endif
+
+/* How much memory is to be lent, and the longest grammar and input. */
+enum {
+    VINEGARSPIT_TABLE_WORDS = 864,
+    VINEGARSPIT_MEMO_ENTRIES = 16032,
+    VINEGARSPIT_CARD_WORDS = 2048,
+    VINEGARSPIT_LOG_EVENTS = 500
+};
+
+/* What an answer tells. */
+enum {
+    VINEGARSPIT_REFUSED = 0,
+    VINEGARSPIT_PASSED = 1,
+    VINEGARSPIT_REJECTED = 2,
+    VINEGARSPIT_ACCEPTED = 3
+};
+
+/* Entries: none in a row of the table; a call that failed, and one not made, in the memo table. */
+#define VINEGARSPIT_NO_RULE UINT32_C(4294967295)
+#define VINEGARSPIT_FAILED UINT16_C(65534)
+#define VINEGARSPIT_NOT_CALLED UINT16_C(65535)
+
+/* Checks a grammar. Answers PASSED or REFUSED.
+ *
+ * PASSED: for each name, table[2 * name] is its first set and table[2 * name + 1] its follow set (letter l weighs 2^l, "nothing" 2^24); from
+ * 2 * names on stand the rows of the LL(1) table, letters in order and then the end of the log, each entry a rule's number or NO_RULE. Later
+ * words keep their contents.
+ *
+ * REFUSED: nothing is written. The first of these that holds, with its number and its place:
+ *    1  table_len is under 864                                       0
+ *    3  card_len is over 2,048                                       0
+ *    4  no words, no heading, or a heading out of its limits         0
+ *    5  a word that may not stand there, or no end                   the word's index (no end: card_len)
+ *    6  a name or letter number not below the heading's              the word's index
+ *    7  a 129th rule                                                 the word's index
+ *    8  the grammar is left-recursive                                the lowest name that reaches itself
+ *    9  two rules claim an entry of the table                        name * 32 + column of the first such entry */
+uint64_t vinegarspit_check(const uint32_t *card, size_t card_len, uint32_t *table, size_t table_len);
+
+/* Judges an input. Answers ACCEPTED or REJECTED, with count and far, or REFUSED.
+ *
+ * ACCEPTED exactly when the whole log belongs to name 0 by the one meaning that the grammar has; REJECTED exactly when not. Count is the
+ * number of pairs of a name and a place that the descent calls, far the greatest place among them. The table is as after a check;
+ * memo[name * (log_len + 1) + place] is where the call ended, FAILED or NOT_CALLED; later entries keep their contents.
+ *
+ * REFUSED as by a check, and besides, in the order of the numbers:
+ *    2  memo_len is under 16,032                                     0
+ *   10  log_len is over 500                                          0
+ *   11  an event not below the number of letters                     the first such index
+ *
+ * The deepest grammars nest 16,032 calls: have 4 MiB of stack, or see README.md. */
+uint64_t vinegarspit_judge(const uint32_t *card, size_t card_len, const uint8_t *log, size_t log_len,
+                           uint32_t *table, size_t table_len, uint16_t *memo, size_t memo_len);
+
+/* The parts of an answer. */
+static inline unsigned vinegarspit_verdict(uint64_t answer) { return (unsigned)(answer & 255); }
+static inline unsigned vinegarspit_number(uint64_t answer) { return (unsigned)(answer >> 8 & 255); }
+static inline unsigned vinegarspit_place(uint64_t answer) { return (unsigned)(answer >> 16 & 65535); }
+static inline unsigned vinegarspit_count(uint64_t answer) { return (unsigned)(answer >> 32 & 65535); }
+static inline unsigned vinegarspit_far(uint64_t answer) { return (unsigned)(answer >> 48); }
+
+#ifdef __cplusplus
+}
+#endif
+
+#endif
