@@ -1,0 +1,350 @@
+"""Grammars as text and as words: each is read and written here.
+
+The text (its words are reserved: letters, names, empty, not):
+
+    # some a's, then as many b's, but not one of each
+    letters a b
+    S -> A & not a b
+    A -> a A b | empty
+
+The words are those of document 01: a word's top four bits are its kind, the low 28 its payload."""
+import re
+from typing import NamedTuple
+
+
+MAX_WORDS, MAX_NONTERMINALS, MAX_TERMINALS, MAX_RULES, MAX_INPUT = 2048, 32, 24, 128, 500
+HEADING_FIELD = 255    # what eight bits of the heading can say
+
+HEADING, RULE, POSITIVE, NEGATIVE, TERMINAL, NONTERMINAL, END = range(1, 8)
+
+
+class Symbol(NamedTuple):
+    kind: int          # TERMINAL or NONTERMINAL
+    number: int
+
+
+class Rule(NamedTuple):
+    head: int
+    positives: tuple   # of bodies, each a tuple of symbols
+    negatives: tuple
+
+
+class Grammar(NamedTuple):
+    nonterminals: tuple    # their names, in the order of their numbers
+    terminals: tuple
+    rules: tuple
+
+
+class TextError(Exception):
+    """A fault of the text, at a line counted from 1."""
+    def __init__(self, line, reason):
+        super().__init__(f'line {line}: {reason}')
+        self.line = line
+
+
+class Damaged(Exception):
+    """A fault of the words, with document 01's number (3 to 7) and place."""
+    def __init__(self, code, position, reason):
+        where = f'word {position}: ' if code >= 4 else ''
+        super().__init__(f'{where}{reason} (refused {code} {position})')
+        self.code, self.position, self.reason = code, position, reason
+
+
+# Text
+
+RESERVED = {'letters', 'names', 'empty', 'not'}
+TOKEN = re.compile(r"\s*(?:(->|[|&]|[A-Za-z0-9_][A-Za-z0-9_']*)|(\S))")
+
+
+def tokens(line, number):
+    """The tokens of a line, without its comment."""
+    found = []
+    for match in TOKEN.finditer(line.split('#', 1)[0]):
+        if match[2]:
+            raise TextError(number, f"the character '{match[2]}' means nothing here")
+        found.append(match[1])
+    return found
+
+
+def is_word(token):
+    return token not in ('->', '|', '&')
+
+
+def split(line, items, separator):
+    """The runs between the separators, at least one, each with the line where it is due."""
+    runs = [(line, [])]
+    for item in items:
+        if item[0] == separator:
+            runs.append((item[1], []))
+        else:
+            runs[-1][1].append(item)
+    return runs
+
+
+def statements(text):
+    """The lists of (token, line); a line that begins with | or & continues the one before."""
+    found = []
+    for number, line in enumerate(text.split('\n'), 1):
+        items = [(token, number) for token in tokens(line, number)]
+        if items and items[0][0] in ('|', '&'):
+            if not found or found[-1][0][0] in ('letters', 'names'):
+                raise TextError(number, f"'{items[0][0]}' continues a rule, and there is none before it")
+            found[-1].extend(items)
+        elif items:
+            found.append(items)
+    return found
+
+
+def declared(items, what, allowed):
+    """The words behind 'letters' or 'names'."""
+    (_, line), *rest = items
+    seen = []
+    for token, line in rest:
+        if not is_word(token) or token in RESERVED or not allowed(token):
+            raise TextError(line, f"'{token}' cannot be a {what}: " + (
+                'a name begins with a capital letter' if what == 'name' else 'a letter is a word that begins with no capital'))
+        if token in seen:
+            raise TextError(line, f'{what} {token} is declared twice')
+        seen.append(token)
+    if not seen:
+        raise TextError(line, f'at least one {what} belongs here')
+    if len(seen) > HEADING_FIELD:
+        raise TextError(line, f'{len(seen)} {what}s: the heading has room for {HEADING_FIELD}')
+    return seen
+
+
+def is_nonterminal(token):
+    return token[0].isupper()
+
+
+def head_of(items):
+    token, line = items[0]
+    if not is_word(token):
+        raise TextError(line, f"'{token}' without the name that the rule defines")
+    if len(items) < 2 or items[1][0] != '->':
+        raise TextError(line, f"after '{token}' an '->' is missing")
+    if not is_nonterminal(token):
+        raise TextError(line, f"'{token}' cannot be defined: a name begins with a capital letter")
+    return token
+
+
+def parse(text):
+    """The grammar that a text says."""
+    terminals, nonterminals, definitions = None, None, []
+    for items in statements(text):
+        token, line = items[0]
+        if token in ('letters', 'names'):
+            if definitions:
+                raise TextError(line, f"a line '{token}' stands before the first rule")
+            if (terminals if token == 'letters' else nonterminals) is not None:
+                raise TextError(line, f"a second line '{token}'")
+            if token == 'letters':
+                terminals = declared(items, 'letter', lambda word: not is_nonterminal(word))
+            else:
+                nonterminals = declared(items, 'name', is_nonterminal)
+        else:
+            if terminals is None:
+                raise TextError(line, "a line 'letters' is missing before the first rule")
+            definitions.append((head_of(items), items))
+    last = text.count('\n') + 1
+    if terminals is None:
+        raise TextError(last, "the line 'letters' is missing")
+    listed = nonterminals is not None
+    if not listed:
+        nonterminals = list(dict.fromkeys(head for head, _ in definitions))
+        if not nonterminals:
+            raise TextError(last, "no name: write a rule, or a line 'names'")
+        if len(nonterminals) > HEADING_FIELD:
+            raise TextError(last, f'{len(nonterminals)} names: the heading has room for {HEADING_FIELD}')
+    resolve = resolver(nonterminals, terminals, listed)
+    rules = []
+    for _, items in definitions:
+        head = resolve(*items[0]).number
+        rules += [parse_rule(head, line, run, resolve) for line, run in split(items[1][1], items[2:], '|')]
+    return Grammar(tuple(nonterminals), tuple(terminals), tuple(rules))
+
+
+def resolver(nonterminals, terminals, listed):
+    """From a word of the text and its line to the symbol."""
+    symbols = {name: Symbol(NONTERMINAL, at) for at, name in enumerate(nonterminals)}
+    symbols.update((name, Symbol(TERMINAL, at)) for at, name in enumerate(terminals))
+
+    def resolve(token, line):
+        if token in symbols:
+            return symbols[token]
+        if token == 'empty':
+            raise TextError(line, "'empty' stands alone in its body")
+        if token in RESERVED or not is_word(token):
+            raise TextError(line, f"'{token}' does not belong inside a body")
+        if not is_nonterminal(token):
+            raise TextError(line, f"'{token}' is not among the letters")
+        if listed:
+            raise TextError(line, f"{token} is not in the line 'names'")
+        raise TextError(line, f"{token} has no rule; if that is meant, list every name in a line 'names'")
+    return resolve
+
+
+def parse_rule(head, line, items, resolve):
+    """One rule: its conjuncts, separated by &."""
+    positives, negatives = [], []
+    for line, conjunct in split(line, items, '&'):
+        negative = bool(conjunct) and conjunct[0][0] == 'not'
+        body = parse_body(line, conjunct[1:] if negative else conjunct, resolve)
+        if negative and not positives:
+            raise TextError(line, "a rule begins with a must, not with 'not'")
+        if negatives and not negative:
+            raise TextError(line, 'a must behind a must-not: the musts come first')
+        (negatives if negative else positives).append(body)
+    return Rule(head, tuple(positives), tuple(negatives))
+
+
+def parse_body(line, items, resolve):
+    if not items:
+        raise TextError(line, "a body is missing; write 'empty' for the empty one")
+    if [token for token, _ in items] == ['empty']:
+        return ()
+    return tuple(resolve(*item) for item in items)
+
+
+def body_text(grammar, body):
+    return ' '.join((grammar.terminals if s.kind == TERMINAL else grammar.nonterminals)[s.number] for s in body) or 'empty'
+
+
+def rule_text(grammar, rule):
+    """A rule's right side."""
+    return ' & '.join([body_text(grammar, body) for body in rule.positives]
+                      + ['not ' + body_text(grammar, body) for body in rule.negatives])
+
+
+def write(grammar):
+    """A text that says the grammar."""
+    lines = ['letters ' + ' '.join(grammar.terminals), 'names ' + ' '.join(grammar.nonterminals)]
+    before = None
+    for rule in grammar.rules:
+        head = grammar.nonterminals[rule.head]
+        # a name's neighbouring rules stand below one another
+        opening = f'{head} ->' if rule.head != before else ' ' * (len(head) + 1) + ' |'
+        lines.append(f'{opening} {rule_text(grammar, rule)}')
+        before = rule.head
+    return '\n'.join(lines) + '\n'
+
+
+def beyond_limits(grammar):
+    """What the check will refuse the grammar for, by its size alone."""
+    sizes = [(len(grammar.nonterminals), MAX_NONTERMINALS, 'names', 4), (len(grammar.terminals), MAX_TERMINALS, 'letters', 4),
+             (len(grammar.rules), MAX_RULES, 'rules', 7), (len(encode(grammar)), MAX_WORDS, 'words', 3)]
+    return [f'{size} {what}, and the limit is {limit}: the check refuses it ({code})'
+            for size, limit, what, code in sizes if size > limit]
+
+
+def parse_input(grammar, text):
+    """The tokens of an input written in the grammar's letters; letters of one character may be written together."""
+    numbers = {name: at for at, name in enumerate(grammar.terminals)}
+    found = []
+    for word in text.split():
+        for letter in [word] if word in numbers else word:
+            if letter not in numbers:
+                raise ValueError(f"event {len(found)}, '{letter}', is not among the letters {' '.join(grammar.terminals)}")
+            found.append(numbers[letter])
+    return bytes(found)
+
+
+# Words
+
+def word(kind, payload=0):
+    return kind << 28 | payload
+
+
+def encode(grammar):
+    words = [word(HEADING, len(grammar.nonterminals) | len(grammar.terminals) << 8)]
+    for rule in grammar.rules:
+        words.append(word(RULE, rule.head))
+        for kind, bodies in ((POSITIVE, rule.positives), (NEGATIVE, rule.negatives)):
+            for body in bodies:
+                words.append(word(kind))
+                words += [word(symbol.kind, symbol.number) for symbol in body]
+    return words + [word(END)]
+
+
+def to_bytes(words):
+    return b''.join(w.to_bytes(4, 'little') for w in words)
+
+
+def from_bytes(data):
+    if len(data) % 4:
+        raise Damaged(3, 0, f'{len(data)} bytes are not a row of 4-byte words')
+    return [int.from_bytes(data[at:at + 4], 'little') for at in range(0, len(data), 4)]
+
+
+KIND_NAMES = {HEADING: 'a heading', RULE: 'a rule', POSITIVE: 'a must', NEGATIVE: 'a must-not',
+              TERMINAL: 'a letter', NONTERMINAL: 'a name', END: 'the end'}
+
+# which kinds may stand behind which, where the words between are symbols
+ALLOWED = {HEADING: {RULE, END}, RULE: {POSITIVE}, POSITIVE: {RULE, POSITIVE, NEGATIVE, TERMINAL, NONTERMINAL, END},
+           NEGATIVE: {RULE, NEGATIVE, TERMINAL, NONTERMINAL, END}, END: set()}
+STANDING = {HEADING: 'before the first rule', RULE: 'where a must has to begin', POSITIVE: 'in a must',
+            NEGATIVE: 'behind a must-not', END: 'behind the end'}
+
+
+def heading_sizes(words):
+    if not words:
+        raise Damaged(4, 0, 'no words')
+    kind, payload = words[0] >> 28, words[0] & 0xfffffff
+    nonterminals, terminals = payload & 255, payload >> 8 & 255
+    if kind != HEADING:
+        raise Damaged(4, 0, 'the first word is not a heading')
+    if payload >> 16:
+        raise Damaged(4, 0, 'bits 16 to 27 of the heading are not zero')
+    for size, limit, what in ((nonterminals, MAX_NONTERMINALS, 'names'), (terminals, MAX_TERMINALS, 'letters')):
+        if not 1 <= size <= limit:
+            raise Damaged(4, 0, f'{size} {what}, not 1 to {limit}')
+    return nonterminals, terminals
+
+
+def scan(words):
+    """Yields kind and payload of each word, up to the first fault in document 01's order, which it raises."""
+    if len(words) > MAX_WORDS:
+        raise Damaged(3, 0, f'{len(words)} words, and the limit is {MAX_WORDS}')
+    nonterminals, terminals = heading_sizes(words)
+    yield HEADING, words[0] & 0xfffffff
+    state, rules = HEADING, 0
+    for at, w in enumerate(words[1:], 1):
+        kind, payload = w >> 28, w & 0xfffffff
+        if kind not in KIND_NAMES:
+            raise Damaged(5, at, f'there is no kind {kind}')
+        if kind not in ALLOWED[state]:
+            raise Damaged(5, at, f'{KIND_NAMES[kind]} {STANDING[state]}')
+        if kind in (POSITIVE, NEGATIVE, END) and payload:
+            raise Damaged(5, at, f'{KIND_NAMES[kind]} with payload {payload}, not 0')
+        if kind in (RULE, NONTERMINAL) and payload >= nonterminals:
+            raise Damaged(6, at, f'name {payload}, and the heading has {nonterminals}')
+        if kind == TERMINAL and payload >= terminals:
+            raise Damaged(6, at, f'letter {payload}, and the heading has {terminals}')
+        rules += kind == RULE
+        if rules > MAX_RULES:
+            raise Damaged(7, at, f'rule {rules - 1}: more than {MAX_RULES} rules')
+        yield kind, payload
+        state = state if kind in (TERMINAL, NONTERMINAL) else kind
+    if state != END:
+        raise Damaged(5, len(words), 'the end is missing')
+
+
+def named(heading):
+    """Made-up names for what a heading's payload declares."""
+    return tuple(f'N{at}' for at in range(heading & 255)), tuple(chr(ord('a') + at) for at in range(heading >> 8))
+
+
+def decode(words):
+    """The grammar of the words, its names made up."""
+    rules, bodies = [], []
+    for kind, payload in scan(words):
+        if kind == HEADING:
+            nonterminals, terminals = named(payload)
+        elif kind == RULE:
+            rules.append((payload, [], []))
+        elif kind in (POSITIVE, NEGATIVE):
+            bodies = rules[-1][kind - POSITIVE + 1]
+            bodies.append([])
+        elif kind in (TERMINAL, NONTERMINAL):
+            bodies[-1].append(Symbol(kind, payload))
+    return Grammar(nonterminals, terminals, tuple(Rule(head, tuple(map(tuple, ps)), tuple(map(tuple, ns))) for head, ps, ns in rules))
