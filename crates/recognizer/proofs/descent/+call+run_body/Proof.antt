@@ -55,1004 +55,9 @@ abbrev run-body-below : ℕ → In 5 run-body-kinds.ps
 run-body-below t =
     and 5 run-body-kinds.ps (falls 5 run-body-kinds.ps _<_ μ-run-body t) run-body.Pre
 
-abbrev call-Inv-loop : call-lts.InvT-loop
-call-Inv-loop nonterminal words starts table input memo₀ place entry known rule at₀ sign₀ agreement₀ memo at sign agreement =
-    InRule words input memo₀ nonterminal place memo at sign agreement
-
-abbrev call-μ-loop : call-lts.MeasureT-loop
-call-μ-loop nonterminal words starts table input memo₀ place entry known rule at₀ sign₀ agreement₀ memo at sign agreement =
-    length words - at
-
-call-add-entry : (t : ℕ) → call-lts.Need-add-entry (
-  recall-reads.Asked,
-  recall-reads.Learnt,
-  chosen-reads.Asked,
-  chosen-reads.Learnt,
-  sign-at-reads.Asked,
-  sign-at-reads.Learnt,
-  goes-on-reads.Asked,
-  goes-on-reads.Learnt,
-  run-body-below t,
-  run-body.Post,
-  joined-reads.Asked,
-  joined-reads.Learnt,
-  body-end-reads.Asked,
-  body-end-reads.Learnt,
-  conclude-reads.Asked,
-  conclude-reads.Learnt,
-  code-reads.Asked,
-  code-reads.Learnt,
-) (call-at t) call.Post call-Inv-loop call-μ-loop
-call-add-entry t c = omega (arith, c .before .before .before .pre .1 .given .short)
-
-call-mul-entry : (t : ℕ) → call-lts.Need-mul-entry (
-  recall-reads.Asked,
-  recall-reads.Learnt,
-  chosen-reads.Asked,
-  chosen-reads.Learnt,
-  sign-at-reads.Asked,
-  sign-at-reads.Learnt,
-  goes-on-reads.Asked,
-  goes-on-reads.Learnt,
-  run-body-below t,
-  run-body.Post,
-  joined-reads.Asked,
-  joined-reads.Learnt,
-  body-end-reads.Asked,
-  body-end-reads.Learnt,
-  conclude-reads.Asked,
-  conclude-reads.Learnt,
-  code-reads.Asked,
-  code-reads.Learnt,
-) (call-at t) call.Post call-Inv-loop call-μ-loop
-call-mul-entry t c = omega (arith, index-low (c .before .before .before .pre .1))
-
-call-add-entry-2 : (t : ℕ) → call-lts.Need-add-entry-2 (
-  recall-reads.Asked,
-  recall-reads.Learnt,
-  chosen-reads.Asked,
-  chosen-reads.Learnt,
-  sign-at-reads.Asked,
-  sign-at-reads.Learnt,
-  goes-on-reads.Asked,
-  goes-on-reads.Learnt,
-  run-body-below t,
-  run-body.Post,
-  joined-reads.Asked,
-  joined-reads.Learnt,
-  body-end-reads.Asked,
-  body-end-reads.Learnt,
-  conclude-reads.Asked,
-  conclude-reads.Learnt,
-  code-reads.Asked,
-  code-reads.Learnt,
-) (call-at t) call.Post call-Inv-loop call-μ-loop
-call-add-entry-2 t c = omega (arith, index-low (c .before .before .before .pre .1))
-
-call-mul-known : (t : ℕ) → call-lts.Need-mul-known (
-  recall-reads.Asked,
-  recall-reads.Learnt,
-  chosen-reads.Asked,
-  chosen-reads.Learnt,
-  sign-at-reads.Asked,
-  sign-at-reads.Learnt,
-  goes-on-reads.Asked,
-  goes-on-reads.Learnt,
-  run-body-below t,
-  run-body.Post,
-  joined-reads.Asked,
-  joined-reads.Learnt,
-  body-end-reads.Asked,
-  body-end-reads.Learnt,
-  conclude-reads.Asked,
-  conclude-reads.Learnt,
-  code-reads.Asked,
-  code-reads.Learnt,
-) (call-at t) call.Post call-Inv-loop call-μ-loop
-call-mul-known t c = omega (arith, index-low (c .before .before .before .pre .1))
-
-call-slice-read-known : (t : ℕ) → call-lts.Need-slice-read-known (
-  recall-reads.Asked,
-  recall-reads.Learnt,
-  chosen-reads.Asked,
-  chosen-reads.Learnt,
-  sign-at-reads.Asked,
-  sign-at-reads.Learnt,
-  goes-on-reads.Asked,
-  goes-on-reads.Learnt,
-  run-body-below t,
-  run-body.Post,
-  joined-reads.Asked,
-  joined-reads.Learnt,
-  body-end-reads.Asked,
-  body-end-reads.Learnt,
-  conclude-reads.Asked,
-  conclude-reads.Learnt,
-  code-reads.Asked,
-  code-reads.Learnt,
-) (call-at t) call.Post call-Inv-loop call-μ-loop
-call-slice-read-known t c = index-low (c .before .before .before .before .pre .1)
-
-call-recall-requires : (t : ℕ) → call-lts.Need-recall-requires (
-  recall-reads.Asked,
-  recall-reads.Learnt,
-  chosen-reads.Asked,
-  chosen-reads.Learnt,
-  sign-at-reads.Asked,
-  sign-at-reads.Learnt,
-  goes-on-reads.Asked,
-  goes-on-reads.Learnt,
-  run-body-below t,
-  run-body.Post,
-  joined-reads.Asked,
-  joined-reads.Learnt,
-  body-end-reads.Asked,
-  body-end-reads.Learnt,
-  conclude-reads.Asked,
-  conclude-reads.Learnt,
-  code-reads.Asked,
-  code-reads.Learnt,
-) (call-at t) call.Post call-Inv-loop call-μ-loop
-call-recall-requires t c κs = tt
-
-call-returns : (t : ℕ) → call-lts.Need-returns (
-  recall-reads.Asked,
-  recall-reads.Learnt,
-  chosen-reads.Asked,
-  chosen-reads.Learnt,
-  sign-at-reads.Asked,
-  sign-at-reads.Learnt,
-  goes-on-reads.Asked,
-  goes-on-reads.Learnt,
-  run-body-below t,
-  run-body.Post,
-  joined-reads.Asked,
-  joined-reads.Learnt,
-  body-end-reads.Asked,
-  body-end-reads.Learnt,
-  conclude-reads.Asked,
-  conclude-reads.Learnt,
-  code-reads.Asked,
-  code-reads.Learnt,
-) (call-at t) call.Post call-Inv-loop call-μ-loop
-call-returns t c = call-recalled (c .before .before .before .before .before .before .pre .1) (c .before .if1 .taken) (c .recall .ensures)
-
-call-chosen-requires : (t : ℕ) → call-lts.Need-chosen-requires (
-  recall-reads.Asked,
-  recall-reads.Learnt,
-  chosen-reads.Asked,
-  chosen-reads.Learnt,
-  sign-at-reads.Asked,
-  sign-at-reads.Learnt,
-  goes-on-reads.Asked,
-  goes-on-reads.Learnt,
-  run-body-below t,
-  run-body.Post,
-  joined-reads.Asked,
-  joined-reads.Learnt,
-  body-end-reads.Asked,
-  body-end-reads.Learnt,
-  conclude-reads.Asked,
-  conclude-reads.Learnt,
-  code-reads.Asked,
-  code-reads.Learnt,
-) (call-at t) call.Post call-Inv-loop call-μ-loop
-call-chosen-requires t c κs = chosen-given (c .before .before .before .before .before .pre .1)
-
-call-mul-memo : (t : ℕ) → call-lts.Need-mul-memo (
-  recall-reads.Asked,
-  recall-reads.Learnt,
-  chosen-reads.Asked,
-  chosen-reads.Learnt,
-  sign-at-reads.Asked,
-  sign-at-reads.Learnt,
-  goes-on-reads.Asked,
-  goes-on-reads.Learnt,
-  run-body-below t,
-  run-body.Post,
-  joined-reads.Asked,
-  joined-reads.Learnt,
-  body-end-reads.Asked,
-  body-end-reads.Learnt,
-  conclude-reads.Asked,
-  conclude-reads.Learnt,
-  code-reads.Asked,
-  code-reads.Learnt,
-) (call-at t) call.Post call-Inv-loop call-μ-loop
-call-mul-memo t c = omega (arith, index-low (c .before .before .before .before .before .before .before .pre .1))
-
-call-slice-write-memo : (t : ℕ) → call-lts.Need-slice-write-memo (
-  recall-reads.Asked,
-  recall-reads.Learnt,
-  chosen-reads.Asked,
-  chosen-reads.Learnt,
-  sign-at-reads.Asked,
-  sign-at-reads.Learnt,
-  goes-on-reads.Asked,
-  goes-on-reads.Learnt,
-  run-body-below t,
-  run-body.Post,
-  joined-reads.Asked,
-  joined-reads.Learnt,
-  body-end-reads.Asked,
-  body-end-reads.Learnt,
-  conclude-reads.Asked,
-  conclude-reads.Learnt,
-  code-reads.Asked,
-  code-reads.Learnt,
-) (call-at t) call.Post call-Inv-loop call-μ-loop
-call-slice-write-memo t c = index-low (c .before .before .before .before .before .before .before .pre .1)
-
-call-same-length : (t : ℕ) → call-lts.Need-same-length (
-  recall-reads.Asked,
-  recall-reads.Learnt,
-  chosen-reads.Asked,
-  chosen-reads.Learnt,
-  sign-at-reads.Asked,
-  sign-at-reads.Learnt,
-  goes-on-reads.Asked,
-  goes-on-reads.Learnt,
-  run-body-below t,
-  run-body.Post,
-  joined-reads.Asked,
-  joined-reads.Learnt,
-  body-end-reads.Asked,
-  body-end-reads.Learnt,
-  conclude-reads.Asked,
-  conclude-reads.Learnt,
-  code-reads.Asked,
-  code-reads.Learnt,
-) (call-at t) call.Post call-Inv-loop call-μ-loop
-call-same-length t c = simp length-set
-
-call-returns-2 : (t : ℕ) → call-lts.Need-returns-2 (
-  recall-reads.Asked,
-  recall-reads.Learnt,
-  chosen-reads.Asked,
-  chosen-reads.Learnt,
-  sign-at-reads.Asked,
-  sign-at-reads.Learnt,
-  goes-on-reads.Asked,
-  goes-on-reads.Learnt,
-  run-body-below t,
-  run-body.Post,
-  joined-reads.Asked,
-  joined-reads.Learnt,
-  body-end-reads.Asked,
-  body-end-reads.Learnt,
-  conclude-reads.Asked,
-  conclude-reads.Learnt,
-  code-reads.Asked,
-  code-reads.Learnt,
-) (call-at t) call.Post call-Inv-loop call-μ-loop
-call-returns-2 t c = call-stored (c .before .before .before .before .before .before .before .pre .1) (c .before .before .if1 .left) none (select-none (c .before .before .before .before .before .before .before .pre .1) (no-rule (c .before .before .before .before .before .before .before .pre .1) (c .before .chosen .ensures) (c .if2 .taken))) (λ n l. none-fails _ _ _ _) encode-failed
-
-call-cast-at : (t : ℕ) → call-lts.Need-cast-at (
-  recall-reads.Asked,
-  recall-reads.Learnt,
-  chosen-reads.Asked,
-  chosen-reads.Learnt,
-  sign-at-reads.Asked,
-  sign-at-reads.Learnt,
-  goes-on-reads.Asked,
-  goes-on-reads.Learnt,
-  run-body-below t,
-  run-body.Post,
-  joined-reads.Asked,
-  joined-reads.Learnt,
-  body-end-reads.Asked,
-  body-end-reads.Learnt,
-  conclude-reads.Asked,
-  conclude-reads.Learnt,
-  code-reads.Asked,
-  code-reads.Learnt,
-) (call-at t) call.Post call-Inv-loop call-μ-loop
-call-cast-at t c = let k = rule-chosen (c .before .before .before .before .before .before .before .pre .1) _ (some-rule (c .before .before .before .before .before .before .before .pre .1) (c .before .chosen .ensures) (c .if2 .left)) in omega (arith, k .low)
-
-call-mul-at : (t : ℕ) → call-lts.Need-mul-at (
-  recall-reads.Asked,
-  recall-reads.Learnt,
-  chosen-reads.Asked,
-  chosen-reads.Learnt,
-  sign-at-reads.Asked,
-  sign-at-reads.Learnt,
-  goes-on-reads.Asked,
-  goes-on-reads.Learnt,
-  run-body-below t,
-  run-body.Post,
-  joined-reads.Asked,
-  joined-reads.Learnt,
-  body-end-reads.Asked,
-  body-end-reads.Learnt,
-  conclude-reads.Asked,
-  conclude-reads.Learnt,
-  code-reads.Asked,
-  code-reads.Learnt,
-) (call-at t) call.Post call-Inv-loop call-μ-loop
-call-mul-at t c = let k = rule-chosen (c .before .before .before .before .before .before .before .pre .1) _ (some-rule (c .before .before .before .before .before .before .before .pre .1) (c .before .chosen .ensures) (c .if2 .left)) in omega (arith, k .low)
-
-call-element-copy-out-at : (t : ℕ) → call-lts.Need-element-copy-out-at (
-  recall-reads.Asked,
-  recall-reads.Learnt,
-  chosen-reads.Asked,
-  chosen-reads.Learnt,
-  sign-at-reads.Asked,
-  sign-at-reads.Learnt,
-  goes-on-reads.Asked,
-  goes-on-reads.Learnt,
-  run-body-below t,
-  run-body.Post,
-  joined-reads.Asked,
-  joined-reads.Learnt,
-  body-end-reads.Asked,
-  body-end-reads.Learnt,
-  conclude-reads.Asked,
-  conclude-reads.Learnt,
-  code-reads.Asked,
-  code-reads.Learnt,
-) (call-at t) call.Post call-Inv-loop call-μ-loop
-call-element-copy-out-at t c = rule-chosen (c .before .before .before .before .before .before .before .pre .1) _ (some-rule (c .before .before .before .before .before .before .before .pre .1) (c .before .chosen .ensures) (c .if2 .left)) .low
-
-call-add-at : (t : ℕ) → call-lts.Need-add-at (
-  recall-reads.Asked,
-  recall-reads.Learnt,
-  chosen-reads.Asked,
-  chosen-reads.Learnt,
-  sign-at-reads.Asked,
-  sign-at-reads.Learnt,
-  goes-on-reads.Asked,
-  goes-on-reads.Learnt,
-  run-body-below t,
-  run-body.Post,
-  joined-reads.Asked,
-  joined-reads.Learnt,
-  body-end-reads.Asked,
-  body-end-reads.Learnt,
-  conclude-reads.Asked,
-  conclude-reads.Learnt,
-  code-reads.Asked,
-  code-reads.Learnt,
-) (call-at t) call.Post call-Inv-loop call-μ-loop
-call-add-at t c = let k = rule-chosen (c .before .before .before .before .before .before .before .before .pre .1) _ (some-rule (c .before .before .before .before .before .before .before .before .pre .1) (c .before .before .chosen .ensures) (c .before .if2 .left)) in omega (arith, k .begun .high)
-
-call-sign-at-requires : (t : ℕ) → call-lts.Need-sign-at-requires (
-  recall-reads.Asked,
-  recall-reads.Learnt,
-  chosen-reads.Asked,
-  chosen-reads.Learnt,
-  sign-at-reads.Asked,
-  sign-at-reads.Learnt,
-  goes-on-reads.Asked,
-  goes-on-reads.Learnt,
-  run-body-below t,
-  run-body.Post,
-  joined-reads.Asked,
-  joined-reads.Learnt,
-  body-end-reads.Asked,
-  body-end-reads.Learnt,
-  conclude-reads.Asked,
-  conclude-reads.Learnt,
-  code-reads.Asked,
-  code-reads.Learnt,
-) (call-at t) call.Post call-Inv-loop call-μ-loop
-call-sign-at-requires t c κs = tt
-
-call-loop-holds : (t : ℕ) → call-lts.Need-loop-holds (
-  recall-reads.Asked,
-  recall-reads.Learnt,
-  chosen-reads.Asked,
-  chosen-reads.Learnt,
-  sign-at-reads.Asked,
-  sign-at-reads.Learnt,
-  goes-on-reads.Asked,
-  goes-on-reads.Learnt,
-  run-body-below t,
-  run-body.Post,
-  joined-reads.Asked,
-  joined-reads.Learnt,
-  body-end-reads.Asked,
-  body-end-reads.Learnt,
-  conclude-reads.Asked,
-  conclude-reads.Learnt,
-  code-reads.Asked,
-  code-reads.Learnt,
-) (call-at t) call.Post call-Inv-loop call-μ-loop
-call-loop-holds t c = let k = rule-chosen (c .before .before .before .before .before .before .before .before .before .pre .1) _ (some-rule (c .before .before .before .before .before .before .before .before .before .pre .1) (c .before .before .before .chosen .ensures) (c .before .before .if2 .left)) in start-rule (c .before .before .before .before .before .before .before .before .before .pre .1) _ k (c .sign-at .ensures)
-
-call-goes-on-requires : (t : ℕ) → call-lts.Need-goes-on-requires (
-  recall-reads.Asked,
-  recall-reads.Learnt,
-  chosen-reads.Asked,
-  chosen-reads.Learnt,
-  sign-at-reads.Asked,
-  sign-at-reads.Learnt,
-  goes-on-reads.Asked,
-  goes-on-reads.Learnt,
-  run-body-below t,
-  run-body.Post,
-  joined-reads.Asked,
-  joined-reads.Learnt,
-  body-end-reads.Asked,
-  body-end-reads.Learnt,
-  conclude-reads.Asked,
-  conclude-reads.Learnt,
-  code-reads.Asked,
-  code-reads.Learnt,
-) (call-at t) call.Post call-Inv-loop call-μ-loop
-call-goes-on-requires t c κs = tt
-
-call-add-run-body : (t : ℕ) → call-lts.Need-add-run-body (
-  recall-reads.Asked,
-  recall-reads.Learnt,
-  chosen-reads.Asked,
-  chosen-reads.Learnt,
-  sign-at-reads.Asked,
-  sign-at-reads.Learnt,
-  goes-on-reads.Asked,
-  goes-on-reads.Learnt,
-  run-body-below t,
-  run-body.Post,
-  joined-reads.Asked,
-  joined-reads.Learnt,
-  body-end-reads.Asked,
-  body-end-reads.Learnt,
-  conclude-reads.Asked,
-  conclude-reads.Learnt,
-  code-reads.Asked,
-  code-reads.Learnt,
-) (call-at t) call.Post call-Inv-loop call-μ-loop
-call-add-run-body t c = omega (arith, rule-conjunct (c .before .before .before .before .before .before .before .before .before .before .before .before .before .pre .1) (c .before .before .before .loop .inv) (sym (c .before .before .goes-on .ensures) ∙ c .before .if3 .taken))
-
-call-run-body-requires : (t : ℕ) → call-lts.Need-run-body-requires (
-  recall-reads.Asked,
-  recall-reads.Learnt,
-  chosen-reads.Asked,
-  chosen-reads.Learnt,
-  sign-at-reads.Asked,
-  sign-at-reads.Learnt,
-  goes-on-reads.Asked,
-  goes-on-reads.Learnt,
-  run-body-below t,
-  run-body.Post,
-  joined-reads.Asked,
-  joined-reads.Learnt,
-  body-end-reads.Asked,
-  body-end-reads.Learnt,
-  conclude-reads.Asked,
-  conclude-reads.Learnt,
-  code-reads.Asked,
-  code-reads.Learnt,
-) (call-at t) call.Post call-Inv-loop call-μ-loop
-call-run-body-requires t c κs = (omega (arith, c .before .before .before .before .before .before .before .before .before .before .before .before .before .pre .0), rule-run (c .before .before .before .before .before .before .before .before .before .before .before .before .before .pre .1) (c .before .before .before .loop .inv) (sym (c .before .before .goes-on .ensures) ∙ c .before .if3 .taken))
-
-call-joined-requires : (t : ℕ) → call-lts.Need-joined-requires (
-  recall-reads.Asked,
-  recall-reads.Learnt,
-  chosen-reads.Asked,
-  chosen-reads.Learnt,
-  sign-at-reads.Asked,
-  sign-at-reads.Learnt,
-  goes-on-reads.Asked,
-  goes-on-reads.Learnt,
-  run-body-below t,
-  run-body.Post,
-  joined-reads.Asked,
-  joined-reads.Learnt,
-  body-end-reads.Asked,
-  body-end-reads.Learnt,
-  conclude-reads.Asked,
-  conclude-reads.Learnt,
-  code-reads.Asked,
-  code-reads.Learnt,
-) (call-at t) call.Post call-Inv-loop call-μ-loop
-call-joined-requires t c κs = tt
-
-call-add-body-end : (t : ℕ) → call-lts.Need-add-body-end (
-  recall-reads.Asked,
-  recall-reads.Learnt,
-  chosen-reads.Asked,
-  chosen-reads.Learnt,
-  sign-at-reads.Asked,
-  sign-at-reads.Learnt,
-  goes-on-reads.Asked,
-  goes-on-reads.Learnt,
-  run-body-below t,
-  run-body.Post,
-  joined-reads.Asked,
-  joined-reads.Learnt,
-  body-end-reads.Asked,
-  body-end-reads.Learnt,
-  conclude-reads.Asked,
-  conclude-reads.Learnt,
-  code-reads.Asked,
-  code-reads.Learnt,
-) (call-at t) call.Post call-Inv-loop call-μ-loop
-call-add-body-end t c = omega (arith, rule-conjunct (c .before .before .before .before .before .before .before .before .before .before .before .before .before .before .before .before .before .pre .1) (c .before .before .before .before .before .before .before .loop .inv) (sym (c .before .before .before .before .before .before .goes-on .ensures) ∙ c .before .before .before .before .before .if3 .taken))
-
-call-body-end-requires : (t : ℕ) → call-lts.Need-body-end-requires (
-  recall-reads.Asked,
-  recall-reads.Learnt,
-  chosen-reads.Asked,
-  chosen-reads.Learnt,
-  sign-at-reads.Asked,
-  sign-at-reads.Learnt,
-  goes-on-reads.Asked,
-  goes-on-reads.Learnt,
-  run-body-below t,
-  run-body.Post,
-  joined-reads.Asked,
-  joined-reads.Learnt,
-  body-end-reads.Asked,
-  body-end-reads.Learnt,
-  conclude-reads.Asked,
-  conclude-reads.Learnt,
-  code-reads.Asked,
-  code-reads.Learnt,
-) (call-at t) call.Post call-Inv-loop call-μ-loop
-call-body-end-requires t c κs = omega (arith, rule-conjunct (c .before .before .before .before .before .before .before .before .before .before .before .before .before .before .before .before .before .pre .1) (c .before .before .before .before .before .before .before .loop .inv) (sym (c .before .before .before .before .before .before .goes-on .ensures) ∙ c .before .before .before .before .before .if3 .taken))
-
-call-sign-at-requires-2 : (t : ℕ) → call-lts.Need-sign-at-requires-2 (
-  recall-reads.Asked,
-  recall-reads.Learnt,
-  chosen-reads.Asked,
-  chosen-reads.Learnt,
-  sign-at-reads.Asked,
-  sign-at-reads.Learnt,
-  goes-on-reads.Asked,
-  goes-on-reads.Learnt,
-  run-body-below t,
-  run-body.Post,
-  joined-reads.Asked,
-  joined-reads.Learnt,
-  body-end-reads.Asked,
-  body-end-reads.Learnt,
-  conclude-reads.Asked,
-  conclude-reads.Learnt,
-  code-reads.Asked,
-  code-reads.Learnt,
-) (call-at t) call.Post call-Inv-loop call-μ-loop
-call-sign-at-requires-2 t c κs = tt
-
-call-loop-less : (t : ℕ) → call-lts.Need-loop-less (
-  recall-reads.Asked,
-  recall-reads.Learnt,
-  chosen-reads.Asked,
-  chosen-reads.Learnt,
-  sign-at-reads.Asked,
-  sign-at-reads.Learnt,
-  goes-on-reads.Asked,
-  goes-on-reads.Learnt,
-  run-body-below t,
-  run-body.Post,
-  joined-reads.Asked,
-  joined-reads.Learnt,
-  body-end-reads.Asked,
-  body-end-reads.Learnt,
-  conclude-reads.Asked,
-  conclude-reads.Learnt,
-  code-reads.Asked,
-  code-reads.Learnt,
-) (call-at t) call.Post call-Inv-loop call-μ-loop
-call-loop-less t c = omega (arith, rule-conjunct (c .before .before .before .before .before .before .before .before .before .before .before .before .before .before .before .before .before .before .before .pre .1) (c .before .before .before .before .before .before .before .before .before .loop .inv) (sym (c .before .before .before .before .before .before .before .before .goes-on .ensures) ∙ c .before .before .before .before .before .before .before .if3 .taken), c .before .body-end .ensures .on)
-
-call-loop-again : (t : ℕ) → call-lts.Need-loop-again (
-  recall-reads.Asked,
-  recall-reads.Learnt,
-  chosen-reads.Asked,
-  chosen-reads.Learnt,
-  sign-at-reads.Asked,
-  sign-at-reads.Learnt,
-  goes-on-reads.Asked,
-  goes-on-reads.Learnt,
-  run-body-below t,
-  run-body.Post,
-  joined-reads.Asked,
-  joined-reads.Learnt,
-  body-end-reads.Asked,
-  body-end-reads.Learnt,
-  conclude-reads.Asked,
-  conclude-reads.Learnt,
-  code-reads.Asked,
-  code-reads.Learnt,
-) (call-at t) call.Post call-Inv-loop call-μ-loop
-call-loop-again t c = rule-turn (c .before .before .before .before .before .before .before .before .before .before .before .before .before .before .before .before .before .before .before .pre .1) (c .before .before .before .before .before .before .before .before .before .loop .inv) (sym (c .before .before .before .before .before .before .before .before .goes-on .ensures) ∙ c .before .before .before .before .before .before .before .if3 .taken) (c .before .before .before .before .before .run-body .ensures) (c .before .before .joined .ensures) (c .before .body-end .ensures) (c .sign-at2 .ensures)
-
-call-conclude-requires : (t : ℕ) → call-lts.Need-conclude-requires (
-  recall-reads.Asked,
-  recall-reads.Learnt,
-  chosen-reads.Asked,
-  chosen-reads.Learnt,
-  sign-at-reads.Asked,
-  sign-at-reads.Learnt,
-  goes-on-reads.Asked,
-  goes-on-reads.Learnt,
-  run-body-below t,
-  run-body.Post,
-  joined-reads.Asked,
-  joined-reads.Learnt,
-  body-end-reads.Asked,
-  body-end-reads.Learnt,
-  conclude-reads.Asked,
-  conclude-reads.Learnt,
-  code-reads.Asked,
-  code-reads.Learnt,
-) (call-at t) call.Post call-Inv-loop call-μ-loop
-call-conclude-requires t c κs = tt
-
-call-code-requires : (t : ℕ) → call-lts.Need-code-requires (
-  recall-reads.Asked,
-  recall-reads.Learnt,
-  chosen-reads.Asked,
-  chosen-reads.Learnt,
-  sign-at-reads.Asked,
-  sign-at-reads.Learnt,
-  goes-on-reads.Asked,
-  goes-on-reads.Learnt,
-  run-body-below t,
-  run-body.Post,
-  joined-reads.Asked,
-  joined-reads.Learnt,
-  body-end-reads.Asked,
-  body-end-reads.Learnt,
-  conclude-reads.Asked,
-  conclude-reads.Learnt,
-  code-reads.Asked,
-  code-reads.Learnt,
-) (call-at t) call.Post call-Inv-loop call-μ-loop
-call-code-requires t c κs = rule-short (c .before .before .before .before .before .before .before .before .before .before .before .before .before .pre .1) (c .before .before .before .loop .inv) (c .conclude .result) (c .conclude .ensures)
-
-call-mul-memo-2 : (t : ℕ) → call-lts.Need-mul-memo-2 (
-  recall-reads.Asked,
-  recall-reads.Learnt,
-  chosen-reads.Asked,
-  chosen-reads.Learnt,
-  sign-at-reads.Asked,
-  sign-at-reads.Learnt,
-  goes-on-reads.Asked,
-  goes-on-reads.Learnt,
-  run-body-below t,
-  run-body.Post,
-  joined-reads.Asked,
-  joined-reads.Learnt,
-  body-end-reads.Asked,
-  body-end-reads.Learnt,
-  conclude-reads.Asked,
-  conclude-reads.Learnt,
-  code-reads.Asked,
-  code-reads.Learnt,
-) (call-at t) call.Post call-Inv-loop call-μ-loop
-call-mul-memo-2 t c = omega (arith, index-low (c .before .before .before .before .before .before .before .before .before .before .before .before .before .before .pre .1))
-
-call-slice-write-memo-2 : (t : ℕ) → call-lts.Need-slice-write-memo-2 (
-  recall-reads.Asked,
-  recall-reads.Learnt,
-  chosen-reads.Asked,
-  chosen-reads.Learnt,
-  sign-at-reads.Asked,
-  sign-at-reads.Learnt,
-  goes-on-reads.Asked,
-  goes-on-reads.Learnt,
-  run-body-below t,
-  run-body.Post,
-  joined-reads.Asked,
-  joined-reads.Learnt,
-  body-end-reads.Asked,
-  body-end-reads.Learnt,
-  conclude-reads.Asked,
-  conclude-reads.Learnt,
-  code-reads.Asked,
-  code-reads.Learnt,
-) (call-at t) call.Post call-Inv-loop call-μ-loop
-call-slice-write-memo-2 t c = omega (arith, index-low (c .before .before .before .before .before .before .before .before .before .before .before .before .before .before .pre .1), memo-same (c .before .before .before .before .loop .inv .calling .sound) (c .before .before .before .before .before .before .before .before .before .before .before .before .before .before .pre .1 .given .sound))
-
-call-same-length-2 : (t : ℕ) → call-lts.Need-same-length-2 (
-  recall-reads.Asked,
-  recall-reads.Learnt,
-  chosen-reads.Asked,
-  chosen-reads.Learnt,
-  sign-at-reads.Asked,
-  sign-at-reads.Learnt,
-  goes-on-reads.Asked,
-  goes-on-reads.Learnt,
-  run-body-below t,
-  run-body.Post,
-  joined-reads.Asked,
-  joined-reads.Learnt,
-  body-end-reads.Asked,
-  body-end-reads.Learnt,
-  conclude-reads.Asked,
-  conclude-reads.Learnt,
-  code-reads.Asked,
-  code-reads.Learnt,
-) (call-at t) call.Post call-Inv-loop call-μ-loop
-call-same-length-2 t c = simp length-set (memo-same (c .before .before .before .before .loop .inv .calling .sound) (c .before .before .before .before .before .before .before .before .before .before .before .before .before .before .pre .1 .given .sound))
-
-call-returns-3 : (t : ℕ) → call-lts.Need-returns-3 (
-  recall-reads.Asked,
-  recall-reads.Learnt,
-  chosen-reads.Asked,
-  chosen-reads.Learnt,
-  sign-at-reads.Asked,
-  sign-at-reads.Learnt,
-  goes-on-reads.Asked,
-  goes-on-reads.Learnt,
-  run-body-below t,
-  run-body.Post,
-  joined-reads.Asked,
-  joined-reads.Learnt,
-  body-end-reads.Asked,
-  body-end-reads.Learnt,
-  conclude-reads.Asked,
-  conclude-reads.Learnt,
-  code-reads.Asked,
-  code-reads.Learnt,
-) (call-at t) call.Post call-Inv-loop call-μ-loop
-call-returns-3 t c =
-    let rule = c .before .before .before .before .loop .inv in
-    let stops = sym (c .before .before .before .goes-on .ensures) ∙ c .before .before .if3 .left in
-    call-stored (c .before .before .before .before .before .before .before .before .before .before .before .before .before .before .pre .1) (c .before .before .before .before .before .before .before .before .before .if1 .left) (some (rule .rule)) (rule .selected)
-    (rule-done (c .before .before .before .before .before .before .before .before .before .before .before .before .before .before .pre .1) rule stops (c .before .conclude .result) (c .before .conclude .ensures)) (c .code .ensures)
-
-abbrev run-body-Inv-loop : run-body-lts.InvT-loop
-run-body-Inv-loop nonterminal words starts table input memo₀ from start at₀ place₀ memo at place =
-    Running words input memo₀ nonterminal from start memo at place
-
-abbrev run-body-μ-loop : run-body-lts.MeasureT-loop
-run-body-μ-loop nonterminal words starts table input memo₀ from start at₀ place₀ memo at place =
-    length words - at
-
-run-body-loop-holds : (t : ℕ) → run-body-lts.Need-loop-holds (
-  decode-reads.Asked,
-  decode-reads.Learnt,
-  matches-reads.Asked,
-  matches-reads.Learnt,
-  call-below t,
-  call.Post,
-) (run-body-at t) run-body.Post run-body-Inv-loop run-body-μ-loop
-run-body-loop-holds t c = running-start (c .before .before .before .pre .1)
-
-run-body-mul-decode : (t : ℕ) → run-body-lts.Need-mul-decode (
-  decode-reads.Asked,
-  decode-reads.Learnt,
-  matches-reads.Asked,
-  matches-reads.Learnt,
-  call-below t,
-  call.Post,
-) (run-body-at t) run-body.Post run-body-Inv-loop run-body-μ-loop
-run-body-mul-decode t c = omega arith
-
-run-body-shared-slice-read-decode : (t : ℕ) → run-body-lts.Need-shared-slice-read-decode (
-  decode-reads.Asked,
-  decode-reads.Learnt,
-  matches-reads.Asked,
-  matches-reads.Learnt,
-  call-below t,
-  call.Post,
-) (run-body-at t) run-body.Post run-body-Inv-loop run-body-μ-loop
-run-body-shared-slice-read-decode t c = omega arith
-
-run-body-decode-requires : (t : ℕ) → run-body-lts.Need-decode-requires (
-  decode-reads.Asked,
-  decode-reads.Learnt,
-  matches-reads.Asked,
-  matches-reads.Learnt,
-  call-below t,
-  call.Post,
-) (run-body-at t) run-body.Post run-body-Inv-loop run-body-μ-loop
-run-body-decode-requires t c κs = tt
-
-run-body-enum-known-word : (t : ℕ) → run-body-lts.Need-enum-known-word (
-  decode-reads.Asked,
-  decode-reads.Learnt,
-  matches-reads.Asked,
-  matches-reads.Learnt,
-  call-below t,
-  call.Post,
-) (run-body-at t) run-body.Post run-body-Inv-loop run-body-μ-loop
-run-body-enum-known-word t c = c .match .keys1
-
-run-body-same-length : (t : ℕ) → run-body-lts.Need-same-length (
-  decode-reads.Asked,
-  decode-reads.Learnt,
-  matches-reads.Asked,
-  matches-reads.Learnt,
-  call-below t,
-  call.Post,
-) (run-body-at t) run-body.Post run-body-Inv-loop run-body-μ-loop
-run-body-same-length t c = memo-same (c .before .before .before .before .loop .inv .sound) (c .before .before .before .before .before .before .before .before .pre .1 .call .given .sound)
-
-run-body-returns : (t : ℕ) → run-body-lts.Need-returns (
-  decode-reads.Asked,
-  decode-reads.Learnt,
-  matches-reads.Asked,
-  matches-reads.Learnt,
-  call-below t,
-  call.Post,
-) (run-body-at t) run-body.Post run-body-Inv-loop run-body-μ-loop
-run-body-returns t c = running-done (c .before .before .before .before .before .before .before .before .pre .1) (c .before .before .before .before .loop .inv) _ (c .before .before .before .loop-test .taken) (c .before .decode .ensures) (no-symbol _ (c .match .keys2))
-
-run-body-enum-known-symbol : (t : ℕ) → run-body-lts.Need-enum-known-symbol (
-  decode-reads.Asked,
-  decode-reads.Learnt,
-  matches-reads.Asked,
-  matches-reads.Learnt,
-  call-below t,
-  call.Post,
-) (run-body-at t) run-body.Post run-body-Inv-loop run-body-μ-loop
-run-body-enum-known-symbol t c = c .match2 .keys1
-
-run-body-matches-requires : (t : ℕ) → run-body-lts.Need-matches-requires (
-  decode-reads.Asked,
-  decode-reads.Learnt,
-  matches-reads.Asked,
-  matches-reads.Learnt,
-  call-below t,
-  call.Post,
-) (run-body-at t) run-body.Post run-body-Inv-loop run-body-μ-loop
-run-body-matches-requires t c κs = tt
-
-run-body-same-length-2 : (t : ℕ) → run-body-lts.Need-same-length-2 (
-  decode-reads.Asked,
-  decode-reads.Learnt,
-  matches-reads.Asked,
-  matches-reads.Learnt,
-  call-below t,
-  call.Post,
-) (run-body-at t) run-body.Post run-body-Inv-loop run-body-μ-loop
-run-body-same-length-2 t c = memo-same (c .before .before .before .before .before .before .before .before .before .before .before .loop .inv .sound) (c .before .before .before .before .before .before .before .before .before .before .before .before .before .before .before .pre .1 .call .given .sound)
-
-run-body-returns-2 : (t : ℕ) → run-body-lts.Need-returns-2 (
-  decode-reads.Asked,
-  decode-reads.Learnt,
-  matches-reads.Asked,
-  matches-reads.Learnt,
-  call-below t,
-  call.Post,
-) (run-body-at t) run-body.Post run-body-Inv-loop run-body-μ-loop
-run-body-returns-2 t c = running-mismatch (c .before .before .before .before .before .before .before .before .before .before .before .before .before .before .before .pre .1) (c .before .before .before .before .before .before .before .before .before .before .before .loop .inv) _ (c .before .before .before .before .before .before .before .before .before .before .loop-test .taken) (sym (c .before .before .before .before .before .before .before .before .decode .ensures) ∙ c .before .before .before .before .before .before .word .given .1 ∙ ap Symbol (c .before .before .before .symbol .given .1)) (sym (c .before .matches .ensures) ∙ not-true _ (c .if1 .taken))
-
-run-body-add-place : (t : ℕ) → run-body-lts.Need-add-place (
-  decode-reads.Asked,
-  decode-reads.Learnt,
-  matches-reads.Asked,
-  matches-reads.Learnt,
-  call-below t,
-  call.Post,
-) (run-body-at t) run-body.Post run-body-Inv-loop run-body-μ-loop
-run-body-add-place t c = omega (arith, c .before .before .before .before .before .before .before .before .before .before .before .loop .inv .placed, c .before .before .before .before .before .before .before .before .before .before .before .before .before .before .before .pre .1 .call .given .short)
-
-run-body-enum-known-symbol-2 : (t : ℕ) → run-body-lts.Need-enum-known-symbol-2 (
-  decode-reads.Asked,
-  decode-reads.Learnt,
-  matches-reads.Asked,
-  matches-reads.Learnt,
-  call-below t,
-  call.Post,
-) (run-body-at t) run-body.Post run-body-Inv-loop run-body-μ-loop
-run-body-enum-known-symbol-2 t c = c .match2 .keys2
-
-run-body-cast-call : (t : ℕ) → run-body-lts.Need-cast-call (
-  decode-reads.Asked,
-  decode-reads.Learnt,
-  matches-reads.Asked,
-  matches-reads.Learnt,
-  call-below t,
-  call.Post,
-) (run-body-at t) run-body.Post run-body-Inv-loop run-body-μ-loop
-run-body-cast-call t c = omega (arith, running-small (c .before .before .before .before .before .before .before .before .before .before .before .before .before .pre .1) (c .before .before .before .before .before .before .before .before .before .loop .inv) _ (c .before .before .before .before .before .before .before .before .loop-test .taken) (sym (c .before .before .before .before .before .before .decode .ensures) ∙ c .before .before .before .before .word .given .1 ∙ ap Symbol (c .before .symbol2 .given .1)))
-
-run-body-call-requires : (t : ℕ) → run-body-lts.Need-call-requires (
-  decode-reads.Asked,
-  decode-reads.Learnt,
-  matches-reads.Asked,
-  matches-reads.Learnt,
-  call-below t,
-  call.Post,
-) (run-body-at t) run-body.Post run-body-Inv-loop run-body-μ-loop
-run-body-call-requires t c κs = (omega (arith, running-falls (c .before .before .before .before .before .before .before .before .before .before .before .before .before .before .pre .1) (c .before .before .before .before .before .before .before .before .before .before .loop .inv) _ (c .before .before .before .before .before .before .before .before .before .loop-test .taken) (sym (c .before .before .before .before .before .before .before .decode .ensures) ∙ c .before .before .before .before .before .word .given .1 ∙ ap Symbol (c .before .before .symbol2 .given .1)), c .before .before .before .before .before .before .before .before .before .before .before .before .before .before .pre .0), running-given (c .before .before .before .before .before .before .before .before .before .before .before .before .before .before .pre .1) (c .before .before .before .before .before .before .before .before .before .before .loop .inv) _ (c .before .before .before .before .before .before .before .before .before .loop-test .taken) (sym (c .before .before .before .before .before .before .before .decode .ensures) ∙ c .before .before .before .before .before .word .given .1 ∙ ap Symbol (c .before .before .symbol2 .given .1)))
-
-run-body-enum-known-outcome : (t : ℕ) → run-body-lts.Need-enum-known-outcome (
-  decode-reads.Asked,
-  decode-reads.Learnt,
-  matches-reads.Asked,
-  matches-reads.Learnt,
-  call-below t,
-  call.Post,
-) (run-body-at t) run-body.Post run-body-Inv-loop run-body-μ-loop
-run-body-enum-known-outcome t c = c .match3 .keys1
-
-run-body-enum-told : (t : ℕ) → run-body-lts.Need-enum-told (
-  decode-reads.Asked,
-  decode-reads.Learnt,
-  matches-reads.Asked,
-  matches-reads.Learnt,
-  call-below t,
-  call.Post,
-) (run-body-at t) run-body.Post run-body-Inv-loop run-body-μ-loop
-run-body-enum-told t c = c .match3 .keys2
-
-run-body-same-length-3 : (t : ℕ) → run-body-lts.Need-same-length-3 (
-  decode-reads.Asked,
-  decode-reads.Learnt,
-  matches-reads.Asked,
-  matches-reads.Learnt,
-  call-below t,
-  call.Post,
-) (run-body-at t) run-body.Post run-body-Inv-loop run-body-μ-loop
-run-body-same-length-3 t c = memo-same (c .before .before .before .before .call .ensures .sound) (c .before .before .before .before .before .before .before .before .before .before .before .before .before .before .before .before .before .before .before .pre .1 .call .given .sound)
-
-run-body-returns-3 : (t : ℕ) → run-body-lts.Need-returns-3 (
-  decode-reads.Asked,
-  decode-reads.Learnt,
-  matches-reads.Asked,
-  matches-reads.Learnt,
-  call-below t,
-  call.Post,
-) (run-body-at t) run-body.Post run-body-Inv-loop run-body-μ-loop
-run-body-returns-3 t c = running-failed (c .before .before .before .before .before .before .before .before .before .before .before .before .before .before .before .before .before .before .before .pre .1) (c .before .before .before .before .before .before .before .before .before .before .before .before .before .before .before .loop .inv) _ (c .before .before .before .before .before .before .before .before .before .before .before .before .before .before .loop-test .taken) (sym (c .before .before .before .before .before .before .before .before .before .before .before .before .decode .ensures) ∙ c .before .before .before .before .before .before .before .before .before .before .word .given .1 ∙ ap Symbol (c .before .before .before .before .before .before .before .symbol2 .given .1)) (c .before .before .before .before .call .ensures) (c .enum-told .given .1)
-
-run-body-add-at : (t : ℕ) → run-body-lts.Need-add-at (
-  decode-reads.Asked,
-  decode-reads.Learnt,
-  matches-reads.Asked,
-  matches-reads.Learnt,
-  call-below t,
-  call.Post,
-) (run-body-at t) run-body.Post run-body-Inv-loop run-body-μ-loop
-run-body-add-at t c = omega arith
-
-run-body-loop-less : (t : ℕ) → run-body-lts.Need-loop-less (
-  decode-reads.Asked,
-  decode-reads.Learnt,
-  matches-reads.Asked,
-  matches-reads.Learnt,
-  call-below t,
-  call.Post,
-) (run-body-at t) run-body.Post run-body-Inv-loop run-body-μ-loop
-run-body-loop-less t c = omega arith
-
-run-body-loop-again : (t : ℕ) → run-body-lts.Need-loop-again (
-  decode-reads.Asked,
-  decode-reads.Learnt,
-  matches-reads.Asked,
-  matches-reads.Learnt,
-  call-below t,
-  call.Post,
-) (run-body-at t) run-body.Post run-body-Inv-loop run-body-μ-loop
-run-body-loop-again t c =
-    let given = c .before .before .before .before .before .before .before .before .before .before .before .pre .1 in
-    let run = c .before .before .before .before .before .before .before .loop .inv in
-    let low = c .before .before .before .before .before .before .loop-test .taken in
-    let word = sym (c .before .before .before .before .decode .ensures) ∙ c .before .before .word .given .1 in
-    ⊎-elim
-    (λ w.
-    running-as (w .5) (w .6)
-    (running-terminal given run _ low (word ∙ ap Symbol (w .1 .given .1)) (sym (w .3 .ensures) ∙ not-false _ (w .4 .left))))
-    (λ w. running-as (w .10) (w .11) (running-call given run _ low (word ∙ ap Symbol (w .1 .given .1)) (w .4 .ensures) _ (w .8 .given .1)))
-    (c .match2 .came)
-
-run-body-same-length-4 : (t : ℕ) → run-body-lts.Need-same-length-4 (
-  decode-reads.Asked,
-  decode-reads.Learnt,
-  matches-reads.Asked,
-  matches-reads.Learnt,
-  call-below t,
-  call.Post,
-) (run-body-at t) run-body.Post run-body-Inv-loop run-body-μ-loop
-run-body-same-length-4 t c = memo-same (c .before .loop .inv .sound) (c .before .before .before .before .before .pre .1 .call .given .sound)
-
-run-body-returns-4 : (t : ℕ) → run-body-lts.Need-returns-4 (
-  decode-reads.Asked,
-  decode-reads.Learnt,
-  matches-reads.Asked,
-  matches-reads.Learnt,
-  call-below t,
-  call.Post,
-) (run-body-at t) run-body.Post run-body-Inv-loop run-body-μ-loop
-run-body-returns-4 t c = running-over (c .before .before .before .before .before .pre .1) (c .before .loop .inv) (c .loop-test .left)
-
-pub +call+run-body-spec : {M : Type 1} → statement M
-+call+run-body-spec = close μ-call μ-run-body (λ t. call-lts.spec (
+-- what each function's needs read of its callees
+abbrev call-claims : ℕ → call-lts.Claims
+call-claims t = (
   recall-reads.Asked,
   recall-reads.Learnt,
   chosen-reads.Asked,
@@ -1072,6 +77,220 @@ pub +call+run-body-spec : {M : Type 1} → statement M
   code-reads.Asked,
   code-reads.Learnt,
 )
+
+abbrev run-body-claims : ℕ → run-body-lts.Claims
+run-body-claims t = (
+  decode-reads.Asked,
+  decode-reads.Learnt,
+  matches-reads.Asked,
+  matches-reads.Learnt,
+  call-below t,
+  call.Post,
+)
+
+abbrev call-Inv-loop : call-lts.InvT-loop
+call-Inv-loop nonterminal words starts table input memo₀ place entry known rule at₀ sign₀ agreement₀ memo at sign agreement =
+    InRule words input memo₀ nonterminal place memo at sign agreement
+
+abbrev call-μ-loop : call-lts.MeasureT-loop
+call-μ-loop nonterminal words starts table input memo₀ place entry known rule at₀ sign₀ agreement₀ memo at sign agreement =
+    length words - at
+
+call-add-entry : (t : ℕ) → call-lts.Need-add-entry (call-claims t) (call-at t) call.Post call-Inv-loop call-μ-loop
+call-add-entry t c = omega (arith, c .before .before .before .pre .1 .given .short)
+
+call-mul-entry : (t : ℕ) → call-lts.Need-mul-entry (call-claims t) (call-at t) call.Post call-Inv-loop call-μ-loop
+call-mul-entry t c = omega (arith, index-low (c .before .before .before .pre .1))
+
+call-add-entry-2 : (t : ℕ) → call-lts.Need-add-entry-2 (call-claims t) (call-at t) call.Post call-Inv-loop call-μ-loop
+call-add-entry-2 t c = omega (arith, index-low (c .before .before .before .pre .1))
+
+call-mul-known : (t : ℕ) → call-lts.Need-mul-known (call-claims t) (call-at t) call.Post call-Inv-loop call-μ-loop
+call-mul-known t c = omega (arith, index-low (c .before .before .before .pre .1))
+
+call-slice-read-known : (t : ℕ) → call-lts.Need-slice-read-known (call-claims t) (call-at t) call.Post call-Inv-loop call-μ-loop
+call-slice-read-known t c = index-low (c .before .before .before .before .pre .1)
+
+call-recall-requires : (t : ℕ) → call-lts.Need-recall-requires (call-claims t) (call-at t) call.Post call-Inv-loop call-μ-loop
+call-recall-requires t c κs = tt
+
+call-returns : (t : ℕ) → call-lts.Need-returns (call-claims t) (call-at t) call.Post call-Inv-loop call-μ-loop
+call-returns t c = call-recalled (c .before .before .before .before .before .before .pre .1) (c .before .if1 .taken) (c .recall .ensures)
+
+call-chosen-requires : (t : ℕ) → call-lts.Need-chosen-requires (call-claims t) (call-at t) call.Post call-Inv-loop call-μ-loop
+call-chosen-requires t c κs = chosen-given (c .before .before .before .before .before .pre .1)
+
+call-mul-memo : (t : ℕ) → call-lts.Need-mul-memo (call-claims t) (call-at t) call.Post call-Inv-loop call-μ-loop
+call-mul-memo t c = omega (arith, index-low (c .before .before .before .before .before .before .before .pre .1))
+
+call-slice-write-memo : (t : ℕ) → call-lts.Need-slice-write-memo (call-claims t) (call-at t) call.Post call-Inv-loop call-μ-loop
+call-slice-write-memo t c = index-low (c .before .before .before .before .before .before .before .pre .1)
+
+call-same-length : (t : ℕ) → call-lts.Need-same-length (call-claims t) (call-at t) call.Post call-Inv-loop call-μ-loop
+call-same-length t c = simp length-set
+
+call-returns-2 : (t : ℕ) → call-lts.Need-returns-2 (call-claims t) (call-at t) call.Post call-Inv-loop call-μ-loop
+call-returns-2 t c = call-stored (c .before .before .before .before .before .before .before .pre .1) (c .before .before .if1 .left) none (select-none (c .before .before .before .before .before .before .before .pre .1) (no-rule (c .before .before .before .before .before .before .before .pre .1) (c .before .chosen .ensures) (c .if2 .taken))) (λ n l. none-fails _ _ _ _) encode-failed
+
+call-cast-at : (t : ℕ) → call-lts.Need-cast-at (call-claims t) (call-at t) call.Post call-Inv-loop call-μ-loop
+call-cast-at t c = let k = rule-chosen (c .before .before .before .before .before .before .before .pre .1) _ (some-rule (c .before .before .before .before .before .before .before .pre .1) (c .before .chosen .ensures) (c .if2 .left)) in omega (arith, k .low)
+
+call-mul-at : (t : ℕ) → call-lts.Need-mul-at (call-claims t) (call-at t) call.Post call-Inv-loop call-μ-loop
+call-mul-at t c = let k = rule-chosen (c .before .before .before .before .before .before .before .pre .1) _ (some-rule (c .before .before .before .before .before .before .before .pre .1) (c .before .chosen .ensures) (c .if2 .left)) in omega (arith, k .low)
+
+call-element-copy-out-at : (t : ℕ) → call-lts.Need-element-copy-out-at (call-claims t) (call-at t) call.Post call-Inv-loop call-μ-loop
+call-element-copy-out-at t c = rule-chosen (c .before .before .before .before .before .before .before .pre .1) _ (some-rule (c .before .before .before .before .before .before .before .pre .1) (c .before .chosen .ensures) (c .if2 .left)) .low
+
+call-add-at : (t : ℕ) → call-lts.Need-add-at (call-claims t) (call-at t) call.Post call-Inv-loop call-μ-loop
+call-add-at t c = let k = rule-chosen (c .before .before .before .before .before .before .before .before .pre .1) _ (some-rule (c .before .before .before .before .before .before .before .before .pre .1) (c .before .before .chosen .ensures) (c .before .if2 .left)) in omega (arith, k .begun .high)
+
+call-sign-at-requires : (t : ℕ) → call-lts.Need-sign-at-requires (call-claims t) (call-at t) call.Post call-Inv-loop call-μ-loop
+call-sign-at-requires t c κs = tt
+
+call-loop-holds : (t : ℕ) → call-lts.Need-loop-holds (call-claims t) (call-at t) call.Post call-Inv-loop call-μ-loop
+call-loop-holds t c = let k = rule-chosen (c .before .before .before .before .before .before .before .before .before .pre .1) _ (some-rule (c .before .before .before .before .before .before .before .before .before .pre .1) (c .before .before .before .chosen .ensures) (c .before .before .if2 .left)) in start-rule (c .before .before .before .before .before .before .before .before .before .pre .1) _ k (c .sign-at .ensures)
+
+call-goes-on-requires : (t : ℕ) → call-lts.Need-goes-on-requires (call-claims t) (call-at t) call.Post call-Inv-loop call-μ-loop
+call-goes-on-requires t c κs = tt
+
+call-add-run-body : (t : ℕ) → call-lts.Need-add-run-body (call-claims t) (call-at t) call.Post call-Inv-loop call-μ-loop
+call-add-run-body t c = omega (arith, rule-conjunct (c .before .before .before .before .before .before .before .before .before .before .before .before .before .pre .1) (c .before .before .before .loop .inv) (sym (c .before .before .goes-on .ensures) ∙ c .before .if3 .taken))
+
+call-run-body-requires : (t : ℕ) → call-lts.Need-run-body-requires (call-claims t) (call-at t) call.Post call-Inv-loop call-μ-loop
+call-run-body-requires t c κs = (omega (arith, c .before .before .before .before .before .before .before .before .before .before .before .before .before .pre .0), rule-run (c .before .before .before .before .before .before .before .before .before .before .before .before .before .pre .1) (c .before .before .before .loop .inv) (sym (c .before .before .goes-on .ensures) ∙ c .before .if3 .taken))
+
+call-joined-requires : (t : ℕ) → call-lts.Need-joined-requires (call-claims t) (call-at t) call.Post call-Inv-loop call-μ-loop
+call-joined-requires t c κs = tt
+
+call-add-body-end : (t : ℕ) → call-lts.Need-add-body-end (call-claims t) (call-at t) call.Post call-Inv-loop call-μ-loop
+call-add-body-end t c = omega (arith, rule-conjunct (c .before .before .before .before .before .before .before .before .before .before .before .before .before .before .before .before .before .pre .1) (c .before .before .before .before .before .before .before .loop .inv) (sym (c .before .before .before .before .before .before .goes-on .ensures) ∙ c .before .before .before .before .before .if3 .taken))
+
+call-body-end-requires : (t : ℕ) → call-lts.Need-body-end-requires (call-claims t) (call-at t) call.Post call-Inv-loop call-μ-loop
+call-body-end-requires t c κs = omega (arith, rule-conjunct (c .before .before .before .before .before .before .before .before .before .before .before .before .before .before .before .before .before .pre .1) (c .before .before .before .before .before .before .before .loop .inv) (sym (c .before .before .before .before .before .before .goes-on .ensures) ∙ c .before .before .before .before .before .if3 .taken))
+
+call-sign-at-requires-2 : (t : ℕ) → call-lts.Need-sign-at-requires-2 (call-claims t) (call-at t) call.Post call-Inv-loop call-μ-loop
+call-sign-at-requires-2 t c κs = tt
+
+call-loop-less : (t : ℕ) → call-lts.Need-loop-less (call-claims t) (call-at t) call.Post call-Inv-loop call-μ-loop
+call-loop-less t c = omega (arith, rule-conjunct (c .before .before .before .before .before .before .before .before .before .before .before .before .before .before .before .before .before .before .before .pre .1) (c .before .before .before .before .before .before .before .before .before .loop .inv) (sym (c .before .before .before .before .before .before .before .before .goes-on .ensures) ∙ c .before .before .before .before .before .before .before .if3 .taken), c .before .body-end .ensures .on)
+
+call-loop-again : (t : ℕ) → call-lts.Need-loop-again (call-claims t) (call-at t) call.Post call-Inv-loop call-μ-loop
+call-loop-again t c = rule-turn (c .before .before .before .before .before .before .before .before .before .before .before .before .before .before .before .before .before .before .before .pre .1) (c .before .before .before .before .before .before .before .before .before .loop .inv) (sym (c .before .before .before .before .before .before .before .before .goes-on .ensures) ∙ c .before .before .before .before .before .before .before .if3 .taken) (c .before .before .before .before .before .run-body .ensures) (c .before .before .joined .ensures) (c .before .body-end .ensures) (c .sign-at2 .ensures)
+
+call-conclude-requires : (t : ℕ) → call-lts.Need-conclude-requires (call-claims t) (call-at t) call.Post call-Inv-loop call-μ-loop
+call-conclude-requires t c κs = tt
+
+call-code-requires : (t : ℕ) → call-lts.Need-code-requires (call-claims t) (call-at t) call.Post call-Inv-loop call-μ-loop
+call-code-requires t c κs = rule-short (c .before .before .before .before .before .before .before .before .before .before .before .before .before .pre .1) (c .before .before .before .loop .inv) (c .conclude .result) (c .conclude .ensures)
+
+call-mul-memo-2 : (t : ℕ) → call-lts.Need-mul-memo-2 (call-claims t) (call-at t) call.Post call-Inv-loop call-μ-loop
+call-mul-memo-2 t c = omega (arith, index-low (c .before .before .before .before .before .before .before .before .before .before .before .before .before .before .pre .1))
+
+call-slice-write-memo-2 : (t : ℕ) → call-lts.Need-slice-write-memo-2 (call-claims t) (call-at t) call.Post call-Inv-loop call-μ-loop
+call-slice-write-memo-2 t c = omega (arith, index-low (c .before .before .before .before .before .before .before .before .before .before .before .before .before .before .pre .1), memo-same (c .before .before .before .before .loop .inv .calling .sound) (c .before .before .before .before .before .before .before .before .before .before .before .before .before .before .pre .1 .given .sound))
+
+call-same-length-2 : (t : ℕ) → call-lts.Need-same-length-2 (call-claims t) (call-at t) call.Post call-Inv-loop call-μ-loop
+call-same-length-2 t c = simp length-set (memo-same (c .before .before .before .before .loop .inv .calling .sound) (c .before .before .before .before .before .before .before .before .before .before .before .before .before .before .pre .1 .given .sound))
+
+call-returns-3 : (t : ℕ) → call-lts.Need-returns-3 (call-claims t) (call-at t) call.Post call-Inv-loop call-μ-loop
+call-returns-3 t c =
+    let rule = c .before .before .before .before .loop .inv in
+    let stops = sym (c .before .before .before .goes-on .ensures) ∙ c .before .before .if3 .left in
+    call-stored (c .before .before .before .before .before .before .before .before .before .before .before .before .before .before .pre .1) (c .before .before .before .before .before .before .before .before .before .if1 .left) (some (rule .rule)) (rule .selected)
+    (rule-done (c .before .before .before .before .before .before .before .before .before .before .before .before .before .before .pre .1) rule stops (c .before .conclude .result) (c .before .conclude .ensures)) (c .code .ensures)
+
+abbrev run-body-Inv-loop : run-body-lts.InvT-loop
+run-body-Inv-loop nonterminal words starts table input memo₀ from start at₀ place₀ memo at place =
+    Running words input memo₀ nonterminal from start memo at place
+
+abbrev run-body-μ-loop : run-body-lts.MeasureT-loop
+run-body-μ-loop nonterminal words starts table input memo₀ from start at₀ place₀ memo at place =
+    length words - at
+
+run-body-loop-holds : (t : ℕ) → run-body-lts.Need-loop-holds (run-body-claims t) (run-body-at t) run-body.Post run-body-Inv-loop run-body-μ-loop
+run-body-loop-holds t c = running-start (c .before .before .before .pre .1)
+
+run-body-mul-decode : (t : ℕ) → run-body-lts.Need-mul-decode (run-body-claims t) (run-body-at t) run-body.Post run-body-Inv-loop run-body-μ-loop
+run-body-mul-decode t c = omega arith
+
+run-body-shared-slice-read-decode : (t : ℕ) → run-body-lts.Need-shared-slice-read-decode (run-body-claims t) (run-body-at t) run-body.Post run-body-Inv-loop run-body-μ-loop
+run-body-shared-slice-read-decode t c = omega arith
+
+run-body-decode-requires : (t : ℕ) → run-body-lts.Need-decode-requires (run-body-claims t) (run-body-at t) run-body.Post run-body-Inv-loop run-body-μ-loop
+run-body-decode-requires t c κs = tt
+
+run-body-enum-known-word : (t : ℕ) → run-body-lts.Need-enum-known-word (run-body-claims t) (run-body-at t) run-body.Post run-body-Inv-loop run-body-μ-loop
+run-body-enum-known-word t c = c .match .keys1
+
+run-body-same-length : (t : ℕ) → run-body-lts.Need-same-length (run-body-claims t) (run-body-at t) run-body.Post run-body-Inv-loop run-body-μ-loop
+run-body-same-length t c = memo-same (c .before .before .before .before .loop .inv .sound) (c .before .before .before .before .before .before .before .before .pre .1 .call .given .sound)
+
+run-body-returns : (t : ℕ) → run-body-lts.Need-returns (run-body-claims t) (run-body-at t) run-body.Post run-body-Inv-loop run-body-μ-loop
+run-body-returns t c = running-done (c .before .before .before .before .before .before .before .before .pre .1) (c .before .before .before .before .loop .inv) _ (c .before .before .before .loop-test .taken) (c .before .decode .ensures) (no-symbol _ (c .match .keys2))
+
+run-body-enum-known-symbol : (t : ℕ) → run-body-lts.Need-enum-known-symbol (run-body-claims t) (run-body-at t) run-body.Post run-body-Inv-loop run-body-μ-loop
+run-body-enum-known-symbol t c = c .match2 .keys1
+
+run-body-matches-requires : (t : ℕ) → run-body-lts.Need-matches-requires (run-body-claims t) (run-body-at t) run-body.Post run-body-Inv-loop run-body-μ-loop
+run-body-matches-requires t c κs = tt
+
+run-body-same-length-2 : (t : ℕ) → run-body-lts.Need-same-length-2 (run-body-claims t) (run-body-at t) run-body.Post run-body-Inv-loop run-body-μ-loop
+run-body-same-length-2 t c = memo-same (c .before .before .before .before .before .before .before .before .before .before .before .loop .inv .sound) (c .before .before .before .before .before .before .before .before .before .before .before .before .before .before .before .pre .1 .call .given .sound)
+
+run-body-returns-2 : (t : ℕ) → run-body-lts.Need-returns-2 (run-body-claims t) (run-body-at t) run-body.Post run-body-Inv-loop run-body-μ-loop
+run-body-returns-2 t c = running-mismatch (c .before .before .before .before .before .before .before .before .before .before .before .before .before .before .before .pre .1) (c .before .before .before .before .before .before .before .before .before .before .before .loop .inv) _ (c .before .before .before .before .before .before .before .before .before .before .loop-test .taken) (sym (c .before .before .before .before .before .before .before .before .decode .ensures) ∙ c .before .before .before .before .before .before .word .given .1 ∙ ap Symbol (c .before .before .before .symbol .given .1)) (sym (c .before .matches .ensures) ∙ not-true _ (c .if1 .taken))
+
+run-body-add-place : (t : ℕ) → run-body-lts.Need-add-place (run-body-claims t) (run-body-at t) run-body.Post run-body-Inv-loop run-body-μ-loop
+run-body-add-place t c = omega (arith, c .before .before .before .before .before .before .before .before .before .before .before .loop .inv .placed, c .before .before .before .before .before .before .before .before .before .before .before .before .before .before .before .pre .1 .call .given .short)
+
+run-body-enum-known-symbol-2 : (t : ℕ) → run-body-lts.Need-enum-known-symbol-2 (run-body-claims t) (run-body-at t) run-body.Post run-body-Inv-loop run-body-μ-loop
+run-body-enum-known-symbol-2 t c = c .match2 .keys2
+
+run-body-cast-call : (t : ℕ) → run-body-lts.Need-cast-call (run-body-claims t) (run-body-at t) run-body.Post run-body-Inv-loop run-body-μ-loop
+run-body-cast-call t c = omega (arith, running-small (c .before .before .before .before .before .before .before .before .before .before .before .before .before .pre .1) (c .before .before .before .before .before .before .before .before .before .loop .inv) _ (c .before .before .before .before .before .before .before .before .loop-test .taken) (sym (c .before .before .before .before .before .before .decode .ensures) ∙ c .before .before .before .before .word .given .1 ∙ ap Symbol (c .before .symbol2 .given .1)))
+
+run-body-call-requires : (t : ℕ) → run-body-lts.Need-call-requires (run-body-claims t) (run-body-at t) run-body.Post run-body-Inv-loop run-body-μ-loop
+run-body-call-requires t c κs = (omega (arith, running-falls (c .before .before .before .before .before .before .before .before .before .before .before .before .before .before .pre .1) (c .before .before .before .before .before .before .before .before .before .before .loop .inv) _ (c .before .before .before .before .before .before .before .before .before .loop-test .taken) (sym (c .before .before .before .before .before .before .before .decode .ensures) ∙ c .before .before .before .before .before .word .given .1 ∙ ap Symbol (c .before .before .symbol2 .given .1)), c .before .before .before .before .before .before .before .before .before .before .before .before .before .before .pre .0), running-given (c .before .before .before .before .before .before .before .before .before .before .before .before .before .before .pre .1) (c .before .before .before .before .before .before .before .before .before .before .loop .inv) _ (c .before .before .before .before .before .before .before .before .before .loop-test .taken) (sym (c .before .before .before .before .before .before .before .decode .ensures) ∙ c .before .before .before .before .before .word .given .1 ∙ ap Symbol (c .before .before .symbol2 .given .1)))
+
+run-body-enum-known-outcome : (t : ℕ) → run-body-lts.Need-enum-known-outcome (run-body-claims t) (run-body-at t) run-body.Post run-body-Inv-loop run-body-μ-loop
+run-body-enum-known-outcome t c = c .match3 .keys1
+
+run-body-enum-told : (t : ℕ) → run-body-lts.Need-enum-told (run-body-claims t) (run-body-at t) run-body.Post run-body-Inv-loop run-body-μ-loop
+run-body-enum-told t c = c .match3 .keys2
+
+run-body-same-length-3 : (t : ℕ) → run-body-lts.Need-same-length-3 (run-body-claims t) (run-body-at t) run-body.Post run-body-Inv-loop run-body-μ-loop
+run-body-same-length-3 t c = memo-same (c .before .before .before .before .call .ensures .sound) (c .before .before .before .before .before .before .before .before .before .before .before .before .before .before .before .before .before .before .before .pre .1 .call .given .sound)
+
+run-body-returns-3 : (t : ℕ) → run-body-lts.Need-returns-3 (run-body-claims t) (run-body-at t) run-body.Post run-body-Inv-loop run-body-μ-loop
+run-body-returns-3 t c = running-failed (c .before .before .before .before .before .before .before .before .before .before .before .before .before .before .before .before .before .before .before .pre .1) (c .before .before .before .before .before .before .before .before .before .before .before .before .before .before .before .loop .inv) _ (c .before .before .before .before .before .before .before .before .before .before .before .before .before .before .loop-test .taken) (sym (c .before .before .before .before .before .before .before .before .before .before .before .before .decode .ensures) ∙ c .before .before .before .before .before .before .before .before .before .before .word .given .1 ∙ ap Symbol (c .before .before .before .before .before .before .before .symbol2 .given .1)) (c .before .before .before .before .call .ensures) (c .enum-told .given .1)
+
+run-body-add-at : (t : ℕ) → run-body-lts.Need-add-at (run-body-claims t) (run-body-at t) run-body.Post run-body-Inv-loop run-body-μ-loop
+run-body-add-at t c = omega arith
+
+run-body-loop-less : (t : ℕ) → run-body-lts.Need-loop-less (run-body-claims t) (run-body-at t) run-body.Post run-body-Inv-loop run-body-μ-loop
+run-body-loop-less t c = omega arith
+
+run-body-loop-again : (t : ℕ) → run-body-lts.Need-loop-again (run-body-claims t) (run-body-at t) run-body.Post run-body-Inv-loop run-body-μ-loop
+run-body-loop-again t c =
+    let given = c .before .before .before .before .before .before .before .before .before .before .before .pre .1 in
+    let run = c .before .before .before .before .before .before .before .loop .inv in
+    let low = c .before .before .before .before .before .before .loop-test .taken in
+    let word = sym (c .before .before .before .before .decode .ensures) ∙ c .before .before .word .given .1 in
+    ⊎-elim
+    (λ w.
+    running-as (w .5) (w .6)
+    (running-terminal given run _ low (word ∙ ap Symbol (w .1 .given .1)) (sym (w .3 .ensures) ∙ not-false _ (w .4 .left))))
+    (λ w. running-as (w .10) (w .11) (running-call given run _ low (word ∙ ap Symbol (w .1 .given .1)) (w .4 .ensures) _ (w .8 .given .1)))
+    (c .match2 .came)
+
+run-body-same-length-4 : (t : ℕ) → run-body-lts.Need-same-length-4 (run-body-claims t) (run-body-at t) run-body.Post run-body-Inv-loop run-body-μ-loop
+run-body-same-length-4 t c = memo-same (c .before .loop .inv .sound) (c .before .before .before .before .before .pre .1 .call .given .sound)
+
+run-body-returns-4 : (t : ℕ) → run-body-lts.Need-returns-4 (run-body-claims t) (run-body-at t) run-body.Post run-body-Inv-loop run-body-μ-loop
+run-body-returns-4 t c = running-over (c .before .before .before .before .before .pre .1) (c .before .loop .inv) (c .loop-test .left)
+
+pub +call+run-body-spec : {M : Type 1} → statement M
++call+run-body-spec = close μ-call μ-run-body (λ t. call-lts.spec (call-claims t)
     (call-at t)
     call.Post
     call-Inv-loop
@@ -1109,14 +328,7 @@ pub +call+run-body-spec : {M : Type 1} → statement M
     (call-slice-write-memo-2 t)
     (call-same-length-2 t)
     (call-returns-3 t))
-    λ t. run-body-lts.spec (
-      decode-reads.Asked,
-      decode-reads.Learnt,
-      matches-reads.Asked,
-      matches-reads.Learnt,
-      call-below t,
-      call.Post,
-    )
+    λ t. run-body-lts.spec (run-body-claims t)
     (run-body-at t)
     run-body.Post
     run-body-Inv-loop
