@@ -7,13 +7,13 @@ use Rattle.recognizer.proofs.judge.Tie as tie
 
 returns : tie.Need-returns
 returns c =
-    let s = c .before .before .before .before .before in
-    judge-refused (table-short (s .args .words .now) (s .args .input .now) (s .args .table .now) (s .args .memo .now) (c .if1 .taken))
+    let given = c .before .before .before .before .before .args in
+    judge-refused (table-short (given .words .now) (given .input .now) (given .table .now) (given .memo .now) (c .if1 .taken))
 
 returns-2 : tie.Need-returns-2
 returns-2 c =
-    let s = c .before .before .before .before .before .before in
-    judge-refused (memo-short (s .args .words .now) (s .args .input .now) (s .args .table .now) (s .args .memo .now) (c .before .if1 .left) (c .if2 .taken))
+    let given = c .before .before .before .before .before .before .args in
+    judge-refused (memo-short (given .words .now) (given .input .now) (given .table .now) (given .memo .now) (c .before .if1 .left) (c .if2 .taken))
 
 analyze-requires : tie.Need-analyze-requires
 analyze-requires c κs = search needs
@@ -26,18 +26,24 @@ enum-known-finding-2 c = search needs
 
 judge-passed-requires : tie.Need-judge-passed-requires
 judge-passed-requires c κs =
-    let s = c .before .before .before .before .before .before .before .before .before .before .before .before .before .before in
+    let passed = c .before .before .before .before in
+    let analyzed = passed .before .before .before in
+    let room = analyzed .before in
+    let long = room .before in
     record {
-      found = found (s .args .words .now) (c .before .before .before .before .before .before .before .analyze .ensures) (c .before .before .before .before .finding2 .given .1);
-      long-table = c .before .before .before .before .before .before .before .before .before .if1 .left;
-      long-memo = c .before .before .before .before .before .before .before .before .if2 .left;
+      found = found (long .before .before .before .before .before .args .words .now) (analyzed .analyze .ensures) (passed .finding2 .given .1);
+      long-table = long .if1 .left;
+      long-memo = room .if2 .left;
     }
 
 returns-3 : tie.Need-returns-3
 returns-3 c =
-    let s = c .before .before .before .before .before .before .before .before .before .before .before in
-    judge-refused (grammar-fault (s .args .words .now) (s .args .input .now) (s .args .table .now) (s .args .memo .now) (c .before .before .before .before .before .before .if1 .left) (c .before .before .before .before .before .if2 .left)
-    (found-fault (s .args .words .now) (c .before .before .before .before .analyze .ensures) (c .before .finding .given .1)))
+    let analyzed = c .before .before .before .before in
+    let room = analyzed .before in
+    let long = room .before in
+    let given = long .before .before .before .before .before .args in
+    judge-refused (grammar-fault (given .words .now) (given .input .now) (given .table .now) (given .memo .now) (long .if1 .left) (room .if2 .left)
+    (found-fault (given .words .now) (analyzed .analyze .ensures) (c .before .finding .given .1)))
 
 same-length : tie.Need-same-length
 same-length c = search needs

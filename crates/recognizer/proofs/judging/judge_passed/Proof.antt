@@ -12,8 +12,8 @@ use Rattle.recognizer.proofs.judging.judge_passed.Tie as tie
 
 returns : tie.Need-returns
 returns c =
-    let s = c .before .before .before .before .before in
-    judge-long (s .pre) (s .args .input .now) (c .if1 .taken)
+    let start = c .before .before .before .before .before in
+    judge-long (start .pre) (start .args .input .now) (c .if1 .taken)
 
 first-unknown-requires : tie.Need-first-unknown-requires
 first-unknown-requires c κs = search needs
@@ -26,8 +26,8 @@ enum-told c = search needs
 
 lend-requires : tie.Need-lend-requires
 lend-requires c κs =
-    let s = c .before .before .before .before .before .before .before .before .before in
-    lend-given (s .args .words .now) (s .args .table .now) (s .pre .long-table) (s .pre .found)
+    let start = c .before .before .before .before .before .before .before .before .before in
+    lend-given (start .args .words .now) (start .args .table .now) (start .pre .long-table) (start .pre .found)
 
 cast-needed : tie.Need-cast-needed
 cast-needed c = search needs
@@ -37,28 +37,37 @@ add-needed c = search needs
 
 mul-needed : tie.Need-mul-needed
 mul-needed c =
-    let s = c .before .before .before .before .before .before .before .before .before .before .before .before .before in
-    omega (arith, needed-few (s .pre) (s .args .input .now) (c .before .before .before .before .before .before .before .before .if1 .left))
+    let short = c .before .before .before .before .before .before .before .before in
+    let start = short .before .before .before .before .before in
+    omega (arith, needed-few (start .pre) (start .args .input .now) (short .if1 .left))
 
 slice-relend-prefix-descend : tie.Need-slice-relend-prefix-descend
 slice-relend-prefix-descend c =
-    let s = c .before .before .before .before .before .before .before .before .before .before .before .before .before in
-    needed-room (s .pre) (s .args .input .now) (c .before .before .before .before .before .before .before .before .if1 .left)
+    let short = c .before .before .before .before .before .before .before .before in
+    let start = short .before .before .before .before .before in
+    needed-room (start .pre) (start .args .input .now) (short .if1 .left)
 
 slice-aggregate-descend : tie.Need-slice-aggregate-descend
 slice-aggregate-descend c =
-    let s = c .before .before .before .before .before .before .before .before .before .before .before .before .before .before in
-    sym (length-take-le (s .args .sizes .nonterminals * (length (s .args .input .now) + 1)) (s .args .memo .now) (needed-room (s .pre) (s .args .input .now) (c .before .before .before .before .before .before .before .before .before .if1 .left)))
+    let short = c .before .before .before .before .before .before .before .before .before in
+    let start = short .before .before .before .before .before in
+    sym (length-take-le (start .args .sizes .nonterminals * (length (start .args .input .now) + 1)) (start .args .memo .now)
+    (needed-room (start .pre) (start .args .input .now) (short .if1 .left)))
 
 descend-requires : tie.Need-descend-requires
 descend-requires c κs =
-    let s = c .before .before .before .before .before .before .before .before .before .before .before .before .before .before in
-    descend-given (s .pre) (s .args .input .now) (c .before .before .before .before .before .before .before .before .before .if1 .left) (c .before .before .before .before .before .before .before .before .first-unknown .ensures) (c .before .before .before .before .before .before .enum-told .given .1)
+    let told = c .before .before .before .before .before .before in
+    let searched = told .before .before in
+    let short = searched .before in
+    let start = short .before .before .before .before .before in
+    descend-given (start .pre) (start .args .input .now) (short .if1 .left) (searched .first-unknown .ensures) (told .enum-told .given .1)
 
 returns-2 : tie.Need-returns-2
 returns-2 c =
-    let s = c .before .before .before .before .before .before .before .before .before in
-    judge-unknown (s .pre) (s .args .input .now) (c .before .before .before .before .if1 .left) (c .before .before .before .first-unknown .ensures) (c .before .unknown .given .1)
+    let searched = c .before .before .before in
+    let short = searched .before in
+    let start = short .before .before .before .before .before in
+    judge-unknown (start .pre) (start .args .input .now) (short .if1 .left) (searched .first-unknown .ensures) (c .before .unknown .given .1)
 
 same-length : tie.Need-same-length
 same-length c = search needs
@@ -68,8 +77,14 @@ same-length-2 c = search needs
 
 returns-3 : tie.Need-returns-3
 returns-3 c =
-    let s = c .before .before .before .before .before .before .before .before .before .before .before .before .before .before .before .before .before in
-    judge-done (s .pre) (s .args .input .now) (c .before .before .before .before .before .before .before .before .before .before .before .before .if1 .left) (c .before .before .before .before .before .before .before .before .before .before .before .first-unknown .ensures) (c .before .before .before .before .before .before .before .before .before .enum-told .given .1) (c .before .before .before .before .before .before .before .lend .ensures) (c .before .before .descend .ensures)
+    let run = c .before .before in
+    let lent = run .before .before .before .before .before in
+    let told = lent .before .before in
+    let searched = told .before .before in
+    let short = searched .before in
+    let start = short .before .before .before .before .before in
+    judge-done (start .pre) (start .args .input .now) (short .if1 .left) (searched .first-unknown .ensures) (told .enum-told .given .1)
+    (lent .lend .ensures) (run .descend .ensures)
 
 pub judge-passed-spec : {M : Type 1} → statement M
 judge-passed-spec =
