@@ -17,7 +17,11 @@ position-requires : tie.Need-position-requires
 position-requires c κs = search needs
 
 join-requires : tie.Need-join-requires
-join-requires c κs = refused-fields (c .before .before .before .before .before .pre) (c .before .before .before .answer .given .1) (c .before .code .ensures) (c .position .ensures)
+join-requires c κs =
+    let at-code = c .before in
+    let at-answer = at-code .before .before in
+    let start = at-answer .before .before in
+    refused-fields (start .pre) (at-answer .answer .given .1) (at-code .code .ensures) (c .position .ensures)
 
 enum-told : tie.Need-enum-told
 enum-told c = search needs
@@ -38,7 +42,11 @@ join-requires-4 : tie.Need-join-requires-4
 join-requires-4 c κs = accepted-fields (c .before .before .before .pre) (c .before .answer3 .given .1)
 
 returns : tie.Need-returns
-returns c = refused-packed (c .before .before .before .before .answer .given .1) (c .before .before .code .ensures) (c .before .position .ensures) (c .join .ensures)
+returns c =
+    let at-position = c .before in
+    let at-code = at-position .before in
+    let at-answer = at-code .before .before in
+    refused-packed (at-answer .answer .given .1) (at-code .code .ensures) (at-position .position .ensures) (c .join .ensures)
 
 returns-2 : tie.Need-returns-2
 returns-2 c = passed-packed (c .before .enum-told .given .1) (c .join2 .ensures)

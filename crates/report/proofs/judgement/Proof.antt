@@ -16,7 +16,10 @@ array-share-prefix-words : tie.Need-array-share-prefix-words
 array-share-prefix-words c = found (c .before .before .before .load .ensures) (c .before .loaded .given .1) (length-replicate {A = ℕ} 2048 0) .few
 
 slice-aggregate-put-judged : tie.Need-slice-aggregate-put-judged
-slice-aggregate-put-judged c = found (c .before .before .before .before .load .ensures) (c .before .before .loaded .given .1) (length-replicate {A = ℕ} 2048 0) .part
+slice-aggregate-put-judged c =
+    let at-loaded = c .before .before in
+    let at-load = at-loaded .before .before in
+    found (at-load .load .ensures) (at-loaded .loaded .given .1) (length-replicate {A = ℕ} 2048 0) .part
 
 put-judged-requires : tie.Need-put-judged-requires
 put-judged-requires c κs = search needs

@@ -24,7 +24,10 @@ same-length c = search needs
 
 returns : tie.Need-returns
 unfolding blankTable
-returns c = put-checked-text (length-replicate {A = ℕ} 864 4294967295) (c .before .before .before .before .before .before .check .ensures) (c .before .before .put-check .ensures)
+returns c =
+    let at-put-check = c .before .before in
+    let at-check = at-put-check .before .before .before .before in
+    put-checked-text (length-replicate {A = ℕ} 864 4294967295) (at-check .check .ensures) (at-put-check .put-check .ensures)
 
 pub put-checked-spec : {M : Type 1} → statement M
 put-checked-spec =

@@ -33,7 +33,13 @@ same-length c = search needs
 
 returns : tie.Need-returns
 unfolding blankMemo
-returns c = put-judged-text (length-replicate {A = ℕ} 864 4294967295) (length-replicate {A = ℕ} 16032 65535) (c .before .before .before .before .before .nonterminals .ensures) (c .before .before .before .before .tokens .ensures) (c .before .before .before .before .before .before .before .before .before .judge .ensures) (c .before .before .put-judgement .ensures)
+returns c =
+    let at-put-judgement = c .before .before in
+    let at-tokens = at-put-judgement .before .before in
+    let at-nonterminals = at-tokens .before in
+    let at-judge = at-nonterminals .before .before .before .before in
+    put-judged-text (length-replicate {A = ℕ} 864 4294967295) (length-replicate {A = ℕ} 16032 65535) (at-nonterminals .nonterminals .ensures)
+    (at-tokens .tokens .ensures) (at-judge .judge .ensures) (at-put-judgement .put-judgement .ensures)
 
 pub put-judged-spec : {M : Type 1} → statement M
 put-judged-spec =

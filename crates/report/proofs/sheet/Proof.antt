@@ -16,7 +16,10 @@ array-share-prefix-words : tie.Need-array-share-prefix-words
 array-share-prefix-words c = found (c .before .before .before .load .ensures) (c .before .loaded .given .1) (length-replicate {A = ℕ} 2048 0) .few
 
 slice-aggregate-put-checked : tie.Need-slice-aggregate-put-checked
-slice-aggregate-put-checked c = found (c .before .before .before .before .load .ensures) (c .before .before .loaded .given .1) (length-replicate {A = ℕ} 2048 0) .part
+slice-aggregate-put-checked c =
+    let at-loaded = c .before .before in
+    let at-load = at-loaded .before .before in
+    found (at-load .load .ensures) (at-loaded .loaded .given .1) (length-replicate {A = ℕ} 2048 0) .part
 
 put-checked-requires : tie.Need-put-checked-requires
 put-checked-requires c κs = search needs

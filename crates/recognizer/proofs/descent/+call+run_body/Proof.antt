@@ -130,67 +130,143 @@ call-same-length : (t : ℕ) → call-lts.Need-same-length (call-claims t) (call
 call-same-length t c = simp length-set
 
 call-returns-2 : (t : ℕ) → call-lts.Need-returns-2 (call-claims t) (call-at t) call.Post call-Inv-loop call-μ-loop
-call-returns-2 t c = call-stored (c .before .before .before .before .before .before .before .pre .1) (c .before .before .if1 .left) none (select-none (c .before .before .before .before .before .before .before .pre .1) (no-rule (c .before .before .before .before .before .before .before .pre .1) (c .before .chosen .ensures) (c .if2 .taken))) (λ n l. none-fails _ _ _ _) encode-failed
+call-returns-2 t c =
+    let at-chosen = c .before in
+    let at-if1 = at-chosen .before in
+    let start = at-if1 .before .before .before .before .before in
+    call-stored (start .pre .1) (at-if1 .if1 .left) none
+    (select-none (start .pre .1) (no-rule (start .pre .1) (at-chosen .chosen .ensures) (c .if2 .taken))) (λ n l. none-fails _ _ _ _) encode-failed
 
 call-cast-at : (t : ℕ) → call-lts.Need-cast-at (call-claims t) (call-at t) call.Post call-Inv-loop call-μ-loop
-call-cast-at t c = let k = rule-chosen (c .before .before .before .before .before .before .before .pre .1) _ (some-rule (c .before .before .before .before .before .before .before .pre .1) (c .before .chosen .ensures) (c .if2 .left)) in omega (arith, k .low)
+call-cast-at t c =
+    let at-chosen = c .before in
+    let start = at-chosen .before .before .before .before .before .before in
+    let k = rule-chosen (start .pre .1) _ (some-rule (start .pre .1) (at-chosen .chosen .ensures) (c .if2 .left)) in
+    omega (arith, k .low)
 
 call-mul-at : (t : ℕ) → call-lts.Need-mul-at (call-claims t) (call-at t) call.Post call-Inv-loop call-μ-loop
-call-mul-at t c = let k = rule-chosen (c .before .before .before .before .before .before .before .pre .1) _ (some-rule (c .before .before .before .before .before .before .before .pre .1) (c .before .chosen .ensures) (c .if2 .left)) in omega (arith, k .low)
+call-mul-at t c =
+    let at-chosen = c .before in
+    let start = at-chosen .before .before .before .before .before .before in
+    let k = rule-chosen (start .pre .1) _ (some-rule (start .pre .1) (at-chosen .chosen .ensures) (c .if2 .left)) in
+    omega (arith, k .low)
 
 call-element-copy-out-at : (t : ℕ) → call-lts.Need-element-copy-out-at (call-claims t) (call-at t) call.Post call-Inv-loop call-μ-loop
-call-element-copy-out-at t c = rule-chosen (c .before .before .before .before .before .before .before .pre .1) _ (some-rule (c .before .before .before .before .before .before .before .pre .1) (c .before .chosen .ensures) (c .if2 .left)) .low
+call-element-copy-out-at t c =
+    let at-chosen = c .before in
+    let start = at-chosen .before .before .before .before .before .before in
+    rule-chosen (start .pre .1) _ (some-rule (start .pre .1) (at-chosen .chosen .ensures) (c .if2 .left)) .low
 
 call-add-at : (t : ℕ) → call-lts.Need-add-at (call-claims t) (call-at t) call.Post call-Inv-loop call-μ-loop
-call-add-at t c = let k = rule-chosen (c .before .before .before .before .before .before .before .before .pre .1) _ (some-rule (c .before .before .before .before .before .before .before .before .pre .1) (c .before .before .chosen .ensures) (c .before .if2 .left)) in omega (arith, k .begun .high)
+call-add-at t c =
+    let at-if2 = c .before in
+    let at-chosen = at-if2 .before in
+    let start = at-chosen .before .before .before .before .before .before in
+    let k = rule-chosen (start .pre .1) _ (some-rule (start .pre .1) (at-chosen .chosen .ensures) (at-if2 .if2 .left)) in
+    omega (arith, k .begun .high)
 
 call-sign-at-requires : (t : ℕ) → call-lts.Need-sign-at-requires (call-claims t) (call-at t) call.Post call-Inv-loop call-μ-loop
 call-sign-at-requires t c κs = tt
 
 call-loop-holds : (t : ℕ) → call-lts.Need-loop-holds (call-claims t) (call-at t) call.Post call-Inv-loop call-μ-loop
-call-loop-holds t c = let k = rule-chosen (c .before .before .before .before .before .before .before .before .before .pre .1) _ (some-rule (c .before .before .before .before .before .before .before .before .before .pre .1) (c .before .before .before .chosen .ensures) (c .before .before .if2 .left)) in start-rule (c .before .before .before .before .before .before .before .before .before .pre .1) _ k (c .sign-at .ensures)
+call-loop-holds t c =
+    let at-if2 = c .before .before in
+    let at-chosen = at-if2 .before in
+    let start = at-chosen .before .before .before .before .before .before in
+    let k = rule-chosen (start .pre .1) _ (some-rule (start .pre .1) (at-chosen .chosen .ensures) (at-if2 .if2 .left)) in
+    start-rule (start .pre .1) _ k (c .sign-at .ensures)
 
 call-goes-on-requires : (t : ℕ) → call-lts.Need-goes-on-requires (call-claims t) (call-at t) call.Post call-Inv-loop call-μ-loop
 call-goes-on-requires t c κs = tt
 
 call-add-run-body : (t : ℕ) → call-lts.Need-add-run-body (call-claims t) (call-at t) call.Post call-Inv-loop call-μ-loop
-call-add-run-body t c = omega (arith, rule-conjunct (c .before .before .before .before .before .before .before .before .before .before .before .before .before .pre .1) (c .before .before .before .loop .inv) (sym (c .before .before .goes-on .ensures) ∙ c .before .if3 .taken))
+call-add-run-body t c =
+    let at-if3 = c .before in
+    let at-goes-on = at-if3 .before in
+    let at-loop = at-goes-on .before in
+    let start = at-loop .before .before .before .before .before .before .before .before .before .before in
+    omega (arith, rule-conjunct (start .pre .1) (at-loop .loop .inv) (sym (at-goes-on .goes-on .ensures) ∙ at-if3 .if3 .taken))
 
 call-run-body-requires : (t : ℕ) → call-lts.Need-run-body-requires (call-claims t) (call-at t) call.Post call-Inv-loop call-μ-loop
-call-run-body-requires t c κs = (omega (arith, c .before .before .before .before .before .before .before .before .before .before .before .before .before .pre .0), rule-run (c .before .before .before .before .before .before .before .before .before .before .before .before .before .pre .1) (c .before .before .before .loop .inv) (sym (c .before .before .goes-on .ensures) ∙ c .before .if3 .taken))
+call-run-body-requires t c κs =
+    let at-if3 = c .before in
+    let at-goes-on = at-if3 .before in
+    let at-loop = at-goes-on .before in
+    let start = at-loop .before .before .before .before .before .before .before .before .before .before in
+    (omega (arith, start .pre .0), rule-run (start .pre .1) (at-loop .loop .inv) (sym (at-goes-on .goes-on .ensures) ∙ at-if3 .if3 .taken))
 
 call-joined-requires : (t : ℕ) → call-lts.Need-joined-requires (call-claims t) (call-at t) call.Post call-Inv-loop call-μ-loop
 call-joined-requires t c κs = tt
 
 call-add-body-end : (t : ℕ) → call-lts.Need-add-body-end (call-claims t) (call-at t) call.Post call-Inv-loop call-μ-loop
-call-add-body-end t c = omega (arith, rule-conjunct (c .before .before .before .before .before .before .before .before .before .before .before .before .before .before .before .before .before .pre .1) (c .before .before .before .before .before .before .before .loop .inv) (sym (c .before .before .before .before .before .before .goes-on .ensures) ∙ c .before .before .before .before .before .if3 .taken))
+call-add-body-end t c =
+    let at-if3 = c .before .before .before .before .before in
+    let at-goes-on = at-if3 .before in
+    let at-loop = at-goes-on .before in
+    let start = at-loop .before .before .before .before .before .before .before .before .before .before in
+    omega (arith, rule-conjunct (start .pre .1) (at-loop .loop .inv) (sym (at-goes-on .goes-on .ensures) ∙ at-if3 .if3 .taken))
 
 call-body-end-requires : (t : ℕ) → call-lts.Need-body-end-requires (call-claims t) (call-at t) call.Post call-Inv-loop call-μ-loop
-call-body-end-requires t c κs = omega (arith, rule-conjunct (c .before .before .before .before .before .before .before .before .before .before .before .before .before .before .before .before .before .pre .1) (c .before .before .before .before .before .before .before .loop .inv) (sym (c .before .before .before .before .before .before .goes-on .ensures) ∙ c .before .before .before .before .before .if3 .taken))
+call-body-end-requires t c κs =
+    let at-if3 = c .before .before .before .before .before in
+    let at-goes-on = at-if3 .before in
+    let at-loop = at-goes-on .before in
+    let start = at-loop .before .before .before .before .before .before .before .before .before .before in
+    omega (arith, rule-conjunct (start .pre .1) (at-loop .loop .inv) (sym (at-goes-on .goes-on .ensures) ∙ at-if3 .if3 .taken))
 
 call-sign-at-requires-2 : (t : ℕ) → call-lts.Need-sign-at-requires-2 (call-claims t) (call-at t) call.Post call-Inv-loop call-μ-loop
 call-sign-at-requires-2 t c κs = tt
 
 call-loop-less : (t : ℕ) → call-lts.Need-loop-less (call-claims t) (call-at t) call.Post call-Inv-loop call-μ-loop
-call-loop-less t c = omega (arith, rule-conjunct (c .before .before .before .before .before .before .before .before .before .before .before .before .before .before .before .before .before .before .before .pre .1) (c .before .before .before .before .before .before .before .before .before .loop .inv) (sym (c .before .before .before .before .before .before .before .before .goes-on .ensures) ∙ c .before .before .before .before .before .before .before .if3 .taken), c .before .body-end .ensures .on)
+call-loop-less t c =
+    let at-body-end = c .before in
+    let at-if3 = at-body-end .before .before .before .before .before .before in
+    let at-goes-on = at-if3 .before in
+    let at-loop = at-goes-on .before in
+    let start = at-loop .before .before .before .before .before .before .before .before .before .before in
+    omega (
+      arith,
+      rule-conjunct (start .pre .1) (at-loop .loop .inv) (sym (at-goes-on .goes-on .ensures) ∙ at-if3 .if3 .taken),
+      at-body-end .body-end .ensures .on,
+    )
 
 call-loop-again : (t : ℕ) → call-lts.Need-loop-again (call-claims t) (call-at t) call.Post call-Inv-loop call-μ-loop
-call-loop-again t c = rule-turn (c .before .before .before .before .before .before .before .before .before .before .before .before .before .before .before .before .before .before .before .pre .1) (c .before .before .before .before .before .before .before .before .before .loop .inv) (sym (c .before .before .before .before .before .before .before .before .goes-on .ensures) ∙ c .before .before .before .before .before .before .before .if3 .taken) (c .before .before .before .before .before .run-body .ensures) (c .before .before .joined .ensures) (c .before .body-end .ensures) (c .sign-at2 .ensures)
+call-loop-again t c =
+    let at-body-end = c .before in
+    let at-joined = at-body-end .before in
+    let at-run-body = at-joined .before .before .before in
+    let at-if3 = at-run-body .before .before in
+    let at-goes-on = at-if3 .before in
+    let at-loop = at-goes-on .before in
+    let start = at-loop .before .before .before .before .before .before .before .before .before .before in
+    rule-turn (start .pre .1) (at-loop .loop .inv) (sym (at-goes-on .goes-on .ensures) ∙ at-if3 .if3 .taken) (at-run-body .run-body .ensures)
+    (at-joined .joined .ensures) (at-body-end .body-end .ensures) (c .sign-at2 .ensures)
 
 call-conclude-requires : (t : ℕ) → call-lts.Need-conclude-requires (call-claims t) (call-at t) call.Post call-Inv-loop call-μ-loop
 call-conclude-requires t c κs = tt
 
 call-code-requires : (t : ℕ) → call-lts.Need-code-requires (call-claims t) (call-at t) call.Post call-Inv-loop call-μ-loop
-call-code-requires t c κs = rule-short (c .before .before .before .before .before .before .before .before .before .before .before .before .before .pre .1) (c .before .before .before .loop .inv) (c .conclude .result) (c .conclude .ensures)
+call-code-requires t c κs =
+    let at-loop = c .before .before .before in
+    let start = at-loop .before .before .before .before .before .before .before .before .before .before in
+    rule-short (start .pre .1) (at-loop .loop .inv) (c .conclude .result) (c .conclude .ensures)
 
 call-mul-memo-2 : (t : ℕ) → call-lts.Need-mul-memo-2 (call-claims t) (call-at t) call.Post call-Inv-loop call-μ-loop
-call-mul-memo-2 t c = omega (arith, index-low (c .before .before .before .before .before .before .before .before .before .before .before .before .before .before .pre .1))
+call-mul-memo-2 t c =
+    let start = c .before .before .before .before .before .before .before .before .before .before .before .before .before .before in
+    omega (arith, index-low (start .pre .1))
 
 call-slice-write-memo-2 : (t : ℕ) → call-lts.Need-slice-write-memo-2 (call-claims t) (call-at t) call.Post call-Inv-loop call-μ-loop
-call-slice-write-memo-2 t c = omega (arith, index-low (c .before .before .before .before .before .before .before .before .before .before .before .before .before .before .pre .1), memo-same (c .before .before .before .before .loop .inv .calling .sound) (c .before .before .before .before .before .before .before .before .before .before .before .before .before .before .pre .1 .given .sound))
+call-slice-write-memo-2 t c =
+    let at-loop = c .before .before .before .before in
+    let start = at-loop .before .before .before .before .before .before .before .before .before .before in
+    omega (arith, index-low (start .pre .1), memo-same (at-loop .loop .inv .calling .sound) (start .pre .1 .given .sound))
 
 call-same-length-2 : (t : ℕ) → call-lts.Need-same-length-2 (call-claims t) (call-at t) call.Post call-Inv-loop call-μ-loop
-call-same-length-2 t c = simp length-set (memo-same (c .before .before .before .before .loop .inv .calling .sound) (c .before .before .before .before .before .before .before .before .before .before .before .before .before .before .pre .1 .given .sound))
+call-same-length-2 t c =
+    let at-loop = c .before .before .before .before in
+    let start = at-loop .before .before .before .before .before .before .before .before .before .before in
+    simp length-set (memo-same (at-loop .loop .inv .calling .sound) (start .pre .1 .given .sound))
 
 call-returns-3 : (t : ℕ) → call-lts.Need-returns-3 (call-claims t) (call-at t) call.Post call-Inv-loop call-μ-loop
 call-returns-3 t c =
@@ -223,10 +299,18 @@ run-body-enum-known-word : (t : ℕ) → run-body-lts.Need-enum-known-word (run-
 run-body-enum-known-word t c = c .match .keys1
 
 run-body-same-length : (t : ℕ) → run-body-lts.Need-same-length (run-body-claims t) (run-body-at t) run-body.Post run-body-Inv-loop run-body-μ-loop
-run-body-same-length t c = memo-same (c .before .before .before .before .loop .inv .sound) (c .before .before .before .before .before .before .before .before .pre .1 .call .given .sound)
+run-body-same-length t c =
+    let at-loop = c .before .before .before .before in
+    let start = at-loop .before .before .before .before in
+    memo-same (at-loop .loop .inv .sound) (start .pre .1 .call .given .sound)
 
 run-body-returns : (t : ℕ) → run-body-lts.Need-returns (run-body-claims t) (run-body-at t) run-body.Post run-body-Inv-loop run-body-μ-loop
-run-body-returns t c = running-done (c .before .before .before .before .before .before .before .before .pre .1) (c .before .before .before .before .loop .inv) _ (c .before .before .before .loop-test .taken) (c .before .decode .ensures) (no-symbol _ (c .match .keys2))
+run-body-returns t c =
+    let at-decode = c .before in
+    let at-loop-test = at-decode .before .before in
+    let at-loop = at-loop-test .before in
+    let start = at-loop .before .before .before .before in
+    running-done (start .pre .1) (at-loop .loop .inv) _ (at-loop-test .loop-test .taken) (at-decode .decode .ensures) (no-symbol _ (c .match .keys2))
 
 run-body-enum-known-symbol : (t : ℕ) → run-body-lts.Need-enum-known-symbol (run-body-claims t) (run-body-at t) run-body.Post run-body-Inv-loop run-body-μ-loop
 run-body-enum-known-symbol t c = c .match2 .keys1
@@ -235,22 +319,60 @@ run-body-matches-requires : (t : ℕ) → run-body-lts.Need-matches-requires (ru
 run-body-matches-requires t c κs = tt
 
 run-body-same-length-2 : (t : ℕ) → run-body-lts.Need-same-length-2 (run-body-claims t) (run-body-at t) run-body.Post run-body-Inv-loop run-body-μ-loop
-run-body-same-length-2 t c = memo-same (c .before .before .before .before .before .before .before .before .before .before .before .loop .inv .sound) (c .before .before .before .before .before .before .before .before .before .before .before .before .before .before .before .pre .1 .call .given .sound)
+run-body-same-length-2 t c =
+    let at-loop = c .before .before .before .before .before .before .before .before .before .before .before in
+    let start = at-loop .before .before .before .before in
+    memo-same (at-loop .loop .inv .sound) (start .pre .1 .call .given .sound)
 
 run-body-returns-2 : (t : ℕ) → run-body-lts.Need-returns-2 (run-body-claims t) (run-body-at t) run-body.Post run-body-Inv-loop run-body-μ-loop
-run-body-returns-2 t c = running-mismatch (c .before .before .before .before .before .before .before .before .before .before .before .before .before .before .before .pre .1) (c .before .before .before .before .before .before .before .before .before .before .before .loop .inv) _ (c .before .before .before .before .before .before .before .before .before .before .loop-test .taken) (sym (c .before .before .before .before .before .before .before .before .decode .ensures) ∙ c .before .before .before .before .before .before .word .given .1 ∙ ap Symbol (c .before .before .before .symbol .given .1)) (sym (c .before .matches .ensures) ∙ not-true _ (c .if1 .taken))
+run-body-returns-2 t c =
+    let at-matches = c .before in
+    let at-symbol = at-matches .before .before in
+    let at-word = at-symbol .before .before .before in
+    let at-decode = at-word .before .before in
+    let at-loop-test = at-decode .before .before in
+    let at-loop = at-loop-test .before in
+    let start = at-loop .before .before .before .before in
+    running-mismatch (start .pre .1) (at-loop .loop .inv) _ (at-loop-test .loop-test .taken)
+    (sym (at-decode .decode .ensures) ∙ at-word .word .given .1 ∙ ap Symbol (at-symbol .symbol .given .1))
+    (sym (at-matches .matches .ensures) ∙ not-true _ (c .if1 .taken))
 
 run-body-add-place : (t : ℕ) → run-body-lts.Need-add-place (run-body-claims t) (run-body-at t) run-body.Post run-body-Inv-loop run-body-μ-loop
-run-body-add-place t c = omega (arith, c .before .before .before .before .before .before .before .before .before .before .before .loop .inv .placed, c .before .before .before .before .before .before .before .before .before .before .before .before .before .before .before .pre .1 .call .given .short)
+run-body-add-place t c =
+    let at-loop = c .before .before .before .before .before .before .before .before .before .before .before in
+    let start = at-loop .before .before .before .before in
+    omega (arith, at-loop .loop .inv .placed, start .pre .1 .call .given .short)
 
 run-body-enum-known-symbol-2 : (t : ℕ) → run-body-lts.Need-enum-known-symbol-2 (run-body-claims t) (run-body-at t) run-body.Post run-body-Inv-loop run-body-μ-loop
 run-body-enum-known-symbol-2 t c = c .match2 .keys2
 
 run-body-cast-call : (t : ℕ) → run-body-lts.Need-cast-call (run-body-claims t) (run-body-at t) run-body.Post run-body-Inv-loop run-body-μ-loop
-run-body-cast-call t c = omega (arith, running-small (c .before .before .before .before .before .before .before .before .before .before .before .before .before .pre .1) (c .before .before .before .before .before .before .before .before .before .loop .inv) _ (c .before .before .before .before .before .before .before .before .loop-test .taken) (sym (c .before .before .before .before .before .before .decode .ensures) ∙ c .before .before .before .before .word .given .1 ∙ ap Symbol (c .before .symbol2 .given .1)))
+run-body-cast-call t c =
+    let at-symbol2 = c .before in
+    let at-word = at-symbol2 .before .before .before in
+    let at-decode = at-word .before .before in
+    let at-loop-test = at-decode .before .before in
+    let at-loop = at-loop-test .before in
+    let start = at-loop .before .before .before .before in
+    omega (
+      arith,
+      running-small (start .pre .1) (at-loop .loop .inv) _ (at-loop-test .loop-test .taken)
+          (sym (at-decode .decode .ensures) ∙ at-word .word .given .1 ∙ ap Symbol (at-symbol2 .symbol2 .given .1)),
+    )
 
 run-body-call-requires : (t : ℕ) → run-body-lts.Need-call-requires (run-body-claims t) (run-body-at t) run-body.Post run-body-Inv-loop run-body-μ-loop
-run-body-call-requires t c κs = (omega (arith, running-falls (c .before .before .before .before .before .before .before .before .before .before .before .before .before .before .pre .1) (c .before .before .before .before .before .before .before .before .before .before .loop .inv) _ (c .before .before .before .before .before .before .before .before .before .loop-test .taken) (sym (c .before .before .before .before .before .before .before .decode .ensures) ∙ c .before .before .before .before .before .word .given .1 ∙ ap Symbol (c .before .before .symbol2 .given .1)), c .before .before .before .before .before .before .before .before .before .before .before .before .before .before .pre .0), running-given (c .before .before .before .before .before .before .before .before .before .before .before .before .before .before .pre .1) (c .before .before .before .before .before .before .before .before .before .before .loop .inv) _ (c .before .before .before .before .before .before .before .before .before .loop-test .taken) (sym (c .before .before .before .before .before .before .before .decode .ensures) ∙ c .before .before .before .before .before .word .given .1 ∙ ap Symbol (c .before .before .symbol2 .given .1)))
+run-body-call-requires t c κs =
+    let at-symbol2 = c .before .before in
+    let at-word = at-symbol2 .before .before .before in
+    let at-decode = at-word .before .before in
+    let at-loop-test = at-decode .before .before in
+    let at-loop = at-loop-test .before in
+    let start = at-loop .before .before .before .before in (
+      omega
+          (arith, running-falls (start .pre .1) (at-loop .loop .inv) _ (at-loop-test .loop-test .taken) (sym (at-decode .decode .ensures) ∙ at-word .word .given .1 ∙ ap Symbol (at-symbol2 .symbol2 .given .1)), start .pre .0),
+      running-given (start .pre .1) (at-loop .loop .inv) _ (at-loop-test .loop-test .taken)
+          (sym (at-decode .decode .ensures) ∙ at-word .word .given .1 ∙ ap Symbol (at-symbol2 .symbol2 .given .1)),
+    )
 
 run-body-enum-known-outcome : (t : ℕ) → run-body-lts.Need-enum-known-outcome (run-body-claims t) (run-body-at t) run-body.Post run-body-Inv-loop run-body-μ-loop
 run-body-enum-known-outcome t c = c .match3 .keys1
@@ -259,10 +381,23 @@ run-body-enum-told : (t : ℕ) → run-body-lts.Need-enum-told (run-body-claims 
 run-body-enum-told t c = c .match3 .keys2
 
 run-body-same-length-3 : (t : ℕ) → run-body-lts.Need-same-length-3 (run-body-claims t) (run-body-at t) run-body.Post run-body-Inv-loop run-body-μ-loop
-run-body-same-length-3 t c = memo-same (c .before .before .before .before .call .ensures .sound) (c .before .before .before .before .before .before .before .before .before .before .before .before .before .before .before .before .before .before .before .pre .1 .call .given .sound)
+run-body-same-length-3 t c =
+    let at-call = c .before .before .before .before in
+    let start = at-call .before .before .before .before .before .before .before .before .before .before .before .before .before .before .before in
+    memo-same (at-call .call .ensures .sound) (start .pre .1 .call .given .sound)
 
 run-body-returns-3 : (t : ℕ) → run-body-lts.Need-returns-3 (run-body-claims t) (run-body-at t) run-body.Post run-body-Inv-loop run-body-μ-loop
-run-body-returns-3 t c = running-failed (c .before .before .before .before .before .before .before .before .before .before .before .before .before .before .before .before .before .before .before .pre .1) (c .before .before .before .before .before .before .before .before .before .before .before .before .before .before .before .loop .inv) _ (c .before .before .before .before .before .before .before .before .before .before .before .before .before .before .loop-test .taken) (sym (c .before .before .before .before .before .before .before .before .before .before .before .before .decode .ensures) ∙ c .before .before .before .before .before .before .before .before .before .before .word .given .1 ∙ ap Symbol (c .before .before .before .before .before .before .before .symbol2 .given .1)) (c .before .before .before .before .call .ensures) (c .enum-told .given .1)
+run-body-returns-3 t c =
+    let at-call = c .before .before .before .before in
+    let at-symbol2 = at-call .before .before .before in
+    let at-word = at-symbol2 .before .before .before in
+    let at-decode = at-word .before .before in
+    let at-loop-test = at-decode .before .before in
+    let at-loop = at-loop-test .before in
+    let start = at-loop .before .before .before .before in
+    running-failed (start .pre .1) (at-loop .loop .inv) _ (at-loop-test .loop-test .taken)
+    (sym (at-decode .decode .ensures) ∙ at-word .word .given .1 ∙ ap Symbol (at-symbol2 .symbol2 .given .1)) (at-call .call .ensures)
+    (c .enum-told .given .1)
 
 run-body-add-at : (t : ℕ) → run-body-lts.Need-add-at (run-body-claims t) (run-body-at t) run-body.Post run-body-Inv-loop run-body-μ-loop
 run-body-add-at t c = omega arith

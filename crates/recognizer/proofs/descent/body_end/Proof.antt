@@ -48,7 +48,12 @@ loop-less c = omega arith
 
 -- src/descent.rt:80:5
 loop-again : tie.Need-loop-again Inv-loop μ-loop
-loop-again c = skipped-symbol (c .before .before .before .before .before .loop .inv) (c .before .before .before .before .loop-test .taken) (c .before .before .decode .ensures) (c .before .match .keys1)
+loop-again c =
+    let at-match = c .before in
+    let at-decode = at-match .before in
+    let at-loop-test = at-decode .before .before in
+    let at-loop = at-loop-test .before in
+    skipped-symbol (at-loop .loop .inv) (at-loop-test .loop-test .taken) (at-decode .decode .ensures) (at-match .match .keys1)
 
 -- src/descent.rt:75:1
 returns-2 : tie.Need-returns-2 Inv-loop μ-loop

@@ -45,7 +45,10 @@ mul-result-3 c = let q = placed (c .before .before .before .before .pre) (c .col
 
 -- src/descent.rt:205:5
 element-copy-out-result : tie.Need-element-copy-out-result
-element-copy-out-result c = let q = placed (c .before .before .before .before .pre) (c .column .ensures) in omega (arith, q .row-fits, q .two, q .column)
+element-copy-out-result c =
+    let start = c .before .before .before .before in
+    let q = placed (start .pre) (c .column .ensures) in
+    omega (arith, q .row-fits, q .two, q .column)
 
 -- src/descent.rt:197:1
 returns : tie.Need-returns

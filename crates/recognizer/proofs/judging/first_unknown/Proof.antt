@@ -30,7 +30,12 @@ cast-if1 c = omega (arith, c .shared-slice-known .given (c .before .before .loop
 
 -- src/judging.rt:26:13
 returns : tie.Need-returns Inv-loop μ-loop
-returns c = unknown-here (c .before .before .before .before .args .terminals) (c .before .before .before .before .args .input .now) (c .before .before .before .loop .at) (c .before .before .loop-test .taken) (c .if1 .taken) ∙ c .before .before .before .loop .inv
+returns c =
+    let at-loop-test = c .before .before in
+    let at-loop = at-loop-test .before in
+    let start = at-loop .before in
+    unknown-here (start .args .terminals) (start .args .input .now) (at-loop .loop .at) (at-loop-test .loop-test .taken) (c .if1 .taken) ∙
+    at-loop .loop .inv
 
 -- src/judging.rt:28:14
 add-at : tie.Need-add-at Inv-loop μ-loop
@@ -42,11 +47,18 @@ loop-less c = omega arith
 
 -- src/judging.rt:24:5
 loop-again : tie.Need-loop-again Inv-loop μ-loop
-loop-again c = unknown-next (c .before .before .before .before .args .terminals) (c .before .before .before .before .args .input .now) (c .before .before .before .loop .at) (c .before .before .loop-test .taken) (c .if1 .left) ∙ c .before .before .before .loop .inv
+loop-again c =
+    let at-loop-test = c .before .before in
+    let at-loop = at-loop-test .before in
+    let start = at-loop .before in
+    unknown-next (start .args .terminals) (start .args .input .now) (at-loop .loop .at) (at-loop-test .loop-test .taken) (c .if1 .left) ∙
+    at-loop .loop .inv
 
 -- src/judging.rt:20:1
 returns-2 : tie.Need-returns-2 Inv-loop μ-loop
-returns-2 c = unknown-none (c .before .before .args .terminals) (c .before .before .args .input .now) (c .before .loop .at) (c .loop-test .left) ∙ c .before .loop .inv
+returns-2 c =
+    unknown-none (c .before .before .args .terminals) (c .before .before .args .input .now) (c .before .loop .at) (c .loop-test .left) ∙
+    c .before .loop .inv
 
 pub first-unknown-spec : {M : Type 1} → statement M
 first-unknown-spec =

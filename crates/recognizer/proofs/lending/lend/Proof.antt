@@ -24,10 +24,20 @@ add-count : tie.Need-add-count Inv-loop μ-loop
 add-count c = omega (arith, c .before .before .pre .fewTerminals)
 
 mul-count : tie.Need-mul-count Inv-loop μ-loop
-mul-count c = omega (arith, count-low (c .before .before .args .table .now) (c .before .before .args .entries .now) (c .before .before .args .sizes) (c .before .before .pre))
+mul-count c =
+    omega (
+      arith,
+      count-low (c .before .before .args .table .now) (c .before .before .args .entries .now) (c .before .before .args .sizes)
+          (c .before .before .pre),
+    )
 
 loop-holds : tie.Need-loop-holds Inv-loop μ-loop
-loop-holds c = (count-low (c .before .before .args .table .now) (c .before .before .args .entries .now) (c .before .before .args .sizes) (c .before .before .pre), omega arith, refl, refl)
+loop-holds c = (
+  count-low (c .before .before .args .table .now) (c .before .before .args .entries .now) (c .before .before .args .sizes) (c .before .before .pre),
+  omega arith,
+  refl,
+  refl,
+)
 
 mul-table : tie.Need-mul-table Inv-loop μ-loop
 mul-table c = omega arith
@@ -48,13 +58,25 @@ loop-less : tie.Need-loop-less Inv-loop μ-loop
 loop-less c = omega arith
 
 loop-again : tie.Need-loop-again Inv-loop μ-loop
-loop-again c = (omega arith, omega arith, simp length-set (c .before .before .loop .inv .2), front-more (c .before .before .before .before .before .args .entries .now) (c .before .before .before .before .before .args .table .now) (c .before .before .loop .table) (c .before .before .loop .i) (c .before .before .loop .inv .3) (omega (arith, c .before .before .before .before .before .pre .whole)) (omega (arith, c .before .before .before .before .before .pre .long)))
+loop-again c =
+    let at-loop = c .before .before in
+    let start = at-loop .before .before .before in (
+      omega arith,
+      omega arith,
+      simp length-set (at-loop .loop .inv .2),
+      front-more (start .args .entries .now) (start .args .table .now)
+          (at-loop .loop .table) (at-loop .loop .i) (at-loop .loop .inv .3) (omega (arith, start .pre .whole)) (omega (arith, start .pre .long)),
+    )
 
 same-length : tie.Need-same-length Inv-loop μ-loop
 same-length c = c .before .loop .inv .2
 
 returns : tie.Need-returns Inv-loop μ-loop
-returns c = let e : c .before .loop .i ≡ wordCount (c .before .before .before .before .args .sizes) = omega arith in record { words = c .before .loop .inv .3 ∙ rw e }
+returns c =
+    let at-loop = c .before in
+    let start = at-loop .before .before .before in
+    let e : at-loop .loop .i ≡ wordCount (start .args .sizes) = omega arith in
+    record { words = at-loop .loop .inv .3 ∙ rw e }
 
 pub lend-spec : {M : Type 1} → statement M
 lend-spec =
