@@ -33,10 +33,14 @@ same-length c = search needs
 
 returns-3 : tie.Need-returns-3
 returns-3 c =
-    let given = c .before .before .before .before .before .before .before .before .before .before .before .before .before .args in
-    check-passed (given .words .now) (given .table .now) (c .before .before .before .before .before .before .before .before .before .before .if1 .left)
-    (found (given .words .now) (c .before .before .before .before .before .before .before .before .before .analyze .ensures) (c .before .before .before .before .before .before .finding2 .given .1))
-    (c .before .before .lend .ensures)
+    let at-lend = c .before .before in
+    let at-finding2 = at-lend .before .before .before .before in
+    let at-analyze = at-finding2 .before .before .before in
+    let at-if1 = at-analyze .before in
+    let start = at-if1 .before .before .before in
+    let given = start .args in
+    check-passed (given .words .now) (given .table .now) (at-if1 .if1 .left)
+    (found (given .words .now) (at-analyze .analyze .ensures) (at-finding2 .finding2 .given .1)) (at-lend .lend .ensures)
 
 pub check-spec : {M : Type 1} → statement M
 check-spec =

@@ -35,16 +35,26 @@ same-length c = search needs
 
 returns : tie.Need-returns
 returns c =
-    let s = c .before .before .before .before .before .before .before .before .before .before .before .before .before in
-    judgement-judged (found (c .before .before .before .before .before .before .before .before .load .ensures) (c .before .before .before .before .before .before .loaded .given .1) (length-replicate {A = ℕ} 2048 0)) (s .args .input .now) (c .before .before .put-judged .ensures)
+    let at-put-judged = c .before .before in
+    let at-loaded = at-put-judged .before .before .before .before in
+    let at-load = at-loaded .before .before in
+    let at-before = at-load .before .before .before .before in
+    let s = at-before .before in
+    judgement-judged (found (at-load .load .ensures) (at-loaded .loaded .given .1) (length-replicate {A = ℕ} 2048 0)) (s .args .input .now)
+    (at-put-judged .put-judged .ensures)
 
 same-length-2 : tie.Need-same-length-2
 same-length-2 c = search needs
 
 returns-2 : tie.Need-returns-2
 returns-2 c =
-    let s = c .before .before .before .before .before .before .before .before .before .before .before in
-    judgement-refused (s .args .card .now) (s .args .input .now) (not-found (c .before .before .before .before .before .before .load .ensures) (c .before .before .before .before .enum-told .given .1)) (c .before .before .put-refusal .ensures)
+    let at-put-refusal = c .before .before in
+    let at-enum-told = at-put-refusal .before .before in
+    let at-load = at-enum-told .before .before in
+    let at-before = at-load .before .before .before .before in
+    let s = at-before .before in
+    judgement-refused (s .args .card .now) (s .args .input .now) (not-found (at-load .load .ensures) (at-enum-told .enum-told .given .1))
+    (at-put-refusal .put-refusal .ensures)
 
 pub judgement-spec : {M : Type 1} → statement M
 judgement-spec =

@@ -35,16 +35,25 @@ same-length c = search needs
 
 returns : tie.Need-returns
 returns c =
-    let s = c .before .before .before .before .before .before .before .before .before .before .before .before in
-    sheet-checked (found (c .before .before .before .before .before .before .before .before .load .ensures) (c .before .before .before .before .before .before .loaded .given .1) (length-replicate {A = ℕ} 2048 0)) (c .before .before .put-checked .ensures)
+    let at-put-checked = c .before .before in
+    let at-loaded = at-put-checked .before .before .before .before in
+    let at-load = at-loaded .before .before in
+    let at-before = at-load .before .before .before in
+    let s = at-before .before in
+    sheet-checked (found (at-load .load .ensures) (at-loaded .loaded .given .1) (length-replicate {A = ℕ} 2048 0))
+    (at-put-checked .put-checked .ensures)
 
 same-length-2 : tie.Need-same-length-2
 same-length-2 c = search needs
 
 returns-2 : tie.Need-returns-2
 returns-2 c =
-    let s = c .before .before .before .before .before .before .before .before .before .before in
-    sheet-refused (s .args .card .now) (not-found (c .before .before .before .before .before .before .load .ensures) (c .before .before .before .before .enum-told .given .1)) (c .before .before .put-refusal .ensures)
+    let at-put-refusal = c .before .before in
+    let at-enum-told = at-put-refusal .before .before in
+    let at-load = at-enum-told .before .before in
+    let at-before = at-load .before .before .before in
+    let s = at-before .before in
+    sheet-refused (s .args .card .now) (not-found (at-load .load .ensures) (at-enum-told .enum-told .given .1)) (at-put-refusal .put-refusal .ensures)
 
 pub sheet-spec : {M : Type 1} → statement M
 sheet-spec =

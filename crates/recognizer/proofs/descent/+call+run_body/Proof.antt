@@ -270,10 +270,16 @@ call-same-length-2 t c =
 
 call-returns-3 : (t : ℕ) → call-lts.Need-returns-3 (call-claims t) (call-at t) call.Post call-Inv-loop call-μ-loop
 call-returns-3 t c =
-    let rule = c .before .before .before .before .loop .inv in
-    let stops = sym (c .before .before .before .goes-on .ensures) ∙ c .before .before .if3 .left in
-    call-stored (c .before .before .before .before .before .before .before .before .before .before .before .before .before .before .pre .1) (c .before .before .before .before .before .before .before .before .before .if1 .left) (some (rule .rule)) (rule .selected)
-    (rule-done (c .before .before .before .before .before .before .before .before .before .before .before .before .before .before .pre .1) rule stops (c .before .conclude .result) (c .before .conclude .ensures)) (c .code .ensures)
+    let at-conclude = c .before in
+    let at-if3 = at-conclude .before in
+    let at-goes-on = at-if3 .before in
+    let at-loop = at-goes-on .before in
+    let at-if1 = at-loop .before .before .before .before .before in
+    let start = at-if1 .before .before .before .before .before in
+    let rule = at-loop .loop .inv in
+    let stops = sym (at-goes-on .goes-on .ensures) ∙ at-if3 .if3 .left in
+    call-stored (start .pre .1) (at-if1 .if1 .left) (some (rule .rule)) (rule .selected)
+    (rule-done (start .pre .1) rule stops (at-conclude .conclude .result) (at-conclude .conclude .ensures)) (c .code .ensures)
 
 abbrev run-body-Inv-loop : run-body-lts.InvT-loop
 run-body-Inv-loop nonterminal words starts table input memo₀ from start at₀ place₀ memo at place =

@@ -39,7 +39,8 @@ returns c =
     let called = tallied .before .before .before .before .before in
     let cleared = called .before .before .before .before .before .before in
     let start = cleared .before .before .before .before .before in
-    descended (start .pre) (cleared .clear .ensures) (called .call .ensures) (tallied .tally .ensures) (c .before .ends-at .ensures) (rw (c .if1 .taken))
+    descended (start .pre) (cleared .clear .ensures) (called .call .ensures) (tallied .tally .ensures) (c .before .ends-at .ensures)
+    (rw (c .if1 .taken))
 
 same-length-2 : tie.Need-same-length-2
 same-length-2 c = search needs
@@ -50,7 +51,8 @@ returns-2 c =
     let called = tallied .before .before .before .before .before in
     let cleared = called .before .before .before .before .before .before in
     let start = cleared .before .before .before .before .before in
-    descended (start .pre) (cleared .clear .ensures) (called .call .ensures) (tallied .tally .ensures) (c .before .ends-at .ensures) (rw (c .if1 .left))
+    descended (start .pre) (cleared .clear .ensures) (called .call .ensures) (tallied .tally .ensures) (c .before .ends-at .ensures)
+    (rw (c .if1 .left))
 
 pub descend-spec : {M : Type 1} → statement M
 descend-spec =

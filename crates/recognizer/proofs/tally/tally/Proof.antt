@@ -37,9 +37,15 @@ loop-less c = omega arith
 
 loop-again : tie.Need-loop-again Inv-loop μ-loop
 loop-again c =
-    let args = c .before .before .before .before .before .args in
-    let loop = c .before .before .before .loop in
-    (omega arith, c .together .ensures ∙ rows-more (args .memo .now) (args .tokens) (loop .nonterminal) (loop .inv .1) (c .before .tally-row .ensures))
+    let at-tally-row = c .before in
+    let at-loop = at-tally-row .before .before in
+    let start = at-loop .before .before in
+    let args = start .args in
+    let loop = at-loop .loop in (
+      omega arith,
+      c .together .ensures ∙ rows-more (args .memo .now) (args .tokens) (loop .nonterminal) (loop .inv .1)
+          (at-tally-row .tally-row .ensures),
+    )
 
 returns : tie.Need-returns Inv-loop μ-loop
 returns c =

@@ -48,9 +48,13 @@ loop-less c = omega arith
 
 loop-again : tie.Need-loop-again Inv-loop μ-loop
 loop-again c =
-    let args = c .before .before .before .before .before .before .args in
-    let loop = c .before .before .before .before .loop in
-    let more = row-more (args .memo .now) (args .tokens) (args .nonterminal) (loop .place) (omega arith) (loop .inv .1) (c .before .tally-entry .ensures) in
+    let at-tally-entry = c .before in
+    let at-loop = at-tally-entry .before .before .before in
+    let start = at-loop .before .before in
+    let args = start .args in
+    let loop = at-loop .loop in
+    let more = row-more (args .memo .now) (args .tokens) (args .nonterminal) (loop .place) (omega arith) (loop .inv .1)
+    (at-tally-entry .tally-entry .ensures) in
     (omega arith, c .together .ensures ∙ more)
 
 returns : tie.Need-returns Inv-loop μ-loop
