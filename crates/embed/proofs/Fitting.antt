@@ -122,7 +122,8 @@ unpacks {r} n f e = record {
   farthest = omega (arith, e, f .verdict, f .number, f .place, f .count, f .farthest);
 }
 
-pub check-exported : {words before after : List ℕ} {a : Answer} {r : ℕ} → Checks words before a after → r ≡ packed (numbers a) → CheckExported words before r after
+pub check-exported : {words before after : List ℕ} {a : Answer} {r : ℕ} → Checks words before a after → r ≡ packed (numbers a)
+    → CheckExported words before r after
 check-exported {a = a} c e = record { answer = a; checks = c; packs = e; unpacks = unpacks (numbers a) (check-fits c) e }
 
 pub judge-exported : {words input table memo table′ memo′ : List ℕ} {a : Answer} {r : ℕ} → Judges words input table memo a table′ memo′ → r ≡ packed (numbers a)

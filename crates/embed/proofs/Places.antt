@@ -139,7 +139,8 @@ fault-low : (words : List ℕ) → LowFault maxWords (fault words)
 unfolding fault grammarFault
 fault-low words = go (reading words) refl (reading-low words)
   where
-    go : (o : Outcome) → reading words ≡ o → LowOutcome maxWords o → LowFault maxWords (firstFault (readingFault o) (firstFault (leftFault (lowestLeftRecursive (grammarOf words))) (clashFault (grammarOf words .terminals) (clashes (grammarOf words) 1))))
+    go : (o : Outcome) → reading words ≡ o → LowOutcome maxWords o
+        → LowFault maxWords (firstFault (readingFault o) (firstFault (leftFault (lowestLeftRecursive (grammarOf words))) (clashFault (grammarOf words .terminals) (clashes (grammarOf words) 1))))
     go (Faulty e) q l = some-low maxWords e (l .low e refl)
     go (Read z) q l =
         let r = well-read words z q in

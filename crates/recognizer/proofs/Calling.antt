@@ -224,7 +224,8 @@ module _ {words starts table input memo₀ : List ℕ} {A place : ℕ} (g : Call
             joins = λ n m′ o run. rw (ps, ns, s) (join agreed (rw s at goes) n m′ o run);
           }
         where
-          join : (a : Agreement) → goesOn Positive a ≡ true → (n : ℕ) (m′ : List ℕ) (o : Outcome) → memoRun (deep words input n) input (Q .body) place memo ≡ memoized o m′
+          join : (a : Agreement) → goesOn Positive a ≡ true → (n : ℕ) (m′ : List ℕ) (o : Outcome)
+              → memoRun (deep words input n) input (Q .body) place memo ≡ memoized o m′
               → memoRest (deep words input n) input place a (Q .body ∷ Q .positives) (Q .negatives) memo
               ≡ memoRest (deep words input n) input place (joinedBy Positive a o) (Q .positives) (Q .negatives) m′
           join agreement.Open t n m′ o run = positive-opens (deep words input n) input place (Q .body) (Q .negatives) memo m′ o run (Q .positives)

@@ -153,12 +153,14 @@ unfolding checkFault
 check-short {words} {before} h = checks (rw (lt-ltb (length before) memoryWords h)) (rw (lt-ltb (length before) memoryWords h))
 
 -- what is found tells the fault
-found-refused : (o : Outcome) (g : Option Error) (x : Error) → findingOf (firstFault (readingFault o) g) o ≡ finding.Refused x → firstFault (readingFault o) g ≡ some x
+found-refused : (o : Outcome) (g : Option Error) (x : Error) → findingOf (firstFault (readingFault o) g) o ≡ finding.Refused x
+    → firstFault (readingFault o) g ≡ some x
 found-refused (Faulty y) g x q = let z : y ≡ x = cc in ap some z
 found-refused (Read z) none x q = let n : _≡_ {A = ℕ} 0 1 = cc in absurd (omega arith)
 found-refused (Read z) (some y) x q = let z : y ≡ x = cc in ap some z
 
-found-passed : (o : Outcome) (g : Option Error) (z : Sizes) → findingOf (firstFault (readingFault o) g) o ≡ finding.Passed z → (firstFault (readingFault o) g ≡ none) × (o ≡ Read z)
+found-passed : (o : Outcome) (g : Option Error) (z : Sizes) → findingOf (firstFault (readingFault o) g) o ≡ finding.Passed z
+    → (firstFault (readingFault o) g ≡ none) × (o ≡ Read z)
 found-passed (Faulty y) g z q = let n : _≡_ {A = ℕ} 0 1 = cc in absurd (omega arith)
 found-passed (Read y) none z q = let e : y ≡ z = cc in (refl, ap Read e)
 found-passed (Read y) (some x) z q = let n : _≡_ {A = ℕ} 0 1 = cc in absurd (omega arith)

@@ -34,7 +34,8 @@ column-look : (n : ℕ) (w : List ℕ) → Over n w → (i : ℕ) → (columnAt 
 unfolding columnAt columnString look
 column-look n w h i = go (decLt i (length w))
   where
-    go : Dec (i < length w) → (choose (ltb i (length w)) (getD w i 0) n < suc n) × (choose (eqb (choose (ltb i (length w)) (getD w i 0) n) n) [] (choose (ltb i (length w)) (getD w i 0) n ∷ []) ≡ take 1 (drop i w))
+    go : Dec (i < length w)
+        → (choose (ltb i (length w)) (getD w i 0) n < suc n) × (choose (eqb (choose (ltb i (length w)) (getD w i 0) n) n) [] (choose (ltb i (length w)) (getD w i 0) n ∷ []) ≡ take 1 (drop i w))
     go (yes l) =
         let t = token-below n w h i l in
         rw (lt-ltb i (length w) l, ne-eqb (getD w i 0) n (λ e. absurd (omega arith)), drop-cons w i 0 l) (omega arith, refl)
@@ -80,5 +81,6 @@ module _ {words table input : List ℕ} {A place : ℕ} (g : ChosenGiven words t
       rw (tells .nonterminals, tells .terminals, add-one) (at ∙ ap (λ x. entryWord (tableOf (grammarOf words) 1 A x)) (ap (columnString (grammarOf words .terminals)) d ∙ k .1))
 
 -- a call has what choosing its rule asks
-pub chosen-given : {words starts table input memo : List ℕ} {A place : ℕ} → CallGiven words starts table input memo A place → ChosenGiven words table input A place
+pub chosen-given : {words starts table input memo : List ℕ} {A place : ℕ} → CallGiven words starts table input memo A place
+    → ChosenGiven words table input A place
 chosen-given g = record { sizes = g .given .sizes; read = g .given .read; entries = g .given .entries; tokens = g .given .tokens; named = g .named }

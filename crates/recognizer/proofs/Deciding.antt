@@ -146,7 +146,8 @@ module _ {words : List ℕ} {z : Sizes} {entries input memo : List ℕ} (g : Des
     pub memo-long : length memo′ ≡ z .nonterminals * (length input + 1)
     memo-long = d .sound .size ∙ rw (r .nonterminals, add-one (length input))
 
-    pub descended : {c : Calls} {t : Bool} {a : Answer} → c ≡ tallyOf (recordedCalls memo′ (z .nonterminals) (length input)) → t ≡ endsAt (meant o) (length input)
+    pub descended : {c : Calls} {t : Bool} {a : Answer} → c ≡ tallyOf (recordedCalls memo′ (z .nonterminals) (length input))
+        → t ≡ endsAt (meant o) (length input)
         → a ≡ choose t (Accepted c) (Rejected c) → Descended words input a memo′
     unfolding verdictOf accepts
     descended {c} {t} {a} tallied told e =

@@ -113,7 +113,8 @@ judged-checked words input table memo e =
     (unless (ltb maxTokens (length input)) InputTooLong ∷ unknownFault (unknownFrom (grammarOf words .terminals) 0 input) ∷ []) e
 
 -- and is read and not too long
-readable-first : (a b c : Option Error) (t : Bool) (x : Error) (l : List (Option Error)) → firstOf (a ∷ b ∷ c ∷ unless t x ∷ l) ≡ none → (c ≡ none) × (t ≡ false)
+readable-first : (a b c : Option Error) (t : Bool) (x : Error) (l : List (Option Error)) → firstOf (a ∷ b ∷ c ∷ unless t x ∷ l) ≡ none
+    → (c ≡ none) × (t ≡ false)
 readable-first none none none false x l e = (refl, refl)
 readable-first none none none true x l e = let z : _≡_ {A = ℕ} 0 1 = cc in absurd (omega arith)
 readable-first none none (some y) t x l e = let z : _≡_ {A = ℕ} 0 1 = cc in absurd (omega arith)
@@ -128,7 +129,8 @@ judged-readable words input table memo e =
     (k .0, ltb-false maxTokens (length input) (k .1))
 
 -- a verdict by a test tells the test
-verdict-tells : {r : Answer} (b : Bool) (c : Calls) → r ≡ choose b (Accepted c) (Rejected c) → ((r ≡ Accepted c) ↔ (b ≡ true)) × ((r ≡ Rejected c) ↔ (b ≡ false))
+verdict-tells : {r : Answer} (b : Bool) (c : Calls) → r ≡ choose b (Accepted c) (Rejected c)
+    → ((r ≡ Accepted c) ↔ (b ≡ true)) × ((r ≡ Rejected c) ↔ (b ≡ false))
 verdict-tells true c e = ((λ q. refl, λ q. e), (λ q. let z : _≡_ {A = ℕ} 0 1 = cc in absurd (omega arith), λ q. absurd (true≢false q)))
 verdict-tells false c e = ((λ q. let z : _≡_ {A = ℕ} 0 1 = cc in absurd (omega arith), λ q. absurd (false≢true q)), (λ q. refl, λ q. e))
 

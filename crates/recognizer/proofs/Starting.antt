@@ -151,7 +151,8 @@ module _ {words starts table input memo : List ℕ} {A place : ℕ} (g : CallGiv
   unfolding select
   select-none e = rw e
 
-  pub start-rule : (q : ℕ) (k : Chosen q) {sign : Sign} → sign ≡ signAt words (getD starts q 0 + 1) → InRule words input memo A place memo (getD starts q 0 + 1) sign agreement.Open
+  pub start-rule : (q : ℕ) (k : Chosen q) {sign : Sign} → sign ≡ signAt words (getD starts q 0 + 1)
+      → InRule words input memo A place memo (getD starts q 0 + 1) sign agreement.Open
   start-rule q k s = record { rule = k .rule; listed = k .listed; heads = k .heads; selected = k .selected; calling = calling-start q k s }
 
 -- without a rule a call fails

@@ -40,13 +40,15 @@ pub memo-same : {words input memo memo′ : List ℕ} → MemoSound words input 
 memo-same m m′ = m .size ∙ sym (m′ .size)
 
 -- the two ways to say that a memo table is sound
-sound-out : {words input memo : List ℕ} → MemoSound words input memo → Sound (grammarOf words) input (descend (grammarOf words) (tableOf (grammarOf words) 1) 1 input) (λ _. Unit {0}) memo
+sound-out : {words input memo : List ℕ} → MemoSound words input memo
+    → Sound (grammarOf words) input (descend (grammarOf words) (tableOf (grammarOf words) 1) 1 input) (λ _. Unit {0}) memo
 sound-out {words} {input} {memo} m = record {
   size = m .size;
   right = λ x h. (m .right x (h .0) (λ e. T-not (eqb (entry input memo x) uncalledCode) (h .1) (rw e tt)), tt);
 }
 
-sound-in : {words input memo : List ℕ} → Sound (grammarOf words) input (descend (grammarOf words) (tableOf (grammarOf words) 1) 1 input) (λ _. Unit {0}) memo → MemoSound words input memo
+sound-in : {words input memo : List ℕ} → Sound (grammarOf words) input (descend (grammarOf words) (tableOf (grammarOf words) 1) 1 input) (λ _. Unit {0}) memo
+    → MemoSound words input memo
 sound-in {words} {input} {memo} m = record {
   size = m .size;
   right = λ x r n. m .right x (r, not-T (eqb (entry input memo x) uncalledCode) (λ t. n (eqb→eq (entry input memo x) uncalledCode t))) .0;
@@ -110,7 +112,8 @@ module _ {words starts table input memo : List ℕ} {A place : ℕ} (g : CallGiv
 
   module _ (fresh : getD memo (A * (length input + 1) + place) 0 ≡ uncalledCode) where
     -- a rule, or none, has been run, and the outcome is stored
-    pub call-stored : (x : Option Rule) → select (grammarOf words) (tableOf (grammarOf words) 1 A (look 1 input place)) ≡ x → {o : code.Outcome} {memo₁ : List ℕ} {v : ℕ}
+    pub call-stored : (x : Option Rule) → select (grammarOf words) (tableOf (grammarOf words) 1 A (look 1 input place)) ≡ x
+        → {o : code.Outcome} {memo₁ : List ℕ} {v : ℕ}
         → ((n : ℕ) → level words input A place ≤ n → memoObey (deep words input n) input x place memo ≡ memoized (meant o) memo₁)
         → v ≡ encode (meant o) → CallDone words input memo A place o (set memo₁ (A * (length input + 1) + place) v)
     unfolding memoCall pick stored

@@ -73,6 +73,7 @@ pub record Judges (words input table memo : List ℕ) (r : Answer) (table′ mem
   pub lent-table : table′ ≡ lentBack (judgeFault (length table) (length memo) words input) (tableWords (grammarOf words)) table
   pub lent-memo : memo′ ≡ lentBack (judgeFault (length table) (length memo) words input) (memoWords (grammarOf words) input) memo
   -- where judging is not refused, the table is as checking leaves it
-  pub as-checked : judgeFault (length table) (length memo) words input ≡ none → (c : Answer) (checked : List ℕ) → Checks words table c checked → table′ ≡ checked
+  pub as-checked : judgeFault (length table) (length memo) words input ≡ none → (c : Answer) (checked : List ℕ) → Checks words table c checked
+      → table′ ≡ checked
   -- where the memories are long enough, each passed grammar and readable input is judged by its one meaning, whatever the memories held
   pub recognizes : memoryWords ≤ length table → memoEntries ≤ length memo → PassedGrammar words → Readable words input → Recognizes words input r

@@ -43,7 +43,8 @@ module _ {l m : List ℕ} {k : ℕ} where
   unfolding checkedText
   put-checked-text size c p = rw (← size, ← c .answer, ← c .table) p
 
-  pub put-judged-text : {words input table table′ memo : List ℕ} {answer : Answer} {nonterminals tokens : ℕ} → length table ≡ memoryWords → length blankMemo ≡ memoEntries
+  pub put-judged-text : {words input table table′ memo : List ℕ} {answer : Answer} {nonterminals tokens : ℕ} → length table ≡ memoryWords
+      → length blankMemo ≡ memoEntries
       → nonterminals ≡ nonterminalsOf (reading words) → tokens ≡ tokensOf input → Judges words input table blankMemo answer table′ memo
       → Put l 0 (judgementText answer nonterminals tokens memo) m k → Put l 0 (judgedText words input) m k
   unfolding judgedText

@@ -295,7 +295,8 @@ run-body-loop-holds t c = running-start (c .before .before .before .pre .1)
 run-body-mul-decode : (t : ℕ) → run-body-lts.Need-mul-decode (run-body-claims t) (run-body-at t) run-body.Post run-body-Inv-loop run-body-μ-loop
 run-body-mul-decode t c = omega arith
 
-run-body-shared-slice-read-decode : (t : ℕ) → run-body-lts.Need-shared-slice-read-decode (run-body-claims t) (run-body-at t) run-body.Post run-body-Inv-loop run-body-μ-loop
+run-body-shared-slice-read-decode : (t : ℕ)
+    → run-body-lts.Need-shared-slice-read-decode (run-body-claims t) (run-body-at t) run-body.Post run-body-Inv-loop run-body-μ-loop
 run-body-shared-slice-read-decode t c = omega arith
 
 run-body-decode-requires : (t : ℕ) → run-body-lts.Need-decode-requires (run-body-claims t) (run-body-at t) run-body.Post run-body-Inv-loop run-body-μ-loop
@@ -349,7 +350,8 @@ run-body-add-place t c =
     let start = at-loop .before .before .before .before in
     omega (arith, at-loop .loop .inv .placed, start .pre .1 .call .given .short)
 
-run-body-enum-known-symbol-2 : (t : ℕ) → run-body-lts.Need-enum-known-symbol-2 (run-body-claims t) (run-body-at t) run-body.Post run-body-Inv-loop run-body-μ-loop
+run-body-enum-known-symbol-2 : (t : ℕ)
+    → run-body-lts.Need-enum-known-symbol-2 (run-body-claims t) (run-body-at t) run-body.Post run-body-Inv-loop run-body-μ-loop
 run-body-enum-known-symbol-2 t c = c .match2 .keys2
 
 run-body-cast-call : (t : ℕ) → run-body-lts.Need-cast-call (run-body-claims t) (run-body-at t) run-body.Post run-body-Inv-loop run-body-μ-loop
