@@ -1,0 +1,38 @@
+//! Runs the twin over the recorded rows of tests/vectors and tells where its texts differ.
+
+use compare::text;
+use std::{fs, path::Path, process::ExitCode};
+
+fn bytes_of(field: &str) -> Vec<u8> {
+    let digits = if field == "-" { "" } else { field };
+    (0..digits.len() / 2).map(|i| u8::from_str_radix(&digits[2 * i..2 * i + 2], 16).expect("hex digits")).collect()
+}
+
+fn main() -> ExitCode {
+    let mut all_agree = true;
+    for name in ["sheet", "judge"] {
+        let path = Path::new(env!("CARGO_MANIFEST_DIR")).join(format!("../tests/vectors/{name}.txt"));
+        let rows = fs::read_to_string(&path).expect("the recorded rows");
+        let (mut run, mut wrong) = (0, 0);
+        for (number, row) in rows.lines().enumerate() {
+            if row.trim().is_empty() || row.starts_with('#') {
+                continue;
+            }
+            let fields: Vec<&str> = row.split('|').map(str::trim).collect();
+            let (printed, expected) = match fields[..] {
+                [card, expected] => (text::sheet(&bytes_of(card)), expected),
+                [card, log, expected] => (text::judgement(&bytes_of(card), &bytes_of(log)), expected),
+                _ => panic!("{name}.txt:{}: not a row", number + 1),
+            };
+            let printed = printed.trim_end().replace('\n', "/");
+            run += 1;
+            if printed != expected {
+                wrong += 1;
+                println!("{name}.txt:{}: expected {expected}, printed {printed}", number + 1);
+            }
+        }
+        println!("{name}: {run} rows, {wrong} differ");
+        all_agree &= wrong == 0;
+    }
+    if all_agree { ExitCode::SUCCESS } else { ExitCode::FAILURE }
+}

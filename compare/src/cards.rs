@@ -1,0 +1,1 @@
+//! Random and damaged cards and logs.

@@ -1,0 +1,60 @@
+//! The texts that the two programs print, made from the twin's answers.
+
+use crate::twin::{self, Grammar, Outcome, Verdict, MAX_TOKENS, MAX_WORDS, MEMO_ENTRIES, NO_RULE, NOT_CALLED, FAILED, TABLE_WORDS};
+use std::fmt::Write;
+
+/// The words of a file, low byte first; none if it is not made of 4-byte words, or of too many.
+fn words_of(file: &[u8]) -> Option<Vec<u32>> {
+    if file.len() % 4 != 0 || file.len() > 4 * MAX_WORDS {
+        return None;
+    }
+    Some(file.chunks_exact(4).map(|word| u32::from_le_bytes([word[0], word[1], word[2], word[3]])).collect())
+}
+
+fn refused(outcome: Outcome) -> String {
+    format!("refused {} {}\n", outcome.code, outcome.position)
+}
+
+/// What the program sheet prints for a card's bytes.
+pub fn sheet(card: &[u8]) -> String {
+    let Some(words) = words_of(card) else { return "refused 3 0\n".into() };
+    let mut table = vec![0u32; TABLE_WORDS];
+    let outcome = twin::check(&words, &mut table);
+    let (Verdict::Passed, Ok(grammar)) = (outcome.verdict, Grammar::read(&words)) else { return refused(outcome) };
+    let (names, letters) = (grammar.nonterminals, grammar.terminals);
+    let mut text = format!("names {names} letters {letters} rules {}\n", grammar.rule_count());
+    for name in 0..names {
+        let (first, follow) = (table[2 * name], table[2 * name + 1]);
+        let _ = writeln!(text, "name {name} first {first} {} follow {follow} {}", first.count_ones(), follow.count_ones());
+        text.push_str("cells");
+        for &cell in &table[2 * names + name * (letters + 1)..][..=letters] {
+            let _ = if cell == NO_RULE { write!(text, " -") } else { write!(text, " {cell}") };
+        }
+        text.push('\n');
+    }
+    text
+}
+
+/// What the program judge prints for the bytes of a card and of a log.
+pub fn judgement(card: &[u8], log: &[u8]) -> String {
+    let Some(words) = words_of(card) else { return "refused 3 0\n".into() };
+    let (mut table, mut memo) = (vec![0u32; TABLE_WORDS], vec![0u16; MEMO_ENTRIES]);
+    let outcome = twin::judge(&words, &log[..log.len().min(MAX_TOKENS + 1)], &mut table, &mut memo);
+    let verdict = match outcome.verdict {
+        Verdict::Accepted => "accepted",
+        Verdict::Rejected => "rejected",
+        _ => return refused(outcome),
+    };
+    let mut text = format!("{verdict} {} {}\n", outcome.count, outcome.farthest);
+    let places = log.len() + 1;
+    let names = (words[0] & 0xff) as usize;
+    for (entry, &end) in memo[..names * places].iter().enumerate() {
+        let (name, place) = (entry / places, entry % places);
+        let _ = match end {
+            NOT_CALLED => Ok(()),
+            FAILED => writeln!(text, "{name} {place} -"),
+            _ => writeln!(text, "{name} {place} {end}"),
+        };
+    }
+    text
+}
