@@ -1,1 +1,512 @@
-//! Random and damaged cards and logs.
+//! Encoded grammars and inputs for tests: those of document 01, random ones, damaged ones.
+
+use crate::twin::{Grammar, Symbol, MAX_NONTERMINALS, MAX_RULES, MAX_TERMINALS, MAX_TOKENS, MAX_WORDS};
+use Symbol::{Nonterminal, Terminal};
+
+/// A generator of random numbers (xorshift64*), settled by its seed.
+pub struct Random(u64);
+
+impl Random {
+    pub fn new(seed: u64) -> Random {
+        let mut random = Random(seed.wrapping_mul(0x9e37_79b9_7f4a_7c15) ^ 0x2545_f491_4f6c_dd1d);
+        if random.0 == 0 {
+            random.0 = 1;
+        }
+        for _ in 0..8 {
+            random.next();
+        }
+        random
+    }
+
+    pub fn next(&mut self) -> u64 {
+        self.0 ^= self.0 >> 12;
+        self.0 ^= self.0 << 25;
+        self.0 ^= self.0 >> 27;
+        self.0.wrapping_mul(0x2545_f491_4f6c_dd1d)
+    }
+
+    /// A number below `bound`, which is not 0.
+    pub fn below(&mut self, bound: usize) -> usize {
+        ((self.next() >> 32) * bound as u64 >> 32) as usize
+    }
+
+    /// A number from `low` to `high`, both included.
+    pub fn between(&mut self, low: usize, high: usize) -> usize {
+        low + self.below(high - low + 1)
+    }
+
+    pub fn chance(&mut self, percent: usize) -> bool {
+        self.below(100) < percent
+    }
+
+    pub fn fill_words(&mut self, words: &mut [u32]) {
+        for pair in words.chunks_mut(2) {
+            let bits = self.next();
+            for (i, word) in pair.iter_mut().enumerate() {
+                *word = (bits >> (32 * i)) as u32;
+            }
+        }
+    }
+
+    pub fn fill_entries(&mut self, entries: &mut [u16]) {
+        for four in entries.chunks_mut(4) {
+            let bits = self.next();
+            for (i, entry) in four.iter_mut().enumerate() {
+                *entry = (bits >> (16 * i)) as u16;
+            }
+        }
+    }
+}
+
+pub type Body = Vec<Symbol>;
+
+/// A rule of a draft: its nonterminal, its positive and its negative conjuncts.
+#[derive(Clone)]
+pub struct Rule {
+    pub nonterminal: usize,
+    pub positives: Vec<Body>,
+    pub negatives: Vec<Body>,
+}
+
+/// A grammar before it is encoded, not yet known to be within the limits.
+#[derive(Clone)]
+pub struct Draft {
+    pub nonterminals: usize,
+    pub terminals: usize,
+    pub rules: Vec<Rule>,
+}
+
+pub fn rule(nonterminal: usize, positives: &[&[Symbol]], negatives: &[&[Symbol]]) -> Rule {
+    let bodies = |all: &[&[Symbol]]| all.iter().map(|body| body.to_vec()).collect();
+    Rule { nonterminal, positives: bodies(positives), negatives: bodies(negatives) }
+}
+
+impl Draft {
+    pub fn words(&self) -> Vec<u32> {
+        let mut words = vec![1 << 28 | (self.terminals as u32) << 8 | self.nonterminals as u32];
+        for rule in &self.rules {
+            words.push(2 << 28 | rule.nonterminal as u32);
+            for (kind, bodies) in [(3u32, &rule.positives), (4, &rule.negatives)] {
+                for body in bodies {
+                    words.push(kind << 28);
+                    words.extend(body.iter().map(|symbol| match *symbol {
+                        Terminal(a) => 5 << 28 | a as u32,
+                        Nonterminal(b) => 6 << 28 | b as u32,
+                    }));
+                }
+            }
+        }
+        words.push(7 << 28);
+        words
+    }
+}
+
+/// Card R of document 01: S: aS or empty.
+pub fn card_r() -> Draft {
+    let rules = vec![rule(0, &[&[Terminal(0), Nonterminal(0)]], &[]), rule(0, &[&[]], &[])];
+    Draft { nonterminals: 1, terminals: 1, rules }
+}
+
+/// Card M of document 01, names S A B C D: the inputs a^m b^n c^n with m not n.
+pub fn card_m() -> Draft {
+    let rules = vec![
+        rule(0, &[&[Nonterminal(1), Nonterminal(4)]], &[&[Nonterminal(2), Nonterminal(3)]]),
+        rule(1, &[&[Terminal(0), Nonterminal(1)]], &[]),
+        rule(1, &[&[]], &[]),
+        rule(2, &[&[Terminal(0), Nonterminal(2), Terminal(1)]], &[]),
+        rule(2, &[&[]], &[]),
+        rule(3, &[&[Terminal(2), Nonterminal(3)]], &[]),
+        rule(3, &[&[]], &[]),
+        rule(4, &[&[Terminal(1), Nonterminal(4), Terminal(2)]], &[]),
+        rule(4, &[&[]], &[]),
+    ];
+    Draft { nonterminals: 5, terminals: 3, rules }
+}
+
+/// Card E of document 01, names S A B C.
+pub fn card_e() -> Draft {
+    let rules = vec![
+        rule(0, &[&[Nonterminal(1), Terminal(1)]], &[]),
+        rule(1, &[&[Nonterminal(2)]], &[&[Terminal(1), Nonterminal(3)]]),
+        rule(2, &[&[Terminal(0)]], &[]),
+        rule(2, &[&[Terminal(1)]], &[]),
+        rule(3, &[&[]], &[]),
+    ];
+    Draft { nonterminals: 4, terminals: 2, rules }
+}
+
+/// A chain of nonterminals, each calling the next, the last reading a token and calling the first again, or empty: the
+/// deepest descent there is.
+pub fn chain(nonterminals: usize, terminals: usize) -> Draft {
+    let mut rules: Vec<Rule> = (1..nonterminals).map(|b| rule(b - 1, &[&[Nonterminal(b as u8)]], &[])).collect();
+    for a in 0..terminals {
+        rules.push(rule(nonterminals - 1, &[&[Terminal(a as u8), Nonterminal(0)]], &[]));
+    }
+    rules.push(rule(nonterminals - 1, &[&[]], &[]));
+    Draft { nonterminals, terminals, rules }
+}
+
+/// Nonterminal 1 reads everything; nonterminals from 2 on read terminals 0. The start's one rule takes what 1 does, unless it
+/// is a row of terminals 0 with one other after it: each of these is forbidden by a negative conjunct of its own.
+pub fn negatives(nonterminals: usize) -> Draft {
+    let terminals = nonterminals - 1;
+    let all: Vec<Body> = (2..nonterminals).map(|b| vec![Nonterminal(b as u8), Terminal(b as u8 - 1)]).collect();
+    let mut rules = vec![Rule { nonterminal: 0, positives: vec![vec![Nonterminal(1)]], negatives: all }];
+    for a in 0..terminals {
+        rules.push(rule(1, &[&[Terminal(a as u8), Nonterminal(1)]], &[]));
+    }
+    rules.push(rule(1, &[&[]], &[]));
+    for b in 2..nonterminals {
+        rules.push(rule(b, &[&[Terminal(0), Nonterminal(b as u8)]], &[]));
+        rules.push(rule(b, &[&[]], &[]));
+    }
+    Draft { nonterminals, terminals, rules }
+}
+
+/// A grammar of 2,048 words, 32 nonterminals, 24 terminals and 128 rules that passes: four rules of each nonterminal, each led by
+/// a terminal of its own; one of them is that terminal alone, the others have two positive conjuncts and a negative one.
+pub fn largest() -> Draft {
+    let mut rules = Vec::new();
+    for b in 0..MAX_NONTERMINALS {
+        for r in 0..4 {
+            let lead = Terminal(((b + 6 * r) % MAX_TERMINALS) as u8);
+            let near = Nonterminal(((b + r + 1) % MAX_NONTERMINALS) as u8);
+            let far = Nonterminal(((b + 5 * r) % MAX_NONTERMINALS) as u8);
+            let between = Terminal(((b + r) % MAX_TERMINALS) as u8);
+            rules.push(match r {
+                3 => rule(b, &[&[lead]], &[&[lead, near]]),
+                _ => rule(b, &[&[lead, near, between, far], &[lead, near, between, far]], &[&[lead, near, near]]),
+            });
+        }
+    }
+    let mut draft = Draft { nonterminals: MAX_NONTERMINALS, terminals: MAX_TERMINALS, rules };
+    for at in 0..MAX_WORDS - draft.words().len() {
+        draft.rules[at % MAX_RULES].negatives[0].push(Nonterminal((at % MAX_NONTERMINALS) as u8));
+    }
+    draft
+}
+
+fn symbol(random: &mut Random, nonterminals: usize, terminals: usize) -> Symbol {
+    if random.chance(50) {
+        Terminal(random.below(terminals) as u8)
+    } else {
+        Nonterminal(random.below(nonterminals) as u8)
+    }
+}
+
+fn body(random: &mut Random, nonterminals: usize, terminals: usize, longest: usize) -> Body {
+    let length = random.between(0, longest);
+    (0..length).map(|_| symbol(random, nonterminals, terminals)).collect()
+}
+
+fn small_or_large(random: &mut Random, small: usize, large: usize) -> usize {
+    if random.chance(85) {
+        random.between(1, small)
+    } else {
+        random.between(1, large)
+    }
+}
+
+/// Rules of any form.
+fn any_grammar(random: &mut Random) -> Draft {
+    let nonterminals = small_or_large(random, 4, MAX_NONTERMINALS);
+    let terminals = small_or_large(random, 3, MAX_TERMINALS);
+    let rules = (0..small_or_large(random, 6, 40))
+        .map(|_| Rule {
+            nonterminal: random.below(nonterminals),
+            positives: (0..=random.below(6) / 4).map(|_| body(random, nonterminals, terminals, 4)).collect(),
+            negatives: (0..random.below(6) / 3).map(|_| body(random, nonterminals, terminals, 4)).collect(),
+        })
+        .collect();
+    Draft { nonterminals, terminals, rules }
+}
+
+/// A body that begins with this terminal or with a nonterminal above `above`.
+fn guarded(random: &mut Random, above: usize, lead: u8, nonterminals: usize, terminals: usize) -> Body {
+    let mut made = if above + 1 < nonterminals && random.chance(40) {
+        vec![Nonterminal(random.between(above + 1, nonterminals - 1) as u8), Terminal(lead)]
+    } else {
+        vec![Terminal(lead)]
+    };
+    made.extend(body(random, nonterminals, terminals, 3));
+    made
+}
+
+/// Rules of the forms that a predictive parser takes: of each nonterminal, rules led by different terminals, perhaps an empty
+/// one, or a single rule that begins with a higher nonterminal.
+fn predictive(random: &mut Random) -> Draft {
+    let nonterminals = small_or_large(random, 5, MAX_NONTERMINALS);
+    let terminals = small_or_large(random, 4, MAX_TERMINALS);
+    let mut rules = Vec::new();
+    for b in 0..nonterminals {
+        let higher = b + 1 < nonterminals;
+        if higher && random.chance(25) {
+            let next = random.between(b + 1, nonterminals - 1) as u8;
+            let mut positives = vec![vec![Nonterminal(next)]];
+            if random.chance(50) {
+                positives[0].push(Nonterminal(random.between(b + 1, nonterminals - 1) as u8));
+            }
+            if random.chance(40) {
+                positives[0].extend(body(random, nonterminals, terminals, 2));
+            }
+            if random.chance(15) {
+                positives.push(vec![Nonterminal(next)]);
+            }
+            let lead = random.below(terminals) as u8;
+            let negatives = (0..random.below(5) / 2).map(|_| guarded(random, b, lead, nonterminals, terminals)).collect();
+            rules.push(Rule { nonterminal: b, positives, negatives });
+            continue;
+        }
+        let shift = random.below(terminals);
+        let least = usize::from(random.chance(90));
+        for i in 0..random.between(least, terminals.min(4)) {
+            if rules.len() + 2 >= MAX_RULES {
+                break;
+            }
+            let lead = ((shift + i) % terminals) as u8;
+            let mut first = vec![Terminal(lead)];
+            if random.chance(20) {
+                first.extend([Nonterminal(b as u8), Terminal(random.below(terminals) as u8)]);
+            } else {
+                first.extend(body(random, nonterminals, terminals, 3));
+            }
+            let mut positives = vec![first.clone()];
+            if random.chance(20) {
+                positives.push(if random.chance(50) { first.clone() } else { vec![Terminal(lead), symbol(random, nonterminals, terminals)] });
+            }
+            let negatives = (0..random.below(8) / 5).map(|_| guarded(random, b, lead, nonterminals, terminals)).collect();
+            rules.push(Rule { nonterminal: b, positives, negatives });
+        }
+        if random.chance(45) && rules.len() < MAX_RULES {
+            rules.push(rule(b, &[&[]], &[]));
+        }
+    }
+    if random.chance(30) {
+        for i in (1..rules.len()).rev() {
+            let other = random.below(i + 1);
+            rules.swap(i, other);
+        }
+    }
+    Draft { nonterminals, terminals, rules }
+}
+
+/// A chain of some length, some of whose links have further conjuncts.
+fn random_chain(random: &mut Random) -> Draft {
+    let nonterminals = random.between(1, MAX_NONTERMINALS);
+    let terminals = small_or_large(random, 3, MAX_TERMINALS);
+    let mut draft = chain(nonterminals, terminals);
+    for at in 0..draft.rules.len() {
+        let lead = random.below(terminals) as u8;
+        let link = &mut draft.rules[at];
+        if random.chance(8) {
+            link.positives.push(link.positives[0].clone());
+        }
+        if random.chance(8) {
+            link.negatives.push(guarded(random, link.nonterminal, lead, nonterminals, terminals));
+        }
+    }
+    draft
+}
+
+/// A grammar at or near the limits.
+fn near_limits(random: &mut Random) -> Draft {
+    let mut draft = match random.below(4) {
+        0 => largest(),
+        1 => chain(MAX_NONTERMINALS, random.between(20, MAX_TERMINALS)),
+        2 => negatives(random.between(3, 25)),
+        _ => predictive(random),
+    };
+    match random.below(5) {
+        0 => draft.nonterminals = [0, 31, 32, 33, 255][random.below(5)],
+        1 => draft.terminals = [0, 23, 24, 25, 255][random.below(5)],
+        2 => {
+            let wanted = random.between(MAX_RULES - 1, MAX_RULES + 2);
+            while draft.rules.len() < wanted {
+                let nonterminal = random.below(draft.nonterminals);
+                let lead = Terminal(random.below(draft.terminals) as u8);
+                draft.rules.push(rule(nonterminal, &[&[lead], &[]], &[]));
+            }
+        }
+        3 if !draft.rules.is_empty() => {
+            let wanted = random.between(MAX_WORDS - 2, MAX_WORDS + 3);
+            let missing = wanted.saturating_sub(draft.words().len());
+            let at = random.below(draft.rules.len());
+            let filler = Terminal(random.below(draft.terminals) as u8);
+            let longer = &mut draft.rules[at].positives[0];
+            longer.extend(std::iter::repeat(filler).take(missing));
+        }
+        _ => {}
+    }
+    draft
+}
+
+/// Words of no grammar.
+fn noise(random: &mut Random) -> Vec<u32> {
+    let length = if random.chance(90) { random.between(0, 12) } else { random.between(0, 2_100) };
+    let tame = random.chance(70);
+    (0..length)
+        .map(|at| match random.below(8) {
+            _ if at == 0 && random.chance(80) => 1 << 28 | (random.between(0, 26) << 8 | random.between(0, 34)) as u32,
+            0 => random.next() as u32,
+            _ if tame => (random.between(1, 7) << 28 | random.below(2)) as u32,
+            _ => (random.below(16) << 28 | random.below(40)) as u32,
+        })
+        .collect()
+}
+
+fn any_word(random: &mut Random) -> u32 {
+    match random.below(4) {
+        0 => random.next() as u32,
+        1 => (random.between(2, 7) << 28) as u32,
+        _ => (random.between(1, 7) << 28 | random.below(6)) as u32,
+    }
+}
+
+/// One change to a row of words.
+fn damage(random: &mut Random, words: &mut Vec<u32>) {
+    if words.is_empty() {
+        words.push(any_word(random));
+        return;
+    }
+    let at = random.below(words.len());
+    let other = random.below(words.len());
+    match random.below(9) {
+        0 => words[at] ^= 1 << random.below(32),
+        1 => words[at] ^= 1 << random.below(4),
+        2 => words[at] = any_word(random),
+        3 => words.truncate(at),
+        4 => words.insert(at, any_word(random)),
+        5 => words.insert(at, words[other]),
+        6 => words.swap(at, other),
+        7 => words.push(any_word(random)),
+        _ => {
+            words.remove(at);
+        }
+    }
+}
+
+/// One change to a grammar that leaves it well formed.
+fn edit(random: &mut Random, draft: &mut Draft) {
+    let (nonterminals, terminals) = (draft.nonterminals, draft.terminals);
+    if draft.rules.is_empty() {
+        return;
+    }
+    let at = random.below(draft.rules.len());
+    let copy = draft.rules[at].clone();
+    let edited = &mut draft.rules[at];
+    match random.below(8) {
+        0 => edited.negatives.push(body(random, nonterminals, terminals, 3)),
+        1 => edited.positives.push(body(random, nonterminals, terminals, 3)),
+        2 => edited.negatives.clear(),
+        3 => edited.positives[0] = body(random, nonterminals, terminals, 3),
+        4 => edited.nonterminal = random.below(nonterminals),
+        5 => {
+            let longer = &mut edited.positives[0];
+            let place = random.between(0, longer.len());
+            longer.insert(place, symbol(random, nonterminals, terminals));
+        }
+        6 => {
+            let moved = random.between(0, draft.rules.len());
+            draft.rules.insert(moved, copy);
+        }
+        _ => {
+            draft.rules.remove(at);
+        }
+    }
+}
+
+/// A random encoded grammar: often one that passes, at times damaged.
+pub fn words(random: &mut Random) -> Vec<u32> {
+    let mut draft = match random.below(100) {
+        0..=5 => return noise(random),
+        6..=20 => any_grammar(random),
+        21..=64 => predictive(random),
+        65..=74 => card_m(),
+        75..=79 => card_e(),
+        80..=83 => card_r(),
+        84..=86 => negatives(random.between(3, 25)),
+        87..=91 => random_chain(random),
+        _ => near_limits(random),
+    };
+    for _ in 0..[0, 0, 0, 0, 1, 2, 3][random.below(7)] {
+        edit(random, &mut draft);
+    }
+    let mut words = draft.words();
+    if random.chance(20) {
+        for _ in 0..=random.below(8) / 6 {
+            damage(random, &mut words);
+        }
+    }
+    words
+}
+
+/// Tokens derived from the start by the first positive conjuncts, no more than about `longest`; a greedy derivation mostly
+/// takes the longest rule.
+fn derived(random: &mut Random, grammar: &Grammar, longest: usize) -> Vec<u8> {
+    let mut rules_of: Vec<Vec<usize>> = vec![Vec::new(); grammar.nonterminals];
+    for number in 0..grammar.rule_count() {
+        rules_of[grammar.defines(number)].push(number);
+    }
+    let greedy = random.chance(50);
+    let mut stack = vec![Nonterminal(0)];
+    let mut tokens = Vec::new();
+    let mut steps = 0;
+    while let Some(top) = stack.pop() {
+        match top {
+            Terminal(a) => tokens.push(a),
+            Nonterminal(b) => {
+                let rules = &rules_of[b as usize];
+                if rules.is_empty() {
+                    continue;
+                }
+                steps += 1;
+                let length = |&number: &usize| grammar.first_positive(number).len();
+                let chosen = if steps > 2 * longest || tokens.len() + stack.len() >= longest {
+                    rules.iter().copied().min_by_key(length)
+                } else if greedy && random.chance(80) {
+                    rules.iter().copied().max_by_key(length)
+                } else {
+                    Some(rules[random.below(rules.len())])
+                };
+                let Some(chosen) = chosen else { continue };
+                stack.extend(grammar.first_positive(chosen).iter().rev());
+            }
+        }
+        if tokens.len() > longest || steps > 20 * longest + 100 {
+            break;
+        }
+    }
+    tokens
+}
+
+/// A random input for these words, often one that their grammar derives.
+pub fn input(random: &mut Random, words: &[u32]) -> Vec<u8> {
+    let grammar = Grammar::read(words);
+    let terminals = grammar.as_ref().map_or(2, |grammar| grammar.terminals);
+    let longest = match random.below(40) {
+        0..=19 => 6,
+        20..=35 => 40,
+        36..=38 => 250,
+        _ => MAX_TOKENS,
+    };
+    let mut tokens: Vec<u8> = match (random.below(10), &grammar) {
+        (0..=5, Ok(grammar)) => derived(random, grammar, longest),
+        (6, _) => (0..terminals).flat_map(|a| vec![a as u8; random.between(0, longest / terminals + 1)]).collect(),
+        _ => (0..random.between(0, longest)).map(|_| random.below(terminals) as u8).collect(),
+    };
+    match random.below(40) {
+        0 => tokens.resize(random.between(MAX_TOKENS - 2, MAX_TOKENS), random.below(terminals) as u8),
+        1 => tokens.resize(random.between(MAX_TOKENS + 1, MAX_TOKENS + 300), random.next() as u8),
+        2 => tokens.push(random.between(terminals, 255) as u8),
+        3..=5 if !tokens.is_empty() => {
+            let at = random.below(tokens.len());
+            tokens[at] = random.below(terminals + 1) as u8;
+        }
+        6..=7 if !tokens.is_empty() => {
+            let at = random.below(tokens.len());
+            tokens.remove(at);
+        }
+        _ => {}
+    }
+    tokens
+}

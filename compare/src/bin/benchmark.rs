@@ -1,0 +1,144 @@
+//! Times the proved library against the twin, and on card M against a recognizer made by peg, in one process.
+
+#[path = "../linked.rs"]
+mod linked;
+
+use compare::cards::{self, Draft};
+use compare::twin::{self, MEMO_ENTRIES, TABLE_WORDS};
+use std::{hint::black_box, time::Instant};
+
+/// How many batches of each kind are timed; an odd number, so that one of them is the median.
+const ROUNDS: usize = 61;
+/// About how long a batch lasts, in nanoseconds.
+const BATCH: f64 = 1_000_000.0;
+
+#[cfg(peg)]
+mod peg {
+    extern "C" {
+        fn pegm_accepts(input: *const std::ffi::c_char, length: usize) -> i32;
+    }
+
+    pub const MADE: bool = true;
+
+    pub fn accepts(letters: &[u8]) -> bool {
+        // Sound: the recognizer reads `length` bytes from `input` and runs in this thread alone.
+        unsafe { pegm_accepts(letters.as_ptr().cast(), letters.len()) != 0 }
+    }
+}
+
+#[cfg(not(peg))]
+mod peg {
+    pub const MADE: bool = false;
+
+    pub fn accepts(_letters: &[u8]) -> bool {
+        false
+    }
+}
+
+struct Memory {
+    table: Vec<u32>,
+    memo: Vec<u16>,
+}
+
+impl Memory {
+    fn new() -> Memory {
+        Memory { table: vec![0; TABLE_WORDS], memo: vec![0; MEMO_ENTRIES] }
+    }
+}
+
+/// The nanoseconds that one call takes, on average over a batch.
+fn batch(times: usize, call: &mut dyn FnMut() -> u64) -> f64 {
+    let start = Instant::now();
+    for _ in 0..times {
+        black_box(call());
+    }
+    start.elapsed().as_nanos() as f64 / times as f64
+}
+
+/// The median time of each call, in nanoseconds; batches of the calls take turns.
+fn medians(calls: &mut [&mut dyn FnMut() -> u64]) -> Vec<f64> {
+    let sizes: Vec<usize> = calls
+        .iter_mut()
+        .map(|call| {
+            batch(3, call);
+            (BATCH / batch(10, call)).clamp(1.0, 100_000.0) as usize
+        })
+        .collect();
+    let mut times = vec![Vec::new(); calls.len()];
+    for _ in 0..ROUNDS {
+        for (at, call) in calls.iter_mut().enumerate() {
+            times[at].push(batch(sizes[at], call));
+        }
+    }
+    times
+        .iter_mut()
+        .map(|times| {
+            times.sort_by(f64::total_cmp);
+            times[times.len() / 2]
+        })
+        .collect()
+}
+
+fn print_row(what: &str, answer: &str, times: &[f64]) {
+    let peg = times.get(2).map_or("-".into(), |time| format!("{time:.0}"));
+    println!("{what:<34} {answer:<9} {:>10.0} {:>10.0} {:>8.2} {peg:>10}", times[0], times[1], times[0] / times[1]);
+}
+
+fn time_check(what: &str, draft: &Draft) {
+    let words = draft.words();
+    let (mut proved, mut twin) = (Memory::new(), Memory::new());
+    let outcome = twin::check(&words, &mut twin.table);
+    let answer = linked::check(&words, &mut proved.table);
+    assert!(answer == linked::packed(outcome) && twin.table == proved.table, "{what}: the answers differ");
+    let times = medians(&mut [
+        &mut || linked::check(black_box(&words), &mut proved.table),
+        &mut || linked::packed(twin::check(black_box(&words), &mut twin.table)),
+    ]);
+    print_row(&format!("check {what}, {} words", words.len()), &format!("{:?}", outcome.verdict).to_lowercase(), &times);
+}
+
+fn time_judge(what: &str, draft: &Draft, input: &[u8], with_peg: bool) {
+    let words = draft.words();
+    let (mut proved, mut twin) = (Memory::new(), Memory::new());
+    let outcome = twin::judge(&words, input, &mut twin.table, &mut twin.memo);
+    let answer = linked::judge(&words, input, &mut proved.table, &mut proved.memo);
+    let agree = answer == linked::packed(outcome) && twin.table == proved.table && twin.memo == proved.memo;
+    assert!(agree, "{what}: the answers differ");
+    let letters: Vec<u8> = input.iter().map(|token| b'a' + token).collect();
+    let mut by_library = || linked::judge(black_box(&words), black_box(input), &mut proved.table, &mut proved.memo);
+    let mut by_twin = || linked::packed(twin::judge(black_box(&words), black_box(input), &mut twin.table, &mut twin.memo));
+    let mut by_peg = || peg::accepts(black_box(&letters)) as u64;
+    let mut calls: Vec<&mut dyn FnMut() -> u64> = vec![&mut by_library, &mut by_twin];
+    if with_peg {
+        assert!(peg::accepts(&letters) == (outcome.verdict == twin::Verdict::Accepted), "{what}: peg's answer differs");
+        calls.push(&mut by_peg);
+    }
+    let times = medians(&mut calls);
+    print_row(&format!("judge {what}, {} tokens", input.len()), &format!("{:?}", outcome.verdict).to_lowercase(), &times);
+}
+
+/// An input of card M's language where `before` is not `nested`: a's, then b's and as many c's.
+fn axles(before: usize, nested: usize) -> Vec<u8> {
+    [vec![0; before], vec![1; nested], vec![2; nested]].concat()
+}
+
+fn main() {
+    println!("nanoseconds for each call, medians of {ROUNDS} batches that take turns; judging includes checking the grammar");
+    println!("buffers: lent once, not cleared between calls; each call finds in them what the one before left");
+    println!("{}", if peg::MADE { "peg: made by Debian's peg, gcc -O3; knows card M's language alone and checks no grammar" } else { "peg: not installed, so not timed" });
+    println!("{:<34} {:<9} {:>10} {:>10} {:>8} {:>10}", "", "", "proved", "twin", "ratio", "peg");
+    time_check("card R", &cards::card_r());
+    time_check("card M", &cards::card_m());
+    time_check("chain of 32", &cards::chain(32, 1));
+    time_check("23 negatives", &cards::negatives(25));
+    time_check("largest", &cards::largest());
+    for (before, nested) in [(0, 0), (10, 20), (100, 200)] {
+        time_judge("card M", &cards::card_m(), &axles(before, nested), peg::MADE);
+    }
+    for tokens in [0, 50, 500] {
+        time_judge("chain of 32", &cards::chain(32, 1), &vec![0; tokens], false);
+    }
+    for tokens in [0, 50, 500] {
+        time_judge("23 negatives", &cards::negatives(25), &vec![0; tokens], false);
+    }
+}

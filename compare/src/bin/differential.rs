@@ -1,0 +1,269 @@
+//! Compares the proved library with the twin, answer and memory, on random, damaged and all small grammars and inputs.
+
+#[path = "../linked.rs"]
+mod linked;
+
+use compare::cards::{self, Random};
+use compare::twin::{self, Outcome, Verdict, MEMO_ENTRIES, TABLE_WORDS};
+use std::{fmt::Debug, process::ExitCode, thread, time::Instant};
+
+/// How many words or entries lie before and behind what is lent, and must not change.
+const GUARD: usize = 64;
+/// The stack that both run on: that of a program's main thread.
+const STACK: usize = 8 << 20;
+/// The nonterminals, the terminals and the most words of the grammars that are tried without exception.
+const SMALL: [(u32, u32, usize); 4] = [(1, 1, 11), (1, 2, 10), (2, 1, 10), (2, 2, 9)];
+const MOST_TOKENS: usize = 4;
+const DEFAULT_SEED: u64 = 1;
+const DEFAULT_COUNT: u64 = 150_000;
+
+/// The memory lent to one of the two, with what lies around it.
+#[derive(Clone)]
+struct Memory {
+    table: Vec<u32>,
+    memo: Vec<u16>,
+}
+
+impl Memory {
+    fn random(random: &mut Random) -> Memory {
+        let mut memory = Memory { table: vec![0; TABLE_WORDS + 200], memo: vec![0; MEMO_ENTRIES + 200] };
+        memory.refill(random);
+        memory
+    }
+
+    fn refill(&mut self, random: &mut Random) {
+        random.fill_words(&mut self.table);
+        random.fill_entries(&mut self.memo);
+    }
+
+    fn lend(&mut self, lengths: Lengths) -> (&mut [u32], &mut [u16]) {
+        (&mut self.table[GUARD..GUARD + lengths.table], &mut self.memo[GUARD..GUARD + lengths.memo])
+    }
+}
+
+#[derive(Clone, Copy, Debug)]
+struct Lengths {
+    table: usize,
+    memo: usize,
+}
+
+impl Lengths {
+    const LEAST: Lengths = Lengths { table: TABLE_WORDS, memo: MEMO_ENTRIES };
+
+    fn random(random: &mut Random) -> Lengths {
+        Lengths { table: length(random, TABLE_WORDS), memo: length(random, MEMO_ENTRIES) }
+    }
+}
+
+/// Mostly enough, at times more, at times less.
+fn length(random: &mut Random, enough: usize) -> usize {
+    match random.below(50) {
+        0 => random.below(enough),
+        1 => enough - 1,
+        2..=20 => enough + random.between(1, 72),
+        _ => enough,
+    }
+}
+
+/// How often each outcome was seen, and how many cases there were and differed.
+#[derive(Default)]
+struct Tally {
+    cases: u64,
+    differ: u64,
+    refused: [u64; 12],
+    passed: u64,
+    rejected: u64,
+    accepted: u64,
+    calls: u64,
+    most_calls: u16,
+}
+
+impl Tally {
+    fn add(&mut self, outcome: Outcome) {
+        self.cases += 1;
+        self.calls += outcome.count as u64;
+        self.most_calls = self.most_calls.max(outcome.count);
+        match outcome.verdict {
+            Verdict::Refused => self.refused[outcome.code as usize] += 1,
+            Verdict::Passed => self.passed += 1,
+            Verdict::Rejected => self.rejected += 1,
+            Verdict::Accepted => self.accepted += 1,
+        }
+    }
+
+    fn print(&self) {
+        for (code, times) in self.refused.iter().enumerate().skip(1) {
+            println!("  refused {code:<2} {times:>9}");
+        }
+        println!("  passed     {:>9}", self.passed);
+        println!("  rejected   {:>9}", self.rejected);
+        println!("  accepted   {:>9}", self.accepted);
+        println!("  calls of nonterminals {}, in one descent at most {}", self.calls, self.most_calls);
+    }
+
+    /// Whether every outcome that document 01 knows was seen.
+    fn complete(&self) -> bool {
+        self.refused[1..].iter().chain([&self.passed, &self.rejected, &self.accepted]).all(|&times| times > 0)
+    }
+}
+
+/// Both implementations and their memories.
+struct Pair {
+    twin: Memory,
+    proved: Memory,
+    tally: Tally,
+}
+
+impl Pair {
+    fn check(&mut self, words: &[u32], lengths: Lengths) -> Outcome {
+        let expected = twin::check(words, self.twin.lend(lengths).0);
+        let answer = linked::check(words, self.proved.lend(lengths).0);
+        let agree = answer == linked::packed(expected) && self.twin.table == self.proved.table;
+        self.settle("check", agree, expected, answer, words, &[], lengths)
+    }
+
+    fn judge(&mut self, words: &[u32], input: &[u8], lengths: Lengths) -> Outcome {
+        let (table, memo) = self.twin.lend(lengths);
+        let expected = twin::judge(words, input, table, memo);
+        let (table, memo) = self.proved.lend(lengths);
+        let answer = linked::judge(words, input, table, memo);
+        let agree = answer == linked::packed(expected)
+            && self.twin.table == self.proved.table
+            && self.twin.memo == self.proved.memo;
+        self.settle("judge", agree, expected, answer, words, input, lengths)
+    }
+
+    fn settle(&mut self, call: &str, agree: bool, expected: Outcome, answer: u64, words: &[u32], input: &[u8], lengths: Lengths) -> Outcome {
+        self.tally.add(expected);
+        if !agree {
+            self.tally.differ += 1;
+            if self.tally.differ <= 10 {
+                println!("{call} differs, {lengths:?}");
+                println!("  words {}", words.iter().map(|word| format!("{word:08x}")).collect::<Vec<_>>().join(" "));
+                println!("  input {}", input.iter().map(|token| format!("{token:02x}")).collect::<String>());
+                println!("  the twin answers {:016x}, {expected:?}", linked::packed(expected));
+                println!("  the library answers {answer:016x}");
+                print_first_difference("table", &self.twin.table, &self.proved.table);
+                print_first_difference("memo", &self.twin.memo, &self.proved.memo);
+            }
+            self.proved = self.twin.clone();
+        }
+        expected
+    }
+
+    fn refill(&mut self, random: &mut Random) {
+        self.twin.refill(random);
+        self.proved.clone_from(&self.twin);
+    }
+}
+
+fn print_first_difference<T: PartialEq + Debug>(name: &str, twin: &[T], proved: &[T]) {
+    if let Some(at) = (0..twin.len()).find(|&at| twin[at] != proved[at]) {
+        let place = at as isize - GUARD as isize;
+        println!("  {name}[{place}]: the twin has {:?}, the library {:?}", twin[at], proved[at]);
+    }
+}
+
+/// A check and a judgement for each of `count` random grammars, inputs and memories; a case depends on the seed and its
+/// number alone.
+fn random_cases(pair: &mut Pair, seed: u64, count: u64) {
+    for number in 0..count {
+        let mut random = Random::new(seed.wrapping_mul(1_000_003).wrapping_add(number));
+        let words = cards::words(&mut random);
+        let input = cards::input(&mut random, &words);
+        let lengths = Lengths::random(&mut random);
+        pair.refill(&mut random);
+        let differ = pair.tally.differ;
+        pair.check(&words, lengths);
+        pair.judge(&words, &input, lengths);
+        if pair.tally.differ > differ {
+            println!("  this was case {number} of seed {seed}");
+        }
+    }
+}
+
+/// Every row of words over a small alphabet, after this heading, that is sound up to its last word, and every short
+/// input for those that pass.
+struct SmallCases {
+    alphabet: Vec<u32>,
+    tokens: u8,
+    most_words: usize,
+    most_tokens: usize,
+}
+
+impl SmallCases {
+    fn new(nonterminals: u32, terminals: u32, most_words: usize, most_tokens: usize) -> SmallCases {
+        let mut alphabet = vec![0, 3 << 28, 3 << 28 | 1, 4 << 28, 7 << 28, 7 << 28 | 1];
+        alphabet.extend((0..=nonterminals).flat_map(|b| [2 << 28 | b, 6 << 28 | b]));
+        alphabet.extend((0..=terminals).map(|a| 5 << 28 | a));
+        SmallCases { alphabet, tokens: terminals as u8 + 1, most_words, most_tokens }
+    }
+
+    fn grammars(&self, pair: &mut Pair, words: &mut Vec<u32>) {
+        let outcome = pair.check(words, Lengths::LEAST);
+        let faulty = matches!(outcome.code, 3..=7) && (outcome.position as usize) < words.len();
+        if outcome.verdict == Verdict::Passed {
+            self.inputs(pair, words, &mut Vec::new());
+        }
+        if faulty || words.len() == self.most_words {
+            return;
+        }
+        for &word in &self.alphabet {
+            words.push(word);
+            self.grammars(pair, words);
+            words.pop();
+        }
+    }
+
+    fn inputs(&self, pair: &mut Pair, words: &[u32], input: &mut Vec<u8>) {
+        let outcome = pair.judge(words, input, Lengths::LEAST);
+        if outcome.code == 11 || input.len() == self.most_tokens {
+            return;
+        }
+        for token in 0..self.tokens {
+            input.push(token);
+            self.inputs(pair, words, input);
+            input.pop();
+        }
+    }
+}
+
+fn run(seed: u64, count: u64) -> bool {
+    let mut random = Random::new(seed);
+    let memory = Memory::random(&mut random);
+    let mut pair = Pair { twin: memory.clone(), proved: memory, tally: Tally::default() };
+
+    let start = Instant::now();
+    println!("random: seed {seed}, {count} grammars and inputs, each checked and judged");
+    random_cases(&mut pair, seed, count);
+    pair.tally.print();
+    let complete = pair.tally.complete();
+    println!("  {} cases, {} differ, {:.1} s", pair.tally.cases, pair.tally.differ, start.elapsed().as_secs_f64());
+    let random_tally = std::mem::take(&mut pair.tally);
+
+    let start = Instant::now();
+    println!("small: every grammar over few words, and every input up to {MOST_TOKENS} tokens for each that passes");
+    for (nonterminals, terminals, most_words) in SMALL {
+        pair.refill(&mut random);
+        println!("  nonterminals {nonterminals}, terminals {terminals}, up to {most_words} words");
+        let small = SmallCases::new(nonterminals, terminals, most_words, MOST_TOKENS);
+        small.grammars(&mut pair, &mut vec![1 << 28 | terminals << 8 | nonterminals]);
+    }
+    pair.tally.print();
+    println!("  {} cases, {} differ, {:.1} s", pair.tally.cases, pair.tally.differ, start.elapsed().as_secs_f64());
+
+    let differ = random_tally.differ + pair.tally.differ;
+    println!("{} cases, {differ} differ", random_tally.cases + pair.tally.cases);
+    if !complete {
+        println!("an outcome never occurred among the random cases");
+    }
+    differ == 0 && (complete || count < 10_000)
+}
+
+fn main() -> ExitCode {
+    let mut arguments = std::env::args().skip(1).map(|argument| argument.parse::<u64>().expect("a number"));
+    let seed = arguments.next().unwrap_or(DEFAULT_SEED);
+    let count = arguments.next().unwrap_or(DEFAULT_COUNT);
+    let thread = thread::Builder::new().stack_size(STACK).spawn(move || run(seed, count)).expect("a thread");
+    if thread.join().unwrap_or(false) { ExitCode::SUCCESS } else { ExitCode::FAILURE }
+}

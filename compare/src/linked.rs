@@ -1,0 +1,53 @@
+//! The proved library's two calls, as the static library exports them, behind safe functions.
+
+use compare::twin::{Outcome, Verdict};
+
+extern "C" {
+    fn vinegarspit_check(card: *const u32, card_len: usize, table: *mut u32, table_len: usize) -> u64;
+    fn vinegarspit_judge(
+        card: *const u32,
+        card_len: usize,
+        log: *const u8,
+        log_len: usize,
+        table: *mut u32,
+        table_len: usize,
+        memo: *mut u16,
+        memo_len: usize,
+    ) -> u64;
+}
+
+pub fn check(words: &[u32], table: &mut [u32]) -> u64 {
+    // Sound: the pointers and lengths are those of live slices, and the library proves that it stays within them.
+    unsafe { vinegarspit_check(words.as_ptr(), words.len(), table.as_mut_ptr(), table.len()) }
+}
+
+pub fn judge(words: &[u32], input: &[u8], table: &mut [u32], memo: &mut [u16]) -> u64 {
+    // Sound: as above.
+    unsafe {
+        vinegarspit_judge(
+            words.as_ptr(),
+            words.len(),
+            input.as_ptr(),
+            input.len(),
+            table.as_mut_ptr(),
+            table.len(),
+            memo.as_mut_ptr(),
+            memo.len(),
+        )
+    }
+}
+
+/// The answer that the library packs an outcome into.
+pub fn packed(outcome: Outcome) -> u64 {
+    let verdict = match outcome.verdict {
+        Verdict::Refused => 0,
+        Verdict::Passed => 1,
+        Verdict::Rejected => 2,
+        Verdict::Accepted => 3,
+    };
+    verdict
+        | (outcome.code as u64) << 8
+        | (outcome.position as u64) << 16
+        | (outcome.count as u64) << 32
+        | (outcome.farthest as u64) << 48
+}
