@@ -3,6 +3,9 @@
 use crate::twin::{Grammar, Symbol, MAX_NONTERMINALS, MAX_RULES, MAX_TERMINALS, MAX_TOKENS, MAX_WORDS};
 use Symbol::{Nonterminal, Terminal};
 
+/// So many words or tokens more would not be noticed by a length of 16 bits.
+const WRAP: usize = 65_536;
+
 /// A generator of random numbers (xorshift64*), settled by its seed.
 pub struct Random(u64);
 
@@ -82,6 +85,12 @@ pub fn rule(nonterminal: usize, positives: &[&[Symbol]], negatives: &[&[Symbol]]
 }
 
 impl Draft {
+    /// The same rules, the last one first.
+    pub fn reversed(mut self) -> Draft {
+        self.rules.reverse();
+        self
+    }
+
     pub fn words(&self) -> Vec<u32> {
         let mut words = vec![1 << 28 | (self.terminals as u32) << 8 | self.nonterminals as u32];
         for rule in &self.rules {
@@ -431,11 +440,17 @@ pub fn words(random: &mut Random) -> Vec<u32> {
     for _ in 0..[0, 0, 0, 0, 1, 2, 3][random.below(7)] {
         edit(random, &mut draft);
     }
+    if random.chance(10) {
+        draft = draft.reversed();
+    }
     let mut words = draft.words();
     if random.chance(20) {
         for _ in 0..=random.below(8) / 6 {
             damage(random, &mut words);
         }
+    }
+    if random.below(500) == 0 {
+        words.resize(words.len() + WRAP, 7 << 28);
     }
     words
 }
@@ -498,6 +513,7 @@ pub fn input(random: &mut Random, words: &[u32]) -> Vec<u8> {
         0 => tokens.resize(random.between(MAX_TOKENS - 2, MAX_TOKENS), random.below(terminals) as u8),
         1 => tokens.resize(random.between(MAX_TOKENS + 1, MAX_TOKENS + 300), random.next() as u8),
         2 => tokens.push(random.between(terminals, 255) as u8),
+        3 if random.chance(10) => tokens.resize(tokens.len() + WRAP, 0),
         3..=5 if !tokens.is_empty() => {
             let at = random.below(tokens.len());
             tokens[at] = random.below(terminals + 1) as u8;

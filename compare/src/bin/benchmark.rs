@@ -130,6 +130,7 @@ fn main() {
     time_check("card R", &cards::card_r());
     time_check("card M", &cards::card_m());
     time_check("chain of 32", &cards::chain(32, 1));
+    time_check("chain, last first", &cards::chain(32, 1).reversed());
     time_check("23 negatives", &cards::negatives(25));
     time_check("largest", &cards::largest());
     for (before, nested) in [(0, 0), (10, 20), (100, 200)] {
