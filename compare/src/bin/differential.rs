@@ -3,14 +3,14 @@
 #[path = "../linked.rs"]
 mod linked;
 
-use compare::cards::{self, Random};
-use compare::twin::{self, Outcome, Verdict, MEMO_ENTRIES, TABLE_WORDS};
+use compare::cards::{self, rule, Draft, Random};
+use compare::twin::{self, Outcome, Symbol, Verdict, MAX_TOKENS, MEMO_ENTRIES, TABLE_WORDS};
 use std::{fmt::Debug, process::ExitCode, thread, time::Instant};
 
 /// How many words or entries lie before and behind what is lent, and must not change.
 const GUARD: usize = 64;
-/// The stack that both run on: that of a program's main thread.
-const STACK: usize = 8 << 20;
+/// The stack that both run on: what the library's header asks for.
+const STACK: usize = 4 << 20;
 /// The nonterminals, the terminals and the most words of the grammars that are tried without exception.
 const SMALL: [(u32, u32, usize); 4] = [(1, 1, 11), (1, 2, 10), (2, 1, 10), (2, 2, 9)];
 const MOST_TOKENS: usize = 4;
@@ -164,6 +164,55 @@ fn print_first_difference<T: PartialEq + Debug>(name: &str, twin: &[T], proved: 
     }
 }
 
+/// The judged inputs and the limits that document 01 states, with the verdict, the code and position or the count and
+/// farthest place that it gives.
+fn stated_cases(pair: &mut Pair) {
+    use Verdict::{Accepted, Refused, Rejected};
+    let (r, m, e) = (cards::card_r().words(), cards::card_m().words(), cards::card_e().words());
+    let one = |rules| Draft { nonterminals: 1, terminals: 1, rules }.words();
+    let a = Symbol::Terminal(0);
+    let unproductive = one(vec![]);
+    let deepest = cards::chain(32, 24);
+    let largest = cards::largest().words();
+    let with = |nonterminals, terminals| Draft { nonterminals, terminals, ..deepest.clone() }.words();
+    let rows: Vec<(Vec<u32>, Vec<u8>, Verdict, u16, u16)> = vec![
+        (r.clone(), vec![], Accepted, 1, 0),
+        (r, vec![0], Accepted, 2, 1),
+        (m.clone(), vec![], Rejected, 5, 0),
+        (m.clone(), vec![0], Accepted, 6, 1),
+        (m.clone(), vec![1, 2], Accepted, 6, 1),
+        (m.clone(), vec![0, 1], Rejected, 5, 2),
+        (m.clone(), vec![0, 1, 2], Rejected, 9, 3),
+        (m, vec![2], Rejected, 1, 0),
+        (e.clone(), vec![0, 1], Accepted, 3, 0),
+        (e, vec![1, 0], Rejected, 4, 1),
+        (deepest.words(), vec![0; MAX_TOKENS], Accepted, 16_032, 500),
+        (deepest.words(), vec![0; MAX_TOKENS + 1], Refused, 10, 0),
+        (deepest.words(), vec![0, 23, 24], Refused, 11, 2),
+        (with(33, 24), vec![], Refused, 4, 0),
+        (with(32, 25), vec![], Refused, 4, 0),
+        (largest.clone(), vec![], Rejected, 1, 0),
+        ([largest, vec![7 << 28]].concat(), vec![], Refused, 3, 0),
+        (one(vec![rule(0, &[&[]], &[]); 129]), vec![], Refused, 7, 257),
+        (one(vec![rule(0, &[&[a]], &[&[Symbol::Nonterminal(0)]])]), vec![], Refused, 8, 0),
+        (one(vec![rule(0, &[&[a]], &[]), rule(0, &[&[a]], &[])]), vec![], Refused, 9, 0),
+        (unproductive.clone(), vec![], Rejected, 1, 0),
+        (unproductive, vec![0; MAX_TOKENS], Rejected, 1, 0),
+    ];
+    for (words, input, verdict, first, second) in rows {
+        pair.check(&words, Lengths::LEAST);
+        let outcome = pair.judge(&words, &input, Lengths::LEAST);
+        let told = match verdict {
+            Refused => (outcome.code as u16, outcome.position),
+            _ => (outcome.count, outcome.farthest),
+        };
+        if (outcome.verdict, told) != (verdict, (first, second)) {
+            pair.tally.differ += 1;
+            println!("document 01 states {verdict:?} {first} {second}, the twin answers {outcome:?}");
+        }
+    }
+}
+
 /// A check and a judgement for each of `count` random grammars, inputs and memories; a case depends on the seed and its
 /// number alone.
 fn random_cases(pair: &mut Pair, seed: u64, count: u64) {
@@ -233,6 +282,11 @@ fn run(seed: u64, count: u64) -> bool {
     let memory = Memory::random(&mut random);
     let mut pair = Pair { twin: memory.clone(), proved: memory, tally: Tally::default() };
 
+    println!("stated: the judged inputs and limits of document 01");
+    stated_cases(&mut pair);
+    println!("  {} cases, {} differ", pair.tally.cases, pair.tally.differ);
+    let stated_tally = std::mem::take(&mut pair.tally);
+
     let start = Instant::now();
     println!("random: seed {seed}, {count} grammars and inputs, each checked and judged");
     random_cases(&mut pair, seed, count);
@@ -252,8 +306,10 @@ fn run(seed: u64, count: u64) -> bool {
     pair.tally.print();
     println!("  {} cases, {} differ, {:.1} s", pair.tally.cases, pair.tally.differ, start.elapsed().as_secs_f64());
 
-    let differ = random_tally.differ + pair.tally.differ;
-    println!("{} cases, {differ} differ", random_tally.cases + pair.tally.cases);
+    let tallies = [&stated_tally, &random_tally, &pair.tally];
+    let differ: u64 = tallies.iter().map(|tally| tally.differ).sum();
+    let cases: u64 = tallies.iter().map(|tally| tally.cases).sum();
+    println!("{cases} cases, {differ} differ");
     if !complete {
         println!("an outcome never occurred among the random cases");
     }
