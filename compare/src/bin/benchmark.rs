@@ -125,7 +125,11 @@ fn axles(before: usize, nested: usize) -> Vec<u8> {
 fn main() {
     println!("nanoseconds for each call, medians of {ROUNDS} batches that take turns; judging includes checking the grammar");
     println!("buffers: lent once, not cleared between calls; each call finds in them what the one before left");
-    println!("{}", if peg::MADE { "peg: made by Debian's peg, gcc -O3; knows card M's language alone and checks no grammar" } else { "peg: not installed, so not timed" });
+    if peg::MADE {
+        println!("peg: made by Debian's peg, gcc -O3; knows card M's language alone and checks no grammar");
+    } else {
+        println!("peg: not installed, so not timed");
+    }
     println!("{:<34} {:<9} {:>10} {:>10} {:>8} {:>10}", "", "", "proved", "twin", "ratio", "peg");
     time_check("card R", &cards::card_r());
     time_check("card M", &cards::card_m());
