@@ -36,7 +36,8 @@ use Rattle.semantics.proofs.FiniteSets.{keep-elim}
 use Rattle.semantics.proofs.Quantified.{lowest-some}
 use Rattle.semantics.proofs.LookaheadSets.{entries-elim}
 use Rattle.table.specs.Entries.{columnOf}
-use Rattle.table.specs.Analysis.{firstFault, leftFault, clashFault, grammarFault, readingFault, fault}
+use Rattle.sets.specs.Families.{firstFault, readingFault, leftFault, setsFault}
+use Rattle.table.specs.Analysis.{clashFault, fault}
 use Rattle.recognizer.specs.declared.judging.Unknown.the-variants.{Absent, At}
 use Rattle.recognizer.specs.Answers.{unless, unknownFrom, unknownFault, firstOf, checkFault, judgeFault}
 
@@ -136,17 +137,19 @@ first-low n none g l k = k
 first-low n (some e) g l k = l
 
 fault-low : (words : List ℕ) → LowFault maxWords (fault words)
-unfolding fault grammarFault
+unfolding fault setsFault
 fault-low words = go (reading words) refl (reading-low words)
   where
     go : (o : Outcome) → reading words ≡ o → LowOutcome maxWords o
-        → LowFault maxWords (firstFault (readingFault o) (firstFault (leftFault (lowestLeftRecursive (grammarOf words))) (clashFault (grammarOf words .terminals) (clashes (grammarOf words) 1))))
+        → LowFault maxWords
+        (firstFault (firstFault (readingFault o) (leftFault (lowestLeftRecursive (grammarOf words)))) (clashFault (grammarOf words .terminals) (clashes (grammarOf words) 1)))
     go (Faulty e) q l = some-low maxWords e (l .low e refl)
     go (Read z) q l =
         let r = well-read words z q in
         let few : grammarOf words .nonterminals ≤ maxNonterminals = omega (arith, r .nonterminals, r .fewNonterminals) in
         let small : grammarOf words .terminals ≤ maxTerminals = omega (arith, r .terminals, r .fewTerminals) in
-        first-low maxWords (leftFault (lowestLeftRecursive (grammarOf words))) _ (left-low (grammarOf words) few small _ refl) (clash-low (grammarOf words) few small _ refl)
+        first-low maxWords (leftFault (lowestLeftRecursive (grammarOf words))) _ (left-low (grammarOf words) few small _ refl)
+        (clash-low (grammarOf words) few small _ refl)
 
 -- the lists of faults of the two calls
 list-low : (n : ℕ) (f : Option Error) (l : List (Option Error)) → LowFault n f → LowFault n (firstOf l) → LowFault n (firstOf (f ∷ l))

@@ -34,11 +34,12 @@ use Rattle.semantics.proofs.Theorems.{theorems}
 use Rattle.table.specs.declared.Finding.{Finding}
 use Rattle.table.specs.declared.Finding.the-variants as finding
 use Rattle.table.specs.declared.Analysis.{Analysis}
-use Rattle.table.specs.Lists.{listed}
+use Rattle.sets.specs.Lists.{listed}
 use Rattle.table.specs.Layout.{noEntry, columns, setWord, rowWord, tableWords}
 use Rattle.table.specs.Entries.{filled}
-use Rattle.table.specs.Analysis.{firstFault, leftFault, clashFault, grammarFault, readingFault, fault, findingOf, tableIf, analyzed}
-use Rattle.table.proofs.Lists.{listed-long}
+use Rattle.sets.specs.Families.{firstFault, readingFault, leftFault, setsFault}
+use Rattle.table.specs.Analysis.{clashFault, fault, findingOf, tableIf, analyzed}
+use Rattle.sets.proofs.Lists.{listed-long}
 use Rattle.recognizer.specs.Memory.{lentBack, wordCount, LendGiven, Lent}
 use Rattle.recognizer.specs.Answers.{firstOf, checkFault, refusedOr}
 use Rattle.recognizer.specs.Judging.{Found}
@@ -92,17 +93,17 @@ families words z e =
 
 -- a grammar passes exactly when it has no fault
 pub passed-fault : (words : List ℕ) → fault words ≡ none → PassedGrammar words
-unfolding fault grammarFault
+unfolding fault setsFault
 passed-fault words e =
-    let f = none-first (readingFault (reading words)) (grammarFault (grammarOf words)) e in
-    let z = read-some (reading words) (f .0) in
-    let h = none-first (leftFault (lowestLeftRecursive (grammarOf words))) (clashFault (grammarOf words .terminals) (clashes (grammarOf words) 1)) (f .1) in
-    let none-clashes : clashes (grammarOf words) 1 ≡ [] = none-clash _ (clashes (grammarOf words) 1) (h .1) in
+    let f = none-first (setsFault words) (clashFault (grammarOf words .terminals) (clashes (grammarOf words) 1)) e in
+    let h = none-first (readingFault (reading words)) (leftFault (lowestLeftRecursive (grammarOf words))) (f .0) in
+    let z = read-some (reading words) (h .0) in
+    let none-clashes : clashes (grammarOf words) 1 ≡ [] = none-clash _ (clashes (grammarOf words) 1) (f .1) in
     let r = well-read words (z .0) (z .1) in
     record {
       sizes = z .0;
       read = z .1;
-      free = theorems .left-recursion-decided (grammarOf words) (r .formed .scoped) .absent .0 (none-left (lowestLeftRecursive (grammarOf words)) (h .0));
+      free = theorems .left-recursion-decided (grammarOf words) (r .formed .scoped) .absent .0 (none-left (lowestLeftRecursive (grammarOf words)) (h .1));
       clashless = λ A x c. List·Memᴰ·not-nil (rw none-clashes at (least words (z .0) (z .1) .clash A x .1 c));
     }
 
@@ -118,7 +119,7 @@ not-left-recursive words p =
     theorems .left-recursion-decided (grammarOf words) (well-read words (p .sizes) (p .read) .formed .scoped) .absent .1 (p .free)
 
 pub fault-passed : (words : List ℕ) → PassedGrammar words → fault words ≡ none
-unfolding fault grammarFault
+unfolding fault setsFault
 fault-passed words p = rw (p .read, not-left-recursive words p, no-clashes words p)
 
 -- with a table that is long enough only the grammar's faults are left
@@ -153,28 +154,30 @@ unfolding checkFault
 check-short {words} {before} h = checks (rw (lt-ltb (length before) memoryWords h)) (rw (lt-ltb (length before) memoryWords h))
 
 -- what is found tells the fault
-found-refused : (o : Outcome) (g : Option Error) (x : Error) → findingOf (firstFault (readingFault o) g) o ≡ finding.Refused x
-    → firstFault (readingFault o) g ≡ some x
-found-refused (Faulty y) g x q = let z : y ≡ x = cc in ap some z
-found-refused (Read z) none x q = let n : _≡_ {A = ℕ} 0 1 = cc in absurd (omega arith)
-found-refused (Read z) (some y) x q = let z : y ≡ x = cc in ap some z
+told-refused : (o : Outcome) (l c : Option Error) (x : Error) → findingOf (firstFault (firstFault (readingFault o) l) c) o ≡ finding.Refused x
+    → firstFault (firstFault (readingFault o) l) c ≡ some x
+told-refused (Faulty y) l c x q = let z : y ≡ x = cc in ap some z
+told-refused (Read z) (some y) c x q = let e : y ≡ x = cc in ap some e
+told-refused (Read z) none (some y) x q = let e : y ≡ x = cc in ap some e
+told-refused (Read z) none none x q = let n : _≡_ {A = ℕ} 0 1 = cc in absurd (omega arith)
 
-found-passed : (o : Outcome) (g : Option Error) (z : Sizes) → findingOf (firstFault (readingFault o) g) o ≡ finding.Passed z
-    → (firstFault (readingFault o) g ≡ none) × (o ≡ Read z)
-found-passed (Faulty y) g z q = let n : _≡_ {A = ℕ} 0 1 = cc in absurd (omega arith)
-found-passed (Read y) none z q = let e : y ≡ z = cc in (refl, ap Read e)
-found-passed (Read y) (some x) z q = let n : _≡_ {A = ℕ} 0 1 = cc in absurd (omega arith)
+told-passed : (f : Option Error) (o : Outcome) (z : Sizes) → findingOf f o ≡ finding.Passed z → (f ≡ none) × (o ≡ Read z)
+told-passed none (Read y) z q = let e : y ≡ z = cc in (refl, ap Read e)
+told-passed none (Faulty x) z q = let n : _≡_ {A = ℕ} 0 1 = cc in absurd (omega arith)
+told-passed (some x) o z q = let n : _≡_ {A = ℕ} 0 1 = cc in absurd (omega arith)
 
 -- an analysis that finds no fault tells the sizes and the whole table
 pub found : (words : List ℕ) {a : Analysis} {z : Sizes} → a ≡ analyzed words → a .finding ≡ finding.Passed z → Found words z (a .table)
-unfolding analyzed fault
+unfolding analyzed
 found words {a} {z} e q =
-    let k = found-passed (reading words) (grammarFault (grammarOf words)) z (sym (ap (λ y. y .finding) e) ∙ q) in
+    let k = told-passed (fault words) (reading words) z (sym (ap (λ y. y .finding) e) ∙ q) in
     record { read = k .1; faultless = k .0; table = ap (λ y. y .table) e ∙ ap (λ y. tableIf y (filled (tableWords (grammarOf words)))) (k .0) }
 
 pub found-fault : (words : List ℕ) {a : Analysis} {x : Error} → a ≡ analyzed words → a .finding ≡ finding.Refused x → fault words ≡ some x
-unfolding analyzed fault
-found-fault words {a} {x} e q = found-refused (reading words) (grammarFault (grammarOf words)) x (sym (ap (λ y. y .finding) e) ∙ q)
+unfolding analyzed fault setsFault
+found-fault words {a} {x} e q =
+    told-refused (reading words) (leftFault (lowestLeftRecursive (grammarOf words))) (clashFault (grammarOf words .terminals) (clashes (grammarOf words) 1)) x
+    (sym (ap (λ y. y .finding) e) ∙ q)
 
 -- the table of a grammar that passes, lent back
 module _ (words before : List ℕ) (long : memoryWords ≤ length before) {z : Sizes} {entries : List ℕ} (f : Found words z entries) where

@@ -36,11 +36,11 @@ use Rattle.semantics.specs.Predictive.{Predictive}
 use Rattle.semantics.proofs.Booleans.{T-true, and-l, and-r, and-make, true-T}
 use Rattle.semantics.proofs.Range.{all-length}
 use Rattle.semantics.proofs.Theorems.{theorems}
-use Rattle.table.specs.Lists.{listed}
+use Rattle.sets.specs.Lists.{listed}
 use Rattle.table.specs.Layout.{noEntry, columns, entryAt, setWord, rowWord, tableWords}
 use Rattle.table.specs.Entries.{filled}
 use Rattle.table.specs.Analysis.{fault}
-use Rattle.table.proofs.Lists.{listed-long, listed-at}
+use Rattle.sets.proofs.Lists.{listed-long, listed-at}
 use Rattle.recognizer.specs.declared.judging.Unknown.{Unknown}
 use Rattle.recognizer.specs.declared.judging.Unknown.the-variants.{Absent, At}
 use Rattle.recognizer.specs.Descent.{Entries}

@@ -47,7 +47,7 @@ pub fn judge(words: &[u32], input: &[u8], table: &mut [u32], memo: &mut [u16]) -
     let finding = analysis.finding;
     let entries = analysis.table;
     match finding {
-        Finding::Refused(error) => Answer::Refused(error),
+        Finding::Refused(found) => Answer::Refused(found),
         Finding::Passed(sizes) => judge_passed(words, sizes, &entries, input, table, memo),
     }
 }

@@ -7,39 +7,24 @@ use native.Mathlib.Omega.{arith}
 use Rattle.answer.specs.declared.Error.{Error}
 use Rattle.answer.specs.declared.Error.the-variants as error
 use Rattle.grammar.specs.Encoding.{grammarOf}
-use Rattle.grammar.specs.Reading.{reading}
 use Rattle.grammar.specs.declared.reading.Sizes.{Sizes}
-use Rattle.grammar.specs.declared.reading.Outcome.the-variants.{Read, Faulty}
-use Rattle.semantics.specs.LeftRecursion.{lowestLeftRecursive}
 use Rattle.semantics.specs.FirstFollow.{Entry}
 use Rattle.semantics.specs.Claims.{clashes}
+use Rattle.sets.specs.Families.{setsFault}
+use Rattle.sets.proofs.Telling.{FoundFamilies}
 use Rattle.table.specs.declared.Finding.the-variants.{Passed, Refused}
 use Rattle.table.specs.declared.entries.Conflict.{Conflict}
 use Rattle.table.specs.declared.entries.Conflict.the-variants as conflict
 use Rattle.table.specs.declared.entries.Table.{Table}
-use Rattle.table.specs.declared.left.Lowest.{Lowest}
-use Rattle.table.specs.declared.left.Lowest.the-variants as lowest
-use Rattle.table.specs.Left.{lowestOf}
 use Rattle.table.specs.Entries.{columnOf, firstOf, filled, entriesOf}
-use Rattle.table.specs.Analysis.{clashFault, grammarFault, fault, analysis, refusedBy, analyzed, NotLeftRecursive}
+use Rattle.table.specs.Analysis.{clashFault, fault, analysis, refusedBy, analyzed, GivenFamilies}
 
-pub analyzed-faulty : (words : List ℕ) {e : Error} {o : _} → o ≡ reading words → o ≡ Faulty e → refusedBy e ≡ analyzed words
+pub analyzed-refused : (words : List ℕ) {e : Error} → setsFault words ≡ some e → refusedBy e ≡ analyzed words
 unfolding analyzed fault
-analyzed-faulty words r f = rw (sym r ∙ f)
+analyzed-refused words f = rw f
 
--- the lowest nonterminal that is told
-pub lowest-none : (o : Option ℕ) {l : Lowest} → l ≡ lowestOf o → l ≡ lowest.Absent → o ≡ none
-lowest-none none e a = refl
-lowest-none (some A) e a = let z : _≡_ {A = ℕ} 0 1 = cc in absurd (omega arith)
-
-lowest-some : (o : Option ℕ) {l : Lowest} {A : ℕ} → l ≡ lowestOf o → l ≡ lowest.At A → o ≡ some A
-lowest-some none e a = let z : _≡_ {A = ℕ} 0 1 = cc in absurd (omega arith)
-lowest-some (some B) {l} {A} e a = let z : B ≡ A = cc in ap some z
-
-pub analyzed-left : (words : List ℕ) {z : Sizes} {l : Lowest} {A : ℕ} → reading words ≡ Read z → l ≡ lowestOf (lowestLeftRecursive (grammarOf words)) → l ≡ lowest.At A
-    → refusedBy (error.LeftRecursive A) ≡ analyzed words
-unfolding analyzed fault grammarFault
-analyzed-left words r e a = rw (r, lowest-some (lowestLeftRecursive (grammarOf words)) e a)
+pub given-families : {words : List ℕ} {z : Sizes} {firsts follows : List ℕ} → FoundFamilies words z firsts follows → GivenFamilies words z firsts follows
+given-families f = record { given = record { read = f .read; first = f .first; follow = f .follow }; faultless = f .faultless }
 
 -- the first conflict that is told
 conflict-at : (t : ℕ) (l : List Entry) {n c : ℕ} → firstOf t l ≡ conflict.At n c → clashFault t l ≡ some (error.Conflict n c)
@@ -50,15 +35,15 @@ conflict-absent : (t : ℕ) (l : List Entry) → firstOf t l ≡ conflict.Absent
 conflict-absent t [] e = refl
 conflict-absent t (x ∷ l) e = let z : _≡_ {A = ℕ} 0 1 = cc in absurd (omega arith)
 
-module _ {words : List ℕ} {z : Sizes} {firsts : List ℕ} (g : NotLeftRecursive words z firsts) {t : Table} (e : t ≡ entriesOf (grammarOf words)) where
+module _ {words : List ℕ} {z : Sizes} {firsts : List ℕ} {follows : List ℕ} (g : GivenFamilies words z firsts follows) {t : Table} (e : t ≡ entriesOf (grammarOf words)) where
   pub analyzed-conflict : {n c : ℕ} → t .conflict ≡ conflict.At n c → refusedBy (error.Conflict n c) ≡ analyzed words
-  unfolding analyzed fault grammarFault entriesOf
+  unfolding analyzed fault entriesOf
   analyzed-conflict {n} {c} q =
       let k = conflict-at (grammarOf words .terminals) (clashes (grammarOf words) 1) (sym (ap (λ x. x .conflict) e) ∙ q) in
-      rw (g .read, g .free, k)
+      rw (g .given .read, g .faultless, k)
 
   pub analyzed-passed : t .conflict ≡ conflict.Absent → analysis (Passed z) (t .words) ≡ analyzed words
-  unfolding analyzed fault grammarFault entriesOf
+  unfolding analyzed fault entriesOf
   analyzed-passed q =
       let k = conflict-absent (grammarOf words .terminals) (clashes (grammarOf words) 1) (sym (ap (λ x. x .conflict) e) ∙ q) in
-      rw (g .read, g .free, k, ap (λ x. x .words) e)
+      rw (g .given .read, g .faultless, k, ap (λ x. x .words) e)

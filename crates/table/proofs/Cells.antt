@@ -17,7 +17,7 @@ use Rattle.semantics.specs.FiniteSets.{keep, numbersFrom, numbers, combine}
 use Rattle.semantics.specs.FirstFollow.{strings, Entry, entries}
 use Rattle.semantics.specs.Claims.{several, claims, clashes}
 use Rattle.table.specs.declared.entries.Conflict.the-variants.{At}
-use Rattle.table.specs.Sets.{stringOf}
+use Rattle.sets.specs.Sets.{stringOf}
 use Rattle.table.specs.Layout.{columnString}
 use Rattle.table.specs.Entries.{columnOf, firstOf}
 use Rattle.table.specs.Filling.{columnElement, conflictFrom}

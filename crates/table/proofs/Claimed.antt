@@ -20,11 +20,11 @@ use Rattle.semantics.proofs.LookaheadSets.{strings-equality, strings-make, stri
 use Rattle.semantics.proofs.First.{In, firstBody-mono, firstRule-make, firstRule-elim}
 use Rattle.semantics.proofs.First.{first-in, in-first}
 use Rattle.semantics.proofs.Follow.{follow-lookahead}
-use Rattle.table.specs.Sets.{stringOf, firstNumber, followNumber}
-use Rattle.table.specs.First.{ruleFirst}
-use Rattle.table.proofs.Strings.{string-first, StringIn, string-in, in-string}
-use Rattle.table.proofs.Numbers.{number-string, in-number}
-use Rattle.table.proofs.FirstTie.{rule-begins, begins-rule}
+use Rattle.sets.specs.Sets.{stringOf, firstNumber, followNumber}
+use Rattle.sets.specs.First.{ruleFirst}
+use Rattle.sets.proofs.Strings.{string-first, StringIn, string-in, in-string}
+use Rattle.sets.proofs.Numbers.{number-string, in-number}
+use Rattle.sets.proofs.FirstTie.{rule-begins, begins-rule}
 use Rattle.table.proofs.Filling.{ClaimOf}
 
 -- the number s has the elements of the strings that are listed

@@ -27,15 +27,15 @@ use Rattle.semantics.specs.FirstFollow.{first, follow}
 use Rattle.semantics.specs.Claims.{tableOf}
 use Rattle.semantics.proofs.First.{first-lookahead}
 use Rattle.semantics.proofs.Follow.{follow-lookahead}
-use Rattle.table.specs.declared.first.Rest.{Rest}
-use Rattle.table.specs.Sets.{firstNumber, followNumber}
-use Rattle.table.specs.Least.{at as family}
-use Rattle.table.specs.Naming.{ruleHead}
-use Rattle.table.specs.First.{bodyFirst, ruleFirst, restOf, noRest, Onto}
+use Rattle.sets.specs.declared.first.Rest.{Rest}
+use Rattle.sets.specs.Sets.{firstNumber, followNumber}
+use Rattle.sets.specs.Least.{at as family}
+use Rattle.sets.specs.Naming.{ruleHead}
+use Rattle.sets.specs.First.{bodyFirst, ruleFirst, restOf, noRest, Onto}
 use Rattle.table.specs.Entries.{Given}
 use Rattle.table.specs.Filling.{FilledRow, Noted, Tables, tables, WordClaims, MayClaim, FilledRows}
-use Rattle.table.proofs.Words.{parse-before, parse-over}
-use Rattle.table.proofs.Numbers.{array-at}
+use Rattle.sets.proofs.Words.{parse-before, parse-over}
+use Rattle.sets.proofs.Numbers.{array-at}
 use Rattle.table.proofs.Filling.{ClaimOf, Filling, filling-none, filling-rule}
 use Rattle.table.proofs.Claimed.{claim-of}
 

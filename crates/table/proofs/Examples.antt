@@ -1,7 +1,9 @@
 -- The first and follow sets of document 01's grammars R, M and E, as numbers, and the words of their tables, by computation.
 use mathlib.Core.List.{List, [], _∷_}
 use mathlib.Core.Path.{_≡_, refl}
+use mathlib.Core.Option.{some}
 use Prim.Native.Nat.{ℕ}
+use Rattle.answer.specs.declared.Error.the-variants.{LeftRecursive}
 use Rattle.grammar.specs.Cards.{grammarR, grammarM, grammarE}
 use Rattle.grammar.specs.declared.Symbol.the-variants.{Terminal, Nonterminal}
 use Rattle.grammar.specs.Syntax.{Body, Rule, Grammar}
@@ -11,12 +13,11 @@ use Rattle.semantics.specs.Claims.{clashes, tableOf}
 use Rattle.semantics.specs.LeftRecursion.{lowestLeftRecursive}
 use Rattle.semantics.proofs.Computing.{tables-compute, left-recursion-computes}
 use Rattle.table.specs.declared.entries.Conflict.the-variants.{At}
-use Rattle.table.specs.declared.left.Lowest.the-variants.{At as LowestAt}
-use Rattle.table.specs.Lists.{listed}
-use Rattle.table.specs.Sets.{stringOf, numberOf, firstNumber, followNumber}
+use Rattle.sets.specs.Lists.{listed}
+use Rattle.sets.specs.Sets.{stringOf, numberOf, firstNumber, followNumber}
 use Rattle.table.specs.Layout.{noEntry, columnString, entryAt, setWord, rowWord, tableWords}
 use Rattle.table.specs.Entries.{firstOf}
-use Rattle.table.specs.Left.{lowestOf}
+use Rattle.sets.specs.Families.{leftFault}
 
 abbrev numbers : Grammar → List ℕ × List ℕ
 numbers G = (listed (G .nonterminals) (firstNumber G), listed (G .nonterminals) (followNumber G))
@@ -54,6 +55,6 @@ claimed-twice : firstOf 1 (clashes twiceA 1) ≡ At 0 0
 unfolding tables-compute clashes
 claimed-twice = refl
 
-reaches-itself : lowestOf (lowestLeftRecursive notItself) ≡ LowestAt 0
+reaches-itself : leftFault (lowestLeftRecursive notItself) ≡ some (LeftRecursive 0)
 unfolding left-recursion-computes lowestLeftRecursive
 reaches-itself = refl

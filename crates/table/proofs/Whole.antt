@@ -19,12 +19,12 @@ use Rattle.grammar.specs.Syntax.{Grammar}
 use Rattle.grammar.proofs.WellRead.{well-read}
 use Rattle.semantics.specs.Claims.{tableOf}
 use Rattle.table.specs.declared.entries.Conflict.{Conflict}
-use Rattle.table.specs.Lists.{listed}
-use Rattle.table.specs.Sets.{firstNumber, followNumber}
+use Rattle.sets.specs.Lists.{listed}
+use Rattle.sets.specs.Sets.{firstNumber, followNumber}
 use Rattle.table.specs.Layout.{noEntry, entryWord, columnString, columns, entryAt, setWord, rowWord, tableWords}
 use Rattle.table.specs.Entries.{filled, tableWith, entriesOf, Given}
 use Rattle.table.specs.Filling.{conflictFrom, entryOver, FilledSets, FilledRows}
-use Rattle.table.proofs.Lists.{listed-long, listed-at}
+use Rattle.sets.proofs.Lists.{listed-long, listed-at}
 use Rattle.table.proofs.Cells.{first-clash}
 
 -- a word of two lists, one behind the other

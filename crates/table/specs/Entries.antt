@@ -14,8 +14,8 @@ use Rattle.semantics.specs.Claims.{clashes}
 use Rattle.table.specs.declared.entries.Conflict.{Conflict}
 use Rattle.table.specs.declared.entries.Conflict.the-variants.{Absent, At}
 use Rattle.table.specs.declared.entries.Table.{Table}
-use Rattle.table.specs.Lists.{listed}
-use Rattle.table.specs.Sets.{firstNumber, followNumber}
+use Rattle.sets.specs.Lists.{listed}
+use Rattle.sets.specs.Sets.{firstNumber, followNumber}
 use Rattle.table.specs.Layout.{noEntry, tableWords}
 
 -- the column of a lookahead string

@@ -18,7 +18,7 @@ use Rattle.lookahead.specs.Operations.{join, meet, concat}
 use Rattle.semantics.specs.Claims.{several, claims, tableOf}
 use Rattle.table.specs.declared.entries.Conflict.{Conflict}
 use Rattle.table.specs.declared.entries.Conflict.the-variants.{Absent, At}
-use Rattle.table.specs.Sets.{stringOf}
+use Rattle.sets.specs.Sets.{stringOf}
 use Rattle.table.specs.Layout.{columnString, columns}
 
 -- the element of a column: the terminals in order, then the end

@@ -6,8 +6,8 @@ use lib.Dec.{eqb}
 use Rattle.grammar.specs.Choice.{choose}
 use Rattle.grammar.specs.Syntax.{Grammar}
 use Rattle.semantics.specs.Claims.{tableOf}
-use Rattle.table.specs.Lists.{listed}
-use Rattle.table.specs.Sets.{firstNumber, followNumber}
+use Rattle.sets.specs.Lists.{listed}
+use Rattle.sets.specs.Sets.{firstNumber, followNumber}
 
 abbrev pub noEntry : ℕ
 noEntry = 4294967295

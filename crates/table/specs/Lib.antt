@@ -1,11 +1,4 @@
-pub mod Lists
-pub mod Least
-pub mod Naming
-pub mod First
-pub mod Follow
-pub mod Sets
 pub mod Layout
 pub mod Entries
 pub mod Filling
-pub mod Left
 pub mod Analysis

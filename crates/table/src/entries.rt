@@ -6,19 +6,19 @@ ghost use Rattle.grammar.specs.Choice.{choose};
 ghost use Rattle.grammar.specs.Limits.{maxNonterminals, maxTerminals, tableWords as memoryWords};
 ghost use Rattle.lookahead.specs.Elements.{has};
 ghost use Rattle.grammar.specs.Encoding.{grammarOf};
-ghost use Rattle.table.specs.Naming.{ruleHead};
+ghost use Rattle.sets.specs.Naming.{ruleHead};
 ghost use Rattle.table.specs.Entries.{Given, entriesOf};
 ghost use Rattle.table.specs.Filling.{columnElement, conflictFrom};
 ghost use Rattle.table.specs.Filling.{FilledRow, FilledSets, Noted, tables, MayClaim, WordClaims, FilledRows};
-use super::family::SETS;
-use super::first::no_rest;
-use super::first::onto;
 use grammar::limits::TABLE_WORDS;
 use grammar::reading::Sizes;
 use grammar::word::Word;
 use grammar::word::decode;
 use lookahead::LookaheadSet;
 use lookahead::NOTHING;
+use sets::family::SETS;
+use sets::first::no_rest;
+use sets::first::onto;
 
 // An entry that no rule claims (document 01: none).
 const NO_ENTRY: u32 = 4294967295;

@@ -1,27 +1,33 @@
--- An encoded grammar: by whether it is read without a fault.
-use mathlib.Core.Path.{sym, _∙_}
-use Rattle.table.proofs.Analyzing.{analyzed-faulty}
+-- An encoded grammar: by whether its sets are found.
+use mathlib.Core.Path.{_∙_}
+use Rattle.sets.proofs.Telling.{families-told, families-refused}
+use Rattle.table.proofs.Analyzing.{analyzed-refused, given-families}
 use borrow.Author.Needs.{needs}
 use Rattle.table.proofs.analyze.Statement.{statement}
 use Rattle.table.proofs.analyze.Tie as tie
 
-read-requires : tie.Need-read-requires
-read-requires c κs = search needs
+analyze-requires : tie.Need-analyze-requires
+analyze-requires c κs = search needs
 
-enum-known-outcome : tie.Need-enum-known-outcome
-enum-known-outcome c = search needs
+enum-known-finding : tie.Need-enum-known-finding
+enum-known-finding c = search needs
 
 refused-requires : tie.Need-refused-requires
 refused-requires c κs = search needs
 
-enum-known-outcome-2 : tie.Need-enum-known-outcome-2
-enum-known-outcome-2 c = search needs
+enum-known-finding-2 : tie.Need-enum-known-finding-2
+enum-known-finding-2 c = search needs
 
-analyze-grammar-requires : tie.Need-analyze-grammar-requires
-analyze-grammar-requires c κs = sym (c .before .before .before .read .ensures) ∙ c .before .outcome2 .given .1
+analyze-table-requires : tie.Need-analyze-table-requires
+analyze-table-requires c κs =
+    let at-analyze = c .before .before .before .before .before .before .before in
+    given-families (families-told (at-analyze .before .before .args .words .now) (at-analyze .analyze .ensures) (c .before .before .before .finding2 .given .1))
 
 returns : tie.Need-returns
-returns c = c .refused .ensures ∙ analyzed-faulty _ (c .before .before .before .before .read .ensures) (c .before .before .outcome .given .1)
+returns c =
+    let at-analyze = c .before .before .before .before .before .before in
+    let words = at-analyze .before .before .args .words .now in
+    c .refused .ensures ∙ analyzed-refused words (families-refused words (at-analyze .analyze .ensures) (c .before .before .finding .given .1))
 
 returns-2 : tie.Need-returns-2
 returns-2 c = search needs
@@ -30,10 +36,10 @@ pub analyze-spec : {M : Type 1} → statement M
 analyze-spec =
     tie.close
     (tie.spec
-    read-requires
-    enum-known-outcome
+    analyze-requires
+    enum-known-finding
     refused-requires
-    enum-known-outcome-2
-    analyze-grammar-requires
+    enum-known-finding-2
+    analyze-table-requires
     returns
     returns-2)

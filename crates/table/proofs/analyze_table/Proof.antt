@@ -1,15 +1,12 @@
--- A grammar that is not left-recursive: by whether two rules claim an entry.
+-- A grammar whose sets have been found: by whether two rules claim an entry.
 use mathlib.Core.Path.{_∙_}
 use Rattle.table.proofs.Analyzing.{analyzed-conflict, analyzed-passed}
 use borrow.Author.Needs.{needs}
 use Rattle.table.proofs.analyze_table.Statement.{statement}
 use Rattle.table.proofs.analyze_table.Tie as tie
 
-follow-sets-requires : tie.Need-follow-sets-requires
-follow-sets-requires c κs = search needs
-
 entries-requires : tie.Need-entries-requires
-entries-requires c κs = search needs
+entries-requires c κs = c .before .pre .given
 
 enum-known-conflict : tie.Need-enum-known-conflict
 enum-known-conflict c = search needs
@@ -21,19 +18,16 @@ enum-told : tie.Need-enum-told
 enum-told c = search needs
 
 returns : tie.Need-returns
-returns c = c .refused .ensures ∙ analyzed-conflict (c .before .before .before .before .before .before .before .before .before .pre) (c .before .before .before .before .before .entries .ensures) (c .before .before .conflict .given .1)
+returns c =
+    let at-entries = c .before .before .before .before .before in
+    c .refused .ensures ∙ analyzed-conflict (at-entries .before .before .pre) (at-entries .entries .ensures) (c .before .before .conflict .given .1)
 
 returns-2 : tie.Need-returns-2
-returns-2 c = analyzed-passed (c .before .before .before .before .before .before .before .pre) (c .before .before .before .entries .ensures) (c .enum-told .given .1)
+returns-2 c =
+    let at-entries = c .before .before .before in
+    analyzed-passed (at-entries .before .before .pre) (at-entries .entries .ensures) (c .enum-told .given .1)
 
 pub analyze-table-spec : {M : Type 1} → statement M
 analyze-table-spec =
     tie.close
-    (tie.spec
-    follow-sets-requires
-    entries-requires
-    enum-known-conflict
-    refused-requires
-    enum-told
-    returns
-    returns-2)
+    (tie.spec entries-requires enum-known-conflict refused-requires enum-told returns returns-2)

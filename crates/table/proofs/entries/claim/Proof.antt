@@ -2,7 +2,7 @@
 use mathlib.Core.Path.{refl}
 use native.Mathlib.Omega.{arith}
 use borrow.Author.Needs.{needs}
-use Rattle.table.proofs.Naming.{no-head}
+use Rattle.sets.proofs.Naming.{no-head}
 use Rattle.table.proofs.Claiming.{own, some-rule, row-room, claim-made}
 use Rattle.table.proofs.entries.claim.Statement.{statement}
 use Rattle.table.proofs.entries.claim.Tie as tie

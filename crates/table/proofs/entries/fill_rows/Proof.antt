@@ -1,7 +1,10 @@
 -- The loop keeps `Claiming`: the rules of the words from the index on have claimed their entries.
+use mathlib.Core.Path.{ap, _∙_}
 use native.Mathlib.Omega.{arith}
+use lib.ListN.{length}
 use Rattle.table.specs.Filling.{tables}
-use Rattle.table.proofs.Naming.{before-indexed}
+use Rattle.sets.proofs.Lists.{listed-long}
+use Rattle.sets.proofs.Looking.{onto-at}
 use Rattle.table.proofs.Claiming.{Claiming, claiming-start, may-claim, claiming-turn, claiming-end}
 use Rattle.table.proofs.entries.fill_rows.Statement.{statement}
 use Rattle.table.proofs.entries.fill_rows.Tie as tie
@@ -32,11 +35,7 @@ decode-requires : tie.Need-decode-requires Inv-loop μ-loop
 decode-requires c κs = tt
 
 onto-requires : tie.Need-onto-requires Inv-loop μ-loop
-onto-requires c κs =
-    let start = c .before .before .before .before .before .before .before in
-    let loop = c .before .before .before .before in
-    let some = c .before .before .before .loop-test .taken in
-    before-indexed _ (start .pre .0 .read) some (loop .loop .inv .within) (c .before .decode .ensures)
+onto-requires c κs = tt
 
 claim-requires : tie.Need-claim-requires Inv-loop μ-loop
 claim-requires c κs =
@@ -54,7 +53,8 @@ loop-again c =
     let loop = c .before .before .before .before .before .before .before .before .before in
     let some = c .before .before .before .before .before .before .before .before .loop-test .taken in
     let word = c .before .before .before .before .before .before .decode .ensures in
-    claiming-turn (start .pre .0) (loop .loop .inv) some word _ (c .before .before .before .before .onto .ensures) (c .claim .ensures)
+    let turned = onto-at (start .args .firsts .now) (ap length (start .pre .0 .first) ∙ listed-long 32 _) (c .before .before .before .before .onto .ensures) in
+    claiming-turn (start .pre .0) (loop .loop .inv) some word _ turned (c .claim .ensures)
 
 returns : tie.Need-returns Inv-loop μ-loop
 returns c = claiming-end (c .before .before .before .before .pre .0) (c .before .loop .inv) (c .loop-test .left)

@@ -1,0 +1,17 @@
+pub mod Lists
+pub mod Words
+pub mod Naming
+pub mod Looking
+pub mod Rising
+pub mod Walk
+pub mod FirstPasses
+pub mod Strings
+pub mod Numbers
+pub mod FirstTie
+pub mod Rests
+pub mod FollowPasses
+pub mod FollowTie
+pub mod LeftPasses
+pub mod Lowest
+pub mod LeftTie
+pub mod Telling

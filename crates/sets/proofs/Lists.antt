@@ -1,0 +1,26 @@
+-- A list is written out by the function that gives its elements. Assumes nothing.
+use mathlib.Core.Path.{_≡_, refl, ap, ap₂}
+use mathlib.Core.List.{List, [], _∷_}
+use Prim.Native.Nat.{ℕ, zero, suc, _<_}
+use native.Mathlib.Omega.{arith}
+use lib.ListN.{length, getD}
+use Rattle.sets.specs.Lists.{listed}
+
+pub listed-is : (n : ℕ) (f : ℕ → ℕ) (l : List ℕ) → length l ≡ n → ((i : ℕ) → getD l i 0 ≡ f i) → l ≡ listed n f
+unfolding listed
+listed-is zero f [] e h = refl
+listed-is zero f (x ∷ l) e h = absurd (omega arith)
+listed-is (suc n) f [] e h = absurd (omega arith)
+listed-is (suc n) f (x ∷ l) e h = ap₂ _∷_ (h 0) (listed-is n (λ i. f (suc i)) l (omega arith) (λ i. h (suc i)))
+
+-- and such a list has the function's values, and zeros behind them
+pub listed-long : (n : ℕ) (f : ℕ → ℕ) → length (listed n f) ≡ n
+unfolding listed
+listed-long zero f = refl
+listed-long (suc n) f = ap suc (listed-long n (λ i. f (suc i)))
+
+pub listed-at : (n : ℕ) (f : ℕ → ℕ) (i : ℕ) → i < n → getD (listed n f) i 0 ≡ f i
+unfolding listed
+listed-at zero f i h = absurd (omega arith)
+listed-at (suc n) f zero h = refl
+listed-at (suc n) f (suc i) h = listed-at n (λ k. f (suc k)) i (omega arith)

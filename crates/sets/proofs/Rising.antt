@@ -1,0 +1,111 @@
+-- Passes that join sets into an array until one adds nothing: the array is then the least closed family, whatever "closed" means. Assumes nothing.
+use mathlib.Core.Path.{_≡_, refl, sym, ap, _∙_}
+use mathlib.Core.Bool.{Bool, true, false, true≢false, or-true, or-false}
+use mathlib.Core.List.{List, [], _∷_}
+use Prim.Native.Nat.{ℕ, zero, suc, _+_, _*_, _-_, _≤_, _<_}
+use native.Mathlib.Nat.{suc-mul}
+use native.Mathlib.Omega.{arith}
+use native.Mathlib.Decide.{ℕ-discrete}
+use lib.ListN.{length, getD, set, replicate, length-set}
+use lib.Seq.{getD-set-same, getD-set-other, set-getD}
+use borrow.Author.Tests.{eq-eqb, ne-eqb}
+use Rattle.lookahead.specs.Elements.{Subset, one}
+use Rattle.lookahead.specs.Operations.{join}
+use Rattle.lookahead.proofs.Order.{empty-least, join-least, join-grows, same-join, subset-le}
+use Rattle.sets.specs.Least.{SetFamily, at, Under, Least, Adds, sum, Passing, Passes}
+
+-- the sum rises by what is stored
+sum-set : (l : List ℕ) (n v : ℕ) → n < length l → sum (set l n v) + at l n ≡ sum l + v
+unfolding sum
+sum-set [] n v h = absurd (omega arith)
+sum-set (x ∷ l) zero v h = omega arith
+sum-set (x ∷ l) (suc n) v h = omega (arith, sum-set l n v (omega arith))
+
+-- with numbers below m it stays below
+sum-bound : (m : ℕ) (l : List ℕ) → ((n : ℕ) → at l n ≤ m) → sum l ≤ length l * m
+unfolding sum
+sum-bound m [] h = omega arith
+sum-bound m (x ∷ l) h = omega (arith, h 0, sum-bound m l (λ n. h (suc n)), suc-mul (length l) m)
+
+under-join : (l : List ℕ) (n v : ℕ) (G : SetFamily) → n < length l → Under (at l) G → Subset v (G n) → Under (at (set l n (join (at l n) v))) G
+under-join l n v G h u s m = go (ℕ-discrete m n)
+  where
+    go : Dec (m ≡ n) → Subset (getD (set l n (join (at l n) v)) m 0) (G m)
+    go (yes e) = rw (e, getD-set-same l n (join (at l n) v) 0 h) (join-least (at l n) v (G n) (u n) s)
+    go (no ne) = rw (getD-set-other l n m (join (at l n) v) 0 ne) (u m)
+
+one-le : (b : Bool) → one b ≤ 1
+one-le true = omega arith
+one-le false = omega arith
+
+-- before the first rule
+pub passing-none : {W C : SetFamily → Type 0} (l : List ℕ) → C (at l) → Passing W C l l false
+passing-none l c = record { long = refl; grows = omega arith; still = λ e. c; below = λ G g u. u }
+
+module _ {W C : SetFamily → Type 0} {l₀ l : List ℕ} {grown : Bool} (p : Passing W C l₀ l grown) where
+  -- nothing is added
+  pub passing-on : {C′ : SetFamily → Type 0} → (C (at l) → C′ (at l)) → Passing W C′ l₀ l grown
+  passing-on new = record { long = p .long; grows = p .grows; still = λ f. new (p .still f); below = p .below }
+
+  -- one more rule, which adds v to the set of n: every family of W′ has v there, and a family that has it goes on to C′
+  pub passing-add : {W′ C′ : SetFamily → Type 0} {n v : ℕ} {l′ : List ℕ} {r : Bool} → n < length l
+      → ((G : SetFamily) → W′ G → W G) → ((G : SetFamily) → W′ G → Under (at l) G → Subset v (G n))
+      → (C (at l) → Subset v (at l n) → C′ (at l)) → Adds l n v grown l′ r → Passing W′ C′ l₀ l′ r
+  passing-add {W′} {C′} {n} {v} {l′} {r} h back value new a = go (ℕ-discrete (join (at l n) v) (at l n))
+    where
+      go : Dec (join (at l n) v ≡ at l n) → Passing W′ C′ l₀ l′ r
+      go (yes e) =
+          let list : l′ ≡ l = a .list ∙ ap (λ (x : ℕ). set l n x) e ∙ set-getD l n 0 in
+          let told : r ≡ grown = a .told ∙ rw (eq-eqb (join (at l n) v) (at l n) e) (or-false grown) in
+          rw (list, told) (record {
+            long = p .long;
+            grows = p .grows;
+            still = λ f. new (p .still f) (same-join (at l n) v e);
+            below = λ G c u. p .below G (back G c) u;
+          })
+      go (no ne) =
+          let told : r ≡ true = a .told ∙ rw (ne-eqb (join (at l n) v) (at l n) ne) (or-true grown) in
+          rw (a .list, told) (record {
+            long = length-set l n (join (at l n) v) ∙ p .long;
+            grows = omega (arith, p .grows, one-le grown, sum-set l n (join (at l n) v) h, join-grows (at l n) v ne);
+            still = λ f. absurd (true≢false f);
+            below = λ G c u. under-join l n v G h (p .below G (back G c) u) (value G c (p .below G (back G c) u));
+          })
+
+-- what `add` returns
+pub adds-same : {l : List ℕ} {n v : ℕ} (grown : Bool) → join (at l n) v ≡ at l n → Adds l n v grown (set l n (join (at l n) v)) grown
+adds-same {l} {n} {v} grown e = record { list = refl; told = sym (rw (eq-eqb (join (at l n) v) (at l n) e) (or-false grown)) }
+
+pub adds-more : {l : List ℕ} {n v : ℕ} (grown : Bool) → (join (at l n) v ≡ at l n → ⊥) → Adds l n v grown (set l n (join (at l n) v)) true
+adds-more {l} {n} {v} grown ne = record { list = refl; told = sym (rw (ne-eqb (join (at l n) v) (at l n) ne) (or-true grown)) }
+
+-- under every closed family: what holds from pass to pass
+abbrev pub Below : (SetFamily → Type 0) → List ℕ → Type 0
+Below C l = (G : SetFamily) → C G → Under (at l) G
+
+-- empty sets are
+pub below-none : (C : SetFamily → Type 0) (n : ℕ) → Below C (replicate n 0)
+below-none C n G c m = rw (none n m) (empty-least (G m))
+  where
+    none : (n m : ℕ) → at (replicate n 0) m ≡ 0
+    none zero m = refl
+    none (suc n) zero = refl
+    none (suc n) (suc m) = none n m
+
+-- how much the arrays of a length can still grow, where no set is a greater number than m
+abbrev pub missing : ℕ → List ℕ → ℕ
+missing m l = length l * m - sum l
+
+-- a pass keeps it, ends the passes if nothing has grown, and leaves less to grow if something has
+module _ {C : SetFamily → Type 0} {l l′ : List ℕ} {r : Bool} (p : Passes C l l′ r) (b : Below C l) where
+  pub below-pass : Below C l′
+  below-pass G c = p .below G c (b G c)
+
+  pub least-pass : r ≡ false → Least C l′
+  least-pass e = record { closed = p .still e; least = below-pass }
+
+  pub missing-falls : (m : ℕ) (G : SetFamily) → C G → ((n : ℕ) → G n ≤ m) → r ≡ true → missing m l′ < missing m l
+  missing-falls m G c h e =
+      let g = rw e at (p .grows) in
+      let k = sum-bound m l′ (λ n. omega (arith, subset-le (at l′ n) (G n) (below-pass G c n), h n)) in
+      rw (← p .long) (omega arith)

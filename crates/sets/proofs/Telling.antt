@@ -1,0 +1,80 @@
+-- What is found of an encoded grammar, by what its parts find. Assumes nothing.
+use mathlib.Core.Path.{_≡_, refl, sym, ap, _∙_}
+use mathlib.Core.List.{List}
+use mathlib.Core.Option.{Option, none, some}
+use Prim.Native.Nat.{ℕ}
+use native.Mathlib.Omega.{arith}
+use Rattle.answer.specs.declared.Error.{Error}
+use Rattle.answer.specs.declared.Error.the-variants.{LeftRecursive}
+use Rattle.grammar.specs.Limits.{maxNonterminals}
+use Rattle.grammar.specs.Encoding.{grammarOf}
+use Rattle.grammar.specs.Reading.{reading}
+use Rattle.grammar.specs.declared.reading.Sizes.{Sizes}
+use Rattle.grammar.specs.declared.reading.Outcome.{Outcome}
+use Rattle.grammar.specs.declared.reading.Outcome.the-variants.{Read, Faulty}
+use Rattle.semantics.specs.LeftRecursion.{lowestLeftRecursive}
+use Rattle.sets.specs.declared.Finding.{Finding}
+use Rattle.sets.specs.declared.Finding.the-variants.{Found, Refused}
+use Rattle.sets.specs.declared.Families.{Families}
+use Rattle.sets.specs.declared.left.Lowest.{Lowest}
+use Rattle.sets.specs.declared.left.Lowest.the-variants as lowest
+use Rattle.sets.specs.Lists.{listed}
+use Rattle.sets.specs.Left.{lowestOf}
+use Rattle.sets.specs.Sets.{firstNumber, followNumber}
+use Rattle.sets.specs.Families.{firstFault, readingFault, leftFault, setsFault, findingOf, setsIf, families, refusedBy, familiesOf}
+
+pub families-faulty : (words : List ℕ) {e : Error} {o : Outcome} → o ≡ reading words → o ≡ Faulty e → refusedBy e ≡ familiesOf words
+unfolding familiesOf setsFault
+families-faulty words r f = rw (sym r ∙ f)
+
+-- the lowest nonterminal that is told
+lowest-none : (o : Option ℕ) {l : Lowest} → l ≡ lowestOf o → l ≡ lowest.Absent → o ≡ none
+lowest-none none e a = refl
+lowest-none (some A) e a = let z : _≡_ {A = ℕ} 0 1 = cc in absurd (omega arith)
+
+lowest-some : (o : Option ℕ) {l : Lowest} {A : ℕ} → l ≡ lowestOf o → l ≡ lowest.At A → o ≡ some A
+lowest-some none e a = let z : _≡_ {A = ℕ} 0 1 = cc in absurd (omega arith)
+lowest-some (some B) {l} {A} e a = let z : B ≡ A = cc in ap some z
+
+module _ (words : List ℕ) {z : Sizes} {l : Lowest} (read : reading words ≡ Read z) (e : l ≡ lowestOf (lowestLeftRecursive (grammarOf words))) where
+  pub families-left : {A : ℕ} → l ≡ lowest.At A → refusedBy (LeftRecursive A) ≡ familiesOf words
+  unfolding familiesOf setsFault
+  families-left a = rw (read, lowest-some (lowestLeftRecursive (grammarOf words)) e a)
+
+  pub families-found : {firsts follows : List ℕ} → l ≡ lowest.Absent → firsts ≡ listed maxNonterminals (firstNumber (grammarOf words))
+      → follows ≡ listed maxNonterminals (followNumber (grammarOf words)) → families (Found z) firsts follows ≡ familiesOf words
+  unfolding familiesOf setsFault
+  families-found a f g = rw (read, lowest-none (lowestLeftRecursive (grammarOf words)) e a, f, g)
+
+-- where sets are found there is no fault, and the sets are those of the grammar
+pub record FoundFamilies (words : List ℕ) (z : Sizes) (firsts follows : List ℕ) : Type 0 where
+  pub read : reading words ≡ Read z
+  pub faultless : setsFault words ≡ none
+  pub first : firsts ≡ listed maxNonterminals (firstNumber (grammarOf words))
+  pub follow : follows ≡ listed maxNonterminals (followNumber (grammarOf words))
+
+told-found : (f : Option Error) (o : Outcome) {z : Sizes} → findingOf f o ≡ Found z → (f ≡ none) × (o ≡ Read z)
+told-found none (Read y) {z} q = let e : y ≡ z = cc in (refl, ap Read e)
+told-found none (Faulty x) q = let n : _≡_ {A = ℕ} 0 1 = cc in absurd (omega arith)
+told-found (some x) o q = let n : _≡_ {A = ℕ} 0 1 = cc in absurd (omega arith)
+
+pub families-told : (words : List ℕ) {r : Families} {z : Sizes} → r ≡ familiesOf words → r .finding ≡ Found z → FoundFamilies words z (r .firsts) (r .follows)
+unfolding familiesOf
+families-told words {r} {z} e q =
+    let k = told-found (setsFault words) (reading words) (sym (ap (λ x. x .finding) e) ∙ q) in
+    record {
+      read = k .1;
+      faultless = k .0;
+      first = ap (λ x. x .firsts) e ∙ ap (λ f. setsIf f (listed maxNonterminals (firstNumber (grammarOf words)))) (k .0);
+      follow = ap (λ x. x .follows) e ∙ ap (λ f. setsIf f (listed maxNonterminals (followNumber (grammarOf words)))) (k .0);
+    }
+
+-- and a refusal is the fault
+told-refused : (o : Outcome) (l : Option Error) {x : Error} → findingOf (firstFault (readingFault o) l) o ≡ Refused x → firstFault (readingFault o) l ≡ some x
+told-refused (Faulty y) l {x} q = let e : y ≡ x = cc in ap some e
+told-refused (Read z) none q = let n : _≡_ {A = ℕ} 0 1 = cc in absurd (omega arith)
+told-refused (Read z) (some y) {x} q = let e : y ≡ x = cc in ap some e
+
+pub families-refused : (words : List ℕ) {r : Families} {x : Error} → r ≡ familiesOf words → r .finding ≡ Refused x → setsFault words ≡ some x
+unfolding familiesOf setsFault
+families-refused words e q = told-refused (reading words) (leftFault (lowestLeftRecursive (grammarOf words))) (sym (ap (λ x. x .finding) e) ∙ q)

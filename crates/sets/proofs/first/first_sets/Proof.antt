@@ -1,0 +1,50 @@
+-- The loop keeps the array under every closed family; the last pass shows it closed.
+use mathlib.Core.Path.{refl, _∙_}
+use native.Mathlib.Omega.{arith}
+use lib.ListN.{length}
+use mathlib.Core.Path.{_≡_}
+use Rattle.grammar.specs.Limits.{maxNonterminals}
+use Rattle.grammar.specs.Encoding.{parse}
+use Rattle.lookahead.specs.Operations.{full}
+use Rattle.sets.specs.First.{FirstClosed}
+use Rattle.sets.proofs.Rising.{Below, below-none, missing, below-pass, least-pass, missing-falls}
+use Rattle.sets.proofs.FirstTie.{full-closed, first-listed}
+use Rattle.sets.proofs.first.first_sets.Statement.{statement}
+use Rattle.sets.proofs.first.first_sets.Tie as tie
+
+abbrev Inv-loop : tie.InvT-loop
+Inv-loop words sizes firsts₀ firsts = (length firsts ≡ maxNonterminals) × Below (FirstClosed (sizes .terminals) (parse words .rules)) firsts
+
+abbrev μ-loop : tie.MeasureT-loop
+μ-loop words sizes firsts₀ firsts = missing (full (sizes .terminals)) firsts
+
+loop-holds : tie.Need-loop-holds Inv-loop μ-loop
+loop-holds c = (refl, below-none _ 32)
+
+first-pass-requires : tie.Need-first-pass-requires Inv-loop μ-loop
+first-pass-requires c κs = (c .before .before .before .pre, c .before .loop .inv .0)
+
+loop-less : tie.Need-loop-less Inv-loop μ-loop
+loop-less c =
+    let start = c .before .before .before .before .before in
+    missing-falls (c .before .first-pass .ensures) (c .before .before .before .loop .inv .1) _ _
+    (full-closed (start .args .sizes .terminals) (parse (start .args .words .now) .rules)) (λ n. omega arith) (c .if1 .taken)
+
+loop-again : tie.Need-loop-again Inv-loop μ-loop
+loop-again c =
+    let pass = c .before .first-pass .ensures in
+    let loop = c .before .before .before in
+    (pass .long ∙ loop .loop .inv .0, below-pass pass (loop .loop .inv .1))
+
+returns : tie.Need-returns Inv-loop μ-loop
+returns c =
+    let start = c .before .before .before .before .before in
+    let loop = c .before .before .before in
+    let pass = c .before .first-pass .ensures in
+    first-listed (start .args .words .now) (start .args .sizes) (start .pre) _
+    (pass .long ∙ loop .loop .inv .0) (least-pass pass (loop .loop .inv .1) (c .if1 .left))
+
+pub first-sets-spec : {M : Type 1} → statement M
+first-sets-spec =
+    tie.close
+    (tie.spec Inv-loop μ-loop loop-holds first-pass-requires loop-less loop-again returns)

@@ -1,0 +1,56 @@
+-- Only a nonterminal of a body has something behind it.
+use mathlib.Core.Path.{refl}
+use Rattle.sets.proofs.Naming.{no-name}
+use borrow.Author.Needs.{needs}
+use Rattle.sets.proofs.follow.add_behind.Statement.{statement}
+use Rattle.sets.proofs.follow.add_behind.Tie as tie
+
+enum-known-word : tie.Need-enum-known-word
+enum-known-word c = search needs
+
+returns : tie.Need-returns
+returns c = rw (no-name (c .before .args .word) (c .match .keys2)) (refl, refl)
+
+enum-known-symbol : tie.Need-enum-known-symbol
+enum-known-symbol c = search needs
+
+enum-told : tie.Need-enum-told
+enum-told c = search needs
+
+returns-2 : tie.Need-returns-2
+returns-2 c = rw (c .before .before .before .word .given .1, c .enum-told .given .1) (refl, refl)
+
+mul-t11 : tie.Need-mul-t11
+mul-t11 c = search needs
+
+element-copy-out-t14 : tie.Need-element-copy-out-t14
+element-copy-out-t14 c = search needs
+
+concat-requires : tie.Need-concat-requires
+concat-requires c κs = search needs
+
+add-requires : tie.Need-add-requires
+add-requires c κs =
+    let start = c .before .before .before .before .before .before .before .before .before in
+    rw (c .before .before .before .before .before .before .before .word .given .1, c .before .before .before .before .symbol .given .1) at (start .pre .0)
+
+returns-3 : tie.Need-returns-3
+returns-3 c =
+    let word = c .before .before .before .before .before .before .before .before .word .given .1 in
+    let symbol = c .before .before .before .before .before .symbol .given .1 in
+    rw (word, symbol, ← c .before .before .concat .ensures .is) (c .add .ensures)
+
+pub add-behind-spec : {M : Type 1} → statement M
+add-behind-spec =
+    tie.close
+    (tie.spec
+    enum-known-word
+    returns
+    enum-known-symbol
+    enum-told
+    returns-2
+    mul-t11
+    element-copy-out-t14
+    concat-requires
+    add-requires
+    returns-3)

@@ -1,0 +1,58 @@
+-- What is found of an encoded grammar before its table is made: the first fault among the errors 3 to 8, or its sizes and its sets.
+use mathlib.Core.List.{List}
+use mathlib.Core.Option.{Option, none, some}
+use Prim.Native.Nat.{ℕ}
+use lib.ListN.{replicate}
+use Rattle.answer.specs.declared.Error.{Error}
+use Rattle.answer.specs.declared.Error.the-variants.{LeftRecursive}
+use Rattle.grammar.specs.Limits.{maxNonterminals}
+use Rattle.grammar.specs.Encoding.{grammarOf}
+use Rattle.grammar.specs.Reading.{reading}
+use Rattle.grammar.specs.declared.reading.Outcome.{Outcome}
+use Rattle.grammar.specs.declared.reading.Outcome.the-variants.{Read, Faulty}
+use Rattle.semantics.specs.LeftRecursion.{lowestLeftRecursive}
+use Rattle.sets.specs.declared.Finding.{Finding}
+use Rattle.sets.specs.declared.Finding.the-variants.{Found, Refused}
+use Rattle.sets.specs.declared.Families.{Families}
+use Rattle.sets.specs.Lists.{listed}
+use Rattle.sets.specs.Sets.{firstNumber, followNumber}
+
+-- the first of two faults
+abbrev pub firstFault : Option Error → Option Error → Option Error
+firstFault none f = f
+firstFault (some e) f = some e
+
+-- 3 to 7
+abbrev pub readingFault : Outcome → Option Error
+readingFault (Read z) = none
+readingFault (Faulty e) = some e
+
+-- 8: the lowest nonterminal that left-reaches itself
+abbrev pub leftFault : Option ℕ → Option Error
+leftFault none = none
+leftFault (some A) = some (LeftRecursive A)
+
+unfoldable pub setsFault : List ℕ → Option Error
+setsFault words = firstFault (readingFault (reading words)) (leftFault (lowestLeftRecursive (grammarOf words)))
+
+abbrev pub findingOf : Option Error → Outcome → Finding
+findingOf (some e) o = Refused e
+findingOf none (Read z) = Found z
+findingOf none (Faulty e) = Refused e
+
+-- a family of sets, or empty ones
+abbrev pub setsIf : Option Error → List ℕ → List ℕ
+setsIf none l = l
+setsIf (some e) l = replicate maxNonterminals 0
+
+abbrev pub families : Finding → List ℕ → List ℕ → Families
+families f firsts follows = record { finding = f; firsts = firsts; follows = follows }
+
+abbrev pub refusedBy : Error → Families
+refusedBy e = families (Refused e) (replicate maxNonterminals 0) (replicate maxNonterminals 0)
+
+unfoldable pub familiesOf : List ℕ → Families
+familiesOf words =
+    families (findingOf (setsFault words) (reading words))
+    (setsIf (setsFault words) (listed maxNonterminals (firstNumber (grammarOf words))))
+    (setsIf (setsFault words) (listed maxNonterminals (followNumber (grammarOf words))))

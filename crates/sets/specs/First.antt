@@ -1,0 +1,45 @@
+-- First sets as numbers: of a symbol, a body and a rule, and the families that the rules close.
+use mathlib.Core.Path.{_≡_}
+use mathlib.Core.List.{List, [], _∷_, List·Memᴰ}
+use Prim.Native.Nat.{ℕ}
+use Rattle.grammar.specs.declared.Symbol.{Symbol}
+use Rattle.grammar.specs.declared.Symbol.the-variants.{Terminal, Nonterminal}
+use Rattle.grammar.specs.declared.word.Word.{Word}
+use Rattle.grammar.specs.Syntax.{Body, Rule}
+use Rattle.grammar.specs.Encoding.{Parsed, onWord}
+use Rattle.lookahead.specs.Elements.{Subset}
+use Rattle.lookahead.specs.Operations.{end, terminal, full, meet, concat}
+use Rattle.sets.specs.declared.first.Rest.{Rest}
+use Rattle.sets.specs.Least.{SetFamily}
+
+unfoldable pub symbolFirst : SetFamily → Symbol → ℕ
+symbolFirst F (Terminal a) = terminal a
+symbolFirst F (Nonterminal A) = F A
+
+-- (document 01: a body strings its symbols' first sets)
+unfoldable pub bodyFirst : SetFamily → Body → ℕ
+bodyFirst F [] = end
+bodyFirst F (X ∷ b) = concat (symbolFirst F X) (bodyFirst F b)
+
+-- (document 01: the meeting of the must bodies), over t terminals
+unfoldable pub ruleFirst : ℕ → SetFamily → List Body → ℕ
+ruleFirst t F [] = full t
+ruleFirst t F (b ∷ bs) = meet (bodyFirst F b) (ruleFirst t F bs)
+
+-- each rule's set is contained in its head's
+abbrev pub FirstClosed : ℕ → List Rule → SetFamily → Type 0
+FirstClosed t rs F = (r : Rule) → List·Memᴰ r rs → Subset (ruleFirst t F (r .positives)) (F (r .head))
+
+abbrev pub sets : ℕ → ℕ → Rest
+sets b m = record { body = record { bits = b }; meet = record { bits = m } }
+
+-- the sets of what is left of a body and of a rule's positives
+abbrev pub restOf : ℕ → SetFamily → Parsed → Rest
+restOf t F p = sets (bodyFirst F (p .body)) (ruleFirst t F (p .positives))
+
+abbrev pub noRest : ℕ → Rest
+noRest t = sets end (full t)
+
+-- the sets of a rest become those of the rest with a word in front
+pub record Onto (t : ℕ) (F : SetFamily) (w : Word) (rest r : Rest) : Type 0 where
+  pub onto : (p : Parsed) → rest ≡ restOf t F p → r ≡ restOf t F (onWord w p)

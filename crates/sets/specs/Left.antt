@@ -1,0 +1,70 @@
+-- Left recursion in numbers: what a nonterminal left-reaches is a set in which B weighs 2^B.
+use mathlib.Core.Path.{_≡_}
+use mathlib.Core.List.{List, [], _∷_, _++_, List·Memᴰ}
+use mathlib.Core.Option.{Option, none, some}
+use Prim.Native.Nat.{ℕ}
+use lib.ListN.{getD}
+use Rattle.grammar.specs.declared.Symbol.{Symbol}
+use Rattle.grammar.specs.declared.Symbol.the-variants.{Terminal, Nonterminal}
+use Rattle.grammar.specs.declared.word.Word.{Word}
+use Rattle.grammar.specs.declared.reading.Sizes.{Sizes}
+use Rattle.grammar.specs.declared.reading.Outcome.the-variants.{Read}
+use Rattle.grammar.specs.Choice.{choose}
+use Rattle.grammar.specs.Syntax.{Body, Rule, bodies}
+use Rattle.grammar.specs.Encoding.{Parsed, onWord, grammarOf}
+use Rattle.grammar.specs.Limits.{maxNonterminals}
+use Rattle.grammar.specs.Reading.{reading}
+use Rattle.lookahead.specs.Elements.{nothing, weight, has, Subset}
+use Rattle.lookahead.specs.Operations.{empty, join}
+use Rattle.semantics.specs.Rounds.{Set}
+use Rattle.sets.specs.declared.left.Left.{Left}
+use Rattle.sets.specs.declared.left.Lowest.{Lowest}
+use Rattle.sets.specs.declared.left.Lowest.the-variants.{Absent, At}
+use Rattle.sets.specs.Least.{SetFamily}
+use Rattle.sets.specs.Lists.{listed}
+use Rattle.sets.specs.Sets.{firstNumber}
+
+-- the nonterminals whose first sets have nothing: those that are nullable
+abbrev pub emptyIn : SetFamily → Set
+emptyIn F A = has (F A) nothing
+
+-- a symbol in front of what is at the left of a body: a nonterminal with all that it reaches and, if it is in the set s, what is behind
+unfoldable pub symbolLeft : Set → SetFamily → Symbol → ℕ → ℕ
+symbolLeft s R (Terminal a) behind = empty
+symbolLeft s R (Nonterminal A) behind = choose (s A) (join (join (weight A) (R A)) behind) (join (weight A) (R A))
+
+unfoldable pub bodyLeft : Set → SetFamily → Body → ℕ
+bodyLeft s R [] = empty
+bodyLeft s R (X ∷ b) = symbolLeft s R X (bodyLeft s R b)
+
+unfoldable pub bodiesLeft : Set → SetFamily → List Body → ℕ
+bodiesLeft s R [] = empty
+bodiesLeft s R (b ∷ bs) = join (bodyLeft s R b) (bodiesLeft s R bs)
+
+-- what is at the left of each rule's bodies, of both signs, is contained in its head's set
+abbrev pub ReachClosed : Set → List Rule → SetFamily → Type 0
+ReachClosed s rs R = (r : Rule) → List·Memᴰ r rs → Subset (bodiesLeft s R (bodies r)) (R (r .head))
+
+abbrev pub lefts : ℕ → ℕ → Left
+lefts b r = record { body = b; rule = r }
+
+-- of what is left of a body and of a rule's bodies
+abbrev pub leftOf : Set → SetFamily → Parsed → Left
+leftOf s R p = lefts (bodyLeft s R (p .body)) (bodiesLeft s R (p .positives ++ p .negatives))
+
+pub record OntoLeft (s : Set) (R : SetFamily) (w : Word) (left r : Left) : Type 0 where
+  pub onto : (p : Parsed) → left ≡ leftOf s R p → r ≡ leftOf s R (onWord w p)
+
+-- a grammar that has been read, and its first sets
+pub record GivenFirsts (words firsts : List ℕ) : Type 0 where
+  pub sizes : Sizes
+  pub read : reading words ≡ Read sizes
+  pub first : firsts ≡ listed maxNonterminals (firstNumber (grammarOf words))
+
+-- the nonterminals that are in their own sets
+abbrev pub ownIn : List ℕ → Set
+ownIn l A = has (getD l A 0) A
+
+abbrev pub lowestOf : Option ℕ → Lowest
+lowestOf none = Absent
+lowestOf (some A) = At A

@@ -1,0 +1,71 @@
+// First and follow sets of an encoded grammar, by which left recursion is found too.
+ghost use mathlib.Core.Path.{_≡_};
+ghost use Rattle.grammar.specs.Reading.{reading};
+ghost use Rattle.grammar.specs.declared.reading.Outcome.the-variants.{Read};
+ghost use Rattle.sets.specs.Families.{refusedBy, familiesOf};
+use answer::Error;
+use family::SETS;
+use first::first_sets;
+use follow::follow_sets;
+use grammar::reading::Outcome;
+use grammar::reading::Sizes;
+use grammar::reading::read;
+use left::Lowest;
+use left::lowest_left_recursive;
+
+pub mod family;
+pub mod first;
+mod follow;
+mod left;
+
+pub enum Finding {
+    Found(Sizes),
+    Refused(Error),
+}
+
+// What is found of an encoded grammar: its sizes, or why it is refused; and its sets, all empty where it is refused.
+pub struct Families {
+    pub finding: Finding,
+    pub firsts: [u32; SETS],
+    pub follows: [u32; SETS],
+}
+
+fn refused(error: Error) -> Families
+    ensures { λ r. ⌜ r ≡ refusedBy error ⌝ }
+{
+    Families {
+        finding: Finding::Refused(error),
+        firsts: [0u32; SETS],
+        follows: [0u32; SETS],
+    }
+}
+
+// A grammar that has been read.
+fn analyze_grammar(words: &[u32], sizes: Sizes) -> Families
+    requires { ⌜ reading (now words) ≡ Read sizes ⌝ }
+    ensures { λ r. ⌜ r ≡ familiesOf (now (words .entry)) ⌝ }
+{
+    let firsts = first_sets(words, sizes);
+    let lowest = lowest_left_recursive(words, sizes, &firsts);
+    match lowest {
+        Lowest::At(nonterminal) => refused(Error::LeftRecursive(nonterminal)),
+        Lowest::Absent => {
+            let follows = follow_sets(words, sizes, &firsts);
+            Families {
+                finding: Finding::Found(sizes),
+                firsts,
+                follows,
+            }
+        }
+    }
+}
+
+pub fn analyze(words: &[u32]) -> Families
+    ensures { λ r. ⌜ r ≡ familiesOf (now (words .entry)) ⌝ }
+{
+    let outcome = read(words);
+    match outcome {
+        Outcome::Faulty(error) => refused(error),
+        Outcome::Read(sizes) => analyze_grammar(words, sizes),
+    }
+}
