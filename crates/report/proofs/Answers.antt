@@ -17,8 +17,8 @@ use Rattle.recognizer.specs.Memory.{lentBack, memoWords}
 use Rattle.recognizer.proofs.Judged.{judged-readable}
 use Rattle.recognizer.proofs.Checking.{passed-fault}
 use Rattle.text.specs.Writing.{Put}
-use Rattle.text.specs.Sheet.{checkText}
-use Rattle.text.specs.Judgement.{judgementText}
+use Rattle.sheet_text.specs.Sheet.{checkText}
+use Rattle.judgement_text.specs.Judgement.{judgementText}
 use Rattle.report.specs.Report.{blankTable, blankMemo, checkedText, judgedText, nonterminalsOf, tokensOf}
 
 -- the numbers of nonterminals and tokens are those printed, wherever judging is not refused

@@ -15,7 +15,7 @@ use Rattle.text.specs.declared.words.Loaded.{Loaded}
 use Rattle.text.specs.declared.words.Loaded.the-variants.{Words, NotWords}
 use Rattle.text.specs.Words.{bytesOfWord, wordsOf, areWords, Loading}
 use Rattle.text.specs.Writing.{Put}
-use Rattle.text.specs.Judgement.{refusalText}
+use Rattle.text.specs.Refusal.{refusalText}
 use Rattle.text.proofs.Fours.{length-words}
 use Rattle.text.proofs.Writing.{put-length}
 use Rattle.report.specs.Report.{Printed, checkedText, sheetOf, judgedText, judgementOf}

@@ -18,8 +18,9 @@ use Rattle.recognizer.specs.Answers.{checkFault, judgeFault, refusedOr, verdict
 use Rattle.recognizer.specs.Memory.{lentBack, memoWords}
 use Rattle.text.specs.Words.{wordsOf, areWords}
 use Rattle.text.specs.Writing.{Put}
-use Rattle.text.specs.Sheet.{checkText}
-use Rattle.text.specs.Judgement.{refusalText, judgementText}
+use Rattle.text.specs.Refusal.{refusalText}
+use Rattle.sheet_text.specs.Sheet.{checkText}
+use Rattle.judgement_text.specs.Judgement.{judgementText}
 
 -- a text put from the buffer's front on, of which so many bytes stand there
 pub record Printed (text before after : List ℕ) (n : ℕ) : Type 0 where

@@ -10,11 +10,11 @@ use grammar::limits::TOKENS;
 use grammar::limits::WORDS;
 use grammar::reading::Outcome;
 use grammar::reading::read;
+use judgement_text::put_judgement;
 use recognizer::check;
 use recognizer::judge;
-use text::judgement::put_judgement;
-use text::judgement::put_refusal;
-use text::sheet::put_check;
+use sheet_text::put_check;
+use text::refusal::put_refusal;
 use text::words::Loaded;
 use text::words::load;
 

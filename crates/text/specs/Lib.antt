@@ -1,6 +1,5 @@
 pub mod Ascii
 pub mod Decimal
-pub mod Judgement
-pub mod Sheet
+pub mod Refusal
 pub mod Words
 pub mod Writing

@@ -1,5 +1,4 @@
-// Files and texts: the words that a file's bytes are, and what the programs print.
-pub mod judgement;
+// Files and texts: the words that a file's bytes are, numbers and refusals as text, and texts put into a lent buffer.
 pub mod put;
-pub mod sheet;
+pub mod refusal;
 pub mod words;

@@ -1,0 +1,95 @@
+// What is printed of a judgement: a refusal, or a verdict and the calls that the memo table holds.
+ghost use mathlib.Core.Path.{_≡_};
+ghost use mathlib.Core.List.{_++_};
+ghost use Prim.Native.Nat.{_+_, _*_, _/_, _%_, _<_};
+ghost use lib.ListN.{getD};
+ghost use Rattle.text.specs.Ascii.{ascii};
+ghost use Rattle.text.specs.Decimal.{decimal, labelled};
+ghost use Rattle.text.specs.Writing.{Put, upTo};
+ghost use Rattle.judgement_text.specs.Judgement.{uncalled, endText, callText, callsText, verdictLine, judgementText};
+use answer::Answer;
+use answer::Calls;
+use text::put::put_bytes;
+use text::put::put_labelled;
+use text::put::put_number;
+use text::refusal::put_refusal;
+
+// The memo table's codes; any other entry is an end.
+const FAILED: u16 = 65534;
+
+const UNCALLED: u16 = 65535;
+
+// An entry of the memo table; behind its end nothing was called.
+fn entry_at(memo: &[u16], at: usize) -> u16
+    ensures { λ r. ⌜ r ≡ getD (now (memo .entry)) at uncalled ⌝ }
+{
+    if at < memo.len() { memo[at] } else { UNCALLED }
+}
+
+fn put_end(out: &mut [u8], at: usize, entry: u16) -> usize
+    ensures { λ r. ⌜ Put (now (out .entry)) at (endText entry) (now (out .exit)) r ⌝ }
+{
+    if entry == FAILED {
+        put_bytes(out, at, b" -")
+    } else {
+        put_labelled(out, at, b" ", entry as usize)
+    }
+}
+
+fn put_call(out: &mut [u8], at: usize, nonterminal: usize, place: usize, entry: u16) -> usize
+    ensures { λ r. ⌜ Put (now (out .entry)) at (callText nonterminal place entry) (now (out .exit)) r ⌝ }
+{
+    if entry == UNCALLED {
+        return at;
+    }
+    let at = put_number(out, at, nonterminal);
+    let at = put_labelled(out, at, b" ", place);
+    let at = put_end(out, at, entry);
+    put_bytes(out, at, b"\n")
+}
+
+fn put_calls(out: &mut [u8], at: usize, nonterminals: u32, tokens: u16, memo: &[u16]) -> usize
+    ensures { λ r. ⌜ Put (now (out .entry)) at (callsText nonterminals tokens (now (memo .entry))) (now (out .exit)) r ⌝ }
+{
+    let places = tokens as usize + 1;
+    let entries = nonterminals as usize * places;
+    let mut next = at;
+    let mut k = 0;
+    while k < entries {
+        next = put_call(out, next, k / places, k % places, entry_at(memo, k));
+        k = k + 1;
+    }
+    next
+}
+
+fn put_verdict(out: &mut [u8], at: usize, verdict: &[u8], calls: Calls) -> usize
+    ensures { λ r. ⌜ Put (now (out .entry)) at ((now (verdict .entry) ++ decimal (calls .count)) ++ labelled " " (calls .farthest) ++ ascii "\n") (now (out .exit)) r ⌝ }
+{
+    let at = put_labelled(out, at, verdict, calls.count);
+    let at = put_labelled(out, at, b" ", calls.farthest);
+    put_bytes(out, at, b"\n")
+}
+
+// What is printed of an answer about an input of so many tokens.
+pub fn put_judgement(
+    out: &mut [u8],
+    answer: Answer,
+    nonterminals: u32,
+    tokens: u16,
+    memo: &[u16],
+) -> usize
+    ensures { λ r. ⌜ Put (now (out .entry)) 0 (judgementText answer nonterminals tokens (now (memo .entry))) (now (out .exit)) r ⌝ }
+{
+    match answer {
+        Answer::Refused(error) => put_refusal(out, 0, error),
+        Answer::Passed => 0,
+        Answer::Rejected(calls) => {
+            let at = put_verdict(out, 0, b"rejected ", calls);
+            put_calls(out, at, nonterminals, tokens, memo)
+        }
+        Answer::Accepted(calls) => {
+            let at = put_verdict(out, 0, b"accepted ", calls);
+            put_calls(out, at, nonterminals, tokens, memo)
+        }
+    }
+}

@@ -1,0 +1,42 @@
+-- By whether there is an entry.
+use Rattle.sheet_text.proofs.Lines.{no-entry-put, entry-put}
+use borrow.Author.Needs.{needs}
+use Rattle.sheet_text.proofs.put_entry.Statement.{statement}
+use Rattle.sheet_text.proofs.put_entry.Tie as tie
+
+slice-aggregate-put-bytes : tie.Need-slice-aggregate-put-bytes
+slice-aggregate-put-bytes c = search needs
+
+put-bytes-requires : tie.Need-put-bytes-requires
+put-bytes-requires c κs = search needs
+
+slice-aggregate-put-labelled : tie.Need-slice-aggregate-put-labelled
+slice-aggregate-put-labelled c = search needs
+
+put-labelled-requires : tie.Need-put-labelled-requires
+put-labelled-requires c κs = search needs
+
+same-length : tie.Need-same-length
+same-length c = search needs
+
+returns : tie.Need-returns
+returns c = no-entry-put _ (c .before .before .before .before .before .if1 .taken) (c .before .before .put-bytes .ensures)
+
+same-length-2 : tie.Need-same-length-2
+same-length-2 c = search needs
+
+returns-2 : tie.Need-returns-2
+returns-2 c = entry-put _ (c .before .before .before .before .before .if1 .left) (c .before .before .put-labelled .ensures)
+
+pub put-entry-spec : {M : Type 1} → statement M
+put-entry-spec =
+    tie.close
+    (tie.spec
+    slice-aggregate-put-bytes
+    put-bytes-requires
+    slice-aggregate-put-labelled
+    put-labelled-requires
+    same-length
+    returns
+    same-length-2
+    returns-2)

@@ -1,0 +1,62 @@
+-- The sheet of a grammar (document 01: the sheet), line by line, from the words of its table.
+use mathlib.Core.List.{List, [], _++_}
+use Prim.Native.Nat.{ℕ, _+_, _*_}
+use Prim.Native.String.{String}
+use lib.Dec.{eqb}
+use lib.ListN.{getD}
+use Rattle.answer.specs.declared.Answer.{Answer}
+use Rattle.answer.specs.declared.Answer.the-variants.{Refused, Passed, Rejected, Accepted}
+use Rattle.grammar.specs.declared.reading.Sizes.{Sizes}
+use Rattle.grammar.specs.declared.reading.Outcome.{Outcome}
+use Rattle.grammar.specs.declared.reading.Outcome.the-variants.{Read, Faulty}
+use Rattle.grammar.specs.Choice.{choose}
+use Rattle.lookahead.specs.Elements.{size}
+use Rattle.text.specs.Ascii.{ascii}
+use Rattle.text.specs.Decimal.{labelled}
+use Rattle.text.specs.Refusal.{refusalText}
+use Rattle.text.specs.Writing.{upTo}
+
+-- the table's word for no entry
+abbrev pub noEntry : ℕ
+noEntry = 4294967295
+
+-- a word of the table; behind its end there is none
+abbrev pub wordAt : List ℕ → ℕ → ℕ
+wordAt table i = getD table i noEntry
+
+unfoldable pub sizesLine : Sizes → List ℕ
+sizesLine z = labelled "names " (z .nonterminals) ++ labelled " letters " (z .terminals) ++ labelled " rules " (z .rules) ++ ascii "\n"
+
+-- a set in decimal, and how many elements it has
+abbrev pub setText : String → ℕ → List ℕ
+setText label set = labelled label set ++ labelled " " (size set)
+
+-- a nonterminal and its two sets
+unfoldable pub setsLine : List ℕ → ℕ → List ℕ
+setsLine table A =
+    labelled "name " A ++ setText " first " (wordAt table (2 * A)) ++ setText " follow " (wordAt table (2 * A + 1)) ++ ascii "\n"
+
+-- a rule's number, or a dash
+unfoldable pub entryText : ℕ → List ℕ
+entryText entry = choose (eqb entry noEntry) (ascii " -") (labelled " " entry)
+
+-- the entries of a row that starts at an index of the table
+unfoldable pub entriesLine : List ℕ → ℕ → ℕ → List ℕ
+entriesLine table start columns = ascii "cells" ++ upTo columns (λ c. entryText (wordAt table (start + c))) ++ ascii "\n"
+
+-- the two lines of a nonterminal: its sets, and its row, which has a column for each terminal and one for the end
+unfoldable pub nonterminalText : Sizes → List ℕ → ℕ → List ℕ
+nonterminalText z table A =
+    setsLine table A ++ entriesLine table (2 * z .nonterminals + A * (z .terminals + 1)) (z .terminals + 1)
+
+-- the sheet of words that are read, and the refusal of those that are not
+unfoldable pub sheetText : Outcome → List ℕ → List ℕ
+sheetText (Read z) table = sizesLine z ++ upTo (z .nonterminals) (nonterminalText z table)
+sheetText (Faulty e) table = refusalText e
+
+-- what is printed of a check: the refusal, or the sheet; a check gives no verdict
+unfoldable pub checkText : Answer → Outcome → List ℕ → List ℕ
+checkText (Refused e) outcome table = refusalText e
+checkText Passed outcome table = sheetText outcome table
+checkText (Rejected c) outcome table = []
+checkText (Accepted c) outcome table = []

@@ -1,0 +1,150 @@
+// The sheet of a grammar, line by line, from the words of its table.
+ghost use mathlib.Core.Path.{_≡_};
+ghost use mathlib.Core.List.{_++_};
+ghost use Prim.Native.Nat.{_+_, _*_, _≤_, _<_};
+ghost use Rattle.grammar.specs.Reading.{reading};
+ghost use Rattle.grammar.specs.Limits.{maxNonterminals, maxTerminals};
+ghost use Rattle.lookahead.specs.Elements.{size as sizeOf};
+ghost use Rattle.text.specs.Decimal.{decimal, labelled};
+ghost use Rattle.text.specs.Writing.{Put, upTo};
+ghost use Rattle.sheet_text.specs.Sheet.{wordAt, sizesLine, setsLine, entryText, entriesLine, nonterminalText, sheetText, checkText};
+use answer::Answer;
+use grammar::reading::Outcome;
+use grammar::reading::Sizes;
+use grammar::reading::read;
+use lookahead::LookaheadSet;
+use text::put::put_bytes;
+use text::put::put_labelled;
+use text::refusal::put_refusal;
+
+// The table's word for no entry.
+const NO_ENTRY: u32 = 4294967295;
+
+// A word of the table; behind its end there is none.
+fn word_at(table: &[u32], at: usize) -> u32
+    ensures { λ r. ⌜ r ≡ wordAt (now (table .entry)) at ⌝ }
+{
+    if at < table.len() {
+        table[at]
+    } else {
+        NO_ENTRY
+    }
+}
+
+fn put_sizes(out: &mut [u8], at: usize, sizes: Sizes) -> usize
+    ensures { λ r. ⌜ Put (now (out .entry)) at (sizesLine sizes) (now (out .exit)) r ⌝ }
+{
+    let at = put_labelled(out, at, b"names ", sizes.nonterminals as usize);
+    let at = put_labelled(out, at, b" letters ", sizes.terminals as usize);
+    let at = put_labelled(out, at, b" rules ", sizes.rules);
+    put_bytes(out, at, b"\n")
+}
+
+// A set in decimal behind a label, and how many elements it has.
+fn put_set(out: &mut [u8], at: usize, label: &[u8], bits: u32) -> usize
+    ensures { λ r. ⌜ Put (now (out .entry)) at ((now (label .entry) ++ decimal bits) ++ labelled " " (sizeOf bits)) (now (out .exit)) r ⌝ }
+{
+    let set = LookaheadSet { bits };
+    let at = put_labelled(out, at, label, bits as usize);
+    put_labelled(out, at, b" ", set.size() as usize)
+}
+
+fn put_sets(out: &mut [u8], at: usize, table: &[u32], nonterminal: u32) -> usize
+    ensures { λ r. ⌜ Put (now (out .entry)) at (setsLine (now (table .entry)) nonterminal) (now (out .exit)) r ⌝ }
+{
+    let first = word_at(table, 2 * nonterminal as usize);
+    let follow = word_at(table, 2 * nonterminal as usize + 1);
+    let at = put_labelled(out, at, b"name ", nonterminal as usize);
+    let at = put_set(out, at, b" first ", first);
+    let at = put_set(out, at, b" follow ", follow);
+    put_bytes(out, at, b"\n")
+}
+
+fn put_entry(out: &mut [u8], at: usize, entry: u32) -> usize
+    ensures { λ r. ⌜ Put (now (out .entry)) at (entryText entry) (now (out .exit)) r ⌝ }
+{
+    if entry == NO_ENTRY {
+        put_bytes(out, at, b" -")
+    } else {
+        put_labelled(out, at, b" ", entry as usize)
+    }
+}
+
+// The entries of a row, from its start on.
+fn put_row(out: &mut [u8], at: usize, table: &[u32], start: usize, columns: usize) -> usize
+    requires { ⌜ start + columns ≤ 1024 ⌝ }
+    ensures { λ r. ⌜ Put (now (out .entry)) at (upTo columns (λ c. entryText (wordAt (now (table .entry)) (start + c)))) (now (out .exit)) r ⌝ }
+{
+    let mut next = at;
+    let mut column = 0;
+    while column < columns {
+        next = put_entry(out, next, word_at(table, start + column));
+        column = column + 1;
+    }
+    next
+}
+
+fn put_entries(out: &mut [u8], at: usize, table: &[u32], start: usize, columns: usize) -> usize
+    requires { ⌜ start + columns ≤ 1024 ⌝ }
+    ensures { λ r. ⌜ Put (now (out .entry)) at (entriesLine (now (table .entry)) start columns) (now (out .exit)) r ⌝ }
+{
+    let at = put_bytes(out, at, b"cells");
+    let at = put_row(out, at, table, start, columns);
+    put_bytes(out, at, b"\n")
+}
+
+fn put_nonterminal(
+    out: &mut [u8],
+    at: usize,
+    sizes: Sizes,
+    table: &[u32],
+    nonterminal: u32,
+) -> usize
+    requires { ⌜ (sizes .nonterminals ≤ maxNonterminals) × (sizes .terminals ≤ maxTerminals) × (nonterminal < maxNonterminals) ⌝ }
+    ensures { λ r. ⌜ Put (now (out .entry)) at (nonterminalText sizes (now (table .entry)) nonterminal) (now (out .exit)) r ⌝ }
+{
+    let columns = sizes.terminals as usize + 1;
+    let start = 2 * sizes.nonterminals as usize + nonterminal as usize * columns;
+    let at = put_sets(out, at, table, nonterminal);
+    put_entries(out, at, table, start, columns)
+}
+
+fn put_nonterminals(out: &mut [u8], at: usize, sizes: Sizes, table: &[u32]) -> usize
+    requires { ⌜ (sizes .nonterminals ≤ maxNonterminals) × (sizes .terminals ≤ maxTerminals) ⌝ }
+    ensures { λ r. ⌜ Put (now (out .entry)) at (upTo (sizes .nonterminals) (nonterminalText sizes (now (table .entry)))) (now (out .exit)) r ⌝ }
+{
+    let nonterminals = sizes.nonterminals;
+    let mut next = at;
+    let mut nonterminal = 0;
+    while nonterminal < nonterminals {
+        next = put_nonterminal(out, next, sizes, table, nonterminal);
+        nonterminal = nonterminal + 1;
+    }
+    next
+}
+
+// The sheet of the grammar that the words are, by its table; of words that are no grammar, the refusal.
+pub fn put_sheet(out: &mut [u8], words: &[u32], table: &[u32]) -> usize
+    ensures { λ r. ⌜ Put (now (out .entry)) 0 (sheetText (reading (now (words .entry))) (now (table .entry))) (now (out .exit)) r ⌝ }
+{
+    let outcome = read(words);
+    match outcome {
+        Outcome::Read(sizes) => {
+            let at = put_sizes(out, 0, sizes);
+            put_nonterminals(out, at, sizes, table)
+        }
+        Outcome::Faulty(error) => put_refusal(out, 0, error),
+    }
+}
+
+// What is printed of a check: the refusal, or the sheet.
+pub fn put_check(out: &mut [u8], answer: Answer, words: &[u32], table: &[u32]) -> usize
+    ensures { λ r. ⌜ Put (now (out .entry)) 0 (checkText answer (reading (now (words .entry))) (now (table .entry))) (now (out .exit)) r ⌝ }
+{
+    match answer {
+        Answer::Refused(error) => put_refusal(out, 0, error),
+        Answer::Passed => put_sheet(out, words, table),
+        Answer::Rejected(_) => 0,
+        Answer::Accepted(_) => 0,
+    }
+}
