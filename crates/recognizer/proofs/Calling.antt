@@ -31,12 +31,12 @@ use Rattle.semantics.specs.Strings.{look}
 use Rattle.semantics.specs.Claims.{tableOf}
 use Rattle.semantics.specs.Descent.{Outcome, Failed, End, endsAt, select}
 use Rattle.semantics.specs.MemoDescent.{Memoized, memoized, andThen, MemoCalls, memoRun, memoNegatives, memoPositives, memoRule, memoObey, memoCall}
-use Rattle.recognizer.specs.declared.descent.Outcome as code
-use Rattle.recognizer.specs.declared.descent.Sign.{Sign}
-use Rattle.recognizer.specs.declared.descent.Sign.the-variants.{Positive, Negative, Neither}
-use Rattle.recognizer.specs.declared.descent.Agreement.{Agreement}
-use Rattle.recognizer.specs.declared.descent.Agreement.the-variants as agreement
-use Rattle.recognizer.specs.Rule.{meant, signOf, signAt, beginsBody, goesOn, joinedBy, concluded}
+use Rattle.rule.specs.declared.Outcome as code
+use Rattle.rule.specs.declared.Sign.{Sign}
+use Rattle.rule.specs.declared.Sign.the-variants.{Positive, Negative, Neither}
+use Rattle.rule.specs.declared.Agreement.{Agreement}
+use Rattle.rule.specs.declared.Agreement.the-variants as agreement
+use Rattle.rule.specs.Rule.{meant, signOf, signAt, beginsBody, goesOn, joinedBy, concluded}
 use Rattle.recognizer.specs.Descent.{Short, BodyEnd, MemoSound, Given, CallGiven, RunGiven, CallDone, RunDone}
 use Rattle.recognizer.proofs.Bodies.{parse-here, parse-over}
 use Rattle.recognizer.proofs.Running.{deep, level}

@@ -35,9 +35,9 @@ use Rattle.semantics.proofs.FiniteSets.{member-mem, mem-member}
 use Rattle.semantics.proofs.Range.{calls-equality, all-length, all-ordered, index-range}
 use Rattle.semantics.proofs.Memo.{memo-recorded-within}
 use Rattle.semantics.proofs.Theorems.{theorems}
-use Rattle.recognizer.specs.declared.descent.Outcome as code
+use Rattle.rule.specs.declared.Outcome as code
 use Rattle.recognizer.specs.declared.judging.Unknown.the-variants.{Absent, At}
-use Rattle.recognizer.specs.Rule.{meant}
+use Rattle.rule.specs.Rule.{meant}
 use Rattle.recognizer.specs.Descent.{MemoSound, CallGiven, CallDone}
 use Rattle.recognizer.specs.Tally.{tallyOf, recordedCalls}
 use Rattle.recognizer.specs.Memory.{memoWord, memoWords}

@@ -29,9 +29,9 @@ use Rattle.semantics.specs.Descent.{Outcome, Failed, End}
 use Rattle.semantics.specs.ComesTo.{callAt, measure}
 use Rattle.semantics.specs.MemoDescent.{memoized, andThen, MemoCalls, memoRun, memoCall}
 use Rattle.semantics.proofs.Rank.{level-onward}
-use Rattle.recognizer.specs.declared.descent.Outcome as code
-use Rattle.recognizer.specs.declared.descent.Outcome.the-variants as outcome
-use Rattle.recognizer.specs.Rule.{meant}
+use Rattle.rule.specs.declared.Outcome as code
+use Rattle.rule.specs.declared.Outcome.the-variants as outcome
+use Rattle.rule.specs.Rule.{meant}
 use Rattle.recognizer.specs.Descent.{matchesAt, MemoSound, Given, CallGiven, RunGiven, CallDone, RunDone}
 use Rattle.recognizer.proofs.Bodies.{parse-here, parse-over, symbol-reads}
 

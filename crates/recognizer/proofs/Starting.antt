@@ -32,9 +32,9 @@ use Rattle.semantics.specs.MemoDescent.{MemoCalls, memoized, memoObey}
 use Rattle.semantics.proofs.Outcomes.{nth-mem}
 use Rattle.semantics.proofs.Theorems.{theorems}
 use Rattle.table.specs.Layout.{noEntry, entryWord}
-use Rattle.recognizer.specs.declared.descent.Sign.{Sign}
-use Rattle.recognizer.specs.declared.descent.Agreement.the-variants as agreement
-use Rattle.recognizer.specs.Rule.{signAt}
+use Rattle.rule.specs.declared.Sign.{Sign}
+use Rattle.rule.specs.declared.Agreement.the-variants as agreement
+use Rattle.rule.specs.Rule.{signAt}
 use Rattle.recognizer.specs.Descent.{Given, CallGiven}
 use Rattle.recognizer.proofs.Calling.{memoRest, Calling, InRule}
 

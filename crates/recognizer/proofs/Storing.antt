@@ -30,9 +30,9 @@ use Rattle.semantics.proofs.Range.{index-range}
 use Rattle.semantics.proofs.Written.{Sound}
 use Rattle.semantics.proofs.Memo.{transparent}
 use Rattle.semantics.proofs.Theorems.{theorems}
-use Rattle.recognizer.specs.declared.descent.Outcome as code
-use Rattle.recognizer.specs.declared.descent.Outcome.the-variants as outcome
-use Rattle.recognizer.specs.Rule.{meant}
+use Rattle.rule.specs.declared.Outcome as code
+use Rattle.rule.specs.declared.Outcome.the-variants as outcome
+use Rattle.rule.specs.Rule.{meant}
 use Rattle.recognizer.specs.Descent.{MemoSound, Given, CallGiven, CallDone}
 use Rattle.recognizer.proofs.Running.{deep, level}
 

@@ -26,8 +26,8 @@ use Rattle.semantics.specs.ComesTo.{Call, callAt, InRange, measure}
 use Rattle.semantics.specs.Memo.{Memo, encode, entry, uncalledCode, failedCode}
 use Rattle.semantics.specs.MemoDescent.{memoized, memoRun, memoCall}
 use Rattle.table.specs.Layout.{columns, entryAt, entryWord}
-use Rattle.recognizer.specs.declared.descent.Outcome as code
-use Rattle.recognizer.specs.Rule.{meant}
+use Rattle.rule.specs.declared.Outcome as code
+use Rattle.rule.specs.Rule.{meant}
 
 unfoldable pub matchesAt : List ℕ → ℕ → ℕ → Bool
 matchesAt input place a = ltb place (length input) && eqb (getD input place 0) a

@@ -1,4 +1,3 @@
-pub mod Rule
 pub mod Descent
 pub mod Tally
 pub mod Memory

@@ -5,16 +5,21 @@ ghost use lib.ListN.{length};
 ghost use Rattle.grammar.specs.Encoding.{grammarOf};
 ghost use Rattle.semantics.specs.Strings.{look};
 ghost use Rattle.semantics.specs.Claims.{tableOf};
-ghost use Rattle.semantics.specs.Descent.{endsAt};
 ghost use Rattle.semantics.specs.Memo.{encode, decode as decodedEntry};
 ghost use Rattle.table.specs.Layout.{entryWord};
-ghost use Rattle.recognizer.specs.Rule.{meant, signOf, signAt, beginsBody, goesOn, openedBy, keptBy, joinedBy, concluded};
+ghost use Rattle.rule.specs.Rule.{meant};
 ghost use Rattle.recognizer.specs.Descent.{matchesAt, columnAt, Short, BodyEnd, ChosenGiven, CallGiven, CallDone, RunGiven, RunDone};
 use grammar::Symbol;
 use grammar::limits::RULES;
 use grammar::limits::TABLE_WORDS;
 use grammar::word::Word;
 use grammar::word::decode;
+use rule::Agreement;
+use rule::Outcome;
+use rule::conclude;
+use rule::goes_on;
+use rule::joined;
+use rule::sign_at;
 
 // Codes of the memo table; any other entry is an end.
 pub const FAILED: u16 = 65534;
@@ -23,53 +28,6 @@ pub const UNCALLED: u16 = 65535;
 
 // The table's word for no entry.
 pub const NO_ENTRY: u32 = 4294967295;
-
-// (document 01: a name's result, failed or an end)
-pub enum Outcome {
-    Failed,
-    End(usize),
-}
-
-// What a word begins: a positive conjunct, a negative one, or neither.
-pub enum Sign {
-    Positive,
-    Negative,
-    Neither,
-}
-
-// Where the bodies of a rule that have run agree to end.
-pub enum Agreement {
-    Open,
-    At(usize),
-    Failed,
-}
-
-fn sign_of(word: Word) -> Sign
-    ensures { λ r. ⌜ r ≡ signOf word ⌝ }
-{
-    match word {
-        Word::Positive => Sign::Positive,
-        Word::Negative => Sign::Negative,
-        Word::Rule(_) => Sign::Neither,
-        Word::Symbol(_) => Sign::Neither,
-        Word::End => Sign::Neither,
-        Word::Heading {
-            nonterminals: _,
-            terminals: _,
-        } => Sign::Neither,
-        Word::Invalid => Sign::Neither,
-    }
-}
-
-fn sign_at(words: &[u32], at: usize) -> Sign
-    ensures { λ r. ⌜ r ≡ signAt (now (words .entry)) at ⌝ }
-{
-    if at < words.len() {
-        sign_of(decode(words[at]))
-    } else {
-        Sign::Neither
-    }
-}
 
 // Where the body at an index ends.
 fn body_end(words: &[u32], from: usize) -> usize
@@ -85,90 +43,6 @@ fn body_end(words: &[u32], from: usize) -> usize
         at = at + 1;
     }
     at
-}
-
-// Whether another body is to be run: one begins here, and the rule has not failed.
-fn goes_on(sign: Sign, agreement: Agreement) -> bool
-    ensures { λ r. ⌜ r ≡ goesOn sign agreement ⌝ }
-{
-    match agreement {
-        Agreement::Failed => false,
-        Agreement::Open => begins(sign),
-        Agreement::At(_) => begins(sign),
-    }
-}
-
-fn begins(sign: Sign) -> bool
-    ensures { λ r. ⌜ r ≡ beginsBody sign ⌝ }
-{
-    match sign {
-        Sign::Positive => true,
-        Sign::Negative => true,
-        Sign::Neither => false,
-    }
-}
-
-pub(crate) fn ends_at(outcome: Outcome, place: usize) -> bool
-    ensures { λ r. ⌜ r ≡ endsAt (meant outcome) place ⌝ }
-{
-    match outcome {
-        Outcome::Failed => false,
-        Outcome::End(end) => end == place,
-    }
-}
-
-// The first body sets the end.
-fn opened(outcome: Outcome) -> Agreement
-    ensures { λ r. ⌜ r ≡ openedBy (meant outcome) ⌝ }
-{
-    match outcome {
-        Outcome::Failed => Agreement::Failed,
-        Outcome::End(end) => Agreement::At(end),
-    }
-}
-
-// A later positive body has to end there, and a negative one must not.
-fn kept(sign: Sign, end: usize, there: bool) -> Agreement
-    ensures { λ r. ⌜ r ≡ keptBy sign end there ⌝ }
-{
-    match sign {
-        Sign::Positive => {
-            if there {
-                Agreement::At(end)
-            } else {
-                Agreement::Failed
-            }
-        }
-        Sign::Negative => {
-            if there {
-                Agreement::Failed
-            } else {
-                Agreement::At(end)
-            }
-        }
-        Sign::Neither => Agreement::Failed,
-    }
-}
-
-// The agreement after one body more.
-fn joined(sign: Sign, agreement: Agreement, outcome: Outcome) -> Agreement
-    ensures { λ r. ⌜ r ≡ joinedBy sign agreement (meant outcome) ⌝ }
-{
-    match agreement {
-        Agreement::Open => opened(outcome),
-        Agreement::At(end) => kept(sign, end, ends_at(outcome, end)),
-        Agreement::Failed => Agreement::Failed,
-    }
-}
-
-fn conclude(agreement: Agreement) -> Outcome
-    ensures { λ r. ⌜ meant r ≡ concluded agreement ⌝ }
-{
-    match agreement {
-        Agreement::Open => Outcome::Failed,
-        Agreement::At(end) => Outcome::End(end),
-        Agreement::Failed => Outcome::Failed,
-    }
 }
 
 // Whether the token at a place is a terminal.

@@ -4,7 +4,6 @@ ghost use Rattle.recognizer.specs.Answers.{unknownFrom};
 ghost use Rattle.recognizer.specs.Judging.{PassedGiven, DescendGiven, Descended};
 ghost use Rattle.recognizer.specs.Properties.{Judges};
 use super::descent::call;
-use super::descent::ends_at;
 use super::lending::lend;
 use super::tally::clear;
 use super::tally::tally;
@@ -14,6 +13,7 @@ use grammar::limits::TABLE_WORDS;
 use grammar::limits::TOKENS;
 use grammar::reading::Sizes;
 use grammar::reading::rule_starts;
+use rule::ends_at;
 
 pub enum Unknown {
     Absent,

@@ -27,12 +27,12 @@ use Rattle.grammar.proofs.word.decode.Reads as decode-reads
 use Rattle.recognizer.proofs.descent.body_end.Reads as body-end-reads
 use Rattle.recognizer.proofs.descent.chosen.Reads as chosen-reads
 use Rattle.recognizer.proofs.descent.code.Reads as code-reads
-use Rattle.recognizer.proofs.descent.conclude.Reads as conclude-reads
-use Rattle.recognizer.proofs.descent.goes_on.Reads as goes-on-reads
-use Rattle.recognizer.proofs.descent.joined.Reads as joined-reads
+use Rattle.rule.proofs.conclude.Reads as conclude-reads
+use Rattle.rule.proofs.goes_on.Reads as goes-on-reads
+use Rattle.rule.proofs.joined.Reads as joined-reads
 use Rattle.recognizer.proofs.descent.matches.Reads as matches-reads
 use Rattle.recognizer.proofs.descent.recall.Reads as recall-reads
-use Rattle.recognizer.proofs.descent.sign_at.Reads as sign-at-reads
+use Rattle.rule.proofs.sign_at.Reads as sign-at-reads
 use Rattle.recognizer.proofs.descent.+call+run_body.{statement}
 use Rattle.recognizer.proofs.descent.+call+run_body.Tie.{close}
 

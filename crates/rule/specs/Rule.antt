@@ -10,12 +10,12 @@ use Rattle.grammar.specs.declared.word.Word.{Word}
 use Rattle.grammar.specs.declared.word.Word.the-variants as word
 use Rattle.semantics.specs.Descent as semantics
 use Rattle.semantics.specs.Descent.{endsAt}
-use Rattle.recognizer.specs.declared.descent.Outcome as code
-use Rattle.recognizer.specs.declared.descent.Outcome.the-variants as outcome
-use Rattle.recognizer.specs.declared.descent.Sign.{Sign}
-use Rattle.recognizer.specs.declared.descent.Sign.the-variants.{Positive, Negative, Neither}
-use Rattle.recognizer.specs.declared.descent.Agreement.{Agreement}
-use Rattle.recognizer.specs.declared.descent.Agreement.the-variants.{Open, At, Failed}
+use Rattle.rule.specs.declared.Outcome as code
+use Rattle.rule.specs.declared.Outcome.the-variants as outcome
+use Rattle.rule.specs.declared.Sign.{Sign}
+use Rattle.rule.specs.declared.Sign.the-variants.{Positive, Negative, Neither}
+use Rattle.rule.specs.declared.Agreement.{Agreement}
+use Rattle.rule.specs.declared.Agreement.the-variants.{Open, At, Failed}
 
 -- the outcome that a value of the code stands for
 abbrev pub meant : code.Outcome → semantics.Outcome

@@ -1,22 +1,22 @@
 use borrow.Author.Needs.{needs}
-use Rattle.recognizer.proofs.descent.ends_at.Statement.{statement}
-use Rattle.recognizer.proofs.descent.ends_at.Tie as tie
-use Rattle.recognizer.proofs.descent.ends_at.Reads as reads
-use Rattle.recognizer.proofs.descent.ends_at.Lts as lts
+use Rattle.rule.proofs.ends_at.Statement.{statement}
+use Rattle.rule.proofs.ends_at.Tie as tie
+use Rattle.rule.proofs.ends_at.Reads as reads
+use Rattle.rule.proofs.ends_at.Lts as lts
 
--- src/descent.rt:115:28
+-- src/lib.rt:80:28
 enum-told : tie.Need-enum-told
 enum-told c = search needs
 
--- src/descent.rt:116:22
+-- src/lib.rt:81:22
 enum-known-outcome : tie.Need-enum-known-outcome
 enum-known-outcome c = search needs
 
--- src/descent.rt:111:1
+-- src/lib.rt:76:1
 returns : tie.Need-returns
 returns c = search needs
 
--- src/descent.rt:111:1
+-- src/lib.rt:76:1
 returns-2 : tie.Need-returns-2
 returns-2 c = rw (c .before .outcome .given .1)
 

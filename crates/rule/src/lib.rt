@@ -1,0 +1,137 @@
+// The bodies of a rule, run one after the other: what a word begins, and how the bodies come to agree on an end.
+ghost use mathlib.Core.Path.{_≡_};
+ghost use Rattle.semantics.specs.Descent.{endsAt};
+ghost use Rattle.rule.specs.Rule.{meant, signOf, signAt, beginsBody, goesOn, openedBy, keptBy, joinedBy, concluded};
+use grammar::word::Word;
+use grammar::word::decode;
+
+// (document 01: a name's result, failed or an end)
+pub enum Outcome {
+    Failed,
+    End(usize),
+}
+
+// What a word begins: a positive conjunct, a negative one, or neither.
+pub enum Sign {
+    Positive,
+    Negative,
+    Neither,
+}
+
+// Where the bodies of a rule that have run agree to end.
+pub enum Agreement {
+    Open,
+    At(usize),
+    Failed,
+}
+
+fn sign_of(word: Word) -> Sign
+    ensures { λ r. ⌜ r ≡ signOf word ⌝ }
+{
+    match word {
+        Word::Positive => Sign::Positive,
+        Word::Negative => Sign::Negative,
+        Word::Rule(_) => Sign::Neither,
+        Word::Symbol(_) => Sign::Neither,
+        Word::End => Sign::Neither,
+        Word::Heading {
+            nonterminals: _,
+            terminals: _,
+        } => Sign::Neither,
+        Word::Invalid => Sign::Neither,
+    }
+}
+
+pub fn sign_at(words: &[u32], at: usize) -> Sign
+    ensures { λ r. ⌜ r ≡ signAt (now (words .entry)) at ⌝ }
+{
+    if at < words.len() {
+        sign_of(decode(words[at]))
+    } else {
+        Sign::Neither
+    }
+}
+
+// Whether another body is to be run: one begins here, and the rule has not failed.
+pub fn goes_on(sign: Sign, agreement: Agreement) -> bool
+    ensures { λ r. ⌜ r ≡ goesOn sign agreement ⌝ }
+{
+    match agreement {
+        Agreement::Failed => false,
+        Agreement::Open => begins(sign),
+        Agreement::At(_) => begins(sign),
+    }
+}
+
+fn begins(sign: Sign) -> bool
+    ensures { λ r. ⌜ r ≡ beginsBody sign ⌝ }
+{
+    match sign {
+        Sign::Positive => true,
+        Sign::Negative => true,
+        Sign::Neither => false,
+    }
+}
+
+pub fn ends_at(outcome: Outcome, place: usize) -> bool
+    ensures { λ r. ⌜ r ≡ endsAt (meant outcome) place ⌝ }
+{
+    match outcome {
+        Outcome::Failed => false,
+        Outcome::End(end) => end == place,
+    }
+}
+
+// The first body sets the end.
+fn opened(outcome: Outcome) -> Agreement
+    ensures { λ r. ⌜ r ≡ openedBy (meant outcome) ⌝ }
+{
+    match outcome {
+        Outcome::Failed => Agreement::Failed,
+        Outcome::End(end) => Agreement::At(end),
+    }
+}
+
+// A later positive body has to end there, and a negative one must not.
+fn kept(sign: Sign, end: usize, there: bool) -> Agreement
+    ensures { λ r. ⌜ r ≡ keptBy sign end there ⌝ }
+{
+    match sign {
+        Sign::Positive => {
+            if there {
+                Agreement::At(end)
+            } else {
+                Agreement::Failed
+            }
+        }
+        Sign::Negative => {
+            if there {
+                Agreement::Failed
+            } else {
+                Agreement::At(end)
+            }
+        }
+        Sign::Neither => Agreement::Failed,
+    }
+}
+
+// The agreement after one body more.
+pub fn joined(sign: Sign, agreement: Agreement, outcome: Outcome) -> Agreement
+    ensures { λ r. ⌜ r ≡ joinedBy sign agreement (meant outcome) ⌝ }
+{
+    match agreement {
+        Agreement::Open => opened(outcome),
+        Agreement::At(end) => kept(sign, end, ends_at(outcome, end)),
+        Agreement::Failed => Agreement::Failed,
+    }
+}
+
+pub fn conclude(agreement: Agreement) -> Outcome
+    ensures { λ r. ⌜ meant r ≡ concluded agreement ⌝ }
+{
+    match agreement {
+        Agreement::Open => Outcome::Failed,
+        Agreement::At(end) => Outcome::End(end),
+        Agreement::Failed => Outcome::Failed,
+    }
+}
