@@ -13,7 +13,7 @@ use Rattle.answer.specs.declared.Calls.{Calls}
 use Rattle.answer.specs.declared.Answer.{Answer}
 use Rattle.answer.specs.declared.Answer.the-variants.{Refused, Passed, Rejected, Accepted}
 use Rattle.answer.specs.Numbers.{coded, numbers, Numbers}
-use Rattle.grammar.specs.Choice.{choose}
+use Rattle.word.specs.Choice.{choose}
 use Rattle.grammar.specs.Limits.{maxWords, maxTokens}
 use Rattle.grammar.specs.Encoding.{grammarOf}
 use Rattle.grammar.proofs.WellRead.{well-read}

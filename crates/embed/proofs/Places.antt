@@ -11,13 +11,13 @@ use borrow.Author.Tests.{ltb-false}
 use Rattle.answer.specs.declared.Error.{Error}
 use Rattle.answer.specs.declared.Error.the-variants.{TableTooShort, MemoTooShort, Length, Heading, UnexpectedWord, OutOfRange, TooManyRules, LeftRecursive, Conflict, InputTooLong, UnknownToken}
 use Rattle.answer.specs.Numbers.{coded}
-use Rattle.grammar.specs.Choice.{choose}
+use Rattle.word.specs.Choice.{choose}
+use Rattle.word.specs.Words.{decoded}
+use Rattle.word.specs.declared.Word.{Word}
 use Rattle.grammar.specs.Limits.{maxWords, maxRules, maxTokens, tableWords as memoryWords, memoEntries, maxNonterminals, maxTerminals}
 use Rattle.grammar.specs.Syntax.{Grammar}
 use Rattle.grammar.specs.Encoding.{declaredBy, grammarOf}
-use Rattle.grammar.specs.Words.{decoded}
 use Rattle.grammar.specs.Reading.{row, allows, inRange, beginsRule, after, progress, oneMore, counted, stepped, onStep, finished, scan, fresh, within, headed, opened, reading}
-use Rattle.grammar.specs.declared.word.Word.{Word}
 use Rattle.grammar.specs.declared.reading.State.{State}
 use Rattle.grammar.specs.declared.reading.Sizes.{Sizes}
 use Rattle.grammar.specs.declared.reading.Progress.{Progress}

@@ -2,8 +2,8 @@
 use mathlib.Core.Path.{_≡_, refl}
 use mathlib.Core.List.{List, [], _∷_, map}
 use Prim.Native.Nat.{ℕ}
+use Rattle.word.specs.Words.{bare, heading, ofKind, decoded}
 use Rattle.grammar.specs.declared.reading.Outcome.{Outcome}
-use Rattle.grammar.specs.Words.{bare, heading, ofKind, decoded}
 use Rattle.grammar.specs.Encoding.{onWord, parse, grammarOf}
 use Rattle.grammar.specs.Reading.{counted, stepped, onStep, finished, scan, within, headed, opened, reading}
 use Rattle.grammar.specs.Starts.{starts}

@@ -10,13 +10,13 @@ use types.Run.{OneOf}
 use borrow.Author.Tests.{lt-ltb, le-ltb}
 use lib.ListN.{length, getD, drop}
 use Rattle.answer.specs.declared.Error.the-variants.{Length, Heading as HeadingFault}
-use Rattle.grammar.proofs.word.Word.{the-type}
-use Rattle.grammar.specs.declared.word.Word.{Word}
-use Rattle.grammar.specs.declared.word.Word.the-variants.{Heading, Rule, Positive, Negative, Symbol, End, Invalid}
+use Rattle.word.proofs.Word.{the-type}
+use Rattle.word.specs.declared.Word.{Word}
+use Rattle.word.specs.declared.Word.the-variants.{Heading, Rule, Positive, Negative, Symbol, End, Invalid}
+use Rattle.word.specs.Words.{decoded}
 use Rattle.grammar.specs.declared.reading.Sizes.{Sizes}
 use Rattle.grammar.specs.declared.reading.Outcome.the-variants.{Faulty}
 use Rattle.grammar.specs.Limits.{maxWords, maxNonterminals, maxTerminals}
-use Rattle.grammar.specs.Words.{decoded}
 use Rattle.grammar.specs.Encoding.{sizes, declaredBy}
 use Rattle.grammar.specs.Reading.{fresh, scan, within, headed, opened, reading}
 

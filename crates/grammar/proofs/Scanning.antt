@@ -7,12 +7,12 @@ use native.Mathlib.Numerals.{add-one}
 use lib.ListN.{length, getD, drop, drop-of-length-le}
 use lib.Seq.{drop-cons}
 use Rattle.answer.specs.declared.Error.{Error}
-use Rattle.grammar.specs.declared.word.Word.{Word}
+use Rattle.word.specs.declared.Word.{Word}
+use Rattle.word.specs.Words.{decoded}
 use Rattle.grammar.specs.declared.reading.Progress.{Progress}
 use Rattle.grammar.specs.declared.reading.Step.{Step}
 use Rattle.grammar.specs.declared.reading.Step.the-variants.{Go, Stop}
 use Rattle.grammar.specs.declared.reading.Outcome.the-variants.{Faulty}
-use Rattle.grammar.specs.Words.{decoded}
 use Rattle.grammar.specs.Reading.{allows, inRange, beginsRule, after, progress, counted, stepped, onStep, finished, scan}
 
 -- the row from an index on: its first word, and the rest

@@ -10,10 +10,10 @@ use lib.Dec.{ltb}
 use lib.ListN.{length, getD, take, drop, set, replicate, length-take, length-set, length-replicate, take-append-drop, drop-of-length-le}
 use lib.Seq.{drop-cons, drop-drop, drop-set-lt, take-suc-set, take-append-le, take-at, take-append-add}
 use borrow.Author.Tests.{lt-ltb, le-ltb}
-use Rattle.grammar.specs.declared.word.Word.{Word}
-use Rattle.grammar.specs.Choice.{choose}
+use Rattle.word.specs.declared.Word.{Word}
+use Rattle.word.specs.Choice.{choose}
+use Rattle.word.specs.Words.{decoded}
 use Rattle.grammar.specs.Limits.{maxRules}
-use Rattle.grammar.specs.Words.{decoded}
 use Rattle.grammar.specs.Reading.{beginsRule}
 use Rattle.grammar.specs.Starts.{starts, ruleStarts, Noted}
 

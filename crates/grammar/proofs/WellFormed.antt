@@ -10,10 +10,12 @@ use lib.ListN.{length}
 use borrow.Author.Tests.{ltb-true, leb-false}
 use Rattle.answer.specs.declared.Error.{Error}
 use Rattle.answer.specs.declared.Error.the-variants.{UnexpectedWord, OutOfRange, TooManyRules}
-use Rattle.grammar.specs.declared.Symbol.the-variants.{Terminal, Nonterminal}
-use Rattle.grammar.specs.declared.Symbol as symbol
-use Rattle.grammar.specs.declared.word.Word.{Word}
-use Rattle.grammar.specs.declared.word.Word.the-variants.{Heading, Rule as RuleWord, Positive, Negative, Symbol, End, Invalid}
+use Rattle.word.specs.declared.Symbol.the-variants.{Terminal, Nonterminal}
+use Rattle.word.specs.declared.Symbol as symbol
+use Rattle.word.specs.declared.Word.{Word}
+use Rattle.word.specs.declared.Word.the-variants.{Heading, Rule as RuleWord, Positive, Negative, Symbol, End, Invalid}
+use Rattle.word.specs.Choice.{choose}
+use Rattle.word.specs.Words.{decoded}
 use Rattle.grammar.specs.declared.reading.State.{State}
 use Rattle.grammar.specs.declared.reading.State.the-variants.{Before, Opened, InPositive, InNegative, Closed}
 use Rattle.grammar.specs.declared.reading.Sizes.{Sizes}
@@ -22,10 +24,8 @@ use Rattle.grammar.specs.declared.reading.Step.{Step}
 use Rattle.grammar.specs.declared.reading.Step.the-variants.{Go, Stop}
 use Rattle.grammar.specs.declared.reading.Outcome.{Outcome}
 use Rattle.grammar.specs.declared.reading.Outcome.the-variants.{Read, Faulty}
-use Rattle.grammar.specs.Choice.{choose}
 use Rattle.grammar.specs.Limits.{maxRules}
 use Rattle.grammar.specs.Syntax.{Body, Rule, bodies, NonterminalsBelow, TerminalsBelow}
-use Rattle.grammar.specs.Words.{decoded}
 use Rattle.grammar.specs.Encoding.{Parsed, parsed, ruleOf, onWord, parse}
 use Rattle.grammar.specs.Reading.{row, allows, inRange, symbolInRange, beginsRule, after, progress, oneMore, counted, stepped, onStep, finished, scan}
 

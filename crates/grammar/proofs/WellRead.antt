@@ -10,15 +10,15 @@ use lib.ListN.{length, getD, take, drop, replicate, getElem?, List·getD-append}
 use lib.Seq.{getD-take}
 use borrow.Author.Tests.{ltb-true, leb-true, ltb-false}
 use Rattle.answer.specs.declared.Error.the-variants.{Length, Heading as HeadingFault}
-use Rattle.grammar.specs.declared.word.Word.{Word}
-use Rattle.grammar.specs.declared.word.Word.the-variants.{Heading, Rule as RuleWord, Positive, Negative, Symbol, End, Invalid}
+use Rattle.word.specs.declared.Word.{Word}
+use Rattle.word.specs.declared.Word.the-variants.{Heading, Rule as RuleWord, Positive, Negative, Symbol, End, Invalid}
+use Rattle.word.specs.Choice.{choose}
+use Rattle.word.specs.Words.{decoded}
 use Rattle.grammar.specs.declared.reading.Sizes.{Sizes}
 use Rattle.grammar.specs.declared.reading.Outcome.{Outcome}
 use Rattle.grammar.specs.declared.reading.Outcome.the-variants.{Read, Faulty}
-use Rattle.grammar.specs.Choice.{choose}
 use Rattle.grammar.specs.Limits.{maxWords, maxNonterminals, maxTerminals, maxRules}
 use Rattle.grammar.specs.Syntax.{Rule, Grammar, WellFormed}
-use Rattle.grammar.specs.Words.{decoded}
 use Rattle.grammar.specs.Encoding.{declaredBy, parse, grammarOf}
 use Rattle.grammar.specs.Reading.{beginsRule, fresh, scan, within, headed, opened, reading}
 use Rattle.grammar.specs.Starts.{starts, ruleStarts}

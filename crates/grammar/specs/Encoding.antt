@@ -1,11 +1,11 @@
 -- The grammar that a row of words encodes: a right fold, total on any row.
 use mathlib.Core.List.{List, [], _∷_}
 use Prim.Native.Nat.{ℕ}
-use Rattle.grammar.specs.declared.word.Word.{Word}
-use Rattle.grammar.specs.declared.word.Word.the-variants.{Heading, Rule as RuleWord, Positive, Negative, Symbol, End, Invalid}
+use Rattle.word.specs.declared.Word.{Word}
+use Rattle.word.specs.declared.Word.the-variants.{Heading, Rule as RuleWord, Positive, Negative, Symbol, End, Invalid}
+use Rattle.word.specs.Words.{decoded}
 use Rattle.grammar.specs.declared.reading.Sizes.{Sizes}
 use Rattle.grammar.specs.Syntax.{Body, Rule, Grammar}
-use Rattle.grammar.specs.Words.{decoded}
 
 -- what a row of words says: the rules that begin in it and, of a rule that began before it, the body and the conjuncts left
 pub record Parsed : Type 0 where

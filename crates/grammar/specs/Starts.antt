@@ -5,10 +5,10 @@ use mathlib.Core.List.{List, [], _∷_, _++_}
 use Prim.Native.Nat.{ℕ, suc, _+_}
 use lib.Dec.{ltb}
 use lib.ListN.{take, replicate, set}
-use Rattle.grammar.specs.declared.word.Word.{Word}
-use Rattle.grammar.specs.Choice.{choose}
+use Rattle.word.specs.declared.Word.{Word}
+use Rattle.word.specs.Choice.{choose}
+use Rattle.word.specs.Words.{decoded}
 use Rattle.grammar.specs.Limits.{maxRules}
-use Rattle.grammar.specs.Words.{decoded}
 use Rattle.grammar.specs.Reading.{beginsRule}
 
 -- the indices of the words that begin a rule, of a row whose first word has the index `at`

@@ -5,12 +5,12 @@ use mathlib.Core.List.{List, [], _∷_}
 use mathlib.Core.Option.{some}
 use Prim.Native.Nat.{ℕ, _≤_, _<_}
 use lib.ListN.{length, getD, drop, getElem?}
-use Rattle.grammar.specs.declared.word.Word.{Word}
-use Rattle.grammar.specs.declared.word.Word.the-variants.{Heading, Rule as RuleWord, Positive, Negative, Symbol, End, Invalid}
+use Rattle.word.specs.declared.Word.{Word}
+use Rattle.word.specs.declared.Word.the-variants.{Heading, Rule as RuleWord, Positive, Negative, Symbol, End, Invalid}
+use Rattle.word.specs.Words.{decoded}
 use Rattle.grammar.specs.declared.reading.Sizes.{Sizes}
 use Rattle.grammar.specs.Limits.{maxWords, maxNonterminals, maxTerminals, maxRules}
 use Rattle.grammar.specs.Syntax.{Rule, WellFormed}
-use Rattle.grammar.specs.Words.{decoded}
 use Rattle.grammar.specs.Encoding.{ruleOf, parse, grammarOf}
 use Rattle.grammar.specs.Reading.{beginsRule}
 use Rattle.grammar.specs.Starts.{ruleStarts}

@@ -4,14 +4,14 @@ ghost use lib.ListN.{drop};
 ghost use Rattle.grammar.specs.Encoding.{declaredBy};
 ghost use Rattle.grammar.specs.Reading.{row as rowOf, allows as allowsAfter, symbolInRange, inRange, beginsRule, after as stateAfter, counted as countedOf, stepped, finished, fresh, scan, within as withinOf, reading};
 ghost use Rattle.grammar.specs.Starts.{Noted, ruleStarts};
-use super::Symbol;
 use super::limits::NONTERMINALS;
 use super::limits::RULES;
 use super::limits::TERMINALS;
 use super::limits::WORDS;
-use super::word::Word;
-use super::word::decode;
 use answer::Error;
+use word::Symbol;
+use word::Word;
+use word::decode;
 
 // What stands before the next word.
 pub enum State {

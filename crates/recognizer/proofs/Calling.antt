@@ -12,15 +12,15 @@ use lib.Dec.{T, ltb, eqb}
 use lib.ListN.{length, getD, drop, set, getElem?}
 use lib.Seq.{drop-cons}
 use borrow.Author.Tests.{lt-ltb, le-ltb, ltb-true}
-use Rattle.grammar.specs.Choice.{choose}
+use Rattle.word.specs.Choice.{choose}
+use Rattle.word.specs.Words.{decoded}
+use Rattle.word.specs.declared.Symbol as grammar
+use Rattle.word.specs.declared.Word.{Word}
+use Rattle.word.specs.declared.Word.the-variants as word
+use Rattle.word.specs.declared.Word.the-variants.{Symbol}
 use Rattle.grammar.specs.Syntax.{Body, Rule, Grammar, bodies}
-use Rattle.grammar.specs.Words.{decoded}
 use Rattle.grammar.specs.Encoding.{Parsed, onWord, parse, grammarOf}
 use Rattle.grammar.specs.Reading.{allows, row, after, scan, reading}
-use Rattle.grammar.specs.declared.Symbol as grammar
-use Rattle.grammar.specs.declared.word.Word.{Word}
-use Rattle.grammar.specs.declared.word.Word.the-variants as word
-use Rattle.grammar.specs.declared.word.Word.the-variants.{Symbol}
 use Rattle.grammar.specs.declared.reading.State.{State}
 use Rattle.grammar.specs.declared.reading.State.the-variants as state
 use Rattle.grammar.specs.declared.reading.Progress.{Progress}

@@ -11,7 +11,7 @@ use lib.Dec.{T, eqb, ltb, ltb→lt}
 use lib.ListN.{length, getD, take, drop, drop-of-length-le}
 use lib.Seq.{drop-cons}
 use borrow.Author.Tests.{lt-ltb, le-ltb, eq-eqb, ne-eqb}
-use Rattle.grammar.specs.Choice.{choose}
+use Rattle.word.specs.Choice.{choose}
 use Rattle.grammar.specs.Encoding.{grammarOf}
 use Rattle.grammar.specs.WellRead.{WellRead}
 use Rattle.grammar.proofs.WellRead.{well-read}

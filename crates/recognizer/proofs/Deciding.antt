@@ -14,7 +14,7 @@ use borrow.Author.Tests.{lt-ltb, le-ltb}
 use Rattle.answer.specs.declared.Answer.{Answer}
 use Rattle.answer.specs.declared.Answer.the-variants.{Rejected, Accepted}
 use Rattle.answer.specs.declared.Calls.{Calls}
-use Rattle.grammar.specs.Choice.{choose}
+use Rattle.word.specs.Choice.{choose}
 use Rattle.grammar.specs.Syntax.{Grammar, WellScoped}
 use Rattle.grammar.specs.Encoding.{grammarOf}
 use Rattle.grammar.specs.Starts.{ruleStarts}

@@ -7,13 +7,13 @@ use native.Mathlib.Omega.{arith}
 use lib.Dec.{eqb, ltb}
 use lib.ListN.{length, getD}
 use borrow.Author.Tests.{ltb-true, eqb-true}
-use Rattle.grammar.specs.declared.word.Word.{Word}
-use Rattle.grammar.specs.declared.Symbol.the-variants.{Terminal, Nonterminal}
-use Rattle.grammar.specs.declared.word.Word.the-variants.{Heading, Rule, Positive, Negative, Symbol, End, Invalid}
+use Rattle.word.specs.declared.Word.{Word}
+use Rattle.word.specs.declared.Symbol.the-variants.{Terminal, Nonterminal}
+use Rattle.word.specs.declared.Word.the-variants.{Heading, Rule, Positive, Negative, Symbol, End, Invalid}
+use Rattle.word.specs.Choice.{choose}
+use Rattle.word.specs.Words.{bare, heading, ofKind, decoded}
 use Rattle.grammar.specs.declared.reading.Sizes.{Sizes}
 use Rattle.grammar.specs.declared.reading.Outcome.the-variants.{Read}
-use Rattle.grammar.specs.Choice.{choose}
-use Rattle.grammar.specs.Words.{bare, heading, ofKind, decoded}
 use Rattle.grammar.specs.Encoding.{declaredBy, grammarOf}
 use Rattle.grammar.specs.Reading.{reading}
 use Rattle.grammar.specs.WellRead.{WellRead}

@@ -8,15 +8,15 @@ use native.Mathlib.Numerals.{add-one}
 use lib.Dec.{T, ltb, eqb}
 use lib.ListN.{length, getD, drop}
 use borrow.Author.Tests.{ltb-true}
+use Rattle.word.specs.Words.{decoded}
+use Rattle.word.specs.declared.Symbol as grammar
+use Rattle.word.specs.declared.Symbol.the-variants.{Terminal, Nonterminal}
+use Rattle.word.specs.declared.Word.{Word}
+use Rattle.word.specs.declared.Word.the-variants.{Heading, Rule, Positive, Negative, Symbol, End as EndWord, Invalid}
 use Rattle.grammar.specs.Syntax.{Body, Grammar, NonterminalsBelow}
-use Rattle.grammar.specs.Words.{decoded}
 use Rattle.grammar.specs.Encoding.{Parsed, onWord, parse, grammarOf}
 use Rattle.grammar.specs.Reading.{allows, scan, reading}
 use Rattle.grammar.specs.WellRead.{WellRead}
-use Rattle.grammar.specs.declared.Symbol as grammar
-use Rattle.grammar.specs.declared.Symbol.the-variants.{Terminal, Nonterminal}
-use Rattle.grammar.specs.declared.word.Word.{Word}
-use Rattle.grammar.specs.declared.word.Word.the-variants.{Heading, Rule, Positive, Negative, Symbol, End as EndWord, Invalid}
 use Rattle.grammar.specs.declared.reading.State.{State}
 use Rattle.grammar.specs.declared.reading.Progress.{Progress}
 use Rattle.grammar.specs.declared.reading.Outcome.the-variants.{Read}

@@ -8,16 +8,16 @@ use native.Mathlib.Omega.{arith}
 use native.Mathlib.Numerals.{add-one}
 use lib.ListN.{length, getD, drop, getElem?}
 use lib.Seq.{drop-cons}
+use Rattle.word.specs.Words.{decoded}
+use Rattle.word.specs.declared.Symbol as grammar
+use Rattle.word.specs.declared.Word.{Word}
+use Rattle.word.specs.declared.Word.the-variants as word
 use Rattle.grammar.specs.Limits.{maxRules}
 use Rattle.grammar.specs.Syntax.{Rule, Grammar, bodies}
-use Rattle.grammar.specs.Words.{decoded}
 use Rattle.grammar.specs.Encoding.{parse, grammarOf}
 use Rattle.grammar.specs.Reading.{allows, after, beginsRule, scan, reading}
 use Rattle.grammar.specs.Starts.{ruleStarts}
 use Rattle.grammar.specs.WellRead.{firstRule, Begun, WellRead}
-use Rattle.grammar.specs.declared.Symbol as grammar
-use Rattle.grammar.specs.declared.word.Word.{Word}
-use Rattle.grammar.specs.declared.word.Word.the-variants as word
 use Rattle.grammar.specs.declared.reading.State.{State}
 use Rattle.grammar.specs.declared.reading.State.the-variants as state
 use Rattle.grammar.specs.declared.reading.Progress.{Progress}

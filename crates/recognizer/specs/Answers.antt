@@ -12,7 +12,7 @@ use Rattle.answer.specs.declared.Answer.{Answer}
 use Rattle.answer.specs.declared.Answer.the-variants.{Refused, Passed, Rejected, Accepted}
 use Rattle.recognizer.specs.declared.judging.Unknown.{Unknown}
 use Rattle.recognizer.specs.declared.judging.Unknown.the-variants.{Absent, At}
-use Rattle.grammar.specs.Choice.{choose}
+use Rattle.word.specs.Choice.{choose}
 use Rattle.grammar.specs.Limits.{maxTokens, tableWords, memoEntries}
 use Rattle.grammar.specs.Syntax.{Grammar}
 use Rattle.grammar.specs.Encoding.{grammarOf}

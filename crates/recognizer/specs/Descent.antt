@@ -5,15 +5,15 @@ use mathlib.Core.List.{List, [], _∷_, List·Memᴰ}
 use Prim.Native.Nat.{ℕ, _+_, _*_, _≤_, _<_}
 use lib.Dec.{T, ltb, eqb}
 use lib.ListN.{length, getD, drop}
-use Rattle.grammar.specs.Choice.{choose}
+use Rattle.word.specs.Choice.{choose}
+use Rattle.word.specs.Words.{decoded}
+use Rattle.word.specs.declared.Symbol as grammar
+use Rattle.word.specs.declared.Word.the-variants.{Symbol}
 use Rattle.grammar.specs.Limits.{maxTokens}
 use Rattle.grammar.specs.Syntax.{Rule, Grammar, bodies}
-use Rattle.grammar.specs.Words.{decoded}
 use Rattle.grammar.specs.Encoding.{parse, grammarOf}
 use Rattle.grammar.specs.Reading.{scan, reading}
 use Rattle.grammar.specs.Starts.{ruleStarts}
-use Rattle.grammar.specs.declared.Symbol as grammar
-use Rattle.grammar.specs.declared.word.Word.the-variants.{Symbol}
 use Rattle.grammar.specs.declared.reading.Sizes.{Sizes}
 use Rattle.grammar.specs.declared.reading.Progress.{Progress}
 use Rattle.grammar.specs.declared.reading.Outcome.the-variants.{Read}

@@ -4,7 +4,7 @@ use mathlib.Core.List.{List, map}
 use Prim.Native.Nat.{ℕ, suc, _+_, _*_, max}
 use lib.Dec.{eqb}
 use lib.ListN.{length, getD}
-use Rattle.grammar.specs.Choice.{choose}
+use Rattle.word.specs.Choice.{choose}
 use Rattle.answer.specs.declared.Calls.{Calls}
 use Rattle.semantics.specs.FiniteSets.{keep, numbers, combine}
 use Rattle.semantics.specs.ComesTo.{Call, callAt}

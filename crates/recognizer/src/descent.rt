@@ -9,17 +9,17 @@ ghost use Rattle.semantics.specs.Memo.{encode, decode as decodedEntry};
 ghost use Rattle.table.specs.Layout.{entryWord};
 ghost use Rattle.rule.specs.Rule.{meant};
 ghost use Rattle.recognizer.specs.Descent.{matchesAt, columnAt, Short, BodyEnd, ChosenGiven, CallGiven, CallDone, RunGiven, RunDone};
-use grammar::Symbol;
 use grammar::limits::RULES;
 use grammar::limits::TABLE_WORDS;
-use grammar::word::Word;
-use grammar::word::decode;
 use rule::Agreement;
 use rule::Outcome;
 use rule::conclude;
 use rule::goes_on;
 use rule::joined;
 use rule::sign_at;
+use word::Symbol;
+use word::Word;
+use word::decode;
 
 // Codes of the memo table; any other entry is an end.
 pub const FAILED: u16 = 65534;

@@ -4,10 +4,10 @@ use mathlib.Core.List.{List}
 use Prim.Native.Nat.{ℕ}
 use lib.Dec.{ltb}
 use lib.ListN.{length, getD}
-use Rattle.grammar.specs.Choice.{choose}
-use Rattle.grammar.specs.Words.{decoded}
-use Rattle.grammar.specs.declared.word.Word.{Word}
-use Rattle.grammar.specs.declared.word.Word.the-variants as word
+use Rattle.word.specs.Choice.{choose}
+use Rattle.word.specs.Words.{decoded}
+use Rattle.word.specs.declared.Word.{Word}
+use Rattle.word.specs.declared.Word.the-variants as word
 use Rattle.semantics.specs.Descent as semantics
 use Rattle.semantics.specs.Descent.{endsAt}
 use Rattle.rule.specs.declared.Outcome as code

@@ -2,8 +2,8 @@
 ghost use mathlib.Core.Path.{_≡_};
 ghost use Rattle.semantics.specs.Descent.{endsAt};
 ghost use Rattle.rule.specs.Rule.{meant, signOf, signAt, beginsBody, goesOn, openedBy, keptBy, joinedBy, concluded};
-use grammar::word::Word;
-use grammar::word::decode;
+use word::Word;
+use word::decode;
 
 // (document 01: a name's result, failed or an end)
 pub enum Outcome {

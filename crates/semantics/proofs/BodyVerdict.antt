@@ -6,8 +6,8 @@ use Prim.Native.Nat.{ℕ, suc, _-_, _≤_, _<_}
 use native.Mathlib.Omega.{arith}
 use lib.Dec.{T, leb, ltb, eqb, leb→le, le→leb, ltb→lt, lt→ltb}
 use lib.ListN.{length, getD, take}
+use Rattle.word.specs.declared.Symbol.the-variants.{Terminal, Nonterminal}
 use Rattle.grammar.specs.Syntax.{Body, Grammar, NonterminalsBelow}
-use Rattle.grammar.specs.declared.Symbol.the-variants.{Terminal, Nonterminal}
 use Rattle.semantics.specs.Quantifiers.{below}
 use Rattle.semantics.specs.Valuations.{Valuation, contains}
 use Rattle.semantics.specs.LeftRecursion.{nullable, LeftIn, here, there}

@@ -3,8 +3,8 @@ use mathlib.Core.List.{[], _∷_}
 use mathlib.Core.Option.{some}
 use mathlib.Core.Path.{_≡_, refl}
 use Prim.Native.Nat.{ℕ, zero, suc}
+use Rattle.word.specs.declared.Symbol.the-variants.{Terminal, Nonterminal}
 use Rattle.grammar.specs.Syntax.{Body}
-use Rattle.grammar.specs.declared.Symbol.the-variants.{Terminal, Nonterminal}
 use Rattle.semantics.specs.Quantifiers.{pick}
 use Rattle.semantics.specs.Strings.{look}
 use Rattle.semantics.specs.Families.{Table}

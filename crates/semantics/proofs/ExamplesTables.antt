@@ -4,8 +4,8 @@ use mathlib.Core.List.{List, [], _∷_, map}
 use mathlib.Core.Option.{Option, none, some}
 use mathlib.Core.Path.{_≡_, refl}
 use Prim.Native.Nat.{ℕ, _+_, _^_}
+use Rattle.word.specs.declared.Symbol.the-variants.{Terminal, Nonterminal}
 use Rattle.grammar.specs.Syntax.{Grammar}
-use Rattle.grammar.specs.declared.Symbol.the-variants.{Terminal, Nonterminal}
 use Rattle.semantics.specs.FiniteSets.{member, numbers}
 use Rattle.semantics.specs.Rounds.{settle}
 use Rattle.semantics.specs.FirstFollow.{strings, sameEntry, entries, firstStep, firstSets, followSets}

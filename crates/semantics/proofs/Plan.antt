@@ -6,8 +6,8 @@ use mathlib.Core.Path.{_≡_, refl, ap, _∙_}
 use Prim.Native.Nat.{ℕ, suc}
 use lib.Dec.{ltb, eqb}
 use lib.ListN.{length, getD}
+use Rattle.word.specs.declared.Symbol.the-variants.{Terminal, Nonterminal}
 use Rattle.grammar.specs.Syntax.{Body, Rule}
-use Rattle.grammar.specs.declared.Symbol.the-variants.{Terminal, Nonterminal}
 use Rattle.semantics.specs.Quantifiers.{pick, any, all}
 use Rattle.semantics.specs.Descent.{Outcome, Failed, End, endsAt, onward, guard, Outcomes, read, run, agrees, confirm, conclude, obey}
 use Rattle.semantics.specs.ComesTo.{Call, callAt, fromEnd, when, bodyComesTo, negativesComeTo, positivesComeTo, ruleComesTo, selectedComesTo}

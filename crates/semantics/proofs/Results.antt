@@ -6,8 +6,8 @@ use Prim.Native.Nat.{ℕ, zero, suc, _-_, _≤_, _<_}
 use native.Mathlib.Omega.{arith}
 use lib.Dec.{ltb, eqb, ltb→lt}
 use lib.ListN.{length, getD}
+use Rattle.word.specs.declared.Symbol.the-variants.{Terminal, Nonterminal}
 use Rattle.grammar.specs.Syntax.{Body, Grammar, NonterminalsBelow, WellScoped}
-use Rattle.grammar.specs.declared.Symbol.the-variants.{Terminal, Nonterminal}
 use Rattle.semantics.specs.Valuations.{pairs}
 use Rattle.semantics.specs.LeftRecursion.{nullable, LeftIn, here, there, LeftDepends, NoLeftRecursion, level}
 use Rattle.semantics.specs.Strings.{look}

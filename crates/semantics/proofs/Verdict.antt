@@ -8,8 +8,8 @@ use Prim.Native.Nat.{ℕ, zero, suc, _-_, _≤_, _<_}
 use native.Mathlib.Omega.{arith}
 use lib.Dec.{T, eqb, eqb→eq, eqb-refl}
 use lib.ListN.{length, take}
+use Rattle.word.specs.declared.Symbol.the-variants.{Nonterminal}
 use Rattle.grammar.specs.Syntax.{Body, Rule, Grammar, bodies, NonterminalsBelow, WellScoped}
-use Rattle.grammar.specs.declared.Symbol.the-variants.{Nonterminal}
 use Rattle.semantics.specs.Quantifiers.{any, all, below}
 use Rattle.semantics.specs.Valuations.{Valuation, contains, derives, byRules, Solves, pairs}
 use Rattle.semantics.specs.LeftRecursion.{here, there, LeftDepends, NoLeftRecursion, level}

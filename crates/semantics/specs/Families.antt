@@ -5,8 +5,8 @@ use mathlib.Core.Logic.{_⊎_}
 use mathlib.Core.Option.{Option, some}
 use Prim.Native.Nat.{ℕ, _≤_, _<_}
 use lib.ListN.{length, take, getElem?}
-use Rattle.grammar.specs.declared.Symbol.{Symbol}
-use Rattle.grammar.specs.declared.Symbol.the-variants.{Terminal, Nonterminal}
+use Rattle.word.specs.declared.Symbol.{Symbol}
+use Rattle.word.specs.declared.Symbol.the-variants.{Terminal, Nonterminal}
 use Rattle.grammar.specs.Syntax.{Body, Rule, Grammar, bodies, TerminalsBelow}
 use Rattle.semantics.specs.Strings.{Lookahead}
 

@@ -4,8 +4,8 @@ use mathlib.Core.List.{List, [], _∷_, _++_}
 use Prim.Native.Nat.{ℕ, zero, suc}
 use lib.Dec.{T, eqb}
 use lib.ListN.{take}
-use Rattle.grammar.specs.declared.Symbol.{Symbol}
-use Rattle.grammar.specs.declared.Symbol.the-variants.{Terminal, Nonterminal}
+use Rattle.word.specs.declared.Symbol.{Symbol}
+use Rattle.word.specs.declared.Symbol.the-variants.{Terminal, Nonterminal}
 use Rattle.grammar.specs.Syntax.{Body, Rule, Grammar, bodies}
 use Rattle.semantics.specs.Quantifiers.{any, all}
 use Rattle.semantics.specs.FiniteSets.{member, keep, distinct, numbers, combine}

@@ -7,8 +7,8 @@ use mathlib.Core.Option.{none, some}
 use Prim.Native.Nat.{ℕ, suc, _*_, _≤_, _<_}
 use lib.Dec.{T}
 use lib.ListN.{length, getD, getElem?, take}
-use Rattle.grammar.specs.declared.Symbol.{Symbol}
-use Rattle.grammar.specs.declared.Symbol.the-variants.{Nonterminal}
+use Rattle.word.specs.declared.Symbol.{Symbol}
+use Rattle.word.specs.declared.Symbol.the-variants.{Nonterminal}
 use Rattle.grammar.specs.Syntax.{Body, Rule, Grammar, bodies, NonterminalsBelow, WellScoped, WellFormed}
 use Rattle.semantics.specs.FiniteSets.{numbers}
 use Rattle.semantics.specs.Rounds.{Set, _⊆_}

@@ -9,12 +9,12 @@ use Prim.Native.Nat.{ℕ, suc, _+_, _≤_, _<_}
 use native.Mathlib.Omega.{arith}
 use native.Mathlib.Numerals.{add-one}
 use lib.ListN.{length, getD, drop, length-set}
-use Rattle.grammar.specs.declared.Symbol.the-variants.{Terminal, Nonterminal}
-use Rattle.grammar.specs.declared.word.Word.{Word}
-use Rattle.grammar.specs.declared.word.Word.the-variants.{Heading, Rule as RuleWord, Positive, Negative, Symbol, End, Invalid}
+use Rattle.word.specs.declared.Symbol.the-variants.{Terminal, Nonterminal}
+use Rattle.word.specs.declared.Word.{Word}
+use Rattle.word.specs.declared.Word.the-variants.{Heading, Rule as RuleWord, Positive, Negative, Symbol, End, Invalid}
+use Rattle.word.specs.Words.{decoded}
 use Rattle.grammar.specs.Limits.{maxNonterminals}
 use Rattle.grammar.specs.Syntax.{Body, Rule, bodies}
-use Rattle.grammar.specs.Words.{decoded}
 use Rattle.grammar.specs.Encoding.{Parsed, ruleOf, onWord, parse}
 use Rattle.grammar.proofs.WellFormed.{none-in, more-in, Empty}
 use Rattle.grammar.proofs.Places.{Behind, read-place, read-whole}

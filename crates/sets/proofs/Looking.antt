@@ -7,9 +7,9 @@ use native.Mathlib.Decide.{decLt}
 use lib.Dec.{ltb}
 use lib.ListN.{length, getD, List·getD-eq-default}
 use borrow.Author.Tests.{lt-ltb, le-ltb}
-use Rattle.grammar.specs.Choice.{choose}
+use Rattle.word.specs.Choice.{choose}
+use Rattle.word.specs.declared.Word.{Word}
 use Rattle.grammar.specs.Limits.{maxNonterminals}
-use Rattle.grammar.specs.declared.word.Word.{Word}
 use Rattle.sets.specs.declared.first.Rest.{Rest}
 use Rattle.sets.specs.Least.{at, lookup}
 use Rattle.sets.specs.First.{Onto}

@@ -6,8 +6,8 @@ use native.Mathlib.Omega.{arith}
 use native.Mathlib.Decide.{ℕ-discrete}
 use lib.ListN.{length, getD, set, drop, length-set}
 use lib.Seq.{getD-set-same, getD-set-other}
-use Rattle.grammar.specs.declared.word.Word.{Word}
-use Rattle.grammar.specs.Words.{decoded}
+use Rattle.word.specs.declared.Word.{Word}
+use Rattle.word.specs.Words.{decoded}
 use Rattle.grammar.specs.Encoding.{parse}
 use Rattle.sets.specs.declared.first.Rest.{Rest}
 use Rattle.sets.specs.Least.{SetFamily}

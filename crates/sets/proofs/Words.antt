@@ -5,7 +5,7 @@ use Prim.Native.Nat.{ℕ, suc, _-_, _≤_, _<_}
 use native.Mathlib.Omega.{arith}
 use lib.ListN.{length, getD, drop, drop-of-length-le}
 use lib.Seq.{drop-cons}
-use Rattle.grammar.specs.Words.{decoded}
+use Rattle.word.specs.Words.{decoded}
 use Rattle.grammar.specs.Encoding.{onWord, parse}
 
 module _ (words : List ℕ) (i : ℕ) where

@@ -1,10 +1,10 @@
 -- The nonterminals that a word of an encoded grammar names.
 use mathlib.Core.Option.{Option, none, some, Option·getD}
 use Prim.Native.Nat.{ℕ, _<_}
-use Rattle.grammar.specs.declared.Symbol.{Symbol as GrammarSymbol}
-use Rattle.grammar.specs.declared.Symbol.the-variants.{Terminal, Nonterminal}
-use Rattle.grammar.specs.declared.word.Word.{Word}
-use Rattle.grammar.specs.declared.word.Word.the-variants.{Heading, Rule, Positive, Negative, Symbol, End, Invalid}
+use Rattle.word.specs.declared.Symbol.{Symbol as GrammarSymbol}
+use Rattle.word.specs.declared.Symbol.the-variants.{Terminal, Nonterminal}
+use Rattle.word.specs.declared.Word.{Word}
+use Rattle.word.specs.declared.Word.the-variants.{Heading, Rule, Positive, Negative, Symbol, End, Invalid}
 use Rattle.grammar.specs.Limits.{maxNonterminals}
 
 -- the head of the rule that begins with a word

@@ -13,11 +13,11 @@ ghost use Rattle.sets.specs.Sets.{firstNumber};
 use super::family::SETS;
 use super::family::add;
 use super::family::set_of;
-use grammar::Symbol;
 use grammar::reading::Sizes;
-use grammar::word::Word;
-use grammar::word::decode;
 use lookahead::LookaheadSet;
+use word::Symbol;
+use word::Word;
+use word::decode;
 
 // Of the words from a place on: the first set of what is left of the body, and the meet of those of the rule's positives
 // behind it.

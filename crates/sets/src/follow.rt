@@ -16,12 +16,12 @@ use super::family::SETS;
 use super::family::add;
 use super::first::no_rest;
 use super::first::onto;
-use grammar::Symbol;
 use grammar::limits::WORDS;
 use grammar::reading::Sizes;
-use grammar::word::Word;
-use grammar::word::decode;
 use lookahead::LookaheadSet;
+use word::Symbol;
+use word::Word;
+use word::decode;
 
 // Writes at each place the first set of what is left of the body behind the word there.
 fn write_rests(words: &[u32], sizes: Sizes, firsts: &[u32; SETS], rests: &mut [u32; WORDS])

@@ -14,12 +14,12 @@ ghost use Rattle.sets.specs.Naming.{IndexedSymbol, Indexed};
 ghost use Rattle.sets.specs.Sets.{firstNumber, reachNumber};
 use super::family::SETS;
 use super::first::close_rule;
-use grammar::Symbol;
 use grammar::reading::Sizes;
-use grammar::word::Word;
-use grammar::word::decode;
 use lookahead::LookaheadSet;
 use lookahead::NOTHING;
+use word::Symbol;
+use word::Word;
+use word::decode;
 
 // Of the words from a place on: what is at the left of the rest of the body, and of the rule's bodies behind it, with all
 // that this left-reaches. Nonterminal B weighs 2^B.

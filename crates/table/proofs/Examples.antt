@@ -4,8 +4,8 @@ use mathlib.Core.Path.{_≡_, refl}
 use mathlib.Core.Option.{some}
 use Prim.Native.Nat.{ℕ}
 use Rattle.answer.specs.declared.Error.the-variants.{LeftRecursive}
+use Rattle.word.specs.declared.Symbol.the-variants.{Terminal, Nonterminal}
 use Rattle.grammar.specs.Cards.{grammarR, grammarM, grammarE}
-use Rattle.grammar.specs.declared.Symbol.the-variants.{Terminal, Nonterminal}
 use Rattle.grammar.specs.Syntax.{Body, Rule, Grammar}
 use Rattle.lookahead.specs.Elements.{total}
 use Rattle.semantics.specs.FirstFollow.{first, follow}

@@ -10,7 +10,7 @@ use native.Mathlib.Numerals.{add-one}
 use native.Mathlib.Omega.{arith}
 use lib.ListN.{length, getD, set, length-set}
 use lib.Seq.{getD-set-same, getD-set-other}
-use Rattle.grammar.specs.Choice.{choose}
+use Rattle.word.specs.Choice.{choose}
 use Rattle.grammar.specs.Limits.{maxNonterminals, maxTerminals}
 use Rattle.lookahead.specs.Elements.{has}
 use Rattle.table.specs.declared.entries.Conflict.the-variants.{Absent, At}

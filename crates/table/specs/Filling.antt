@@ -7,8 +7,8 @@ use mathlib.Core.Option.{Option, none, some}
 use Prim.Native.Nat.{ℕ, zero, suc, _+_, _*_, _/_, _%_, _≤_, _<_}
 use lib.Dec.{eqb}
 use lib.ListN.{length, getD, set}
-use Rattle.grammar.specs.Choice.{choose}
-use Rattle.grammar.specs.declared.word.Word.{Word}
+use Rattle.word.specs.Choice.{choose}
+use Rattle.word.specs.declared.Word.{Word}
 use Rattle.grammar.specs.declared.reading.Sizes.{Sizes}
 use Rattle.grammar.specs.Limits.{maxNonterminals, maxTerminals, maxRules, tableWords as memoryWords}
 use Rattle.grammar.specs.Reading.{inRange, beginsRule}

@@ -2,7 +2,7 @@
 ghost use mathlib.Core.Path.{_≡_};
 ghost use Prim.Native.Nat.{suc, _+_, _*_, _≤_, _<_};
 ghost use lib.ListN.{length};
-ghost use Rattle.grammar.specs.Choice.{choose};
+ghost use Rattle.word.specs.Choice.{choose};
 ghost use Rattle.grammar.specs.Limits.{maxNonterminals, maxTerminals, tableWords as memoryWords};
 ghost use Rattle.lookahead.specs.Elements.{has};
 ghost use Rattle.grammar.specs.Encoding.{grammarOf};
@@ -12,13 +12,13 @@ ghost use Rattle.table.specs.Filling.{columnElement, conflictFrom};
 ghost use Rattle.table.specs.Filling.{FilledRow, FilledSets, Noted, tables, MayClaim, WordClaims, FilledRows};
 use grammar::limits::TABLE_WORDS;
 use grammar::reading::Sizes;
-use grammar::word::Word;
-use grammar::word::decode;
 use lookahead::LookaheadSet;
 use lookahead::NOTHING;
 use sets::family::SETS;
 use sets::first::no_rest;
 use sets::first::onto;
+use word::Word;
+use word::decode;
 
 // An entry that no rule claims (document 01: none).
 const NO_ENTRY: u32 = 4294967295;

@@ -5,7 +5,7 @@ use Rattle.rule.proofs.sign_at.Statement.{statement}
 use Rattle.rule.proofs.sign_at.Tie as tie
 use Rattle.rule.proofs.sign_at.Reads as reads
 use Rattle.rule.proofs.sign_at.Lts as lts
-use Rattle.grammar.proofs.word.decode.Reads as decode-reads
+use Rattle.word.proofs.decode.Reads as decode-reads
 use Rattle.rule.proofs.sign_of.Reads as sign-of-reads
 
 -- src/lib.rt:49:24

@@ -7,7 +7,7 @@ use Prim.Native.Nat.{_+_, _-_, _*_}
 use native.Mathlib.Omega.{arith}
 use lib.ListN.{length, length-set}
 use borrow.Author.Tests.{not-true, not-false}
-use Rattle.grammar.specs.declared.word.Word.the-variants.{Symbol}
+use Rattle.word.specs.declared.Word.the-variants.{Symbol}
 use Rattle.recognizer.proofs.Bodies.{no-symbol}
 use Rattle.recognizer.proofs.Choosing.{chosen-given}
 use Rattle.recognizer.proofs.Running.{level, Running, running-as, running-start, running-done, running-over, running-terminal, running-mismatch, running-given, running-small, running-falls, running-call, running-failed}
@@ -23,7 +23,7 @@ use Rattle.recognizer.proofs.descent.+call+run_body.Lts-call as call-lt
 use Rattle.recognizer.proofs.descent.run_body.Reads as run-body
 use Rattle.recognizer.proofs.descent.run_body.Kinds as run-body-kinds
 use Rattle.recognizer.proofs.descent.+call+run_body.Lts-run_body as run-body-lts
-use Rattle.grammar.proofs.word.decode.Reads as decode-reads
+use Rattle.word.proofs.decode.Reads as decode-reads
 use Rattle.recognizer.proofs.descent.body_end.Reads as body-end-reads
 use Rattle.recognizer.proofs.descent.chosen.Reads as chosen-reads
 use Rattle.recognizer.proofs.descent.code.Reads as code-reads

@@ -2,10 +2,10 @@
 use mathlib.Core.Bool.{Bool}
 use Prim.Native.Nat.{ℕ, _/_, _%_, _^_}
 use lib.Dec.{eqb, ltb}
-use Rattle.grammar.specs.declared.Symbol.the-variants.{Terminal, Nonterminal}
-use Rattle.grammar.specs.declared.word.Word.{Word}
-use Rattle.grammar.specs.declared.word.Word.the-variants.{Heading, Rule, Positive, Negative, Symbol, End, Invalid}
-use Rattle.grammar.specs.Choice.{choose}
+use Rattle.word.specs.declared.Symbol.the-variants.{Terminal, Nonterminal}
+use Rattle.word.specs.declared.Word.{Word}
+use Rattle.word.specs.declared.Word.the-variants.{Heading, Rule, Positive, Negative, Symbol, End, Invalid}
+use Rattle.word.specs.Choice.{choose}
 
 -- the top four bits, and the other 28
 abbrev pub kind : ℕ → ℕ

@@ -1,8 +1,8 @@
 -- A payload where there is none to be makes a word invalid.
 use borrow.Author.Tests.{ne-eqb}
-use Rattle.grammar.specs.Words.{bare}
-use Rattle.grammar.proofs.word.bare.Statement.{statement}
-use Rattle.grammar.proofs.word.bare.Tie as tie
+use Rattle.word.specs.Words.{bare}
+use Rattle.word.proofs.bare.Statement.{statement}
+use Rattle.word.proofs.bare.Tie as tie
 
 returns : tie.Need-returns
 unfolding bare

@@ -1,8 +1,8 @@
 -- A heading is two bytes of payload; anything above them makes it invalid.
 use borrow.Author.Tests.{lt-ltb, le-ltb}
-use Rattle.grammar.specs.Words.{heading}
-use Rattle.grammar.proofs.word.heading.Statement.{statement}
-use Rattle.grammar.proofs.word.heading.Tie as tie
+use Rattle.word.specs.Words.{heading}
+use Rattle.word.proofs.heading.Statement.{statement}
+use Rattle.word.proofs.heading.Tie as tie
 
 returns : tie.Need-returns
 unfolding heading

@@ -1,9 +1,9 @@
 -- Decoding goes by the kind, row by row.
 use borrow.Author.Tests.{ne-eqb}
-use Rattle.grammar.specs.Words.{decoded, ofKind}
+use Rattle.word.specs.Words.{decoded, ofKind}
 use borrow.Author.Needs.{needs}
-use Rattle.grammar.proofs.word.decode.Statement.{statement}
-use Rattle.grammar.proofs.word.decode.Tie as tie
+use Rattle.word.proofs.decode.Statement.{statement}
+use Rattle.word.proofs.decode.Tie as tie
 
 heading-requires : tie.Need-heading-requires
 heading-requires c κs = search needs

@@ -1,7 +1,12 @@
 // What a 32-bit word of an encoded grammar stands for.
 ghost use mathlib.Core.Path.{_≡_};
-ghost use Rattle.grammar.specs.Words.{bare as bareWord, heading as headingWord, decoded};
-use super::Symbol;
+ghost use Rattle.word.specs.Words.{bare as bareWord, heading as headingWord, decoded};
+
+// A symbol of a body (document 01: a letter or a name, each with its number).
+pub enum Symbol {
+    Terminal(u32),
+    Nonterminal(u32),
+}
 
 // Invalid: of no kind, or with a payload that its kind does not have.
 pub enum Word {
