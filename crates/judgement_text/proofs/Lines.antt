@@ -8,21 +8,13 @@ use borrow.Author.Tests.{eq-eqb, ne-eqb}
 use Rattle.text.specs.Ascii.{ascii}
 use Rattle.text.specs.Decimal.{decimal, labelled}
 use Rattle.text.specs.Writing.{Put}
-use Rattle.judgement_text.specs.Judgement.{failed, uncalled, endText, callText}
+use Rattle.judgement_text.specs.Judgement.{uncalled, endText, callText}
 
 -- the entries of a memo table are few enough to be counted
 pub few-entries : (n t : ℕ) → n < 2 ^ 32 → t < 2 ^ 16 → n * (t + 1) < 2 ^ 64
 few-entries n t h k = let l : n ≤ 2 ^ 32 = omega arith in omega (arith, mul-le-mul-right (t + 1) l)
 
 module _ {l m : List ℕ} {at next : ℕ} where
-  pub failed-put : (entry : ℕ) → entry ≡ failed → Put l at (ascii " -") m next → Put l at (endText entry) m next
-  unfolding endText
-  failed-put entry e p = rw (eq-eqb entry failed e) p
-
-  pub end-put : (entry : ℕ) → (entry ≡ failed → ⊥) → Put l at (labelled " " entry) m next → Put l at (endText entry) m next
-  unfolding endText
-  end-put entry e p = rw (ne-eqb entry failed e) p
-
   pub uncalled-put : (A place entry : ℕ) → entry ≡ uncalled → Put l at [] m next → Put l at (callText A place entry) m next
   unfolding callText
   uncalled-put A place entry e p = rw (eq-eqb entry uncalled e) p

@@ -9,7 +9,7 @@ use Rattle.answer.specs.declared.Answer.{Answer}
 use Rattle.answer.specs.declared.Answer.the-variants.{Refused, Passed, Rejected, Accepted}
 use Rattle.word.specs.Choice.{choose}
 use Rattle.text.specs.Ascii.{ascii}
-use Rattle.text.specs.Decimal.{decimal, labelled}
+use Rattle.text.specs.Decimal.{decimal, labelled, orDash}
 use Rattle.text.specs.Refusal.{refusalText}
 use Rattle.text.specs.Writing.{upTo}
 
@@ -21,8 +21,8 @@ abbrev pub uncalled : ℕ
 uncalled = 65535
 
 -- where a call ended, or a dash
-unfoldable pub endText : ℕ → List ℕ
-endText entry = choose (eqb entry failed) (ascii " -") (labelled " " entry)
+abbrev pub endText : ℕ → List ℕ
+endText entry = orDash failed entry
 
 -- a call: nonterminal, place and end; nothing where none was made
 unfoldable pub callText : ℕ → ℕ → ℕ → List ℕ

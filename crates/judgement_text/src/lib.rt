@@ -12,6 +12,7 @@ use answer::Calls;
 use text::put::put_bytes;
 use text::put::put_labelled;
 use text::put::put_number;
+use text::put::put_or_dash;
 use text::refusal::put_refusal;
 
 // The memo table's codes; any other entry is an end.
@@ -29,11 +30,7 @@ fn entry_at(memo: &[u16], at: usize) -> u16
 fn put_end(out: &mut [u8], at: usize, entry: u16) -> usize
     ensures { λ r. ⌜ Put (now (out .entry)) at (endText entry) (now (out .exit)) r ⌝ }
 {
-    if entry == FAILED {
-        put_bytes(out, at, b" -")
-    } else {
-        put_labelled(out, at, b" ", entry as usize)
-    }
+    put_or_dash(out, at, entry as usize, FAILED as usize)
 }
 
 fn put_call(out: &mut [u8], at: usize, nonterminal: usize, place: usize, entry: u16) -> usize

@@ -31,14 +31,14 @@ use Rattle.semantics.specs.FirstFollow.{Entry, First, Follow}
 use Rattle.semantics.specs.Claims.{clashes}
 use Rattle.semantics.specs.Theorems.{LeastSets}
 use Rattle.semantics.proofs.Theorems.{theorems}
-use Rattle.table.specs.declared.Finding.{Finding}
-use Rattle.table.specs.declared.Finding.the-variants as finding
+use Rattle.sets.specs.declared.Finding.the-variants as finding
 use Rattle.table.specs.declared.Analysis.{Analysis}
 use Rattle.sets.specs.Lists.{listed}
 use Rattle.table.specs.Layout.{noEntry, columns, setWord, rowWord, tableWords}
 use Rattle.table.specs.Entries.{filled}
-use Rattle.sets.specs.Families.{firstFault, readingFault, leftFault, setsFault}
-use Rattle.table.specs.Analysis.{clashFault, fault, findingOf, tableIf, analyzed}
+use Rattle.sets.specs.Families.{firstFault, readingFault, leftFault, setsFault, findingOf}
+use Rattle.sets.proofs.Telling.{told-passed}
+use Rattle.table.specs.Analysis.{clashFault, fault, tableIf, analyzed}
 use Rattle.sets.proofs.Lists.{listed-long}
 use Rattle.recognizer.specs.Memory.{lentBack, wordCount, LendGiven, Lent}
 use Rattle.recognizer.specs.Answers.{firstOf, checkFault, refusedOr}
@@ -161,16 +161,11 @@ told-refused (Read z) (some y) c x q = let e : y ≡ x = cc in ap some e
 told-refused (Read z) none (some y) x q = let e : y ≡ x = cc in ap some e
 told-refused (Read z) none none x q = let n : _≡_ {A = ℕ} 0 1 = cc in absurd (omega arith)
 
-told-passed : (f : Option Error) (o : Outcome) (z : Sizes) → findingOf f o ≡ finding.Passed z → (f ≡ none) × (o ≡ Read z)
-told-passed none (Read y) z q = let e : y ≡ z = cc in (refl, ap Read e)
-told-passed none (Faulty x) z q = let n : _≡_ {A = ℕ} 0 1 = cc in absurd (omega arith)
-told-passed (some x) o z q = let n : _≡_ {A = ℕ} 0 1 = cc in absurd (omega arith)
-
 -- an analysis that finds no fault tells the sizes and the whole table
 pub found : (words : List ℕ) {a : Analysis} {z : Sizes} → a ≡ analyzed words → a .finding ≡ finding.Passed z → Found words z (a .table)
 unfolding analyzed
 found words {a} {z} e q =
-    let k = told-passed (fault words) (reading words) z (sym (ap (λ y. y .finding) e) ∙ q) in
+    let k = told-passed (fault words) (reading words) (sym (ap (λ y. y .finding) e) ∙ q) in
     record { read = k .1; faultless = k .0; table = ap (λ y. y .table) e ∙ ap (λ y. tableIf y (filled (tableWords (grammarOf words)))) (k .0) }
 
 pub found-fault : (words : List ℕ) {a : Analysis} {x : Error} → a ≡ analyzed words → a .finding ≡ finding.Refused x → fault words ≡ some x

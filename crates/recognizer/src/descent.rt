@@ -17,6 +17,7 @@ use rule::conclude;
 use rule::goes_on;
 use rule::joined;
 use rule::sign_at;
+use table::NO_ENTRY;
 use word::Symbol;
 use word::Word;
 use word::decode;
@@ -25,9 +26,6 @@ use word::decode;
 pub const FAILED: u16 = 65534;
 
 pub const UNCALLED: u16 = 65535;
-
-// The table's word for no entry.
-pub const NO_ENTRY: u32 = 4294967295;
 
 // Where the body at an index ends.
 fn body_end(words: &[u32], from: usize) -> usize

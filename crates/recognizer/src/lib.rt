@@ -6,7 +6,7 @@ use grammar::limits::MEMO_ENTRIES;
 use grammar::limits::TABLE_WORDS;
 use judging::judge_passed;
 use lending::lend;
-use table::Finding;
+use sets::Finding;
 use table::analyze;
 
 mod descent;

@@ -14,7 +14,7 @@ use Rattle.grammar.specs.declared.reading.Outcome.{Outcome}
 use Rattle.grammar.specs.declared.reading.Outcome.the-variants.{Read, Faulty}
 use Rattle.semantics.specs.LeftRecursion.{lowestLeftRecursive}
 use Rattle.sets.specs.declared.Finding.{Finding}
-use Rattle.sets.specs.declared.Finding.the-variants.{Found, Refused}
+use Rattle.sets.specs.declared.Finding.the-variants.{Passed, Refused}
 use Rattle.sets.specs.declared.Families.{Families}
 use Rattle.sets.specs.declared.left.Lowest.{Lowest}
 use Rattle.sets.specs.declared.left.Lowest.the-variants as lowest
@@ -42,7 +42,7 @@ module _ (words : List ℕ) {z : Sizes} {l : Lowest} (read : reading words ≡ R
   families-left a = rw (read, lowest-some (lowestLeftRecursive (grammarOf words)) e a)
 
   pub families-found : {firsts follows : List ℕ} → l ≡ lowest.Absent → firsts ≡ listed maxNonterminals (firstNumber (grammarOf words))
-      → follows ≡ listed maxNonterminals (followNumber (grammarOf words)) → families (Found z) firsts follows ≡ familiesOf words
+      → follows ≡ listed maxNonterminals (followNumber (grammarOf words)) → families (Passed z) firsts follows ≡ familiesOf words
   unfolding familiesOf setsFault
   families-found a f g = rw (read, lowest-none (lowestLeftRecursive (grammarOf words)) e a, f, g)
 
@@ -53,15 +53,16 @@ pub record FoundFamilies (words : List ℕ) (z : Sizes) (firsts follows : List �
   pub first : firsts ≡ listed maxNonterminals (firstNumber (grammarOf words))
   pub follow : follows ≡ listed maxNonterminals (followNumber (grammarOf words))
 
-told-found : (f : Option Error) (o : Outcome) {z : Sizes} → findingOf f o ≡ Found z → (f ≡ none) × (o ≡ Read z)
-told-found none (Read y) {z} q = let e : y ≡ z = cc in (refl, ap Read e)
-told-found none (Faulty x) q = let n : _≡_ {A = ℕ} 0 1 = cc in absurd (omega arith)
-told-found (some x) o q = let n : _≡_ {A = ℕ} 0 1 = cc in absurd (omega arith)
+-- a finding without an error tells that there is no fault
+pub told-passed : (f : Option Error) (o : Outcome) {z : Sizes} → findingOf f o ≡ Passed z → (f ≡ none) × (o ≡ Read z)
+told-passed none (Read y) {z} q = let e : y ≡ z = cc in (refl, ap Read e)
+told-passed none (Faulty x) q = let n : _≡_ {A = ℕ} 0 1 = cc in absurd (omega arith)
+told-passed (some x) o q = let n : _≡_ {A = ℕ} 0 1 = cc in absurd (omega arith)
 
-pub families-told : (words : List ℕ) {r : Families} {z : Sizes} → r ≡ familiesOf words → r .finding ≡ Found z → FoundFamilies words z (r .firsts) (r .follows)
+pub families-told : (words : List ℕ) {r : Families} {z : Sizes} → r ≡ familiesOf words → r .finding ≡ Passed z → FoundFamilies words z (r .firsts) (r .follows)
 unfolding familiesOf
 families-told words {r} {z} e q =
-    let k = told-found (setsFault words) (reading words) (sym (ap (λ x. x .finding) e) ∙ q) in
+    let k = told-passed (setsFault words) (reading words) (sym (ap (λ x. x .finding) e) ∙ q) in
     record {
       read = k .1;
       faultless = k .0;

@@ -12,7 +12,7 @@ use Rattle.grammar.specs.declared.reading.Outcome.{Outcome}
 use Rattle.grammar.specs.declared.reading.Outcome.the-variants.{Read, Faulty}
 use Rattle.semantics.specs.LeftRecursion.{lowestLeftRecursive}
 use Rattle.sets.specs.declared.Finding.{Finding}
-use Rattle.sets.specs.declared.Finding.the-variants.{Found, Refused}
+use Rattle.sets.specs.declared.Finding.the-variants.{Passed, Refused}
 use Rattle.sets.specs.declared.Families.{Families}
 use Rattle.sets.specs.Lists.{listed}
 use Rattle.sets.specs.Sets.{firstNumber, followNumber}
@@ -37,7 +37,7 @@ setsFault words = firstFault (readingFault (reading words)) (leftFault (lowestLe
 
 abbrev pub findingOf : Option Error → Outcome → Finding
 findingOf (some e) o = Refused e
-findingOf none (Read z) = Found z
+findingOf none (Read z) = Passed z
 findingOf none (Faulty e) = Refused e
 
 -- a family of sets, or empty ones

@@ -19,7 +19,7 @@ mod follow;
 mod left;
 
 pub enum Finding {
-    Found(Sizes),
+    Passed(Sizes),
     Refused(Error),
 }
 
@@ -52,7 +52,7 @@ fn analyze_grammar(words: &[u32], sizes: Sizes) -> Families
         Lowest::Absent => {
             let follows = follow_sets(words, sizes, &firsts);
             Families {
-                finding: Finding::Found(sizes),
+                finding: Finding::Passed(sizes),
                 firsts,
                 follows,
             }

@@ -4,13 +4,12 @@ use mathlib.Core.List.{List, _++_}
 use Prim.Native.Nat.{ℕ, _+_, _*_, _≤_, _<_}
 use native.Mathlib.Nat.{mul-le-mul-right}
 use native.Mathlib.Omega.{arith}
-use borrow.Author.Tests.{eq-eqb, ne-eqb}
 use Rattle.grammar.specs.Limits.{maxNonterminals, maxTerminals}
 use Rattle.lookahead.specs.Elements.{size}
 use Rattle.text.specs.Ascii.{ascii}
 use Rattle.text.specs.Decimal.{decimal, labelled}
 use Rattle.text.specs.Writing.{Put}
-use Rattle.sheet_text.specs.Sheet.{noEntry, wordAt, setText, setsLine, entryText}
+use Rattle.sheet_text.specs.Sheet.{wordAt, setText, setsLine}
 
 -- the rows before a nonterminal's are few words
 pub row-start : (A t : ℕ) → A < maxNonterminals → t ≤ maxTerminals → A * (t + 1) ≤ 775
@@ -25,11 +24,3 @@ module _ {l m : List ℕ} {at next : ℕ} where
       Put l at (labelled "name " A ++ setText " first " first ++ setText " follow " follow ++ ascii "\n") m next → Put l at (setsLine table A) m next
   unfolding setsLine
   sets-put table A e f p = rw (← e, ← f) p
-
-  pub no-entry-put : (entry : ℕ) → entry ≡ noEntry → Put l at (ascii " -") m next → Put l at (entryText entry) m next
-  unfolding entryText
-  no-entry-put entry e p = rw (eq-eqb entry noEntry e) p
-
-  pub entry-put : (entry : ℕ) → (entry ≡ noEntry → ⊥) → Put l at (labelled " " entry) m next → Put l at (entryText entry) m next
-  unfolding entryText
-  entry-put entry e p = rw (ne-eqb entry noEntry e) p

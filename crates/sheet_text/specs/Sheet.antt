@@ -12,7 +12,7 @@ use Rattle.grammar.specs.declared.reading.Outcome.{Outcome}
 use Rattle.grammar.specs.declared.reading.Outcome.the-variants.{Read, Faulty}
 use Rattle.lookahead.specs.Elements.{size}
 use Rattle.text.specs.Ascii.{ascii}
-use Rattle.text.specs.Decimal.{labelled}
+use Rattle.text.specs.Decimal.{labelled, orDash}
 use Rattle.text.specs.Refusal.{refusalText}
 use Rattle.text.specs.Writing.{upTo}
 
@@ -37,8 +37,8 @@ setsLine table A =
     labelled "name " A ++ setText " first " (wordAt table (2 * A)) ++ setText " follow " (wordAt table (2 * A + 1)) ++ ascii "\n"
 
 -- a rule's number, or a dash
-unfoldable pub entryText : ℕ → List ℕ
-entryText entry = choose (eqb entry noEntry) (ascii " -") (labelled " " entry)
+abbrev pub entryText : ℕ → List ℕ
+entryText entry = orDash noEntry entry
 
 -- the entries of a row that starts at an index of the table
 unfoldable pub entriesLine : List ℕ → ℕ → ℕ → List ℕ

@@ -15,6 +15,7 @@ use grammar::reading::read;
 use lookahead::LookaheadSet;
 use text::put::put_bytes;
 use text::put::put_labelled;
+use text::put::put_or_dash;
 use text::refusal::put_refusal;
 
 // The table's word for no entry.
@@ -63,11 +64,7 @@ fn put_sets(out: &mut [u8], at: usize, table: &[u32], nonterminal: u32) -> usize
 fn put_entry(out: &mut [u8], at: usize, entry: u32) -> usize
     ensures { λ r. ⌜ Put (now (out .entry)) at (entryText entry) (now (out .exit)) r ⌝ }
 {
-    if entry == NO_ENTRY {
-        put_bytes(out, at, b" -")
-    } else {
-        put_labelled(out, at, b" ", entry as usize)
-    }
+    put_or_dash(out, at, entry as usize, NO_ENTRY as usize)
 }
 
 // The entries of a row, from its start on.

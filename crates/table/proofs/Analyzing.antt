@@ -12,7 +12,7 @@ use Rattle.semantics.specs.FirstFollow.{Entry}
 use Rattle.semantics.specs.Claims.{clashes}
 use Rattle.sets.specs.Families.{setsFault}
 use Rattle.sets.proofs.Telling.{FoundFamilies}
-use Rattle.table.specs.declared.Finding.the-variants.{Passed, Refused}
+use Rattle.sets.specs.declared.Finding.the-variants.{Passed}
 use Rattle.table.specs.declared.entries.Conflict.{Conflict}
 use Rattle.table.specs.declared.entries.Conflict.the-variants as conflict
 use Rattle.table.specs.declared.entries.Table.{Table}

@@ -10,14 +10,12 @@ use Rattle.grammar.specs.Limits.{tableWords as memoryWords}
 use Rattle.grammar.specs.Encoding.{grammarOf}
 use Rattle.grammar.specs.Reading.{reading}
 use Rattle.grammar.specs.declared.reading.Sizes.{Sizes}
-use Rattle.grammar.specs.declared.reading.Outcome.{Outcome}
-use Rattle.grammar.specs.declared.reading.Outcome.the-variants.{Read, Faulty}
 use Rattle.semantics.specs.FirstFollow.{Entry}
 use Rattle.semantics.specs.Claims.{clashes}
-use Rattle.table.specs.declared.Finding.{Finding}
-use Rattle.table.specs.declared.Finding.the-variants.{Passed, Refused}
+use Rattle.sets.specs.declared.Finding.{Finding}
+use Rattle.sets.specs.declared.Finding.the-variants.{Refused}
 use Rattle.table.specs.declared.Analysis.{Analysis}
-use Rattle.sets.specs.Families.{firstFault, setsFault}
+use Rattle.sets.specs.Families.{firstFault, setsFault, findingOf}
 use Rattle.table.specs.Layout.{noEntry, tableWords}
 use Rattle.table.specs.Entries.{columnOf, filled, Given}
 
@@ -29,11 +27,6 @@ clashFault terminals (e ∷ es) = some (Conflict (e .0) (columnOf terminals (e .
 -- the first fault of an encoded grammar, in document 01's order: 3 to 8 come first
 unfoldable pub fault : List ℕ → Option Error
 fault words = firstFault (setsFault words) (clashFault (grammarOf words .terminals) (clashes (grammarOf words) 1))
-
-abbrev pub findingOf : Option Error → Outcome → Finding
-findingOf (some e) o = Refused e
-findingOf none (Read z) = Passed z
-findingOf none (Faulty e) = Refused e
 
 abbrev pub tableIf : Option Error → List ℕ → List ℕ
 tableIf none l = l

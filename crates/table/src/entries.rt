@@ -10,6 +10,7 @@ ghost use Rattle.sets.specs.Naming.{ruleHead};
 ghost use Rattle.table.specs.Entries.{Given, entriesOf};
 ghost use Rattle.table.specs.Filling.{columnElement, conflictFrom};
 ghost use Rattle.table.specs.Filling.{FilledRow, FilledSets, Noted, tables, MayClaim, WordClaims, FilledRows};
+use super::NO_ENTRY;
 use grammar::limits::TABLE_WORDS;
 use grammar::reading::Sizes;
 use lookahead::LookaheadSet;
@@ -19,9 +20,6 @@ use sets::first::no_rest;
 use sets::first::onto;
 use word::Word;
 use word::decode;
-
-// An entry that no rule claims (document 01: none).
-const NO_ENTRY: u32 = 4294967295;
 
 // The first entry that two rules claim, by nonterminal and then by column.
 pub(crate) enum Conflict {

@@ -6,17 +6,13 @@ use entries::Conflict;
 use entries::entries;
 use grammar::limits::TABLE_WORDS;
 use grammar::reading::Sizes;
+use sets::Finding;
 use sets::family::SETS;
 
 mod entries;
 
-// The table's word for no entry.
+// The table's word for an entry that no rule claims (document 01: none).
 pub const NO_ENTRY: u32 = 4294967295;
-
-pub enum Finding {
-    Passed(Sizes),
-    Refused(Error),
-}
 
 // What is found of an encoded grammar: its sizes, or why it is refused; and the words of its table, all no entry where it is refused.
 pub struct Analysis {
@@ -69,7 +65,7 @@ pub fn analyze(words: &[u32]) -> Analysis
     let firsts = families.firsts;
     let follows = families.follows;
     match finding {
-        sets::Finding::Refused(error) => refused(error),
-        sets::Finding::Found(sizes) => analyze_table(words, sizes, &firsts, &follows),
+        Finding::Refused(error) => refused(error),
+        Finding::Passed(sizes) => analyze_table(words, sizes, &firsts, &follows),
     }
 }

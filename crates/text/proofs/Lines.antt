@@ -4,10 +4,11 @@ use mathlib.Core.List.{List, [], _∷_, _++_}
 use Prim.Native.Nat.{ℕ, zero, suc, _<_}
 use native.Mathlib.Omega.{arith}
 use lib.ListN.{length, getD}
+use borrow.Author.Tests.{eq-eqb, ne-eqb}
 use Rattle.answer.specs.declared.Error.{Error}
 use Rattle.answer.specs.Numbers.{coded}
 use Rattle.text.specs.Ascii.{ascii}
-use Rattle.text.specs.Decimal.{labelled}
+use Rattle.text.specs.Decimal.{labelled, orDash}
 use Rattle.text.specs.Writing.{Put}
 use Rattle.text.specs.Refusal.{refusalText}
 
@@ -22,3 +23,12 @@ module _ {l m : List ℕ} {at next : ℕ} where
       Put l at (labelled "refused " n ++ labelled " " p ++ ascii "\n") m next → Put l at (refusalText e) m next
   unfolding refusalText
   refusal-put e f g p = rw (← f, ← g) p
+
+  -- by whether a number is the code for none
+  pub dash-put : {none : ℕ} (n : ℕ) → n ≡ none → Put l at (ascii " -") m next → Put l at (orDash none n) m next
+  unfolding orDash
+  dash-put {none} n e p = rw (eq-eqb n none e) p
+
+  pub number-put : {none : ℕ} (n : ℕ) → (n ≡ none → ⊥) → Put l at (labelled " " n) m next → Put l at (orDash none n) m next
+  unfolding orDash
+  number-put {none} n e p = rw (ne-eqb n none e) p

@@ -1,8 +1,8 @@
--- A number as decimal digits, and behind a label.
+-- A number as decimal digits, behind a label, and with a dash for none.
 use mathlib.Core.List.{List, [], _∷_, _++_}
 use Prim.Native.Nat.{ℕ, zero, suc, _+_, _/_, _%_}
 use Prim.Native.String.{String}
-use lib.Dec.{ltb}
+use lib.Dec.{eqb, ltb}
 use Rattle.word.specs.Choice.{choose}
 use Rattle.text.specs.Ascii.{ascii}
 
@@ -21,3 +21,7 @@ decimal n = digits 20 n
 
 abbrev pub labelled : String → ℕ → List ℕ
 labelled label n = ascii label ++ decimal n
+
+-- a number behind a space; a dash where it is the code for none
+unfoldable pub orDash : ℕ → ℕ → List ℕ
+orDash none n = choose (eqb n none) (ascii " -") (labelled " " n)

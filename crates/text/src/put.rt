@@ -1,6 +1,6 @@
 // Bytes put into a lent buffer one behind the other, so far as it reaches.
 ghost use mathlib.Core.List.{[], _∷_, _++_};
-ghost use Rattle.text.specs.Decimal.{decimal};
+ghost use Rattle.text.specs.Decimal.{decimal, orDash};
 ghost use Rattle.text.specs.Writing.{Put};
 
 // Each function here tells the position behind what it has put.
@@ -45,4 +45,15 @@ pub fn put_labelled(out: &mut [u8], at: usize, label: &[u8], number: usize) -> u
 {
     let next = put_bytes(out, at, label);
     put_number(out, next, number)
+}
+
+// A number behind a space; a dash where it is the code for none.
+pub fn put_or_dash(out: &mut [u8], at: usize, number: usize, none: usize) -> usize
+    ensures { λ r. ⌜ Put (now (out .entry)) at (orDash none number) (now (out .exit)) r ⌝ }
+{
+    if number == none {
+        put_bytes(out, at, b" -")
+    } else {
+        put_labelled(out, at, b" ", number)
+    }
 }

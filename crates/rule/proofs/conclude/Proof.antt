@@ -4,27 +4,21 @@ use Rattle.rule.proofs.conclude.Tie as tie
 use Rattle.rule.proofs.conclude.Reads as reads
 use Rattle.rule.proofs.conclude.Lts as lts
 
--- src/lib.rt:133:28
 enum-told : tie.Need-enum-told
 enum-told c = search needs
 
--- src/lib.rt:134:23
 enum-known-agreement : tie.Need-enum-known-agreement
 enum-known-agreement c = search needs
 
--- src/lib.rt:135:30
 enum-told-2 : tie.Need-enum-told-2
 enum-told-2 c = search needs
 
--- src/lib.rt:129:1
 returns : tie.Need-returns
 returns c = search needs
 
--- src/lib.rt:129:1
 returns-2 : tie.Need-returns-2
 returns-2 c = rw (c .before .agreement .given .1)
 
--- src/lib.rt:129:1
 returns-3 : tie.Need-returns-3
 returns-3 c = search needs
 

@@ -7,39 +7,30 @@ use Rattle.rule.proofs.ends_at.Reads as ends-at-reads
 use Rattle.rule.proofs.kept.Reads as kept-reads
 use Rattle.rule.proofs.opened.Reads as opened-reads
 
--- src/lib.rt:123:28
 enum-told : tie.Need-enum-told
 enum-told c = search needs
 
--- src/lib.rt:123:28
 opened-requires : tie.Need-opened-requires
 opened-requires c κs = search needs
 
--- src/lib.rt:124:23
 enum-known-agreement : tie.Need-enum-known-agreement
 enum-known-agreement c = search needs
 
--- src/lib.rt:124:47
 ends-at-requires : tie.Need-ends-at-requires
 ends-at-requires c κs = search needs
 
--- src/lib.rt:124:31
 kept-requires : tie.Need-kept-requires
 kept-requires c κs = search needs
 
--- src/lib.rt:125:30
 enum-told-2 : tie.Need-enum-told-2
 enum-told-2 c = search needs
 
--- src/lib.rt:119:1
 returns : tie.Need-returns
 returns c = search needs
 
--- src/lib.rt:119:1
 returns-2 : tie.Need-returns-2
 returns-2 c = rw (c .before .before .before .agreement .given .1, ← c .before .ends-at .ensures) (c .kept .ensures)
 
--- src/lib.rt:119:1
 returns-3 : tie.Need-returns-3
 returns-3 c = search needs
 

@@ -4,35 +4,27 @@ use Rattle.rule.proofs.kept.Tie as tie
 use Rattle.rule.proofs.kept.Reads as reads
 use Rattle.rule.proofs.kept.Lts as lts
 
--- src/lib.rt:101:16
 enum-told : tie.Need-enum-told
 enum-told c = search needs
 
--- src/lib.rt:108:16
 enum-told-2 : tie.Need-enum-told-2
 enum-told-2 c = search needs
 
--- src/lib.rt:114:26
 enum-told-3 : tie.Need-enum-told-3
 enum-told-3 c = search needs
 
--- src/lib.rt:96:1
 returns : tie.Need-returns
 returns c = rw (c .before .enum-told .given .1, c .if1 .taken)
 
--- src/lib.rt:96:1
 returns-2 : tie.Need-returns-2
 returns-2 c = search needs
 
--- src/lib.rt:96:1
 returns-3 : tie.Need-returns-3
 returns-3 c = search needs
 
--- src/lib.rt:96:1
 returns-4 : tie.Need-returns-4
 returns-4 c = rw (c .before .enum-told2 .given .1, c .if2 .left)
 
--- src/lib.rt:96:1
 returns-5 : tie.Need-returns-5
 returns-5 c = search needs
 

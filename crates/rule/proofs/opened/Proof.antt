@@ -4,19 +4,15 @@ use Rattle.rule.proofs.opened.Tie as tie
 use Rattle.rule.proofs.opened.Reads as reads
 use Rattle.rule.proofs.opened.Lts as lts
 
--- src/lib.rt:90:28
 enum-told : tie.Need-enum-told
 enum-told c = search needs
 
--- src/lib.rt:91:22
 enum-known-outcome : tie.Need-enum-known-outcome
 enum-known-outcome c = search needs
 
--- src/lib.rt:86:1
 returns : tie.Need-returns
 returns c = search needs
 
--- src/lib.rt:86:1
 returns-2 : tie.Need-returns-2
 returns-2 c = rw (c .before .outcome .given .1)
 

@@ -8,28 +8,22 @@ use Rattle.rule.proofs.sign_at.Lts as lts
 use Rattle.word.proofs.decode.Reads as decode-reads
 use Rattle.rule.proofs.sign_of.Reads as sign-of-reads
 
--- src/lib.rt:49:24
 mul-decode : tie.Need-mul-decode
 mul-decode c = search needs
 
--- src/lib.rt:49:24
 shared-slice-read-decode : tie.Need-shared-slice-read-decode
 shared-slice-read-decode c = search needs
 
--- src/lib.rt:49:17
 decode-requires : tie.Need-decode-requires
 decode-requires c κs = search needs
 
--- src/lib.rt:49:9
 sign-of-requires : tie.Need-sign-of-requires
 sign-of-requires c κs = search needs
 
--- src/lib.rt:45:1
 returns : tie.Need-returns
 unfolding signAt
 returns c = rw (lt-ltb _ _ (c .before .before .before .if1 .taken), ← c .before .decode .ensures) (c .sign-of .ensures)
 
--- src/lib.rt:45:1
 returns-2 : tie.Need-returns-2
 unfolding signAt
 returns-2 c = rw (le-ltb _ _ (c .if1 .left))

@@ -15,38 +15,30 @@ Inv-loop words from at₀ at = Skipped words from at
 abbrev μ-loop : tie.MeasureT-loop
 μ-loop words from at₀ at = length words - at
 
--- src/descent.rt:38:5
 loop-holds : tie.Need-loop-holds Inv-loop μ-loop
 loop-holds c = skipped-none (c .before .args .words .now) (c .before .args .from) (c .before .pre)
 
--- src/descent.rt:39:27
 mul-decode : tie.Need-mul-decode Inv-loop μ-loop
 mul-decode c = omega arith
 
--- src/descent.rt:39:27
 shared-slice-read-decode : tie.Need-shared-slice-read-decode Inv-loop μ-loop
 shared-slice-read-decode c = omega arith
 
--- src/descent.rt:39:13
 decode-requires : tie.Need-decode-requires Inv-loop μ-loop
 decode-requires c κs = tt
 
 enum-told : tie.Need-enum-told Inv-loop μ-loop
 enum-told c = c .match .keys1
 
--- src/descent.rt:41:13
 returns : tie.Need-returns Inv-loop μ-loop
 returns c = body-ends (c .before .before .before .before .loop .inv) (λ X _ e. no-symbol _ (c .match .keys2) X (c .before .decode .ensures ∙ e))
 
--- src/descent.rt:43:14
 add-at : tie.Need-add-at Inv-loop μ-loop
 add-at c = omega arith
 
--- src/descent.rt:38:5
 loop-less : tie.Need-loop-less Inv-loop μ-loop
 loop-less c = omega arith
 
--- src/descent.rt:38:5
 loop-again : tie.Need-loop-again Inv-loop μ-loop
 loop-again c =
     let at-match = c .before in
@@ -55,7 +47,6 @@ loop-again c =
     let at-loop = at-loop-test .before in
     skipped-symbol (at-loop .loop .inv) (at-loop-test .loop-test .taken) (at-decode .decode .ensures) (at-match .match .keys1)
 
--- src/descent.rt:33:1
 returns-2 : tie.Need-returns-2 Inv-loop μ-loop
 returns-2 c = body-ends (c .before .loop .inv) (λ X l _. absurd (omega arith))
 

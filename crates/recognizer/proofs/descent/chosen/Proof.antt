@@ -7,50 +7,39 @@ use Rattle.recognizer.proofs.descent.chosen.Reads as reads
 use Rattle.recognizer.proofs.descent.chosen.Lts as lts
 use Rattle.recognizer.proofs.descent.column.Reads as column-reads
 
--- src/descent.rt:75:19
 shared-slice-read-heading : tie.Need-shared-slice-read-heading
 shared-slice-read-heading c = some-word (c .before .before .before .pre)
 
--- src/descent.rt:75:19
 cast-heading : tie.Need-cast-heading
 cast-heading c = omega (arith, c .shared-slice-known3 .given 0)
 
--- src/descent.rt:78:9
 column-requires : tie.Need-column-requires
 column-requires c κs = search needs
 
--- src/descent.rt:79:11
 mul-result : tie.Need-mul-result
 mul-result c = search needs
 
--- src/descent.rt:79:45
 add-result : tie.Need-add-result
 add-result c = search needs
 
--- src/descent.rt:79:30
 mul-result-2 : tie.Need-mul-result-2
 mul-result-2 c = let q = placed (c .before .before .before .before .pre) (c .column .ensures) in omega (arith, q .row-fits, q .two, q .column)
 
--- src/descent.rt:79:11
 add-result-2 : tie.Need-add-result-2
 add-result-2 c = let q = placed (c .before .before .before .before .pre) (c .column .ensures) in omega (arith, q .row-fits, q .two, q .column)
 
--- src/descent.rt:79:11
 add-result-3 : tie.Need-add-result-3
 add-result-3 c = let q = placed (c .before .before .before .before .pre) (c .column .ensures) in omega (arith, q .row-fits, q .two, q .column)
 
--- src/descent.rt:79:5
 mul-result-3 : tie.Need-mul-result-3
 mul-result-3 c = let q = placed (c .before .before .before .before .pre) (c .column .ensures) in omega (arith, q .row-fits, q .two, q .column)
 
--- src/descent.rt:79:5
 element-copy-out-result : tie.Need-element-copy-out-result
 element-copy-out-result c =
     let start = c .before .before .before .before in
     let q = placed (start .pre) (c .column .ensures) in
     omega (arith, q .row-fits, q .two, q .column)
 
--- src/descent.rt:71:1
 returns : tie.Need-returns
 returns c = entry-chosen (c .before .before .before .before .before .pre) (c .before .column .ensures)
 

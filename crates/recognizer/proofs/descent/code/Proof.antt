@@ -8,24 +8,19 @@ use Rattle.recognizer.proofs.descent.code.Tie as tie
 use Rattle.recognizer.proofs.descent.code.Reads as reads
 use Rattle.recognizer.proofs.descent.code.Lts as lts
 
--- src/descent.rt:87:28
 enum-told : tie.Need-enum-told
 enum-told c = search needs
 
--- src/descent.rt:88:22
 enum-known-outcome : tie.Need-enum-known-outcome
 enum-known-outcome c = search needs
 
--- src/descent.rt:88:30
 cast-result : tie.Need-cast-result
 cast-result c = let l = c .before .before .before .pre (c .before .outcome .given .0 .0) (ap meant (c .before .outcome .given .1)) in omega arith
 
--- src/descent.rt:82:1
 returns : tie.Need-returns
 unfolding encode
 returns c = rw (c .enum-told .given .1)
 
--- src/descent.rt:82:1
 returns-2 : tie.Need-returns-2
 unfolding encode
 returns-2 c = rw (c .before .outcome .given .1)

@@ -6,12 +6,10 @@ use Rattle.recognizer.proofs.descent.recall.Tie as tie
 use Rattle.recognizer.proofs.descent.recall.Reads as reads
 use Rattle.recognizer.proofs.descent.recall.Lts as lts
 
--- src/descent.rt:92:1
 returns : tie.Need-returns
 unfolding decode pick
 returns c = rw (eq-eqb _ _ (c .if1 .taken))
 
--- src/descent.rt:92:1
 returns-2 : tie.Need-returns-2
 unfolding decode pick
 returns-2 c = rw (ne-eqb _ _ (c .if1 .left))

@@ -16,19 +16,15 @@ Inv-loop input terminals at₀ at = unknownFrom terminals at (drop at input) ≡
 abbrev μ-loop : tie.MeasureT-loop
 μ-loop input terminals at₀ at = length input - at
 
--- src/judging.rt:24:5
 loop-holds : tie.Need-loop-holds Inv-loop μ-loop
 loop-holds c = refl
 
--- src/judging.rt:25:25
 shared-slice-read-if1 : tie.Need-shared-slice-read-if1 Inv-loop μ-loop
 shared-slice-read-if1 c = omega arith
 
--- src/judging.rt:25:25
 cast-if1 : tie.Need-cast-if1 Inv-loop μ-loop
 cast-if1 c = omega (arith, c .shared-slice-known .given (c .before .before .loop .at))
 
--- src/judging.rt:26:13
 returns : tie.Need-returns Inv-loop μ-loop
 returns c =
     let at-loop-test = c .before .before in
@@ -37,15 +33,12 @@ returns c =
     unknown-here (start .args .terminals) (start .args .input .now) (at-loop .loop .at) (at-loop-test .loop-test .taken) (c .if1 .taken) ∙
     at-loop .loop .inv
 
--- src/judging.rt:28:14
 add-at : tie.Need-add-at Inv-loop μ-loop
 add-at c = omega arith
 
--- src/judging.rt:24:5
 loop-less : tie.Need-loop-less Inv-loop μ-loop
 loop-less c = omega arith
 
--- src/judging.rt:24:5
 loop-again : tie.Need-loop-again Inv-loop μ-loop
 loop-again c =
     let at-loop-test = c .before .before in
@@ -54,7 +47,6 @@ loop-again c =
     unknown-next (start .args .terminals) (start .args .input .now) (at-loop .loop .at) (at-loop-test .loop-test .taken) (c .if1 .left) ∙
     at-loop .loop .inv
 
--- src/judging.rt:20:1
 returns-2 : tie.Need-returns-2 Inv-loop μ-loop
 returns-2 c =
     unknown-none (c .before .before .args .terminals) (c .before .before .args .input .now) (c .before .loop .at) (c .loop-test .left) ∙

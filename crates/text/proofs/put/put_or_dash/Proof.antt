@@ -1,8 +1,8 @@
--- By whether the call failed.
-use Rattle.judgement_text.proofs.Lines.{failed-put, end-put}
+-- By whether the number is the code for none.
+use Rattle.text.proofs.Lines.{dash-put, number-put}
 use borrow.Author.Needs.{needs}
-use Rattle.judgement_text.proofs.put_end.Statement.{statement}
-use Rattle.judgement_text.proofs.put_end.Tie as tie
+use Rattle.text.proofs.put.put_or_dash.Statement.{statement}
+use Rattle.text.proofs.put.put_or_dash.Tie as tie
 
 slice-aggregate-put-bytes : tie.Need-slice-aggregate-put-bytes
 slice-aggregate-put-bytes c = search needs
@@ -20,16 +20,16 @@ same-length : tie.Need-same-length
 same-length c = search needs
 
 returns : tie.Need-returns
-returns c = failed-put _ (c .before .before .before .before .before .if1 .taken) (c .before .before .put-bytes .ensures)
+returns c = dash-put _ (c .before .before .before .before .before .if1 .taken) (c .before .before .put-bytes .ensures)
 
 same-length-2 : tie.Need-same-length-2
 same-length-2 c = search needs
 
 returns-2 : tie.Need-returns-2
-returns-2 c = end-put _ (c .before .before .before .before .before .if1 .left) (c .before .before .put-labelled .ensures)
+returns-2 c = number-put _ (c .before .before .before .before .before .if1 .left) (c .before .before .put-labelled .ensures)
 
-pub put-end-spec : {M : Type 1} → statement M
-put-end-spec =
+pub put-or-dash-spec : {M : Type 1} → statement M
+put-or-dash-spec =
     tie.close
     (tie.spec
     slice-aggregate-put-bytes
