@@ -33,7 +33,8 @@ pub record Begins (at i : ℕ) (ws : List ℕ) (r : Option Rule) : Type 0 where
   pub word : beginsRule (decoded (getD ws (i - at) 0)) ≡ true
   pub rule : r ≡ some (firstRule (drop (i - at) ws))
 
-begins-here : (at w : ℕ) (ws : List ℕ) (r : Option Rule) → beginsRule (decoded w) ≡ true → r ≡ some (ruleOf (headOf (decoded w)) (parse ws)) → Begins at at (w ∷ ws) r
+begins-here : (at w : ℕ) (ws : List ℕ) (r : Option Rule) → beginsRule (decoded w) ≡ true → r ≡ some (ruleOf (headOf (decoded w)) (parse ws))
+    → Begins at at (w ∷ ws) r
 unfolding firstRule
 begins-here at w ws r b e =
     let z : at - at ≡ 0 = omega arith in

@@ -101,7 +101,8 @@ module _ {words found : List ℕ} {rules at : ℕ} (v : Noting words found rules
         rw (t, append-assoc) (rw s at (v .whole));
   }
 
-  pub noting-turn : (w : Word) {found′ : List ℕ} {rules′ : ℕ} → w ≡ decoded (getD words at 0) → Noted found rules at w found′ rules′ → Noting words found′ rules′ (at + 1)
+  pub noting-turn : (w : Word) {found′ : List ℕ} {rules′ : ℕ} → w ≡ decoded (getD words at 0) → Noted found rules at w found′ rules′
+      → Noting words found′ rules′ (at + 1)
   noting-turn w {found′} {rules′} e n = go (beginsRule w) refl (decLt rules maxRules)
     where
       go : (b : Bool) → beginsRule w ≡ b → Dec (rules < maxRules) → Noting words found′ rules′ (at + 1)

@@ -99,7 +99,8 @@ shape-positive InNegative b ps ns rs e = absurd (false≢true e)
 shape-positive Closed b ps ns rs e = absurd (false≢true e)
 
 -- in a conjunct only the positives behind it matter
-shape-within : (s : State) (p q : Parsed) → row false false true true false s ≡ true → p .positives ≡ q .positives → (s ≡ InNegative → q .positives ≡ []) → Shape s p
+shape-within : (s : State) (p q : Parsed) → row false false true true false s ≡ true → p .positives ≡ q .positives → (s ≡ InNegative → q .positives ≡ [])
+    → Shape s p
 shape-within Before p q e same h = absurd (false≢true e)
 shape-within Opened p q e same h = absurd (false≢true e)
 shape-within InPositive p q e same h = tt
@@ -173,7 +174,8 @@ passed w p q at e = go (allows w (p .state)) refl (inRange w (p .sizes)) refl (b
     next : State
     next = after w (p .state)
 
-    go : (a : Bool) → allows w (p .state) ≡ a → (i : Bool) → inRange w (p .sizes) ≡ i → (b : Bool) → beginsRule w ≡ b → (f : Bool) → leb maxRules (p .sizes .rules) ≡ f
+    go : (a : Bool) → allows w (p .state) ≡ a → (i : Bool) → inRange w (p .sizes) ≡ i → (b : Bool) → beginsRule w ≡ b → (f : Bool)
+        → leb maxRules (p .sizes .rules) ≡ f
         → choose a (choose i (choose b (choose f (Stop (TooManyRules at)) (Go (progress next (oneMore (p .sizes))))) (Go (progress next (p .sizes)))) (Stop (OutOfRange at))) (Stop (UnexpectedWord at)) ≡ Go q
         → Passed w p q
     go false ea i ei b eb f ef g = absurd (never (UnexpectedWord at) q g)
@@ -245,7 +247,8 @@ ended : (p : Progress) (at : ℕ) (z : Sizes) → finished p at ≡ Read z → R
 unfolding finished parse
 ended p at z e = go (p .state) refl e
   where
-    go : (s : State) → p .state ≡ s → choose (row false false false false true s) (Read (p .sizes)) (Faulty (UnexpectedWord at)) ≡ Read z → Reads p z (parsed [] [] [] [])
+    go : (s : State) → p .state ≡ s → choose (row false false false false true s) (Read (p .sizes)) (Faulty (UnexpectedWord at)) ≡ Read z
+        → Reads p z (parsed [] [] [] [])
     go Before es e = absurd (faulty (UnexpectedWord at) z e)
     go Opened es e = absurd (faulty (UnexpectedWord at) z e)
     go InPositive es e = absurd (faulty (UnexpectedWord at) z e)

@@ -36,7 +36,8 @@ returns-2 c =
     let second = third .before .before .before .before in
     let first = second .before .before .before .before .before in
     let test = first .before .before in
-    call-put _ _ _ (test .if1 .left) (put-then (put-then (put-then (first .put-number .ensures) (second .put-labelled .ensures)) (third .put-end .ensures)) (last .put-bytes .ensures))
+    call-put _ _ _ (test .if1 .left)
+    (put-then (put-then (put-then (first .put-number .ensures) (second .put-labelled .ensures)) (third .put-end .ensures)) (last .put-bytes .ensures))
 
 pub put-call-spec : {M : Type 1} → statement M
 put-call-spec =

@@ -39,13 +39,19 @@ put-call-requires : tie.Need-put-call-requires Inv-loop μ-loop
 put-call-requires c κs = tt
 
 add-k : tie.Need-add-k Inv-loop μ-loop
-add-k c = omega (arith, few-entries (c .before .before .before .before .before .before .before .before .before .args .nonterminals) (c .before .before .before .before .before .before .before .before .before .args .tokens) (omega arith) (omega arith))
+add-k c =
+    let start = c .before .before .before .before .before .before .before .before .before in
+    omega (arith, few-entries (start .args .nonterminals) (start .args .tokens) (omega arith) (omega arith))
 
 loop-less : tie.Need-loop-less Inv-loop μ-loop
 loop-less c = omega arith
 
 loop-again : tie.Need-loop-again Inv-loop μ-loop
-loop-again c = (omega arith, put-next _ _ (ap (callText _ _) (c .before .before .before .entry-at .ensures)) (c .before .before .before .before .before .before .loop .inv .1) (c .before .before .put-call .ensures))
+loop-again c =
+    let at-put-call = c .before .before in
+    let at-entry-at = at-put-call .before in
+    let at-loop = at-entry-at .before .before .before in
+    (omega arith, put-next _ _ (ap (callText _ _) (at-entry-at .entry-at .ensures)) (at-loop .loop .inv .1) (at-put-call .put-call .ensures))
 
 same-length : tie.Need-same-length Inv-loop μ-loop
 same-length c = put-length (c .before .loop .inv .1)

@@ -21,20 +21,27 @@ enum-told : tie.Need-enum-told
 enum-told c = search needs
 
 follow-sets-requires : tie.Need-follow-sets-requires
-follow-sets-requires c κs = (c .before .before .before .before .before .before .before .pre, c .before .before .before .before .before .first-sets .ensures)
+follow-sets-requires c κs =
+    let at-first-sets = c .before .before .before .before .before in
+    let start = at-first-sets .before .before in
+    (start .pre, at-first-sets .first-sets .ensures)
 
 returns : tie.Need-returns
 returns c =
-    let found = c .before .before .before .before in
+    let at-lowest = c .before .before in
+    let at-before = at-lowest .before in
+    let found = at-before .before in
     let start = found .before .before .before .before in
-    c .refused .ensures ∙ families-left (start .args .words .now) (start .pre) (found .lowest-left-recursive .ensures) (c .before .before .lowest .given .1)
+    c .refused .ensures ∙ families-left (start .args .words .now) (start .pre) (found .lowest-left-recursive .ensures) (at-lowest .lowest .given .1)
 
 returns-2 : tie.Need-returns-2
 returns-2 c =
-    let found = c .before .before .before .before in
+    let at-enum-told = c .before .before in
+    let at-before = at-enum-told .before in
+    let found = at-before .before in
     let start = found .before .before .before .before in
-    families-found (start .args .words .now) (start .pre) (found .lowest-left-recursive .ensures) (c .before .before .enum-told .given .1) (found .before .before .first-sets .ensures)
-    (c .follow-sets .ensures)
+    families-found (start .args .words .now) (start .pre) (found .lowest-left-recursive .ensures) (at-enum-told .enum-told .given .1)
+    (found .before .before .first-sets .ensures) (c .follow-sets .ensures)
 
 pub analyze-grammar-spec : {M : Type 1} → statement M
 analyze-grammar-spec =

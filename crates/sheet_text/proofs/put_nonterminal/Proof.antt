@@ -20,16 +20,22 @@ mul-start : tie.Need-mul-start
 mul-start c = search needs
 
 mul-start-2 : tie.Need-mul-start-2
-mul-start-2 c = omega (arith, row-start (c .before .before .before .before .args .nonterminal) (c .before .before .before .before .args .sizes .terminals) (omega arith) (omega arith))
+mul-start-2 c =
+    let start = c .before .before .before .before in
+    omega (arith, row-start (start .args .nonterminal) (start .args .sizes .terminals) (omega arith) (omega arith))
 
 add-start : tie.Need-add-start
-add-start c = omega (arith, row-start (c .before .before .before .before .args .nonterminal) (c .before .before .before .before .args .sizes .terminals) (omega arith) (omega arith))
+add-start c =
+    let start = c .before .before .before .before in
+    omega (arith, row-start (start .args .nonterminal) (start .args .sizes .terminals) (omega arith) (omega arith))
 
 put-sets-requires : tie.Need-put-sets-requires
 put-sets-requires c κs = search needs
 
 put-entries-requires : tie.Need-put-entries-requires
-put-entries-requires c κs = omega (arith, row-start (c .before .before .before .before .before .before .before .before .before .args .nonterminal) (c .before .before .before .before .before .before .before .before .before .args .sizes .terminals) (omega arith) (omega arith))
+put-entries-requires c κs =
+    let start = c .before .before .before .before .before .before .before .before .before in
+    omega (arith, row-start (start .args .nonterminal) (start .args .sizes .terminals) (omega arith) (omega arith))
 
 same-length : tie.Need-same-length
 same-length c = search needs

@@ -28,7 +28,10 @@ loop-less : tie.Need-loop-less Inv-loop μ-loop
 loop-less c = omega arith
 
 loop-again : tie.Need-loop-again Inv-loop μ-loop
-loop-again c = (omega arith, put-next _ _ refl (c .before .before .before .before .before .loop .inv .1) (c .before .before .put-nonterminal .ensures))
+loop-again c =
+    let at-put-nonterminal = c .before .before in
+    let at-loop = at-put-nonterminal .before .before .before in
+    (omega arith, put-next _ _ refl (at-loop .loop .inv .1) (at-put-nonterminal .put-nonterminal .ensures))
 
 same-length : tie.Need-same-length Inv-loop μ-loop
 same-length c = put-length (c .before .loop .inv .1)

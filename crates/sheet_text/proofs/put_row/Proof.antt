@@ -34,7 +34,11 @@ loop-less : tie.Need-loop-less Inv-loop μ-loop
 loop-less c = omega arith
 
 loop-again : tie.Need-loop-again Inv-loop μ-loop
-loop-again c = (omega arith, put-next _ _ (ap entryText (c .before .before .before .word-at .ensures)) (c .before .before .before .before .before .before .loop .inv .1) (c .before .before .put-entry .ensures))
+loop-again c =
+    let at-put-entry = c .before .before in
+    let at-word-at = at-put-entry .before in
+    let at-loop = at-word-at .before .before .before in
+    (omega arith, put-next _ _ (ap entryText (at-word-at .word-at .ensures)) (at-loop .loop .inv .1) (at-put-entry .put-entry .ensures))
 
 same-length : tie.Need-same-length Inv-loop μ-loop
 same-length c = put-length (c .before .loop .inv .1)

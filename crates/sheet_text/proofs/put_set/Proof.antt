@@ -25,10 +25,13 @@ same-length c = search needs
 
 returns : tie.Need-returns
 returns c =
-    let last = c .before .before in
+    let at-before = c .before in
+    let start = at-before .before .before .before .before .before .before .before .before .before .before .before in
+    let last = at-before .before in
     let members = last .before in
     let first = members .before .before .before .before .before in
-    set-put (c .before .before .before .before .before .before .before .before .before .before .before .before .args .label .now) (c .before .before .before .before .before .before .before .before .before .before .before .before .args .bits) (members .size .ensures) (put-then (first .put-labelled .ensures) (last .put-labelled2 .ensures))
+    set-put (start .args .label .now) (start .args .bits) (members .size .ensures)
+    (put-then (first .put-labelled .ensures) (last .put-labelled2 .ensures))
 
 pub put-set-spec : {M : Type 1} → statement M
 put-set-spec =

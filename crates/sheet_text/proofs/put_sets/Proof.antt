@@ -55,7 +55,8 @@ returns c =
     let first = second .before .before .before .before .before in
     let begun = first .before .before .before in
     let begin = begun .before in
-    sets-put _ _ (begin .word-at .ensures) (begun .word-at2 .ensures) (put-then (put-then (put-then (first .put-labelled .ensures) (second .put-set .ensures)) (third .put-set2 .ensures)) (last .put-bytes .ensures))
+    sets-put _ _ (begin .word-at .ensures) (begun .word-at2 .ensures)
+    (put-then (put-then (put-then (first .put-labelled .ensures) (second .put-set .ensures)) (third .put-set2 .ensures)) (last .put-bytes .ensures))
 
 pub put-sets-spec : {M : Type 1} → statement M
 put-sets-spec =

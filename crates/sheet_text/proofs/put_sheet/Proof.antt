@@ -37,7 +37,8 @@ returns c =
     let last = c .before .before in
     let first = last .before .before .before .before in
     let found = first .before .before .before in
-    rw (sym (found .before .before .read .ensures) ∙ found .outcome .given .1) (put-then (first .put-sizes .ensures) (last .put-nonterminals .ensures))
+    rw (sym (found .before .before .read .ensures) ∙ found .outcome .given .1)
+    (put-then (first .put-sizes .ensures) (last .put-nonterminals .ensures))
 
 same-length-2 : tie.Need-same-length-2
 same-length-2 c = search needs

@@ -45,7 +45,8 @@ returns c =
     let third = last .before .before .before .before .before in
     let second = third .before .before .before .before .before in
     let first = second .before .before .before .before .before .before in
-    put-then (put-then (put-then (first .put-labelled .ensures) (second .put-labelled2 .ensures)) (third .put-labelled3 .ensures)) (last .put-bytes .ensures)
+    put-then (put-then (put-then (first .put-labelled .ensures) (second .put-labelled2 .ensures)) (third .put-labelled3 .ensures))
+    (last .put-bytes .ensures)
 
 pub put-sizes-spec : {M : Type 1} → statement M
 put-sizes-spec =

@@ -20,8 +20,10 @@ enum-known-finding-2 c = search needs
 
 analyze-table-requires : tie.Need-analyze-table-requires
 analyze-table-requires c κs =
-    let at-analyze = c .before .before .before .before .before .before .before in
-    given-families (families-told (at-analyze .before .before .args .words .now) (at-analyze .analyze .ensures) (c .before .before .before .finding2 .given .1))
+    let at-finding2 = c .before .before .before in
+    let at-before = at-finding2 .before .before .before in
+    let at-analyze = at-before .before in
+    given-families (families-told (at-analyze .before .before .args .words .now) (at-analyze .analyze .ensures) (at-finding2 .finding2 .given .1))
 
 returns : tie.Need-returns
 returns c =

@@ -40,7 +40,8 @@ returns : tie.Need-returns Inv-loop μ-loop
 returns c =
     let word = c .before .before .before in
     let turn = word .before .before .before in
-    sym (scan-stop _ _ _ (turn .loop-test .taken) (word .before .decode .ensures) (word .read-word .ensures) (c .before .result2 .given .1)) ∙ turn .before .loop .inv
+    sym (scan-stop _ _ _ (turn .loop-test .taken) (word .before .decode .ensures) (word .read-word .ensures) (c .before .result2 .given .1)) ∙
+    turn .before .loop .inv
 
 add-at : tie.Need-add-at Inv-loop μ-loop
 add-at c = omega arith
@@ -52,7 +53,8 @@ loop-again : tie.Need-loop-again Inv-loop μ-loop
 loop-again c =
     let word = c .before .before .before in
     let turn = word .before .before .before in
-    sym (scan-go _ _ _ (turn .loop-test .taken) (word .before .decode .ensures) (word .read-word .ensures) (c .before .result .given .1)) ∙ turn .before .loop .inv
+    sym (scan-go _ _ _ (turn .loop-test .taken) (word .before .decode .ensures) (word .read-word .ensures) (c .before .result .given .1)) ∙
+    turn .before .loop .inv
 
 finish-requires : tie.Need-finish-requires Inv-loop μ-loop
 finish-requires c κs = tt

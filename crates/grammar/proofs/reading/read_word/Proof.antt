@@ -19,7 +19,11 @@ in-range-requires c κs = search needs
 
 returns-2 : tie.Need-returns-2
 unfolding stepped
-returns-2 c = rw (sym (c .before .before .before .allows .ensures) ∙ not-false _ (c .before .before .if1 .left), sym (c .before .in-range .ensures) ∙ not-true _ (c .if2 .taken))
+returns-2 c =
+    let at-in-range = c .before in
+    let at-if1 = at-in-range .before in
+    let at-allows = at-if1 .before in
+    rw (sym (at-allows .allows .ensures) ∙ not-false _ (at-if1 .if1 .left), sym (at-in-range .in-range .ensures) ∙ not-true _ (c .if2 .taken))
 
 after-requires : tie.Need-after-requires
 after-requires c κs = search needs
@@ -32,19 +36,34 @@ counted-requires c κs = search needs
 
 returns-3 : tie.Need-returns-3
 returns-3 c =
-    let x = c .before .before .before .before .before .before .before .before .before .args in
-    let allowed = sym (c .before .before .before .before .before .before .before .allows .ensures) ∙ not-false _ (c .before .before .before .before .before .before .if1 .left) in
-    let ranged = sym (c .before .before .before .before .before .in-range .ensures) ∙ not-false _ (c .before .before .before .before .if2 .left) in
-    let begins = sym (c .before .before .begins-rule .ensures) ∙ c .before .if3 .taken in
-    rw (stepped-rule (x .word) (x .progress) (x .at) allowed ranged begins, ← c .before .before .before .after .ensures) (c .counted .ensures)
+    let at-if3 = c .before in
+    let at-begins-rule = at-if3 .before in
+    let at-after = at-begins-rule .before in
+    let at-if2 = at-after .before in
+    let at-in-range = at-if2 .before in
+    let at-if1 = at-in-range .before in
+    let at-allows = at-if1 .before in
+    let start = at-allows .before .before in
+    let x = start .args in
+    let allowed = sym (at-allows .allows .ensures) ∙ not-false _ (at-if1 .if1 .left) in
+    let ranged = sym (at-in-range .in-range .ensures) ∙ not-false _ (at-if2 .if2 .left) in
+    let begins = sym (at-begins-rule .begins-rule .ensures) ∙ at-if3 .if3 .taken in
+    rw (stepped-rule (x .word) (x .progress) (x .at) allowed ranged begins, ← at-after .after .ensures) (c .counted .ensures)
 
 returns-4 : tie.Need-returns-4
 returns-4 c =
-    let x = c .before .before .before .before .before .before .before .before .args in
-    let allowed = sym (c .before .before .before .before .before .before .allows .ensures) ∙ not-false _ (c .before .before .before .before .before .if1 .left) in
-    let ranged = sym (c .before .before .before .before .in-range .ensures) ∙ not-false _ (c .before .before .before .if2 .left) in
-    let begins = sym (c .before .begins-rule .ensures) ∙ c .if3 .left in
-    rw (stepped-other (x .word) (x .progress) (x .at) allowed ranged begins, ← c .before .before .after .ensures)
+    let at-begins-rule = c .before in
+    let at-after = at-begins-rule .before in
+    let at-if2 = at-after .before in
+    let at-in-range = at-if2 .before in
+    let at-if1 = at-in-range .before in
+    let at-allows = at-if1 .before in
+    let start = at-allows .before .before in
+    let x = start .args in
+    let allowed = sym (at-allows .allows .ensures) ∙ not-false _ (at-if1 .if1 .left) in
+    let ranged = sym (at-in-range .in-range .ensures) ∙ not-false _ (at-if2 .if2 .left) in
+    let begins = sym (at-begins-rule .begins-rule .ensures) ∙ c .if3 .left in
+    rw (stepped-other (x .word) (x .progress) (x .at) allowed ranged begins, ← at-after .after .ensures)
 
 pub read-word-spec : {M : Type 1} → statement M
 read-word-spec =

@@ -34,7 +34,11 @@ loop-less : tie.Need-loop-less Inv-loop μ-loop
 loop-less c = omega arith
 
 loop-again : tie.Need-loop-again Inv-loop μ-loop
-loop-again c = noting-turn (c .before .before .before .before .before .loop .inv) (c .before .before .before .before .loop-test .taken) _ (c .before .before .decode .ensures) (c .note .ensures)
+loop-again c =
+    let at-decode = c .before .before in
+    let at-loop-test = at-decode .before .before in
+    let at-loop = at-loop-test .before in
+    noting-turn (at-loop .loop .inv) (at-loop-test .loop-test .taken) _ (at-decode .decode .ensures) (c .note .ensures)
 
 returns : tie.Need-returns Inv-loop μ-loop
 returns c = noting-end (c .before .loop .inv) (c .loop-test .left)

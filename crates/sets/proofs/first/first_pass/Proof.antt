@@ -49,12 +49,17 @@ loop-less c = omega (arith, c .before .before .before .before .before .before .l
 
 loop-again : tie.Need-loop-again Inv-loop μ-loop
 loop-again c =
-    let start = c .before .before .before .before .before .before .before .before .before .before in
-    let loop = c .before .before .before .before .before .before .before in
-    let some = c .before .before .before .before .before .before .loop-test .taken in
-    let word = c .before .before .before .before .decode .ensures in
-    turn (firstward _) (loop .loop .inv) some (start .pre .1) word (before-indexed (start .args .words .now) (start .pre .0) some (loop .loop .inv .within) word)
-    (onto-at (loop .loop .firsts) (loop .loop .inv .passing .long ∙ start .pre .1) (c .before .before .onto .ensures) .onto) (c .close-rule .ensures)
+    let at-onto = c .before .before in
+    let at-decode = at-onto .before .before in
+    let at-before = at-decode .before .before in
+    let at-before-2 = at-before .before .before .before in
+    let start = at-before-2 .before in
+    let loop = at-before .before in
+    let some = at-before .loop-test .taken in
+    let word = at-decode .decode .ensures in
+    turn (firstward _) (loop .loop .inv) some (start .pre .1) word
+    (before-indexed (start .args .words .now) (start .pre .0) some (loop .loop .inv .within) word)
+    (onto-at (loop .loop .firsts) (loop .loop .inv .passing .long ∙ start .pre .1) (at-onto .onto .ensures) .onto) (c .close-rule .ensures)
 
 returns : tie.Need-returns Inv-loop μ-loop
 returns c = finish (c .before .loop .inv) (c .loop-test .left)

@@ -31,8 +31,11 @@ concat-requires c κs = search needs
 
 add-requires : tie.Need-add-requires
 add-requires c κs =
-    let start = c .before .before .before .before .before .before .before .before .before in
-    rw (c .before .before .before .before .before .before .before .word .given .1, c .before .before .before .before .symbol .given .1) at (start .pre .0)
+    let at-symbol = c .before .before .before .before in
+    let at-word = at-symbol .before .before .before in
+    let at-before = at-word .before in
+    let start = at-before .before in
+    rw (at-word .word .given .1, at-symbol .symbol .given .1) at (start .pre .0)
 
 returns-3 : tie.Need-returns-3
 returns-3 c =

@@ -53,10 +53,13 @@ loop-less c = omega (arith, c .before .before .before .loop-test .taken)
 
 loop-again : tie.Need-loop-again Inv-loop μ-loop
 loop-again c =
-    let start = c .before .before .before .before .before .before .before in
-    let at-loop = c .before .before .before .before in
+    let at-decode = c .before in
+    let at-before = at-decode .before .before in
+    let at-before-2 = at-before .before .before .before in
+    let start = at-before-2 .before in
+    let at-loop = at-before .before in
     let turned = onto-at (start .args .firsts .now) (start .pre .1) (c .onto .ensures) in
-    (simp length-set (at-loop .loop .inv .0), rests-turn (at-loop .loop .inv .1) (c .before .before .before .loop-test .taken) (c .before .decode .ensures) turned)
+    (simp length-set (at-loop .loop .inv .0), rests-turn (at-loop .loop .inv .1) (at-before .loop-test .taken) (at-decode .decode .ensures) turned)
 
 returns : tie.Need-returns Inv-loop μ-loop
 returns c = rests-end (c .before .loop .inv .1) (c .loop-test .left)

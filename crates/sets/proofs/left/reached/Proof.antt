@@ -29,8 +29,11 @@ reach-pass-requires c κs =
 
 loop-less : tie.Need-loop-less Inv-loop μ-loop
 loop-less c =
-    let given = c .before .before .before .before .before .pre in
-    missing-falls (c .before .reach-pass .ensures) (c .before .before .before .loop .inv .1) _ _ (reach-closed given) (reach-small given) (c .if1 .taken)
+    let at-reach-pass = c .before in
+    let at-loop = at-reach-pass .before .before in
+    let start = at-loop .before .before in
+    let given = start .pre in
+    missing-falls (at-reach-pass .reach-pass .ensures) (at-loop .loop .inv .1) _ _ (reach-closed given) (reach-small given) (c .if1 .taken)
 
 loop-again : tie.Need-loop-again Inv-loop μ-loop
 loop-again c =

@@ -16,12 +16,18 @@ fill-rows-requires : tie.Need-fill-rows-requires
 fill-rows-requires c κs = search needs
 
 first-conflict-requires : tie.Need-first-conflict-requires
-first-conflict-requires c κs = let k = well-read _ _ (c .before .before .before .before .before .before .pre .read) in (k .fewNonterminals, k .fewTerminals)
+first-conflict-requires c κs =
+    let start = c .before .before .before .before .before .before in
+    let k = well-read _ _ (start .pre .read) in
+    (k .fewNonterminals, k .fewTerminals)
 
 returns : tie.Need-returns
 returns c =
-    let start = c .before .before .before .before .before .before .before in
-    entries-right (start .pre) (c .before .before .before .before .fill-sets .ensures) (c .before .before .fill-rows .ensures) (c .first-conflict .ensures)
+    let at-fill-rows = c .before .before in
+    let at-fill-sets = at-fill-rows .before .before in
+    let at-before = at-fill-sets .before .before in
+    let start = at-before .before in
+    entries-right (start .pre) (at-fill-sets .fill-sets .ensures) (at-fill-rows .fill-rows .ensures) (c .first-conflict .ensures)
 
 pub entries-spec : {M : Type 1} → statement M
 entries-spec =

@@ -49,11 +49,15 @@ loop-less c = omega (arith, c .before .before .before .before .before .before .b
 
 loop-again : tie.Need-loop-again Inv-loop μ-loop
 loop-again c =
-    let start = c .before .before .before .before .before .before .before .before .before .before .before .before in
-    let loop = c .before .before .before .before .before .before .before .before .before in
-    let some = c .before .before .before .before .before .before .before .before .loop-test .taken in
-    let word = c .before .before .before .before .before .before .decode .ensures in
-    let turned = onto-at (start .args .firsts .now) (ap length (start .pre .0 .first) ∙ listed-long 32 _) (c .before .before .before .before .onto .ensures) in
+    let at-onto = c .before .before .before .before in
+    let at-decode = at-onto .before .before in
+    let at-before = at-decode .before .before in
+    let at-before-2 = at-before .before .before .before in
+    let start = at-before-2 .before in
+    let loop = at-before .before in
+    let some = at-before .loop-test .taken in
+    let word = at-decode .decode .ensures in
+    let turned = onto-at (start .args .firsts .now) (ap length (start .pre .0 .first) ∙ listed-long 32 _) (at-onto .onto .ensures) in
     claiming-turn (start .pre .0) (loop .loop .inv) some word _ turned (c .claim .ensures)
 
 returns : tie.Need-returns Inv-loop μ-loop

@@ -110,7 +110,11 @@ put-number-returns-2 : (t : ℕ) → put-number-lts.Need-returns-2 (
   put-number-below t,
   put-number.Post,
 ) (put-number-at t) put-number.Post
-put-number-returns-2 t c = rw (decimal-more _ (c .before .before .before .before .before .before .before .before .if1 .left) (omega arith)) (put-then (c .before .before .before .before .before .before .put-number .ensures) (c .before .before .put-byte2 .ensures))
+put-number-returns-2 t c =
+    let at-put-byte2 = c .before .before in
+    let at-put-number = at-put-byte2 .before .before .before .before in
+    let at-if1 = at-put-number .before .before in
+    rw (decimal-more _ (at-if1 .if1 .left) (omega arith)) (put-then (at-put-number .put-number .ensures) (at-put-byte2 .put-byte2 .ensures))
 
 pub +put-number-spec : {M : Type 1} → statement M
 +put-number-spec = close μ-put-number λ t. put-number-lts.spec (

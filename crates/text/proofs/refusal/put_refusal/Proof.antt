@@ -42,7 +42,8 @@ returns c =
     let place = second .before in
     let first = place .before .before .before .before .before in
     let number = first .before in
-    refusal-put _ (number .code .ensures) (place .position .ensures) (put-then (put-then (first .put-labelled .ensures) (second .put-labelled2 .ensures)) (last .put-bytes .ensures))
+    refusal-put _ (number .code .ensures) (place .position .ensures)
+    (put-then (put-then (first .put-labelled .ensures) (second .put-labelled2 .ensures)) (last .put-bytes .ensures))
 
 pub put-refusal-spec : {M : Type 1} → statement M
 put-refusal-spec =

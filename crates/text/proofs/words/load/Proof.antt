@@ -49,7 +49,11 @@ loop-again : tie.Need-loop-again Inv-loop μ-loop
 loop-again c = (omega arith, one-more _ _ _ (c .before .loop-test .taken) (c .before .before .loop .inv .1) (c .word-at .ensures))
 
 returns-3 : tie.Need-returns-3 Inv-loop μ-loop
-returns-3 c = all-loaded _ _ (c .before .before .before .if1 .left) (c .before .before .if2 .left) _ (c .before .loop .inv .0) (c .loop-test .left) (c .before .loop .inv .1)
+returns-3 c =
+    let at-loop = c .before in
+    let at-if2 = at-loop .before in
+    let at-if1 = at-if2 .before in
+    all-loaded _ _ (at-if1 .if1 .left) (at-if2 .if2 .left) _ (at-loop .loop .inv .0) (c .loop-test .left) (at-loop .loop .inv .1)
 
 pub load-spec : {M : Type 1} → statement M
 load-spec =
