@@ -37,7 +37,7 @@ pub record Numbers : Type 0 where
   pub count : ℕ
   pub farthest : ℕ
 
-abbrev answered : Verdict → ℕ → ℕ → ℕ → ℕ → Numbers
+abbrev pub answered : Verdict → ℕ → ℕ → ℕ → ℕ → Numbers
 answered v n p c f = record { verdict = v; code = n; position = p; count = c; farthest = f }
 
 abbrev pub numbers : Answer → Numbers

@@ -2,14 +2,13 @@
 // each input, the first line of what the program judge prints.
 ghost use Rattle.io.specs.Counts.{Counts};
 use libc::STDOUT_FILENO;
+use report::SHEET_ROOM;
 
 // One byte more than the longest file of words, and than the longest input.
 const CARD: usize = 8193;
 
 const LOG: usize = 501;
-// Room for the longest sheet, and for a line.
-const TEXT: usize = 8192;
-
+// Room for a line.
 const LINE: usize = 32;
 
 // The start of a file; one that cannot be opened is read as no words.
@@ -54,7 +53,7 @@ fn checked(path: &[u8]) {
     name(path);
     let mut card = [0u8; CARD];
     let n = read(path, &mut card);
-    let mut text = [0u8; TEXT];
+    let mut text = [0u8; SHEET_ROOM];
     let length = report::sheet(&card[..n], &mut text);
     io::write_all(STDOUT_FILENO, &text[..length]);
 }
@@ -80,6 +79,7 @@ fn limits_of_checking() {
     checked(b"left_recursive");
     checked(b"claimed_twice");
     checked(b"no_rule");
+    checked(b"rules_apart");
 }
 
 // No token, one, 500 and 501, and four of which the third is unknown.

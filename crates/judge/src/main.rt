@@ -2,13 +2,12 @@
 ghost use Rattle.io.specs.Counts.{Counts};
 use libc::STDIN_FILENO;
 use libc::STDOUT_FILENO;
+use report::JUDGEMENT_ROOM;
 
 // One byte more than the longest file of words, and than the longest input.
 const CARD: usize = 8193;
 
 const LOG: usize = 501;
-// Room for a line for each entry of the memo table.
-const TEXT: usize = 196608;
 
 // The start of the file; one that cannot be opened is read as no words.
 fn read_card(card: &mut [u8; CARD]) -> usize
@@ -28,7 +27,7 @@ fn main() {
     let n = read_card(&mut card);
     let mut log = [0u8; LOG];
     let m = io::read_full(STDIN_FILENO, &mut log);
-    let mut text = [0u8; TEXT];
+    let mut text = [0u8; JUDGEMENT_ROOM];
     let length = report::judgement(&card[..n], &log[..m], &mut text);
     io::write_all(STDOUT_FILENO, &text[..length]);
 }

@@ -14,6 +14,7 @@ use lib.Seq.{take-at}
 use borrow.Author.Tests.{lt-ltb, le-ltb}
 use Rattle.answer.specs.declared.Error.{Error}
 use Rattle.answer.specs.declared.Error.the-variants.{TableTooShort}
+use Rattle.answer.specs.Numbers.{numbers}
 use Rattle.answer.specs.declared.Answer.{Answer}
 use Rattle.answer.specs.declared.Answer.the-variants.{Refused, Passed}
 use Rattle.grammar.specs.Limits.{tableWords as memoryWords}
@@ -41,7 +42,7 @@ use Rattle.sets.proofs.Telling.{told-passed}
 use Rattle.table.specs.Analysis.{clashFault, fault, tableIf, analyzed}
 use Rattle.sets.proofs.Lists.{listed-long}
 use Rattle.recognizer.specs.Memory.{lentBack, wordCount, LendGiven, Lent}
-use Rattle.recognizer.specs.Answers.{firstOf, checkFault, refusedOr}
+use Rattle.recognizer.specs.Answers.{firstOf, checkFault, refusedOr, toldOr, passedNumbers}
 use Rattle.recognizer.specs.Judging.{Found}
 use Rattle.recognizer.specs.Properties.{PassedGrammar, LeastFamilies, Checks}
 
@@ -135,11 +136,17 @@ refused-passed : (f : Option Error) → refusedOr f Passed ≡ Passed → f ≡ 
 refused-passed none e = refl
 refused-passed (some x) e = let z : _≡_ {A = ℕ} 0 1 = cc in absurd (omega arith)
 
+-- the numbers of what is answered
+passed-told : (f : Option Error) → numbers (refusedOr f Passed) ≡ toldOr f passedNumbers
+passed-told none = refl
+passed-told (some e) = refl
+
 -- the promise from the answer and the table
 checks : {words before after : List ℕ} {r : Answer} → r ≡ refusedOr (checkFault (length before) words) Passed
     → after ≡ lentBack (checkFault (length before) words) (tableWords (grammarOf words)) before → Checks words before r after
 checks {words} {before} {after} {r} a t = record {
   answer = a;
+  told = ap numbers a ∙ passed-told (checkFault (length before) words);
   table = t;
   passed = λ long.
       let f = check-fault-long (length before) words long in (

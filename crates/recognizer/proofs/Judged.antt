@@ -15,6 +15,7 @@ use lib.Seq.{getD-append-add, length-take-le}
 use borrow.Author.Tests.{lt-ltb, le-ltb, ltb-false}
 use Rattle.answer.specs.declared.Error.{Error}
 use Rattle.answer.specs.declared.Error.the-variants.{TableTooShort, MemoTooShort, InputTooLong, UnknownToken}
+use Rattle.answer.specs.Numbers.{accepted, rejected, answered, numbers}
 use Rattle.answer.specs.declared.Calls.{Calls}
 use Rattle.answer.specs.declared.Answer.{Answer}
 use Rattle.answer.specs.declared.Answer.the-variants.{Refused, Accepted, Rejected}
@@ -30,7 +31,7 @@ use Rattle.semantics.specs.Valuations.{Valuation, Solves, pairs}
 use Rattle.semantics.specs.Strings.{Over}
 use Rattle.semantics.specs.Claims.{clashes, tableOf}
 use Rattle.semantics.specs.Descent.{accepts}
-use Rattle.semantics.specs.Calls.{allCalls}
+use Rattle.semantics.specs.Calls.{allCalls, callCount, farthest}
 use Rattle.semantics.specs.LeftRecursion.{lowestLeftRecursive}
 use Rattle.semantics.specs.Predictive.{Predictive}
 use Rattle.semantics.proofs.Booleans.{T-true, and-l, and-r, and-make, true-T}
@@ -45,7 +46,7 @@ use Rattle.recognizer.specs.declared.judging.Unknown.{Unknown}
 use Rattle.recognizer.specs.declared.judging.Unknown.the-variants.{Absent, At}
 use Rattle.recognizer.specs.Descent.{Entries}
 use Rattle.recognizer.specs.Memory.{lentBack, memoWord, memoWords, Lent}
-use Rattle.recognizer.specs.Answers.{unless, unknownFrom, unknownFault, firstOf, checkFault, judgeFault, refusedOr, callsOf, verdictOf}
+use Rattle.recognizer.specs.Answers.{unless, unknownFrom, unknownFault, firstOf, checkFault, judgeFault, refusedOr, callsOf, verdictOf, toldOr, verdictNumbers}
 use Rattle.recognizer.specs.Judging.{Found, PassedGiven, DescendGiven, Descended}
 use Rattle.recognizer.specs.Properties.{PassedGrammar, Checks, Readable, Recognizes, Judges}
 use Rattle.recognizer.proofs.Checking.{passed-fault, fault-passed, no-clashes, not-left-recursive, lent-table}
@@ -153,6 +154,17 @@ meaning words input r p over e =
       calls = theorems .calls-counted G (k .formed .scoped) (p .free) some-nonterminal (tableOf G 1) (theorems .own-entries G 1) 1 input;
     }
 
+-- the numbers of what is answered
+verdict-told : (G : Grammar) (w : List ℕ) (f : Option Error) → numbers (refusedOr f (verdictOf G w)) ≡ toldOr f (verdictNumbers G w)
+unfolding verdictOf verdictNumbers
+verdict-told G w (some e) = refl
+verdict-told G w none = go (accepts G (tableOf G 1) 1 w)
+  where
+    go : (b : Bool) → numbers (choose b (Accepted (callsOf G w)) (Rejected (callsOf G w)))
+        ≡ answered (choose b accepted rejected) 0 0 (callCount G (tableOf G 1) 1 w) (farthest G (tableOf G 1) 1 w)
+    go true = refl
+    go false = refl
+
 -- the promise from the answer and the memories
 judges : {words input table memo table′ memo′ : List ℕ} {r : Answer}
     → r ≡ refusedOr (judgeFault (length table) (length memo) words input) (verdictOf (grammarOf words) input)
@@ -161,6 +173,7 @@ judges : {words input table memo table′ memo′ : List ℕ} {r : Answer}
     → Judges words input table memo r table′ memo′
 judges {words} {input} {table} {memo} {table′} {memo′} {r} a t m = record {
   answer = a;
+  told = ap numbers a ∙ verdict-told (grammarOf words) input (judgeFault (length table) (length memo) words input);
   lent-table = t;
   lent-memo = m;
   as-checked = λ e c checked k.

@@ -10,6 +10,7 @@ use Rattle.answer.specs.declared.Error.the-variants.{TableTooShort, MemoTooShor
 use Rattle.answer.specs.declared.Calls.{Calls}
 use Rattle.answer.specs.declared.Answer.{Answer}
 use Rattle.answer.specs.declared.Answer.the-variants.{Refused, Passed, Rejected, Accepted}
+use Rattle.answer.specs.Numbers.{refused, passed, rejected, accepted, Numbers, coded, answered}
 use Rattle.recognizer.specs.declared.judging.Unknown.{Unknown}
 use Rattle.recognizer.specs.declared.judging.Unknown.the-variants.{Absent, At}
 use Rattle.word.specs.Choice.{choose}
@@ -60,6 +61,15 @@ abbrev pub refusedOr : Option Error → Answer → Answer
 refusedOr (some e) a = Refused e
 refusedOr none a = a
 
+-- what a call tells in document 01's numbers: of a refusal its code and position, with count and farthest place 0
+abbrev pub toldOr : Option Error → Numbers → Numbers
+toldOr (some e) n = answered refused (coded e .code) (coded e .position) 0 0
+toldOr none n = n
+
+-- of a check that passes
+abbrev pub passedNumbers : Numbers
+passedNumbers = answered passed 0 0 0 0
+
 -- the calls that the descent makes, counted
 abbrev pub callsOf : Grammar → List ℕ → Calls
 callsOf G w = record { count = callCount G (tableOf G 1) 1 w; farthest = farthest G (tableOf G 1) 1 w }
@@ -67,3 +77,7 @@ callsOf G w = record { count = callCount G (tableOf G 1) 1 w; farthest = farthes
 -- the verdict of the descent
 unfoldable pub verdictOf : Grammar → List ℕ → Answer
 verdictOf G w = choose (accepts G (tableOf G 1) 1 w) (Accepted (callsOf G w)) (Rejected (callsOf G w))
+
+-- and of a verdict
+unfoldable pub verdictNumbers : Grammar → List ℕ → Numbers
+verdictNumbers G w = answered (choose (accepts G (tableOf G 1) 1 w) accepted rejected) 0 0 (callCount G (tableOf G 1) 1 w) (farthest G (tableOf G 1) 1 w)

@@ -7,6 +7,7 @@ use mathlib.Core.Option.{none, some}
 use Prim.Native.Nat.{ℕ, _≤_}
 use lib.Dec.{T}
 use lib.ListN.{length}
+use Rattle.answer.specs.Numbers.{numbers}
 use Rattle.answer.specs.declared.Answer.{Answer}
 use Rattle.answer.specs.declared.Answer.the-variants.{Passed, Accepted, Rejected}
 use Rattle.grammar.specs.Limits.{tableWords as memoryWords, memoEntries, maxTokens}
@@ -25,7 +26,7 @@ use Rattle.semantics.specs.Claims.{clashes, tableOf}
 use Rattle.semantics.specs.Theorems.{OneSolution, CallsCounted}
 use Rattle.table.specs.Layout.{tableWords}
 use Rattle.recognizer.specs.Memory.{lentBack, memoWords}
-use Rattle.recognizer.specs.Answers.{checkFault, judgeFault, refusedOr, callsOf, verdictOf}
+use Rattle.recognizer.specs.Answers.{checkFault, judgeFault, refusedOr, callsOf, verdictOf, toldOr, passedNumbers, verdictNumbers}
 
 -- a grammar that passes (document 01: a passed card): read without a fault, not left-recursive, and no entry is claimed by two rules
 pub record PassedGrammar (words : List ℕ) : Type 0 where
@@ -47,6 +48,7 @@ pub record LeastFamilies (G : Grammar) : Type 0 where
 pub record Checks (words before : List ℕ) (r : Answer) (after : List ℕ) : Type 0 where
   -- the first refusal that holds decides, and a refusal changes nothing; else the table's words are those of the grammar, and later ones stay
   pub answer : r ≡ refusedOr (checkFault (length before) words) Passed
+  pub told : numbers r ≡ toldOr (checkFault (length before) words) passedNumbers
   pub table : after ≡ lentBack (checkFault (length before) words) (tableWords (grammarOf words)) before
   -- passed exactly when well formed, not left-recursive and without a clash, where the table is long enough
   pub passed : memoryWords ≤ length before → (r ≡ Passed) ↔ PassedGrammar words
@@ -70,6 +72,7 @@ pub record Recognizes (words input : List ℕ) (r : Answer) : Type 0 where
 pub record Judges (words input table memo : List ℕ) (r : Answer) (table′ memo′ : List ℕ) : Type 0 where
   -- the first refusal that holds decides, and a refusal changes nothing; else both memories hold what is defined, and later words stay
   pub answer : r ≡ refusedOr (judgeFault (length table) (length memo) words input) (verdictOf (grammarOf words) input)
+  pub told : numbers r ≡ toldOr (judgeFault (length table) (length memo) words input) (verdictNumbers (grammarOf words) input)
   pub lent-table : table′ ≡ lentBack (judgeFault (length table) (length memo) words input) (tableWords (grammarOf words)) table
   pub lent-memo : memo′ ≡ lentBack (judgeFault (length table) (length memo) words input) (memoWords (grammarOf words) input) memo
   -- where judging is not refused, the table is as checking leaves it

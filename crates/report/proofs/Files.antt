@@ -17,8 +17,10 @@ use Rattle.text.specs.Words.{bytesOfWord, wordsOf, areWords, Loading}
 use Rattle.text.specs.Writing.{Put}
 use Rattle.text.specs.Refusal.{refusalText}
 use Rattle.text.proofs.Fours.{length-words}
-use Rattle.text.proofs.Writing.{put-length}
-use Rattle.report.specs.Report.{Printed, checkedText, sheetOf, judgedText, judgementOf}
+use Rattle.text.proofs.Lengths.{refusal-most}
+use Rattle.text.proofs.Writing.{put-length, put-whole}
+use Rattle.report.specs.Report.{Printed, sheetRoom, judgementRoom, checkedText, sheetOf, judgedText, judgementOf}
+use Rattle.report.proofs.Lengths.{checked-short, judged-short}
 
 -- the words of a file that was loaded
 pub record Found (bytes after : List ℕ) (n : ℕ) : Type 0 where
@@ -58,25 +60,25 @@ not-found {bytes} {before} {after} {r} l told = go (areWords bytes) refl
     go false e = e
 
 module _ {l m : List ℕ} {k : ℕ} where
-  pub printed : {text : List ℕ} → Put l 0 text m k → Printed text l m k
-  printed p =
+  pub printed : {room : ℕ} {text : List ℕ} → length text ≤ room → Put l 0 text m k → Printed room text l m k
+  printed {room} {text} short p =
       let h : k ≤ length m = omega (arith, p .position, put-length p) in
-      record { put = p; fits = h; part = sym (length-take-le k m h) }
+      record { put = p; fits = h; part = sym (length-take-le k m h); whole = λ r. put-whole p (omega arith) }
 
   -- by whether a file's bytes are words
-  pub sheet-refused : (bytes : List ℕ) → areWords bytes ≡ false → Put l 0 (refusalText Length) m k → Printed (sheetOf bytes) l m k
+  pub sheet-refused : (bytes : List ℕ) → areWords bytes ≡ false → Put l 0 (refusalText Length) m k → Printed sheetRoom (sheetOf bytes) l m k
   unfolding sheetOf
-  sheet-refused bytes e p = rw e (printed p)
+  sheet-refused bytes e p = rw e (printed (omega (arith, refusal-most Length)) p)
 
-  pub sheet-checked : {bytes words : List ℕ} {n : ℕ} → Found bytes words n → Put l 0 (checkedText (take n words)) m k → Printed (sheetOf bytes) l m k
+  pub sheet-checked : {bytes words : List ℕ} {n : ℕ} → Found bytes words n → Put l 0 (checkedText (take n words)) m k → Printed sheetRoom (sheetOf bytes) l m k
   unfolding sheetOf
-  sheet-checked f p = rw (f .are, ← f .words) (printed p)
+  sheet-checked f p = rw (f .are, ← f .words) (printed (checked-short _) p)
 
-  pub judgement-refused : (bytes input : List ℕ) → areWords bytes ≡ false → Put l 0 (refusalText Length) m k → Printed (judgementOf bytes input) l m k
+  pub judgement-refused : (bytes input : List ℕ) → areWords bytes ≡ false → Put l 0 (refusalText Length) m k → Printed judgementRoom (judgementOf bytes input) l m k
   unfolding judgementOf
-  judgement-refused bytes input e p = rw e (printed p)
+  judgement-refused bytes input e p = rw e (printed (omega (arith, refusal-most Length)) p)
 
   pub judgement-judged : {bytes words : List ℕ} {n : ℕ} → Found bytes words n → (input : List ℕ) → Put l 0 (judgedText (take n words) input) m k
-      → Printed (judgementOf bytes input) l m k
+      → Printed judgementRoom (judgementOf bytes input) l m k
   unfolding judgementOf
-  judgement-judged f input p = rw (f .are, ← f .words) (printed p)
+  judgement-judged f input p = rw (f .are, ← f .words) (printed (judged-short _ input) p)

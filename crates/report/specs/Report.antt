@@ -16,17 +16,29 @@ use Rattle.semantics.specs.Memo.{uncalledCode}
 use Rattle.table.specs.Layout.{noEntry, tableWords}
 use Rattle.recognizer.specs.Answers.{checkFault, judgeFault, refusedOr, verdictOf}
 use Rattle.recognizer.specs.Memory.{lentBack, memoWords}
+use Rattle.report.specs.declared.Rooms.{Rooms}
 use Rattle.text.specs.Words.{wordsOf, areWords}
 use Rattle.text.specs.Writing.{Put}
 use Rattle.text.specs.Refusal.{refusalText}
 use Rattle.sheet_text.specs.Sheet.{checkText}
 use Rattle.judgement_text.specs.Judgement.{judgementText}
 
--- a text put from the buffer's front on, of which so many bytes stand there
-pub record Printed (text before after : List ℕ) (n : ℕ) : Type 0 where
+-- a text put from the buffer's front on, of which so many bytes stand there: all of them where the buffer has the room
+pub record Printed (room : ℕ) (text before after : List ℕ) (n : ℕ) : Type 0 where
   pub put : Put before 0 text after n
   pub fits : n ≤ length after
   pub part : n ≡ length (take n after)
+  pub whole : room ≤ length before → take n after ≡ text
+
+-- room for every sheet, and for every judgement
+abbrev pub sheetRoom : ℕ
+sheetRoom = 32768
+
+abbrev pub judgementRoom : ℕ
+judgementRoom = 212992
+
+abbrev pub enoughRoom : Rooms
+enoughRoom = record { sheet = sheetRoom; judgement = judgementRoom }
 
 -- the memory that is lent for the table
 unfoldable pub blankTable : List ℕ

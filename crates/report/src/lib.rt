@@ -2,7 +2,7 @@
 ghost use mathlib.Core.Path.{_≡_};
 ghost use Rattle.grammar.specs.Reading.{reading};
 ghost use Rattle.text.specs.Writing.{Put};
-ghost use Rattle.report.specs.Report.{Printed, nonterminalsOf, tokensOf, checkedText, sheetOf, judgedText, judgementOf};
+ghost use Rattle.report.specs.Report.{Printed, enoughRoom, sheetRoom, judgementRoom, nonterminalsOf, tokensOf, checkedText, sheetOf, judgedText, judgementOf};
 use answer::Error;
 use grammar::limits::MEMO_ENTRIES;
 use grammar::limits::TABLE_WORDS;
@@ -14,13 +14,34 @@ use judgement_text::put_judgement;
 use recognizer::check;
 use recognizer::judge;
 use sheet_text::put_check;
+use table::NO_ENTRY;
 use text::refusal::put_refusal;
 use text::words::Loaded;
 use text::words::load;
 
+// Room for every sheet, and for every judgement.
+pub const SHEET_ROOM: usize = 32768;
+
+pub const JUDGEMENT_ROOM: usize = 212992;
+
+pub struct Rooms {
+    pub sheet: usize,
+    pub judgement: usize,
+}
+
+// The two in one value, so that what the specifications say of room is proved of these.
+pub fn enough_room() -> Rooms
+    ensures { λ r. ⌜ r ≡ enoughRoom ⌝ }
+{
+    Rooms {
+        sheet: SHEET_ROOM,
+        judgement: JUDGEMENT_ROOM,
+    }
+}
+
 // The sheet of the grammar that a file's bytes are, or why there is none.
 pub fn sheet(card: &[u8], out: &mut [u8]) -> usize
-    ensures { λ r. ⌜ Printed (sheetOf (now (card .entry))) (now (out .entry)) (now (out .exit)) r ⌝ }
+    ensures { λ r. ⌜ Printed sheetRoom (sheetOf (now (card .entry))) (now (out .entry)) (now (out .exit)) r ⌝ }
 {
     let mut words = [0u32; WORDS];
     let loaded = load(card, &mut words);
@@ -32,7 +53,7 @@ pub fn sheet(card: &[u8], out: &mut [u8]) -> usize
 
 // The judgement of an input by the grammar that a file's bytes are, or why there is none.
 pub fn judgement(card: &[u8], input: &[u8], out: &mut [u8]) -> usize
-    ensures { λ r. ⌜ Printed (judgementOf (now (card .entry)) (now (input .entry))) (now (out .entry)) (now (out .exit)) r ⌝ }
+    ensures { λ r. ⌜ Printed judgementRoom (judgementOf (now (card .entry)) (now (input .entry))) (now (out .entry)) (now (out .exit)) r ⌝ }
 {
     let mut words = [0u32; WORDS];
     let loaded = load(card, &mut words);
@@ -45,7 +66,7 @@ pub fn judgement(card: &[u8], input: &[u8], out: &mut [u8]) -> usize
 fn put_checked(words: &[u32], out: &mut [u8]) -> usize
     ensures { λ r. ⌜ Put (now (out .entry)) 0 (checkedText (now (words .entry))) (now (out .exit)) r ⌝ }
 {
-    let mut table = [4294967295u32; TABLE_WORDS];
+    let mut table = [NO_ENTRY; TABLE_WORDS];
     let answer = check(words, &mut table);
     put_check(out, answer, words, &table)
 }
@@ -53,7 +74,7 @@ fn put_checked(words: &[u32], out: &mut [u8]) -> usize
 fn put_judged(words: &[u32], input: &[u8], out: &mut [u8]) -> usize
     ensures { λ r. ⌜ Put (now (out .entry)) 0 (judgedText (now (words .entry)) (now (input .entry))) (now (out .exit)) r ⌝ }
 {
-    let mut table = [4294967295u32; TABLE_WORDS];
+    let mut table = [NO_ENTRY; TABLE_WORDS];
     let mut memo = [65535u16; MEMO_ENTRIES];
     let answer = judge(words, input, &mut table, &mut memo);
     put_judgement(out, answer, nonterminals(words), tokens(input), &memo)

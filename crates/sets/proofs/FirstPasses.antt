@@ -9,14 +9,14 @@ use Rattle.word.specs.declared.Symbol.the-variants.{Terminal, Nonterminal}
 use Rattle.word.specs.declared.Word.{Word}
 use Rattle.word.specs.declared.Word.the-variants.{Heading, Rule as RuleWord, Positive, Negative, Symbol, End, Invalid}
 use Rattle.grammar.specs.Syntax.{Body, Rule}
-use Rattle.grammar.specs.Encoding.{onWord, parse}
+use Rattle.grammar.specs.Encoding.{Parsed, onWord, parse}
 use Rattle.lookahead.specs.Elements.{Subset}
 use Rattle.lookahead.specs.Operations.{end, terminal, full, meet, concat}
 use Rattle.lookahead.proofs.Order.{subset-refl, meet-mono}
 use Rattle.lookahead.proofs.Concat.{concat-mono}
 use Rattle.sets.specs.declared.first.Rest.{Rest}
 use Rattle.sets.specs.Least.{SetFamily, Under}
-use Rattle.sets.specs.First.{symbolFirst, bodyFirst, ruleFirst, sets, restOf, noRest, Onto}
+use Rattle.sets.specs.First.{symbolFirst, bodyFirst, ruleFirst, sets, restOf, noRest, withWord}
 use Rattle.sets.proofs.Walk.{Analysis, Walk, start}
 
 -- larger families give larger first sets
@@ -36,36 +36,19 @@ module _ (F G : SetFamily) (u : Under F G) where
   rule-mono t [] = subset-refl (full t)
   rule-mono t (b ∷ bs) = meet-mono (bodyFirst F b) (ruleFirst t F bs) (bodyFirst G b) (ruleFirst t G bs) (body-mono b) (rule-mono t bs)
 
--- what `onto` returns, by the kind of word
-module _ {t : ℕ} {F : SetFamily} {w : Word} {rest : Rest} where
-  pub onto-symbol : {X : GrammarSymbol} {x y : ℕ} → w ≡ Symbol X → x ≡ symbolFirst F X → y ≡ concat x (rest .body .bits)
-      → Onto t F w rest (sets y (rest .meet .bits))
-  unfolding onWord bodyFirst
-  onto-symbol e f g = record { onto = λ p h. rw (e, g, f, h) }
+-- the sets of a rest become those of the rest with a word in front
+pub with-word : (t : ℕ) (F : SetFamily) (w : Word) (p : Parsed) → withWord t F w (restOf t F p) ≡ restOf t F (onWord w p)
+unfolding onWord bodyFirst ruleFirst
+with-word t F (Symbol X) p = refl
+with-word t F Positive p = refl
+with-word t F Negative p = refl
+with-word t F (RuleWord A) p = refl
+with-word t F End p = refl
+with-word t F (Heading m n) p = refl
+with-word t F Invalid p = refl
 
-  pub onto-positive : {x y : ℕ} → w ≡ Positive → x ≡ end → y ≡ meet (rest .body .bits) (rest .meet .bits) → Onto t F w rest (sets x y)
-  unfolding onWord bodyFirst ruleFirst
-  onto-positive e f g = record { onto = λ p h. rw (e, g, f, h) }
-
-  pub onto-negative : {x : ℕ} → w ≡ Negative → x ≡ end → Onto t F w rest (sets x (rest .meet .bits))
-  unfolding onWord bodyFirst
-  onto-negative e f = record { onto = λ p h. rw (e, f, h) }
-
-  pub onto-rule : {A : ℕ} {r : Rest} → w ≡ RuleWord A → r ≡ noRest t → Onto t F w rest r
-  unfolding onWord bodyFirst ruleFirst
-  onto-rule e f = record { onto = λ p h. rw (e, f) }
-
-  pub onto-end : {r : Rest} → w ≡ End → r ≡ noRest t → Onto t F w rest r
-  unfolding onWord bodyFirst ruleFirst
-  onto-end e f = record { onto = λ p h. rw (e, f) }
-
-  pub onto-heading : {m n : ℕ} → w ≡ Heading m n → Onto t F w rest rest
-  unfolding onWord
-  onto-heading e = record { onto = λ p h. rw e h }
-
-  pub onto-invalid : w ≡ Invalid → Onto t F w rest rest
-  unfolding onWord
-  onto-invalid e = record { onto = λ p h. rw e h }
+pub record Onto (t : ℕ) (F : SetFamily) (w : Word) (rest r : Rest) : Type 0 where
+  pub onto : (p : Parsed) → rest ≡ restOf t F p → r ≡ restOf t F (onWord w p)
 
 -- what a rule gives, and the analysis of a pass
 abbrev pub ruleGives : ℕ → SetFamily → Rule → ℕ

@@ -1,10 +1,10 @@
 pub mod Lists
 pub mod Words
 pub mod Naming
-pub mod Looking
 pub mod Rising
 pub mod Walk
 pub mod FirstPasses
+pub mod Looking
 pub mod Strings
 pub mod Numbers
 pub mod FirstTie

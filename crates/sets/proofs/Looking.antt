@@ -1,5 +1,5 @@
 -- An array that has a set for each nonterminal gives the same family with and without a look at its length. Assumes nothing.
-use mathlib.Core.Path.{_≡_, subst, sym}
+use mathlib.Core.Path.{_≡_, sym, ap, _∙_}
 use mathlib.Core.List.{List}
 use Prim.Native.Nat.{ℕ, _≤_, _<_}
 use native.Mathlib.Omega.{arith}
@@ -12,7 +12,8 @@ use Rattle.word.specs.declared.Word.{Word}
 use Rattle.grammar.specs.Limits.{maxNonterminals}
 use Rattle.sets.specs.declared.first.Rest.{Rest}
 use Rattle.sets.specs.Least.{at, lookup}
-use Rattle.sets.specs.First.{Onto}
+use Rattle.sets.specs.First.{withWord}
+use Rattle.sets.proofs.FirstPasses.{Onto, with-word}
 
 lookup-each : (l : List ℕ) → length l ≡ maxNonterminals → (n : ℕ) → lookup l n ≡ at l n
 unfolding lookup
@@ -24,5 +25,7 @@ lookup-each l e n = go (decLt n maxNonterminals)
         let k : maxNonterminals ≤ n = omega arith in
         rw (le-ltb n maxNonterminals k) (sym (List·getD-eq-default l 0 {n = n} (omega arith)))
 
-pub onto-at : (l : List ℕ) {t : ℕ} {w : Word} {rest r : Rest} → length l ≡ maxNonterminals → Onto t (lookup l) w rest r → Onto t (at l) w rest r
-onto-at l {t} {w} {rest} {r} e o = subst (λ F. Onto t F w rest r) (λ i. λ n. lookup-each l e n i) o
+pub onto-at : (l : List ℕ) {t : ℕ} {w : Word} {rest r : Rest} → length l ≡ maxNonterminals → r ≡ withWord t (lookup l) w rest → Onto t (at l) w rest r
+onto-at l {t} {w} {rest} {r} e q =
+    let same : lookup l ≡ at l = λ i. λ n. lookup-each l e n i in
+    record { onto = λ p h. q ∙ ap (λ F. withWord t F w rest) same ∙ ap (withWord t (at l) w) h ∙ with-word t (at l) w p }

@@ -11,7 +11,8 @@ use Rattle.word.specs.Words.{decoded}
 use Rattle.grammar.specs.Encoding.{parse}
 use Rattle.sets.specs.declared.first.Rest.{Rest}
 use Rattle.sets.specs.Least.{SetFamily}
-use Rattle.sets.specs.First.{bodyFirst, ruleFirst, restOf, noRest, Onto}
+use Rattle.sets.specs.First.{bodyFirst, ruleFirst, restOf, noRest}
+use Rattle.sets.proofs.FirstPasses.{Onto}
 use Rattle.sets.specs.Follow.{Rests}
 use Rattle.sets.proofs.Words.{parse-before, parse-over}
 

@@ -1,18 +1,18 @@
 -- First sets as numbers: of a symbol, a body and a rule, and the families that the rules close.
-use mathlib.Core.Path.{_≡_}
 use mathlib.Core.List.{List, [], _∷_, List·Memᴰ}
 use Prim.Native.Nat.{ℕ}
-use Rattle.word.specs.declared.Symbol.{Symbol}
+use Rattle.word.specs.declared.Symbol.{Symbol as GrammarSymbol}
 use Rattle.word.specs.declared.Symbol.the-variants.{Terminal, Nonterminal}
 use Rattle.word.specs.declared.Word.{Word}
+use Rattle.word.specs.declared.Word.the-variants.{Heading, Rule as RuleWord, Positive, Negative, Symbol, End, Invalid}
 use Rattle.grammar.specs.Syntax.{Body, Rule}
-use Rattle.grammar.specs.Encoding.{Parsed, onWord}
+use Rattle.grammar.specs.Encoding.{Parsed}
 use Rattle.lookahead.specs.Elements.{Subset}
 use Rattle.lookahead.specs.Operations.{end, terminal, full, meet, concat}
 use Rattle.sets.specs.declared.first.Rest.{Rest}
 use Rattle.sets.specs.Least.{SetFamily}
 
-unfoldable pub symbolFirst : SetFamily → Symbol → ℕ
+unfoldable pub symbolFirst : SetFamily → GrammarSymbol → ℕ
 symbolFirst F (Terminal a) = terminal a
 symbolFirst F (Nonterminal A) = F A
 
@@ -40,6 +40,12 @@ restOf t F p = sets (bodyFirst F (p .body)) (ruleFirst t F (p .positives))
 abbrev pub noRest : ℕ → Rest
 noRest t = sets end (full t)
 
--- the sets of a rest become those of the rest with a word in front
-pub record Onto (t : ℕ) (F : SetFamily) (w : Word) (rest r : Rest) : Type 0 where
-  pub onto : (p : Parsed) → rest ≡ restOf t F p → r ≡ restOf t F (onWord w p)
+-- the rest with a word in front
+abbrev pub withWord : ℕ → SetFamily → Word → Rest → Rest
+withWord t F (Symbol X) rest = sets (concat (symbolFirst F X) (rest .body .bits)) (rest .meet .bits)
+withWord t F Positive rest = sets end (meet (rest .body .bits) (rest .meet .bits))
+withWord t F Negative rest = sets end (rest .meet .bits)
+withWord t F (RuleWord A) rest = noRest t
+withWord t F End rest = noRest t
+withWord t F (Heading m n) rest = rest
+withWord t F Invalid rest = rest

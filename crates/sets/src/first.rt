@@ -5,7 +5,7 @@ ghost use Rattle.grammar.specs.declared.reading.Outcome.the-variants.{Read};
 ghost use Rattle.grammar.specs.Encoding.{parse, grammarOf};
 ghost use Rattle.grammar.specs.Limits.{maxNonterminals};
 ghost use Rattle.grammar.specs.Reading.{reading};
-ghost use Rattle.sets.specs.First.{symbolFirst, noRest, Onto, FirstClosed};
+ghost use Rattle.sets.specs.First.{symbolFirst, noRest, withWord, FirstClosed};
 ghost use Rattle.sets.specs.Least.{lookup, AddsTo, Passes};
 ghost use Rattle.sets.specs.Lists.{listed};
 ghost use Rattle.sets.specs.Naming.{ruleHead, Indexed};
@@ -49,7 +49,7 @@ fn symbol_first(symbol: Symbol, firsts: &[u32; SETS]) -> LookaheadSet
 
 // The rest with a word in front.
 pub fn onto(word: Word, rest: Rest, firsts: &[u32; SETS], terminals: u32) -> Rest
-    ensures { λ r. ⌜ Onto terminals (lookup (now (firsts .entry))) word rest r ⌝ }
+    ensures { λ r. ⌜ r ≡ withWord terminals (lookup (now (firsts .entry))) word rest ⌝ }
 {
     let body = rest.body;
     let meet = rest.meet;

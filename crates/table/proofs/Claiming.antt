@@ -31,7 +31,8 @@ use Rattle.sets.specs.declared.first.Rest.{Rest}
 use Rattle.sets.specs.Sets.{firstNumber, followNumber}
 use Rattle.sets.specs.Least.{at as family}
 use Rattle.sets.specs.Naming.{ruleHead}
-use Rattle.sets.specs.First.{bodyFirst, ruleFirst, restOf, noRest, Onto}
+use Rattle.sets.specs.First.{bodyFirst, ruleFirst, restOf, noRest}
+use Rattle.sets.proofs.FirstPasses.{Onto}
 use Rattle.table.specs.Entries.{Given}
 use Rattle.table.specs.Filling.{FilledRow, Noted, Tables, tables, WordClaims, MayClaim, FilledRows}
 use Rattle.sets.proofs.Words.{parse-before, parse-over}

@@ -1,5 +1,6 @@
 pub mod Decimal
 pub mod Examples
 pub mod Fours
+pub mod Lengths
 pub mod Lines
 pub mod Writing

@@ -6,8 +6,8 @@ use native.Mathlib.Nat.{add-zero}
 use native.Mathlib.Numerals.{add-one}
 use native.Mathlib.Omega.{arith}
 use native.Mathlib.Decide.{decLe}
-use lib.ListN.{length, getD, take, set, length-append, length-set}
-use lib.Seq.{sets, set-out, length-sets, take-suc, take-all}
+use lib.ListN.{length, getD, take, drop, set, length-append, length-set}
+use lib.Seq.{sets, sets-eq, set-out, take-at, length-sets, take-suc, take-all}
 use Rattle.text.specs.Writing.{Put, upTo}
 
 -- what is stored behind the end of a list is lost
@@ -35,6 +35,12 @@ put-none l at = record { bytes = refl; position = omega arith }
 -- the buffer's length stays
 pub put-length : {l : List ℕ} {at : ℕ} {x m : List ℕ} {next : ℕ} → Put l at x m next → length m ≡ length l
 put-length {l} {at} {x} p = ap length (p .bytes) ∙ length-sets l at x
+
+-- a text that the buffer has room for is put whole
+pub put-whole : {l x m : List ℕ} {next : ℕ} → Put l 0 x m next → length x ≤ length l → take next m ≡ x
+put-whole {l} {x} {m} {next} p h =
+    let e : length x ≡ next = omega (arith, p .position) in
+    rw (p .bytes, sets-eq x l 0 (omega arith)) (take-at x (drop (0 + length x) l) next e)
 
 -- two texts put one behind the other are their joining put
 pub put-then : {l : List ℕ} {at : ℕ} {x m : List ℕ} {next : ℕ} {y n : List ℕ} {last : ℕ} →

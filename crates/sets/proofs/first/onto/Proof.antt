@@ -1,6 +1,5 @@
 -- By the kind of word.
 use borrow.Author.Needs.{needs}
-use Rattle.sets.proofs.FirstPasses as passes
 use Rattle.sets.proofs.first.onto.Statement.{statement}
 use Rattle.sets.proofs.first.onto.Tie as tie
 
@@ -47,25 +46,25 @@ enum-told-6 : tie.Need-enum-told-6
 enum-told-6 c = search needs
 
 returns : tie.Need-returns
-returns c = passes.onto-symbol (c .before .before .before .word .given .1) (c .before .symbol-first .ensures) (c .concat .ensures .is)
+returns c = rw (c .before .before .before .word .given .1, c .concat .ensures .is, c .before .symbol-first .ensures)
 
 returns-2 : tie.Need-returns-2
-returns-2 c = passes.onto-positive (c .before .before .enum-told .given .1) (c .before .end .ensures .is) (c .meet2 .ensures .is)
+returns-2 c = rw (c .before .before .enum-told .given .1, c .before .end .ensures .is, c .meet2 .ensures .is)
 
 returns-3 : tie.Need-returns-3
-returns-3 c = passes.onto-negative (c .before .enum-told2 .given .1) (c .end2 .ensures .is)
+returns-3 c = rw (c .before .enum-told2 .given .1, c .end2 .ensures .is)
 
 returns-4 : tie.Need-returns-4
-returns-4 c = passes.onto-rule (c .before .enum-told3 .given .1) (c .no-rest .ensures)
+returns-4 c = rw (c .before .enum-told3 .given .1) (c .no-rest .ensures)
 
 returns-5 : tie.Need-returns-5
-returns-5 c = passes.onto-end (c .before .enum-told4 .given .1) (c .no-rest2 .ensures)
+returns-5 c = rw (c .before .enum-told4 .given .1) (c .no-rest2 .ensures)
 
 returns-6 : tie.Need-returns-6
-returns-6 c = passes.onto-heading (c .enum-told5 .given .1)
+returns-6 c = rw (c .enum-told5 .given .1)
 
 returns-7 : tie.Need-returns-7
-returns-7 c = passes.onto-invalid (c .enum-told6 .given .1)
+returns-7 c = rw (c .enum-told6 .given .1)
 
 pub onto-spec : {M : Type 1} → statement M
 onto-spec =

@@ -1,0 +1,136 @@
+-- Every sheet and every judgement has room in the buffers that the programs lend. Assumes nothing.
+use mathlib.Core.Path.{_≡_, refl, sym, ap, _∙_}
+use mathlib.Core.Bool.{Bool, true, false}
+use mathlib.Core.List.{List, [], _∷_, _++_, map, List·Memᴰ, List·Memᴰ·head, List·Memᴰ·tail}
+use mathlib.Core.Option.{Option, none, some}
+use Prim.Native.Nat.{ℕ, zero, suc, _+_, _≤_, _<_}
+use native.Mathlib.Omega.{arith}
+use lib.ListN.{length, getD, drop, replicate, length-append}
+use Rattle.answer.specs.declared.Error.{Error}
+use Rattle.answer.specs.declared.Calls.{Calls}
+use Rattle.answer.specs.declared.Answer.the-variants.{Passed, Rejected, Accepted}
+use Rattle.word.specs.Choice.{choose}
+use Rattle.grammar.specs.Limits.{maxTokens, memoEntries, tableWords as memoryWords}
+use Rattle.grammar.specs.Syntax.{Grammar}
+use Rattle.grammar.specs.Encoding.{grammarOf}
+use Rattle.grammar.specs.Reading.{reading}
+use Rattle.grammar.specs.declared.reading.Outcome.{Outcome}
+use Rattle.grammar.specs.declared.reading.Outcome.the-variants.{Read, Faulty}
+use Rattle.grammar.proofs.WellRead.{well-read}
+use Rattle.semantics.specs.FiniteSets.{member}
+use Rattle.semantics.specs.Claims.{tableOf}
+use Rattle.semantics.specs.Descent.{Outcome as Ended, Failed, End, descend, accepts}
+use Rattle.semantics.specs.ComesTo.{Call}
+use Rattle.semantics.specs.Calls.{sameCall, allCalls, calls}
+use Rattle.semantics.specs.Memo.{encode, uncalledCode}
+use Rattle.semantics.proofs.Range.{all-range}
+use Rattle.semantics.proofs.Theorems.{theorems}
+use Rattle.table.specs.Layout.{tableWords}
+use Rattle.recognizer.specs.Answers.{checkFault, judgeFault, refusedOr, callsOf, verdictOf}
+use Rattle.recognizer.specs.Memory.{lentBack, memoWord, memoWords}
+use Rattle.recognizer.proofs.Checking.{passed-fault}
+use Rattle.recognizer.proofs.Judged.{judged-readable}
+use Rattle.text.proofs.Lengths.{refusal-most}
+use Rattle.sheet_text.specs.Sheet.{sheetText, checkText}
+use Rattle.sheet_text.proofs.Lengths.{sheet-most}
+use Rattle.judgement_text.specs.Judgement.{callsText, verdictLine, judgementText}
+use Rattle.judgement_text.proofs.Lengths.{calls-most, verdict-most}
+use Rattle.report.specs.Report.{sheetRoom, judgementRoom, blankTable, blankMemo, checkedText, judgedText}
+
+pub checked-short : (words : List ℕ) → length (checkedText words) ≤ sheetRoom
+unfolding checkedText checkText sheetText
+checked-short words = go (checkFault memoryWords words) (reading words) refl
+  where
+    table : Option Error → List ℕ
+    table f = lentBack f (tableWords (grammarOf words)) blankTable
+
+    go : (f : Option Error) (o : Outcome) → reading words ≡ o → length (checkText (refusedOr f Passed) o (table f)) ≤ sheetRoom
+    go (some e) o r = omega (arith, refusal-most e)
+    go none (Faulty e) r = omega (arith, refusal-most e)
+    go none (Read z) r = let k = well-read words z r in omega (arith, sheet-most z (table none) (k .fewNonterminals) (k .fewTerminals))
+
+-- lists of numbers of at most five digits
+abbrev Each : List ℕ → Type 0
+Each [] = Unit {0}
+Each (x ∷ l) = (x < 100000) × Each l
+
+each-append : (l m : List ℕ) → Each l → Each m → Each (l ++ m)
+each-append [] m h k = k
+each-append (x ∷ l) m h k = (h .0, each-append l m (h .1) k)
+
+each-drop : (n : ℕ) (l : List ℕ) → Each l → Each (drop n l)
+each-drop zero l h = h
+each-drop (suc n) [] h = h
+each-drop (suc n) (x ∷ l) h = each-drop n l (h .1)
+
+each-replicate : (n x : ℕ) → x < 100000 → Each (replicate n x)
+each-replicate zero x h = tt
+each-replicate (suc n) x h = (h, each-replicate n x h)
+
+each-map : (f : Call → ℕ) (l : List Call) → ((x : Call) → List·Memᴰ x l → f x < 100000) → Each (map f l)
+each-map f [] h = tt
+each-map f (x ∷ l) h = (h x (List·Memᴰ·head refl), each-map f l (λ y m. h y (List·Memᴰ·tail m)))
+
+each-at : (l : List ℕ) (k d : ℕ) → d < 100000 → Each l → getD l k d < 100000
+each-at [] k d h e = h
+each-at (x ∷ l) zero d h e = e .0
+each-at (x ∷ l) (suc k) d h e = each-at l k d h (e .1)
+
+-- the entries of a memo table are ends within the input, or codes
+module _ (words input : List ℕ) (table memo : ℕ) (e : judgeFault table memo words input ≡ none) where
+  abbrev G : Grammar
+  G = grammarOf words
+
+  entry-low : (x : Call) → List·Memᴰ x (allCalls G input) → memoWord G input x < 100000
+  unfolding memoWord encode
+  entry-low x m = go (member sameCall (calls G (tableOf G 1) 1 input) x) (descend G (tableOf G 1) 1 input (x .nonterminal) (x .place)) refl
+    where
+      go : (b : Bool) (o : Ended) → descend G (tableOf G 1) 1 input (x .nonterminal) (x .place) ≡ o → choose b (encode o) uncalledCode < 100000
+      go false o q = omega arith
+      go true Failed q = omega arith
+      go true (End j) q =
+          let k = judged-readable words input table memo e in
+          let p = passed-fault words (k .0) in
+          let r = well-read words (p .sizes) (p .read) in
+          let within = all-range G input x .0 m in
+          let f = theorems .descent-ends G (r .formed .scoped) (p .free) (tableOf G 1) (theorems .own-entries G 1) 1 input .forward
+          (x .nonterminal) (x .place) j (within .1) q in
+          omega (arith, f .1, k .1)
+
+  memo-each : Each (lentBack none (memoWords G input) blankMemo)
+  unfolding memoWords blankMemo
+  memo-each =
+      let front = map (memoWord G input) (allCalls G input) in
+      let behind = replicate memoEntries uncalledCode in
+      each-append front (drop (length front) behind) (each-map (memoWord G input) (allCalls G input) entry-low)
+      (each-drop (length front) behind (each-replicate memoEntries uncalledCode (omega arith)))
+
+  calls-short : length (callsText (G .nonterminals) (length input) (lentBack none (memoWords G input) blankMemo)) ≤ 208416
+  calls-short =
+      let k = judged-readable words input table memo e in
+      let p = passed-fault words (k .0) in
+      let r = well-read words (p .sizes) (p .read) in
+      calls-most (G .nonterminals) (length input) (lentBack none (memoWords G input) blankMemo) (omega (arith, r .nonterminals, r .fewNonterminals)) (k .1)
+      (λ i. each-at (lentBack none (memoWords G input) blankMemo) i uncalledCode (omega arith) memo-each)
+
+pub judged-short : (words input : List ℕ) → length (judgedText words input) ≤ judgementRoom
+unfolding judgedText judgementText verdictOf
+judged-short words input = go (judgeFault memoryWords memoEntries words input) refl
+  where
+    text : Option Error → List ℕ
+    text f =
+        judgementText (refusedOr f (verdictOf (grammarOf words) input)) (grammarOf words .nonterminals) (length input)
+        (lentBack f (memoWords (grammarOf words) input) blankMemo)
+
+    go : (f : Option Error) → judgeFault memoryWords memoEntries words input ≡ f → length (text f) ≤ judgementRoom
+    go (some x) e = omega (arith, refusal-most x)
+    go none e = verdict (accepts (grammarOf words) (tableOf (grammarOf words) 1) 1 input) (calls-short words input memoryWords memoEntries e)
+      where
+        made : List ℕ
+        made = callsText (grammarOf words .nonterminals) (length input) (lentBack none (memoWords (grammarOf words) input) blankMemo)
+
+        verdict : (b : Bool) → length made ≤ 208416
+            → length (judgementText (choose b (Accepted (callsOf (grammarOf words) input)) (Rejected (callsOf (grammarOf words) input))) (grammarOf words .nonterminals)
+            (length input) (lentBack none (memoWords (grammarOf words) input) blankMemo)) ≤ judgementRoom
+        verdict true h = omega (arith, length-append (verdictLine "accepted " (callsOf (grammarOf words) input)) made, verdict-most "accepted " (callsOf (grammarOf words) input))
+        verdict false h = omega (arith, length-append (verdictLine "rejected " (callsOf (grammarOf words) input)) made, verdict-most "rejected " (callsOf (grammarOf words) input))
