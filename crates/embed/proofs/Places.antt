@@ -30,12 +30,11 @@ use Rattle.semantics.specs.Quantifiers.{all}
 use Rattle.semantics.specs.Strings.{Over}
 use Rattle.semantics.specs.LeftRecursion.{leftRecursive, lowestLeftRecursive}
 use Rattle.semantics.specs.FirstFollow.{Entry, entries}
-use Rattle.semantics.specs.Claims.{clashes}
+use Rattle.semantics.specs.Claims.{clashes, column}
 use Rattle.semantics.proofs.Booleans.{and-l}
 use Rattle.semantics.proofs.FiniteSets.{keep-elim}
 use Rattle.semantics.proofs.Quantified.{lowest-some}
 use Rattle.semantics.proofs.LookaheadSets.{entries-elim}
-use Rattle.table.specs.Entries.{columnOf}
 use Rattle.sets.specs.Families.{firstFault, readingFault, leftFault, setsFault}
 use Rattle.table.specs.Analysis.{clashFault, fault}
 use Rattle.recognizer.specs.declared.judging.Unknown.the-variants.{Absent, At}
@@ -119,7 +118,7 @@ module _ (G : Grammar) (few : G .nonterminals ≤ maxNonterminals) (small : G .t
   left-low none e = none-low maxWords
   left-low (some A) e = some-low maxWords (LeftRecursive A) (omega (arith, lowest-some (G .nonterminals) (leftRecursive G) A .0 e .0))
 
-  column-low : (x : List ℕ) → Over (G .terminals) x → columnOf (G .terminals) x ≤ maxTerminals
+  column-low : (x : List ℕ) → Over (G .terminals) x → column (G .terminals) x ≤ maxTerminals
   unfolding all
   column-low [] h = small
   column-low (a ∷ x) h = omega (arith, ltb→lt a (G .terminals) (and-l (ltb a (G .terminals)) _ h))
@@ -130,7 +129,7 @@ module _ (G : Grammar) (few : G .nonterminals ≤ maxNonterminals) (small : G .t
   clash-low (e ∷ es) q =
       let m : List·Memᴰ e (clashes G 1) = rw q (List·Memᴰ·head refl) in
       let k = entries-elim G 1 e (keep-elim _ (entries G 1) e m .0) in
-      some-low maxWords (Conflict (e .0) (columnOf (G .terminals) (e .1))) (omega (arith, k .0, column-low (e .1) (k .1 .1)))
+      some-low maxWords (Conflict (e .0) (column (G .terminals) (e .1))) (omega (arith, k .0, column-low (e .1) (k .1 .1)))
 
 first-low : (n : ℕ) (f g : Option Error) → LowFault n f → LowFault n g → LowFault n (firstFault f g)
 first-low n none g l k = k

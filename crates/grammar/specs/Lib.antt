@@ -1,4 +1,5 @@
 pub mod Limits
+pub mod Codes
 pub mod Syntax
 pub mod Encoding
 pub mod Reading

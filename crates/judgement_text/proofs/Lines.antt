@@ -5,21 +5,22 @@ use Prim.Native.Nat.{ℕ, _+_, _*_, _^_, _≤_, _<_}
 use native.Mathlib.Nat.{mul-le-mul-right}
 use native.Mathlib.Omega.{arith}
 use borrow.Author.Tests.{eq-eqb, ne-eqb}
+use Rattle.grammar.specs.Codes.{uncalledCode}
 use Rattle.text.specs.Ascii.{ascii}
 use Rattle.text.specs.Decimal.{decimal, labelled}
 use Rattle.text.specs.Writing.{Put}
-use Rattle.judgement_text.specs.Judgement.{uncalled, endText, callText}
+use Rattle.judgement_text.specs.Judgement.{endText, callText}
 
 -- the entries of a memo table are few enough to be counted
 pub few-entries : (n t : ℕ) → n < 2 ^ 32 → t < 2 ^ 16 → n * (t + 1) < 2 ^ 64
 few-entries n t h k = let l : n ≤ 2 ^ 32 = omega arith in omega (arith, mul-le-mul-right (t + 1) l)
 
 module _ {l m : List ℕ} {at next : ℕ} where
-  pub uncalled-put : (A place entry : ℕ) → entry ≡ uncalled → Put l at [] m next → Put l at (callText A place entry) m next
+  pub uncalled-put : (A place entry : ℕ) → entry ≡ uncalledCode → Put l at [] m next → Put l at (callText A place entry) m next
   unfolding callText
-  uncalled-put A place entry e p = rw (eq-eqb entry uncalled e) p
+  uncalled-put A place entry e p = rw (eq-eqb entry uncalledCode e) p
 
-  pub call-put : (A place entry : ℕ) → (entry ≡ uncalled → ⊥) →
+  pub call-put : (A place entry : ℕ) → (entry ≡ uncalledCode → ⊥) →
       Put l at (decimal A ++ labelled " " place ++ endText entry ++ ascii "\n") m next → Put l at (callText A place entry) m next
   unfolding callText
-  call-put A place entry e p = rw (ne-eqb entry uncalled e) p
+  call-put A place entry e p = rw (ne-eqb entry uncalledCode e) p

@@ -4,6 +4,7 @@ use Prim.Native.Nat.{ℕ, _+_, _*_, _/_, _%_}
 use Prim.Native.String.{String}
 use lib.Dec.{eqb}
 use lib.ListN.{getD}
+use Rattle.grammar.specs.Codes.{failedCode, uncalledCode}
 use Rattle.answer.specs.declared.Calls.{Calls}
 use Rattle.answer.specs.declared.Answer.{Answer}
 use Rattle.answer.specs.declared.Answer.the-variants.{Refused, Passed, Rejected, Accepted}
@@ -13,25 +14,18 @@ use Rattle.text.specs.Decimal.{decimal, labelled, orDash}
 use Rattle.text.specs.Refusal.{refusalText}
 use Rattle.text.specs.Writing.{upTo}
 
--- the memo table's codes; any other entry is an end
-abbrev pub failed : ℕ
-failed = 65534
-
-abbrev pub uncalled : ℕ
-uncalled = 65535
-
 -- where a call ended, or a dash
 abbrev pub endText : ℕ → List ℕ
-endText entry = orDash failed entry
+endText entry = orDash failedCode entry
 
 -- a call: nonterminal, place and end; nothing where none was made
 unfoldable pub callText : ℕ → ℕ → ℕ → List ℕ
-callText A place entry = choose (eqb entry uncalled) [] (decimal A ++ labelled " " place ++ endText entry ++ ascii "\n")
+callText A place entry = choose (eqb entry uncalledCode) [] (decimal A ++ labelled " " place ++ endText entry ++ ascii "\n")
 
 -- the calls in the memo table's order: a nonterminal has an entry for each place, and places are one more than tokens
 unfoldable pub callsText : ℕ → ℕ → List ℕ → List ℕ
 callsText nonterminals tokens memo =
-    upTo (nonterminals * (tokens + 1)) (λ k. callText (k / (tokens + 1)) (k % (tokens + 1)) (getD memo k uncalled))
+    upTo (nonterminals * (tokens + 1)) (λ k. callText (k / (tokens + 1)) (k % (tokens + 1)) (getD memo k uncalledCode))
 
 unfoldable pub verdictLine : String → Calls → List ℕ
 verdictLine verdict c = labelled verdict (c .count) ++ labelled " " (c .farthest) ++ ascii "\n"

@@ -3,26 +3,24 @@ ghost use mathlib.Core.Path.{_≡_};
 ghost use mathlib.Core.List.{_++_};
 ghost use Prim.Native.Nat.{_+_, _*_, _/_, _%_, _<_};
 ghost use lib.ListN.{getD};
+ghost use Rattle.grammar.specs.Codes.{uncalledCode};
 ghost use Rattle.text.specs.Ascii.{ascii};
 ghost use Rattle.text.specs.Decimal.{decimal, labelled};
 ghost use Rattle.text.specs.Writing.{Put, upTo};
-ghost use Rattle.judgement_text.specs.Judgement.{uncalled, endText, callText, callsText, verdictLine, judgementText};
+ghost use Rattle.judgement_text.specs.Judgement.{endText, callText, callsText, verdictLine, judgementText};
 use answer::Answer;
 use answer::Calls;
+use grammar::codes::FAILED;
+use grammar::codes::UNCALLED;
 use text::put::put_bytes;
 use text::put::put_labelled;
 use text::put::put_number;
 use text::put::put_or_dash;
 use text::refusal::put_refusal;
 
-// The memo table's codes; any other entry is an end.
-const FAILED: u16 = 65534;
-
-const UNCALLED: u16 = 65535;
-
 // An entry of the memo table; behind its end nothing was called.
 fn entry_at(memo: &[u16], at: usize) -> u16
-    ensures { λ r. ⌜ r ≡ getD (now (memo .entry)) at uncalled ⌝ }
+    ensures { λ r. ⌜ r ≡ getD (now (memo .entry)) at uncalledCode ⌝ }
 {
     if at < memo.len() { memo[at] } else { UNCALLED }
 }

@@ -17,6 +17,7 @@ use Rattle.answer.specs.declared.Error.the-variants.{TableTooShort}
 use Rattle.answer.specs.Numbers.{numbers}
 use Rattle.answer.specs.declared.Answer.{Answer}
 use Rattle.answer.specs.declared.Answer.the-variants.{Refused, Passed}
+use Rattle.grammar.specs.Codes.{noEntry}
 use Rattle.grammar.specs.Limits.{tableWords as memoryWords}
 use Rattle.grammar.specs.Syntax.{Grammar}
 use Rattle.grammar.specs.Encoding.{grammarOf}
@@ -35,7 +36,7 @@ use Rattle.semantics.proofs.Theorems.{theorems}
 use Rattle.sets.specs.declared.Finding.the-variants as finding
 use Rattle.table.specs.declared.Analysis.{Analysis}
 use Rattle.sets.specs.Lists.{listed}
-use Rattle.table.specs.Layout.{noEntry, columns, setWord, rowWord, tableWords}
+use Rattle.table.specs.Layout.{columns, setWord, rowWord, tableWords}
 use Rattle.table.specs.Entries.{filled}
 use Rattle.sets.specs.Families.{firstFault, readingFault, leftFault, setsFault, findingOf}
 use Rattle.sets.proofs.Telling.{told-passed}

@@ -15,6 +15,7 @@ use Rattle.answer.specs.declared.Answer.{Answer}
 use Rattle.answer.specs.declared.Answer.the-variants.{Rejected, Accepted}
 use Rattle.answer.specs.declared.Calls.{Calls}
 use Rattle.word.specs.Choice.{choose}
+use Rattle.grammar.specs.Codes.{uncalledCode}
 use Rattle.grammar.specs.Syntax.{Grammar, WellScoped}
 use Rattle.grammar.specs.Encoding.{grammarOf}
 use Rattle.grammar.specs.Starts.{ruleStarts}
@@ -29,7 +30,7 @@ use Rattle.semantics.specs.Claims.{tableOf}
 use Rattle.semantics.specs.Descent.{endsAt, descend, accepts}
 use Rattle.semantics.specs.ComesTo.{Call, callAt, InRange}
 use Rattle.semantics.specs.Calls.{Called, Listing, sameCall, allCalls, calls}
-use Rattle.semantics.specs.Memo.{Fits, encode, entry, indexOf, blank, uncalledCode, Recorded}
+use Rattle.semantics.specs.Memo.{Fits, encode, entry, indexOf, blank, Recorded}
 use Rattle.semantics.specs.MemoDescent.{memoized, memoCall}
 use Rattle.semantics.proofs.FiniteSets.{member-mem, mem-member}
 use Rattle.semantics.proofs.Range.{calls-equality, all-length, all-ordered, index-range}

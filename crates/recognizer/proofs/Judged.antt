@@ -20,6 +20,7 @@ use Rattle.answer.specs.declared.Calls.{Calls}
 use Rattle.answer.specs.declared.Answer.{Answer}
 use Rattle.answer.specs.declared.Answer.the-variants.{Refused, Accepted, Rejected}
 use Rattle.word.specs.Choice.{choose}
+use Rattle.grammar.specs.Codes.{noEntry}
 use Rattle.grammar.specs.Limits.{tableWords as memoryWords, memoEntries, maxTokens}
 use Rattle.grammar.specs.Syntax.{Grammar}
 use Rattle.grammar.specs.Encoding.{grammarOf}
@@ -38,7 +39,7 @@ use Rattle.semantics.proofs.Booleans.{T-true, and-l, and-r, and-make, true-T}
 use Rattle.semantics.proofs.Range.{all-length}
 use Rattle.semantics.proofs.Theorems.{theorems}
 use Rattle.sets.specs.Lists.{listed}
-use Rattle.table.specs.Layout.{noEntry, columns, entryAt, setWord, rowWord, tableWords}
+use Rattle.table.specs.Layout.{columns, entryAt, setWord, rowWord, tableWords}
 use Rattle.table.specs.Entries.{filled}
 use Rattle.table.specs.Analysis.{fault}
 use Rattle.sets.proofs.Lists.{listed-long, listed-at}

@@ -12,6 +12,7 @@ use Rattle.word.specs.Words.{decoded}
 use Rattle.word.specs.declared.Symbol as grammar
 use Rattle.word.specs.declared.Word.{Word}
 use Rattle.word.specs.declared.Word.the-variants as word
+use Rattle.grammar.specs.Codes.{noEntry, failedCode}
 use Rattle.grammar.specs.Limits.{maxRules}
 use Rattle.grammar.specs.Syntax.{Rule, Grammar, bodies}
 use Rattle.grammar.specs.Encoding.{parse, grammarOf}
@@ -27,11 +28,11 @@ use Rattle.semantics.specs.Strings.{look}
 use Rattle.semantics.specs.Families.{OwnEntries}
 use Rattle.semantics.specs.Claims.{tableOf}
 use Rattle.semantics.specs.Descent.{Failed, select}
-use Rattle.semantics.specs.Memo.{failedCode, encode}
+use Rattle.semantics.specs.Memo.{encode}
 use Rattle.semantics.specs.MemoDescent.{MemoCalls, memoized, memoObey}
 use Rattle.semantics.proofs.Outcomes.{nth-mem}
 use Rattle.semantics.proofs.Theorems.{theorems}
-use Rattle.table.specs.Layout.{noEntry, entryWord}
+use Rattle.table.specs.Layout.{entryWord}
 use Rattle.rule.specs.declared.Sign.{Sign}
 use Rattle.rule.specs.declared.Agreement.the-variants as agreement
 use Rattle.rule.specs.Rule.{signAt}

@@ -9,6 +9,7 @@ use native.Mathlib.Numerals.{add-one}
 use lib.Dec.{T, T-not, not-T, eqb, eqb→eq, eqb-refl}
 use lib.ListN.{length, getD, set, getElem?}
 use borrow.Author.Tests.{eq-eqb, ne-eqb}
+use Rattle.grammar.specs.Codes.{uncalledCode}
 use Rattle.grammar.specs.Limits.{maxTokens}
 use Rattle.grammar.specs.Syntax.{Rule, Grammar}
 use Rattle.grammar.specs.Encoding.{grammarOf}
@@ -22,7 +23,7 @@ use Rattle.semantics.specs.Families.{OwnEntries}
 use Rattle.semantics.specs.Claims.{tableOf}
 use Rattle.semantics.specs.Descent.{Outcome, Failed, End, endsAt, select, descend}
 use Rattle.semantics.specs.ComesTo.{Call, callAt, InRange, measure}
-use Rattle.semantics.specs.Memo.{Fits, encode, decode, indexOf, entry, uncalledCode, failedCode}
+use Rattle.semantics.specs.Memo.{Fits, encode, decode, indexOf, entry}
 use Rattle.semantics.specs.MemoDescent.{Memoized, memoized, memoObey, stored, memoCall}
 use Rattle.semantics.proofs.Outcomes.{end-ends}
 use Rattle.semantics.proofs.Ends.{descend-forward, descend-null}

@@ -9,12 +9,13 @@ use lib.Dec.{eqb}
 use lib.ListN.{length, getD, length-append, length-map}
 use Rattle.answer.specs.declared.Calls.{Calls}
 use Rattle.word.specs.Choice.{choose}
+use Rattle.grammar.specs.Codes.{uncalledCode}
 use Rattle.grammar.specs.Syntax.{Grammar}
 use Rattle.semantics.specs.FiniteSets.{keep, numbersFrom, numbers, combine}
 use Rattle.semantics.specs.Families.{Table}
 use Rattle.semantics.specs.ComesTo.{Call, callAt}
 use Rattle.semantics.specs.Calls.{allCalls, calls, callCount, greatestPlace, farthest}
-use Rattle.semantics.specs.Memo.{Memo, Recorded, uncalledCode, written}
+use Rattle.semantics.specs.Memo.{Memo, Recorded, written}
 use Rattle.semantics.proofs.FiniteSets.{numbers-length}
 use Rattle.semantics.proofs.Distinct.{combine-length}
 use Rattle.recognizer.specs.Tally.{tallyOf, together, writtenAmong, entryTally, recordedRow, recordedCalls}

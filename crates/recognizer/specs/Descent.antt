@@ -9,6 +9,7 @@ use Rattle.word.specs.Choice.{choose}
 use Rattle.word.specs.Words.{decoded}
 use Rattle.word.specs.declared.Symbol as grammar
 use Rattle.word.specs.declared.Word.the-variants.{Symbol}
+use Rattle.grammar.specs.Codes.{failedCode, uncalledCode}
 use Rattle.grammar.specs.Limits.{maxTokens}
 use Rattle.grammar.specs.Syntax.{Rule, Grammar, bodies}
 use Rattle.grammar.specs.Encoding.{parse, grammarOf}
@@ -23,7 +24,7 @@ use Rattle.semantics.specs.Strings.{look, Over}
 use Rattle.semantics.specs.Claims.{tableOf}
 use Rattle.semantics.specs.Descent.{Outcome, End, descend}
 use Rattle.semantics.specs.ComesTo.{Call, callAt, InRange, measure}
-use Rattle.semantics.specs.Memo.{Memo, encode, entry, uncalledCode, failedCode}
+use Rattle.semantics.specs.Memo.{Memo, encode, entry}
 use Rattle.semantics.specs.MemoDescent.{memoized, memoRun, memoCall}
 use Rattle.table.specs.Layout.{columns, entryAt, entryWord}
 use Rattle.rule.specs.declared.Outcome as code

@@ -7,6 +7,7 @@ use Prim.Native.Nat.{ℕ, _+_, _*_, _≤_}
 use lib.ListN.{length, take, drop}
 use Rattle.answer.specs.declared.Error.{Error}
 use Rattle.word.specs.Choice.{choose}
+use Rattle.grammar.specs.Codes.{uncalledCode}
 use Rattle.grammar.specs.Limits.{maxNonterminals, maxTerminals, tableWords as memoryWords}
 use Rattle.grammar.specs.Syntax.{Grammar}
 use Rattle.grammar.specs.declared.reading.Sizes.{Sizes}
@@ -15,7 +16,7 @@ use Rattle.semantics.specs.Claims.{tableOf}
 use Rattle.semantics.specs.Descent.{descend}
 use Rattle.semantics.specs.ComesTo.{Call}
 use Rattle.semantics.specs.Calls.{sameCall, allCalls, calls}
-use Rattle.semantics.specs.Memo.{encode, uncalledCode}
+use Rattle.semantics.specs.Memo.{encode}
 use Rattle.table.specs.Layout.{tableWords}
 
 -- by whether a call is refused: what was there, or new words in front of what was there

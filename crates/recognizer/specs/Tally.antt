@@ -4,12 +4,13 @@ use mathlib.Core.List.{List, map}
 use Prim.Native.Nat.{ℕ, suc, _+_, _*_, max}
 use lib.Dec.{eqb}
 use lib.ListN.{length, getD}
+use Rattle.grammar.specs.Codes.{uncalledCode}
 use Rattle.word.specs.Choice.{choose}
 use Rattle.answer.specs.declared.Calls.{Calls}
 use Rattle.semantics.specs.FiniteSets.{keep, numbers, combine}
 use Rattle.semantics.specs.ComesTo.{Call, callAt}
 use Rattle.semantics.specs.Calls.{greatestPlace}
-use Rattle.semantics.specs.Memo.{Memo, uncalledCode}
+use Rattle.semantics.specs.Memo.{Memo}
 
 -- (document 01: count and far)
 unfoldable pub tallyOf : List Call → Calls

@@ -9,6 +9,9 @@ ghost use Rattle.semantics.specs.Memo.{encode, decode as decodedEntry};
 ghost use Rattle.table.specs.Layout.{entryWord};
 ghost use Rattle.rule.specs.Rule.{meant};
 ghost use Rattle.recognizer.specs.Descent.{matchesAt, columnAt, Short, BodyEnd, ChosenGiven, CallGiven, CallDone, RunGiven, RunDone};
+use grammar::codes::FAILED;
+use grammar::codes::NO_ENTRY;
+use grammar::codes::UNCALLED;
 use grammar::limits::RULES;
 use grammar::limits::TABLE_WORDS;
 use rule::Agreement;
@@ -17,15 +20,9 @@ use rule::conclude;
 use rule::goes_on;
 use rule::joined;
 use rule::sign_at;
-use table::NO_ENTRY;
 use word::Symbol;
 use word::Word;
 use word::decode;
-
-// Codes of the memo table; any other entry is an end.
-pub const FAILED: u16 = 65534;
-
-pub const UNCALLED: u16 = 65535;
 
 // Where the body at an index ends.
 fn body_end(words: &[u32], from: usize) -> usize

@@ -2,10 +2,10 @@
 ghost use mathlib.Core.Path.{_≡_};
 ghost use Prim.Native.Nat.{_+_, _*_, _^_, _<_};
 ghost use lib.ListN.{length, replicate};
-ghost use Rattle.semantics.specs.Memo.{uncalledCode};
+ghost use Rattle.grammar.specs.Codes.{uncalledCode};
 ghost use Rattle.recognizer.specs.Tally.{tallyOf, together as togetherOf, entryTally, recordedRow, recordedCalls};
-use super::descent::UNCALLED;
 use answer::Calls;
+use grammar::codes::UNCALLED;
 
 // Makes every entry one of a call that was not made.
 pub(crate) fn clear(memo: &mut [u16])

@@ -10,6 +10,7 @@ use Rattle.answer.specs.declared.Error.{Error}
 use Rattle.answer.specs.declared.Calls.{Calls}
 use Rattle.answer.specs.declared.Answer.the-variants.{Passed, Rejected, Accepted}
 use Rattle.word.specs.Choice.{choose}
+use Rattle.grammar.specs.Codes.{uncalledCode}
 use Rattle.grammar.specs.Limits.{maxTokens, memoEntries, tableWords as memoryWords}
 use Rattle.grammar.specs.Syntax.{Grammar}
 use Rattle.grammar.specs.Encoding.{grammarOf}
@@ -22,7 +23,7 @@ use Rattle.semantics.specs.Claims.{tableOf}
 use Rattle.semantics.specs.Descent.{Outcome as Ended, Failed, End, descend, accepts}
 use Rattle.semantics.specs.ComesTo.{Call}
 use Rattle.semantics.specs.Calls.{sameCall, allCalls, calls}
-use Rattle.semantics.specs.Memo.{encode, uncalledCode}
+use Rattle.semantics.specs.Memo.{encode}
 use Rattle.semantics.proofs.Range.{all-range}
 use Rattle.semantics.proofs.Theorems.{theorems}
 use Rattle.table.specs.Layout.{tableWords}

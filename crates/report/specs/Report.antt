@@ -7,13 +7,13 @@ use lib.ListN.{length, take, replicate}
 use Rattle.answer.specs.declared.Answer.the-variants.{Passed}
 use Rattle.answer.specs.declared.Error.the-variants.{Length}
 use Rattle.word.specs.Choice.{choose}
+use Rattle.grammar.specs.Codes.{noEntry, uncalledCode}
 use Rattle.grammar.specs.declared.reading.Outcome.{Outcome}
 use Rattle.grammar.specs.declared.reading.Outcome.the-variants.{Read, Faulty}
 use Rattle.grammar.specs.Limits.{maxTokens, memoEntries, tableWords as memoryWords}
 use Rattle.grammar.specs.Encoding.{grammarOf}
 use Rattle.grammar.specs.Reading.{reading}
-use Rattle.semantics.specs.Memo.{uncalledCode}
-use Rattle.table.specs.Layout.{noEntry, tableWords}
+use Rattle.table.specs.Layout.{tableWords}
 use Rattle.recognizer.specs.Answers.{checkFault, judgeFault, refusedOr, verdictOf}
 use Rattle.recognizer.specs.Memory.{lentBack, memoWords}
 use Rattle.report.specs.declared.Rooms.{Rooms}

@@ -4,6 +4,8 @@ ghost use Rattle.grammar.specs.Reading.{reading};
 ghost use Rattle.text.specs.Writing.{Put};
 ghost use Rattle.report.specs.Report.{Printed, enoughRoom, sheetRoom, judgementRoom, nonterminalsOf, tokensOf, checkedText, sheetOf, judgedText, judgementOf};
 use answer::Error;
+use grammar::codes::NO_ENTRY;
+use grammar::codes::UNCALLED;
 use grammar::limits::MEMO_ENTRIES;
 use grammar::limits::TABLE_WORDS;
 use grammar::limits::TOKENS;
@@ -14,7 +16,6 @@ use judgement_text::put_judgement;
 use recognizer::check;
 use recognizer::judge;
 use sheet_text::put_check;
-use table::NO_ENTRY;
 use text::refusal::put_refusal;
 use text::words::Loaded;
 use text::words::load;
@@ -75,7 +76,7 @@ fn put_judged(words: &[u32], input: &[u8], out: &mut [u8]) -> usize
     ensures { λ r. ⌜ Put (now (out .entry)) 0 (judgedText (now (words .entry)) (now (input .entry))) (now (out .exit)) r ⌝ }
 {
     let mut table = [NO_ENTRY; TABLE_WORDS];
-    let mut memo = [65535u16; MEMO_ENTRIES];
+    let mut memo = [UNCALLED; MEMO_ENTRIES];
     let answer = judge(words, input, &mut table, &mut memo);
     put_judgement(out, answer, nonterminals(words), tokens(input), &memo)
 }

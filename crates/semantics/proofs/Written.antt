@@ -10,6 +10,7 @@ use native.Mathlib.Omega.{arith}
 use lib.Dec.{T, not-T, eqb, eqb→eq, eqb-refl}
 use lib.ListN.{length, getD, set, length-set}
 use lib.Seq.{getD-set-same, getD-set-other}
+use Rattle.grammar.specs.Codes.{failedCode, uncalledCode}
 use Rattle.grammar.specs.Syntax.{Rule, Grammar, WellScoped}
 use Rattle.semantics.specs.Quantifiers.{pick}
 use Rattle.semantics.specs.Valuations.{pairs}
@@ -18,7 +19,7 @@ use Rattle.semantics.specs.Strings.{look}
 use Rattle.semantics.specs.Families.{Table, OwnEntries}
 use Rattle.semantics.specs.Descent.{Outcome, Failed, End, endsAt, Outcomes, select, byTable, descend}
 use Rattle.semantics.specs.ComesTo.{Call, callAt, InRange, measure, callComesTo}
-use Rattle.semantics.specs.Memo.{Memo, encode, decode, indexOf, entry, written, Fits, uncalledCode, failedCode}
+use Rattle.semantics.specs.Memo.{Memo, encode, decode, indexOf, entry, written, Fits}
 use Rattle.semantics.specs.MemoDescent.{Memoized, memoized, memoObey, memoCall, stored}
 use Rattle.semantics.proofs.Booleans.{T-true, T-false, test}
 use Rattle.semantics.proofs.Plan.{Plan, Done, Ask, value, asked, through, plan, plan-value, plan-asked, plan-through}

@@ -5,6 +5,7 @@ use mathlib.Core.List.{List}
 use Prim.Native.Nat.{ℕ, suc, _+_, _*_, _<_}
 use lib.ListN.{length, getD, replicate}
 use lib.Dec.{eqb}
+use Rattle.grammar.specs.Codes.{failedCode, uncalledCode}
 use Rattle.grammar.specs.Syntax.{Grammar}
 use Rattle.semantics.specs.Quantifiers.{pick}
 use Rattle.semantics.specs.FiniteSets.{keep}
@@ -13,14 +14,6 @@ use Rattle.semantics.specs.Families.{Table}
 use Rattle.semantics.specs.Descent.{Outcome, Failed, End, descend}
 use Rattle.semantics.specs.ComesTo.{Call, InRange}
 use Rattle.semantics.specs.Calls.{Called, allCalls, calls}
-
--- (document 01: failed)
-abbrev pub failedCode : ℕ
-failedCode = 65534
-
--- (document 01: not called)
-abbrev pub uncalledCode : ℕ
-uncalledCode = 65535
 
 -- every place of the input is below the two codes
 abbrev pub Fits : List ℕ → Type 0

@@ -6,6 +6,7 @@ use Prim.Native.Nat.{ℕ, zero, suc}
 use lib.ListN.{length, getD, set}
 use lib.Dec.{ltb, eqb}
 use Rattle.word.specs.declared.Symbol.the-variants.{Terminal, Nonterminal}
+use Rattle.grammar.specs.Codes.{uncalledCode}
 use Rattle.grammar.specs.Syntax.{Body, Rule, Grammar}
 use Rattle.semantics.specs.Quantifiers.{pick}
 use Rattle.semantics.specs.Valuations.{pairs}
@@ -13,7 +14,7 @@ use Rattle.semantics.specs.Strings.{look}
 use Rattle.semantics.specs.Families.{Table}
 use Rattle.semantics.specs.Descent.{Outcome, Failed, End, endsAt, select}
 use Rattle.semantics.specs.ComesTo.{callAt}
-use Rattle.semantics.specs.Memo.{Memo, encode, decode, indexOf, entry, blank, uncalledCode}
+use Rattle.semantics.specs.Memo.{Memo, encode, decode, indexOf, entry, blank}
 
 -- an outcome, and the memo after it
 pub record Memoized : Type 0 where

@@ -4,13 +4,14 @@ use Prim.Native.Nat.{ℕ, _+_, _*_, _≤_, _<_}
 use native.Mathlib.Nat.{mul-le-mul-right}
 use native.Mathlib.Omega.{arith}
 use lib.ListN.{length, length-append}
+use Rattle.grammar.specs.Codes.{noEntry}
 use Rattle.grammar.specs.Limits.{maxNonterminals, maxTerminals}
 use Rattle.grammar.specs.declared.reading.Sizes.{Sizes}
 use Rattle.grammar.specs.declared.reading.Outcome.the-variants.{Read}
 use Rattle.lookahead.specs.Elements.{size}
 use Rattle.text.specs.Writing.{upTo}
 use Rattle.text.proofs.Lengths.{decimal-most, dash-most, up-to-most}
-use Rattle.sheet_text.specs.Sheet.{noEntry, wordAt, sizesLine, setsLine, entryText, entriesLine, nonterminalText, sheetText}
+use Rattle.sheet_text.specs.Sheet.{wordAt, sizesLine, setsLine, entryText, entriesLine, nonterminalText, sheetText}
 
 sizes-most : (z : Sizes) → length (sizesLine z) ≤ 83
 unfolding sizesLine

@@ -7,6 +7,7 @@ use lib.ListN.{getD}
 use Rattle.answer.specs.declared.Answer.{Answer}
 use Rattle.answer.specs.declared.Answer.the-variants.{Refused, Passed, Rejected, Accepted}
 use Rattle.word.specs.Choice.{choose}
+use Rattle.grammar.specs.Codes.{noEntry}
 use Rattle.grammar.specs.declared.reading.Sizes.{Sizes}
 use Rattle.grammar.specs.declared.reading.Outcome.{Outcome}
 use Rattle.grammar.specs.declared.reading.Outcome.the-variants.{Read, Faulty}
@@ -15,10 +16,6 @@ use Rattle.text.specs.Ascii.{ascii}
 use Rattle.text.specs.Decimal.{labelled, orDash}
 use Rattle.text.specs.Refusal.{refusalText}
 use Rattle.text.specs.Writing.{upTo}
-
--- the table's word for no entry
-abbrev pub noEntry : ℕ
-noEntry = 4294967295
 
 -- a word of the table; behind its end there is none
 abbrev pub wordAt : List ℕ → ℕ → ℕ

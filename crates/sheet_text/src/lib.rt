@@ -9,6 +9,7 @@ ghost use Rattle.text.specs.Decimal.{decimal, labelled};
 ghost use Rattle.text.specs.Writing.{Put, upTo};
 ghost use Rattle.sheet_text.specs.Sheet.{wordAt, sizesLine, setsLine, entryText, entriesLine, nonterminalText, sheetText, checkText};
 use answer::Answer;
+use grammar::codes::NO_ENTRY;
 use grammar::reading::Outcome;
 use grammar::reading::Sizes;
 use grammar::reading::read;
@@ -17,9 +18,6 @@ use text::put::put_bytes;
 use text::put::put_labelled;
 use text::put::put_or_dash;
 use text::refusal::put_refusal;
-
-// The table's word for no entry.
-const NO_ENTRY: u32 = 4294967295;
 
 // A word of the table; behind its end there is none.
 fn word_at(table: &[u32], at: usize) -> u32

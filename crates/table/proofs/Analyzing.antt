@@ -9,14 +9,14 @@ use Rattle.answer.specs.declared.Error.the-variants as error
 use Rattle.grammar.specs.Encoding.{grammarOf}
 use Rattle.grammar.specs.declared.reading.Sizes.{Sizes}
 use Rattle.semantics.specs.FirstFollow.{Entry}
-use Rattle.semantics.specs.Claims.{clashes}
+use Rattle.semantics.specs.Claims.{clashes, column}
 use Rattle.sets.specs.Families.{setsFault}
 use Rattle.sets.proofs.Telling.{FoundFamilies}
 use Rattle.sets.specs.declared.Finding.the-variants.{Passed}
 use Rattle.table.specs.declared.entries.Conflict.{Conflict}
 use Rattle.table.specs.declared.entries.Conflict.the-variants as conflict
 use Rattle.table.specs.declared.entries.Table.{Table}
-use Rattle.table.specs.Entries.{columnOf, firstOf, filled, entriesOf}
+use Rattle.table.specs.Entries.{firstOf, filled, entriesOf}
 use Rattle.table.specs.Analysis.{clashFault, fault, analysis, refusedBy, analyzed, GivenFamilies}
 
 pub analyzed-refused : (words : List ℕ) {e : Error} → setsFault words ≡ some e → refusedBy e ≡ analyzed words
@@ -29,7 +29,7 @@ given-families f = record { given = record { read = f .read; first = f .first; f
 -- the first conflict that is told
 conflict-at : (t : ℕ) (l : List Entry) {n c : ℕ} → firstOf t l ≡ conflict.At n c → clashFault t l ≡ some (error.Conflict n c)
 conflict-at t [] e = let z : _≡_ {A = ℕ} 0 1 = cc in absurd (omega arith)
-conflict-at t (x ∷ l) {n} {c} e = let a : x .0 ≡ n = cc in let b : columnOf t (x .1) ≡ c = cc in rw (a, b)
+conflict-at t (x ∷ l) {n} {c} e = let a : x .0 ≡ n = cc in let b : column t (x .1) ≡ c = cc in rw (a, b)
 
 conflict-absent : (t : ℕ) (l : List Entry) → firstOf t l ≡ conflict.Absent → clashFault t l ≡ none
 conflict-absent t [] e = refl

@@ -15,11 +15,11 @@ use Rattle.grammar.specs.Syntax.{Grammar}
 use Rattle.lookahead.specs.Elements.{nothing, has}
 use Rattle.semantics.specs.FiniteSets.{keep, numbersFrom, numbers, combine}
 use Rattle.semantics.specs.FirstFollow.{strings, Entry, entries}
-use Rattle.semantics.specs.Claims.{several, claims, clashes}
+use Rattle.semantics.specs.Claims.{several, claims, clashes, column}
 use Rattle.table.specs.declared.entries.Conflict.the-variants.{At}
 use Rattle.sets.specs.Sets.{stringOf}
 use Rattle.table.specs.Layout.{columnString}
-use Rattle.table.specs.Entries.{columnOf, firstOf}
+use Rattle.table.specs.Entries.{firstOf}
 use Rattle.table.specs.Filling.{columnElement, conflictFrom}
 
 -- the string of a column is that of the column's element, and its column is the column
@@ -40,11 +40,11 @@ module _ (t c : ℕ) (few : t ≤ nothing) (h : c ≤ t) where
       go (yes e) = rw (eq-eqb c t e) (omega arith)
       go (no ne) = rw (ne-eqb c t ne) (omega arith)
 
-  column-back : columnOf t (columnString t c) ≡ c
+  column-back : column t (columnString t c) ≡ c
   unfolding columnString
   column-back = go (ℕ-discrete c t)
     where
-      go : Dec (c ≡ t) → columnOf t (choose (eqb c t) [] (c ∷ [])) ≡ c
+      go : Dec (c ≡ t) → column t (choose (eqb c t) [] (c ∷ [])) ≡ c
       go (yes e) = rw (eq-eqb c t e) (sym e)
       go (no ne) = rw (ne-eqb c t ne)
 

@@ -5,6 +5,7 @@ use mathlib.Core.Option.{some}
 use Prim.Native.Nat.{ℕ}
 use Rattle.answer.specs.declared.Error.the-variants.{LeftRecursive}
 use Rattle.word.specs.declared.Symbol.the-variants.{Terminal, Nonterminal}
+use Rattle.grammar.specs.Codes.{noEntry}
 use Rattle.grammar.specs.Cards.{grammarR, grammarM, grammarE}
 use Rattle.grammar.specs.Syntax.{Body, Rule, Grammar}
 use Rattle.lookahead.specs.Elements.{total}
@@ -15,7 +16,7 @@ use Rattle.semantics.proofs.Computing.{tables-compute, left-recursion-computes}
 use Rattle.table.specs.declared.entries.Conflict.the-variants.{At}
 use Rattle.sets.specs.Lists.{listed}
 use Rattle.sets.specs.Sets.{stringOf, numberOf, firstNumber, followNumber}
-use Rattle.table.specs.Layout.{noEntry, columnString, entryAt, setWord, rowWord, tableWords}
+use Rattle.table.specs.Layout.{columnString, entryAt, setWord, rowWord, tableWords}
 use Rattle.table.specs.Entries.{firstOf}
 use Rattle.sets.specs.Families.{leftFault}
 

@@ -12,6 +12,7 @@ use lib.Seq.{ext-getD, getD-append-add}
 use borrow.Author.Tests.{eq-eqb, ne-eqb}
 use lib.Dec.{eqb}
 use Rattle.word.specs.Choice.{choose}
+use Rattle.grammar.specs.Codes.{noEntry}
 use Rattle.grammar.specs.Limits.{maxNonterminals, maxTerminals, tableWords as memoryWords}
 use Rattle.grammar.specs.declared.reading.Sizes.{Sizes}
 use Rattle.grammar.specs.Encoding.{grammarOf}
@@ -21,7 +22,7 @@ use Rattle.semantics.specs.Claims.{tableOf}
 use Rattle.table.specs.declared.entries.Conflict.{Conflict}
 use Rattle.sets.specs.Lists.{listed}
 use Rattle.sets.specs.Sets.{firstNumber, followNumber}
-use Rattle.table.specs.Layout.{noEntry, entryWord, columnString, columns, entryAt, setWord, rowWord, tableWords}
+use Rattle.table.specs.Layout.{entryWord, columnString, columns, entryAt, setWord, rowWord, tableWords}
 use Rattle.table.specs.Entries.{filled, tableWith, entriesOf, Given}
 use Rattle.table.specs.Filling.{conflictFrom, entryOver, FilledSets, FilledRows}
 use Rattle.sets.proofs.Lists.{listed-long, listed-at}

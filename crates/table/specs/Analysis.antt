@@ -6,23 +6,24 @@ use Prim.Native.Nat.{ℕ}
 use lib.ListN.{replicate}
 use Rattle.answer.specs.declared.Error.{Error}
 use Rattle.answer.specs.declared.Error.the-variants.{Conflict}
+use Rattle.grammar.specs.Codes.{noEntry}
 use Rattle.grammar.specs.Limits.{tableWords as memoryWords}
 use Rattle.grammar.specs.Encoding.{grammarOf}
 use Rattle.grammar.specs.Reading.{reading}
 use Rattle.grammar.specs.declared.reading.Sizes.{Sizes}
 use Rattle.semantics.specs.FirstFollow.{Entry}
-use Rattle.semantics.specs.Claims.{clashes}
+use Rattle.semantics.specs.Claims.{clashes, column}
 use Rattle.sets.specs.declared.Finding.{Finding}
 use Rattle.sets.specs.declared.Finding.the-variants.{Refused}
 use Rattle.table.specs.declared.Analysis.{Analysis}
 use Rattle.sets.specs.Families.{firstFault, setsFault, findingOf}
-use Rattle.table.specs.Layout.{noEntry, tableWords}
-use Rattle.table.specs.Entries.{columnOf, filled, Given}
+use Rattle.table.specs.Layout.{tableWords}
+use Rattle.table.specs.Entries.{filled, Given}
 
 -- 9: the first entry that two rules claim, by nonterminal, then column
 abbrev pub clashFault : ℕ → List Entry → Option Error
 clashFault terminals [] = none
-clashFault terminals (e ∷ es) = some (Conflict (e .0) (columnOf terminals (e .1)))
+clashFault terminals (e ∷ es) = some (Conflict (e .0) (column terminals (e .1)))
 
 -- the first fault of an encoded grammar, in document 01's order: 3 to 8 come first
 unfoldable pub fault : List ℕ → Option Error

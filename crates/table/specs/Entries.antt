@@ -3,6 +3,7 @@ use mathlib.Core.Path.{_≡_}
 use mathlib.Core.List.{List, [], _∷_, _++_}
 use Prim.Native.Nat.{ℕ, _-_}
 use lib.ListN.{length, replicate}
+use Rattle.grammar.specs.Codes.{noEntry}
 use Rattle.grammar.specs.declared.reading.Sizes.{Sizes}
 use Rattle.grammar.specs.declared.reading.Outcome.the-variants.{Read}
 use Rattle.grammar.specs.Encoding.{grammarOf}
@@ -10,23 +11,18 @@ use Rattle.grammar.specs.Limits.{maxNonterminals, tableWords as memoryWords}
 use Rattle.grammar.specs.Reading.{reading}
 use Rattle.grammar.specs.Syntax.{Grammar}
 use Rattle.semantics.specs.FirstFollow.{Entry}
-use Rattle.semantics.specs.Claims.{clashes}
+use Rattle.semantics.specs.Claims.{clashes, column}
 use Rattle.table.specs.declared.entries.Conflict.{Conflict}
 use Rattle.table.specs.declared.entries.Conflict.the-variants.{Absent, At}
 use Rattle.table.specs.declared.entries.Table.{Table}
 use Rattle.sets.specs.Lists.{listed}
 use Rattle.sets.specs.Sets.{firstNumber, followNumber}
-use Rattle.table.specs.Layout.{noEntry, tableWords}
-
--- the column of a lookahead string
-abbrev pub columnOf : ℕ → List ℕ → ℕ
-columnOf terminals [] = terminals
-columnOf terminals (a ∷ x) = a
+use Rattle.table.specs.Layout.{tableWords}
 
 -- the first of the entries that two rules claim (document 01: the first such cell, by name, then column)
 abbrev pub firstOf : ℕ → List Entry → Conflict
 firstOf terminals [] = Absent
-firstOf terminals (e ∷ es) = At (e .0) (columnOf terminals (e .1))
+firstOf terminals (e ∷ es) = At (e .0) (column terminals (e .1))
 
 -- all of the memory: the table, and behind it no entries
 unfoldable pub filled : List ℕ → List ℕ

@@ -4,13 +4,11 @@ use mathlib.Core.Option.{Option, none, some}
 use Prim.Native.Nat.{ℕ, suc, _+_, _*_, _/_, _%_}
 use lib.Dec.{eqb}
 use Rattle.word.specs.Choice.{choose}
+use Rattle.grammar.specs.Codes.{noEntry}
 use Rattle.grammar.specs.Syntax.{Grammar}
 use Rattle.semantics.specs.Claims.{tableOf}
 use Rattle.sets.specs.Lists.{listed}
 use Rattle.sets.specs.Sets.{firstNumber, followNumber}
-
-abbrev pub noEntry : ℕ
-noEntry = 4294967295
 
 abbrev pub entryWord : Option ℕ → ℕ
 entryWord none = noEntry

@@ -10,7 +10,7 @@ ghost use Rattle.sets.specs.Naming.{ruleHead};
 ghost use Rattle.table.specs.Entries.{Given, entriesOf};
 ghost use Rattle.table.specs.Filling.{columnElement, conflictFrom};
 ghost use Rattle.table.specs.Filling.{FilledRow, FilledSets, Noted, tables, MayClaim, WordClaims, FilledRows};
-use super::NO_ENTRY;
+use grammar::codes::NO_ENTRY;
 use grammar::limits::TABLE_WORDS;
 use grammar::reading::Sizes;
 use lookahead::LookaheadSet;

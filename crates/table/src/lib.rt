@@ -4,15 +4,13 @@ ghost use Rattle.table.specs.Analysis.{refusedBy, GivenFamilies, analyze
 use answer::Error;
 use entries::Conflict;
 use entries::entries;
+use grammar::codes::NO_ENTRY;
 use grammar::limits::TABLE_WORDS;
 use grammar::reading::Sizes;
 use sets::Finding;
 use sets::family::SETS;
 
 mod entries;
-
-// The table's word for an entry that no rule claims (document 01: none).
-pub const NO_ENTRY: u32 = 4294967295;
 
 // What is found of an encoded grammar: its sizes, or why it is refused; and the words of its table, all no entry where it is refused.
 pub struct Analysis {

@@ -3,15 +3,16 @@ use mathlib.Core.Path.{ap}
 use Prim.Native.Nat.{_≤_, _-_, _/_, _%_}
 use native.Mathlib.Omega.{arith}
 use lib.ListN.{getD}
+use Rattle.grammar.specs.Codes.{uncalledCode}
 use Rattle.text.proofs.Writing.{put-length, put-none, put-next, put-last}
 use Rattle.judgement_text.proofs.Lines.{few-entries}
 use Rattle.text.specs.Writing.{Put, upTo}
-use Rattle.judgement_text.specs.Judgement.{uncalled, callText, callsText}
+use Rattle.judgement_text.specs.Judgement.{callText, callsText}
 use Rattle.judgement_text.proofs.put_calls.Statement.{statement}
 use Rattle.judgement_text.proofs.put_calls.Tie as tie
 
 abbrev Inv-loop : tie.InvT-loop
-Inv-loop out₀ at nonterminals tokens memo places entries next₀ k₀ out next k = (k ≤ entries) × Put out₀ at (upTo k (λ k. callText (k / places) (k % places) (getD memo k uncalled))) out next
+Inv-loop out₀ at nonterminals tokens memo places entries next₀ k₀ out next k = (k ≤ entries) × Put out₀ at (upTo k (λ k. callText (k / places) (k % places) (getD memo k uncalledCode))) out next
 
 abbrev μ-loop : tie.MeasureT-loop
 μ-loop out₀ at nonterminals tokens memo places entries next₀ k₀ out next k = entries - k

@@ -1,7 +1,7 @@
 -- By whether the index is within.
 use mathlib.Core.Path.{sym}
-use Rattle.sheet_text.specs.Sheet.{noEntry}
 use lib.ListN.{List·getD-eq-default}
+use Rattle.grammar.specs.Codes.{noEntry}
 use Rattle.text.proofs.Lines.{getD-within}
 use borrow.Author.Needs.{needs}
 use Rattle.sheet_text.proofs.word_at.Statement.{statement}

@@ -6,7 +6,7 @@ use native.Mathlib.Omega.{arith}
 use borrow.Author.Fill.{fill-none, fill-more}
 use lib.ListN.{length, drop, replicate, length-set}
 use lib.Seq.{drop-length}
-use Rattle.semantics.specs.Memo.{uncalledCode}
+use Rattle.grammar.specs.Codes.{uncalledCode}
 use Rattle.recognizer.proofs.tally.clear.Statement.{statement}
 use Rattle.recognizer.proofs.tally.clear.Tie as tie
 

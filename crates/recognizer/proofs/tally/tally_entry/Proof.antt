@@ -1,7 +1,7 @@
 -- By cases on the entry.
 use mathlib.Core.Path.{refl}
 use borrow.Author.Tests.{ne-eqb}
-use Rattle.semantics.specs.Memo.{uncalledCode}
+use Rattle.grammar.specs.Codes.{uncalledCode}
 use Rattle.recognizer.specs.Tally.{entryTally}
 use Rattle.recognizer.proofs.tally.tally_entry.Statement.{statement}
 use Rattle.recognizer.proofs.tally.tally_entry.Tie as tie
