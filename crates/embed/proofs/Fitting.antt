@@ -43,14 +43,14 @@ code-low InputTooLong = omega arith
 code-low (UnknownToken at) = omega arith
 
 refused-fits : (e : Error) → coded e .position ≤ maxWords → Fits (numbers (Refused e))
-refused-fits e h = record { verdict = omega arith; number = code-low e; place = omega arith; count = omega arith; farthest = omega arith }
+refused-fits e h = record { verdict = omega arith; code = code-low e; position = omega arith; count = omega arith; farthest = omega arith }
 
 -- a check
 pub check-fits : {words before after : List ℕ} {a : Answer} → Checks words before a after → Fits (numbers a)
 check-fits {words} {before} {after} {a} c = rw (c .answer) (go (checkFault (length before) words) (check-low (length before) words))
   where
     go : (f : Option Error) → LowFault maxWords f → Fits (numbers (refusedOr f Passed))
-    go none l = record { verdict = omega arith; number = omega arith; place = omega arith; count = omega arith; farthest = omega arith }
+    go none l = record { verdict = omega arith; code = omega arith; position = omega arith; count = omega arith; farthest = omega arith }
     go (some e) l = refused-fits e (l .low e refl)
 
 -- the calls of a descent are few, and none is far
@@ -76,8 +76,8 @@ judge-fits {words} {input} {table} {memo} {table′} {memo′} {a} j =
     rw (j .answer) (go (judgeFault (length table) (length memo) words input) refl (judge-low (length table) (length memo) words input))
   where
     verdict : (b : Bool) (c : Calls) → (c .count < 65536) × (c .farthest < 65536) → Fits (numbers (choose b (Accepted c) (Rejected c)))
-    verdict true c h = record { verdict = omega arith; number = omega arith; place = omega arith; count = h .0; farthest = h .1 }
-    verdict false c h = record { verdict = omega arith; number = omega arith; place = omega arith; count = h .0; farthest = h .1 }
+    verdict true c h = record { verdict = omega arith; code = omega arith; position = omega arith; count = h .0; farthest = h .1 }
+    verdict false c h = record { verdict = omega arith; code = omega arith; position = omega arith; count = h .0; farthest = h .1 }
 
     go : (f : Option Error) → judgeFault (length table) (length memo) words input ≡ f → LowFault maxWords f
         → Fits (numbers (refusedOr f (choose (accepts (grammarOf words) (tableOf (grammarOf words) 1) 1 input) (Accepted (callsOf (grammarOf words) input)) (Rejected (callsOf (grammarOf words) input)))))
@@ -115,11 +115,11 @@ module _ {a : Answer} where
 unpacks : {r : ℕ} (n : Numbers) → Fits n → r ≡ packed n → Unpacks r n
 unfolding packed
 unpacks {r} n f e = record {
-  verdict = omega (arith, e, f .verdict, f .number, f .place, f .count, f .farthest);
-  number = omega (arith, e, f .verdict, f .number, f .place, f .count, f .farthest);
-  place = omega (arith, e, f .verdict, f .number, f .place, f .count, f .farthest);
-  count = omega (arith, e, f .verdict, f .number, f .place, f .count, f .farthest);
-  farthest = omega (arith, e, f .verdict, f .number, f .place, f .count, f .farthest);
+  verdict = omega (arith, e, f .verdict, f .code, f .position, f .count, f .farthest);
+  code = omega (arith, e, f .verdict, f .code, f .position, f .count, f .farthest);
+  position = omega (arith, e, f .verdict, f .code, f .position, f .count, f .farthest);
+  count = omega (arith, e, f .verdict, f .code, f .position, f .count, f .farthest);
+  farthest = omega (arith, e, f .verdict, f .code, f .position, f .count, f .farthest);
 }
 
 pub check-exported : {words before after : List ℕ} {a : Answer} {r : ℕ} → Checks words before a after → r ≡ packed (numbers a)

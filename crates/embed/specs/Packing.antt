@@ -1,4 +1,4 @@
--- An answer as one number of 64 bits: bits 0 to 7 the verdict, 8 to 15 the number of a refusal, 16 to 31 its place, 32 to 47 the count, 48 to 63 the
+-- An answer as one number of 64 bits: bits 0 to 7 the verdict, 8 to 15 the code of an error, 16 to 31 its position, 32 to 47 the count, 48 to 63 the
 -- farthest place.
 use mathlib.Core.Path.{_≡_}
 use Prim.Native.Nat.{ℕ, _+_, _*_, _/_, _%_, _<_}
@@ -11,7 +11,7 @@ verdictNumber rejected = 2
 verdictNumber accepted = 3
 
 abbrev pub joined : ℕ → ℕ → ℕ → ℕ → ℕ → ℕ
-joined verdict number place count farthest = verdict + number * 256 + place * 65536 + count * 4294967296 + farthest * 281474976710656
+joined verdict code position count farthest = verdict + code * 256 + position * 65536 + count * 4294967296 + farthest * 281474976710656
 
 unfoldable pub packed : Numbers → ℕ
 packed n = joined (verdictNumber (n .verdict)) (n .code) (n .position) (n .count) (n .farthest)
@@ -19,8 +19,8 @@ packed n = joined (verdictNumber (n .verdict)) (n .code) (n .position) (n .count
 -- each field is within its bits
 pub record Fit (v n p c f : ℕ) : Type 0 where
   pub verdict : v < 256
-  pub number : n < 256
-  pub place : p < 65536
+  pub code : n < 256
+  pub position : p < 65536
   pub count : c < 65536
   pub farthest : f < 65536
 
@@ -30,7 +30,7 @@ Fits n = Fit (verdictNumber (n .verdict)) (n .code) (n .position) (n .count) (n 
 -- the bits of a packed answer give it back
 pub record Unpacks (r : ℕ) (n : Numbers) : Type 0 where
   pub verdict : r % 256 ≡ verdictNumber (n .verdict)
-  pub number : r / 256 % 256 ≡ n .code
-  pub place : r / 65536 % 65536 ≡ n .position
+  pub code : r / 256 % 256 ≡ n .code
+  pub position : r / 65536 % 65536 ≡ n .position
   pub count : r / 4294967296 % 65536 ≡ n .count
   pub farthest : r / 281474976710656 ≡ n .farthest

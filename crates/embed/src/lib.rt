@@ -10,11 +10,11 @@ use recognizer::check;
 use recognizer::judge;
 
 // The five fields side by side.
-fn join(verdict: u64, number: u64, place: u64, count: u64, farthest: u64) -> u64
-    requires { ⌜ Fit verdict number place count farthest ⌝ }
-    ensures { λ r. ⌜ r ≡ joined verdict number place count farthest ⌝ }
+fn join(verdict: u64, code: u64, position: u64, count: u64, farthest: u64) -> u64
+    requires { ⌜ Fit verdict code position count farthest ⌝ }
+    ensures { λ r. ⌜ r ≡ joined verdict code position count farthest ⌝ }
 {
-    verdict + number * 256 + place * 65536 + count * 4294967296 + farthest * 281474976710656
+    verdict + code * 256 + position * 65536 + count * 4294967296 + farthest * 281474976710656
 }
 
 fn pack(answer: Answer) -> u64

@@ -41,11 +41,11 @@ pub fn enough_room() -> Rooms
 }
 
 // The sheet of the grammar that a file's bytes are, or why there is none.
-pub fn sheet(card: &[u8], out: &mut [u8]) -> usize
-    ensures { λ r. ⌜ Printed sheetRoom (sheetOf (now (card .entry))) (now (out .entry)) (now (out .exit)) r ⌝ }
+pub fn sheet(bytes: &[u8], out: &mut [u8]) -> usize
+    ensures { λ r. ⌜ Printed sheetRoom (sheetOf (now (bytes .entry))) (now (out .entry)) (now (out .exit)) r ⌝ }
 {
     let mut words = [0u32; WORDS];
-    let loaded = load(card, &mut words);
+    let loaded = load(bytes, &mut words);
     match loaded {
         Loaded::Words(n) => put_checked(&words[..n], out),
         Loaded::NotWords => put_refusal(out, 0, Error::Length),
@@ -53,11 +53,11 @@ pub fn sheet(card: &[u8], out: &mut [u8]) -> usize
 }
 
 // The judgement of an input by the grammar that a file's bytes are, or why there is none.
-pub fn judgement(card: &[u8], input: &[u8], out: &mut [u8]) -> usize
-    ensures { λ r. ⌜ Printed judgementRoom (judgementOf (now (card .entry)) (now (input .entry))) (now (out .entry)) (now (out .exit)) r ⌝ }
+pub fn judgement(bytes: &[u8], input: &[u8], out: &mut [u8]) -> usize
+    ensures { λ r. ⌜ Printed judgementRoom (judgementOf (now (bytes .entry)) (now (input .entry))) (now (out .entry)) (now (out .exit)) r ⌝ }
 {
     let mut words = [0u32; WORDS];
-    let loaded = load(card, &mut words);
+    let loaded = load(bytes, &mut words);
     match loaded {
         Loaded::Words(n) => put_judged(&words[..n], input, out),
         Loaded::NotWords => put_refusal(out, 0, Error::Length),

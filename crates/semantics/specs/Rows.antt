@@ -13,10 +13,10 @@ pub record Row : Type 0 where
   pub input : List ℕ
   pub verdict : Bool
   pub count : ℕ
-  pub far : ℕ
+  pub farthest : ℕ
 
 abbrev pub row : Grammar → List ℕ → Bool → ℕ → ℕ → Row
-row G w v c f = record { grammar = G; input = w; verdict = v; count = c; far = f }
+row G w v c f = record { grammar = G; input = w; verdict = v; count = c; farthest = f }
 
 abbrev pub accepted : Bool
 accepted = true

@@ -53,7 +53,7 @@ returns-2 c =
     let at-load = at-enum-told .before .before in
     let at-before = at-load .before .before .before .before in
     let s = at-before .before in
-    judgement-refused (s .args .card .now) (s .args .input .now) (not-found (at-load .load .ensures) (at-enum-told .enum-told .given .1))
+    judgement-refused (s .args .bytes .now) (s .args .input .now) (not-found (at-load .load .ensures) (at-enum-told .enum-told .given .1))
     (at-put-refusal .put-refusal .ensures)
 
 pub judgement-spec : {M : Type 1} → statement M

@@ -53,7 +53,7 @@ returns-2 c =
     let at-load = at-enum-told .before .before in
     let at-before = at-load .before .before .before in
     let s = at-before .before in
-    sheet-refused (s .args .card .now) (not-found (at-load .load .ensures) (at-enum-told .enum-told .given .1)) (at-put-refusal .put-refusal .ensures)
+    sheet-refused (s .args .bytes .now) (not-found (at-load .load .ensures) (at-enum-told .enum-told .given .1)) (at-put-refusal .put-refusal .ensures)
 
 pub sheet-spec : {M : Type 1} → statement M
 sheet-spec =
