@@ -10,7 +10,7 @@ use Rattle.grammar.specs.Codes.{failedCode, uncalledCode}
 use Rattle.answer.specs.declared.Calls.{Calls}
 use Rattle.text.specs.Ascii.{ascii}
 use Rattle.text.specs.Decimal.{decimal, labelled}
-use Rattle.text.proofs.Lengths.{choose-most, decimal-most, decimal-few, dash-few, up-to-most}
+use Rattle.text.proofs.Lengths.{choose-most, decimal-most, decimal-few, dash-within, up-to-most}
 use Rattle.judgement_text.specs.Judgement.{endText, callText, callsText, verdictLine}
 
 -- a nonterminal of two digits, a place of three and an end of five
@@ -18,7 +18,7 @@ call-most : (A place entry : ℕ) → A < 100 → place < 1000 → entry < 10000
 unfolding callText
 call-most A place entry a p e =
     let line = decimal A ++ labelled " " place ++ endText entry ++ ascii "\n" in
-    let short : length line ≤ 13 = simp length-append (omega (arith, decimal-few 1 A a, decimal-few 2 place p, dash-few failedCode 4 entry e)) in
+    let short : length line ≤ 13 = simp length-append (omega (arith, decimal-few 1 A a, decimal-few 2 place p, dash-within failedCode entry 5 (decimal-few 4 entry e) (omega arith))) in
     choose-most (eqb entry uncalledCode) [] line 13 (omega arith) short
 
 -- entries of at most five digits

@@ -8,8 +8,7 @@ use native.Mathlib.Omega.{arith}
 use native.Mathlib.Numerals.{add-one}
 use denote.Enum.Declared.{tagOf}
 use types.Run.{OneOf}
-use lib.ListN.{length, getD, drop, drop-of-length-le}
-use lib.Seq.{drop-cons}
+use lib.ListN.{length, getD, drop}
 use Rattle.word.proofs.Word.{the-type}
 use Rattle.word.specs.declared.Symbol as grammar
 use Rattle.word.specs.declared.Word.{Word}
@@ -21,15 +20,12 @@ use Rattle.grammar.specs.declared.reading.Outcome.the-variants.{Read}
 use Rattle.grammar.specs.Encoding.{onWord, parse}
 use Rattle.grammar.specs.Reading.{scan}
 use Rattle.grammar.proofs.Suffixes.{scan-next}
+use Rattle.sets.proofs.Words.{parse-here as parse-first}
 use Rattle.recognizer.specs.Descent.{BodyEnd}
 
 -- the row from an index on: its first word, and the rest
 pub parse-here : (words : List ℕ) (at : ℕ) → at < length words → parse (drop at words) ≡ onWord (decoded (getD words at 0)) (parse (drop (at + 1) words))
-unfolding parse
-parse-here words at h = rw (add-one, drop-cons words at 0 h)
-
-pub parse-over : (words : List ℕ) (at : ℕ) → length words ≤ at → parse (drop at words) ≡ parse []
-parse-over words at h = rw (drop-of-length-le words h)
+parse-here words at h = rw (add-one at) (parse-first words at h)
 
 -- a symbol leaves the progress of a reading as it is
 pub symbol-reads : (words : List ℕ) (at : ℕ) (p : Progress) (z : Sizes) (X : grammar.Symbol) → at < length words → decoded (getD words at 0) ≡ Symbol X

@@ -37,8 +37,9 @@ use Rattle.rule.specs.declared.Sign.the-variants.{Positive, Negative, Neither}
 use Rattle.rule.specs.declared.Agreement.{Agreement}
 use Rattle.rule.specs.declared.Agreement.the-variants as agreement
 use Rattle.rule.specs.Rule.{meant, signOf, signAt, beginsBody, goesOn, joinedBy, concluded}
+use Rattle.sets.proofs.Words.{parse-over}
 use Rattle.recognizer.specs.Descent.{Short, BodyEnd, MemoSound, Given, CallGiven, RunGiven, CallDone, RunDone}
-use Rattle.recognizer.proofs.Bodies.{parse-here, parse-over}
+use Rattle.recognizer.proofs.Bodies.{parse-here}
 use Rattle.recognizer.proofs.Running.{deep, level}
 
 -- what is left of a rule: of positives ps and negatives ns, where the bodies before them have agreed

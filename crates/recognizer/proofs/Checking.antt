@@ -39,7 +39,7 @@ use Rattle.sets.specs.Lists.{listed}
 use Rattle.table.specs.Layout.{columns, setWord, rowWord, tableWords}
 use Rattle.table.specs.Entries.{filled}
 use Rattle.sets.specs.Families.{firstFault, readingFault, leftFault, setsFault, findingOf}
-use Rattle.sets.proofs.Telling.{told-passed}
+use Rattle.sets.proofs.Telling.{told-passed, told-refused}
 use Rattle.table.specs.Analysis.{clashFault, fault, tableIf, analyzed}
 use Rattle.sets.proofs.Lists.{listed-long}
 use Rattle.recognizer.specs.Memory.{lentBack, wordCount, LendGiven, Lent}
@@ -161,14 +161,6 @@ pub check-short : {words before : List ℕ} → length before < memoryWords → 
 unfolding checkFault
 check-short {words} {before} h = checks (rw (lt-ltb (length before) memoryWords h)) (rw (lt-ltb (length before) memoryWords h))
 
--- what is found tells the fault
-told-refused : (o : Outcome) (l c : Option Error) (x : Error) → findingOf (firstFault (firstFault (readingFault o) l) c) o ≡ finding.Refused x
-    → firstFault (firstFault (readingFault o) l) c ≡ some x
-told-refused (Faulty y) l c x q = let z : y ≡ x = cc in ap some z
-told-refused (Read z) (some y) c x q = let e : y ≡ x = cc in ap some e
-told-refused (Read z) none (some y) x q = let e : y ≡ x = cc in ap some e
-told-refused (Read z) none none x q = let n : _≡_ {A = ℕ} 0 1 = cc in absurd (omega arith)
-
 -- an analysis that finds no fault tells the sizes and the whole table
 pub found : (words : List ℕ) {a : Analysis} {z : Sizes} → a ≡ analyzed words → a .finding ≡ finding.Passed z → Found words z (a .table)
 unfolding analyzed
@@ -178,9 +170,7 @@ found words {a} {z} e q =
 
 pub found-fault : (words : List ℕ) {a : Analysis} {x : Error} → a ≡ analyzed words → a .finding ≡ finding.Refused x → fault words ≡ some x
 unfolding analyzed fault setsFault
-found-fault words {a} {x} e q =
-    told-refused (reading words) (leftFault (lowestLeftRecursive (grammarOf words))) (clashFault (grammarOf words .terminals) (clashes (grammarOf words) 1)) x
-    (sym (ap (λ y. y .finding) e) ∙ q)
+found-fault words e q = told-refused (fault words) (reading words) (λ y f. rw f) (sym (ap (λ y. y .finding) e) ∙ q)
 
 -- the table of a grammar that passes, lent back
 module _ (words before : List ℕ) (long : memoryWords ≤ length before) {z : Sizes} {entries : List ℕ} (f : Found words z entries) where

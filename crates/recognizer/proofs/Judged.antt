@@ -101,34 +101,30 @@ module _ (words input table memo : List ℕ) where
           unfolding judgeFault
           no-fault u = rw (le-ltb (length table) memoryWords long, le-ltb (length memo) memoEntries room, passed, le-ltb maxTokens (length input) short, u)
 
--- what is judged is checked
-checked-first : (a b c : Option Error) (l : List (Option Error)) → firstOf (a ∷ b ∷ c ∷ l) ≡ none → firstOf (a ∷ c ∷ []) ≡ none
-checked-first none none none l e = refl
-checked-first none none (some x) l e = let z : _≡_ {A = ℕ} 0 1 = cc in absurd (omega arith)
-checked-first none (some x) c l e = let z : _≡_ {A = ℕ} 0 1 = cc in absurd (omega arith)
-checked-first (some x) b c l e = let z : _≡_ {A = ℕ} 0 1 = cc in absurd (omega arith)
+-- where there is no first fault, the first, the third and the test of the fourth are none
+none-each : (a b c : Option Error) (t : Bool) (x : Error) (l : List (Option Error)) → firstOf (a ∷ b ∷ c ∷ unless t x ∷ l) ≡ none
+    → (a ≡ none) × (c ≡ none) × (t ≡ false)
+none-each none none none false x l e = (refl, refl, refl)
+none-each none none none true x l e = let z : _≡_ {A = ℕ} 0 1 = cc in absurd (omega arith)
+none-each none none (some y) t x l e = let z : _≡_ {A = ℕ} 0 1 = cc in absurd (omega arith)
+none-each none (some y) c t x l e = let z : _≡_ {A = ℕ} 0 1 = cc in absurd (omega arith)
+none-each (some y) b c t x l e = let z : _≡_ {A = ℕ} 0 1 = cc in absurd (omega arith)
 
-judged-checked : (words input : List ℕ) (table memo : ℕ) → judgeFault table memo words input ≡ none → checkFault table words ≡ none
-unfolding judgeFault checkFault
-judged-checked words input table memo e =
-    checked-first (unless (ltb table memoryWords) TableTooShort) (unless (ltb memo memoEntries) MemoTooShort) (fault words)
-    (unless (ltb maxTokens (length input)) InputTooLong ∷ unknownFault (unknownFrom (grammarOf words .terminals) 0 input) ∷ []) e
+module _ (words input : List ℕ) (table memo : ℕ) (e : judgeFault table memo words input ≡ none) where
+  each : (unless (ltb table memoryWords) TableTooShort ≡ none) × (fault words ≡ none) × (ltb maxTokens (length input) ≡ false)
+  unfolding judgeFault
+  each =
+      none-each (unless (ltb table memoryWords) TableTooShort) (unless (ltb memo memoEntries) MemoTooShort) (fault words)
+      (ltb maxTokens (length input)) InputTooLong (unknownFault (unknownFrom (grammarOf words .terminals) 0 input) ∷ []) e
 
--- and is read and not too long
-readable-first : (a b c : Option Error) (t : Bool) (x : Error) (l : List (Option Error)) → firstOf (a ∷ b ∷ c ∷ unless t x ∷ l) ≡ none
-    → (c ≡ none) × (t ≡ false)
-readable-first none none none false x l e = (refl, refl)
-readable-first none none none true x l e = let z : _≡_ {A = ℕ} 0 1 = cc in absurd (omega arith)
-readable-first none none (some y) t x l e = let z : _≡_ {A = ℕ} 0 1 = cc in absurd (omega arith)
-readable-first none (some y) c t x l e = let z : _≡_ {A = ℕ} 0 1 = cc in absurd (omega arith)
-readable-first (some y) b c t x l e = let z : _≡_ {A = ℕ} 0 1 = cc in absurd (omega arith)
+  -- what is judged is checked
+  judged-checked : checkFault table words ≡ none
+  unfolding checkFault
+  judged-checked = ap (λ f. firstOf (f ∷ fault words ∷ [])) (each .0) ∙ ap (λ f. firstOf (f ∷ [])) (each .1)
 
-pub judged-readable : (words input : List ℕ) (table memo : ℕ) → judgeFault table memo words input ≡ none → (fault words ≡ none) × (length input ≤ maxTokens)
-unfolding judgeFault
-judged-readable words input table memo e =
-    let k = readable-first (unless (ltb table memoryWords) TableTooShort) (unless (ltb memo memoEntries) MemoTooShort) (fault words)
-    (ltb maxTokens (length input)) InputTooLong (unknownFault (unknownFrom (grammarOf words .terminals) 0 input) ∷ []) e in
-    (k .0, ltb-false maxTokens (length input) (k .1))
+  -- and is read and not too long
+  pub judged-readable : (fault words ≡ none) × (length input ≤ maxTokens)
+  judged-readable = (each .1, ltb-false maxTokens (length input) (each .2))
 
 -- a verdict by a test tells the test
 verdict-tells : {r : Answer} (b : Bool) (c : Calls) → r ≡ choose b (Accepted c) (Rejected c)

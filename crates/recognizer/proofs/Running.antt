@@ -32,8 +32,9 @@ use Rattle.semantics.proofs.Rank.{level-onward}
 use Rattle.rule.specs.declared.Outcome as code
 use Rattle.rule.specs.declared.Outcome.the-variants as outcome
 use Rattle.rule.specs.Rule.{meant}
+use Rattle.sets.proofs.Words.{parse-over}
 use Rattle.recognizer.specs.Descent.{matchesAt, MemoSound, Given, CallGiven, RunGiven, CallDone, RunDone}
-use Rattle.recognizer.proofs.Bodies.{parse-here, parse-over, symbol-reads}
+use Rattle.recognizer.proofs.Bodies.{parse-here, symbol-reads}
 
 -- the calls at most n deep, on the words' grammar and table
 abbrev pub deep : List ℕ → List ℕ → ℕ → MemoCalls

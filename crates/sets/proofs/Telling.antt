@@ -70,12 +70,12 @@ families-told words {r} {z} e q =
       follow = ap (λ x. x .follows) e ∙ ap (λ f. setsIf f (listed maxNonterminals (followNumber (grammarOf words)))) (k .0);
     }
 
--- and a refusal is the fault
-told-refused : (o : Outcome) (l : Option Error) {x : Error} → findingOf (firstFault (readingFault o) l) o ≡ Refused x → firstFault (readingFault o) l ≡ some x
-told-refused (Faulty y) l {x} q = let e : y ≡ x = cc in ap some e
-told-refused (Read z) none q = let n : _≡_ {A = ℕ} 0 1 = cc in absurd (omega arith)
-told-refused (Read z) (some y) {x} q = let e : y ≡ x = cc in ap some e
+-- and a refusal is the fault, wherever a faulty reading is the first fault
+pub told-refused : (f : Option Error) (o : Outcome) {x : Error} → ((e : Error) → o ≡ Faulty e → f ≡ some e) → findingOf f o ≡ Refused x → f ≡ some x
+told-refused (some y) o {x} first q = let e : y ≡ x = cc in ap some e
+told-refused none (Read z) first q = let n : _≡_ {A = ℕ} 0 1 = cc in absurd (omega arith)
+told-refused none (Faulty e) first q = let n : _≡_ {A = ℕ} 0 1 = cc (first e refl) in absurd (omega arith)
 
 pub families-refused : (words : List ℕ) {r : Families} {x : Error} → r ≡ familiesOf words → r .finding ≡ Refused x → setsFault words ≡ some x
 unfolding familiesOf setsFault
-families-refused words e q = told-refused (reading words) (leftFault (lowestLeftRecursive (grammarOf words))) (sym (ap (λ x. x .finding) e) ∙ q)
+families-refused words e q = told-refused (setsFault words) (reading words) (λ y f. rw f) (sym (ap (λ x. x .finding) e) ∙ q)

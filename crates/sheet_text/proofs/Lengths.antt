@@ -10,7 +10,7 @@ use Rattle.grammar.specs.declared.reading.Sizes.{Sizes}
 use Rattle.grammar.specs.declared.reading.Outcome.the-variants.{Read}
 use Rattle.lookahead.specs.Elements.{size}
 use Rattle.text.specs.Writing.{upTo}
-use Rattle.text.proofs.Lengths.{decimal-most, dash-most, up-to-most}
+use Rattle.text.proofs.Lengths.{decimal-most, dash-within, up-to-most}
 use Rattle.sheet_text.specs.Sheet.{wordAt, sizesLine, setsLine, entryText, entriesLine, nonterminalText, sheetText}
 
 sizes-most : (z : Sizes) → length (sizesLine z) ≤ 83
@@ -27,7 +27,7 @@ sets-most table A =
 entries-most : (table : List ℕ) (start columns : ℕ) → length (entriesLine table start columns) ≤ columns * 21 + 6
 unfolding entriesLine
 entries-most table start columns =
-    let cells = up-to-most columns 21 (λ c. entryText (wordAt table (start + c))) (λ k h. dash-most noEntry (wordAt table (start + k))) in
+    let cells = up-to-most columns 21 (λ c. entryText (wordAt table (start + c))) (λ k h. dash-within noEntry (wordAt table (start + k)) 20 (decimal-most (wordAt table (start + k))) (omega arith)) in
     simp length-append (omega (arith, cells))
 
 nonterminal-most : (z : Sizes) (table : List ℕ) (A : ℕ) → z .terminals ≤ maxTerminals → length (nonterminalText z table A) ≤ 654

@@ -3,7 +3,6 @@ use mathlib.Core.Path.{_≡_, refl, ap, _∙_}
 use mathlib.Core.Bool.{Bool, true, false}
 use mathlib.Core.List.{List, [], _∷_, _++_}
 use Prim.Native.Nat.{ℕ, zero, suc, _+_, _*_, _/_, _%_, _^_, _≤_, _<_}
-use Prim.Native.String.{String}
 use native.Mathlib.Nat.{pow-suc, suc-mul}
 use native.Mathlib.Omega.{arith}
 use native.Mathlib.Decide.{decLt}
@@ -50,19 +49,9 @@ pub decimal-few : (k n : ℕ) → n < 10 ^ suc k → length (decimal n) ≤ suc 
 unfolding decimal
 decimal-few k n h = digits-few 20 k n h
 
-pub labelled-most : (label : String) (n : ℕ) → length (labelled label n) ≤ length (ascii label) + 20
-labelled-most label n = omega (arith, length-append (ascii label) (decimal n), decimal-most n)
-
-pub labelled-few : (label : String) (k n : ℕ) → n < 10 ^ suc k → length (labelled label n) ≤ length (ascii label) + suc k
-labelled-few label k n h = omega (arith, length-append (ascii label) (decimal n), decimal-few k n h)
-
-pub dash-few : (none k n : ℕ) → n < 10 ^ suc k → length (orDash none n) ≤ k + 2
+pub dash-within : (none n b : ℕ) → length (decimal n) ≤ b → 1 ≤ b → length (orDash none n) ≤ b + 1
 unfolding orDash
-dash-few none k n h = choose-most (eqb n none) (ascii " -") (labelled " " n) (k + 2) (omega arith) (omega (arith, labelled-few " " k n h))
-
-pub dash-most : (none n : ℕ) → length (orDash none n) ≤ 21
-unfolding orDash
-dash-most none n = choose-most (eqb n none) (ascii " -") (labelled " " n) 21 (omega arith) (omega (arith, labelled-most " " n))
+dash-within none n b h k = choose-most (eqb n none) (ascii " -") (labelled " " n) (b + 1) (omega arith) (omega arith)
 
 -- a row of texts
 pub up-to-most : (n b : ℕ) (f : ℕ → List ℕ) → ((k : ℕ) → k < n → length (f k) ≤ b) → length (upTo n f) ≤ n * b
