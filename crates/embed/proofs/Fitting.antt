@@ -1,9 +1,9 @@
 -- Each answer of the two calls fits the fields, and the fields give it back. Assumes nothing.
-use mathlib.Core.Path.{_≡_, refl, sym, _∙_}
+use mathlib.Core.Path.{_≡_, refl, _∙_}
 use mathlib.Core.Bool.{Bool, true, false}
 use mathlib.Core.List.{List}
 use mathlib.Core.Option.{Option, none, some}
-use Prim.Native.Nat.{ℕ, suc, _+_, _*_, _/_, _%_, _≤_, _<_}
+use Prim.Native.Nat.{ℕ, suc, _≤_, _<_}
 use native.Mathlib.Nat.{mul-le-mul}
 use native.Mathlib.Omega.{arith}
 use lib.ListN.{length}
@@ -14,7 +14,7 @@ use Rattle.answer.specs.declared.Answer.{Answer}
 use Rattle.answer.specs.declared.Answer.the-variants.{Refused, Passed, Rejected, Accepted}
 use Rattle.answer.specs.Numbers.{coded, numbers, Numbers}
 use Rattle.word.specs.Choice.{choose}
-use Rattle.grammar.specs.Limits.{maxWords, maxTokens}
+use Rattle.grammar.specs.Limits.{maxWords}
 use Rattle.grammar.specs.Encoding.{grammarOf}
 use Rattle.grammar.proofs.WellRead.{well-read}
 use Rattle.semantics.specs.Claims.{tableOf}

@@ -1,9 +1,9 @@
 -- The place of a refusal is a small number: an index of a word or a token, a nonterminal, or an entry of the table. Assumes nothing.
-use mathlib.Core.Path.{_≡_, refl, sym, ap, _∙_}
+use mathlib.Core.Path.{_≡_, refl}
 use mathlib.Core.Bool.{Bool, true, false, _&&_}
 use mathlib.Core.List.{List, [], _∷_, List·Memᴰ, List·Memᴰ·head}
 use mathlib.Core.Option.{Option, none, some}
-use Prim.Native.Nat.{ℕ, suc, _+_, _*_, _≤_, _<_}
+use Prim.Native.Nat.{ℕ, suc, _+_, _≤_}
 use native.Mathlib.Omega.{arith}
 use lib.Dec.{ltb, leb, ltb→lt}
 use lib.ListN.{length}
@@ -17,8 +17,7 @@ use Rattle.word.specs.declared.Word.{Word}
 use Rattle.grammar.specs.Limits.{maxWords, maxRules, maxTokens, tableWords as memoryWords, memoEntries, maxNonterminals, maxTerminals}
 use Rattle.grammar.specs.Syntax.{Grammar}
 use Rattle.grammar.specs.Encoding.{declaredBy, grammarOf}
-use Rattle.grammar.specs.Reading.{row, allows, inRange, beginsRule, after, progress, oneMore, counted, stepped, onStep, finished, scan, fresh, within, headed, opened, reading}
-use Rattle.grammar.specs.declared.reading.State.{State}
+use Rattle.grammar.specs.Reading.{row, allows, inRange, beginsRule, counted, stepped, onStep, finished, scan, fresh, within, headed, opened, reading}
 use Rattle.grammar.specs.declared.reading.Sizes.{Sizes}
 use Rattle.grammar.specs.declared.reading.Progress.{Progress}
 use Rattle.grammar.specs.declared.reading.Step.{Step}
@@ -37,7 +36,7 @@ use Rattle.semantics.proofs.Quantified.{lowest-some}
 use Rattle.semantics.proofs.LookaheadSets.{entries-elim}
 use Rattle.sets.specs.Families.{firstFault, readingFault, leftFault, setsFault}
 use Rattle.table.specs.Analysis.{clashFault, fault}
-use Rattle.recognizer.specs.declared.judging.Unknown.the-variants.{Absent, At}
+use Rattle.recognizer.specs.declared.judging.Unknown.the-variants.{At}
 use Rattle.recognizer.specs.Answers.{unless, unknownFrom, unknownFault, firstOf, checkFault, judgeFault}
 
 -- what tells an error tells it at most at a place

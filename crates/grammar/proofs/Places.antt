@@ -1,5 +1,5 @@
 -- What stands at each place of a row that is read: a word whose number is in range, and behind it what may stand there. Assumes nothing.
-use mathlib.Core.Path.{_≡_, refl, sym, ap, _∙_}
+use mathlib.Core.Path.{_≡_, refl, sym, _∙_}
 use mathlib.Core.Bool.{true, _&&_}
 use mathlib.Core.List.{List, [], _∷_}
 use Prim.Native.Nat.{ℕ, zero, suc, _<_}
@@ -17,7 +17,7 @@ use Rattle.grammar.specs.declared.reading.Outcome.the-variants.{Read, Fa
 use Rattle.grammar.specs.Limits.{maxWords, maxNonterminals, maxTerminals}
 use Rattle.grammar.specs.Encoding.{Parsed, onWord, parse, declaredBy, grammarOf}
 use Rattle.grammar.specs.Reading.{inRange, after, fresh, stepped, scan, within, headed, opened, reading}
-use Rattle.grammar.proofs.WellFormed.{faulty, Empty, Shape, Reads, reads, passed, onward, in-range-same}
+use Rattle.grammar.proofs.WellFormed.{faulty, Empty, Shape, reads, passed, onward, in-range-same}
 use Rattle.grammar.proofs.WellRead.{chosen, refused, both, within-limits}
 
 -- behind a rule's begin no body stands open, and behind the end nothing does

@@ -18,7 +18,6 @@ use Rattle.grammar.specs.declared.reading.Sizes.{Sizes}
 use Rattle.grammar.specs.declared.reading.Outcome.{Outcome}
 use Rattle.grammar.specs.declared.reading.Outcome.the-variants.{Read, Faulty}
 use Rattle.grammar.specs.Limits.{maxWords, maxNonterminals, maxTerminals, maxRules}
-use Rattle.grammar.specs.Syntax.{Rule, Grammar, WellFormed}
 use Rattle.grammar.specs.Encoding.{declaredBy, parse, grammarOf}
 use Rattle.grammar.specs.Reading.{beginsRule, fresh, scan, within, headed, opened, reading}
 use Rattle.grammar.specs.Starts.{starts, ruleStarts}

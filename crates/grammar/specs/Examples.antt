@@ -1,7 +1,7 @@
 -- Worked rows of words: the cards of document 01, and a row for each way to be faulty.
 use mathlib.Core.List.{List, [], _∷_}
 use Prim.Native.Nat.{ℕ, zero, suc}
-use Rattle.answer.specs.declared.Error.the-variants.{Length, Heading as HeadingFault, UnexpectedWord, OutOfRange, TooManyRules}
+use Rattle.answer.specs.declared.Error.the-variants.{Heading as HeadingFault, UnexpectedWord, OutOfRange, TooManyRules}
 use Rattle.grammar.specs.declared.reading.Outcome.{Outcome}
 use Rattle.grammar.specs.declared.reading.Outcome.the-variants.{Read, Faulty}
 use Rattle.grammar.specs.Encoding.{sizes}

@@ -1,6 +1,5 @@
 // The lookahead set: what may come next, a terminal or the end of the input.
 ghost use mathlib.Core.Path.{_≡_};
-ghost use Prim.Native.Nat.{ℕ};
 ghost use Rattle.lookahead.specs.Elements.{has, size};
 ghost use Rattle.lookahead.specs.Operations.{isEmpty, Empty, End, Terminal, Full, Joined, Met, Concatenated};
 

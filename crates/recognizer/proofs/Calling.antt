@@ -1,36 +1,33 @@
 -- Calling a nonterminal: the bodies of its rule agree on the end that the descent with a memo table gives. Assumes nothing.
 use mathlib.Core.Path.{_≡_, refl, sym, ap, _∙_}
 use mathlib.Core.Bool.{Bool, true, false, true≢false, false≢true}
-use mathlib.Core.List.{List, [], _∷_, _++_, List·Memᴰ, List·Memᴰ·head, List·Memᴰ·tail, List·Memᴰ·append-cases, Memᴰ·append-left, Memᴰ·append-right}
-use mathlib.Core.Logic.{inl, inr}
-use mathlib.Core.Option.{Option, none, some}
-use Prim.Native.Nat.{ℕ, zero, suc, _+_, _*_, _-_, _≤_, _<_}
+use mathlib.Core.List.{List, [], _∷_, List·Memᴰ, List·Memᴰ·head, List·Memᴰ·tail}
+use mathlib.Core.Option.{none, some}
+use Prim.Native.Nat.{ℕ, _+_, _-_, _≤_, _<_}
 use native.Mathlib.Omega.{arith}
-use native.Mathlib.Numerals.{add-one}
 use native.Mathlib.Decide.{decLt}
-use lib.Dec.{T, ltb, eqb}
-use lib.ListN.{length, getD, drop, set, getElem?}
-use lib.Seq.{drop-cons}
-use borrow.Author.Tests.{lt-ltb, le-ltb, ltb-true}
+use lib.Dec.{ltb}
+use lib.ListN.{length, getD, drop}
+use borrow.Author.Tests.{lt-ltb, ltb-true}
 use Rattle.word.specs.Choice.{choose}
 use Rattle.word.specs.Words.{decoded}
 use Rattle.word.specs.declared.Symbol as grammar
 use Rattle.word.specs.declared.Word.{Word}
 use Rattle.word.specs.declared.Word.the-variants as word
 use Rattle.word.specs.declared.Word.the-variants.{Symbol}
-use Rattle.grammar.specs.Syntax.{Body, Rule, Grammar, bodies}
+use Rattle.grammar.specs.Syntax.{Body, Rule, bodies}
 use Rattle.grammar.specs.Encoding.{Parsed, onWord, parse, grammarOf}
-use Rattle.grammar.specs.Reading.{allows, row, after, scan, reading}
+use Rattle.grammar.specs.Reading.{allows, scan, reading}
 use Rattle.grammar.specs.declared.reading.State.{State}
 use Rattle.grammar.specs.declared.reading.State.the-variants as state
 use Rattle.grammar.specs.declared.reading.Progress.{Progress}
 use Rattle.grammar.proofs.Suffixes.{Next, scan-next}
-use Rattle.grammar.proofs.WellFormed.{Fits, Shape, reads}
+use Rattle.grammar.proofs.WellFormed.{Fits, reads}
 use Rattle.semantics.specs.Quantifiers.{pick}
 use Rattle.semantics.specs.Strings.{look}
 use Rattle.semantics.specs.Claims.{tableOf}
 use Rattle.semantics.specs.Descent.{Outcome, Failed, End, endsAt, select}
-use Rattle.semantics.specs.MemoDescent.{Memoized, memoized, andThen, MemoCalls, memoRun, memoNegatives, memoPositives, memoRule, memoObey, memoCall}
+use Rattle.semantics.specs.MemoDescent.{Memoized, memoized, andThen, MemoCalls, memoRun, memoNegatives, memoPositives, memoRule, memoObey}
 use Rattle.rule.specs.declared.Outcome as code
 use Rattle.rule.specs.declared.Sign.{Sign}
 use Rattle.rule.specs.declared.Sign.the-variants.{Positive, Negative, Neither}
@@ -38,7 +35,7 @@ use Rattle.rule.specs.declared.Agreement.{Agreement}
 use Rattle.rule.specs.declared.Agreement.the-variants as agreement
 use Rattle.rule.specs.Rule.{meant, signOf, signAt, beginsBody, goesOn, joinedBy, concluded}
 use Rattle.sets.proofs.Words.{parse-over}
-use Rattle.recognizer.specs.Descent.{Short, BodyEnd, MemoSound, Given, CallGiven, RunGiven, CallDone, RunDone}
+use Rattle.recognizer.specs.Descent.{Short, BodyEnd, MemoSound, CallGiven, RunGiven, RunDone}
 use Rattle.recognizer.proofs.Bodies.{parse-here}
 use Rattle.recognizer.proofs.Running.{deep, level}
 

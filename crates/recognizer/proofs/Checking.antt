@@ -1,14 +1,12 @@
 -- What checking answers and leaves in the lent table, by what is found of the grammar; and what it means to pass. Assumes nothing.
 use mathlib.Core.Path.{_≡_, refl, sym, ap, _∙_}
-use mathlib.Core.Bool.{true, false}
 use mathlib.Core.List.{List, [], _∷_, _++_, List·Memᴰ·head, List·Memᴰ·not-nil}
-use mathlib.Core.Logic.{_↔_}
 use mathlib.Core.Option.{Option, none, some}
-use Prim.Native.Nat.{ℕ, suc, _+_, _-_, _*_, _≤_, _<_}
+use Prim.Native.Nat.{ℕ, _+_, _-_, _*_, _≤_, _<_}
 use native.Mathlib.Nat.{mul-add, mul-le-mul}
 use native.Mathlib.Numerals.{add-one}
 use native.Mathlib.Omega.{arith}
-use lib.Dec.{T, ltb}
+use lib.Dec.{T}
 use lib.ListN.{length, take, drop, replicate, length-append, length-replicate}
 use lib.Seq.{take-at}
 use borrow.Author.Tests.{lt-ltb, le-ltb}
@@ -22,14 +20,12 @@ use Rattle.grammar.specs.Limits.{tableWords as memoryWords}
 use Rattle.grammar.specs.Syntax.{Grammar}
 use Rattle.grammar.specs.Encoding.{grammarOf}
 use Rattle.grammar.specs.Reading.{reading}
-use Rattle.grammar.specs.WellRead.{WellRead}
 use Rattle.grammar.specs.declared.reading.Sizes.{Sizes}
 use Rattle.grammar.specs.declared.reading.Outcome.{Outcome}
 use Rattle.grammar.specs.declared.reading.Outcome.the-variants.{Read, Faulty}
 use Rattle.grammar.proofs.WellRead.{well-read}
-use Rattle.semantics.specs.LeftRecursion.{NoLeftRecursion, lowestLeftRecursive}
-use Rattle.semantics.specs.Families.{Clash}
-use Rattle.semantics.specs.FirstFollow.{Entry, First, Follow}
+use Rattle.semantics.specs.LeftRecursion.{lowestLeftRecursive}
+use Rattle.semantics.specs.FirstFollow.{Entry}
 use Rattle.semantics.specs.Claims.{clashes}
 use Rattle.semantics.specs.Theorems.{LeastSets}
 use Rattle.semantics.proofs.Theorems.{theorems}
@@ -38,7 +34,7 @@ use Rattle.table.specs.declared.Analysis.{Analysis}
 use Rattle.sets.specs.Lists.{listed}
 use Rattle.table.specs.Layout.{columns, setWord, rowWord, tableWords}
 use Rattle.table.specs.Entries.{filled}
-use Rattle.sets.specs.Families.{firstFault, readingFault, leftFault, setsFault, findingOf}
+use Rattle.sets.specs.Families.{firstFault, readingFault, leftFault, setsFault}
 use Rattle.sets.proofs.Telling.{told-passed, told-refused}
 use Rattle.table.specs.Analysis.{clashFault, fault, tableIf, analyzed}
 use Rattle.sets.proofs.Lists.{listed-long}

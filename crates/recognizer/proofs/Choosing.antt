@@ -1,13 +1,12 @@
 -- The entry that the table holds for a nonterminal and a place. Assumes nothing.
-use mathlib.Core.Path.{_≡_, refl, sym, ap, _∙_}
-use mathlib.Core.Bool.{Bool, true, false}
+use mathlib.Core.Path.{_≡_, refl, ap, _∙_}
 use mathlib.Core.List.{List, [], _∷_}
 use Prim.Native.Nat.{ℕ, zero, suc, _+_, _*_, _/_, _%_, _≤_, _<_}
 use native.Mathlib.Nat.{mul-le-mul}
 use native.Mathlib.Omega.{arith}
 use native.Mathlib.Decide.{decLt}
 use native.Mathlib.Numerals.{add-one}
-use lib.Dec.{T, eqb, ltb, ltb→lt}
+use lib.Dec.{eqb, ltb, ltb→lt}
 use lib.ListN.{length, getD, take, drop, drop-of-length-le}
 use lib.Seq.{drop-cons}
 use borrow.Author.Tests.{lt-ltb, le-ltb, eq-eqb, ne-eqb}
@@ -19,7 +18,7 @@ use Rattle.semantics.proofs.Booleans.{and-l, and-r}
 use Rattle.semantics.specs.Strings.{look, Over}
 use Rattle.semantics.specs.Quantifiers.{all}
 use Rattle.semantics.specs.Claims.{tableOf}
-use Rattle.table.specs.Layout.{columnString, columns, entryAt, entryWord}
+use Rattle.table.specs.Layout.{columnString, entryAt, entryWord}
 use Rattle.recognizer.specs.Descent.{columnAt, ChosenGiven, CallGiven}
 use Rattle.recognizer.proofs.Headings.{HeadingTells, heading-tells}
 

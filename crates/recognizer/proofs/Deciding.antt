@@ -1,13 +1,12 @@
 -- From a descent that has ended to its answer and to what the memo table then holds. Assumes nothing.
 use mathlib.Core.Path.{_≡_, refl, sym, ap, subst, _∙_}
 use mathlib.Core.Bool.{Bool, true, false}
-use mathlib.Core.List.{List, [], _∷_, map}
-use mathlib.Core.Logic.{_↔_}
-use Prim.Native.Nat.{ℕ, zero, suc, _+_, _*_, _/_, _%_, _≤_, _<_}
+use mathlib.Core.List.{List, map}
+use Prim.Native.Nat.{ℕ, suc, _+_, _*_, _/_, _%_, _≤_, _<_}
 use native.Mathlib.Nat.{mod-lt, div-add-mod', div-lt-iff-lt-mul}
 use native.Mathlib.Numerals.{add-one}
 use native.Mathlib.Omega.{arith}
-use lib.Dec.{T, ltb, eqb}
+use lib.Dec.{ltb}
 use lib.ListN.{length, getD, drop, replicate, length-map, length-replicate, getD-replicate, List·getD-map, drop-of-length-le}
 use lib.Seq.{drop-cons, ext-getD}
 use borrow.Author.Tests.{lt-ltb, le-ltb}
@@ -25,11 +24,10 @@ use Rattle.grammar.proofs.WellRead.{well-read}
 use Rattle.semantics.specs.FiniteSets.{member}
 use Rattle.semantics.specs.Valuations.{pairs}
 use Rattle.semantics.specs.LeftRecursion.{NoLeftRecursion}
-use Rattle.semantics.specs.Families.{OwnEntries}
 use Rattle.semantics.specs.Claims.{tableOf}
 use Rattle.semantics.specs.Descent.{endsAt, descend, accepts}
 use Rattle.semantics.specs.ComesTo.{Call, callAt, InRange}
-use Rattle.semantics.specs.Calls.{Called, Listing, sameCall, allCalls, calls}
+use Rattle.semantics.specs.Calls.{Listing, sameCall, allCalls, calls}
 use Rattle.semantics.specs.Memo.{Fits, encode, entry, indexOf, blank, Recorded}
 use Rattle.semantics.specs.MemoDescent.{memoized, memoCall}
 use Rattle.semantics.proofs.FiniteSets.{member-mem, mem-member}

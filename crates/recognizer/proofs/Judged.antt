@@ -30,16 +30,15 @@ use Rattle.grammar.proofs.WellRead.{well-read}
 use Rattle.semantics.specs.Quantifiers.{all}
 use Rattle.semantics.specs.Valuations.{Valuation, Solves, pairs}
 use Rattle.semantics.specs.Strings.{Over}
-use Rattle.semantics.specs.Claims.{clashes, tableOf}
+use Rattle.semantics.specs.Claims.{tableOf}
 use Rattle.semantics.specs.Descent.{accepts}
 use Rattle.semantics.specs.Calls.{allCalls, callCount, farthest}
-use Rattle.semantics.specs.LeftRecursion.{lowestLeftRecursive}
 use Rattle.semantics.specs.Predictive.{Predictive}
-use Rattle.semantics.proofs.Booleans.{T-true, and-l, and-r, and-make, true-T}
+use Rattle.semantics.proofs.Booleans.{T-true, and-l, and-r}
 use Rattle.semantics.proofs.Range.{all-length}
 use Rattle.semantics.proofs.Theorems.{theorems}
 use Rattle.sets.specs.Lists.{listed}
-use Rattle.table.specs.Layout.{columns, entryAt, setWord, rowWord, tableWords}
+use Rattle.table.specs.Layout.{columns, setWord, rowWord, tableWords}
 use Rattle.table.specs.Entries.{filled}
 use Rattle.table.specs.Analysis.{fault}
 use Rattle.sets.proofs.Lists.{listed-long, listed-at}
@@ -48,8 +47,8 @@ use Rattle.recognizer.specs.declared.judging.Unknown.the-variants.{Absen
 use Rattle.recognizer.specs.Descent.{Entries}
 use Rattle.recognizer.specs.Memory.{lentBack, memoWord, memoWords, Lent}
 use Rattle.recognizer.specs.Answers.{unless, unknownFrom, unknownFault, firstOf, checkFault, judgeFault, refusedOr, callsOf, verdictOf, toldOr, verdictNumbers}
-use Rattle.recognizer.specs.Judging.{Found, PassedGiven, DescendGiven, Descended}
-use Rattle.recognizer.specs.Properties.{PassedGrammar, Checks, Readable, Recognizes, Judges}
+use Rattle.recognizer.specs.Judging.{PassedGiven, DescendGiven, Descended}
+use Rattle.recognizer.specs.Properties.{PassedGrammar, Recognizes, Judges}
 use Rattle.recognizer.proofs.Checking.{passed-fault, fault-passed, no-clashes, not-left-recursive, lent-table}
 
 -- an input is of known tokens exactly when no unknown one is found

@@ -1,11 +1,11 @@
 -- Running a body: what the descent with a memo table gives for the rest of the body is what it gave for the whole. Assumes nothing.
 use mathlib.Core.Path.{_≡_, refl, sym, ap, _∙_}
 use mathlib.Core.Bool.{Bool, true, false, _&&_, false≢true}
-use mathlib.Core.List.{List, [], _∷_, List·Memᴰ}
-use Prim.Native.Nat.{ℕ, suc, _+_, _-_, _≤_, _<_}
+use mathlib.Core.List.{List, [], _∷_}
+use Prim.Native.Nat.{ℕ, _+_, _-_, _≤_, _<_}
 use native.Mathlib.Omega.{arith}
 use native.Mathlib.Numerals.{add-one}
-use lib.Dec.{T, ltb, eqb}
+use lib.Dec.{ltb, eqb}
 use lib.ListN.{length, getD, drop}
 use borrow.Author.Tests.{ltb-true}
 use Rattle.word.specs.Words.{decoded}
@@ -19,11 +19,10 @@ use Rattle.grammar.specs.Reading.{allows, scan, reading}
 use Rattle.grammar.specs.WellRead.{WellRead}
 use Rattle.grammar.specs.declared.reading.State.{State}
 use Rattle.grammar.specs.declared.reading.Progress.{Progress}
-use Rattle.grammar.specs.declared.reading.Outcome.the-variants.{Read}
 use Rattle.grammar.proofs.Suffixes.{scan-next}
 use Rattle.grammar.proofs.WellRead.{well-read}
 use Rattle.semantics.specs.Quantifiers.{pick}
-use Rattle.semantics.specs.LeftRecursion.{nullable, LeftIn, here, there, LeftDepends, NoLeftRecursion}
+use Rattle.semantics.specs.LeftRecursion.{nullable, LeftIn, here, there, LeftDepends}
 use Rattle.semantics.specs.Claims.{tableOf}
 use Rattle.semantics.specs.Descent.{Outcome, Failed, End}
 use Rattle.semantics.specs.ComesTo.{callAt, measure}
@@ -33,7 +32,7 @@ use Rattle.rule.specs.declared.Outcome as code
 use Rattle.rule.specs.declared.Outcome.the-variants as outcome
 use Rattle.rule.specs.Rule.{meant}
 use Rattle.sets.proofs.Words.{parse-over}
-use Rattle.recognizer.specs.Descent.{matchesAt, MemoSound, Given, CallGiven, RunGiven, CallDone, RunDone}
+use Rattle.recognizer.specs.Descent.{matchesAt, MemoSound, CallGiven, RunGiven, CallDone, RunDone}
 use Rattle.recognizer.proofs.Bodies.{parse-here, symbol-reads}
 
 -- the calls at most n deep, on the words' grammar and table

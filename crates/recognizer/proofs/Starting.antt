@@ -1,9 +1,9 @@
 -- The rule that the table chooses: where it begins, and that its bodies are all still to be run. Assumes nothing.
 use mathlib.Core.Path.{_≡_, refl, sym, ap, _∙_}
-use mathlib.Core.Bool.{Bool, true, false, false≢true}
+use mathlib.Core.Bool.{true, false, false≢true}
 use mathlib.Core.List.{List, [], _∷_, List·Memᴰ, Memᴰ·append-left, Memᴰ·append-right}
 use mathlib.Core.Option.{Option, none, some}
-use Prim.Native.Nat.{ℕ, zero, suc, _+_, _-_, _≤_, _<_}
+use Prim.Native.Nat.{ℕ, zero, suc, _+_, _-_, _<_}
 use native.Mathlib.Omega.{arith}
 use native.Mathlib.Numerals.{add-one}
 use lib.ListN.{length, getD, drop, getElem?}
@@ -14,7 +14,7 @@ use Rattle.word.specs.declared.Word.{Word}
 use Rattle.word.specs.declared.Word.the-variants as word
 use Rattle.grammar.specs.Codes.{noEntry, failedCode}
 use Rattle.grammar.specs.Limits.{maxRules}
-use Rattle.grammar.specs.Syntax.{Rule, Grammar, bodies}
+use Rattle.grammar.specs.Syntax.{Rule, Grammar}
 use Rattle.grammar.specs.Encoding.{parse, grammarOf}
 use Rattle.grammar.specs.Reading.{allows, after, beginsRule, scan, reading}
 use Rattle.grammar.specs.Starts.{ruleStarts}
@@ -22,7 +22,7 @@ use Rattle.grammar.specs.WellRead.{firstRule, Begun, WellRead}
 use Rattle.grammar.specs.declared.reading.State.{State}
 use Rattle.grammar.specs.declared.reading.State.the-variants as state
 use Rattle.grammar.specs.declared.reading.Progress.{Progress}
-use Rattle.grammar.proofs.Suffixes.{Reached, read-reaches, Next, scan-next}
+use Rattle.grammar.proofs.Suffixes.{read-reaches, scan-next}
 use Rattle.grammar.proofs.WellRead.{well-read}
 use Rattle.semantics.specs.Strings.{look}
 use Rattle.semantics.specs.Families.{OwnEntries}
@@ -36,7 +36,7 @@ use Rattle.table.specs.Layout.{entryWord}
 use Rattle.rule.specs.declared.Sign.{Sign}
 use Rattle.rule.specs.declared.Agreement.the-variants as agreement
 use Rattle.rule.specs.Rule.{signAt}
-use Rattle.recognizer.specs.Descent.{Given, CallGiven}
+use Rattle.recognizer.specs.Descent.{CallGiven}
 use Rattle.recognizer.proofs.Calling.{memoRest, Calling, InRule}
 
 nth-below : (l : List Rule) (q : ℕ) (r : Rule) → getElem? l q ≡ some r → q < length l

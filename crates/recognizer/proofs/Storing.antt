@@ -1,30 +1,26 @@
 -- A call is done: from what the descent with a memo table gives, for every depth that is enough, to what holds of its outcome. Assumes nothing.
 use mathlib.Core.Path.{_≡_, refl, sym, ap, _∙_}
-use mathlib.Core.Bool.{Bool, true, false, not}
-use mathlib.Core.List.{List, [], _∷_, List·Memᴰ}
-use mathlib.Core.Option.{Option, none, some}
+use mathlib.Core.List.{List, [], _∷_}
+use mathlib.Core.Option.{Option}
 use Prim.Native.Nat.{ℕ, zero, suc, _+_, _*_, _≤_, _<_}
 use native.Mathlib.Omega.{arith}
 use native.Mathlib.Numerals.{add-one}
-use lib.Dec.{T, T-not, not-T, eqb, eqb→eq, eqb-refl}
-use lib.ListN.{length, getD, set, getElem?}
-use borrow.Author.Tests.{eq-eqb, ne-eqb}
+use lib.Dec.{T-not, not-T, eqb, eqb→eq}
+use lib.ListN.{length, getD, set}
+use borrow.Author.Tests.{ne-eqb}
 use Rattle.grammar.specs.Codes.{uncalledCode}
-use Rattle.grammar.specs.Limits.{maxTokens}
 use Rattle.grammar.specs.Syntax.{Rule, Grammar}
 use Rattle.grammar.specs.Encoding.{grammarOf}
 use Rattle.grammar.specs.WellRead.{WellRead}
 use Rattle.grammar.proofs.WellRead.{well-read}
 use Rattle.semantics.specs.Quantifiers.{pick}
-use Rattle.semantics.specs.Valuations.{pairs}
-use Rattle.semantics.specs.LeftRecursion.{nullable}
 use Rattle.semantics.specs.Strings.{look}
 use Rattle.semantics.specs.Families.{OwnEntries}
 use Rattle.semantics.specs.Claims.{tableOf}
-use Rattle.semantics.specs.Descent.{Outcome, Failed, End, endsAt, select, descend}
-use Rattle.semantics.specs.ComesTo.{Call, callAt, InRange, measure}
+use Rattle.semantics.specs.Descent.{Outcome, select, descend}
+use Rattle.semantics.specs.ComesTo.{callAt}
 use Rattle.semantics.specs.Memo.{Fits, encode, decode, indexOf, entry}
-use Rattle.semantics.specs.MemoDescent.{Memoized, memoized, memoObey, stored, memoCall}
+use Rattle.semantics.specs.MemoDescent.{memoized, memoObey, stored, memoCall}
 use Rattle.semantics.proofs.Outcomes.{end-ends}
 use Rattle.semantics.proofs.Ends.{descend-forward, descend-null}
 use Rattle.semantics.proofs.Range.{index-range}
@@ -34,7 +30,7 @@ use Rattle.semantics.proofs.Theorems.{theorems}
 use Rattle.rule.specs.declared.Outcome as code
 use Rattle.rule.specs.declared.Outcome.the-variants as outcome
 use Rattle.rule.specs.Rule.{meant}
-use Rattle.recognizer.specs.Descent.{MemoSound, Given, CallGiven, CallDone}
+use Rattle.recognizer.specs.Descent.{MemoSound, CallGiven, CallDone}
 use Rattle.recognizer.proofs.Running.{deep, level}
 
 pub memo-same : {words input memo memo′ : List ℕ} → MemoSound words input memo → MemoSound words input memo′ → length memo ≡ length memo′

@@ -14,7 +14,7 @@ use Rattle.grammar.specs.Syntax.{Grammar}
 use Rattle.semantics.specs.FiniteSets.{keep, numbersFrom, numbers, combine}
 use Rattle.semantics.specs.Families.{Table}
 use Rattle.semantics.specs.ComesTo.{Call, callAt}
-use Rattle.semantics.specs.Calls.{allCalls, calls, callCount, greatestPlace, farthest}
+use Rattle.semantics.specs.Calls.{allCalls, callCount, greatestPlace, farthest}
 use Rattle.semantics.specs.Memo.{Memo, Recorded, written}
 use Rattle.semantics.proofs.FiniteSets.{numbers-length}
 use Rattle.semantics.proofs.Distinct.{combine-length}

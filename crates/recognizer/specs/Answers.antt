@@ -9,7 +9,7 @@ use Rattle.answer.specs.declared.Error.{Error}
 use Rattle.answer.specs.declared.Error.the-variants.{TableTooShort, MemoTooShort, InputTooLong, UnknownToken}
 use Rattle.answer.specs.declared.Calls.{Calls}
 use Rattle.answer.specs.declared.Answer.{Answer}
-use Rattle.answer.specs.declared.Answer.the-variants.{Refused, Passed, Rejected, Accepted}
+use Rattle.answer.specs.declared.Answer.the-variants.{Refused, Rejected, Accepted}
 use Rattle.answer.specs.Numbers.{refused, passed, rejected, accepted, Numbers, coded, answered}
 use Rattle.recognizer.specs.declared.judging.Unknown.{Unknown}
 use Rattle.recognizer.specs.declared.judging.Unknown.the-variants.{Absent, At}

@@ -1,7 +1,7 @@
 -- What calling a nonterminal and running a body require and ensure: they are the descent with a memo table, for every depth that is enough.
 use mathlib.Core.Path.{_≡_}
 use mathlib.Core.Bool.{Bool, _&&_}
-use mathlib.Core.List.{List, [], _∷_, List·Memᴰ}
+use mathlib.Core.List.{List, List·Memᴰ}
 use Prim.Native.Nat.{ℕ, _+_, _*_, _≤_, _<_}
 use lib.Dec.{T, ltb, eqb}
 use lib.ListN.{length, getD, drop}
@@ -20,13 +20,13 @@ use Rattle.grammar.specs.declared.reading.Progress.{Progress}
 use Rattle.grammar.specs.declared.reading.Outcome.the-variants.{Read}
 use Rattle.semantics.specs.Valuations.{pairs}
 use Rattle.semantics.specs.LeftRecursion.{nullable, NoLeftRecursion}
-use Rattle.semantics.specs.Strings.{look, Over}
+use Rattle.semantics.specs.Strings.{Over}
 use Rattle.semantics.specs.Claims.{tableOf}
 use Rattle.semantics.specs.Descent.{Outcome, End, descend}
 use Rattle.semantics.specs.ComesTo.{Call, callAt, InRange, measure}
-use Rattle.semantics.specs.Memo.{Memo, encode, entry}
+use Rattle.semantics.specs.Memo.{encode, entry}
 use Rattle.semantics.specs.MemoDescent.{memoized, memoRun, memoCall}
-use Rattle.table.specs.Layout.{columns, entryAt, entryWord}
+use Rattle.table.specs.Layout.{columns, entryAt}
 use Rattle.rule.specs.declared.Outcome as code
 use Rattle.rule.specs.Rule.{meant}
 

@@ -1,6 +1,5 @@
 -- What lent memory holds after a call.
 use mathlib.Core.Path.{_≡_}
-use mathlib.Core.Bool.{Bool}
 use mathlib.Core.List.{List, _++_, map}
 use mathlib.Core.Option.{Option, none, some}
 use Prim.Native.Nat.{ℕ, _+_, _*_, _≤_}
@@ -17,7 +16,6 @@ use Rattle.semantics.specs.Descent.{descend}
 use Rattle.semantics.specs.ComesTo.{Call}
 use Rattle.semantics.specs.Calls.{sameCall, allCalls, calls}
 use Rattle.semantics.specs.Memo.{encode}
-use Rattle.table.specs.Layout.{tableWords}
 
 -- by whether a call is refused: what was there, or new words in front of what was there
 abbrev pub lentBack : Option Error → List ℕ → List ℕ → List ℕ

@@ -1,5 +1,5 @@
 -- Every sheet and every judgement has room in the buffers that the programs lend. Assumes nothing.
-use mathlib.Core.Path.{_≡_, refl, sym, ap, _∙_}
+use mathlib.Core.Path.{_≡_, refl}
 use mathlib.Core.Bool.{Bool, true, false}
 use mathlib.Core.List.{List, [], _∷_, _++_, map, List·Memᴰ, List·Memᴰ·head, List·Memᴰ·tail}
 use mathlib.Core.Option.{Option, none, some}
@@ -7,11 +7,10 @@ use Prim.Native.Nat.{ℕ, zero, suc, _+_, _≤_, _<_}
 use native.Mathlib.Omega.{arith}
 use lib.ListN.{length, getD, drop, replicate, length-append}
 use Rattle.answer.specs.declared.Error.{Error}
-use Rattle.answer.specs.declared.Calls.{Calls}
 use Rattle.answer.specs.declared.Answer.the-variants.{Passed, Rejected, Accepted}
 use Rattle.word.specs.Choice.{choose}
 use Rattle.grammar.specs.Codes.{uncalledCode}
-use Rattle.grammar.specs.Limits.{maxTokens, memoEntries, tableWords as memoryWords}
+use Rattle.grammar.specs.Limits.{memoEntries, tableWords as memoryWords}
 use Rattle.grammar.specs.Syntax.{Grammar}
 use Rattle.grammar.specs.Encoding.{grammarOf}
 use Rattle.grammar.specs.Reading.{reading}

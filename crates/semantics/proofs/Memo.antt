@@ -5,7 +5,7 @@ use mathlib.Core.Logic.{inl, inr}
 use mathlib.Core.Path.{_≡_, refl, ap}
 use Prim.Native.Nat.{ℕ, suc, _-_, _≤_, _<_}
 use native.Mathlib.Omega.{arith}
-use lib.Dec.{T, T-not, eqb, eqb→eq}
+use lib.Dec.{T-not, eqb, eqb→eq}
 use lib.ListN.{length, length-replicate, getD-replicate}
 use Rattle.grammar.specs.Codes.{uncalledCode}
 use Rattle.grammar.specs.Syntax.{Grammar, WellScoped}
@@ -16,7 +16,7 @@ use Rattle.semantics.specs.Families.{Table, OwnEntries}
 use Rattle.semantics.specs.Descent.{descend}
 use Rattle.semantics.specs.ComesTo.{Call, callAt, measure}
 use Rattle.semantics.specs.Calls.{Called, start, more, allCalls, calls}
-use Rattle.semantics.specs.Memo.{Memo, indexOf, entry, blank, written, Recorded, Fits}
+use Rattle.semantics.specs.Memo.{Memo, indexOf, entry, blank, Recorded, Fits}
 use Rattle.semantics.specs.MemoDescent.{memoCall, memoStart}
 use Rattle.semantics.proofs.Booleans.{both, test}
 use Rattle.semantics.proofs.Rank.{level-top}

@@ -3,21 +3,21 @@ use mathlib.Core.Bool.{Bool, true, not, _&&_}
 use mathlib.Core.List.{List, _∷_, _++_, List·Memᴰ, Memᴰ·append-left, Memᴰ·append-right}
 use mathlib.Core.Logic.{_↔_}
 use mathlib.Core.Option.{some}
-use mathlib.Core.Path.{_≡_, refl, sym, ap, _∙_}
+use mathlib.Core.Path.{_≡_, sym, ap, _∙_}
 use Prim.Native.Nat.{ℕ, zero, suc, _-_, _≤_, _<_}
 use native.Mathlib.Omega.{arith}
 use lib.Dec.{T, eqb, eqb→eq, eqb-refl}
 use lib.ListN.{length, take}
 use Rattle.word.specs.declared.Symbol.the-variants.{Nonterminal}
 use Rattle.grammar.specs.Syntax.{Body, Rule, Grammar, bodies, NonterminalsBelow, WellScoped}
-use Rattle.semantics.specs.Quantifiers.{any, all, below}
+use Rattle.semantics.specs.Quantifiers.{any, all}
 use Rattle.semantics.specs.Valuations.{Valuation, contains, derives, byRules, Solves, pairs}
-use Rattle.semantics.specs.LeftRecursion.{here, there, LeftDepends, NoLeftRecursion, level}
+use Rattle.semantics.specs.LeftRecursion.{LeftDepends, NoLeftRecursion, level}
 use Rattle.semantics.specs.Strings.{span, look, Over}
 use Rattle.semantics.specs.Families.{Family, FollowBody, Table}
 use Rattle.semantics.specs.Predictive.{Guides}
 use Rattle.semantics.specs.Theorems.{Piece}
-use Rattle.semantics.specs.Descent.{Outcome, End, endsAt, onward, Outcomes, read, run, agrees, byTable, descend, accepts}
+use Rattle.semantics.specs.Descent.{End, endsAt, onward, Outcomes, read, run, agrees, byTable, descend, accepts}
 use Rattle.semantics.proofs.Booleans.{T-subst, both, and-l, and-r, and-make}
 use Rattle.semantics.proofs.Quantified.{any-cong, all-cong, any-make, any-elim}
 use Rattle.semantics.proofs.Rank.{level-onward, level-top}

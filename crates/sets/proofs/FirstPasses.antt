@@ -11,12 +11,12 @@ use Rattle.word.specs.declared.Word.the-variants.{Heading, Rule as RuleWord, Po
 use Rattle.grammar.specs.Syntax.{Body, Rule}
 use Rattle.grammar.specs.Encoding.{Parsed, onWord, parse}
 use Rattle.lookahead.specs.Elements.{Subset}
-use Rattle.lookahead.specs.Operations.{end, terminal, full, meet, concat}
+use Rattle.lookahead.specs.Operations.{end, terminal, full, meet}
 use Rattle.lookahead.proofs.Order.{subset-refl, meet-mono}
 use Rattle.lookahead.proofs.Concat.{concat-mono}
 use Rattle.sets.specs.declared.first.Rest.{Rest}
 use Rattle.sets.specs.Least.{SetFamily, Under}
-use Rattle.sets.specs.First.{symbolFirst, bodyFirst, ruleFirst, sets, restOf, noRest, withWord}
+use Rattle.sets.specs.First.{symbolFirst, bodyFirst, ruleFirst, restOf, noRest, withWord}
 use Rattle.sets.proofs.Walk.{Analysis, Walk, start}
 
 -- larger families give larger first sets

@@ -13,7 +13,6 @@ use Rattle.grammar.specs.declared.reading.Sizes.{Sizes}
 use Rattle.grammar.specs.declared.reading.Outcome.{Outcome}
 use Rattle.grammar.specs.declared.reading.Outcome.the-variants.{Read, Faulty}
 use Rattle.semantics.specs.LeftRecursion.{lowestLeftRecursive}
-use Rattle.sets.specs.declared.Finding.{Finding}
 use Rattle.sets.specs.declared.Finding.the-variants.{Passed, Refused}
 use Rattle.sets.specs.declared.Families.{Families}
 use Rattle.sets.specs.declared.left.Lowest.{Lowest}
@@ -21,7 +20,7 @@ use Rattle.sets.specs.declared.left.Lowest.the-variants as lowest
 use Rattle.sets.specs.Lists.{listed}
 use Rattle.sets.specs.Left.{lowestOf}
 use Rattle.sets.specs.Sets.{firstNumber, followNumber}
-use Rattle.sets.specs.Families.{firstFault, readingFault, leftFault, setsFault, findingOf, setsIf, families, refusedBy, familiesOf}
+use Rattle.sets.specs.Families.{setsFault, findingOf, setsIf, families, refusedBy, familiesOf}
 
 pub families-faulty : (words : List ℕ) {e : Error} {o : Outcome} → o ≡ reading words → o ≡ Faulty e → refusedBy e ≡ familiesOf words
 unfolding familiesOf setsFault

@@ -1,6 +1,6 @@
 -- A sheet, worked by computation.
 use mathlib.Core.Path.{_≡_, refl}
-use mathlib.Core.List.{List, [], _∷_}
+use mathlib.Core.List.{[], _∷_}
 use Rattle.grammar.specs.declared.reading.Outcome.the-variants.{Read}
 use Rattle.grammar.specs.Encoding.{sizes}
 use Rattle.lookahead.specs.Elements.{has, count, size}

@@ -1,7 +1,7 @@
 -- What is found of an encoded grammar, by what its parts find. Assumes nothing.
 use mathlib.Core.Path.{_≡_, refl, sym, ap, _∙_}
 use mathlib.Core.List.{List, [], _∷_}
-use mathlib.Core.Option.{Option, none, some}
+use mathlib.Core.Option.{none, some}
 use Prim.Native.Nat.{ℕ}
 use native.Mathlib.Omega.{arith}
 use Rattle.answer.specs.declared.Error.{Error}
@@ -16,7 +16,7 @@ use Rattle.sets.specs.declared.Finding.the-variants.{Passed}
 use Rattle.table.specs.declared.entries.Conflict.{Conflict}
 use Rattle.table.specs.declared.entries.Conflict.the-variants as conflict
 use Rattle.table.specs.declared.entries.Table.{Table}
-use Rattle.table.specs.Entries.{firstOf, filled, entriesOf}
+use Rattle.table.specs.Entries.{firstOf, entriesOf}
 use Rattle.table.specs.Analysis.{clashFault, fault, analysis, refusedBy, analyzed, GivenFamilies}
 
 pub analyzed-refused : (words : List ℕ) {e : Error} → setsFault words ≡ some e → refusedBy e ≡ analyzed words

@@ -1,16 +1,15 @@
 -- The words of a row of bytes are the fours of bytes in order. Assumes nothing.
-use mathlib.Core.Path.{_≡_, refl, sym, ap, _∙_}
-use mathlib.Core.List.{List, [], _∷_, _++_}
+use mathlib.Core.Path.{_≡_, refl, sym, _∙_}
+use mathlib.Core.List.{List, [], _∷_}
 use Prim.Native.Nat.{ℕ, zero, suc, _+_, _*_, _/_, _%_, _≤_, _<_}
 use native.Mathlib.Omega.{arith}
 use native.Mathlib.Numerals.{add-one}
-use lib.Dec.{leb, eqb}
 use lib.ListN.{length, getD, take, set}
 use lib.Seq.{sets, take-suc, take-all, length-take-le}
 use borrow.Author.Tests.{lt-leb, le-leb, eq-eqb, ne-eqb}
 use Rattle.grammar.specs.Limits.{maxWords}
 use Rattle.text.specs.declared.words.Loaded.the-variants.{Words, NotWords}
-use Rattle.text.specs.Words.{bytesOfWord, word, wordsOf, fourAt, areWords, Loading}
+use Rattle.text.specs.Words.{bytesOfWord, wordsOf, fourAt, areWords, Loading}
 use Rattle.text.proofs.Writing.{sets-append}
 
 pub length-words : (bytes : List ℕ) → length (wordsOf bytes) ≡ length bytes / bytesOfWord

@@ -1,7 +1,7 @@
 -- A quoted text as the bytes that are printed.
 use mathlib.Core.List.{List, [], _∷_}
 use Prim.Native.Nat.{ℕ}
-use Prim.Native.Char.{Char, code}
+use Prim.Native.Char.{code}
 use Prim.Native.String.{String, [] as ε, _∷_ as _▹_}
 
 abbrev pub ascii : String → List ℕ

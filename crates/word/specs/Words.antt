@@ -1,5 +1,4 @@
 -- What a 32-bit word of an encoded grammar stands for: a row for each kind.
-use mathlib.Core.Bool.{Bool}
 use Prim.Native.Nat.{ℕ, _/_, _%_, _^_}
 use lib.Dec.{eqb, ltb}
 use Rattle.word.specs.declared.Symbol.the-variants.{Terminal, Nonterminal}

@@ -1,5 +1,4 @@
 -- By whether the input is too long.
-use mathlib.Core.Path.{refl}
 use borrow.Author.Tests.{le-leb, lt-leb}
 use Rattle.report.specs.Report.{tokensOf}
 use borrow.Author.Needs.{needs}

@@ -1,5 +1,5 @@
 -- A grammar that has been read: by whether it is left-recursive.
-use mathlib.Core.Path.{sym, _∙_}
+use mathlib.Core.Path.{_∙_}
 use Rattle.sets.proofs.Telling.{families-left, families-found}
 use Rattle.sets.proofs.analyze_grammar.Statement.{statement}
 use Rattle.sets.proofs.analyze_grammar.Tie as tie

@@ -1,6 +1,6 @@
 -- The descent ends and is the one of the semantics: each call gives what its rule gives, and a rule what its bodies agree on.
 -- From a call to a body that it runs, and on to the calls that the body makes, the tokens left fall, or else the rank does.
-use mathlib.Core.Path.{_≡_, refl, sym, ap, _∙_}
+use mathlib.Core.Path.{sym, ap, _∙_}
 use mathlib.Core.Logic.{⊎-elim}
 use mathlib.Core.Option.{none, some}
 use Prim.Native.Nat.{_+_, _-_, _*_}

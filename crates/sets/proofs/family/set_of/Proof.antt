@@ -1,5 +1,4 @@
 -- By whether the array has a set there.
-use mathlib.Core.Path.{refl}
 use borrow.Author.Tests.{lt-ltb, le-ltb}
 use Rattle.sets.specs.Least.{lookup}
 use borrow.Author.Needs.{needs}

@@ -1,5 +1,4 @@
 -- A terminal by itself, a nonterminal by its set.
-use mathlib.Core.Path.{_∙_}
 use Rattle.sets.specs.First.{symbolFirst}
 use borrow.Author.Needs.{needs}
 use Rattle.sets.proofs.first.symbol_first.Statement.{statement}
