@@ -17,7 +17,7 @@ use Rattle.word.specs.Choice.{choose}
 use Rattle.grammar.specs.Limits.{maxWords}
 use Rattle.grammar.specs.Encoding.{grammarOf}
 use Rattle.grammar.proofs.WellRead.{well-read}
-use Rattle.semantics.specs.Claims.{tableOf}
+use Rattle.semantics.specs.Choices.{tableChoice}
 use Rattle.semantics.specs.Descent.{accepts}
 use Rattle.semantics.proofs.Called.{called-range}
 use Rattle.semantics.proofs.Theorems.{theorems}
@@ -62,11 +62,11 @@ calls-fit words input table memo e =
     let p = passed-fault words (k .0) in
     let r = well-read words (p .sizes) (p .read) in
     let some-nonterminal : 0 < G .nonterminals = omega (arith, r .nonterminals, r .someNonterminal) in
-    let own = theorems .own-entries G 1 in
-    let c = theorems .calls-counted G (r .formed .scoped) (p .free) some-nonterminal (tableOf G 1) own 1 input in
+    let own = theorems .own-rules G 1 input in
+    let c = theorems .calls-counted G (r .formed .scoped) (p .free) some-nonterminal (tableChoice G 1 input) own input in
     let m = mul-le-mul {n₁ = G .nonterminals} {m₁ = suc (length input)} {n₂ = 32} {m₂ = 501} (omega (arith, r .nonterminals, r .fewNonterminals)) (omega (arith, k .1)) in
     let far = c .farthest-called in
-    let within = called-range G (tableOf G 1) 1 input (r .formed .scoped) (p .free) own some-nonterminal (far .0) (far .1) in
+    let within = called-range G (tableChoice G 1 input) input (r .formed .scoped) (p .free) own some-nonterminal (far .0) (far .1) in
     (omega (arith, c .bounded), omega (arith, far .2, within .1, k .1))
 
 -- a judgement
@@ -80,8 +80,8 @@ judge-fits {words} {input} {table} {memo} {table′} {memo′} {a} j =
     verdict false c h = record { verdict = omega arith; code = omega arith; position = omega arith; count = h .0; farthest = h .1 }
 
     go : (f : Option Error) → judgeFault (length table) (length memo) words input ≡ f → LowFault maxWords f
-        → Fits (numbers (refusedOr f (choose (accepts (grammarOf words) (tableOf (grammarOf words) 1) 1 input) (Accepted (callsOf (grammarOf words) input)) (Rejected (callsOf (grammarOf words) input)))))
-    go none e l = verdict (accepts (grammarOf words) (tableOf (grammarOf words) 1) 1 input) (callsOf (grammarOf words) input) (calls-fit words input (length table) (length memo) e)
+        → Fits (numbers (refusedOr f (choose (accepts (grammarOf words) (tableChoice (grammarOf words) 1 input) input) (Accepted (callsOf (grammarOf words) input)) (Rejected (callsOf (grammarOf words) input)))))
+    go none e l = verdict (accepts (grammarOf words) (tableChoice (grammarOf words) 1 input) input) (callsOf (grammarOf words) input) (calls-fit words input (length table) (length memo) e)
     go (some x) e l = refused-fits x (l .low x refl)
 
 -- packing, by the answer

@@ -24,8 +24,7 @@ use Rattle.grammar.specs.declared.reading.Progress.{Progress}
 use Rattle.grammar.proofs.Suffixes.{Next, scan-next}
 use Rattle.grammar.proofs.WellFormed.{Fits, reads}
 use Rattle.semantics.specs.Quantifiers.{pick}
-use Rattle.semantics.specs.Strings.{look}
-use Rattle.semantics.specs.Claims.{tableOf}
+use Rattle.semantics.specs.Choices.{Choice}
 use Rattle.semantics.specs.Descent.{Outcome, Failed, End, endsAt, select}
 use Rattle.semantics.specs.MemoDescent.{Memoized, memoized, andThen, MemoCalls, memoRun, memoNegatives, memoPositives, memoRule, memoObey}
 use Rattle.rule.specs.declared.Outcome as code
@@ -46,13 +45,13 @@ memoRest M w i (agreement.At e) ps ns m = memoPositives M w i e ps ns m
 memoRest M w i agreement.Failed ps ns m = memoized Failed m
 
 -- a rule that has come to an index: a conjunct begins there, or the rule ends
-pub record Calling (words input memo₀ : List ℕ) (A place : ℕ) (r : Rule) (memo : List ℕ) (at : ℕ) (sign : Sign) (agreed : Agreement) : Type 0 where
-  pub sound : MemoSound words input memo
+pub record Calling (choice : Choice) (words input memo₀ : List ℕ) (A place : ℕ) (r : Rule) (memo : List ℕ) (at : ℕ) (sign : Sign) (agreed : Agreement) : Type 0 where
+  pub sound : MemoSound choice words input memo
   pub within : at ≤ length words
   pub signed : sign ≡ signAt words at
   pub ends : (e : ℕ) → agreed ≡ agreement.At e → e ≤ length input
   pub rest : (n : ℕ) → level words input A place ≤ n
-      → memoObey (deep words input n) input (some r) place memo₀ ≡ memoRest (deep words input n) input place agreed (parse (drop at words) .positives) (parse (drop at words) .negatives) memo
+      → memoObey (deep choice words input n) input (some r) place memo₀ ≡ memoRest (deep choice words input n) input place agreed (parse (drop at words) .positives) (parse (drop at words) .negatives) memo
   pub positives : (b : Body) → List·Memᴰ b (parse (drop at words) .positives) → List·Memᴰ b (bodies r)
   pub negatives : (b : Body) → List·Memᴰ b (parse (drop at words) .negatives) → List·Memᴰ b (bodies r)
   pub progress : Progress
@@ -158,18 +157,19 @@ ends-joined n Negative (agreement.At x) o h k e q = go (endsAt o x) q
 ends-joined n Neither (agreement.At x) o h k e q = let z : _≡_ {A = ℕ} 0 1 = cc in absurd (omega arith)
 ends-joined n s agreement.Failed o h k e q = let z : _≡_ {A = ℕ} 0 1 = cc in absurd (omega arith)
 
-module _ {words starts table input memo₀ : List ℕ} {A place : ℕ} (g : CallGiven words starts table input memo₀ A place) (r : Rule)
+module _ {choice : Choice} {words starts table input memo₀ : List ℕ} {A place : ℕ} (g : CallGiven choice words starts table input memo₀ A place) (r : Rule)
     (listed : List·Memᴰ r (grammarOf words .rules)) (heads : r .head ≡ A)
-    {memo : List ℕ} {at : ℕ} {sign : Sign} {agreed : Agreement} (v : Calling words input memo₀ A place r memo at sign agreed) where
+    {memo : List ℕ} {at : ℕ} {sign : Sign} {agreed : Agreement} (v : Calling choice words input memo₀ A place r memo at sign agreed) where
   -- the call with the memo as it is now
-  pub calling-given : CallGiven words starts table input memo A place
+  pub calling-given : CallGiven choice words starts table input memo A place
   calling-given = record {
     given = record {
       sizes = g .given .sizes;
       read = g .given .read;
       free = g .given .free;
       begins = g .given .begins;
-      entries = g .given .entries;
+      own = g .given .own;
+      holds = g .given .holds;
       tokens = g .given .tokens;
       short = g .given .short;
       sound = v .sound;
@@ -190,9 +190,9 @@ module _ {words starts table input memo₀ : List ℕ} {A place : ℕ} (g : Call
     pub negatives : (b : Body) → List·Memᴰ b (Q .negatives) → List·Memᴰ b (bodies r)
     pub progress : Progress
     pub reads : scan progress (at + 1) (drop (at + 1) words) ≡ reading words
-    pub joins : (n : ℕ) (m′ : List ℕ) (o : Outcome) → memoRun (deep words input n) input (Q .body) place memo ≡ memoized o m′
-        → memoRest (deep words input n) input place agreed (parse (drop at words) .positives) (parse (drop at words) .negatives) memo
-        ≡ memoRest (deep words input n) input place (joinedBy sign agreed o) (Q .positives) (Q .negatives) m′
+    pub joins : (n : ℕ) (m′ : List ℕ) (o : Outcome) → memoRun (deep choice words input n) input (Q .body) place memo ≡ memoized o m′
+        → memoRest (deep choice words input n) input place agreed (parse (drop at words) .positives) (parse (drop at words) .negatives) memo
+        ≡ memoRest (deep choice words input n) input place (joinedBy sign agreed o) (Q .positives) (Q .negatives) m′
 
   module _ (h : at < length words) where
     next : Next words at (v .progress) (g .given .sizes)
@@ -223,11 +223,11 @@ module _ {words starts table input memo₀ : List ℕ} {A place : ℕ} (g : Call
           }
         where
           join : (a : Agreement) → goesOn Positive a ≡ true → (n : ℕ) (m′ : List ℕ) (o : Outcome)
-              → memoRun (deep words input n) input (Q .body) place memo ≡ memoized o m′
-              → memoRest (deep words input n) input place a (Q .body ∷ Q .positives) (Q .negatives) memo
-              ≡ memoRest (deep words input n) input place (joinedBy Positive a o) (Q .positives) (Q .negatives) m′
-          join agreement.Open t n m′ o run = positive-opens (deep words input n) input place (Q .body) (Q .negatives) memo m′ o run (Q .positives)
-          join (agreement.At e) t n m′ o run = positive-keeps (deep words input n) input place (Q .body) (Q .negatives) memo m′ o run e (Q .positives)
+              → memoRun (deep choice words input n) input (Q .body) place memo ≡ memoized o m′
+              → memoRest (deep choice words input n) input place a (Q .body ∷ Q .positives) (Q .negatives) memo
+              ≡ memoRest (deep choice words input n) input place (joinedBy Positive a o) (Q .positives) (Q .negatives) m′
+          join agreement.Open t n m′ o run = positive-opens (deep choice words input n) input place (Q .body) (Q .negatives) memo m′ o run (Q .positives)
+          join (agreement.At e) t n m′ o run = positive-keeps (deep choice words input n) input place (Q .body) (Q .negatives) memo m′ o run e (Q .positives)
           join agreement.Failed t n m′ o run = absurd (false≢true t)
 
       -- a negative conjunct: no positive one stands behind it, and one stood before it
@@ -251,11 +251,11 @@ module _ {words starts table input memo₀ : List ℕ} {A place : ℕ} (g : Call
           }
         where
           join : (a : Agreement) → agreed ≡ a → allows word.Negative (v .progress .state) ≡ true → goesOn Negative a ≡ true
-              → (n : ℕ) (m′ : List ℕ) (o : Outcome) → memoRun (deep words input n) input (Q .body) place memo ≡ memoized o m′
-              → memoRest (deep words input n) input place a [] (Q .body ∷ Q .negatives) memo
-              ≡ memoRest (deep words input n) input place (joinedBy Negative a o) [] (Q .negatives) m′
+              → (n : ℕ) (m′ : List ℕ) (o : Outcome) → memoRun (deep choice words input n) input (Q .body) place memo ≡ memoized o m′
+              → memoRest (deep choice words input n) input place a [] (Q .body ∷ Q .negatives) memo
+              ≡ memoRest (deep choice words input n) input place (joinedBy Negative a o) [] (Q .negatives) m′
           join agreement.Open e w t n m′ o run = absurd (false≢true (rw (v .opens e) at w))
-          join (agreement.At x) e w t n m′ o run = negative-keeps (deep words input n) input place (Q .body) (Q .negatives) memo m′ o run x
+          join (agreement.At x) e w t n m′ o run = negative-keeps (deep choice words input n) input place (Q .body) (Q .negatives) memo m′ o run x
           join agreement.Failed e w t n m′ o run = absurd (false≢true t)
 
   -- where the rule goes on a conjunct begins
@@ -280,13 +280,13 @@ module _ {words starts table input memo₀ : List ℕ} {A place : ℕ} (g : Call
       go Neither e = absurd (begins sign agreed goes e)
 
   -- the run of its body
-  pub calling-run : (k : Conjunct) → RunGiven words starts table input memo A (at + 1) place
+  pub calling-run : (k : Conjunct) → RunGiven choice words starts table input memo A (at + 1) place
   calling-run k = record { call = calling-given; rule = r; listed = listed; heads = heads; held = k .held; progress = k .progress; reads = k .reads }
 
   -- one body more
   pub calling-turn : goesOn sign agreed ≡ true → {o : code.Outcome} {memo′ : List ℕ} {at′ : ℕ} {sign′ : Sign} {agreed′ : Agreement}
-      → RunDone words input memo A (at + 1) place o memo′ → agreed′ ≡ joinedBy sign agreed (meant o) → BodyEnd words (at + 1) at′ → sign′ ≡ signAt words at′
-      → Calling words input memo₀ A place r memo′ at′ sign′ agreed′
+      → RunDone choice words input memo A (at + 1) place o memo′ → agreed′ ≡ joinedBy sign agreed (meant o) → BodyEnd words (at + 1) at′ → sign′ ≡ signAt words at′
+      → Calling choice words input memo₀ A place r memo′ at′ sign′ agreed′
   calling-turn goes {o} {memo′} {at′} {sign′} {agreed′} d j b s =
       let k = conjunct goes in
       record {
@@ -319,8 +319,8 @@ nothing-left : (parse [] .positives ≡ []) × (parse [] .negatives ≡ [])
 unfolding parse
 nothing-left = (refl, refl)
 
-module _ {words starts table input memo₀ : List ℕ} {A place : ℕ} (g : CallGiven words starts table input memo₀ A place) {r : Rule}
-    {memo : List ℕ} {at : ℕ} {sign : Sign} {agreed : Agreement} (v : Calling words input memo₀ A place r memo at sign agreed) where
+module _ {choice : Choice} {words starts table input memo₀ : List ℕ} {A place : ℕ} (g : CallGiven choice words starts table input memo₀ A place) {r : Rule}
+    {memo : List ℕ} {at : ℕ} {sign : Sign} {agreed : Agreement} (v : Calling choice words input memo₀ A place r memo at sign agreed) where
   -- where no conjunct begins nothing is left of the rule
   none-left : sign ≡ Neither → (parse (drop at words) .positives ≡ []) × (parse (drop at words) .negatives ≡ [])
   unfolding signAt
@@ -338,7 +338,7 @@ module _ {words starts table input memo₀ : List ℕ} {A place : ℕ} (g : Call
 
   -- the rule has run: its bodies agree, or it has failed
   pub calling-done : goesOn sign agreed ≡ false → (n : ℕ) → level words input A place ≤ n
-      → memoObey (deep words input n) input (some r) place memo₀ ≡ memoized (concluded agreed) memo
+      → memoObey (deep choice words input n) input (some r) place memo₀ ≡ memoized (concluded agreed) memo
   unfolding memoRest memoPositives memoNegatives
   calling-done stops n l = v .rest n l ∙ go agreed refl stops
     where
@@ -348,7 +348,7 @@ module _ {words starts table input memo₀ : List ℕ} {A place : ℕ} (g : Call
       neither Neither e = refl
 
       go : (a : Agreement) → agreed ≡ a → goesOn sign a ≡ false
-          → memoRest (deep words input n) input place a (parse (drop at words) .positives) (parse (drop at words) .negatives) memo ≡ memoized (concluded a) memo
+          → memoRest (deep choice words input n) input place a (parse (drop at words) .positives) (parse (drop at words) .negatives) memo ≡ memoized (concluded a) memo
       go agreement.Open e t =
           let f = reads (v .progress) at (drop at words) (g .given .sizes) (v .reads ∙ g .given .read) .fits in
           absurd ((rw (v .opens e) at (f .shape)) .1 (none-left (neither sign t) .0))
@@ -356,29 +356,29 @@ module _ {words starts table input memo₀ : List ℕ} {A place : ℕ} (g : Call
       go agreement.Failed e t = refl
 
 -- a call that runs a rule
-pub record InRule (words input memo₀ : List ℕ) (A place : ℕ) (memo : List ℕ) (at : ℕ) (sign : Sign) (agreed : Agreement) : Type 0 where
+pub record InRule (choice : Choice) (words input memo₀ : List ℕ) (A place : ℕ) (memo : List ℕ) (at : ℕ) (sign : Sign) (agreed : Agreement) : Type 0 where
   pub rule : Rule
   pub listed : List·Memᴰ rule (grammarOf words .rules)
   pub heads : rule .head ≡ A
-  pub selected : select (grammarOf words) (tableOf (grammarOf words) 1 A (look 1 input place)) ≡ some rule
-  pub calling : Calling words input memo₀ A place rule memo at sign agreed
+  pub selected : select (grammarOf words) (choice A place) ≡ some rule
+  pub calling : Calling choice words input memo₀ A place rule memo at sign agreed
 
 concluded-at : (a : Agreement) (e : ℕ) → concluded a ≡ End e → a ≡ agreement.At e
 concluded-at agreement.Open e q = let z : _≡_ {A = ℕ} 0 1 = cc in absurd (omega arith)
 concluded-at (agreement.At x) e q = let z : x ≡ e = cc in ap agreement.At z
 concluded-at agreement.Failed e q = let z : _≡_ {A = ℕ} 0 1 = cc in absurd (omega arith)
 
-module _ {words starts table input memo₀ : List ℕ} {A place : ℕ} (g : CallGiven words starts table input memo₀ A place)
-    {memo : List ℕ} {at : ℕ} {sign : Sign} {agreed : Agreement} (v : InRule words input memo₀ A place memo at sign agreed) where
+module _ {choice : Choice} {words starts table input memo₀ : List ℕ} {A place : ℕ} (g : CallGiven choice words starts table input memo₀ A place)
+    {memo : List ℕ} {at : ℕ} {sign : Sign} {agreed : Agreement} (v : InRule choice words input memo₀ A place memo at sign agreed) where
   pub rule-conjunct : goesOn sign agreed ≡ true → at < length words
   rule-conjunct goes = conjunct g (v .rule) (v .listed) (v .heads) (v .calling) goes .low
 
-  pub rule-run : goesOn sign agreed ≡ true → RunGiven words starts table input memo A (at + 1) place
+  pub rule-run : goesOn sign agreed ≡ true → RunGiven choice words starts table input memo A (at + 1) place
   rule-run goes = calling-run g (v .rule) (v .listed) (v .heads) (v .calling) (conjunct g (v .rule) (v .listed) (v .heads) (v .calling) goes)
 
   pub rule-turn : goesOn sign agreed ≡ true → {o : code.Outcome} {memo′ : List ℕ} {at′ : ℕ} {sign′ : Sign} {agreed′ : Agreement}
-      → RunDone words input memo A (at + 1) place o memo′ → agreed′ ≡ joinedBy sign agreed (meant o) → BodyEnd words (at + 1) at′ → sign′ ≡ signAt words at′
-      → InRule words input memo₀ A place memo′ at′ sign′ agreed′
+      → RunDone choice words input memo A (at + 1) place o memo′ → agreed′ ≡ joinedBy sign agreed (meant o) → BodyEnd words (at + 1) at′ → sign′ ≡ signAt words at′
+      → InRule choice words input memo₀ A place memo′ at′ sign′ agreed′
   rule-turn goes d j b s = record {
     rule = v .rule;
     listed = v .listed;
@@ -391,5 +391,5 @@ module _ {words starts table input memo₀ : List ℕ} {A place : ℕ} (g : Call
   rule-short o c e q = let l = v .calling .ends e (concluded-at agreed e (sym c ∙ q)) in omega (arith, g .given .short)
 
   pub rule-done : goesOn sign agreed ≡ false → (o : code.Outcome) → meant o ≡ concluded agreed
-      → (n : ℕ) → level words input A place ≤ n → memoObey (deep words input n) input (some (v .rule)) place memo₀ ≡ memoized (meant o) memo
+      → (n : ℕ) → level words input A place ≤ n → memoObey (deep choice words input n) input (some (v .rule)) place memo₀ ≡ memoized (meant o) memo
   rule-done stops o c n l = calling-done g (v .calling) stops n l ∙ ap (λ x. memoized x memo) (sym c)

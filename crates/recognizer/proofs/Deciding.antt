@@ -24,7 +24,7 @@ use Rattle.grammar.proofs.WellRead.{well-read}
 use Rattle.semantics.specs.FiniteSets.{member}
 use Rattle.semantics.specs.Valuations.{pairs}
 use Rattle.semantics.specs.LeftRecursion.{NoLeftRecursion}
-use Rattle.semantics.specs.Claims.{tableOf}
+use Rattle.semantics.specs.Choices.{Choice, tableChoice}
 use Rattle.semantics.specs.Descent.{endsAt, descend, accepts}
 use Rattle.semantics.specs.ComesTo.{Call, callAt, InRange}
 use Rattle.semantics.specs.Calls.{Listing, sameCall, allCalls, calls}
@@ -37,11 +37,12 @@ use Rattle.semantics.proofs.Theorems.{theorems}
 use Rattle.rule.specs.declared.Outcome as code
 use Rattle.recognizer.specs.declared.judging.Unknown.the-variants.{Absent, At}
 use Rattle.rule.specs.Rule.{meant}
-use Rattle.recognizer.specs.Descent.{MemoSound, CallGiven, CallDone}
+use Rattle.recognizer.specs.Descent.{MemoSound, CallGiven, CallDone, CallEnsures}
 use Rattle.recognizer.specs.Tally.{tallyOf, recordedCalls}
 use Rattle.recognizer.specs.Memory.{memoWord, memoWords}
 use Rattle.recognizer.specs.Answers.{unknownFrom, callsOf, verdictOf}
 use Rattle.recognizer.specs.Judging.{DescendGiven, Descended}
+use Rattle.recognizer.proofs.OneToken.{table-holds}
 use Rattle.recognizer.proofs.Running.{level}
 use Rattle.recognizer.proofs.Storing.{getD-any}
 use Rattle.recognizer.proofs.Tallying.{tally-recorded}
@@ -63,25 +64,25 @@ module _ (n : ℕ) (input : List ℕ) (at : ℕ) where
   unknown-none h = rw (drop-of-length-le input h)
 
 -- a memo table in which no call is recorded is sound
-pub blank-sound : (words input : List ℕ) → MemoSound words input (blank (grammarOf words) input)
-blank-sound words input = record {
+pub blank-sound : (choice : Choice) (words input : List ℕ) → MemoSound choice words input (blank (grammarOf words) input)
+blank-sound choice words input = record {
   size = length-replicate (pairs (grammarOf words) input) uncalledCode;
   right = λ x h n. absurd (n (getD-replicate (pairs (grammarOf words) input) (indexOf input x) uncalledCode uncalledCode (index-range (grammarOf words) input x h)));
 }
 
 -- the entries of the calls in order are what the memo table records
-module _ (G : Grammar) (w : List ℕ) (scoped : WellScoped G) (free : NoLeftRecursion G) (nonempty : 0 < G .nonterminals) {m : List ℕ} (r : Recorded G (tableOf G 1) 1 w m) where
-  listing : Listing G (tableOf G 1) 1 w (calls G (tableOf G 1) 1 w)
-  listing = theorems .calls-counted G scoped free nonempty (tableOf G 1) (theorems .own-entries G 1) 1 w .listing
+module _ (G : Grammar) (w : List ℕ) (scoped : WellScoped G) (free : NoLeftRecursion G) (nonempty : 0 < G .nonterminals) {m : List ℕ} (r : Recorded G (tableChoice G 1 w) w m) where
+  listing : Listing G (tableChoice G 1 w) w (calls G (tableChoice G 1 w) w)
+  listing = theorems .calls-counted G scoped free nonempty (tableChoice G 1 w) (theorems .own-rules G 1 w) w .listing
 
   word-is : (x : Call) → InRange G w x → entry w m x ≡ memoWord G w x
   unfolding memoWord
-  word-is x h = go (member sameCall (calls G (tableOf G 1) 1 w) x) refl
+  word-is x h = go (member sameCall (calls G (tableChoice G 1 w) w) x) refl
     where
-      go : (b : Bool) → member sameCall (calls G (tableOf G 1) 1 w) x ≡ b
-          → entry w m x ≡ choose b (encode (descend G (tableOf G 1) 1 w (x .nonterminal) (x .place))) uncalledCode
-      go true e = r .called x (listing .sound x (member-mem sameCall calls-equality (calls G (tableOf G 1) 1 w) x (rw e tt)))
-      go false e = r .uncalled x h (λ c. rw e at (mem-member sameCall calls-equality (calls G (tableOf G 1) 1 w) x (listing .full x c)))
+      go : (b : Bool) → member sameCall (calls G (tableChoice G 1 w) w) x ≡ b
+          → entry w m x ≡ choose b (encode (descend G (tableChoice G 1 w) w (x .nonterminal) (x .place))) uncalledCode
+      go true e = r .called x (listing .sound x (member-mem sameCall calls-equality (calls G (tableChoice G 1 w) w) x (rw e tt)))
+      go false e = r .uncalled x h (λ c. rw e at (mem-member sameCall calls-equality (calls G (tableChoice G 1 w) w) x (listing .full x c)))
 
   pub words-recorded : m ≡ memoWords G w
   unfolding memoWords
@@ -109,38 +110,47 @@ module _ {words : List ℕ} {z : Sizes} {entries input memo : List ℕ} (g : Des
   abbrev G : Grammar
   G = grammarOf words
 
+  -- the choice that the descent goes by
+  abbrev one-token : Choice
+  one-token = tableChoice G 1 input
+
   some-nonterminal : 0 < G .nonterminals
   some-nonterminal = omega (arith, r .nonterminals, r .someNonterminal)
 
   pub start-given : {starts blanked : List ℕ} → starts ≡ ruleStarts words → blanked ≡ replicate (length memo) uncalledCode
-      → CallGiven words starts entries input blanked 0 0
+      → CallGiven one-token words starts entries input blanked 0 0
   start-given s b = record {
     given = record {
       sizes = z;
       read = g .read;
       free = g .free;
       begins = s;
-      entries = g .table;
+      own = theorems .own-rules G 1 input;
+      holds = λ A i a _. table-holds words entries input (g .table) (g .tokens) A i a;
       tokens = g .tokens;
       short = g .short;
-      sound = rw (b, g .size) (blank-sound words input);
+      sound = rw (b, g .size) (blank-sound one-token words input);
     };
     named = some-nonterminal;
     placed = omega arith;
   }
 
-  module _ {o : code.Outcome} {blanked memo′ : List ℕ} (b : blanked ≡ replicate (length memo) uncalledCode) (d : CallDone words input blanked 0 0 o memo′) where
+  module _ {o : code.Outcome} {starts blanked memo′ : List ℕ} (s : starts ≡ ruleStarts words) (b : blanked ≡ replicate (length memo) uncalledCode)
+      (ensured : CallEnsures words starts entries input blanked 0 0 o memo′) where
+    d : CallDone one-token words input blanked 0 0 o memo′
+    d = ensured one-token (start-given s b)
+
     fits : Fits input
     fits = omega (arith, g .short)
 
-    done : (meant o ≡ descend G (tableOf G 1) 1 input 0 0) × Recorded G (tableOf G 1) 1 input memo′
+    done : (meant o ≡ descend G one-token input 0 0) × Recorded G one-token input memo′
     done =
         let n = suc (level words input 0 0) in
         let l : level words input 0 0 < n = omega arith in
-        let m : memoCall G (tableOf G 1) 1 input n 0 0 (blank G input) ≡ memoized (meant o) memo′ =
-        ap (λ x. memoCall G (tableOf G 1) 1 input n 0 0 x) (sym (b ∙ ap (λ k. replicate k uncalledCode) (g .size))) ∙ d .model n l in
-        let k = memo-recorded-within G (tableOf G 1) 1 input (r .formed .scoped) (g .free) (theorems .own-entries G 1) fits some-nonterminal n l in
-        (sym (ap (λ x. x .outcome) m) ∙ k .0, subst (λ x. Recorded G (tableOf G 1) 1 input x) (ap (λ x. x .memo) m) (k .1))
+        let m : memoCall G one-token input n 0 0 (blank G input) ≡ memoized (meant o) memo′ =
+        ap (λ x. memoCall G one-token input n 0 0 x) (sym (b ∙ ap (λ k. replicate k uncalledCode) (g .size))) ∙ d .model n l in
+        let k = memo-recorded-within G one-token input (r .formed .scoped) (g .free) (theorems .own-rules G 1 input) fits some-nonterminal n l in
+        (sym (ap (λ x. x .outcome) m) ∙ k .0, subst (λ x. Recorded G one-token input x) (ap (λ x. x .memo) m) (k .1))
 
     pub memo-long : length memo′ ≡ z .nonterminals * (length input + 1)
     memo-long = d .sound .size ∙ rw (r .nonterminals, add-one (length input))

@@ -30,7 +30,7 @@ use Rattle.grammar.proofs.WellRead.{well-read}
 use Rattle.semantics.specs.Quantifiers.{all}
 use Rattle.semantics.specs.Valuations.{Valuation, Solves, pairs}
 use Rattle.semantics.specs.Strings.{Over}
-use Rattle.semantics.specs.Claims.{tableOf}
+use Rattle.semantics.specs.Choices.{tableChoice}
 use Rattle.semantics.specs.Descent.{accepts}
 use Rattle.semantics.specs.Calls.{allCalls, callCount, farthest}
 use Rattle.semantics.specs.Predictive.{Predictive}
@@ -44,10 +44,9 @@ use Rattle.table.specs.Analysis.{fault}
 use Rattle.sets.proofs.Lists.{listed-long, listed-at}
 use Rattle.recognizer.specs.declared.judging.Unknown.{Unknown}
 use Rattle.recognizer.specs.declared.judging.Unknown.the-variants.{Absent, At}
-use Rattle.recognizer.specs.Descent.{Entries}
 use Rattle.recognizer.specs.Memory.{lentBack, memoWord, memoWords, Lent}
 use Rattle.recognizer.specs.Answers.{unless, unknownFrom, unknownFault, firstOf, checkFault, judgeFault, refusedOr, callsOf, verdictOf, toldOr, verdictNumbers}
-use Rattle.recognizer.specs.Judging.{PassedGiven, DescendGiven, Descended}
+use Rattle.recognizer.specs.Judging.{PassedGiven, Entries, DescendGiven, Descended}
 use Rattle.recognizer.specs.Properties.{PassedGrammar, Recognizes, Judges}
 use Rattle.recognizer.proofs.Checking.{passed-fault, fault-passed, no-clashes, not-left-recursive, lent-table}
 
@@ -147,17 +146,17 @@ meaning words input r p over e =
       one-solution = theorems .one-solution G (k .formed .scoped) (p .free) input;
       accepted = λ v s. tells v s .0;
       rejected = λ v s. tells v s .1;
-      calls = theorems .calls-counted G (k .formed .scoped) (p .free) some-nonterminal (tableOf G 1) (theorems .own-entries G 1) 1 input;
+      calls = theorems .calls-counted G (k .formed .scoped) (p .free) some-nonterminal (tableChoice G 1 input) (theorems .own-rules G 1 input) input;
     }
 
 -- the numbers of what is answered
 verdict-told : (G : Grammar) (w : List ℕ) (f : Option Error) → numbers (refusedOr f (verdictOf G w)) ≡ toldOr f (verdictNumbers G w)
 unfolding verdictOf verdictNumbers
 verdict-told G w (some e) = refl
-verdict-told G w none = go (accepts G (tableOf G 1) 1 w)
+verdict-told G w none = go (accepts G (tableChoice G 1 w) w)
   where
     go : (b : Bool) → numbers (choose b (Accepted (callsOf G w)) (Rejected (callsOf G w)))
-        ≡ answered (choose b accepted rejected) 0 0 (callCount G (tableOf G 1) 1 w) (farthest G (tableOf G 1) 1 w)
+        ≡ answered (choose b accepted rejected) 0 0 (callCount G (tableChoice G 1 w) w) (farthest G (tableChoice G 1 w) w)
     go true = refl
     go false = refl
 

@@ -1,5 +1,6 @@
 pub mod Headings
 pub mod Choosing
+pub mod OneToken
 pub mod Bodies
 pub mod Running
 pub mod Calling

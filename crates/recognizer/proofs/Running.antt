@@ -23,7 +23,7 @@ use Rattle.grammar.proofs.Suffixes.{scan-next}
 use Rattle.grammar.proofs.WellRead.{well-read}
 use Rattle.semantics.specs.Quantifiers.{pick}
 use Rattle.semantics.specs.LeftRecursion.{nullable, LeftIn, here, there, LeftDepends}
-use Rattle.semantics.specs.Claims.{tableOf}
+use Rattle.semantics.specs.Choices.{Choice}
 use Rattle.semantics.specs.Descent.{Outcome, Failed, End}
 use Rattle.semantics.specs.ComesTo.{callAt, measure}
 use Rattle.semantics.specs.MemoDescent.{memoized, andThen, MemoCalls, memoRun, memoCall}
@@ -35,9 +35,9 @@ use Rattle.sets.proofs.Words.{parse-over}
 use Rattle.recognizer.specs.Descent.{matchesAt, MemoSound, CallGiven, RunGiven, CallDone, RunDone}
 use Rattle.recognizer.proofs.Bodies.{parse-here, symbol-reads}
 
--- the calls at most n deep, on the words' grammar and table
-abbrev pub deep : List ℕ → List ℕ → ℕ → MemoCalls
-deep words input n = memoCall (grammarOf words) (tableOf (grammarOf words) 1) 1 input n
+-- the calls at most n deep, on the words' grammar
+abbrev pub deep : Choice → List ℕ → List ℕ → ℕ → MemoCalls
+deep choice words input n = memoCall (grammarOf words) choice input n
 
 abbrev pub level : List ℕ → List ℕ → ℕ → ℕ → ℕ
 level words input A place = measure (grammarOf words) input (callAt A place)
@@ -46,30 +46,30 @@ pub body-at : List ℕ → ℕ → Body
 body-at words at = parse (drop at words) .body
 
 -- a run that has come to an index and a place
-pub record Running (words input memo₀ : List ℕ) (A from start : ℕ) (memo : List ℕ) (at place : ℕ) : Type 0 where
+pub record Running (choice : Choice) (words input memo₀ : List ℕ) (A from start : ℕ) (memo : List ℕ) (at place : ℕ) : Type 0 where
   pub behind : start ≤ place
   pub placed : place ≤ length input
-  pub sound : MemoSound words input memo
+  pub sound : MemoSound choice words input memo
   pub rest : (n : ℕ) → level words input A start ≤ n
-      → memoRun (deep words input n) input (body-at words from) start memo₀ ≡ memoRun (deep words input n) input (body-at words at) place memo
+      → memoRun (deep choice words input n) input (body-at words from) start memo₀ ≡ memoRun (deep choice words input n) input (body-at words at) place memo
   pub known : NonterminalsBelow (grammarOf words .nonterminals) (body-at words at)
   pub front : place ≡ start → (B : ℕ) → LeftIn (nullable (grammarOf words)) B (body-at words at) → LeftDepends (grammarOf words) A B
   pub progress : Progress
   pub reads : scan progress at (drop at words) ≡ reading words
 
 -- where two ways meet
-pub running-as : {words input memo₀ : List ℕ} {A from start : ℕ} {memo memo′ : List ℕ} {at place place′ : ℕ} → memo′ ≡ memo → place′ ≡ place
-    → Running words input memo₀ A from start memo at place → Running words input memo₀ A from start memo′ at place′
+pub running-as : {choice : Choice} {words input memo₀ : List ℕ} {A from start : ℕ} {memo memo′ : List ℕ} {at place place′ : ℕ} → memo′ ≡ memo → place′ ≡ place
+    → Running choice words input memo₀ A from start memo at place → Running choice words input memo₀ A from start memo′ at place′
 running-as m p v = rw (m, p) v
 
-module _ {words starts table input memo₀ : List ℕ} {A from start : ℕ} (g : RunGiven words starts table input memo₀ A from start) where
+module _ {choice : Choice} {words starts table input memo₀ : List ℕ} {A from start : ℕ} (g : RunGiven choice words starts table input memo₀ A from start) where
   abbrev G : Grammar
   G = grammarOf words
 
   r : WellRead words (g .call .given .sizes)
   r = well-read words (g .call .given .sizes) (g .call .given .read)
 
-  pub running-start : Running words input memo₀ A from start memo₀ from start
+  pub running-start : Running choice words input memo₀ A from start memo₀ from start
   unfolding body-at
   running-start = record {
     behind = omega arith;
@@ -103,26 +103,26 @@ body-none (Symbol X) p s a h = absurd (h X refl)
 body-none EndWord p s a h = refl
 body-none Invalid p s a h = absurd (false≢true a)
 
-module _ {words starts table input memo₀ : List ℕ} {A from start : ℕ} (g : RunGiven words starts table input memo₀ A from start)
-    {memo : List ℕ} {at place : ℕ} (v : Running words input memo₀ A from start memo at place) where
+module _ {choice : Choice} {words starts table input memo₀ : List ℕ} {A from start : ℕ} (g : RunGiven choice words starts table input memo₀ A from start)
+    {memo : List ℕ} {at place : ℕ} (v : Running choice words input memo₀ A from start memo at place) where
   -- a run that comes to a word that is no symbol, or to the end of the words, has ended
-  done : body-at words at ≡ [] → RunDone words input memo₀ A from start (outcome.End place) memo
+  done : body-at words at ≡ [] → RunDone choice words input memo₀ A from start (outcome.End place) memo
   unfolding body-at memoRun
   done e = record {
-    model = λ n l. v .rest n l ∙ ap (λ b. memoRun (deep words input n) input b place memo) e;
+    model = λ n l. v .rest n l ∙ ap (λ b. memoRun (deep choice words input n) input b place memo) e;
     sound = v .sound;
     within = λ x q. let e : place ≡ x = end-same place x q in omega (arith, v .placed);
   }
 
   pub running-done : (w : Word) → at < length words → w ≡ decoded (getD words at 0) → ((X : grammar.Symbol) → w ≡ Symbol X → ⊥)
-      → RunDone words input memo₀ A from start (outcome.End place) memo
+      → RunDone choice words input memo₀ A from start (outcome.End place) memo
   unfolding body-at
   running-done w h e n =
       let s = scan-next words at (v .progress) (g .call .given .sizes) h (v .reads ∙ g .call .given .read) in
       let k = parse-here words at h in
       done (ap (λ p. p .body) k ∙ body-none (decoded (getD words at 0)) (parse (drop (at + 1) words)) (v .progress .state) (s .passed .allowed) (λ X x. n X (e ∙ x)))
 
-  pub running-over : length words ≤ at → RunDone words input memo₀ A from start (outcome.End place) memo
+  pub running-over : length words ≤ at → RunDone choice words input memo₀ A from start (outcome.End place) memo
   unfolding body-at parse
   running-over h = done (ap (λ p. p .body) (parse-over words at h))
 
@@ -144,12 +144,12 @@ module _ {words starts table input memo₀ : List ℕ} {A from start : ℕ} (g :
     front-here = rw body-here at (v .front)
 
     rest-here : (n : ℕ) → level words input A start ≤ n
-        → memoRun (deep words input n) input (body-at words from) start memo₀ ≡ memoRun (deep words input n) input (X ∷ body-at words (at + 1)) place memo
-    rest-here n l = v .rest n l ∙ ap (λ b. memoRun (deep words input n) input b place memo) body-here
+        → memoRun (deep choice words input n) input (body-at words from) start memo₀ ≡ memoRun (deep choice words input n) input (X ∷ body-at words (at + 1)) place memo
+    rest-here n l = v .rest n l ∙ ap (λ b. memoRun (deep choice words input n) input b place memo) body-here
 
   module _ (a : ℕ) (h : at < length words) (x : decoded (getD words at 0) ≡ Symbol (Terminal a)) where
     -- a token that is the terminal
-    pub running-terminal : matchesAt input place a ≡ true → Running words input memo₀ A from start memo (at + 1) (place + 1)
+    pub running-terminal : matchesAt input place a ≡ true → Running choice words input memo₀ A from start memo (at + 1) (place + 1)
     unfolding memoRun matchesAt pick
     running-terminal m =
         let l : place < length input = ltb-true place (length input) (both (ltb place (length input)) (eqb (getD input place 0) a) m) in
@@ -165,7 +165,7 @@ module _ {words starts table input memo₀ : List ℕ} {A from start : ℕ} (g :
         }
 
     -- another token, or the end
-    pub running-mismatch : matchesAt input place a ≡ false → RunDone words input memo₀ A from start outcome.Failed memo
+    pub running-mismatch : matchesAt input place a ≡ false → RunDone choice words input memo₀ A from start outcome.Failed memo
     unfolding body-at memoRun matchesAt pick
     running-mismatch m = record {
       model = λ n k. rest-here (Terminal a) h x n k ∙ rw m;
@@ -175,14 +175,15 @@ module _ {words starts table input memo₀ : List ℕ} {A from start : ℕ} (g :
 
   module _ (B : ℕ) (h : at < length words) (x : decoded (getD words at 0) ≡ Symbol (Nonterminal B)) where
     -- the call that a nonterminal makes
-    pub running-given : CallGiven words starts table input memo B place
+    pub running-given : CallGiven choice words starts table input memo B place
     running-given = record {
       given = record {
         sizes = g .call .given .sizes;
         read = g .call .given .read;
         free = g .call .given .free;
         begins = g .call .given .begins;
-        entries = g .call .given .entries;
+        own = g .call .given .own;
+        holds = g .call .given .holds;
         tokens = g .call .given .tokens;
         short = g .call .given .short;
         sound = v .sound;
@@ -200,12 +201,12 @@ module _ {words starts table input memo₀ : List ℕ} {A from start : ℕ} (g :
         level-onward (grammarOf words) (r g .formed .scoped) (g .call .given .free) A B (length input) start place
         (known-here (Nonterminal B) h x .0) (v .behind) (v .placed) (λ e. front-here (Nonterminal B) h x e B here)
 
-    module _ {o : code.Outcome} {memo′ : List ℕ} (d : CallDone words input memo B place o memo′) where
-      called : (n : ℕ) → level words input A start ≤ n → deep words input n B place memo ≡ memoized (meant o) memo′
+    module _ {o : code.Outcome} {memo′ : List ℕ} (d : CallDone choice words input memo B place o memo′) where
+      called : (n : ℕ) → level words input A start ≤ n → deep choice words input n B place memo ≡ memoized (meant o) memo′
       called n l = d .model n (omega (arith, running-falls))
 
       -- one that ends
-      pub running-call : (e : ℕ) → o ≡ outcome.End e → Running words input memo₀ A from start memo′ (at + 1) e
+      pub running-call : (e : ℕ) → o ≡ outcome.End e → Running choice words input memo₀ A from start memo′ (at + 1) e
       unfolding memoRun andThen
       running-call e q =
           let m : meant o ≡ End e = ap meant q in
@@ -225,7 +226,7 @@ module _ {words starts table input memo₀ : List ℕ} {A from start : ℕ} (g :
           }
 
       -- one that fails
-      pub running-failed : o ≡ outcome.Failed → RunDone words input memo₀ A from start outcome.Failed memo′
+      pub running-failed : o ≡ outcome.Failed → RunDone choice words input memo₀ A from start outcome.Failed memo′
       unfolding body-at memoRun andThen
       running-failed q = record {
         model = λ n l. rest-here (Nonterminal B) h x n l ∙ rw (called n l, ap meant q);

@@ -1,4 +1,4 @@
--- The rule that the table chooses: where it begins, and that its bodies are all still to be run. Assumes nothing.
+-- The rule that is chosen: where it begins, and that its bodies are all still to be run. Assumes nothing.
 use mathlib.Core.Path.{_≡_, refl, sym, ap, _∙_}
 use mathlib.Core.Bool.{true, false, false≢true}
 use mathlib.Core.List.{List, [], _∷_, List·Memᴰ, Memᴰ·append-left, Memᴰ·append-right}
@@ -24,19 +24,16 @@ use Rattle.grammar.specs.declared.reading.State.the-variants as state
 use Rattle.grammar.specs.declared.reading.Progress.{Progress}
 use Rattle.grammar.proofs.Suffixes.{read-reaches, scan-next}
 use Rattle.grammar.proofs.WellRead.{well-read}
-use Rattle.semantics.specs.Strings.{look}
-use Rattle.semantics.specs.Families.{OwnEntries}
-use Rattle.semantics.specs.Claims.{tableOf}
+use Rattle.semantics.specs.Choices.{Choice}
 use Rattle.semantics.specs.Descent.{Failed, select}
 use Rattle.semantics.specs.Memo.{encode}
 use Rattle.semantics.specs.MemoDescent.{MemoCalls, memoized, memoObey}
 use Rattle.semantics.proofs.Outcomes.{nth-mem}
-use Rattle.semantics.proofs.Theorems.{theorems}
 use Rattle.table.specs.Layout.{entryWord}
 use Rattle.rule.specs.declared.Sign.{Sign}
 use Rattle.rule.specs.declared.Agreement.the-variants as agreement
 use Rattle.rule.specs.Rule.{signAt}
-use Rattle.recognizer.specs.Descent.{CallGiven}
+use Rattle.recognizer.specs.Descent.{wordFor, CallGiven}
 use Rattle.recognizer.proofs.Calling.{memoRest, Calling, InRule}
 
 nth-below : (l : List Rule) (q : ℕ) (r : Rule) → getElem? l q ≡ some r → q < length l
@@ -53,31 +50,28 @@ rule-opens (word.Symbol X) s e = absurd (false≢true e)
 rule-opens word.End s e = absurd (false≢true e)
 rule-opens word.Invalid s e = absurd (false≢true e)
 
-module _ {words starts table input memo : List ℕ} {A place : ℕ} (g : CallGiven words starts table input memo A place) where
+module _ {choice : Choice} {words starts table input memo : List ℕ} {A place : ℕ} (g : CallGiven choice words starts table input memo A place) where
   abbrev G : Grammar
   G = grammarOf words
-
-  abbrev chosenEntry : Option ℕ
-  chosenEntry = tableOf G 1 A (look 1 input place)
 
   r : WellRead words (g .given .sizes)
   r = well-read words (g .given .sizes) (g .given .read)
 
-  own : OwnEntries G (tableOf G 1)
-  own = theorems .own-entries G 1
+  held : wordFor words table input A place ≡ entryWord (choice A place)
+  held = g .given .holds A place (g .named) (g .placed)
 
   -- the number of a rule is no word for no entry
-  pub no-rule : {v : ℕ} → v ≡ entryWord chosenEntry → v ≡ noEntry → chosenEntry ≡ none
-  no-rule {v} e n = go chosenEntry refl (sym e ∙ n)
+  pub no-rule : {v : ℕ} → v ≡ wordFor words table input A place → v ≡ noEntry → choice A place ≡ none
+  no-rule {v} e n = go (choice A place) refl (sym (e ∙ held) ∙ n)
     where
-      go : (x : Option ℕ) → chosenEntry ≡ x → entryWord x ≡ noEntry → chosenEntry ≡ none
+      go : (x : Option ℕ) → choice A place ≡ x → entryWord x ≡ noEntry → choice A place ≡ none
       go none c q = c
-      go (some q) c z = let k = own A (look 1 input place) q c in absurd (omega (arith, nth-below (G .rules) q (k .0) (k .1), r .rules, r .fewRules))
+      go (some q) c z = let k = g .given .own A place q c in absurd (omega (arith, nth-below (G .rules) q (k .0) (k .1), r .rules, r .fewRules))
 
-  pub some-rule : {v : ℕ} → v ≡ entryWord chosenEntry → (v ≡ noEntry → ⊥) → chosenEntry ≡ some v
-  some-rule {v} e n = go chosenEntry refl e
+  pub some-rule : {v : ℕ} → v ≡ wordFor words table input A place → (v ≡ noEntry → ⊥) → choice A place ≡ some v
+  some-rule {v} e n = go (choice A place) refl (e ∙ held)
     where
-      go : (x : Option ℕ) → chosenEntry ≡ x → v ≡ entryWord x → chosenEntry ≡ some v
+      go : (x : Option ℕ) → choice A place ≡ x → v ≡ entryWord x → choice A place ≡ some v
       go none c q = absurd (n q)
       go (some q) c z = c ∙ ap some (sym z)
 
@@ -86,16 +80,16 @@ module _ {words starts table input memo : List ℕ} {A place : ℕ} (g : CallGiv
     pub rule : Rule
     pub listed : List·Memᴰ rule (G .rules)
     pub heads : rule .head ≡ A
-    pub selected : select G chosenEntry ≡ some rule
+    pub selected : select G (choice A place) ≡ some rule
     pub low : q < maxRules
     pub begun : Begun words (getD starts q 0)
     pub positives : rule .positives ≡ parse (drop (getD starts q 0 + 1) words) .positives
     pub negatives : rule .negatives ≡ parse (drop (getD starts q 0 + 1) words) .negatives
 
-  pub rule-chosen : (q : ℕ) → chosenEntry ≡ some q → Chosen q
+  pub rule-chosen : (q : ℕ) → choice A place ≡ some q → Chosen q
   unfolding select firstRule
   rule-chosen q c =
-      let k = own A (look 1 input place) q c in
+      let k = g .given .own A place q c in
       let l : q < g .given .sizes .rules = omega (arith, nth-below (G .rules) q (k .0) (k .1), r .rules) in
       let i : getD starts q 0 ≡ getD (ruleStarts words) q 0 = ap (λ s. getD s q 0) (g .given .begins) in
       let b : Begun words (getD starts q 0) = rw i (r .begun q l) in
@@ -126,7 +120,7 @@ module _ {words starts table input memo : List ℕ} {A place : ℕ} (g : CallGiv
 
   -- before its first body
   pub calling-start : (q : ℕ) (k : Chosen q) {sign : Sign} → sign ≡ signAt words (getD starts q 0 + 1)
-      → Calling words input memo A place (k .rule) memo (getD starts q 0 + 1) sign agreement.Open
+      → Calling choice words input memo A place (k .rule) memo (getD starts q 0 + 1) sign agreement.Open
   unfolding memoRest memoObey
   calling-start q k s =
       let at = getD starts q 0 + 1 in
@@ -148,12 +142,12 @@ module _ {words starts table input memo : List ℕ} {A place : ℕ} (g : CallGiv
             false≢true a;
       }
 
-  pub select-none : chosenEntry ≡ none → select G chosenEntry ≡ none
+  pub select-none : choice A place ≡ none → select G (choice A place) ≡ none
   unfolding select
   select-none e = rw e
 
   pub start-rule : (q : ℕ) (k : Chosen q) {sign : Sign} → sign ≡ signAt words (getD starts q 0 + 1)
-      → InRule words input memo A place memo (getD starts q 0 + 1) sign agreement.Open
+      → InRule choice words input memo A place memo (getD starts q 0 + 1) sign agreement.Open
   start-rule q k s = record { rule = k .rule; listed = k .listed; heads = k .heads; selected = k .selected; calling = calling-start q k s }
 
 -- without a rule a call fails

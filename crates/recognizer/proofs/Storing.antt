@@ -14,9 +14,7 @@ use Rattle.grammar.specs.Encoding.{grammarOf}
 use Rattle.grammar.specs.WellRead.{WellRead}
 use Rattle.grammar.proofs.WellRead.{well-read}
 use Rattle.semantics.specs.Quantifiers.{pick}
-use Rattle.semantics.specs.Strings.{look}
-use Rattle.semantics.specs.Families.{OwnEntries}
-use Rattle.semantics.specs.Claims.{tableOf}
+use Rattle.semantics.specs.Choices.{Choice}
 use Rattle.semantics.specs.Descent.{Outcome, select, descend}
 use Rattle.semantics.specs.ComesTo.{callAt}
 use Rattle.semantics.specs.Memo.{Fits, encode, decode, indexOf, entry}
@@ -26,58 +24,54 @@ use Rattle.semantics.proofs.Ends.{descend-forward, descend-null}
 use Rattle.semantics.proofs.Range.{index-range}
 use Rattle.semantics.proofs.Written.{Sound}
 use Rattle.semantics.proofs.Memo.{transparent}
-use Rattle.semantics.proofs.Theorems.{theorems}
 use Rattle.rule.specs.declared.Outcome as code
 use Rattle.rule.specs.declared.Outcome.the-variants as outcome
 use Rattle.rule.specs.Rule.{meant}
 use Rattle.recognizer.specs.Descent.{MemoSound, CallGiven, CallDone}
 use Rattle.recognizer.proofs.Running.{deep, level}
 
-pub memo-same : {words input memo memo′ : List ℕ} → MemoSound words input memo → MemoSound words input memo′ → length memo ≡ length memo′
+pub memo-same : {choice : Choice} {words input memo memo′ : List ℕ} → MemoSound choice words input memo → MemoSound choice words input memo′ → length memo ≡ length memo′
 memo-same m m′ = m .size ∙ sym (m′ .size)
 
 -- the two ways to say that a memo table is sound
-sound-out : {words input memo : List ℕ} → MemoSound words input memo
-    → Sound (grammarOf words) input (descend (grammarOf words) (tableOf (grammarOf words) 1) 1 input) (λ _. Unit {0}) memo
-sound-out {words} {input} {memo} m = record {
+sound-out : {choice : Choice} {words input memo : List ℕ} → MemoSound choice words input memo
+    → Sound (grammarOf words) input (descend (grammarOf words) choice input) (λ _. Unit {0}) memo
+sound-out {words = words} {input = input} {memo = memo} m = record {
   size = m .size;
   right = λ x h. (m .right x (h .0) (λ e. T-not (eqb (entry input memo x) uncalledCode) (h .1) (rw e tt)), tt);
 }
 
-sound-in : {words input memo : List ℕ} → Sound (grammarOf words) input (descend (grammarOf words) (tableOf (grammarOf words) 1) 1 input) (λ _. Unit {0}) memo
-    → MemoSound words input memo
-sound-in {words} {input} {memo} m = record {
+sound-in : {choice : Choice} {words input memo : List ℕ} → Sound (grammarOf words) input (descend (grammarOf words) choice input) (λ _. Unit {0}) memo
+    → MemoSound choice words input memo
+sound-in {words = words} {input = input} {memo = memo} m = record {
   size = m .size;
   right = λ x r n. m .right x (r, not-T (eqb (entry input memo x) uncalledCode) (λ t. n (eqb→eq (entry input memo x) uncalledCode t))) .0;
 }
 
-module _ {words starts table input memo : List ℕ} {A place : ℕ} (g : CallGiven words starts table input memo A place) where
+module _ {choice : Choice} {words starts table input memo : List ℕ} {A place : ℕ} (g : CallGiven choice words starts table input memo A place) where
   abbrev G : Grammar
   G = grammarOf words
 
   r : WellRead words (g .given .sizes)
   r = well-read words (g .given .sizes) (g .given .read)
 
-  own : OwnEntries G (tableOf G 1)
-  own = theorems .own-entries G 1
-
   fits : Fits input
   fits = omega (arith, g .given .short)
 
   -- the model tells all that is asked of a call
-  pub call-done : {o : code.Outcome} {memo′ : List ℕ} → ((n : ℕ) → level words input A place < n → deep words input n A place memo ≡ memoized (meant o) memo′)
-      → CallDone words input memo A place o memo′
+  pub call-done : {o : code.Outcome} {memo′ : List ℕ} → ((n : ℕ) → level words input A place < n → deep choice words input n A place memo ≡ memoized (meant o) memo′)
+      → CallDone choice words input memo A place o memo′
   call-done {o} {memo′} model =
       let n = suc (level words input A place) in
       let l : level words input A place < n = omega arith in
-      let k = transparent G (tableOf G 1) 1 input (r .formed .scoped) (g .given .free) own fits n A place memo (g .named) (g .placed) l (sound-out (g .given .sound)) in
+      let k = transparent G choice input (r .formed .scoped) (g .given .free) (g .given .own) fits n A place memo (g .named) (g .placed) l (sound-out (g .given .sound)) in
       let e = model n l in
-      let told : meant o ≡ descend G (tableOf G 1) 1 input A place = sym (ap (λ x. x .outcome) e) ∙ k .0 in
+      let told : meant o ≡ descend G choice input A place = sym (ap (λ x. x .outcome) e) ∙ k .0 in
       record {
         model = model;
         sound = sound-in (rw e at (k .1));
-        forward = λ x q. descend-forward G (tableOf G 1) 1 input own A place x (g .placed) (end-ends _ x (sym told ∙ q));
-        idle = λ q. descend-null G (tableOf G 1) 1 input own (r .formed .scoped) A place place (g .placed) refl (end-ends _ place (sym told ∙ q));
+        forward = λ x q. descend-forward G choice input (g .given .own) A place x (g .placed) (end-ends _ x (sym told ∙ q));
+        idle = λ q. descend-null G choice input (g .given .own) (r .formed .scoped) A place place (g .placed) refl (end-ends _ place (sym told ∙ q));
       }
 
 -- an index within a list has one element, whatever the default
@@ -86,7 +80,7 @@ getD-any [] i d d′ h = absurd (omega arith)
 getD-any (x ∷ l) zero d d′ h = refl
 getD-any (x ∷ l) (suc i) d d′ h = getD-any l i d d′ (omega arith)
 
-module _ {words starts table input memo : List ℕ} {A place : ℕ} (g : CallGiven words starts table input memo A place) where
+module _ {choice : Choice} {words starts table input memo : List ℕ} {A place : ℕ} (g : CallGiven choice words starts table input memo A place) where
   -- the index of the call's entry
   pub index-is : A * (length input + 1) + place ≡ indexOf input (callAt A place)
   index-is = rw (add-one (length input))
@@ -99,23 +93,23 @@ module _ {words starts table input memo : List ℕ} {A place : ℕ} (g : CallGiv
 
   -- an entry that is written is recalled
   pub call-recalled : {o : code.Outcome} → (getD memo (A * (length input + 1) + place) 0 ≡ uncalledCode → ⊥)
-      → meant o ≡ decode (getD memo (A * (length input + 1) + place) 0) → CallDone words input memo A place o memo
+      → meant o ≡ decode (getD memo (A * (length input + 1) + place) 0) → CallDone choice words input memo A place o memo
   unfolding memoCall pick
   call-recalled {o} known d = call-done g model
     where
-      model : (n : ℕ) → level words input A place < n → deep words input n A place memo ≡ memoized (meant o) memo
+      model : (n : ℕ) → level words input A place < n → deep choice words input n A place memo ≡ memoized (meant o) memo
       model zero l = absurd (omega arith)
       model (suc n) l = rw (entry-is, ne-eqb (getD memo (A * (length input + 1) + place) 0) uncalledCode known, d)
 
   module _ (fresh : getD memo (A * (length input + 1) + place) 0 ≡ uncalledCode) where
     -- a rule, or none, has been run, and the outcome is stored
-    pub call-stored : (x : Option Rule) → select (grammarOf words) (tableOf (grammarOf words) 1 A (look 1 input place)) ≡ x
+    pub call-stored : (x : Option Rule) → select (grammarOf words) (choice A place) ≡ x
         → {o : code.Outcome} {memo₁ : List ℕ} {v : ℕ}
-        → ((n : ℕ) → level words input A place ≤ n → memoObey (deep words input n) input x place memo ≡ memoized (meant o) memo₁)
-        → v ≡ encode (meant o) → CallDone words input memo A place o (set memo₁ (A * (length input + 1) + place) v)
+        → ((n : ℕ) → level words input A place ≤ n → memoObey (deep choice words input n) input x place memo ≡ memoized (meant o) memo₁)
+        → v ≡ encode (meant o) → CallDone choice words input memo A place o (set memo₁ (A * (length input + 1) + place) v)
     unfolding memoCall pick stored
     call-stored x s {o} {memo₁} {v} run e = call-done g model
       where
-        model : (n : ℕ) → level words input A place < n → deep words input n A place memo ≡ memoized (meant o) (set memo₁ (A * (length input + 1) + place) v)
+        model : (n : ℕ) → level words input A place < n → deep choice words input n A place memo ≡ memoized (meant o) (set memo₁ (A * (length input + 1) + place) v)
         model zero l = absurd (omega arith)
         model (suc n) l = rw (entry-is, fresh, s, run n (omega arith), index-is, e)

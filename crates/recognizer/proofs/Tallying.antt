@@ -12,7 +12,7 @@ use Rattle.word.specs.Choice.{choose}
 use Rattle.grammar.specs.Codes.{uncalledCode}
 use Rattle.grammar.specs.Syntax.{Grammar}
 use Rattle.semantics.specs.FiniteSets.{keep, numbersFrom, numbers, combine}
-use Rattle.semantics.specs.Families.{Table}
+use Rattle.semantics.specs.Choices.{Choice}
 use Rattle.semantics.specs.ComesTo.{Call, callAt}
 use Rattle.semantics.specs.Calls.{allCalls, callCount, greatestPlace, farthest}
 use Rattle.semantics.specs.Memo.{Memo, Recorded, written}
@@ -126,9 +126,9 @@ unfolding recordedCalls allCalls
 recorded-written G w m = refl
 
 -- where the memo table records a descent, its tally is the number of the calls made and the farthest place of one
-pub tally-recorded : {G : Grammar} {t : Table} {k : ℕ} {w : List ℕ} {m : Memo} {r : Calls} {nonterminals : ℕ}
-    → Recorded G t k w m → nonterminals ≡ G .nonterminals → r ≡ tallyOf (recordedCalls m nonterminals (length w))
-    → r ≡ record { count = callCount G t k w; farthest = farthest G t k w }
+pub tally-recorded : {G : Grammar} {choice : Choice} {w : List ℕ} {m : Memo} {r : Calls} {nonterminals : ℕ}
+    → Recorded G choice w m → nonterminals ≡ G .nonterminals → r ≡ tallyOf (recordedCalls m nonterminals (length w))
+    → r ≡ record { count = callCount G choice w; farthest = farthest G choice w }
 unfolding tallyOf callCount farthest
-tally-recorded {G} {t} {k} {w} {m} recorded sized e =
+tally-recorded {G} {choice} {w} {m} recorded sized e =
     e ∙ ap (λ n. tallyOf (recordedCalls m n (length w))) sized ∙ ap tallyOf (recorded-written G w m ∙ recorded .scanned)

@@ -17,7 +17,7 @@ use Rattle.word.specs.Choice.{choose}
 use Rattle.grammar.specs.Limits.{maxTokens, tableWords, memoEntries}
 use Rattle.grammar.specs.Syntax.{Grammar}
 use Rattle.grammar.specs.Encoding.{grammarOf}
-use Rattle.semantics.specs.Claims.{tableOf}
+use Rattle.semantics.specs.Choices.{tableChoice}
 use Rattle.semantics.specs.Descent.{accepts}
 use Rattle.semantics.specs.Calls.{callCount, farthest}
 use Rattle.table.specs.Analysis.{fault}
@@ -72,12 +72,12 @@ passedNumbers = answered passed 0 0 0 0
 
 -- the calls that the descent makes, counted
 abbrev pub callsOf : Grammar → List ℕ → Calls
-callsOf G w = record { count = callCount G (tableOf G 1) 1 w; farthest = farthest G (tableOf G 1) 1 w }
+callsOf G w = record { count = callCount G (tableChoice G 1 w) w; farthest = farthest G (tableChoice G 1 w) w }
 
 -- the verdict of the descent
 unfoldable pub verdictOf : Grammar → List ℕ → Answer
-verdictOf G w = choose (accepts G (tableOf G 1) 1 w) (Accepted (callsOf G w)) (Rejected (callsOf G w))
+verdictOf G w = choose (accepts G (tableChoice G 1 w) w) (Accepted (callsOf G w)) (Rejected (callsOf G w))
 
 -- and of a verdict
 unfoldable pub verdictNumbers : Grammar → List ℕ → Numbers
-verdictNumbers G w = answered (choose (accepts G (tableOf G 1) 1 w) accepted rejected) 0 0 (callCount G (tableOf G 1) 1 w) (farthest G (tableOf G 1) 1 w)
+verdictNumbers G w = answered (choose (accepts G (tableChoice G 1 w) w) accepted rejected) 0 0 (callCount G (tableChoice G 1 w) w) (farthest G (tableChoice G 1 w) w)

@@ -11,7 +11,7 @@ use Rattle.grammar.specs.Limits.{maxNonterminals, maxTerminals, tableWords as m
 use Rattle.grammar.specs.Syntax.{Grammar}
 use Rattle.grammar.specs.declared.reading.Sizes.{Sizes}
 use Rattle.semantics.specs.FiniteSets.{member}
-use Rattle.semantics.specs.Claims.{tableOf}
+use Rattle.semantics.specs.Choices.{tableChoice}
 use Rattle.semantics.specs.Descent.{descend}
 use Rattle.semantics.specs.ComesTo.{Call}
 use Rattle.semantics.specs.Calls.{sameCall, allCalls, calls}
@@ -24,7 +24,7 @@ lentBack none new old = new ++ drop (length new) old
 
 -- the entry of a call: its outcome where it was made
 unfoldable pub memoWord : Grammar → List ℕ → Call → ℕ
-memoWord G w x = choose (member sameCall (calls G (tableOf G 1) 1 w) x) (encode (descend G (tableOf G 1) 1 w (x .nonterminal) (x .place))) uncalledCode
+memoWord G w x = choose (member sameCall (calls G (tableChoice G 1 w) w) x) (encode (descend G (tableChoice G 1 w) w (x .nonterminal) (x .place))) uncalledCode
 
 -- (document 01: the notebook)
 unfoldable pub memoWords : Grammar → List ℕ → List ℕ

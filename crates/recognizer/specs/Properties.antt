@@ -23,6 +23,7 @@ use Rattle.semantics.specs.Strings.{Over}
 use Rattle.semantics.specs.Families.{FirstClosed, FollowClosed, Claims, Clash}
 use Rattle.semantics.specs.FirstFollow.{First, Follow}
 use Rattle.semantics.specs.Claims.{clashes, tableOf}
+use Rattle.semantics.specs.Choices.{tableChoice}
 use Rattle.semantics.specs.Theorems.{OneSolution, CallsCounted}
 use Rattle.table.specs.Layout.{tableWords}
 use Rattle.recognizer.specs.Memory.{lentBack, memoWords}
@@ -66,7 +67,7 @@ pub record Recognizes (words input : List ℕ) (r : Answer) : Type 0 where
   pub one-solution : OneSolution (grammarOf words) input
   pub accepted : (v : Valuation) → Solves (grammarOf words) input v → (r ≡ Accepted (callsOf (grammarOf words) input)) ↔ (v 0 0 (length input) ≡ true)
   pub rejected : (v : Valuation) → Solves (grammarOf words) input v → (r ≡ Rejected (callsOf (grammarOf words) input)) ↔ (v 0 0 (length input) ≡ false)
-  pub calls : CallsCounted (grammarOf words) (tableOf (grammarOf words) 1) 1 input
+  pub calls : CallsCounted (grammarOf words) (tableChoice (grammarOf words) 1 input) input
 
 -- judging an input with a lent table and a lent memo table: properties 1 and 3
 pub record Judges (words input table memo : List ℕ) (r : Answer) (table′ memo′ : List ℕ) : Type 0 where

@@ -2,13 +2,9 @@
 ghost use mathlib.Core.Path.{_≡_};
 ghost use Prim.Native.Nat.{_≤_};
 ghost use lib.ListN.{length};
-ghost use Rattle.grammar.specs.Encoding.{grammarOf};
-ghost use Rattle.semantics.specs.Strings.{look};
-ghost use Rattle.semantics.specs.Claims.{tableOf};
 ghost use Rattle.semantics.specs.Memo.{encode, decode as decodedEntry};
-ghost use Rattle.table.specs.Layout.{entryWord};
 ghost use Rattle.rule.specs.Rule.{meant};
-ghost use Rattle.recognizer.specs.Descent.{matchesAt, columnAt, Short, BodyEnd, ChosenGiven, CallGiven, CallDone, RunGiven, RunDone};
+ghost use Rattle.recognizer.specs.Descent.{matchesAt, columnAt, Short, BodyEnd, wordFor, ChosenGiven, CallRequires, CallEnsures, RunRequires, RunEnsures};
 use grammar::codes::FAILED;
 use grammar::codes::NO_ENTRY;
 use grammar::codes::UNCALLED;
@@ -71,7 +67,7 @@ fn chosen(
     place: usize,
 ) -> u32
     requires { ⌜ ChosenGiven (now words) (now table) (now input) nonterminal place ⌝ }
-    ensures { λ r. ⌜ r ≡ entryWord (tableOf (grammarOf (now (words .entry))) 1 nonterminal (look 1 (now (input .entry)) place)) ⌝ }
+    ensures { λ r. ⌜ r ≡ wordFor (now (words .entry)) (now (table .entry)) (now (input .entry)) nonterminal place ⌝ }
 {
     let heading = words[0] as usize;
     let nonterminals = heading % 256;
@@ -112,8 +108,8 @@ fn run_body(
     from: usize,
     start: usize,
 ) -> Outcome
-    requires { ⌜ RunGiven (now words) (now starts) (now table) (now input) (now memo) nonterminal from start ⌝ }
-    ensures { λ r. ⌜ RunDone (now (words .entry)) (now (input .entry)) (now (memo .entry)) nonterminal from start r (now (memo .exit)) ⌝ }
+    requires { ⌜ RunRequires (now words) (now starts) (now table) (now input) (now memo) nonterminal from start ⌝ }
+    ensures { λ r. ⌜ RunEnsures (now (words .entry)) (now (starts .entry)) (now (table .entry)) (now (input .entry)) (now (memo .entry)) nonterminal from start r (now (memo .exit)) ⌝ }
 {
     let mut at = from;
     let mut place = start;
@@ -152,8 +148,8 @@ pub(crate) fn call(
     memo: &mut [u16],
     place: usize,
 ) -> Outcome
-    requires { ⌜ CallGiven (now words) (now starts) (now table) (now input) (now memo) nonterminal place ⌝ }
-    ensures { λ r. ⌜ CallDone (now (words .entry)) (now (input .entry)) (now (memo .entry)) nonterminal place r (now (memo .exit)) ⌝ }
+    requires { ⌜ CallRequires (now words) (now starts) (now table) (now input) (now memo) nonterminal place ⌝ }
+    ensures { λ r. ⌜ CallEnsures (now (words .entry)) (now (starts .entry)) (now (table .entry)) (now (input .entry)) (now (memo .entry)) nonterminal place r (now (memo .exit)) ⌝ }
 {
     let entry = nonterminal * (input.len() + 1) + place;
     let known = memo[entry];

@@ -18,7 +18,7 @@ use Rattle.grammar.specs.declared.reading.Outcome.{Outcome}
 use Rattle.grammar.specs.declared.reading.Outcome.the-variants.{Read, Faulty}
 use Rattle.grammar.proofs.WellRead.{well-read}
 use Rattle.semantics.specs.FiniteSets.{member}
-use Rattle.semantics.specs.Claims.{tableOf}
+use Rattle.semantics.specs.Choices.{tableChoice}
 use Rattle.semantics.specs.Descent.{Outcome as Ended, Failed, End, descend, accepts}
 use Rattle.semantics.specs.ComesTo.{Call}
 use Rattle.semantics.specs.Calls.{sameCall, allCalls, calls}
@@ -83,9 +83,9 @@ module _ (words input : List ℕ) (table memo : ℕ) (e : judgeFault table memo 
 
   entry-low : (x : Call) → List·Memᴰ x (allCalls G input) → memoWord G input x < 100000
   unfolding memoWord encode
-  entry-low x m = go (member sameCall (calls G (tableOf G 1) 1 input) x) (descend G (tableOf G 1) 1 input (x .nonterminal) (x .place)) refl
+  entry-low x m = go (member sameCall (calls G (tableChoice G 1 input) input) x) (descend G (tableChoice G 1 input) input (x .nonterminal) (x .place)) refl
     where
-      go : (b : Bool) (o : Ended) → descend G (tableOf G 1) 1 input (x .nonterminal) (x .place) ≡ o → choose b (encode o) uncalledCode < 100000
+      go : (b : Bool) (o : Ended) → descend G (tableChoice G 1 input) input (x .nonterminal) (x .place) ≡ o → choose b (encode o) uncalledCode < 100000
       go false o q = omega arith
       go true Failed q = omega arith
       go true (End j) q =
@@ -93,7 +93,7 @@ module _ (words input : List ℕ) (table memo : ℕ) (e : judgeFault table memo 
           let p = passed-fault words (k .0) in
           let r = well-read words (p .sizes) (p .read) in
           let within = all-range G input x .0 m in
-          let f = theorems .descent-ends G (r .formed .scoped) (p .free) (tableOf G 1) (theorems .own-entries G 1) 1 input .forward
+          let f = theorems .descent-ends G (r .formed .scoped) (p .free) (tableChoice G 1 input) (theorems .own-rules G 1 input) input .forward
           (x .nonterminal) (x .place) j (within .1) q in
           omega (arith, f .1, k .1)
 
@@ -124,7 +124,7 @@ judged-short words input = go (judgeFault memoryWords memoEntries words input) r
 
     go : (f : Option Error) → judgeFault memoryWords memoEntries words input ≡ f → length (text f) ≤ judgementRoom
     go (some x) e = omega (arith, refusal-most x)
-    go none e = verdict (accepts (grammarOf words) (tableOf (grammarOf words) 1) 1 input) (calls-short words input memoryWords memoEntries e)
+    go none e = verdict (accepts (grammarOf words) (tableChoice (grammarOf words) 1 input) input) (calls-short words input memoryWords memoEntries e)
       where
         made : List ℕ
         made = callsText (grammarOf words .nonterminals) (length input) (lentBack none (memoWords (grammarOf words) input) blankMemo)

@@ -12,7 +12,7 @@ use Rattle.grammar.specs.Syntax.{Grammar, WellScoped}
 use Rattle.semantics.specs.FiniteSets.{member}
 use Rattle.semantics.specs.Valuations.{pairs}
 use Rattle.semantics.specs.LeftRecursion.{NoLeftRecursion}
-use Rattle.semantics.specs.Families.{Table, OwnEntries}
+use Rattle.semantics.specs.Choices.{Choice, OwnRules}
 use Rattle.semantics.specs.ComesTo.{Call, callAt, InRange, measure, callComesTo}
 use Rattle.semantics.specs.Calls.{Called, start, more, Listing, callsWithin, sameCall}
 use Rattle.semantics.specs.Calls.{allCalls, calls, callCount, greatestPlace, farthest}
@@ -51,47 +51,47 @@ greatest-attained (z ∷ u ∷ l) x m =
       | no h ↦ (r .0, List·Memᴰ·tail (r .1), omega (arith, r .2))
     ]
 
-module _ (G : Grammar) (t : Table) (k : ℕ) (w : List ℕ) where
-  within-called : (n : ℕ) (x y : Call) → Called G t k w x → List·Memᴰ y (callsWithin G t k w n x) → Called G t k w y
+module _ (G : Grammar) (choice : Choice) (w : List ℕ) where
+  within-called : (n : ℕ) (x y : Call) → Called G choice w x → List·Memᴰ y (callsWithin G choice w n x) → Called G choice w y
   unfolding callsWithin
   within-called zero x y h m = absurd (List·Memᴰ·not-nil m)
   within-called (suc n) x y h m = elim (List·Memᴰ·cases-cons m) [
     | inl e ↦ rw e h
     | inr k′ ↦
-        let r = flatMap-elim (callsWithin G t k w n) (callComesTo G t k w x) y k′ in
+        let r = flatMap-elim (callsWithin G choice w n) (callComesTo G choice w x) y k′ in
         within-called n (r .0) y (more h (r .1)) (r .2)
   ]
 
-  within-self : (n : ℕ) (x : Call) → 0 < n → List·Memᴰ x (callsWithin G t k w n x)
+  within-self : (n : ℕ) (x : Call) → 0 < n → List·Memᴰ x (callsWithin G choice w n x)
   unfolding callsWithin
   within-self zero x h = absurd (omega arith)
   within-self (suc n) x h = List·Memᴰ·head refl
 
-  module _ (scoped : WellScoped G) (free : NoLeftRecursion G) (own : OwnEntries G t) where
+  module _ (scoped : WellScoped G) (free : NoLeftRecursion G) (own : OwnRules G choice) where
     -- deeper than the measure, all that a call comes to is there
     within-closed : (n : ℕ) (x y z : Call) → InRange G w x → measure G w x < n
-        → List·Memᴰ y (callsWithin G t k w n x) → List·Memᴰ z (callComesTo G t k w y) → List·Memᴰ z (callsWithin G t k w n x)
+        → List·Memᴰ y (callsWithin G choice w n x) → List·Memᴰ z (callComesTo G choice w y) → List·Memᴰ z (callsWithin G choice w n x)
     unfolding callsWithin
     within-closed zero x y z h l m n = absurd (omega arith)
     within-closed (suc n) x y z h l m c = elim (List·Memᴰ·cases-cons m) [
       | inl e ↦
-          let c′ : List·Memᴰ z (callComesTo G t k w x) = rw e at c in
-          let f = measure-falls G t k w scoped own free x h z c′ in
-          List·Memᴰ·tail (flatMap-make (callsWithin G t k w n) (callComesTo G t k w x) z z c′ (within-self n z (omega (arith, f .1))))
+          let c′ : List·Memᴰ z (callComesTo G choice w x) = rw e at c in
+          let f = measure-falls G choice w scoped own free x h z c′ in
+          List·Memᴰ·tail (flatMap-make (callsWithin G choice w n) (callComesTo G choice w x) z z c′ (within-self n z (omega (arith, f .1))))
       | inr k′ ↦
-          let r = flatMap-elim (callsWithin G t k w n) (callComesTo G t k w x) y k′ in
-          let f = measure-falls G t k w scoped own free x h (r .0) (r .1) in
-          List·Memᴰ·tail (flatMap-make (callsWithin G t k w n) (callComesTo G t k w x) (r .0) z (r .1)
+          let r = flatMap-elim (callsWithin G choice w n) (callComesTo G choice w x) y k′ in
+          let f = measure-falls G choice w scoped own free x h (r .0) (r .1) in
+          List·Memᴰ·tail (flatMap-make (callsWithin G choice w n) (callComesTo G choice w x) (r .0) z (r .1)
           (within-closed n (r .0) y z (f .0) (omega (arith, f .1)) (r .2) c))
     ]
 
     module _ (nonempty : 0 < G .nonterminals) where
       -- every call is of the grammar and within the input
-      pub called-range : (x : Call) → Called G t k w x → InRange G w x
+      pub called-range : (x : Call) → Called G choice w x → InRange G w x
       called-range x start = (nonempty, omega arith)
-      called-range y (more {x = x} h m) = measure-falls G t k w scoped own free x (called-range x h) y m .0
+      called-range y (more {x = x} h m) = measure-falls G choice w scoped own free x (called-range x h) y m .0
 
-      all-within : (x : Call) → Called G t k w x → List·Memᴰ x (callsWithin G t k w (pairs G w) (callAt 0 0))
+      all-within : (x : Call) → Called G choice w x → List·Memᴰ x (callsWithin G choice w (pairs G w) (callAt 0 0))
       unfolding measure
       all-within x start = within-self (pairs G w) (callAt 0 0) (omega (arith, level-top G scoped free w 0 (length w) nonempty (omega arith)))
       all-within y (more {x = x} h m) =
@@ -99,15 +99,15 @@ module _ (G : Grammar) (t : Table) (k : ℕ) (w : List ℕ) where
           (all-within x h) m
 
       -- the test by which the computed list is made passes just the calls
-      pub called-test : (x : Call) → T (member sameCall (callsWithin G t k w (pairs G w) (callAt 0 0)) x) ↔ Called G t k w x
+      pub called-test : (x : Call) → T (member sameCall (callsWithin G choice w (pairs G w) (callAt 0 0)) x) ↔ Called G choice w x
       called-test x =
-          let made = callsWithin G t k w (pairs G w) (callAt 0 0) in (
+          let made = callsWithin G choice w (pairs G w) (callAt 0 0) in (
             λ u. within-called (pairs G w) (callAt 0 0) x start (member-mem sameCall calls-equality made x u),
             λ h. mem-member sameCall calls-equality made x (all-within x h),
           )
 
       -- the computed list holds just the calls, each once
-      pub calls-listing : Listing G t k w (calls G t k w)
+      pub calls-listing : Listing G choice w (calls G choice w)
       unfolding calls
       calls-listing = record {
         distinct = distinct-keep _ (allCalls G w) (all-distinct G w);
@@ -116,30 +116,30 @@ module _ (G : Grammar) (t : Table) (k : ℕ) (w : List ℕ) where
       }
 
       -- any list of just the calls, each once, is as long as the count
-      pub count-listing : (l : List Call) → Listing G t k w l → length l ≡ callCount G t k w
+      pub count-listing : (l : List Call) → Listing G choice w l → length l ≡ callCount G choice w
       unfolding callCount
       count-listing l h =
           let c = calls-listing in
-          let a = distinct-length l (calls G t k w) (h .distinct) (λ x m. c .full x (h .sound x m)) in
-          let b = distinct-length (calls G t k w) l (c .distinct) (λ x m. h .full x (c .sound x m)) in
+          let a = distinct-length l (calls G choice w) (h .distinct) (λ x m. c .full x (h .sound x m)) in
+          let b = distinct-length (calls G choice w) l (c .distinct) (λ x m. h .full x (c .sound x m)) in
           omega arith
 
       -- at most one call for each nonterminal and place
-      pub count-bound : callCount G t k w ≤ pairs G w
+      pub count-bound : callCount G choice w ≤ pairs G w
       unfolding callCount
       count-bound =
           let c = calls-listing in
-          let h = distinct-length (calls G t k w) (allCalls G w) (c .distinct) (λ x m. all-range G w x .1 (called-range x (c .sound x m))) in
+          let h = distinct-length (calls G choice w) (allCalls G w) (c .distinct) (λ x m. all-range G w x .1 (called-range x (c .sound x m))) in
           omega (arith, all-length G w)
 
       -- no call is beyond the farthest place
-      pub farthest-most : (x : Call) → Called G t k w x → x .place ≤ farthest G t k w
+      pub farthest-most : (x : Call) → Called G choice w x → x .place ≤ farthest G choice w
       unfolding farthest
-      farthest-most x h = greatest-most (calls G t k w) x (calls-listing .full x h)
+      farthest-most x h = greatest-most (calls G choice w) x (calls-listing .full x h)
 
       -- the farthest place is that of a call
-      pub farthest-called : (x : Call) × Called G t k w x × (x .place ≡ farthest G t k w)
+      pub farthest-called : (x : Call) × Called G choice w x × (x .place ≡ farthest G choice w)
       unfolding farthest
       farthest-called =
-          let r = greatest-attained (calls G t k w) (callAt 0 0) (calls-listing .full (callAt 0 0) start) in
+          let r = greatest-attained (calls G choice w) (callAt 0 0) (calls-listing .full (callAt 0 0) start) in
           (r .0, calls-listing .sound (r .0) (r .1), r .2)

@@ -9,7 +9,7 @@ use Rattle.semantics.specs.Strings.{look}
 use Rattle.semantics.specs.FirstFollow.{strings, sameString, concat, sameEntry, entries, setsOf, firstOf, firstBody, firstRule, firstStep}
 use Rattle.semantics.specs.FirstFollow.{first, firstSets, behind, followStep, follow, followSets}
 use Rattle.semantics.specs.Claims.{several, position, meeting, claimed, claims, clashes, tableOf, everyEnds}
-use Rattle.semantics.specs.Descent.{read, run, agrees, confirm, conclude, obey, select, byTable, within, descend, accepts}
+use Rattle.semantics.specs.Descent.{read, run, agrees, confirm, conclude, obey, select, byChoice, within, descend, accepts}
 use Rattle.semantics.specs.ComesTo.{when, bodyComesTo, negativesComeTo, positivesComeTo, ruleComesTo, selectedComesTo, callComesTo}
 use Rattle.semantics.specs.Calls.{callsWithin, allCalls, calls, callCount, greatestPlace, farthest}
 
@@ -24,7 +24,7 @@ unfolding any all below lowest pick member keep numbersFrom numbers round settle
 left-recursion-computes = tt
 
 unfoldable pub descent-computes : Unit {0}
-unfolding any all look read run agrees confirm conclude obey select byTable within descend accepts
+unfolding any all look read run agrees confirm conclude obey select byChoice within descend accepts
 descent-computes = tt
 
 unfoldable pub calls-compute : Unit {0}

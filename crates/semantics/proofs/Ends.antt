@@ -12,9 +12,8 @@ use Rattle.grammar.specs.Syntax.{Body, Rule, Grammar, WellScoped}
 use Rattle.semantics.specs.Quantifiers.{all}
 use Rattle.semantics.specs.Valuations.{pairs}
 use Rattle.semantics.specs.LeftRecursion.{allNullable, nullStep, nullable}
-use Rattle.semantics.specs.Strings.{look}
-use Rattle.semantics.specs.Families.{Table, OwnEntries}
-use Rattle.semantics.specs.Descent.{endsAt, guard, Outcomes, read, run, agrees, obey, select, byTable, within, descend}
+use Rattle.semantics.specs.Choices.{Choice, OwnRules}
+use Rattle.semantics.specs.Descent.{endsAt, guard, Outcomes, read, run, agrees, obey, select, byChoice, within, descend}
 use Rattle.semantics.proofs.Booleans.{and-l, and-make}
 use Rattle.semantics.proofs.Quantified.{all-map, any-make}
 use Rattle.semantics.proofs.Nullable.{nullable-closed}
@@ -58,46 +57,46 @@ module _ (G : Grammar) (w : List ℕ) (c : Outcomes) (forward : Forward w c) whe
       let y : (s .0 ≤ j) × (j ≤ length w) = run-forward w c forward b (s .0) j (omega arith) (s .2) in
       and-make (nullable G A) _ (h A i (s .0) iw (omega arith) (s .1)) (run-allNullable h b (s .0) j (omega arith) (omega arith) (s .2))
 
-module _ (G : Grammar) (t : Table) (k : ℕ) (w : List ℕ) (own : OwnEntries G t) where
-  -- the rule that the table selects is one of the nonterminal's
-  pub selected : (A : ℕ) (x : List ℕ) (r : Rule) → select G (t A x) ≡ some r → List·Memᴰ r (G .rules) × (r .head ≡ A)
-  selected A x r e =
-      let s = select-elim G (t A x) r e in
-      let d = own A x (s .0) (s .1) in
+module _ (G : Grammar) (choice : Choice) (w : List ℕ) (own : OwnRules G choice) where
+  -- the rule that is selected is one of the nonterminal's
+  pub selected : (A i : ℕ) (r : Rule) → select G (choice A i) ≡ some r → List·Memᴰ r (G .rules) × (r .head ≡ A)
+  selected A i r e =
+      let s = select-elim G (choice A i) r e in
+      let d = own A i (s .0) (s .1) in
       let f : d .0 ≡ r = cc (d .1, s .2) in
       (nth-mem (G .rules) (s .0) r (s .2), rw f at (d .2))
 
   module _ (c : Outcomes) where
     -- a call ends at j by a rule of its own, all of whose bodies agree on j
-    pub byTable-elim : (A i j : ℕ) → T (endsAt (byTable G t k w c A i) j)
+    pub byChoice-elim : (A i j : ℕ) → T (endsAt (byChoice G choice w c A i) j)
         → (r : Rule) × List·Memᴰ r (G .rules) × (r .head ≡ A) × (r .positives ≡ [] → length w ≡ j)
         × T (agrees (λ b. run c w b i) (r .positives) (r .negatives) j)
-    unfolding byTable
-    byTable-elim A i j u =
-        let o = obey-elim (λ b. run c w b i) (length w) (select G (t A (look k w i))) j u in
-        let s = selected A (look k w i) (o .0) (o .1) in
+    unfolding byChoice
+    byChoice-elim A i j u =
+        let o = obey-elim (λ b. run c w b i) (length w) (select G (choice A i)) j u in
+        let s = selected A i (o .0) (o .1) in
         let g = conclude-elim (λ b. run c w b i) (length w) (o .0 .positives) (o .0 .negatives) j (o .2) in
         (o .0, s .0, s .1, g .0, g .1)
 
-    pub byTable-make : (A i j q : ℕ) (r : Rule) → t A (look k w i) ≡ some q → getElem? (G .rules) q ≡ some r → (r .positives ≡ [] → length w ≡ j)
-        → T (agrees (λ b. run c w b i) (r .positives) (r .negatives) j) → T (endsAt (byTable G t k w c A i) j)
-    unfolding byTable obey select
-    byTable-make A i j q r e d h u = rw (e, d) (conclude-make (λ b. run c w b i) (length w) (r .positives) (r .negatives) j h u)
+    pub byChoice-make : (A i j q : ℕ) (r : Rule) → choice A i ≡ some q → getElem? (G .rules) q ≡ some r → (r .positives ≡ [] → length w ≡ j)
+        → T (agrees (λ b. run c w b i) (r .positives) (r .negatives) j) → T (endsAt (byChoice G choice w c A i) j)
+    unfolding byChoice obey select
+    byChoice-make A i j q r e d h u = rw (e, d) (conclude-make (λ b. run c w b i) (length w) (r .positives) (r .negatives) j h u)
 
-    byTable-forward : Forward w c → Forward w (byTable G t k w c)
+    byChoice-forward : Forward w c → Forward w (byChoice G choice w c)
     unfolding agrees all
-    byTable-forward f A i j iw u =
-        let r = byTable-elim A i j u in
+    byChoice-forward f A i j iw u =
+        let r = byChoice-elim A i j u in
         go (r .0 .positives) (r .3) (and-l (all (λ b. endsAt (run c w b i) j) (r .0 .positives)) _ (r .4))
       where
         go : (ps : List Body) → (ps ≡ [] → length w ≡ j) → T (all (λ b. endsAt (run c w b i) j) ps) → (i ≤ j) × (j ≤ length w)
         go [] h a = let e : length w ≡ j = h refl in omega arith
         go (b ∷ ps) h a = run-forward w c f b i j iw (and-l (endsAt (run c w b i) j) _ a)
 
-    byTable-null : WellScoped G → Forward w c → EmptyNull G w c → EmptyNull G w (byTable G t k w c)
+    byChoice-null : WellScoped G → Forward w c → EmptyNull G w c → EmptyNull G w (byChoice G choice w c)
     unfolding agrees nullStep
-    byTable-null scoped f h A i j iw e u =
-        let r = byTable-elim A i j u in
+    byChoice-null scoped f h A i j iw e u =
+        let r = byChoice-elim A i j u in
         let R = r .0 in
         let a = and-l (all (λ b. endsAt (run c w b i) j) (R .positives)) _ (r .4) in
         let named : T (eqb (R .head) A) = rw (r .2) (eqb-refl A) in
@@ -105,22 +104,22 @@ module _ (G : Grammar) (t : Table) (k : ℕ) (w : List ℕ) (own : OwnEntries G 
         (all-map (λ b. endsAt (run c w b i) j) (allNullable (nullable G)) (R .positives)
         (λ b _. run-allNullable G w c f h b i j iw e) a)))
 
-  pub within-forward : (n : ℕ) → Forward w (within G t k w n)
+  pub within-forward : (n : ℕ) → Forward w (within G choice w n)
   unfolding within
   within-forward zero = λ A i j iw u. absurd u
-  within-forward (suc n) = byTable-forward (within G t k w n) (within-forward n)
+  within-forward (suc n) = byChoice-forward (within G choice w n) (within-forward n)
 
-  pub within-null : WellScoped G → (n : ℕ) → EmptyNull G w (within G t k w n)
+  pub within-null : WellScoped G → (n : ℕ) → EmptyNull G w (within G choice w n)
   unfolding within
   within-null c zero = λ A i j iw e u. absurd u
-  within-null c (suc n) = byTable-null (within G t k w n) c (within-forward n) (within-null c n)
+  within-null c (suc n) = byChoice-null (within G choice w n) c (within-forward n) (within-null c n)
 
   -- a call ends between its place and the end of the input
-  pub descend-forward : Forward w (descend G t k w)
+  pub descend-forward : Forward w (descend G choice w)
   unfolding descend
   descend-forward = within-forward (pairs G w)
 
   -- a call that ends where it began is of a nullable nonterminal
-  pub descend-null : WellScoped G → EmptyNull G w (descend G t k w)
+  pub descend-null : WellScoped G → EmptyNull G w (descend G choice w)
   unfolding descend
   descend-null c = within-null c (pairs G w)

@@ -6,7 +6,7 @@ use Rattle.word.specs.declared.Symbol.the-variants.{Terminal, Nonterminal}
 use Rattle.grammar.specs.Syntax.{Grammar}
 use Rattle.semantics.specs.Quantifiers.{any, all, below}
 use Rattle.semantics.specs.Valuations.{contains, derives, byRules, rounds, pairs, solution}
-use Rattle.semantics.specs.Claims.{tableOf}
+use Rattle.semantics.specs.Choices.{tableChoice}
 use Rattle.semantics.specs.Descent.{Failed, End, descend}
 use Rattle.semantics.specs.ComesTo.{callAt}
 use Rattle.semantics.specs.Calls.{callsWithin}
@@ -35,11 +35,11 @@ predictive-repeated : Predictive repeated 2
 unfolding scopedTest belowTest ownTest terminalsTest left-recursion-computes tables-compute
 predictive-repeated = predictive repeated 2 tt tt tt refl refl tt
 
-abac : descend repeated (tableOf repeated 2) 2 (0 ∷ 1 ∷ 0 ∷ 2 ∷ []) 0 0 ≡ End 4
+abac : descend repeated (tableChoice repeated 2 (0 ∷ 1 ∷ 0 ∷ 2 ∷ [])) (0 ∷ 1 ∷ 0 ∷ 2 ∷ []) 0 0 ≡ End 4
 unfolding tables-compute descent-computes
 abac = refl
 
-ac : descend repeated (tableOf repeated 2) 2 (0 ∷ 2 ∷ []) 0 0 ≡ Failed
+ac : descend repeated (tableChoice repeated 2 (0 ∷ 2 ∷ [])) (0 ∷ 2 ∷ []) 0 0 ≡ Failed
 unfolding tables-compute descent-computes
 ac = refl
 
@@ -48,16 +48,16 @@ predictive-others : Predictive others 1
 unfolding scopedTest belowTest ownTest terminalsTest left-recursion-computes tables-compute
 predictive-others = predictive others 1 tt tt tt refl refl tt
 
-a : descend others (tableOf others 1) 1 (0 ∷ []) 0 0 ≡ Failed
+a : descend others (tableChoice others 1 (0 ∷ [])) (0 ∷ []) 0 0 ≡ Failed
 unfolding tables-compute descent-computes
 a = refl
 
-aa : descend others (tableOf others 1) 1 (0 ∷ 0 ∷ []) 0 0 ≡ End 2
+aa : descend others (tableChoice others 1 (0 ∷ 0 ∷ [])) (0 ∷ 0 ∷ []) 0 0 ≡ End 2
 unfolding tables-compute descent-computes
 aa = refl
 
 -- an end is not membership: on ba the descent has A of grammar E end at 1, yet A does not derive b
-ba-ends : descend grammarE (tableOf grammarE 1) 1 (1 ∷ 0 ∷ []) 1 0 ≡ End 1
+ba-ends : descend grammarE (tableChoice grammarE 1 (1 ∷ 0 ∷ [])) (1 ∷ 0 ∷ []) 1 0 ≡ End 1
 unfolding tables-compute descent-computes
 ba-ends = refl
 
@@ -69,7 +69,7 @@ ba-solution = refl
 abbrev single : Grammar
 single = record { nonterminals = 1; terminals = 1; rules = record { head = 0; positives = (Terminal 0 ∷ []) ∷ []; negatives = [] } ∷ [] }
 
-early-end : descend single (tableOf single 1) 1 (0 ∷ 0 ∷ []) 0 0 ≡ End 1
+early-end : descend single (tableChoice single 1 (0 ∷ 0 ∷ [])) (0 ∷ 0 ∷ []) 0 0 ≡ End 1
 unfolding tables-compute descent-computes
 early-end = refl
 
@@ -87,7 +87,7 @@ again = record {
       ∷ record { head = 1; positives = (Terminal 0 ∷ []) ∷ []; negatives = [] } ∷ [];
 }
 
-met-twice : callsWithin again (tableOf again 1) 1 (0 ∷ []) (pairs again (0 ∷ [])) (callAt 0 0) ≡ callAt 0 0 ∷ callAt 1 0 ∷ callAt 1 0 ∷ []
+met-twice : callsWithin again (tableChoice again 1 (0 ∷ [])) (0 ∷ []) (pairs again (0 ∷ [])) (callAt 0 0) ≡ callAt 0 0 ∷ callAt 1 0 ∷ callAt 1 0 ∷ []
 unfolding tables-compute descent-computes calls-compute
 met-twice = refl
 
@@ -106,15 +106,15 @@ apart = record {
       ∷ record { head = 2; positives = (Terminal 0 ∷ Terminal 0 ∷ []) ∷ []; negatives = [] } ∷ [];
 }
 
-first-ends : descend apart (tableOf apart 1) 1 (0 ∷ 0 ∷ []) 1 0 ≡ End 1
+first-ends : descend apart (tableChoice apart 1 (0 ∷ 0 ∷ [])) (0 ∷ 0 ∷ []) 1 0 ≡ End 1
 unfolding tables-compute descent-computes
 first-ends = refl
 
-second-ends : descend apart (tableOf apart 1) 1 (0 ∷ 0 ∷ []) 2 0 ≡ End 2
+second-ends : descend apart (tableChoice apart 1 (0 ∷ 0 ∷ [])) (0 ∷ 0 ∷ []) 2 0 ≡ End 2
 unfolding tables-compute descent-computes
 second-ends = refl
 
-both-fail : descend apart (tableOf apart 1) 1 (0 ∷ 0 ∷ []) 0 0 ≡ Failed
+both-fail : descend apart (tableChoice apart 1 (0 ∷ 0 ∷ [])) (0 ∷ 0 ∷ []) 0 0 ≡ Failed
 unfolding tables-compute descent-computes
 both-fail = refl
 

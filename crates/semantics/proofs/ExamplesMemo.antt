@@ -8,6 +8,7 @@ use Rattle.grammar.specs.Syntax.{Body}
 use Rattle.semantics.specs.Quantifiers.{pick}
 use Rattle.semantics.specs.Strings.{look}
 use Rattle.semantics.specs.Families.{Table}
+use Rattle.semantics.specs.Choices.{byLookahead}
 use Rattle.semantics.specs.Descent.{Failed, End, Outcomes, read, run, select}
 use Rattle.semantics.specs.ComesTo.{callAt, when, bodyComesTo, negativesComeTo, positivesComeTo, ruleComesTo}
 use Rattle.semantics.specs.Memo.{encode, decode}
@@ -21,7 +22,7 @@ balancedTable (suc A) [] = some 2
 balancedTable (suc A) (zero ∷ x) = some 1
 balancedTable (suc A) (suc a ∷ x) = some 2
 
-aabb : memoStart balanced balancedTable 1 (0 ∷ 0 ∷ 1 ∷ 1 ∷ [])
+aabb : memoStart balanced (byLookahead balancedTable 1 (0 ∷ 0 ∷ 1 ∷ 1 ∷ [])) (0 ∷ 0 ∷ 1 ∷ 1 ∷ [])
     ≡ memoized (End 4) (
     4 ∷ 65535 ∷ 65535 ∷ 65535 ∷ 65535
     ∷ 4 ∷ 3 ∷ 2 ∷ 65535 ∷ 65535 ∷ []
@@ -30,7 +31,7 @@ unfolding memoStart memoCall memoObey memoRule memoPositives memoNegatives memoR
 aabb = refl
 
 -- T ends at 2, and a b ends there: the rule fails
-ab : memoStart balanced balancedTable 1 (0 ∷ 1 ∷ []) ≡ memoized Failed (65534 ∷ 65535 ∷ 65535 ∷ 2 ∷ 1 ∷ 65535 ∷ [])
+ab : memoStart balanced (byLookahead balancedTable 1 (0 ∷ 1 ∷ [])) (0 ∷ 1 ∷ []) ≡ memoized Failed (65534 ∷ 65535 ∷ 65535 ∷ 2 ∷ 1 ∷ 65535 ∷ [])
 unfolding memoStart memoCall memoObey memoRule memoPositives memoNegatives memoRun andThen pick stored encode decode select look
 ab = refl
 

@@ -11,8 +11,7 @@ use lib.ListN.{length, getD}
 use Rattle.word.specs.declared.Symbol.the-variants.{Terminal, Nonterminal}
 use Rattle.grammar.specs.Syntax.{Body, Rule, Grammar, bodies, NonterminalsBelow, WellScoped}
 use Rattle.semantics.specs.LeftRecursion.{nullable, LeftIn, here, there, LeftDepends, NoLeftRecursion, rank}
-use Rattle.semantics.specs.Strings.{look}
-use Rattle.semantics.specs.Families.{Table, OwnEntries}
+use Rattle.semantics.specs.Choices.{Choice, OwnRules}
 use Rattle.semantics.specs.Descent.{Outcome, Failed, End, endsAt, guard, Outcomes, read, run, select, descend}
 use Rattle.semantics.specs.ComesTo.{Call, InRange, measure, fromEnd, when, bodyComesTo, negativesComeTo, positivesComeTo, ruleComesTo}
 use Rattle.semantics.specs.ComesTo.{selectedComesTo, callComesTo}
@@ -89,31 +88,31 @@ module _ (G : Grammar) (w : List ℕ) (c : Outcomes) (forward : Forward w c) (em
         body-low b (s .0) (omega arith) (omega arith) (scoped .1) (λ e C l. front (omega arith) C (there (empty A i (s .0) iw (omega arith) (s .1)) l)) x (s .2)
   ]
 
-module _ (G : Grammar) (t : Table) (k : ℕ) (w : List ℕ) (scoped : WellScoped G) (own : OwnEntries G t) where
+module _ (G : Grammar) (choice : Choice) (w : List ℕ) (scoped : WellScoped G) (own : OwnRules G choice) where
   -- each call that a call's rule comes to is in range, and lies farther on, or at the same place at the left of one of its bodies
-  comes-onward : (x : Call) → InRange G w x → (y : Call) → List·Memᴰ y (callComesTo G t k w x)
+  comes-onward : (x : Call) → InRange G w x → (y : Call) → List·Memᴰ y (callComesTo G choice w x)
       → InRange G w y × (x .place ≤ y .place) × (y .place ≡ x .place → LeftDepends G (x .nonterminal) (y .nonterminal))
   unfolding callComesTo
   comes-onward x h y m =
-      let c : Outcomes = descend G t k w in
-      let forward = descend-forward G t k w own in
-      let null = descend-null G t k w own scoped in
-      chosen-in c w (x .place) (Low G w c forward null (x .nonterminal) (x .place)) (select G (t (x .nonterminal) (look k w (x .place))))
+      let c : Outcomes = descend G choice w in
+      let forward = descend-forward G choice w own in
+      let null = descend-null G choice w own scoped in
+      chosen-in c w (x .place) (Low G w c forward null (x .nonterminal) (x .place)) (select G (choice (x .nonterminal) (x .place)))
       (λ r e b n.
-      let s = selected G t k w own (x .nonterminal) (look k w (x .place)) r e in
+      let s = selected G choice w own (x .nonterminal) (x .place) r e in
       body-low G w c forward null (x .nonterminal) (x .place) b (x .place) (omega arith) (h .1) (scoped .nonterminals r (s .0) b n)
       (λ _ A z. record { rule = r; body = b; listed = s .0; heads = s .1; held = n; left = z })) y m
 
   module _ (free : NoLeftRecursion G) where
     -- the tokens left fall from a call to one that it makes, or else the rank does
-    pub tokens-then-rank : (x : Call) → InRange G w x → (y : Call) → List·Memᴰ y (callComesTo G t k w x)
+    pub tokens-then-rank : (x : Call) → InRange G w x → (y : Call) → List·Memᴰ y (callComesTo G choice w x)
         → InRange G w y × (x .place ≤ y .place) × (y .place ≡ x .place → rank G (y .nonterminal) < rank G (x .nonterminal))
     tokens-then-rank x h y m =
         let l = comes-onward x h y m in
         (l .0, l .1, λ e. rank-falls G scoped free (x .nonterminal) (y .nonterminal) (l .2 e))
 
     -- and so the measure falls
-    pub measure-falls : (x : Call) → InRange G w x → (y : Call) → List·Memᴰ y (callComesTo G t k w x) → InRange G w y × (measure G w y < measure G w x)
+    pub measure-falls : (x : Call) → InRange G w x → (y : Call) → List·Memᴰ y (callComesTo G choice w x) → InRange G w y × (measure G w y < measure G w x)
     unfolding measure
     measure-falls x h y m =
         let l = comes-onward x h y m in

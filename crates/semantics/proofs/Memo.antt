@@ -12,7 +12,7 @@ use Rattle.grammar.specs.Syntax.{Grammar, WellScoped}
 use Rattle.semantics.specs.FiniteSets.{keep}
 use Rattle.semantics.specs.Valuations.{pairs}
 use Rattle.semantics.specs.LeftRecursion.{NoLeftRecursion}
-use Rattle.semantics.specs.Families.{Table, OwnEntries}
+use Rattle.semantics.specs.Choices.{Choice, OwnRules}
 use Rattle.semantics.specs.Descent.{descend}
 use Rattle.semantics.specs.ComesTo.{Call, callAt, measure}
 use Rattle.semantics.specs.Calls.{Called, start, more, allCalls, calls}
@@ -37,12 +37,12 @@ keep-cong p q (x ∷ l) h = go (p x) (q x) (h x (List·Memᴰ·head refl)) (keep
     go false true e r = absurd (false≢true e)
     go false false e r = r
 
-module _ (G : Grammar) (t : Table) (k : ℕ) (w : List ℕ) (scoped : WellScoped G) (free : NoLeftRecursion G) (own : OwnEntries G t) (fits : Fits w) where
+module _ (G : Grammar) (choice : Choice) (w : List ℕ) (scoped : WellScoped G) (free : NoLeftRecursion G) (own : OwnRules G choice) (fits : Fits w) where
   -- the memo table changes no outcome: from entries that hold results, a call gives its result and leaves such entries
-  pub transparent : (n A i : ℕ) (m : Memo) → A < G .nonterminals → i ≤ length w → measure G w (callAt A i) < n → Sound G w (descend G t k w) (λ _. Unit {0}) m
-      → (memoCall G t k w n A i m .outcome ≡ descend G t k w A i) × Sound G w (descend G t k w) (λ _. Unit {0}) (memoCall G t k w n A i m .memo)
+  pub transparent : (n A i : ℕ) (m : Memo) → A < G .nonterminals → i ≤ length w → measure G w (callAt A i) < n → Sound G w (descend G choice w) (λ _. Unit {0}) m
+      → (memoCall G choice w n A i m .outcome ≡ descend G choice w A i) × Sound G w (descend G choice w) (λ _. Unit {0}) (memoCall G choice w n A i m .memo)
   transparent n A i m a iw l s =
-      let g = good-calls G t k w scoped free own fits (λ _. Unit {0}) (λ _ _ _ _ _. tt) n (callAt A i) m (a, iw) l s tt in
+      let g = good-calls G choice w scoped free own fits (λ _. Unit {0}) (λ _ _ _ _ _. tt) n (callAt A i) m (a, iw) l s tt in
       (g .tells, g .sound)
 
   blank-none : (x : Call) → Has G w (blank G w) x → ⊥
@@ -52,22 +52,22 @@ module _ (G : Grammar) (t : Table) (k : ℕ) (w : List ℕ) (scoped : WellScoped
 
   module _ (nonempty : 0 < G .nonterminals) (n : ℕ) (deep : measure G w (callAt 0 0) < n) where
     abbrev last : Memo
-    last = memoCall G t k w n 0 0 (blank G w) .memo
+    last = memoCall G choice w n 0 0 (blank G w) .memo
 
-    good : Good G t k w scoped free own fits (Called G t k w) (λ x _ h y m. more h m)
-        (suc (measure G w (callAt 0 0))) (descend G t k w 0 0) (callAt 0 0 ∷ []) (blank G w) (memoCall G t k w n 0 0 (blank G w))
-    good = good-calls G t k w scoped free own fits (Called G t k w) (λ x _ h y m. more h m) n (callAt 0 0) (blank G w) (nonempty, omega arith) deep
+    good : Good G choice w scoped free own fits (Called G choice w) (λ x _ h y m. more h m)
+        (suc (measure G w (callAt 0 0))) (descend G choice w 0 0) (callAt 0 0 ∷ []) (blank G w) (memoCall G choice w n 0 0 (blank G w))
+    good = good-calls G choice w scoped free own fits (Called G choice w) (λ x _ h y m. more h m) n (callAt 0 0) (blank G w) (nonempty, omega arith) deep
         (record { size = length-replicate (pairs G w) uncalledCode; right = λ x h. absurd (blank-none x h) }) start
 
-    written-called : (x : Call) → Has G w last x → Called G t k w x
+    written-called : (x : Call) → Has G w last x → Called G choice w x
     written-called x h = good .sound .right x h .1
 
-    called-written : (x : Call) → Called G t k w x → Has G w last x
+    called-written : (x : Call) → Called G choice w x → Has G w last x
     called-written x start = good .holds (callAt 0 0) (List·Memᴰ·head refl)
     called-written y (more {x = x} h m) = elim (good .grows .fresh x (called-written x h)) [ inl a ↦ absurd (blank-none x a) | inr a ↦ a .1 y m ]
 
     -- with any depth that is enough the start gives its result, and the memo in the end records just the calls made
-    pub memo-recorded-within : (memoCall G t k w n 0 0 (blank G w) .outcome ≡ descend G t k w 0 0) × Recorded G t k w last
+    pub memo-recorded-within : (memoCall G choice w n 0 0 (blank G w) .outcome ≡ descend G choice w 0 0) × Recorded G choice w last
     unfolding calls
     memo-recorded-within = (
       good .tells,
@@ -79,12 +79,12 @@ module _ (G : Grammar) (t : Table) (k : ℕ) (w : List ℕ) (scoped : WellScoped
           | inr u ↦ absurd (h (written-called x (ranged, u)))
         ];
         scanned = keep-cong _ _ (allCalls G w) (λ x m.
-            let iff = called-test G t k w scoped free own nonempty x in
+            let iff = called-test G choice w scoped free own nonempty x in
             both _ _ (λ u. iff .1 (written-called x (all-range G w x .0 m, u))) (λ u. called-written x (iff .0 u) .1));
       },
     )
 
   -- the descent with a memo table gives the start's result and records just the calls made
-  pub memo-recorded : 0 < G .nonterminals → (memoStart G t k w .outcome ≡ descend G t k w 0 0) × Recorded G t k w (memoStart G t k w .memo)
+  pub memo-recorded : 0 < G .nonterminals → (memoStart G choice w .outcome ≡ descend G choice w 0 0) × Recorded G choice w (memoStart G choice w .memo)
   unfolding memoStart measure
   memo-recorded nonempty = memo-recorded-within nonempty (pairs G w) (level-top G scoped free w 0 (length w - 0) nonempty (omega arith))

@@ -2,6 +2,7 @@
 use mathlib.Core.Path.{refl}
 use native.Mathlib.Omega.{arith}
 use Rattle.semantics.specs.Valuations.{solution}
+use Rattle.semantics.specs.Strings.{look}
 use Rattle.semantics.specs.FirstFollow.{First}
 use Rattle.semantics.specs.Descent.{descend}
 use Rattle.semantics.specs.Theorems.{Theorems}
@@ -72,24 +73,24 @@ theorems = record {
     piece = local-verdict-piece (p .scoped) (p .unrecursive) (own-guides G k p) w over v solves;
   };
   verdict = λ G k p w over v solves. verdict (p .scoped) (p .unrecursive) (own-guides G k p) w over v solves (p .start);
-  descent-ends = λ G scoped free t own k w. record {
-    unfolds = descend-results G t k w scoped free own;
-    only = results-unique G t k w scoped free own;
-    forward = λ A i j iw e. descend-forward G t k w own A i j iw (end-ends (descend G t k w A i) j e);
-    empty = λ A i iw e. descend-null G t k w own scoped A i i iw refl (end-ends (descend G t k w A i) i e);
-    falls = tokens-then-rank G t k w scoped own free;
+  descent-ends = λ G scoped free choice own w. record {
+    unfolds = descend-results G choice w scoped free own;
+    only = results-unique G choice w scoped free own;
+    forward = λ A i j iw e. descend-forward G choice w own A i j iw (end-ends (descend G choice w A i) j e);
+    empty = λ A i iw e. descend-null G choice w own scoped A i i iw refl (end-ends (descend G choice w A i) i e);
+    falls = tokens-then-rank G choice w scoped own free;
   };
-  calls-counted = λ G scoped free start t own k w. record {
-    listing = calls-listing G t k w scoped free own start;
-    count = count-listing G t k w scoped free own start;
-    bounded = count-bound G t k w scoped free own start;
-    farthest-most = farthest-most G t k w scoped free own start;
-    farthest-called = farthest-called G t k w scoped free own start;
+  calls-counted = λ G scoped free start choice own w. record {
+    listing = calls-listing G choice w scoped free own start;
+    count = count-listing G choice w scoped free own start;
+    bounded = count-bound G choice w scoped free own start;
+    farthest-most = farthest-most G choice w scoped free own start;
+    farthest-called = farthest-called G choice w scoped free own start;
   };
-  memo-right = λ G scoped free start t own k w fits.
-      let r = memo-recorded G t k w scoped free own fits start in
+  memo-right = λ G scoped free start choice own w fits.
+      let r = memo-recorded G choice w scoped free own fits start in
       record { outcome = r .0; recorded = r .1; ordered = all-ordered G w };
-  own-entries = table-own;
+  own-rules = λ G k w A i. table-own G k A (look k w i);
   passed = passed-iff;
   starred-rows = starred-rows;
 }

@@ -16,8 +16,9 @@ use Rattle.semantics.specs.LeftRecursion.{LeftDepends, NoLeftRecursion, 
 use Rattle.semantics.specs.Strings.{span, look, Over}
 use Rattle.semantics.specs.Families.{Family, FollowBody, Table}
 use Rattle.semantics.specs.Predictive.{Guides}
+use Rattle.semantics.specs.Choices.{Choice, OwnRules, byLookahead}
 use Rattle.semantics.specs.Theorems.{Piece}
-use Rattle.semantics.specs.Descent.{End, endsAt, onward, Outcomes, read, run, agrees, byTable, descend, accepts}
+use Rattle.semantics.specs.Descent.{End, endsAt, onward, Outcomes, read, run, agrees, byChoice, descend, accepts}
 use Rattle.semantics.proofs.Booleans.{T-subst, both, and-l, and-r, and-make}
 use Rattle.semantics.proofs.Quantified.{any-cong, all-cong, any-make, any-elim}
 use Rattle.semantics.proofs.Rank.{level-onward, level-top}
@@ -25,21 +26,27 @@ use Rattle.semantics.proofs.Unique.{NullSound, solution-null}
 use Rattle.semantics.proofs.Strings.{look-split, look-end, look-none, all-span, take-short}
 use Rattle.semantics.proofs.FirstSound.{FirstSound, contains-first, rule-first, first-sound}
 use Rattle.semantics.proofs.Outcomes.{ends-end, end-ends, ends-iff, onward-elim, mem-nth}
-use Rattle.semantics.proofs.Ends.{Forward, run-forward, EmptyNull, byTable-elim, byTable-make, descend-forward, descend-null}
+use Rattle.semantics.proofs.Ends.{Forward, run-forward, EmptyNull, byChoice-elim, byChoice-make, descend-forward, descend-null}
 use Rattle.semantics.proofs.Results.{descend-results}
 use Rattle.semantics.proofs.BodyVerdict.{run-contains, follow-rest, below-rest}
 
 -- Everything about a grammar, its families and table, an input and its solution that the verdict needs
 module _ {G : Grammar} {k : ℕ} {F L : Family} {t : Table} (scoped : WellScoped G) (free : NoLeftRecursion G) (guides : Guides G k F L t)
     (w : List ℕ) (over : Over (G .terminals) w) (v : Valuation) (solves : Solves G w v) where
+  abbrev choice : Choice
+  choice = byLookahead t k w
+
+  own : OwnRules G choice
+  own A i q e = guides .table .chosen A (look k w i) q e
+
   abbrev outcomes : Outcomes
-  outcomes = descend G t k w
+  outcomes = descend G choice w
 
   forward : Forward w outcomes
-  forward = descend-forward G t k w (guides .table .chosen)
+  forward = descend-forward G choice w own
 
   empty : EmptyNull G w outcomes
-  empty = descend-null G t k w (guides .table .chosen) scoped
+  empty = descend-null G choice w own scoped
 
   first : FirstSound G k F w v
   first = first-sound G scoped free w v solves k F (guides .firsts) over
@@ -52,7 +59,7 @@ module _ {G : Grammar} {k : ℕ} {F L : Family} {t : Table} (scoped : WellScoped
       → endsAt (outcomes A i) j ≡ v A i j
 
   climb : (n : ℕ) → Verdicts n → (B i j : ℕ) → B < G .nonterminals → i ≤ j → j ≤ length w → level G (length w - i) B < suc n → L B (look k w j)
-      → endsAt (byTable G t k w outcomes B i) j ≡ byRules G w v B i j
+      → endsAt (byChoice G choice w outcomes B i) j ≡ byRules G w v B i j
   unfolding byRules derives agrees Verdicts
   climb n h B i j b ij jw l y = both _ _ there′ back
     where
@@ -75,13 +82,13 @@ module _ {G : Grammar} {k : ℕ} {F L : Family} {t : Table} (scoped : WellScoped
           let q = any-cong ends has (r .negatives) (λ b n. body r m e b (Memᴰ·append-right (r .positives) n)) in
           cc
 
-      there′ : T (endsAt (byTable G t k w outcomes B i) j) → T (any (derives v w B i j) (G .rules))
+      there′ : T (endsAt (byChoice G choice w outcomes B i) j) → T (any (derives v w B i j) (G .rules))
       there′ u =
-          let r = byTable-elim G t k w (guides .table .chosen) outcomes B i j u in
+          let r = byChoice-elim G choice w own outcomes B i j u in
           let named : T (eqb (r .0 .head) B) = rw (r .2) (eqb-refl B) in
           any-make (derives v w B i j) (G .rules) (r .0) (r .1) (and-make (eqb (r .0 .head) B) _ named (T-subst (same (r .0) (r .1) (r .2)) (r .4)))
 
-      back : T (any (derives v w B i j) (G .rules)) → T (endsAt (byTable G t k w outcomes B i) j)
+      back : T (any (derives v w B i j) (G .rules)) → T (endsAt (byChoice G choice w outcomes B i) j)
       back u =
           let s = any-elim (derives v w B i j) (G .rules) u in
           let r : Rule = s .0 in
@@ -103,7 +110,7 @@ module _ {G : Grammar} {k : ℕ} {F L : Family} {t : Table} (scoped : WellScoped
             follows = y;
             makes = look-split k w i j ij;
           }) in
-          byTable-make G t k w (guides .table .chosen) outcomes B i j (q .0) r d (q .1)
+          byChoice-make G choice w own outcomes B i j (q .0) r d (q .1)
           (λ o. let z = guides .ends r m o in sym (look-none k w j (z .0) jw (z .1 (look k w j) y′)))
           (T-subst (sym (same r m e)) x)
 
@@ -111,7 +118,7 @@ module _ {G : Grammar} {k : ℕ} {F L : Family} {t : Table} (scoped : WellScoped
   unfolding Verdicts
   verdict-below zero A i j a ij jw l y = absurd (omega arith)
   verdict-below (suc n) A i j a ij jw l y =
-      ap (λ o. endsAt o j) (descend-results G t k w scoped free (guides .table .chosen) A i a (omega arith))
+      ap (λ o. endsAt o j) (descend-results G choice w scoped free own A i a (omega arith))
       ∙ climb n (verdict-below n) A i j a ij jw l y ∙ sym (solves A i j a ij jw)
 
   verdict-at : (A i j : ℕ) → A < G .nonterminals → i ≤ j → j ≤ length w → L A (look k w j) → endsAt (outcomes A i) j ≡ v A i j
@@ -167,6 +174,6 @@ module _ {G : Grammar} {k : ℕ} {F L : Family} {t : Table} (scoped : WellScoped
       )
 
   -- the verdict: the input is accepted just when the solution gives the whole of it to the start
-  pub verdict : 0 < G .nonterminals → accepts G t k w ≡ v 0 0 (length w)
+  pub verdict : 0 < G .nonterminals → accepts G choice w ≡ v 0 0 (length w)
   unfolding accepts
   verdict a = verdict-at 0 0 (length w) a (omega arith) (omega arith) (rw (look-end k w) (guides .follows .start))

@@ -15,9 +15,8 @@ use Rattle.grammar.specs.Syntax.{Rule, Grammar, WellScoped}
 use Rattle.semantics.specs.Quantifiers.{pick}
 use Rattle.semantics.specs.Valuations.{pairs}
 use Rattle.semantics.specs.LeftRecursion.{NoLeftRecursion}
-use Rattle.semantics.specs.Strings.{look}
-use Rattle.semantics.specs.Families.{Table, OwnEntries}
-use Rattle.semantics.specs.Descent.{Outcome, Failed, End, endsAt, Outcomes, select, byTable, descend}
+use Rattle.semantics.specs.Choices.{Choice, OwnRules}
+use Rattle.semantics.specs.Descent.{Outcome, Failed, End, endsAt, Outcomes, select, byChoice, descend}
 use Rattle.semantics.specs.ComesTo.{Call, callAt, InRange, measure, callComesTo}
 use Rattle.semantics.specs.Memo.{Memo, encode, decode, indexOf, entry, written, Fits}
 use Rattle.semantics.specs.MemoDescent.{Memoized, memoized, memoObey, memoCall, stored}
@@ -76,17 +75,17 @@ module _ (G : Grammar) (w : List ℕ) (m : Memo) (size : length m ≡ pairs G w)
     | no e ↦ let s = getD-set-other m (indexOf w x) (indexOf w y) v uncalledCode e in (h .0, rw s (h .1))
   ]
 
-module _ (G : Grammar) (t : Table) (k : ℕ) (w : List ℕ) (scoped : WellScoped G) (free : NoLeftRecursion G) (own : OwnEntries G t) (fits : Fits w) where
+module _ (G : Grammar) (choice : Choice) (w : List ℕ) (scoped : WellScoped G) (free : NoLeftRecursion G) (own : OwnRules G choice) (fits : Fits w) where
   abbrev pub result : Call → Outcome
-  result x = descend G t k w (x .nonterminal) (x .place)
+  result x = descend G choice w (x .nonterminal) (x .place)
 
   result-small : (x : Call) → InRange G w x → (j : ℕ) → T (endsAt (result x) j) → j ≤ length w
-  result-small x h j u = descend-forward G t k w own (x .nonterminal) (x .place) j (h .1) u .1
+  result-small x h j u = descend-forward G choice w own (x .nonterminal) (x .place) j (h .1) u .1
 
   -- from m to m′: what was written stays; what is new is below b, and all that it comes to is written
   pub record Grows (b : ℕ) (m m′ : Memo) : Type 0 where
     pub stays : (x : Call) → Has G w m x → Has G w m′ x
-    pub fresh : (x : Call) → Has G w m′ x → Has G w m x ⊎ ((measure G w x < b) × ((y : Call) → List·Memᴰ y (callComesTo G t k w x) → Has G w m′ y))
+    pub fresh : (x : Call) → Has G w m′ x → Has G w m x ⊎ ((measure G w x < b) × ((y : Call) → List·Memᴰ y (callComesTo G choice w x) → Has G w m′ y))
 
   grows-same : (b : ℕ) (m : Memo) → Grows b m m
   grows-same b m = record { stays = λ x h. h; fresh = λ x h. inl h }
@@ -107,29 +106,29 @@ module _ (G : Grammar) (t : Table) (k : ℕ) (w : List ℕ) (scoped : WellScoped
   }
 
   -- P: a property of calls that goes over to what they come to
-  module _ (P : Call → Type 0) (onward : (x : Call) → InRange G w x → P x → (y : Call) → List·Memᴰ y (callComesTo G t k w x) → P y) where
+  module _ (P : Call → Type 0) (onward : (x : Call) → InRange G w x → P x → (y : Call) → List·Memᴰ y (callComesTo G choice w x) → P y) where
     -- what a run from m gave: the outcome o, with the calls of l written
     pub record Good (b : ℕ) (o : Outcome) (l : List Call) (m : Memo) (r : Memoized) : Type 0 where
       pub tells : r .outcome ≡ o
-      pub sound : Sound G w (descend G t k w) P (r .memo)
+      pub sound : Sound G w (descend G choice w) P (r .memo)
       pub grows : Grows b m (r .memo)
       pub holds : (x : Call) → List·Memᴰ x l → Has G w (r .memo) x
 
     abbrev pub GoodCalls : ℕ → Type 0
-    GoodCalls n = (x : Call) (m : Memo) → InRange G w x → measure G w x < n → Sound G w (descend G t k w) P m → P x
-        → Good (suc (measure G w x)) (result x) (x ∷ []) m (memoCall G t k w n (x .nonterminal) (x .place) m)
+    GoodCalls n = (x : Call) (m : Memo) → InRange G w x → measure G w x < n → Sound G w (descend G choice w) P m → P x
+        → Good (suc (measure G w x)) (result x) (x ∷ []) m (memoCall G choice w n (x .nonterminal) (x .place) m)
 
-    through-good : (n b : ℕ) → b ≤ n → GoodCalls n → (p : Plan) (m : Memo) → Sound G w (descend G t k w) P m
-        → ((x : Call) → List·Memᴰ x (asked (descend G t k w) p) → InRange G w x × (measure G w x < b) × P x)
-        → Good b (value (descend G t k w) p) (asked (descend G t k w) p) m (through (memoCall G t k w n) p m)
+    through-good : (n b : ℕ) → b ≤ n → GoodCalls n → (p : Plan) (m : Memo) → Sound G w (descend G choice w) P m
+        → ((x : Call) → List·Memᴰ x (asked (descend G choice w) p) → InRange G w x × (measure G w x < b) × P x)
+        → Good b (value (descend G choice w) p) (asked (descend G choice w) p) m (through (memoCall G choice w n) p m)
     unfolding value asked through
     through-good n b bn good (Done o) m s h =
         record { tells = refl; sound = s; grows = grows-same b m; holds = λ x n. absurd (List·Memᴰ·not-nil n) }
     through-good n b bn good (Ask A i q) m s h =
         let a = h (callAt A i) (List·Memᴰ·head refl) in
         let g = good (callAt A i) m (a .0) (omega (arith, a .1)) s (a .2) in
-        let m₁ = memoCall G t k w n A i m .memo in
-        let r = through-good n b bn good (q (descend G t k w A i)) m₁ (g .sound) (λ x n. h x (List·Memᴰ·tail n)) in
+        let m₁ = memoCall G choice w n A i m .memo in
+        let r = through-good n b bn good (q (descend G choice w A i)) m₁ (g .sound) (λ x n. h x (List·Memᴰ·tail n)) in
         rw (g .tells) (record {
           tells = r .tells;
           sound = r .sound;
@@ -142,7 +141,7 @@ module _ (G : Grammar) (t : Table) (k : ℕ) (w : List ℕ) (scoped : WellScoped
 
     -- a new call: the rule was run, and the outcome is stored
     store-good : (x : Call) (m : Memo) (r : Memoized) → InRange G w x → P x
-        → Good (measure G w x) (result x) (callComesTo G t k w x) m r
+        → Good (measure G w x) (result x) (callComesTo G choice w x) m r
         → Good (suc (measure G w x)) (result x) (x ∷ []) m (stored (indexOf w x) r)
     unfolding stored
     store-good x m r ranged p g =
@@ -177,12 +176,12 @@ module _ (G : Grammar) (t : Table) (k : ℕ) (w : List ℕ) (scoped : WellScoped
         }
 
     pub good-calls : (n : ℕ) → GoodCalls n
-    unfolding callComesTo memoCall pick byTable
+    unfolding callComesTo memoCall pick byChoice
     good-calls zero x m ranged l s p = absurd (omega arith)
     good-calls (suc n) x m ranged l s p = go (test (eqb (entry w m x) uncalledCode)) (good-calls n)
       where
         o : Option Rule
-        o = select G (t (x .nonterminal) (look k w (x .place)))
+        o = select G (choice (x .nonterminal) (x .place))
 
         found : T (not (eqb (entry w m x) uncalledCode)) → Good (suc (measure G w x)) (result x) (x ∷ []) m (memoized (decode (entry w m x)) m)
         found u = record {
@@ -192,18 +191,18 @@ module _ (G : Grammar) (t : Table) (k : ℕ) (w : List ℕ) (scoped : WellScoped
           holds = λ y n. elim (List·Memᴰ·cases-cons n) [ inl e ↦ rw e (ranged, u) | inr n ↦ absurd (List·Memᴰ·not-nil n) ];
         }
 
-        ran : GoodCalls n → Good (measure G w x) (result x) (callComesTo G t k w x) m (memoObey (memoCall G t k w n) w o (x .place) m)
+        ran : GoodCalls n → Good (measure G w x) (result x) (callComesTo G choice w x) m (memoObey (memoCall G choice w n) w o (x .place) m)
         ran good =
-            let c : Outcomes = descend G t k w in
+            let c : Outcomes = descend G choice w in
             let g = through-good n (measure G w x) (omega arith) good (plan w o (x .place)) m s (λ y a.
-            let a′ : List·Memᴰ y (callComesTo G t k w x) = rw (plan-asked c w o (x .place)) at a in
-            let d = measure-falls G t k w scoped own free x ranged y a′ in
+            let a′ : List·Memᴰ y (callComesTo G choice w x) = rw (plan-asked c w o (x .place)) at a in
+            let d = measure-falls G choice w scoped own free x ranged y a′ in
             (d .0, d .1, onward x ranged p y a′)) in
             let e : value c (plan w o (x .place)) ≡ result x =
-            plan-value c w o (x .place) ∙ sym (descend-results G t k w scoped free own (x .nonterminal) (x .place) (ranged .0) (ranged .1)) in
-            rw (plan-asked c w o (x .place), plan-through (memoCall G t k w n) w o (x .place) m, e) at g
+            plan-value c w o (x .place) ∙ sym (descend-results G choice w scoped free own (x .nonterminal) (x .place) (ranged .0) (ranged .1)) in
+            rw (plan-asked c w o (x .place), plan-through (memoCall G choice w n) w o (x .place) m, e) at g
 
         go : T (eqb (entry w m x) uncalledCode) ⊎ T (not (eqb (entry w m x) uncalledCode)) → GoodCalls n
-            → Good (suc (measure G w x)) (result x) (x ∷ []) m (memoCall G t k w (suc n) (x .nonterminal) (x .place) m)
+            → Good (suc (measure G w x)) (result x) (x ∷ []) m (memoCall G choice w (suc n) (x .nonterminal) (x .place) m)
         go (inl u) good = rw (T-true (eqb (entry w m x) uncalledCode) u) (store-good x m _ ranged p (ran good))
         go (inr u) good = rw (T-false (eqb (entry w m x) uncalledCode) u) (found u)

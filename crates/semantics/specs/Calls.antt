@@ -7,13 +7,13 @@ use lib.Dec.{eqb}
 use Rattle.grammar.specs.Syntax.{Grammar}
 use Rattle.semantics.specs.FiniteSets.{member, keep, numbers, combine}
 use Rattle.semantics.specs.Valuations.{pairs}
-use Rattle.semantics.specs.Families.{Table}
+use Rattle.semantics.specs.Choices.{Choice}
 use Rattle.semantics.specs.ComesTo.{Call, callAt, callComesTo}
 
 -- the start at 0, and all that a call comes to (document 01: the called pairs)
-pub data Called (G : Grammar) (t : Table) (k : ℕ) (w : List ℕ) : Call → Type 0 where
-  start : Called G t k w (callAt 0 0)
-  more : {x y : Call} → Called G t k w x → List·Memᴰ y (callComesTo G t k w x) → Called G t k w y
+pub data Called (G : Grammar) (choice : Choice) (w : List ℕ) : Call → Type 0 where
+  start : Called G choice w (callAt 0 0)
+  more : {x y : Call} → Called G choice w x → List·Memᴰ y (callComesTo G choice w x) → Called G choice w y
 
 module _ {A : Type 0} where
   -- no element twice
@@ -22,15 +22,15 @@ module _ {A : Type 0} where
   Distinct (x ∷ l) = (List·Memᴰ x l → ⊥) × Distinct l
 
 -- a list of just the calls made, each once
-pub record Listing (G : Grammar) (t : Table) (k : ℕ) (w : List ℕ) (l : List Call) : Type 0 where
+pub record Listing (G : Grammar) (choice : Choice) (w : List ℕ) (l : List Call) : Type 0 where
   pub distinct : Distinct l
-  pub sound : (x : Call) → List·Memᴰ x l → Called G t k w x
-  pub full : (x : Call) → Called G t k w x → List·Memᴰ x l
+  pub sound : (x : Call) → List·Memᴰ x l → Called G choice w x
+  pub full : (x : Call) → Called G choice w x → List·Memᴰ x l
 
 -- x and the calls below it, at most n deep, each as often as the descent without a memo table makes it
-unfoldable pub callsWithin : Grammar → Table → ℕ → List ℕ → ℕ → Call → List Call
-callsWithin G t k w zero x = []
-callsWithin G t k w (suc n) x = x ∷ flatMap (callsWithin G t k w n) (callComesTo G t k w x)
+unfoldable pub callsWithin : Grammar → Choice → List ℕ → ℕ → Call → List Call
+callsWithin G choice w zero x = []
+callsWithin G choice w (suc n) x = x ∷ flatMap (callsWithin G choice w n) (callComesTo G choice w x)
 
 abbrev pub sameCall : Call → Call → Bool
 sameCall x y = eqb (x .nonterminal) (y .nonterminal) && eqb (x .place) (y .place)
@@ -40,17 +40,17 @@ unfoldable pub allCalls : Grammar → List ℕ → List Call
 allCalls G w = combine callAt (numbers (G .nonterminals)) (numbers (suc (length w)))
 
 -- the calls made, each once, in that order
-unfoldable pub calls : Grammar → Table → ℕ → List ℕ → List Call
-calls G t k w = keep (member sameCall (callsWithin G t k w (pairs G w) (callAt 0 0))) (allCalls G w)
+unfoldable pub calls : Grammar → Choice → List ℕ → List Call
+calls G choice w = keep (member sameCall (callsWithin G choice w (pairs G w) (callAt 0 0))) (allCalls G w)
 
 -- (document 01: the count)
-unfoldable pub callCount : Grammar → Table → ℕ → List ℕ → ℕ
-callCount G t k w = length (calls G t k w)
+unfoldable pub callCount : Grammar → Choice → List ℕ → ℕ
+callCount G choice w = length (calls G choice w)
 
 unfoldable pub greatestPlace : List Call → ℕ
 greatestPlace [] = 0
 greatestPlace (x ∷ l) = max (x .place) (greatestPlace l)
 
 -- (document 01: far)
-unfoldable pub farthest : Grammar → Table → ℕ → List ℕ → ℕ
-farthest G t k w = greatestPlace (calls G t k w)
+unfoldable pub farthest : Grammar → Choice → List ℕ → ℕ
+farthest G choice w = greatestPlace (calls G choice w)

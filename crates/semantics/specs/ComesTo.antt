@@ -8,8 +8,7 @@ use Rattle.word.specs.declared.Symbol.{Symbol}
 use Rattle.word.specs.declared.Symbol.the-variants.{Terminal, Nonterminal}
 use Rattle.grammar.specs.Syntax.{Body, Rule, Grammar}
 use Rattle.semantics.specs.LeftRecursion.{level}
-use Rattle.semantics.specs.Strings.{look}
-use Rattle.semantics.specs.Families.{Table}
+use Rattle.semantics.specs.Choices.{Choice}
 use Rattle.semantics.specs.Descent.{Outcome, Failed, End, endsAt, Outcomes, read, run, select, descend}
 
 -- (document 01: a pair)
@@ -61,8 +60,8 @@ selectedComesTo c w none i = []
 selectedComesTo c w (some r) i = ruleComesTo c w (length w) (r .positives) (r .negatives) i
 
 -- what the running of a call's rule comes to
-unfoldable pub callComesTo : Grammar → Table → ℕ → List ℕ → Call → List Call
-callComesTo G t k w x = selectedComesTo (descend G t k w) w (select G (t (x .nonterminal) (look k w (x .place)))) (x .place)
+unfoldable pub callComesTo : Grammar → Choice → List ℕ → Call → List Call
+callComesTo G choice w x = selectedComesTo (descend G choice w) w (select G (choice (x .nonterminal) (x .place))) (x .place)
 
 -- the tokens left, then the rank: what falls from a call to those that it makes
 unfoldable pub measure : Grammar → List ℕ → Call → ℕ

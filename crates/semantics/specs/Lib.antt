@@ -8,6 +8,7 @@ pub mod Families
 pub mod FirstFollow
 pub mod Claims
 pub mod Predictive
+pub mod Choices
 pub mod Descent
 pub mod ComesTo
 pub mod Calls

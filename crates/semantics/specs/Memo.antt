@@ -10,7 +10,7 @@ use Rattle.grammar.specs.Syntax.{Grammar}
 use Rattle.semantics.specs.Quantifiers.{pick}
 use Rattle.semantics.specs.FiniteSets.{keep}
 use Rattle.semantics.specs.Valuations.{pairs}
-use Rattle.semantics.specs.Families.{Table}
+use Rattle.semantics.specs.Choices.{Choice}
 use Rattle.semantics.specs.Descent.{Outcome, Failed, End, descend}
 use Rattle.semantics.specs.ComesTo.{Call, InRange}
 use Rattle.semantics.specs.Calls.{Called, allCalls, calls}
@@ -46,8 +46,8 @@ abbrev pub written : List ℕ → Memo → Call → Bool
 written w m x = not (eqb (entry w m x) uncalledCode)
 
 -- the memo holds the results of the calls made and nothing else, and so a scan of it gives the calls
-pub record Recorded (G : Grammar) (t : Table) (k : ℕ) (w : List ℕ) (m : Memo) : Type 0 where
+pub record Recorded (G : Grammar) (choice : Choice) (w : List ℕ) (m : Memo) : Type 0 where
   pub size : length m ≡ pairs G w
-  pub called : (x : Call) → Called G t k w x → entry w m x ≡ encode (descend G t k w (x .nonterminal) (x .place))
-  pub uncalled : (x : Call) → InRange G w x → (Called G t k w x → ⊥) → entry w m x ≡ uncalledCode
-  pub scanned : keep (written w m) (allCalls G w) ≡ calls G t k w
+  pub called : (x : Call) → Called G choice w x → entry w m x ≡ encode (descend G choice w (x .nonterminal) (x .place))
+  pub uncalled : (x : Call) → InRange G w x → (Called G choice w x → ⊥) → entry w m x ≡ uncalledCode
+  pub scanned : keep (written w m) (allCalls G w) ≡ calls G choice w

@@ -10,8 +10,7 @@ use Rattle.grammar.specs.Codes.{uncalledCode}
 use Rattle.grammar.specs.Syntax.{Body, Rule, Grammar}
 use Rattle.semantics.specs.Quantifiers.{pick}
 use Rattle.semantics.specs.Valuations.{pairs}
-use Rattle.semantics.specs.Strings.{look}
-use Rattle.semantics.specs.Families.{Table}
+use Rattle.semantics.specs.Choices.{Choice}
 use Rattle.semantics.specs.Descent.{Outcome, Failed, End, endsAt, select}
 use Rattle.semantics.specs.ComesTo.{callAt}
 use Rattle.semantics.specs.Memo.{Memo, encode, decode, indexOf, entry, blank}
@@ -62,13 +61,13 @@ unfoldable pub stored : ℕ → Memoized → Memoized
 stored x r = memoized (r .outcome) (set (r .memo) x (encode (r .outcome)))
 
 -- a nonterminal called at i, at most n calls deep
-unfoldable pub memoCall : Grammar → Table → ℕ → List ℕ → ℕ → MemoCalls
-memoCall G t k w zero A i m = memoized Failed m
-memoCall G t k w (suc n) A i m =
+unfoldable pub memoCall : Grammar → Choice → List ℕ → ℕ → MemoCalls
+memoCall G choice w zero A i m = memoized Failed m
+memoCall G choice w (suc n) A i m =
     pick (eqb (entry w m (callAt A i)) uncalledCode)
-    (stored (indexOf w (callAt A i)) (memoObey (memoCall G t k w n) w (select G (t A (look k w i))) i m))
+    (stored (indexOf w (callAt A i)) (memoObey (memoCall G choice w n) w (select G (choice A i)) i m))
     (memoized (decode (entry w m (callAt A i))) m)
 
 -- the start called at 0
-unfoldable pub memoStart : Grammar → Table → ℕ → List ℕ → Memoized
-memoStart G t k w = memoCall G t k w (pairs G w) 0 0 (blank G w)
+unfoldable pub memoStart : Grammar → Choice → List ℕ → Memoized
+memoStart G choice w = memoCall G choice w (pairs G w) 0 0 (blank G w)

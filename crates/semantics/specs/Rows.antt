@@ -3,7 +3,7 @@ use mathlib.Core.Bool.{Bool, true, false}
 use mathlib.Core.List.{List, [], _∷_}
 use Prim.Native.Nat.{ℕ}
 use Rattle.grammar.specs.Syntax.{Grammar}
-use Rattle.semantics.specs.Claims.{tableOf}
+use Rattle.semantics.specs.Choices.{tableChoice}
 use Rattle.semantics.specs.Descent.{accepts}
 use Rattle.semantics.specs.Calls.{callCount, farthest}
 use Rattle.grammar.specs.Cards.{grammarR, grammarM, grammarE}
@@ -39,4 +39,4 @@ starred =
 
 -- with one token of lookahead
 unfoldable pub judged : Grammar → List ℕ → Row
-judged G w = row G w (accepts G (tableOf G 1) 1 w) (callCount G (tableOf G 1) 1 w) (farthest G (tableOf G 1) 1 w)
+judged G w = row G w (accepts G (tableChoice G 1 w) w) (callCount G (tableChoice G 1 w) w) (farthest G (tableChoice G 1 w) w)

@@ -16,9 +16,10 @@ use Rattle.semantics.specs.Valuations.{Valuation, contains, Solves, solu
 use Rattle.semantics.specs.LeftRecursion.{nullStep, nullable, LeftDepends, LeftReaches, NoLeftRecursion, leftRecursive, lowestLeftRecursive, rank}
 use Rattle.semantics.specs.Strings.{span, look, Over, Lookahead}
 use Rattle.semantics.specs.Families.{Family, Least, Short, FirstOf, FirstBody, Strung, Meeting, FirstClosed, FollowClosed, FollowStrung, Claims, Clash}
-use Rattle.semantics.specs.Families.{EveryEnds, OwnTerminals, Table, OwnEntries}
+use Rattle.semantics.specs.Families.{EveryEnds, OwnTerminals}
 use Rattle.semantics.specs.FirstFollow.{strings, Entry, First, Follow}
 use Rattle.semantics.specs.Claims.{clashes, column, tableOf, everyEnds}
+use Rattle.semantics.specs.Choices.{Choice, OwnRules, tableChoice}
 use Rattle.semantics.specs.Descent.{End, Outcomes, run, Results, descend, accepts}
 use Rattle.semantics.specs.ComesTo.{Call, InRange, callComesTo}
 use Rattle.semantics.specs.Calls.{Called, Listing, allCalls, calls, callCount, farthest}
@@ -84,40 +85,40 @@ pub record Piece (k : ℕ) (L : Family) (w : List ℕ) (v : Valuation) (c : Outc
 -- and so for each nonterminal that such a rest begins with
 pub record LocalVerdict (G : Grammar) (k : ℕ) (w : List ℕ) (v : Valuation) : Type 0 where
   pub nonterminal : (A i j : ℕ) → A < G .nonterminals → i ≤ j → j ≤ length w → Follow G k A (look k w j)
-      → (descend G (tableOf G k) k w A i ≡ End j) ↔ (v A i j ≡ true)
+      → (descend G (tableChoice G k w) w A i ≡ End j) ↔ (v A i j ≡ true)
   pub rest : (r : Rule) → List·Memᴰ r (G .rules) → (front rest : Body) → List·Memᴰ (front ++ rest) (bodies r)
       → (i j : ℕ) → i ≤ j → j ≤ length w → Follow G k (r .head) (look k w j)
-      → (run (descend G (tableOf G k) k w) w rest i ≡ End j) ↔ (contains v w rest i j ≡ true)
+      → (run (descend G (tableChoice G k w) w) w rest i ≡ End j) ↔ (contains v w rest i j ≡ true)
   pub piece : (r : Rule) → List·Memᴰ r (G .rules) → (front : Body) (A : ℕ) (b : Body) → List·Memᴰ (front ++ (Nonterminal A ∷ b)) (bodies r)
-      → (i j : ℕ) → i ≤ j → j ≤ length w → Follow G k (r .head) (look k w j) → run (descend G (tableOf G k) k w) w (Nonterminal A ∷ b) i ≡ End j
-      → (m : ℕ) × Piece k (Follow G k) w v (descend G (tableOf G k) k w) A b i m j
+      → (i j : ℕ) → i ≤ j → j ≤ length w → Follow G k (r .head) (look k w j) → run (descend G (tableChoice G k w) w) w (Nonterminal A ∷ b) i ≡ End j
+      → (m : ℕ) × Piece k (Follow G k) w v (descend G (tableChoice G k w) w) A b i m j
 
 -- 6. The verdict for a solution v
 abbrev pub Verdict : Grammar → ℕ → List ℕ → Valuation → Type 0
-Verdict G k w v = accepts G (tableOf G k) k w ≡ v 0 0 (length w)
+Verdict G k w v = accepts G (tableChoice G k w) w ≡ v 0 0 (length w)
 
 -- 7. The descent ends: its outcomes are what the rules give and the only such ones; from each call to those it makes the tokens left fall, or else
 -- the rank does
-pub record DescentEnds (G : Grammar) (t : Table) (k : ℕ) (w : List ℕ) : Type 0 where
-  pub unfolds : Results G t k w (descend G t k w)
-  pub only : (c : Outcomes) → Results G t k w c → (A i : ℕ) → A < G .nonterminals → i ≤ length w → c A i ≡ descend G t k w A i
-  pub forward : (A i j : ℕ) → i ≤ length w → descend G t k w A i ≡ End j → (i ≤ j) × (j ≤ length w)
-  pub empty : (A i : ℕ) → i ≤ length w → descend G t k w A i ≡ End i → T (nullable G A)
-  pub falls : (x : Call) → InRange G w x → (y : Call) → List·Memᴰ y (callComesTo G t k w x)
+pub record DescentEnds (G : Grammar) (choice : Choice) (w : List ℕ) : Type 0 where
+  pub unfolds : Results G choice w (descend G choice w)
+  pub only : (c : Outcomes) → Results G choice w c → (A i : ℕ) → A < G .nonterminals → i ≤ length w → c A i ≡ descend G choice w A i
+  pub forward : (A i j : ℕ) → i ≤ length w → descend G choice w A i ≡ End j → (i ≤ j) × (j ≤ length w)
+  pub empty : (A i : ℕ) → i ≤ length w → descend G choice w A i ≡ End i → T (nullable G A)
+  pub falls : (x : Call) → InRange G w x → (y : Call) → List·Memᴰ y (callComesTo G choice w x)
       → InRange G w y × (x .place ≤ y .place) × (y .place ≡ x .place → rank G (y .nonterminal) < rank G (x .nonterminal))
 
 -- 8. The calls are listed, each once; any such list has their number; they are at most one for each nonterminal and place; the farthest place is a call's
-pub record CallsCounted (G : Grammar) (t : Table) (k : ℕ) (w : List ℕ) : Type 0 where
-  pub listing : Listing G t k w (calls G t k w)
-  pub count : (l : List Call) → Listing G t k w l → length l ≡ callCount G t k w
-  pub bounded : callCount G t k w ≤ G .nonterminals * suc (length w)
-  pub farthest-most : (x : Call) → Called G t k w x → x .place ≤ farthest G t k w
-  pub farthest-called : (x : Call) × Called G t k w x × (x .place ≡ farthest G t k w)
+pub record CallsCounted (G : Grammar) (choice : Choice) (w : List ℕ) : Type 0 where
+  pub listing : Listing G choice w (calls G choice w)
+  pub count : (l : List Call) → Listing G choice w l → length l ≡ callCount G choice w
+  pub bounded : callCount G choice w ≤ G .nonterminals * suc (length w)
+  pub farthest-most : (x : Call) → Called G choice w x → x .place ≤ farthest G choice w
+  pub farthest-called : (x : Call) × Called G choice w x × (x .place ≡ farthest G choice w)
 
 -- 9. The memo table changes no outcome, and in the end holds the results of the calls and nothing else; the list of all calls is in its order
-pub record MemoRight (G : Grammar) (t : Table) (k : ℕ) (w : List ℕ) : Type 0 where
-  pub outcome : memoStart G t k w .outcome ≡ descend G t k w 0 0
-  pub recorded : Recorded G t k w (memoStart G t k w .memo)
+pub record MemoRight (G : Grammar) (choice : Choice) (w : List ℕ) : Type 0 where
+  pub outcome : memoStart G choice w .outcome ≡ descend G choice w 0 0
+  pub recorded : Recorded G choice w (memoStart G choice w .memo)
   pub ordered : (x z : Call) → InRange G w x → getD (allCalls G w) (indexOf w x) z ≡ x
 
 -- The theorems, with what they need
@@ -131,12 +132,12 @@ pub record Theorems : Type 1 where
       → (v : Valuation) → Solves G w v → SoundFirst G k w v
   pub local-verdict : (G : Grammar) (k : ℕ) → Predictive G k → (w : List ℕ) → Over (G .terminals) w → (v : Valuation) → Solves G w v → LocalVerdict G k w v
   pub verdict : (G : Grammar) (k : ℕ) → Predictive G k → (w : List ℕ) → Over (G .terminals) w → (v : Valuation) → Solves G w v → Verdict G k w v
-  pub descent-ends : (G : Grammar) → WellScoped G → NoLeftRecursion G → (t : Table) → OwnEntries G t → (k : ℕ) (w : List ℕ) → DescentEnds G t k w
+  pub descent-ends : (G : Grammar) → WellScoped G → NoLeftRecursion G → (choice : Choice) → OwnRules G choice → (w : List ℕ) → DescentEnds G choice w
   pub calls-counted : (G : Grammar) → WellScoped G → NoLeftRecursion G → 0 < G .nonterminals
-      → (t : Table) → OwnEntries G t → (k : ℕ) (w : List ℕ) → CallsCounted G t k w
+      → (choice : Choice) → OwnRules G choice → (w : List ℕ) → CallsCounted G choice w
   pub memo-right : (G : Grammar) → WellScoped G → NoLeftRecursion G → 0 < G .nonterminals
-      → (t : Table) → OwnEntries G t → (k : ℕ) (w : List ℕ) → Fits w → MemoRight G t k w
-  -- the needs of 5 to 9 are met: the computed table has own entries, and of the well-formed grammars just those that pass are predictive
-  pub own-entries : (G : Grammar) (k : ℕ) → OwnEntries G (tableOf G k)
+      → (choice : Choice) → OwnRules G choice → (w : List ℕ) → Fits w → MemoRight G choice w
+  -- the needs of 5 to 9 are met: the table's choice is of own rules, and of the well-formed grammars just those that pass are predictive
+  pub own-rules : (G : Grammar) (k : ℕ) (w : List ℕ) → OwnRules G (tableChoice G k w)
   pub passed : (G : Grammar) (k : ℕ) → WellFormed G → 0 < G .nonterminals → ((lowestLeftRecursive G ≡ none) × (clashes G k ≡ [])) ↔ Predictive G k
   pub starred-rows : map (λ r. judged (r .grammar) (r .input)) starred ≡ starred

@@ -8,6 +8,8 @@ use native.Mathlib.Omega.{arith}
 use lib.ListN.{length, length-set}
 use borrow.Author.Tests.{not-true, not-false}
 use Rattle.word.specs.declared.Word.the-variants.{Symbol}
+use Rattle.semantics.specs.Choices.{Choice}
+use Rattle.recognizer.specs.Descent.{CallGiven, RunGiven}
 use Rattle.recognizer.proofs.Bodies.{no-symbol}
 use Rattle.recognizer.proofs.Choosing.{chosen-given}
 use Rattle.recognizer.proofs.Running.{level, Running, running-as, running-start, running-done, running-over, running-terminal, running-mismatch, running-given, running-small, running-falls, running-call, running-failed}
@@ -90,41 +92,42 @@ run-body-claims t = (
 
 abbrev call-Inv-loop : call-lts.InvT-loop
 call-Inv-loop nonterminal words starts table input memo₀ place entry known rule at₀ sign₀ agreement₀ memo at sign agreement =
-    InRule words input memo₀ nonterminal place memo at sign agreement
+    (choice : Choice) → CallGiven choice words starts table input memo₀ nonterminal place
+    → InRule choice words input memo₀ nonterminal place memo at sign agreement
 
 abbrev call-μ-loop : call-lts.MeasureT-loop
 call-μ-loop nonterminal words starts table input memo₀ place entry known rule at₀ sign₀ agreement₀ memo at sign agreement =
     length words - at
 
 call-add-entry : (t : ℕ) → call-lts.Need-add-entry (call-claims t) (call-at t) call.Post call-Inv-loop call-μ-loop
-call-add-entry t c = omega (arith, c .before .before .before .pre .1 .given .short)
+call-add-entry t c = omega (arith, c .before .before .before .pre .1 .1 .given .short)
 
 call-mul-entry : (t : ℕ) → call-lts.Need-mul-entry (call-claims t) (call-at t) call.Post call-Inv-loop call-μ-loop
-call-mul-entry t c = omega (arith, index-low (c .before .before .before .pre .1))
+call-mul-entry t c = omega (arith, index-low (c .before .before .before .pre .1 .1))
 
 call-add-entry-2 : (t : ℕ) → call-lts.Need-add-entry-2 (call-claims t) (call-at t) call.Post call-Inv-loop call-μ-loop
-call-add-entry-2 t c = omega (arith, index-low (c .before .before .before .pre .1))
+call-add-entry-2 t c = omega (arith, index-low (c .before .before .before .pre .1 .1))
 
 call-mul-known : (t : ℕ) → call-lts.Need-mul-known (call-claims t) (call-at t) call.Post call-Inv-loop call-μ-loop
-call-mul-known t c = omega (arith, index-low (c .before .before .before .pre .1))
+call-mul-known t c = omega (arith, index-low (c .before .before .before .pre .1 .1))
 
 call-slice-read-known : (t : ℕ) → call-lts.Need-slice-read-known (call-claims t) (call-at t) call.Post call-Inv-loop call-μ-loop
-call-slice-read-known t c = index-low (c .before .before .before .before .pre .1)
+call-slice-read-known t c = index-low (c .before .before .before .before .pre .1 .1)
 
 call-recall-requires : (t : ℕ) → call-lts.Need-recall-requires (call-claims t) (call-at t) call.Post call-Inv-loop call-μ-loop
 call-recall-requires t c κs = tt
 
 call-returns : (t : ℕ) → call-lts.Need-returns (call-claims t) (call-at t) call.Post call-Inv-loop call-μ-loop
-call-returns t c = call-recalled (c .before .before .before .before .before .before .pre .1) (c .before .if1 .taken) (c .recall .ensures)
+call-returns t c = λ choice g. call-recalled g (c .before .if1 .taken) (c .recall .ensures)
 
 call-chosen-requires : (t : ℕ) → call-lts.Need-chosen-requires (call-claims t) (call-at t) call.Post call-Inv-loop call-μ-loop
-call-chosen-requires t c κs = chosen-given (c .before .before .before .before .before .pre .1)
+call-chosen-requires t c κs = chosen-given (c .before .before .before .before .before .pre .1 .1)
 
 call-mul-memo : (t : ℕ) → call-lts.Need-mul-memo (call-claims t) (call-at t) call.Post call-Inv-loop call-μ-loop
-call-mul-memo t c = omega (arith, index-low (c .before .before .before .before .before .before .before .pre .1))
+call-mul-memo t c = omega (arith, index-low (c .before .before .before .before .before .before .before .pre .1 .1))
 
 call-slice-write-memo : (t : ℕ) → call-lts.Need-slice-write-memo (call-claims t) (call-at t) call.Post call-Inv-loop call-μ-loop
-call-slice-write-memo t c = index-low (c .before .before .before .before .before .before .before .pre .1)
+call-slice-write-memo t c = index-low (c .before .before .before .before .before .before .before .pre .1 .1)
 
 call-same-length : (t : ℕ) → call-lts.Need-same-length (call-claims t) (call-at t) call.Post call-Inv-loop call-μ-loop
 call-same-length t c = simp length-set
@@ -133,36 +136,35 @@ call-returns-2 : (t : ℕ) → call-lts.Need-returns-2 (call-claims t) (call-at 
 call-returns-2 t c =
     let at-chosen = c .before in
     let at-if1 = at-chosen .before in
-    let start = at-if1 .before .before .before .before .before in
-    call-stored (start .pre .1) (at-if1 .if1 .left) none
-    (select-none (start .pre .1) (no-rule (start .pre .1) (at-chosen .chosen .ensures) (c .if2 .taken))) (λ n l. none-fails _ _ _ _) encode-failed
+    λ choice g. call-stored g (at-if1 .if1 .left) none (select-none g (no-rule g (at-chosen .chosen .ensures) (c .if2 .taken)))
+    (λ n l. none-fails _ _ _ _) encode-failed
 
 call-cast-at : (t : ℕ) → call-lts.Need-cast-at (call-claims t) (call-at t) call.Post call-Inv-loop call-μ-loop
 call-cast-at t c =
     let at-chosen = c .before in
     let start = at-chosen .before .before .before .before .before .before in
-    let k = rule-chosen (start .pre .1) _ (some-rule (start .pre .1) (at-chosen .chosen .ensures) (c .if2 .left)) in
+    let k = rule-chosen (start .pre .1 .1) _ (some-rule (start .pre .1 .1) (at-chosen .chosen .ensures) (c .if2 .left)) in
     omega (arith, k .low)
 
 call-mul-at : (t : ℕ) → call-lts.Need-mul-at (call-claims t) (call-at t) call.Post call-Inv-loop call-μ-loop
 call-mul-at t c =
     let at-chosen = c .before in
     let start = at-chosen .before .before .before .before .before .before in
-    let k = rule-chosen (start .pre .1) _ (some-rule (start .pre .1) (at-chosen .chosen .ensures) (c .if2 .left)) in
+    let k = rule-chosen (start .pre .1 .1) _ (some-rule (start .pre .1 .1) (at-chosen .chosen .ensures) (c .if2 .left)) in
     omega (arith, k .low)
 
 call-element-copy-out-at : (t : ℕ) → call-lts.Need-element-copy-out-at (call-claims t) (call-at t) call.Post call-Inv-loop call-μ-loop
 call-element-copy-out-at t c =
     let at-chosen = c .before in
     let start = at-chosen .before .before .before .before .before .before in
-    rule-chosen (start .pre .1) _ (some-rule (start .pre .1) (at-chosen .chosen .ensures) (c .if2 .left)) .low
+    rule-chosen (start .pre .1 .1) _ (some-rule (start .pre .1 .1) (at-chosen .chosen .ensures) (c .if2 .left)) .low
 
 call-add-at : (t : ℕ) → call-lts.Need-add-at (call-claims t) (call-at t) call.Post call-Inv-loop call-μ-loop
 call-add-at t c =
     let at-if2 = c .before in
     let at-chosen = at-if2 .before in
     let start = at-chosen .before .before .before .before .before .before in
-    let k = rule-chosen (start .pre .1) _ (some-rule (start .pre .1) (at-chosen .chosen .ensures) (at-if2 .if2 .left)) in
+    let k = rule-chosen (start .pre .1 .1) _ (some-rule (start .pre .1 .1) (at-chosen .chosen .ensures) (at-if2 .if2 .left)) in
     omega (arith, k .begun .high)
 
 call-sign-at-requires : (t : ℕ) → call-lts.Need-sign-at-requires (call-claims t) (call-at t) call.Post call-Inv-loop call-μ-loop
@@ -172,9 +174,9 @@ call-loop-holds : (t : ℕ) → call-lts.Need-loop-holds (call-claims t) (call-a
 call-loop-holds t c =
     let at-if2 = c .before .before in
     let at-chosen = at-if2 .before in
-    let start = at-chosen .before .before .before .before .before .before in
-    let k = rule-chosen (start .pre .1) _ (some-rule (start .pre .1) (at-chosen .chosen .ensures) (at-if2 .if2 .left)) in
-    start-rule (start .pre .1) _ k (c .sign-at .ensures)
+    λ choice g.
+    let k = rule-chosen g _ (some-rule g (at-chosen .chosen .ensures) (at-if2 .if2 .left)) in
+    start-rule g _ k (c .sign-at .ensures)
 
 call-goes-on-requires : (t : ℕ) → call-lts.Need-goes-on-requires (call-claims t) (call-at t) call.Post call-Inv-loop call-μ-loop
 call-goes-on-requires t c κs = tt
@@ -185,7 +187,7 @@ call-add-run-body t c =
     let at-goes-on = at-if3 .before in
     let at-loop = at-goes-on .before in
     let start = at-loop .before .before .before .before .before .before .before .before .before .before in
-    omega (arith, rule-conjunct (start .pre .1) (at-loop .loop .inv) (sym (at-goes-on .goes-on .ensures) ∙ at-if3 .if3 .taken))
+    omega (arith, rule-conjunct (start .pre .1 .1) (at-loop .loop .inv _ (start .pre .1 .1)) (sym (at-goes-on .goes-on .ensures) ∙ at-if3 .if3 .taken))
 
 call-run-body-requires : (t : ℕ) → call-lts.Need-run-body-requires (call-claims t) (call-at t) call.Post call-Inv-loop call-μ-loop
 call-run-body-requires t c κs =
@@ -193,7 +195,9 @@ call-run-body-requires t c κs =
     let at-goes-on = at-if3 .before in
     let at-loop = at-goes-on .before in
     let start = at-loop .before .before .before .before .before .before .before .before .before .before in
-    (omega (arith, start .pre .0), rule-run (start .pre .1) (at-loop .loop .inv) (sym (at-goes-on .goes-on .ensures) ∙ at-if3 .if3 .taken))
+    let rule = at-loop .loop .inv _ (start .pre .1 .1) in
+    let goes = sym (at-goes-on .goes-on .ensures) ∙ at-if3 .if3 .taken in
+    (omega (arith, start .pre .0), (_, rule-run (start .pre .1 .1) rule goes))
 
 call-joined-requires : (t : ℕ) → call-lts.Need-joined-requires (call-claims t) (call-at t) call.Post call-Inv-loop call-μ-loop
 call-joined-requires t c κs = tt
@@ -204,7 +208,7 @@ call-add-body-end t c =
     let at-goes-on = at-if3 .before in
     let at-loop = at-goes-on .before in
     let start = at-loop .before .before .before .before .before .before .before .before .before .before in
-    omega (arith, rule-conjunct (start .pre .1) (at-loop .loop .inv) (sym (at-goes-on .goes-on .ensures) ∙ at-if3 .if3 .taken))
+    omega (arith, rule-conjunct (start .pre .1 .1) (at-loop .loop .inv _ (start .pre .1 .1)) (sym (at-goes-on .goes-on .ensures) ∙ at-if3 .if3 .taken))
 
 call-body-end-requires : (t : ℕ) → call-lts.Need-body-end-requires (call-claims t) (call-at t) call.Post call-Inv-loop call-μ-loop
 call-body-end-requires t c κs =
@@ -212,7 +216,7 @@ call-body-end-requires t c κs =
     let at-goes-on = at-if3 .before in
     let at-loop = at-goes-on .before in
     let start = at-loop .before .before .before .before .before .before .before .before .before .before in
-    omega (arith, rule-conjunct (start .pre .1) (at-loop .loop .inv) (sym (at-goes-on .goes-on .ensures) ∙ at-if3 .if3 .taken))
+    omega (arith, rule-conjunct (start .pre .1 .1) (at-loop .loop .inv _ (start .pre .1 .1)) (sym (at-goes-on .goes-on .ensures) ∙ at-if3 .if3 .taken))
 
 call-sign-at-requires-2 : (t : ℕ) → call-lts.Need-sign-at-requires-2 (call-claims t) (call-at t) call.Post call-Inv-loop call-μ-loop
 call-sign-at-requires-2 t c κs = tt
@@ -226,7 +230,7 @@ call-loop-less t c =
     let start = at-loop .before .before .before .before .before .before .before .before .before .before in
     omega (
       arith,
-      rule-conjunct (start .pre .1) (at-loop .loop .inv) (sym (at-goes-on .goes-on .ensures) ∙ at-if3 .if3 .taken),
+      rule-conjunct (start .pre .1 .1) (at-loop .loop .inv _ (start .pre .1 .1)) (sym (at-goes-on .goes-on .ensures) ∙ at-if3 .if3 .taken),
       at-body-end .body-end .ensures .on,
     )
 
@@ -238,8 +242,10 @@ call-loop-again t c =
     let at-if3 = at-run-body .before .before in
     let at-goes-on = at-if3 .before in
     let at-loop = at-goes-on .before in
-    let start = at-loop .before .before .before .before .before .before .before .before .before .before in
-    rule-turn (start .pre .1) (at-loop .loop .inv) (sym (at-goes-on .goes-on .ensures) ∙ at-if3 .if3 .taken) (at-run-body .run-body .ensures)
+    λ choice g.
+    let rule = at-loop .loop .inv choice g in
+    let goes = sym (at-goes-on .goes-on .ensures) ∙ at-if3 .if3 .taken in
+    rule-turn g rule goes (at-run-body .run-body .ensures choice (rule-run g rule goes))
     (at-joined .joined .ensures) (at-body-end .body-end .ensures) (c .sign-at2 .ensures)
 
 call-conclude-requires : (t : ℕ) → call-lts.Need-conclude-requires (call-claims t) (call-at t) call.Post call-Inv-loop call-μ-loop
@@ -249,24 +255,24 @@ call-code-requires : (t : ℕ) → call-lts.Need-code-requires (call-claims t) (
 call-code-requires t c κs =
     let at-loop = c .before .before .before in
     let start = at-loop .before .before .before .before .before .before .before .before .before .before in
-    rule-short (start .pre .1) (at-loop .loop .inv) (c .conclude .result) (c .conclude .ensures)
+    rule-short (start .pre .1 .1) (at-loop .loop .inv _ (start .pre .1 .1)) (c .conclude .result) (c .conclude .ensures)
 
 call-mul-memo-2 : (t : ℕ) → call-lts.Need-mul-memo-2 (call-claims t) (call-at t) call.Post call-Inv-loop call-μ-loop
 call-mul-memo-2 t c =
     let start = c .before .before .before .before .before .before .before .before .before .before .before .before .before .before in
-    omega (arith, index-low (start .pre .1))
+    omega (arith, index-low (start .pre .1 .1))
 
 call-slice-write-memo-2 : (t : ℕ) → call-lts.Need-slice-write-memo-2 (call-claims t) (call-at t) call.Post call-Inv-loop call-μ-loop
 call-slice-write-memo-2 t c =
     let at-loop = c .before .before .before .before in
     let start = at-loop .before .before .before .before .before .before .before .before .before .before in
-    omega (arith, index-low (start .pre .1), memo-same (at-loop .loop .inv .calling .sound) (start .pre .1 .given .sound))
+    omega (arith, index-low (start .pre .1 .1), memo-same (at-loop .loop .inv _ (start .pre .1 .1) .calling .sound) (start .pre .1 .1 .given .sound))
 
 call-same-length-2 : (t : ℕ) → call-lts.Need-same-length-2 (call-claims t) (call-at t) call.Post call-Inv-loop call-μ-loop
 call-same-length-2 t c =
     let at-loop = c .before .before .before .before in
     let start = at-loop .before .before .before .before .before .before .before .before .before .before in
-    simp length-set (memo-same (at-loop .loop .inv .calling .sound) (start .pre .1 .given .sound))
+    simp length-set (memo-same (at-loop .loop .inv _ (start .pre .1 .1) .calling .sound) (start .pre .1 .1 .given .sound))
 
 call-returns-3 : (t : ℕ) → call-lts.Need-returns-3 (call-claims t) (call-at t) call.Post call-Inv-loop call-μ-loop
 call-returns-3 t c =
@@ -275,22 +281,23 @@ call-returns-3 t c =
     let at-goes-on = at-if3 .before in
     let at-loop = at-goes-on .before in
     let at-if1 = at-loop .before .before .before .before .before in
-    let start = at-if1 .before .before .before .before .before in
-    let rule = at-loop .loop .inv in
+    λ choice g.
+    let rule = at-loop .loop .inv choice g in
     let stops = sym (at-goes-on .goes-on .ensures) ∙ at-if3 .if3 .left in
-    call-stored (start .pre .1) (at-if1 .if1 .left) (some (rule .rule)) (rule .selected)
-    (rule-done (start .pre .1) rule stops (at-conclude .conclude .result) (at-conclude .conclude .ensures)) (c .code .ensures)
+    call-stored g (at-if1 .if1 .left) (some (rule .rule)) (rule .selected)
+    (rule-done g rule stops (at-conclude .conclude .result) (at-conclude .conclude .ensures)) (c .code .ensures)
 
 abbrev run-body-Inv-loop : run-body-lts.InvT-loop
 run-body-Inv-loop nonterminal words starts table input memo₀ from start at₀ place₀ memo at place =
-    Running words input memo₀ nonterminal from start memo at place
+    (choice : Choice) → RunGiven choice words starts table input memo₀ nonterminal from start
+    → Running choice words input memo₀ nonterminal from start memo at place
 
 abbrev run-body-μ-loop : run-body-lts.MeasureT-loop
 run-body-μ-loop nonterminal words starts table input memo₀ from start at₀ place₀ memo at place =
     length words - at
 
 run-body-loop-holds : (t : ℕ) → run-body-lts.Need-loop-holds (run-body-claims t) (run-body-at t) run-body.Post run-body-Inv-loop run-body-μ-loop
-run-body-loop-holds t c = running-start (c .before .before .before .pre .1)
+run-body-loop-holds t c = λ choice g. running-start g
 
 run-body-mul-decode : (t : ℕ) → run-body-lts.Need-mul-decode (run-body-claims t) (run-body-at t) run-body.Post run-body-Inv-loop run-body-μ-loop
 run-body-mul-decode t c = omega arith
@@ -309,15 +316,15 @@ run-body-same-length : (t : ℕ) → run-body-lts.Need-same-length (run-body-cla
 run-body-same-length t c =
     let at-loop = c .before .before .before .before in
     let start = at-loop .before .before .before .before in
-    memo-same (at-loop .loop .inv .sound) (start .pre .1 .call .given .sound)
+    memo-same (at-loop .loop .inv _ (start .pre .1 .1) .sound) (start .pre .1 .1 .call .given .sound)
 
 run-body-returns : (t : ℕ) → run-body-lts.Need-returns (run-body-claims t) (run-body-at t) run-body.Post run-body-Inv-loop run-body-μ-loop
 run-body-returns t c =
     let at-decode = c .before in
     let at-loop-test = at-decode .before .before in
     let at-loop = at-loop-test .before in
-    let start = at-loop .before .before .before .before in
-    running-done (start .pre .1) (at-loop .loop .inv) _ (at-loop-test .loop-test .taken) (at-decode .decode .ensures) (no-symbol _ (c .match .keys2))
+    λ choice g.
+    running-done g (at-loop .loop .inv choice g) _ (at-loop-test .loop-test .taken) (at-decode .decode .ensures) (no-symbol _ (c .match .keys2))
 
 run-body-enum-known-symbol : (t : ℕ) → run-body-lts.Need-enum-known-symbol (run-body-claims t) (run-body-at t) run-body.Post run-body-Inv-loop run-body-μ-loop
 run-body-enum-known-symbol t c = c .match2 .keys1
@@ -329,7 +336,7 @@ run-body-same-length-2 : (t : ℕ) → run-body-lts.Need-same-length-2 (run-body
 run-body-same-length-2 t c =
     let at-loop = c .before .before .before .before .before .before .before .before .before .before .before in
     let start = at-loop .before .before .before .before in
-    memo-same (at-loop .loop .inv .sound) (start .pre .1 .call .given .sound)
+    memo-same (at-loop .loop .inv _ (start .pre .1 .1) .sound) (start .pre .1 .1 .call .given .sound)
 
 run-body-returns-2 : (t : ℕ) → run-body-lts.Need-returns-2 (run-body-claims t) (run-body-at t) run-body.Post run-body-Inv-loop run-body-μ-loop
 run-body-returns-2 t c =
@@ -339,8 +346,8 @@ run-body-returns-2 t c =
     let at-decode = at-word .before .before in
     let at-loop-test = at-decode .before .before in
     let at-loop = at-loop-test .before in
-    let start = at-loop .before .before .before .before in
-    running-mismatch (start .pre .1) (at-loop .loop .inv) _ (at-loop-test .loop-test .taken)
+    λ choice g.
+    running-mismatch g (at-loop .loop .inv choice g) _ (at-loop-test .loop-test .taken)
     (sym (at-decode .decode .ensures) ∙ at-word .word .given .1 ∙ ap Symbol (at-symbol .symbol .given .1))
     (sym (at-matches .matches .ensures) ∙ not-true _ (c .if1 .taken))
 
@@ -348,7 +355,7 @@ run-body-add-place : (t : ℕ) → run-body-lts.Need-add-place (run-body-claims 
 run-body-add-place t c =
     let at-loop = c .before .before .before .before .before .before .before .before .before .before .before in
     let start = at-loop .before .before .before .before in
-    omega (arith, at-loop .loop .inv .placed, start .pre .1 .call .given .short)
+    omega (arith, at-loop .loop .inv _ (start .pre .1 .1) .placed, start .pre .1 .1 .call .given .short)
 
 run-body-enum-known-symbol-2 : (t : ℕ)
     → run-body-lts.Need-enum-known-symbol-2 (run-body-claims t) (run-body-at t) run-body.Post run-body-Inv-loop run-body-μ-loop
@@ -364,7 +371,7 @@ run-body-cast-call t c =
     let start = at-loop .before .before .before .before in
     omega (
       arith,
-      running-small (start .pre .1) (at-loop .loop .inv) _ (at-loop-test .loop-test .taken)
+      running-small (start .pre .1 .1) (at-loop .loop .inv _ (start .pre .1 .1)) _ (at-loop-test .loop-test .taken)
           (sym (at-decode .decode .ensures) ∙ at-word .word .given .1 ∙ ap Symbol (at-symbol2 .symbol2 .given .1)),
     )
 
@@ -375,11 +382,11 @@ run-body-call-requires t c κs =
     let at-decode = at-word .before .before in
     let at-loop-test = at-decode .before .before in
     let at-loop = at-loop-test .before in
-    let start = at-loop .before .before .before .before in (
-      omega
-          (arith, running-falls (start .pre .1) (at-loop .loop .inv) _ (at-loop-test .loop-test .taken) (sym (at-decode .decode .ensures) ∙ at-word .word .given .1 ∙ ap Symbol (at-symbol2 .symbol2 .given .1)), start .pre .0),
-      running-given (start .pre .1) (at-loop .loop .inv) _ (at-loop-test .loop-test .taken)
-          (sym (at-decode .decode .ensures) ∙ at-word .word .given .1 ∙ ap Symbol (at-symbol2 .symbol2 .given .1)),
+    let start = at-loop .before .before .before .before in
+    let run = at-loop .loop .inv _ (start .pre .1 .1) in
+    let word = sym (at-decode .decode .ensures) ∙ at-word .word .given .1 ∙ ap Symbol (at-symbol2 .symbol2 .given .1) in (
+      omega (arith, running-falls (start .pre .1 .1) run _ (at-loop-test .loop-test .taken) word, start .pre .0),
+      (_, running-given (start .pre .1 .1) run _ (at-loop-test .loop-test .taken) word),
     )
 
 run-body-enum-known-outcome : (t : ℕ) → run-body-lts.Need-enum-known-outcome (run-body-claims t) (run-body-at t) run-body.Post run-body-Inv-loop run-body-μ-loop
@@ -391,8 +398,16 @@ run-body-enum-told t c = c .match3 .keys2
 run-body-same-length-3 : (t : ℕ) → run-body-lts.Need-same-length-3 (run-body-claims t) (run-body-at t) run-body.Post run-body-Inv-loop run-body-μ-loop
 run-body-same-length-3 t c =
     let at-call = c .before .before .before .before in
-    let start = at-call .before .before .before .before .before .before .before .before .before .before .before .before .before .before .before in
-    memo-same (at-call .call .ensures .sound) (start .pre .1 .call .given .sound)
+    let at-symbol2 = at-call .before .before .before in
+    let at-word = at-symbol2 .before .before .before in
+    let at-decode = at-word .before .before in
+    let at-loop-test = at-decode .before .before in
+    let at-loop = at-loop-test .before in
+    let start = at-loop .before .before .before .before in
+    let run = at-loop .loop .inv _ (start .pre .1 .1) in
+    let word = sym (at-decode .decode .ensures) ∙ at-word .word .given .1 ∙ ap Symbol (at-symbol2 .symbol2 .given .1) in
+    memo-same (at-call .call .ensures _ (running-given (start .pre .1 .1) run _ (at-loop-test .loop-test .taken) word) .sound)
+    (start .pre .1 .1 .call .given .sound)
 
 run-body-returns-3 : (t : ℕ) → run-body-lts.Need-returns-3 (run-body-claims t) (run-body-at t) run-body.Post run-body-Inv-loop run-body-μ-loop
 run-body-returns-3 t c =
@@ -402,9 +417,9 @@ run-body-returns-3 t c =
     let at-decode = at-word .before .before in
     let at-loop-test = at-decode .before .before in
     let at-loop = at-loop-test .before in
-    let start = at-loop .before .before .before .before in
-    running-failed (start .pre .1) (at-loop .loop .inv) _ (at-loop-test .loop-test .taken)
-    (sym (at-decode .decode .ensures) ∙ at-word .word .given .1 ∙ ap Symbol (at-symbol2 .symbol2 .given .1)) (at-call .call .ensures)
+    λ choice g.
+    let word = sym (at-decode .decode .ensures) ∙ at-word .word .given .1 ∙ ap Symbol (at-symbol2 .symbol2 .given .1) in
+    running-failed g (at-loop .loop .inv choice g) _ (at-loop-test .loop-test .taken) word (at-call .call .ensures choice (running-given g (at-loop .loop .inv choice g) _ (at-loop-test .loop-test .taken) word))
     (c .enum-told .given .1)
 
 run-body-add-at : (t : ℕ) → run-body-lts.Need-add-at (run-body-claims t) (run-body-at t) run-body.Post run-body-Inv-loop run-body-μ-loop
@@ -415,22 +430,25 @@ run-body-loop-less t c = omega arith
 
 run-body-loop-again : (t : ℕ) → run-body-lts.Need-loop-again (run-body-claims t) (run-body-at t) run-body.Post run-body-Inv-loop run-body-μ-loop
 run-body-loop-again t c =
-    let given = c .before .before .before .before .before .before .before .before .before .before .before .pre .1 in
-    let run = c .before .before .before .before .before .before .before .loop .inv in
+    λ choice given.
+    let run = c .before .before .before .before .before .before .before .loop .inv choice given in
     let low = c .before .before .before .before .before .before .loop-test .taken in
     let word = sym (c .before .before .before .before .decode .ensures) ∙ c .before .before .word .given .1 in
     ⊎-elim
     (λ w.
     running-as (w .5) (w .6)
     (running-terminal given run _ low (word ∙ ap Symbol (w .1 .given .1)) (sym (w .3 .ensures) ∙ not-false _ (w .4 .left))))
-    (λ w. running-as (w .10) (w .11) (running-call given run _ low (word ∙ ap Symbol (w .1 .given .1)) (w .4 .ensures) _ (w .8 .given .1)))
+    (λ w. running-as (w .10) (w .11) (running-call given run _ low (word ∙ ap Symbol (w .1 .given .1))
+    (w .4 .ensures choice (running-given given run _ low (word ∙ ap Symbol (w .1 .given .1)))) _ (w .8 .given .1)))
     (c .match2 .came)
 
 run-body-same-length-4 : (t : ℕ) → run-body-lts.Need-same-length-4 (run-body-claims t) (run-body-at t) run-body.Post run-body-Inv-loop run-body-μ-loop
-run-body-same-length-4 t c = memo-same (c .before .loop .inv .sound) (c .before .before .before .before .before .pre .1 .call .given .sound)
+run-body-same-length-4 t c =
+    let start = c .before .before .before .before .before in
+    memo-same (c .before .loop .inv _ (start .pre .1 .1) .sound) (start .pre .1 .1 .call .given .sound)
 
 run-body-returns-4 : (t : ℕ) → run-body-lts.Need-returns-4 (run-body-claims t) (run-body-at t) run-body.Post run-body-Inv-loop run-body-μ-loop
-run-body-returns-4 t c = running-over (c .before .before .before .before .before .pre .1) (c .before .loop .inv) (c .loop-test .left)
+run-body-returns-4 t c = λ choice g. running-over g (c .before .loop .inv choice g) (c .loop-test .left)
 
 pub +call+run-body-spec : {M : Type 1} → statement M
 +call+run-body-spec = close μ-call μ-run-body (λ t. call-lts.spec (call-claims t)

@@ -1,5 +1,5 @@
 use native.Mathlib.Omega.{arith}
-use Rattle.recognizer.proofs.Choosing.{some-word, placed, entry-chosen}
+use Rattle.recognizer.proofs.Choosing.{some-word, placed, word-chosen}
 use borrow.Author.Needs.{needs}
 use Rattle.recognizer.proofs.descent.chosen.Statement.{statement}
 use Rattle.recognizer.proofs.descent.chosen.Tie as tie
@@ -41,7 +41,7 @@ element-copy-out-result c =
     omega (arith, q .row-fits, q .two, q .column)
 
 returns : tie.Need-returns
-returns c = entry-chosen (c .before .before .before .before .before .pre) (c .before .column .ensures)
+returns c = word-chosen (c .before .before .before .before .before .pre) (c .before .column .ensures)
 
 pub chosen-spec : {M : Type 1} → statement M
 chosen-spec =

@@ -15,7 +15,7 @@ call-requires c κs =
     let begun = c .before .before in
     let cleared = begun .before .before .before in
     let start = cleared .before .before .before .before .before in
-    start-given (start .pre) (begun .rule-starts .ensures) (cleared .clear .ensures)
+    (_, start-given (start .pre) (begun .rule-starts .ensures) (cleared .clear .ensures))
 
 cast-tally : tie.Need-cast-tally
 cast-tally c = search needs
@@ -23,9 +23,10 @@ cast-tally c = search needs
 tally-requires : tie.Need-tally-requires
 tally-requires c κs =
     let called = c .before .before .before .before in
-    let cleared = called .before .before .before .before .before .before in
+    let begun = called .before .before .before in
+    let cleared = begun .before .before .before in
     let start = cleared .before .before .before .before .before in
-    memo-long (start .pre) (cleared .clear .ensures) (called .call .ensures)
+    memo-long (start .pre) (begun .rule-starts .ensures) (cleared .clear .ensures) (called .call .ensures)
 
 ends-at-requires : tie.Need-ends-at-requires
 ends-at-requires c κs = search needs
@@ -37,9 +38,10 @@ returns : tie.Need-returns
 returns c =
     let tallied = c .before .before in
     let called = tallied .before .before .before .before .before in
-    let cleared = called .before .before .before .before .before .before in
+    let begun = called .before .before .before in
+    let cleared = begun .before .before .before in
     let start = cleared .before .before .before .before .before in
-    descended (start .pre) (cleared .clear .ensures) (called .call .ensures) (tallied .tally .ensures) (c .before .ends-at .ensures)
+    descended (start .pre) (begun .rule-starts .ensures) (cleared .clear .ensures) (called .call .ensures) (tallied .tally .ensures) (c .before .ends-at .ensures)
     (rw (c .if1 .taken))
 
 same-length-2 : tie.Need-same-length-2
@@ -49,9 +51,10 @@ returns-2 : tie.Need-returns-2
 returns-2 c =
     let tallied = c .before .before in
     let called = tallied .before .before .before .before .before in
-    let cleared = called .before .before .before .before .before .before in
+    let begun = called .before .before .before in
+    let cleared = begun .before .before .before in
     let start = cleared .before .before .before .before .before in
-    descended (start .pre) (cleared .clear .ensures) (called .call .ensures) (tallied .tally .ensures) (c .before .ends-at .ensures)
+    descended (start .pre) (begun .rule-starts .ensures) (cleared .clear .ensures) (called .call .ensures) (tallied .tally .ensures) (c .before .ends-at .ensures)
     (rw (c .if1 .left))
 
 pub descend-spec : {M : Type 1} → statement M
