@@ -20,7 +20,7 @@ use Rattle.grammar.specs.Encoding.{onWord, parse}
 use Rattle.grammar.specs.Reading.{scan}
 use Rattle.grammar.proofs.Suffixes.{scan-next}
 use Rattle.sets.proofs.Words.{parse-here as parse-first}
-use Rattle.recognizer.specs.Descent.{BodyEnd}
+use Rattle.recognizer.specs.Descent.{Skipped, BodyEnd}
 
 -- the row from an index on: its first word, and the rest
 pub parse-here : (words : List ℕ) (at : ℕ) → at < length words → parse (drop at words) ≡ onWord (decoded (getD words at 0)) (parse (drop (at + 1) words))
@@ -38,14 +38,6 @@ symbol-reads words at p z X h x e =
     (record { state = p .state; sizes = record { nonterminals = p .sizes .nonterminals; terminals = p .sizes .terminals; rules = p .sizes .rules } }) =
     cc (k .state, k .nonterminals, k .terminals, r) in
     rw (same) at (n .reads)
-
--- the words from an index to another are symbols
-pub record Skipped (words : List ℕ) (from at : ℕ) : Type 0 where
-  pub on : from ≤ at
-  pub within : at ≤ length words
-  pub positives : parse (drop at words) .positives ≡ parse (drop from words) .positives
-  pub negatives : parse (drop at words) .negatives ≡ parse (drop from words) .negatives
-  pub reads : (p : Progress) (z : Sizes) → scan p from (drop from words) ≡ Read z → scan p at (drop at words) ≡ Read z
 
 pub skipped-none : (words : List ℕ) (from : ℕ) → from ≤ length words → Skipped words from from
 skipped-none words from h = record { on = omega arith; within = h; positives = refl; negatives = refl; reads = λ p z e. e }
@@ -78,4 +70,14 @@ module _ {words : List ℕ} {from at : ℕ} (s : Skipped words from at) where
       }
 
   pub body-ends : ((X : grammar.Symbol) → at < length words → decoded (getD words at 0) ≡ Symbol X → ⊥) → BodyEnd words from at
-  body-ends b = record { on = s .on; within = s .within; positives = s .positives; negatives = s .negatives; reads = s .reads; boundary = b }
+  body-ends b = record { skipped = s; boundary = b }
+
+  -- further symbols
+  pub skipped-on : {r : ℕ} → Skipped words at r → Skipped words from r
+  skipped-on t = record {
+    on = omega (arith, s .on, t .on);
+    within = t .within;
+    positives = t .positives ∙ s .positives;
+    negatives = t .negatives ∙ s .negatives;
+    reads = λ p z r. t .reads p z (s .reads p z r);
+  }

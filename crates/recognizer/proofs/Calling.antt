@@ -34,8 +34,9 @@ use Rattle.rule.specs.declared.Agreement.{Agreement}
 use Rattle.rule.specs.declared.Agreement.the-variants as agreement
 use Rattle.rule.specs.Rule.{meant, signOf, signAt, beginsBody, goesOn, joinedBy, concluded}
 use Rattle.sets.proofs.Words.{parse-over}
-use Rattle.recognizer.specs.Descent.{Short, BodyEnd, MemoSound, CallGiven, RunGiven, RunDone}
-use Rattle.recognizer.proofs.Bodies.{parse-here}
+use Rattle.recognizer.specs.declared.descent.Run.{Run}
+use Rattle.recognizer.specs.Descent.{BodyEnd, MemoSound, CallGiven, RunGiven, RunDone}
+use Rattle.recognizer.proofs.Bodies.{parse-here, skipped-on}
 use Rattle.recognizer.proofs.Running.{deep, level}
 
 -- what is left of a rule: of positives ps and negatives ns, where the bodies before them have agreed
@@ -157,20 +158,22 @@ ends-joined n Negative (agreement.At x) o h k e q = go (endsAt o x) q
 ends-joined n Neither (agreement.At x) o h k e q = let z : _≡_ {A = ℕ} 0 1 = cc in absurd (omega arith)
 ends-joined n s agreement.Failed o h k e q = let z : _≡_ {A = ℕ} 0 1 = cc in absurd (omega arith)
 
-module _ {choice : Choice} {words starts table input memo₀ : List ℕ} {A place : ℕ} (g : CallGiven choice words starts table input memo₀ A place) (r : Rule)
+module _ {choice : Choice} {words choices tokens input memo₀ : List ℕ} {A place : ℕ} (g : CallGiven choice words choices tokens input memo₀ A place) (r : Rule)
     (listed : List·Memᴰ r (grammarOf words .rules)) (heads : r .head ≡ A)
     {memo : List ℕ} {at : ℕ} {sign : Sign} {agreed : Agreement} (v : Calling choice words input memo₀ A place r memo at sign agreed) where
   -- the call with the memo as it is now
-  pub calling-given : CallGiven choice words starts table input memo A place
+  pub calling-given : CallGiven choice words choices tokens input memo A place
   calling-given = record {
     given = record {
       sizes = g .given .sizes;
       read = g .given .read;
       free = g .given .free;
-      begins = g .given .begins;
       own = g .given .own;
-      holds = g .given .holds;
-      tokens = g .given .tokens;
+      rows = g .given .rows;
+      elements = g .given .elements;
+      firsts = g .given .firsts;
+      terminals = g .given .terminals;
+      end = g .given .end;
       short = g .given .short;
       sound = v .sound;
     };
@@ -280,26 +283,27 @@ module _ {choice : Choice} {words starts table input memo₀ : List ℕ} {A plac
       go Neither e = absurd (begins sign agreed goes e)
 
   -- the run of its body
-  pub calling-run : (k : Conjunct) → RunGiven choice words starts table input memo A (at + 1) place
-  calling-run k = record { call = calling-given; rule = r; listed = listed; heads = heads; held = k .held; progress = k .progress; reads = k .reads }
+  pub calling-run : (k : Conjunct) → RunGiven choice words choices tokens input memo A (at + 1) place
+  calling-run k = record { call = calling-given; rule = r; listed = listed; heads = heads; inside = omega (arith, k .low); body = k .held; progress = k .progress; reads = k .reads }
 
   -- one body more
-  pub calling-turn : goesOn sign agreed ≡ true → {o : code.Outcome} {memo′ : List ℕ} {at′ : ℕ} {sign′ : Sign} {agreed′ : Agreement}
-      → RunDone choice words input memo A (at + 1) place o memo′ → agreed′ ≡ joinedBy sign agreed (meant o) → BodyEnd words (at + 1) at′ → sign′ ≡ signAt words at′
+  pub calling-turn : goesOn sign agreed ≡ true → {o : Run} {memo′ : List ℕ} {at′ : ℕ} {sign′ : Sign} {agreed′ : Agreement}
+      → RunDone choice words input memo A (at + 1) place o memo′ → agreed′ ≡ joinedBy sign agreed (meant (o .outcome)) → BodyEnd words (o .at) at′ → sign′ ≡ signAt words at′
       → Calling choice words input memo₀ A place r memo′ at′ sign′ agreed′
   calling-turn goes {o} {memo′} {at′} {sign′} {agreed′} d j b s =
       let k = conjunct goes in
+      let t = skipped-on (d .skipped) (b .skipped) in
       record {
         sound = d .sound;
-        within = b .within;
+        within = t .within;
         signed = s;
-        ends = λ e q. ends-joined (length input) sign agreed (meant o) (v .ends) (d .within) e (sym j ∙ q);
-        rest = λ n l. v .rest n l ∙ k .joins n memo′ (meant o) (d .model n l) ∙ sym (rw (j, b .positives, b .negatives));
-        positives = λ x m. k .positives x (rw (b .positives) at m);
-        negatives = λ x m. k .negatives x (rw (b .negatives) at m);
+        ends = λ e q. ends-joined (length input) sign agreed (meant (o .outcome)) (v .ends) (d .within) e (sym j ∙ q);
+        rest = λ n l. v .rest n l ∙ k .joins n memo′ (meant (o .outcome)) (d .model n l) ∙ sym (rw (j, t .positives, t .negatives));
+        positives = λ x m. k .positives x (rw (t .positives) at m);
+        negatives = λ x m. k .negatives x (rw (t .negatives) at m);
         progress = k .progress;
-        reads = b .reads (k .progress) (g .given .sizes) (k .reads ∙ g .given .read) ∙ sym (g .given .read);
-        opens = λ q. absurd (opens-no-more sign agreed (meant o) goes (sym j ∙ q));
+        reads = t .reads (k .progress) (g .given .sizes) (k .reads ∙ g .given .read) ∙ sym (g .given .read);
+        opens = λ q. absurd (opens-no-more sign agreed (meant (o .outcome)) goes (sym j ∙ q));
         boundary = b .boundary;
       }
 
@@ -319,7 +323,7 @@ nothing-left : (parse [] .positives ≡ []) × (parse [] .negatives ≡ [])
 unfolding parse
 nothing-left = (refl, refl)
 
-module _ {choice : Choice} {words starts table input memo₀ : List ℕ} {A place : ℕ} (g : CallGiven choice words starts table input memo₀ A place) {r : Rule}
+module _ {choice : Choice} {words choices tokens input memo₀ : List ℕ} {A place : ℕ} (g : CallGiven choice words choices tokens input memo₀ A place) {r : Rule}
     {memo : List ℕ} {at : ℕ} {sign : Sign} {agreed : Agreement} (v : Calling choice words input memo₀ A place r memo at sign agreed) where
   -- where no conjunct begins nothing is left of the rule
   none-left : sign ≡ Neither → (parse (drop at words) .positives ≡ []) × (parse (drop at words) .negatives ≡ [])
@@ -363,21 +367,16 @@ pub record InRule (choice : Choice) (words input memo₀ : List ℕ) (A place : 
   pub selected : select (grammarOf words) (choice A place) ≡ some rule
   pub calling : Calling choice words input memo₀ A place rule memo at sign agreed
 
-concluded-at : (a : Agreement) (e : ℕ) → concluded a ≡ End e → a ≡ agreement.At e
-concluded-at agreement.Open e q = let z : _≡_ {A = ℕ} 0 1 = cc in absurd (omega arith)
-concluded-at (agreement.At x) e q = let z : x ≡ e = cc in ap agreement.At z
-concluded-at agreement.Failed e q = let z : _≡_ {A = ℕ} 0 1 = cc in absurd (omega arith)
-
-module _ {choice : Choice} {words starts table input memo₀ : List ℕ} {A place : ℕ} (g : CallGiven choice words starts table input memo₀ A place)
+module _ {choice : Choice} {words choices tokens input memo₀ : List ℕ} {A place : ℕ} (g : CallGiven choice words choices tokens input memo₀ A place)
     {memo : List ℕ} {at : ℕ} {sign : Sign} {agreed : Agreement} (v : InRule choice words input memo₀ A place memo at sign agreed) where
   pub rule-conjunct : goesOn sign agreed ≡ true → at < length words
   rule-conjunct goes = conjunct g (v .rule) (v .listed) (v .heads) (v .calling) goes .low
 
-  pub rule-run : goesOn sign agreed ≡ true → RunGiven choice words starts table input memo A (at + 1) place
+  pub rule-run : goesOn sign agreed ≡ true → RunGiven choice words choices tokens input memo A (at + 1) place
   rule-run goes = calling-run g (v .rule) (v .listed) (v .heads) (v .calling) (conjunct g (v .rule) (v .listed) (v .heads) (v .calling) goes)
 
-  pub rule-turn : goesOn sign agreed ≡ true → {o : code.Outcome} {memo′ : List ℕ} {at′ : ℕ} {sign′ : Sign} {agreed′ : Agreement}
-      → RunDone choice words input memo A (at + 1) place o memo′ → agreed′ ≡ joinedBy sign agreed (meant o) → BodyEnd words (at + 1) at′ → sign′ ≡ signAt words at′
+  pub rule-turn : goesOn sign agreed ≡ true → {o : Run} {memo′ : List ℕ} {at′ : ℕ} {sign′ : Sign} {agreed′ : Agreement}
+      → RunDone choice words input memo A (at + 1) place o memo′ → agreed′ ≡ joinedBy sign agreed (meant (o .outcome)) → BodyEnd words (o .at) at′ → sign′ ≡ signAt words at′
       → InRule choice words input memo₀ A place memo′ at′ sign′ agreed′
   rule-turn goes d j b s = record {
     rule = v .rule;
@@ -386,9 +385,6 @@ module _ {choice : Choice} {words starts table input memo₀ : List ℕ} {A plac
     selected = v .selected;
     calling = calling-turn g (v .rule) (v .listed) (v .heads) (v .calling) goes d j b s;
   }
-
-  pub rule-short : (o : code.Outcome) → meant o ≡ concluded agreed → Short (meant o)
-  rule-short o c e q = let l = v .calling .ends e (concluded-at agreed e (sym c ∙ q)) in omega (arith, g .given .short)
 
   pub rule-done : goesOn sign agreed ≡ false → (o : code.Outcome) → meant o ≡ concluded agreed
       → (n : ℕ) → level words input A place ≤ n → memoObey (deep choice words input n) input (some (v .rule)) place memo₀ ≡ memoized (meant o) memo

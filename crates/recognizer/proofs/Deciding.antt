@@ -17,7 +17,6 @@ use Rattle.word.specs.Choice.{choose}
 use Rattle.grammar.specs.Codes.{uncalledCode}
 use Rattle.grammar.specs.Syntax.{Grammar, WellScoped}
 use Rattle.grammar.specs.Encoding.{grammarOf}
-use Rattle.grammar.specs.Starts.{ruleStarts}
 use Rattle.grammar.specs.WellRead.{WellRead}
 use Rattle.grammar.specs.declared.reading.Sizes.{Sizes}
 use Rattle.grammar.proofs.WellRead.{well-read}
@@ -37,12 +36,14 @@ use Rattle.semantics.proofs.Theorems.{theorems}
 use Rattle.rule.specs.declared.Outcome as code
 use Rattle.recognizer.specs.declared.judging.Unknown.the-variants.{Absent, At}
 use Rattle.rule.specs.Rule.{meant}
-use Rattle.recognizer.specs.Descent.{MemoSound, CallGiven, CallDone, CallEnsures}
+use Rattle.recognizer.specs.Descent.{held, rowAt, MemoSound, CallGiven, CallDone, CallRequires, CallEnsures}
 use Rattle.recognizer.specs.Tally.{tallyOf, recordedCalls}
 use Rattle.recognizer.specs.Memory.{memoWord, memoWords}
 use Rattle.recognizer.specs.Answers.{unknownFrom, callsOf, verdictOf}
 use Rattle.recognizer.specs.Judging.{DescendGiven, Descended}
-use Rattle.recognizer.proofs.OneToken.{table-holds}
+use Rattle.recognizer.specs.Preparing.{tokenWords, TokensGiven, ChoicesGiven, Filled}
+use Rattle.recognizer.proofs.Tokens.{token-below, word-at, end-at, held-words}
+use Rattle.recognizer.proofs.OneToken.{column, choices-hold}
 use Rattle.recognizer.proofs.Running.{level}
 use Rattle.recognizer.proofs.Storing.{getD-any}
 use Rattle.recognizer.proofs.Tallying.{tally-recorded}
@@ -117,52 +118,77 @@ module _ {words : List ℕ} {z : Sizes} {entries input memo : List ℕ} (g : Des
   some-nonterminal : 0 < G .nonterminals
   some-nonterminal = omega (arith, r .nonterminals, r .someNonterminal)
 
-  pub start-given : {starts blanked : List ℕ} → starts ≡ ruleStarts words → blanked ≡ replicate (length memo) uncalledCode
-      → CallGiven one-token words starts entries input blanked 0 0
-  start-given s b = record {
-    given = record {
-      sizes = z;
-      read = g .read;
-      free = g .free;
-      begins = s;
-      own = theorems .own-rules G 1 input;
-      holds = λ A i a _. table-holds words entries input (g .table) (g .tokens) A i a;
-      tokens = g .tokens;
-      short = g .short;
-      sound = rw (b, g .size) (blank-sound one-token words input);
-    };
-    named = some-nonterminal;
-    placed = omega arith;
-  }
+  pub choices-given : ChoicesGiven words z entries (length input + 1)
+  choices-given = record { read = g .read; table = g .table; few = omega (arith, g .short) }
 
-  module _ {o : code.Outcome} {starts blanked memo′ : List ℕ} (s : starts ≡ ruleStarts words) (b : blanked ≡ replicate (length memo) uncalledCode)
-      (ensured : CallEnsures words starts entries input blanked 0 0 o memo′) where
-    d : CallDone one-token words input blanked 0 0 o memo′
-    d = ensured one-token (start-given s b)
+  pub tokens-given : TokensGiven input (z .terminals)
+  tokens-given = record { short = g .short; few = r .fewTerminals }
 
-    fits : Fits input
-    fits = omega (arith, g .short)
+  -- with the arrays that are made before it
+  module _ {choices tokens blanked : List ℕ} (f : Filled words entries z (length input + 1) choices) (t : tokens ≡ tokenWords (z .terminals) input)
+      (b : blanked ≡ replicate (length memo) uncalledCode) where
+    words-are : tokens ≡ tokenWords (G .terminals) input
+    words-are = t ∙ ap (λ n. tokenWords n input) (r .terminals)
 
-    done : (meant o ≡ descend G one-token input 0 0) × Recorded G one-token input memo′
-    done =
-        let n = suc (level words input 0 0) in
-        let l : level words input 0 0 < n = omega arith in
-        let m : memoCall G one-token input n 0 0 (blank G input) ≡ memoized (meant o) memo′ =
-        ap (λ x. memoCall G one-token input n 0 0 x) (sym (b ∙ ap (λ k. replicate k uncalledCode) (g .size))) ∙ d .model n l in
-        let k = memo-recorded-within G one-token input (r .formed .scoped) (g .free) (theorems .own-rules G 1 input) fits some-nonterminal n l in
-        (sym (ap (λ x. x .outcome) m) ∙ k .0, subst (λ x. Recorded G one-token input x) (ap (λ x. x .memo) m) (k .1))
+    few : G .terminals ≤ 24
+    few = omega (arith, r .terminals, r .fewTerminals)
 
-    pub memo-long : length memo′ ≡ z .nonterminals * (length input + 1)
-    memo-long = d .sound .size ∙ rw (r .nonterminals, add-one (length input))
+    input-is : held tokens ≡ input
+    input-is = ap held words-are ∙ held-words (G .terminals) input few (g .short) (g .tokens)
 
-    pub descended : {c : Calls} {t : Bool} {a : Answer} → c ≡ tallyOf (recordedCalls memo′ (z .nonterminals) (length input))
-        → t ≡ endsAt (meant o) (length input)
-        → a ≡ choose t (Accepted c) (Rejected c) → Descended words input a memo′
-    unfolding verdictOf accepts
-    descended {c} {t} {a} tallied told e =
-        let k = done in
-        let counted : c ≡ callsOf G input = tally-recorded (k .1) (r .nonterminals) tallied in
-        record {
-          answer = e ∙ rw (told, k .0, counted);
-          entries = words-recorded G input (r .formed .scoped) (g .free) some-nonterminal (k .1);
-        }
+    begun : CallGiven one-token words choices tokens input blanked 0 0
+    unfolding rowAt
+    begun = rw (words-are, b, g .size) (record {
+      given = record {
+        sizes = z;
+        read = g .read;
+        free = g .free;
+        own = theorems .own-rules G 1 input;
+        rows = λ A a. f .rows A (omega (arith, r .nonterminals)) ∙ ap (λ n. A * n) (add-one (length input));
+        elements = λ i h. let k = column (G .terminals) input (g .tokens) (g .short) (omega (arith, few)) i h in omega (arith, k .element, k .low, few);
+        firsts = choices-hold choices-given input f (g .tokens) (g .short);
+        terminals = λ i h. let e = word-at (G .terminals) input i h in let l = token-below (G .terminals) input (g .tokens) i h in omega (arith, e, few);
+        end = let e = end-at (G .terminals) input (g .short) in omega arith;
+        short = g .short;
+        sound = blank-sound one-token words input;
+      };
+      named = some-nonterminal;
+      placed = omega arith;
+    })
+
+    begun-held : CallGiven one-token words choices tokens (held tokens) blanked 0 0
+    begun-held = rw input-is begun
+
+    pub start-given : CallRequires words choices tokens blanked 0 0
+    start-given = (one-token, begun-held)
+
+    module _ {o : code.Outcome} {memo′ : List ℕ} (ensured : CallEnsures words choices tokens blanked 0 0 o memo′) where
+      d : CallDone one-token words input blanked 0 0 o memo′
+      d = rw input-is at (ensured one-token begun-held)
+
+      fits : Fits input
+      fits = omega (arith, g .short)
+
+      done : (meant o ≡ descend G one-token input 0 0) × Recorded G one-token input memo′
+      done =
+          let n = suc (level words input 0 0) in
+          let l : level words input 0 0 < n = omega arith in
+          let m : memoCall G one-token input n 0 0 (blank G input) ≡ memoized (meant o) memo′ =
+          ap (λ x. memoCall G one-token input n 0 0 x) (sym (b ∙ ap (λ k. replicate k uncalledCode) (g .size))) ∙ d .model n l in
+          let k = memo-recorded-within G one-token input (r .formed .scoped) (g .free) (theorems .own-rules G 1 input) fits some-nonterminal n l in
+          (sym (ap (λ x. x .outcome) m) ∙ k .0, subst (λ x. Recorded G one-token input x) (ap (λ x. x .memo) m) (k .1))
+
+      pub memo-long : length memo′ ≡ z .nonterminals * (length input + 1)
+      memo-long = d .sound .size ∙ rw (r .nonterminals, add-one (length input))
+
+      pub descended : {c : Calls} {t : Bool} {a : Answer} → c ≡ tallyOf (recordedCalls memo′ (z .nonterminals) (length input))
+          → t ≡ endsAt (meant o) (length input)
+          → a ≡ choose t (Accepted c) (Rejected c) → Descended words input a memo′
+      unfolding verdictOf accepts
+      descended {c} {t} {a} tallied told e =
+          let k = done in
+          let counted : c ≡ callsOf G input = tally-recorded (k .1) (r .nonterminals) tallied in
+          record {
+            answer = e ∙ rw (told, k .0, counted);
+            entries = words-recorded G input (r .formed .scoped) (g .free) some-nonterminal (k .1);
+          }

@@ -46,7 +46,8 @@ use Rattle.recognizer.specs.declared.judging.Unknown.{Unknown}
 use Rattle.recognizer.specs.declared.judging.Unknown.the-variants.{Absent, At}
 use Rattle.recognizer.specs.Memory.{lentBack, memoWord, memoWords, Lent}
 use Rattle.recognizer.specs.Answers.{unless, unknownFrom, unknownFault, firstOf, checkFault, judgeFault, refusedOr, callsOf, verdictOf, toldOr, verdictNumbers}
-use Rattle.recognizer.specs.Judging.{PassedGiven, Entries, DescendGiven, Descended}
+use Rattle.recognizer.specs.Judging.{PassedGiven, DescendGiven, Descended}
+use Rattle.recognizer.specs.Preparing.{Entries}
 use Rattle.recognizer.specs.Properties.{PassedGrammar, Recognizes, Judges}
 use Rattle.recognizer.proofs.Checking.{passed-fault, fault-passed, no-clashes, not-left-recursive, lent-table}
 

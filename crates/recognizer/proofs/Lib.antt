@@ -1,11 +1,13 @@
 pub mod Headings
-pub mod Choosing
-pub mod OneToken
 pub mod Bodies
 pub mod Running
 pub mod Calling
 pub mod Storing
 pub mod Starting
+pub mod Choosing
+pub mod Tokens
+pub mod Filling
+pub mod OneToken
 pub mod Appending
 pub mod Tallying
 pub mod Front

@@ -2,18 +2,21 @@
 use mathlib.Core.Path.{_≡_, refl, sym, ap, _∙_}
 use mathlib.Core.Bool.{Bool, true, false, _&&_, false≢true}
 use mathlib.Core.List.{List, [], _∷_}
-use Prim.Native.Nat.{ℕ, _+_, _-_, _≤_, _<_}
+use Prim.Native.Nat.{ℕ, _+_, _-_, _%_, _≤_, _<_}
 use native.Mathlib.Omega.{arith}
+use native.Mathlib.Decide.{decLt}
 use native.Mathlib.Numerals.{add-one}
 use lib.Dec.{ltb, eqb}
 use lib.ListN.{length, getD, drop}
-use borrow.Author.Tests.{ltb-true}
+use denote.Enum.Declared.{tagOf}
+use borrow.Author.Tests.{lt-ltb, le-ltb, ne-eqb, ltb-true}
+use Rattle.word.proofs.Word.{the-type}
 use Rattle.word.specs.Words.{decoded}
 use Rattle.word.specs.declared.Symbol as grammar
 use Rattle.word.specs.declared.Symbol.the-variants.{Terminal, Nonterminal}
 use Rattle.word.specs.declared.Word.{Word}
 use Rattle.word.specs.declared.Word.the-variants.{Heading, Rule, Positive, Negative, Symbol, End as EndWord, Invalid}
-use Rattle.grammar.specs.Syntax.{Body, Grammar, NonterminalsBelow}
+use Rattle.grammar.specs.Syntax.{Body, Grammar, NonterminalsBelow, TerminalsBelow}
 use Rattle.grammar.specs.Encoding.{Parsed, onWord, parse, grammarOf}
 use Rattle.grammar.specs.Reading.{allows, scan, reading}
 use Rattle.grammar.specs.WellRead.{WellRead}
@@ -32,8 +35,9 @@ use Rattle.rule.specs.declared.Outcome as code
 use Rattle.rule.specs.declared.Outcome.the-variants as outcome
 use Rattle.rule.specs.Rule.{meant}
 use Rattle.sets.proofs.Words.{parse-over}
-use Rattle.recognizer.specs.Descent.{matchesAt, MemoSound, CallGiven, RunGiven, CallDone, RunDone}
-use Rattle.recognizer.proofs.Bodies.{parse-here, symbol-reads}
+use Rattle.recognizer.specs.declared.descent.Run.{Run}
+use Rattle.recognizer.specs.Descent.{endMark, matchesAt, Skipped, MemoSound, CallGiven, RunGiven, CallDone, RunDone}
+use Rattle.recognizer.proofs.Bodies.{parse-here, symbol-reads, skipped-none, skipped-symbol}
 
 -- the calls at most n deep, on the words' grammar
 abbrev pub deep : Choice → List ℕ → List ℕ → ℕ → MemoCalls
@@ -45,6 +49,10 @@ level words input A place = measure (grammarOf words) input (callAt A place)
 pub body-at : List ℕ → ℕ → Body
 body-at words at = parse (drop at words) .body
 
+-- a run that has stopped at an index
+abbrev pub stopped : code.Outcome → ℕ → Run
+stopped o at = record { outcome = o; at = at }
+
 -- a run that has come to an index and a place
 pub record Running (choice : Choice) (words input memo₀ : List ℕ) (A from start : ℕ) (memo : List ℕ) (at place : ℕ) : Type 0 where
   pub behind : start ≤ place
@@ -53,16 +61,18 @@ pub record Running (choice : Choice) (words input memo₀ : List ℕ) (A from st
   pub rest : (n : ℕ) → level words input A start ≤ n
       → memoRun (deep choice words input n) input (body-at words from) start memo₀ ≡ memoRun (deep choice words input n) input (body-at words at) place memo
   pub known : NonterminalsBelow (grammarOf words .nonterminals) (body-at words at)
+  pub own : TerminalsBelow (grammarOf words .terminals) (body-at words at)
   pub front : place ≡ start → (B : ℕ) → LeftIn (nullable (grammarOf words)) B (body-at words at) → LeftDepends (grammarOf words) A B
   pub progress : Progress
   pub reads : scan progress at (drop at words) ≡ reading words
+  pub skipped : Skipped words from at
 
 -- where two ways meet
 pub running-as : {choice : Choice} {words input memo₀ : List ℕ} {A from start : ℕ} {memo memo′ : List ℕ} {at place place′ : ℕ} → memo′ ≡ memo → place′ ≡ place
     → Running choice words input memo₀ A from start memo at place → Running choice words input memo₀ A from start memo′ at place′
 running-as m p v = rw (m, p) v
 
-module _ {choice : Choice} {words starts table input memo₀ : List ℕ} {A from start : ℕ} (g : RunGiven choice words starts table input memo₀ A from start) where
+module _ {choice : Choice} {words choices tokens input memo₀ : List ℕ} {A from start : ℕ} (g : RunGiven choice words choices tokens input memo₀ A from start) where
   abbrev G : Grammar
   G = grammarOf words
 
@@ -76,11 +86,26 @@ module _ {choice : Choice} {words starts table input memo₀ : List ℕ} {A from
     placed = g .call .placed;
     sound = g .call .given .sound;
     rest = λ n l. refl;
-    known = r .formed .scoped .nonterminals (g .rule) (g .listed) (parse (drop from words) .body) (g .held);
-    front = λ e B l. record { rule = g .rule; body = parse (drop from words) .body; listed = g .listed; heads = g .heads; held = g .held; left = l };
+    known = r .formed .scoped .nonterminals (g .rule) (g .listed) (parse (drop from words) .body) (g .body);
+    own = r .formed .terminals (g .rule) (g .listed) (parse (drop from words) .body) (g .body);
+    front = λ e B l. record { rule = g .rule; body = parse (drop from words) .body; listed = g .listed; heads = g .heads; held = g .body; left = l };
     progress = g .progress;
     reads = g .reads;
+    skipped = skipped-none words from (g .inside);
   }
+
+  -- whether the token at a place is a terminal of the grammar, by its word
+  token-is : (place a : ℕ) → place ≤ length input → a < grammarOf words .terminals
+      → matchesAt tokens place a ≡ (ltb place (length input) && eqb (getD input place 0) a)
+  unfolding matchesAt
+  token-is place a h l = go (decLt place (length input))
+    where
+      go : Dec (place < length input) → eqb (getD tokens place 0 % 256) a ≡ (ltb place (length input) && eqb (getD input place 0) a)
+      go (yes k) = rw (lt-ltb place (length input) k, g .call .given .terminals place k)
+      go (no k) =
+          let e : place ≡ length input = omega arith in
+          let n : endMark ≡ a → ⊥ = λ q. absurd (omega (arith, r .terminals, r .fewTerminals)) in
+          rw (le-ltb place (length input) (omega arith), e, g .call .given .end, ne-eqb endMark a n)
 
 both : (a b : Bool) → (a && b) ≡ true → a ≡ true
 both true b e = refl
@@ -103,26 +128,27 @@ body-none (Symbol X) p s a h = absurd (h X refl)
 body-none EndWord p s a h = refl
 body-none Invalid p s a h = absurd (false≢true a)
 
-module _ {choice : Choice} {words starts table input memo₀ : List ℕ} {A from start : ℕ} (g : RunGiven choice words starts table input memo₀ A from start)
+module _ {choice : Choice} {words choices tokens input memo₀ : List ℕ} {A from start : ℕ} (g : RunGiven choice words choices tokens input memo₀ A from start)
     {memo : List ℕ} {at place : ℕ} (v : Running choice words input memo₀ A from start memo at place) where
   -- a run that comes to a word that is no symbol, or to the end of the words, has ended
-  done : body-at words at ≡ [] → RunDone choice words input memo₀ A from start (outcome.End place) memo
+  done : body-at words at ≡ [] → RunDone choice words input memo₀ A from start (stopped (outcome.End place) at) memo
   unfolding body-at memoRun
   done e = record {
     model = λ n l. v .rest n l ∙ ap (λ b. memoRun (deep choice words input n) input b place memo) e;
     sound = v .sound;
     within = λ x q. let e : place ≡ x = end-same place x q in omega (arith, v .placed);
+    skipped = v .skipped;
   }
 
   pub running-done : (w : Word) → at < length words → w ≡ decoded (getD words at 0) → ((X : grammar.Symbol) → w ≡ Symbol X → ⊥)
-      → RunDone choice words input memo₀ A from start (outcome.End place) memo
+      → RunDone choice words input memo₀ A from start (stopped (outcome.End place) at) memo
   unfolding body-at
   running-done w h e n =
       let s = scan-next words at (v .progress) (g .call .given .sizes) h (v .reads ∙ g .call .given .read) in
       let k = parse-here words at h in
       done (ap (λ p. p .body) k ∙ body-none (decoded (getD words at 0)) (parse (drop (at + 1) words)) (v .progress .state) (s .passed .allowed) (λ X x. n X (e ∙ x)))
 
-  pub running-over : length words ≤ at → RunDone choice words input memo₀ A from start (outcome.End place) memo
+  pub running-over : length words ≤ at → RunDone choice words input memo₀ A from start (stopped (outcome.End place) at) memo
   unfolding body-at parse
   running-over h = done (ap (λ p. p .body) (parse-over words at h))
 
@@ -137,6 +163,12 @@ module _ {choice : Choice} {words starts table input memo₀ : List ℕ} {A from
         let z = g .call .given .sizes in
         symbol-reads words at (v .progress) z X h x (v .reads ∙ g .call .given .read) ∙ sym (g .call .given .read)
 
+    next-skipped : Skipped words from (at + 1)
+    next-skipped = skipped-symbol (v .skipped) h refl (ap (tagOf the-type) x)
+
+    own-here : TerminalsBelow (grammarOf words .terminals) (X ∷ body-at words (at + 1))
+    own-here = rw body-here at (v .own)
+
     known-here : NonterminalsBelow (grammarOf words .nonterminals) (X ∷ body-at words (at + 1))
     known-here = rw body-here at (v .known)
 
@@ -148,10 +180,14 @@ module _ {choice : Choice} {words starts table input memo₀ : List ℕ} {A from
     rest-here n l = v .rest n l ∙ ap (λ b. memoRun (deep choice words input n) input b place memo) body-here
 
   module _ (a : ℕ) (h : at < length words) (x : decoded (getD words at 0) ≡ Symbol (Terminal a)) where
+    running-token : matchesAt tokens place a ≡ (ltb place (length input) && eqb (getD input place 0) a)
+    running-token = token-is g place a (v .placed) (own-here (Terminal a) h x .0)
+
     -- a token that is the terminal
-    pub running-terminal : matchesAt input place a ≡ true → Running choice words input memo₀ A from start memo (at + 1) (place + 1)
-    unfolding memoRun matchesAt pick
-    running-terminal m =
+    pub running-terminal : matchesAt tokens place a ≡ true → Running choice words input memo₀ A from start memo (at + 1) (place + 1)
+    unfolding memoRun pick
+    running-terminal matched =
+        let m : (ltb place (length input) && eqb (getD input place 0) a) ≡ true = sym running-token ∙ matched in
         let l : place < length input = ltb-true place (length input) (both (ltb place (length input)) (eqb (getD input place 0) a) m) in
         record {
           behind = omega (arith, v .behind);
@@ -159,32 +195,37 @@ module _ {choice : Choice} {words starts table input memo₀ : List ℕ} {A from
           sound = v .sound;
           rest = λ n k. rest-here (Terminal a) h x n k ∙ rw (m, add-one place);
           known = known-here (Terminal a) h x;
+          own = own-here (Terminal a) h x .1;
           front = λ e. absurd (omega (arith, v .behind));
           progress = v .progress;
           reads = next-reads (Terminal a) h x;
+          skipped = next-skipped (Terminal a) h x;
         }
 
     -- another token, or the end
-    pub running-mismatch : matchesAt input place a ≡ false → RunDone choice words input memo₀ A from start outcome.Failed memo
-    unfolding body-at memoRun matchesAt pick
+    pub running-mismatch : matchesAt tokens place a ≡ false → RunDone choice words input memo₀ A from start (stopped outcome.Failed at) memo
+    unfolding body-at memoRun pick
     running-mismatch m = record {
-      model = λ n k. rest-here (Terminal a) h x n k ∙ rw m;
+      model = λ n k. rest-here (Terminal a) h x n k ∙ rw (sym running-token ∙ m);
       sound = v .sound;
       within = λ e q. absurd (failed-end e q);
+      skipped = v .skipped;
     }
 
   module _ (B : ℕ) (h : at < length words) (x : decoded (getD words at 0) ≡ Symbol (Nonterminal B)) where
     -- the call that a nonterminal makes
-    pub running-given : CallGiven choice words starts table input memo B place
+    pub running-given : CallGiven choice words choices tokens input memo B place
     running-given = record {
       given = record {
         sizes = g .call .given .sizes;
         read = g .call .given .read;
         free = g .call .given .free;
-        begins = g .call .given .begins;
         own = g .call .given .own;
-        holds = g .call .given .holds;
-        tokens = g .call .given .tokens;
+        rows = g .call .given .rows;
+        elements = g .call .given .elements;
+        firsts = g .call .given .firsts;
+        terminals = g .call .given .terminals;
+        end = g .call .given .end;
         short = g .call .given .short;
         sound = v .sound;
       };
@@ -217,19 +258,22 @@ module _ {choice : Choice} {words starts table input memo₀ : List ℕ} {A from
             sound = d .sound;
             rest = λ n l. rest-here (Nonterminal B) h x n l ∙ rw (called n l, m);
             known = known-here (Nonterminal B) h x .1;
+            own = own-here (Nonterminal B) h x;
             front = λ s C l.
                 let i : place ≡ start = omega (arith, v .behind) in
                 let j : e ≡ place = omega arith in
                 front-here (Nonterminal B) h x i C (there (d .idle (m ∙ ap End j)) l);
             progress = v .progress;
             reads = next-reads (Nonterminal B) h x;
+            skipped = next-skipped (Nonterminal B) h x;
           }
 
       -- one that fails
-      pub running-failed : o ≡ outcome.Failed → RunDone choice words input memo₀ A from start outcome.Failed memo′
+      pub running-failed : o ≡ outcome.Failed → RunDone choice words input memo₀ A from start (stopped outcome.Failed at) memo′
       unfolding body-at memoRun andThen
       running-failed q = record {
         model = λ n l. rest-here (Nonterminal B) h x n l ∙ rw (called n l, ap meant q);
         sound = d .sound;
         within = λ e q. absurd (failed-end e q);
+        skipped = v .skipped;
       }

@@ -12,8 +12,7 @@ use Rattle.word.specs.Words.{decoded}
 use Rattle.word.specs.declared.Symbol as grammar
 use Rattle.word.specs.declared.Word.{Word}
 use Rattle.word.specs.declared.Word.the-variants as word
-use Rattle.grammar.specs.Codes.{noEntry, failedCode}
-use Rattle.grammar.specs.Limits.{maxRules}
+use Rattle.grammar.specs.Codes.{failedCode}
 use Rattle.grammar.specs.Syntax.{Rule, Grammar}
 use Rattle.grammar.specs.Encoding.{parse, grammarOf}
 use Rattle.grammar.specs.Reading.{allows, after, beginsRule, scan, reading}
@@ -29,14 +28,13 @@ use Rattle.semantics.specs.Descent.{Failed, select}
 use Rattle.semantics.specs.Memo.{encode}
 use Rattle.semantics.specs.MemoDescent.{MemoCalls, memoized, memoObey}
 use Rattle.semantics.proofs.Outcomes.{nth-mem}
-use Rattle.table.specs.Layout.{entryWord}
 use Rattle.rule.specs.declared.Sign.{Sign}
 use Rattle.rule.specs.declared.Agreement.the-variants as agreement
 use Rattle.rule.specs.Rule.{signAt}
-use Rattle.recognizer.specs.Descent.{wordFor, CallGiven}
+use Rattle.recognizer.specs.Descent.{firstAt, firstConjunct, CallGiven}
 use Rattle.recognizer.proofs.Calling.{memoRest, Calling, InRule}
 
-nth-below : (l : List Rule) (q : ℕ) (r : Rule) → getElem? l q ≡ some r → q < length l
+pub nth-below : (l : List Rule) (q : ℕ) (r : Rule) → getElem? l q ≡ some r → q < length l
 nth-below [] q r e = let z : _≡_ {A = ℕ} 0 1 = cc in absurd (omega arith)
 nth-below (x ∷ l) zero r e = omega arith
 nth-below (x ∷ l) (suc q) r e = omega (arith, nth-below l q r e)
@@ -50,65 +48,64 @@ rule-opens (word.Symbol X) s e = absurd (false≢true e)
 rule-opens word.End s e = absurd (false≢true e)
 rule-opens word.Invalid s e = absurd (false≢true e)
 
-module _ {choice : Choice} {words starts table input memo : List ℕ} {A place : ℕ} (g : CallGiven choice words starts table input memo A place) where
+module _ {choice : Choice} {words choices tokens input memo : List ℕ} {A place : ℕ} (g : CallGiven choice words choices tokens input memo A place) where
   abbrev G : Grammar
   G = grammarOf words
 
   r : WellRead words (g .given .sizes)
   r = well-read words (g .given .sizes) (g .given .read)
 
-  held : wordFor words table input A place ≡ entryWord (choice A place)
-  held = g .given .holds A place (g .named) (g .placed)
+  first : firstAt choices tokens A place ≡ firstConjunct words (choice A place)
+  first = g .given .firsts A place (g .named) (g .placed)
 
-  -- the number of a rule is no word for no entry
-  pub no-rule : {v : ℕ} → v ≡ wordFor words table input A place → v ≡ noEntry → choice A place ≡ none
-  no-rule {v} e n = go (choice A place) refl (sym (e ∙ held) ∙ n)
+  -- 0 is where no conjunct stands
+  pub no-rule : {at : ℕ} → at ≡ firstAt choices tokens A place → at ≡ 0 → choice A place ≡ none
+  no-rule e z = go (choice A place) refl (sym first ∙ sym e ∙ z)
     where
-      go : (x : Option ℕ) → choice A place ≡ x → entryWord x ≡ noEntry → choice A place ≡ none
+      go : (x : Option ℕ) → choice A place ≡ x → firstConjunct words x ≡ 0 → choice A place ≡ none
       go none c q = c
-      go (some q) c z = let k = g .given .own A place q c in absurd (omega (arith, nth-below (G .rules) q (k .0) (k .1), r .rules, r .fewRules))
+      go (some q) c y = absurd (omega arith)
 
-  pub some-rule : {v : ℕ} → v ≡ wordFor words table input A place → (v ≡ noEntry → ⊥) → choice A place ≡ some v
-  some-rule {v} e n = go (choice A place) refl (e ∙ held)
-    where
-      go : (x : Option ℕ) → choice A place ≡ x → v ≡ entryWord x → choice A place ≡ some v
-      go none c q = absurd (n q)
-      go (some q) c z = c ∙ ap some (sym z)
-
-  -- the rule with the number q, as it stands in the words
-  pub record Chosen (q : ℕ) : Type 0 where
+  -- the rule whose first conjunct stands at an index
+  pub record Chosen (at : ℕ) : Type 0 where
     pub rule : Rule
     pub listed : List·Memᴰ rule (G .rules)
     pub heads : rule .head ≡ A
     pub selected : select G (choice A place) ≡ some rule
-    pub low : q < maxRules
-    pub begun : Begun words (getD starts q 0)
-    pub positives : rule .positives ≡ parse (drop (getD starts q 0 + 1) words) .positives
-    pub negatives : rule .negatives ≡ parse (drop (getD starts q 0 + 1) words) .negatives
+    pub start : ℕ
+    pub behind : at ≡ start + 1
+    pub begun : Begun words start
+    pub positives : rule .positives ≡ parse (drop (start + 1) words) .positives
+    pub negatives : rule .negatives ≡ parse (drop (start + 1) words) .negatives
 
-  pub rule-chosen : (q : ℕ) → choice A place ≡ some q → Chosen q
+  pub rule-chosen : {at : ℕ} → at ≡ firstAt choices tokens A place → (at ≡ 0 → ⊥) → Chosen at
   unfolding select firstRule
-  rule-chosen q c =
-      let k = g .given .own A place q c in
-      let l : q < g .given .sizes .rules = omega (arith, nth-below (G .rules) q (k .0) (k .1), r .rules) in
-      let i : getD starts q 0 ≡ getD (ruleStarts words) q 0 = ap (λ s. getD s q 0) (g .given .begins) in
-      let b : Begun words (getD starts q 0) = rw i (r .begun q l) in
-      let f : k .0 ≡ firstRule (drop (getD starts q 0) words) = some-same (k .0) _ (sym (k .1) ∙ r .begins q l ∙ ap (λ j. some (firstRule (drop j words))) (sym i)) in
-      let d = drop-cons words (getD starts q 0) 0 (b .high) in
-      let e : k .0 ≡ firstRule (getD words (getD starts q 0) 0 ∷ drop (getD starts q 0 + 1) words) = f ∙ (rw (add-one (getD starts q 0)) (ap firstRule d)) in
-      record {
-        rule = k .0;
-        listed = nth-mem (G .rules) q (k .0) (k .1);
-        heads = k .2;
-        selected = rw c (k .1);
-        low = omega (arith, r .fewRules);
-        begun = b;
-        positives = ap (λ x. x .positives) e;
-        negatives = ap (λ x. x .negatives) e;
-      }
+  rule-chosen {at} e n = go (choice A place) refl (e ∙ first)
     where
       some-same : (x y : Rule) → some x ≡ some y → x ≡ y
       some-same x y e = cc
+
+      go : (x : Option ℕ) → choice A place ≡ x → at ≡ firstConjunct words x → Chosen at
+      go none c z = absurd (n z)
+      go (some q) c z =
+          let k = g .given .own A place q c in
+          let l : q < g .given .sizes .rules = omega (arith, nth-below (G .rules) q (k .0) (k .1), r .rules) in
+          let i : ℕ = getD (ruleStarts words) q 0 in
+          let b : Begun words i = r .begun q l in
+          let f : k .0 ≡ firstRule (drop i words) = some-same (k .0) _ (sym (k .1) ∙ r .begins q l) in
+          let d = drop-cons words i 0 (b .high) in
+          let e : k .0 ≡ firstRule (getD words i 0 ∷ drop (i + 1) words) = f ∙ (rw (add-one i) (ap firstRule d)) in
+          record {
+            rule = k .0;
+            listed = nth-mem (G .rules) q (k .0) (k .1);
+            heads = k .2;
+            selected = rw c (k .1);
+            start = i;
+            behind = z;
+            begun = b;
+            positives = ap (λ x. x .positives) e;
+            negatives = ap (λ x. x .negatives) e;
+          }
 
   -- the reading has come to the rule's begin, and goes on behind it
   begin-next : (i : ℕ) → Begun words i → (p : Progress) × (scan p (i + 1) (drop (i + 1) words) ≡ reading words) × (p .state ≡ state.Opened)
@@ -119,12 +116,11 @@ module _ {choice : Choice} {words starts table input memo : List ℕ} {A place :
       (n .progress, n .reads ∙ sym (g .given .read), n .passed .state ∙ rule-opens (decoded (getD words (suc i) 0)) (at .progress .state) (b .word))
 
   -- before its first body
-  pub calling-start : (q : ℕ) (k : Chosen q) {sign : Sign} → sign ≡ signAt words (getD starts q 0 + 1)
-      → Calling choice words input memo A place (k .rule) memo (getD starts q 0 + 1) sign agreement.Open
+  calling-start : {at : ℕ} (k : Chosen at) {sign : Sign} → sign ≡ signAt words (k .start + 1)
+      → Calling choice words input memo A place (k .rule) memo (k .start + 1) sign agreement.Open
   unfolding memoRest memoObey
-  calling-start q k s =
-      let at = getD starts q 0 + 1 in
-      let n = begin-next (getD starts q 0) (k .begun) in
+  calling-start k s =
+      let n = begin-next (k .start) (k .begun) in
       record {
         sound = g .given .sound;
         within = omega (arith, k .begun .high);
@@ -137,7 +133,7 @@ module _ {choice : Choice} {words starts table input memo : List ℕ} {A place :
         reads = n .1;
         opens = λ _. n .2;
         boundary = λ X l x.
-            let w = scan-next words at (n .0) (g .given .sizes) l (n .1 ∙ g .given .read) in
+            let w = scan-next words (k .start + 1) (n .0) (g .given .sizes) l (n .1 ∙ g .given .read) in
             let a : allows (word.Symbol X) state.Opened ≡ true = rw (x, n .2) at (w .passed .allowed) in
             false≢true a;
       }
@@ -146,9 +142,14 @@ module _ {choice : Choice} {words starts table input memo : List ℕ} {A place :
   unfolding select
   select-none e = rw e
 
-  pub start-rule : (q : ℕ) (k : Chosen q) {sign : Sign} → sign ≡ signAt words (getD starts q 0 + 1)
-      → InRule choice words input memo A place memo (getD starts q 0 + 1) sign agreement.Open
-  start-rule q k s = record { rule = k .rule; listed = k .listed; heads = k .heads; selected = k .selected; calling = calling-start q k s }
+  pub start-rule : {at : ℕ} (k : Chosen at) {sign : Sign} → sign ≡ signAt words at → InRule choice words input memo A place memo at sign agreement.Open
+  start-rule k {sign} s = rw (k .behind) (record {
+    rule = k .rule;
+    listed = k .listed;
+    heads = k .heads;
+    selected = k .selected;
+    calling = calling-start k (s ∙ ap (signAt words) (k .behind));
+  })
 
 -- without a rule a call fails
 pub none-fails : (M : MemoCalls) (w : List ℕ) (i : ℕ) (m : List ℕ) → memoObey M w none i m ≡ memoized Failed m

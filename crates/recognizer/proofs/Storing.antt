@@ -2,9 +2,8 @@
 use mathlib.Core.Path.{_≡_, refl, sym, ap, _∙_}
 use mathlib.Core.List.{List, [], _∷_}
 use mathlib.Core.Option.{Option}
-use Prim.Native.Nat.{ℕ, zero, suc, _+_, _*_, _≤_, _<_}
+use Prim.Native.Nat.{ℕ, zero, suc, _+_, _≤_, _<_}
 use native.Mathlib.Omega.{arith}
-use native.Mathlib.Numerals.{add-one}
 use lib.Dec.{T-not, not-T, eqb, eqb→eq}
 use lib.ListN.{length, getD, set}
 use borrow.Author.Tests.{ne-eqb}
@@ -27,7 +26,7 @@ use Rattle.semantics.proofs.Memo.{transparent}
 use Rattle.rule.specs.declared.Outcome as code
 use Rattle.rule.specs.declared.Outcome.the-variants as outcome
 use Rattle.rule.specs.Rule.{meant}
-use Rattle.recognizer.specs.Descent.{MemoSound, CallGiven, CallDone}
+use Rattle.recognizer.specs.Descent.{rowAt, MemoSound, CallGiven, CallDone}
 use Rattle.recognizer.proofs.Running.{deep, level}
 
 pub memo-same : {choice : Choice} {words input memo memo′ : List ℕ} → MemoSound choice words input memo → MemoSound choice words input memo′ → length memo ≡ length memo′
@@ -48,7 +47,7 @@ sound-in {words = words} {input = input} {memo = memo} m = record {
   right = λ x r n. m .right x (r, not-T (eqb (entry input memo x) uncalledCode) (λ t. n (eqb→eq (entry input memo x) uncalledCode t))) .0;
 }
 
-module _ {choice : Choice} {words starts table input memo : List ℕ} {A place : ℕ} (g : CallGiven choice words starts table input memo A place) where
+module _ {choice : Choice} {words choices tokens input memo : List ℕ} {A place : ℕ} (g : CallGiven choice words choices tokens input memo A place) where
   abbrev G : Grammar
   G = grammarOf words
 
@@ -80,36 +79,37 @@ getD-any [] i d d′ h = absurd (omega arith)
 getD-any (x ∷ l) zero d d′ h = refl
 getD-any (x ∷ l) (suc i) d d′ h = getD-any l i d d′ (omega arith)
 
-module _ {choice : Choice} {words starts table input memo : List ℕ} {A place : ℕ} (g : CallGiven choice words starts table input memo A place) where
+module _ {choice : Choice} {words choices tokens input memo : List ℕ} {A place : ℕ} (g : CallGiven choice words choices tokens input memo A place) where
   -- the index of the call's entry
-  pub index-is : A * (length input + 1) + place ≡ indexOf input (callAt A place)
-  index-is = rw (add-one (length input))
+  module _ {x : ℕ} (e : x ≡ rowAt choices A + place) where
+    index-is : x ≡ indexOf input (callAt A place)
+    index-is = e ∙ ap (λ n. n + place) (g .given .rows A (g .named))
 
-  pub index-low : A * (length input + 1) + place < length memo
-  index-low = let l = index-range (grammarOf words) input (callAt A place) (g .named, g .placed) in omega (arith, index-is, g .given .sound .size)
+    pub index-low : x < length memo
+    index-low = let l = index-range (grammarOf words) input (callAt A place) (g .named, g .placed) in omega (arith, index-is, g .given .sound .size)
 
-  entry-is : entry input memo (callAt A place) ≡ getD memo (A * (length input + 1) + place) 0
-  entry-is = getD-any memo (indexOf input (callAt A place)) uncalledCode 0 (omega (arith, index-low, index-is)) ∙ ap (λ i. getD memo i 0) (sym index-is)
+    entry-is : entry input memo (callAt A place) ≡ getD memo x 0
+    entry-is = getD-any memo (indexOf input (callAt A place)) uncalledCode 0 (omega (arith, index-low, index-is)) ∙ ap (λ i. getD memo i 0) (sym index-is)
 
-  -- an entry that is written is recalled
-  pub call-recalled : {o : code.Outcome} → (getD memo (A * (length input + 1) + place) 0 ≡ uncalledCode → ⊥)
-      → meant o ≡ decode (getD memo (A * (length input + 1) + place) 0) → CallDone choice words input memo A place o memo
-  unfolding memoCall pick
-  call-recalled {o} known d = call-done g model
-    where
-      model : (n : ℕ) → level words input A place < n → deep choice words input n A place memo ≡ memoized (meant o) memo
-      model zero l = absurd (omega arith)
-      model (suc n) l = rw (entry-is, ne-eqb (getD memo (A * (length input + 1) + place) 0) uncalledCode known, d)
-
-  module _ (fresh : getD memo (A * (length input + 1) + place) 0 ≡ uncalledCode) where
-    -- a rule, or none, has been run, and the outcome is stored
-    pub call-stored : (x : Option Rule) → select (grammarOf words) (choice A place) ≡ x
-        → {o : code.Outcome} {memo₁ : List ℕ} {v : ℕ}
-        → ((n : ℕ) → level words input A place ≤ n → memoObey (deep choice words input n) input x place memo ≡ memoized (meant o) memo₁)
-        → v ≡ encode (meant o) → CallDone choice words input memo A place o (set memo₁ (A * (length input + 1) + place) v)
-    unfolding memoCall pick stored
-    call-stored x s {o} {memo₁} {v} run e = call-done g model
+    -- an entry that is written is recalled
+    pub call-recalled : {o : code.Outcome} → (getD memo x 0 ≡ uncalledCode → ⊥) → meant o ≡ decode (getD memo x 0)
+        → CallDone choice words input memo A place o memo
+    unfolding memoCall pick
+    call-recalled {o} known d = call-done g model
       where
-        model : (n : ℕ) → level words input A place < n → deep choice words input n A place memo ≡ memoized (meant o) (set memo₁ (A * (length input + 1) + place) v)
+        model : (n : ℕ) → level words input A place < n → deep choice words input n A place memo ≡ memoized (meant o) memo
         model zero l = absurd (omega arith)
-        model (suc n) l = rw (entry-is, fresh, s, run n (omega arith), index-is, e)
+        model (suc n) l = rw (entry-is, ne-eqb (getD memo x 0) uncalledCode known, d)
+
+    module _ (fresh : getD memo x 0 ≡ uncalledCode) where
+      -- a rule, or none, has been run, and the outcome is stored
+      pub call-stored : (r : Option Rule) → select (grammarOf words) (choice A place) ≡ r
+          → {o : code.Outcome} {memo₁ : List ℕ} {v : ℕ}
+          → ((n : ℕ) → level words input A place ≤ n → memoObey (deep choice words input n) input r place memo ≡ memoized (meant o) memo₁)
+          → v ≡ encode (meant o) → CallDone choice words input memo A place o (set memo₁ x v)
+      unfolding memoCall pick stored
+      call-stored r s {o} {memo₁} {v} run c = call-done g model
+        where
+          model : (n : ℕ) → level words input A place < n → deep choice words input n A place memo ≡ memoized (meant o) (set memo₁ x v)
+          model zero l = absurd (omega arith)
+          model (suc n) l = rw (entry-is, fresh, s, run n (omega arith), index-is, c)

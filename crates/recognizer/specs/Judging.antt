@@ -2,11 +2,10 @@
 use mathlib.Core.Path.{_≡_}
 use mathlib.Core.List.{List}
 use mathlib.Core.Option.{none}
-use Prim.Native.Nat.{ℕ, _+_, _*_, _≤_, _<_}
-use lib.ListN.{length, getD}
+use Prim.Native.Nat.{ℕ, _≤_}
+use lib.ListN.{length}
 use Rattle.answer.specs.declared.Answer.{Answer}
 use Rattle.grammar.specs.Limits.{maxTokens, tableWords as memoryWords, memoEntries}
-use Rattle.grammar.specs.Syntax.{Grammar}
 use Rattle.grammar.specs.Encoding.{grammarOf}
 use Rattle.grammar.specs.Reading.{reading}
 use Rattle.grammar.specs.declared.reading.Sizes.{Sizes}
@@ -14,9 +13,10 @@ use Rattle.grammar.specs.declared.reading.Outcome.the-variants.{Read}
 use Rattle.semantics.specs.Valuations.{pairs}
 use Rattle.semantics.specs.LeftRecursion.{NoLeftRecursion}
 use Rattle.semantics.specs.Strings.{Over}
-use Rattle.table.specs.Layout.{columns, entryAt, tableWords}
+use Rattle.table.specs.Layout.{tableWords}
 use Rattle.table.specs.Entries.{filled}
 use Rattle.table.specs.Analysis.{fault}
+use Rattle.recognizer.specs.Preparing.{Entries}
 use Rattle.recognizer.specs.Memory.{memoWords}
 use Rattle.recognizer.specs.Answers.{verdictOf}
 
@@ -31,10 +31,6 @@ pub record PassedGiven (words : List ℕ) (z : Sizes) (entries table memo : List
   pub found : Found words z entries
   pub long-table : memoryWords ≤ length table
   pub long-memo : memoEntries ≤ length memo
-
--- the table holds the entries of the grammar
-abbrev pub Entries : Grammar → List ℕ → Type 0
-Entries G table = (A c : ℕ) → A < G .nonterminals → c < columns G → getD table (2 * G .nonterminals + A * columns G + c) 0 ≡ entryAt G A c
 
 pub record DescendGiven (words : List ℕ) (z : Sizes) (entries input memo : List ℕ) : Type 0 where
   pub read : reading words ≡ Read z

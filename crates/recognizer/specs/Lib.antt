@@ -1,4 +1,5 @@
 pub mod Descent
+pub mod Preparing
 pub mod Tally
 pub mod Memory
 pub mod Answers

@@ -1,15 +1,14 @@
 // The descent: calling a nonterminal at a place and running a body call one another in turn.
 ghost use mathlib.Core.Path.{_≡_};
-ghost use Prim.Native.Nat.{_≤_};
+ghost use Prim.Native.Nat.{_+_, _≤_};
 ghost use lib.ListN.{length};
 ghost use Rattle.semantics.specs.Memo.{encode, decode as decodedEntry};
 ghost use Rattle.rule.specs.Rule.{meant};
-ghost use Rattle.recognizer.specs.Descent.{matchesAt, columnAt, Short, BodyEnd, wordFor, ChosenGiven, CallRequires, CallEnsures, RunRequires, RunEnsures};
+ghost use Rattle.recognizer.specs.Descent.{rowAt, firstAt, matchesAt, BodyEnd, TokenGiven, EntryGiven, ChosenGiven, CallRequires, CallEnsures, RunRequires, RunEnsures};
 use grammar::codes::FAILED;
-use grammar::codes::NO_ENTRY;
 use grammar::codes::UNCALLED;
-use grammar::limits::RULES;
-use grammar::limits::TABLE_WORDS;
+use grammar::limits::NONTERMINALS;
+use grammar::limits::TOKENS;
 use rule::Agreement;
 use rule::Outcome;
 use rule::conclude;
@@ -19,6 +18,23 @@ use rule::sign_at;
 use word::Symbol;
 use word::Word;
 use word::decode;
+
+// A row for each nonterminal: where the first conjunct stands of the rule to run for each element of lookahead, 0 for none, and in
+// the last column where its row of the memo table begins.
+pub(crate) const COLUMNS: usize = 64;
+
+pub(crate) const ROW_COLUMN: usize = COLUMNS - 1;
+
+pub(crate) const CHOICES: usize = (NONTERMINALS as usize) * COLUMNS;
+
+// A word for each place: in the low byte its terminal, or 255 at the end, and in the high byte its element of lookahead.
+pub(crate) const PLACES: usize = TOKENS + 1;
+
+// How a body ran, and the index where it stopped.
+pub struct Run {
+    pub outcome: Outcome,
+    pub at: usize,
+}
 
 // Where the body at an index ends.
 fn body_end(words: &[u32], from: usize) -> usize
@@ -37,53 +53,37 @@ fn body_end(words: &[u32], from: usize) -> usize
 }
 
 // Whether the token at a place is a terminal.
-fn matches(input: &[u8], place: usize, terminal: u32) -> bool
-    ensures { λ r. ⌜ r ≡ matchesAt (now (input .entry)) place terminal ⌝ }
+fn matches(tokens: &[u16; PLACES], place: u16, terminal: u32) -> bool
+    requires { ⌜ TokenGiven (now tokens) place ⌝ }
+    ensures { λ r. ⌜ r ≡ matchesAt (now (tokens .entry)) place terminal ⌝ }
 {
-    if place < input.len() {
-        input[place] as u32 == terminal
-    } else {
-        false
-    }
+    tokens[place as usize] as u32 % 256 == terminal
 }
 
-// The column of the table for the token at a place, or for the end.
-fn column(input: &[u8], place: usize, terminals: usize) -> usize
-    ensures { λ r. ⌜ r ≡ columnAt (now (input .entry)) place terminals ⌝ }
+// The index of a call's entry in the memo table.
+fn entry_of(choices: &[u16; CHOICES], nonterminal: usize, place: u16) -> usize
+    requires { ⌜ EntryGiven (now choices) nonterminal ⌝ }
+    ensures { λ r. ⌜ r ≡ rowAt (now (choices .entry)) nonterminal + place ⌝ }
 {
-    if place < input.len() {
-        input[place] as usize
-    } else {
-        terminals
-    }
+    choices[nonterminal * COLUMNS + ROW_COLUMN] as usize + place as usize
 }
 
-// The entry of the table for a nonterminal and the token at a place.
-fn chosen(
-    words: &[u32],
-    table: &[u32; TABLE_WORDS],
-    input: &[u8],
-    nonterminal: usize,
-    place: usize,
-) -> u32
-    requires { ⌜ ChosenGiven (now words) (now table) (now input) nonterminal place ⌝ }
-    ensures { λ r. ⌜ r ≡ wordFor (now (words .entry)) (now (table .entry)) (now (input .entry)) nonterminal place ⌝ }
+// Where the first conjunct stands of the rule that is chosen for a nonterminal at a place, or 0.
+fn chosen(choices: &[u16; CHOICES], tokens: &[u16; PLACES], nonterminal: usize, place: u16) -> usize
+    requires { ⌜ ChosenGiven (now choices) (now tokens) nonterminal place ⌝ }
+    ensures { λ r. ⌜ r ≡ firstAt (now (choices .entry)) (now (tokens .entry)) nonterminal place ⌝ }
 {
-    let heading = words[0] as usize;
-    let nonterminals = heading % 256;
-    let terminals = heading / 256 % 256;
-    let c = column(input, place, terminals);
-    table[2 * nonterminals + nonterminal * (terminals + 1) + c]
+    let element = tokens[place as usize] as usize / 256;
+    choices[nonterminal * COLUMNS + element] as usize
 }
 
 // An outcome as an entry of the memo table, and back.
 fn code(outcome: Outcome) -> u16
-    requires { ⌜ Short (meant outcome) ⌝ }
     ensures { λ r. ⌜ r ≡ encode (meant outcome) ⌝ }
 {
     match outcome {
         Outcome::Failed => FAILED,
-        Outcome::End(end) => end as u16,
+        Outcome::End(end) => end,
     }
 }
 
@@ -93,7 +93,7 @@ fn recall(entry: u16) -> Outcome
     if entry == FAILED {
         Outcome::Failed
     } else {
-        Outcome::End(entry as usize)
+        Outcome::End(entry)
     }
 }
 
@@ -101,82 +101,83 @@ fn recall(entry: u16) -> Outcome
 fn run_body(
     nonterminal: usize,
     words: &[u32],
-    starts: &[usize; RULES],
-    table: &[u32; TABLE_WORDS],
-    input: &[u8],
+    choices: &[u16; CHOICES],
+    tokens: &[u16; PLACES],
     memo: &mut [u16],
     from: usize,
-    start: usize,
-) -> Outcome
-    requires { ⌜ RunRequires (now words) (now starts) (now table) (now input) (now memo) nonterminal from start ⌝ }
-    ensures { λ r. ⌜ RunEnsures (now (words .entry)) (now (starts .entry)) (now (table .entry)) (now (input .entry)) (now (memo .entry)) nonterminal from start r (now (memo .exit)) ⌝ }
+    start: u16,
+) -> Run
+    requires { ⌜ RunRequires (now words) (now choices) (now tokens) (now memo) nonterminal from start ⌝ }
+    ensures { λ r. ⌜ RunEnsures (now (words .entry)) (now (choices .entry)) (now (tokens .entry)) (now (memo .entry)) nonterminal from start r (now (memo .exit)) ⌝ }
 {
     let mut at = from;
     let mut place = start;
     while at < words.len() {
         let word = decode(words[at]);
         let Word::Symbol(symbol) = word else {
-            return Outcome::End(place);
+            return Run {
+                outcome: Outcome::End(place),
+                at,
+            };
         };
         match symbol {
             Symbol::Terminal(terminal) => {
-                if !matches(input, place, terminal) {
-                    return Outcome::Failed;
+                if !matches(tokens, place, terminal) {
+                    return Run {
+                        outcome: Outcome::Failed,
+                        at,
+                    };
                 }
                 place = place + 1;
             }
             Symbol::Nonterminal(called) => {
-                let outcome = call(called as usize, words, starts, table, input, memo, place);
+                let outcome = call(called as usize, words, choices, tokens, memo, place);
                 let Outcome::End(end) = outcome else {
-                    return Outcome::Failed;
+                    return Run {
+                        outcome: Outcome::Failed,
+                        at,
+                    };
                 };
                 place = end;
             }
         }
         at = at + 1;
     }
-    Outcome::End(place)
+    Run {
+        outcome: Outcome::End(place),
+        at,
+    }
 }
 
-// Calls a nonterminal at a place: recalls its outcome, or runs the bodies of the rule that the table chooses and records it.
+// Calls a nonterminal at a place: recalls its outcome, or runs the bodies of the rule that is chosen and records it.
 pub(crate) fn call(
     nonterminal: usize,
     words: &[u32],
-    starts: &[usize; RULES],
-    table: &[u32; TABLE_WORDS],
-    input: &[u8],
+    choices: &[u16; CHOICES],
+    tokens: &[u16; PLACES],
     memo: &mut [u16],
-    place: usize,
+    place: u16,
 ) -> Outcome
-    requires { ⌜ CallRequires (now words) (now starts) (now table) (now input) (now memo) nonterminal place ⌝ }
-    ensures { λ r. ⌜ CallEnsures (now (words .entry)) (now (starts .entry)) (now (table .entry)) (now (input .entry)) (now (memo .entry)) nonterminal place r (now (memo .exit)) ⌝ }
+    requires { ⌜ CallRequires (now words) (now choices) (now tokens) (now memo) nonterminal place ⌝ }
+    ensures { λ r. ⌜ CallEnsures (now (words .entry)) (now (choices .entry)) (now (tokens .entry)) (now (memo .entry)) nonterminal place r (now (memo .exit)) ⌝ }
 {
-    let entry = nonterminal * (input.len() + 1) + place;
+    let entry = entry_of(choices, nonterminal, place);
     let known = memo[entry];
     if known != UNCALLED {
         return recall(known);
     }
-    let rule = chosen(words, table, input, nonterminal, place);
-    if rule == NO_ENTRY {
+    let mut at = chosen(choices, tokens, nonterminal, place);
+    if at == 0 {
         memo[entry] = FAILED;
         return Outcome::Failed;
     }
-    let mut at = starts[rule as usize] + 1;
     let mut sign = sign_at(words, at);
     let mut agreement = Agreement::Open;
     while goes_on(sign, agreement) {
-        let outcome = run_body(
-            nonterminal,
-            words,
-            starts,
-            table,
-            input,
-            memo,
-            at + 1,
-            place,
-        );
+        let run = run_body(nonterminal, words, choices, tokens, memo, at + 1, place);
+        let outcome = run.outcome;
         agreement = joined(sign, agreement, outcome);
-        at = body_end(words, at + 1);
+        at = body_end(words, run.at);
         sign = sign_at(words, at);
     }
     let outcome = conclude(agreement);

@@ -5,6 +5,8 @@ ghost use Rattle.recognizer.specs.Judging.{PassedGiven, DescendGiven, De
 ghost use Rattle.recognizer.specs.Properties.{Judges};
 use super::descent::call;
 use super::lending::lend;
+use super::preparing::choices_of;
+use super::preparing::tokens_of;
 use super::tally::clear;
 use super::tally::tally;
 use answer::Answer;
@@ -12,7 +14,6 @@ use answer::Error;
 use grammar::limits::TABLE_WORDS;
 use grammar::limits::TOKENS;
 use grammar::reading::Sizes;
-use grammar::reading::rule_starts;
 use rule::ends_at;
 
 pub enum Unknown {
@@ -46,10 +47,11 @@ fn descend(
     ensures { λ r. ⌜ Descended (now (words .entry)) (now (input .entry)) r (now (memo .exit)) ⌝ }
 {
     clear(memo);
-    let starts = rule_starts(words);
-    let outcome = call(0, words, &starts, entries, input, memo, 0);
+    let choices = choices_of(words, sizes, entries, input.len() + 1);
+    let tokens = tokens_of(input, sizes.terminals);
+    let outcome = call(0, words, &choices, &tokens, memo, 0);
     let calls = tally(memo, sizes.nonterminals as usize, input.len());
-    if ends_at(outcome, input.len()) {
+    if ends_at(outcome, input.len() as u16) {
         Answer::Accepted(calls)
     } else {
         Answer::Rejected(calls)

@@ -12,6 +12,7 @@ use table::analyze;
 mod descent;
 mod judging;
 mod lending;
+mod preparing;
 mod tally;
 
 // Checks an encoded grammar, and fills the lent table with its sets and its entries.

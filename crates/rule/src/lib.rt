@@ -8,7 +8,7 @@ use word::decode;
 // (document 01: a name's result, failed or an end)
 pub enum Outcome {
     Failed,
-    End(usize),
+    End(u16),
 }
 
 // What a word begins: a positive conjunct, a negative one, or neither.
@@ -21,7 +21,7 @@ pub enum Sign {
 // Where the bodies of a rule that have run agree to end.
 pub enum Agreement {
     Open,
-    At(usize),
+    At(u16),
     Failed,
 }
 
@@ -73,7 +73,7 @@ fn begins(sign: Sign) -> bool
     }
 }
 
-pub fn ends_at(outcome: Outcome, place: usize) -> bool
+pub fn ends_at(outcome: Outcome, place: u16) -> bool
     ensures { λ r. ⌜ r ≡ endsAt (meant outcome) place ⌝ }
 {
     match outcome {
@@ -93,7 +93,7 @@ fn opened(outcome: Outcome) -> Agreement
 }
 
 // A later positive body has to end there, and a negative one must not.
-fn kept(sign: Sign, end: usize, there: bool) -> Agreement
+fn kept(sign: Sign, end: u16, there: bool) -> Agreement
     ensures { λ r. ⌜ r ≡ keptBy sign end there ⌝ }
 {
     match sign {

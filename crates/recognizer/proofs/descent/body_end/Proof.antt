@@ -2,7 +2,8 @@ use mathlib.Core.Path.{_∙_}
 use Prim.Native.Nat.{_-_}
 use native.Mathlib.Omega.{arith}
 use lib.ListN.{length}
-use Rattle.recognizer.proofs.Bodies.{Skipped, skipped-none, skipped-symbol, no-symbol, body-ends}
+use Rattle.recognizer.specs.Descent.{Skipped}
+use Rattle.recognizer.proofs.Bodies.{skipped-none, skipped-symbol, no-symbol, body-ends}
 use Rattle.recognizer.proofs.descent.body_end.Statement.{statement}
 use Rattle.recognizer.proofs.descent.body_end.Tie as tie
 use Rattle.recognizer.proofs.descent.body_end.Reads as reads

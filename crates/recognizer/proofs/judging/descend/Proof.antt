@@ -1,5 +1,6 @@
--- The start is called in a blank memo table, and the calls are read off it afterwards.
-use Rattle.recognizer.proofs.Deciding.{start-given, memo-long, descended}
+-- The start is called in a blank memo table, with the arrays made for it, and the calls are read off the table afterwards.
+use native.Mathlib.Omega.{arith}
+use Rattle.recognizer.proofs.Deciding.{choices-given, tokens-given, start-given, memo-long, descended}
 use borrow.Author.Needs.{needs}
 use Rattle.recognizer.proofs.judging.descend.Statement.{statement}
 use Rattle.recognizer.proofs.judging.descend.Tie as tie
@@ -7,15 +8,21 @@ use Rattle.recognizer.proofs.judging.descend.Tie as tie
 clear-requires : tie.Need-clear-requires
 clear-requires c κs = search needs
 
-rule-starts-requires : tie.Need-rule-starts-requires
-rule-starts-requires c κs = search needs
+add-choices-of : tie.Need-add-choices-of
+add-choices-of c = search needs
+
+choices-of-requires : tie.Need-choices-of-requires
+choices-of-requires c κs = choices-given (c .before .before .before .before .before .before .before .pre)
+
+tokens-of-requires : tie.Need-tokens-of-requires
+tokens-of-requires c κs = tokens-given (c .before .before .before .before .before .before .before .before .pre)
 
 call-requires : tie.Need-call-requires
 call-requires c κs =
-    let begun = c .before .before in
-    let cleared = begun .before .before .before in
+    let made = c .before .before .before in
+    let cleared = made .before .before .before .before in
     let start = cleared .before .before .before .before .before in
-    (_, start-given (start .pre) (begun .rule-starts .ensures) (cleared .clear .ensures))
+    start-given (start .pre) (made .before .choices-of .ensures) (made .tokens-of .ensures) (cleared .clear .ensures)
 
 cast-tally : tie.Need-cast-tally
 cast-tally c = search needs
@@ -23,10 +30,13 @@ cast-tally c = search needs
 tally-requires : tie.Need-tally-requires
 tally-requires c κs =
     let called = c .before .before .before .before in
-    let begun = called .before .before .before in
-    let cleared = begun .before .before .before in
+    let made = called .before .before .before .before in
+    let cleared = made .before .before .before .before in
     let start = cleared .before .before .before .before .before in
-    memo-long (start .pre) (begun .rule-starts .ensures) (cleared .clear .ensures) (called .call .ensures)
+    memo-long (start .pre) (made .before .choices-of .ensures) (made .tokens-of .ensures) (cleared .clear .ensures) (called .call .ensures)
+
+cast-ends-at : tie.Need-cast-ends-at
+cast-ends-at c = omega (arith, c .before .before .before .before .before .before .before .before .before .before .before .before .before .before .before .before .before .before .pre .short)
 
 ends-at-requires : tie.Need-ends-at-requires
 ends-at-requires c κs = search needs
@@ -36,36 +46,37 @@ same-length c = search needs
 
 returns : tie.Need-returns
 returns c =
-    let tallied = c .before .before in
-    let called = tallied .before .before .before .before .before in
-    let begun = called .before .before .before in
-    let cleared = begun .before .before .before in
+    let called = c .before .before .before .before .before .before .before in
+    let made = called .before .before .before .before in
+    let cleared = made .before .before .before .before in
     let start = cleared .before .before .before .before .before in
-    descended (start .pre) (begun .rule-starts .ensures) (cleared .clear .ensures) (called .call .ensures) (tallied .tally .ensures) (c .before .ends-at .ensures)
-    (rw (c .if1 .taken))
+    descended (start .pre) (made .before .choices-of .ensures) (made .tokens-of .ensures) (cleared .clear .ensures) (called .call .ensures)
+    (c .before .before .tally .ensures) (c .before .ends-at .ensures) (rw (c .if1 .taken))
 
 same-length-2 : tie.Need-same-length-2
 same-length-2 c = search needs
 
 returns-2 : tie.Need-returns-2
 returns-2 c =
-    let tallied = c .before .before in
-    let called = tallied .before .before .before .before .before in
-    let begun = called .before .before .before in
-    let cleared = begun .before .before .before in
+    let called = c .before .before .before .before .before .before .before in
+    let made = called .before .before .before .before in
+    let cleared = made .before .before .before .before in
     let start = cleared .before .before .before .before .before in
-    descended (start .pre) (begun .rule-starts .ensures) (cleared .clear .ensures) (called .call .ensures) (tallied .tally .ensures) (c .before .ends-at .ensures)
-    (rw (c .if1 .left))
+    descended (start .pre) (made .before .choices-of .ensures) (made .tokens-of .ensures) (cleared .clear .ensures) (called .call .ensures)
+    (c .before .before .tally .ensures) (c .before .ends-at .ensures) (rw (c .if1 .left))
 
 pub descend-spec : {M : Type 1} → statement M
 descend-spec =
     tie.close
     (tie.spec
     clear-requires
-    rule-starts-requires
+    add-choices-of
+    choices-of-requires
+    tokens-of-requires
     call-requires
     cast-tally
     tally-requires
+    cast-ends-at
     ends-at-requires
     same-length
     returns

@@ -1,0 +1,88 @@
+-- The rows of choices, written one after the other, each column by column. Assumes nothing.
+use mathlib.Core.Path.{_≡_, refl, sym, _∙_}
+use mathlib.Core.List.{List}
+use Prim.Native.Nat.{ℕ, _+_, _*_, _≤_, _<_}
+use native.Mathlib.Nat.{mul-le-mul}
+use native.Mathlib.Omega.{arith}
+use native.Mathlib.Decide.{decLt}
+use lib.ListN.{length, getD, set, length-set}
+use lib.Seq.{getD-set-same, getD-set-other}
+use Rattle.grammar.specs.declared.reading.Sizes.{Sizes}
+use Rattle.grammar.specs.Starts.{ruleStarts}
+use Rattle.recognizer.specs.Descent.{choiceColumns, rowColumn, choiceWords}
+use Rattle.recognizer.specs.Preparing.{entryOf, firstWord, RowGiven, RowFilled, Filled}
+
+-- where a row is read and written
+pub record Placed (z : Sizes) (A places : ℕ) : Type 0 where
+  pub two : 2 * z .nonterminals ≤ 64
+  pub from : A * (z .terminals + 1) ≤ 775
+  pub to : A * choiceColumns ≤ 1984
+  pub row : A * places ≤ 15531
+
+pub placed : {starts entries : List ℕ} {z : Sizes} {A places : ℕ} {choices : List ℕ} → RowGiven starts entries z A places choices → Placed z A places
+placed {z = z} {A = A} {places = places} g =
+    let f = mul-le-mul {n₁ = A} {m₁ = z .terminals + 1} {n₂ = 31} {m₂ = 25} (omega (arith, g .named, g .fewNonterminals)) (omega (arith, g .fewTerminals)) in
+    let p = mul-le-mul {n₁ = A} {m₁ = places} {n₂ = 31} {m₂ = 501} (omega (arith, g .named, g .fewNonterminals)) (g .few) in
+    record { two = omega (arith, g .fewNonterminals); from = omega arith; to = omega (arith, g .named, g .fewNonterminals); row = omega arith }
+
+-- the first columns of a row are written, from the entries at an index on
+pub record Writing (starts entries : List ℕ) (from to column : ℕ) (before now : List ℕ) : Type 0 where
+  pub long : length now ≡ length before
+  pub kept : (x : ℕ) → x < to → getD now x 0 ≡ getD before x 0
+  pub written : (c : ℕ) → c < column → getD now (to + c) 0 ≡ firstWord starts (getD entries (from + c) 0)
+
+pub writing-none : (starts entries : List ℕ) (from to : ℕ) (before : List ℕ) → Writing starts entries from to 0 before before
+writing-none starts entries from to before = record { long = refl; kept = λ x l. refl; written = λ c l. absurd (omega arith) }
+
+module _ {starts entries : List ℕ} {from to column : ℕ} {before now : List ℕ} (w : Writing starts entries from to column before now) where
+  -- one column more
+  pub writing-more : {v : ℕ} → to + column < length now → v ≡ firstWord starts (getD entries (from + column) 0)
+      → Writing starts entries from to (column + 1) before (set now (to + column) v)
+  writing-more {v} h e = record {
+    long = length-set now (to + column) v ∙ w .long;
+    kept = λ x l. getD-set-other now (to + column) x v 0 (λ q. absurd (omega arith)) ∙ w .kept x l;
+    written = λ c l. go c l (decLt c column);
+  }
+    where
+      go : (c : ℕ) → c < column + 1 → Dec (c < column) → getD (set now (to + column) v) (to + c) 0 ≡ firstWord starts (getD entries (from + c) 0)
+      go c l (yes k) = getD-set-other now (to + column) (to + c) v 0 (λ q. absurd (omega arith)) ∙ w .written c k
+      go c l (no k) = let q : c ≡ column = omega arith in rw q (getD-set-same now (to + column) v 0 h ∙ e)
+
+-- all columns, and the row's place in the memo table
+pub row-filled : {starts entries : List ℕ} {z : Sizes} {A places column : ℕ} {before now : List ℕ} → RowGiven starts entries z A places before
+    → Writing starts entries (2 * z .nonterminals + A * (z .terminals + 1)) (A * choiceColumns) column before now → z .terminals + 1 ≤ column
+    → RowFilled starts entries z A places before (set now (A * choiceColumns + rowColumn) (A * places))
+row-filled {A = A} {places = places} {now = now} g w h =
+    let p = placed g in
+    record {
+      long = length-set now (A * choiceColumns + rowColumn) (A * places) ∙ w .long;
+      kept = λ x l. getD-set-other now (A * choiceColumns + rowColumn) x (A * places) 0 (λ q. absurd (omega arith)) ∙ w .kept x l;
+      columns = λ c l. getD-set-other now (A * choiceColumns + rowColumn) (A * choiceColumns + c) (A * places) 0 (λ q. absurd (omega (arith, g .fewTerminals))) ∙ w .written c (omega arith);
+      row = getD-set-same now (A * choiceColumns + rowColumn) (A * places) 0 (omega (arith, w .long, g .long, p .to));
+    }
+
+-- the rows of the first nonterminals are written
+pub record Rows (words entries : List ℕ) (z : Sizes) (places A : ℕ) (choices : List ℕ) : Type 0 where
+  pub long : length choices ≡ choiceWords
+  pub columns : (B c : ℕ) → B < A → c < z .terminals + 1 → getD choices (B * choiceColumns + c) 0 ≡ firstWord (ruleStarts words) (entryOf z entries B c)
+  pub rows : (B : ℕ) → B < A → getD choices (B * choiceColumns + rowColumn) 0 ≡ B * places
+
+module _ {words starts entries : List ℕ} {z : Sizes} {places A : ℕ} {choices choices′ : List ℕ} (few : z .terminals ≤ 24) (s : starts ≡ ruleStarts words)
+    (w : Rows words entries z places A choices) (f : RowFilled starts entries z A places choices choices′) where
+  pub rows-more : Rows words entries z places (A + 1) choices′
+  rows-more = record { long = f .long ∙ w .long; columns = λ B c b h. columns B c b h (decLt B A); rows = λ B b. rows B b (decLt B A) }
+    where
+      columns : (B c : ℕ) → B < A + 1 → c < z .terminals + 1 → Dec (B < A) → getD choices′ (B * choiceColumns + c) 0 ≡ firstWord (ruleStarts words) (entryOf z entries B c)
+      columns B c b h (yes l) = f .kept (B * choiceColumns + c) (omega arith) ∙ w .columns B c l h
+      columns B c b h (no l) = let q : B ≡ A = omega arith in rw (q, sym s) (f .columns c h)
+
+      rows : (B : ℕ) → B < A + 1 → Dec (B < A) → getD choices′ (B * choiceColumns + rowColumn) 0 ≡ B * places
+      rows B b (yes l) = f .kept (B * choiceColumns + rowColumn) (omega arith) ∙ w .rows B l
+      rows B b (no l) = let q : B ≡ A = omega arith in rw q (f .row)
+
+pub rows-none : (words entries : List ℕ) (z : Sizes) (places : ℕ) (choices : List ℕ) → length choices ≡ choiceWords → Rows words entries z places 0 choices
+rows-none words entries z places choices long = record { long = long; columns = λ B c b. absurd (omega arith); rows = λ B b. absurd (omega arith) }
+
+pub rows-all : {words entries : List ℕ} {z : Sizes} {places A : ℕ} {choices : List ℕ} → z .nonterminals ≤ A → Rows words entries z places A choices
+    → Filled words entries z places choices
+rows-all h w = record { columns = λ B c b. w .columns B c (omega arith); rows = λ B b. w .rows B (omega arith) }
