@@ -1,11 +1,12 @@
 -- The tally of a memo table, entry by entry and row by row; where the table records the calls of a descent, it is their tally.
-use mathlib.Core.Bool.{Bool, true, false, not}
+use mathlib.Core.Bool.{Bool, true, false, not, true≢false, false≢true}
 use mathlib.Core.List.{List, [], _∷_, _++_, map, map-append}
 use mathlib.Core.Path.{_≡_, refl, sym, ap, _∙_}
-use Prim.Native.Nat.{ℕ, suc, _+_, _*_, max, _≤_, _<_}
+use Prim.Native.Nat.{ℕ, zero, suc, _+_, _*_, max, _≤_, _<_}
 use native.Mathlib.Omega.{arith}
 use lib.Arith.{digits-lt}
 use lib.Dec.{eqb}
+use borrow.Author.Tests.{eq-eqb, ne-eqb}
 use lib.ListN.{length, getD, length-append, length-map}
 use Rattle.answer.specs.declared.Calls.{Calls}
 use Rattle.word.specs.Choice.{choose}
@@ -18,7 +19,7 @@ use Rattle.semantics.specs.Calls.{allCalls, callCount, greatestPlace, farthest}
 use Rattle.semantics.specs.Memo.{Memo, Recorded, written}
 use Rattle.semantics.proofs.FiniteSets.{numbers-length}
 use Rattle.semantics.proofs.Distinct.{combine-length}
-use Rattle.recognizer.specs.Tally.{tallyOf, together, writtenAmong, entryTally, recordedRow, recordedCalls}
+use Rattle.recognizer.specs.Tally.{tallyOf, together, writtenAmong, entryCount, recordedRow, recordedCalls}
 use Rattle.recognizer.proofs.Appending.{keep-append, keep-length, numbers-more, combine-more}
 use Rattle.recognizer.proofs.Storing.{getD-any}
 
@@ -46,27 +47,72 @@ unfolding together tallyOf
 tally-append l l′ = calls-same _ _ (sym (length-append l l′)) (sym (greatest-append l l′))
 
 module _ (m : Memo) (tokens : ℕ) where
-  -- the entry of a call gives the tally of that call alone, if it is written
-  entry-tally : (A i : ℕ) → A * (tokens + 1) + i < length m
-      → entryTally (getD m (A * (tokens + 1) + i) 0) i ≡ tallyOf (keep (writtenAmong tokens m) (callAt A i ∷ []))
-  unfolding entryTally tallyOf keep greatestPlace
-  entry-tally A i h =
-      let e : A * (tokens + 1) + i ≡ A * suc tokens + i = omega arith in
-      rw (getD-any m (A * (tokens + 1) + i) 0 uncalledCode h, e) (go (eqb (getD m (A * suc tokens + i) uncalledCode) uncalledCode))
-    where
-      go : (b : Bool) → _≡_ {A = Calls} (choose b (record { count = 0; farthest = 0 }) (record { count = 1; farthest = i }))
-          (tallyOf (elim (not b) as (λ _. List Call) [ true ↦ callAt A i ∷ [] | false ↦ [] ]))
-      go true = refl
-      go false = calls-same _ _ refl (omega arith)
+  -- a row goes on by one entry: its call, if it is written
+  row-more : (A i : ℕ) → recordedRow m tokens A (i + 1) ≡ recordedRow m tokens A i ++ keep (writtenAmong tokens m) (callAt A i ∷ [])
+  unfolding recordedRow
+  row-more A i =
+      ap (keep (writtenAmong tokens m)) (ap (map (callAt A)) (numbers-more i) ∙ map-append (callAt A) (numbers i) (i ∷ []))
+      ∙ keep-append (writtenAmong tokens m) (map (callAt A) (numbers i)) (callAt A i ∷ [])
 
-  -- no more calls than entries
-  entry-bound : (entry i : ℕ) → entryTally entry i .count ≤ 1
-  unfolding entryTally
-  entry-bound entry i = go (eqb entry uncalledCode)
+  entry-same : (A i : ℕ) → A * (tokens + 1) + i < length m → getD m (A * (tokens + 1) + i) 0 ≡ getD m (A * suc tokens + i) uncalledCode
+  entry-same A i h =
+      let e : A * (tokens + 1) + i ≡ A * suc tokens + i = omega arith in
+      getD-any m (A * (tokens + 1) + i) 0 uncalledCode h ∙ ap (λ j. getD m j uncalledCode) e
+
+  one-count : (A i : ℕ) → A * (tokens + 1) + i < length m
+      → length {A = Call} (keep (writtenAmong tokens m) (callAt A i ∷ [])) ≡ entryCount (getD m (A * (tokens + 1) + i) 0)
+  unfolding entryCount keep
+  one-count A i h = rw (entry-same A i h) (go (eqb (getD m (A * suc tokens + i) uncalledCode) uncalledCode))
     where
-      go : (b : Bool) → (choose {A = Calls} b (record { count = 0; farthest = 0 }) (record { count = 1; farthest = i })) .count ≤ 1
+      go : (b : Bool) → length {A = Call} (elim (not b) as (λ _. List Call) [ true ↦ callAt A i ∷ [] | false ↦ [] ]) ≡ choose b 0 1
+      go true = refl
+      go false = refl
+
+  one-greatest : (A i : ℕ) → greatestPlace (keep (writtenAmong tokens m) (callAt A i ∷ [])) ≤ i
+  unfolding keep greatestPlace
+  one-greatest A i = go (writtenAmong tokens m (callAt A i))
+    where
+      go : (b : Bool) → greatestPlace (elim b as (λ _. List Call) [ true ↦ callAt A i ∷ [] | false ↦ [] ]) ≤ i
       go true = omega arith
       go false = omega arith
+
+  one-written : (A i : ℕ) → (getD m (A * suc tokens + i) uncalledCode ≡ uncalledCode → ⊥) → greatestPlace (keep (writtenAmong tokens m) (callAt A i ∷ [])) ≡ i
+  unfolding keep greatestPlace
+  one-written A i h = go (eqb (getD m (A * suc tokens + i) uncalledCode) uncalledCode) (ne-eqb _ uncalledCode h)
+    where
+      go : (b : Bool) → b ≡ false → greatestPlace (elim (not b) as (λ _. List Call) [ true ↦ callAt A i ∷ [] | false ↦ [] ]) ≡ i
+      go true e = absurd (true≢false e)
+      go false e = omega arith
+
+  one-unwritten : (A i : ℕ) → getD m (A * suc tokens + i) uncalledCode ≡ uncalledCode → greatestPlace (keep (writtenAmong tokens m) (callAt A i ∷ [])) ≡ 0
+  unfolding keep greatestPlace
+  one-unwritten A i h = go (eqb (getD m (A * suc tokens + i) uncalledCode) uncalledCode) (eq-eqb _ uncalledCode h)
+    where
+      go : (b : Bool) → b ≡ true → greatestPlace (elim (not b) as (λ _. List Call) [ true ↦ callAt A i ∷ [] | false ↦ [] ]) ≡ 0
+      go true e = refl
+      go false e = absurd (false≢true e)
+
+  row-greatest : (A i : ℕ) → greatestPlace (recordedRow m tokens A (i + 1))
+      ≡ max (greatestPlace (recordedRow m tokens A i)) (greatestPlace (keep (writtenAmong tokens m) (callAt A i ∷ [])))
+  row-greatest A i = ap greatestPlace (row-more A i) ∙ greatest-append (recordedRow m tokens A i) (keep (writtenAmong tokens m) (callAt A i ∷ []))
+
+  row-none : (A : ℕ) → recordedRow m tokens A 0 ≡ []
+  unfolding recordedRow keep numbers numbersFrom
+  row-none A = refl
+
+  greatest-none : greatestPlace [] ≡ 0
+  unfolding greatestPlace
+  greatest-none = refl
+
+  -- a row's calls are at its places
+  row-low : (A i : ℕ) → greatestPlace (recordedRow m tokens A i) ≤ i
+  row-low A zero = omega (arith, ap greatestPlace (row-none A), greatest-none)
+  row-low A (suc i) =
+      let e : suc i ≡ i + 1 = omega arith in
+      rw e (omega (arith, row-greatest A i, one-greatest A i, row-low A i))
+
+  pub count-none : (A : ℕ) → 0 ≡ length (recordedRow m tokens A 0)
+  count-none A = sym (ap {A = List Call} length (row-none A))
 
   row-bound : (A n : ℕ) → tallyOf (recordedRow m tokens A n) .count ≤ n
   unfolding tallyOf recordedRow
@@ -79,23 +125,33 @@ module _ (m : Memo) (tokens : ℕ) where
       combine-length callAt (numbers A) (numbers (suc tokens)) ∙ rw (numbers-length A, numbers-length (suc tokens)) refl in
       omega (arith, keep-length (writtenAmong tokens m) (combine callAt (numbers A) (numbers (suc tokens))), e)
 
-  pub row-none : (A : ℕ) → record { count = 0; farthest = 0 } ≡ tallyOf (recordedRow m tokens A 0)
-  unfolding tallyOf recordedRow keep numbers numbersFrom greatestPlace
-  row-none A = refl
+  -- one entry more is counted
+  module _ {n k : ℕ} (A i : ℕ) (low : A * (tokens + 1) + i < length m) (before : n ≡ length (recordedRow m tokens A i))
+      (next : k ≡ entryCount (getD m (A * (tokens + 1) + i) 0)) where
+    pub count-more : n + k ≡ length (recordedRow m tokens A (i + 1))
+    count-more =
+        rw (before, next) (sym (ap {A = List Call} length (row-more A i)
+        ∙ length-append (recordedRow m tokens A i) (keep (writtenAmong tokens m) (callAt A i ∷ [])) ∙ ap (λ (c : ℕ). length (recordedRow m tokens A i) + c) (one-count A i low)))
 
-  -- a row goes on by one entry
-  module _ {a b : Calls} (A i : ℕ) (low : A * (tokens + 1) + i < length m)
-      (before : a ≡ tallyOf (recordedRow m tokens A i)) (next : b ≡ entryTally (getD m (A * (tokens + 1) + i) 0) i) where
-    pub row-room : a .count + b .count ≤ i + 1
-    row-room = rw (before, next) (omega (arith, row-bound A i, entry-bound (getD m (A * (tokens + 1) + i) 0) i))
+    pub count-room : n + k ≤ i + 1
+    unfolding tallyOf
+    count-room = omega (arith, count-more, row-bound A (i + 1))
 
-    pub row-more : together a b ≡ tallyOf (recordedRow m tokens A (i + 1))
-    unfolding recordedRow
-    row-more =
-        let kept : List Call → Calls = λ l. tallyOf (keep (writtenAmong tokens m) l) in
-        rw (before, next, entry-tally A i low) (tally-append _ _
-        ∙ ap tallyOf (sym (keep-append (writtenAmong tokens m) (map (callAt A) (numbers i)) (callAt A i ∷ [])))
-        ∙ ap kept (sym (map-append (callAt A) (numbers i) (i ∷ [])) ∙ ap (map (callAt A)) (sym (numbers-more i))))
+  -- the greatest place of a row, sought from its end
+  module _ (A i : ℕ) (low : A * (tokens + 1) + i < length m) where
+    pub farthest-here : (getD m (A * (tokens + 1) + i) 0 ≡ uncalledCode → ⊥) → i ≡ greatestPlace (recordedRow m tokens A (i + 1))
+    farthest-here h = omega (arith, row-greatest A i, row-low A i, one-written A i (λ e. h (entry-same A i low ∙ e)))
+
+    pub farthest-before : getD m (A * (tokens + 1) + i) 0 ≡ uncalledCode → greatestPlace (recordedRow m tokens A (i + 1)) ≡ greatestPlace (recordedRow m tokens A i)
+    farthest-before h = omega (arith, row-greatest A i, one-unwritten A i (sym (entry-same A i low) ∙ h))
+
+  pub farthest-none : (A : ℕ) → 0 ≡ greatestPlace (recordedRow m tokens A 1)
+  farthest-none A = omega (arith, row-greatest A 0, one-greatest A 0, row-low A 0)
+
+  pub row-told : {n f : ℕ} (A i : ℕ) → n ≡ length (recordedRow m tokens A i) → f ≡ greatestPlace (recordedRow m tokens A i)
+      → record { count = n; farthest = f } ≡ tallyOf (recordedRow m tokens A i)
+  unfolding tallyOf
+  row-told A i e d = calls-same _ _ e d
 
   -- the row of each nonterminal lies within the table
   pub row-within : {A N : ℕ} → A < N → length m ≡ N * (tokens + 1) → A * (tokens + 1) + tokens < length m

@@ -24,9 +24,9 @@ together a b = record { count = a .count + b .count; farthest = max (a .farthest
 abbrev pub writtenAmong : ℕ → Memo → Call → Bool
 writtenAmong tokens m x = not (eqb (getD m (x .nonterminal * suc tokens + x .place) uncalledCode) uncalledCode)
 
--- the tally of an entry's call, if it is written
-unfoldable pub entryTally : ℕ → ℕ → Calls
-entryTally entry place = choose (eqb entry uncalledCode) (record { count = 0; farthest = 0 }) (record { count = 1; farthest = place })
+-- how many calls an entry records
+unfoldable pub entryCount : ℕ → ℕ
+entryCount entry = choose (eqb entry uncalledCode) 0 1
 
 -- the calls of a nonterminal at the first places
 unfoldable pub recordedRow : (m : Memo) (tokens A places : ℕ) → List Call

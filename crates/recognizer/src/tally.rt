@@ -3,7 +3,8 @@ ghost use mathlib.Core.Path.{_≡_};
 ghost use Prim.Native.Nat.{_+_, _*_, _^_, _<_};
 ghost use lib.ListN.{length, replicate};
 ghost use Rattle.grammar.specs.Codes.{uncalledCode};
-ghost use Rattle.recognizer.specs.Tally.{tallyOf, together as togetherOf, entryTally, recordedRow, recordedCalls};
+ghost use Rattle.semantics.specs.Calls.{greatestPlace};
+ghost use Rattle.recognizer.specs.Tally.{tallyOf, together as togetherOf, entryCount, recordedRow, recordedCalls};
 use answer::Calls;
 use grammar::codes::UNCALLED;
 
@@ -18,21 +19,42 @@ pub(crate) fn clear(memo: &mut [u16])
     }
 }
 
-// The call of an entry, if it is written.
-fn tally_entry(entry: u16, place: usize) -> Calls
-    ensures { λ r. ⌜ r ≡ entryTally entry place ⌝ }
+// How many calls an entry records.
+fn calls_of(entry: u16) -> usize
+    ensures { λ r. ⌜ r ≡ entryCount entry ⌝ }
 {
-    if entry == UNCALLED {
-        Calls {
-            count: 0,
-            farthest: 0,
-        }
-    } else {
-        Calls {
-            count: 1,
-            farthest: place,
-        }
+    if entry == UNCALLED { 0 } else { 1 }
+}
+
+// How many calls of a nonterminal are recorded.
+fn count_row(memo: &[u16], nonterminal: usize, tokens: usize) -> usize
+    requires { ⌜ nonterminal * (tokens + 1) + tokens < length (now memo) ⌝ }
+    ensures { λ r. ⌜ r ≡ length (recordedRow (now (memo .entry)) tokens nonterminal (tokens + 1)) ⌝ }
+{
+    let row = nonterminal * (tokens + 1);
+    let mut count = 0;
+    let mut place = 0;
+    while place <= tokens {
+        count = count + calls_of(memo[row + place]);
+        place = place + 1;
     }
+    count
+}
+
+// The farthest place of one, or 0.
+fn farthest_row(memo: &[u16], nonterminal: usize, tokens: usize) -> usize
+    requires { ⌜ nonterminal * (tokens + 1) + tokens < length (now memo) ⌝ }
+    ensures { λ r. ⌜ r ≡ greatestPlace (recordedRow (now (memo .entry)) tokens nonterminal (tokens + 1)) ⌝ }
+{
+    let row = nonterminal * (tokens + 1);
+    let mut place = tokens;
+    while 0 < place {
+        if memo[row + place] != UNCALLED {
+            return place;
+        }
+        place = place - 1;
+    }
+    0
 }
 
 // How many calls both have, and the farther place.
@@ -59,17 +81,9 @@ fn tally_row(memo: &[u16], nonterminal: usize, tokens: usize) -> Calls
     requires { ⌜ nonterminal * (tokens + 1) + tokens < length (now memo) ⌝ }
     ensures { λ r. ⌜ r ≡ tallyOf (recordedRow (now (memo .entry)) tokens nonterminal (tokens + 1)) ⌝ }
 {
-    let row = nonterminal * (tokens + 1);
-    let mut calls = Calls {
-        count: 0,
-        farthest: 0,
-    };
-    let mut place = 0;
-    while place <= tokens {
-        calls = together(calls, tally_entry(memo[row + place], place));
-        place = place + 1;
-    }
-    calls
+    let count = count_row(memo, nonterminal, tokens);
+    let farthest = farthest_row(memo, nonterminal, tokens);
+    Calls { count, farthest }
 }
 
 // The calls of all nonterminals.
