@@ -14,20 +14,21 @@ use Rattle.answer.specs.declared.Answer.{Answer}
 use Rattle.answer.specs.declared.Answer.the-variants.{Refused, Passed, Rejected, Accepted}
 use Rattle.answer.specs.Numbers.{coded, numbers, Numbers}
 use Rattle.word.specs.Choice.{choose}
-use Rattle.grammar.specs.Limits.{maxWords}
+use Rattle.grammar.specs.Limits.{maxWords, maxNonterminals, maxPlaces}
 use Rattle.grammar.specs.Encoding.{grammarOf}
 use Rattle.grammar.proofs.WellRead.{well-read}
 use Rattle.semantics.specs.Choices.{tableChoice}
 use Rattle.semantics.specs.Descent.{accepts}
 use Rattle.semantics.proofs.Called.{called-range}
 use Rattle.semantics.proofs.Theorems.{theorems}
-use Rattle.recognizer.specs.Answers.{checkFault, judgeFault, refusedOr, callsOf, verdictOf}
+use Rattle.answer.specs.Faults.{refusedOr}
+use Rattle.recognizer.specs.Answers.{checkFault, judgeFault, callsOf, verdictOf}
 use Rattle.recognizer.specs.Properties.{Checks, Judges}
 use Rattle.recognizer.proofs.Checking.{passed-fault}
 use Rattle.recognizer.proofs.Judged.{judged-readable}
 use Rattle.embed.specs.Packing.{Fit, Fits, joined, packed, Unpacks}
 use Rattle.embed.specs.Exports.{CheckExported, JudgeExported}
-use Rattle.embed.proofs.Places.{LowFault, check-low, judge-low}
+use Rattle.embed.proofs.Places.{Low, check-low, judge-low}
 
 code-low : (e : Error) → coded e .code < 256
 code-low TableTooShort = omega arith
@@ -49,9 +50,9 @@ refused-fits e h = record { verdict = omega arith; code = code-low e; position =
 pub check-fits : {words before after : List ℕ} {a : Answer} → Checks words before a after → Fits (numbers a)
 check-fits {words} {before} {after} {a} c = rw (c .answer) (go (checkFault (length before) words) (check-low (length before) words))
   where
-    go : (f : Option Error) → LowFault maxWords f → Fits (numbers (refusedOr f Passed))
+    go : (f : Option Error) → ((e : Error) → f ≡ some e → Low maxWords e) → Fits (numbers (refusedOr f Passed))
     go none l = record { verdict = omega arith; code = omega arith; position = omega arith; count = omega arith; farthest = omega arith }
-    go (some e) l = refused-fits e (l .low e refl)
+    go (some e) l = refused-fits e (l e refl)
 
 -- the calls of a descent are few, and none is far
 calls-fit : (words input : List ℕ) (table memo : ℕ) → judgeFault table memo words input ≡ none
@@ -64,7 +65,7 @@ calls-fit words input table memo e =
     let some-nonterminal : 0 < G .nonterminals = omega (arith, r .nonterminals, r .someNonterminal) in
     let own = theorems .own-rules G 1 input in
     let c = theorems .calls-counted G (r .formed .scoped) (p .free) some-nonterminal (tableChoice G 1 input) own input in
-    let m = mul-le-mul {n₁ = G .nonterminals} {m₁ = suc (length input)} {n₂ = 32} {m₂ = 501} (omega (arith, r .nonterminals, r .fewNonterminals)) (omega (arith, k .1)) in
+    let m = mul-le-mul {n₁ = G .nonterminals} {m₁ = suc (length input)} {n₂ = maxNonterminals} {m₂ = maxPlaces} (omega (arith, r .nonterminals, r .fewNonterminals)) (omega (arith, k .1)) in
     let far = c .farthest-called in
     let within = called-range G (tableChoice G 1 input) input (r .formed .scoped) (p .free) own some-nonterminal (far .0) (far .1) in
     (omega (arith, c .bounded), omega (arith, far .2, within .1, k .1))
@@ -79,10 +80,10 @@ judge-fits {words} {input} {table} {memo} {table′} {memo′} {a} j =
     verdict true c h = record { verdict = omega arith; code = omega arith; position = omega arith; count = h .0; farthest = h .1 }
     verdict false c h = record { verdict = omega arith; code = omega arith; position = omega arith; count = h .0; farthest = h .1 }
 
-    go : (f : Option Error) → judgeFault (length table) (length memo) words input ≡ f → LowFault maxWords f
+    go : (f : Option Error) → judgeFault (length table) (length memo) words input ≡ f → ((x : Error) → f ≡ some x → Low maxWords x)
         → Fits (numbers (refusedOr f (choose (accepts (grammarOf words) (tableChoice (grammarOf words) 1 input) input) (Accepted (callsOf (grammarOf words) input)) (Rejected (callsOf (grammarOf words) input)))))
     go none e l = verdict (accepts (grammarOf words) (tableChoice (grammarOf words) 1 input) input) (callsOf (grammarOf words) input) (calls-fit words input (length table) (length memo) e)
-    go (some x) e l = refused-fits x (l .low x refl)
+    go (some x) e l = refused-fits x (l x refl)
 
 -- packing, by the answer
 module _ {a : Answer} where

@@ -1,7 +1,7 @@
 -- The place of a refusal is a small number: an index of a word or a token, a nonterminal, or an entry of the table. Assumes nothing.
 use mathlib.Core.Path.{_≡_, refl}
 use mathlib.Core.Bool.{Bool, true, false, _&&_}
-use mathlib.Core.List.{List, [], _∷_, List·Memᴰ, List·Memᴰ·head}
+use mathlib.Core.List.{List, [], _∷_, _++_, List·Memᴰ, List·Memᴰ·head}
 use mathlib.Core.Option.{Option, none, some}
 use Prim.Native.Nat.{ℕ, suc, _+_, _≤_}
 use native.Mathlib.Omega.{arith}
@@ -11,6 +11,8 @@ use borrow.Author.Tests.{ltb-false}
 use Rattle.answer.specs.declared.Error.{Error}
 use Rattle.answer.specs.declared.Error.the-variants.{TableTooShort, MemoTooShort, Length, Heading, UnexpectedWord, OutOfRange, TooManyRules, LeftRecursive, Conflict, InputTooLong, UnknownToken}
 use Rattle.answer.specs.Numbers.{coded}
+use Rattle.answer.specs.Faults.{when}
+use Rattle.answer.proofs.Faults.{none-some, when-none, EachFault, first-each}
 use Rattle.word.specs.Choice.{choose}
 use Rattle.word.specs.Words.{decoded}
 use Rattle.word.specs.declared.Word.{Word}
@@ -34,10 +36,11 @@ use Rattle.semantics.proofs.Booleans.{and-l}
 use Rattle.semantics.proofs.FiniteSets.{keep-elim}
 use Rattle.semantics.proofs.Quantified.{lowest-some}
 use Rattle.semantics.proofs.LookaheadSets.{entries-elim}
-use Rattle.sets.specs.Families.{firstFault, readingFault, leftFault, setsFault}
-use Rattle.table.specs.Analysis.{clashFault, fault}
+use Rattle.sets.specs.Families.{readingFault, leftFault}
+use Rattle.table.specs.Analysis.{clashFault, grammarFaults}
 use Rattle.recognizer.specs.declared.judging.Unknown.the-variants.{At}
-use Rattle.recognizer.specs.Answers.{unless, unknownFrom, unknownFault, firstOf, checkFault, judgeFault}
+use Rattle.recognizer.specs.Answers.{unknownFrom, unknownFault, checkFault, judgeFault}
+use Rattle.recognizer.proofs.Checking.{read-some}
 
 -- what tells an error tells it at most at a place
 record LowStep (n : ℕ) (s : Step) : Type 0 where
@@ -46,8 +49,11 @@ record LowStep (n : ℕ) (s : Step) : Type 0 where
 record LowOutcome (n : ℕ) (o : Outcome) : Type 0 where
   low : (e : Error) → o ≡ Faulty e → coded e .position ≤ n
 
-pub record LowFault (n : ℕ) (f : Option Error) : Type 0 where
-  pub low : (e : Error) → f ≡ some e → coded e .position ≤ n
+abbrev pub Low : ℕ → Error → Type 0
+Low n e = coded e .position ≤ n
+
+abbrev LowFault : ℕ → Option Error → Type 0
+LowFault n f = (e : Error) → f ≡ some e → Low n e
 
 module _ (n : ℕ) where
   go-low : (p : Progress) → LowStep n (Go p)
@@ -63,10 +69,10 @@ module _ (n : ℕ) where
   faulty-low x h = record { low = λ e q. let z : e ≡ x = cc in rw z h }
 
   none-low : LowFault n none
-  none-low = record { low = λ e q. let z : _≡_ {A = ℕ} 0 1 = cc in absurd (omega arith) }
+  none-low e q = absurd (none-some q)
 
   some-low : (x : Error) → coded x .position ≤ n → LowFault n (some x)
-  some-low x h = record { low = λ e q. let z : e ≡ x = cc in rw z h }
+  some-low x h e q = let z : e ≡ x = cc in rw z h
 
   -- reading: at most the index behind the last word
   choose-step : (b : Bool) (x y : Step) → LowStep n x → LowStep n y → LowStep n (choose b x y)
@@ -130,33 +136,25 @@ module _ (G : Grammar) (few : G .nonterminals ≤ maxNonterminals) (small : G .t
       let k = entries-elim G 1 e (keep-elim _ (entries G 1) e m .0) in
       some-low maxWords (Conflict (e .0) (column (G .terminals) (e .1))) (omega (arith, k .0, column-low (e .1) (k .1 .1)))
 
-first-low : (n : ℕ) (f g : Option Error) → LowFault n f → LowFault n g → LowFault n (firstFault f g)
-first-low n none g l k = k
-first-low n (some e) g l k = l
+when-low : (n : ℕ) (b : Bool) (x : Error) → coded x .position ≤ n → LowFault n (when b x)
+when-low n true x h = some-low n x h
+when-low n false x h = none-low n
 
-fault-low : (words : List ℕ) → LowFault maxWords (fault words)
-unfolding fault setsFault
-fault-low words = go (reading words) refl (reading-low words)
-  where
-    go : (o : Outcome) → reading words ≡ o → LowOutcome maxWords o
-        → LowFault maxWords
-        (firstFault (firstFault (readingFault o) (leftFault (lowestLeftRecursive (grammarOf words)))) (clashFault (grammarOf words .terminals) (clashes (grammarOf words) 1)))
-    go (Faulty e) q l = some-low maxWords e (l .low e refl)
-    go (Read z) q l =
-        let r = well-read words z q in
-        let few : grammarOf words .nonterminals ≤ maxNonterminals = omega (arith, r .nonterminals, r .fewNonterminals) in
-        let small : grammarOf words .terminals ≤ maxTerminals = omega (arith, r .terminals, r .fewTerminals) in
-        first-low maxWords (leftFault (lowestLeftRecursive (grammarOf words))) _ (left-low (grammarOf words) few small _ refl)
-        (clash-low (grammarOf words) few small _ refl)
+reading-row : (o : Outcome) → LowOutcome maxWords o → LowFault maxWords (readingFault o)
+reading-row (Read z) l = none-low maxWords
+reading-row (Faulty e) l = some-low maxWords e (l .low e refl)
 
--- the lists of faults of the two calls
-list-low : (n : ℕ) (f : Option Error) (l : List (Option Error)) → LowFault n f → LowFault n (firstOf l) → LowFault n (firstOf (f ∷ l))
-list-low n none l h k = k
-list-low n (some e) l h k = h
-
-unless-low : (n : ℕ) (b : Bool) (e : Error) → coded e .position ≤ n → LowFault n (unless b e)
-unless-low n true e h = some-low n e h
-unless-low n false e h = none-low n
+-- the rows of a grammar's faults, and those behind them
+grammar-rows : (words : List ℕ) (l : List (Option Error)) → EachFault (Low maxWords) l → EachFault (Low maxWords) (grammarFaults words ++ l)
+grammar-rows words l h = (
+  reading-row (reading words) (reading-low words),
+  λ q.
+      let k = read-some (reading words) q in
+      let r = well-read words (k .0) (k .1) in
+      let few : grammarOf words .nonterminals ≤ maxNonterminals = omega (arith, r .nonterminals, r .fewNonterminals) in
+      let small : grammarOf words .terminals ≤ maxTerminals = omega (arith, r .terminals, r .fewTerminals) in
+      (left-low (grammarOf words) few small _ refl, λ _. (clash-low (grammarOf words) few small _ refl, λ _. h)),
+)
 
 unknown-low : (n t at : ℕ) (w : List ℕ) → at + length w ≤ n → LowFault n (unknownFault (unknownFrom t at w))
 unfolding unknownFrom
@@ -167,25 +165,28 @@ unknown-low n t at (a ∷ w) h = go (ltb a t) (unknown-low n t (suc at) w (omega
     go true k = k
     go false k = some-low n (UnknownToken at) (omega arith)
 
-pub check-low : (table : ℕ) (words : List ℕ) → LowFault maxWords (checkFault table words)
+pub check-low : (table : ℕ) (words : List ℕ) (e : Error) → checkFault table words ≡ some e → Low maxWords e
 unfolding checkFault
 check-low table words =
-    list-low maxWords (unless (ltb table memoryWords) TableTooShort) (fault words ∷ []) (unless-low maxWords (ltb table memoryWords) TableTooShort (omega arith))
-    (list-low maxWords (fault words) [] (fault-low words) (none-low maxWords))
+    first-each (Low maxWords) (when (ltb table memoryWords) TableTooShort ∷ grammarFaults words)
+    (when-low maxWords (ltb table memoryWords) TableTooShort (omega arith), λ _. grammar-rows words [] tt)
 
-pub judge-low : (table memo : ℕ) (words input : List ℕ) → LowFault maxWords (judgeFault table memo words input)
+pub judge-low : (table memo : ℕ) (words input : List ℕ) (e : Error) → judgeFault table memo words input ≡ some e → Low maxWords e
 unfolding judgeFault
 judge-low table memo words input =
-    let long = unless (ltb maxTokens (length input)) InputTooLong in
+    let long = when (ltb maxTokens (length input)) InputTooLong in
     let unknown = unknownFault (unknownFrom (grammarOf words .terminals) 0 input) in
-    let short = unless (ltb memo memoEntries) MemoTooShort in
-    list-low maxWords (unless (ltb table memoryWords) TableTooShort) (short ∷ fault words ∷ long ∷ unknown ∷ []) (unless-low maxWords (ltb table memoryWords) TableTooShort (omega arith))
-    (list-low maxWords short (fault words ∷ long ∷ unknown ∷ []) (unless-low maxWords (ltb memo memoEntries) MemoTooShort (omega arith))
-    (list-low maxWords (fault words) (long ∷ unknown ∷ []) (fault-low words) (go (ltb maxTokens (length input)) refl)))
-  where
-    go : (b : Bool) → ltb maxTokens (length input) ≡ b
-        → LowFault maxWords (firstOf (unless b InputTooLong ∷ unknownFault (unknownFrom (grammarOf words .terminals) 0 input) ∷ []))
-    go true e = some-low maxWords InputTooLong (omega arith)
-    go false e =
-        list-low maxWords (unknownFault (unknownFrom (grammarOf words .terminals) 0 input)) []
-        (unknown-low maxWords (grammarOf words .terminals) 0 input (omega (arith, ltb-false maxTokens (length input) e))) (none-low maxWords)
+    first-each (Low maxWords) (when (ltb table memoryWords) TableTooShort ∷ when (ltb memo memoEntries) MemoTooShort ∷ grammarFaults words ++ long ∷ unknown ∷ []) (
+      when-low maxWords (ltb table memoryWords) TableTooShort (omega arith),
+      λ _. (
+        when-low maxWords (ltb memo memoEntries) MemoTooShort (omega arith),
+        λ _. grammar-rows words (long ∷ unknown ∷ []) (
+          when-low maxWords (ltb maxTokens (length input)) InputTooLong (omega arith),
+          λ q. (
+            unknown-low maxWords (grammarOf words .terminals) 0 input
+                (omega (arith, ltb-false maxTokens (length input) (when-none (ltb maxTokens (length input)) InputTooLong q))),
+            λ _. tt,
+          ),
+        ),
+      ),
+    )

@@ -19,13 +19,21 @@ maxRules = 128
 abbrev pub maxTokens : ℕ
 maxTokens = 500
 
--- the lent table holds two sets for each nonterminal, and for each an entry for each terminal and one for the end
+-- a row of the table has a column for each terminal and one for the end
+abbrev pub maxColumns : ℕ
+maxColumns = maxTerminals + 1
+
+-- an input has a place before each token and one at its end
+abbrev pub maxPlaces : ℕ
+maxPlaces = maxTokens + 1
+
+-- the lent table holds two sets for each nonterminal, and a row for each
 abbrev pub tableWords : ℕ
-tableWords = maxNonterminals * (2 + maxTerminals + 1)
+tableWords = maxNonterminals * (2 + maxColumns)
 
 -- the lent memo table holds an entry for each nonterminal and place
 abbrev pub memoEntries : ℕ
-memoEntries = maxNonterminals * (maxTokens + 1)
+memoEntries = maxNonterminals * maxPlaces
 
 abbrev pub limited : Limits
 limited = record {
@@ -34,6 +42,8 @@ limited = record {
   terminals = maxTerminals;
   rules = maxRules;
   tokens = maxTokens;
+  columns = maxColumns;
+  places = maxPlaces;
   «table_words» = tableWords;
   «memo_entries» = memoEntries;
 }

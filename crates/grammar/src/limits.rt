@@ -12,10 +12,16 @@ pub const RULES: usize = 128;
 
 pub const TOKENS: usize = 500;
 
-// Two sets for each nonterminal, then for each a row: an entry for each terminal and one for the end.
-pub const TABLE_WORDS: usize = (NONTERMINALS as usize) * (2 + TERMINALS as usize + 1);
+// A row of the table has a column for each terminal and one for the end.
+pub const COLUMNS: usize = TERMINALS as usize + 1;
+
+// An input has a place before each token and one at its end.
+pub const PLACES: usize = TOKENS + 1;
+
+// Two sets for each nonterminal, then a row for each.
+pub const TABLE_WORDS: usize = (NONTERMINALS as usize) * (2 + COLUMNS);
 // An entry for each nonterminal and place.
-pub const MEMO_ENTRIES: usize = (NONTERMINALS as usize) * (TOKENS + 1);
+pub const MEMO_ENTRIES: usize = (NONTERMINALS as usize) * PLACES;
 
 pub struct Limits {
     pub words: usize,
@@ -23,6 +29,8 @@ pub struct Limits {
     pub terminals: u32,
     pub rules: usize,
     pub tokens: usize,
+    pub columns: usize,
+    pub places: usize,
     pub table_words: usize,
     pub memo_entries: usize,
 }
@@ -37,6 +45,8 @@ pub fn all() -> Limits
         terminals: TERMINALS,
         rules: RULES,
         tokens: TOKENS,
+        columns: COLUMNS,
+        places: PLACES,
         table_words: TABLE_WORDS,
         memo_entries: MEMO_ENTRIES,
     }

@@ -12,11 +12,19 @@ use answer::Answer;
 use answer::Calls;
 use grammar::codes::FAILED;
 use grammar::codes::UNCALLED;
+use grammar::limits::MEMO_ENTRIES;
 use text::put::put_bytes;
 use text::put::put_labelled;
 use text::put::put_number;
 use text::put::put_or_dash;
 use text::refusal::put_refusal;
+
+// How many bytes the lines take at most, and all of a judgement.
+const VERDICT_ROOM: usize = 51;
+
+const CALL_ROOM: usize = 13;
+
+pub const ROOM: usize = VERDICT_ROOM + MEMO_ENTRIES * CALL_ROOM;
 
 // An entry of the memo table; behind its end nothing was called.
 fn entry_at(memo: &[u16], at: usize) -> u16

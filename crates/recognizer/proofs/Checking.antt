@@ -13,10 +13,12 @@ use borrow.Author.Tests.{lt-ltb, le-ltb}
 use Rattle.answer.specs.declared.Error.{Error}
 use Rattle.answer.specs.declared.Error.the-variants.{TableTooShort}
 use Rattle.answer.specs.Numbers.{numbers}
+use Rattle.answer.specs.Faults.{refusedOr}
+use Rattle.answer.proofs.Faults.{each-none, numbers-told}
 use Rattle.answer.specs.declared.Answer.{Answer}
 use Rattle.answer.specs.declared.Answer.the-variants.{Refused, Passed}
 use Rattle.grammar.specs.Codes.{noEntry}
-use Rattle.grammar.specs.Limits.{tableWords as memoryWords}
+use Rattle.grammar.specs.Limits.{maxNonterminals, maxColumns, tableWords as memoryWords}
 use Rattle.grammar.specs.Syntax.{Grammar}
 use Rattle.grammar.specs.Encoding.{grammarOf}
 use Rattle.grammar.specs.Reading.{reading}
@@ -34,12 +36,12 @@ use Rattle.table.specs.declared.Analysis.{Analysis}
 use Rattle.sets.specs.Lists.{listed}
 use Rattle.table.specs.Layout.{columns, setWord, rowWord, tableWords}
 use Rattle.table.specs.Entries.{filled}
-use Rattle.sets.specs.Families.{firstFault, readingFault, leftFault, setsFault}
+use Rattle.sets.specs.Families.{readingFault, leftFault}
 use Rattle.sets.proofs.Telling.{told-passed, told-refused}
-use Rattle.table.specs.Analysis.{clashFault, fault, tableIf, analyzed}
+use Rattle.table.specs.Analysis.{clashFault, grammarFaults, fault, tableIf, analyzed}
 use Rattle.sets.proofs.Lists.{listed-long}
 use Rattle.recognizer.specs.Memory.{lentBack, wordCount, LendGiven, Lent}
-use Rattle.recognizer.specs.Answers.{firstOf, checkFault, refusedOr, toldOr, passedNumbers}
+use Rattle.recognizer.specs.Answers.{checkFault}
 use Rattle.recognizer.specs.Judging.{Found}
 use Rattle.recognizer.specs.Properties.{PassedGrammar, LeastFamilies, Checks}
 
@@ -54,11 +56,6 @@ table-long G =
     let c : G .nonterminals * columns G ≡ G .nonterminals * (G .terminals + 1) = rw (add-one (G .terminals)) in
     length-append (listed (2 * G .nonterminals) (setWord G)) (listed (G .nonterminals * columns G) (rowWord G)) ∙ omega arith
 
--- two faults, of which neither is one
-none-first : (f g : Option Error) → firstFault f g ≡ none → (f ≡ none) × (g ≡ none)
-none-first none g e = (refl, e)
-none-first (some x) g e = let z : _≡_ {A = ℕ} 0 1 = cc in absurd (omega arith)
-
 none-left : (o : Option ℕ) → leftFault o ≡ none → o ≡ none
 none-left none e = refl
 none-left (some A) e = let z : _≡_ {A = ℕ} 0 1 = cc in absurd (omega arith)
@@ -67,7 +64,7 @@ none-clash : (t : ℕ) (l : List Entry) → clashFault t l ≡ none → l ≡ []
 none-clash t [] e = refl
 none-clash t (x ∷ l) e = let z : _≡_ {A = ℕ} 0 1 = cc in absurd (omega arith)
 
-read-some : (o : Outcome) → readingFault o ≡ none → (z : Sizes) × (o ≡ Read z)
+pub read-some : (o : Outcome) → readingFault o ≡ none → (z : Sizes) × (o ≡ Read z)
 read-some (Read z) e = (z, refl)
 read-some (Faulty x) e = let z : _≡_ {A = ℕ} 0 1 = cc in absurd (omega arith)
 
@@ -91,17 +88,16 @@ families words z e =
 
 -- a grammar passes exactly when it has no fault
 pub passed-fault : (words : List ℕ) → fault words ≡ none → PassedGrammar words
-unfolding fault setsFault
+unfolding fault
 passed-fault words e =
-    let f = none-first (setsFault words) (clashFault (grammarOf words .terminals) (clashes (grammarOf words) 1)) e in
-    let h = none-first (readingFault (reading words)) (leftFault (lowestLeftRecursive (grammarOf words))) (f .0) in
-    let z = read-some (reading words) (h .0) in
-    let none-clashes : clashes (grammarOf words) 1 ≡ [] = none-clash _ (clashes (grammarOf words) 1) (f .1) in
+    let f = each-none (grammarFaults words) e in
+    let z = read-some (reading words) (f .0) in
+    let none-clashes : clashes (grammarOf words) 1 ≡ [] = none-clash _ (clashes (grammarOf words) 1) (f .1 .1 .0) in
     let r = well-read words (z .0) (z .1) in
     record {
       sizes = z .0;
       read = z .1;
-      free = theorems .left-recursion-decided (grammarOf words) (r .formed .scoped) .absent .0 (none-left (lowestLeftRecursive (grammarOf words)) (h .1));
+      free = theorems .left-recursion-decided (grammarOf words) (r .formed .scoped) .absent .0 (none-left (lowestLeftRecursive (grammarOf words)) (f .1 .0));
       clashless = λ A x c. List·Memᴰ·not-nil (rw none-clashes at (least words (z .0) (z .1) .clash A x .1 c));
     }
 
@@ -117,33 +113,24 @@ not-left-recursive words p =
     theorems .left-recursion-decided (grammarOf words) (well-read words (p .sizes) (p .read) .formed .scoped) .absent .1 (p .free)
 
 pub fault-passed : (words : List ℕ) → PassedGrammar words → fault words ≡ none
-unfolding fault setsFault
+unfolding fault
 fault-passed words p = rw (p .read, not-left-recursive words p, no-clashes words p)
 
 -- with a table that is long enough only the grammar's faults are left
 check-fault-long : (n : ℕ) (words : List ℕ) → memoryWords ≤ n → checkFault n words ≡ fault words
-unfolding checkFault
-check-fault-long n words h = rw (le-ltb n memoryWords h) (only (fault words))
-  where
-    only : (f : Option Error) → firstOf (none ∷ f ∷ []) ≡ f
-    only none = refl
-    only (some e) = refl
+unfolding checkFault fault
+check-fault-long n words h = rw (le-ltb n memoryWords h)
 
 refused-passed : (f : Option Error) → refusedOr f Passed ≡ Passed → f ≡ none
 refused-passed none e = refl
 refused-passed (some x) e = let z : _≡_ {A = ℕ} 0 1 = cc in absurd (omega arith)
-
--- the numbers of what is answered
-passed-told : (f : Option Error) → numbers (refusedOr f Passed) ≡ toldOr f passedNumbers
-passed-told none = refl
-passed-told (some e) = refl
 
 -- the promise from the answer and the table
 checks : {words before after : List ℕ} {r : Answer} → r ≡ refusedOr (checkFault (length before) words) Passed
     → after ≡ lentBack (checkFault (length before) words) (tableWords (grammarOf words)) before → Checks words before r after
 checks {words} {before} {after} {r} a t = record {
   answer = a;
-  told = ap numbers a ∙ passed-told (checkFault (length before) words);
+  told = ap numbers a ∙ numbers-told (checkFault (length before) words) Passed;
   table = t;
   passed = λ long.
       let f = check-fault-long (length before) words long in (
@@ -165,7 +152,7 @@ found words {a} {z} e q =
     record { read = k .1; faultless = k .0; table = ap (λ y. y .table) e ∙ ap (λ y. tableIf y (filled (tableWords (grammarOf words)))) (k .0) }
 
 pub found-fault : (words : List ℕ) {a : Analysis} {x : Error} → a ≡ analyzed words → a .finding ≡ finding.Refused x → fault words ≡ some x
-unfolding analyzed fault setsFault
+unfolding analyzed fault
 found-fault words e q = told-refused (fault words) (reading words) (λ y f. rw f) (sym (ap (λ y. y .finding) e) ∙ q)
 
 -- the table of a grammar that passes, lent back
@@ -177,7 +164,7 @@ module _ (words before : List ℕ) (long : memoryWords ≤ length before) {z : S
   unfolding filled
   lend-given =
       let r = well-read words z (f .read) in
-      let m = mul-le-mul {n₁ = z .nonterminals} {m₁ = z .terminals + 3} {n₂ = 32} {m₂ = 27} (r .fewNonterminals) (omega (arith, r .fewTerminals)) in
+      let m = mul-le-mul {n₁ = z .nonterminals} {m₁ = z .terminals + 3} {n₂ = maxNonterminals} {m₂ = 2 + maxColumns} (r .fewNonterminals) (omega (arith, r .fewTerminals)) in
       record {
         long = long;
         whole = ap length (f .table) ∙ length-append (tableWords (grammarOf words)) _ ∙ rw length-replicate (omega (arith, words-count));

@@ -2,11 +2,11 @@
 use mathlib.Core.Path.{_≡_, refl}
 use mathlib.Core.List.{List}
 use mathlib.Core.Option.{Option, none, some}
-use Prim.Native.Nat.{ℕ, suc, _≤_, _<_}
+use Prim.Native.Nat.{_-_, ℕ, suc, _≤_, _<_}
 use native.Mathlib.Nat.{mul-le-mul}
 use native.Mathlib.Omega.{arith}
 use lib.ListN.{length}
-use Rattle.grammar.specs.Limits.{maxWords, maxNonterminals}
+use Rattle.grammar.specs.Limits.{maxWords, maxNonterminals, maxPlaces}
 use Rattle.grammar.specs.Encoding.{grammarOf}
 use Rattle.grammar.specs.WellRead.{WellRead}
 use Rattle.grammar.proofs.WellRead.{well-read}
@@ -27,7 +27,7 @@ module _ {choice : Choice} {words choices tokens input memo : List ℕ} {A place
 
   pub entry-given : EntryGiven choices A
   entry-given =
-      let m = mul-le-mul {n₁ = A} {m₁ = suc (length input)} {n₂ = 31} {m₂ = 501} (omega (arith, few)) (omega (arith, g .given .short)) in
+      let m = mul-le-mul {n₁ = A} {m₁ = suc (length input)} {n₂ = maxNonterminals - 1} {m₂ = maxPlaces} (omega (arith, few)) (omega (arith, g .given .short)) in
       record { named = few; low = omega (arith, g .given .rows A (g .named)) }
 
   -- a rule stands within the words

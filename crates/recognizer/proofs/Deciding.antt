@@ -34,9 +34,11 @@ use Rattle.semantics.proofs.Range.{calls-equality, all-length, all-ordered, ind
 use Rattle.semantics.proofs.Memo.{memo-recorded-within}
 use Rattle.semantics.proofs.Theorems.{theorems}
 use Rattle.rule.specs.declared.Outcome as code
+use Rattle.grammar.specs.Limits.{maxTerminals}
 use Rattle.recognizer.specs.declared.judging.Unknown.the-variants.{Absent, At}
 use Rattle.rule.specs.Rule.{meant}
-use Rattle.recognizer.specs.Descent.{held, rowAt, MemoSound, CallGiven, CallDone, CallRequires, CallEnsures}
+use Rattle.recognizer.specs.Arrays.{held, rowAt}
+use Rattle.recognizer.specs.Descent.{MemoSound, CallGiven, CallDone, CallRequires, CallEnsures}
 use Rattle.recognizer.specs.Tally.{tallyOf, recordedCalls}
 use Rattle.recognizer.specs.Memory.{memoWord, memoWords}
 use Rattle.recognizer.specs.Answers.{unknownFrom, callsOf, verdictOf}
@@ -130,7 +132,7 @@ module _ {words : List ℕ} {z : Sizes} {entries input memo : List ℕ} (g : Des
     words-are : tokens ≡ tokenWords (G .terminals) input
     words-are = t ∙ ap (λ n. tokenWords n input) (r .terminals)
 
-    few : G .terminals ≤ 24
+    few : G .terminals ≤ maxTerminals
     few = omega (arith, r .terminals, r .fewTerminals)
 
     input-is : held tokens ≡ input

@@ -1,29 +1,33 @@
 -- The rows of choices, written one after the other, each column by column. Assumes nothing.
 use mathlib.Core.Path.{_≡_, refl, sym, _∙_}
 use mathlib.Core.List.{List}
-use Prim.Native.Nat.{ℕ, _+_, _*_, _≤_, _<_}
-use native.Mathlib.Nat.{mul-le-mul}
+use Prim.Native.Nat.{ℕ, suc, _+_, _*_, _≤_, _<_}
+use native.Mathlib.Nat.{mul-le-mul, suc-mul}
 use native.Mathlib.Omega.{arith}
 use native.Mathlib.Decide.{decLt}
 use lib.ListN.{length, getD, set, length-set}
 use lib.Seq.{getD-set-same, getD-set-other}
 use Rattle.grammar.specs.declared.reading.Sizes.{Sizes}
+use Rattle.grammar.specs.Limits.{maxNonterminals, maxTerminals, maxColumns, maxPlaces, memoEntries, tableWords as memoryWords}
 use Rattle.grammar.specs.Starts.{ruleStarts}
-use Rattle.recognizer.specs.Descent.{choiceColumns, rowColumn, choiceWords}
+use Rattle.recognizer.specs.Arrays.{choiceColumns, rowColumn, choiceWords, rowAt}
 use Rattle.recognizer.specs.Preparing.{entryOf, firstWord, RowGiven, RowFilled, Filled}
 
 -- where a row is read and written
 pub record Placed (z : Sizes) (A places : ℕ) : Type 0 where
-  pub two : 2 * z .nonterminals ≤ 64
-  pub from : A * (z .terminals + 1) ≤ 775
-  pub to : A * choiceColumns ≤ 1984
-  pub row : A * places ≤ 15531
+  pub from : 2 * z .nonterminals + A * (z .terminals + 1) + (z .terminals + 1) ≤ memoryWords
+  pub to : A * choiceColumns + choiceColumns ≤ choiceWords
+  pub row : A * places + places ≤ memoEntries
 
 pub placed : {starts entries : List ℕ} {z : Sizes} {A places : ℕ} {choices : List ℕ} → RowGiven starts entries z A places choices → Placed z A places
 placed {z = z} {A = A} {places = places} g =
-    let f = mul-le-mul {n₁ = A} {m₁ = z .terminals + 1} {n₂ = 31} {m₂ = 25} (omega (arith, g .named, g .fewNonterminals)) (omega (arith, g .fewTerminals)) in
-    let p = mul-le-mul {n₁ = A} {m₁ = places} {n₂ = 31} {m₂ = 501} (omega (arith, g .named, g .fewNonterminals)) (g .few) in
-    record { two = omega (arith, g .fewNonterminals); from = omega arith; to = omega (arith, g .named, g .fewNonterminals); row = omega arith }
+    let f = mul-le-mul {n₁ = suc A} {m₁ = z .terminals + 1} {n₂ = maxNonterminals} {m₂ = maxColumns} (omega (arith, g .named, g .fewNonterminals)) (omega (arith, g .fewTerminals)) in
+    let p = mul-le-mul {n₁ = suc A} {m₁ = places} {n₂ = maxNonterminals} {m₂ = maxPlaces} (omega (arith, g .named, g .fewNonterminals)) (g .few) in
+    record {
+      from = omega (arith, g .fewNonterminals, suc-mul A (z .terminals + 1));
+      to = omega (arith, g .named, g .fewNonterminals);
+      row = omega (arith, suc-mul A places);
+    }
 
 -- the first columns of a row are written, from the entries at an index on
 pub record Writing (starts entries : List ℕ) (from to column : ℕ) (before now : List ℕ) : Type 0 where
@@ -52,6 +56,7 @@ module _ {starts entries : List ℕ} {from to column : ℕ} {before now : List �
 pub row-filled : {starts entries : List ℕ} {z : Sizes} {A places column : ℕ} {before now : List ℕ} → RowGiven starts entries z A places before
     → Writing starts entries (2 * z .nonterminals + A * (z .terminals + 1)) (A * choiceColumns) column before now → z .terminals + 1 ≤ column
     → RowFilled starts entries z A places before (set now (A * choiceColumns + rowColumn) (A * places))
+unfolding rowAt
 row-filled {A = A} {places = places} {now = now} g w h =
     let p = placed g in
     record {
@@ -65,18 +70,19 @@ row-filled {A = A} {places = places} {now = now} g w h =
 pub record Rows (words entries : List ℕ) (z : Sizes) (places A : ℕ) (choices : List ℕ) : Type 0 where
   pub long : length choices ≡ choiceWords
   pub columns : (B c : ℕ) → B < A → c < z .terminals + 1 → getD choices (B * choiceColumns + c) 0 ≡ firstWord (ruleStarts words) (entryOf z entries B c)
-  pub rows : (B : ℕ) → B < A → getD choices (B * choiceColumns + rowColumn) 0 ≡ B * places
+  pub rows : (B : ℕ) → B < A → rowAt choices B ≡ B * places
 
-module _ {words starts entries : List ℕ} {z : Sizes} {places A : ℕ} {choices choices′ : List ℕ} (few : z .terminals ≤ 24) (s : starts ≡ ruleStarts words)
+module _ {words starts entries : List ℕ} {z : Sizes} {places A : ℕ} {choices choices′ : List ℕ} (few : z .terminals ≤ maxTerminals) (s : starts ≡ ruleStarts words)
     (w : Rows words entries z places A choices) (f : RowFilled starts entries z A places choices choices′) where
   pub rows-more : Rows words entries z places (A + 1) choices′
+  unfolding rowAt
   rows-more = record { long = f .long ∙ w .long; columns = λ B c b h. columns B c b h (decLt B A); rows = λ B b. rows B b (decLt B A) }
     where
       columns : (B c : ℕ) → B < A + 1 → c < z .terminals + 1 → Dec (B < A) → getD choices′ (B * choiceColumns + c) 0 ≡ firstWord (ruleStarts words) (entryOf z entries B c)
       columns B c b h (yes l) = f .kept (B * choiceColumns + c) (omega arith) ∙ w .columns B c l h
       columns B c b h (no l) = let q : B ≡ A = omega arith in rw (q, sym s) (f .columns c h)
 
-      rows : (B : ℕ) → B < A + 1 → Dec (B < A) → getD choices′ (B * choiceColumns + rowColumn) 0 ≡ B * places
+      rows : (B : ℕ) → B < A + 1 → Dec (B < A) → rowAt choices′ B ≡ B * places
       rows B b (yes l) = f .kept (B * choiceColumns + rowColumn) (omega arith) ∙ w .rows B l
       rows B b (no l) = let q : B ≡ A = omega arith in rw q (f .row)
 

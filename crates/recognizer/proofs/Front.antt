@@ -6,7 +6,7 @@ use native.Mathlib.Nat.{mul-le-mul}
 use native.Mathlib.Omega.{arith}
 use native.Mathlib.Numerals.{add-one}
 use lib.ListN.{length, take, drop, set, getD}
-use Rattle.grammar.specs.Limits.{tableWords as memoryWords}
+use Rattle.grammar.specs.Limits.{maxNonterminals, maxColumns, tableWords as memoryWords}
 use Rattle.grammar.specs.declared.reading.Sizes.{Sizes}
 use Rattle.recognizer.specs.Memory.{wordCount, LendGiven}
 use lib.Seq.{take-suc, drop-cons, set-at, append-snoc, length-take-le}
@@ -24,5 +24,5 @@ front-more xs d e i is h k =
 -- a table has at most as many words as the memory that it is lent back in
 pub count-low : (table entries : List ℕ) (z : Sizes) → LendGiven table entries z → wordCount z ≤ memoryWords
 count-low table entries z g =
-    let m = mul-le-mul {n₁ = z .nonterminals} {m₁ = z .terminals + 3} {n₂ = 32} {m₂ = 27} (g .fewNonterminals) (omega (arith, g .fewTerminals)) in
+    let m = mul-le-mul {n₁ = z .nonterminals} {m₁ = z .terminals + 3} {n₂ = maxNonterminals} {m₂ = 2 + maxColumns} (g .fewNonterminals) (omega (arith, g .fewTerminals)) in
     omega arith

@@ -16,12 +16,14 @@ use borrow.Author.Tests.{lt-ltb, le-ltb, ltb-false}
 use Rattle.answer.specs.declared.Error.{Error}
 use Rattle.answer.specs.declared.Error.the-variants.{TableTooShort, MemoTooShort, InputTooLong, UnknownToken}
 use Rattle.answer.specs.Numbers.{accepted, rejected, answered, numbers}
+use Rattle.answer.specs.Faults.{when, firstFault, refusedOr, toldOr}
+use Rattle.answer.proofs.Faults.{Faultless, when-none, each-none, first-nested, numbers-told}
 use Rattle.answer.specs.declared.Calls.{Calls}
 use Rattle.answer.specs.declared.Answer.{Answer}
 use Rattle.answer.specs.declared.Answer.the-variants.{Refused, Accepted, Rejected}
 use Rattle.word.specs.Choice.{choose}
 use Rattle.grammar.specs.Codes.{noEntry}
-use Rattle.grammar.specs.Limits.{tableWords as memoryWords, memoEntries, maxTokens}
+use Rattle.grammar.specs.Limits.{tableWords as memoryWords, memoEntries, maxTokens, maxNonterminals, maxPlaces}
 use Rattle.grammar.specs.Syntax.{Grammar}
 use Rattle.grammar.specs.Encoding.{grammarOf}
 use Rattle.grammar.specs.WellRead.{WellRead}
@@ -40,12 +42,12 @@ use Rattle.semantics.proofs.Theorems.{theorems}
 use Rattle.sets.specs.Lists.{listed}
 use Rattle.table.specs.Layout.{columns, setWord, rowWord, tableWords}
 use Rattle.table.specs.Entries.{filled}
-use Rattle.table.specs.Analysis.{fault}
+use Rattle.table.specs.Analysis.{grammarFaults, fault}
 use Rattle.sets.proofs.Lists.{listed-long, listed-at}
 use Rattle.recognizer.specs.declared.judging.Unknown.{Unknown}
 use Rattle.recognizer.specs.declared.judging.Unknown.the-variants.{Absent, At}
 use Rattle.recognizer.specs.Memory.{lentBack, memoWord, memoWords, Lent}
-use Rattle.recognizer.specs.Answers.{unless, unknownFrom, unknownFault, firstOf, checkFault, judgeFault, refusedOr, callsOf, verdictOf, toldOr, verdictNumbers}
+use Rattle.recognizer.specs.Answers.{unknownFrom, unknownFault, checkFault, judgeFault, callsOf, verdictOf, verdictNumbers}
 use Rattle.recognizer.specs.Judging.{PassedGiven, DescendGiven, Descended}
 use Rattle.recognizer.specs.Preparing.{Entries}
 use Rattle.recognizer.specs.Properties.{PassedGrammar, Recognizes, Judges}
@@ -66,6 +68,22 @@ absent-known n at (a ∷ w) e = go (ltb a n) e (absent-known n (suc at) w)
     go true f over = over f
     go false f over = let z : _≡_ {A = ℕ} 0 1 = cc in absurd (omega arith)
 
+-- the rows of judging, with the grammar's faults as one
+abbrev judgeRows : ℕ → ℕ → List ℕ → List ℕ → List (Option Error)
+judgeRows table memo words input =
+    when (ltb table memoryWords) TableTooShort
+    ∷ when (ltb memo memoEntries) MemoTooShort
+    ∷ fault words
+    ∷ when (ltb maxTokens (length input)) InputTooLong
+    ∷ unknownFault (unknownFrom (grammarOf words .terminals) 0 input)
+    ∷ []
+
+judged-rows : (table memo : ℕ) (words input : List ℕ) → judgeFault table memo words input ≡ firstFault (judgeRows table memo words input)
+unfolding judgeFault fault
+judged-rows table memo words input =
+    first-nested (when (ltb table memoryWords) TableTooShort ∷ when (ltb memo memoEntries) MemoTooShort ∷ []) (grammarFaults words)
+    (when (ltb maxTokens (length input)) InputTooLong ∷ unknownFault (unknownFrom (grammarOf words .terminals) 0 input) ∷ [])
+
 -- the first fault, by what holds
 module _ (words input table memo : List ℕ) where
   abbrev judged : Option Error
@@ -82,48 +100,32 @@ module _ (words input table memo : List ℕ) where
 
     module _ (room : memoEntries ≤ length memo) where
       pub grammar-fault : {x : Error} → fault words ≡ some x → judged ≡ some x
-      unfolding judgeFault
-      grammar-fault f = rw (le-ltb (length table) memoryWords long, le-ltb (length memo) memoEntries room, f)
+      grammar-fault f = rw (judged-rows (length table) (length memo) words input, le-ltb (length table) memoryWords long, le-ltb (length memo) memoEntries room, f)
 
       module _ (passed : fault words ≡ none) where
         pub too-long : maxTokens < length input → judged ≡ some InputTooLong
-        unfolding judgeFault
-        too-long h = rw (le-ltb (length table) memoryWords long, le-ltb (length memo) memoEntries room, passed, lt-ltb maxTokens (length input) h)
+        too-long h = rw (judged-rows (length table) (length memo) words input, le-ltb (length table) memoryWords long, le-ltb (length memo) memoEntries room, passed, lt-ltb maxTokens (length input) h)
 
         module _ (short : length input ≤ maxTokens) where
           pub unknown-token : {at : ℕ} → At at ≡ unknownFrom (grammarOf words .terminals) 0 input → judged ≡ some (UnknownToken at)
-          unfolding judgeFault
           unknown-token u =
-              rw (le-ltb (length table) memoryWords long, le-ltb (length memo) memoEntries room, passed, le-ltb maxTokens (length input) short, sym u)
+              rw (judged-rows (length table) (length memo) words input, le-ltb (length table) memoryWords long, le-ltb (length memo) memoEntries room, passed, le-ltb maxTokens (length input) short, sym u)
 
           pub no-fault : unknownFrom (grammarOf words .terminals) 0 input ≡ Absent → judged ≡ none
-          unfolding judgeFault
-          no-fault u = rw (le-ltb (length table) memoryWords long, le-ltb (length memo) memoEntries room, passed, le-ltb maxTokens (length input) short, u)
-
--- where there is no first fault, the first, the third and the test of the fourth are none
-none-each : (a b c : Option Error) (t : Bool) (x : Error) (l : List (Option Error)) → firstOf (a ∷ b ∷ c ∷ unless t x ∷ l) ≡ none
-    → (a ≡ none) × (c ≡ none) × (t ≡ false)
-none-each none none none false x l e = (refl, refl, refl)
-none-each none none none true x l e = let z : _≡_ {A = ℕ} 0 1 = cc in absurd (omega arith)
-none-each none none (some y) t x l e = let z : _≡_ {A = ℕ} 0 1 = cc in absurd (omega arith)
-none-each none (some y) c t x l e = let z : _≡_ {A = ℕ} 0 1 = cc in absurd (omega arith)
-none-each (some y) b c t x l e = let z : _≡_ {A = ℕ} 0 1 = cc in absurd (omega arith)
+          no-fault u = rw (judged-rows (length table) (length memo) words input, le-ltb (length table) memoryWords long, le-ltb (length memo) memoEntries room, passed, le-ltb maxTokens (length input) short, u)
 
 module _ (words input : List ℕ) (table memo : ℕ) (e : judgeFault table memo words input ≡ none) where
-  each : (unless (ltb table memoryWords) TableTooShort ≡ none) × (fault words ≡ none) × (ltb maxTokens (length input) ≡ false)
-  unfolding judgeFault
-  each =
-      none-each (unless (ltb table memoryWords) TableTooShort) (unless (ltb memo memoEntries) MemoTooShort) (fault words)
-      (ltb maxTokens (length input)) InputTooLong (unknownFault (unknownFrom (grammarOf words .terminals) 0 input) ∷ []) e
+  each : Faultless (judgeRows table memo words input)
+  each = each-none (judgeRows table memo words input) (sym (judged-rows table memo words input) ∙ e)
 
   -- what is judged is checked
   judged-checked : checkFault table words ≡ none
-  unfolding checkFault
-  judged-checked = ap (λ f. firstOf (f ∷ fault words ∷ [])) (each .0) ∙ ap (λ f. firstOf (f ∷ [])) (each .1)
+  unfolding checkFault fault
+  judged-checked = rw (each .0) (each .1 .1 .0)
 
   -- and is read and not too long
   pub judged-readable : (fault words ≡ none) × (length input ≤ maxTokens)
-  judged-readable = (each .1, ltb-false maxTokens (length input) (each .2))
+  judged-readable = (each .1 .1 .0, ltb-false maxTokens (length input) (when-none (ltb maxTokens (length input)) InputTooLong (each .1 .1 .1 .0)))
 
 -- a verdict by a test tells the test
 verdict-tells : {r : Answer} (b : Bool) (c : Calls) → r ≡ choose b (Accepted c) (Rejected c)
@@ -151,10 +153,9 @@ meaning words input r p over e =
     }
 
 -- the numbers of what is answered
-verdict-told : (G : Grammar) (w : List ℕ) (f : Option Error) → numbers (refusedOr f (verdictOf G w)) ≡ toldOr f (verdictNumbers G w)
+verdict-told : (G : Grammar) (w : List ℕ) → numbers (verdictOf G w) ≡ verdictNumbers G w
 unfolding verdictOf verdictNumbers
-verdict-told G w (some e) = refl
-verdict-told G w none = go (accepts G (tableChoice G 1 w) w)
+verdict-told G w = go (accepts G (tableChoice G 1 w) w)
   where
     go : (b : Bool) → numbers (choose b (Accepted (callsOf G w)) (Rejected (callsOf G w)))
         ≡ answered (choose b accepted rejected) 0 0 (callCount G (tableChoice G 1 w) w) (farthest G (tableChoice G 1 w) w)
@@ -169,7 +170,9 @@ judges : {words input table memo table′ memo′ : List ℕ} {r : Answer}
     → Judges words input table memo r table′ memo′
 judges {words} {input} {table} {memo} {table′} {memo′} {r} a t m = record {
   answer = a;
-  told = ap numbers a ∙ verdict-told (grammarOf words) input (judgeFault (length table) (length memo) words input);
+  told =
+      let f = judgeFault (length table) (length memo) words input in
+      ap numbers a ∙ numbers-told f (verdictOf (grammarOf words) input) ∙ ap (toldOr f) (verdict-told (grammarOf words) input);
   lent-table = t;
   lent-memo = m;
   as-checked = λ e c checked k.
@@ -225,7 +228,7 @@ module _ {words entries table memo : List ℕ} {z : Sizes} (g : PassedGiven word
     -- so many entries are needed, and there are
     pub needed-few : z .nonterminals * (length input + 1) ≤ memoEntries
     needed-few =
-        let m = mul-le-mul {n₁ = z .nonterminals} {m₁ = length input + 1} {n₂ = 32} {m₂ = 501} (well g .fewNonterminals) (omega arith) in
+        let m = mul-le-mul {n₁ = z .nonterminals} {m₁ = length input + 1} {n₂ = maxNonterminals} {m₂ = maxPlaces} (well g .fewNonterminals) (omega arith) in
         omega arith
 
     pub needed-room : z .nonterminals * (length input + 1) ≤ length memo

@@ -12,7 +12,7 @@ use lib.Seq.{drop-cons}
 use borrow.Author.Tests.{lt-ltb, le-ltb, eq-eqb, ne-eqb}
 use Rattle.word.specs.Choice.{choose}
 use Rattle.grammar.specs.Codes.{noEntry}
-use Rattle.grammar.specs.Limits.{maxTokens}
+use Rattle.grammar.specs.Limits.{maxNonterminals, maxTerminals, maxTokens}
 use Rattle.grammar.specs.Syntax.{Grammar}
 use Rattle.grammar.specs.Encoding.{grammarOf}
 use Rattle.grammar.specs.Starts.{ruleStarts}
@@ -24,7 +24,8 @@ use Rattle.semantics.specs.Claims.{tableOf}
 use Rattle.semantics.specs.Choices.{tableChoice}
 use Rattle.semantics.proofs.Predictive.{table-own}
 use Rattle.table.specs.Layout.{columnString, columns, entryAt, entryWord}
-use Rattle.recognizer.specs.Descent.{choiceColumns, choiceWords, firstAt, firstConjunct}
+use Rattle.recognizer.specs.Arrays.{choiceColumns, choiceWords, endMark, elementWeight, firstAt}
+use Rattle.recognizer.specs.Descent.{firstConjunct}
 use Rattle.recognizer.specs.Preparing.{tokenWords, entryOf, firstWord, FirstGiven, ChoicesGiven, RowGiven, Filled}
 use Rattle.recognizer.proofs.Tokens.{token-below, word-at, end-at}
 use Rattle.recognizer.proofs.Starting.{nth-below}
@@ -36,11 +37,11 @@ columnAt n w i = choose (ltb i (length w)) (getD w i 0) n
 module _ (n : ℕ) (w : List ℕ) (over : Over n w) where
   -- it is the element of the place's word, one of the row, and that of the lookahead string
   pub record Column (i : ℕ) : Type 0 where
-    pub element : getD (tokenWords n w) i 0 / 256 ≡ columnAt n w i
+    pub element : getD (tokenWords n w) i 0 / elementWeight ≡ columnAt n w i
     pub low : columnAt n w i ≤ n
     pub string : columnString n (columnAt n w i) ≡ look 1 w i
 
-  pub column : length w ≤ maxTokens → n < 256 → (i : ℕ) → i ≤ length w → Column i
+  pub column : length w ≤ maxTokens → n < elementWeight → (i : ℕ) → i ≤ length w → Column i
   unfolding columnString look
   column short few i iw = go (decLt i (length w))
     where
@@ -57,7 +58,7 @@ module _ (n : ℕ) (w : List ℕ) (over : Over n w) where
       go (no l) =
           let g : length w ≤ i = omega arith in
           let j : i ≡ length w = omega arith in
-          let e : getD (tokenWords n w) i 0 ≡ n * 256 + 255 = ap (λ k. getD (tokenWords n w) k 0) j ∙ end-at n w short in
+          let e : getD (tokenWords n w) i 0 ≡ n * elementWeight + endMark = ap (λ k. getD (tokenWords n w) k 0) j ∙ end-at n w short in
           let c : columnAt n w i ≡ n = rw (le-ltb i (length w) g) in
           record {
             element = omega (arith, e, c);
@@ -72,7 +73,7 @@ module _ {words : List ℕ} {z : Sizes} {entries : List ℕ} {places : ℕ} (g :
   r : WellRead words z
   r = well-read words z (g .read)
 
-  pub few-sizes : (z .nonterminals ≤ 32) × (z .terminals ≤ 24)
+  pub few-sizes : (z .nonterminals ≤ maxNonterminals) × (z .terminals ≤ maxTerminals)
   few-sizes = (r .fewNonterminals, r .fewTerminals)
 
   -- an entry is that of the grammar's table
@@ -118,7 +119,7 @@ module _ {words : List ℕ} {z : Sizes} {entries : List ℕ} {places : ℕ} (g :
       → firstAt choices (tokenWords (G .terminals) input) A i ≡ firstConjunct words (tableChoice G 1 input A i)
   unfolding firstAt
   choices-hold input {choices} f over short A i a iw =
-      let few : G .terminals < 256 = omega (arith, r .terminals, r .fewTerminals) in
+      let few : G .terminals < elementWeight = omega (arith, r .terminals, r .fewTerminals) in
       let k = column (G .terminals) input over short few i iw in
       let c : ℕ = columnAt (G .terminals) input i in
       let a′ : A < z .nonterminals = omega (arith, r .nonterminals) in

@@ -35,8 +35,10 @@ use Rattle.rule.specs.declared.Outcome as code
 use Rattle.rule.specs.declared.Outcome.the-variants as outcome
 use Rattle.rule.specs.Rule.{meant}
 use Rattle.sets.proofs.Words.{parse-over}
+use Rattle.grammar.specs.Limits.{maxNonterminals}
 use Rattle.recognizer.specs.declared.descent.Run.{Run}
-use Rattle.recognizer.specs.Descent.{endMark, matchesAt, Skipped, MemoSound, CallGiven, RunGiven, CallDone, RunDone}
+use Rattle.recognizer.specs.Arrays.{endMark, elementWeight, matchesAt}
+use Rattle.recognizer.specs.Descent.{Skipped, MemoSound, CallGiven, RunGiven, CallDone, RunDone}
 use Rattle.recognizer.proofs.Bodies.{parse-here, symbol-reads, skipped-none, skipped-symbol}
 
 -- the calls at most n deep, on the words' grammar
@@ -100,7 +102,7 @@ module _ {choice : Choice} {words choices tokens input memo₀ : List ℕ} {A fr
   unfolding matchesAt
   token-is place a h l = go (decLt place (length input))
     where
-      go : Dec (place < length input) → eqb (getD tokens place 0 % 256) a ≡ (ltb place (length input) && eqb (getD input place 0) a)
+      go : Dec (place < length input) → eqb (getD tokens place 0 % elementWeight) a ≡ (ltb place (length input) && eqb (getD input place 0) a)
       go (yes k) = rw (lt-ltb place (length input) k, g .call .given .terminals place k)
       go (no k) =
           let e : place ≡ length input = omega arith in
@@ -233,7 +235,7 @@ module _ {choice : Choice} {words choices tokens input memo₀ : List ℕ} {A fr
       placed = v .placed;
     }
 
-    pub running-small : B < 32
+    pub running-small : B < maxNonterminals
     running-small = omega (arith, known-here (Nonterminal B) h x .0, r g .nonterminals, r g .fewNonterminals)
 
     pub running-falls : level words input B place < level words input A start

@@ -31,7 +31,8 @@ use Rattle.semantics.proofs.Outcomes.{nth-mem}
 use Rattle.rule.specs.declared.Sign.{Sign}
 use Rattle.rule.specs.declared.Agreement.the-variants as agreement
 use Rattle.rule.specs.Rule.{signAt}
-use Rattle.recognizer.specs.Descent.{firstAt, firstConjunct, CallGiven}
+use Rattle.recognizer.specs.Arrays.{firstAt}
+use Rattle.recognizer.specs.Descent.{firstConjunct, CallGiven}
 use Rattle.recognizer.proofs.Calling.{memoRest, Calling, InRule}
 
 pub nth-below : (l : List Rule) (q : ℕ) (r : Rule) → getElem? l q ≡ some r → q < length l

@@ -26,7 +26,8 @@ use Rattle.semantics.proofs.Memo.{transparent}
 use Rattle.rule.specs.declared.Outcome as code
 use Rattle.rule.specs.declared.Outcome.the-variants as outcome
 use Rattle.rule.specs.Rule.{meant}
-use Rattle.recognizer.specs.Descent.{rowAt, MemoSound, CallGiven, CallDone}
+use Rattle.recognizer.specs.Arrays.{rowAt}
+use Rattle.recognizer.specs.Descent.{MemoSound, CallGiven, CallDone}
 use Rattle.recognizer.proofs.Running.{deep, level}
 
 pub memo-same : {choice : Choice} {words input memo memo′ : List ℕ} → MemoSound choice words input memo → MemoSound choice words input memo′ → length memo ≡ length memo′

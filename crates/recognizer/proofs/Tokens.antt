@@ -8,11 +8,11 @@ use lib.Dec.{ltb, ltb→lt}
 use lib.ListN.{length, getD, take, set, replicate, length-map, getD-replicate, List·getD-map, List·getD-append}
 use lib.Seq.{getD-append-add, take-suc, take-length, set-at, append-snoc, length-take-le}
 use borrow.Author.Tests.{eq-eqb, ne-eqb}
-use Rattle.grammar.specs.Limits.{maxTerminals, maxTokens}
+use Rattle.grammar.specs.Limits.{maxTerminals, maxTokens, maxPlaces}
 use Rattle.semantics.proofs.Booleans.{and-l, and-r}
 use Rattle.semantics.specs.Strings.{Over}
 use Rattle.semantics.specs.Quantifiers.{all}
-use Rattle.recognizer.specs.Descent.{endMark, held}
+use Rattle.recognizer.specs.Arrays.{endMark, elementWeight, held}
 use Rattle.recognizer.specs.Preparing.{tokenWords}
 
 -- every token is a terminal of the grammar
@@ -24,56 +24,56 @@ token-below n (x ∷ w) h (suc i) l = token-below n w (and-r (ltb x n) _ h) i (o
 
 -- the word at a place
 module _ (n : ℕ) (w : List ℕ) where
-  pub word-at : (i : ℕ) → i < length w → getD (tokenWords n w) i 0 ≡ getD w i 0 * 257
+  pub word-at : (i : ℕ) → i < length w → getD (tokenWords n w) i 0 ≡ getD w i 0 * (elementWeight + 1)
   unfolding tokenWords
   word-at i l =
-      List·getD-append (map (λ a. a * 257) w) (replicate (maxTokens + 1 - length w) (n * 256 + endMark)) 0 i (omega (arith, length-map w (λ a. a * 257)))
-      ∙ List·getD-map (λ a. a * 257) w i 0
+      List·getD-append (map (λ a. a * (elementWeight + 1)) w) (replicate (maxPlaces - length w) (n * elementWeight + endMark)) 0 i (omega (arith, length-map w (λ a. a * (elementWeight + 1))))
+      ∙ List·getD-map (λ a. a * (elementWeight + 1)) w i 0
 
-  pub end-at : length w ≤ maxTokens → getD (tokenWords n w) (length w) 0 ≡ n * 256 + endMark
+  pub end-at : length w ≤ maxTokens → getD (tokenWords n w) (length w) 0 ≡ n * elementWeight + endMark
   unfolding tokenWords
   end-at h =
-      let e : length w ≡ length (map (λ a. a * 257) w) + 0 = omega (arith, length-map w (λ a. a * 257)) in
-      ap (λ i. getD (map (λ a. a * 257) w ++ replicate (maxTokens + 1 - length w) (n * 256 + endMark)) i 0) e
-      ∙ getD-append-add (map (λ a. a * 257) w) (replicate (maxTokens + 1 - length w) (n * 256 + endMark)) 0 0
-      ∙ getD-replicate (maxTokens + 1 - length w) 0 (n * 256 + endMark) 0 (omega arith)
+      let e : length w ≡ length (map (λ a. a * (elementWeight + 1)) w) + 0 = omega (arith, length-map w (λ a. a * (elementWeight + 1))) in
+      ap (λ i. getD (map (λ a. a * (elementWeight + 1)) w ++ replicate (maxPlaces - length w) (n * elementWeight + endMark)) i 0) e
+      ∙ getD-append-add (map (λ a. a * (elementWeight + 1)) w) (replicate (maxPlaces - length w) (n * elementWeight + endMark)) 0 0
+      ∙ getD-replicate (maxPlaces - length w) 0 (n * elementWeight + endMark) 0 (omega arith)
 
-held-end : (m e : ℕ) → 0 < m → e % 256 ≡ endMark → held (replicate m e) ≡ []
+held-end : (m e : ℕ) → 0 < m → e % elementWeight ≡ endMark → held (replicate m e) ≡ []
 unfolding held
 held-end zero e h q = absurd (omega arith)
-held-end (suc m) e h q = rw (eq-eqb (e % 256) endMark q)
+held-end (suc m) e h q = rw (eq-eqb (e % elementWeight) endMark q)
 
-held-before : (n : ℕ) → n ≤ maxTerminals → (w rest : List ℕ) → Over n w → held rest ≡ [] → held (map (λ a. a * 257) w ++ rest) ≡ w
+held-before : (n : ℕ) → n ≤ maxTerminals → (w rest : List ℕ) → Over n w → held rest ≡ [] → held (map (λ a. a * (elementWeight + 1)) w ++ rest) ≡ w
 unfolding held all
 held-before n few [] rest h e = e
 held-before n few (a ∷ w) rest h e =
     let l = ltb→lt a n (and-l (ltb a n) _ h) in
-    let q : a * 257 % 256 ≡ a = omega arith in
+    let q : a * (elementWeight + 1) % elementWeight ≡ a = omega arith in
     rw (q, ne-eqb a endMark (λ z. absurd (omega arith))) (ap {B = List ℕ} (λ l. a ∷ l) (held-before n few w rest (and-r (ltb a n) _ h) e))
 
 -- the words hold the input
 pub held-words : (n : ℕ) (w : List ℕ) → n ≤ maxTerminals → length w ≤ maxTokens → Over n w → held (tokenWords n w) ≡ w
 unfolding tokenWords
 held-words n w few short over =
-    held-before n few w (replicate (maxTokens + 1 - length w) (n * 256 + endMark)) over
-    (held-end (maxTokens + 1 - length w) (n * 256 + endMark) (omega arith) (omega arith))
+    held-before n few w (replicate (maxPlaces - length w) (n * elementWeight + endMark)) over
+    (held-end (maxPlaces - length w) (n * elementWeight + endMark) (omega arith) (omega arith))
 
 -- the first tokens are written, over words of the end
 abbrev pub partly : List ℕ → ℕ → ℕ → List ℕ
-partly w e at = map (λ a. a * 257) (take at w) ++ replicate (maxTokens + 1 - at) e
+partly w e at = map (λ a. a * (elementWeight + 1)) (take at w) ++ replicate (maxPlaces - at) e
 
-pub partly-none : (w : List ℕ) (e : ℕ) → replicate (maxTokens + 1) e ≡ partly w e 0
+pub partly-none : (w : List ℕ) (e : ℕ) → replicate (maxPlaces) e ≡ partly w e 0
 partly-none w e = refl
 
-pub partly-more : (w : List ℕ) (e at : ℕ) → at < length w → length w ≤ maxTokens → set (partly w e at) at (getD w at 0 * 257) ≡ partly w e (at + 1)
+pub partly-more : (w : List ℕ) (e at : ℕ) → at < length w → length w ≤ maxTokens → set (partly w e at) at (getD w at 0 * (elementWeight + 1)) ≡ partly w e (at + 1)
 partly-more w e at h short =
-    let n : maxTokens + 1 - at ≡ suc (maxTokens + 1 - (at + 1)) = omega arith in
-    let m : length (map (λ a. a * 257) (take at w)) ≡ at = length-map (take at w) (λ a. a * 257) ∙ length-take-le at w (omega arith) in
-    ap (λ k. set (map (λ a. a * 257) (take at w) ++ replicate k e) at (getD w at 0 * 257)) n
-    ∙ set-at (map (λ a. a * 257) (take at w)) e (replicate (maxTokens + 1 - (at + 1)) e) (getD w at 0 * 257) at m
-    ∙ sym (rw (add-one at, take-suc w at 0 h) (ap (λ l. l ++ replicate (maxTokens + 1 - suc at) e) (map-append (λ a. a * 257) (take at w) (getD w at 0 ∷ []))
-    ∙ append-snoc (map (λ a. a * 257) (take at w)) (getD w at 0 * 257) (replicate (maxTokens + 1 - suc at) e)))
+    let n : maxPlaces - at ≡ suc (maxPlaces - (at + 1)) = omega arith in
+    let m : length (map (λ a. a * (elementWeight + 1)) (take at w)) ≡ at = length-map (take at w) (λ a. a * (elementWeight + 1)) ∙ length-take-le at w (omega arith) in
+    ap (λ k. set (map (λ a. a * (elementWeight + 1)) (take at w) ++ replicate k e) at (getD w at 0 * (elementWeight + 1))) n
+    ∙ set-at (map (λ a. a * (elementWeight + 1)) (take at w)) e (replicate (maxPlaces - (at + 1)) e) (getD w at 0 * (elementWeight + 1)) at m
+    ∙ sym (rw (add-one at, take-suc w at 0 h) (ap (λ l. l ++ replicate (maxPlaces - suc at) e) (map-append (λ a. a * (elementWeight + 1)) (take at w) (getD w at 0 ∷ []))
+    ∙ append-snoc (map (λ a. a * (elementWeight + 1)) (take at w)) (getD w at 0 * (elementWeight + 1)) (replicate (maxPlaces - suc at) e)))
 
-pub partly-all : (n : ℕ) (w : List ℕ) (at : ℕ) → at ≡ length w → partly w (n * 256 + endMark) at ≡ tokenWords n w
+pub partly-all : (n : ℕ) (w : List ℕ) (at : ℕ) → at ≡ length w → partly w (n * elementWeight + endMark) at ≡ tokenWords n w
 unfolding tokenWords
 partly-all n w at e = rw (e, take-length w) refl

@@ -1,6 +1,6 @@
 -- What a call answers: the first refusal that holds, in document 01's order, or else a verdict.
 use mathlib.Core.Bool.{Bool, true, false}
-use mathlib.Core.List.{List, [], _∷_}
+use mathlib.Core.List.{List, [], _∷_, _++_}
 use mathlib.Core.Option.{Option, none, some}
 use Prim.Native.Nat.{ℕ, suc}
 use lib.Dec.{ltb}
@@ -9,8 +9,9 @@ use Rattle.answer.specs.declared.Error.{Error}
 use Rattle.answer.specs.declared.Error.the-variants.{TableTooShort, MemoTooShort, InputTooLong, UnknownToken}
 use Rattle.answer.specs.declared.Calls.{Calls}
 use Rattle.answer.specs.declared.Answer.{Answer}
-use Rattle.answer.specs.declared.Answer.the-variants.{Refused, Rejected, Accepted}
-use Rattle.answer.specs.Numbers.{refused, passed, rejected, accepted, Numbers, coded, answered}
+use Rattle.answer.specs.declared.Answer.the-variants.{Rejected, Accepted}
+use Rattle.answer.specs.Numbers.{passed, rejected, accepted, Numbers, answered}
+use Rattle.answer.specs.Faults.{when, firstFault}
 use Rattle.recognizer.specs.declared.judging.Unknown.{Unknown}
 use Rattle.recognizer.specs.declared.judging.Unknown.the-variants.{Absent, At}
 use Rattle.word.specs.Choice.{choose}
@@ -20,12 +21,7 @@ use Rattle.grammar.specs.Encoding.{grammarOf}
 use Rattle.semantics.specs.Choices.{tableChoice}
 use Rattle.semantics.specs.Descent.{accepts}
 use Rattle.semantics.specs.Calls.{callCount, farthest}
-use Rattle.table.specs.Analysis.{fault}
-
--- an error where a test holds
-abbrev pub unless : Bool → Error → Option Error
-unless true e = some e
-unless false e = none
+use Rattle.table.specs.Analysis.{grammarFaults}
 
 -- the first token that is no terminal of the grammar, of an input whose first token has the index `at`
 unfoldable pub unknownFrom : ℕ → ℕ → List ℕ → Unknown
@@ -36,35 +32,23 @@ abbrev pub unknownFault : Unknown → Option Error
 unknownFault Absent = none
 unknownFault (At i) = some (UnknownToken i)
 
--- the first fault of a list
-abbrev pub firstOf : List (Option Error) → Option Error
-firstOf [] = none
-firstOf (none ∷ l) = firstOf l
-firstOf (some e ∷ l) = some e
-
--- the refusals of checking: the table's length, then the grammar's faults
+-- why checking is refused, in document 01's order: the table's length, then the grammar's faults
 unfoldable pub checkFault : ℕ → List ℕ → Option Error
-checkFault table words = firstOf (unless (ltb table tableWords) TableTooShort ∷ fault words ∷ [])
+checkFault table words =
+    firstFault
+    (when (ltb table tableWords) TableTooShort
+    ∷ grammarFaults words)
 
--- and of judging
+-- and judging
 unfoldable pub judgeFault : ℕ → ℕ → List ℕ → List ℕ → Option Error
 judgeFault table memo words input =
-    firstOf
-    (unless (ltb table tableWords) TableTooShort
-    ∷ unless (ltb memo memoEntries) MemoTooShort
-    ∷ fault words
-    ∷ unless (ltb maxTokens (length input)) InputTooLong
+    firstFault
+    (when (ltb table tableWords) TableTooShort
+    ∷ when (ltb memo memoEntries) MemoTooShort
+    ∷ grammarFaults words
+    ++ when (ltb maxTokens (length input)) InputTooLong
     ∷ unknownFault (unknownFrom (grammarOf words .terminals) 0 input)
     ∷ [])
-
-abbrev pub refusedOr : Option Error → Answer → Answer
-refusedOr (some e) a = Refused e
-refusedOr none a = a
-
--- what a call tells in document 01's numbers: of a refusal its code and position, with count and farthest place 0
-abbrev pub toldOr : Option Error → Numbers → Numbers
-toldOr (some e) n = answered refused (coded e .code) (coded e .position) 0 0
-toldOr none n = n
 
 -- of a check that passes
 abbrev pub passedNumbers : Numbers

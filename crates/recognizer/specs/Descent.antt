@@ -30,46 +30,16 @@ use Rattle.semantics.specs.MemoDescent.{memoized, memoRun, memoCall}
 use Rattle.rule.specs.declared.Outcome as code
 use Rattle.rule.specs.Rule.{meant}
 use Rattle.recognizer.specs.declared.descent.Run.{Run}
+use Rattle.recognizer.specs.Arrays.{rowColumn, endMark, elementWeight, held, rowAt, firstAt}
 
--- the terminal at the end of the input, which no grammar has
-abbrev pub endMark : ℕ
-endMark = 255
-
--- the columns of a row of choices, one for each element of lookahead; the last tells where the row of the memo table begins
-abbrev pub choiceColumns : ℕ
-choiceColumns = 64
-
-abbrev pub rowColumn : ℕ
-rowColumn = 63
-
--- a row for each nonterminal
-abbrev pub choiceWords : ℕ
-choiceWords = maxNonterminals * choiceColumns
-
--- the input that words of tokens hold: their terminals up to the end
-unfoldable pub held : List ℕ → List ℕ
-held [] = []
-held (t ∷ ts) = choose (eqb (t % 256) endMark) [] (t % 256 ∷ held ts)
-
-unfoldable pub matchesAt : List ℕ → ℕ → ℕ → Bool
-matchesAt tokens place a = eqb (getD tokens place 0 % 256) a
-
--- where the row of a nonterminal begins in the memo table
-unfoldable pub rowAt : List ℕ → ℕ → ℕ
-rowAt choices A = getD choices (A * choiceColumns + rowColumn) 0
-
--- where the first conjunct stands of the rule for a nonterminal and the element of lookahead at a place, or 0
-unfoldable pub firstAt : (choices tokens : List ℕ) (A place : ℕ) → ℕ
-firstAt choices tokens A place = getD choices (A * choiceColumns + getD tokens place 0 / 256) 0
-
--- the same of a rule by its number
+-- where the first conjunct stands of a rule by its number, or 0
 abbrev pub firstConjunct : List ℕ → Option ℕ → ℕ
 firstConjunct words none = 0
 firstConjunct words (some q) = getD (ruleStarts words) q 0 + 1
 
 pub record TokenGiven (tokens : List ℕ) (place : ℕ) : Type 0 where
   pub placed : place ≤ maxTokens
-  pub element : getD tokens place 0 / 256 < rowColumn
+  pub element : getD tokens place 0 / elementWeight < rowColumn
 
 pub record EntryGiven (choices : List ℕ) (A : ℕ) : Type 0 where
   pub named : A < maxNonterminals
@@ -106,10 +76,10 @@ pub record Given (choice : Choice) (words choices tokens input memo : List ℕ) 
   pub free : NoLeftRecursion (grammarOf words)
   pub own : OwnRules (grammarOf words) choice
   pub rows : (A : ℕ) → A < grammarOf words .nonterminals → rowAt choices A ≡ A * suc (length input)
-  pub elements : (i : ℕ) → i ≤ length input → getD tokens i 0 / 256 < rowColumn
+  pub elements : (i : ℕ) → i ≤ length input → getD tokens i 0 / elementWeight < rowColumn
   pub firsts : (A i : ℕ) → A < grammarOf words .nonterminals → i ≤ length input → firstAt choices tokens A i ≡ firstConjunct words (choice A i)
-  pub terminals : (i : ℕ) → i < length input → getD tokens i 0 % 256 ≡ getD input i 0
-  pub end : getD tokens (length input) 0 % 256 ≡ endMark
+  pub terminals : (i : ℕ) → i < length input → getD tokens i 0 % elementWeight ≡ getD input i 0
+  pub end : getD tokens (length input) 0 % elementWeight ≡ endMark
   pub short : length input ≤ maxTokens
   pub sound : MemoSound choice words input memo
 

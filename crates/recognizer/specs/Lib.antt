@@ -1,3 +1,4 @@
+pub mod Arrays
 pub mod Descent
 pub mod Preparing
 pub mod Tally

@@ -6,7 +6,7 @@ use lib.Dec.{eqb}
 use lib.ListN.{length, getD, replicate}
 use Rattle.word.specs.Choice.{choose}
 use Rattle.grammar.specs.Codes.{noEntry}
-use Rattle.grammar.specs.Limits.{maxWords, maxNonterminals, maxTerminals, maxRules, maxTokens}
+use Rattle.grammar.specs.Limits.{maxWords, maxNonterminals, maxTerminals, maxRules, maxTokens, maxPlaces}
 use Rattle.grammar.specs.Syntax.{Grammar}
 use Rattle.grammar.specs.Encoding.{grammarOf}
 use Rattle.grammar.specs.Reading.{reading}
@@ -14,11 +14,11 @@ use Rattle.grammar.specs.Starts.{ruleStarts}
 use Rattle.grammar.specs.declared.reading.Sizes.{Sizes}
 use Rattle.grammar.specs.declared.reading.Outcome.the-variants.{Read}
 use Rattle.table.specs.Layout.{columns, entryAt}
-use Rattle.recognizer.specs.Descent.{endMark, choiceColumns, rowColumn, choiceWords}
+use Rattle.recognizer.specs.Arrays.{endMark, elementWeight, choiceColumns, choiceWords, rowAt}
 
--- a terminal's element of lookahead is its number, and that of the end comes behind those of the n terminals
+-- a terminal's element of lookahead is its number (so it stands in the word twice), and that of the end comes behind those of the n terminals
 unfoldable pub tokenWords : ℕ → List ℕ → List ℕ
-tokenWords n input = map (λ a. a * 257) input ++ replicate (maxTokens + 1 - length input) (n * 256 + endMark)
+tokenWords n input = map (λ a. a * (elementWeight + 1)) input ++ replicate (maxPlaces - length input) (n * elementWeight + endMark)
 
 pub record TokensGiven (input : List ℕ) (n : ℕ) : Type 0 where
   pub short : length input ≤ maxTokens
@@ -43,14 +43,14 @@ Entries G table = (A c : ℕ) → A < G .nonterminals → c < columns G → getD
 pub record ChoicesGiven (words : List ℕ) (z : Sizes) (entries : List ℕ) (places : ℕ) : Type 0 where
   pub read : reading words ≡ Read z
   pub table : Entries (grammarOf words) entries
-  pub few : places ≤ maxTokens + 1
+  pub few : places ≤ maxPlaces
 
 pub record RowGiven (starts entries : List ℕ) (z : Sizes) (A places : ℕ) (choices : List ℕ) : Type 0 where
   pub long : length choices ≡ choiceWords
   pub named : A < z .nonterminals
   pub fewNonterminals : z .nonterminals ≤ maxNonterminals
   pub fewTerminals : z .terminals ≤ maxTerminals
-  pub few : places ≤ maxTokens + 1
+  pub few : places ≤ maxPlaces
   pub firsts : (c : ℕ) → c < z .terminals + 1 → FirstGiven starts (entryOf z entries A c)
 
 -- the row of a nonterminal is written, and those before it are as they were
@@ -58,8 +58,8 @@ pub record RowFilled (starts entries : List ℕ) (z : Sizes) (A places : ℕ) (b
   pub long : length after ≡ length before
   pub kept : (x : ℕ) → x < A * choiceColumns → getD after x 0 ≡ getD before x 0
   pub columns : (c : ℕ) → c < z .terminals + 1 → getD after (A * choiceColumns + c) 0 ≡ firstWord starts (entryOf z entries A c)
-  pub row : getD after (A * choiceColumns + rowColumn) 0 ≡ A * places
+  pub row : rowAt after A ≡ A * places
 
 pub record Filled (words entries : List ℕ) (z : Sizes) (places : ℕ) (choices : List ℕ) : Type 0 where
   pub columns : (A c : ℕ) → A < z .nonterminals → c < z .terminals + 1 → getD choices (A * choiceColumns + c) 0 ≡ firstWord (ruleStarts words) (entryOf z entries A c)
-  pub rows : (A : ℕ) → A < z .nonterminals → getD choices (A * choiceColumns + rowColumn) 0 ≡ A * places
+  pub rows : (A : ℕ) → A < z .nonterminals → rowAt choices A ≡ A * places

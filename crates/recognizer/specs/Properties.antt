@@ -8,6 +8,7 @@ use Prim.Native.Nat.{ℕ, _≤_}
 use lib.Dec.{T}
 use lib.ListN.{length}
 use Rattle.answer.specs.Numbers.{numbers}
+use Rattle.answer.specs.Faults.{refusedOr, toldOr}
 use Rattle.answer.specs.declared.Answer.{Answer}
 use Rattle.answer.specs.declared.Answer.the-variants.{Passed, Accepted, Rejected}
 use Rattle.grammar.specs.Limits.{tableWords as memoryWords, memoEntries, maxTokens}
@@ -27,7 +28,7 @@ use Rattle.semantics.specs.Choices.{tableChoice}
 use Rattle.semantics.specs.Theorems.{OneSolution, CallsCounted}
 use Rattle.table.specs.Layout.{tableWords}
 use Rattle.recognizer.specs.Memory.{lentBack, memoWords}
-use Rattle.recognizer.specs.Answers.{checkFault, judgeFault, refusedOr, callsOf, verdictOf, toldOr, passedNumbers, verdictNumbers}
+use Rattle.recognizer.specs.Answers.{checkFault, judgeFault, callsOf, verdictOf, passedNumbers, verdictNumbers}
 
 -- a grammar that passes (document 01: a passed card): read without a fault, not left-recursive, and no entry is claimed by two rules
 pub record PassedGrammar (words : List ℕ) : Type 0 where
@@ -56,7 +57,7 @@ pub record Checks (words before : List ℕ) (r : Answer) (after : List ℕ) : Ty
   -- a grammar that is read is of the sizes told, and its sets and entries are the least ones
   pub least : (z : Sizes) → reading words ≡ Read z → WellRead words z × LeastFamilies (grammarOf words)
 
--- an input of at most 500 tokens, all of them terminals of the grammar
+-- an input that is not too long, all of whose tokens are terminals of the grammar
 pub record Readable (words input : List ℕ) : Type 0 where
   pub short : length input ≤ maxTokens
   pub tokens : Over (grammarOf words .terminals) input

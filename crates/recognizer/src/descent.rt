@@ -4,11 +4,15 @@ ghost use Prim.Native.Nat.{_+_, _≤_};
 ghost use lib.ListN.{length};
 ghost use Rattle.semantics.specs.Memo.{encode, decode as decodedEntry};
 ghost use Rattle.rule.specs.Rule.{meant};
-ghost use Rattle.recognizer.specs.Descent.{rowAt, firstAt, matchesAt, BodyEnd, TokenGiven, EntryGiven, ChosenGiven, CallRequires, CallEnsures, RunRequires, RunEnsures};
+ghost use Rattle.recognizer.specs.Arrays.{rowAt, firstAt, matchesAt};
+ghost use Rattle.recognizer.specs.Descent.{BodyEnd, TokenGiven, EntryGiven, ChosenGiven, CallRequires, CallEnsures, RunRequires, RunEnsures};
+use super::arrays::CHOICE_COLUMNS;
+use super::arrays::CHOICES;
+use super::arrays::ELEMENT;
+use super::arrays::ROW_COLUMN;
 use grammar::codes::FAILED;
 use grammar::codes::UNCALLED;
-use grammar::limits::NONTERMINALS;
-use grammar::limits::TOKENS;
+use grammar::limits::PLACES;
 use rule::Agreement;
 use rule::Outcome;
 use rule::conclude;
@@ -19,22 +23,14 @@ use word::Symbol;
 use word::Word;
 use word::decode;
 
-// A row for each nonterminal: where the first conjunct stands of the rule to run for each element of lookahead, 0 for none, and in
-// the last column where its row of the memo table begins.
-pub(crate) const COLUMNS: usize = 64;
-
-pub(crate) const ROW_COLUMN: usize = COLUMNS - 1;
-
-pub(crate) const CHOICES: usize = (NONTERMINALS as usize) * COLUMNS;
-
-// A word for each place: in the low byte its terminal, or 255 at the end, and in the high byte its element of lookahead.
-pub(crate) const PLACES: usize = TOKENS + 1;
-
 // How a body ran, and the index where it stopped.
 pub struct Run {
     pub outcome: Outcome,
     pub at: usize,
 }
+
+// What an element of lookahead weighs in a token's word.
+const WEIGHT: usize = ELEMENT as usize;
 
 // Where the body at an index ends.
 fn body_end(words: &[u32], from: usize) -> usize
@@ -57,7 +53,7 @@ fn matches(tokens: &[u16; PLACES], place: u16, terminal: u32) -> bool
     requires { ⌜ TokenGiven (now tokens) place ⌝ }
     ensures { λ r. ⌜ r ≡ matchesAt (now (tokens .entry)) place terminal ⌝ }
 {
-    tokens[place as usize] as u32 % 256 == terminal
+    tokens[place as usize] as u32 % ELEMENT == terminal
 }
 
 // The index of a call's entry in the memo table.
@@ -65,7 +61,7 @@ fn entry_of(choices: &[u16; CHOICES], nonterminal: usize, place: u16) -> usize
     requires { ⌜ EntryGiven (now choices) nonterminal ⌝ }
     ensures { λ r. ⌜ r ≡ rowAt (now (choices .entry)) nonterminal + place ⌝ }
 {
-    choices[nonterminal * COLUMNS + ROW_COLUMN] as usize + place as usize
+    choices[nonterminal * CHOICE_COLUMNS + ROW_COLUMN] as usize + place as usize
 }
 
 // Where the first conjunct stands of the rule that is chosen for a nonterminal at a place, or 0.
@@ -73,8 +69,8 @@ fn chosen(choices: &[u16; CHOICES], tokens: &[u16; PLACES], nonterminal: usize, 
     requires { ⌜ ChosenGiven (now choices) (now tokens) nonterminal place ⌝ }
     ensures { λ r. ⌜ r ≡ firstAt (now (choices .entry)) (now (tokens .entry)) nonterminal place ⌝ }
 {
-    let element = tokens[place as usize] as usize / 256;
-    choices[nonterminal * COLUMNS + element] as usize
+    let element = tokens[place as usize] as usize / WEIGHT;
+    choices[nonterminal * CHOICE_COLUMNS + element] as usize
 }
 
 // An outcome as an entry of the memo table, and back.

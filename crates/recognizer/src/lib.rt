@@ -9,6 +9,7 @@ use lending::lend;
 use sets::Finding;
 use table::analyze;
 
+pub mod arrays;
 mod descent;
 mod judging;
 mod lending;

@@ -1,26 +1,31 @@
 // What the descent reads beside the words, made before it starts: a choice of rules by one token of lookahead, and the tokens.
 ghost use mathlib.Core.Path.{_≡_};
 ghost use Rattle.recognizer.specs.Preparing.{firstWord, tokenWords, FirstGiven, TokensGiven, ChoicesGiven, RowGiven, RowFilled, Filled};
-use super::descent::CHOICES;
-use super::descent::COLUMNS;
-use super::descent::PLACES;
-use super::descent::ROW_COLUMN;
+use super::arrays::CHOICE_COLUMNS;
+use super::arrays::CHOICES;
+use super::arrays::ELEMENT;
+use super::arrays::END_MARK;
+use super::arrays::ROW_COLUMN;
 use grammar::codes::NO_ENTRY;
+use grammar::limits::PLACES;
 use grammar::limits::RULES;
 use grammar::limits::TABLE_WORDS;
 use grammar::reading::Sizes;
 use grammar::reading::rule_starts;
+
+// What a terminal is times this has it twice: as the terminal, and as its element of lookahead.
+const TWICE: u16 = (ELEMENT + 1) as u16;
 
 // A token's element of lookahead is its column of the table.
 pub(crate) fn tokens_of(input: &[u8], terminals: u32) -> [u16; PLACES]
     requires { ⌜ TokensGiven (now input) terminals ⌝ }
     ensures { λ r. ⌜ r ≡ tokenWords terminals (now (input .entry)) ⌝ }
 {
-    let end = (terminals * 256 + 255) as u16;
+    let end = (terminals * ELEMENT + END_MARK) as u16;
     let mut tokens = [end; PLACES];
     let mut at = 0;
     while at < input.len() {
-        tokens[at] = input[at] as u16 * 257;
+        tokens[at] = input[at] as u16 * TWICE;
         at = at + 1;
     }
     tokens
@@ -52,7 +57,7 @@ fn fill_row(
 {
     let columns = sizes.terminals as usize + 1;
     let from = 2 * sizes.nonterminals as usize + nonterminal * columns;
-    let to = nonterminal * COLUMNS;
+    let to = nonterminal * CHOICE_COLUMNS;
     let mut column = 0;
     while column < columns {
         choices[to + column] = first_conjunct(starts, entries[from + column]);

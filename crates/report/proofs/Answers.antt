@@ -12,7 +12,8 @@ use Rattle.grammar.specs.Encoding.{grammarOf}
 use Rattle.grammar.specs.Reading.{reading}
 use Rattle.grammar.proofs.WellRead.{well-read}
 use Rattle.recognizer.specs.Properties.{Checks, Judges}
-use Rattle.recognizer.specs.Answers.{judgeFault, refusedOr, verdictOf}
+use Rattle.answer.specs.Faults.{refusedOr}
+use Rattle.recognizer.specs.Answers.{judgeFault, verdictOf}
 use Rattle.recognizer.specs.Memory.{lentBack, memoWords}
 use Rattle.recognizer.proofs.Judged.{judged-readable}
 use Rattle.recognizer.proofs.Checking.{passed-fault}

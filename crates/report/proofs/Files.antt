@@ -18,7 +18,9 @@ use Rattle.text.specs.Refusal.{refusalText}
 use Rattle.text.proofs.Fours.{length-words}
 use Rattle.text.proofs.Lengths.{refusal-most}
 use Rattle.text.proofs.Writing.{put-length, put-whole}
-use Rattle.report.specs.Report.{Printed, sheetRoom, judgementRoom, checkedText, sheetOf, judgedText, judgementOf}
+use Rattle.sheet_text.specs.Room.{sheetRoom}
+use Rattle.judgement_text.specs.Room.{judgementRoom}
+use Rattle.report.specs.Report.{Printed, checkedText, sheetOf, judgedText, judgementOf}
 use Rattle.report.proofs.Lengths.{checked-short, judged-short}
 
 -- the words of a file that was loaded

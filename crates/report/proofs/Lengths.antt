@@ -3,7 +3,7 @@ use mathlib.Core.Path.{_≡_, refl}
 use mathlib.Core.Bool.{Bool, true, false}
 use mathlib.Core.List.{List, [], _∷_, _++_, map, List·Memᴰ, List·Memᴰ·head, List·Memᴰ·tail}
 use mathlib.Core.Option.{Option, none, some}
-use Prim.Native.Nat.{ℕ, zero, suc, _+_, _≤_, _<_}
+use Prim.Native.Nat.{ℕ, zero, suc, _+_, _*_, _≤_, _<_}
 use native.Mathlib.Omega.{arith}
 use lib.ListN.{length, getD, drop, replicate, length-append}
 use Rattle.answer.specs.declared.Error.{Error}
@@ -26,7 +26,8 @@ use Rattle.semantics.specs.Memo.{encode}
 use Rattle.semantics.proofs.Range.{all-range}
 use Rattle.semantics.proofs.Theorems.{theorems}
 use Rattle.table.specs.Layout.{tableWords}
-use Rattle.recognizer.specs.Answers.{checkFault, judgeFault, refusedOr, callsOf, verdictOf}
+use Rattle.answer.specs.Faults.{refusedOr}
+use Rattle.recognizer.specs.Answers.{checkFault, judgeFault, callsOf, verdictOf}
 use Rattle.recognizer.specs.Memory.{lentBack, memoWord, memoWords}
 use Rattle.recognizer.proofs.Checking.{passed-fault}
 use Rattle.recognizer.proofs.Judged.{judged-readable}
@@ -35,7 +36,9 @@ use Rattle.sheet_text.specs.Sheet.{sheetText, checkText}
 use Rattle.sheet_text.proofs.Lengths.{sheet-most}
 use Rattle.judgement_text.specs.Judgement.{callsText, verdictLine, judgementText}
 use Rattle.judgement_text.proofs.Lengths.{calls-most, verdict-most}
-use Rattle.report.specs.Report.{sheetRoom, judgementRoom, blankTable, blankMemo, checkedText, judgedText}
+use Rattle.sheet_text.specs.Room.{sheetRoom}
+use Rattle.judgement_text.specs.Room.{callRoom, judgementRoom}
+use Rattle.report.specs.Report.{blankTable, blankMemo, checkedText, judgedText}
 
 pub checked-short : (words : List ℕ) → length (checkedText words) ≤ sheetRoom
 unfolding checkedText checkText sheetText
@@ -105,7 +108,7 @@ module _ (words input : List ℕ) (table memo : ℕ) (e : judgeFault table memo 
       each-append front (drop (length front) behind) (each-map (memoWord G input) (allCalls G input) entry-low)
       (each-drop (length front) behind (each-replicate memoEntries uncalledCode (omega arith)))
 
-  calls-short : length (callsText (G .nonterminals) (length input) (lentBack none (memoWords G input) blankMemo)) ≤ 208416
+  calls-short : length (callsText (G .nonterminals) (length input) (lentBack none (memoWords G input) blankMemo)) ≤ memoEntries * callRoom
   calls-short =
       let k = judged-readable words input table memo e in
       let p = passed-fault words (k .0) in
@@ -129,7 +132,7 @@ judged-short words input = go (judgeFault memoryWords memoEntries words input) r
         made : List ℕ
         made = callsText (grammarOf words .nonterminals) (length input) (lentBack none (memoWords (grammarOf words) input) blankMemo)
 
-        verdict : (b : Bool) → length made ≤ 208416
+        verdict : (b : Bool) → length made ≤ memoEntries * callRoom
             → length (judgementText (choose b (Accepted (callsOf (grammarOf words) input)) (Rejected (callsOf (grammarOf words) input))) (grammarOf words .nonterminals)
             (length input) (lentBack none (memoWords (grammarOf words) input) blankMemo)) ≤ judgementRoom
         verdict true h = omega (arith, length-append (verdictLine "accepted " (callsOf (grammarOf words) input)) made, verdict-most "accepted " (callsOf (grammarOf words) input))

@@ -1,7 +1,7 @@
 -- What the programs print, from the bytes of files.
 use mathlib.Core.Path.{_≡_}
 use mathlib.Core.List.{List}
-use Prim.Native.Nat.{ℕ, _≤_}
+use Prim.Native.Nat.{ℕ, _+_, _*_, _≤_}
 use lib.Dec.{leb}
 use lib.ListN.{length, take, replicate}
 use Rattle.answer.specs.declared.Answer.the-variants.{Passed}
@@ -10,16 +10,19 @@ use Rattle.word.specs.Choice.{choose}
 use Rattle.grammar.specs.Codes.{noEntry, uncalledCode}
 use Rattle.grammar.specs.declared.reading.Outcome.{Outcome}
 use Rattle.grammar.specs.declared.reading.Outcome.the-variants.{Read, Faulty}
-use Rattle.grammar.specs.Limits.{maxTokens, memoEntries, tableWords as memoryWords}
+use Rattle.grammar.specs.Limits.{maxWords, maxTokens, memoEntries, tableWords as memoryWords}
 use Rattle.grammar.specs.Encoding.{grammarOf}
 use Rattle.grammar.specs.Reading.{reading}
 use Rattle.table.specs.Layout.{tableWords}
-use Rattle.recognizer.specs.Answers.{checkFault, judgeFault, refusedOr, verdictOf}
+use Rattle.answer.specs.Faults.{refusedOr}
+use Rattle.recognizer.specs.Answers.{checkFault, judgeFault, verdictOf}
 use Rattle.recognizer.specs.Memory.{lentBack, memoWords}
 use Rattle.report.specs.declared.Rooms.{Rooms}
-use Rattle.text.specs.Words.{wordsOf, areWords}
+use Rattle.text.specs.Words.{bytesOfWord, wordsOf, areWords}
 use Rattle.text.specs.Writing.{Put}
 use Rattle.text.specs.Refusal.{refusalText}
+use Rattle.sheet_text.specs.Room.{sheetRoom}
+use Rattle.judgement_text.specs.Room.{judgementRoom}
 use Rattle.sheet_text.specs.Sheet.{checkText}
 use Rattle.judgement_text.specs.Judgement.{judgementText}
 
@@ -30,15 +33,15 @@ pub record Printed (room : ℕ) (text before after : List ℕ) (n : ℕ) : Type 
   pub part : n ≡ length (take n after)
   pub whole : room ≤ length before → take n after ≡ text
 
--- room for every sheet, and for every judgement
-abbrev pub sheetRoom : ℕ
-sheetRoom = 32768
+-- what the programs read of a file and of an input: one byte more than the longest has
+abbrev pub fileRoom : ℕ
+fileRoom = bytesOfWord * maxWords + 1
 
-abbrev pub judgementRoom : ℕ
-judgementRoom = 212992
+abbrev pub inputRoom : ℕ
+inputRoom = maxTokens + 1
 
 abbrev pub enoughRoom : Rooms
-enoughRoom = record { sheet = sheetRoom; judgement = judgementRoom }
+enoughRoom = record { file = fileRoom; input = inputRoom; sheet = sheetRoom; judgement = judgementRoom }
 
 -- the memory that is lent for the table
 unfoldable pub blankTable : List ℕ

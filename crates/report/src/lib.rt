@@ -1,8 +1,10 @@
 // What the programs print: from the bytes of files to the bytes of the text.
 ghost use mathlib.Core.Path.{_≡_};
 ghost use Rattle.grammar.specs.Reading.{reading};
+ghost use Rattle.sheet_text.specs.Room.{sheetRoom};
+ghost use Rattle.judgement_text.specs.Room.{judgementRoom};
 ghost use Rattle.text.specs.Writing.{Put};
-ghost use Rattle.report.specs.Report.{Printed, enoughRoom, sheetRoom, judgementRoom, nonterminalsOf, tokensOf, checkedText, sheetOf, judgedText, judgementOf};
+ghost use Rattle.report.specs.Report.{Printed, enoughRoom, nonterminalsOf, tokensOf, checkedText, sheetOf, judgedText, judgementOf};
 use answer::Error;
 use grammar::codes::NO_ENTRY;
 use grammar::codes::UNCALLED;
@@ -18,23 +20,33 @@ use recognizer::judge;
 use sheet_text::put_check;
 use text::refusal::put_refusal;
 use text::words::Loaded;
+use text::words::WORD_BYTES;
 use text::words::load;
 
-// Room for every sheet, and for every judgement.
-pub const SHEET_ROOM: usize = 32768;
+// What the programs read of a file and of an input: one byte more than the longest has.
+pub const FILE_ROOM: usize = WORD_BYTES * WORDS + 1;
 
-pub const JUDGEMENT_ROOM: usize = 212992;
+pub const INPUT_ROOM: usize = TOKENS + 1;
+
+// Room for every sheet, and for every judgement.
+pub const SHEET_ROOM: usize = sheet_text::ROOM;
+
+pub const JUDGEMENT_ROOM: usize = judgement_text::ROOM;
 
 pub struct Rooms {
+    pub file: usize,
+    pub input: usize,
     pub sheet: usize,
     pub judgement: usize,
 }
 
-// The two in one value, so that what the specifications say of room is proved of these.
+// All in one value, so that what the specifications say of room is proved of these.
 pub fn enough_room() -> Rooms
     ensures { λ r. ⌜ r ≡ enoughRoom ⌝ }
 {
     Rooms {
+        file: FILE_ROOM,
+        input: INPUT_ROOM,
         sheet: SHEET_ROOM,
         judgement: JUDGEMENT_ROOM,
     }

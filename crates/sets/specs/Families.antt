@@ -1,10 +1,11 @@
 -- What is found of an encoded grammar before its table is made: the first fault among the errors 3 to 8, or its sizes and its sets.
-use mathlib.Core.List.{List}
+use mathlib.Core.List.{List, [], _∷_}
 use mathlib.Core.Option.{Option, none, some}
 use Prim.Native.Nat.{ℕ}
 use lib.ListN.{replicate}
 use Rattle.answer.specs.declared.Error.{Error}
 use Rattle.answer.specs.declared.Error.the-variants.{LeftRecursive}
+use Rattle.answer.specs.Faults.{firstFault}
 use Rattle.grammar.specs.Limits.{maxNonterminals}
 use Rattle.grammar.specs.Encoding.{grammarOf}
 use Rattle.grammar.specs.Reading.{reading}
@@ -17,11 +18,6 @@ use Rattle.sets.specs.declared.Families.{Families}
 use Rattle.sets.specs.Lists.{listed}
 use Rattle.sets.specs.Sets.{firstNumber, followNumber}
 
--- the first of two faults
-abbrev pub firstFault : Option Error → Option Error → Option Error
-firstFault none f = f
-firstFault (some e) f = some e
-
 -- 3 to 7
 abbrev pub readingFault : Outcome → Option Error
 readingFault (Read z) = none
@@ -32,8 +28,11 @@ abbrev pub leftFault : Option ℕ → Option Error
 leftFault none = none
 leftFault (some A) = some (LeftRecursive A)
 
+abbrev pub setsFaults : List ℕ → List (Option Error)
+setsFaults words = readingFault (reading words) ∷ leftFault (lowestLeftRecursive (grammarOf words)) ∷ []
+
 unfoldable pub setsFault : List ℕ → Option Error
-setsFault words = firstFault (readingFault (reading words)) (leftFault (lowestLeftRecursive (grammarOf words)))
+setsFault words = firstFault (setsFaults words)
 
 abbrev pub findingOf : Option Error → Outcome → Finding
 findingOf (some e) o = Refused e

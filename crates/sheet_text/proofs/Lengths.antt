@@ -5,32 +5,33 @@ use native.Mathlib.Nat.{mul-le-mul-right}
 use native.Mathlib.Omega.{arith}
 use lib.ListN.{length, length-append}
 use Rattle.grammar.specs.Codes.{noEntry}
-use Rattle.grammar.specs.Limits.{maxNonterminals, maxTerminals}
+use Rattle.grammar.specs.Limits.{maxNonterminals, maxTerminals, maxColumns}
 use Rattle.grammar.specs.declared.reading.Sizes.{Sizes}
 use Rattle.grammar.specs.declared.reading.Outcome.the-variants.{Read}
 use Rattle.lookahead.specs.Elements.{size}
 use Rattle.text.specs.Writing.{upTo}
 use Rattle.text.proofs.Lengths.{decimal-most, dash-within, up-to-most}
+use Rattle.sheet_text.specs.Room.{sizesRoom, setsRoom, entryRoom, entriesRoom, sheetRoom}
 use Rattle.sheet_text.specs.Sheet.{wordAt, sizesLine, setsLine, entryText, entriesLine, nonterminalText, sheetText}
 
-sizes-most : (z : Sizes) → length (sizesLine z) ≤ 83
+sizes-most : (z : Sizes) → length (sizesLine z) ≤ sizesRoom
 unfolding sizesLine
 sizes-most z = simp length-append (omega (arith, decimal-most (z .nonterminals), decimal-most (z .terminals), decimal-most (z .rules)))
 
-sets-most : (table : List ℕ) (A : ℕ) → length (setsLine table A) ≤ 123
+sets-most : (table : List ℕ) (A : ℕ) → length (setsLine table A) ≤ setsRoom
 unfolding setsLine
 sets-most table A =
     let x = wordAt table (2 * A) in
     let y = wordAt table (2 * A + 1) in
     simp length-append (omega (arith, decimal-most A, decimal-most x, decimal-most (size x), decimal-most y, decimal-most (size y)))
 
-entries-most : (table : List ℕ) (start columns : ℕ) → length (entriesLine table start columns) ≤ columns * 21 + 6
+entries-most : (table : List ℕ) (start columns : ℕ) → length (entriesLine table start columns) ≤ columns * entryRoom + 6
 unfolding entriesLine
 entries-most table start columns =
-    let cells = up-to-most columns 21 (λ c. entryText (wordAt table (start + c))) (λ k h. dash-within noEntry (wordAt table (start + k)) 20 (decimal-most (wordAt table (start + k))) (omega arith)) in
+    let cells = up-to-most columns entryRoom (λ c. entryText (wordAt table (start + c))) (λ k h. dash-within noEntry (wordAt table (start + k)) 20 (decimal-most (wordAt table (start + k))) (omega arith)) in
     simp length-append (omega (arith, cells))
 
-nonterminal-most : (z : Sizes) (table : List ℕ) (A : ℕ) → z .terminals ≤ maxTerminals → length (nonterminalText z table A) ≤ 654
+nonterminal-most : (z : Sizes) (table : List ℕ) (A : ℕ) → z .terminals ≤ maxTerminals → length (nonterminalText z table A) ≤ setsRoom + entriesRoom
 unfolding nonterminalText
 nonterminal-most z table A h =
     let start = 2 * z .nonterminals + A * (z .terminals + 1) in
@@ -39,16 +40,16 @@ nonterminal-most z table A h =
       length-append (setsLine table A) (entriesLine table start (z .terminals + 1)),
       sets-most table A,
       entries-most table start (z .terminals + 1),
-      mul-le-mul-right {m = z .terminals + 1} {n = 25} 21 (omega arith),
+      mul-le-mul-right {m = z .terminals + 1} {n = maxColumns} entryRoom (omega arith),
     )
 
-pub sheet-most : (z : Sizes) (table : List ℕ) → z .nonterminals ≤ maxNonterminals → z .terminals ≤ maxTerminals → length (sheetText (Read z) table) ≤ 21011
+pub sheet-most : (z : Sizes) (table : List ℕ) → z .nonterminals ≤ maxNonterminals → z .terminals ≤ maxTerminals → length (sheetText (Read z) table) ≤ sheetRoom
 unfolding sheetText
 sheet-most z table n t =
     omega (
       arith,
       length-append (sizesLine z) (upTo (z .nonterminals) (nonterminalText z table)),
       sizes-most z,
-      up-to-most (z .nonterminals) 654 (nonterminalText z table) (λ A h. nonterminal-most z table A t),
-      mul-le-mul-right {m = z .nonterminals} {n = 32} 654 n,
+      up-to-most (z .nonterminals) (setsRoom + entriesRoom) (nonterminalText z table) (λ A h. nonterminal-most z table A t),
+      mul-le-mul-right {m = z .nonterminals} {n = maxNonterminals} (setsRoom + entriesRoom) n,
     )

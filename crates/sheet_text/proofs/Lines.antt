@@ -1,19 +1,19 @@
 -- What is put into a buffer is the text asked for, by what the values put are. Assumes nothing.
 use mathlib.Core.Path.{_≡_}
 use mathlib.Core.List.{List, _++_}
-use Prim.Native.Nat.{ℕ, _+_, _*_, _≤_, _<_}
-use native.Mathlib.Nat.{mul-le-mul-right}
+use Prim.Native.Nat.{ℕ, suc, _+_, _*_, _≤_, _<_}
+use native.Mathlib.Nat.{mul-le-mul, suc-mul}
 use native.Mathlib.Omega.{arith}
-use Rattle.grammar.specs.Limits.{maxNonterminals, maxTerminals}
+use Rattle.grammar.specs.Limits.{maxNonterminals, maxTerminals, maxColumns, tableWords as memoryWords}
 use Rattle.lookahead.specs.Elements.{size}
 use Rattle.text.specs.Ascii.{ascii}
 use Rattle.text.specs.Decimal.{decimal, labelled}
 use Rattle.text.specs.Writing.{Put}
 use Rattle.sheet_text.specs.Sheet.{wordAt, setText, setsLine}
 
--- the rows before a nonterminal's are few words
-pub row-start : (A t : ℕ) → A < maxNonterminals → t ≤ maxTerminals → A * (t + 1) ≤ 775
-row-start A t h k = let l : A ≤ 31 = omega arith in omega (arith, mul-le-mul-right (t + 1) l)
+-- the row of a nonterminal stands within the table
+pub row-within : (n A t : ℕ) → n ≤ maxNonterminals → A < maxNonterminals → t ≤ maxTerminals → 2 * n + A * (t + 1) + (t + 1) ≤ memoryWords
+row-within n A t few h k = let m = mul-le-mul {n₁ = suc A} {m₁ = t + 1} {n₂ = maxNonterminals} {m₂ = maxColumns} h (omega arith) in omega (arith, suc-mul A (t + 1))
 
 module _ {l m : List ℕ} {at next : ℕ} where
   pub set-put : (label : List ℕ) (bits : ℕ) {n : ℕ} → n ≡ size bits →

@@ -3,13 +3,15 @@ ghost use mathlib.Core.Path.{_≡_};
 ghost use mathlib.Core.List.{_++_};
 ghost use Prim.Native.Nat.{_+_, _*_, _≤_, _<_};
 ghost use Rattle.grammar.specs.Reading.{reading};
-ghost use Rattle.grammar.specs.Limits.{maxNonterminals, maxTerminals};
+ghost use Rattle.grammar.specs.Limits.{maxNonterminals, maxTerminals, tableWords as memoryWords};
 ghost use Rattle.lookahead.specs.Elements.{size as sizeOf};
 ghost use Rattle.text.specs.Decimal.{decimal, labelled};
 ghost use Rattle.text.specs.Writing.{Put, upTo};
 ghost use Rattle.sheet_text.specs.Sheet.{wordAt, sizesLine, setsLine, entryText, entriesLine, nonterminalText, sheetText, checkText};
 use answer::Answer;
 use grammar::codes::NO_ENTRY;
+use grammar::limits::COLUMNS;
+use grammar::limits::NONTERMINALS;
 use grammar::reading::Outcome;
 use grammar::reading::Sizes;
 use grammar::reading::read;
@@ -18,6 +20,17 @@ use text::put::put_bytes;
 use text::put::put_labelled;
 use text::put::put_or_dash;
 use text::refusal::put_refusal;
+
+// How many bytes the lines take at most, and all of a sheet.
+const SIZES_ROOM: usize = 83;
+
+const SETS_ROOM: usize = 123;
+
+const ENTRY_ROOM: usize = 21;
+
+const ENTRIES_ROOM: usize = COLUMNS * ENTRY_ROOM + 6;
+
+pub const ROOM: usize = SIZES_ROOM + (NONTERMINALS as usize) * (SETS_ROOM + ENTRIES_ROOM);
 
 // A word of the table; behind its end there is none.
 fn word_at(table: &[u32], at: usize) -> u32
@@ -67,7 +80,7 @@ fn put_entry(out: &mut [u8], at: usize, entry: u32) -> usize
 
 // The entries of a row, from its start on.
 fn put_row(out: &mut [u8], at: usize, table: &[u32], start: usize, columns: usize) -> usize
-    requires { ⌜ start + columns ≤ 1024 ⌝ }
+    requires { ⌜ start + columns ≤ memoryWords ⌝ }
     ensures { λ r. ⌜ Put (now (out .entry)) at (upTo columns (λ c. entryText (wordAt (now (table .entry)) (start + c)))) (now (out .exit)) r ⌝ }
 {
     let mut next = at;
@@ -80,7 +93,7 @@ fn put_row(out: &mut [u8], at: usize, table: &[u32], start: usize, columns: usiz
 }
 
 fn put_entries(out: &mut [u8], at: usize, table: &[u32], start: usize, columns: usize) -> usize
-    requires { ⌜ start + columns ≤ 1024 ⌝ }
+    requires { ⌜ start + columns ≤ memoryWords ⌝ }
     ensures { λ r. ⌜ Put (now (out .entry)) at (entriesLine (now (table .entry)) start columns) (now (out .exit)) r ⌝ }
 {
     let at = put_bytes(out, at, b"cells");

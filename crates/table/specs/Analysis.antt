@@ -1,11 +1,12 @@
 -- What is found of an encoded grammar: the first fault among the errors 3 to 9, or its sizes and the words of its table.
 use mathlib.Core.Path.{_≡_}
-use mathlib.Core.List.{List, [], _∷_}
+use mathlib.Core.List.{List, [], _∷_, _++_}
 use mathlib.Core.Option.{Option, none, some}
 use Prim.Native.Nat.{ℕ}
 use lib.ListN.{replicate}
 use Rattle.answer.specs.declared.Error.{Error}
 use Rattle.answer.specs.declared.Error.the-variants.{Conflict}
+use Rattle.answer.specs.Faults.{firstFault}
 use Rattle.grammar.specs.Codes.{noEntry}
 use Rattle.grammar.specs.Limits.{tableWords as memoryWords}
 use Rattle.grammar.specs.Encoding.{grammarOf}
@@ -16,7 +17,7 @@ use Rattle.semantics.specs.Claims.{clashes, column}
 use Rattle.sets.specs.declared.Finding.{Finding}
 use Rattle.sets.specs.declared.Finding.the-variants.{Refused}
 use Rattle.table.specs.declared.Analysis.{Analysis}
-use Rattle.sets.specs.Families.{firstFault, setsFault, findingOf}
+use Rattle.sets.specs.Families.{setsFaults, setsFault, findingOf}
 use Rattle.table.specs.Layout.{tableWords}
 use Rattle.table.specs.Entries.{filled, Given}
 
@@ -25,9 +26,12 @@ abbrev pub clashFault : ℕ → List Entry → Option Error
 clashFault terminals [] = none
 clashFault terminals (e ∷ es) = some (Conflict (e .0) (column terminals (e .1)))
 
--- the first fault of an encoded grammar, in document 01's order: 3 to 8 come first
+-- the faults of an encoded grammar, in document 01's order: 3 to 8 come first
+abbrev pub grammarFaults : List ℕ → List (Option Error)
+grammarFaults words = setsFaults words ++ clashFault (grammarOf words .terminals) (clashes (grammarOf words) 1) ∷ []
+
 unfoldable pub fault : List ℕ → Option Error
-fault words = firstFault (setsFault words) (clashFault (grammarOf words .terminals) (clashes (grammarOf words) 1))
+fault words = firstFault (grammarFaults words)
 
 abbrev pub tableIf : Option Error → List ℕ → List ℕ
 tableIf none l = l

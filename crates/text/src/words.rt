@@ -11,7 +11,7 @@ pub enum Loaded {
     NotWords,
 }
 
-const BYTES: usize = 4;
+pub const WORD_BYTES: usize = 4;
 
 fn word(a: u8, b: u8, c: u8, d: u8) -> u32
     ensures { λ r. ⌜ r ≡ wordOf a b c d ⌝ }
@@ -30,15 +30,15 @@ fn word_at(bytes: &[u8], at: usize) -> u32
 pub fn load(bytes: &[u8], words: &mut [u32; WORDS]) -> Loaded
     ensures { λ r. ⌜ Loading (now (bytes .entry)) (now (words .entry)) r (now (words .exit)) ⌝ }
 {
-    if BYTES * WORDS < bytes.len() {
+    if WORD_BYTES * WORDS < bytes.len() {
         return Loaded::NotWords;
     }
-    if bytes.len() % BYTES != 0 {
+    if bytes.len() % WORD_BYTES != 0 {
         return Loaded::NotWords;
     }
     let mut i = 0;
-    while i < bytes.len() / BYTES {
-        words[i] = word_at(bytes, BYTES * i);
+    while i < bytes.len() / WORD_BYTES {
+        words[i] = word_at(bytes, WORD_BYTES * i);
         i = i + 1;
     }
     Loaded::Words(i)

@@ -1,7 +1,7 @@
 -- The sets are put, then the row.
 use native.Mathlib.Omega.{arith}
 use Rattle.text.proofs.Writing.{put-then}
-use Rattle.sheet_text.proofs.Lines.{row-start}
+use Rattle.sheet_text.proofs.Lines.{row-within}
 use Rattle.sheet_text.specs.Sheet.{nonterminalText}
 use borrow.Author.Needs.{needs}
 use Rattle.sheet_text.proofs.put_nonterminal.Statement.{statement}
@@ -22,12 +22,12 @@ mul-start c = search needs
 mul-start-2 : tie.Need-mul-start-2
 mul-start-2 c =
     let start = c .before .before .before .before in
-    omega (arith, row-start (start .args .nonterminal) (start .args .sizes .terminals) (omega arith) (omega arith))
+    omega (arith, row-within (start .args .sizes .nonterminals) (start .args .nonterminal) (start .args .sizes .terminals) (omega arith) (omega arith) (omega arith))
 
 add-start : tie.Need-add-start
 add-start c =
     let start = c .before .before .before .before in
-    omega (arith, row-start (start .args .nonterminal) (start .args .sizes .terminals) (omega arith) (omega arith))
+    omega (arith, row-within (start .args .sizes .nonterminals) (start .args .nonterminal) (start .args .sizes .terminals) (omega arith) (omega arith) (omega arith))
 
 put-sets-requires : tie.Need-put-sets-requires
 put-sets-requires c κs = search needs
@@ -35,7 +35,7 @@ put-sets-requires c κs = search needs
 put-entries-requires : tie.Need-put-entries-requires
 put-entries-requires c κs =
     let start = c .before .before .before .before .before .before .before .before .before in
-    omega (arith, row-start (start .args .nonterminal) (start .args .sizes .terminals) (omega arith) (omega arith))
+    omega (arith, row-within (start .args .sizes .nonterminals) (start .args .nonterminal) (start .args .sizes .terminals) (omega arith) (omega arith) (omega arith))
 
 same-length : tie.Need-same-length
 same-length c = search needs

@@ -9,7 +9,8 @@ use lib.ListN.{length, length-set}
 use borrow.Author.Tests.{not-true, not-false}
 use Rattle.word.specs.declared.Word.the-variants.{Symbol}
 use Rattle.semantics.specs.Choices.{Choice}
-use Rattle.recognizer.specs.Descent.{held, CallGiven, RunGiven}
+use Rattle.recognizer.specs.Arrays.{held}
+use Rattle.recognizer.specs.Descent.{CallGiven, RunGiven}
 use Rattle.recognizer.proofs.Bodies.{no-symbol}
 use Rattle.recognizer.proofs.Choosing.{token-given, entry-given, chosen-given}
 use Rattle.recognizer.proofs.Running.{level, Running, running-as, running-start, running-done, running-over, running-terminal, running-mismatch, running-given, running-small, running-falls, running-call, running-failed}

@@ -1,6 +1,7 @@
 use Prim.Native.Nat.{ℕ, _-_}
 use native.Mathlib.Omega.{arith}
 use lib.ListN.{length-replicate}
+use Rattle.recognizer.specs.Arrays.{choiceWords}
 use Rattle.recognizer.proofs.Filling.{Rows, rows-none, rows-more, rows-all}
 use Rattle.recognizer.proofs.OneToken.{few-sizes, row-given}
 use Rattle.recognizer.proofs.preparing.choices_of.Statement.{statement}
@@ -19,7 +20,7 @@ rule-starts-requires c κs = tt
 loop-holds : tie.Need-loop-holds Inv-loop μ-loop
 loop-holds c =
     let start = c .before .before in
-    rows-none (start .args .words .now) (start .args .entries .now) (start .args .sizes) (start .args .places) _ (length-replicate {A = ℕ} 2048 0)
+    rows-none (start .args .words .now) (start .args .entries .now) (start .args .sizes) (start .args .places) _ (length-replicate {A = ℕ} choiceWords 0)
 
 cast-if1 : tie.Need-cast-if1 Inv-loop μ-loop
 cast-if1 c = omega (arith, few-sizes (c .before .before .before .before .pre) .0)

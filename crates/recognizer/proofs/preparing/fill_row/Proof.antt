@@ -12,49 +12,49 @@ abbrev μ-loop : tie.MeasureT-loop
 μ-loop choices₀ starts entries nonterminal places columns from to column₀ choices column = columns - column
 
 cast-columns : tie.Need-cast-columns Inv-loop μ-loop
-cast-columns c = let p = placed (c .before .pre) in omega (arith, p .two, p .from, p .to, p .row, c .before .pre .fewNonterminals, c .before .pre .fewTerminals)
+cast-columns c = let p = placed (c .before .pre) in omega (arith, p .from, p .to, p .row, c .before .pre .fewNonterminals, c .before .pre .fewTerminals)
 
 add-columns : tie.Need-add-columns Inv-loop μ-loop
-add-columns c = let p = placed (c .before .pre) in omega (arith, p .two, p .from, p .to, p .row, c .before .pre .fewNonterminals, c .before .pre .fewTerminals)
+add-columns c = let p = placed (c .before .pre) in omega (arith, p .from, p .to, p .row, c .before .pre .fewNonterminals, c .before .pre .fewTerminals)
 
 cast-from : tie.Need-cast-from Inv-loop μ-loop
-cast-from c = let p = placed (c .before .before .pre) in omega (arith, p .two, p .from, p .to, p .row, c .before .before .pre .fewNonterminals, c .before .before .pre .fewTerminals)
+cast-from c = let p = placed (c .before .before .pre) in omega (arith, p .from, p .to, p .row, c .before .before .pre .fewNonterminals, c .before .before .pre .fewTerminals)
 
 mul-from : tie.Need-mul-from Inv-loop μ-loop
-mul-from c = let p = placed (c .before .before .pre) in omega (arith, p .two, p .from, p .to, p .row, c .before .before .pre .fewNonterminals, c .before .before .pre .fewTerminals)
+mul-from c = let p = placed (c .before .before .pre) in omega (arith, p .from, p .to, p .row, c .before .before .pre .fewNonterminals, c .before .before .pre .fewTerminals)
 
 mul-from-2 : tie.Need-mul-from-2 Inv-loop μ-loop
-mul-from-2 c = let p = placed (c .before .before .pre) in omega (arith, p .two, p .from, p .to, p .row, c .before .before .pre .fewNonterminals, c .before .before .pre .fewTerminals)
+mul-from-2 c = let p = placed (c .before .before .pre) in omega (arith, p .from, p .to, p .row, c .before .before .pre .fewNonterminals, c .before .before .pre .fewTerminals)
 
 add-from : tie.Need-add-from Inv-loop μ-loop
-add-from c = let p = placed (c .before .before .pre) in omega (arith, p .two, p .from, p .to, p .row, c .before .before .pre .fewNonterminals, c .before .before .pre .fewTerminals)
+add-from c = let p = placed (c .before .before .pre) in omega (arith, p .from, p .to, p .row, c .before .before .pre .fewNonterminals, c .before .before .pre .fewTerminals)
 
 mul-to : tie.Need-mul-to Inv-loop μ-loop
-mul-to c = let p = placed (c .before .before .pre) in omega (arith, p .two, p .from, p .to, p .row, c .before .before .pre .fewNonterminals, c .before .before .pre .fewTerminals)
+mul-to c = let p = placed (c .before .before .pre) in omega (arith, p .from, p .to, p .row, c .before .before .pre .fewNonterminals, c .before .before .pre .fewTerminals)
 
 loop-holds : tie.Need-loop-holds Inv-loop μ-loop
 loop-holds c = writing-none _ _ _ _ _
 
 add-first-conjunct : tie.Need-add-first-conjunct Inv-loop μ-loop
-add-first-conjunct c = let p = placed (c .before .before .before .before .pre) in omega (arith, p .two, p .from, p .to, p .row, c .before .before .before .before .pre .fewNonterminals, c .before .before .before .before .pre .fewTerminals)
+add-first-conjunct c = let p = placed (c .before .before .before .before .pre) in omega (arith, p .from, p .to, p .row, c .before .before .before .before .pre .fewNonterminals, c .before .before .before .before .pre .fewTerminals)
 
 mul-first-conjunct : tie.Need-mul-first-conjunct Inv-loop μ-loop
-mul-first-conjunct c = let p = placed (c .before .before .before .before .pre) in omega (arith, p .two, p .from, p .to, p .row, c .before .before .before .before .pre .fewNonterminals, c .before .before .before .before .pre .fewTerminals)
+mul-first-conjunct c = let p = placed (c .before .before .before .before .pre) in omega (arith, p .from, p .to, p .row, c .before .before .before .before .pre .fewNonterminals, c .before .before .before .before .pre .fewTerminals)
 
 element-copy-out-first-conjunct : tie.Need-element-copy-out-first-conjunct Inv-loop μ-loop
-element-copy-out-first-conjunct c = let p = placed (c .before .before .before .before .pre) in omega (arith, p .two, p .from, p .to, p .row, c .before .before .before .before .pre .fewNonterminals, c .before .before .before .before .pre .fewTerminals)
+element-copy-out-first-conjunct c = let p = placed (c .before .before .before .before .pre) in omega (arith, p .from, p .to, p .row, c .before .before .before .before .pre .fewNonterminals, c .before .before .before .before .pre .fewTerminals)
 
 first-conjunct-requires : tie.Need-first-conjunct-requires Inv-loop μ-loop
 first-conjunct-requires c κs = c .before .before .before .before .before .pre .firsts _ (c .before .loop-test .taken)
 
 add-choices : tie.Need-add-choices Inv-loop μ-loop
-add-choices c = let p = placed (c .before .before .before .before .before .before .pre) in omega (arith, p .two, p .from, p .to, p .row, c .before .before .before .before .before .before .pre .fewNonterminals, c .before .before .before .before .before .before .pre .fewTerminals)
+add-choices c = let p = placed (c .before .before .before .before .before .before .pre) in omega (arith, p .from, p .to, p .row, c .before .before .before .before .before .before .pre .fewNonterminals, c .before .before .before .before .before .before .pre .fewTerminals)
 
 mul-choices : tie.Need-mul-choices Inv-loop μ-loop
-mul-choices c = let p = placed (c .before .before .before .before .before .before .pre) in omega (arith, p .two, p .from, p .to, p .row, c .before .before .before .before .before .before .pre .fewNonterminals, c .before .before .before .before .before .before .pre .fewTerminals)
+mul-choices c = let p = placed (c .before .before .before .before .before .before .pre) in omega (arith, p .from, p .to, p .row, c .before .before .before .before .before .before .pre .fewNonterminals, c .before .before .before .before .before .before .pre .fewTerminals)
 
 element-write-choices : tie.Need-element-write-choices Inv-loop μ-loop
-element-write-choices c = let p = placed (c .before .before .before .before .before .before .pre) in omega (arith, p .two, p .from, p .to, p .row, c .before .before .before .before .before .before .pre .fewNonterminals, c .before .before .before .before .before .before .pre .fewTerminals)
+element-write-choices c = let p = placed (c .before .before .before .before .before .before .pre) in omega (arith, p .from, p .to, p .row, c .before .before .before .before .before .before .pre .fewNonterminals, c .before .before .before .before .before .before .pre .fewTerminals)
 
 add-column : tie.Need-add-column Inv-loop μ-loop
 add-column c = omega (arith, c .before .before .before .before .before .before .pre .fewTerminals)
@@ -70,19 +70,19 @@ loop-again c =
     writing-more (at-loop .loop .inv) (omega (arith, at-loop .loop .inv .long, start .pre .long, p .to, start .pre .fewTerminals)) (c .first-conjunct .ensures)
 
 mul-choices-2 : tie.Need-mul-choices-2 Inv-loop μ-loop
-mul-choices-2 c = let p = placed (c .before .before .before .before .pre) in omega (arith, p .two, p .from, p .to, p .row, c .before .before .before .before .pre .fewNonterminals, c .before .before .before .before .pre .fewTerminals)
+mul-choices-2 c = let p = placed (c .before .before .before .before .pre) in omega (arith, p .from, p .to, p .row, c .before .before .before .before .pre .fewNonterminals, c .before .before .before .before .pre .fewTerminals)
 
 cast-choices : tie.Need-cast-choices Inv-loop μ-loop
-cast-choices c = let p = placed (c .before .before .before .before .pre) in omega (arith, p .two, p .from, p .to, p .row, c .before .before .before .before .pre .fewNonterminals, c .before .before .before .before .pre .fewTerminals)
+cast-choices c = let p = placed (c .before .before .before .before .pre) in omega (arith, p .from, p .to, p .row, c .before .before .before .before .pre .fewNonterminals, c .before .before .before .before .pre .fewTerminals)
 
 add-choices-2 : tie.Need-add-choices-2 Inv-loop μ-loop
-add-choices-2 c = let p = placed (c .before .before .before .before .pre) in omega (arith, p .two, p .from, p .to, p .row, c .before .before .before .before .pre .fewNonterminals, c .before .before .before .before .pre .fewTerminals)
+add-choices-2 c = let p = placed (c .before .before .before .before .pre) in omega (arith, p .from, p .to, p .row, c .before .before .before .before .pre .fewNonterminals, c .before .before .before .before .pre .fewTerminals)
 
 mul-choices-3 : tie.Need-mul-choices-3 Inv-loop μ-loop
-mul-choices-3 c = let p = placed (c .before .before .before .before .pre) in omega (arith, p .two, p .from, p .to, p .row, c .before .before .before .before .pre .fewNonterminals, c .before .before .before .before .pre .fewTerminals)
+mul-choices-3 c = let p = placed (c .before .before .before .before .pre) in omega (arith, p .from, p .to, p .row, c .before .before .before .before .pre .fewNonterminals, c .before .before .before .before .pre .fewTerminals)
 
 element-write-choices-2 : tie.Need-element-write-choices-2 Inv-loop μ-loop
-element-write-choices-2 c = let p = placed (c .before .before .before .before .pre) in omega (arith, p .two, p .from, p .to, p .row, c .before .before .before .before .pre .fewNonterminals, c .before .before .before .before .pre .fewTerminals)
+element-write-choices-2 c = let p = placed (c .before .before .before .before .pre) in omega (arith, p .from, p .to, p .row, c .before .before .before .before .pre .fewNonterminals, c .before .before .before .before .pre .fewTerminals)
 
 returns : tie.Need-returns Inv-loop μ-loop
 returns c = row-filled (c .before .before .before .before .pre) (c .before .loop .inv) (c .loop-test .left)

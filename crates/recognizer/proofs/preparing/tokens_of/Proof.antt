@@ -3,6 +3,7 @@ use Prim.Native.Nat.{ℕ, _+_, _-_, _*_, _≤_}
 use native.Mathlib.Omega.{arith}
 use mathlib.Core.List.{List}
 use lib.ListN.{length, getD, set}
+use Rattle.recognizer.specs.Arrays.{endMark, elementWeight}
 use Rattle.recognizer.proofs.Tokens.{partly, partly-none, partly-more, partly-all}
 use Rattle.recognizer.proofs.preparing.tokens_of.Statement.{statement}
 use Rattle.recognizer.proofs.preparing.tokens_of.Tie as tie
@@ -24,7 +25,7 @@ cast-end : tie.Need-cast-end Inv-loop μ-loop
 cast-end c = omega (arith, c .pre .few)
 
 loop-holds : tie.Need-loop-holds Inv-loop μ-loop
-loop-holds c = (omega arith, partly-none (c .args .input .now) (c .args .terminals * 256 + 255))
+loop-holds c = (omega arith, partly-none (c .args .input .now) (c .args .terminals * elementWeight + endMark))
 
 shared-slice-read-tokens : tie.Need-shared-slice-read-tokens Inv-loop μ-loop
 shared-slice-read-tokens c = omega arith
@@ -53,8 +54,8 @@ loop-again c =
     let input = at-loop .before .args .input .now in
     let at = at-loop .loop .at in (
       omega arith,
-      ap (λ (l : List ℕ). set l at (getD input at 0 * 257)) (at-loop .loop .inv .1)
-          ∙ partly-more input (at-loop .before .args .terminals * 256 + 255) at (c .before .loop-test .taken) (at-loop .before .pre .short),
+      ap (λ (l : List ℕ). set l at (getD input at 0 * (elementWeight + 1))) (at-loop .loop .inv .1)
+          ∙ partly-more input (at-loop .before .args .terminals * elementWeight + endMark) at (c .before .loop-test .taken) (at-loop .before .pre .short),
     )
 
 returns : tie.Need-returns Inv-loop μ-loop

@@ -1,0 +1,52 @@
+-- The arrays that the descent reads: their sizes, how the word of a token is made up, and where things stand in them.
+use mathlib.Core.Bool.{Bool}
+use mathlib.Core.List.{List, [], _∷_}
+use Prim.Native.Nat.{ℕ, _+_, _-_, _*_, _/_, _%_}
+use lib.Dec.{eqb}
+use lib.ListN.{getD}
+use Rattle.word.specs.Choice.{choose}
+use Rattle.grammar.specs.Limits.{maxNonterminals}
+use Rattle.recognizer.specs.declared.arrays.Arrays.{Arrays}
+
+-- the columns of a row of choices, one for each element of lookahead; the last tells where the row of the memo table begins
+abbrev pub choiceColumns : ℕ
+choiceColumns = 64
+
+abbrev pub rowColumn : ℕ
+rowColumn = choiceColumns - 1
+
+-- a row for each nonterminal
+abbrev pub choiceWords : ℕ
+choiceWords = maxNonterminals * choiceColumns
+
+-- in the word of a token: the terminal at the end of the input, which no grammar has, and the weight of the element of lookahead
+abbrev pub endMark : ℕ
+endMark = 255
+
+abbrev pub elementWeight : ℕ
+elementWeight = endMark + 1
+
+abbrev pub arrays : Arrays
+arrays = record {
+  «choice_columns» = choiceColumns;
+  «row_column» = rowColumn;
+  choices = choiceWords;
+  «end_mark» = endMark;
+  element = elementWeight;
+}
+
+-- the input that words of tokens hold: their terminals up to the end
+unfoldable pub held : List ℕ → List ℕ
+held [] = []
+held (t ∷ ts) = choose (eqb (t % elementWeight) endMark) [] (t % elementWeight ∷ held ts)
+
+unfoldable pub matchesAt : List ℕ → ℕ → ℕ → Bool
+matchesAt tokens place a = eqb (getD tokens place 0 % elementWeight) a
+
+-- where the row of a nonterminal begins in the memo table
+unfoldable pub rowAt : List ℕ → ℕ → ℕ
+rowAt choices A = getD choices (A * choiceColumns + rowColumn) 0
+
+-- where the first conjunct stands of the rule for a nonterminal and the element of lookahead at a place, or 0
+unfoldable pub firstAt : (choices tokens : List ℕ) (A place : ℕ) → ℕ
+firstAt choices tokens A place = getD choices (A * choiceColumns + getD tokens place 0 / elementWeight) 0
