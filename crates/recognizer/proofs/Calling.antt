@@ -33,6 +33,8 @@ use Rattle.rule.specs.declared.Sign.the-variants.{Positive, Negative, Neither}
 use Rattle.rule.specs.declared.Agreement.{Agreement}
 use Rattle.rule.specs.declared.Agreement.the-variants as agreement
 use Rattle.rule.specs.Rule.{meant, signOf, signAt, beginsBody, goesOn, joinedBy, concluded}
+use Rattle.rule.proofs.Signs.{sign-number, sign-positive, sign-negative, sign-within}
+use Rattle.rule.proofs.Agreements.{opens-no-more, ends-joined}
 use Rattle.sets.proofs.Words.{parse-over}
 use Rattle.recognizer.specs.declared.descent.Run.{Run}
 use Rattle.recognizer.specs.Descent.{BodyEnd, MemoSound, CallGiven, RunGiven, RunDone}
@@ -85,78 +87,6 @@ module _ (M : MemoCalls) (w : List ℕ) (i : ℕ) (b : Body) (ns : List Body) (m
       go : (x : Bool) → pick x (memoized Failed m′) (memoNegatives M w i e ns m′) ≡ memoRest M w i (choose x agreement.Failed (agreement.At e)) [] ns m′
       go true = refl
       go false = refl
-
--- the two signs are told apart by a number
-abbrev signNumber : Sign → ℕ
-signNumber Neither = 0
-signNumber Positive = 1
-signNumber Negative = 2
-
-sign-apart : (s s′ : Sign) → s ≡ s′ → signNumber s ≡ signNumber s′
-sign-apart s s′ e = ap signNumber e
-
--- the word that a sign tells of
-sign-positive : (w : Word) → signOf w ≡ Positive → w ≡ word.Positive
-sign-positive (word.Heading n t) e = absurd (omega (arith, sign-apart Neither Positive e))
-sign-positive (word.Rule A) e = absurd (omega (arith, sign-apart Neither Positive e))
-sign-positive word.Positive e = refl
-sign-positive word.Negative e = absurd (omega (arith, sign-apart Negative Positive e))
-sign-positive (word.Symbol X) e = absurd (omega (arith, sign-apart Neither Positive e))
-sign-positive word.End e = absurd (omega (arith, sign-apart Neither Positive e))
-sign-positive word.Invalid e = absurd (omega (arith, sign-apart Neither Positive e))
-
-sign-negative : (w : Word) → signOf w ≡ Negative → w ≡ word.Negative
-sign-negative (word.Heading n t) e = absurd (omega (arith, sign-apart Neither Negative e))
-sign-negative (word.Rule A) e = absurd (omega (arith, sign-apart Neither Negative e))
-sign-negative word.Positive e = absurd (omega (arith, sign-apart Positive Negative e))
-sign-negative word.Negative e = refl
-sign-negative (word.Symbol X) e = absurd (omega (arith, sign-apart Neither Negative e))
-sign-negative word.End e = absurd (omega (arith, sign-apart Neither Negative e))
-sign-negative word.Invalid e = absurd (omega (arith, sign-apart Neither Negative e))
-
--- a sign but neither stands within the words
-sign-within : (words : List ℕ) (at : ℕ) → (signAt words at ≡ Neither → ⊥) → (at < length words) × (signAt words at ≡ signOf (decoded (getD words at 0)))
-unfolding signAt
-sign-within words at h = go (ltb at (length words)) refl h
-  where
-    go : (b : Bool) → ltb at (length words) ≡ b → (choose b (signOf (decoded (getD words at 0))) Neither ≡ Neither → ⊥)
-        → (at < length words) × (choose b (signOf (decoded (getD words at 0))) Neither ≡ signOf (decoded (getD words at 0)))
-    go true e h = (ltb-true at (length words) e, refl)
-    go false e h = absurd (h refl)
-
--- an agreement that is joined to is open no more, and ends where the body or the bodies before it did
-opens-no-more : (s : Sign) (g : Agreement) (o : Outcome) → goesOn s g ≡ true → joinedBy s g o ≡ agreement.Open → ⊥
-opens-no-more s agreement.Open Failed t e = let n : _≡_ {A = ℕ} 0 1 = cc in omega arith
-opens-no-more s agreement.Open (End x) t e = let n : _≡_ {A = ℕ} 0 1 = cc in omega arith
-opens-no-more Positive (agreement.At x) o t e = go (endsAt o x) e
-  where
-    go : (b : Bool) → choose b (agreement.At x) agreement.Failed ≡ agreement.Open → ⊥
-    go true e = let n : _≡_ {A = ℕ} 0 1 = cc in omega arith
-    go false e = let n : _≡_ {A = ℕ} 0 1 = cc in omega arith
-opens-no-more Negative (agreement.At x) o t e = go (endsAt o x) e
-  where
-    go : (b : Bool) → choose b agreement.Failed (agreement.At x) ≡ agreement.Open → ⊥
-    go true e = let n : _≡_ {A = ℕ} 0 1 = cc in omega arith
-    go false e = let n : _≡_ {A = ℕ} 0 1 = cc in omega arith
-opens-no-more Neither (agreement.At x) o t e = false≢true t
-opens-no-more s agreement.Failed o t e = false≢true t
-
-ends-joined : (n : ℕ) (s : Sign) (g : Agreement) (o : Outcome) → ((e : ℕ) → g ≡ agreement.At e → e ≤ n) → ((e : ℕ) → o ≡ End e → e ≤ n)
-    → (e : ℕ) → joinedBy s g o ≡ agreement.At e → e ≤ n
-ends-joined n s agreement.Open Failed h k e q = let z : _≡_ {A = ℕ} 0 1 = cc in absurd (omega arith)
-ends-joined n s agreement.Open (End x) h k e q = let z : x ≡ e = cc in omega (arith, k x refl)
-ends-joined n Positive (agreement.At x) o h k e q = go (endsAt o x) q
-  where
-    go : (b : Bool) → choose b (agreement.At x) agreement.Failed ≡ agreement.At e → e ≤ n
-    go true q = let z : x ≡ e = cc in omega (arith, h x refl)
-    go false q = let z : _≡_ {A = ℕ} 0 1 = cc in absurd (omega arith)
-ends-joined n Negative (agreement.At x) o h k e q = go (endsAt o x) q
-  where
-    go : (b : Bool) → choose b agreement.Failed (agreement.At x) ≡ agreement.At e → e ≤ n
-    go true q = let z : _≡_ {A = ℕ} 0 1 = cc in absurd (omega arith)
-    go false q = let z : x ≡ e = cc in omega (arith, h x refl)
-ends-joined n Neither (agreement.At x) o h k e q = let z : _≡_ {A = ℕ} 0 1 = cc in absurd (omega arith)
-ends-joined n s agreement.Failed o h k e q = let z : _≡_ {A = ℕ} 0 1 = cc in absurd (omega arith)
 
 module _ {choice : Choice} {words choices tokens input memo₀ : List ℕ} {A place : ℕ} (g : CallGiven choice words choices tokens input memo₀ A place) (r : Rule)
     (listed : List·Memᴰ r (grammarOf words .rules)) (heads : r .head ≡ A)
@@ -313,8 +243,8 @@ ends-rule : (w : Word) (p : Parsed) (s : State) → allows w s ≡ true → sign
 unfolding onWord
 ends-rule (word.Heading n t) p s a e h = absurd (false≢true a)
 ends-rule (word.Rule A) p s a e h = (refl, refl)
-ends-rule word.Positive p s a e h = absurd (omega (arith, sign-apart Positive Neither e))
-ends-rule word.Negative p s a e h = absurd (omega (arith, sign-apart Negative Neither e))
+ends-rule word.Positive p s a e h = absurd (omega (arith, sign-number e))
+ends-rule word.Negative p s a e h = absurd (omega (arith, sign-number e))
 ends-rule (word.Symbol X) p s a e h = absurd (h X refl)
 ends-rule word.End p s a e h = (refl, refl)
 ends-rule word.Invalid p s a e h = absurd (false≢true a)

@@ -34,10 +34,7 @@ unknownFault (At i) = some (UnknownToken i)
 
 -- why checking is refused, in document 01's order: the table's length, then the grammar's faults
 unfoldable pub checkFault : ℕ → List ℕ → Option Error
-checkFault table words =
-    firstFault
-    (when (ltb table tableWords) TableTooShort
-    ∷ grammarFaults words)
+checkFault table words = firstFault (when (ltb table tableWords) TableTooShort ∷ grammarFaults words)
 
 -- and judging
 unfoldable pub judgeFault : ℕ → ℕ → List ℕ → List ℕ → Option Error
