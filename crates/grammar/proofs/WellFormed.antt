@@ -240,7 +240,7 @@ in-range-same Invalid y z n t = refl
 pub faulty : (x : Error) (z : Sizes) → Faulty x ≡ Read z → ⊥
 faulty x z e = let n : _≡_ {A = ℕ} 0 1 = cc in omega arith
 
-read-same : (y z : Sizes) → Read y ≡ Read z → z ≡ y
+pub read-same : (y z : Sizes) → Read y ≡ Read z → z ≡ y
 read-same y z e = cc
 
 ended : (p : Progress) (at : ℕ) (z : Sizes) → finished p at ≡ Read z → Reads p z (parse [])

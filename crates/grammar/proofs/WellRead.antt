@@ -125,7 +125,7 @@ module _ (w : ℕ) (ws : List ℕ) (z : Sizes) (short : length (w ∷ ws) ≤ ma
     begins = begin;
   }
 
-declares-no-rules : (w : Word) → declaredBy w .rules ≡ 0
+pub declares-no-rules : (w : Word) → declaredBy w .rules ≡ 0
 declares-no-rules (Heading n t) = refl
 declares-no-rules (RuleWord A) = refl
 declares-no-rules Positive = refl

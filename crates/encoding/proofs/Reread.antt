@@ -1,0 +1,182 @@
+-- A row that is read without a fault is the words of the grammar that it encodes. Assumes nothing.
+use mathlib.Core.Path.{_≡_, refl, sym, _∙_}
+use mathlib.Core.Bool.{true, false, _&&_, false≢true}
+use mathlib.Core.List.{List, [], _∷_}
+use mathlib.Core.Logic.{_↔_}
+use Prim.Native.Nat.{ℕ, suc, _≤_, _<_}
+use native.Mathlib.Omega.{arith}
+use lib.Dec.{ltb}
+use lib.ListN.{length}
+use borrow.Author.Tests.{ltb-false, le-ltb}
+use Rattle.word.specs.declared.Word.{Word}
+use Rattle.word.specs.declared.Word.the-variants.{Heading, Rule as RuleWord, Positive, Negative, Symbol, End, Invalid}
+use Rattle.word.specs.Words.{decoded}
+use Rattle.grammar.specs.declared.reading.State.{State}
+use Rattle.grammar.specs.declared.reading.State.the-variants.{Before, Opened, InPositive, InNegative, Closed}
+use Rattle.grammar.specs.declared.reading.Sizes.{Sizes}
+use Rattle.grammar.specs.declared.reading.Progress.{Progress}
+use Rattle.grammar.specs.declared.reading.Outcome.the-variants.{Read, Faulty}
+use Rattle.answer.specs.declared.Error.the-variants.{Heading as HeadingFault, UnexpectedWord}
+use Rattle.word.specs.Choice.{choose}
+use Rattle.grammar.specs.Limits.{maxWords, maxNonterminals, maxTerminals}
+use Rattle.grammar.specs.Syntax.{Grammar, WellFormed}
+use Rattle.grammar.specs.Encoding.{Parsed, onWord, parse, sizes, declaredBy, grammarOf}
+use Rattle.encoding.specs.Encode.{headingWord, positiveWord, negativeWord, endWord, bodyWords, conjunctWords, ruleWords, rulesWords, encode, sizesOf, Encodes}
+use Rattle.grammar.specs.Reading.{row, allows, after, stepped, finished, scan, fresh, within, headed, opened, reading}
+use Rattle.grammar.proofs.WellFormed.{faulty, RuleFits, Empty, Shape, Reads, reads, passed, onward}
+use Rattle.grammar.proofs.WellRead.{chosen, refused, both, Within, within-limits, declares-no-rules}
+use Rattle.encoding.proofs.WordsOf.{From, from}
+use Rattle.encoding.proofs.Encode.{Each}
+use Rattle.encoding.proofs.EncodeRead.{encode-opened}
+
+-- the words of what a row says: of a rule that began before it, the rest of a body and the conjuncts left, then the rules that begin in it
+unfoldable unparse : Parsed → List ℕ
+unparse p = bodyWords (p .body) (conjunctWords positiveWord (p .positives) (conjunctWords negativeWord (p .negatives) (rulesWords (p .rules) (endWord ∷ []))))
+
+-- the words from a place on, by what stands before it
+abbrev Left : State → List ℕ → Type 0
+Left Before ws = ws ≡ unparse (parse ws)
+Left Opened ws = ws ≡ unparse (parse ws)
+Left InPositive ws = ws ≡ unparse (parse ws)
+Left InNegative ws = ws ≡ unparse (parse ws)
+Left Closed ws = ws ≡ []
+
+left-within : (s : State) (ws : List ℕ) → row false false true true false s ≡ true → Left s ws → ws ≡ unparse (parse ws)
+left-within Before ws a l = absurd (false≢true a)
+left-within Opened ws a l = absurd (false≢true a)
+left-within InPositive ws a l = l
+left-within InNegative ws a l = l
+left-within Closed ws a l = absurd (false≢true a)
+
+-- one word more in front
+again-word : (v : Word) (w : ℕ) (s : State) (ws : List ℕ) → From v w → allows v s ≡ true → Shape (after v s) (parse ws) → Left (after v s) ws
+    → w ∷ ws ≡ unparse (onWord v (parse ws))
+unfolding unparse onWord bodyWords conjunctWords ruleWords rulesWords parse
+again-word (RuleWord A) w s ws f a h l = cc (rw (h .0) at l)
+again-word Positive w s ws f a h l = cc
+again-word Negative w s ws f a h l = rw h (cc)
+again-word (Symbol X) w s ws f a h l = cc (left-within s ws a l)
+again-word End w s ws f a h l = rw (l, f)
+again-word (Heading n t) w s ws f a h l = absurd (false≢true a)
+again-word Invalid w s ws f a h l = absurd (false≢true a)
+
+allowed-left : (v : Word) (s : State) (ws : List ℕ) → allows v s ≡ true → ws ≡ unparse (parse ws) → Left s ws
+allowed-left v Before ws a e = e
+allowed-left v Opened ws a e = e
+allowed-left v InPositive ws a e = e
+allowed-left v InNegative ws a e = e
+allowed-left v Closed ws a e = absurd (false≢true (sym (closed v) ∙ a))
+  where
+    closed : (v : Word) → allows v Closed ≡ false
+    closed (RuleWord A) = refl
+    closed Positive = refl
+    closed Negative = refl
+    closed (Symbol X) = refl
+    closed End = refl
+    closed (Heading n t) = refl
+    closed Invalid = refl
+
+ended : (p : Progress) (at : ℕ) (z : Sizes) → finished p at ≡ Read z → Left (p .state) []
+unfolding finished
+ended p at z e = go (p .state) e
+  where
+    go : (s : State) → choose (row false false false false true s) (Read (p .sizes)) (Faulty (UnexpectedWord at)) ≡ Read z → Left s []
+    go Before e = absurd (faulty (UnexpectedWord at) z e)
+    go Opened e = absurd (faulty (UnexpectedWord at) z e)
+    go InPositive e = absurd (faulty (UnexpectedWord at) z e)
+    go InNegative e = absurd (faulty (UnexpectedWord at) z e)
+    go Closed e = refl
+
+again : (p : Progress) (at : ℕ) (ws : List ℕ) (z : Sizes) → scan p at ws ≡ Read z → Left (p .state) ws
+unfolding scan parse
+again p at [] z e = ended p at z e
+again p at (w ∷ ws) z e =
+    let g = onward (stepped (decoded w) p at) (λ q. scan q (suc at) ws) z e in
+    let k = passed (decoded w) p (g .0) at (g .1) in
+    let r = reads (g .0) (suc at) ws z (g .2) in
+    allowed-left (decoded w) (p .state) (w ∷ ws) (k .allowed)
+    (again-word (decoded w) w (p .state) ws (from w) (k .allowed) (rw (k .state) at (r .fits .shape)) (rw (k .state) at (again (g .0) (suc at) ws z (g .2))))
+
+-- a row within the limits that declares something has the grammar's heading
+heading-again : (v : Word) (w : ℕ) → 0 < declaredBy v .nonterminals → From v w → w ≡ headingWord (declaredBy v .nonterminals) (declaredBy v .terminals)
+heading-again (Heading n t) w h f = f
+heading-again (RuleWord A) w h f = absurd (omega arith)
+heading-again Positive w h f = absurd (omega arith)
+heading-again Negative w h f = absurd (omega arith)
+heading-again (Symbol X) w h f = absurd (omega arith)
+heading-again End w h f = absurd (omega arith)
+heading-again Invalid w h f = absurd (omega arith)
+
+empty-again : (p : Parsed) → Empty p → unparse p ≡ rulesWords (p .rules) (endWord ∷ [])
+unfolding unparse bodyWords conjunctWords
+empty-again p h = rw (h .body, h .positives, h .negatives)
+
+-- rules that fit a grammar's numbers make it well formed
+fit-formed : (G : Grammar) (z : Sizes) → z .nonterminals ≡ G .nonterminals → z .terminals ≡ G .terminals → Each (RuleFits z) (G .rules) → WellFormed G
+fit-formed G z n t h = record {
+  scoped = record {
+    heads = λ r m. omega (arith, h r m .head);
+    nonterminals = λ r m b k. rw n at (h r m .inRange b k .0);
+  };
+  terminals = λ r m b k. rw t at (h r m .inRange b k .1);
+  positive = λ r m. h r m .positive;
+}
+
+same-sizes : (y z : Sizes) → y .nonterminals ≡ z .nonterminals → y .terminals ≡ z .terminals → y .rules ≡ z .rules → y ≡ z
+same-sizes y z n t r =
+    let e : sizes (y .nonterminals) (y .terminals) (y .rules) ≡ sizes (z .nonterminals) (z .terminals) (z .rules) = cc in
+    e
+
+-- by the first word and the reading behind it
+module _ (w : ℕ) (ws : List ℕ) (z : Sizes)
+    (n : Within (declaredBy (decoded w) .nonterminals) maxNonterminals) (t : Within (declaredBy (decoded w) .terminals) maxTerminals)
+    (e : scan (fresh (declaredBy (decoded w))) 1 ws ≡ Read z) where
+  told : Reads (fresh (declaredBy (decoded w))) z (parse ws)
+  told = reads (fresh (declaredBy (decoded w))) 1 ws z e
+
+  count : z .rules ≡ length (parse ws .rules)
+  count = omega (arith, told .rules, declares-no-rules (decoded w))
+
+  words-again : w ∷ ws ≡ encode (grammarOf (w ∷ ws))
+  unfolding encode grammarOf
+  words-again = cc (heading-again (decoded w) w (n .some) (from w), again (fresh (declaredBy (decoded w))) 1 ws z e, empty-again (parse ws) (told .fits .shape))
+
+  headed-encodes : Encodes (w ∷ ws) z
+  unfolding grammarOf
+  headed-encodes = record {
+    grammar = grammarOf (w ∷ ws);
+    formed = fit-formed (grammarOf (w ∷ ws)) z (told .nonterminals) (told .terminals) (told .fits .rules);
+    limited = record {
+      someNonterminal = n .some;
+      fewNonterminals = n .few;
+      someTerminal = t .some;
+      fewTerminals = t .few;
+      fewRules = omega (arith, count, told .room (omega (arith, declares-no-rules (decoded w))));
+    };
+    encoded = words-again;
+    sized = same-sizes z (sizesOf (grammarOf (w ∷ ws))) (told .nonterminals) (told .terminals) count;
+  }
+
+-- a row read without a fault, but for the limit on the number of words, is the encoding of a well-formed grammar
+pub opened-encodes : (words : List ℕ) (z : Sizes) → opened words ≡ Read z → Encodes words z
+unfolding opened headed
+opened-encodes [] z e = absurd (faulty HeadingFault z e)
+opened-encodes (w ∷ ws) z e =
+    let d = declaredBy (decoded w) in
+    let c = chosen (within (d .nonterminals) maxNonterminals && within (d .terminals) maxTerminals) (scan (fresh d) 1 ws) z e in
+    let b = both (within (d .nonterminals) maxNonterminals) (within (d .terminals) maxTerminals) (c .0) in
+    headed-encodes w ws z (within-limits (d .nonterminals) maxNonterminals (b .0)) (within-limits (d .terminals) maxTerminals (b .1)) (c .1)
+
+pub encodes-opened : (words : List ℕ) (z : Sizes) → Encodes words z → opened words ≡ Read z
+encodes-opened words z h = rw (h .encoded, h .sized) (encode-opened (h .grammar) (h .formed) (h .limited))
+
+-- THE THEOREM: the rows read without a fault are the encodings, of at most 2,048 words, of well-formed grammars within the limits
+pub reading-encodes : (words : List ℕ) (z : Sizes) → (reading words ≡ Read z) ↔ ((length words ≤ maxWords) × Encodes words z)
+unfolding reading
+reading-encodes words z = (forth, back)
+  where
+    forth : reading words ≡ Read z → (length words ≤ maxWords) × Encodes words z
+    forth e = let s = refused (ltb maxWords (length words)) (opened words) z e in (ltb-false maxWords (length words) (s .0), opened-encodes words z (s .1))
+
+    back : (length words ≤ maxWords) × Encodes words z → reading words ≡ Read z
+    back h = rw (le-ltb maxWords (length words) (h .0)) (encodes-opened words z (h .1))
