@@ -1,6 +1,9 @@
-pub mod WordsOf
-pub mod Encode
-pub mod EncodeRead
-pub mod Reread
-pub mod FirstFault
-pub mod Told
+pub mod Words
+pub mod Decoding
+pub mod EncodingRead
+pub mod ReadingEncodes
+pub mod Faults
+pub mod Diagnosis
+pub mod OneDiagnosis
+pub mod Faithful
+pub mod Examples

@@ -1,4 +1,4 @@
--- The words of a grammar, and what it is for a row of words to encode one: told without any reading.
+-- The words of a grammar, and what it is for a row of words to encode one.
 use mathlib.Core.Path.{_≡_}
 use mathlib.Core.List.{List, [], _∷_}
 use Prim.Native.Nat.{ℕ, _+_, _*_, _^_, _≤_, _<_}
@@ -67,10 +67,8 @@ pub record WithinLimits (G : Grammar) : Type 0 where
   pub fewTerminals : G .terminals ≤ maxTerminals
   pub fewRules : length (G .rules) ≤ maxRules
 
--- the words are those of a well-formed grammar within the limits, and z its sizes. How many words they are is not asked here
-pub record Encodes (words : List ℕ) (z : Sizes) : Type 0 where
-  pub grammar : Grammar
-  pub formed : WellFormed grammar
-  pub limited : WithinLimits grammar
-  pub encoded : words ≡ encode grammar
-  pub sized : z ≡ sizesOf grammar
+-- the words are those of the grammar, which is well formed and within the limits; how many words they are is not asked here
+pub record Encodes (words : List ℕ) (G : Grammar) : Type 0 where
+  pub formed : WellFormed G
+  pub limited : WithinLimits G
+  pub encoded : words ≡ encode G

@@ -1,2 +1,3 @@
 pub mod Encode
-pub mod Told
+pub mod Diagnosis
+pub mod Faithful

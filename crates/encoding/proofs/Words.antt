@@ -1,4 +1,4 @@
--- A word and what it stands for: each gives the other. Assumes nothing.
+-- A word and what it stands for: each gives the other.
 use mathlib.Core.Path.{_≡_, refl}
 use mathlib.Core.Bool.{Bool, true, false}
 use Prim.Native.Nat.{ℕ, _+_, _*_, _/_, _%_, _^_, _<_}

@@ -1,4 +1,4 @@
--- A grammar's words are read without a fault. Assumes nothing.
+-- The words of a well-formed grammar within the limits are read without a fault.
 use mathlib.Core.Path.{_≡_, refl, ap, _∙_}
 use mathlib.Core.Bool.{true, false}
 use mathlib.Core.List.{List, [], _∷_, List·Memᴰ·head, Memᴰ·append-left, Memᴰ·append-right}
@@ -21,10 +21,10 @@ use Rattle.grammar.specs.Syntax.{Body, Rule, Grammar, WellFormed}
 use Rattle.grammar.specs.Encoding.{sizes}
 use Rattle.encoding.specs.Encode.{symbolWord, ruleWord, positiveWord, negativeWord, endWord, bodyWords, conjunctWords, ruleWords, rulesWords, encode, sizesOf, WithinLimits}
 use Rattle.grammar.specs.Reading.{row, allows, inRange, symbolInRange, beginsRule, after, progress, oneMore, counted, onStep, finished, scan, within, headed, opened}
-use Rattle.grammar.proofs.WellFormed.{InRange, RuleFits}
+use Rattle.grammar.proofs.WellFormed.{Each, InRange, RuleFits}
 use Rattle.grammar.proofs.Scanning.{stepped-rule, stepped-other}
-use Rattle.encoding.proofs.WordsOf.{decoded-heading, decoded-rule, decoded-positive, decoded-negative, decoded-end}
-use Rattle.encoding.proofs.Encode.{Each, each-rest, symbol-of, rest-of, rules-fit}
+use Rattle.encoding.proofs.Words.{decoded-heading, decoded-rule, decoded-positive, decoded-negative, decoded-end}
+use Rattle.encoding.proofs.Decoding.{each-rest, symbol-of, rest-of, rules-fit}
 
 -- the words are read without a fault, wherever they stand
 abbrev pub Goes : Progress → List ℕ → Sizes → Type 0

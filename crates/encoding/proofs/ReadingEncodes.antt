@@ -1,4 +1,4 @@
--- A row that is read without a fault is the words of the grammar that it encodes. Assumes nothing.
+-- A row that is read without a fault is the words of the grammar that it encodes.
 use mathlib.Core.Path.{_≡_, refl, sym, _∙_}
 use mathlib.Core.Bool.{true, false, _&&_, false≢true}
 use mathlib.Core.List.{List, [], _∷_}
@@ -15,19 +15,17 @@ use Rattle.grammar.specs.declared.reading.State.{State}
 use Rattle.grammar.specs.declared.reading.State.the-variants.{Before, Opened, InPositive, InNegative, Closed}
 use Rattle.grammar.specs.declared.reading.Sizes.{Sizes}
 use Rattle.grammar.specs.declared.reading.Progress.{Progress}
-use Rattle.grammar.specs.declared.reading.Outcome.the-variants.{Read, Faulty}
-use Rattle.answer.specs.declared.Error.the-variants.{Heading as HeadingFault, UnexpectedWord}
-use Rattle.word.specs.Choice.{choose}
+use Rattle.grammar.specs.declared.reading.Outcome.the-variants.{Read}
+use Rattle.answer.specs.declared.Error.the-variants.{Heading as HeadingFault}
 use Rattle.grammar.specs.Limits.{maxWords, maxNonterminals, maxTerminals}
-use Rattle.grammar.specs.Syntax.{Grammar, WellFormed}
+use Rattle.grammar.specs.Syntax.{Grammar}
 use Rattle.grammar.specs.Encoding.{Parsed, onWord, parse, sizes, declaredBy, grammarOf}
 use Rattle.encoding.specs.Encode.{headingWord, positiveWord, negativeWord, endWord, bodyWords, conjunctWords, ruleWords, rulesWords, encode, sizesOf, Encodes}
-use Rattle.grammar.specs.Reading.{row, allows, after, stepped, finished, scan, fresh, within, headed, opened, reading}
-use Rattle.grammar.proofs.WellFormed.{faulty, RuleFits, Empty, Shape, Reads, reads, passed, onward}
-use Rattle.grammar.proofs.WellRead.{chosen, refused, both, Within, within-limits, declares-no-rules}
-use Rattle.encoding.proofs.WordsOf.{From, from}
-use Rattle.encoding.proofs.Encode.{Each}
-use Rattle.encoding.proofs.EncodeRead.{encode-opened}
+use Rattle.grammar.specs.Reading.{row, allows, after, stepped, scan, fresh, within, headed, opened, reading}
+use Rattle.grammar.proofs.WellFormed.{faulty, finished-read, Empty, Shape, Reads, reads, passed, onward}
+use Rattle.grammar.proofs.WellRead.{chosen, refused, both, Within, within-limits, fit-formed, declares-no-rules}
+use Rattle.encoding.proofs.Words.{From, from}
+use Rattle.encoding.proofs.EncodingRead.{encode-opened}
 
 -- the words of what a row says: of a rule that began before it, the rest of a body and the conjuncts left, then the rules that begin in it
 unfoldable unparse : Parsed → List ℕ
@@ -76,20 +74,9 @@ allowed-left v Closed ws a e = absurd (false≢true (sym (closed v) ∙ a))
     closed (Heading n t) = refl
     closed Invalid = refl
 
-ended : (p : Progress) (at : ℕ) (z : Sizes) → finished p at ≡ Read z → Left (p .state) []
-unfolding finished
-ended p at z e = go (p .state) e
-  where
-    go : (s : State) → choose (row false false false false true s) (Read (p .sizes)) (Faulty (UnexpectedWord at)) ≡ Read z → Left s []
-    go Before e = absurd (faulty (UnexpectedWord at) z e)
-    go Opened e = absurd (faulty (UnexpectedWord at) z e)
-    go InPositive e = absurd (faulty (UnexpectedWord at) z e)
-    go InNegative e = absurd (faulty (UnexpectedWord at) z e)
-    go Closed e = refl
-
 again : (p : Progress) (at : ℕ) (ws : List ℕ) (z : Sizes) → scan p at ws ≡ Read z → Left (p .state) ws
 unfolding scan parse
-again p at [] z e = ended p at z e
+again p at [] z e = rw (finished-read p at z e .0) refl
 again p at (w ∷ ws) z e =
     let g = onward (stepped (decoded w) p at) (λ q. scan q (suc at) ws) z e in
     let k = passed (decoded w) p (g .0) at (g .1) in
@@ -111,17 +98,6 @@ empty-again : (p : Parsed) → Empty p → unparse p ≡ rulesWords (p .rules) (
 unfolding unparse bodyWords conjunctWords
 empty-again p h = rw (h .body, h .positives, h .negatives)
 
--- rules that fit a grammar's numbers make it well formed
-fit-formed : (G : Grammar) (z : Sizes) → z .nonterminals ≡ G .nonterminals → z .terminals ≡ G .terminals → Each (RuleFits z) (G .rules) → WellFormed G
-fit-formed G z n t h = record {
-  scoped = record {
-    heads = λ r m. omega (arith, h r m .head);
-    nonterminals = λ r m b k. rw n at (h r m .inRange b k .0);
-  };
-  terminals = λ r m b k. rw t at (h r m .inRange b k .1);
-  positive = λ r m. h r m .positive;
-}
-
 same-sizes : (y z : Sizes) → y .nonterminals ≡ z .nonterminals → y .terminals ≡ z .terminals → y .rules ≡ z .rules → y ≡ z
 same-sizes y z n t r =
     let e : sizes (y .nonterminals) (y .terminals) (y .rules) ≡ sizes (z .nonterminals) (z .terminals) (z .rules) = cc in
@@ -141,10 +117,9 @@ module _ (w : ℕ) (ws : List ℕ) (z : Sizes)
   unfolding encode grammarOf
   words-again = cc (heading-again (decoded w) w (n .some) (from w), again (fresh (declaredBy (decoded w))) 1 ws z e, empty-again (parse ws) (told .fits .shape))
 
-  headed-encodes : Encodes (w ∷ ws) z
+  headed-encodes : Encodes (w ∷ ws) (grammarOf (w ∷ ws))
   unfolding grammarOf
   headed-encodes = record {
-    grammar = grammarOf (w ∷ ws);
     formed = fit-formed (grammarOf (w ∷ ws)) z (told .nonterminals) (told .terminals) (told .fits .rules);
     limited = record {
       someNonterminal = n .some;
@@ -154,29 +129,37 @@ module _ (w : ℕ) (ws : List ℕ) (z : Sizes)
       fewRules = omega (arith, count, told .room (omega (arith, declares-no-rules (decoded w))));
     };
     encoded = words-again;
-    sized = same-sizes z (sizesOf (grammarOf (w ∷ ws))) (told .nonterminals) (told .terminals) count;
   }
 
--- a row read without a fault, but for the limit on the number of words, is the encoding of a well-formed grammar
-pub opened-encodes : (words : List ℕ) (z : Sizes) → opened words ≡ Read z → Encodes words z
+  headed-sizes : z ≡ sizesOf (grammarOf (w ∷ ws))
+  unfolding grammarOf
+  headed-sizes = same-sizes z (sizesOf (grammarOf (w ∷ ws))) (told .nonterminals) (told .terminals) count
+
+-- a row read without a fault, but for the limit on the number of words, is the encoding of its grammar
+pub opened-encodes : (words : List ℕ) (z : Sizes) → opened words ≡ Read z → Encodes words (grammarOf words) × (z ≡ sizesOf (grammarOf words))
 unfolding opened headed
 opened-encodes [] z e = absurd (faulty HeadingFault z e)
 opened-encodes (w ∷ ws) z e =
     let d = declaredBy (decoded w) in
     let c = chosen (within (d .nonterminals) maxNonterminals && within (d .terminals) maxTerminals) (scan (fresh d) 1 ws) z e in
     let b = both (within (d .nonterminals) maxNonterminals) (within (d .terminals) maxTerminals) (c .0) in
-    headed-encodes w ws z (within-limits (d .nonterminals) maxNonterminals (b .0)) (within-limits (d .terminals) maxTerminals (b .1)) (c .1)
+    let n = within-limits (d .nonterminals) maxNonterminals (b .0) in
+    let t = within-limits (d .terminals) maxTerminals (b .1) in
+    (headed-encodes w ws z n t (c .1), headed-sizes w ws z n t (c .1))
 
-pub encodes-opened : (words : List ℕ) (z : Sizes) → Encodes words z → opened words ≡ Read z
-encodes-opened words z h = rw (h .encoded, h .sized) (encode-opened (h .grammar) (h .formed) (h .limited))
+pub encodes-opened : (words : List ℕ) (G : Grammar) → Encodes words G → opened words ≡ Read (sizesOf G)
+encodes-opened words G h = rw (h .encoded) (encode-opened G (h .formed) (h .limited))
 
--- THE THEOREM: the rows read without a fault are the encodings, of at most 2,048 words, of well-formed grammars within the limits
-pub reading-encodes : (words : List ℕ) (z : Sizes) → (reading words ≡ Read z) ↔ ((length words ≤ maxWords) × Encodes words z)
+-- THE THEOREM: the rows read without a fault are the encodings of at most 2,048 words
+pub reading-encodes : (words : List ℕ) (z : Sizes)
+    → (reading words ≡ Read z) ↔ ((length words ≤ maxWords) × ((G : Grammar) × (Encodes words G × (z ≡ sizesOf G))))
 unfolding reading
 reading-encodes words z = (forth, back)
   where
-    forth : reading words ≡ Read z → (length words ≤ maxWords) × Encodes words z
-    forth e = let s = refused (ltb maxWords (length words)) (opened words) z e in (ltb-false maxWords (length words) (s .0), opened-encodes words z (s .1))
+    forth : reading words ≡ Read z → (length words ≤ maxWords) × ((G : Grammar) × (Encodes words G × (z ≡ sizesOf G)))
+    forth e =
+        let s = refused (ltb maxWords (length words)) (opened words) z e in
+        (ltb-false maxWords (length words) (s .0), (grammarOf words, opened-encodes words z (s .1)))
 
-    back : (length words ≤ maxWords) × Encodes words z → reading words ≡ Read z
-    back h = rw (le-ltb maxWords (length words) (h .0)) (encodes-opened words z (h .1))
+    back : (length words ≤ maxWords) × ((G : Grammar) × (Encodes words G × (z ≡ sizesOf G))) → reading words ≡ Read z
+    back (l, (G, (e, s))) = rw (le-ltb maxWords (length words) l, s) (encodes-opened words G e)

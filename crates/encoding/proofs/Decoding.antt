@@ -1,4 +1,4 @@
--- The grammar of a grammar's words is that grammar. Assumes nothing.
+-- The grammar of a grammar's words is that grammar.
 use mathlib.Core.Path.{_≡_, refl, sym, ap, _∙_}
 use mathlib.Core.List.{List, [], _∷_, List·Memᴰ, List·Memᴰ·head, List·Memᴰ·tail, Memᴰ·append-left, Memᴰ·append-right}
 use Prim.Native.Nat.{ℕ, _≤_}
@@ -10,13 +10,9 @@ use Rattle.word.specs.Words.{decoded}
 use Rattle.grammar.specs.Limits.{maxNonterminals, maxTerminals}
 use Rattle.grammar.specs.Syntax.{Body, Rule, Grammar, WellFormed}
 use Rattle.grammar.specs.Encoding.{parsed, onWord, parse, sizes, grammarOf}
-use Rattle.encoding.specs.Encode.{symbolWord, positiveWord, negativeWord, endWord, bodyWords, conjunctWords, ruleWords, rulesWords, encode, WithinLimits}
-use Rattle.grammar.proofs.WellFormed.{InRange, RuleFits}
-use Rattle.encoding.proofs.WordsOf.{decoded-heading, decoded-rule, decoded-positive, decoded-negative, decoded-symbol, decoded-end}
-
--- what is asked of every member
-abbrev pub Each : {A : Type 0} → (A → Type 0) → List A → Type 0
-Each {A} P l = (x : A) → List·Memᴰ x l → P x
+use Rattle.encoding.specs.Encode.{symbolWord, positiveWord, negativeWord, endWord, bodyWords, conjunctWords, ruleWords, rulesWords, encode, WithinLimits, Encodes}
+use Rattle.grammar.proofs.WellFormed.{Each, InRange, RuleFits}
+use Rattle.encoding.proofs.Words.{decoded-heading, decoded-rule, decoded-positive, decoded-negative, decoded-symbol, decoded-end}
 
 pub each-rest : {A : Type 0} (P : A → Type 0) (x : A) (l : List A) → Each P (x ∷ l) → Each P l
 each-rest P x l h y m = h y (List·Memᴰ·tail m)
@@ -72,7 +68,7 @@ unfolding parse onWord
 end-parsed = rw decoded-end
 
 -- a well-formed grammar's rules fit its numbers
-pub rules-fit : (G : Grammar) → WellFormed G → (r : Rule) → List·Memᴰ r (G .rules) → RuleFits (sizes (G .nonterminals) (G .terminals) 0) r
+pub rules-fit : (G : Grammar) → WellFormed G → Each (RuleFits (sizes (G .nonterminals) (G .terminals) 0)) (G .rules)
 rules-fit G f r m = record {
   head = f .scoped .heads r m;
   inRange = λ b k. (f .scoped .nonterminals r m b k, f .terminals r m b k);
@@ -88,6 +84,9 @@ encoded G f l =
       rules-parsed (G .nonterminals) (G .terminals) (l .fewNonterminals) (l .fewTerminals) (G .rules) (endWord ∷ []) (rules-fit G f) end-parsed,
     )
 
--- so two grammars with the same words are the same
-pub encode-injective : (G H : Grammar) → WellFormed G → WithinLimits G → WellFormed H → WithinLimits H → encode G ≡ encode H → G ≡ H
-encode-injective G H f l g m e = sym (encoded G f l) ∙ ap grammarOf e ∙ encoded H g m
+pub encodes-grammar : (words : List ℕ) (G : Grammar) → Encodes words G → grammarOf words ≡ G
+encodes-grammar words G e = ap grammarOf (e .encoded) ∙ encoded G (e .formed) (e .limited)
+
+-- so a row of words encodes at most one grammar
+pub encode-injective : (words : List ℕ) (G H : Grammar) → Encodes words G → Encodes words H → G ≡ H
+encode-injective words G H e f = sym (encodes-grammar words G e) ∙ encodes-grammar words H f

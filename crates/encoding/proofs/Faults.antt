@@ -1,12 +1,11 @@
--- The position that a fault tells: the words before it begin an encoding, and with the word at it they do not. Assumes nothing.
+-- A reading that finds a fault: how far the words before it lead, and what stands at it.
 use mathlib.Core.Path.{_≡_, refl, sym, _∙_}
-use mathlib.Core.Bool.{Bool, true, false}
+use mathlib.Core.Bool.{true, false}
 use mathlib.Core.List.{List, [], _∷_, _++_}
 use Prim.Native.Nat.{ℕ, suc, _+_, _≤_, _<_}
 use native.Mathlib.Omega.{arith}
-use lib.Dec.{leb}
 use lib.ListN.{length, take, getD}
-use borrow.Author.Tests.{leb-true}
+use borrow.Author.Tests.{lt-leb}
 use Rattle.answer.specs.declared.Error.{Error}
 use Rattle.answer.specs.declared.Error.the-variants.{UnexpectedWord, OutOfRange, TooManyRules}
 use Rattle.word.specs.declared.Word.{Word}
@@ -23,12 +22,13 @@ use Rattle.grammar.specs.declared.reading.Outcome.the-variants.{Read, Faulty}
 use Rattle.grammar.specs.Limits.{maxRules}
 use Rattle.grammar.specs.Encoding.{sizes}
 use Rattle.encoding.specs.Encode.{positiveWord, endWord}
-use Rattle.grammar.specs.Reading.{row, allows, inRange, beginsRule, progress, counted, stepped, onStep, finished, scan, reading}
-use Rattle.grammar.proofs.WellFormed.{faulty, passed}
-use Rattle.encoding.proofs.WordsOf.{decoded-positive}
-use Rattle.encoding.proofs.EncodeRead.{Goes, goes-word, closed-goes, end-goes}
+use Rattle.grammar.specs.Reading.{row, progress, counted, stepped, onStep, finished, scan}
+use Rattle.grammar.proofs.Scanning.{stepped-rule, stepped-other, Stepped, stepping}
+use Rattle.grammar.proofs.WellFormed.{faulty, never, passed}
+use Rattle.encoding.proofs.Words.{decoded-positive}
+use Rattle.encoding.proofs.EncodingRead.{Goes, goes-word, closed-goes, end-goes}
 
--- from everywhere there is a way to the end
+-- from every place there is a way to the end
 pub record Completes (p : Progress) : Type 0 where
   pub rest : List ℕ
   pub sizes : Sizes
@@ -45,55 +45,23 @@ complete InPositive y = record { rest = endWord ∷ []; sizes = y; goes = end-go
 complete InNegative y = record { rest = endWord ∷ []; sizes = y; goes = end-goes InNegative y refl }
 complete Closed y = record { rest = []; sizes = y; goes = closed-goes y }
 
-stop-same : (x y : Error) → Stop x ≡ Stop y → y ≡ x
+pub stop-same : (x y : Error) → Stop x ≡ Stop y → y ≡ x
 stop-same x y e = cc
 
-pub never : (x : Error) (q : Progress) → Go q ≡ Stop x → ⊥
-never x q e = let n : _≡_ {A = ℕ} 0 1 = cc in omega arith
-
-pub faulty-same : (x y : Error) → Faulty x ≡ Faulty y → y ≡ x
+faulty-same : (x y : Error) → Faulty x ≡ Faulty y → y ≡ x
 faulty-same x y e = cc
 
--- why a word stops the reading
-pub data Stops (w : Word) (p : Progress) (at : ℕ) : Error → Type 0 where
-  unexpected : allows w (p .state) ≡ false → Stops w p at (UnexpectedWord at)
-  outOfRange : allows w (p .state) ≡ true → inRange w (p .sizes) ≡ false → Stops w p at (OutOfRange at)
-  tooMany : allows w (p .state) ≡ true → inRange w (p .sizes) ≡ true → beginsRule w ≡ true → maxRules ≤ p .sizes .rules → Stops w p at (TooManyRules at)
-
--- a word goes on wherever it stands, and a stop tells where it is and why
-pub record Stepping (w : Word) (p : Progress) (at : ℕ) : Type 0 where
-  pub goes : (q : Progress) (j : ℕ) → stepped w p at ≡ Go q → stepped w p j ≡ Go q
-  pub stops : (x : Error) → stepped w p at ≡ Stop x → Stops w p at x
-
-pub stepping : (w : Word) (p : Progress) (at : ℕ) → Stepping w p at
-unfolding stepped counted
-stepping w p at = go (allows w (p .state)) refl (inRange w (p .sizes)) refl (beginsRule w) refl (leb maxRules (p .sizes .rules)) refl
+-- a word that goes on does so wherever it stands
+goes-anywhere : (w : Word) (p q : Progress) (at j : ℕ) → stepped w p at ≡ Go q → stepped w p j ≡ Go q
+unfolding counted
+goes-anywhere w p q at j e = go (stepped w p at) (stepping w p at) e
   where
-    stop : (x : Error) (q : Progress) → Stop x ≡ Go q → ⊥
-    stop x q e = never x q (sym e)
-
-    go : (a : Bool) → allows w (p .state) ≡ a → (i : Bool) → inRange w (p .sizes) ≡ i → (b : Bool) → beginsRule w ≡ b → (f : Bool)
-        → leb maxRules (p .sizes .rules) ≡ f → Stepping w p at
-    go false ea i ei b eb f ef = record {
-      goes = λ q j e. absurd (stop (UnexpectedWord at) q (rw ea at e));
-      stops = λ x e. rw (stop-same (UnexpectedWord at) x (rw ea at e)) (unexpected ea);
-    }
-    go true ea false ei b eb f ef = record {
-      goes = λ q j e. absurd (stop (OutOfRange at) q (rw (ea, ei) at e));
-      stops = λ x e. rw (stop-same (OutOfRange at) x (rw (ea, ei) at e)) (outOfRange ea ei);
-    }
-    go true ea true ei true eb true ef = record {
-      goes = λ q j e. absurd (stop (TooManyRules at) q (rw (ea, ei, eb, ef) at e));
-      stops = λ x e. rw (stop-same (TooManyRules at) x (rw (ea, ei, eb, ef) at e)) (tooMany ea ei eb (leb-true maxRules (p .sizes .rules) ef));
-    }
-    go true ea true ei true eb false ef = record {
-      goes = λ q j e. rw (ea, ei, eb, ef) (rw (ea, ei, eb, ef) at e);
-      stops = λ x e. absurd (never x _ (rw (ea, ei, eb, ef) at e));
-    }
-    go true ea true ei false eb f ef = record {
-      goes = λ q j e. rw (ea, ei, eb) (rw (ea, ei, eb) at e);
-      stops = λ x e. absurd (never x _ (rw (ea, ei, eb) at e));
-    }
+    go : (t : Step) → Stepped w p at t → t ≡ Go q → stepped w p j ≡ Go q
+    go _ (Stepped.unexpected a) g = absurd (never (UnexpectedWord at) q g)
+    go _ (Stepped.outOfRange a i) g = absurd (never (OutOfRange at) q g)
+    go _ (Stepped.tooMany a i b l) g = absurd (never (TooManyRules at) q g)
+    go _ (Stepped.rule a i b l) g = rw (stepped-rule w p j a i b, lt-leb maxRules (p .sizes .rules) l) g
+    go _ (Stepped.other a i b) g = rw (stepped-other w p j a i b) g
 
 end-missing : (p : Progress) (at : ℕ) (x : Error) → finished p at ≡ Faulty x → x ≡ UnexpectedWord at
 unfolding finished
@@ -106,7 +74,7 @@ end-missing p at x e = go (p .state) e
     go InNegative e = faulty-same (UnexpectedWord at) x e
     go Closed e = absurd (faulty x (p .sizes) (sym e))
 
--- a fault at the index i of a row: how far the words before it lead, and what stands at it
+-- before the fault there are so many words, which lead to `come` whatever stands behind them
 pub record Faults (p : Progress) (at : ℕ) (ws : List ℕ) (x : Error) : Type 0 where
   pub before : ℕ
   pub come : Progress
@@ -131,9 +99,6 @@ faults p at [] x e = record {
 }
 faults p at (w ∷ ws) x e = go (stepped (decoded w) p at) refl e (λ q. faults q (suc at) ws x)
   where
-    all : Stepping (decoded w) p at
-    all = stepping (decoded w) p at
-
     go : (t : Step) → stepped (decoded w) p at ≡ t → onStep t (λ q. scan q (suc at) ws) ≡ Faulty x
         → ((q : Progress) → scan q (suc at) ws ≡ Faulty x → Faults q (suc at) ws x) → Faults p at (w ∷ ws) x
     go (Stop y) t e f = record {
@@ -153,7 +118,7 @@ faults p at (w ∷ ws) x e = go (stepped (decoded w) p at) refl e (λ q. faults 
         record {
           before = suc (h .before);
           come = h .come;
-          through = λ us j. let n : j + suc (h .before) ≡ suc j + h .before = omega arith in rw (n, all .goes q j t) (h .through us (suc j));
+          through = λ us j. let n : j + suc (h .before) ≡ suc j + h .before = omega arith in rw (n, goes-anywhere (decoded w) p q at j t) (h .through us (suc j));
           nonterminals = h .nonterminals ∙ k .nonterminals;
           terminals = h .terminals ∙ k .terminals;
           among = omega (arith, h .among);
