@@ -151,15 +151,21 @@ pub encodes-opened : (words : List ℕ) (G : Grammar) → Encodes words G → op
 encodes-opened words G h = rw (h .encoded) (encode-opened G (h .formed) (h .limited))
 
 -- THE THEOREM: the rows read without a fault are the encodings of at most 2,048 words
+pub read-encodes : (words : List ℕ) (z : Sizes) → reading words ≡ Read z
+    → (length words ≤ maxWords) × Encodes words (grammarOf words) × (z ≡ sizesOf (grammarOf words))
+unfolding reading
+read-encodes words z e =
+    let s = refused (ltb maxWords (length words)) (opened words) z e in
+    let r = opened-encodes words z (s .1) in
+    (ltb-false maxWords (length words) (s .0), r .0, r .1)
+
+pub encodes-read : (words : List ℕ) (G : Grammar) → length words ≤ maxWords → Encodes words G → reading words ≡ Read (sizesOf G)
+unfolding reading
+encodes-read words G l e = rw (le-ltb maxWords (length words) l) (encodes-opened words G e)
+
 pub reading-encodes : (words : List ℕ) (z : Sizes)
     → (reading words ≡ Read z) ↔ ((length words ≤ maxWords) × ((G : Grammar) × (Encodes words G × (z ≡ sizesOf G))))
-unfolding reading
-reading-encodes words z = (forth, back)
+reading-encodes words z = (λ e. let r = read-encodes words z e in (r .0, (grammarOf words, (r .1, r .2))), back)
   where
-    forth : reading words ≡ Read z → (length words ≤ maxWords) × ((G : Grammar) × (Encodes words G × (z ≡ sizesOf G)))
-    forth e =
-        let s = refused (ltb maxWords (length words)) (opened words) z e in
-        (ltb-false maxWords (length words) (s .0), (grammarOf words, opened-encodes words z (s .1)))
-
     back : (length words ≤ maxWords) × ((G : Grammar) × (Encodes words G × (z ≡ sizesOf G))) → reading words ≡ Read z
-    back (l, (G, (e, s))) = rw (le-ltb maxWords (length words) l, s) (encodes-opened words G e)
+    back (l, (G, (e, s))) = rw s (encodes-read words G l e)
