@@ -24,7 +24,7 @@ use Rattle.grammar.specs.declared.reading.Sizes.{Sizes}
 use Rattle.grammar.specs.declared.reading.Outcome.{Outcome}
 use Rattle.grammar.specs.declared.reading.Outcome.the-variants.{Read, Faulty}
 use Rattle.grammar.proofs.WellRead.{well-read}
-use Rattle.encoding.specs.Encode.{Encodes}
+use Rattle.encoding.specs.Encode.{sizesOf, Encodes}
 use Rattle.encoding.proofs.Decoding.{encodes-grammar}
 use Rattle.encoding.proofs.ReadingEncodes.{read-encodes, encodes-read}
 use Rattle.encoding.proofs.Faithful.{faithful}
@@ -129,9 +129,12 @@ module _ (words : List ℕ) (p : PassedGrammar words) where
   pub not-left-recursive : lowestLeftRecursive (grammarOf words) ≡ none
   not-left-recursive = theorems .left-recursion-decided (grammarOf words) (passed-encodes .formed .scoped) .absent .1 passed-free
 
+  pub passed-read : reading words ≡ Read (sizesOf (grammarOf words))
+  passed-read = encodes-read words (grammarOf words) (p .short) passed-encodes
+
   pub fault-passed : fault words ≡ none
   unfolding fault setsFault
-  fault-passed = rw (encodes-read words (p .grammar) (p .short) (p .encodes), not-left-recursive, no-clashes)
+  fault-passed = rw (passed-read, not-left-recursive, no-clashes)
 
 -- with a table that is long enough only the grammar's faults are left
 check-fault-long : (n : ℕ) (words : List ℕ) → memoryWords ≤ n → checkFault n words ≡ fault words
