@@ -1,15 +1,14 @@
 -- The grammar of a grammar's words is that grammar.
 use mathlib.Core.Path.{_≡_, refl, sym, ap, _∙_}
-use mathlib.Core.List.{List, [], _∷_, List·Memᴰ, List·Memᴰ·head, List·Memᴰ·tail, Memᴰ·append-left, Memᴰ·append-right}
-use Prim.Native.Nat.{ℕ, _≤_}
+use mathlib.Core.List.{List, [], _∷_, List·Memᴰ·head, List·Memᴰ·tail, Memᴰ·append-left, Memᴰ·append-right}
+use Prim.Native.Nat.{ℕ, _^_, _<_}
 use native.Mathlib.Omega.{arith}
 use Rattle.word.specs.declared.Symbol.the-variants.{Terminal, Nonterminal}
 use Rattle.word.specs.declared.Symbol as symbol
 use Rattle.word.specs.declared.Word.the-variants.{Symbol}
 use Rattle.word.specs.Words.{decoded}
-use Rattle.grammar.specs.Limits.{maxNonterminals, maxTerminals}
 use Rattle.grammar.specs.Syntax.{Body, Rule, Grammar, WellFormed}
-use Rattle.grammar.specs.Encoding.{parsed, onWord, parse, sizes, grammarOf}
+use Rattle.grammar.specs.Encoding.{Parsed, parsed, onWord, parse, sizes, grammarOf}
 use Rattle.encoding.specs.Encode.{symbolWord, positiveWord, negativeWord, endWord, bodyWords, conjunctWords, ruleWords, rulesWords, encode, WithinLimits, Encodes}
 use Rattle.grammar.proofs.WellFormed.{Each, InRange, RuleFits}
 use Rattle.encoding.proofs.Words.{decoded-heading, decoded-rule, decoded-positive, decoded-negative, decoded-symbol, decoded-end}
@@ -17,8 +16,8 @@ use Rattle.encoding.proofs.Words.{decoded-heading, decoded-rule, decode
 pub each-rest : {A : Type 0} (P : A → Type 0) (x : A) (l : List A) → Each P (x ∷ l) → Each P l
 each-rest P x l h y m = h y (List·Memᴰ·tail m)
 
--- numbers within the limits fit a payload
-module _ (n t : ℕ) (fewNonterminals : n ≤ maxNonterminals) (fewTerminals : t ≤ maxTerminals) where
+-- numbers that the heading has room for
+module _ (n t : ℕ) (fewNonterminals : n < 2 ^ 8) (fewTerminals : t < 2 ^ 8) where
   pub symbol-of : (X : symbol.Symbol) (b : Body) → InRange (sizes n t 0) (X ∷ b) → decoded (symbolWord X) ≡ Symbol X
   symbol-of (Terminal a) b h = let l = h .1 .0 in decoded-symbol (Terminal a) (omega arith)
   symbol-of (Nonterminal A) b h = let l = h .0 .0 in decoded-symbol (Nonterminal A) (omega arith)
@@ -27,25 +26,19 @@ module _ (n t : ℕ) (fewNonterminals : n ≤ maxNonterminals) (fewTerminals : t
   rest-of (Terminal a) b h = (h .0, h .1 .1)
   rest-of (Nonterminal A) b h = (h .0 .1, h .1)
 
-  body-parsed : (b : Body) (ps ns : List Body) (rs : List Rule) (ws : List ℕ) → InRange (sizes n t 0) b → parse ws ≡ parsed [] ps ns rs
-      → parse (bodyWords b ws) ≡ parsed b ps ns rs
-  unfolding bodyWords parse onWord
-  body-parsed [] ps ns rs ws h e = e
-  body-parsed (X ∷ b) ps ns rs ws h e = rw (symbol-of X b h, body-parsed b ps ns rs ws (rest-of X b h) e)
+  -- conjuncts of one sign, by where the begin of a conjunct puts its body
+  module _ (begin : ℕ) (f : Body → List Body → Parsed) (symbols : (X : symbol.Symbol) (b : Body) (bs : List Body) → onWord (Symbol X) (f b bs) ≡ f (X ∷ b) bs)
+      (begins : (b : Body) (bs : List Body) → onWord (decoded begin) (f b bs) ≡ f [] (b ∷ bs)) where
+    body-parsed : (b : Body) (bs : List Body) (ws : List ℕ) → InRange (sizes n t 0) b → parse ws ≡ f [] bs → parse (bodyWords b ws) ≡ f b bs
+    unfolding bodyWords parse
+    body-parsed [] bs ws h e = e
+    body-parsed (X ∷ b) bs ws h e = rw (symbol-of X b h, body-parsed b bs ws (rest-of X b h) e) (symbols X b bs)
 
-  negatives-parsed : (ns : List Body) (rs : List Rule) (ws : List ℕ) → Each (InRange (sizes n t 0)) ns → parse ws ≡ parsed [] [] [] rs
-      → parse (conjunctWords negativeWord ns ws) ≡ parsed [] [] ns rs
-  unfolding conjunctWords parse onWord
-  negatives-parsed [] rs ws h e = e
-  negatives-parsed (b ∷ ns) rs ws h e =
-      rw (decoded-negative, body-parsed b [] ns rs (conjunctWords negativeWord ns ws) (h b (List·Memᴰ·head refl)) (negatives-parsed ns rs ws (each-rest _ b ns h) e))
-
-  positives-parsed : (ps ns : List Body) (rs : List Rule) (ws : List ℕ) → Each (InRange (sizes n t 0)) ps → parse ws ≡ parsed [] [] ns rs
-      → parse (conjunctWords positiveWord ps ws) ≡ parsed [] ps ns rs
-  unfolding conjunctWords parse onWord
-  positives-parsed [] ns rs ws h e = e
-  positives-parsed (b ∷ ps) ns rs ws h e =
-      rw (decoded-positive, body-parsed b ps ns rs (conjunctWords positiveWord ps ws) (h b (List·Memᴰ·head refl)) (positives-parsed ps ns rs ws (each-rest _ b ps h) e))
+    conjuncts-parsed : (bs : List Body) (ws : List ℕ) → Each (InRange (sizes n t 0)) bs → parse ws ≡ f [] [] → parse (conjunctWords begin bs ws) ≡ f [] bs
+    unfolding conjunctWords parse
+    conjuncts-parsed [] ws h e = e
+    conjuncts-parsed (b ∷ bs) ws h e =
+        rw (body-parsed b bs (conjunctWords begin bs ws) (h b (List·Memᴰ·head refl)) (conjuncts-parsed bs ws (each-rest _ b bs h) e)) (begins b bs)
 
   rule-parsed : (r : Rule) (rs : List Rule) (ws : List ℕ) → RuleFits (sizes n t 0) r → parse ws ≡ parsed [] [] [] rs
       → parse (ruleWords r ws) ≡ parsed [] [] [] (r ∷ rs)
@@ -53,8 +46,10 @@ module _ (n t : ℕ) (fewNonterminals : n ≤ maxNonterminals) (fewTerminals : t
   rule-parsed r rs ws h e =
       rw (
         decoded-rule (r .head) (omega (arith, h .head)),
-        positives-parsed (r .positives) (r .negatives) rs _ (λ b m. h .inRange b (Memᴰ·append-left (r .negatives) m))
-            (negatives-parsed (r .negatives) rs ws (λ b m. h .inRange b (Memᴰ·append-right (r .positives) m)) e),
+        conjuncts-parsed positiveWord (λ b ps. parsed b ps (r .negatives) rs) (λ X b ps. refl) (λ b ps. rw decoded-positive) (r .positives) _
+            (λ b m. h .inRange b (Memᴰ·append-left (r .negatives) m))
+            (conjuncts-parsed negativeWord (λ b ns. parsed b [] ns rs) (λ X b ns. refl) (λ b ns. rw decoded-negative) (r .negatives) ws
+            (λ b m. h .inRange b (Memᴰ·append-right (r .positives) m)) e),
       )
 
   rules-parsed : (rs : List Rule) (ws : List ℕ) → Each (RuleFits (sizes n t 0)) rs → parse ws ≡ parsed [] [] [] []
@@ -79,10 +74,9 @@ rules-fit G f r m = record {
 pub encoded : (G : Grammar) → WellFormed G → WithinLimits G → grammarOf (encode G) ≡ G
 unfolding grammarOf encode
 encoded G f l =
-    rw (
-      decoded-heading (G .nonterminals) (G .terminals) (omega (arith, l .fewNonterminals)) (omega (arith, l .fewTerminals)),
-      rules-parsed (G .nonterminals) (G .terminals) (l .fewNonterminals) (l .fewTerminals) (G .rules) (endWord ∷ []) (rules-fit G f) end-parsed,
-    )
+    let n : G .nonterminals < 2 ^ 8 = omega (arith, l .fewNonterminals) in
+    let t : G .terminals < 2 ^ 8 = omega (arith, l .fewTerminals) in
+    rw (decoded-heading (G .nonterminals) (G .terminals) n t, rules-parsed (G .nonterminals) (G .terminals) n t (G .rules) (endWord ∷ []) (rules-fit G f) end-parsed)
 
 pub encodes-grammar : (words : List ℕ) (G : Grammar) → Encodes words G → grammarOf words ≡ G
 encodes-grammar words G e = ap grammarOf (e .encoded) ∙ encoded G (e .formed) (e .limited)

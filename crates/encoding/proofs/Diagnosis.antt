@@ -1,109 +1,45 @@
 -- What a reading finds is the diagnosis of the words.
 use mathlib.Core.Path.{_≡_, refl, sym, ap, _∙_}
 use mathlib.Core.Bool.{Bool, true, false, _&&_, false≢true}
-use mathlib.Core.List.{List, [], _∷_, _++_, append-assoc}
+use mathlib.Core.List.{List, [], _∷_, _++_}
 use Prim.Native.Nat.{ℕ, suc, _+_, _≤_, _<_}
 use native.Mathlib.Omega.{arith}
 use native.Mathlib.Decide.{decLt}
 use lib.Dec.{ltb}
 use lib.ListN.{length, take, getD, List·getD-eq-default}
-use lib.Seq.{take-suc}
 use borrow.Author.Tests.{lt-ltb, ltb-true, ltb-false}
 use Rattle.answer.specs.declared.Error.{Error}
 use Rattle.answer.specs.declared.Error.the-variants.{Length, Heading as HeadingFault, UnexpectedWord, OutOfRange, TooManyRules}
 use Rattle.word.specs.declared.Symbol.the-variants.{Terminal, Nonterminal}
-use Rattle.word.specs.declared.Symbol as symbol
 use Rattle.word.specs.declared.Word.{Word}
 use Rattle.word.specs.declared.Word.the-variants.{Heading, Rule as RuleWord, Positive, Negative, Symbol, End, Invalid}
 use Rattle.word.specs.Choice.{choose}
 use Rattle.word.specs.Words.{kind, payload, bare, heading, ofKind, decoded}
 use Rattle.grammar.specs.declared.reading.Sizes.{Sizes}
-use Rattle.grammar.specs.declared.reading.Progress.{Progress}
 use Rattle.grammar.specs.declared.reading.Step.{Step}
-use Rattle.grammar.specs.declared.reading.Step.the-variants.{Go, Stop}
+use Rattle.grammar.specs.declared.reading.Step.the-variants.{Stop}
 use Rattle.grammar.specs.declared.reading.Outcome.{Outcome}
 use Rattle.grammar.specs.declared.reading.Outcome.the-variants.{Read, Faulty}
 use Rattle.grammar.specs.Limits.{maxWords, maxNonterminals, maxTerminals, maxRules}
-use Rattle.grammar.specs.Syntax.{Grammar}
 use Rattle.grammar.specs.Encoding.{sizes, declaredBy, grammarOf}
-use Rattle.encoding.specs.Encode.{headingWord, symbolWord, endWord, sizesOf, Encodes}
+use Rattle.encoding.specs.Encode.{headingWord, endWord, sizesOf}
 use Rattle.encoding.specs.Diagnosis.{BeginsEncoding, FirstFault, OutOfRangeAt, RuleTooMany, WordFault, Diagnosis}
-use Rattle.grammar.specs.Reading.{allows, inRange, symbolInRange, beginsRule, stepped, onStep, finished, scan, fresh, within, headed, opened, reading}
+use Rattle.grammar.specs.Reading.{allows, inRange, beginsRule, stepped, onStep, finished, scan, fresh, within, headed, opened, reading}
 use Rattle.grammar.proofs.Scanning.{Stepped, stepping}
-use Rattle.grammar.proofs.WellFormed.{faulty, never, passed, onward}
+use Rattle.grammar.proofs.WellFormed.{faulty, never}
 use Rattle.grammar.proofs.WellRead.{chosen, both, within-limits}
-use Rattle.encoding.proofs.Words.{Of, of, decoded-symbol, decoded-end}
-use Rattle.encoding.proofs.EncodingRead.{Within, Between, within-between, goes-word, end-goes}
+use Rattle.encoding.proofs.Words.{Parts, parts, decoded-symbol}
 use Rattle.encoding.proofs.ReadingEncodes.{opened-encodes, encodes-opened}
-use Rattle.encoding.proofs.Faults.{complete, stop-same, Faults, faults}
-
--- the place of a fault behind the heading
-pub record Place (words : List ℕ) (i : ℕ) (x : Error) : Type 0 where
-  pub come : Progress
-  pub opens : (us : List ℕ) → opened (take i words ++ us) ≡ scan come i us
-  pub behind : 0 < i
-  pub among : i ≤ length words
-  pub someNonterminal : 0 < come .sizes .nonterminals
-  pub someTerminal : 0 < come .sizes .terminals
-  pub word : i < length words → stepped (decoded (getD words i 0)) come i ≡ Stop x
-  pub end : i ≡ length words → x ≡ UnexpectedWord i
-
-begins : (ws rest : List ℕ) (z : Sizes) → opened (ws ++ rest) ≡ Read z → BeginsEncoding ws
-begins ws rest z e = record { rest = rest; grammar = grammarOf (ws ++ rest); encodes = opened-encodes (ws ++ rest) z e .0 }
+use Rattle.encoding.proofs.Faults.{stop-same, Faults, faults}
+use Rattle.encoding.proofs.Place.{Place, begins, begun, stuck, may-end, may-stand, may-begin, may-follow}
 
 decoded-kind : (w k : ℕ) → kind w ≡ k → decoded w ≡ ofKind k (payload w)
 unfolding decoded
 decoded-kind w k e = rw e
 
--- a fault at a place, by the words before it and the word at it
+-- what is wrong with the word at the place
 module _ (words : List ℕ) (i : ℕ) (x : Error) (h : Place words i x) where
-  begun : BeginsEncoding (take i words)
-  begun = let c = complete (h .come .state) (h .come .sizes) in begins (take i words) (c .rest) (c .sizes) (h .opens (c .rest) ∙ c .goes i)
-
-  -- the words before the place, and behind them others that make an encoding
-  scanned : (us : List ℕ) (G : Grammar) → Encodes (take i words ++ us) G → scan (h .come) i us ≡ Read (sizesOf G)
-  scanned us G e = sym (h .opens us) ∙ encodes-opened (take i words ++ us) G e
-
-  -- a word that goes on
-  goes-on : (w : ℕ) (us : List ℕ) (G : Grammar) → Encodes (take i words ++ (w ∷ us)) G → (q : Progress) × (stepped (decoded w) (h .come) i ≡ Go q)
-  unfolding scan
-  goes-on w us G e = let g = onward (stepped (decoded w) (h .come) i) (λ q. scan q (suc i) us) (sizesOf G) (scanned (w ∷ us) G e) in (g .0, g .1)
-
-  stuck : i < length words → BeginsEncoding (take (suc i) words) → ⊥
-  stuck l b =
-      clash (goes-on next (b .rest) (b .grammar) (rw (← append-assoc (take i words) (next ∷ []) (b .rest), ← take-suc words i 0 l) (b .encodes)))
-    where
-      next : ℕ
-      next = getD words i 0
-
-      clash : (q : Progress) × (stepped (decoded next) (h .come) i ≡ Go q) → ⊥
-      clash g = never x (g .0) (sym (h .word l) ∙ g .1)
-
-  -- a rule may begin where the grammar may end, and a symbol stand where another of its kind may
-  may-end : Between (h .come .state) → opened (take i words ++ (endWord ∷ [])) ≡ Read (h .come .sizes)
-  may-end a = h .opens (endWord ∷ []) ∙ end-goes (h .come .state) (h .come .sizes) a i
-
-  may-stand : (X : symbol.Symbol) → decoded (symbolWord X) ≡ Symbol X → Within (h .come .state) → symbolInRange X (h .come .sizes) ≡ true
-      → (b : BeginsEncoding (take i words ++ (symbolWord X ∷ []))) × (h .come .sizes ≡ sizesOf (b .grammar))
-  may-stand X d a r =
-      let e = opened-encodes ((take i words ++ (symbolWord X ∷ [])) ++ (endWord ∷ [])) (h .come .sizes)
-      (rw (append-assoc (take i words) (symbolWord X ∷ []) (endWord ∷ []))
-      (h .opens (symbolWord X ∷ endWord ∷ [])
-      ∙ goes-word (symbolWord X) (Symbol X) (h .come .state) (h .come .sizes) (h .come .sizes) (endWord ∷ []) d a r refl
-      (end-goes (h .come .state) (h .come .sizes) (within-between (h .come .state) a)) i)) in
-      (record { rest = endWord ∷ []; grammar = grammarOf ((take i words ++ (symbolWord X ∷ [])) ++ (endWord ∷ [])); encodes = e .0 }, e .1)
-
-  may-begin : (G : Grammar) → Encodes (take i words ++ (endWord ∷ [])) G → Between (h .come .state)
-  may-begin G e = let g = goes-on endWord [] G e in rw decoded-end at (passed (decoded endWord) (h .come) (g .0) i (g .1) .allowed)
-
-  may-follow : (X : symbol.Symbol) → decoded (symbolWord X) ≡ Symbol X → BeginsEncoding (take i words ++ (symbolWord X ∷ [])) → Within (h .come .state)
-  may-follow X d b =
-      let e : Encodes (take i words ++ (symbolWord X ∷ b .rest)) (b .grammar) = rw (← append-assoc (take i words) (symbolWord X ∷ []) (b .rest)) (b .encodes) in
-      let g = goes-on (symbolWord X) (b .rest) (b .grammar) e in
-      rw d at (passed (decoded (symbolWord X)) (h .come) (g .0) i (g .1) .allowed)
-
-module _ (words : List ℕ) (i : ℕ) (x : Error) (h : Place words i x) where
-  out-of-range : (v : Word) → Of v (kind (getD words i 0)) (payload (getD words i 0)) → allows v (h .come .state) ≡ true → inRange v (h .come .sizes) ≡ false
+  out-of-range : (v : Word) → Parts v (kind (getD words i 0)) (payload (getD words i 0)) → allows v (h .come .state) ≡ true → inRange v (h .come .sizes) ≡ false
       → OutOfRangeAt words i
   out-of-range (RuleWord A) o a r =
       let e = opened-encodes (take i words ++ (endWord ∷ [])) (h .come .sizes) (may-end words i x h a) in
@@ -120,7 +56,7 @@ module _ (words : List ℕ) (i : ℕ) (x : Error) (h : Place words i x) where
   out-of-range (Heading n t) o a r = absurd (false≢true a)
   out-of-range Invalid o a r = absurd (false≢true a)
 
-  too-many : (v : Word) → Of v (kind (getD words i 0)) (payload (getD words i 0)) → allows v (h .come .state) ≡ true → inRange v (h .come .sizes) ≡ true
+  too-many : (v : Word) → Parts v (kind (getD words i 0)) (payload (getD words i 0)) → allows v (h .come .state) ≡ true → inRange v (h .come .sizes) ≡ true
       → beginsRule v ≡ true → maxRules ≤ h .come .sizes .rules → RuleTooMany words i
   too-many (RuleWord A) o a r b l =
       let e = opened-encodes (take i words ++ (endWord ∷ [])) (h .come .sizes) (may-end words i x h a) in
@@ -173,9 +109,9 @@ diagnosed-place words i x short e h = go (decLt i (length words))
     why : (t : Step) → Stepped (decoded (getD words i 0)) (h .come) i t → t ≡ Stop x → WordFault words i x
     why _ (Stepped.unexpected a) s = rw (stop-same (UnexpectedWord i) x s) (WordFault.unexpected (not-ranged words i x h a) (not-many words i x h a))
     why _ (Stepped.outOfRange a r) s =
-        rw (stop-same (OutOfRange i) x s) (WordFault.outOfRange (out-of-range words i x h (decoded (getD words i 0)) (of (getD words i 0)) a r))
+        rw (stop-same (OutOfRange i) x s) (WordFault.outOfRange (out-of-range words i x h (decoded (getD words i 0)) (parts (getD words i 0)) a r))
     why _ (Stepped.tooMany a r b l) s =
-        rw (stop-same (TooManyRules i) x s) (WordFault.tooMany (too-many words i x h (decoded (getD words i 0)) (of (getD words i 0)) a r b l))
+        rw (stop-same (TooManyRules i) x s) (WordFault.tooMany (too-many words i x h (decoded (getD words i 0)) (parts (getD words i 0)) a r b l))
     why _ (Stepped.rule a r b l) s = absurd (never x _ (sym s))
     why _ (Stepped.other a r b) s = absurd (never x _ (sym s))
 

@@ -2,7 +2,7 @@
 use mathlib.Core.Path.{_≡_, refl, ap, _∙_}
 use mathlib.Core.Bool.{true, false}
 use mathlib.Core.List.{List, [], _∷_, List·Memᴰ·head, Memᴰ·append-left, Memᴰ·append-right}
-use Prim.Native.Nat.{ℕ, suc, _+_, _≤_, _<_}
+use Prim.Native.Nat.{ℕ, suc, _+_, _^_, _≤_, _<_}
 use native.Mathlib.Omega.{arith}
 use lib.ListN.{length}
 use borrow.Author.Tests.{lt-ltb, lt-leb, le-leb}
@@ -62,7 +62,7 @@ closed-goes y at = refl
 pub end-goes : (s : State) (y : Sizes) → Between s → Goes (progress s y) (endWord ∷ []) y
 end-goes s y h = goes-word endWord End s y y [] decoded-end h refl refl (closed-goes y)
 
-module _ (n t : ℕ) (fewNonterminals : n ≤ maxNonterminals) (fewTerminals : t ≤ maxTerminals) where
+module _ (n t : ℕ) (fewNonterminals : n < 2 ^ 8) (fewTerminals : t < 2 ^ 8) where
   symbol-ranged : (X : symbol.Symbol) (b : Body) (k : ℕ) → InRange (sizes n t 0) (X ∷ b) → symbolInRange X (sizes n t k) ≡ true
   symbol-ranged (Terminal a) b k h = lt-ltb a t (h .1 .0)
   symbol-ranged (Nonterminal A) b k h = lt-ltb A n (h .0 .0)
@@ -127,12 +127,14 @@ within-true n m l h = rw (lt-ltb 0 n l, le-leb n m h)
 pub encode-opened : (G : Grammar) → WellFormed G → WithinLimits G → opened (encode G) ≡ Read (sizesOf G)
 unfolding opened headed encode
 encode-opened G f l =
+    let n : G .nonterminals < 2 ^ 8 = omega (arith, l .fewNonterminals) in
+    let t : G .terminals < 2 ^ 8 = omega (arith, l .fewTerminals) in
     rw (
-      decoded-heading (G .nonterminals) (G .terminals) (omega (arith, l .fewNonterminals)) (omega (arith, l .fewTerminals)),
+      decoded-heading (G .nonterminals) (G .terminals) n t,
       within-true (G .nonterminals) maxNonterminals (l .someNonterminal) (l .fewNonterminals),
       within-true (G .terminals) maxTerminals (l .someTerminal) (l .fewTerminals),
     )
-    (rules-go (G .nonterminals) (G .terminals) (l .fewNonterminals) (l .fewTerminals) (G .rules) Before 0 refl (omega (arith, l .fewRules)) (rules-fit G f) 1
+    (rules-go (G .nonterminals) (G .terminals) n t (G .rules) Before 0 refl (omega (arith, l .fewRules)) (rules-fit G f) 1
     ∙ ap (λ k. Read (sizes (G .nonterminals) (G .terminals) k)) (none (length (G .rules))))
   where
     none : (k : ℕ) → 0 + k ≡ k

@@ -24,46 +24,46 @@ use Rattle.encoding.specs.Encode.{headingWord, positiveWord, negativeWor
 use Rattle.grammar.specs.Reading.{row, allows, after, stepped, scan, fresh, within, headed, opened, reading}
 use Rattle.grammar.proofs.WellFormed.{faulty, finished-read, Empty, Shape, Reads, reads, passed, onward}
 use Rattle.grammar.proofs.WellRead.{chosen, refused, both, Within, within-limits, fit-formed, declares-no-rules}
-use Rattle.encoding.proofs.Words.{From, from}
+use Rattle.encoding.proofs.Words.{WrittenAs, written-as}
 use Rattle.encoding.proofs.EncodingRead.{encode-opened}
 
 -- the words of what a row says: of a rule that began before it, the rest of a body and the conjuncts left, then the rules that begin in it
 unfoldable unparse : Parsed → List ℕ
 unparse p = bodyWords (p .body) (conjunctWords positiveWord (p .positives) (conjunctWords negativeWord (p .negatives) (rulesWords (p .rules) (endWord ∷ []))))
 
--- the words from a place on, by what stands before it
-abbrev Left : State → List ℕ → Type 0
-Left Before ws = ws ≡ unparse (parse ws)
-Left Opened ws = ws ≡ unparse (parse ws)
-Left InPositive ws = ws ≡ unparse (parse ws)
-Left InNegative ws = ws ≡ unparse (parse ws)
-Left Closed ws = ws ≡ []
+-- the words from a place on are those of what they say; behind the end there are none
+abbrev Unparsed : State → List ℕ → Type 0
+Unparsed Before ws = ws ≡ unparse (parse ws)
+Unparsed Opened ws = ws ≡ unparse (parse ws)
+Unparsed InPositive ws = ws ≡ unparse (parse ws)
+Unparsed InNegative ws = ws ≡ unparse (parse ws)
+Unparsed Closed ws = ws ≡ []
 
-left-within : (s : State) (ws : List ℕ) → row false false true true false s ≡ true → Left s ws → ws ≡ unparse (parse ws)
-left-within Before ws a l = absurd (false≢true a)
-left-within Opened ws a l = absurd (false≢true a)
-left-within InPositive ws a l = l
-left-within InNegative ws a l = l
-left-within Closed ws a l = absurd (false≢true a)
+unparsed-within : (s : State) (ws : List ℕ) → row false false true true false s ≡ true → Unparsed s ws → ws ≡ unparse (parse ws)
+unparsed-within Before ws a l = absurd (false≢true a)
+unparsed-within Opened ws a l = absurd (false≢true a)
+unparsed-within InPositive ws a l = l
+unparsed-within InNegative ws a l = l
+unparsed-within Closed ws a l = absurd (false≢true a)
 
 -- one word more in front
-again-word : (v : Word) (w : ℕ) (s : State) (ws : List ℕ) → From v w → allows v s ≡ true → Shape (after v s) (parse ws) → Left (after v s) ws
+unparsed-word : (v : Word) (w : ℕ) (s : State) (ws : List ℕ) → WrittenAs v w → allows v s ≡ true → Shape (after v s) (parse ws) → Unparsed (after v s) ws
     → w ∷ ws ≡ unparse (onWord v (parse ws))
 unfolding unparse onWord bodyWords conjunctWords ruleWords rulesWords parse
-again-word (RuleWord A) w s ws f a h l = cc (rw (h .0) at l)
-again-word Positive w s ws f a h l = cc
-again-word Negative w s ws f a h l = rw h (cc)
-again-word (Symbol X) w s ws f a h l = cc (left-within s ws a l)
-again-word End w s ws f a h l = rw (l, f)
-again-word (Heading n t) w s ws f a h l = absurd (false≢true a)
-again-word Invalid w s ws f a h l = absurd (false≢true a)
+unparsed-word (RuleWord A) w s ws f a h l = cc (rw (h .0) at l)
+unparsed-word Positive w s ws f a h l = cc
+unparsed-word Negative w s ws f a h l = rw h (cc)
+unparsed-word (Symbol X) w s ws f a h l = cc (unparsed-within s ws a l)
+unparsed-word End w s ws f a h l = rw (l, f)
+unparsed-word (Heading n t) w s ws f a h l = absurd (false≢true a)
+unparsed-word Invalid w s ws f a h l = absurd (false≢true a)
 
-allowed-left : (v : Word) (s : State) (ws : List ℕ) → allows v s ≡ true → ws ≡ unparse (parse ws) → Left s ws
-allowed-left v Before ws a e = e
-allowed-left v Opened ws a e = e
-allowed-left v InPositive ws a e = e
-allowed-left v InNegative ws a e = e
-allowed-left v Closed ws a e = absurd (false≢true (sym (closed v) ∙ a))
+unparsed-allowed : (v : Word) (s : State) (ws : List ℕ) → allows v s ≡ true → ws ≡ unparse (parse ws) → Unparsed s ws
+unparsed-allowed v Before ws a e = e
+unparsed-allowed v Opened ws a e = e
+unparsed-allowed v InPositive ws a e = e
+unparsed-allowed v InNegative ws a e = e
+unparsed-allowed v Closed ws a e = absurd (false≢true (sym (closed v) ∙ a))
   where
     closed : (v : Word) → allows v Closed ≡ false
     closed (RuleWord A) = refl
@@ -74,29 +74,29 @@ allowed-left v Closed ws a e = absurd (false≢true (sym (closed v) ∙ a))
     closed (Heading n t) = refl
     closed Invalid = refl
 
-again : (p : Progress) (at : ℕ) (ws : List ℕ) (z : Sizes) → scan p at ws ≡ Read z → Left (p .state) ws
+unparsed : (p : Progress) (at : ℕ) (ws : List ℕ) (z : Sizes) → scan p at ws ≡ Read z → Unparsed (p .state) ws
 unfolding scan parse
-again p at [] z e = rw (finished-read p at z e .0) refl
-again p at (w ∷ ws) z e =
+unparsed p at [] z e = rw (finished-read p at z e .0) refl
+unparsed p at (w ∷ ws) z e =
     let g = onward (stepped (decoded w) p at) (λ q. scan q (suc at) ws) z e in
     let k = passed (decoded w) p (g .0) at (g .1) in
     let r = reads (g .0) (suc at) ws z (g .2) in
-    allowed-left (decoded w) (p .state) (w ∷ ws) (k .allowed)
-    (again-word (decoded w) w (p .state) ws (from w) (k .allowed) (rw (k .state) at (r .fits .shape)) (rw (k .state) at (again (g .0) (suc at) ws z (g .2))))
+    unparsed-allowed (decoded w) (p .state) (w ∷ ws) (k .allowed)
+    (unparsed-word (decoded w) w (p .state) ws (written-as w) (k .allowed) (rw (k .state) at (r .fits .shape)) (rw (k .state) at (unparsed (g .0) (suc at) ws z (g .2))))
 
--- a row within the limits that declares something has the grammar's heading
-heading-again : (v : Word) (w : ℕ) → 0 < declaredBy v .nonterminals → From v w → w ≡ headingWord (declaredBy v .nonterminals) (declaredBy v .terminals)
-heading-again (Heading n t) w h f = f
-heading-again (RuleWord A) w h f = absurd (omega arith)
-heading-again Positive w h f = absurd (omega arith)
-heading-again Negative w h f = absurd (omega arith)
-heading-again (Symbol X) w h f = absurd (omega arith)
-heading-again End w h f = absurd (omega arith)
-heading-again Invalid w h f = absurd (omega arith)
+-- a word that declares nonterminals is the heading of what it declares
+heading-written : (v : Word) (w : ℕ) → 0 < declaredBy v .nonterminals → WrittenAs v w → w ≡ headingWord (declaredBy v .nonterminals) (declaredBy v .terminals)
+heading-written (Heading n t) w h f = f
+heading-written (RuleWord A) w h f = absurd (omega arith)
+heading-written Positive w h f = absurd (omega arith)
+heading-written Negative w h f = absurd (omega arith)
+heading-written (Symbol X) w h f = absurd (omega arith)
+heading-written End w h f = absurd (omega arith)
+heading-written Invalid w h f = absurd (omega arith)
 
-empty-again : (p : Parsed) → Empty p → unparse p ≡ rulesWords (p .rules) (endWord ∷ [])
+unparse-empty : (p : Parsed) → Empty p → unparse p ≡ rulesWords (p .rules) (endWord ∷ [])
 unfolding unparse bodyWords conjunctWords
-empty-again p h = rw (h .body, h .positives, h .negatives)
+unparse-empty p h = rw (h .body, h .positives, h .negatives)
 
 same-sizes : (y z : Sizes) → y .nonterminals ≡ z .nonterminals → y .terminals ≡ z .terminals → y .rules ≡ z .rules → y ≡ z
 same-sizes y z n t r =
@@ -113,9 +113,9 @@ module _ (w : ℕ) (ws : List ℕ) (z : Sizes)
   count : z .rules ≡ length (parse ws .rules)
   count = omega (arith, told .rules, declares-no-rules (decoded w))
 
-  words-again : w ∷ ws ≡ encode (grammarOf (w ∷ ws))
+  words-encoded : w ∷ ws ≡ encode (grammarOf (w ∷ ws))
   unfolding encode grammarOf
-  words-again = cc (heading-again (decoded w) w (n .some) (from w), again (fresh (declaredBy (decoded w))) 1 ws z e, empty-again (parse ws) (told .fits .shape))
+  words-encoded = cc (heading-written (decoded w) w (n .some) (written-as w), unparsed (fresh (declaredBy (decoded w))) 1 ws z e, unparse-empty (parse ws) (told .fits .shape))
 
   headed-encodes : Encodes (w ∷ ws) (grammarOf (w ∷ ws))
   unfolding grammarOf
@@ -128,7 +128,7 @@ module _ (w : ℕ) (ws : List ℕ) (z : Sizes)
       fewTerminals = t .few;
       fewRules = omega (arith, count, told .room (omega (arith, declares-no-rules (decoded w))));
     };
-    encoded = words-again;
+    encoded = words-encoded;
   }
 
   headed-sizes : z ≡ sizesOf (grammarOf (w ∷ ws))

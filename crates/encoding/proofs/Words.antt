@@ -1,4 +1,4 @@
--- A word and what it stands for: each gives the other.
+-- A number and the word that it decodes to: each gives the other.
 use mathlib.Core.Path.{_≡_, refl}
 use mathlib.Core.Bool.{Bool, true, false}
 use Prim.Native.Nat.{ℕ, _+_, _*_, _/_, _%_, _^_, _<_}
@@ -54,65 +54,65 @@ unfolding ofKind
 decoded-symbol (Terminal a) h = rw (decoded-word 5 a h)
 decoded-symbol (Nonterminal A) h = rw (decoded-word 6 A h)
 
--- the kind and the payload of a word; an invalid word has many
-abbrev pub Of : Word → ℕ → ℕ → Type 0
-Of (Heading n t) k p = (k ≡ 1) × (p ≡ t * 2 ^ 8 + n)
-Of (RuleWord A) k p = (k ≡ 2) × (p ≡ A)
-Of Positive k p = (k ≡ 3) × (p ≡ 0)
-Of Negative k p = (k ≡ 4) × (p ≡ 0)
-Of (Symbol (Terminal a)) k p = (k ≡ 5) × (p ≡ a)
-Of (Symbol (Nonterminal A)) k p = (k ≡ 6) × (p ≡ A)
-Of End k p = (k ≡ 7) × (p ≡ 0)
-Of Invalid k p = Unit {0}
+-- the kind and the payload of the number that stands for a word; for an invalid word there are many
+abbrev pub Parts : Word → ℕ → ℕ → Type 0
+Parts (Heading n t) k p = (k ≡ 1) × (p ≡ t * 2 ^ 8 + n)
+Parts (RuleWord A) k p = (k ≡ 2) × (p ≡ A)
+Parts Positive k p = (k ≡ 3) × (p ≡ 0)
+Parts Negative k p = (k ≡ 4) × (p ≡ 0)
+Parts (Symbol (Terminal a)) k p = (k ≡ 5) × (p ≡ a)
+Parts (Symbol (Nonterminal A)) k p = (k ≡ 6) × (p ≡ A)
+Parts End k p = (k ≡ 7) × (p ≡ 0)
+Parts Invalid k p = Unit {0}
 
-by-test : (b : Bool) (u v : Word) (k p : ℕ) → (b ≡ true → Of u k p) → (b ≡ false → Of v k p) → Of (choose b u v) k p
+by-test : (b : Bool) (u v : Word) (k p : ℕ) → (b ≡ true → Parts u k p) → (b ≡ false → Parts v k p) → Parts (choose b u v) k p
 by-test true u v k p f g = f refl
 by-test false u v k p f g = g refl
 
-of-bare : (u : Word) (k p : ℕ) → (p ≡ 0 → Of u k p) → Of (bare u p) k p
+parts-bare : (u : Word) (k p : ℕ) → (p ≡ 0 → Parts u k p) → Parts (bare u p) k p
 unfolding bare
-of-bare u k p f = by-test (eqb p 0) u Invalid k p (λ e. f (eqb-true p 0 e)) (λ _. tt)
+parts-bare u k p f = by-test (eqb p 0) u Invalid k p (λ e. f (eqb-true p 0 e)) (λ _. tt)
 
-of-heading : (k p : ℕ) → k ≡ 1 → Of (heading p) k p
+parts-heading : (k p : ℕ) → k ≡ 1 → Parts (heading p) k p
 unfolding heading
-of-heading k p e = by-test (ltb p (2 ^ 16)) (Heading (p % 2 ^ 8) (p / 2 ^ 8)) Invalid k p (λ _. (e, omega arith)) (λ _. tt)
+parts-heading k p e = by-test (ltb p (2 ^ 16)) (Heading (p % 2 ^ 8) (p / 2 ^ 8)) Invalid k p (λ _. (e, omega arith)) (λ _. tt)
 
-of-kind : (k p : ℕ) → Of (ofKind k p) k p
+parts-kind : (k p : ℕ) → Parts (ofKind k p) k p
 unfolding ofKind
-of-kind k p =
-    by-test (eqb k 1) (heading p) _ k p (λ e. of-heading k p (eqb-true k 1 e))
+parts-kind k p =
+    by-test (eqb k 1) (heading p) _ k p (λ e. parts-heading k p (eqb-true k 1 e))
     (λ _. by-test (eqb k 2) (RuleWord p) _ k p (λ e. (eqb-true k 2 e, refl))
-    (λ _. by-test (eqb k 3) (bare Positive p) _ k p (λ e. of-bare Positive k p (λ z. (eqb-true k 3 e, z)))
-    (λ _. by-test (eqb k 4) (bare Negative p) _ k p (λ e. of-bare Negative k p (λ z. (eqb-true k 4 e, z)))
+    (λ _. by-test (eqb k 3) (bare Positive p) _ k p (λ e. parts-bare Positive k p (λ z. (eqb-true k 3 e, z)))
+    (λ _. by-test (eqb k 4) (bare Negative p) _ k p (λ e. parts-bare Negative k p (λ z. (eqb-true k 4 e, z)))
     (λ _. by-test (eqb k 5) (Symbol (Terminal p)) _ k p (λ e. (eqb-true k 5 e, refl))
     (λ _. by-test (eqb k 6) (Symbol (Nonterminal p)) _ k p (λ e. (eqb-true k 6 e, refl))
-    (λ _. by-test (eqb k 7) (bare End p) Invalid k p (λ e. of-bare End k p (λ z. (eqb-true k 7 e, z)))
+    (λ _. by-test (eqb k 7) (bare End p) Invalid k p (λ e. parts-bare End k p (λ z. (eqb-true k 7 e, z)))
     (λ _. tt)))))))
 
-pub of : (w : ℕ) → Of (decoded w) (kind w) (payload w)
+pub parts : (w : ℕ) → Parts (decoded w) (kind w) (payload w)
 unfolding decoded
-of w = of-kind (kind w) (payload w)
+parts w = parts-kind (kind w) (payload w)
 
--- the one number that stands for a word
-abbrev pub From : Word → ℕ → Type 0
-From (Heading n t) w = w ≡ headingWord n t
-From (RuleWord A) w = w ≡ ruleWord A
-From Positive w = w ≡ positiveWord
-From Negative w = w ≡ negativeWord
-From (Symbol X) w = w ≡ symbolWord X
-From End w = w ≡ endWord
-From Invalid w = Unit {0}
+-- the number that stands for a word
+abbrev pub WrittenAs : Word → ℕ → Type 0
+WrittenAs (Heading n t) w = w ≡ headingWord n t
+WrittenAs (RuleWord A) w = w ≡ ruleWord A
+WrittenAs Positive w = w ≡ positiveWord
+WrittenAs Negative w = w ≡ negativeWord
+WrittenAs (Symbol X) w = w ≡ symbolWord X
+WrittenAs End w = w ≡ endWord
+WrittenAs Invalid w = Unit {0}
 
-from-of : (v : Word) (w : ℕ) → Of v (kind w) (payload w) → From v w
-from-of (Heading n t) w h = omega arith
-from-of (RuleWord A) w h = omega arith
-from-of Positive w h = omega arith
-from-of Negative w h = omega arith
-from-of (Symbol (Terminal a)) w h = omega arith
-from-of (Symbol (Nonterminal A)) w h = omega arith
-from-of End w h = omega arith
-from-of Invalid w h = tt
+written-parts : (v : Word) (w : ℕ) → Parts v (kind w) (payload w) → WrittenAs v w
+written-parts (Heading n t) w h = omega arith
+written-parts (RuleWord A) w h = omega arith
+written-parts Positive w h = omega arith
+written-parts Negative w h = omega arith
+written-parts (Symbol (Terminal a)) w h = omega arith
+written-parts (Symbol (Nonterminal A)) w h = omega arith
+written-parts End w h = omega arith
+written-parts Invalid w h = tt
 
--- THE THEOREM: a word that is not invalid is the one that stands for what it says. The kind of a number from 2 ^ 32 on is above 7, so no bound is asked for
-pub from : (w : ℕ) → From (decoded w) w
-from w = from-of (decoded w) w (of w)
+-- THE THEOREM: a number is the one that stands for what it decodes to. From 2 ^ 32 on kinds are above 7 and the word is invalid, so no bound is asked for
+pub written-as : (w : ℕ) → WrittenAs (decoded w) w
+written-as w = written-parts (decoded w) w (parts w)
