@@ -72,6 +72,7 @@ pub record Recognizes (words input : List ℕ) (r : Answer) : Type 0 where
 
 -- judging an input with a lent table and a lent memo table: properties 1 and 3
 pub record Judges (words input table memo : List ℕ) (r : Answer) (table′ memo′ : List ℕ) : Type 0 where
+  -- as in checking
   pub faithful : FaithfulReading words
   -- the first refusal that holds decides, and a refusal changes nothing; else both memories hold what is defined, and later words stay
   pub answer : r ≡ refusedOr (judgeFault (length table) (length memo) words input) (verdictOf (grammarOf words) input)
