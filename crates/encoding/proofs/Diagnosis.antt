@@ -22,9 +22,9 @@ use Rattle.grammar.specs.declared.reading.Outcome.{Outcome}
 use Rattle.grammar.specs.declared.reading.Outcome.the-variants.{Read, Faulty}
 use Rattle.grammar.specs.Limits.{maxWords, maxNonterminals, maxTerminals, maxRules}
 use Rattle.grammar.specs.Encoding.{sizes, declaredBy, grammarOf}
+use Rattle.grammar.specs.Reading.{allows, inRange, beginsRule, stepped, onStep, finished, scan, fresh, within, headed, opened, reading}
 use Rattle.encoding.specs.Encode.{headingWord, endWord, sizesOf}
 use Rattle.encoding.specs.Diagnosis.{BeginsEncoding, FirstFault, OutOfRangeAt, RuleTooMany, WordFault, Diagnosis}
-use Rattle.grammar.specs.Reading.{allows, inRange, beginsRule, stepped, onStep, finished, scan, fresh, within, headed, opened, reading}
 use Rattle.grammar.proofs.Scanning.{Stepped, stepping}
 use Rattle.grammar.proofs.WellFormed.{faulty, never}
 use Rattle.grammar.proofs.WellRead.{chosen, both, within-limits}

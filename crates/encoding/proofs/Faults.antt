@@ -20,9 +20,8 @@ use Rattle.grammar.specs.declared.reading.Step.{Step}
 use Rattle.grammar.specs.declared.reading.Step.the-variants.{Go, Stop}
 use Rattle.grammar.specs.declared.reading.Outcome.the-variants.{Read, Faulty}
 use Rattle.grammar.specs.Limits.{maxRules}
-use Rattle.grammar.specs.Encoding.{sizes}
-use Rattle.encoding.specs.Encode.{positiveWord, endWord}
 use Rattle.grammar.specs.Reading.{row, progress, counted, stepped, onStep, finished, scan}
+use Rattle.encoding.specs.Encode.{positiveWord, endWord}
 use Rattle.grammar.proofs.Scanning.{stepped-rule, stepped-other, Stepped, stepping}
 use Rattle.grammar.proofs.WellFormed.{faulty, never, passed}
 use Rattle.encoding.proofs.Words.{decoded-positive}

@@ -9,16 +9,16 @@ use Rattle.answer.specs.declared.Error.{Error}
 use Rattle.answer.specs.declared.Error.the-variants.{UnexpectedWord}
 use Rattle.word.specs.declared.Symbol as symbol
 use Rattle.word.specs.declared.Word.the-variants.{Symbol}
-use Rattle.word.specs.Words.{kind, heading, decoded}
+use Rattle.word.specs.Words.{decoded}
 use Rattle.grammar.specs.declared.reading.Sizes.{Sizes}
 use Rattle.grammar.specs.declared.reading.Progress.{Progress}
 use Rattle.grammar.specs.declared.reading.Step.the-variants.{Go, Stop}
 use Rattle.grammar.specs.declared.reading.Outcome.the-variants.{Read}
 use Rattle.grammar.specs.Syntax.{Grammar}
-use Rattle.grammar.specs.Encoding.{sizes, grammarOf}
+use Rattle.grammar.specs.Encoding.{grammarOf}
+use Rattle.grammar.specs.Reading.{symbolInRange, stepped, scan, opened}
 use Rattle.encoding.specs.Encode.{symbolWord, endWord, sizesOf, Encodes}
 use Rattle.encoding.specs.Diagnosis.{BeginsEncoding}
-use Rattle.grammar.specs.Reading.{symbolInRange, stepped, scan, opened}
 use Rattle.grammar.proofs.WellFormed.{never, passed, onward}
 use Rattle.encoding.proofs.Words.{decoded-end}
 use Rattle.encoding.proofs.EncodingRead.{Within, Between, within-between, goes-word, end-goes}

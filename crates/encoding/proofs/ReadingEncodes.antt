@@ -8,6 +8,7 @@ use native.Mathlib.Omega.{arith}
 use lib.Dec.{ltb}
 use lib.ListN.{length}
 use borrow.Author.Tests.{ltb-false, le-ltb}
+use Rattle.answer.specs.declared.Error.the-variants.{Heading as HeadingFault}
 use Rattle.word.specs.declared.Word.{Word}
 use Rattle.word.specs.declared.Word.the-variants.{Heading, Rule as RuleWord, Positive, Negative, Symbol, End, Invalid}
 use Rattle.word.specs.Words.{decoded}
@@ -16,12 +17,11 @@ use Rattle.grammar.specs.declared.reading.State.the-variants.{Before, Opened, I
 use Rattle.grammar.specs.declared.reading.Sizes.{Sizes}
 use Rattle.grammar.specs.declared.reading.Progress.{Progress}
 use Rattle.grammar.specs.declared.reading.Outcome.the-variants.{Read}
-use Rattle.answer.specs.declared.Error.the-variants.{Heading as HeadingFault}
 use Rattle.grammar.specs.Limits.{maxWords, maxNonterminals, maxTerminals}
 use Rattle.grammar.specs.Syntax.{Grammar}
 use Rattle.grammar.specs.Encoding.{Parsed, onWord, parse, sizes, declaredBy, grammarOf}
-use Rattle.encoding.specs.Encode.{headingWord, positiveWord, negativeWord, endWord, bodyWords, conjunctWords, ruleWords, rulesWords, encode, sizesOf, Encodes}
 use Rattle.grammar.specs.Reading.{row, allows, after, stepped, scan, fresh, within, headed, opened, reading}
+use Rattle.encoding.specs.Encode.{headingWord, positiveWord, negativeWord, endWord, bodyWords, conjunctWords, ruleWords, rulesWords, encode, sizesOf, Encodes}
 use Rattle.grammar.proofs.WellFormed.{faulty, finished-read, Empty, Shape, Reads, reads, passed, onward}
 use Rattle.grammar.proofs.WellRead.{chosen, refused, both, Within, within-limits, fit-formed, declares-no-rules}
 use Rattle.encoding.proofs.Words.{WrittenAs, written-as}
