@@ -16,7 +16,6 @@ use Rattle.answer.specs.Numbers.{coded, numbers, Numbers}
 use Rattle.word.specs.Choice.{choose}
 use Rattle.grammar.specs.Limits.{maxWords, maxNonterminals, maxPlaces}
 use Rattle.grammar.specs.Encoding.{grammarOf}
-use Rattle.grammar.proofs.WellRead.{well-read}
 use Rattle.semantics.specs.Choices.{tableChoice}
 use Rattle.semantics.specs.Descent.{accepts}
 use Rattle.semantics.proofs.Called.{called-range}
@@ -24,7 +23,7 @@ use Rattle.semantics.proofs.Theorems.{theorems}
 use Rattle.answer.specs.Faults.{refusedOr}
 use Rattle.recognizer.specs.Answers.{checkFault, judgeFault, callsOf, verdictOf}
 use Rattle.recognizer.specs.Properties.{Checks, Judges}
-use Rattle.recognizer.proofs.Checking.{passed-fault}
+use Rattle.recognizer.proofs.Checking.{passed-fault, passed-encodes, passed-free}
 use Rattle.recognizer.proofs.Judged.{judged-readable}
 use Rattle.embed.specs.Packing.{Fit, Fits, joined, packed, Unpacks}
 use Rattle.embed.specs.Exports.{CheckExported, JudgeExported}
@@ -61,13 +60,14 @@ calls-fit words input table memo e =
     let G = grammarOf words in
     let k = judged-readable words input table memo e in
     let p = passed-fault words (k .0) in
-    let r = well-read words (p .sizes) (p .read) in
-    let some-nonterminal : 0 < G .nonterminals = omega (arith, r .nonterminals, r .someNonterminal) in
+    let r = passed-encodes words p in
+    let free = passed-free words p in
+    let some-nonterminal : 0 < G .nonterminals = r .limited .someNonterminal in
     let own = theorems .own-rules G 1 input in
-    let c = theorems .calls-counted G (r .formed .scoped) (p .free) some-nonterminal (tableChoice G 1 input) own input in
-    let m = mul-le-mul {n₁ = G .nonterminals} {m₁ = suc (length input)} {n₂ = maxNonterminals} {m₂ = maxPlaces} (omega (arith, r .nonterminals, r .fewNonterminals)) (omega (arith, k .1)) in
+    let c = theorems .calls-counted G (r .formed .scoped) free some-nonterminal (tableChoice G 1 input) own input in
+    let m = mul-le-mul {n₁ = G .nonterminals} {m₁ = suc (length input)} {n₂ = maxNonterminals} {m₂ = maxPlaces} (r .limited .fewNonterminals) (omega (arith, k .1)) in
     let far = c .farthest-called in
-    let within = called-range G (tableChoice G 1 input) input (r .formed .scoped) (p .free) own some-nonterminal (far .0) (far .1) in
+    let within = called-range G (tableChoice G 1 input) input (r .formed .scoped) free own some-nonterminal (far .0) (far .1) in
     (omega (arith, c .bounded), omega (arith, far .2, within .1, k .1))
 
 -- a judgement

@@ -5,9 +5,8 @@ use mathlib.Core.List.{List, [], _∷_, _++_, List·Memᴰ, List·Memᴰ·cases-
 use mathlib.Core.Logic.{inl, inr}
 use Prim.Native.Nat.{ℕ, suc, _+_, _≤_, _<_}
 use native.Mathlib.Omega.{arith}
-use lib.Dec.{leb}
 use lib.ListN.{length}
-use borrow.Author.Tests.{ltb-true, leb-false}
+use borrow.Author.Tests.{ltb-true}
 use Rattle.answer.specs.declared.Error.{Error}
 use Rattle.answer.specs.declared.Error.the-variants.{UnexpectedWord, OutOfRange, TooManyRules}
 use Rattle.word.specs.declared.Symbol.the-variants.{Terminal, Nonterminal}
@@ -27,11 +26,16 @@ use Rattle.grammar.specs.declared.reading.Outcome.the-variants.{Read, Fa
 use Rattle.grammar.specs.Limits.{maxRules}
 use Rattle.grammar.specs.Syntax.{Body, Rule, bodies, NonterminalsBelow, TerminalsBelow}
 use Rattle.grammar.specs.Encoding.{Parsed, parsed, ruleOf, onWord, parse}
-use Rattle.grammar.specs.Reading.{row, allows, inRange, symbolInRange, beginsRule, after, progress, oneMore, counted, stepped, onStep, finished, scan}
+use Rattle.grammar.specs.Reading.{row, allows, inRange, symbolInRange, beginsRule, after, stepped, onStep, finished, scan}
+use Rattle.grammar.proofs.Scanning.{Stepped, stepping}
 
 abbrev pub one : Bool → ℕ
 one true = 1
 one false = 0
+
+-- what holds of every member
+abbrev pub Each : {A : Type 0} → (A → Type 0) → List A → Type 0
+Each {A} P l = (x : A) → List·Memᴰ x l → P x
 
 -- every symbol of a body is in range
 abbrev pub InRange : Sizes → Body → Type 0
@@ -39,7 +43,7 @@ InRange z b = NonterminalsBelow (z .nonterminals) b × TerminalsBelow (z .termin
 
 pub record RuleFits (z : Sizes) (r : Rule) : Type 0 where
   pub head : r .head < z .nonterminals
-  pub inRange : (b : Body) → List·Memᴰ b (bodies r) → InRange z b
+  pub inRange : Each (InRange z) (bodies r)
   pub positive : r .positives ≡ [] → ⊥
 
 pub record Empty (p : Parsed) : Type 0 where
@@ -57,16 +61,16 @@ Shape Closed p = Empty p
 
 pub record Fits (s : State) (z : Sizes) (p : Parsed) : Type 0 where
   pub body : InRange z (p .body)
-  pub positives : (b : Body) → List·Memᴰ b (p .positives) → InRange z b
-  pub negatives : (b : Body) → List·Memᴰ b (p .negatives) → InRange z b
-  pub rules : (r : Rule) → List·Memᴰ r (p .rules) → RuleFits z r
+  pub positives : Each (InRange z) (p .positives)
+  pub negatives : Each (InRange z) (p .negatives)
+  pub rules : Each (RuleFits z) (p .rules)
   pub shape : Shape s p
 
--- what holds of every member, of no list and of one more
-pub none-in : {A : Type 0} (P : A → Type 0) (x : A) → List·Memᴰ x [] → P x
+-- of no list, and of one more
+pub none-in : {A : Type 0} (P : A → Type 0) → Each P []
 none-in P x m = absurd (List·Memᴰ·not-nil m)
 
-pub more-in : {A : Type 0} (P : A → Type 0) (y : A) (l : List A) → P y → ((x : A) → List·Memᴰ x l → P x) → (x : A) → List·Memᴰ x (y ∷ l) → P x
+pub more-in : {A : Type 0} (P : A → Type 0) (y : A) (l : List A) → P y → Each P l → Each P (y ∷ l)
 more-in P y l h f x m = elim (List·Memᴰ·cases-cons m) [ inl e ↦ rw e h | inr n ↦ f x n ]
 
 empty : Empty (parsed [] [] [] [])
@@ -118,7 +122,7 @@ fits-word (RuleWord A) s z p a i h = record {
   shape = shape-between s _ a;
 }
   where
-    both : (b : Body) → List·Memᴰ b (p .positives ++ p .negatives) → InRange z b
+    both : Each (InRange z) (p .positives ++ p .negatives)
     both b m = elim (List·Memᴰ·append-cases (p .positives) m) [ inl n ↦ h .positives b n | inr n ↦ h .negatives b n ]
 fits-word Positive s z p a i h = record {
   body = (tt, tt);
@@ -164,42 +168,34 @@ pub record Passed (w : Word) (p q : Progress) : Type 0 where
 go-same : (p q : Progress) → Go p ≡ Go q → q ≡ p
 go-same p q e = cc
 
-never : (x : Error) (q : Progress) → Stop x ≡ Go q → ⊥
+pub never : (x : Error) (q : Progress) → Stop x ≡ Go q → ⊥
 never x q e = let n : _≡_ {A = ℕ} 0 1 = cc in omega arith
 
 pub passed : (w : Word) (p q : Progress) (at : ℕ) → stepped w p at ≡ Go q → Passed w p q
-unfolding stepped counted
-passed w p q at e = go (allows w (p .state)) refl (inRange w (p .sizes)) refl (beginsRule w) refl (leb maxRules (p .sizes .rules)) refl e
+passed w p q at e = go (stepped w p at) (stepping w p at) e
   where
-    next : State
-    next = after w (p .state)
-
-    go : (a : Bool) → allows w (p .state) ≡ a → (i : Bool) → inRange w (p .sizes) ≡ i → (b : Bool) → beginsRule w ≡ b → (f : Bool)
-        → leb maxRules (p .sizes .rules) ≡ f
-        → choose a (choose i (choose b (choose f (Stop (TooManyRules at)) (Go (progress next (oneMore (p .sizes))))) (Go (progress next (p .sizes)))) (Stop (OutOfRange at))) (Stop (UnexpectedWord at)) ≡ Go q
-        → Passed w p q
-    go false ea i ei b eb f ef g = absurd (never (UnexpectedWord at) q g)
-    go true ea false ei b eb f ef g = absurd (never (OutOfRange at) q g)
-    go true ea true ei true eb true ef g = absurd (never (TooManyRules at) q g)
-    go true ea true ei true eb false ef g =
-        let l = leb-false maxRules (p .sizes .rules) ef in
+    go : (t : Step) → Stepped w p at t → t ≡ Go q → Passed w p q
+    go _ (Stepped.unexpected a) g = absurd (never (UnexpectedWord at) q g)
+    go _ (Stepped.outOfRange a i) g = absurd (never (OutOfRange at) q g)
+    go _ (Stepped.tooMany a i b l) g = absurd (never (TooManyRules at) q g)
+    go _ (Stepped.rule a i b l) g =
         rw (go-same _ q g) (record {
-          allowed = ea;
-          ranged = ei;
+          allowed = a;
+          ranged = i;
           state = refl;
           nonterminals = refl;
           terminals = refl;
-          rules = rw eb;
+          rules = rw b;
           room = λ _. omega arith;
         })
-    go true ea true ei false eb f ef g =
+    go _ (Stepped.other a i b) g =
         rw (go-same _ q g) (record {
-          allowed = ea;
-          ranged = ei;
+          allowed = a;
+          ranged = i;
           state = refl;
           nonterminals = refl;
           terminals = refl;
-          rules = rw eb (omega arith);
+          rules = rw b (omega arith);
           room = λ h. h;
         })
 
@@ -240,28 +236,32 @@ in-range-same Invalid y z n t = refl
 pub faulty : (x : Error) (z : Sizes) → Faulty x ≡ Read z → ⊥
 faulty x z e = let n : _≡_ {A = ℕ} 0 1 = cc in omega arith
 
-read-same : (y z : Sizes) → Read y ≡ Read z → z ≡ y
+pub read-same : (y z : Sizes) → Read y ≡ Read z → z ≡ y
 read-same y z e = cc
 
-ended : (p : Progress) (at : ℕ) (z : Sizes) → finished p at ≡ Read z → Reads p z (parse [])
-unfolding finished parse
-ended p at z e = go (p .state) refl e
+-- behind the last word: the end was there
+pub finished-read : (p : Progress) (at : ℕ) (z : Sizes) → finished p at ≡ Read z → (p .state ≡ Closed) × (z ≡ p .sizes)
+unfolding finished
+finished-read p at z e = go (p .state) e
   where
-    go : (s : State) → p .state ≡ s → choose (row false false false false true s) (Read (p .sizes)) (Faulty (UnexpectedWord at)) ≡ Read z
-        → Reads p z (parsed [] [] [] [])
-    go Before es e = absurd (faulty (UnexpectedWord at) z e)
-    go Opened es e = absurd (faulty (UnexpectedWord at) z e)
-    go InPositive es e = absurd (faulty (UnexpectedWord at) z e)
-    go InNegative es e = absurd (faulty (UnexpectedWord at) z e)
-    go Closed es e =
-        let same : z ≡ p .sizes = read-same (p .sizes) z e in
-        rw same (record {
-          nonterminals = refl;
-          terminals = refl;
-          rules = omega arith;
-          room = λ l. l;
-          fits = rw es (fits-nothing (p .sizes));
-        })
+    go : (s : State) → choose (row false false false false true s) (Read (p .sizes)) (Faulty (UnexpectedWord at)) ≡ Read z → (s ≡ Closed) × (z ≡ p .sizes)
+    go Before e = absurd (faulty (UnexpectedWord at) z e)
+    go Opened e = absurd (faulty (UnexpectedWord at) z e)
+    go InPositive e = absurd (faulty (UnexpectedWord at) z e)
+    go InNegative e = absurd (faulty (UnexpectedWord at) z e)
+    go Closed e = (refl, read-same (p .sizes) z e)
+
+ended : (p : Progress) (at : ℕ) (z : Sizes) → finished p at ≡ Read z → Reads p z (parse [])
+unfolding parse
+ended p at z e =
+    let f = finished-read p at z e in
+    rw (f .1) (record {
+      nonterminals = refl;
+      terminals = refl;
+      rules = omega arith;
+      room = λ l. l;
+      fits = rw (f .0) (fits-nothing (p .sizes));
+    })
 
 -- THE THEOREM, from any place on
 pub reads : (p : Progress) (at : ℕ) (ws : List ℕ) (z : Sizes) → scan p at ws ≡ Read z → Reads p z (parse ws)

@@ -18,11 +18,12 @@ use Rattle.grammar.specs.declared.reading.Sizes.{Sizes}
 use Rattle.grammar.specs.declared.reading.Outcome.{Outcome}
 use Rattle.grammar.specs.declared.reading.Outcome.the-variants.{Read, Faulty}
 use Rattle.grammar.specs.Limits.{maxWords, maxNonterminals, maxTerminals, maxRules}
+use Rattle.grammar.specs.Syntax.{Grammar, WellFormed}
 use Rattle.grammar.specs.Encoding.{declaredBy, parse, grammarOf}
 use Rattle.grammar.specs.Reading.{beginsRule, fresh, scan, within, headed, opened, reading}
 use Rattle.grammar.specs.Starts.{starts, ruleStarts}
 use Rattle.grammar.specs.WellRead.{firstRule, Begun, WellRead}
-use Rattle.grammar.proofs.WellFormed.{faulty, Reads, reads}
+use Rattle.grammar.proofs.WellFormed.{Each, RuleFits, faulty, Reads, reads}
 use Rattle.grammar.proofs.Begins.{Begins, begins, as-many}
 
 -- a choice that is read was taken on its good side
@@ -59,6 +60,17 @@ heading-begins-none Invalid h = refl
 -- a begin found among as many as there may be
 start-kept : (xs : List ℕ) (m q : ℕ) → length xs ≤ m → q < length xs → getD (take m (xs ++ replicate m 0)) q 0 ≡ getD xs q 0
 start-kept xs m q l h = getD-take m (xs ++ replicate m 0) q 0 (omega arith) ∙ List·getD-append xs (replicate m 0) 0 q h
+
+-- rules that fit a grammar's numbers make it well formed
+pub fit-formed : (G : Grammar) (z : Sizes) → z .nonterminals ≡ G .nonterminals → z .terminals ≡ G .terminals → Each (RuleFits z) (G .rules) → WellFormed G
+fit-formed G z n t h = record {
+  scoped = record {
+    heads = λ r m. omega (arith, h r m .head);
+    nonterminals = λ r m b k. rw n at (h r m .inRange b k .0);
+  };
+  terminals = λ r m b k. rw t at (h r m .inRange b k .1);
+  positive = λ r m. h r m .positive;
+}
 
 -- by the first word and the reading behind it
 module _ (w : ℕ) (ws : List ℕ) (z : Sizes) (short : length (w ∷ ws) ≤ maxWords)
@@ -113,19 +125,12 @@ module _ (w : ℕ) (ws : List ℕ) (z : Sizes) (short : length (w ∷ ws) ≤ ma
     fewTerminals = omega (arith, t .few, r .terminals);
     rules = count;
     fewRules = few;
-    formed = record {
-      scoped = record {
-        heads = λ x m. omega (arith, r .fits .rules x m .head, r .nonterminals);
-        nonterminals = λ x m b k. rw (r .nonterminals) at (r .fits .rules x m .inRange b k .0);
-      };
-      terminals = λ x m b k. rw (r .terminals) at (r .fits .rules x m .inRange b k .1);
-      positive = λ x m. r .fits .rules x m .positive;
-    };
+    formed = fit-formed (grammarOf (w ∷ ws)) z (r .nonterminals) (r .terminals) (r .fits .rules);
     begun = begun;
     begins = begin;
   }
 
-declares-no-rules : (w : Word) → declaredBy w .rules ≡ 0
+pub declares-no-rules : (w : Word) → declaredBy w .rules ≡ 0
 declares-no-rules (Heading n t) = refl
 declares-no-rules (RuleWord A) = refl
 declares-no-rules Positive = refl

@@ -26,7 +26,11 @@ use Rattle.grammar.specs.declared.reading.Sizes.{Sizes}
 use Rattle.grammar.specs.declared.reading.Outcome.{Outcome}
 use Rattle.grammar.specs.declared.reading.Outcome.the-variants.{Read, Faulty}
 use Rattle.grammar.proofs.WellRead.{well-read}
-use Rattle.semantics.specs.LeftRecursion.{lowestLeftRecursive}
+use Rattle.encoding.specs.Encode.{sizesOf, Encodes}
+use Rattle.encoding.proofs.Decoding.{encodes-grammar}
+use Rattle.encoding.proofs.ReadingEncodes.{read-encodes, encodes-read}
+use Rattle.encoding.proofs.Faithful.{faithful}
+use Rattle.semantics.specs.LeftRecursion.{NoLeftRecursion, lowestLeftRecursive}
 use Rattle.semantics.specs.FirstFollow.{Entry}
 use Rattle.semantics.specs.Claims.{clashes}
 use Rattle.semantics.specs.Theorems.{LeastSets}
@@ -68,15 +72,13 @@ pub read-some : (o : Outcome) → readingFault o ≡ none → (z : Sizes) × (o 
 read-some (Read z) e = (z, refl)
 read-some (Faulty x) e = let z : _≡_ {A = ℕ} 0 1 = cc in absurd (omega arith)
 
--- the theorems of the semantics about a grammar that is read
-pub least : (words : List ℕ) (z : Sizes) → reading words ≡ Read z → LeastSets (grammarOf words) 1
-least words z e =
-    let r = well-read words z e in
-    theorems .least-sets (grammarOf words) (r .formed .scoped) (r .formed .terminals) (omega (arith, r .nonterminals, r .someNonterminal)) 1
+-- the theorems of the semantics about an encoded grammar
+pub least : {words : List ℕ} (G : Grammar) → Encodes words G → LeastSets G 1
+least G e = theorems .least-sets G (e .formed .scoped) (e .formed .terminals) (e .limited .someNonterminal) 1
 
-families : (words : List ℕ) (z : Sizes) → reading words ≡ Read z → LeastFamilies (grammarOf words)
-families words z e =
-    let l = least words z e in
+families : {words : List ℕ} (G : Grammar) → Encodes words G → LeastFamilies G
+families G e =
+    let l = least G e in
     record {
       first-closed = l .first .closed;
       first-least = λ F c A x h. l .first .smallest (λ B y. T (F B y)) c A x h;
@@ -93,28 +95,42 @@ passed-fault words e =
     let f = each-none (grammarFaults words) e in
     let z = read-some (reading words) (f .0) in
     let none-clashes : clashes (grammarOf words) 1 ≡ [] = none-clash _ (clashes (grammarOf words) 1) (f .1 .1 .0) in
-    let r = well-read words (z .0) (z .1) in
+    let r = read-encodes words (z .0) (z .1) in
     record {
-      sizes = z .0;
-      read = z .1;
-      free = theorems .left-recursion-decided (grammarOf words) (r .formed .scoped) .absent .0 (none-left (lowestLeftRecursive (grammarOf words)) (f .1 .0));
-      clashless = λ A x c. List·Memᴰ·not-nil (rw none-clashes at (least words (z .0) (z .1) .clash A x .1 c));
+      short = r .0;
+      grammar = grammarOf words;
+      encodes = r .1;
+      free = theorems .left-recursion-decided (grammarOf words) (r .1 .formed .scoped) .absent .0 (none-left (lowestLeftRecursive (grammarOf words)) (f .1 .0));
+      clashless = λ A x c. List·Memᴰ·not-nil (rw none-clashes at (least (grammarOf words) (r .1) .clash A x .1 c));
     }
 
-pub no-clashes : (words : List ℕ) → PassedGrammar words → clashes (grammarOf words) 1 ≡ []
-no-clashes words p = go (clashes (grammarOf words) 1) refl
-  where
-    go : (l : List Entry) → clashes (grammarOf words) 1 ≡ l → clashes (grammarOf words) 1 ≡ []
-    go [] e = e
-    go (x ∷ l) e = absurd (p .clashless (x .0) (x .1) (least words (p .sizes) (p .read) .clash (x .0) (x .1) .0 (rw e (List·Memᴰ·head refl))))
+-- a grammar that passes is the one that is read, so its promises are about that
+module _ (words : List ℕ) (p : PassedGrammar words) where
+  same-grammar : p .grammar ≡ grammarOf words
+  same-grammar = sym (encodes-grammar words (p .grammar) (p .encodes))
 
-pub not-left-recursive : (words : List ℕ) → PassedGrammar words → lowestLeftRecursive (grammarOf words) ≡ none
-not-left-recursive words p =
-    theorems .left-recursion-decided (grammarOf words) (well-read words (p .sizes) (p .read) .formed .scoped) .absent .1 (p .free)
+  pub passed-encodes : Encodes words (grammarOf words)
+  passed-encodes = rw (← same-grammar) (p .encodes)
 
-pub fault-passed : (words : List ℕ) → PassedGrammar words → fault words ≡ none
-unfolding fault
-fault-passed words p = rw (p .read, not-left-recursive words p, no-clashes words p)
+  pub passed-free : NoLeftRecursion (grammarOf words)
+  passed-free = rw (← same-grammar) (p .free)
+
+  pub no-clashes : clashes (grammarOf words) 1 ≡ []
+  no-clashes = rw (← same-grammar) (go (clashes (p .grammar) 1) refl)
+    where
+      go : (l : List Entry) → clashes (p .grammar) 1 ≡ l → clashes (p .grammar) 1 ≡ []
+      go [] e = e
+      go (x ∷ l) e = absurd (p .clashless (x .0) (x .1) (least (p .grammar) (p .encodes) .clash (x .0) (x .1) .0 (rw e (List·Memᴰ·head refl))))
+
+  pub not-left-recursive : lowestLeftRecursive (grammarOf words) ≡ none
+  not-left-recursive = theorems .left-recursion-decided (grammarOf words) (passed-encodes .formed .scoped) .absent .1 passed-free
+
+  pub passed-read : reading words ≡ Read (sizesOf (grammarOf words))
+  passed-read = encodes-read words (grammarOf words) (p .short) passed-encodes
+
+  pub fault-passed : fault words ≡ none
+  unfolding fault
+  fault-passed = rw (passed-read, not-left-recursive, no-clashes)
 
 -- with a table that is long enough only the grammar's faults are left
 check-fault-long : (n : ℕ) (words : List ℕ) → memoryWords ≤ n → checkFault n words ≡ fault words
@@ -129,6 +145,7 @@ refused-passed (some x) e = let z : _≡_ {A = ℕ} 0 1 = cc in absurd (omega ar
 checks : {words before after : List ℕ} {r : Answer} → r ≡ refusedOr (checkFault (length before) words) Passed
     → after ≡ lentBack (checkFault (length before) words) (tableWords (grammarOf words)) before → Checks words before r after
 checks {words} {before} {after} {r} a t = record {
+  faithful = faithful words;
   answer = a;
   told = ap numbers a ∙ numbers-told (checkFault (length before) words) Passed;
   table = t;
@@ -137,7 +154,7 @@ checks {words} {before} {after} {r} a t = record {
         λ p. passed-fault words (sym f ∙ refused-passed (checkFault (length before) words) (sym a ∙ p)),
         λ p. a ∙ rw (f, fault-passed words p),
       );
-  least = λ z e. (well-read words z e, families words z e);
+  least = families;
 }
 
 pub check-short : {words before : List ℕ} → length before < memoryWords → Checks words before (Refused TableTooShort) before

@@ -29,6 +29,7 @@ use Rattle.grammar.specs.Encoding.{grammarOf}
 use Rattle.grammar.specs.WellRead.{WellRead}
 use Rattle.grammar.specs.declared.reading.Sizes.{Sizes}
 use Rattle.grammar.proofs.WellRead.{well-read}
+use Rattle.encoding.proofs.Faithful.{faithful}
 use Rattle.semantics.specs.Quantifiers.{all}
 use Rattle.semantics.specs.Valuations.{Valuation, Solves, pairs}
 use Rattle.semantics.specs.Strings.{Over}
@@ -51,7 +52,7 @@ use Rattle.recognizer.specs.Answers.{unknownFrom, unknownFault, checkFau
 use Rattle.recognizer.specs.Judging.{PassedGiven, DescendGiven, Descended}
 use Rattle.recognizer.specs.Preparing.{Entries}
 use Rattle.recognizer.specs.Properties.{PassedGrammar, Recognizes, Judges}
-use Rattle.recognizer.proofs.Checking.{passed-fault, fault-passed, no-clashes, not-left-recursive, lent-table}
+use Rattle.recognizer.proofs.Checking.{passed-fault, passed-encodes, passed-free, fault-passed, no-clashes, not-left-recursive, lent-table}
 
 -- an input is of known tokens exactly when no unknown one is found
 pub known-absent : (n at : ℕ) (w : List ℕ) → Over n w → unknownFrom n at w ≡ Absent
@@ -139,17 +140,18 @@ meaning : (words input : List ℕ) (r : Answer) → PassedGrammar words → Over
 unfolding verdictOf
 meaning words input r p over e =
     let G = grammarOf words in
-    let k = well-read words (p .sizes) (p .read) in
-    let some-nonterminal : 0 < G .nonterminals = omega (arith, k .nonterminals, k .someNonterminal) in
+    let k = passed-encodes words p in
+    let free = passed-free words p in
+    let some-nonterminal : 0 < G .nonterminals = k .limited .someNonterminal in
     let predictive : Predictive G 1 = theorems .passed G 1 (k .formed) some-nonterminal .0 (not-left-recursive words p, no-clashes words p) in
     let tells : (v : Valuation) → Solves G input v → ((r ≡ Accepted (callsOf G input)) ↔ (v 0 0 (length input) ≡ true)) × ((r ≡ Rejected (callsOf G input)) ↔ (v 0 0 (length input) ≡ false)) =
     λ v s. verdict-tells {r = r} (v 0 0 (length input)) (callsOf G input)
     (e ∙ ap (λ b. choose b (Accepted (callsOf G input)) (Rejected (callsOf G input))) (theorems .verdict G 1 predictive input over v s)) in
     record {
-      one-solution = theorems .one-solution G (k .formed .scoped) (p .free) input;
+      one-solution = theorems .one-solution G (k .formed .scoped) free input;
       accepted = λ v s. tells v s .0;
       rejected = λ v s. tells v s .1;
-      calls = theorems .calls-counted G (k .formed .scoped) (p .free) some-nonterminal (tableChoice G 1 input) (theorems .own-rules G 1 input) input;
+      calls = theorems .calls-counted G (k .formed .scoped) free some-nonterminal (tableChoice G 1 input) (theorems .own-rules G 1 input) input;
     }
 
 -- the numbers of what is answered
@@ -169,6 +171,7 @@ judges : {words input table memo table′ memo′ : List ℕ} {r : Answer}
     → memo′ ≡ lentBack (judgeFault (length table) (length memo) words input) (memoWords (grammarOf words) input) memo
     → Judges words input table memo r table′ memo′
 judges {words} {input} {table} {memo} {table′} {memo′} {r} a t m = record {
+  faithful = faithful words;
   answer = a;
   told =
       let f = judgeFault (length table) (length memo) words input in
@@ -244,7 +247,7 @@ module _ {words entries table memo : List ℕ} {z : Sizes} (g : PassedGiven word
       pub descend-given : DescendGiven words z entries input (take (z .nonterminals * (length input + 1)) memo)
       descend-given = record {
         read = g .found .read;
-        free = passed-fault words (g .found .faultless) .free;
+        free = passed-free words (passed-fault words (g .found .faultless));
         table = rw (g .found .table) (filled-entries (grammarOf words));
         tokens = absent-known (grammarOf words .terminals) 0 input known;
         short = short;

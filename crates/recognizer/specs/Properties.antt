@@ -11,13 +11,11 @@ use Rattle.answer.specs.Numbers.{numbers}
 use Rattle.answer.specs.Faults.{refusedOr, toldOr}
 use Rattle.answer.specs.declared.Answer.{Answer}
 use Rattle.answer.specs.declared.Answer.the-variants.{Passed, Accepted, Rejected}
-use Rattle.grammar.specs.Limits.{tableWords as memoryWords, memoEntries, maxTokens}
+use Rattle.grammar.specs.Limits.{tableWords as memoryWords, memoEntries, maxTokens, maxWords}
 use Rattle.grammar.specs.Syntax.{Grammar}
 use Rattle.grammar.specs.Encoding.{grammarOf}
-use Rattle.grammar.specs.Reading.{reading}
-use Rattle.grammar.specs.WellRead.{WellRead}
-use Rattle.grammar.specs.declared.reading.Sizes.{Sizes}
-use Rattle.grammar.specs.declared.reading.Outcome.the-variants.{Read}
+use Rattle.encoding.specs.Encode.{Encodes}
+use Rattle.encoding.specs.Faithful.{FaithfulReading}
 use Rattle.semantics.specs.Valuations.{Valuation, Solves}
 use Rattle.semantics.specs.LeftRecursion.{NoLeftRecursion}
 use Rattle.semantics.specs.Strings.{Over}
@@ -30,12 +28,13 @@ use Rattle.table.specs.Layout.{tableWords}
 use Rattle.recognizer.specs.Memory.{lentBack, memoWords}
 use Rattle.recognizer.specs.Answers.{checkFault, judgeFault, callsOf, verdictOf, passedNumbers, verdictNumbers}
 
--- a grammar that passes (document 01: a passed card): read without a fault, not left-recursive, and no entry is claimed by two rules
+-- a grammar that passes (document 01: a passed card): at most 2,048 words that encode a well-formed grammar within the limits, not left-recursive, and no entry is claimed by two rules
 pub record PassedGrammar (words : List ℕ) : Type 0 where
-  pub sizes : Sizes
-  pub read : reading words ≡ Read sizes
-  pub free : NoLeftRecursion (grammarOf words)
-  pub clashless : (A : ℕ) (x : List ℕ) → Clash (grammarOf words) 1 (First (grammarOf words) 1) (Follow (grammarOf words) 1) A x → ⊥
+  pub short : length words ≤ maxWords
+  pub grammar : Grammar
+  pub encodes : Encodes words grammar
+  pub free : NoLeftRecursion grammar
+  pub clashless : (A : ℕ) (x : List ℕ) → Clash grammar 1 (First grammar 1) (Follow grammar 1) A x → ⊥
 
 -- the sets and the entries of a grammar with one token of lookahead: no smaller than the rules ask, and no larger than any family that they close
 pub record LeastFamilies (G : Grammar) : Type 0 where
@@ -48,14 +47,16 @@ pub record LeastFamilies (G : Grammar) : Type 0 where
 
 -- checking an encoded grammar with a lent table: properties 1 and 2
 pub record Checks (words before : List ℕ) (r : Answer) (after : List ℕ) : Type 0 where
+  -- the refusals 3 to 7, and the grammar of the words, are told without the reading that finds them
+  pub faithful : FaithfulReading words
   -- the first refusal that holds decides, and a refusal changes nothing; else the table's words are those of the grammar, and later ones stay
   pub answer : r ≡ refusedOr (checkFault (length before) words) Passed
   pub told : numbers r ≡ toldOr (checkFault (length before) words) passedNumbers
   pub table : after ≡ lentBack (checkFault (length before) words) (tableWords (grammarOf words)) before
   -- passed exactly when well formed, not left-recursive and without a clash, where the table is long enough
   pub passed : memoryWords ≤ length before → (r ≡ Passed) ↔ PassedGrammar words
-  -- a grammar that is read is of the sizes told, and its sets and entries are the least ones
-  pub least : (z : Sizes) → reading words ≡ Read z → WellRead words z × LeastFamilies (grammarOf words)
+  -- the sets and the entries of an encoded grammar are the least ones
+  pub least : (G : Grammar) → Encodes words G → LeastFamilies G
 
 -- an input that is not too long, all of whose tokens are terminals of the grammar
 pub record Readable (words input : List ℕ) : Type 0 where
@@ -72,6 +73,8 @@ pub record Recognizes (words input : List ℕ) (r : Answer) : Type 0 where
 
 -- judging an input with a lent table and a lent memo table: properties 1 and 3
 pub record Judges (words input table memo : List ℕ) (r : Answer) (table′ memo′ : List ℕ) : Type 0 where
+  -- as in checking
+  pub faithful : FaithfulReading words
   -- the first refusal that holds decides, and a refusal changes nothing; else both memories hold what is defined, and later words stay
   pub answer : r ≡ refusedOr (judgeFault (length table) (length memo) words input) (verdictOf (grammarOf words) input)
   pub told : numbers r ≡ toldOr (judgeFault (length table) (length memo) words input) (verdictNumbers (grammarOf words) input)

@@ -10,13 +10,12 @@ use Rattle.answer.specs.declared.Answer.{Answer}
 use Rattle.grammar.specs.Limits.{maxTokens, memoEntries, tableWords as memoryWords}
 use Rattle.grammar.specs.Encoding.{grammarOf}
 use Rattle.grammar.specs.Reading.{reading}
-use Rattle.grammar.proofs.WellRead.{well-read}
 use Rattle.recognizer.specs.Properties.{Checks, Judges}
 use Rattle.answer.specs.Faults.{refusedOr}
 use Rattle.recognizer.specs.Answers.{judgeFault, verdictOf}
 use Rattle.recognizer.specs.Memory.{lentBack, memoWords}
 use Rattle.recognizer.proofs.Judged.{judged-readable}
-use Rattle.recognizer.proofs.Checking.{passed-fault}
+use Rattle.recognizer.proofs.Checking.{passed-fault, passed-read}
 use Rattle.text.specs.Writing.{Put}
 use Rattle.sheet_text.specs.Sheet.{checkText}
 use Rattle.judgement_text.specs.Judgement.{judgementText}
@@ -33,8 +32,7 @@ module _ (words input memo : List ℕ) (v : Answer) where
   same-sizes (some x) e = rw e
   same-sizes none e =
       let k = judged-readable words input memoryWords memoEntries e in
-      let p = passed-fault words (k .0) in
-      let n : nonterminalsOf (reading words) ≡ grammarOf words .nonterminals = ap nonterminalsOf (p .read) ∙ well-read words (p .sizes) (p .read) .nonterminals in
+      let n : nonterminalsOf (reading words) ≡ grammarOf words .nonterminals = ap nonterminalsOf (passed-read words (passed-fault words (k .0))) in
       let t : tokensOf input ≡ length input = rw (le-leb (length input) maxTokens (k .1)) in
       ap₂ (λ a b. judgementText (refusedOr f v) a b memo) n t
 

@@ -3,7 +3,7 @@ use mathlib.Core.Path.{_≡_, refl}
 use mathlib.Core.Bool.{Bool, true, false}
 use mathlib.Core.List.{List, [], _∷_, _++_, map, List·Memᴰ, List·Memᴰ·head, List·Memᴰ·tail}
 use mathlib.Core.Option.{Option, none, some}
-use Prim.Native.Nat.{ℕ, zero, suc, _+_, _*_, _≤_, _<_}
+use Prim.Native.Nat.{ℕ, zero, suc, _*_, _≤_, _<_}
 use native.Mathlib.Omega.{arith}
 use lib.ListN.{length, getD, drop, replicate, length-append}
 use Rattle.answer.specs.declared.Error.{Error}
@@ -29,7 +29,7 @@ use Rattle.table.specs.Layout.{tableWords}
 use Rattle.answer.specs.Faults.{refusedOr}
 use Rattle.recognizer.specs.Answers.{checkFault, judgeFault, callsOf, verdictOf}
 use Rattle.recognizer.specs.Memory.{lentBack, memoWord, memoWords}
-use Rattle.recognizer.proofs.Checking.{passed-fault}
+use Rattle.recognizer.proofs.Checking.{passed-fault, passed-encodes, passed-free}
 use Rattle.recognizer.proofs.Judged.{judged-readable}
 use Rattle.text.proofs.Lengths.{refusal-most}
 use Rattle.sheet_text.specs.Sheet.{sheetText, checkText}
@@ -94,9 +94,9 @@ module _ (words input : List ℕ) (table memo : ℕ) (e : judgeFault table memo 
       go true (End j) q =
           let k = judged-readable words input table memo e in
           let p = passed-fault words (k .0) in
-          let r = well-read words (p .sizes) (p .read) in
+          let r = passed-encodes words p in
           let within = all-range G input x .0 m in
-          let f = theorems .descent-ends G (r .formed .scoped) (p .free) (tableChoice G 1 input) (theorems .own-rules G 1 input) input .forward
+          let f = theorems .descent-ends G (r .formed .scoped) (passed-free words p) (tableChoice G 1 input) (theorems .own-rules G 1 input) input .forward
           (x .nonterminal) (x .place) j (within .1) q in
           omega (arith, f .1, k .1)
 
@@ -111,9 +111,8 @@ module _ (words input : List ℕ) (table memo : ℕ) (e : judgeFault table memo 
   calls-short : length (callsText (G .nonterminals) (length input) (lentBack none (memoWords G input) blankMemo)) ≤ memoEntries * callRoom
   calls-short =
       let k = judged-readable words input table memo e in
-      let p = passed-fault words (k .0) in
-      let r = well-read words (p .sizes) (p .read) in
-      calls-most (G .nonterminals) (length input) (lentBack none (memoWords G input) blankMemo) (omega (arith, r .nonterminals, r .fewNonterminals)) (k .1)
+      let r = passed-encodes words (passed-fault words (k .0)) in
+      calls-most (G .nonterminals) (length input) (lentBack none (memoWords G input) blankMemo) (r .limited .fewNonterminals) (k .1)
       (λ i. each-at (lentBack none (memoWords G input) blankMemo) i uncalledCode (omega arith) memo-each)
 
 pub judged-short : (words input : List ℕ) → length (judgedText words input) ≤ judgementRoom

@@ -1,0 +1,10 @@
+pub mod Words
+pub mod Decoding
+pub mod EncodingRead
+pub mod ReadingEncodes
+pub mod Faults
+pub mod Place
+pub mod Diagnosis
+pub mod OneDiagnosis
+pub mod Faithful
+pub mod Examples
