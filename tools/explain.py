@@ -5,6 +5,9 @@ from typing import NamedTuple, Optional
 from notation import MAX_WORDS, MAX_INPUT, NONTERMINAL, RULE, Grammar, Damaged, body_text, rule_text, scan, unknown_event
 
 
+LONGEST = 100    # how much of a rule or a body is shown
+
+
 class Card(NamedTuple):
     words: list
     grammar: Optional[Grammar]    # none where the words are damaged
@@ -20,7 +23,11 @@ class Card(NamedTuple):
         """A rule, with where it begins."""
         rule = self.grammar.rules[number]
         begins = [at for at, word in enumerate(self.words) if word >> 28 == RULE][number]
-        return f'{self.where(begins)}: {self.grammar.nonterminals[rule.head]} -> {rule_text(self.grammar, rule)}'
+        return f'{self.where(begins)}: {self.grammar.nonterminals[rule.head]} -> {shortened(rule_text(self.grammar, rule))}'
+
+
+def shortened(text):
+    return text if len(text) <= LONGEST else text[:LONGEST] + ' ...'
 
 
 # Left recursion
@@ -84,7 +91,7 @@ def way_back(grammar, name):
 
 def step_text(card, step):
     names = card.grammar.nonterminals
-    body = ('not ' if step.negative else '') + body_text(card.grammar, step.body)
+    body = shortened(('not ' if step.negative else '') + body_text(card.grammar, step.body))
     passed = list(dict.fromkeys(names[name] for name in step.passed))
     reason = f', since {" and ".join(passed)} may be empty' if passed else ''
     return f"{card.where(step.word)}: {names[step.name]} comes to {names[step.to]} in '{body}'{reason}"

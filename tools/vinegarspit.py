@@ -2,8 +2,8 @@
 
     from vinegarspit import judge, table, memo
     lent = table(), memo()
-    print(judge(words, b'\\0', *lent))     # Answer(verdict='accepted', number=0, place=0, count=2, far=1) for card R
-    print(lent[1][:2])                    # array('H', [1, 1])
+    answer = judge(words, b'\\0', *lent)     # for card R: Answer(verdict='accepted', number=0, place=0, count=2, far=1)
+    lent[1][:2]                              # array('H', [1, 1])
 
 A card is a row of words and a log a row of bytes. Lent memory is an array that the call writes into: array('I') for words of 32
 bits, 'H' for entries of 16. What the header states stands there alone: its limits and codes are attributes here (TABLE_WORDS,
