@@ -166,6 +166,10 @@ def refusal(card, number, place, log=()):
         fault = damage(card)
         reason = fault.reason if fault and (fault.code, fault.position) == (number, place) else 'a damaged card'
         return [(f'{card.where(place)}: ' if number > 4 else '') + reason]
+    if number == 10:
+        return [f'the log has {len(log)} events, and the limit is {MAX_INPUT}']
+    if grammar is None or number not in (8, 9, 11):
+        return ['README.md has a table of refusals']
     if number == 8:
         name = grammar.nonterminals[place]
         return [f'left-recursive: {name} comes to {name} again before any event is read'] + [
@@ -177,8 +181,4 @@ def refusal(card, number, place, log=()):
         count = {2: 'two'}.get(len(rules), len(rules))
         there = 'at the end of the log' if end else f'where the next event is {grammar.terminals[column]}'
         return [f'{count} rules of {grammar.nonterminals[name]} may be meant {there}'] + [card.rule(rule) for rule in rules]
-    if number == 10:
-        return [f'the log has {len(log)} events, and the limit is {MAX_INPUT}']
-    if number == 11:
-        return [unknown_event(grammar, place, log[place])]
-    return []
+    return [unknown_event(grammar, place, log[place])]
