@@ -130,7 +130,12 @@ def head_of(items):
 
 def parse(text):
     """The grammar that a text says."""
-    terminals, nonterminals, definitions = None, None, []
+    return located(text)[0]
+
+
+def located(text):
+    """The grammar that a text says, and the line of the text for each of its words."""
+    terminals, nonterminals, definitions, heading = None, None, [], 1
     for items in statements(text):
         token, line = items[0]
         if token in ('letters', 'names'):
@@ -139,7 +144,7 @@ def parse(text):
             if (terminals if token == 'letters' else nonterminals) is not None:
                 raise TextError(line, f"a second line '{token}'")
             if token == 'letters':
-                terminals = declared(items, 'letter', lambda word: not is_nonterminal(word))
+                terminals, heading = declared(items, 'letter', lambda word: not is_nonterminal(word)), line
             else:
                 nonterminals = declared(items, 'name', is_nonterminal)
         else:
@@ -157,11 +162,13 @@ def parse(text):
         if len(nonterminals) > HEADING_FIELD:
             raise TextError(last, f'{len(nonterminals)} names: the heading has room for {HEADING_FIELD}')
     resolve = resolver(nonterminals, terminals, listed)
-    rules = []
+    rules, lines = [], [heading]
     for _, items in definitions:
         head = resolve(*items[0]).number
-        rules += [parse_rule(head, line, run, resolve) for line, run in split(items[1][1], items[2:], '|')]
-    return Grammar(tuple(nonterminals), tuple(terminals), tuple(rules))
+        for line, run in split(items[1][1], items[2:], '|'):
+            rules.append(parse_rule(head, line, run, resolve))
+            lines += rule_lines(line, run)
+    return Grammar(tuple(nonterminals), tuple(terminals), tuple(rules)), lines + [last]
 
 
 def resolver(nonterminals, terminals, listed):
@@ -196,6 +203,14 @@ def parse_rule(head, line, items, resolve):
             raise TextError(line, 'a must behind a must-not: the musts come first')
         (negatives if negative else positives).append(body)
     return Rule(head, tuple(positives), tuple(negatives))
+
+
+def rule_lines(line, items):
+    """The line of each word of a rule: of its beginning, then of each conjunct and the symbols in it."""
+    lines = [line]
+    for line, conjunct in split(line, items, '&'):
+        lines += [line] + [at for token, at in conjunct if token not in ('not', 'empty')]
+    return lines
 
 
 def parse_body(line, items, resolve):
@@ -237,16 +252,23 @@ def beyond_limits(grammar):
             for size, limit, what, code in sizes if size > limit]
 
 
+def events(grammar, text):
+    """The letters of an input as they are written; those of one character may be written together."""
+    return [letter for word in text.split() for letter in ([word] if word in grammar.terminals else word)]
+
+
+def unknown_event(grammar, at, letter):
+    return f"event {at}, '{letter}', is not among the letters {' '.join(grammar.terminals)}"
+
+
 def parse_input(grammar, text):
-    """The tokens of an input written in the grammar's letters; letters of one character may be written together."""
+    """The tokens of an input written in the grammar's letters."""
     numbers = {name: at for at, name in enumerate(grammar.terminals)}
-    found = []
-    for word in text.split():
-        for letter in [word] if word in numbers else word:
-            if letter not in numbers:
-                raise ValueError(f"event {len(found)}, '{letter}', is not among the letters {' '.join(grammar.terminals)}")
-            found.append(numbers[letter])
-    return bytes(found)
+    written = events(grammar, text)
+    for at, letter in enumerate(written):
+        if letter not in numbers:
+            raise ValueError(unknown_event(grammar, at, letter))
+    return bytes(numbers[letter] for letter in written)
 
 
 # Words

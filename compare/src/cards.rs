@@ -195,6 +195,43 @@ pub fn largest() -> Draft {
     draft
 }
 
+/// The same rules with so many words in all, the bodies of the first `rules` rules being filled up in turn with this symbol.
+fn padded(mut draft: Draft, rules: usize, filler: Symbol, words: usize) -> Draft {
+    for at in 0..words.saturating_sub(draft.words().len()) {
+        draft.rules[at % rules].positives[0].push(filler);
+    }
+    draft
+}
+
+/// A chain of 32 nonterminals written last rule first, with bodies filled up to 2,027 words: each pass over the words settles one
+/// more nonterminal.
+pub fn long_chain() -> Draft {
+    let mut draft = chain(MAX_NONTERMINALS, 1);
+    draft.rules.truncate(MAX_NONTERMINALS - 1);
+    let last = MAX_NONTERMINALS - 1;
+    draft = padded(draft, last, Nonterminal(last as u8), 2_027 - 3);
+    draft.rules.push(rule(last, &[&[Terminal(0)]], &[]));
+    draft.reversed()
+}
+
+/// The slowest to check that was found. A chain of 17 nonterminals written last rule first, the last of which has a rule for each of 16
+/// terminals. Its rule of terminal j counts only once nonterminal 16 + j has a first set, and that takes terminal j - 1 to have come all the
+/// way to the start: so each terminal in turn goes up the chain, one nonterminal a pass.
+pub fn slowest() -> Draft {
+    let gates = MAX_NONTERMINALS / 2 - 1;
+    let links = MAX_NONTERMINALS - gates;
+    let (last, gate) = (Nonterminal(links as u8 - 1), |j: usize| (links + j - 1) as u8);
+    let mut rules: Vec<Rule> = (1..links).map(|b| rule(b - 1, &[&[Nonterminal(b as u8)]], &[])).collect();
+    rules.push(rule(links - 1, &[&[Terminal(0)]], &[]));
+    for j in 1..=gates {
+        rules.push(rule(links - 1, &[&[Terminal(j as u8), Nonterminal(gate(j))]], &[]));
+    }
+    for j in 1..=gates {
+        rules.push(rule(gate(j) as usize, &[&[Nonterminal(0)], &[Terminal(j as u8 - 1)]], &[]));
+    }
+    padded(Draft { nonterminals: MAX_NONTERMINALS, terminals: gates + 1, rules }, links - 1, last, MAX_WORDS).reversed()
+}
+
 fn symbol(random: &mut Random, nonterminals: usize, terminals: usize) -> Symbol {
     if random.chance(50) {
         Terminal(random.below(terminals) as u8)

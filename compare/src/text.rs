@@ -1,11 +1,11 @@
-//! The texts that the two programs print, made from the twin's answers.
+//! The texts that the two programs print, and those that record calls, made from the twin's answers.
 
 use crate::twin::{self, Grammar, Outcome, Verdict, MAX_TOKENS, MAX_WORDS, MEMO_ENTRIES, NO_RULE, NOT_CALLED, FAILED, TABLE_WORDS};
 use std::fmt::Write;
 
-/// The words of a file, low byte first; none if it is not made of 4-byte words, or of too many.
-fn words_of(file: &[u8]) -> Option<Vec<u32>> {
-    if file.len() % 4 != 0 || file.len() > 4 * MAX_WORDS {
+/// The words of a file, low byte first; none if it is not made of 4-byte words, or of more than so many.
+fn words_of(file: &[u8], most: usize) -> Option<Vec<u32>> {
+    if file.len() % 4 != 0 || file.len() / 4 > most {
         return None;
     }
     Some(file.chunks_exact(4).map(|word| u32::from_le_bytes([word[0], word[1], word[2], word[3]])).collect())
@@ -17,7 +17,7 @@ fn refused(outcome: Outcome) -> String {
 
 /// What the program sheet prints for a card's bytes.
 pub fn sheet(card: &[u8]) -> String {
-    let Some(words) = words_of(card) else { return "refused 3 0\n".into() };
+    let Some(words) = words_of(card, MAX_WORDS) else { return "refused 3 0\n".into() };
     let mut table = vec![0u32; TABLE_WORDS];
     let outcome = twin::check(&words, &mut table);
     let (Verdict::Passed, Ok(grammar)) = (outcome.verdict, Grammar::read(&words)) else { return refused(outcome) };
@@ -37,7 +37,7 @@ pub fn sheet(card: &[u8]) -> String {
 
 /// What the program judge prints for the bytes of a card and of a log.
 pub fn judgement(card: &[u8], log: &[u8]) -> String {
-    let Some(words) = words_of(card) else { return "refused 3 0\n".into() };
+    let Some(words) = words_of(card, MAX_WORDS) else { return "refused 3 0\n".into() };
     let (mut table, mut memo) = (vec![0u32; TABLE_WORDS], vec![0u16; MEMO_ENTRIES]);
     let outcome = twin::judge(&words, &log[..log.len().min(MAX_TOKENS + 1)], &mut table, &mut memo);
     let verdict = match outcome.verdict {
@@ -57,4 +57,36 @@ pub fn judgement(card: &[u8], log: &[u8]) -> String {
         };
     }
     text
+}
+
+/// Every byte of the memory that a recorded call is lent.
+const FILL: u8 = 0xa5;
+
+/// A memory that changed, up to the last element that did.
+fn changed<T: Copy + PartialEq + std::fmt::Display>(name: &str, memory: &[T], fill: T) -> String {
+    let used = memory.iter().rposition(|&element| element != fill).map_or(0, |last| last + 1);
+    if used == 0 {
+        return String::new();
+    }
+    memory[..used].iter().fold(format!("/{name}"), |text, element| format!("{text} {element}"))
+}
+
+/// What a recorded call answers, and what it leaves in the memory that is lent to it; the sizes are those of the memories.
+pub fn call(name: &str, sizes: &[usize], card: &[u8], log: &[u8]) -> String {
+    let words = words_of(card, usize::MAX).expect("words");
+    let (word, entry) = (u32::from_le_bytes([FILL; 4]), u16::from_le_bytes([FILL; 2]));
+    let lent = |at: usize| sizes.get(at).copied().unwrap_or(0);
+    let (mut table, mut memo) = (vec![word; lent(0)], vec![entry; lent(1)]);
+    let outcome = match name {
+        "check" => twin::check(&words, &mut table),
+        "judge" => twin::judge(&words, log, &mut table, &mut memo),
+        _ => panic!("no call {name}"),
+    };
+    let answer = match outcome.verdict {
+        Verdict::Refused => format!("refused {} {}", outcome.code, outcome.position),
+        Verdict::Passed => "passed".into(),
+        Verdict::Rejected => format!("rejected {} {}", outcome.count, outcome.farthest),
+        Verdict::Accepted => format!("accepted {} {}", outcome.count, outcome.farthest),
+    };
+    answer + &changed("table", &table, word) + &changed("memo", &memo, entry)
 }

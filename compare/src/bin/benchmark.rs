@@ -137,6 +137,8 @@ fn main() {
     time_check("chain, last first", &cards::chain(32, 1).reversed());
     time_check("23 negatives", &cards::negatives(25));
     time_check("largest", &cards::largest());
+    time_check("long chain", &cards::long_chain());
+    time_check("slowest found", &cards::slowest());
     for (before, nested) in [(0, 0), (10, 20), (100, 200)] {
         time_judge("card M", &cards::card_m(), &axles(before, nested), peg::MADE);
     }

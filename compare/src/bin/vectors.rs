@@ -8,9 +8,15 @@ fn bytes_of(field: &str) -> Vec<u8> {
     (0..digits.len() / 2).map(|i| u8::from_str_radix(&digits[2 * i..2 * i + 2], 16).expect("hex digits")).collect()
 }
 
+fn recorded_call(call: &str, card: &str, log: &str) -> String {
+    let (name, sizes) = call.split_once(' ').expect("a call and sizes");
+    let sizes: Vec<usize> = sizes.split(' ').map(|size| size.parse().expect("a size")).collect();
+    text::call(name, &sizes, &bytes_of(card), &bytes_of(log))
+}
+
 fn main() -> ExitCode {
     let mut all_agree = true;
-    for name in ["sheet", "judge"] {
+    for name in ["sheet", "judge", "calls"] {
         let path = Path::new(env!("CARGO_MANIFEST_DIR")).join(format!("../tests/vectors/{name}.txt"));
         let rows = fs::read_to_string(&path).expect("the recorded rows");
         let (mut run, mut wrong) = (0, 0);
@@ -19,9 +25,12 @@ fn main() -> ExitCode {
                 continue;
             }
             let fields: Vec<&str> = row.split('|').map(str::trim).collect();
-            let (printed, expected) = match fields[..] {
-                [card, expected] => (text::sheet(&bytes_of(card)), expected),
-                [card, log, expected] => (text::judgement(&bytes_of(card), &bytes_of(log)), expected),
+            let (&expected, given) = fields.split_last().expect("fields");
+            let printed = match (name, given) {
+                ("sheet", [card]) => text::sheet(&bytes_of(card)),
+                ("judge", [card, log]) => text::judgement(&bytes_of(card), &bytes_of(log)),
+                ("calls", [call, card]) => recorded_call(call, card, "-"),
+                ("calls", [call, card, log]) => recorded_call(call, card, log),
                 _ => panic!("{name}.txt:{}: not a row", number + 1),
             };
             let printed = printed.trim_end().replace('\n', "/");

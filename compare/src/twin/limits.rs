@@ -1,0 +1,19 @@
+//! The limits, and the codes in lent memory.
+
+pub const MAX_WORDS: usize = 2_048;
+pub const MAX_NONTERMINALS: usize = 32;
+pub const MAX_TERMINALS: usize = 24;
+pub const MAX_RULES: usize = 128;
+pub const MAX_TOKENS: usize = 500;
+
+/// The least number of words of a lent table (document 01: plate).
+pub const TABLE_WORDS: usize = 864;
+/// The least number of entries of a lent memo table (document 01: notebook).
+pub const MEMO_ENTRIES: usize = 16_032;
+
+/// A table entry that holds no rule.
+pub const NO_RULE: u32 = 4_294_967_295;
+/// A memo entry of a call that failed.
+pub const FAILED: u16 = 65_534;
+/// A memo entry of a pair that was not called.
+pub const NOT_CALLED: u16 = 65_535;

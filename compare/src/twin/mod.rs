@@ -1,0 +1,16 @@
+//! Checking Boolean grammars and judging inputs, written from the papers alone, in safe Rust: a file for each stage.
+
+mod answers;
+mod calls;
+mod descent;
+mod limits;
+mod lookahead;
+mod one;
+mod sets;
+mod table;
+mod words;
+
+pub use answers::{Outcome, Refusal, Verdict};
+pub use calls::{check, judge};
+pub use limits::*;
+pub use words::{Grammar, Symbol};

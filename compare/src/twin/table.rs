@@ -1,0 +1,75 @@
+//! What rules claim, where two claim the same, and the rule for each nonterminal and string of lookahead.
+
+use super::limits::{MAX_NONTERMINALS, NO_RULE};
+use super::lookahead::Set;
+use super::sets::Sets;
+use super::words::{Grammar, Rule};
+
+/// The rule for each nonterminal and string, and for each nonterminal the strings that two rules claim.
+pub struct Table<const K: usize, const L: usize> {
+    rules: Vec<u32>,
+    claimed_twice: [Set<K, L>; MAX_NONTERMINALS],
+}
+
+impl Grammar {
+    /// The strings that a rule claims: its first set strung with what may follow.
+    fn claims<const K: usize, const L: usize>(&self, rule: &Rule, sets: &Sets<K, L>) -> Set<K, L> {
+        self.first_of_rule(rule, &sets.first).then(sets.follow[rule.nonterminal as usize])
+    }
+
+    pub fn table<const K: usize, const L: usize>(&self, sets: &Sets<K, L>) -> Table<K, L> {
+        let mut rules = vec![NO_RULE; self.nonterminals * Set::<K, L>::STRINGS];
+        let mut claimed = [Set::EMPTY; MAX_NONTERMINALS];
+        let mut claimed_twice = [Set::EMPTY; MAX_NONTERMINALS];
+        for (number, rule) in self.rules.iter().enumerate() {
+            let a = rule.nonterminal as usize;
+            let claims = self.claims(rule, sets);
+            claimed_twice[a].add(claims.meet(claimed[a]));
+            claimed[a].add(claims);
+            let row = &mut rules[a * Set::<K, L>::STRINGS..][..Set::<K, L>::STRINGS];
+            for string in claims.strings() {
+                row[string] = number as u32;
+            }
+        }
+        Table { rules, claimed_twice }
+    }
+}
+
+impl<const K: usize, const L: usize> Table<K, L> {
+    /// The number of the rule for a nonterminal and a string, or `NO_RULE`.
+    pub fn rule(&self, nonterminal: usize, string: usize) -> u32 {
+        self.rules[nonterminal * Set::<K, L>::STRINGS + string]
+    }
+
+    /// The lowest nonterminal with a string that two rules claim, and the lowest column of such a string.
+    pub fn clash(&self, column: impl Fn(usize) -> usize) -> Option<(usize, usize)> {
+        self.claimed_twice.iter().enumerate().find_map(|(a, twice)| Some((a, twice.strings().map(&column).min()?)))
+    }
+}
+
+#[cfg(test)]
+mod tests {
+    use crate::cards::{rule, Draft};
+    use crate::twin::{Grammar, Symbol::*};
+
+    /// S: X or Y, X and Y each b or empty. Two rules of S claim b and the end, with one letter of lookahead and with two.
+    #[test]
+    fn clashes_with_one_letter_and_two() {
+        let mut rules: Vec<_> = [1, 2].iter().map(|&x| rule(0, &[&[Nonterminal(x)]], &[])).collect();
+        for x in [1, 2] {
+            rules.extend([rule(x, &[&[Terminal(1)]], &[]), rule(x, &[&[]], &[])]);
+        }
+        let grammar = Grammar::read(&Draft { nonterminals: 3, terminals: 2, rules }.words()).expect("well formed");
+        assert_eq!(grammar.table(&grammar.sets::<1, 24>()).clash(|string| if string == 0 { 2 } else { string - 1 }), Some((0, 1)));
+        assert_eq!(grammar.table(&grammar.sets::<2, 7>()).clash(|string| string), Some((0, 0)));
+    }
+
+    /// S: a b or a c: a clash with one letter, none with two.
+    #[test]
+    fn two_letters_tell_more() {
+        let rules = [1, 2].map(|x| rule(0, &[&[Terminal(0), Terminal(x)]], &[])).to_vec();
+        let grammar = Grammar::read(&Draft { nonterminals: 1, terminals: 3, rules }.words()).expect("well formed");
+        assert_eq!(grammar.table(&grammar.sets::<1, 24>()).clash(|string| string), Some((0, 1)));
+        assert_eq!(grammar.table(&grammar.sets::<2, 7>()).clash(|string| string), None);
+    }
+}

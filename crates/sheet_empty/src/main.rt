@@ -1,1 +1,0 @@
-../../sheet/src/main.rt

@@ -1,0 +1,143 @@
+"""The proved library for scripts: a function for each call that include/vinegarspit.h declares.
+
+    from vinegarspit import judge, table, memo
+    lent = table(), memo()
+    answer = judge(words, b'\\0', *lent)     # for card R: Answer(verdict='accepted', number=0, place=0, count=2, far=1)
+    lent[1][:2]                              # array('H', [1, 1])
+
+A card is a row of words and a log a row of bytes. Lent memory is an array that the call writes into: array('I') for words of 32
+bits, 'H' for entries of 16. What the header states stands there alone: its limits and codes are attributes here (TABLE_WORDS,
+NO_RULE, ...), and the types of arguments and the parts of an answer are read from it. The library is made by tools/build_library
+when it is first called. The deepest cards need 4 MiB of stack, which the main thread has."""
+import ctypes, functools, os, re, subprocess
+from array import array
+from typing import NamedTuple
+
+
+ROOT = os.path.normpath(os.path.join(os.path.dirname(os.path.abspath(__file__)), '..'))
+TYPES = {'uint8_t': ('B', ctypes.c_uint8), 'uint16_t': ('H', ctypes.c_uint16), 'uint32_t': ('I', ctypes.c_uint32),
+         'uint64_t': ('Q', ctypes.c_uint64), 'size_t': (None, ctypes.c_size_t)}
+
+
+# The header
+
+class Parameter(NamedTuple):
+    name: str
+    type: str
+    row: bool        # a pointer; the number of its elements is the parameter behind it
+    written: bool    # lent memory
+
+
+@functools.cache
+def header():
+    with open(os.path.join(ROOT, 'include', 'vinegarspit.h')) as file:
+        return re.sub(r'/\*.*?\*/', '', file.read(), flags=re.DOTALL)
+
+
+@functools.cache
+def constants():
+    """The header's limits and codes, by their names without the prefix."""
+    return {name: int(value) for name, value in
+            re.findall(r'\bVINEGARSPIT_(\w+) (?:= |UINT\d+_C\()(\d+)', header())}
+
+
+@functools.cache
+def calls():
+    """The parameters of each call; the length of a row goes with it."""
+    found = {}
+    for name, text in re.findall(r'\buint64_t vinegarspit_(\w+)\(([^)]*)\);', header()):
+        parameters = [re.fullmatch(r'\s*(const )?(\w+) (\*?)(\w+)\s*', part).groups() for part in text.split(',')]
+        found[name] = [Parameter(each, kind, bool(star), bool(star) and not const)
+                       for const, kind, star, each in parameters if not each.endswith('_len')]
+    return found
+
+
+@functools.cache
+def parts():
+    """Where each part of an answer stands: its lowest bit, and its greatest value."""
+    return {name: (int(shift or 0), int(mask or -1)) for name, shift, mask in
+            re.findall(r'vinegarspit_(\w+)\(uint64_t answer\) \{ return \(unsigned\)\(answer(?: >> (\d+))?(?: & (\d+))?\)', header())}
+
+
+def __getattr__(name):
+    try:
+        return constants()[name]
+    except KeyError:
+        raise AttributeError(name) from None
+
+
+# Answers
+
+class Answer(NamedTuple):
+    verdict: str     # refused, passed, rejected or accepted
+    number: int
+    place: int
+    count: int
+    far: int
+
+    def __str__(self):
+        """As the programs print it."""
+        return {'refused': f'refused {self.number} {self.place}', 'passed': 'passed'}.get(self.verdict, f'{self.verdict} {self.count} {self.far}')
+
+
+def unpacked(number):
+    verdict, *rest = (number >> shift & mask for shift, mask in (parts()[name] for name in Answer._fields))
+    return Answer({constants()[name.upper()]: name for name in ('refused', 'passed', 'rejected', 'accepted')}[verdict], *rest)
+
+
+# Calls
+
+@functools.cache
+def library():
+    subprocess.run([os.path.join(ROOT, 'tools', 'build_library')], check=True)
+    return ctypes.CDLL(os.path.join(ROOT, 'target', 'libvinegarspit.so'))
+
+
+def row_of(parameter, argument):
+    """A row for C, its elements and their number: lent memory itself, and a copy of what is only read."""
+    code, element = TYPES[parameter.type]
+    if not parameter.written:
+        argument = array(code, list(argument))
+    if not isinstance(argument, array) or argument.typecode != code:
+        raise TypeError(f"{parameter.name} has to be an array('{code}')")
+    elements = (element * len(argument)).from_buffer(argument) if argument else (element * 1)()    # no pointer may be null
+    return [elements, ctypes.c_size_t(len(argument))]
+
+
+def call(name, *arguments):
+    """Calls vinegarspit_NAME; each row is passed with its length, each number as it is."""
+    parameters = calls()[name]
+    if len(arguments) != len(parameters):
+        raise TypeError(f'{name} takes {len(parameters)} arguments')
+    written = [id(argument) for parameter, argument in zip(parameters, arguments) if parameter.written]
+    if len(written) != len(set(written)):
+        raise ValueError('memory that is lent twice')
+    passed = []
+    for parameter, argument in zip(parameters, arguments):
+        if parameter.row:
+            passed += row_of(parameter, argument)
+        else:
+            passed.append(TYPES[parameter.type][1](argument))
+    function = getattr(library(), 'vinegarspit_' + name)
+    function.restype = ctypes.c_uint64
+    return unpacked(function(*passed))
+
+
+def check(card, table):
+    """Checks a card and fills the table."""
+    return call('check', card, table)
+
+
+def judge(card, log, table, memo):
+    """Judges a log by a card and fills the table and the memo table."""
+    return call('judge', card, log, table, memo)
+
+
+# Memory to lend, as much as each call asks for
+
+def table(fill=0):
+    return array('I', [fill]) * constants()['TABLE_WORDS']
+
+
+def memo(fill=0):
+    return array('H', [fill]) * constants()['MEMO_ENTRIES']
