@@ -42,6 +42,7 @@ use Rattle.recognizer.specs.Memory.{lentBack, wordCount, LendGiven, Lent
 use Rattle.recognizer.specs.Answers.{firstOf, checkFault, refusedOr, toldOr, passedNumbers}
 use Rattle.recognizer.specs.Judging.{Found}
 use Rattle.recognizer.specs.Properties.{PassedGrammar, LeastFamilies, Checks}
+use Rattle.recognizer.proofs.Places.{check-tells, fault-read, places}
 
 -- how long a table is
 pub table-long : (G : Grammar) → length (tableWords G) ≡ G .nonterminals * (G .terminals + 3)
@@ -150,6 +151,9 @@ checks {words} {before} {after} {r} a t = record {
         λ p. passed-fault words (sym f ∙ refused-passed (checkFault (length before) words) (sym a ∙ p)),
         λ p. a ∙ rw (f, fault-passed words p),
       );
+  places = λ long z e.
+      places (grammarOf words) (well-read words z e .formed .scoped) (least words z e)
+      (check-tells _ (a ∙ ap (λ f. refusedOr f Passed) (check-fault-long (length before) words long ∙ fault-read words z e)));
   least = λ z e. (well-read words z e, families words z e);
 }
 

@@ -49,7 +49,8 @@ use Rattle.recognizer.specs.Answers.{unless, unknownFrom, unknownFault, 
 use Rattle.recognizer.specs.Judging.{PassedGiven, DescendGiven, Descended}
 use Rattle.recognizer.specs.Preparing.{Entries}
 use Rattle.recognizer.specs.Properties.{PassedGrammar, Recognizes, Judges}
-use Rattle.recognizer.proofs.Checking.{passed-fault, fault-passed, no-clashes, not-left-recursive, lent-table}
+use Rattle.recognizer.proofs.Checking.{passed-fault, fault-passed, no-clashes, not-left-recursive, lent-table, least}
+use Rattle.recognizer.proofs.Places.{judge-tells, fault-read, places}
 
 -- an input is of known tokens exactly when no unknown one is found
 pub known-absent : (n at : ℕ) (w : List ℕ) → Over n w → unknownFrom n at w ≡ Absent
@@ -81,24 +82,24 @@ module _ (words input table memo : List ℕ) where
     memo-short h = rw (le-ltb (length table) memoryWords long, lt-ltb (length memo) memoEntries h)
 
     module _ (room : memoEntries ≤ length memo) where
-      pub grammar-fault : {x : Error} → fault words ≡ some x → judged ≡ some x
+      judge-fault-long : {f : Option Error} → fault words ≡ f → judged
+          ≡ firstOf (f ∷ unless (ltb maxTokens (length input)) InputTooLong ∷ unknownFault (unknownFrom (grammarOf words .terminals) 0 input) ∷ [])
       unfolding judgeFault
-      grammar-fault f = rw (le-ltb (length table) memoryWords long, le-ltb (length memo) memoEntries room, f)
+      judge-fault-long e = rw (le-ltb (length table) memoryWords long, le-ltb (length memo) memoEntries room, e)
+
+      pub grammar-fault : {x : Error} → fault words ≡ some x → judged ≡ some x
+      grammar-fault e = judge-fault-long e
 
       module _ (passed : fault words ≡ none) where
         pub too-long : maxTokens < length input → judged ≡ some InputTooLong
-        unfolding judgeFault
-        too-long h = rw (le-ltb (length table) memoryWords long, le-ltb (length memo) memoEntries room, passed, lt-ltb maxTokens (length input) h)
+        too-long h = judge-fault-long passed ∙ rw (lt-ltb maxTokens (length input) h)
 
         module _ (short : length input ≤ maxTokens) where
           pub unknown-token : {at : ℕ} → At at ≡ unknownFrom (grammarOf words .terminals) 0 input → judged ≡ some (UnknownToken at)
-          unfolding judgeFault
-          unknown-token u =
-              rw (le-ltb (length table) memoryWords long, le-ltb (length memo) memoEntries room, passed, le-ltb maxTokens (length input) short, sym u)
+          unknown-token u = judge-fault-long passed ∙ rw (le-ltb maxTokens (length input) short, sym u)
 
           pub no-fault : unknownFrom (grammarOf words .terminals) 0 input ≡ Absent → judged ≡ none
-          unfolding judgeFault
-          no-fault u = rw (le-ltb (length table) memoryWords long, le-ltb (length memo) memoEntries room, passed, le-ltb maxTokens (length input) short, u)
+          no-fault u = judge-fault-long passed ∙ rw (le-ltb maxTokens (length input) short, u)
 
 -- where there is no first fault, the first, the third and the test of the fourth are none
 none-each : (a b c : Option Error) (t : Bool) (x : Error) (l : List (Option Error)) → firstOf (a ∷ b ∷ c ∷ unless t x ∷ l) ≡ none
@@ -147,6 +148,7 @@ meaning words input r p over e =
       one-solution = theorems .one-solution G (k .formed .scoped) (p .free) input;
       accepted = λ v s. tells v s .0;
       rejected = λ v s. tells v s .1;
+      descent = theorems .descent-ends G (k .formed .scoped) (p .free) (tableChoice G 1 input) (theorems .own-rules G 1 input) input;
       calls = theorems .calls-counted G (k .formed .scoped) (p .free) some-nonterminal (tableChoice G 1 input) (theorems .own-rules G 1 input) input;
     }
 
@@ -167,11 +169,17 @@ judges : {words input table memo table′ memo′ : List ℕ} {r : Answer}
     → table′ ≡ lentBack (judgeFault (length table) (length memo) words input) (tableWords (grammarOf words)) table
     → memo′ ≡ lentBack (judgeFault (length table) (length memo) words input) (memoWords (grammarOf words) input) memo
     → Judges words input table memo r table′ memo′
+unfolding verdictOf
 judges {words} {input} {table} {memo} {table′} {memo′} {r} a t m = record {
   answer = a;
   told = ap numbers a ∙ verdict-told (grammarOf words) input (judgeFault (length table) (length memo) words input);
   lent-table = t;
   lent-memo = m;
+  places = λ long room z e.
+      let G = grammarOf words in
+      places G (well-read words z e .formed .scoped) (least words z e)
+      (judge-tells _ (ltb maxTokens (length input)) (unknownFrom (G .terminals) 0 input) (accepts G (tableChoice G 1 input) input) (callsOf G input)
+      (a ∙ ap (λ f. refusedOr f (verdictOf G input)) (judge-fault-long words input table memo long room (fault-read words z e))));
   as-checked = λ e c checked k.
       t ∙ ap (λ y. lentBack y (tableWords (grammarOf words)) table) (e ∙ sym (judged-checked words input (length table) (length memo) e)) ∙ sym (k .table);
   recognizes = λ long room p h.

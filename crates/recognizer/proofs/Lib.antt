@@ -11,6 +11,7 @@ pub mod OneToken
 pub mod Appending
 pub mod Tallying
 pub mod Front
+pub mod Places
 pub mod Checking
 pub mod Deciding
 pub mod Judged
