@@ -15,3 +15,4 @@ pub mod Places
 pub mod Checking
 pub mod Deciding
 pub mod Judged
+pub mod Rows

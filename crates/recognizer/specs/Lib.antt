@@ -5,3 +5,4 @@ pub mod Memory
 pub mod Answers
 pub mod Judging
 pub mod Properties
+pub mod Rows
