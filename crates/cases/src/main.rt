@@ -2,17 +2,15 @@
 // each input, the first line of what the program judge prints.
 ghost use Rattle.io.specs.Counts.{Counts};
 use libc::STDOUT_FILENO;
+use report::FILE_BYTES;
+use report::INPUT_BYTES;
 use report::SHEET_ROOM;
 
-// One byte more than the longest file of words, and than the longest input.
-const CARD: usize = 8193;
-
-const LOG: usize = 501;
 // Room for a line.
 const LINE: usize = 32;
 
 // The start of a file; one that cannot be opened is read as no words.
-fn read(path: &[u8], card: &mut [u8; CARD]) -> usize
+fn read(path: &[u8], card: &mut [u8; FILE_BYTES]) -> usize
     ensures { λ r. ⌜ Counts r (now (card .exit)) ⌝ }
 {
     let file = os::open_read(path);
@@ -51,7 +49,7 @@ fn name(path: &[u8]) {
 // The sheet of a grammar.
 fn checked(path: &[u8]) {
     name(path);
-    let mut card = [0u8; CARD];
+    let mut card = [0u8; FILE_BYTES];
     let n = read(path, &mut card);
     let mut text = [0u8; SHEET_ROOM];
     let length = report::sheet(&card[..n], &mut text);
@@ -60,7 +58,7 @@ fn checked(path: &[u8]) {
 
 // The verdict on an input, by a grammar.
 fn judged(path: &[u8], log: &[u8]) {
-    let mut card = [0u8; CARD];
+    let mut card = [0u8; FILE_BYTES];
     let n = read(path, &mut card);
     let mut text = [0u8; LINE];
     let length = report::judgement(&card[..n], log, &mut text);
@@ -85,7 +83,7 @@ fn limits_of_checking() {
 // No token, one, 500 and 501, and four of which the third is unknown.
 fn limits_of_judging(path: &[u8]) {
     name(path);
-    let mut log = [0u8; LOG];
+    let mut log = [0u8; INPUT_BYTES];
     judged(path, &log[..0]);
     judged(path, &log[..1]);
     judged(path, &log[..500]);
@@ -97,7 +95,7 @@ fn limits_of_judging(path: &[u8]) {
 // The most nested calls there can be: 32 nonterminals, each at 501 places.
 fn deepest(path: &[u8]) {
     name(path);
-    let log = [0u8; LOG];
+    let log = [0u8; INPUT_BYTES];
     judged(path, &log[..500]);
 }
 

@@ -1,7 +1,7 @@
 -- What the programs print, from the bytes of files.
 use mathlib.Core.Path.{_≡_}
 use mathlib.Core.List.{List}
-use Prim.Native.Nat.{ℕ, _≤_}
+use Prim.Native.Nat.{ℕ, suc, _*_, _≤_}
 use lib.Dec.{leb}
 use lib.ListN.{length, take, replicate}
 use Rattle.answer.specs.declared.Answer.the-variants.{Passed}
@@ -10,14 +10,15 @@ use Rattle.word.specs.Choice.{choose}
 use Rattle.grammar.specs.Codes.{noEntry, uncalledCode}
 use Rattle.grammar.specs.declared.reading.Outcome.{Outcome}
 use Rattle.grammar.specs.declared.reading.Outcome.the-variants.{Read, Faulty}
-use Rattle.grammar.specs.Limits.{maxTokens, memoEntries, tableWords as memoryWords}
+use Rattle.grammar.specs.Limits.{maxWords, maxTokens, memoEntries, tableWords as memoryWords}
 use Rattle.grammar.specs.Encoding.{grammarOf}
 use Rattle.grammar.specs.Reading.{reading}
 use Rattle.table.specs.Layout.{tableWords}
 use Rattle.recognizer.specs.Answers.{checkFault, judgeFault, refusedOr, verdictOf}
 use Rattle.recognizer.specs.Memory.{lentBack, memoWords}
 use Rattle.report.specs.declared.Rooms.{Rooms}
-use Rattle.text.specs.Words.{wordsOf, areWords}
+use Rattle.report.specs.declared.Reads.{Reads}
+use Rattle.text.specs.Words.{bytesOfWord, wordsOf, areWords}
 use Rattle.text.specs.Writing.{Put}
 use Rattle.text.specs.Refusal.{refusalText}
 use Rattle.sheet_text.specs.Sheet.{checkText}
@@ -68,6 +69,16 @@ judgedText words input =
 -- (document 01: the second program) the judgement of an input by a file's words
 unfoldable pub judgementOf : List ℕ → List ℕ → List ℕ
 judgementOf bytes input = choose (areWords bytes) (judgedText (wordsOf bytes) input) (refusalText Length)
+
+-- one byte more than the longest file of words has, and one token more than the longest input
+abbrev pub enoughRead : Reads
+enoughRead = record { file = suc (bytesOfWord * maxWords); input = suc maxTokens }
+
+-- so much of a file and of an input is enough to read: what is printed of it is what is printed of the whole
+pub record Enough (r : Reads) : Type 0 where
+  pub lengths : r ≡ enoughRead
+  pub sheet : (bytes : List ℕ) → sheetOf (take (r .file) bytes) ≡ sheetOf bytes
+  pub judgement : (bytes input : List ℕ) → judgementOf (take (r .file) bytes) (take (r .input) input) ≡ judgementOf bytes input
 
 -- how many nonterminals words have that are read
 abbrev pub nonterminalsOf : Outcome → ℕ

@@ -2,7 +2,7 @@
 ghost use mathlib.Core.Path.{_≡_};
 ghost use Rattle.grammar.specs.Reading.{reading};
 ghost use Rattle.text.specs.Writing.{Put};
-ghost use Rattle.report.specs.Report.{Printed, enoughRoom, sheetRoom, judgementRoom, nonterminalsOf, tokensOf, checkedText, sheetOf, judgedText, judgementOf};
+ghost use Rattle.report.specs.Report.{Printed, Enough, enoughRoom, sheetRoom, judgementRoom, nonterminalsOf, tokensOf, checkedText, sheetOf, judgedText, judgementOf};
 use answer::Error;
 use grammar::codes::NO_ENTRY;
 use grammar::codes::UNCALLED;
@@ -37,6 +37,26 @@ pub fn enough_room() -> Rooms
     Rooms {
         sheet: SHEET_ROOM,
         judgement: JUDGEMENT_ROOM,
+    }
+}
+
+// How much of a file and of an input is read: one byte more than the longest of them.
+pub const FILE_BYTES: usize = 4 * WORDS + 1;
+
+pub const INPUT_BYTES: usize = TOKENS + 1;
+
+pub struct Reads {
+    pub file: usize,
+    pub input: usize,
+}
+
+// The two in one value, so that it is proved that no more need be read.
+pub fn enough_read() -> Reads
+    ensures { λ r. ⌜ Enough r ⌝ }
+{
+    Reads {
+        file: FILE_BYTES,
+        input: INPUT_BYTES,
     }
 }
 
