@@ -4,15 +4,15 @@ ghost use Rattle.io.specs.Counts.{Counts};
 use grammar::limits::PLACES;
 use grammar::limits::TOKENS;
 use libc::STDOUT_FILENO;
-use report::FILE_ROOM;
-use report::INPUT_ROOM;
+use report::FILE_BYTES;
+use report::INPUT_BYTES;
 use report::SHEET_ROOM;
 
 // Room for a line.
 const LINE: usize = 32;
 
 // The start of a file; one that cannot be opened is read as no words.
-fn read(path: &[u8], card: &mut [u8; FILE_ROOM]) -> usize
+fn read(path: &[u8], card: &mut [u8; FILE_BYTES]) -> usize
     ensures { λ r. ⌜ Counts r (now (card .exit)) ⌝ }
 {
     let file = os::open_read(path);
@@ -51,7 +51,7 @@ fn name(path: &[u8]) {
 // The sheet of a grammar.
 fn checked(path: &[u8]) {
     name(path);
-    let mut card = [0u8; FILE_ROOM];
+    let mut card = [0u8; FILE_BYTES];
     let n = read(path, &mut card);
     let mut text = [0u8; SHEET_ROOM];
     let length = report::sheet(&card[..n], &mut text);
@@ -60,7 +60,7 @@ fn checked(path: &[u8]) {
 
 // The verdict on an input, by a grammar.
 fn judged(path: &[u8], log: &[u8]) {
-    let mut card = [0u8; FILE_ROOM];
+    let mut card = [0u8; FILE_BYTES];
     let n = read(path, &mut card);
     let mut text = [0u8; LINE];
     let length = report::judgement(&card[..n], log, &mut text);
@@ -85,7 +85,7 @@ fn limits_of_checking() {
 // No token, one, the most and one more, and four of which the third is unknown.
 fn limits_of_judging(path: &[u8]) {
     name(path);
-    let mut log = [0u8; INPUT_ROOM];
+    let mut log = [0u8; INPUT_BYTES];
     judged(path, &log[..0]);
     judged(path, &log[..1]);
     judged(path, &log[..TOKENS]);
@@ -97,7 +97,7 @@ fn limits_of_judging(path: &[u8]) {
 // The most nested calls there can be: each nonterminal at each place.
 fn deepest(path: &[u8]) {
     name(path);
-    let log = [0u8; INPUT_ROOM];
+    let log = [0u8; INPUT_BYTES];
     judged(path, &log[..TOKENS]);
 }
 

@@ -85,6 +85,10 @@ judge-fits {words} {input} {table} {memo} {table′} {memo′} {a} j =
     go none e l = verdict (accepts (grammarOf words) (tableChoice (grammarOf words) 1 input) input) (callsOf (grammarOf words) input) (calls-fit words input (length table) (length memo) e)
     go (some x) e l = refused-fits x (l x refl)
 
+-- whichever verdict the fields are of
+any-verdict : {u v n p c f : ℕ} → v < 256 → Fit u n p c f → Fit v n p c f
+any-verdict h k = record { verdict = h; code = k .code; position = k .position; count = k .count; farthest = k .farthest }
+
 -- packing, by the answer
 module _ {a : Answer} where
   pub refused-fields : {e : Error} {n p : ℕ} → Fits (numbers a) → a ≡ Refused e → n ≡ coded e .code → p ≡ coded e .position → Fit 0 n p 0 0
@@ -98,15 +102,15 @@ module _ {a : Answer} where
   unfolding packed
   passed-packed q r = r ∙ rw q
 
-  pub rejected-fields : {c : Calls} → Fits (numbers a) → a ≡ Rejected c → Fit 2 0 0 (c .count) (c .farthest)
-  rejected-fields f q = rw q at f
+  pub rejected-fields : {c : Calls} → Fits (numbers a) → a ≡ Rejected c → {v : ℕ} → v < 256 → Fit v 0 0 (c .count) (c .farthest)
+  rejected-fields {c} f q h = any-verdict h (rw q at f)
 
   pub rejected-packed : {c : Calls} {r : ℕ} → a ≡ Rejected c → r ≡ joined 2 0 0 (c .count) (c .farthest) → r ≡ packed (numbers a)
   unfolding packed
   rejected-packed q r = r ∙ rw q
 
-  pub accepted-fields : {c : Calls} → Fits (numbers a) → a ≡ Accepted c → Fit 3 0 0 (c .count) (c .farthest)
-  accepted-fields f q = rw q at f
+  pub accepted-fields : {c : Calls} → Fits (numbers a) → a ≡ Accepted c → {v : ℕ} → v < 256 → Fit v 0 0 (c .count) (c .farthest)
+  accepted-fields {c} f q h = any-verdict h (rw q at f)
 
   pub accepted-packed : {c : Calls} {r : ℕ} → a ≡ Accepted c → r ≡ joined 3 0 0 (c .count) (c .farthest) → r ≡ packed (numbers a)
   unfolding packed

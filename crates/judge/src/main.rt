@@ -2,15 +2,12 @@
 ghost use Rattle.io.specs.Counts.{Counts};
 use libc::STDIN_FILENO;
 use libc::STDOUT_FILENO;
-use report::FILE_ROOM;
-use report::INPUT_ROOM;
-use report::INPUT_ROOM;
-use report::INPUT_ROOM;
-use report::INPUT_ROOM;
+use report::FILE_BYTES;
+use report::INPUT_BYTES;
 use report::JUDGEMENT_ROOM;
 
 // The start of the file; one that cannot be opened is read as no words.
-fn read_card(card: &mut [u8; FILE_ROOM]) -> usize
+fn read_card(card: &mut [u8; FILE_BYTES]) -> usize
     ensures { λ r. ⌜ Counts r (now (card .exit)) ⌝ }
 {
     let fd = os::open_read(b"card.bin");
@@ -23,9 +20,9 @@ fn read_card(card: &mut [u8; FILE_ROOM]) -> usize
 }
 
 fn main() {
-    let mut card = [0u8; FILE_ROOM];
+    let mut card = [0u8; FILE_BYTES];
     let n = read_card(&mut card);
-    let mut log = [0u8; INPUT_ROOM];
+    let mut log = [0u8; INPUT_BYTES];
     let m = io::read_full(STDIN_FILENO, &mut log);
     let mut text = [0u8; JUDGEMENT_ROOM];
     let length = report::judgement(&card[..n], &log[..m], &mut text);

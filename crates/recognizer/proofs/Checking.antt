@@ -48,6 +48,7 @@ use Rattle.recognizer.specs.Memory.{lentBack, wordCount, LendGiven, Lent
 use Rattle.recognizer.specs.Answers.{checkFault}
 use Rattle.recognizer.specs.Judging.{Found}
 use Rattle.recognizer.specs.Properties.{PassedGrammar, LeastFamilies, Checks}
+use Rattle.recognizer.proofs.Places.{check-tells, fault-encoded, places}
 
 -- how long a table is
 pub table-long : (G : Grammar) → length (tableWords G) ≡ G .nonterminals * (G .terminals + 3)
@@ -154,6 +155,9 @@ checks {words} {before} {after} {r} a t = record {
         λ p. passed-fault words (sym f ∙ refused-passed (checkFault (length before) words) (sym a ∙ p)),
         λ p. a ∙ rw (f, fault-passed words p),
       );
+  places = λ long short G e.
+      places G (e .formed .scoped) (least G e)
+      (check-tells _ (a ∙ ap (λ f. refusedOr f Passed) (check-fault-long (length before) words long ∙ fault-encoded words G short e)));
   least = families;
 }
 

@@ -52,7 +52,8 @@ use Rattle.recognizer.specs.Answers.{unknownFrom, unknownFault, checkFau
 use Rattle.recognizer.specs.Judging.{PassedGiven, DescendGiven, Descended}
 use Rattle.recognizer.specs.Preparing.{Entries}
 use Rattle.recognizer.specs.Properties.{PassedGrammar, Recognizes, Judges}
-use Rattle.recognizer.proofs.Checking.{passed-fault, passed-encodes, passed-free, fault-passed, no-clashes, not-left-recursive, lent-table}
+use Rattle.recognizer.proofs.Checking.{passed-fault, passed-encodes, passed-free, fault-passed, no-clashes, not-left-recursive, lent-table, least}
+use Rattle.recognizer.proofs.Places.{judge-tells, fault-encoded, places}
 
 -- an input is of known tokens exactly when no unknown one is found
 pub known-absent : (n at : ℕ) (w : List ℕ) → Over n w → unknownFrom n at w ≡ Absent
@@ -70,7 +71,7 @@ absent-known n at (a ∷ w) e = go (ltb a n) e (absent-known n (suc at) w)
     go false f over = let z : _≡_ {A = ℕ} 0 1 = cc in absurd (omega arith)
 
 -- the rows of judging, with the grammar's faults as one
-abbrev judgeRows : ℕ → ℕ → List ℕ → List ℕ → List (Option Error)
+abbrev pub judgeRows : ℕ → ℕ → List ℕ → List ℕ → List (Option Error)
 judgeRows table memo words input =
     when (ltb table memoryWords) TableTooShort
     ∷ when (ltb memo memoEntries) MemoTooShort
@@ -79,7 +80,7 @@ judgeRows table memo words input =
     ∷ unknownFault (unknownFrom (grammarOf words .terminals) 0 input)
     ∷ []
 
-judged-rows : (table memo : ℕ) (words input : List ℕ) → judgeFault table memo words input ≡ firstFault (judgeRows table memo words input)
+pub judged-rows : (table memo : ℕ) (words input : List ℕ) → judgeFault table memo words input ≡ firstFault (judgeRows table memo words input)
 unfolding judgeFault fault
 judged-rows table memo words input =
     first-nested (when (ltb table memoryWords) TableTooShort ∷ when (ltb memo memoEntries) MemoTooShort ∷ []) (grammarFaults words)
@@ -100,20 +101,24 @@ module _ (words input table memo : List ℕ) where
     memo-short h = rw (le-ltb (length table) memoryWords long, lt-ltb (length memo) memoEntries h)
 
     module _ (room : memoEntries ≤ length memo) where
+      judge-fault-long : {f : Option Error} → fault words ≡ f → judged
+          ≡ firstFault (f ∷ when (ltb maxTokens (length input)) InputTooLong ∷ unknownFault (unknownFrom (grammarOf words .terminals) 0 input) ∷ [])
+      judge-fault-long e =
+          rw (judged-rows (length table) (length memo) words input, le-ltb (length table) memoryWords long, le-ltb (length memo) memoEntries room, e)
+
       pub grammar-fault : {x : Error} → fault words ≡ some x → judged ≡ some x
-      grammar-fault f = rw (judged-rows (length table) (length memo) words input, le-ltb (length table) memoryWords long, le-ltb (length memo) memoEntries room, f)
+      grammar-fault e = judge-fault-long e
 
       module _ (passed : fault words ≡ none) where
         pub too-long : maxTokens < length input → judged ≡ some InputTooLong
-        too-long h = rw (judged-rows (length table) (length memo) words input, le-ltb (length table) memoryWords long, le-ltb (length memo) memoEntries room, passed, lt-ltb maxTokens (length input) h)
+        too-long h = judge-fault-long passed ∙ rw (lt-ltb maxTokens (length input) h)
 
         module _ (short : length input ≤ maxTokens) where
           pub unknown-token : {at : ℕ} → At at ≡ unknownFrom (grammarOf words .terminals) 0 input → judged ≡ some (UnknownToken at)
-          unknown-token u =
-              rw (judged-rows (length table) (length memo) words input, le-ltb (length table) memoryWords long, le-ltb (length memo) memoEntries room, passed, le-ltb maxTokens (length input) short, sym u)
+          unknown-token u = judge-fault-long passed ∙ rw (le-ltb maxTokens (length input) short, sym u)
 
           pub no-fault : unknownFrom (grammarOf words .terminals) 0 input ≡ Absent → judged ≡ none
-          no-fault u = rw (judged-rows (length table) (length memo) words input, le-ltb (length table) memoryWords long, le-ltb (length memo) memoEntries room, passed, le-ltb maxTokens (length input) short, u)
+          no-fault u = judge-fault-long passed ∙ rw (le-ltb maxTokens (length input) short, u)
 
 module _ (words input : List ℕ) (table memo : ℕ) (e : judgeFault table memo words input ≡ none) where
   each : Faultless (judgeRows table memo words input)
@@ -151,6 +156,7 @@ meaning words input r p over e =
       one-solution = theorems .one-solution G (k .formed .scoped) free input;
       accepted = λ v s. tells v s .0;
       rejected = λ v s. tells v s .1;
+      descent = theorems .descent-ends G (k .formed .scoped) free (tableChoice G 1 input) (theorems .own-rules G 1 input) input;
       calls = theorems .calls-counted G (k .formed .scoped) free some-nonterminal (tableChoice G 1 input) (theorems .own-rules G 1 input) input;
     }
 
@@ -170,6 +176,7 @@ judges : {words input table memo table′ memo′ : List ℕ} {r : Answer}
     → table′ ≡ lentBack (judgeFault (length table) (length memo) words input) (tableWords (grammarOf words)) table
     → memo′ ≡ lentBack (judgeFault (length table) (length memo) words input) (memoWords (grammarOf words) input) memo
     → Judges words input table memo r table′ memo′
+unfolding verdictOf
 judges {words} {input} {table} {memo} {table′} {memo′} {r} a t m = record {
   faithful = faithful words;
   answer = a;
@@ -178,6 +185,11 @@ judges {words} {input} {table} {memo} {table′} {memo′} {r} a t m = record {
       ap numbers a ∙ numbers-told f (verdictOf (grammarOf words) input) ∙ ap (toldOr f) (verdict-told (grammarOf words) input);
   lent-table = t;
   lent-memo = m;
+  places = λ long room few G e.
+      let H = grammarOf words in
+      places G (e .formed .scoped) (least G e)
+      (judge-tells _ (ltb maxTokens (length input)) (unknownFrom (H .terminals) 0 input) (accepts H (tableChoice H 1 input) input) (callsOf H input)
+      (a ∙ ap (λ f. refusedOr f (verdictOf H input)) (judge-fault-long words input table memo long room (fault-encoded words G few e))));
   as-checked = λ e c checked k.
       t ∙ ap (λ y. lentBack y (tableWords (grammarOf words)) table) (e ∙ sym (judged-checked words input (length table) (length memo) e)) ∙ sym (k .table);
   recognizes = λ long room p h.

@@ -11,6 +11,8 @@ pub mod OneToken
 pub mod Appending
 pub mod Tallying
 pub mod Front
+pub mod Places
 pub mod Checking
 pub mod Deciding
 pub mod Judged
+pub mod Rows

@@ -6,3 +6,4 @@ pub mod Memory
 pub mod Answers
 pub mod Judging
 pub mod Properties
+pub mod Rows

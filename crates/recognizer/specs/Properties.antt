@@ -2,28 +2,29 @@
 use mathlib.Core.Path.{_≡_}
 use mathlib.Core.Bool.{Bool, true, false}
 use mathlib.Core.List.{List, []}
-use mathlib.Core.Logic.{_↔_}
+use mathlib.Core.Logic.{_↔_, _⊎_}
 use mathlib.Core.Option.{none, some}
-use Prim.Native.Nat.{ℕ, _≤_}
+use Prim.Native.Nat.{ℕ, _≤_, _<_}
 use lib.Dec.{T}
 use lib.ListN.{length}
 use Rattle.answer.specs.Numbers.{numbers}
 use Rattle.answer.specs.Faults.{refusedOr, toldOr}
 use Rattle.answer.specs.declared.Answer.{Answer}
-use Rattle.answer.specs.declared.Answer.the-variants.{Passed, Accepted, Rejected}
+use Rattle.answer.specs.declared.Answer.the-variants.{Refused, Passed, Accepted, Rejected}
+use Rattle.answer.specs.declared.Error.the-variants.{LeftRecursive, Conflict}
 use Rattle.grammar.specs.Limits.{tableWords as memoryWords, memoEntries, maxTokens, maxWords}
 use Rattle.grammar.specs.Syntax.{Grammar}
 use Rattle.grammar.specs.Encoding.{grammarOf}
 use Rattle.encoding.specs.Encode.{Encodes}
 use Rattle.encoding.specs.Faithful.{FaithfulReading}
 use Rattle.semantics.specs.Valuations.{Valuation, Solves}
-use Rattle.semantics.specs.LeftRecursion.{NoLeftRecursion}
+use Rattle.semantics.specs.LeftRecursion.{LeftReaches, NoLeftRecursion}
 use Rattle.semantics.specs.Strings.{Over}
 use Rattle.semantics.specs.Families.{FirstClosed, FollowClosed, Claims, Clash}
 use Rattle.semantics.specs.FirstFollow.{First, Follow}
-use Rattle.semantics.specs.Claims.{clashes, tableOf}
+use Rattle.semantics.specs.Claims.{clashes, column, tableOf}
 use Rattle.semantics.specs.Choices.{tableChoice}
-use Rattle.semantics.specs.Theorems.{OneSolution, CallsCounted}
+use Rattle.semantics.specs.Theorems.{OneSolution, DescentEnds, CallsCounted}
 use Rattle.table.specs.Layout.{tableWords}
 use Rattle.recognizer.specs.Memory.{lentBack, memoWords}
 use Rattle.recognizer.specs.Answers.{checkFault, judgeFault, callsOf, verdictOf, passedNumbers, verdictNumbers}
@@ -36,7 +37,8 @@ pub record PassedGrammar (words : List ℕ) : Type 0 where
   pub free : NoLeftRecursion grammar
   pub clashless : (A : ℕ) (x : List ℕ) → Clash grammar 1 (First grammar 1) (Follow grammar 1) A x → ⊥
 
--- the sets and the entries of a grammar with one token of lookahead: no smaller than the rules ask, and no larger than any family that they close
+-- the sets and the entries of a grammar with one token of lookahead: no smaller than the rules ask, and no larger than any family of tests that they
+-- close; of all families it is `LeastSets` of semantics/specs/Theorems.antt, which a promise of code cannot quantify over
 pub record LeastFamilies (G : Grammar) : Type 0 where
   pub first-closed : FirstClosed G 1 (First G 1)
   pub first-least : (F : ℕ → List ℕ → Bool) → FirstClosed G 1 (λ A x. T (F A x)) → (A : ℕ) (x : List ℕ) → First G 1 A x → T (F A x)
@@ -44,6 +46,23 @@ pub record LeastFamilies (G : Grammar) : Type 0 where
   pub follow-least : (L : ℕ → List ℕ → Bool) → FollowClosed G 1 (First G 1) (λ A x. T (L A x)) → (A : ℕ) (x : List ℕ) → Follow G 1 A x → T (L A x)
   pub claimed : clashes G 1 ≡ [] → (A : ℕ) (x : List ℕ) (q : ℕ) → (tableOf G 1 A x ≡ some q) ↔ Claims G 1 (First G 1) (Follow G 1) q A x
   pub unclaimed : (A : ℕ) (x : List ℕ) → (tableOf G 1 A x ≡ none) ↔ ((q : ℕ) → Claims G 1 (First G 1) (Follow G 1) q A x → ⊥)
+
+-- the lowest nonterminal that left-reaches itself (document 01: the place of 8)
+pub record LowestRecursive (G : Grammar) (A : ℕ) : Type 0 where
+  pub reaches : LeftReaches G A A
+  pub lowest : (B : ℕ) → B < A → LeftReaches G B B → ⊥
+
+-- the first entry that two rules claim, by nonterminal, then column (document 01: the place of 9)
+pub record FirstClash (G : Grammar) (A c : ℕ) : Type 0 where
+  pub string : List ℕ
+  pub clash : Clash G 1 (First G 1) (Follow G 1) A string
+  pub stands : column (G .terminals) string ≡ c
+  pub first : (B : ℕ) (x : List ℕ) → Clash G 1 (First G 1) (Follow G 1) B x → (A < B) ⊎ ((A ≡ B) × (c ≤ column (G .terminals) x))
+
+-- when a grammar that is read is refused, and where: 8 comes before 9
+pub record Places (G : Grammar) (r : Answer) : Type 0 where
+  pub recursive : (A : ℕ) → (r ≡ Refused (LeftRecursive A)) ↔ LowestRecursive G A
+  pub conflict : (A c : ℕ) → (r ≡ Refused (Conflict A c)) ↔ (NoLeftRecursion G × FirstClash G A c)
 
 -- checking an encoded grammar with a lent table: properties 1 and 2
 pub record Checks (words before : List ℕ) (r : Answer) (after : List ℕ) : Type 0 where
@@ -55,6 +74,7 @@ pub record Checks (words before : List ℕ) (r : Answer) (after : List ℕ) : Ty
   pub table : after ≡ lentBack (checkFault (length before) words) (tableWords (grammarOf words)) before
   -- passed exactly when well formed, not left-recursive and without a clash, where the table is long enough
   pub passed : memoryWords ≤ length before → (r ≡ Passed) ↔ PassedGrammar words
+  pub places : memoryWords ≤ length before → length words ≤ maxWords → (G : Grammar) → Encodes words G → Places G r
   -- the sets and the entries of an encoded grammar are the least ones
   pub least : (G : Grammar) → Encodes words G → LeastFamilies G
 
@@ -64,11 +84,13 @@ pub record Readable (words input : List ℕ) : Type 0 where
   pub tokens : Over (grammarOf words .terminals) input
 
 -- property 3, of the answer for a passed grammar and a readable input: exactly one valuation solves the grammar on the input, the answer is
--- acceptance exactly when it gives the whole input to the start, and the answer's numbers are those of the calls that the descent makes
+-- acceptance exactly when it gives the whole input to the start, and the answer's numbers are those of the calls that the descent makes, whose
+-- outcomes are the only ones that the rules give
 pub record Recognizes (words input : List ℕ) (r : Answer) : Type 0 where
   pub one-solution : OneSolution (grammarOf words) input
   pub accepted : (v : Valuation) → Solves (grammarOf words) input v → (r ≡ Accepted (callsOf (grammarOf words) input)) ↔ (v 0 0 (length input) ≡ true)
   pub rejected : (v : Valuation) → Solves (grammarOf words) input v → (r ≡ Rejected (callsOf (grammarOf words) input)) ↔ (v 0 0 (length input) ≡ false)
+  pub descent : DescentEnds (grammarOf words) (tableChoice (grammarOf words) 1 input) input
   pub calls : CallsCounted (grammarOf words) (tableChoice (grammarOf words) 1 input) input
 
 -- judging an input with a lent table and a lent memo table: properties 1 and 3
@@ -80,6 +102,7 @@ pub record Judges (words input table memo : List ℕ) (r : Answer) (table′ mem
   pub told : numbers r ≡ toldOr (judgeFault (length table) (length memo) words input) (verdictNumbers (grammarOf words) input)
   pub lent-table : table′ ≡ lentBack (judgeFault (length table) (length memo) words input) (tableWords (grammarOf words)) table
   pub lent-memo : memo′ ≡ lentBack (judgeFault (length table) (length memo) words input) (memoWords (grammarOf words) input) memo
+  pub places : memoryWords ≤ length table → memoEntries ≤ length memo → length words ≤ maxWords → (G : Grammar) → Encodes words G → Places G r
   -- where judging is not refused, the table is as checking leaves it
   pub as-checked : judgeFault (length table) (length memo) words input ≡ none → (c : Answer) (checked : List ℕ) → Checks words table c checked
       → table′ ≡ checked

@@ -177,6 +177,7 @@ pub(crate) fn call(
         sign = sign_at(words, at);
     }
     let outcome = conclude(agreement);
-    memo[entry] = code(outcome);
+    let recorded = code(outcome);
+    memo[entry] = recorded;
     outcome
 }

@@ -1,3 +1,4 @@
 pub mod Lengths
 pub mod Files
 pub mod Answers
+pub mod Enough

@@ -1,7 +1,7 @@
 -- What the programs print, from the bytes of files.
 use mathlib.Core.Path.{_≡_}
 use mathlib.Core.List.{List}
-use Prim.Native.Nat.{ℕ, _+_, _*_, _≤_}
+use Prim.Native.Nat.{ℕ, suc, _*_, _≤_}
 use lib.Dec.{leb}
 use lib.ListN.{length, take, replicate}
 use Rattle.answer.specs.declared.Answer.the-variants.{Passed}
@@ -18,6 +18,7 @@ use Rattle.answer.specs.Faults.{refusedOr}
 use Rattle.recognizer.specs.Answers.{checkFault, judgeFault, verdictOf}
 use Rattle.recognizer.specs.Memory.{lentBack, memoWords}
 use Rattle.report.specs.declared.Rooms.{Rooms}
+use Rattle.report.specs.declared.Reads.{Reads}
 use Rattle.text.specs.Words.{bytesOfWord, wordsOf, areWords}
 use Rattle.text.specs.Writing.{Put}
 use Rattle.text.specs.Refusal.{refusalText}
@@ -33,15 +34,9 @@ pub record Printed (room : ℕ) (text before after : List ℕ) (n : ℕ) : Type 
   pub part : n ≡ length (take n after)
   pub whole : room ≤ length before → take n after ≡ text
 
--- what the programs read of a file and of an input: one byte more than the longest has
-abbrev pub fileRoom : ℕ
-fileRoom = bytesOfWord * maxWords + 1
-
-abbrev pub inputRoom : ℕ
-inputRoom = maxTokens + 1
-
+-- room for every sheet, and for every judgement
 abbrev pub enoughRoom : Rooms
-enoughRoom = record { file = fileRoom; input = inputRoom; sheet = sheetRoom; judgement = judgementRoom }
+enoughRoom = record { sheet = sheetRoom; judgement = judgementRoom }
 
 -- the memory that is lent for the table
 unfoldable pub blankTable : List ℕ
@@ -71,6 +66,16 @@ judgedText words input =
 -- (document 01: the second program) the judgement of an input by a file's words
 unfoldable pub judgementOf : List ℕ → List ℕ → List ℕ
 judgementOf bytes input = choose (areWords bytes) (judgedText (wordsOf bytes) input) (refusalText Length)
+
+-- one byte more than the longest file of words has, and one token more than the longest input
+abbrev pub enoughRead : Reads
+enoughRead = record { file = suc (bytesOfWord * maxWords); input = suc maxTokens }
+
+-- so much of a file and of an input is enough to read: what is printed of it is what is printed of the whole
+pub record Enough (r : Reads) : Type 0 where
+  pub lengths : r ≡ enoughRead
+  pub sheet : (bytes : List ℕ) → sheetOf (take (r .file) bytes) ≡ sheetOf bytes
+  pub judgement : (bytes input : List ℕ) → judgementOf (take (r .file) bytes) (take (r .input) input) ≡ judgementOf bytes input
 
 -- how many nonterminals words have that are read
 abbrev pub nonterminalsOf : Outcome → ℕ

@@ -4,7 +4,7 @@ ghost use Rattle.grammar.specs.Reading.{reading};
 ghost use Rattle.sheet_text.specs.Room.{sheetRoom};
 ghost use Rattle.judgement_text.specs.Room.{judgementRoom};
 ghost use Rattle.text.specs.Writing.{Put};
-ghost use Rattle.report.specs.Report.{Printed, enoughRoom, nonterminalsOf, tokensOf, checkedText, sheetOf, judgedText, judgementOf};
+ghost use Rattle.report.specs.Report.{Printed, Enough, enoughRoom, nonterminalsOf, tokensOf, checkedText, sheetOf, judgedText, judgementOf};
 use answer::Error;
 use grammar::codes::NO_ENTRY;
 use grammar::codes::UNCALLED;
@@ -23,32 +23,43 @@ use text::words::Loaded;
 use text::words::WORD_BYTES;
 use text::words::load;
 
-// What the programs read of a file and of an input: one byte more than the longest has.
-pub const FILE_ROOM: usize = WORD_BYTES * WORDS + 1;
-
-pub const INPUT_ROOM: usize = TOKENS + 1;
-
 // Room for every sheet, and for every judgement.
 pub const SHEET_ROOM: usize = sheet_text::ROOM;
 
 pub const JUDGEMENT_ROOM: usize = judgement_text::ROOM;
 
 pub struct Rooms {
-    pub file: usize,
-    pub input: usize,
     pub sheet: usize,
     pub judgement: usize,
 }
 
-// All in one value, so that what the specifications say of room is proved of these.
+// The two in one value, so that what the specifications say of room is proved of these.
 pub fn enough_room() -> Rooms
     ensures { λ r. ⌜ r ≡ enoughRoom ⌝ }
 {
     Rooms {
-        file: FILE_ROOM,
-        input: INPUT_ROOM,
         sheet: SHEET_ROOM,
         judgement: JUDGEMENT_ROOM,
+    }
+}
+
+// How much of a file and of an input is read: one byte more than the longest of them.
+pub const FILE_BYTES: usize = WORD_BYTES * WORDS + 1;
+
+pub const INPUT_BYTES: usize = TOKENS + 1;
+
+pub struct Reads {
+    pub file: usize,
+    pub input: usize,
+}
+
+// The two in one value, so that it is proved that no more need be read.
+pub fn enough_read() -> Reads
+    ensures { λ r. ⌜ Enough r ⌝ }
+{
+    Reads {
+        file: FILE_BYTES,
+        input: INPUT_BYTES,
     }
 }
 

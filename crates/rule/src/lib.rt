@@ -105,10 +105,10 @@ fn kept(sign: Sign, end: u16, there: bool) -> Agreement
             }
         }
         Sign::Negative => {
-            if there {
-                Agreement::Failed
-            } else {
+            if !there {
                 Agreement::At(end)
+            } else {
+                Agreement::Failed
             }
         }
         Sign::Neither => Agreement::Failed,

@@ -1,21 +1,25 @@
 -- Grammars that one or two tokens are enough for, and descents by their own tables, by computation.
-use mathlib.Core.Bool.{false}
-use mathlib.Core.List.{[], _∷_}
+use mathlib.Core.Bool.{Bool, true, false}
+use mathlib.Core.List.{List, [], _∷_}
 use mathlib.Core.Path.{_≡_, refl}
+use Prim.Native.Nat.{ℕ}
 use Rattle.word.specs.declared.Symbol.the-variants.{Terminal, Nonterminal}
 use Rattle.grammar.specs.Syntax.{Grammar}
 use Rattle.semantics.specs.Quantifiers.{any, all, below}
 use Rattle.semantics.specs.Valuations.{contains, derives, byRules, rounds, pairs, solution}
 use Rattle.semantics.specs.Choices.{tableChoice}
-use Rattle.semantics.specs.Descent.{Failed, End, descend}
+use Rattle.semantics.specs.Descent.{Failed, End, descend, accepts}
 use Rattle.semantics.specs.ComesTo.{callAt}
-use Rattle.semantics.specs.Calls.{callsWithin}
+use Rattle.semantics.specs.Calls.{callsWithin, callCount, farthest}
 use Rattle.semantics.specs.Predictive.{Predictive}
-use Rattle.semantics.specs.Rows.{row, accepted, rejected, judged}
 use Rattle.grammar.specs.Cards.{grammarR, grammarM, grammarE}
 use Rattle.semantics.proofs.Check.{belowTest, scopedTest, terminalsTest, ownTest, predictive}
 use Rattle.semantics.proofs.Computing.{left-recursion-computes, tables-compute, descent-computes, calls-compute}
 use Rattle.semantics.proofs.ExamplesTables.{repeated, others}
+
+-- with one token of lookahead: whether an input is accepted, the count and the farthest place
+abbrev judged : Grammar → List ℕ → Bool × ℕ × ℕ
+judged G w = (accepts G (tableChoice G 1 w) w, callCount G (tableChoice G 1 w) w, farthest G (tableChoice G 1 w) w)
 
 -- document 01's grammars
 predictive-R : Predictive grammarR 1
@@ -73,8 +77,8 @@ early-end : descend single (tableChoice single 1 (0 ∷ 0 ∷ [])) (0 ∷ 0 ∷ 
 unfolding tables-compute descent-computes
 early-end = refl
 
-early-rejected : judged single (0 ∷ 0 ∷ []) ≡ row single (0 ∷ 0 ∷ []) rejected 1 0
-unfolding judged tables-compute descent-computes calls-compute
+early-rejected : judged single (0 ∷ 0 ∷ []) ≡ (false, 1, 0)
+unfolding tables-compute descent-computes calls-compute
 early-rejected = refl
 
 -- S → A & ¬ A a, A → a: on a the start comes to A at 0 twice, and the call is counted once
@@ -91,8 +95,8 @@ met-twice : callsWithin again (tableChoice again 1 (0 ∷ [])) (0 ∷ []) (pairs
 unfolding tables-compute descent-computes calls-compute
 met-twice = refl
 
-counted-once : judged again (0 ∷ []) ≡ row again (0 ∷ []) accepted 2 0
-unfolding judged tables-compute descent-computes calls-compute
+counted-once : judged again (0 ∷ []) ≡ (true, 2, 0)
+unfolding tables-compute descent-computes calls-compute
 counted-once = refl
 
 -- S → A & B, A → a, B → a a: on aa the second positive body ends elsewhere, and no other end is searched for
@@ -118,6 +122,6 @@ both-fail : descend apart (tableChoice apart 1 (0 ∷ 0 ∷ [])) (0 ∷ 0 ∷ []
 unfolding tables-compute descent-computes
 both-fail = refl
 
-apart-rejected : judged apart (0 ∷ 0 ∷ []) ≡ row apart (0 ∷ 0 ∷ []) rejected 3 0
-unfolding judged tables-compute descent-computes calls-compute
+apart-rejected : judged apart (0 ∷ 0 ∷ []) ≡ (false, 3, 0)
+unfolding tables-compute descent-computes calls-compute
 apart-rejected = refl

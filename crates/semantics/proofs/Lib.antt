@@ -36,5 +36,4 @@ pub mod ExamplesMemo
 pub mod Computing
 pub mod ExamplesTables
 pub mod ExamplesDescent
-pub mod Rows
 pub mod Theorems

@@ -26,7 +26,6 @@ use Rattle.semantics.proofs.Measure.{tokens-then-rank}
 use Rattle.semantics.proofs.Called.{calls-listing, count-listing, count-bound, farthest-most, farthest-called}
 use Rattle.semantics.proofs.Range.{all-ordered}
 use Rattle.semantics.proofs.Memo.{memo-recorded}
-use Rattle.semantics.proofs.Rows.{starred-rows}
 
 pub theorems : Theorems
 theorems = record {
@@ -92,5 +91,4 @@ theorems = record {
       record { outcome = r .0; recorded = r .1; ordered = all-ordered G w };
   own-rules = λ G k w A i. table-own G k A (look k w i);
   passed = passed-iff;
-  starred-rows = starred-rows;
 }

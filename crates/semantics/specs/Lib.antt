@@ -14,5 +14,4 @@ pub mod ComesTo
 pub mod Calls
 pub mod Memo
 pub mod MemoDescent
-pub mod Rows
 pub mod Theorems

@@ -1,4 +1,4 @@
--- What this crate proves, on one page: nine statements, and in the end what each of them needs and the starred rows. All of it is given in proofs/Theorems.
+-- What this crate proves, on one page: nine statements, and in the end what each of them needs. All of it is given in proofs/Theorems.
 use mathlib.Core.Path.{_≡_}
 use mathlib.Core.Bool.{true}
 use mathlib.Core.List.{List, [], _∷_, _++_, map, List·Memᴰ}
@@ -26,7 +26,6 @@ use Rattle.semantics.specs.Calls.{Called, Listing, allCalls, calls, call
 use Rattle.semantics.specs.Memo.{indexOf, Recorded, Fits}
 use Rattle.semantics.specs.MemoDescent.{memoStart}
 use Rattle.semantics.specs.Predictive.{Predictive}
-use Rattle.semantics.specs.Rows.{starred, judged}
 
 -- 1. Without left recursion exactly one valuation solves the grammar on an input
 pub record OneSolution (G : Grammar) (w : List ℕ) : Type 0 where
@@ -140,4 +139,3 @@ pub record Theorems : Type 1 where
   -- the needs of 5 to 9 are met: the table's choice is of own rules, and of the well-formed grammars just those that pass are predictive
   pub own-rules : (G : Grammar) (k : ℕ) (w : List ℕ) → OwnRules G (tableChoice G k w)
   pub passed : (G : Grammar) (k : ℕ) → WellFormed G → 0 < G .nonterminals → ((lowestLeftRecursive G ≡ none) × (clashes G k ≡ [])) ↔ Predictive G k
-  pub starred-rows : map (λ r. judged (r .grammar) (r .input)) starred ≡ starred

@@ -1,11 +1,11 @@
 // Prints the sheet of the grammar whose words are read from standard input.
 use libc::STDIN_FILENO;
 use libc::STDOUT_FILENO;
-use report::FILE_ROOM;
+use report::FILE_BYTES;
 use report::SHEET_ROOM;
 
 fn main() {
-    let mut card = [0u8; FILE_ROOM];
+    let mut card = [0u8; FILE_BYTES];
     let n = io::read_full(STDIN_FILENO, &mut card);
     let mut text = [0u8; SHEET_ROOM];
     let length = report::sheet(&card[..n], &mut text);

@@ -1,4 +1,5 @@
 -- By the kinds of answers: the fields fit, and their sum is the packed answer.
+use native.Mathlib.Omega.{arith}
 use Rattle.embed.proofs.Fitting.{refused-fields, refused-packed, passed-packed, rejected-fields, rejected-packed, accepted-fields, accepted-packed}
 use borrow.Author.Needs.{needs}
 use Rattle.embed.proofs.pack.Statement.{statement}
@@ -33,13 +34,13 @@ enum-known-answer-2 : tie.Need-enum-known-answer-2
 enum-known-answer-2 c = search needs
 
 join-requires-3 : tie.Need-join-requires-3
-join-requires-3 c κs = rejected-fields (c .before .before .before .pre) (c .before .answer2 .given .1)
+join-requires-3 c κs = rejected-fields (c .before .before .before .pre) (c .before .answer2 .given .1) (omega arith)
 
 enum-known-answer-3 : tie.Need-enum-known-answer-3
 enum-known-answer-3 c = search needs
 
 join-requires-4 : tie.Need-join-requires-4
-join-requires-4 c κs = accepted-fields (c .before .before .before .pre) (c .before .answer3 .given .1)
+join-requires-4 c κs = accepted-fields (c .before .before .before .pre) (c .before .answer3 .given .1) (omega arith)
 
 returns : tie.Need-returns
 returns c =

@@ -1,3 +1,5 @@
+-- By the sign, and by whether the body ends there.
+use borrow.Author.Tests.{not-true, not-false}
 use borrow.Author.Needs.{needs}
 use Rattle.rule.proofs.kept.Statement.{statement}
 use Rattle.rule.proofs.kept.Tie as tie
@@ -20,10 +22,10 @@ returns-2 : tie.Need-returns-2
 returns-2 c = search needs
 
 returns-3 : tie.Need-returns-3
-returns-3 c = search needs
+returns-3 c = rw (c .before .enum-told2 .given .1, not-true (c .before .before .before .args .there) (c .if2 .taken))
 
 returns-4 : tie.Need-returns-4
-returns-4 c = rw (c .before .enum-told2 .given .1, c .if2 .left)
+returns-4 c = rw (c .before .enum-told2 .given .1, not-false (c .before .before .before .args .there) (c .if2 .left))
 
 returns-5 : tie.Need-returns-5
 returns-5 c = search needs

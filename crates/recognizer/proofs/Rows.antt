@@ -1,0 +1,15 @@
+-- Each starred row of document 01 comes out by the definitions, from the words of its card on, by computation. Assumes nothing.
+use mathlib.Core.Path.{_≡_, refl}
+use mathlib.Core.List.{map}
+use Rattle.word.specs.Words.{bare, heading, ofKind, decoded}
+use Rattle.grammar.specs.Encoding.{onWord, parse, grammarOf}
+use Rattle.grammar.specs.Reading.{counted, stepped, onStep, finished, scan, within, headed, opened, reading}
+use Rattle.semantics.proofs.Computing.{left-recursion-computes, tables-compute, descent-computes, calls-compute}
+use Rattle.table.specs.Analysis.{fault}
+use Rattle.recognizer.specs.Answers.{unknownFrom, judgeFault, verdictOf}
+use Rattle.recognizer.specs.Rows.{starred, judged}
+
+pub starred-rows : map (λ r. judged (r .words) (r .input)) starred ≡ map (λ r. r .told) starred
+unfolding judged judgeFault verdictOf unknownFrom fault reading opened headed within scan finished onStep stepped counted
+    grammarOf parse onWord decoded ofKind heading bare left-recursion-computes tables-compute descent-computes calls-compute
+starred-rows = refl

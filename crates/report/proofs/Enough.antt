@@ -1,0 +1,74 @@
+-- What is printed of a file and an input cut to one past their limits is what is printed of the whole.
+use mathlib.Core.Path.{_≡_, refl, sym, ap, subst, _∙_}
+use mathlib.Core.Bool.{false}
+use mathlib.Core.List.{List}
+use mathlib.Core.Option.{Option, none, some}
+use Prim.Native.Nat.{ℕ, suc, _*_, _≤_, _<_}
+use native.Mathlib.Omega.{arith}
+use native.Mathlib.Decide.{decLt}
+use lib.ListN.{length, take}
+use lib.Seq.{length-take-le, take-all}
+use borrow.Author.Tests.{lt-ltb, lt-leb}
+use Rattle.answer.specs.declared.Error.{Error}
+use Rattle.answer.specs.declared.Error.the-variants.{Length, InputTooLong}
+use Rattle.word.specs.Choice.{choose}
+use Rattle.grammar.specs.Limits.{maxWords, maxTokens, memoEntries, tableWords as memoryWords}
+use Rattle.text.specs.Words.{bytesOfWord, wordsOf, areWords}
+use Rattle.text.specs.Refusal.{refusalText}
+use Rattle.table.specs.Analysis.{fault}
+use Rattle.judgement_text.specs.Judgement.{judgementText}
+use Rattle.recognizer.specs.Answers.{judgeFault}
+use Rattle.recognizer.proofs.Judged.{judged-rows}
+use Rattle.report.specs.declared.Reads.{Reads}
+use Rattle.report.specs.Report.{sheetOf, judgedText, judgementOf, enoughRead, Enough}
+
+-- a function that does not tell lists longer than a limit apart is the same of a list cut past the limit
+cut : {B : Type 0} (f : List ℕ → B) (limit n : ℕ) → limit < n → ((l m : List ℕ) → limit < length l → limit < length m → f l ≡ f m)
+    → (l : List ℕ) → f (take n l) ≡ f l
+cut f limit n h same l = go (decLt limit (length l))
+  where
+    go : Dec (limit < length l) → f (take n l) ≡ f l
+    go (yes k) = same (take n l) l (longer (decLt n (length l))) k
+      where
+        longer : Dec (n < length l) → limit < length (take n l)
+        longer (yes j) = omega (arith, length-take-le n l (omega arith))
+        longer (no u) = rw (take-all n l (omega arith)) k
+    go (no u) = ap f (take-all n l (omega arith))
+
+-- a file that is too long is no row of words
+not-words : (bytes : List ℕ) → bytesOfWord * maxWords < length bytes → areWords bytes ≡ false
+unfolding areWords
+not-words bytes h = rw (lt-leb (length bytes) (bytesOfWord * maxWords) h)
+
+-- what is told of an input that is too long: the grammar's fault, or else its length
+abbrev orLong : Option Error → Error
+orLong none = InputTooLong
+orLong (some e) = e
+
+long-fault : (words input : List ℕ) → maxTokens < length input → (f : Option Error) → fault words ≡ f
+    → judgeFault memoryWords memoEntries words input ≡ some (orLong f)
+long-fault words input h (some x) e = rw (judged-rows memoryWords memoEntries words input, e)
+long-fault words input h none e = rw (judged-rows memoryWords memoEntries words input, e, lt-ltb maxTokens (length input) h)
+
+long-text : (words input : List ℕ) → maxTokens < length input → judgedText words input ≡ refusalText (orLong (fault words))
+unfolding judgedText judgementText
+long-text words input h = rw (long-fault words input h (fault words) refl)
+
+module _ (file tokens : ℕ) (long : bytesOfWord * maxWords < file) (over : maxTokens < tokens) where
+  pub sheet-enough : (bytes : List ℕ) → sheetOf (take file bytes) ≡ sheetOf bytes
+  unfolding sheetOf
+  sheet-enough = cut sheetOf (bytesOfWord * maxWords) file long (λ l m h k. rw (not-words l h, not-words m k))
+
+  pub judgement-enough : (bytes input : List ℕ) → judgementOf (take file bytes) (take tokens input) ≡ judgementOf bytes input
+  unfolding judgementOf
+  judgement-enough bytes input =
+      cut (λ b. judgementOf b (take tokens input)) (bytesOfWord * maxWords) file long (λ l m h k. rw (not-words l h, not-words m k)) bytes
+      ∙ ap (λ t. choose (areWords bytes) t (refusalText Length))
+      (cut (judgedText (wordsOf bytes)) maxTokens tokens over (λ l m h k. long-text (wordsOf bytes) l h ∙ sym (long-text (wordsOf bytes) m k)) input)
+
+pub enough : Enough enoughRead
+enough = record {
+  lengths = refl;
+  sheet = sheet-enough (enoughRead .file) (enoughRead .input) (omega arith) (omega arith);
+  judgement = judgement-enough (enoughRead .file) (enoughRead .input) (omega arith) (omega arith);
+}
