@@ -18,8 +18,7 @@ use Rattle.grammar.specs.Reading.{reading}
 use Rattle.grammar.specs.declared.reading.Sizes.{Sizes}
 use Rattle.grammar.specs.declared.reading.Outcome.the-variants.{Read}
 use Rattle.semantics.specs.LeftRecursion.{lowestLeftRecursive, NoLeftRecursion}
-use Rattle.semantics.specs.FirstFollow.{First, Follow, Entry}
-use Rattle.semantics.specs.Families.{Clash}
+use Rattle.semantics.specs.FirstFollow.{Entry}
 use Rattle.semantics.specs.Claims.{clashes, column}
 use Rattle.semantics.specs.Theorems.{LeastSets}
 use Rattle.semantics.proofs.Theorems.{theorems}

@@ -2,6 +2,7 @@
 use Prim.Native.Nat.{ℕ}
 use lib.ListN.{length-replicate}
 use Rattle.report.proofs.Files.{found, not-found, sheet-refused, sheet-checked}
+use Rattle.report.proofs.Counts.{sheet-printed}
 use borrow.Author.Needs.{needs}
 use Rattle.report.proofs.sheet.Statement.{statement}
 use Rattle.report.proofs.sheet.Tie as tie
@@ -40,8 +41,9 @@ returns c =
     let at-load = at-loaded .before .before in
     let at-before = at-load .before .before .before in
     let s = at-before .before in
-    sheet-checked (found (at-load .load .ensures) (at-loaded .loaded .given .1) (length-replicate {A = ℕ} 2048 0))
-    (at-put-checked .put-checked .ensures)
+    sheet-printed (s .args .bytes .now)
+    (sheet-checked (found (at-load .load .ensures) (at-loaded .loaded .given .1) (length-replicate {A = ℕ} 2048 0))
+    (at-put-checked .put-checked .ensures))
 
 same-length-2 : tie.Need-same-length-2
 same-length-2 c = search needs
@@ -53,7 +55,8 @@ returns-2 c =
     let at-load = at-enum-told .before .before in
     let at-before = at-load .before .before .before in
     let s = at-before .before in
-    sheet-refused (s .args .bytes .now) (not-found (at-load .load .ensures) (at-enum-told .enum-told .given .1)) (at-put-refusal .put-refusal .ensures)
+    sheet-printed (s .args .bytes .now)
+    (sheet-refused (s .args .bytes .now) (not-found (at-load .load .ensures) (at-enum-told .enum-told .given .1)) (at-put-refusal .put-refusal .ensures))
 
 pub sheet-spec : {M : Type 1} → statement M
 sheet-spec =
