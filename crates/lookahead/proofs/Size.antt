@@ -11,12 +11,12 @@ use Rattle.lookahead.specs.Elements.{nothing, has, one, Over, count, wid
 use Rattle.lookahead.proofs.Booleans.{is-false}
 use Rattle.lookahead.proofs.Elements as elements
 
-count-cong : (k : ℕ) (p q : ℕ → Bool) → ((l : ℕ) → l < k → p l ≡ q l) → count k p ≡ count k q
+pub count-cong : (k : ℕ) (p q : ℕ → Bool) → ((l : ℕ) → l < k → p l ≡ q l) → count k p ≡ count k q
 unfolding count
 count-cong zero p q h = refl
 count-cong (suc k) p q h = rw (h k (omega arith), count-cong k p q (λ l b. h l (omega arith)))
 
-count-first : (k : ℕ) (p : ℕ → Bool) → count (suc k) p ≡ one (p 0) + count k (λ l. p (suc l))
+pub count-first : (k : ℕ) (p : ℕ → Bool) → count (suc k) p ≡ one (p 0) + count k (λ l. p (suc l))
 unfolding count
 count-first zero p = refl
 count-first (suc k) p = omega (arith, count-first k p)

@@ -134,7 +134,7 @@ module _ (words : List ℕ) (p : PassedGrammar words) where
   fault-passed = rw (passed-read, not-left-recursive, no-clashes)
 
 -- with a table that is long enough only the grammar's faults are left
-check-fault-long : (n : ℕ) (words : List ℕ) → memoryWords ≤ n → checkFault n words ≡ fault words
+pub check-fault-long : (n : ℕ) (words : List ℕ) → memoryWords ≤ n → checkFault n words ≡ fault words
 unfolding checkFault fault
 check-fault-long n words h = rw (le-ltb n memoryWords h)
 

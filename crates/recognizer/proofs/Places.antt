@@ -20,8 +20,7 @@ use Rattle.encoding.specs.Encode.{Encodes}
 use Rattle.encoding.proofs.Decoding.{encodes-grammar}
 use Rattle.encoding.proofs.ReadingEncodes.{encodes-read}
 use Rattle.semantics.specs.LeftRecursion.{lowestLeftRecursive, NoLeftRecursion}
-use Rattle.semantics.specs.FirstFollow.{First, Follow, Entry}
-use Rattle.semantics.specs.Families.{Clash}
+use Rattle.semantics.specs.FirstFollow.{Entry}
 use Rattle.semantics.specs.Claims.{clashes, column}
 use Rattle.semantics.specs.Theorems.{LeastSets}
 use Rattle.semantics.proofs.Theorems.{theorems}

@@ -1,9 +1,9 @@
 -- What is printed of a file and an input cut to one past their limits is what is printed of the whole.
-use mathlib.Core.Path.{_≡_, refl, sym, ap, subst, _∙_}
+use mathlib.Core.Path.{_≡_, refl, sym, ap, _∙_}
 use mathlib.Core.Bool.{false}
 use mathlib.Core.List.{List}
 use mathlib.Core.Option.{Option, none, some}
-use Prim.Native.Nat.{ℕ, suc, _*_, _≤_, _<_}
+use Prim.Native.Nat.{ℕ, _*_, _<_}
 use native.Mathlib.Omega.{arith}
 use native.Mathlib.Decide.{decLt}
 use lib.ListN.{length, take}
@@ -19,7 +19,6 @@ use Rattle.table.specs.Analysis.{fault}
 use Rattle.judgement_text.specs.Judgement.{judgementText}
 use Rattle.recognizer.specs.Answers.{judgeFault}
 use Rattle.recognizer.proofs.Judged.{judged-rows}
-use Rattle.report.specs.declared.Reads.{Reads}
 use Rattle.report.specs.Report.{sheetOf, judgedText, judgementOf, enoughRead, Enough}
 
 -- a function that does not tell lists longer than a limit apart is the same of a list cut past the limit

@@ -1,4 +1,5 @@
 pub mod Lengths
 pub mod Files
+pub mod Counts
 pub mod Answers
 pub mod Enough

@@ -1,7 +1,7 @@
 -- What the programs print, from the bytes of files.
 use mathlib.Core.Path.{_≡_}
 use mathlib.Core.List.{List}
-use Prim.Native.Nat.{ℕ, suc, _*_, _≤_}
+use Prim.Native.Nat.{ℕ, suc, _+_, _*_, _≤_, _<_}
 use lib.Dec.{leb}
 use lib.ListN.{length, take, replicate}
 use Rattle.answer.specs.declared.Answer.the-variants.{Passed}
@@ -13,10 +13,14 @@ use Rattle.grammar.specs.declared.reading.Outcome.the-variants.{Read, Faulty}
 use Rattle.grammar.specs.Limits.{maxWords, maxTokens, memoEntries, tableWords as memoryWords}
 use Rattle.grammar.specs.Encoding.{grammarOf}
 use Rattle.grammar.specs.Reading.{reading}
+use Rattle.lookahead.specs.Elements.{size}
+use Rattle.semantics.specs.FirstFollow.{First, Follow}
+use Rattle.sets.specs.Sets.{firstNumber, followNumber, Members}
 use Rattle.table.specs.Layout.{tableWords}
 use Rattle.answer.specs.Faults.{refusedOr}
 use Rattle.recognizer.specs.Answers.{checkFault, judgeFault, verdictOf}
 use Rattle.recognizer.specs.Memory.{lentBack, memoWords}
+use Rattle.recognizer.specs.Properties.{PassedGrammar}
 use Rattle.report.specs.declared.Rooms.{Rooms}
 use Rattle.report.specs.declared.Reads.{Reads}
 use Rattle.text.specs.Words.{bytesOfWord, wordsOf, areWords}
@@ -24,7 +28,7 @@ use Rattle.text.specs.Writing.{Put}
 use Rattle.text.specs.Refusal.{refusalText}
 use Rattle.sheet_text.specs.Room.{sheetRoom}
 use Rattle.judgement_text.specs.Room.{judgementRoom}
-use Rattle.sheet_text.specs.Sheet.{checkText}
+use Rattle.sheet_text.specs.Sheet.{wordAt, checkText}
 use Rattle.judgement_text.specs.Judgement.{judgementText}
 
 -- a text put from the buffer's front on, of which so many bytes stand there: all of them where the buffer has the room
@@ -42,15 +46,28 @@ enoughRoom = record { sheet = sheetRoom; judgement = judgementRoom }
 unfoldable pub blankTable : List ℕ
 blankTable = replicate memoryWords noEntry
 
+-- the same after checking words
+abbrev pub checkedTable : List ℕ → List ℕ
+checkedTable words = lentBack (checkFault memoryWords words) (tableWords (grammarOf words)) blankTable
+
 -- what is printed of words that are checked, by the answer and the table that checking gives
 unfoldable pub checkedText : List ℕ → List ℕ
-checkedText words =
-    let f = checkFault memoryWords words in
-    checkText (refusedOr f Passed) (reading words) (lentBack f (tableWords (grammarOf words)) blankTable)
+checkedText words = checkText (refusedOr (checkFault memoryWords words) Passed) (reading words) (checkedTable words)
+
+-- the sets of a nonterminal in the sheet of a passed grammar: FIRST and FOLLOW as numbers, and the size that is printed is how many strings they have
+pub record SetsTold (words : List ℕ) (A : ℕ) : Type 0 where
+  pub first : wordAt (checkedTable words) (2 * A) ≡ firstNumber (grammarOf words) A
+  pub first-members : Members (First (grammarOf words) 1 A) (size (wordAt (checkedTable words) (2 * A)))
+  pub follow : wordAt (checkedTable words) (2 * A + 1) ≡ followNumber (grammarOf words) A
+  pub follow-members : Members (Follow (grammarOf words) 1 A) (size (wordAt (checkedTable words) (2 * A + 1)))
 
 -- (document 01: the first program) the sheet of a file's words; bytes that are no words have a refused length
 unfoldable pub sheetOf : List ℕ → List ℕ
 sheetOf bytes = choose (areWords bytes) (checkedText (wordsOf bytes)) (refusalText Length)
+
+pub record SheetPrinted (bytes before after : List ℕ) (n : ℕ) : Type 0 where
+  pub printed : Printed sheetRoom (sheetOf bytes) before after n
+  pub sets : PassedGrammar (wordsOf bytes) → (A : ℕ) → A < grammarOf (wordsOf bytes) .nonterminals → SetsTold (wordsOf bytes) A
 
 -- the memory that is lent for the memo table
 unfoldable pub blankMemo : List ℕ

@@ -4,7 +4,7 @@ ghost use Rattle.grammar.specs.Reading.{reading};
 ghost use Rattle.sheet_text.specs.Room.{sheetRoom};
 ghost use Rattle.judgement_text.specs.Room.{judgementRoom};
 ghost use Rattle.text.specs.Writing.{Put};
-ghost use Rattle.report.specs.Report.{Printed, Enough, enoughRoom, nonterminalsOf, tokensOf, checkedText, sheetOf, judgedText, judgementOf};
+ghost use Rattle.report.specs.Report.{Printed, SheetPrinted, Enough, enoughRoom, nonterminalsOf, tokensOf, checkedText, judgedText, judgementOf};
 use answer::Error;
 use grammar::codes::NO_ENTRY;
 use grammar::codes::UNCALLED;
@@ -65,7 +65,7 @@ pub fn enough_read() -> Reads
 
 // The sheet of the grammar that a file's bytes are, or why there is none.
 pub fn sheet(bytes: &[u8], out: &mut [u8]) -> usize
-    ensures { λ r. ⌜ Printed sheetRoom (sheetOf (now (bytes .entry))) (now (out .entry)) (now (out .exit)) r ⌝ }
+    ensures { λ r. ⌜ SheetPrinted (now (bytes .entry)) (now (out .entry)) (now (out .exit)) r ⌝ }
 {
     let mut words = [0u32; WORDS];
     let loaded = load(bytes, &mut words);

@@ -1,13 +1,14 @@
 -- Lists without repetition: how they are made, and that none is longer than a list that holds all its elements.
 use mathlib.Core.Bool.{Bool, true, false}
 use mathlib.Core.List.{List, [], _∷_, _++_, map, List·Memᴰ, List·Memᴰ·head, List·Memᴰ·tail, List·Memᴰ·cases-cons, List·Memᴰ·not-nil, Memᴰ·cast}
-use mathlib.Core.List.{List·Memᴰ·append-cases, Memᴰ·append-left, Memᴰ·append-right}
+use mathlib.Core.List.{List·Memᴰ·append-cases, Memᴰ·append-left, Memᴰ·append-right, List·Memᴰ·eq-of-singleton}
 use mathlib.Core.Logic.{inl, inr}
 use mathlib.Core.Path.{_≡_, refl, sym, ap, _∙_}
 use Prim.Native.Nat.{ℕ, zero, suc, _*_, _≤_}
 use native.Mathlib.Omega.{arith}
 use lib.ListN.{length, length-append, length-map}
 use Rattle.semantics.specs.FiniteSets.{keep, numbersFrom, numbers, combine}
+use Rattle.semantics.specs.FirstFollow.{strings}
 use Rattle.semantics.specs.Calls.{Distinct}
 use Rattle.semantics.proofs.FiniteSets.{keep-elim, combine-elim}
 
@@ -95,3 +96,17 @@ module _ {X Y Z : Type 0} (f : X → Y → Z) where
   unfolding combine
   combine-length [] ys = omega arith
   combine-length (x ∷ xs) ys = omega (arith, length-append (map (f x) ys) (combine f xs ys), length-map ys (f x), combine-length xs ys)
+
+-- the lookahead strings are listed once each
+pub distinct-strings : (k n : ℕ) → Distinct (strings k n)
+unfolding strings
+distinct-strings zero n = (λ m. absurd (List·Memᴰ·not-nil m), tt)
+distinct-strings (suc k) n =
+    let longer = combine (λ a x. a ∷ x) (numbers n) (strings k n) in
+    distinct-append longer ([] ∷ [])
+    (distinct-combine (λ a x. a ∷ x) (λ a b x y e. cc e) (λ a b x y e. cc e) (numbers n) (strings k n) (distinct-numbers n) (distinct-strings k n))
+    (λ m. absurd (List·Memᴰ·not-nil m), tt)
+    (λ x m e.
+    let r = combine-elim (λ a y. a ∷ y) (numbers n) (strings k n) x m in
+    let z : _≡_ {A = ℕ} 0 1 = cc (List·Memᴰ·eq-of-singleton e, r .4) in
+    absurd (omega arith))

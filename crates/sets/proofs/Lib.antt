@@ -7,6 +7,7 @@ pub mod FirstPasses
 pub mod Looking
 pub mod Strings
 pub mod Numbers
+pub mod Members
 pub mod FirstTie
 pub mod Rests
 pub mod FollowPasses
