@@ -9,7 +9,7 @@ use grammar::limits::NONTERMINALS;
 pub const SETS: usize = NONTERMINALS as usize;
 
 // The set of n; behind the array's end there is none.
-pub(crate) fn set_of(sets: &[u32; SETS], n: u32) -> u32
+pub(crate) fn set_of(sets: &[u64; SETS], n: u32) -> u64
     ensures { λ r. ⌜ r ≡ lookup (now (sets .entry)) n ⌝ }
 {
     let at = n as usize;
@@ -17,7 +17,7 @@ pub(crate) fn set_of(sets: &[u32; SETS], n: u32) -> u32
 }
 
 // Joins a set into that of n. Whether a set has grown: so far, or now.
-pub(crate) fn add(sets: &mut [u32; SETS], n: u32, set: u32, grown: bool) -> bool
+pub(crate) fn add(sets: &mut [u64; SETS], n: u32, set: u64, grown: bool) -> bool
     requires { ⌜ n < maxNonterminals ⌝ }
     ensures { λ r. ⌜ Adds (now (sets .entry)) n set grown (now (sets .exit)) r ⌝ }
 {

@@ -36,7 +36,7 @@ pub fn no_rest(terminals: u32) -> Rest
     }
 }
 
-fn symbol_first(symbol: Symbol, firsts: &[u32; SETS]) -> LookaheadSet
+fn symbol_first(symbol: Symbol, firsts: &[u64; SETS]) -> LookaheadSet
     ensures { λ r. ⌜ r .bits ≡ symbolFirst (lookup (now (firsts .entry))) symbol ⌝ }
 {
     match symbol {
@@ -48,7 +48,7 @@ fn symbol_first(symbol: Symbol, firsts: &[u32; SETS]) -> LookaheadSet
 }
 
 // The rest with a word in front.
-pub fn onto(word: Word, rest: Rest, firsts: &[u32; SETS], terminals: u32) -> Rest
+pub fn onto(word: Word, rest: Rest, firsts: &[u64; SETS], terminals: u32) -> Rest
     ensures { λ r. ⌜ r ≡ withWord terminals (lookup (now (firsts .entry))) word rest ⌝ }
 {
     let body = rest.body;
@@ -77,7 +77,7 @@ pub fn onto(word: Word, rest: Rest, firsts: &[u32; SETS], terminals: u32) -> Res
 }
 
 // Where a rule begins, the meet of its positives goes into the set of its head.
-pub(crate) fn close_rule(word: Word, meet: u32, firsts: &mut [u32; SETS], grown: bool) -> bool
+pub(crate) fn close_rule(word: Word, meet: u64, firsts: &mut [u64; SETS], grown: bool) -> bool
     requires { ⌜ Indexed word ⌝ }
     ensures { λ r. ⌜ AddsTo (ruleHead word) (now (firsts .entry)) meet grown (now (firsts .exit)) r ⌝ }
 {
@@ -88,7 +88,7 @@ pub(crate) fn close_rule(word: Word, meet: u32, firsts: &mut [u32; SETS], grown:
 }
 
 // One pass; whether a set has grown.
-fn first_pass(words: &[u32], sizes: Sizes, firsts: &mut [u32; SETS]) -> bool
+fn first_pass(words: &[u32], sizes: Sizes, firsts: &mut [u64; SETS]) -> bool
     requires { ⌜ (reading (now words) ≡ Read sizes) × (length (now firsts) ≡ maxNonterminals) ⌝ }
     ensures { λ r. ⌜ Passes (FirstClosed (sizes .terminals) (parse (now (words .entry)) .rules)) (now (firsts .entry)) (now (firsts .exit)) r ⌝ }
 {
@@ -107,11 +107,11 @@ fn first_pass(words: &[u32], sizes: Sizes, firsts: &mut [u32; SETS]) -> bool
 }
 
 // The first sets of a grammar that has been read, one for each nonterminal.
-pub(crate) fn first_sets(words: &[u32], sizes: Sizes) -> [u32; SETS]
+pub(crate) fn first_sets(words: &[u32], sizes: Sizes) -> [u64; SETS]
     requires { ⌜ reading (now words) ≡ Read sizes ⌝ }
     ensures { λ r. ⌜ r ≡ listed maxNonterminals (firstNumber (grammarOf (now (words .entry)))) ⌝ }
 {
-    let mut firsts = [0u32; SETS];
+    let mut firsts = [0u64; SETS];
     while first_pass(words, sizes, &mut firsts) {}
     firsts
 }

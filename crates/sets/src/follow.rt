@@ -24,7 +24,7 @@ use word::Word;
 use word::decode;
 
 // Writes at each place the first set of what is left of the body behind the word there.
-fn write_rests(words: &[u32], sizes: Sizes, firsts: &[u32; SETS], rests: &mut [u32; WORDS])
+fn write_rests(words: &[u32], sizes: Sizes, firsts: &[u64; SETS], rests: &mut [u64; WORDS])
     requires { ⌜ (reading (now words) ≡ Read sizes) × (length (now firsts) ≡ maxNonterminals) × (length (now rests) ≡ maxWords) ⌝ }
     ensures { λ _. ⌜ Rests (family (now (firsts .entry))) (now (words .entry)) (now (rests .exit)) ⌝ }
 {
@@ -50,7 +50,7 @@ fn head_after(word: Word, head: u32) -> u32
 }
 
 // Behind a nonterminal in a body of head comes what is left of the body, then what follows head.
-fn add_behind(word: Word, rest: u32, head: u32, follows: &mut [u32; SETS], grown: bool) -> bool
+fn add_behind(word: Word, rest: u64, head: u32, follows: &mut [u64; SETS], grown: bool) -> bool
     requires { ⌜ Indexed word × (head < maxNonterminals) ⌝ }
     ensures { λ r. ⌜ AddsTo (nonterminalOf word) (now (follows .entry)) (concatOf rest (family (now (follows .entry)) head)) grown (now (follows .exit)) r ⌝ }
 {
@@ -68,7 +68,7 @@ fn add_behind(word: Word, rest: u32, head: u32, follows: &mut [u32; SETS], grown
 }
 
 // One pass; whether a set has grown.
-fn follow_pass(words: &[u32], rests: &[u32; WORDS], follows: &mut [u32; SETS]) -> bool
+fn follow_pass(words: &[u32], rests: &[u64; WORDS], follows: &mut [u64; SETS]) -> bool
     requires { ⌜ PassGiven (now words) (now follows) ⌝ }
     ensures { λ r. ⌜ FollowPasses (now (words .entry)) (now (rests .entry)) (now (follows .entry)) (now (follows .exit)) r ⌝ }
 {
@@ -85,13 +85,13 @@ fn follow_pass(words: &[u32], rests: &[u32; WORDS], follows: &mut [u32; SETS]) -
 }
 
 // The follow sets of a grammar that has been read, one for each nonterminal.
-pub(crate) fn follow_sets(words: &[u32], sizes: Sizes, firsts: &[u32; SETS]) -> [u32; SETS]
+pub(crate) fn follow_sets(words: &[u32], sizes: Sizes, firsts: &[u64; SETS]) -> [u64; SETS]
     requires { ⌜ (reading (now words) ≡ Read sizes) × (now firsts ≡ listed maxNonterminals (firstNumber (grammarOf (now words)))) ⌝ }
     ensures { λ r. ⌜ r ≡ listed maxNonterminals (followNumber (grammarOf (now (words .entry)))) ⌝ }
 {
-    let mut rests = [0u32; WORDS];
+    let mut rests = [0u64; WORDS];
     write_rests(words, sizes, firsts, &mut rests);
-    let mut follows = [0u32; SETS];
+    let mut follows = [0u64; SETS];
     while follow_pass(words, &rests, &mut follows) {}
     follows
 }

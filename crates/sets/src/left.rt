@@ -24,8 +24,8 @@ use word::decode;
 // Of the words from a place on: what is at the left of the rest of the body, and of the rule's bodies behind it, with all
 // that this left-reaches. Nonterminal B weighs 2^B.
 struct Left {
-    pub body: u32,
-    pub rule: u32,
+    pub body: u64,
+    pub rule: u64,
 }
 
 pub(crate) enum Lowest {
@@ -34,7 +34,7 @@ pub(crate) enum Lowest {
 }
 
 // What is at the left of a body that begins with a symbol: the nonterminal and, if it is nullable, what is at the left behind it.
-fn symbol_left(symbol: Symbol, behind: u32, firsts: &[u32; SETS], reach: &[u32; SETS]) -> u32
+fn symbol_left(symbol: Symbol, behind: u64, firsts: &[u64; SETS], reach: &[u64; SETS]) -> u64
     requires { ⌜ IndexedSymbol symbol ⌝ }
     ensures { λ r. ⌜ r ≡ symbolLeft (emptyIn (family (now (firsts .entry)))) (family (now (reach .entry))) symbol behind ⌝ }
 {
@@ -42,7 +42,7 @@ fn symbol_left(symbol: Symbol, behind: u32, firsts: &[u32; SETS], reach: &[u32; 
         return 0;
     };
     let at = number as usize;
-    let own = 1u32 << number | reach[at];
+    let own = 1u64 << number | reach[at];
     let first = LookaheadSet { bits: firsts[at] };
     if first.contains(NOTHING) {
         own | behind
@@ -52,7 +52,7 @@ fn symbol_left(symbol: Symbol, behind: u32, firsts: &[u32; SETS], reach: &[u32; 
 }
 
 // The same with a word in front.
-fn onto_left(word: Word, left: Left, firsts: &[u32; SETS], reach: &[u32; SETS]) -> Left
+fn onto_left(word: Word, left: Left, firsts: &[u64; SETS], reach: &[u64; SETS]) -> Left
     requires { ⌜ Indexed word ⌝ }
     ensures { λ r. ⌜ OntoLeft (emptyIn (family (now (firsts .entry)))) (family (now (reach .entry))) word left r ⌝ }
 {
@@ -82,7 +82,7 @@ fn onto_left(word: Word, left: Left, firsts: &[u32; SETS], reach: &[u32; SETS]) 
 }
 
 // One pass; whether a set has grown.
-fn reach_pass(words: &[u32], firsts: &[u32; SETS], reach: &mut [u32; SETS]) -> bool
+fn reach_pass(words: &[u32], firsts: &[u64; SETS], reach: &mut [u64; SETS]) -> bool
     requires { ⌜ PassGiven (now words) (now reach) ⌝ }
     ensures { λ r. ⌜ Passes (ReachClosed (emptyIn (family (now (firsts .entry)))) (parse (now (words .entry)) .rules)) (now (reach .entry)) (now (reach .exit)) r ⌝ }
 {
@@ -100,17 +100,17 @@ fn reach_pass(words: &[u32], firsts: &[u32; SETS], reach: &mut [u32; SETS]) -> b
 }
 
 // What each nonterminal of a grammar that has been read left-reaches, by its first sets.
-fn reached(words: &[u32], firsts: &[u32; SETS]) -> [u32; SETS]
+fn reached(words: &[u32], firsts: &[u64; SETS]) -> [u64; SETS]
     requires { ⌜ GivenFirsts (now words) (now firsts) ⌝ }
     ensures { λ r. ⌜ r ≡ listed maxNonterminals (reachNumber (grammarOf (now (words .entry)))) ⌝ }
 {
-    let mut reach = [0u32; SETS];
+    let mut reach = [0u64; SETS];
     while reach_pass(words, firsts, &mut reach) {}
     reach
 }
 
 // The lowest nonterminal that is in its own set.
-fn lowest_own(reach: &[u32; SETS], nonterminals: u32) -> Lowest
+fn lowest_own(reach: &[u64; SETS], nonterminals: u32) -> Lowest
     requires { ⌜ nonterminals ≤ maxNonterminals ⌝ }
     ensures { λ r. ⌜ r ≡ lowestOf (lowest nonterminals (ownIn (now (reach .entry)))) ⌝ }
 {
@@ -128,7 +128,7 @@ fn lowest_own(reach: &[u32; SETS], nonterminals: u32) -> Lowest
 }
 
 // The lowest nonterminal that left-reaches itself.
-pub(crate) fn lowest_left_recursive(words: &[u32], sizes: Sizes, firsts: &[u32; SETS]) -> Lowest
+pub(crate) fn lowest_left_recursive(words: &[u32], sizes: Sizes, firsts: &[u64; SETS]) -> Lowest
     requires { ⌜ (reading (now words) ≡ Read sizes) × (now firsts ≡ listed maxNonterminals (firstNumber (grammarOf (now words)))) ⌝ }
     ensures { λ r. ⌜ r ≡ lowestOf (lowestLeftRecursive (grammarOf (now (words .entry)))) ⌝ }
 {

@@ -26,8 +26,8 @@ pub enum Finding {
 // What is found of an encoded grammar: its sizes, or why it is refused; and its sets, all empty where it is refused.
 pub struct Families {
     pub finding: Finding,
-    pub firsts: [u32; SETS],
-    pub follows: [u32; SETS],
+    pub firsts: [u64; SETS],
+    pub follows: [u64; SETS],
 }
 
 fn refused(error: Error) -> Families
@@ -35,8 +35,8 @@ fn refused(error: Error) -> Families
 {
     Families {
         finding: Finding::Refused(error),
-        firsts: [0u32; SETS],
-        follows: [0u32; SETS],
+        firsts: [0u64; SETS],
+        follows: [0u64; SETS],
     }
 }
 

@@ -18,6 +18,9 @@ returns c = left-terminal _ _ _ (c .enum-told .given .1)
 cast-at : tie.Need-cast-at
 cast-at c = search needs
 
+cast-own : tie.Need-cast-own
+cast-own c = search needs
+
 shl-own : tie.Need-shl-own
 shl-own c = omega (arith, rw (c .before .symbol .given .1) at (c .before .before .before .pre))
 
@@ -27,8 +30,8 @@ mul-own c = search needs
 element-copy-out-own : tie.Need-element-copy-out-own
 element-copy-out-own c = omega (arith, rw (c .before .symbol .given .1) at (c .before .before .before .pre))
 
-mul-t10 : tie.Need-mul-t10
-mul-t10 c = search needs
+mul-t11 : tie.Need-mul-t11
+mul-t11 c = search needs
 
 element-copy-out-t9 : tie.Need-element-copy-out-t9
 element-copy-out-t9 c = omega (arith, rw (c .before .before .symbol .given .1) at (c .before .before .before .before .pre))
@@ -40,13 +43,13 @@ returns-2 : tie.Need-returns-2
 returns-2 c =
     let symbol = c .before .before .before .before .before in
     let low = rw (symbol .symbol .given .1) at (symbol .before .before .pre) in
-    left-on _ _ _ (symbol .symbol .given .1) low refl (sym (c .before .contains .ensures) ∙ c .if1 .taken)
+    left-on _ _ _ (symbol .symbol .given .1) (omega (arith, low)) refl (sym (c .before .contains .ensures) ∙ c .if1 .taken)
 
 returns-3 : tie.Need-returns-3
 returns-3 c =
     let symbol = c .before .before .before .before .before in
     let low = rw (symbol .symbol .given .1) at (symbol .before .before .pre) in
-    left-stop _ _ _ (symbol .symbol .given .1) low refl (sym (c .before .contains .ensures) ∙ c .if1 .left)
+    left-stop _ _ _ (symbol .symbol .given .1) (omega (arith, low)) refl (sym (c .before .contains .ensures) ∙ c .if1 .left)
 
 pub symbol-left-spec : {M : Type 1} → statement M
 symbol-left-spec =
@@ -56,10 +59,11 @@ symbol-left-spec =
     enum-told
     returns
     cast-at
+    cast-own
     shl-own
     mul-own
     element-copy-out-own
-    mul-t10
+    mul-t11
     element-copy-out-t9
     contains-requires
     returns-2
