@@ -37,10 +37,10 @@ pub(crate) fn add_nonterminals(sets: &mut [u32; SETS], n: u32, set: Nonterminals
     ensures { λ r. ⌜ Adds (now (sets .entry)) n (set .bits) (now (sets .exit)) r ⌝ }
 {
     let at = n as usize;
-    let old = Nonterminals { bits: sets[at] };
-    let new = old.join(set);
-    sets[at] = new.bits;
-    new.bits != old.bits
+    let before = Nonterminals { bits: sets[at] };
+    let after = before.join(set);
+    sets[at] = after.bits;
+    after.bits != before.bits
 }
 
 // Whether one or the other has grown.
