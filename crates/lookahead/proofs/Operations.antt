@@ -18,7 +18,7 @@ has-empty = elements.has-zero
 pub has-end : (l : ℕ) → has end l ≡ eqb l nothing
 has-end = powers.has-pow nothing
 
-has-pick : (b : Bool) (x l : ℕ) → has (pick b x empty) l ≡ (b && has x l)
+pub has-pick : (b : Bool) (x l : ℕ) → has (pick b x empty) l ≡ (b && has x l)
 has-pick true x l = refl
 has-pick false x l = has-empty l
 

@@ -13,7 +13,7 @@ use Rattle.lookahead.proofs.Elements as elements
 use Rattle.lookahead.proofs.Powers.{has-pow}
 
 -- k weights stay below the next
-total-bound : (k : ℕ) (p : ℕ → Bool) → total k p < 2 ^ k
+pub total-bound : (k : ℕ) (p : ℕ → Bool) → total k p < 2 ^ k
 unfolding total
 total-bound zero p = omega arith
 total-bound (suc k) p = go (p k) (total-bound k p)

@@ -40,7 +40,7 @@ total (suc k) p = one (p k) * weight k + total k p
 
 -- the bits of a set's number
 abbrev pub width : ℕ
-width = 32
+width = 64
 
 -- how many elements a set has
 unfoldable pub size : ℕ → ℕ

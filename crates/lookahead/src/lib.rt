@@ -7,14 +7,14 @@ ghost use Rattle.lookahead.specs.Operations.{isEmpty, Empty, End, Termin
 pub const NOTHING: u32 = 24;
 
 // The weight of nothing.
-const END: u32 = 1 << NOTHING;
+const END: u64 = 1 << NOTHING;
 
 // The bits of a set's number.
-const WIDTH: u32 = 32;
+const WIDTH: u32 = 64;
 
 // A set of elements, terminals and nothing; element l weighs 2^l (document 01: event set).
 pub struct LookaheadSet {
-    pub bits: u32,
+    pub bits: u64,
 }
 
 impl LookaheadSet {
@@ -36,7 +36,7 @@ impl LookaheadSet {
         ensures { λ r. ⌜ Terminal l (r .bits) ⌝ }
     {
         if l < NOTHING {
-            LookaheadSet { bits: 1u32 << l }
+            LookaheadSet { bits: 1u64 << l }
         } else {
             LookaheadSet::empty()
         }
@@ -48,7 +48,7 @@ impl LookaheadSet {
     {
         if terminals < NOTHING {
             LookaheadSet {
-                bits: (1u32 << terminals) - 1 | END,
+                bits: (1u64 << terminals) - 1 | END,
             }
         } else {
             LookaheadSet {
@@ -112,6 +112,6 @@ impl LookaheadSet {
     pub fn size(self) -> u32
         ensures { λ r. ⌜ r ≡ size (self .bits) ⌝ }
     {
-        u32::count_ones(self.bits)
+        u64::count_ones(self.bits)
     }
 }

@@ -9,7 +9,7 @@ use Rattle.semantics.specs.Theorems.{Theorems}
 use Rattle.semantics.proofs.Nullable.{nullable-closed, nullable-least}
 use Rattle.semantics.proofs.LeftRecursion.{leftRecursive-iff, lowestLeftRecursive-some, lowestLeftRecursive-none}
 use Rattle.semantics.proofs.Rank.{rank-falls, rank-below}
-use Rattle.semantics.proofs.Unique.{solution-solves, solution-unique, solution-null}
+use Rattle.semantics.proofs.Unique.{rules-lower, solution-solves, solution-unique, solution-null}
 use Rattle.semantics.proofs.First.{first-closed, first-least, first-lookahead, least-unique}
 use Rattle.semantics.proofs.FirstNullable.{first-none}
 use Rattle.semantics.proofs.Follow.{follow-least, follow-lookahead}
@@ -32,6 +32,7 @@ theorems = record {
   one-solution = λ G scoped free w. record {
     solves = solution-solves G scoped free w;
     only = λ v s. solution-unique G scoped free w v (solution G w) s (solution-solves G scoped free w);
+    lower = rules-lower G scoped free w;
   };
   left-recursion-decided = λ G scoped. record {
     test = leftRecursive-iff G scoped;

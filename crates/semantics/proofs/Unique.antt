@@ -12,6 +12,7 @@ use Rattle.grammar.specs.Syntax.{Body, Rule, Grammar, bodies, NonterminalsBelow
 use Rattle.semantics.specs.Quantifiers.{all}
 use Rattle.semantics.specs.Valuations.{Valuation, contains, derives, byRules, rounds, Solves, pairs, solution}
 use Rattle.semantics.specs.LeftRecursion.{allNullable, nullStep, nullable, LeftIn, here, there, LeftDepends, NoLeftRecursion, level}
+use Rattle.semantics.specs.Theorems.{AgreeBelow}
 use Rattle.semantics.proofs.Booleans.{and-l, and-r, and-make, and-cong}
 use Rattle.semantics.proofs.Quantified.{any-cong, all-cong, all-map, any-map, below-cong, below-elim}
 use Rattle.semantics.proofs.Nullable.{nullable-closed}
@@ -93,21 +94,30 @@ module _ (G : Grammar) (c : WellScoped G) (free : NoLeftRecursion G) (w : List �
   Same n v v′ = (A i j : ℕ) → A < G .nonterminals → i ≤ j → j ≤ length w → level G (j - i) A < n
       → (v A i j ≡ v′ A i j) × (i ≡ j → T (v A i j) → T (nullable G A))
 
+  -- each piece of i .. j that a rule of A asks for is of a lower level
+  pieces : (v v′ : Valuation) (A i j : ℕ) → i ≤ j → AgreeBelow G v v′ A i j
+      → (B k m : ℕ) → B < G .nonterminals → i ≤ k → k ≤ m → m ≤ j → (k ≡ i → m ≡ j → LeftDepends G A B)
+      → (v B k m ≡ v′ B k m) × (k ≡ m → T (v B k m) → T (nullable G B))
+  pieces v v′ A i j ij h B k m b ik km mj left = h B k m b ik km mj (go (decLt (m - k) (j - i)))
+    where
+      go : Dec (m - k < j - i) → level G (m - k) B < level G (j - i) A
+      go (yes d) = level-shorter G c free A B (j - i) (m - k) b d
+      go (no d) =
+          let e : k ≡ i = omega arith in
+          let f : m ≡ j = omega arith in
+          rw (e, f) (level-left G c free A B (j - i) (left e f))
+
+  -- so what the rules say of a span they say by lower levels
+  pub rules-lower : (v v′ : Valuation) (A i j : ℕ) → i ≤ j → AgreeBelow G v v′ A i j → byRules G w v A i j ≡ byRules G w v′ A i j
+  rules-lower v v′ A i j ij h = byRules-same G w v v′ A i j (pieces v v′ A i j ij h) c ij
+
   climb : (n : ℕ) (v v′ : Valuation) → Same n v v′ → Same (suc n) (byRules G w v) (byRules G w v′)
   unfolding Same
   climb n v v′ h A i j a ij jw l =
-      (byRules-same G w v v′ A i j H c ij, λ e t. nullable-closed G c A (byRules-null G w v v′ A i j H c ij e t))
+      (rules-lower v v′ A i j ij lower, λ e t. nullable-closed G c A (byRules-null G w v v′ A i j (pieces v v′ A i j ij lower) c ij e t))
     where
-      H : (B k m : ℕ) → B < G .nonterminals → i ≤ k → k ≤ m → m ≤ j → (k ≡ i → m ≡ j → LeftDepends G A B)
-          → (v B k m ≡ v′ B k m) × (k ≡ m → T (v B k m) → T (nullable G B))
-      H B k m b ik km mj left = h B k m b km (omega arith) (go (decLt (m - k) (j - i)))
-        where
-          go : Dec (m - k < j - i) → level G (m - k) B < n
-          go (yes d) = omega (arith, level-shorter G c free A B (j - i) (m - k) b d)
-          go (no d) =
-              let e : k ≡ i = omega arith in
-              let f : m ≡ j = omega arith in
-              rw (e, f) (omega (arith, level-left G c free A B (j - i) (left e f)))
+      lower : AgreeBelow G v v′ A i j
+      lower B k m b ik km mj s = h B k m b km (omega arith) (omega arith)
 
   -- two solutions are the same below every level
   solutions-agree : (n : ℕ) (v v′ : Valuation) → Solves G w v → Solves G w v′ → Same n v v′

@@ -4,7 +4,7 @@ use mathlib.Core.Bool.{true}
 use mathlib.Core.List.{List, [], _∷_, _++_, map, List·Memᴰ}
 use mathlib.Core.Logic.{_↔_, _⊎_}
 use mathlib.Core.Option.{none, some}
-use Prim.Native.Nat.{ℕ, suc, _*_, _≤_, _<_}
+use Prim.Native.Nat.{ℕ, suc, _-_, _*_, _≤_, _<_}
 use lib.Dec.{T}
 use lib.ListN.{length, getD, getElem?, take}
 use Rattle.word.specs.declared.Symbol.{Symbol}
@@ -12,8 +12,8 @@ use Rattle.word.specs.declared.Symbol.the-variants.{Nonterminal}
 use Rattle.grammar.specs.Syntax.{Body, Rule, Grammar, bodies, NonterminalsBelow, WellScoped, WellFormed}
 use Rattle.semantics.specs.FiniteSets.{numbers}
 use Rattle.semantics.specs.Rounds.{Set, _⊆_}
-use Rattle.semantics.specs.Valuations.{Valuation, contains, Solves, solution}
-use Rattle.semantics.specs.LeftRecursion.{nullStep, nullable, LeftDepends, LeftReaches, NoLeftRecursion, leftRecursive, lowestLeftRecursive, rank}
+use Rattle.semantics.specs.Valuations.{Valuation, contains, byRules, Solves, solution}
+use Rattle.semantics.specs.LeftRecursion.{nullStep, nullable, LeftDepends, LeftReaches, NoLeftRecursion, leftRecursive, lowestLeftRecursive, rank, level}
 use Rattle.semantics.specs.Strings.{span, look, Over, Lookahead}
 use Rattle.semantics.specs.Families.{Family, Least, Short, FirstOf, FirstBody, Strung, Meeting, FirstClosed, FollowClosed, FollowStrung, Claims, Clash}
 use Rattle.semantics.specs.Families.{EveryEnds, OwnTerminals}
@@ -27,10 +27,16 @@ use Rattle.semantics.specs.Memo.{indexOf, Recorded, Fits}
 use Rattle.semantics.specs.MemoDescent.{memoStart}
 use Rattle.semantics.specs.Predictive.{Predictive}
 
--- 1. Without left recursion exactly one valuation solves the grammar on an input
+-- two valuations agree on the spans within i .. j that are of a lower level than A there, and an empty one is derived from nullable nonterminals alone
+abbrev pub AgreeBelow : Grammar → Valuation → Valuation → ℕ → ℕ → ℕ → Type 0
+AgreeBelow G v v′ A i j = (B k m : ℕ) → B < G .nonterminals → i ≤ k → k ≤ m → m ≤ j → level G (m - k) B < level G (j - i) A
+    → (v B k m ≡ v′ B k m) × (k ≡ m → T (v B k m) → T (nullable G B))
+
+-- 1. Without left recursion exactly one valuation solves the grammar on an input; what the rules say of a span they say by lower levels
 pub record OneSolution (G : Grammar) (w : List ℕ) : Type 0 where
   pub solves : Solves G w (solution G w)
   pub only : (v : Valuation) → Solves G w v → (A i j : ℕ) → A < G .nonterminals → i ≤ j → j ≤ length w → v A i j ≡ solution G w A i j
+  pub lower : (v v′ : Valuation) (A i j : ℕ) → i ≤ j → AgreeBelow G v v′ A i j → byRules G w v A i j ≡ byRules G w v′ A i j
 
 -- 2. Left recursion is decided, with the lowest nonterminal that reaches itself; without it the rank falls along left dependence
 pub record LeftRecursionDecided (G : Grammar) : Type 0 where

@@ -1,15 +1,18 @@
--- One pass over the words, from their end, joins into the heads' sets what the rules behind each place give. Assumes nothing.
+-- What the positives of a rule can all begin with, by its words from their end, and the more the larger the family. Assumes nothing.
 use mathlib.Core.Path.{_≡_, refl}
-use mathlib.Core.Bool.{Bool, false}
 use mathlib.Core.List.{List, [], _∷_}
-use Prim.Native.Nat.{ℕ}
-use lib.ListN.{length}
+use Prim.Native.Nat.{ℕ, suc, _+_, _-_, _≤_, _<_}
+use native.Mathlib.Omega.{arith}
+use lib.ListN.{getD, drop}
+use lib.Seq.{drop-cons}
 use Rattle.word.specs.declared.Symbol.{Symbol as GrammarSymbol}
 use Rattle.word.specs.declared.Symbol.the-variants.{Terminal, Nonterminal}
 use Rattle.word.specs.declared.Word.{Word}
 use Rattle.word.specs.declared.Word.the-variants.{Heading, Rule as RuleWord, Positive, Negative, Symbol, End, Invalid}
+use Rattle.word.specs.Words.{decoded}
 use Rattle.grammar.specs.Syntax.{Body, Rule}
 use Rattle.grammar.specs.Encoding.{Parsed, onWord, parse}
+use Rattle.grammar.specs.WellRead.{firstRule}
 use Rattle.lookahead.specs.Elements.{Subset}
 use Rattle.lookahead.specs.Operations.{end, terminal, full, meet}
 use Rattle.lookahead.proofs.Order.{subset-refl, meet-mono}
@@ -17,7 +20,9 @@ use Rattle.lookahead.proofs.Concat.{concat-mono}
 use Rattle.sets.specs.declared.first.Rest.{Rest}
 use Rattle.sets.specs.Least.{SetFamily, Under}
 use Rattle.sets.specs.First.{symbolFirst, bodyFirst, ruleFirst, restOf, noRest, withWord}
-use Rattle.sets.proofs.Walk.{Analysis, Walk, start}
+use Rattle.sets.specs.Rules.{ruleFrom, RuleWords}
+use Rattle.sets.proofs.Visits.{Larger}
+use Rattle.sets.proofs.Words.{parse-before}
 
 -- larger families give larger first sets
 module _ (F G : SetFamily) (u : Under F G) where
@@ -50,17 +55,35 @@ with-word t F Invalid p = refl
 pub record Onto (t : ℕ) (F : SetFamily) (w : Word) (rest r : Rest) : Type 0 where
   pub onto : (p : Parsed) → rest ≡ restOf t F p → r ≡ restOf t F (onWord w p)
 
--- what a rule gives, and the analysis of a pass
+-- what a rule gives, the more the larger the family
 abbrev pub ruleGives : ℕ → SetFamily → Rule → ℕ
 ruleGives t F r = ruleFirst t F (r .positives)
 
-pub firstward : (t : ℕ) → Analysis (restOf t) (ruleGives t) (λ rest. rest .meet .bits)
-unfolding onWord bodyFirst ruleFirst
-firstward t = record { larger = λ F G u r. rule-mono F G u t (r .positives); gives = λ F A p. refl; fresh = λ F G A p. refl }
+pub rule-larger : (t : ℕ) → Larger (ruleGives t)
+rule-larger t F G u r = rule-mono F G u t (r .positives)
 
-abbrev pub FirstWalk : ℕ → List ℕ → List ℕ → List ℕ → Bool → Rest → ℕ → Type 0
-FirstWalk t = Walk (restOf t) (ruleGives t)
+-- the words of a rule, from their end: those from i on have been gone through
+pub record FirstWalk (t : ℕ) (F : SetFamily) (words : List ℕ) (start end : ℕ) (rest : Rest) (i : ℕ) : Type 0 where
+  pub low : start < i
+  pub high : i ≤ end
+  pub is : rest ≡ restOf t F (parse (drop i words))
 
-pub walk-start : (t : ℕ) (words l : List ℕ) {rest : Rest} → rest ≡ noRest t → FirstWalk t words l l false rest (length words)
-unfolding parse bodyFirst ruleFirst
-walk-start t words l e = start (restOf t) (ruleGives t) words l e
+module _ {words : List ℕ} {start end : ℕ} (k : RuleWords words start end) where
+  pub walk-start : (t : ℕ) (F : SetFamily) {rest : Rest} → rest ≡ noRest t → FirstWalk t F words start end rest end
+  unfolding bodyFirst ruleFirst
+  walk-start t F e = record { low = k .some; high = omega arith; is = rw (k .ended .body, k .ended .positives) e }
+
+  pub walk-turn : {t : ℕ} {F : SetFamily} {rest next : Rest} {i : ℕ} {w : Word} → FirstWalk t F words start end rest i → start + 1 < i
+      → w ≡ decoded (getD words (i - 1) 0) → Onto t F w rest next → FirstWalk t F words start end next (i - 1)
+  walk-turn {i = i} v h e o = record {
+    low = omega arith;
+    high = omega (arith, v .high);
+    is = rw (parse-before words i (omega arith) (omega (arith, v .high, k .within)), ← e) (o .onto (parse (drop i words)) (v .is));
+  }
+
+  pub walk-end : {t : ℕ} {F : SetFamily} {rest : Rest} {i : ℕ} → FirstWalk t F words start end rest i → i ≤ start + 1
+      → rest .meet .bits ≡ ruleGives t F (ruleFrom words start)
+  unfolding firstRule
+  walk-end {i = i} v h =
+      let e : i ≡ suc start = omega (arith, v .low) in
+      rw (v .is, e, drop-cons words start 0 (omega (arith, k .some, k .within)))

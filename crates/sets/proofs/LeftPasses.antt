@@ -1,27 +1,35 @@
--- One pass over the words, from their end, joins into each head's set what is at the left of its bodies. Assumes nothing.
+-- What is at the left of a rule's bodies, by its words from their end, and the more the larger the family. Assumes nothing.
 use mathlib.Core.Path.{_≡_, refl, ap, _∙_}
 use mathlib.Core.Bool.{Bool, true, false}
 use mathlib.Core.List.{List, [], _∷_, _++_}
-use Prim.Native.Nat.{ℕ, _*_, _%_, _^_, _<_}
+use Prim.Native.Nat.{ℕ, suc, _+_, _-_, _≤_, _<_}
 use native.Mathlib.Omega.{arith}
-use lib.Bits.{bitOr}
-use lib.ListN.{length}
-use lib.Pow.{shl-exact}
+use lib.ListN.{getD, drop}
+use lib.Seq.{drop-cons}
+use borrow.Author.Tests.{lt-ltb}
 use Rattle.word.specs.declared.Symbol.{Symbol as GrammarSymbol}
 use Rattle.word.specs.declared.Symbol.the-variants.{Terminal, Nonterminal}
 use Rattle.word.specs.declared.Word.{Word}
 use Rattle.word.specs.declared.Word.the-variants.{Heading, Rule as RuleWord, Positive, Negative, Symbol, End, Invalid}
 use Rattle.word.specs.Choice.{choose}
+use Rattle.word.specs.Words.{decoded}
+use Rattle.grammar.specs.Limits.{maxNonterminals}
 use Rattle.grammar.specs.Syntax.{Body, Rule, bodies}
 use Rattle.grammar.specs.Encoding.{onWord, parse}
-use Rattle.lookahead.specs.Elements.{weight, width, Subset}
-use Rattle.lookahead.specs.Operations.{empty, join}
+use Rattle.grammar.specs.WellRead.{firstRule}
+use Rattle.lookahead.specs.Elements.{weight, Subset}
+use Rattle.lookahead.specs.Operations.{empty, join, Empty, Joined}
 use Rattle.lookahead.proofs.Order.{subset-refl, subset-antisym, join-left, join-right, join-least, join-mono}
 use Rattle.semantics.specs.Rounds.{Set}
 use Rattle.sets.specs.declared.left.Left.{Left}
 use Rattle.sets.specs.Least.{SetFamily, Under}
 use Rattle.sets.specs.Left.{symbolLeft, bodyLeft, bodiesLeft, lefts, leftOf, OntoLeft}
-use Rattle.sets.proofs.Walk.{Analysis, Walk, start}
+use Rattle.sets.specs.Naming.{Indexed}
+use Rattle.sets.specs.Nonterminals.{alone, Alone}
+use Rattle.sets.specs.Rules.{ruleFrom, RuleWords}
+use Rattle.sets.proofs.Naming.{before-indexed}
+use Rattle.sets.proofs.Visits.{Larger}
+use Rattle.sets.proofs.Words.{parse-before}
 
 -- larger families have more at the left
 module _ (s : Set) (F G : SetFamily) (u : Under F G) where
@@ -65,44 +73,49 @@ bodies-between s R (p ∷ ps) b ns =
     join-swap (bodyLeft s R b) (bodyLeft s R p) (bodiesLeft s R (ps ++ ns)) ∙ ap (join (bodyLeft s R p)) (bodies-between s R ps b ns)
 
 -- what `symbol_left` returns
-pub shifted : (A : ℕ) → A < width → 1 * 2 ^ A % 2 ^ width ≡ weight A
-shifted A h = shl-exact 1 A width (omega arith) (omega arith) ∙ omega arith
+pub left-alone : {A x : ℕ} → Alone A x → A < maxNonterminals → x ≡ weight A
+unfolding alone
+left-alone {A} a h = a .is ∙ rw (lt-ltb A maxNonterminals h)
 
 module _ (s : Set) (R : SetFamily) {X : GrammarSymbol} (behind : ℕ) where
-  pub left-terminal : {a : ℕ} → X ≡ Terminal a → 0 ≡ symbolLeft s R X behind
+  pub left-terminal : {a x : ℕ} → X ≡ Terminal a → Empty x → x ≡ symbolLeft s R X behind
   unfolding symbolLeft
-  left-terminal e = rw e
+  left-terminal e n = n .is ∙ rw e
 
-  module _ {A x : ℕ} (e : X ≡ Nonterminal A) (i : A < width) (f : x ≡ R A) where
-    pub left-on : s A ≡ true → bitOr (bitOr (1 * 2 ^ A % 2 ^ width) x) behind ≡ symbolLeft s R X behind
-    unfolding symbolLeft join
-    left-on t = rw (e, shifted A i, f, t)
+  module _ {A a x own : ℕ} (e : X ≡ Nonterminal A) (i : A < maxNonterminals) (alone : Alone A a) (f : x ≡ R A) (j : Joined a x own) where
+    is : own ≡ join (weight A) (R A)
+    is = j .is ∙ rw (left-alone alone i, f)
 
-    pub left-stop : s A ≡ false → bitOr (1 * 2 ^ A % 2 ^ width) x ≡ symbolLeft s R X behind
-    unfolding symbolLeft join
-    left-stop t = rw (e, shifted A i, f, t)
+    pub left-on : {r : ℕ} → s A ≡ true → Joined own behind r → r ≡ symbolLeft s R X behind
+    unfolding symbolLeft
+    left-on t k = k .is ∙ rw (e, is, t)
+
+    pub left-stop : s A ≡ false → own ≡ symbolLeft s R X behind
+    unfolding symbolLeft
+    left-stop t = is ∙ rw (e, t)
 
 -- what `onto_left` returns, by the kind of word
 module _ {s : Set} {R : SetFamily} {w : Word} {left : Left} where
-  pub onto-symbol : {X : GrammarSymbol} {x : ℕ} → w ≡ Symbol X → x ≡ symbolLeft s R X (left .body) → OntoLeft s R w left (lefts x (left .rule))
+  pub onto-symbol : {X : GrammarSymbol} {x : ℕ} → w ≡ Symbol X → x ≡ symbolLeft s R X (left .body .bits) → OntoLeft s R w left (lefts x (left .rule .bits))
   unfolding onWord bodyLeft
   onto-symbol e f = record { onto = λ p h. rw (e, f, h) }
 
-  pub onto-positive : w ≡ Positive → OntoLeft s R w left (lefts 0 (bitOr (left .body) (left .rule)))
-  unfolding onWord bodyLeft bodiesLeft join
-  onto-positive e = record { onto = λ p h. rw (e, h) }
-
-  pub onto-negative : w ≡ Negative → OntoLeft s R w left (lefts 0 (bitOr (left .body) (left .rule)))
-  unfolding onWord bodyLeft join
-  onto-negative e = record { onto = λ p h. rw (e, h) (ap (lefts 0) (bodies-between s R (p .positives) (p .body) (p .negatives))) }
-
-  pub onto-rule : {A : ℕ} → w ≡ RuleWord A → OntoLeft s R w left (lefts 0 0)
+  pub onto-positive : {x y : ℕ} → w ≡ Positive → Empty x → Joined (left .body .bits) (left .rule .bits) y → OntoLeft s R w left (lefts x y)
   unfolding onWord bodyLeft bodiesLeft
-  onto-rule e = record { onto = λ p h. rw e }
+  onto-positive e n j = record { onto = λ p h. rw (e, n .is, j .is, h) }
 
-  pub onto-end : w ≡ End → OntoLeft s R w left (lefts 0 0)
+  pub onto-negative : {x y : ℕ} → w ≡ Negative → Empty x → Joined (left .body .bits) (left .rule .bits) y → OntoLeft s R w left (lefts x y)
+  unfolding onWord bodyLeft
+  onto-negative e n j =
+      record { onto = λ p h. rw (e, n .is, j .is, h) (ap (lefts 0) (bodies-between s R (p .positives) (p .body) (p .negatives))) }
+
+  pub onto-rule : {A : ℕ} {r : Left} → w ≡ RuleWord A → r ≡ lefts 0 0 → OntoLeft s R w left r
   unfolding onWord bodyLeft bodiesLeft
-  onto-end e = record { onto = λ p h. rw e }
+  onto-rule e f = record { onto = λ p h. f ∙ rw e }
+
+  pub onto-end : {r : Left} → w ≡ End → r ≡ lefts 0 0 → OntoLeft s R w left r
+  unfolding onWord bodyLeft bodiesLeft
+  onto-end e f = record { onto = λ p h. f ∙ rw e }
 
   pub onto-heading : {m n : ℕ} → w ≡ Heading m n → OntoLeft s R w left left
   unfolding onWord
@@ -112,17 +125,38 @@ module _ {s : Set} {R : SetFamily} {w : Word} {left : Left} where
   unfolding onWord
   onto-invalid e = record { onto = λ p h. rw e h }
 
--- what a rule gives, and the analysis of a pass
+-- what a rule gives, the more the larger the family
 abbrev pub ruleLeft : Set → SetFamily → Rule → ℕ
 ruleLeft s R r = bodiesLeft s R (bodies r)
 
-pub leftward : (s : Set) → Analysis (leftOf s) (ruleLeft s) (λ l. l .rule)
-unfolding onWord bodyLeft bodiesLeft
-leftward s = record { larger = λ F G u r. bodies-mono s F G u (bodies r); gives = λ F A p. refl; fresh = λ F G A p. refl }
+pub rule-larger : (s : Set) → Larger (ruleLeft s)
+rule-larger s F G u r = bodies-mono s F G u (bodies r)
 
-abbrev pub LeftWalk : Set → List ℕ → List ℕ → List ℕ → Bool → Left → ℕ → Type 0
-LeftWalk s = Walk (leftOf s) (ruleLeft s)
+-- the words of a rule, from their end: those from i on have been gone through
+pub record LeftWalk (s : Set) (R : SetFamily) (words : List ℕ) (start end : ℕ) (left : Left) (i : ℕ) : Type 0 where
+  pub low : start < i
+  pub high : i ≤ end
+  pub is : left ≡ leftOf s R (parse (drop i words))
 
-pub walk-start : (s : Set) (words l : List ℕ) → LeftWalk s words l l false (lefts 0 0) (length words)
-unfolding parse bodyLeft bodiesLeft
-walk-start s words l = start (leftOf s) (ruleLeft s) words l refl
+module _ {words : List ℕ} {start end : ℕ} (k : RuleWords words start end) where
+  pub walk-start : (s : Set) (R : SetFamily) {left : Left} → left ≡ lefts 0 0 → LeftWalk s R words start end left end
+  unfolding bodyLeft bodiesLeft
+  walk-start s R e = record { low = k .some; high = omega arith; is = rw (k .ended .body, k .ended .positives, k .ended .negatives) e }
+
+  module _ {s : Set} {R : SetFamily} {left : Left} {i : ℕ} (v : LeftWalk s R words start end left i) where
+    pub walk-indexed : {w : Word} → start + 1 < i → w ≡ decoded (getD words (i - 1) 0) → Indexed w
+    walk-indexed h e = before-indexed words (k .read) (omega arith) (omega (arith, v .high, k .within)) e
+
+    pub walk-turn : {next : Left} {w : Word} → start + 1 < i → w ≡ decoded (getD words (i - 1) 0) → OntoLeft s R w left next
+        → LeftWalk s R words start end next (i - 1)
+    walk-turn h e o = record {
+      low = omega arith;
+      high = omega (arith, v .high);
+      is = rw (parse-before words i (omega arith) (omega (arith, v .high, k .within)), ← e) (o .onto (parse (drop i words)) (v .is));
+    }
+
+    pub walk-end : i ≤ start + 1 → left .rule .bits ≡ ruleLeft s R (ruleFrom words start)
+    unfolding firstRule
+    walk-end h =
+        let e : i ≡ suc start = omega (arith, v .low) in
+        rw (v .is, e, drop-cons words start 0 (omega (arith, k .some, k .within)))

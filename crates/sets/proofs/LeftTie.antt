@@ -10,12 +10,14 @@ use lib.ListN.{length}
 use Rattle.word.specs.declared.Symbol.the-variants.{Terminal, Nonterminal}
 use Rattle.word.specs.Choice.{choose}
 use Rattle.grammar.specs.declared.reading.Sizes.{Sizes}
+use Rattle.grammar.specs.declared.reading.Outcome.the-variants.{Read}
 use Rattle.grammar.specs.Limits.{maxNonterminals}
+use Rattle.grammar.specs.Reading.{reading}
 use Rattle.grammar.specs.Syntax.{Body, Grammar, WellScoped, bodies}
 use Rattle.grammar.specs.Encoding.{parse, grammarOf}
 use Rattle.grammar.proofs.WellRead.{well-read}
 use Rattle.grammar.proofs.Places.{read-whole}
-use Rattle.lookahead.specs.Elements.{nothing, weight, has, width}
+use Rattle.lookahead.specs.Elements.{nothing, weight, has}
 use Rattle.lookahead.specs.Operations.{join}
 use Rattle.lookahead.proofs.Elements.{bound}
 use Rattle.lookahead.proofs.Operations.{has-empty, has-join}
@@ -34,7 +36,7 @@ use Rattle.sets.specs.declared.left.Lowest.{Lowest}
 use Rattle.sets.specs.Lists.{listed}
 use Rattle.sets.specs.Sets.{firstNumber, reachNumber}
 use Rattle.sets.specs.Least.{SetFamily, at, Least}
-use Rattle.sets.specs.Left.{emptyIn, symbolLeft, bodyLeft, bodiesLeft, ReachClosed, GivenFirsts, ownIn, lowestOf}
+use Rattle.sets.specs.Left.{emptyIn, symbolLeft, bodyLeft, bodiesLeft, ReachClosed, ownIn, lowestOf}
 use Rattle.sets.proofs.Lists.{listed-is, listed-at}
 use Rattle.sets.proofs.Strings.{string-nothing}
 use Rattle.sets.proofs.Numbers.{number-string, string-number, array-at}
@@ -155,25 +157,22 @@ module _ (G : Grammar) (scoped : WellScoped G) (s : Set) (is : (A : ℕ) → T (
       (λ B t. reaches-in (at l) (least .closed) A B (number-reaches A B t) B (inl refl))
 
 -- a number of what is left-reached has no more digits than there are nonterminals
-pub reach-bound : (G : Grammar) → G .nonterminals ≤ maxNonterminals → (A : ℕ) → reachNumber G A < 2 ^ width
+pub reach-bound : (G : Grammar) → G .nonterminals ≤ maxNonterminals → (A : ℕ) → reachNumber G A < 2 ^ maxNonterminals
 unfolding reachNumber
-reach-bound G few A = bound width (reachNumber G A) (λ B t.
+reach-bound G few A = bound maxNonterminals (reachNumber G A) (λ B t.
     let l = ltb→lt B (G .nonterminals) (and-l (ltb B (G .nonterminals)) (leftReaches G A B) (rw (has-total (G .nonterminals) (leftReaches G A) B) at t)) in
     omega arith)
 
 -- the words of a grammar that has been read, with its first sets
-module _ {words firsts : List ℕ} (g : GivenFirsts words firsts) where
-  abbrev z : Sizes
-  z = g .sizes
-
+module _ (words : List ℕ) {firsts : List ℕ} {z : Sizes} (read : reading words ≡ Read z) (found : firsts ≡ listed maxNonterminals (firstNumber (grammarOf words))) where
   scoped : WellScoped (grammarOf words)
-  scoped = well-read words z (g .read) .formed .scoped
+  scoped = well-read words z read .formed .scoped
 
   many : grammarOf words .nonterminals ≤ maxNonterminals
-  many = let k = well-read words z (g .read) in omega (arith, k .fewNonterminals, k .nonterminals)
+  many = let k = well-read words z read in omega (arith, k .fewNonterminals, k .nonterminals)
 
   few : grammarOf words .terminals ≤ nothing
-  few = let k = well-read words z (g .read) in omega (arith, k .fewTerminals, k .terminals)
+  few = let k = well-read words z read in omega (arith, k .fewTerminals, k .terminals)
 
   -- nothing is in the first sets of the nullable nonterminals
   nullable-in : (A : ℕ) → T (emptyIn (at firsts) A) ↔ T (nullable (grammarOf words) A)
@@ -181,24 +180,24 @@ module _ {words firsts : List ℕ} (g : GivenFirsts words firsts) where
   nullable-in A =
       let G = grammarOf words in
       let n = first-none G 1 scoped (omega arith) A in
-      rw (g .first, array-at G few (first G 1) (first-lookahead G 1) many A) (
+      rw (found, array-at G few (first G 1) (first-lookahead G 1) many A) (
         λ t. n .0 (number-string G few (first G 1) (first-lookahead G 1) A [] (nothing, t, sym string-nothing)),
         λ t. string-number G few (first G 1) (first-lookahead G 1) A nothing (rw string-nothing (n .1 t)),
       )
 
   pub reach-closed : ReachClosed (emptyIn (at firsts)) (parse words .rules) (reachNumber (grammarOf words))
   reach-closed =
-      subst (λ rs. ReachClosed (emptyIn (at firsts)) rs (reachNumber (grammarOf words))) (read-whole words z (g .read) .rules)
+      subst (λ rs. ReachClosed (emptyIn (at firsts)) rs (reachNumber (grammarOf words))) (read-whole words z read .rules)
       (numbers-closed (grammarOf words) scoped (emptyIn (at firsts)) nullable-in)
 
-  pub reach-small : (A : ℕ) → reachNumber (grammarOf words) A ≤ 2 ^ width
+  pub reach-small : (A : ℕ) → reachNumber (grammarOf words) A ≤ 2 ^ maxNonterminals
   reach-small A = omega (arith, reach-bound (grammarOf words) many A)
 
   pub reach-listed : (l : List ℕ) → length l ≡ maxNonterminals → Least (ReachClosed (emptyIn (at firsts)) (parse words .rules)) l
       → l ≡ listed maxNonterminals (reachNumber (grammarOf words))
   reach-listed l n least =
       listed-is maxNonterminals (reachNumber (grammarOf words)) l n
-      (reach-numbers (grammarOf words) scoped (emptyIn (at firsts)) nullable-in l (rw (← read-whole words z (g .read) .rules) at least))
+      (reach-numbers (grammarOf words) scoped (emptyIn (at firsts)) nullable-in l (rw (← read-whole words z read .rules) at least))
 
   -- the lowest that is in its own set is the lowest that left-reaches itself
   pub lowest-reached : {l : List ℕ} {r : Lowest} → l ≡ listed maxNonterminals (reachNumber (grammarOf words))
@@ -207,7 +206,7 @@ module _ {words firsts : List ℕ} (g : GivenFirsts words firsts) where
   unfolding lowestLeftRecursive leftRecursive reachNumber
   lowest-reached {l} e f =
       let G = grammarOf words in
-      let k = well-read words z (g .read) in
+      let k = well-read words z read in
       let same : lowest (G .nonterminals) (ownIn l) ≡ lowest (G .nonterminals) (leftRecursive G) =
       lowest-cong (G .nonterminals) (ownIn l) (leftRecursive G) (λ A h.
       rw (e, listed-at maxNonterminals (reachNumber G) A (omega (arith, many))) (own-reached A h)) in

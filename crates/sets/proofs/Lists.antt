@@ -24,3 +24,10 @@ unfolding listed
 listed-at zero f i h = absurd (omega arith)
 listed-at (suc n) f zero h = refl
 listed-at (suc n) f (suc i) h = listed-at n (λ k. f (suc k)) i (omega arith)
+
+-- so it stays below what the values and zero stay below
+pub listed-below : (n : ℕ) (f : ℕ → ℕ) (m : ℕ) → 0 < m → ((i : ℕ) → f i < m) → (i : ℕ) → getD (listed n f) i 0 < m
+unfolding listed
+listed-below zero f m h b i = h
+listed-below (suc n) f m h b zero = b 0
+listed-below (suc n) f m h b (suc i) = listed-below n (λ k. f (suc k)) m h (λ k. b (suc k)) i

@@ -18,9 +18,10 @@ use Rattle.grammar.specs.declared.reading.Sizes.{Sizes}
 use Rattle.grammar.specs.declared.reading.Outcome.the-variants.{Read}
 use Rattle.grammar.specs.Limits.{maxNonterminals}
 use Rattle.grammar.specs.Reading.{inRange, reading}
+use Rattle.grammar.specs.WellRead.{headOf}
 use Rattle.grammar.proofs.Places.{read-place}
 use Rattle.grammar.proofs.WellRead.{well-read}
-use Rattle.sets.specs.Naming.{ruleHead, headAfter, nonterminalOf, Indexed}
+use Rattle.sets.specs.Naming.{ruleHead, nonterminalOf, Indexed}
 
 -- every kind of word but a rule's begin has no head
 pub no-head : (w : Word) → OneOf (0 ∷ 2 ∷ 3 ∷ 4 ∷ 5 ∷ 6 ∷ []) (tagOf the-type w) → ruleHead w ≡ none
@@ -31,6 +32,15 @@ no-head Negative h = refl
 no-head (Symbol X) h = refl
 no-head End h = refl
 no-head Invalid h = refl
+
+pub no-head-of : (w : Word) → OneOf (0 ∷ 2 ∷ 3 ∷ 4 ∷ 5 ∷ 6 ∷ []) (tagOf the-type w) → headOf w ≡ 0
+no-head-of (Rule A) h = absurd (miss (0 ∷ 2 ∷ 3 ∷ 4 ∷ 5 ∷ 6 ∷ []) 1 tt h)
+no-head-of (Heading n t) h = refl
+no-head-of Positive h = refl
+no-head-of Negative h = refl
+no-head-of (Symbol X) h = refl
+no-head-of End h = refl
+no-head-of Invalid h = refl
 
 -- every kind of word but a symbol names no nonterminal of a body
 pub no-name : (w : Word) → OneOf (0 ∷ 1 ∷ 2 ∷ 3 ∷ 5 ∷ 6 ∷ []) (tagOf the-type w) → nonterminalOf w ≡ none
@@ -56,15 +66,6 @@ name-indexed Positive h = tt
 name-indexed Negative h = tt
 name-indexed End h = tt
 name-indexed Invalid h = tt
-
-pub head-indexed : (w : Word) (B : ℕ) → Indexed w → B < maxNonterminals → headAfter w B < maxNonterminals
-head-indexed (Rule A) B h b = h
-head-indexed (Symbol X) B h b = b
-head-indexed (Heading n t) B h b = b
-head-indexed Positive B h b = b
-head-indexed Negative B h b = b
-head-indexed End B h b = b
-head-indexed Invalid B h b = b
 
 in-range-indexed : (w : Word) (z : Sizes) → z .nonterminals ≤ maxNonterminals → inRange w z ≡ true → Indexed w
 in-range-indexed (Rule A) z h e = omega (arith, ltb-true A (z .nonterminals) e)

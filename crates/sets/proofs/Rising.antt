@@ -1,6 +1,6 @@
 -- Passes that join sets into an array until one adds nothing: the array is then the least closed family, whatever "closed" means. Assumes nothing.
 use mathlib.Core.Path.{_≡_, refl, sym, ap, _∙_}
-use mathlib.Core.Bool.{Bool, true, false, true≢false, or-true, or-false}
+use mathlib.Core.Bool.{Bool, true, false, true≢false, _||_}
 use mathlib.Core.List.{List, [], _∷_}
 use Prim.Native.Nat.{ℕ, zero, suc, _+_, _*_, _-_, _≤_, _<_}
 use native.Mathlib.Nat.{suc-mul}
@@ -34,50 +34,53 @@ under-join l n v G h u s m = go (ℕ-discrete m n)
     go (yes e) = rw (e, getD-set-same l n (join (at l n) v) 0 h) (join-least (at l n) v (G n) (u n) s)
     go (no ne) = rw (getD-set-other l n m (join (at l n) v) 0 ne) (u m)
 
-one-le : (b : Bool) → one b ≤ 1
-one-le true = omega arith
-one-le false = omega arith
-
--- before the first rule
+-- where nothing is asked
 pub passing-none : {W C : SetFamily → Type 0} (l : List ℕ) → C (at l) → Passing W C l l false
-passing-none l c = record { long = refl; grows = omega arith; still = λ e. c; below = λ G g u. u }
+passing-none l c = record { long = refl; same = λ e. refl; grows = omega arith; still = λ e. c; below = λ G g u. u }
 
-module _ {W C : SetFamily → Type 0} {l₀ l : List ℕ} {grown : Bool} (p : Passing W C l₀ l grown) where
-  -- nothing is added
-  pub passing-on : {C′ : SetFamily → Type 0} → (C (at l) → C′ (at l)) → Passing W C′ l₀ l grown
-  passing-on new = record { long = p .long; grows = p .grows; still = λ f. new (p .still f); below = p .below }
+-- for fewer families, and for what follows from what is asked
+pub passing-on : {W W′ C C′ : SetFamily → Type 0} {l₀ l : List ℕ} {grown : Bool} → ((G : SetFamily) → W′ G → W G) → ((G : SetFamily) → C G → C′ G)
+    → Passing W C l₀ l grown → Passing W′ C′ l₀ l grown
+passing-on {l = l} fewer more p =
+    record { long = p .long; same = p .same; grows = p .grows; still = λ f. more (at l) (p .still f); below = λ G c. p .below G (fewer G c) }
 
-  -- one more rule, which adds v to the set of n: every family of W′ has v there, and a family that has it goes on to C′
-  pub passing-add : {W′ C′ : SetFamily → Type 0} {n v : ℕ} {l′ : List ℕ} {r : Bool} → n < length l
-      → ((G : SetFamily) → W′ G → W G) → ((G : SetFamily) → W′ G → Under (at l) G → Subset v (G n))
-      → (C (at l) → Subset v (at l n) → C′ (at l)) → Adds l n v grown l′ r → Passing W′ C′ l₀ l′ r
-  passing-add {W′} {C′} {n} {v} {l′} {r} h back value new a = go (ℕ-discrete (join (at l n) v) (at l n))
-    where
-      go : Dec (join (at l n) v ≡ at l n) → Passing W′ C′ l₀ l′ r
-      go (yes e) =
-          let list : l′ ≡ l = a .list ∙ ap (λ (x : ℕ). set l n x) e ∙ set-getD l n 0 in
-          let told : r ≡ grown = a .told ∙ rw (eq-eqb (join (at l n) v) (at l n) e) (or-false grown) in
-          rw (list, told) (record {
-            long = p .long;
-            grows = p .grows;
-            still = λ f. new (p .still f) (same-join (at l n) v e);
-            below = λ G c u. p .below G (back G c) u;
-          })
-      go (no ne) =
-          let told : r ≡ true = a .told ∙ rw (ne-eqb (join (at l n) v) (at l n) ne) (or-true grown) in
-          rw (a .list, told) (record {
-            long = length-set l n (join (at l n) v) ∙ p .long;
-            grows = omega (arith, p .grows, one-le grown, sum-set l n (join (at l n) v) h, join-grows (at l n) v ne);
-            still = λ f. absurd (true≢false f);
-            below = λ G c u. under-join l n v G h (p .below G (back G c) u) (value G c (p .below G (back G c) u));
-          })
+-- one part behind another
+pub passing-then : {W C C′ : SetFamily → Type 0} {l₀ l l′ : List ℕ} (g g′ : Bool) → Passing W C l₀ l g → Passing W C′ l l′ g′
+    → Passing W (λ L. C L × C′ L) l₀ l′ (g || g′)
+passing-then true g′ p q = record {
+  long = q .long ∙ p .long;
+  same = λ f. absurd (true≢false f);
+  grows = omega (arith, p .grows, q .grows);
+  still = λ f. absurd (true≢false f);
+  below = λ G c u. q .below G c (p .below G c u);
+}
+passing-then false g′ p q = record {
+  long = q .long ∙ p .long;
+  same = λ f. q .same f ∙ p .same refl;
+  grows = omega (arith, p .grows, q .grows);
+  still = λ f. (rw (q .same f) (p .still refl), q .still f);
+  below = λ G c u. q .below G c (p .below G c u);
+}
 
--- what `add` returns
-pub adds-same : {l : List ℕ} {n v : ℕ} (grown : Bool) → join (at l n) v ≡ at l n → Adds l n v grown (set l n (join (at l n) v)) grown
-adds-same {l} {n} {v} grown e = record { list = refl; told = sym (rw (eq-eqb (join (at l n) v) (at l n) e) (or-false grown)) }
-
-pub adds-more : {l : List ℕ} {n v : ℕ} (grown : Bool) → (join (at l n) v ≡ at l n → ⊥) → Adds l n v grown (set l n (join (at l n) v)) true
-adds-more {l} {n} {v} grown ne = record { list = refl; told = sym (rw (ne-eqb (join (at l n) v) (at l n) ne) (or-true grown)) }
+-- a store of v into the set of n: every family of W has v there, and a family that has it is closed
+pub passing-add : {W C : SetFamily → Type 0} {l l′ : List ℕ} {n v : ℕ} {r : Bool} → n < length l
+    → ((G : SetFamily) → W G → Under (at l) G → Subset v (G n)) → (Subset v (at l n) → C (at l)) → Adds l n v l′ r → Passing W C l l′ r
+passing-add {W} {C} {l} {l′} {n} {v} {r} h value new a = go (ℕ-discrete (join (at l n) v) (at l n))
+  where
+    go : Dec (join (at l n) v ≡ at l n) → Passing W C l l′ r
+    go (yes e) =
+        let list : l′ ≡ l = a .list ∙ ap (λ (x : ℕ). set l n x) e ∙ set-getD l n 0 in
+        let told : r ≡ false = a .told ∙ rw (eq-eqb (join (at l n) v) (at l n) e) in
+        rw (list, told) (passing-none l (new (same-join (at l n) v e)))
+    go (no ne) =
+        let told : r ≡ true = a .told ∙ rw (ne-eqb (join (at l n) v) (at l n) ne) in
+        rw (a .list, told) (record {
+          long = length-set l n (join (at l n) v);
+          same = λ f. absurd (true≢false f);
+          grows = omega (arith, sum-set l n (join (at l n) v) h, join-grows (at l n) v ne);
+          still = λ f. absurd (true≢false f);
+          below = λ G c u. under-join l n v G h u (value G c u);
+        })
 
 -- under every closed family: what holds from pass to pass
 abbrev pub Below : (SetFamily → Type 0) → List ℕ → Type 0

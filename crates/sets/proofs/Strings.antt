@@ -17,13 +17,13 @@ use Rattle.grammar.specs.Syntax.{Body, TerminalsBelow}
 use Rattle.semantics.specs.Quantifiers.{all}
 use Rattle.semantics.specs.Strings.{Lookahead}
 use Rattle.semantics.specs.Families.{Family, FirstOf, FirstBody}
-use Rattle.lookahead.specs.Elements.{nothing, has, Over}
+use Rattle.lookahead.specs.Elements.{nothing, weight, has, Over}
 use Rattle.lookahead.specs.Operations.{pick, full}
 use Rattle.lookahead.proofs.Operations.{has-end, has-terminal, has-full}
 use Rattle.lookahead.proofs.Over.{over-full}
 use Rattle.lookahead.proofs.Pairs.{first, concat-pair}
 use Rattle.lookahead.proofs.Concat.{paired}
-use Rattle.lookahead.proofs.Weights.{has-total}
+use Rattle.lookahead.proofs.Weights.{total-bound, has-total}
 use Rattle.sets.specs.Least.{SetFamily}
 use Rattle.sets.specs.Sets.{stringOf, numberOf}
 use Rattle.sets.specs.First.{symbolFirst, bodyFirst}
@@ -115,6 +115,11 @@ pub has-number : (p : List ℕ → Bool) (l : ℕ) → l ≤ nothing → T (p (s
 unfolding numberOf
 has-number p l h t =
     rw (has-total (suc nothing) (λ l. p (stringOf l)) l) (yes-and (ltb l (suc nothing)) (p (stringOf l)) (lt→ltb l (suc nothing) (omega arith)) t)
+
+-- it has no digits above that of nothing
+pub number-below : (p : List ℕ → Bool) → numberOf p < weight (suc nothing)
+unfolding numberOf
+number-below p = total-bound (suc nothing) (λ l. p (stringOf l))
 
 -- and no others
 pub number-over : (p : List ℕ → Bool) → Over nothing (numberOf p)

@@ -19,7 +19,7 @@ use Rattle.sets.specs.declared.left.Lowest.{Lowest}
 use Rattle.sets.specs.declared.left.Lowest.the-variants as lowest
 use Rattle.sets.specs.Lists.{listed}
 use Rattle.sets.specs.Left.{lowestOf}
-use Rattle.sets.specs.Sets.{firstNumber, followNumber}
+use Rattle.sets.specs.Sets.{firstNumber, followNumber, reachNumber}
 use Rattle.sets.specs.Families.{setsFault, findingOf, setsIf, families, refusedBy, familiesOf}
 
 pub families-faulty : (words : List ℕ) {e : Error} {o : Outcome} → o ≡ reading words → o ≡ Faulty e → refusedBy e ≡ familiesOf words
@@ -40,10 +40,11 @@ module _ (words : List ℕ) {z : Sizes} {l : Lowest} (read : reading words ≡ R
   unfolding familiesOf setsFault
   families-left a = rw (read, lowest-some (lowestLeftRecursive (grammarOf words)) e a)
 
-  pub families-found : {firsts follows : List ℕ} → l ≡ lowest.Absent → firsts ≡ listed maxNonterminals (firstNumber (grammarOf words))
-      → follows ≡ listed maxNonterminals (followNumber (grammarOf words)) → families (Passed z) firsts follows ≡ familiesOf words
+  pub families-found : {firsts follows reaches : List ℕ} → l ≡ lowest.Absent → firsts ≡ listed maxNonterminals (firstNumber (grammarOf words))
+      → follows ≡ listed maxNonterminals (followNumber (grammarOf words)) → reaches ≡ listed maxNonterminals (reachNumber (grammarOf words))
+      → families (Passed z) firsts follows reaches ≡ familiesOf words
   unfolding familiesOf setsFault
-  families-found a f g = rw (read, lowest-none (lowestLeftRecursive (grammarOf words)) e a, f, g)
+  families-found a f g h = rw (read, lowest-none (lowestLeftRecursive (grammarOf words)) e a, f, g, h)
 
 -- where sets are found there is no fault, and the sets are those of the grammar
 pub record FoundFamilies (words : List ℕ) (z : Sizes) (firsts follows : List ℕ) : Type 0 where

@@ -16,7 +16,7 @@ use Rattle.sets.specs.declared.Finding.{Finding}
 use Rattle.sets.specs.declared.Finding.the-variants.{Passed, Refused}
 use Rattle.sets.specs.declared.Families.{Families}
 use Rattle.sets.specs.Lists.{listed}
-use Rattle.sets.specs.Sets.{firstNumber, followNumber}
+use Rattle.sets.specs.Sets.{firstNumber, followNumber, reachNumber}
 
 -- 3 to 7
 abbrev pub readingFault : Outcome → Option Error
@@ -44,14 +44,15 @@ abbrev pub setsIf : Option Error → List ℕ → List ℕ
 setsIf none l = l
 setsIf (some e) l = replicate maxNonterminals 0
 
-abbrev pub families : Finding → List ℕ → List ℕ → Families
-families f firsts follows = record { finding = f; firsts = firsts; follows = follows }
+abbrev pub families : Finding → List ℕ → List ℕ → List ℕ → Families
+families f firsts follows reaches = record { finding = f; firsts = firsts; follows = follows; reaches = reaches }
 
 abbrev pub refusedBy : Error → Families
-refusedBy e = families (Refused e) (replicate maxNonterminals 0) (replicate maxNonterminals 0)
+refusedBy e = families (Refused e) (replicate maxNonterminals 0) (replicate maxNonterminals 0) (replicate maxNonterminals 0)
 
 unfoldable pub familiesOf : List ℕ → Families
 familiesOf words =
     families (findingOf (setsFault words) (reading words))
     (setsIf (setsFault words) (listed maxNonterminals (firstNumber (grammarOf words))))
     (setsIf (setsFault words) (listed maxNonterminals (followNumber (grammarOf words))))
+    (setsIf (setsFault words) (listed maxNonterminals (reachNumber (grammarOf words))))

@@ -1,16 +1,13 @@
 -- Families of sets, a set for each nonterminal, and the least family that a condition closes; what "closed" means is a parameter.
 use mathlib.Core.Path.{_≡_}
-use mathlib.Core.Bool.{Bool, false, not, _||_}
+use mathlib.Core.Bool.{Bool, false, not}
 use mathlib.Core.List.{List, [], _∷_}
 use mathlib.Core.Option.{Option, none, some}
 use Prim.Native.Nat.{ℕ, _+_, _≤_}
 use lib.Dec.{eqb, ltb}
 use lib.ListN.{length, getD, set}
 use Rattle.word.specs.Choice.{choose}
-use Rattle.grammar.specs.declared.reading.Sizes.{Sizes}
-use Rattle.grammar.specs.declared.reading.Outcome.the-variants.{Read}
 use Rattle.grammar.specs.Limits.{maxNonterminals}
-use Rattle.grammar.specs.Reading.{reading}
 use Rattle.lookahead.specs.Elements.{Subset, one}
 use Rattle.lookahead.specs.Operations.{join}
 
@@ -35,34 +32,29 @@ pub record Least (Closed : SetFamily → Type 0) (l : List ℕ) : Type 0 where
   pub closed : Closed (at l)
   pub least : (G : SetFamily) → Closed G → Under (at l) G
 
--- v is joined into the set of n, and it is told whether a set has grown so far
-pub record Adds (l : List ℕ) (n v : ℕ) (grown : Bool) (l′ : List ℕ) (r : Bool) : Type 0 where
+-- v is joined into the set of n, and it is told whether the set has grown
+pub record Adds (l : List ℕ) (n v : ℕ) (l′ : List ℕ) (grown : Bool) : Type 0 where
   pub list : l′ ≡ set l n (join (at l n) v)
-  pub told : r ≡ (grown || not (eqb (join (at l n) v) (at l n)))
+  pub told : grown ≡ not (eqb (join (at l n) v) (at l n))
 
 -- the same where there is such an n; else nothing changes
-abbrev pub AddsTo : Option ℕ → List ℕ → ℕ → Bool → List ℕ → Bool → Type 0
-AddsTo none l v grown l′ r = (l′ ≡ l) × (r ≡ grown)
-AddsTo (some n) l v grown l′ r = Adds l n v grown l′ r
+abbrev pub AddsTo : Option ℕ → List ℕ → ℕ → List ℕ → Bool → Type 0
+AddsTo none l v l′ grown = (l′ ≡ l) × (grown ≡ false)
+AddsTo (some n) l v l′ grown = Adds l n v l′ grown
 
 -- the numbers of an array together: what rises where a set grows
 unfoldable pub sum : List ℕ → ℕ
 sum [] = 0
 sum (s ∷ l) = s + sum l
 
--- a pass that has gone through the rules of Closed, from l₀ to l: what it has added, each family of Whole has
+-- what a pass, or a part of one, does to an array: from l₀ to l, for what Closed asks of a family; what it adds, each family of Whole has
 pub record Passing (Whole Closed : SetFamily → Type 0) (l₀ l : List ℕ) (grown : Bool) : Type 0 where
   pub long : length l ≡ length l₀
+  pub same : grown ≡ false → l ≡ l₀
   pub grows : sum l₀ + one grown ≤ sum l
   pub still : grown ≡ false → Closed (at l)
   pub below : (G : SetFamily) → Whole G → Under (at l₀) G → Under (at l) G
 
--- a pass through all the rules
+-- for all that is asked
 abbrev pub Passes : (SetFamily → Type 0) → List ℕ → List ℕ → Bool → Type 0
 Passes Closed l₀ l grown = Passing Closed Closed l₀ l grown
-
--- what a pass over the words of a grammar that has been read needs
-pub record PassGiven (words sets : List ℕ) : Type 0 where
-  pub sizes : Sizes
-  pub read : reading words ≡ Read sizes
-  pub long : length sets ≡ maxNonterminals

@@ -8,12 +8,8 @@ use Rattle.word.specs.declared.Symbol.{Symbol}
 use Rattle.word.specs.declared.Symbol.the-variants.{Terminal, Nonterminal}
 use Rattle.word.specs.declared.Word.{Word}
 use Rattle.word.specs.Choice.{choose}
-use Rattle.grammar.specs.declared.reading.Sizes.{Sizes}
-use Rattle.grammar.specs.declared.reading.Outcome.the-variants.{Read}
 use Rattle.grammar.specs.Syntax.{Body, Rule, bodies}
-use Rattle.grammar.specs.Encoding.{Parsed, onWord, grammarOf}
-use Rattle.grammar.specs.Limits.{maxNonterminals}
-use Rattle.grammar.specs.Reading.{reading}
+use Rattle.grammar.specs.Encoding.{Parsed, onWord}
 use Rattle.lookahead.specs.Elements.{nothing, weight, has, Subset}
 use Rattle.lookahead.specs.Operations.{empty, join}
 use Rattle.semantics.specs.Rounds.{Set}
@@ -21,8 +17,6 @@ use Rattle.sets.specs.declared.left.Left.{Left}
 use Rattle.sets.specs.declared.left.Lowest.{Lowest}
 use Rattle.sets.specs.declared.left.Lowest.the-variants.{Absent, At}
 use Rattle.sets.specs.Least.{SetFamily}
-use Rattle.sets.specs.Lists.{listed}
-use Rattle.sets.specs.Sets.{firstNumber}
 
 -- the nonterminals whose first sets have nothing: those that are nullable
 abbrev pub emptyIn : SetFamily → Set
@@ -46,7 +40,7 @@ abbrev pub ReachClosed : Set → List Rule → SetFamily → Type 0
 ReachClosed s rs R = (r : Rule) → List·Memᴰ r rs → Subset (bodiesLeft s R (bodies r)) (R (r .head))
 
 abbrev pub lefts : ℕ → ℕ → Left
-lefts b r = record { body = b; rule = r }
+lefts b r = record { body = record { bits = b }; rule = record { bits = r } }
 
 -- of what is left of a body and of a rule's bodies
 abbrev pub leftOf : Set → SetFamily → Parsed → Left
@@ -54,12 +48,6 @@ leftOf s R p = lefts (bodyLeft s R (p .body)) (bodiesLeft s R (p .positives ++ p
 
 pub record OntoLeft (s : Set) (R : SetFamily) (w : Word) (left r : Left) : Type 0 where
   pub onto : (p : Parsed) → left ≡ leftOf s R p → r ≡ leftOf s R (onWord w p)
-
--- a grammar that has been read, and its first sets
-pub record GivenFirsts (words firsts : List ℕ) : Type 0 where
-  pub sizes : Sizes
-  pub read : reading words ≡ Read sizes
-  pub first : firsts ≡ listed maxNonterminals (firstNumber (grammarOf words))
 
 -- the nonterminals that are in their own sets
 abbrev pub ownIn : List ℕ → Set

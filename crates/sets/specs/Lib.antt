@@ -1,6 +1,8 @@
 pub mod Lists
 pub mod Least
 pub mod Naming
+pub mod Rules
+pub mod Nonterminals
 pub mod First
 pub mod Follow
 pub mod Sets

@@ -1,5 +1,5 @@
 -- The nonterminals that a word of an encoded grammar names.
-use mathlib.Core.Option.{Option, none, some, Option·getD}
+use mathlib.Core.Option.{Option, none, some}
 use Prim.Native.Nat.{ℕ, _<_}
 use Rattle.word.specs.declared.Symbol.{Symbol as GrammarSymbol}
 use Rattle.word.specs.declared.Symbol.the-variants.{Terminal, Nonterminal}
@@ -16,10 +16,6 @@ ruleHead (Symbol X) = none
 ruleHead End = none
 ruleHead (Heading n t) = none
 ruleHead Invalid = none
-
--- the head of the rule that a word stands in or begins, where B is the head before it
-abbrev pub headAfter : Word → ℕ → ℕ
-headAfter w B = Option·getD (ruleHead w) B
 
 abbrev pub symbolName : GrammarSymbol → Option ℕ
 symbolName (Terminal a) = none

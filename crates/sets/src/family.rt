@@ -1,29 +1,51 @@
-// Arrays of sets, one for each nonterminal, and the one store into them.
+// Arrays of sets, one for each nonterminal, and the stores into them.
 ghost use mathlib.Core.Path.{_≡_};
+ghost use mathlib.Core.Bool.{_||_};
 ghost use Prim.Native.Nat.{_<_};
 ghost use Rattle.grammar.specs.Limits.{maxNonterminals};
 ghost use Rattle.sets.specs.Least.{lookup, Adds};
+use super::nonterminals::Nonterminals;
 use grammar::limits::NONTERMINALS;
+use lookahead::LookaheadSet;
 
 // A set for each nonterminal that there may be.
 pub const SETS: usize = NONTERMINALS as usize;
 
 // The set of n; behind the array's end there is none.
-pub(crate) fn set_of(sets: &[u32; SETS], n: u32) -> u32
+pub(crate) fn set_of(sets: &[u64; SETS], n: u32) -> u64
     ensures { λ r. ⌜ r ≡ lookup (now (sets .entry)) n ⌝ }
 {
     let at = n as usize;
     if at < SETS { sets[at] } else { 0 }
 }
 
-// Joins a set into that of n. Whether a set has grown: so far, or now.
-pub(crate) fn add(sets: &mut [u32; SETS], n: u32, set: u32, grown: bool) -> bool
+// Joins a set into that of n; whether it has grown.
+pub(crate) fn add(sets: &mut [u64; SETS], n: u32, set: LookaheadSet) -> bool
     requires { ⌜ n < maxNonterminals ⌝ }
-    ensures { λ r. ⌜ Adds (now (sets .entry)) n set grown (now (sets .exit)) r ⌝ }
+    ensures { λ r. ⌜ Adds (now (sets .entry)) n (set .bits) (now (sets .exit)) r ⌝ }
 {
     let at = n as usize;
-    let old = sets[at];
-    let new = old | set;
-    sets[at] = new;
-    if new == old { grown } else { true }
+    let old = LookaheadSet { bits: sets[at] };
+    let new = old.join(set);
+    sets[at] = new.bits;
+    new.bits != old.bits
+}
+
+// The same for sets of nonterminals.
+pub(crate) fn add_nonterminals(sets: &mut [u32; SETS], n: u32, set: Nonterminals) -> bool
+    requires { ⌜ n < maxNonterminals ⌝ }
+    ensures { λ r. ⌜ Adds (now (sets .entry)) n (set .bits) (now (sets .exit)) r ⌝ }
+{
+    let at = n as usize;
+    let before = Nonterminals { bits: sets[at] };
+    let after = before.join(set);
+    sets[at] = after.bits;
+    after.bits != before.bits
+}
+
+// Whether one or the other has grown.
+pub(crate) fn either(one: bool, other: bool) -> bool
+    ensures { λ r. ⌜ r ≡ (one || other) ⌝ }
+{
+    if one { true } else { other }
 }

@@ -1,18 +1,24 @@
-// First sets: passes over the words, from their end, until one adds nothing.
+// First sets: passes over the rules, in both directions by turns, until one adds nothing; the words of a rule from their end.
 ghost use mathlib.Core.Path.{_≡_};
 ghost use lib.ListN.{length};
 ghost use Rattle.grammar.specs.declared.reading.Outcome.the-variants.{Read};
 ghost use Rattle.grammar.specs.Encoding.{parse, grammarOf};
 ghost use Rattle.grammar.specs.Limits.{maxNonterminals};
 ghost use Rattle.grammar.specs.Reading.{reading};
-ghost use Rattle.sets.specs.First.{symbolFirst, noRest, withWord, FirstClosed};
-ghost use Rattle.sets.specs.Least.{lookup, AddsTo, Passes};
+ghost use Rattle.grammar.specs.Starts.{ruleStarts};
+ghost use Rattle.sets.specs.First.{symbolFirst, ruleFirst, noRest, withWord, FirstClosed};
+ghost use Rattle.sets.specs.Least.{at as family, lookup, Passes};
 ghost use Rattle.sets.specs.Lists.{listed};
-ghost use Rattle.sets.specs.Naming.{ruleHead, Indexed};
+ghost use Rattle.sets.specs.Rules.{RuleWords, PassGiven, ruleFrom};
 ghost use Rattle.sets.specs.Sets.{firstNumber};
 use super::family::SETS;
 use super::family::add;
+use super::family::either;
 use super::family::set_of;
+use super::rules::end_of;
+use super::rules::head_of;
+use super::rules::turn;
+use grammar::limits::RULES;
 use grammar::reading::Sizes;
 use lookahead::LookaheadSet;
 use word::Symbol;
@@ -36,7 +42,7 @@ pub fn no_rest(terminals: u32) -> Rest
     }
 }
 
-fn symbol_first(symbol: Symbol, firsts: &[u32; SETS]) -> LookaheadSet
+fn symbol_first(symbol: Symbol, firsts: &[u64; SETS]) -> LookaheadSet
     ensures { λ r. ⌜ r .bits ≡ symbolFirst (lookup (now (firsts .entry))) symbol ⌝ }
 {
     match symbol {
@@ -48,7 +54,7 @@ fn symbol_first(symbol: Symbol, firsts: &[u32; SETS]) -> LookaheadSet
 }
 
 // The rest with a word in front.
-pub fn onto(word: Word, rest: Rest, firsts: &[u32; SETS], terminals: u32) -> Rest
+pub fn onto(word: Word, rest: Rest, firsts: &[u64; SETS], terminals: u32) -> Rest
     ensures { λ r. ⌜ r ≡ withWord terminals (lookup (now (firsts .entry))) word rest ⌝ }
 {
     let body = rest.body;
@@ -76,42 +82,62 @@ pub fn onto(word: Word, rest: Rest, firsts: &[u32; SETS], terminals: u32) -> Res
     }
 }
 
-// Where a rule begins, the meet of its positives goes into the set of its head.
-pub(crate) fn close_rule(word: Word, meet: u32, firsts: &mut [u32; SETS], grown: bool) -> bool
-    requires { ⌜ Indexed word ⌝ }
-    ensures { λ r. ⌜ AddsTo (ruleHead word) (now (firsts .entry)) meet grown (now (firsts .exit)) r ⌝ }
+// What the positives of a rule can all begin with.
+fn rule_first(
+    words: &[u32],
+    start: usize,
+    end: usize,
+    firsts: &[u64; SETS],
+    terminals: u32,
+) -> LookaheadSet
+    requires { ⌜ RuleWords (now words) start end × (length (now firsts) ≡ maxNonterminals) ⌝ }
+    ensures { λ r. ⌜ r .bits ≡ ruleFirst terminals (family (now (firsts .entry))) (ruleFrom (now (words .entry)) start .positives) ⌝ }
 {
-    let Word::Rule(head) = word else {
-        return grown;
-    };
-    add(firsts, head, meet, grown)
+    let mut rest = no_rest(terminals);
+    let mut at = end;
+    while start + 1 < at {
+        at = at - 1;
+        let word = decode(words[at]);
+        rest = onto(word, rest, firsts, terminals);
+    }
+    rest.meet
 }
 
-// One pass; whether a set has grown.
-fn first_pass(words: &[u32], sizes: Sizes, firsts: &mut [u32; SETS]) -> bool
-    requires { ⌜ (reading (now words) ≡ Read sizes) × (length (now firsts) ≡ maxNonterminals) ⌝ }
+// One pass over the rules, from the first on or from the last on; whether a set has grown.
+fn first_pass(
+    words: &[u32],
+    starts: &[usize; RULES],
+    sizes: Sizes,
+    firsts: &mut [u64; SETS],
+    forward: bool,
+) -> bool
+    requires { ⌜ PassGiven (now words) (now starts) sizes (now firsts) ⌝ }
     ensures { λ r. ⌜ Passes (FirstClosed (sizes .terminals) (parse (now (words .entry)) .rules)) (now (firsts .entry)) (now (firsts .exit)) r ⌝ }
 {
     let terminals = sizes.terminals;
     let mut grown = false;
-    let mut rest = no_rest(terminals);
-    let mut at = words.len();
-    while 0 < at {
-        at = at - 1;
-        let word = decode(words[at]);
-        let next = onto(word, rest, firsts, terminals);
-        grown = close_rule(word, rest.meet.bits, firsts, grown);
-        rest = next;
+    let mut passed = 0;
+    while passed < sizes.rules {
+        let rule = turn(forward, sizes.rules, passed);
+        let start = starts[rule];
+        let end = end_of(words, starts, sizes, rule);
+        let meet = rule_first(words, start, end, firsts, terminals);
+        let head = head_of(decode(words[start]));
+        grown = either(grown, add(firsts, head, meet));
+        passed = passed + 1;
     }
     grown
 }
 
 // The first sets of a grammar that has been read, one for each nonterminal.
-pub(crate) fn first_sets(words: &[u32], sizes: Sizes) -> [u32; SETS]
-    requires { ⌜ reading (now words) ≡ Read sizes ⌝ }
+pub(crate) fn first_sets(words: &[u32], starts: &[usize; RULES], sizes: Sizes) -> [u64; SETS]
+    requires { ⌜ (reading (now words) ≡ Read sizes) × (now starts ≡ ruleStarts (now words)) ⌝ }
     ensures { λ r. ⌜ r ≡ listed maxNonterminals (firstNumber (grammarOf (now (words .entry)))) ⌝ }
 {
-    let mut firsts = [0u32; SETS];
-    while first_pass(words, sizes, &mut firsts) {}
+    let mut firsts = [0u64; SETS];
+    let mut forward = false;
+    while first_pass(words, starts, sizes, &mut firsts, forward) {
+        forward = !forward;
+    }
     firsts
 }

@@ -1,97 +1,134 @@
-// Follow sets: passes over the words until one adds nothing, with the first sets of the rests of bodies at hand.
+// Follow sets: passes over the rules, in both directions by turns, until one adds nothing; the words of a rule from their end.
 ghost use mathlib.Core.Path.{_≡_};
-ghost use Prim.Native.Nat.{_<_};
-ghost use lib.ListN.{length};
+ghost use Prim.Native.Nat.{suc, _<_};
+ghost use lib.ListN.{length, drop};
 ghost use Rattle.grammar.specs.declared.reading.Outcome.the-variants.{Read};
-ghost use Rattle.grammar.specs.Encoding.{grammarOf};
-ghost use Rattle.grammar.specs.Limits.{maxNonterminals, maxWords};
+ghost use Rattle.grammar.specs.Encoding.{parse, grammarOf};
+ghost use Rattle.grammar.specs.Limits.{maxNonterminals};
 ghost use Rattle.grammar.specs.Reading.{reading};
+ghost use Rattle.grammar.specs.Starts.{ruleStarts};
 ghost use Rattle.lookahead.specs.Operations.{concat as concatOf};
-ghost use Rattle.sets.specs.Follow.{Rests, FollowPasses};
-ghost use Rattle.sets.specs.Least.{PassGiven, at as family, AddsTo};
+ghost use Rattle.sets.specs.Follow.{Asked, FollowRules, FollowClosed};
+ghost use Rattle.sets.specs.Least.{at as family, AddsTo, Passes};
 ghost use Rattle.sets.specs.Lists.{listed};
-ghost use Rattle.sets.specs.Naming.{headAfter, nonterminalOf, Indexed};
+ghost use Rattle.sets.specs.Naming.{nonterminalOf, Indexed};
+ghost use Rattle.sets.specs.Rules.{RuleWords, PassGiven};
 ghost use Rattle.sets.specs.Sets.{firstNumber, followNumber};
 use super::family::SETS;
 use super::family::add;
+use super::family::either;
 use super::first::no_rest;
 use super::first::onto;
-use grammar::limits::WORDS;
+use super::rules::end_of;
+use super::rules::head_of;
+use super::rules::turn;
+use grammar::limits::RULES;
 use grammar::reading::Sizes;
 use lookahead::LookaheadSet;
 use word::Symbol;
 use word::Word;
 use word::decode;
 
-// Writes at each place the first set of what is left of the body behind the word there.
-fn write_rests(words: &[u32], sizes: Sizes, firsts: &[u32; SETS], rests: &mut [u32; WORDS])
-    requires { ⌜ (reading (now words) ≡ Read sizes) × (length (now firsts) ≡ maxNonterminals) × (length (now rests) ≡ maxWords) ⌝ }
-    ensures { λ _. ⌜ Rests (family (now (firsts .entry))) (now (words .entry)) (now (rests .exit)) ⌝ }
-{
-    let terminals = sizes.terminals;
-    let mut rest = no_rest(terminals);
-    let mut at = words.len();
-    while 0 < at {
-        at = at - 1;
-        rests[at] = rest.body.bits;
-        let word = decode(words[at]);
-        rest = onto(word, rest, firsts, terminals);
-    }
-}
-
-// The head of the rule that the word stands in.
-fn head_after(word: Word, head: u32) -> u32
-    ensures { λ r. ⌜ r ≡ headAfter word head ⌝ }
-{
-    let Word::Rule(next) = word else {
-        return head;
-    };
-    next
-}
-
 // Behind a nonterminal in a body of head comes what is left of the body, then what follows head.
-fn add_behind(word: Word, rest: u32, head: u32, follows: &mut [u32; SETS], grown: bool) -> bool
+fn add_behind(word: Word, rest: LookaheadSet, head: u32, follows: &mut [u64; SETS]) -> bool
     requires { ⌜ Indexed word × (head < maxNonterminals) ⌝ }
-    ensures { λ r. ⌜ AddsTo (nonterminalOf word) (now (follows .entry)) (concatOf rest (family (now (follows .entry)) head)) grown (now (follows .exit)) r ⌝ }
+    ensures { λ r. ⌜ AddsTo (nonterminalOf word) (now (follows .entry)) (concatOf (rest .bits) (family (now (follows .entry)) head)) (now (follows .exit)) r ⌝ }
 {
     let Word::Symbol(symbol) = word else {
-        return grown;
+        return false;
     };
     let Symbol::Nonterminal(number) = symbol else {
-        return grown;
+        return false;
     };
     let follow = LookaheadSet {
         bits: follows[head as usize],
     };
-    let behind = LookaheadSet { bits: rest }.concat(follow);
-    add(follows, number, behind.bits, grown)
+    add(follows, number, rest.concat(follow))
 }
 
-// One pass; whether a set has grown.
-fn follow_pass(words: &[u32], rests: &[u32; WORDS], follows: &mut [u32; SETS]) -> bool
-    requires { ⌜ PassGiven (now words) (now follows) ⌝ }
-    ensures { λ r. ⌜ FollowPasses (now (words .entry)) (now (rests .entry)) (now (follows .entry)) (now (follows .exit)) r ⌝ }
+// What the bodies of a rule of head ask; whether a set has grown.
+fn follow_rule(
+    words: &[u32],
+    start: usize,
+    end: usize,
+    head: u32,
+    firsts: &[u64; SETS],
+    follows: &mut [u64; SETS],
+) -> bool
+    requires { ⌜ RuleWords (now words) start end × (head < maxNonterminals) × (length (now firsts) ≡ maxNonterminals) × (length (now follows) ≡ maxNonterminals) ⌝ }
+    ensures { λ r. ⌜ Passes (Asked (family (now (firsts .entry))) head (parse (drop (suc start) (now (words .entry))))) (now (follows .entry)) (now (follows .exit)) r ⌝ }
 {
     let mut grown = false;
-    let mut head = 0;
-    let mut at = 0;
-    while at < words.len() {
+    let mut rest = no_rest(0);
+    let mut at = end;
+    while start + 1 < at {
+        at = at - 1;
         let word = decode(words[at]);
-        grown = add_behind(word, rests[at], head, follows, grown);
-        head = head_after(word, head);
-        at = at + 1;
+        let body = rest.body;
+        rest = onto(word, rest, firsts, 0);
+        grown = either(grown, add_behind(word, body, head, follows));
     }
-    add(follows, 0, LookaheadSet::end().bits, grown)
+    grown
+}
+
+// One pass over the rules, from the first on or from the last on; whether a set has grown.
+fn follow_rules(
+    words: &[u32],
+    starts: &[usize; RULES],
+    sizes: Sizes,
+    firsts: &[u64; SETS],
+    follows: &mut [u64; SETS],
+    forward: bool,
+) -> bool
+    requires { ⌜ PassGiven (now words) (now starts) sizes (now follows) × (length (now firsts) ≡ maxNonterminals) ⌝ }
+    ensures { λ r. ⌜ Passes (FollowRules (family (now (firsts .entry))) (parse (now (words .entry)) .rules)) (now (follows .entry)) (now (follows .exit)) r ⌝ }
+{
+    let mut grown = false;
+    let mut passed = 0;
+    while passed < sizes.rules {
+        let rule = turn(forward, sizes.rules, passed);
+        let start = starts[rule];
+        let end = end_of(words, starts, sizes, rule);
+        let head = head_of(decode(words[start]));
+        grown = either(grown, follow_rule(words, start, end, head, firsts, follows));
+        passed = passed + 1;
+    }
+    grown
+}
+
+// The end follows the start symbol; then a pass over the rules.
+fn follow_pass(
+    words: &[u32],
+    starts: &[usize; RULES],
+    sizes: Sizes,
+    firsts: &[u64; SETS],
+    follows: &mut [u64; SETS],
+    forward: bool,
+) -> bool
+    requires { ⌜ PassGiven (now words) (now starts) sizes (now follows) × (length (now firsts) ≡ maxNonterminals) ⌝ }
+    ensures { λ r. ⌜ Passes (FollowClosed (family (now (firsts .entry))) (parse (now (words .entry)) .rules)) (now (follows .entry)) (now (follows .exit)) r ⌝ }
+{
+    let began = add(follows, 0, LookaheadSet::end());
+    either(
+        began,
+        follow_rules(words, starts, sizes, firsts, follows, forward),
+    )
 }
 
 // The follow sets of a grammar that has been read, one for each nonterminal.
-pub(crate) fn follow_sets(words: &[u32], sizes: Sizes, firsts: &[u32; SETS]) -> [u32; SETS]
-    requires { ⌜ (reading (now words) ≡ Read sizes) × (now firsts ≡ listed maxNonterminals (firstNumber (grammarOf (now words)))) ⌝ }
+pub(crate) fn follow_sets(
+    words: &[u32],
+    starts: &[usize; RULES],
+    sizes: Sizes,
+    firsts: &[u64; SETS],
+) -> [u64; SETS]
+    requires { ⌜ (reading (now words) ≡ Read sizes) × (now starts ≡ ruleStarts (now words)) × (now firsts ≡ listed maxNonterminals (firstNumber (grammarOf (now words)))) ⌝ }
     ensures { λ r. ⌜ r ≡ listed maxNonterminals (followNumber (grammarOf (now (words .entry)))) ⌝ }
 {
-    let mut rests = [0u32; WORDS];
-    write_rests(words, sizes, firsts, &mut rests);
-    let mut follows = [0u32; SETS];
-    while follow_pass(words, &rests, &mut follows) {}
+    let mut follows = [0u64; SETS];
+    let mut forward = true;
+    while follow_pass(words, starts, sizes, firsts, &mut follows, forward) {
+        forward = !forward;
+    }
     follows
 }

@@ -1,19 +1,29 @@
-// Left recursion: what each nonterminal left-reaches, by passes over the words, from their end, until one adds nothing.
+// Left recursion: what each nonterminal left-reaches, by passes over the rules, in both directions by turns, until one adds nothing;
+// the words of a rule from their end.
 ghost use mathlib.Core.Path.{_≡_};
 ghost use Prim.Native.Nat.{_≤_};
+ghost use lib.ListN.{length};
 ghost use Rattle.grammar.specs.declared.reading.Outcome.the-variants.{Read};
 ghost use Rattle.grammar.specs.Encoding.{parse, grammarOf};
 ghost use Rattle.grammar.specs.Limits.{maxNonterminals};
 ghost use Rattle.grammar.specs.Reading.{reading};
+ghost use Rattle.grammar.specs.Starts.{ruleStarts};
+ghost use Rattle.grammar.specs.Syntax.{bodies};
 ghost use Rattle.semantics.specs.Quantifiers.{lowest};
-ghost use Rattle.semantics.specs.LeftRecursion.{lowestLeftRecursive};
-ghost use Rattle.sets.specs.Least.{at as family, Passes, PassGiven};
-ghost use Rattle.sets.specs.Left.{emptyIn, symbolLeft, OntoLeft, ReachClosed, GivenFirsts, ownIn, lowestOf};
+ghost use Rattle.sets.specs.Least.{at as family, Passes};
+ghost use Rattle.sets.specs.Left.{emptyIn, symbolLeft, bodiesLeft, lefts, OntoLeft, ReachClosed, ownIn, lowestOf};
 ghost use Rattle.sets.specs.Lists.{listed};
 ghost use Rattle.sets.specs.Naming.{IndexedSymbol, Indexed};
+ghost use Rattle.sets.specs.Rules.{RuleWords, PassGiven, ruleFrom};
 ghost use Rattle.sets.specs.Sets.{firstNumber, reachNumber};
 use super::family::SETS;
-use super::first::close_rule;
+use super::family::add_nonterminals;
+use super::family::either;
+use super::nonterminals::Nonterminals;
+use super::rules::end_of;
+use super::rules::head_of;
+use super::rules::turn;
+use grammar::limits::RULES;
 use grammar::reading::Sizes;
 use lookahead::LookaheadSet;
 use lookahead::NOTHING;
@@ -22,10 +32,10 @@ use word::Word;
 use word::decode;
 
 // Of the words from a place on: what is at the left of the rest of the body, and of the rule's bodies behind it, with all
-// that this left-reaches. Nonterminal B weighs 2^B.
+// that this left-reaches.
 struct Left {
-    pub body: u32,
-    pub rule: u32,
+    pub body: Nonterminals,
+    pub rule: Nonterminals,
 }
 
 pub(crate) enum Lowest {
@@ -33,26 +43,40 @@ pub(crate) enum Lowest {
     At(u8),
 }
 
+fn no_left() -> Left
+    ensures { λ r. ⌜ r ≡ lefts 0 0 ⌝ }
+{
+    Left {
+        body: Nonterminals::empty(),
+        rule: Nonterminals::empty(),
+    }
+}
+
 // What is at the left of a body that begins with a symbol: the nonterminal and, if it is nullable, what is at the left behind it.
-fn symbol_left(symbol: Symbol, behind: u32, firsts: &[u32; SETS], reach: &[u32; SETS]) -> u32
+fn symbol_left(
+    symbol: Symbol,
+    behind: Nonterminals,
+    firsts: &[u64; SETS],
+    reach: &[u32; SETS],
+) -> Nonterminals
     requires { ⌜ IndexedSymbol symbol ⌝ }
-    ensures { λ r. ⌜ r ≡ symbolLeft (emptyIn (family (now (firsts .entry)))) (family (now (reach .entry))) symbol behind ⌝ }
+    ensures { λ r. ⌜ r .bits ≡ symbolLeft (emptyIn (family (now (firsts .entry)))) (family (now (reach .entry))) symbol (behind .bits) ⌝ }
 {
     let Symbol::Nonterminal(number) = symbol else {
-        return 0;
+        return Nonterminals::empty();
     };
     let at = number as usize;
-    let own = 1u32 << number | reach[at];
+    let own = Nonterminals::alone(number).join(Nonterminals { bits: reach[at] });
     let first = LookaheadSet { bits: firsts[at] };
     if first.contains(NOTHING) {
-        own | behind
+        own.join(behind)
     } else {
         own
     }
 }
 
 // The same with a word in front.
-fn onto_left(word: Word, left: Left, firsts: &[u32; SETS], reach: &[u32; SETS]) -> Left
+fn onto_left(word: Word, left: Left, firsts: &[u64; SETS], reach: &[u32; SETS]) -> Left
     requires { ⌜ Indexed word ⌝ }
     ensures { λ r. ⌜ OntoLeft (emptyIn (family (now (firsts .entry)))) (family (now (reach .entry))) word left r ⌝ }
 {
@@ -64,15 +88,15 @@ fn onto_left(word: Word, left: Left, firsts: &[u32; SETS], reach: &[u32; SETS]) 
             rule,
         },
         Word::Positive => Left {
-            body: 0,
-            rule: body | rule,
+            body: Nonterminals::empty(),
+            rule: body.join(rule),
         },
         Word::Negative => Left {
-            body: 0,
-            rule: body | rule,
+            body: Nonterminals::empty(),
+            rule: body.join(rule),
         },
-        Word::Rule(_) => Left { body: 0, rule: 0 },
-        Word::End => Left { body: 0, rule: 0 },
+        Word::Rule(_) => no_left(),
+        Word::End => no_left(),
         Word::Heading {
             nonterminals: _,
             terminals: _,
@@ -81,42 +105,79 @@ fn onto_left(word: Word, left: Left, firsts: &[u32; SETS], reach: &[u32; SETS]) 
     }
 }
 
-// One pass; whether a set has grown.
-fn reach_pass(words: &[u32], firsts: &[u32; SETS], reach: &mut [u32; SETS]) -> bool
-    requires { ⌜ PassGiven (now words) (now reach) ⌝ }
+// What is at the left of the bodies of a rule.
+fn rule_left(
+    words: &[u32],
+    start: usize,
+    end: usize,
+    firsts: &[u64; SETS],
+    reach: &[u32; SETS],
+) -> Nonterminals
+    requires { ⌜ RuleWords (now words) start end ⌝ }
+    ensures { λ r. ⌜ r .bits ≡ bodiesLeft (emptyIn (family (now (firsts .entry)))) (family (now (reach .entry))) (bodies (ruleFrom (now (words .entry)) start)) ⌝ }
+{
+    let mut left = no_left();
+    let mut at = end;
+    while start + 1 < at {
+        at = at - 1;
+        let word = decode(words[at]);
+        left = onto_left(word, left, firsts, reach);
+    }
+    left.rule
+}
+
+// One pass over the rules, from the first on or from the last on; whether a set has grown.
+fn reach_pass(
+    words: &[u32],
+    starts: &[usize; RULES],
+    sizes: Sizes,
+    firsts: &[u64; SETS],
+    reach: &mut [u32; SETS],
+    forward: bool,
+) -> bool
+    requires { ⌜ PassGiven (now words) (now starts) sizes (now reach) ⌝ }
     ensures { λ r. ⌜ Passes (ReachClosed (emptyIn (family (now (firsts .entry)))) (parse (now (words .entry)) .rules)) (now (reach .entry)) (now (reach .exit)) r ⌝ }
 {
     let mut grown = false;
-    let mut left = Left { body: 0, rule: 0 };
-    let mut at = words.len();
-    while 0 < at {
-        at = at - 1;
-        let word = decode(words[at]);
-        let next = onto_left(word, left, firsts, reach);
-        grown = close_rule(word, left.rule, reach, grown);
-        left = next;
+    let mut passed = 0;
+    while passed < sizes.rules {
+        let rule = turn(forward, sizes.rules, passed);
+        let start = starts[rule];
+        let end = end_of(words, starts, sizes, rule);
+        let left = rule_left(words, start, end, firsts, reach);
+        let head = head_of(decode(words[start]));
+        grown = either(grown, add_nonterminals(reach, head, left));
+        passed = passed + 1;
     }
     grown
 }
 
 // What each nonterminal of a grammar that has been read left-reaches, by its first sets.
-fn reached(words: &[u32], firsts: &[u32; SETS]) -> [u32; SETS]
-    requires { ⌜ GivenFirsts (now words) (now firsts) ⌝ }
+pub(crate) fn reached(
+    words: &[u32],
+    starts: &[usize; RULES],
+    sizes: Sizes,
+    firsts: &[u64; SETS],
+) -> [u32; SETS]
+    requires { ⌜ (reading (now words) ≡ Read sizes) × (now starts ≡ ruleStarts (now words)) × (now firsts ≡ listed maxNonterminals (firstNumber (grammarOf (now words)))) ⌝ }
     ensures { λ r. ⌜ r ≡ listed maxNonterminals (reachNumber (grammarOf (now (words .entry)))) ⌝ }
 {
     let mut reach = [0u32; SETS];
-    while reach_pass(words, firsts, &mut reach) {}
+    let mut forward = false;
+    while reach_pass(words, starts, sizes, firsts, &mut reach, forward) {
+        forward = !forward;
+    }
     reach
 }
 
 // The lowest nonterminal that is in its own set.
-fn lowest_own(reach: &[u32; SETS], nonterminals: u32) -> Lowest
+pub(crate) fn lowest_own(reach: &[u32; SETS], nonterminals: u32) -> Lowest
     requires { ⌜ nonterminals ≤ maxNonterminals ⌝ }
     ensures { λ r. ⌜ r ≡ lowestOf (lowest nonterminals (ownIn (now (reach .entry)))) ⌝ }
 {
     let mut nonterminal = 0;
     while nonterminal < nonterminals {
-        let set = LookaheadSet {
+        let set = Nonterminals {
             bits: reach[nonterminal as usize],
         };
         if set.contains(nonterminal) {
@@ -125,14 +186,4 @@ fn lowest_own(reach: &[u32; SETS], nonterminals: u32) -> Lowest
         nonterminal = nonterminal + 1;
     }
     Lowest::Absent
-}
-
-// The lowest nonterminal that left-reaches itself.
-pub(crate) fn lowest_left_recursive(words: &[u32], sizes: Sizes, firsts: &[u32; SETS]) -> Lowest
-    requires { ⌜ (reading (now words) ≡ Read sizes) × (now firsts ≡ listed maxNonterminals (firstNumber (grammarOf (now words)))) ⌝ }
-    ensures { λ r. ⌜ r ≡ lowestOf (lowestLeftRecursive (grammarOf (now (words .entry)))) ⌝ }
-{
-    let nonterminals = sizes.nonterminals;
-    let reach = reached(words, firsts);
-    lowest_own(&reach, nonterminals)
 }

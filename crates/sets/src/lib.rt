@@ -10,13 +10,17 @@ use follow::follow_sets;
 use grammar::reading::Outcome;
 use grammar::reading::Sizes;
 use grammar::reading::read;
+use grammar::reading::rule_starts;
 use left::Lowest;
-use left::lowest_left_recursive;
+use left::lowest_own;
+use left::reached;
 
 pub mod family;
 pub mod first;
 mod follow;
 mod left;
+pub mod nonterminals;
+mod rules;
 
 pub enum Finding {
     Passed(Sizes),
@@ -26,8 +30,10 @@ pub enum Finding {
 // What is found of an encoded grammar: its sizes, or why it is refused; and its sets, all empty where it is refused.
 pub struct Families {
     pub finding: Finding,
-    pub firsts: [u32; SETS],
-    pub follows: [u32; SETS],
+    pub firsts: [u64; SETS],
+    pub follows: [u64; SETS],
+    // what each nonterminal left-reaches, a set of nonterminals
+    pub reaches: [u32; SETS],
 }
 
 fn refused(error: Error) -> Families
@@ -35,8 +41,9 @@ fn refused(error: Error) -> Families
 {
     Families {
         finding: Finding::Refused(error),
-        firsts: [0u32; SETS],
-        follows: [0u32; SETS],
+        firsts: [0u64; SETS],
+        follows: [0u64; SETS],
+        reaches: [0u32; SETS],
     }
 }
 
@@ -45,16 +52,20 @@ fn analyze_grammar(words: &[u32], sizes: Sizes) -> Families
     requires { ⌜ reading (now words) ≡ Read sizes ⌝ }
     ensures { λ r. ⌜ r ≡ familiesOf (now (words .entry)) ⌝ }
 {
-    let firsts = first_sets(words, sizes);
-    let lowest = lowest_left_recursive(words, sizes, &firsts);
+    let nonterminals = sizes.nonterminals;
+    let starts = rule_starts(words);
+    let firsts = first_sets(words, &starts, sizes);
+    let reaches = reached(words, &starts, sizes, &firsts);
+    let lowest = lowest_own(&reaches, nonterminals);
     match lowest {
         Lowest::At(nonterminal) => refused(Error::LeftRecursive(nonterminal)),
         Lowest::Absent => {
-            let follows = follow_sets(words, sizes, &firsts);
+            let follows = follow_sets(words, &starts, sizes, &firsts);
             Families {
                 finding: Finding::Passed(sizes),
                 firsts,
                 follows,
+                reaches,
             }
         }
     }

@@ -56,7 +56,7 @@ fn put_sizes(out: &mut [u8], at: usize, sizes: Sizes) -> usize
 fn put_set(out: &mut [u8], at: usize, label: &[u8], bits: u32) -> usize
     ensures { λ r. ⌜ Put (now (out .entry)) at ((now (label .entry) ++ decimal bits) ++ labelled " " (sizeOf bits)) (now (out .exit)) r ⌝ }
 {
-    let set = LookaheadSet { bits };
+    let set = LookaheadSet { bits: bits as u64 };
     let at = put_labelled(out, at, label, bits as usize);
     put_labelled(out, at, b" ", set.size() as usize)
 }

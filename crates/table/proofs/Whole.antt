@@ -1,5 +1,6 @@
 -- The memory once the sets and the rows are filled: the words of the table, and behind them no entries.
 use mathlib.Core.Path.{_≡_, refl, sym, _∙_}
+use mathlib.Core.Bool.{Bool}
 use mathlib.Core.List.{List, _++_}
 use mathlib.Core.Logic.{inl, inr}
 use mathlib.Core.Option.{Option, none, some}
@@ -18,15 +19,25 @@ use Rattle.grammar.specs.declared.reading.Sizes.{Sizes}
 use Rattle.grammar.specs.Encoding.{grammarOf}
 use Rattle.grammar.specs.Syntax.{Grammar}
 use Rattle.grammar.proofs.WellRead.{well-read}
+use Rattle.lookahead.specs.Elements.{nothing, weight}
 use Rattle.semantics.specs.Claims.{tableOf}
 use Rattle.table.specs.declared.entries.Conflict.{Conflict}
 use Rattle.sets.specs.Lists.{listed}
-use Rattle.sets.specs.Sets.{firstNumber, followNumber}
+use Rattle.sets.specs.Sets.{numberOf, firstNumber, followNumber}
 use Rattle.table.specs.Layout.{entryWord, columnString, columns, entryAt, setWord, rowWord, tableWords}
 use Rattle.table.specs.Entries.{filled, tableWith, entriesOf, Given}
-use Rattle.table.specs.Filling.{conflictFrom, entryOver, FilledSets, FilledRows}
-use Rattle.sets.proofs.Lists.{listed-long, listed-at}
+use Rattle.table.specs.Filling.{conflictFrom, entryOver, FitWords, FilledSets, FilledRows}
+use Rattle.sets.proofs.Lists.{listed-long, listed-at, listed-below}
+use Rattle.sets.proofs.Strings.{number-below}
 use Rattle.table.proofs.Cells.{first-clash}
+
+-- the numbers of a grammar's sets fit words
+pub sets-fit : {words : List ℕ} {z : Sizes} {firsts follows : List ℕ} → Given words z firsts follows → FitWords firsts × FitWords follows
+unfolding firstNumber followNumber
+sets-fit given = (λ A. rw (given .first) (fit _ A), λ A. rw (given .follow) (fit _ A))
+  where
+    fit : (p : ℕ → List ℕ → Bool) → FitWords (listed maxNonterminals (λ A. numberOf (p A)))
+    fit p A = omega (arith, listed-below maxNonterminals (λ A. numberOf (p A)) (weight (suc nothing)) (omega arith) (λ B. number-below (p B)) A)
 
 -- a word of two lists, one behind the other
 at-first : (xs ys : List ℕ) (m i d : ℕ) → length xs ≡ m → i < m → getD (xs ++ ys) i d ≡ getD xs i d

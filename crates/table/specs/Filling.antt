@@ -4,7 +4,7 @@ use mathlib.Core.Bool.{true}
 use mathlib.Core.List.{List}
 use mathlib.Core.Logic.{_⊎_}
 use mathlib.Core.Option.{Option, none, some}
-use Prim.Native.Nat.{ℕ, zero, suc, _+_, _*_, _/_, _%_, _≤_, _<_}
+use Prim.Native.Nat.{ℕ, zero, suc, _+_, _*_, _/_, _%_, _^_, _≤_, _<_}
 use lib.Dec.{eqb}
 use lib.ListN.{length, getD, set}
 use Rattle.word.specs.Choice.{choose}
@@ -37,6 +37,10 @@ pub record FilledRow (before : List ℕ) (row terminals n claim rule : ℕ) (aft
   pub long : length after ≡ length before
   pub inside : (c : ℕ) → c < n → getD after (row + c) 0 ≡ choose (has claim (columnElement terminals c)) rule (getD before (row + c) 0)
   pub outside : (i : ℕ) → (i < row) ⊎ (row + n ≤ i) → getD after i 0 ≡ getD before i 0
+
+-- each set's number fits a word of the table
+abbrev pub FitWords : List ℕ → Type 0
+FitWords sets = (A : ℕ) → getD sets A 0 < 2 ^ 32
 
 -- the sets of the first n nonterminals are in their words
 pub record FilledSets (before : List ℕ) (n : ℕ) (firsts follows after : List ℕ) : Type 0 where

@@ -9,7 +9,7 @@ ghost use Rattle.grammar.specs.Encoding.{grammarOf};
 ghost use Rattle.sets.specs.Naming.{ruleHead};
 ghost use Rattle.table.specs.Entries.{Given, entriesOf};
 ghost use Rattle.table.specs.Filling.{columnElement, conflictFrom};
-ghost use Rattle.table.specs.Filling.{FilledRow, FilledSets, Noted, tables, MayClaim, WordClaims, FilledRows};
+ghost use Rattle.table.specs.Filling.{FilledRow, FitWords, FilledSets, Noted, tables, MayClaim, WordClaims, FilledRows};
 use grammar::codes::NO_ENTRY;
 use grammar::limits::TABLE_WORDS;
 use grammar::reading::Sizes;
@@ -70,22 +70,22 @@ fn fill_row(
 fn fill_sets(
     table: &mut [u32; TABLE_WORDS],
     nonterminals: usize,
-    firsts: &[u32; SETS],
-    follows: &[u32; SETS],
+    firsts: &[u64; SETS],
+    follows: &[u64; SETS],
 )
-    requires { ⌜ (length (now table) ≡ memoryWords) × (nonterminals ≤ maxNonterminals) ⌝ }
+    requires { ⌜ (length (now table) ≡ memoryWords) × (nonterminals ≤ maxNonterminals) × FitWords (now firsts) × FitWords (now follows) ⌝ }
     ensures { λ _. ⌜ FilledSets (now (table .entry)) nonterminals (now (firsts .entry)) (now (follows .entry)) (now (table .exit)) ⌝ }
 {
     let mut nonterminal = 0;
     while nonterminal < nonterminals {
-        table[2 * nonterminal] = firsts[nonterminal];
-        table[2 * nonterminal + 1] = follows[nonterminal];
+        table[2 * nonterminal] = firsts[nonterminal] as u32;
+        table[2 * nonterminal + 1] = follows[nonterminal] as u32;
         nonterminal = nonterminal + 1;
     }
 }
 
 // Joins a claim for a nonterminal: what was claimed before is claimed twice.
-fn note(once: &mut [u32; SETS], twice: &mut [u32; SETS], head: usize, claim: LookaheadSet)
+fn note(once: &mut [u64; SETS], twice: &mut [u64; SETS], head: usize, claim: LookaheadSet)
     requires { ⌜ head < maxNonterminals ⌝ }
     ensures { λ _. ⌜ Noted (now (once .entry)) (now (twice .entry)) head (claim .bits) (now (once .exit)) (now (twice .exit)) ⌝ }
 {
@@ -101,10 +101,10 @@ fn claim(
     word: Word,
     meet: LookaheadSet,
     sizes: Sizes,
-    follows: &[u32; SETS],
+    follows: &[u64; SETS],
     table: &mut [u32; TABLE_WORDS],
-    once: &mut [u32; SETS],
-    twice: &mut [u32; SETS],
+    once: &mut [u64; SETS],
+    twice: &mut [u64; SETS],
     behind: usize,
 ) -> usize
     requires { ⌜ MayClaim sizes word (tables (now table) (now once) (now twice) behind) ⌝ }
@@ -132,16 +132,16 @@ fn claim(
 fn fill_rows(
     words: &[u32],
     sizes: Sizes,
-    firsts: &[u32; SETS],
-    follows: &[u32; SETS],
+    firsts: &[u64; SETS],
+    follows: &[u64; SETS],
     table: &mut [u32; TABLE_WORDS],
-) -> [u32; SETS]
+) -> [u64; SETS]
     requires { ⌜ Given (now words) sizes (now firsts) (now follows) × (length (now table) ≡ memoryWords) ⌝ }
     ensures { λ r. ⌜ FilledRows (grammarOf (now (words .entry))) (now (table .entry)) (now (table .exit)) r ⌝ }
 {
     let terminals = sizes.terminals;
-    let mut once = [0u32; SETS];
-    let mut twice = [0u32; SETS];
+    let mut once = [0u64; SETS];
+    let mut twice = [0u64; SETS];
     let mut rest = no_rest(terminals);
     let mut rule = sizes.rules;
     let mut at = words.len();
@@ -165,7 +165,7 @@ fn fill_rows(
 }
 
 // The first entry that is claimed twice.
-fn first_conflict(twice: &[u32; SETS], sizes: Sizes) -> Conflict
+fn first_conflict(twice: &[u64; SETS], sizes: Sizes) -> Conflict
     requires { ⌜ (sizes .nonterminals ≤ maxNonterminals) × (sizes .terminals ≤ maxTerminals) ⌝ }
     ensures { λ r. ⌜ r ≡ conflictFrom (now (twice .entry)) (sizes .terminals) 0 (sizes .nonterminals * suc (sizes .terminals)) ⌝ }
 {
@@ -196,8 +196,8 @@ fn first_conflict(twice: &[u32; SETS], sizes: Sizes) -> Conflict
 pub(crate) fn entries(
     words: &[u32],
     sizes: Sizes,
-    firsts: &[u32; SETS],
-    follows: &[u32; SETS],
+    firsts: &[u64; SETS],
+    follows: &[u64; SETS],
 ) -> Table
     requires { ⌜ Given (now words) sizes (now firsts) (now follows) ⌝ }
     ensures { λ r. ⌜ r ≡ entriesOf (grammarOf (now (words .entry))) ⌝ }

@@ -31,8 +31,8 @@ fn refused(error: Error) -> Analysis
 fn analyze_table(
     words: &[u32],
     sizes: Sizes,
-    firsts: &[u32; SETS],
-    follows: &[u32; SETS],
+    firsts: &[u64; SETS],
+    follows: &[u64; SETS],
 ) -> Analysis
     requires { ⌜ GivenFamilies (now words) sizes (now firsts) (now follows) ⌝ }
     ensures { λ r. ⌜ r ≡ analyzed (now (words .entry)) ⌝ }

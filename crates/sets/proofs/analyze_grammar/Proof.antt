@@ -1,15 +1,23 @@
 -- A grammar that has been read: by whether it is left-recursive.
 use mathlib.Core.Path.{_∙_}
+use Rattle.grammar.proofs.WellRead.{well-read}
 use Rattle.sets.proofs.Telling.{families-left, families-found}
+use Rattle.sets.proofs.LeftTie.{lowest-reached}
+use borrow.Author.Needs.{needs}
 use Rattle.sets.proofs.analyze_grammar.Statement.{statement}
 use Rattle.sets.proofs.analyze_grammar.Tie as tie
-use borrow.Author.Needs.{needs}
+
+rule-starts-requires : tie.Need-rule-starts-requires
+rule-starts-requires c κs = search needs
 
 first-sets-requires : tie.Need-first-sets-requires
 first-sets-requires c κs = search needs
 
-lowest-left-recursive-requires : tie.Need-lowest-left-recursive-requires
-lowest-left-recursive-requires c κs = search needs
+reached-requires : tie.Need-reached-requires
+reached-requires c κs = search needs
+
+lowest-own-requires : tie.Need-lowest-own-requires
+lowest-own-requires c κs = well-read _ _ (c .before .before .before .before .before .before .before .before .pre) .fewNonterminals
 
 enum-known-lowest : tie.Need-enum-known-lowest
 enum-known-lowest c = search needs
@@ -21,34 +29,27 @@ enum-told : tie.Need-enum-told
 enum-told c = search needs
 
 follow-sets-requires : tie.Need-follow-sets-requires
-follow-sets-requires c κs =
-    let at-first-sets = c .before .before .before .before .before in
-    let start = at-first-sets .before .before in
-    (start .pre, at-first-sets .first-sets .ensures)
+follow-sets-requires c κs = search needs
 
 returns : tie.Need-returns
 returns c =
-    let at-lowest = c .before .before in
-    let at-before = at-lowest .before in
-    let found = at-before .before in
-    let start = found .before .before .before .before in
-    c .refused .ensures ∙ families-left (start .args .words .now) (start .pre) (found .lowest-left-recursive .ensures) (at-lowest .lowest .given .1)
+    let start = c .before .before .before .before .before .before .before .before .before .before .before .before .before in
+    c .refused .ensures ∙ families-left (start .args .words .now) (start .pre) (lowest-reached _ (start .pre) (c .before .before .before .before .before .before .before .before .before .first-sets .ensures) (c .before .before .before .before .before .before .reached .ensures) (c .before .before .before .before .lowest-own .ensures)) (c .before .before .lowest .given .1)
 
 returns-2 : tie.Need-returns-2
 returns-2 c =
-    let at-enum-told = c .before .before in
-    let at-before = at-enum-told .before in
-    let found = at-before .before in
-    let start = found .before .before .before .before in
-    families-found (start .args .words .now) (start .pre) (found .lowest-left-recursive .ensures) (at-enum-told .enum-told .given .1)
-    (found .before .before .first-sets .ensures) (c .follow-sets .ensures)
+    let start = c .before .before .before .before .before .before .before .before .before .before .before .before .before .before in
+    families-found (start .args .words .now) (start .pre) (lowest-reached _ (start .pre) (c .before .before .before .before .before .before .before .before .before .before .first-sets .ensures) (c .before .before .before .before .before .before .before .reached .ensures) (c .before .before .before .before .before .lowest-own .ensures)) (c .before .before .before .enum-told .given .1) (c .before .before .before .before .before .before .before .before .before .before .first-sets .ensures)
+    (c .follow-sets .ensures) (c .before .before .before .before .before .before .before .reached .ensures)
 
 pub analyze-grammar-spec : {M : Type 1} → statement M
 analyze-grammar-spec =
     tie.close
     (tie.spec
+    rule-starts-requires
     first-sets-requires
-    lowest-left-recursive-requires
+    reached-requires
+    lowest-own-requires
     enum-known-lowest
     refused-requires
     enum-told

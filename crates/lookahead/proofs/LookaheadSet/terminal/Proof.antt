@@ -5,8 +5,8 @@ use Rattle.lookahead.proofs.Cases as cases
 use Rattle.lookahead.proofs.LookaheadSet.terminal.Statement.{statement}
 use Rattle.lookahead.proofs.LookaheadSet.terminal.Tie as tie
 
-shl-t4 : tie.Need-shl-t4
-shl-t4 c = search needs
+shl-t5 : tie.Need-shl-t5
+shl-t5 c = search needs
 
 empty-requires : tie.Need-empty-requires
 empty-requires c κs = search needs
@@ -18,4 +18,4 @@ returns-2 : tie.Need-returns-2
 returns-2 c = cases.terminal-none (omega arith) (c .empty .ensures)
 
 pub terminal-spec : {M : Type 1} → statement M
-terminal-spec = tie.close (tie.spec shl-t4 empty-requires returns returns-2)
+terminal-spec = tie.close (tie.spec shl-t5 empty-requires returns returns-2)

@@ -1,15 +1,16 @@
--- A join that is no other set changes nothing.
+-- The new set is the join; it is told where it is another.
 use borrow.Author.Needs.{needs}
-use Rattle.lookahead.specs.Operations.{join}
-use Rattle.sets.proofs.Rising.{adds-same, adds-more}
 use Rattle.sets.proofs.family.add.Statement.{statement}
 use Rattle.sets.proofs.family.add.Tie as tie
 
-mul-old : tie.Need-mul-old
-mul-old c = search needs
+mul-t7 : tie.Need-mul-t7
+mul-t7 c = search needs
 
-element-copy-out-old : tie.Need-element-copy-out-old
-element-copy-out-old c = search needs
+element-copy-out-t10 : tie.Need-element-copy-out-t10
+element-copy-out-t10 c = search needs
+
+join-requires : tie.Need-join-requires
+join-requires c κs = search needs
 
 mul-sets : tie.Need-mul-sets
 mul-sets c = search needs
@@ -18,12 +19,9 @@ element-write-sets : tie.Need-element-write-sets
 element-write-sets c = search needs
 
 returns : tie.Need-returns
-unfolding join
-returns c = adds-same (c .before .before .args .grown) (c .if1 .taken)
-
-returns-2 : tie.Need-returns-2
-unfolding join
-returns-2 c = adds-more (c .before .before .args .grown) (c .if1 .left)
+returns c = let joined = c .before .before .join .ensures .is in record { list = rw joined; told = rw joined }
 
 pub add-spec : {M : Type 1} → statement M
-add-spec = tie.close (tie.spec mul-old element-copy-out-old mul-sets element-write-sets returns returns-2)
+add-spec =
+    tie.close
+    (tie.spec mul-t7 element-copy-out-t10 join-requires mul-sets element-write-sets returns)

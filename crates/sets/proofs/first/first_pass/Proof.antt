@@ -1,68 +1,69 @@
--- The loop keeps `FirstWalk`: the words from `at` on have been gone through.
+-- The loop keeps `Turns`: the rules before have had their turn.
+use Prim.Native.Nat.{_-_}
 use mathlib.Core.Path.{_∙_}
 use native.Mathlib.Omega.{arith}
-use Rattle.sets.proofs.Naming.{before-indexed}
-use Rattle.sets.proofs.Looking.{onto-at}
-use Rattle.sets.proofs.Walk.{turn, finish}
-use Rattle.sets.proofs.FirstPasses.{FirstWalk, walk-start, firstward}
+use Rattle.grammar.proofs.WellRead.{well-read}
+use Rattle.sets.proofs.Turns.{Turns, turns-start}
+use Rattle.sets.proofs.Visits.{Gives, its-turn, its-start, head-below, visit, visits-end}
+use Rattle.sets.proofs.FirstPasses.{ruleGives, rule-larger}
 use Rattle.sets.proofs.first.first_pass.Statement.{statement}
 use Rattle.sets.proofs.first.first_pass.Tie as tie
 
 abbrev Inv-loop : tie.InvT-loop
-Inv-loop words firsts₀ terminals grown₀ rest₀ at₀ firsts grown rest at = FirstWalk terminals words firsts₀ firsts grown rest at
+Inv-loop words starts sizes firsts₀ forward terminals grown₀ passed₀ firsts grown passed = Turns (Gives (ruleGives terminals) words) (sizes .rules) forward firsts₀ firsts grown passed
 
 abbrev μ-loop : tie.MeasureT-loop
-μ-loop words firsts₀ terminals grown₀ rest₀ at₀ firsts grown rest at = at
-
-no-rest-requires : tie.Need-no-rest-requires Inv-loop μ-loop
-no-rest-requires c κs = tt
+μ-loop words starts sizes firsts₀ forward terminals grown₀ passed₀ firsts grown passed = sizes .rules - passed
 
 loop-holds : tie.Need-loop-holds Inv-loop μ-loop
-loop-holds c =
-    let start = c .before .before in
-    walk-start _ (start .args .words .now) (start .args .firsts .now) (c .no-rest .ensures)
+loop-holds c = turns-start _ _ (c .before .args .forward) _
 
-sub-at : tie.Need-sub-at Inv-loop μ-loop
-sub-at c = omega arith
+turn-requires : tie.Need-turn-requires Inv-loop μ-loop
+turn-requires c κs = c .if1 .taken
+
+mul-start : tie.Need-mul-start Inv-loop μ-loop
+mul-start c = omega (arith, its-turn (c .before .before .before .before .before .pre) (c .before .before .before .before .before .args .forward) (c .before .if1 .taken) (c .turn .ensures), well-read _ _ (c .before .before .before .before .before .pre .read) .fewRules)
+
+element-copy-out-start : tie.Need-element-copy-out-start Inv-loop μ-loop
+element-copy-out-start c = omega (arith, its-turn (c .before .before .before .before .before .pre) (c .before .before .before .before .before .args .forward) (c .before .if1 .taken) (c .turn .ensures), well-read _ _ (c .before .before .before .before .before .pre .read) .fewRules)
+
+end-of-requires : tie.Need-end-of-requires Inv-loop μ-loop
+end-of-requires c κs = (c .before .before .before .before .before .before .pre .read, c .before .before .before .before .before .before .pre .begins, its-turn (c .before .before .before .before .before .before .pre) (c .before .before .before .before .before .before .args .forward) (c .before .before .if1 .taken) (c .before .turn .ensures))
+
+rule-first-requires : tie.Need-rule-first-requires Inv-loop μ-loop
+rule-first-requires c κs = (c .before .end-of .ensures, c .before .before .before .before .before .before .loop .inv .long ∙ c .before .before .before .before .before .before .before .before .pre .long)
 
 mul-decode : tie.Need-mul-decode Inv-loop μ-loop
-mul-decode c = omega (arith, c .before .loop .inv .within)
+mul-decode c = omega (arith, its-start (c .before .before .before .before .before .before .before .before .before .pre) (c .before .before .before .before .before .before .before .before .before .args .forward) (c .before .before .before .before .before .if1 .taken) (c .before .before .before .before .turn .ensures))
 
 shared-slice-read-decode : tie.Need-shared-slice-read-decode Inv-loop μ-loop
-shared-slice-read-decode c = omega (arith, c .before .before .loop .inv .within)
+shared-slice-read-decode c = omega (arith, its-start (c .before .before .before .before .before .before .before .before .before .before .pre) (c .before .before .before .before .before .before .before .before .before .before .args .forward) (c .before .before .before .before .before .before .if1 .taken) (c .before .before .before .before .before .turn .ensures))
 
 decode-requires : tie.Need-decode-requires Inv-loop μ-loop
 decode-requires c κs = tt
 
-onto-requires : tie.Need-onto-requires Inv-loop μ-loop
-onto-requires c κs = tt
+head-of-requires : tie.Need-head-of-requires Inv-loop μ-loop
+head-of-requires c κs = tt
 
-close-rule-requires : tie.Need-close-rule-requires Inv-loop μ-loop
-close-rule-requires c κs =
-    let start = c .before .before .before .before .before .before .before .before .before in
-    let loop = c .before .before .before .before .before .before in
-    let some = c .before .before .before .before .before .loop-test .taken in
-    before-indexed (start .args .words .now) (start .pre .0) some (loop .loop .inv .within) (c .before .before .before .decode .ensures)
+add-requires : tie.Need-add-requires Inv-loop μ-loop
+add-requires c κs = head-below (c .before .before .before .before .before .before .before .before .before .before .before .before .before .pre) (c .before .before .before .before .before .before .before .before .before .before .before .before .before .args .forward) (c .before .before .before .before .before .before .before .before .before .if1 .taken) (c .before .before .before .before .before .before .before .before .turn .ensures) (c .before .before .decode .ensures) (c .before .head-of .ensures)
+
+either-requires : tie.Need-either-requires Inv-loop μ-loop
+either-requires c κs = tt
+
+add-passed : tie.Need-add-passed Inv-loop μ-loop
+add-passed c = omega (arith, c .before .before .before .before .before .before .before .before .before .before .before .if1 .taken)
 
 loop-less : tie.Need-loop-less Inv-loop μ-loop
-loop-less c = omega (arith, c .before .before .before .before .before .before .loop-test .taken)
+loop-less c = omega (arith, c .before .before .before .before .before .before .before .before .before .before .before .if1 .taken)
 
 loop-again : tie.Need-loop-again Inv-loop μ-loop
 loop-again c =
-    let at-onto = c .before .before in
-    let at-decode = at-onto .before .before in
-    let at-before = at-decode .before .before in
-    let at-before-2 = at-before .before .before .before in
-    let start = at-before-2 .before in
-    let loop = at-before .before in
-    let some = at-before .loop-test .taken in
-    let word = at-decode .decode .ensures in
-    turn (firstward _) (loop .loop .inv) some (start .pre .1) word
-    (before-indexed (start .args .words .now) (start .pre .0) some (loop .loop .inv .within) word)
-    (onto-at (loop .loop .firsts) (loop .loop .inv .passing .long ∙ start .pre .1) (at-onto .onto .ensures) .onto) (c .close-rule .ensures)
+    visit (c .before .before .before .before .before .before .before .before .before .before .before .before .before .before .before .pre) (ruleGives _) (rule-larger _) (c .before .before .before .before .before .before .before .before .before .before .before .before .before .before .before .args .forward) _ (c .before .before .before .before .before .before .before .before .before .before .before .before .before .loop .inv) (c .before .before .before .before .before .before .before .before .before .before .before .if1 .taken) (c .before .before .before .before .before .before .before .before .before .before .turn .ensures) (c .before .before .before .before .before .before .rule-first .ensures)
+    (c .before .before .before .before .decode .ensures) (c .before .before .before .head-of .ensures) (c .before .add .ensures) (c .either .ensures)
 
 returns : tie.Need-returns Inv-loop μ-loop
-returns c = finish (c .before .loop .inv) (c .loop-test .left)
+returns c = visits-end (c .before .before .before .before .pre) (ruleGives _) (rule-larger _) (c .before .before .before .before .args .forward) (c .before .before .loop .inv) (c .if1 .left)
 
 pub first-pass-spec : {M : Type 1} → statement M
 first-pass-spec =
@@ -70,14 +71,19 @@ first-pass-spec =
     (tie.spec
     Inv-loop
     μ-loop
-    no-rest-requires
     loop-holds
-    sub-at
+    turn-requires
+    mul-start
+    element-copy-out-start
+    end-of-requires
+    rule-first-requires
     mul-decode
     shared-slice-read-decode
     decode-requires
-    onto-requires
-    close-rule-requires
+    head-of-requires
+    add-requires
+    either-requires
+    add-passed
     loop-less
     loop-again
     returns)

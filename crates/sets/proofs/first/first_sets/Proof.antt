@@ -1,8 +1,7 @@
 -- The loop keeps the array under every closed family; the last pass shows it closed.
-use mathlib.Core.Path.{refl, _∙_}
+use mathlib.Core.Path.{_≡_, refl, _∙_}
 use native.Mathlib.Omega.{arith}
 use lib.ListN.{length}
-use mathlib.Core.Path.{_≡_}
 use Rattle.grammar.specs.Limits.{maxNonterminals}
 use Rattle.grammar.specs.Encoding.{parse}
 use Rattle.lookahead.specs.Operations.{full}
@@ -13,16 +12,16 @@ use Rattle.sets.proofs.first.first_sets.Statement.{statement}
 use Rattle.sets.proofs.first.first_sets.Tie as tie
 
 abbrev Inv-loop : tie.InvT-loop
-Inv-loop words sizes firsts₀ firsts = (length firsts ≡ maxNonterminals) × Below (FirstClosed (sizes .terminals) (parse words .rules)) firsts
+Inv-loop words starts sizes firsts₀ forward₀ firsts forward = (length firsts ≡ maxNonterminals) × Below (FirstClosed (sizes .terminals) (parse words .rules)) firsts
 
 abbrev μ-loop : tie.MeasureT-loop
-μ-loop words sizes firsts₀ firsts = missing (full (sizes .terminals)) firsts
+μ-loop words starts sizes firsts₀ forward₀ firsts forward = missing (full (sizes .terminals)) firsts
 
 loop-holds : tie.Need-loop-holds Inv-loop μ-loop
-loop-holds c = (refl, below-none _ 32)
+loop-holds c = (refl, below-none _ maxNonterminals)
 
 first-pass-requires : tie.Need-first-pass-requires Inv-loop μ-loop
-first-pass-requires c κs = (c .before .before .before .pre, c .before .loop .inv .0)
+first-pass-requires c κs = let start = c .before .before .before in record { read = start .pre .0; begins = start .pre .1; long = c .before .loop .inv .0 }
 
 loop-less : tie.Need-loop-less Inv-loop μ-loop
 loop-less c =
@@ -33,16 +32,15 @@ loop-less c =
 loop-again : tie.Need-loop-again Inv-loop μ-loop
 loop-again c =
     let pass = c .before .first-pass .ensures in
-    let loop = c .before .before .before in
-    (pass .long ∙ loop .loop .inv .0, below-pass pass (loop .loop .inv .1))
+    let inv = c .before .before .before .loop .inv in
+    (pass .long ∙ inv .0, below-pass pass (inv .1))
 
 returns : tie.Need-returns Inv-loop μ-loop
 returns c =
     let start = c .before .before .before .before .before in
-    let loop = c .before .before .before in
+    let inv = c .before .before .before .loop .inv in
     let pass = c .before .first-pass .ensures in
-    first-listed (start .args .words .now) (start .args .sizes) (start .pre) _
-    (pass .long ∙ loop .loop .inv .0) (least-pass pass (loop .loop .inv .1) (c .if1 .left))
+    first-listed (start .args .words .now) (start .args .sizes) (start .pre .0) _ (pass .long ∙ inv .0) (least-pass pass (inv .1) (c .if1 .left))
 
 pub first-sets-spec : {M : Type 1} → statement M
 first-sets-spec =

@@ -20,28 +20,20 @@ enum-told c = search needs
 returns-2 : tie.Need-returns-2
 returns-2 c = rw (c .before .before .before .word .given .1, c .enum-told .given .1) (refl, refl)
 
-mul-t11 : tie.Need-mul-t11
-mul-t11 c = search needs
+mul-t9 : tie.Need-mul-t9
+mul-t9 c = search needs
 
-element-copy-out-t14 : tie.Need-element-copy-out-t14
-element-copy-out-t14 c = search needs
+element-copy-out-t12 : tie.Need-element-copy-out-t12
+element-copy-out-t12 c = search needs
 
 concat-requires : tie.Need-concat-requires
 concat-requires c κs = search needs
 
 add-requires : tie.Need-add-requires
-add-requires c κs =
-    let at-symbol = c .before .before .before .before in
-    let at-word = at-symbol .before .before .before in
-    let at-before = at-word .before in
-    let start = at-before .before in
-    rw (at-word .word .given .1, at-symbol .symbol .given .1) at (start .pre .0)
+add-requires c κs = rw (c .before .before .before .before .before .before .before .word .given .1, c .before .before .before .before .symbol .given .1) at (c .before .before .before .before .before .before .before .before .before .pre .0)
 
 returns-3 : tie.Need-returns-3
-returns-3 c =
-    let word = c .before .before .before .before .before .before .before .before .word .given .1 in
-    let symbol = c .before .before .before .before .before .symbol .given .1 in
-    rw (word, symbol, ← c .before .before .concat .ensures .is) (c .add .ensures)
+returns-3 c = rw (c .before .before .before .before .before .before .before .before .word .given .1, c .before .before .before .before .before .symbol .given .1, ← c .before .concat .ensures .is) (c .add .ensures)
 
 pub add-behind-spec : {M : Type 1} → statement M
 add-behind-spec =
@@ -52,8 +44,8 @@ add-behind-spec =
     enum-known-symbol
     enum-told
     returns-2
-    mul-t11
-    element-copy-out-t14
+    mul-t9
+    element-copy-out-t12
     concat-requires
     add-requires
     returns-3)

@@ -1,62 +1,70 @@
--- The loop keeps `LeftWalk`: the words from `at` on have been gone through.
+-- The loop keeps `Turns`: the rules before have had their turn.
+use Prim.Native.Nat.{_-_}
 use native.Mathlib.Omega.{arith}
+use Rattle.grammar.proofs.WellRead.{well-read}
 use Rattle.sets.specs.Least.{at as family}
 use Rattle.sets.specs.Left.{emptyIn}
-use Rattle.sets.proofs.Naming.{before-indexed}
-use Rattle.sets.proofs.Walk.{turn, finish}
-use Rattle.sets.proofs.LeftPasses.{LeftWalk, walk-start, leftward}
+use Rattle.sets.proofs.Turns.{Turns, turns-start}
+use Rattle.sets.proofs.Visits.{Gives, its-turn, its-start, head-below, visit, visits-end}
+use Rattle.sets.proofs.LeftPasses.{ruleLeft, rule-larger}
 use Rattle.sets.proofs.left.reach_pass.Statement.{statement}
 use Rattle.sets.proofs.left.reach_pass.Tie as tie
 
 abbrev Inv-loop : tie.InvT-loop
-Inv-loop words firsts reach₀ grown₀ left₀ at₀ reach grown left at = LeftWalk (emptyIn (family firsts)) words reach₀ reach grown left at
+Inv-loop words starts sizes firsts reach₀ forward grown₀ passed₀ reach grown passed = Turns (Gives (ruleLeft (emptyIn (family firsts))) words) (sizes .rules) forward reach₀ reach grown passed
 
 abbrev μ-loop : tie.MeasureT-loop
-μ-loop words firsts reach₀ grown₀ left₀ at₀ reach grown left at = at
+μ-loop words starts sizes firsts reach₀ forward grown₀ passed₀ reach grown passed = sizes .rules - passed
 
 loop-holds : tie.Need-loop-holds Inv-loop μ-loop
-loop-holds c = walk-start _ _ _
+loop-holds c = turns-start _ _ (c .before .args .forward) _
 
-sub-at : tie.Need-sub-at Inv-loop μ-loop
-sub-at c = omega arith
+turn-requires : tie.Need-turn-requires Inv-loop μ-loop
+turn-requires c κs = c .if1 .taken
+
+mul-start : tie.Need-mul-start Inv-loop μ-loop
+mul-start c = omega (arith, its-turn (c .before .before .before .before .before .pre) (c .before .before .before .before .before .args .forward) (c .before .if1 .taken) (c .turn .ensures), well-read _ _ (c .before .before .before .before .before .pre .read) .fewRules)
+
+element-copy-out-start : tie.Need-element-copy-out-start Inv-loop μ-loop
+element-copy-out-start c = omega (arith, its-turn (c .before .before .before .before .before .pre) (c .before .before .before .before .before .args .forward) (c .before .if1 .taken) (c .turn .ensures), well-read _ _ (c .before .before .before .before .before .pre .read) .fewRules)
+
+end-of-requires : tie.Need-end-of-requires Inv-loop μ-loop
+end-of-requires c κs = (c .before .before .before .before .before .before .pre .read, c .before .before .before .before .before .before .pre .begins, its-turn (c .before .before .before .before .before .before .pre) (c .before .before .before .before .before .before .args .forward) (c .before .before .if1 .taken) (c .before .turn .ensures))
+
+rule-left-requires : tie.Need-rule-left-requires Inv-loop μ-loop
+rule-left-requires c κs = c .before .end-of .ensures
 
 mul-decode : tie.Need-mul-decode Inv-loop μ-loop
-mul-decode c = omega (arith, c .before .loop .inv .within)
+mul-decode c = omega (arith, its-start (c .before .before .before .before .before .before .before .before .before .pre) (c .before .before .before .before .before .before .before .before .before .args .forward) (c .before .before .before .before .before .if1 .taken) (c .before .before .before .before .turn .ensures))
 
 shared-slice-read-decode : tie.Need-shared-slice-read-decode Inv-loop μ-loop
-shared-slice-read-decode c = omega (arith, c .before .before .loop .inv .within)
+shared-slice-read-decode c = omega (arith, its-start (c .before .before .before .before .before .before .before .before .before .before .pre) (c .before .before .before .before .before .before .before .before .before .before .args .forward) (c .before .before .before .before .before .before .if1 .taken) (c .before .before .before .before .before .turn .ensures))
 
 decode-requires : tie.Need-decode-requires Inv-loop μ-loop
 decode-requires c κs = tt
 
-onto-left-requires : tie.Need-onto-left-requires Inv-loop μ-loop
-onto-left-requires c κs =
-    let start = c .before .before .before .before .before .before in
-    let loop = c .before .before .before .before in
-    let some = c .before .before .before .loop-test .taken in
-    before-indexed _ (start .pre .read) some (loop .loop .inv .within) (c .before .decode .ensures)
+head-of-requires : tie.Need-head-of-requires Inv-loop μ-loop
+head-of-requires c κs = tt
 
-close-rule-requires : tie.Need-close-rule-requires Inv-loop μ-loop
-close-rule-requires c κs =
-    let start = c .before .before .before .before .before .before .before .before in
-    let loop = c .before .before .before .before .before .before in
-    let some = c .before .before .before .before .before .loop-test .taken in
-    before-indexed _ (start .pre .read) some (loop .loop .inv .within) (c .before .before .before .decode .ensures)
+add-nonterminals-requires : tie.Need-add-nonterminals-requires Inv-loop μ-loop
+add-nonterminals-requires c κs = head-below (c .before .before .before .before .before .before .before .before .before .before .before .before .before .pre) (c .before .before .before .before .before .before .before .before .before .before .before .before .before .args .forward) (c .before .before .before .before .before .before .before .before .before .if1 .taken) (c .before .before .before .before .before .before .before .before .turn .ensures) (c .before .before .decode .ensures) (c .before .head-of .ensures)
+
+either-requires : tie.Need-either-requires Inv-loop μ-loop
+either-requires c κs = tt
+
+add-passed : tie.Need-add-passed Inv-loop μ-loop
+add-passed c = omega (arith, c .before .before .before .before .before .before .before .before .before .before .before .if1 .taken)
 
 loop-less : tie.Need-loop-less Inv-loop μ-loop
-loop-less c = omega (arith, c .before .before .before .before .before .before .loop-test .taken)
+loop-less c = omega (arith, c .before .before .before .before .before .before .before .before .before .before .before .if1 .taken)
 
 loop-again : tie.Need-loop-again Inv-loop μ-loop
 loop-again c =
-    let start = c .before .before .before .before .before .before .before .before .before in
-    let loop = c .before .before .before .before .before .before .before in
-    let some = c .before .before .before .before .before .before .loop-test .taken in
-    let word = c .before .before .before .before .decode .ensures in
-    let indexed = before-indexed _ (start .pre .read) some (loop .loop .inv .within) word in
-    turn (leftward _) (loop .loop .inv) some (start .pre .long) word indexed (c .before .before .onto-left .ensures .onto) (c .close-rule .ensures)
+    visit (c .before .before .before .before .before .before .before .before .before .before .before .before .before .before .before .pre) (ruleLeft _) (rule-larger _) (c .before .before .before .before .before .before .before .before .before .before .before .before .before .before .before .args .forward) _ (c .before .before .before .before .before .before .before .before .before .before .before .before .before .loop .inv) (c .before .before .before .before .before .before .before .before .before .before .before .if1 .taken) (c .before .before .before .before .before .before .before .before .before .before .turn .ensures) (c .before .before .before .before .before .before .rule-left .ensures)
+    (c .before .before .before .before .decode .ensures) (c .before .before .before .head-of .ensures) (c .before .add-nonterminals .ensures) (c .either .ensures)
 
 returns : tie.Need-returns Inv-loop μ-loop
-returns c = finish (c .before .loop .inv) (c .loop-test .left)
+returns c = visits-end (c .before .before .before .before .pre) (ruleLeft _) (rule-larger _) (c .before .before .before .before .args .forward) (c .before .before .loop .inv) (c .if1 .left)
 
 pub reach-pass-spec : {M : Type 1} → statement M
 reach-pass-spec =
@@ -65,12 +73,18 @@ reach-pass-spec =
     Inv-loop
     μ-loop
     loop-holds
-    sub-at
+    turn-requires
+    mul-start
+    element-copy-out-start
+    end-of-requires
+    rule-left-requires
     mul-decode
     shared-slice-read-decode
     decode-requires
-    onto-left-requires
-    close-rule-requires
+    head-of-requires
+    add-nonterminals-requires
+    either-requires
+    add-passed
     loop-less
     loop-again
     returns)

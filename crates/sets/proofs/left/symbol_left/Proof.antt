@@ -1,8 +1,8 @@
 -- By the kind of symbol, and by whether the nonterminal is nullable.
 use mathlib.Core.Path.{refl, sym, _∙_}
 use native.Mathlib.Omega.{arith}
-use borrow.Author.Needs.{needs}
 use Rattle.sets.proofs.LeftPasses.{left-terminal, left-on, left-stop}
+use borrow.Author.Needs.{needs}
 use Rattle.sets.proofs.left.symbol_left.Statement.{statement}
 use Rattle.sets.proofs.left.symbol_left.Tie as tie
 
@@ -12,41 +12,50 @@ enum-known-symbol c = search needs
 enum-told : tie.Need-enum-told
 enum-told c = search needs
 
+empty-requires : tie.Need-empty-requires
+empty-requires c κs = search needs
+
 returns : tie.Need-returns
-returns c = left-terminal _ _ _ (c .enum-told .given .1)
+returns c = left-terminal _ _ _ (c .before .enum-told .given .1) (c .empty .ensures)
 
 cast-at : tie.Need-cast-at
 cast-at c = search needs
 
-shl-own : tie.Need-shl-own
-shl-own c = omega (arith, rw (c .before .symbol .given .1) at (c .before .before .before .pre))
-
-mul-own : tie.Need-mul-own
-mul-own c = search needs
-
-element-copy-out-own : tie.Need-element-copy-out-own
-element-copy-out-own c = omega (arith, rw (c .before .symbol .given .1) at (c .before .before .before .pre))
+alone-requires : tie.Need-alone-requires
+alone-requires c κs = search needs
 
 mul-t10 : tie.Need-mul-t10
 mul-t10 c = search needs
 
-element-copy-out-t9 : tie.Need-element-copy-out-t9
-element-copy-out-t9 c = omega (arith, rw (c .before .before .symbol .given .1) at (c .before .before .before .before .pre))
+element-copy-out-t13 : tie.Need-element-copy-out-t13
+element-copy-out-t13 c = omega (arith, rw (c .before .before .symbol .given .1) at (c .before .before .before .before .pre))
+
+join-requires : tie.Need-join-requires
+join-requires c κs = search needs
+
+mul-t10-2 : tie.Need-mul-t10-2
+mul-t10-2 c = search needs
+
+element-copy-out-t17 : tie.Need-element-copy-out-t17
+element-copy-out-t17 c = omega (arith, rw (c .before .before .before .before .symbol .given .1) at (c .before .before .before .before .before .before .pre))
 
 contains-requires : tie.Need-contains-requires
 contains-requires c κs = search needs
 
+join-requires-2 : tie.Need-join-requires-2
+join-requires-2 c κs = search needs
+
 returns-2 : tie.Need-returns-2
 returns-2 c =
-    let symbol = c .before .before .before .before .before in
-    let low = rw (symbol .symbol .given .1) at (symbol .before .before .pre) in
-    left-on _ _ _ (symbol .symbol .given .1) low refl (sym (c .before .contains .ensures) ∙ c .if1 .taken)
+    let found = c .before .before .before .before .before .before .before .before in
+    let low = rw (found .symbol .given .1) at (found .before .before .pre) in
+    left-on _ _ _ (found .symbol .given .1) low (c .before .before .before .before .before .before .alone .ensures) refl (c .before .before .before .before .join .ensures) (sym (c .before .before .contains .ensures) ∙ c .before .if1 .taken) (c .join2 .ensures)
 
 returns-3 : tie.Need-returns-3
 returns-3 c =
-    let symbol = c .before .before .before .before .before in
-    let low = rw (symbol .symbol .given .1) at (symbol .before .before .pre) in
-    left-stop _ _ _ (symbol .symbol .given .1) low refl (sym (c .before .contains .ensures) ∙ c .if1 .left)
+    let found = c .before .before .before .before .before .before .before in
+    let low = rw (found .symbol .given .1) at (found .before .before .pre) in
+    left-stop _ _ _ (found .symbol .given .1) low (c .before .before .before .before .before .alone .ensures) refl (c .before .before .before .join .ensures) (sym (c .before .contains .ensures) ∙ c .if1 .left)
 
 pub symbol-left-spec : {M : Type 1} → statement M
 symbol-left-spec =
@@ -54,13 +63,16 @@ symbol-left-spec =
     (tie.spec
     enum-known-symbol
     enum-told
+    empty-requires
     returns
     cast-at
-    shl-own
-    mul-own
-    element-copy-out-own
+    alone-requires
     mul-t10
-    element-copy-out-t9
+    element-copy-out-t13
+    join-requires
+    mul-t10-2
+    element-copy-out-t17
     contains-requires
+    join-requires-2
     returns-2
     returns-3)

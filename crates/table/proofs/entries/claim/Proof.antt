@@ -34,8 +34,8 @@ cast-t18 c = search needs
 mul-t19 : tie.Need-mul-t19
 mul-t19 c = search needs
 
-element-copy-out-t15 : tie.Need-element-copy-out-t15
-element-copy-out-t15 c = omega (arith, own (c .before .before .before .pre) (c .before .word .given .1))
+element-copy-out-t22 : tie.Need-element-copy-out-t22
+element-copy-out-t22 c = omega (arith, own (c .before .before .before .pre) (c .before .word .given .1))
 
 concat-requires : tie.Need-concat-requires
 concat-requires c κs = search needs
@@ -80,7 +80,7 @@ claim-spec =
     sub-rule
     cast-t18
     mul-t19
-    element-copy-out-t15
+    element-copy-out-t22
     concat-requires
     cast-note
     note-requires

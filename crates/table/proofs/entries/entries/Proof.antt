@@ -2,7 +2,7 @@
 use mathlib.Core.Path.{refl}
 use borrow.Author.Needs.{needs}
 use Rattle.grammar.proofs.WellRead.{well-read}
-use Rattle.table.proofs.Whole.{entries-right}
+use Rattle.table.proofs.Whole.{sets-fit, entries-right}
 use Rattle.table.proofs.entries.entries.Statement.{statement}
 use Rattle.table.proofs.entries.entries.Tie as tie
 
@@ -10,7 +10,7 @@ cast-fill-sets : tie.Need-cast-fill-sets
 cast-fill-sets c = search needs
 
 fill-sets-requires : tie.Need-fill-sets-requires
-fill-sets-requires c κs = (refl, well-read _ _ (c .before .before .pre .read) .fewNonterminals)
+fill-sets-requires c κs = let given = c .before .before .pre in (refl, well-read _ _ (given .read) .fewNonterminals, sets-fit given .0, sets-fit given .1)
 
 fill-rows-requires : tie.Need-fill-rows-requires
 fill-rows-requires c κs = search needs

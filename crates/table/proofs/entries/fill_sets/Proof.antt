@@ -22,6 +22,9 @@ mul-table c = omega arith
 element-copy-out-table : tie.Need-element-copy-out-table Inv-loop μ-loop
 element-copy-out-table c = omega arith
 
+cast-table : tie.Need-cast-table Inv-loop μ-loop
+cast-table c = omega (arith, c .before .before .before .pre .2 (c .before .before .loop .nonterminal))
+
 mul-table-2 : tie.Need-mul-table-2 Inv-loop μ-loop
 mul-table-2 c = omega arith
 
@@ -36,6 +39,9 @@ mul-table-4 c = omega arith
 
 element-copy-out-table-2 : tie.Need-element-copy-out-table-2 Inv-loop μ-loop
 element-copy-out-table-2 c = omega arith
+
+cast-table-2 : tie.Need-cast-table-2 Inv-loop μ-loop
+cast-table-2 c = omega (arith, c .before .before .before .before .pre .3 (c .before .before .before .loop .nonterminal))
 
 mul-table-5 : tie.Need-mul-table-5 Inv-loop μ-loop
 mul-table-5 c = omega arith
@@ -70,11 +76,13 @@ fill-sets-spec =
     loop-holds
     mul-table
     element-copy-out-table
+    cast-table
     mul-table-2
     mul-table-3
     element-write-table
     mul-table-4
     element-copy-out-table-2
+    cast-table-2
     mul-table-5
     add-table
     mul-table-6

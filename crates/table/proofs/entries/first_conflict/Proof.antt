@@ -29,14 +29,14 @@ div-nonterminal c = omega arith
 rem-column : tie.Need-rem-column Inv-loop μ-loop
 rem-column c = omega arith
 
-cast-contains : tie.Need-cast-contains Inv-loop μ-loop
-cast-contains c = omega (arith, few-rows _ _ _ (c .loop-test .taken))
+cast-t12 : tie.Need-cast-t12 Inv-loop μ-loop
+cast-t12 c = omega (arith, few-rows _ _ _ (c .loop-test .taken))
 
-mul-contains : tie.Need-mul-contains Inv-loop μ-loop
-mul-contains c = omega (arith, few-rows _ _ _ (c .loop-test .taken))
+mul-t13 : tie.Need-mul-t13 Inv-loop μ-loop
+mul-t13 c = omega (arith, few-rows _ _ _ (c .loop-test .taken))
 
-element-copy-out-contains : tie.Need-element-copy-out-contains Inv-loop μ-loop
-element-copy-out-contains c = omega (arith, few-rows _ _ _ (c .loop-test .taken))
+element-copy-out-t16 : tie.Need-element-copy-out-t16 Inv-loop μ-loop
+element-copy-out-t16 c = omega (arith, few-rows _ _ _ (c .loop-test .taken))
 
 element-requires : tie.Need-element-requires Inv-loop μ-loop
 element-requires c κs = tt
@@ -44,11 +44,11 @@ element-requires c κs = tt
 contains-requires : tie.Need-contains-requires Inv-loop μ-loop
 contains-requires c κs = tt
 
-cast-t18 : tie.Need-cast-t18 Inv-loop μ-loop
-cast-t18 c = omega (arith, few-rows _ _ _ (c .before .before .before .before .loop-test .taken))
-
 cast-t19 : tie.Need-cast-t19 Inv-loop μ-loop
-cast-t19 c =
+cast-t19 c = omega (arith, few-rows _ _ _ (c .before .before .before .before .loop-test .taken))
+
+cast-t20 : tie.Need-cast-t20 Inv-loop μ-loop
+cast-t20 c =
     let loop = c .before .before .before .before .before in
     omega (arith, few-columns (loop .loop .at) (loop .before .args .sizes .terminals))
 
@@ -86,13 +86,13 @@ first-conflict-spec =
     loop-holds
     div-nonterminal
     rem-column
-    cast-contains
-    mul-contains
-    element-copy-out-contains
+    cast-t12
+    mul-t13
+    element-copy-out-t16
     element-requires
     contains-requires
-    cast-t18
     cast-t19
+    cast-t20
     returns
     add-at
     loop-less

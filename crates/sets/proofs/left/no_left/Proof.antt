@@ -1,0 +1,16 @@
+-- Both sets are empty.
+use borrow.Author.Needs.{needs}
+use Rattle.sets.proofs.left.no_left.Statement.{statement}
+use Rattle.sets.proofs.left.no_left.Tie as tie
+
+empty-requires : tie.Need-empty-requires
+empty-requires c κs = search needs
+
+empty-requires-2 : tie.Need-empty-requires-2
+empty-requires-2 c κs = search needs
+
+returns : tie.Need-returns
+returns c = rw (c .before .empty .ensures .is, c .empty2 .ensures .is)
+
+pub no-left-spec : {M : Type 1} → statement M
+no-left-spec = tie.close (tie.spec empty-requires empty-requires-2 returns)

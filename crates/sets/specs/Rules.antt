@@ -1,0 +1,45 @@
+-- The rules of a grammar that has been read, as passes over them go: in which order, and where the words of each stand.
+use mathlib.Core.Path.{_≡_}
+use mathlib.Core.Bool.{Bool, true, false}
+use mathlib.Core.List.{List, []}
+use Prim.Native.Nat.{ℕ, suc, _-_, _≤_, _<_}
+use lib.ListN.{length, getD, drop}
+use Rattle.word.specs.Words.{decoded}
+use Rattle.grammar.specs.declared.reading.Sizes.{Sizes}
+use Rattle.grammar.specs.declared.reading.Outcome.the-variants.{Read}
+use Rattle.grammar.specs.Limits.{maxNonterminals}
+use Rattle.grammar.specs.Syntax.{Rule}
+use Rattle.grammar.specs.Encoding.{Parsed, parse}
+use Rattle.grammar.specs.Reading.{beginsRule, reading}
+use Rattle.grammar.specs.Starts.{ruleStarts}
+use Rattle.grammar.specs.WellRead.{firstRule}
+
+-- the rule that a pass comes to behind others, from the first on or from the last on
+abbrev pub turnOf : Bool → ℕ → ℕ → ℕ
+turnOf true rules passed = passed
+turnOf false rules passed = rules - suc passed
+
+-- the rule that begins at an index
+abbrev pub ruleFrom : List ℕ → ℕ → Rule
+ruleFrom words start = firstRule (drop start words)
+
+-- of a rule that began before, nothing is left
+pub record Ended (p : Parsed) : Type 0 where
+  pub body : p .body ≡ []
+  pub positives : p .positives ≡ []
+  pub negatives : p .negatives ≡ []
+
+-- the words of the rule that begins at an index
+pub record RuleWords (words : List ℕ) (start end : ℕ) : Type 0 where
+  pub sizes : Sizes
+  pub read : reading words ≡ Read sizes
+  pub some : start < end
+  pub within : end ≤ length words
+  pub ended : Ended (parse (drop end words))
+  pub inside : (i : ℕ) → start < i → i < end → beginsRule (decoded (getD words i 0)) ≡ false
+
+-- what a pass over the rules of a grammar that has been read needs
+pub record PassGiven (words starts : List ℕ) (z : Sizes) (sets : List ℕ) : Type 0 where
+  pub read : reading words ≡ Read z
+  pub begins : starts ≡ ruleStarts words
+  pub long : length sets ≡ maxNonterminals
