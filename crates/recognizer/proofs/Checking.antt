@@ -3,8 +3,7 @@ use mathlib.Core.Path.{_≡_, refl, sym, ap, _∙_}
 use mathlib.Core.List.{List, [], _∷_, _++_, List·Memᴰ·head, List·Memᴰ·not-nil}
 use mathlib.Core.Option.{Option, none, some}
 use Prim.Native.Nat.{ℕ, _+_, _-_, _*_, _≤_, _<_}
-use native.Mathlib.Nat.{mul-add, mul-le-mul}
-use native.Mathlib.Numerals.{add-one}
+use native.Mathlib.Nat.{mul-le-mul}
 use native.Mathlib.Omega.{arith}
 use lib.Dec.{T}
 use lib.ListN.{length, take, drop, replicate, length-append, length-replicate}
@@ -17,7 +16,6 @@ use Rattle.answer.specs.declared.Answer.{Answer}
 use Rattle.answer.specs.declared.Answer.the-variants.{Refused, Passed}
 use Rattle.grammar.specs.Codes.{noEntry}
 use Rattle.grammar.specs.Limits.{tableWords as memoryWords}
-use Rattle.grammar.specs.Syntax.{Grammar}
 use Rattle.grammar.specs.Encoding.{grammarOf}
 use Rattle.grammar.specs.Reading.{reading}
 use Rattle.grammar.specs.declared.reading.Sizes.{Sizes}
@@ -31,28 +29,16 @@ use Rattle.semantics.specs.Theorems.{LeastSets}
 use Rattle.semantics.proofs.Theorems.{theorems}
 use Rattle.sets.specs.declared.Finding.the-variants as finding
 use Rattle.table.specs.declared.Analysis.{Analysis}
-use Rattle.sets.specs.Lists.{listed}
-use Rattle.table.specs.Layout.{columns, setWord, rowWord, tableWords}
+use Rattle.table.specs.Layout.{tableWords}
 use Rattle.table.specs.Entries.{filled}
 use Rattle.sets.specs.Families.{firstFault, readingFault, leftFault, setsFault}
 use Rattle.sets.proofs.Telling.{told-passed, told-refused}
 use Rattle.table.specs.Analysis.{clashFault, fault, tableIf, analyzed}
-use Rattle.sets.proofs.Lists.{listed-long}
+use Rattle.table.proofs.Words.{table-long}
 use Rattle.recognizer.specs.Memory.{lentBack, wordCount, LendGiven, Lent}
 use Rattle.recognizer.specs.Answers.{firstOf, checkFault, refusedOr, toldOr, passedNumbers}
 use Rattle.recognizer.specs.Judging.{Found}
 use Rattle.recognizer.specs.Properties.{PassedGrammar, LeastFamilies, Checks}
-
--- how long a table is
-pub table-long : (G : Grammar) → length (tableWords G) ≡ G .nonterminals * (G .terminals + 3)
-unfolding tableWords
-table-long G =
-    let a = listed-long (2 * G .nonterminals) (setWord G) in
-    let b = listed-long (G .nonterminals * columns G) (rowWord G) in
-    let m = mul-add (G .nonterminals) (G .terminals) 3 in
-    let k = mul-add (G .nonterminals) (G .terminals) 1 in
-    let c : G .nonterminals * columns G ≡ G .nonterminals * (G .terminals + 1) = rw (add-one (G .terminals)) in
-    length-append (listed (2 * G .nonterminals) (setWord G)) (listed (G .nonterminals * columns G) (rowWord G)) ∙ omega arith
 
 -- two faults, of which neither is one
 none-first : (f g : Option Error) → firstFault f g ≡ none → (f ≡ none) × (g ≡ none)
