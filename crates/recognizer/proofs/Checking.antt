@@ -3,8 +3,7 @@ use mathlib.Core.Path.{_≡_, refl, sym, ap, _∙_}
 use mathlib.Core.List.{List, [], _∷_, _++_, List·Memᴰ·head, List·Memᴰ·not-nil}
 use mathlib.Core.Option.{Option, none, some}
 use Prim.Native.Nat.{ℕ, _+_, _-_, _*_, _≤_, _<_}
-use native.Mathlib.Nat.{mul-add, mul-le-mul}
-use native.Mathlib.Numerals.{add-one}
+use native.Mathlib.Nat.{mul-le-mul}
 use native.Mathlib.Omega.{arith}
 use lib.Dec.{T}
 use lib.ListN.{length, take, drop, replicate, length-append, length-replicate}
@@ -37,29 +36,17 @@ use Rattle.semantics.specs.Theorems.{LeastSets}
 use Rattle.semantics.proofs.Theorems.{theorems}
 use Rattle.sets.specs.declared.Finding.the-variants as finding
 use Rattle.table.specs.declared.Analysis.{Analysis}
-use Rattle.sets.specs.Lists.{listed}
-use Rattle.table.specs.Layout.{columns, setWord, rowWord, tableWords}
+use Rattle.table.specs.Layout.{tableWords}
 use Rattle.table.specs.Entries.{filled}
 use Rattle.sets.specs.Families.{readingFault, leftFault}
 use Rattle.sets.proofs.Telling.{told-passed, told-refused}
 use Rattle.table.specs.Analysis.{clashFault, grammarFaults, fault, tableIf, analyzed}
-use Rattle.sets.proofs.Lists.{listed-long}
+use Rattle.table.proofs.Words.{table-long}
 use Rattle.recognizer.specs.Memory.{lentBack, wordCount, LendGiven, Lent}
 use Rattle.recognizer.specs.Answers.{checkFault}
 use Rattle.recognizer.specs.Judging.{Found}
 use Rattle.recognizer.specs.Properties.{PassedGrammar, LeastFamilies, Checks}
 use Rattle.recognizer.proofs.Places.{check-tells, fault-encoded, places}
-
--- how long a table is
-pub table-long : (G : Grammar) → length (tableWords G) ≡ G .nonterminals * (G .terminals + 3)
-unfolding tableWords
-table-long G =
-    let a = listed-long (2 * G .nonterminals) (setWord G) in
-    let b = listed-long (G .nonterminals * columns G) (rowWord G) in
-    let m = mul-add (G .nonterminals) (G .terminals) 3 in
-    let k = mul-add (G .nonterminals) (G .terminals) 1 in
-    let c : G .nonterminals * columns G ≡ G .nonterminals * (G .terminals + 1) = rw (add-one (G .terminals)) in
-    length-append (listed (2 * G .nonterminals) (setWord G)) (listed (G .nonterminals * columns G) (rowWord G)) ∙ omega arith
 
 none-left : (o : Option ℕ) → leftFault o ≡ none → o ≡ none
 none-left none e = refl

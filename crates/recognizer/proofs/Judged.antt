@@ -4,14 +4,13 @@ use mathlib.Core.Bool.{Bool, true, false, _&&_, true≢false, false≢true}
 use mathlib.Core.List.{List, [], _∷_, _++_}
 use mathlib.Core.Logic.{_↔_}
 use mathlib.Core.Option.{Option, none, some}
-use Prim.Native.Nat.{ℕ, suc, _+_, _-_, _*_, _≤_, _<_}
+use Prim.Native.Nat.{ℕ, suc, _+_, _*_, _≤_, _<_}
 use native.Mathlib.Nat.{mul-le-mul}
 use native.Mathlib.Numerals.{add-one}
 use native.Mathlib.Omega.{arith}
-use lib.Arith.{digits-lt, digits-div, digits-mod}
 use lib.Dec.{T, ltb}
-use lib.ListN.{length, getD, take, drop, replicate, length-append, List·getD-append, length-map}
-use lib.Seq.{getD-append-add, length-take-le}
+use lib.ListN.{length, take, drop, length-map}
+use lib.Seq.{length-take-le}
 use borrow.Author.Tests.{lt-ltb, le-ltb, ltb-false}
 use Rattle.answer.specs.declared.Error.{Error}
 use Rattle.answer.specs.declared.Error.the-variants.{TableTooShort, MemoTooShort, InputTooLong, UnknownToken}
@@ -22,7 +21,6 @@ use Rattle.answer.specs.declared.Calls.{Calls}
 use Rattle.answer.specs.declared.Answer.{Answer}
 use Rattle.answer.specs.declared.Answer.the-variants.{Refused, Accepted, Rejected}
 use Rattle.word.specs.Choice.{choose}
-use Rattle.grammar.specs.Codes.{noEntry}
 use Rattle.grammar.specs.Limits.{tableWords as memoryWords, memoEntries, maxTokens, maxNonterminals, maxPlaces}
 use Rattle.grammar.specs.Syntax.{Grammar}
 use Rattle.grammar.specs.Encoding.{grammarOf}
@@ -40,17 +38,14 @@ use Rattle.semantics.specs.Predictive.{Predictive}
 use Rattle.semantics.proofs.Booleans.{T-true, and-l, and-r}
 use Rattle.semantics.proofs.Range.{all-length}
 use Rattle.semantics.proofs.Theorems.{theorems}
-use Rattle.sets.specs.Lists.{listed}
-use Rattle.table.specs.Layout.{columns, setWord, rowWord, tableWords}
-use Rattle.table.specs.Entries.{filled}
+use Rattle.table.specs.Layout.{tableWords}
 use Rattle.table.specs.Analysis.{grammarFaults, fault}
-use Rattle.sets.proofs.Lists.{listed-long, listed-at}
+use Rattle.table.proofs.Words.{filled-entries}
 use Rattle.recognizer.specs.declared.judging.Unknown.{Unknown}
 use Rattle.recognizer.specs.declared.judging.Unknown.the-variants.{Absent, At}
 use Rattle.recognizer.specs.Memory.{lentBack, memoWord, memoWords, Lent}
 use Rattle.recognizer.specs.Answers.{unknownFrom, unknownFault, checkFault, judgeFault, callsOf, verdictOf, verdictNumbers}
 use Rattle.recognizer.specs.Judging.{PassedGiven, DescendGiven, Descended}
-use Rattle.recognizer.specs.Preparing.{Entries}
 use Rattle.recognizer.specs.Properties.{PassedGrammar, Recognizes, Judges}
 use Rattle.recognizer.proofs.Checking.{passed-fault, passed-encodes, passed-free, fault-passed, no-clashes, not-left-recursive, lent-table, least}
 use Rattle.recognizer.proofs.Places.{judge-tells, fault-encoded, places}
@@ -202,25 +197,6 @@ pub judge-refused : {words input table memo : List ℕ} {x : Error} → judgeFau
 judge-refused {words} {input} {table} {memo} f =
     judges (sym (ap (λ y. refusedOr y (verdictOf (grammarOf words) input)) f)) (sym (ap (λ y. lentBack y (tableWords (grammarOf words)) table) f))
     (sym (ap (λ y. lentBack y (memoWords (grammarOf words) input) memo) f))
-
--- the entries of a grammar in its filled table
-filled-entries : (G : Grammar) → Entries G (filled (tableWords G))
-unfolding filled tableWords rowWord
-filled-entries G A c a h =
-    let sets = listed (2 * G .nonterminals) (setWord G) in
-    let rows = listed (G .nonterminals * columns G) (rowWord G) in
-    let behind = replicate (memoryWords - length (sets ++ rows)) noEntry in
-    let i = A * columns G + c in
-    let low : i < G .nonterminals * columns G = digits-lt a h in
-    let n = listed-long (2 * G .nonterminals) (setWord G) in
-    let m = listed-long (G .nonterminals * columns G) (rowWord G) in
-    let long : length sets + i < length (sets ++ rows) = rw length-append (omega arith) in
-    let place : 2 * G .nonterminals + A * columns G + c ≡ length sets + i = omega arith in
-    ap (λ k. getD ((sets ++ rows) ++ behind) k 0) place
-    ∙ List·getD-append (sets ++ rows) behind 0 (length sets + i) long
-    ∙ getD-append-add sets rows i 0
-    ∙ listed-at (G .nonterminals * columns G) (rowWord G) i low
-    ∙ rw (digits-div A h, digits-mod A h)
 
 memo-count : (G : Grammar) (input : List ℕ) → length (memoWords G input) ≡ pairs G input
 unfolding memoWords

@@ -25,11 +25,10 @@ pub fn check(words: &[u32], table: &mut [u32]) -> Answer
     }
     let analysis = analyze(words);
     let finding = analysis.finding;
-    let entries = analysis.table;
     match finding {
         Finding::Refused(error) => Answer::Refused(error),
         Finding::Passed(sizes) => {
-            lend(table, &entries, sizes);
+            lend(table, &analysis.table, sizes);
             Answer::Passed
         }
     }
@@ -47,9 +46,8 @@ pub fn judge(words: &[u32], input: &[u8], table: &mut [u32], memo: &mut [u16]) -
     }
     let analysis = analyze(words);
     let finding = analysis.finding;
-    let entries = analysis.table;
     match finding {
         Finding::Refused(found) => Answer::Refused(found),
-        Finding::Passed(sizes) => judge_passed(words, sizes, &entries, input, table, memo),
+        Finding::Passed(sizes) => judge_passed(words, sizes, &analysis.table, input, table, memo),
     }
 }

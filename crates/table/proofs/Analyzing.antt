@@ -1,56 +1,122 @@
--- What is found of an encoded grammar, by what its parts find. Assumes nothing.
+-- What is found of an encoded grammar, by its families, by the heads and the claims of its rules, and by the first conflict.
 use mathlib.Core.Path.{_≡_, refl, sym, ap, _∙_}
+use mathlib.Core.Bool.{Bool}
 use mathlib.Core.List.{List, [], _∷_}
 use mathlib.Core.Option.{none, some}
-use Prim.Native.Nat.{ℕ}
+use Prim.Native.Nat.{ℕ, suc, _≤_}
 use native.Mathlib.Omega.{arith}
+use lib.ListN.{replicate}
 use Rattle.answer.specs.declared.Error.{Error}
 use Rattle.answer.specs.declared.Error.the-variants as error
 use Rattle.answer.specs.Faults.{firstFault}
 use Rattle.answer.proofs.Faults.{first-nested}
+use Rattle.grammar.specs.Codes.{noEntry}
 use Rattle.grammar.specs.Encoding.{grammarOf}
+use Rattle.grammar.specs.Limits.{maxNonterminals, maxTerminals, maxRules, tableWords as memoryWords}
 use Rattle.grammar.specs.declared.reading.Sizes.{Sizes}
+use Rattle.grammar.specs.WellRead.{WellRead}
+use Rattle.grammar.proofs.WellRead.{well-read}
+use Rattle.lookahead.specs.Elements.{nothing, weight}
 use Rattle.semantics.specs.FirstFollow.{Entry}
 use Rattle.semantics.specs.Claims.{clashes, column}
+use Rattle.semantics.proofs.Outcomes.{nth-mem}
+use Rattle.sets.specs.declared.Finding.{Finding}
+use Rattle.sets.specs.declared.Finding.the-variants.{Passed, Refused}
 use Rattle.sets.specs.Families.{setsFaults, setsFault}
+use Rattle.sets.specs.Lists.{listed}
+use Rattle.sets.specs.Sets.{numberOf, firstNumber, followNumber}
+use Rattle.sets.proofs.Lists.{listed-below}
+use Rattle.sets.proofs.Strings.{number-below}
 use Rattle.sets.proofs.Telling.{FoundFamilies}
-use Rattle.sets.specs.declared.Finding.the-variants.{Passed}
-use Rattle.table.specs.declared.entries.Conflict.{Conflict}
-use Rattle.table.specs.declared.entries.Conflict.the-variants as conflict
-use Rattle.table.specs.declared.entries.Table.{Table}
-use Rattle.table.specs.Entries.{firstOf, entriesOf}
-use Rattle.table.specs.Analysis.{clashFault, fault, analysis, refusedBy, analyzed, GivenFamilies}
+use Rattle.table.specs.declared.conflicts.Conflict.{Conflict}
+use Rattle.table.specs.declared.conflicts.Conflict.the-variants as conflict
+use Rattle.table.specs.Claims.{claimsWith, claimsOf, Given, Headed, AllKept}
+use Rattle.table.specs.Conflicts.{firstOf, conflictOf}
+use Rattle.table.specs.Entries.{FitWords, Filled}
+use Rattle.table.specs.Analysis.{clashFault, fault, analysis, refusedBy, analyzed}
+use Rattle.table.proofs.Claimants.{heads-own}
+use Rattle.table.proofs.Scanning.{first-clash}
+use Rattle.table.proofs.Whole.{table-filled}
 
 -- the faults found with the sets come first
 fault-sets : (words : List ℕ) → fault words ≡ firstFault (setsFault words ∷ clashFault (grammarOf words .terminals) (clashes (grammarOf words) 1) ∷ [])
 unfolding fault setsFault
 fault-sets words = first-nested [] (setsFaults words) (clashFault (grammarOf words .terminals) (clashes (grammarOf words) 1) ∷ [])
 
-pub analyzed-refused : (words : List ℕ) {e : Error} → setsFault words ≡ some e → refusedBy e ≡ analyzed words
-unfolding analyzed
-analyzed-refused words f = rw (fault-sets words, f)
-
-pub given-families : {words : List ℕ} {z : Sizes} {firsts follows : List ℕ} → FoundFamilies words z firsts follows → GivenFamilies words z firsts follows
-given-families f = record { given = record { read = f .read; first = f .first; follow = f .follow }; faultless = f .faultless }
-
 -- the first conflict that is told
-conflict-at : (t : ℕ) (l : List Entry) {n c : ℕ} → firstOf t l ≡ conflict.At n c → clashFault t l ≡ some (error.Conflict n c)
+conflict-at : (t : ℕ) (l : List Entry) {n c : ℕ} → firstOf (column t) l ≡ conflict.At n c → clashFault t l ≡ some (error.Conflict n c)
 conflict-at t [] e = let z : _≡_ {A = ℕ} 0 1 = cc in absurd (omega arith)
 conflict-at t (x ∷ l) {n} {c} e = let a : x .0 ≡ n = cc in let b : column t (x .1) ≡ c = cc in rw (a, b)
 
-conflict-absent : (t : ℕ) (l : List Entry) → firstOf t l ≡ conflict.Absent → clashFault t l ≡ none
+conflict-absent : (t : ℕ) (l : List Entry) → firstOf (column t) l ≡ conflict.Absent → clashFault t l ≡ none
 conflict-absent t [] e = refl
 conflict-absent t (x ∷ l) e = let z : _≡_ {A = ℕ} 0 1 = cc in absurd (omega arith)
 
-module _ {words : List ℕ} {z : Sizes} {firsts : List ℕ} {follows : List ℕ} (g : GivenFamilies words z firsts follows) {t : Table} (e : t ≡ entriesOf (grammarOf words)) where
-  pub analyzed-conflict : {n c : ℕ} → t .conflict ≡ conflict.At n c → refusedBy (error.Conflict n c) ≡ analyzed words
-  unfolding analyzed entriesOf
-  analyzed-conflict {n} {c} q =
-      let k = conflict-at (grammarOf words .terminals) (clashes (grammarOf words) 1) (sym (ap (λ x. x .conflict) e) ∙ q) in
-      rw (fault-sets words, g .given .read, g .faultless, k)
+-- the families that are found: a grammar to go on with, or a refusal
+pub given : {words : List ℕ} {z : Sizes} {firsts follows : List ℕ} → FoundFamilies words z firsts follows → Given words z firsts follows
+given f = record { read = f .read; first = f .first; follow = f .follow }
 
-  pub analyzed-passed : t .conflict ≡ conflict.Absent → analysis (Passed z) (t .words) ≡ analyzed words
-  unfolding analyzed entriesOf
-  analyzed-passed q =
-      let k = conflict-absent (grammarOf words .terminals) (clashes (grammarOf words) 1) (sym (ap (λ x. x .conflict) e) ∙ q) in
-      rw (fault-sets words, g .given .read, g .faultless, k, ap (λ x. x .words) e)
+module _ (words : List ℕ) {x : Error} (q : setsFault words ≡ some x) where
+  pub refused-claims : {v : Finding} → v ≡ Refused x → claimsWith v (replicate maxRules 0) (replicate maxRules 0) ≡ claimsOf words
+  unfolding claimsOf
+  refused-claims e = rw (e, q)
+
+  pub analyzed-refused : refusedBy x ≡ analyzed words
+  unfolding analyzed
+  analyzed-refused = rw (fault-sets words, q)
+
+-- the numbers of a grammar's sets fit words
+fit : (p : ℕ → List ℕ → Bool) → FitWords (listed maxNonterminals (λ A. numberOf (p A)))
+fit p A = omega (arith, listed-below maxNonterminals (λ A. numberOf (p A)) (weight (suc nothing)) (omega arith) (λ B. number-below (p B)) A)
+
+module _ {words : List ℕ} {z : Sizes} {firsts follows : List ℕ} (f : FoundFamilies words z firsts follows) where
+  pub sets-fit : FitWords firsts × FitWords follows
+  unfolding firstNumber followNumber
+  sets-fit = (λ A. rw (f .first) (fit _ A), λ A. rw (f .follow) (fit _ A))
+
+  known : WellRead words z
+  known = well-read words z (f .read)
+
+  pub few-terminals : z .terminals ≤ maxTerminals
+  few-terminals = known .fewTerminals
+
+-- with the heads and the claims of all rules
+module _ {words : List ℕ} {z : Sizes} {firsts follows heads sets : List ℕ} (f : FoundFamilies words z firsts follows)
+    (k : AllKept (grammarOf words) heads sets) where
+  pub all-claims : claimsWith (Passed z) heads sets ≡ claimsOf words
+  unfolding claimsOf
+  all-claims = rw (f .read, f .faultless, k .own, k .claims)
+
+  pub headed : Headed heads (z .rules) (z .nonterminals)
+  headed = record {
+    few = known f .fewRules;
+    own = λ q b.
+        let r = known f .begins q b in
+        let h = heads-own (grammarOf words) (k .own) (k .claims) q _ r in
+        omega (arith, known f .nonterminals, known f .formed .scoped .heads _ (nth-mem (grammarOf words .rules) q _ r));
+    allowed = known f .fewNonterminals;
+  }
+
+  module _ {v : Conflict} (d : v ≡ conflictOf z heads sets) where
+    clash : v ≡ firstOf (column (grammarOf words .terminals)) (clashes (grammarOf words) 1)
+    clash =
+        (rw (known f .nonterminals, known f .terminals, known f .rules) at d)
+        ∙ first-clash (grammarOf words) (omega (arith, known f .terminals, known f .fewTerminals)) (k .own) (k .claims)
+
+    pub analyzed-conflict : {n l : ℕ} → v ≡ conflict.At n l → refusedBy (error.Conflict n l) ≡ analyzed words
+    unfolding analyzed
+    analyzed-conflict {n} {l} t =
+        let x = conflict-at (grammarOf words .terminals) (clashes (grammarOf words) 1) (sym clash ∙ t) in
+        rw (fault-sets words, f .read, f .faultless, x)
+
+    pub analyzed-passed : {table : List ℕ} → v ≡ conflict.Absent → Filled z firsts follows heads sets (replicate memoryWords noEntry) table
+        → analysis (Passed z) table ≡ analyzed words
+    unfolding analyzed
+    analyzed-passed t w =
+        let G = grammarOf words in
+        let x = conflict-absent (G .terminals) (clashes G 1) (sym clash ∙ t) in
+        let n : G .nonterminals ≤ maxNonterminals = omega (arith, known f .fewNonterminals, known f .nonterminals) in
+        let m : G .terminals ≤ maxTerminals = omega (arith, known f .fewTerminals, known f .terminals) in
+        let l = table-filled G n m (f .first) (f .follow) (k .own) (k .claims) (rw (known f .nonterminals) at (w .sets-in))
+        (rw (known f .nonterminals, known f .terminals, known f .rules) at (w .rows-in)) in
+        rw (fault-sets words, f .read, f .faultless, x, l)

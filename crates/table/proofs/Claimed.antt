@@ -1,15 +1,20 @@
--- The number of what a rule claims holds the elements of the strings that it claims.
-use mathlib.Core.Path.{sym, ap, ap₂, _∙_}
+-- The number of what a rule claims: what the code finds, and the elements that it has.
+use mathlib.Core.Path.{_≡_, sym, ap, ap₂, _∙_}
 use mathlib.Core.List.{List, _++_, List·Memᴰ, Memᴰ·cast}
-use mathlib.Core.Logic.{_↔_}
-use Prim.Native.Nat.{ℕ, _≤_}
+use mathlib.Core.Logic.{_↔_, _⊎_, inl, inr}
+use Prim.Native.Nat.{ℕ, suc, _≤_, _<_}
+use native.Mathlib.Decide.{decLt}
+use native.Mathlib.Omega.{arith}
+use borrow.Author.Tests.{lt-ltb}
 use lib.ListN.{take}
 use Rattle.grammar.specs.Syntax.{Rule, Grammar, WellFormed}
-use Rattle.lookahead.specs.Elements.{nothing, has}
+use Rattle.lookahead.specs.Elements.{nothing, has, Over}
 use Rattle.lookahead.specs.Operations.{concat as concatNumbers}
-use Rattle.lookahead.proofs.Booleans.{both-ways}
 use Rattle.lookahead.proofs.Pairs.{first, concat-pair}
 use Rattle.lookahead.proofs.Concat.{paired}
+use Rattle.lookahead.proofs.Order.{subset-antisym}
+use Rattle.lookahead.proofs.Over.{over-concat}
+use Rattle.lookahead.proofs.Weights.{has-total}
 use Rattle.semantics.specs.Strings.{Lookahead}
 use Rattle.semantics.specs.Families.{FirstRule}
 use Rattle.semantics.specs.FiniteSets.{member}
@@ -20,12 +25,12 @@ use Rattle.semantics.proofs.LookaheadSets.{strings-equality, strings-make, stri
 use Rattle.semantics.proofs.First.{In, firstBody-mono, firstRule-make, firstRule-elim}
 use Rattle.semantics.proofs.First.{first-in, in-first}
 use Rattle.semantics.proofs.Follow.{follow-lookahead}
-use Rattle.sets.specs.Sets.{stringOf, firstNumber, followNumber}
+use Rattle.sets.specs.Sets.{stringOf, numberOf, firstNumber, followNumber}
 use Rattle.sets.specs.First.{ruleFirst}
-use Rattle.sets.proofs.Strings.{string-first, StringIn, string-in, in-string}
+use Rattle.sets.proofs.Strings.{string-first, lookahead-bound, StringIn, string-in, in-string, number-has, has-number, number-over}
 use Rattle.sets.proofs.Numbers.{number-string, in-number}
 use Rattle.sets.proofs.FirstTie.{rule-begins, begins-rule}
-use Rattle.table.proofs.Filling.{ClaimOf}
+use Rattle.table.specs.Claims.{claimNumber}
 
 -- the number s has the elements of the strings that are listed
 abbrev Lists : List (List ℕ) → ℕ → Type 0
@@ -44,6 +49,17 @@ concat-lists us ys s t f g x = (
       Memᴰ·cast (i .2 ∙ ap stringOf (sym (p .is-first)) ∙ sym (string-first (p .a) (p .b)))
       (concat-make 1 us ys (stringOf (p .a)) (stringOf (p .b)) (f _ .1 (string-in s (p .a) (p .a-in))) (g _ .1 (string-in t (p .b) (p .b-in)))),
 )
+
+at-most : (l : ℕ) → l ≤ nothing → (l < nothing) ⊎ (l ≡ nothing)
+at-most l h = go (decLt l nothing)
+  where
+    go : Dec (l < nothing) → (l < nothing) ⊎ (l ≡ nothing)
+    go (yes k) = inl k
+    go (no k) = inr (omega arith)
+
+at-most-back : (l : ℕ) → (l < nothing) ⊎ (l ≡ nothing) → l ≤ nothing
+at-most-back l (inl k) = omega arith
+at-most-back l (inr e) = omega arith
 
 module _ (G : Grammar) (formed : WellFormed G) (few : G .terminals ≤ nothing) where
   abbrev t : ℕ
@@ -70,15 +86,26 @@ module _ (G : Grammar) (formed : WellFormed G) (few : G .terminals ≤ nothing) 
         (firstRule-make 1 (firstSets G 1) r x (λ b n. firstBody-mono 1 (First G 1) (In (firstSets G 1)) (in-first G 1) b x (k .1 b n))),
   )
 
-  -- a rule claims just the strings whose elements its number has
-  pub claim-of : (r : Rule) → List·Memᴰ r (G .rules) → ClaimOf G r (concatNumbers (ruleFirst t (firstNumber G) (r .positives)) (followNumber G (r .head)))
-  unfolding claimed
-  claim-of r m =
+  first-over : (r : Rule) → Over nothing (ruleFirst t (firstNumber G) (r .positives))
+  first-over r l s = at-most l (lookahead-bound t l few (rule-begins G formed few r l s .0))
+
+  -- the number that the code finds is that of the strings that a rule claims
+  pub claim-found : (r : Rule) → List·Memᴰ r (G .rules)
+      → concatNumbers (ruleFirst t (firstNumber G) (r .positives)) (followNumber G (r .head)) ≡ claimNumber G r
+  unfolding claimed claimNumber followNumber
+  claim-found r m =
       let first = ruleFirst t (firstNumber G) (r .positives) in
       let follow = followNumber G (r .head) in
+      let claims = member sameString (claimed G 1 r) in
       let lists = concat-lists (meeting G 1 r) (followSets G 1 (r .head)) first follow (meeting-lists r m) (follow-lists (r .head)) in
-      record {
-        each = λ l h. both-ways (has (concatNumbers first follow) l) (member sameString (claimed G 1 r) (stringOf l))
-            (λ u. mem-member sameString strings-equality (claimed G 1 r) (stringOf l) (lists (stringOf l) .1 (string-in (concatNumbers first follow) l u)))
-            (λ u. in-string (concatNumbers first follow) l (lists (stringOf l) .0 (member-mem sameString strings-equality (claimed G 1 r) (stringOf l) u)));
-      }
+      let over = over-concat nothing first follow (first-over r) (number-over _) in
+      subset-antisym (concatNumbers first follow) (numberOf claims)
+      (λ l s. has-number claims l (at-most-back l (over l s))
+      (mem-member sameString strings-equality (claimed G 1 r) (stringOf l) (lists (stringOf l) .1 (string-in (concatNumbers first follow) l s))))
+      (λ l s. in-string (concatNumbers first follow) l
+      (lists (stringOf l) .0 (member-mem sameString strings-equality (claimed G 1 r) (stringOf l) (number-has claims l s))))
+
+-- the number of a rule's claim has the elements of the strings that it claims
+pub claim-has : (G : Grammar) (r : Rule) (l : ℕ) → l < suc nothing → has (claimNumber G r) l ≡ member sameString (claimed G 1 r) (stringOf l)
+unfolding claimNumber numberOf
+claim-has G r l h = has-total (suc nothing) (λ l. member sameString (claimed G 1 r) (stringOf l)) l ∙ rw (lt-ltb l (suc nothing) h)

@@ -1,30 +1,26 @@
--- The words are gone through from their end: each that begins a rule makes the rule claim its entries.
-use mathlib.Core.Path.{_≡_, refl, sym, ap, subst, fun-ext, _∙_}
+-- The words are gone through from their end: each that begins a rule has its head and its claim kept.
+use mathlib.Core.Path.{_≡_, refl, sym, ap, fun-ext, _∙_}
 use mathlib.Core.Bool.{true}
-use mathlib.Core.List.{List, [], _∷_, List·Memᴰ, List·Memᴰ·head, List·Memᴰ·tail}
+use mathlib.Core.List.{List, [], _∷_, _++_, map, List·Memᴰ, List·Memᴰ·head, List·Memᴰ·tail}
 use mathlib.Core.Option.{none}
-use Prim.Native.Nat.{ℕ, zero, suc, _+_, _-_, _*_, _≤_, _<_}
-use native.Mathlib.Nat.{mul-le-mul}
-use native.Mathlib.Numerals.{add-one}
+use Prim.Native.Nat.{ℕ, zero, suc, _+_, _-_, _≤_, _<_}
 use native.Mathlib.Omega.{arith}
-use lib.Arith.{digits-lt}
-use lib.ListN.{length, getD, drop, replicate}
-use borrow.Author.Tests.{ltb-true}
+use lib.ListN.{length, getD, take, drop, set, replicate, length-set, length-map, length-replicate, replicate-append-replicate}
+use lib.Seq.{drop-at, set-split, length-take-le}
 use Rattle.word.specs.declared.Word.{Word}
 use Rattle.word.specs.declared.Word.the-variants.{Heading, Rule as RuleWord, Positive, Negative, Symbol, End, Invalid}
 use Rattle.word.specs.Words.{decoded}
 use Rattle.grammar.specs.declared.reading.Sizes.{Sizes}
-use Rattle.grammar.specs.Limits.{maxNonterminals, tableWords as memoryWords}
+use Rattle.grammar.specs.Limits.{maxNonterminals, maxRules}
 use Rattle.grammar.specs.Syntax.{Rule}
 use Rattle.grammar.specs.Encoding.{Parsed, ruleOf, onWord, parse, grammarOf}
 use Rattle.grammar.specs.Reading.{beginsRule}
 use Rattle.grammar.specs.WellRead.{WellRead}
 use Rattle.grammar.proofs.WellRead.{well-read}
-use Rattle.grammar.proofs.Places.{read-place, read-whole}
+use Rattle.grammar.proofs.Places.{read-whole}
 use Rattle.lookahead.specs.Operations.{concat}
 use Rattle.lookahead.specs.Elements.{nothing}
 use Rattle.semantics.specs.FirstFollow.{first, follow}
-use Rattle.semantics.specs.Claims.{tableOf}
 use Rattle.semantics.proofs.First.{first-lookahead}
 use Rattle.semantics.proofs.Follow.{follow-lookahead}
 use Rattle.sets.specs.declared.first.Rest.{Rest}
@@ -33,31 +29,23 @@ use Rattle.sets.specs.Least.{at as family}
 use Rattle.sets.specs.Naming.{ruleHead}
 use Rattle.sets.specs.First.{bodyFirst, ruleFirst, restOf, noRest}
 use Rattle.sets.proofs.FirstPasses.{Onto}
-use Rattle.table.specs.Entries.{Given}
-use Rattle.table.specs.Filling.{FilledRow, Noted, Tables, tables, WordClaims, MayClaim, FilledRows}
-use Rattle.sets.proofs.Words.{parse-before, parse-over}
+use Rattle.sets.proofs.Naming.{before-indexed}
 use Rattle.sets.proofs.Numbers.{array-at}
-use Rattle.table.proofs.Filling.{ClaimOf, Filling, filling-none, filling-rule}
-use Rattle.table.proofs.Claimed.{claim-of}
+use Rattle.sets.proofs.Words.{parse-before, parse-over}
+use Rattle.table.specs.Claims.{claimNumber, byRule, Given, Kept, kept, MayClaim, RuleClaims, WordClaims, Empty, AllKept}
+use Rattle.table.proofs.Claimed.{claim-found}
 
 -- a word that begins a rule of A
-module _ {z : Sizes} {w : Word} {b : Tables} {A : ℕ} (m : MayClaim z w b) (e : w ≡ RuleWord A) where
-  pub own : A < z .nonterminals
-  own = ltb-true A (z .nonterminals) (rw e at (m .ranged))
+module _ {w : Word} {behind A : ℕ} (m : MayClaim w behind) (e : w ≡ RuleWord A) where
+  pub own : A < maxNonterminals
+  own = rw e at (m .indexed)
 
-  pub some-rule : 0 < b .rule
+  pub some-rule : 0 < behind
   some-rule = m .numbered (rw e)
 
-  pub row-room : 2 * z .nonterminals + A * (z .terminals + 1) + z .terminals < memoryWords
-  row-room =
-      let l : z .terminals + 1 ≤ 25 = omega (arith, m .fewTerminals) in
-      let k : z .terminals < z .terminals + 1 = omega arith in
-      omega (arith, digits-lt own k, mul-le-mul (m .fewNonterminals) l, m .fewNonterminals)
-
-  pub claim-made : (follows : List ℕ) (meet : ℕ) {l o t : List ℕ} {claim : ℕ} → claim ≡ concat meet (getD follows A 0) → Noted (b .once) (b .twice) A claim o t
-      → FilledRow (b .words) (2 * z .nonterminals + A * (z .terminals + 1)) (z .terminals) (suc (z .terminals)) claim (b .rule - 1) l
-      → WordClaims (ruleHead w) z follows meet b (tables l o t (b .rule - 1))
-  claim-made follows meet c n f = rw e (record { numbered = omega (arith, some-rule); noted = rw c at n; row = rw (c, add-one (z .terminals)) at f })
+  pub claim-kept : (follows : List ℕ) (meet : ℕ) (heads sets : List ℕ) {claim : ℕ} → claim ≡ concat meet (getD follows A 0)
+      → WordClaims (ruleHead w) follows meet (kept heads sets behind) (kept (set heads (behind - 1) A) (set sets (behind - 1) claim) (behind - 1))
+  claim-kept follows meet heads sets c = rw e (record { numbered = omega (arith, some-rule); head = refl; claims = ap (set sets (behind - 1)) c })
 
 -- the rules behind a word are among those from it on
 rules-more : (w : Word) (p : Parsed) → length (p .rules) ≤ length (onWord w p .rules)
@@ -92,12 +80,46 @@ rule-from zero ws r m = m
 rule-from (suc i) [] r m = m
 rule-from (suc i) (w ∷ ws) r m = rules-behind (decoded w) (parse ws) r (rule-from i ws r m)
 
+-- an array by rule, from a rule on
+abbrev zeros : ℕ → List ℕ
+zeros n = replicate n 0
+
+drop-zeros : (n m : ℕ) → n ≤ m → drop n (zeros m) ≡ zeros (m - n)
+drop-zeros n m h =
+    let e : m ≡ n + (m - n) = omega arith in
+    ap (λ k. drop n (zeros k)) e ∙ ap (drop n) (sym (replicate-append-replicate {A = ℕ} n (m - n) 0))
+    ∙ drop-at (zeros n) (zeros (m - n)) n (length-replicate {A = ℕ} n 0)
+
+drop-set : (l : List ℕ) (q v : ℕ) → q < length l → drop q (set l q v) ≡ v ∷ drop (suc q) l
+drop-set l q v h = ap (drop q) (set-split l q v h) ∙ drop-at (take q l) (v ∷ drop (suc q) l) q (length-take-le q l (omega arith))
+
+-- from rule q on an array has what the rules rs give, and zeros behind
+pub record From (f : Rule → ℕ) (rs : List Rule) (all q : ℕ) (l : List ℕ) : Type 0 where
+  pub long : length l ≡ maxRules
+  pub from : drop q l ≡ map f rs ++ replicate (maxRules - all) 0
+
+from-none : (f : Rule → ℕ) (all : ℕ) → all ≤ maxRules → From f [] all all (replicate maxRules 0)
+from-none f all few = record { long = length-replicate {A = ℕ} maxRules 0; from = drop-zeros all maxRules few }
+
+from-rule : {f : Rule → ℕ} {rs : List Rule} {all : ℕ} {l l′ : List ℕ} (q : ℕ) {v : ℕ} (r : Rule) → From f rs all (suc q) l → q < maxRules
+    → l′ ≡ set l q v → v ≡ f r → From f (r ∷ rs) all q l′
+from-rule {f} {rs} {all} {l} {l′} q {v} r k h e d = record {
+  long = ap length e ∙ length-set l q v ∙ k .long;
+  from = ap (drop q) e ∙ drop-set l q v (omega (arith, k .long)) ∙ ap (λ x. v ∷ x) (k .from)
+      ∙ ap (λ x. x ∷ (map f rs ++ replicate (maxRules - all) 0)) d;
+}
+
+from-all : {f : Rule → ℕ} {rs : List Rule} {l : List ℕ} → From f rs (length rs) 0 l → l ≡ byRule (map f rs)
+unfolding byRule
+from-all {f} {rs} k = k .from ∙ ap (λ n. map f rs ++ replicate (maxRules - n) 0) (sym (length-map rs f))
+
 -- the invariant: the words from i on have been gone through
-pub record Claiming (words : List ℕ) (z : Sizes) (firsts before : List ℕ) (rest : Rest) (b : Tables) (i : ℕ) : Type 0 where
+pub record Claiming (words : List ℕ) (terminals all : ℕ) (firsts : List ℕ) (rest : Rest) (b : Kept) (i : ℕ) : Type 0 where
   pub within : i ≤ length words
-  pub is : rest ≡ restOf (z .terminals) (family firsts) (parse (drop i words))
-  pub filling : Filling (grammarOf words) (parse (drop i words) .rules) (b .rule) (b .once) (b .twice) before (b .words)
-  pub counted : z .rules ≡ b .rule + length (parse (drop i words) .rules)
+  pub is : rest ≡ restOf terminals (family firsts) (parse (drop i words))
+  pub heads : From (λ r. r .head) (parse (drop i words) .rules) all (b .rule) (b .heads)
+  pub claims : From (claimNumber (grammarOf words)) (parse (drop i words) .rules) all (b .rule) (b .sets)
+  pub counted : all ≡ b .rule + length (parse (drop i words) .rules)
 
 module _ {words : List ℕ} {z : Sizes} {firsts follows : List ℕ} (g : Given words z firsts follows) where
   known : WellRead words z
@@ -120,20 +142,20 @@ module _ {words : List ℕ} {z : Sizes} {firsts follows : List ℕ} (g : Given w
   all-rules : length (grammarOf words .rules) ≡ length (parse words .rules)
   all-rules = ap length (read-whole words z (g .read) .rules)
 
-  pub claiming-start : (table : List ℕ) {rest : Rest} → rest ≡ noRest (z .terminals)
-      → Claiming words z firsts table rest (tables table (replicate maxNonterminals 0) (replicate maxNonterminals 0) (z .rules)) (length words)
+  pub claiming-start : {rest : Rest} {heads sets : List ℕ} → rest ≡ noRest (z .terminals) → Empty heads → Empty sets
+      → Claiming words (z .terminals) (z .rules) firsts rest (kept heads sets (z .rules)) (length words)
   unfolding parse bodyFirst ruleFirst
-  claiming-start table e =
+  claiming-start e none-head none-claim =
       let none = parse-over words (length words) (omega arith) in
       record {
         within = omega arith;
         is = rw none e;
-        filling = rw none (filling-none (grammarOf words) (z .rules) table);
+        heads = rw (none, none-head) (from-none (λ r. r .head) (z .rules) (known .fewRules));
+        claims = rw (none, none-claim) (from-none (claimNumber (grammarOf words)) (z .rules) (known .fewRules));
         counted = rw none (omega arith);
       }
 
-  module _ {before : List ℕ} {rest : Rest} {b : Tables} {i : ℕ} (v : Claiming words z firsts before rest b i) (h : 0 < i)
-      {w : Word} (e : w ≡ decoded (getD words (i - 1) 0)) where
+  module _ {rest : Rest} {b : Kept} {i : ℕ} (v : Claiming words (z .terminals) (z .rules) firsts rest b i) (h : 0 < i) {w : Word} (e : w ≡ decoded (getD words (i - 1) 0)) where
     abbrev p : Parsed
     p = parse (drop i words)
 
@@ -154,69 +176,65 @@ module _ {words : List ℕ} {z : Sizes} {firsts follows : List ℕ} (g : Given w
     numbered Invalid d t = let z : _≡_ {A = ℕ} 0 1 = cc in absurd (omega arith)
 
     -- what `claim` requires
-    pub may-claim : length before ≡ memoryWords → MayClaim z w b
-    may-claim n = record {
-      long = v .filling .same ∙ n;
-      fewNonterminals = known .fewNonterminals;
-      fewTerminals = known .fewTerminals;
-      ranged = rw e (read-place words z (g .read) (i - 1) (omega (arith, v .within)) .ranged);
+    pub may-claim : MayClaim w (b .rule)
+    may-claim = record {
+      indexed = before-indexed words (g .read) h (v .within) e;
       numbered = numbered w refl;
       fewRules = omega (arith, v .counted, known .fewRules);
     }
 
     -- the claim of the rule that begins here
-    claimed : (A : ℕ) → w ≡ RuleWord A → ClaimOf (grammarOf words) (ruleOf A p) (concat (rest .meet .bits) (getD follows A 0))
+    claimed : (A : ℕ) → w ≡ RuleWord A → concat (rest .meet .bits) (getD follows A 0) ≡ claimNumber (grammarOf words) (ruleOf A p)
     unfolding onWord
     claimed A d =
         let r = ruleOf A p in
         let m : List·Memᴰ r (parse (drop (i - 1) words) .rules) = rw (from-here, d) (List·Memᴰ·head refl) in
         let n : List·Memᴰ r (grammarOf words .rules) = rw (read-whole words z (g .read) .rules) (rule-from (i - 1) words r m) in
-        rw (v .is, known .terminals, firsts-are, follow-is A) (claim-of (grammarOf words) (known .formed) few r n)
+        rw (v .is, known .terminals, firsts-are, follow-is A) (claim-found (grammarOf words) (known .formed) few r n)
 
-    filled : (w′ : Word) → w ≡ w′ → (b′ : Tables) → WordClaims (ruleHead w′) z follows (rest .meet .bits) b b′
-        → Filling (grammarOf words) (onWord w′ p .rules) (b′ .rule) (b′ .once) (b′ .twice) before (b′ .words)
+    pub claiming-turn : {next : Rest} (b′ : Kept) → Onto (z .terminals) (family firsts) w rest next
+        → WordClaims (ruleHead w) follows (rest .meet .bits) b b′ → Claiming words (z .terminals) (z .rules) firsts next b′ (i - 1)
     unfolding onWord
-    filled (RuleWord A) d b′ c =
-        filling-rule (rw (c .numbered) at (v .filling)) few many (ruleOf A p)
-        (rw (known .nonterminals) at (ltb-true A (z .nonterminals) (rw (← e, d) at (read-place words z (g .read) (i - 1) (omega (arith, v .within)) .ranged))))
-        (claimed A d) (c .noted) (rw (known .nonterminals, known .terminals) at (c .row))
-    filled Positive d b′ c = rw c (v .filling)
-    filled Negative d b′ c = rw c (v .filling)
-    filled (Symbol X) d b′ c = rw c (v .filling)
-    filled End d b′ c = rw c (v .filling)
-    filled (Heading n t) d b′ c = rw c (v .filling)
-    filled Invalid d b′ c = rw c (v .filling)
+    claiming-turn {next} b′ o c = go w refl c
+      where
+        same : (w′ : Word) → w ≡ w′ → onWord w′ p .rules ≡ p .rules → b′ ≡ b → Claiming words (z .terminals) (z .rules) firsts next b′ (i - 1)
+        same w′ d k q =
+            let r : parse (drop (i - 1) words) .rules ≡ p .rules = ap (λ x. x .rules) from-here ∙ ap (λ x. onWord x p .rules) d ∙ k in
+            record {
+              within = omega (arith, v .within);
+              is = rw from-here (o .onto p (v .is));
+              heads = rw (q, r) (v .heads);
+              claims = rw (q, r) (v .claims);
+              counted = rw (q, r) (v .counted);
+            }
 
-    counts : (w′ : Word) (b′ : Tables) → WordClaims (ruleHead w′) z follows (rest .meet .bits) b b′
-        → b .rule + length (p .rules) ≡ b′ .rule + length (onWord w′ p .rules)
-    unfolding onWord
-    counts (RuleWord A) b′ c = omega (arith, c .numbered)
-    counts Positive b′ c = rw c
-    counts Negative b′ c = rw c
-    counts (Symbol X) b′ c = rw c
-    counts End b′ c = rw c
-    counts (Heading n t) b′ c = rw c
-    counts Invalid b′ c = rw c
-
-    pub claiming-turn : {next : Rest} (b′ : Tables) → Onto (z .terminals) (family firsts) w rest next
-        → WordClaims (ruleHead w) z follows (rest .meet .bits) b b′
-        → Claiming words z firsts before next b′ (i - 1)
-    claiming-turn b′ o c = record {
-      within = omega (arith, v .within);
-      is = rw from-here (o .onto p (v .is));
-      filling = rw from-here (filled w refl b′ c);
-      counted = rw from-here (v .counted ∙ counts w b′ c);
-    }
+        go : (w′ : Word) → w ≡ w′ → WordClaims (ruleHead w′) follows (rest .meet .bits) b b′ → Claiming words (z .terminals) (z .rules) firsts next b′ (i - 1)
+        go (RuleWord A) d n =
+            let r : parse (drop (i - 1) words) .rules ≡ ruleOf A p ∷ p .rules = rw (from-here, d) in
+            let low : b′ .rule < maxRules = omega (arith, n .numbered, v .counted, known .fewRules) in
+            record {
+              within = omega (arith, v .within);
+              is = rw from-here (o .onto p (v .is));
+              heads = rw r (from-rule (b′ .rule) (ruleOf A p) (rw (n .numbered) at (v .heads)) low (n .head) refl);
+              claims = rw r (from-rule (b′ .rule) (ruleOf A p) (rw (n .numbered) at (v .claims)) low (n .claims) (claimed A d));
+              counted = rw r (omega (arith, n .numbered, v .counted));
+            }
+        go Positive d n = same Positive d refl n
+        go Negative d n = same Negative d refl n
+        go (Symbol X) d n = same (Symbol X) d refl n
+        go End d n = same End d refl n
+        go (Heading m t) d n = same (Heading m t) d refl n
+        go Invalid d n = same Invalid d refl n
 
   -- all words have been gone through
-  pub claiming-end : {before : List ℕ} {rest : Rest} {b : Tables} {i : ℕ} → Claiming words z firsts before rest b i → i ≤ 0
-      → FilledRows (grammarOf words) before (b .words) (b .twice)
-  unfolding tableOf
-  claiming-end {before} {rest} {b} {i} v h =
+  pub claiming-end : {rest : Rest} {b : Kept} {i : ℕ} → Claiming words (z .terminals) (z .rules) firsts rest b i → i ≤ 0
+      → AllKept (grammarOf words) (b .heads) (b .sets)
+  claiming-end {b = b} {i} v h =
       let e : i ≡ 0 = omega arith in
       let counted : z .rules ≡ b .rule + length (parse words .rules) = rw e at (v .counted) in
       let first : b .rule ≡ 0 = omega (arith, known .rules, all-rules) in
-      let f : Filling (grammarOf words) (grammarOf words .rules) (b .rule) (b .once) (b .twice) before (b .words) =
-      subst (λ rs. Filling (grammarOf words) rs (b .rule) (b .once) (b .twice) before (b .words)) (sym (read-whole words z (g .read) .rules))
-      (rw e at (v .filling)) in
-      record { long = f .same; rows = λ A c a k. rw first at (f .rows A c a k); outside = f .outside; clashing = f .claimed-twice }
+      let rules = read-whole words z (g .read) .rules in
+      record {
+        own = from-all (rw (e, first, ← rules, known .rules) at (v .heads));
+        claims = from-all (rw (e, first, ← rules, known .rules) at (v .claims));
+      }

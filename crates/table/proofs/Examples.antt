@@ -10,14 +10,14 @@ use Rattle.grammar.specs.Cards.{grammarR, grammarM, grammarE}
 use Rattle.grammar.specs.Syntax.{Body, Rule, Grammar}
 use Rattle.lookahead.specs.Elements.{total}
 use Rattle.semantics.specs.FirstFollow.{first, follow}
-use Rattle.semantics.specs.Claims.{clashes, tableOf}
+use Rattle.semantics.specs.Claims.{clashes, column, tableOf}
 use Rattle.semantics.specs.LeftRecursion.{lowestLeftRecursive}
 use Rattle.semantics.proofs.Computing.{tables-compute, left-recursion-computes}
-use Rattle.table.specs.declared.entries.Conflict.the-variants.{At}
+use Rattle.table.specs.declared.conflicts.Conflict.the-variants.{At}
 use Rattle.sets.specs.Lists.{listed}
 use Rattle.sets.specs.Sets.{stringOf, numberOf, firstNumber, followNumber}
 use Rattle.table.specs.Layout.{columnString, entryAt, setWord, rowWord, tableWords}
-use Rattle.table.specs.Entries.{firstOf}
+use Rattle.table.specs.Conflicts.{firstOf}
 use Rattle.sets.specs.Families.{leftFault}
 
 abbrev numbers : Grammar → List ℕ × List ℕ
@@ -52,7 +52,7 @@ twiceA = record { nonterminals = 1; terminals = 1; rules = ruleA [] ∷ ruleA []
 abbrev notItself : Grammar
 notItself = record { nonterminals = 1; terminals = 1; rules = ruleA ((Nonterminal 0 ∷ []) ∷ []) ∷ [] }
 
-claimed-twice : firstOf 1 (clashes twiceA 1) ≡ At 0 0
+claimed-twice : firstOf (column 1) (clashes twiceA 1) ≡ At 0 0
 unfolding tables-compute clashes
 claimed-twice = refl
 

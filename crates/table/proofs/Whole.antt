@@ -1,6 +1,5 @@
 -- The memory once the sets and the rows are filled: the words of the table, and behind them no entries.
-use mathlib.Core.Path.{_≡_, refl, sym, _∙_}
-use mathlib.Core.Bool.{Bool}
+use mathlib.Core.Path.{_≡_, refl, sym, ap, _∙_}
 use mathlib.Core.List.{List, _++_}
 use mathlib.Core.Logic.{inl, inr}
 use mathlib.Core.Option.{Option, none, some}
@@ -14,30 +13,19 @@ use borrow.Author.Tests.{eq-eqb, ne-eqb}
 use lib.Dec.{eqb}
 use Rattle.word.specs.Choice.{choose}
 use Rattle.grammar.specs.Codes.{noEntry}
-use Rattle.grammar.specs.Limits.{maxNonterminals, maxTerminals, tableWords as memoryWords}
-use Rattle.grammar.specs.declared.reading.Sizes.{Sizes}
-use Rattle.grammar.specs.Encoding.{grammarOf}
+use Rattle.grammar.specs.Limits.{maxNonterminals, maxTerminals, maxColumns, tableWords as memoryWords}
 use Rattle.grammar.specs.Syntax.{Grammar}
-use Rattle.grammar.proofs.WellRead.{well-read}
-use Rattle.lookahead.specs.Elements.{nothing, weight}
+use Rattle.semantics.specs.FiniteSets.{numbers}
 use Rattle.semantics.specs.Claims.{tableOf}
-use Rattle.table.specs.declared.entries.Conflict.{Conflict}
 use Rattle.sets.specs.Lists.{listed}
-use Rattle.sets.specs.Sets.{numberOf, firstNumber, followNumber}
-use Rattle.table.specs.Layout.{entryWord, columnString, columns, entryAt, setWord, rowWord, tableWords}
-use Rattle.table.specs.Entries.{filled, tableWith, entriesOf, Given}
-use Rattle.table.specs.Filling.{conflictFrom, entryOver, FitWords, FilledSets, FilledRows}
-use Rattle.sets.proofs.Lists.{listed-long, listed-at, listed-below}
-use Rattle.sets.proofs.Strings.{number-below}
-use Rattle.table.proofs.Cells.{first-clash}
-
--- the numbers of a grammar's sets fit words
-pub sets-fit : {words : List ℕ} {z : Sizes} {firsts follows : List ℕ} → Given words z firsts follows → FitWords firsts × FitWords follows
-unfolding firstNumber followNumber
-sets-fit given = (λ A. rw (given .first) (fit _ A), λ A. rw (given .follow) (fit _ A))
-  where
-    fit : (p : ℕ → List ℕ → Bool) → FitWords (listed maxNonterminals (λ A. numberOf (p A)))
-    fit p A = omega (arith, listed-below maxNonterminals (λ A. numberOf (p A)) (weight (suc nothing)) (omega arith) (λ B. number-below (p B)) A)
+use Rattle.sets.specs.Sets.{firstNumber, followNumber}
+use Rattle.sets.proofs.Lists.{listed-long, listed-at}
+use Rattle.table.specs.Layout.{entryWord, columnString, columnElement, columns, entryAt, setWord, rowWord, tableWords}
+use Rattle.table.specs.Claims.{headsOf, claimNumbers, byRule}
+use Rattle.table.specs.Entries.{filled, entryOver, rowsOf, FilledSets, FilledRows}
+use Rattle.table.proofs.Claimants.{first-claim, told}
+use Rattle.table.proofs.Columns.{column-string, element-small}
+use Rattle.table.proofs.Words.{table-length}
 
 -- a word of two lists, one behind the other
 at-first : (xs ys : List ℕ) (m i d : ℕ) → length xs ≡ m → i < m → getD (xs ++ ys) i d ≡ getD xs i d
@@ -50,9 +38,11 @@ fresh-entry : (o : Option ℕ) → entryOver 0 noEntry o ≡ entryWord o
 fresh-entry none = refl
 fresh-entry (some q) = omega arith
 
-module _ (G : Grammar) (few : G .nonterminals ≤ maxNonterminals) (few′ : G .terminals ≤ maxTerminals) {firsts follows : List ℕ}
-    (f : firsts ≡ listed maxNonterminals (firstNumber G)) (g : follows ≡ listed maxNonterminals (followNumber G)) {half table twice : List ℕ}
-    (sets : FilledSets (replicate memoryWords noEntry) (G .nonterminals) firsts follows half) (rows : FilledRows G half table twice) where
+module _ (G : Grammar) (few : G .nonterminals ≤ maxNonterminals) (few′ : G .terminals ≤ maxTerminals) {firsts follows heads claims : List ℕ}
+    (f : firsts ≡ listed maxNonterminals (firstNumber G)) (g : follows ≡ listed maxNonterminals (followNumber G))
+    (head : heads ≡ byRule (headsOf G)) (claim : claims ≡ byRule (claimNumbers G)) {half table : List ℕ}
+    (sets : FilledSets (replicate memoryWords noEntry) (G .nonterminals) firsts follows half)
+    (rows : FilledRows (rowsOf (G .nonterminals) (G .terminals)) heads claims 0 (numbers (length (G .rules))) half table) where
   abbrev before : List ℕ
   before = replicate memoryWords noEntry
 
@@ -63,13 +53,7 @@ module _ (G : Grammar) (few : G .nonterminals ≤ maxNonterminals) (few′ : G .
   rowWords = G .nonterminals * columns G
 
   room : setWords + rowWords ≤ memoryWords
-  room = let l : columns G ≤ 25 = omega arith in omega (arith, mul-le-mul few l)
-
-  table-length : length (tableWords G) ≡ setWords + rowWords
-  unfolding tableWords
-  table-length =
-      let sum = length-append (listed setWords (setWord G)) (listed rowWords (rowWord G)) in
-      omega (arith, listed-long setWords (setWord G), listed-long rowWords (rowWord G))
+  room = let l : columns G ≤ maxColumns = omega arith in omega (arith, mul-le-mul few l)
 
   -- the sets
   in-sets : (i : ℕ) → i < setWords → getD table i 0 ≡ setWord G i
@@ -96,11 +80,14 @@ module _ (G : Grammar) (few : G .nonterminals ≤ maxNonterminals) (few′ : G .
   in-rows i h =
       let z : 0 < columns G = omega arith in
       let A : i / columns G < G .nonterminals = div-lt-iff-lt-mul {x = i} {y = G .nonterminals} z .1 h in
-      let c : i % columns G ≤ G .terminals = omega (arith, mod-lt i z) in
+      let c : i % columns G < columns G = mod-lt i z in
+      let element = columnElement (G .terminals) (i % columns G) in
       let fresh : getD half (setWords + i) 0 ≡ noEntry =
       sets .behind (setWords + i) (omega arith) ∙ getD-replicate memoryWords (setWords + i) noEntry 0 (omega (arith, room)) in
-      let r = rw (div-add-mod' i (columns G), fresh) at (rows .rows (i / columns G) (i % columns G) A c) in
-      r ∙ fresh-entry (tableOf G 1 (i / columns G) (columnString (G .terminals) (i % columns G)))
+      let r = rw (div-add-mod' i (columns G), fresh) at (rows .entries (i / columns G) (i % columns G) A c) in
+      let found = first-claim (told G head claim element (element-small (G .terminals) (i % columns G) few′ c)) (i / columns G)
+      ∙ ap (tableOf G 1 (i / columns G)) (column-string (G .terminals) (i % columns G) few′ c) in
+      r ∙ ap (entryOver 0 noEntry) found ∙ fresh-entry (tableOf G 1 (i / columns G) (columnString (G .terminals) (i % columns G)))
 
   -- every word
   each : (i : ℕ) → i < memoryWords → getD table i 0 ≡ getD (filled (tableWords G)) i 0
@@ -112,20 +99,20 @@ module _ (G : Grammar) (few : G .nonterminals ≤ maxNonterminals) (few′ : G .
 
       go : Dec (i < setWords) → Dec (i < setWords + rowWords) → getD table i 0 ≡ getD ((listed setWords (setWord G) ++ listed rowWords (rowWord G)) ++ rest) i 0
       go (yes a) d =
-          in-sets i a ∙ sym (at-first (tableWords G) rest (setWords + rowWords) i 0 table-length (omega arith)
+          in-sets i a ∙ sym (at-first (tableWords G) rest (setWords + rowWords) i 0 (table-length G) (omega arith)
           ∙ at-first (listed setWords (setWord G)) (listed rowWords (rowWord G)) setWords i 0 (listed-long setWords (setWord G)) a
           ∙ listed-at setWords (setWord G) i a)
       go (no a) (yes b) =
           let j : setWords + (i - setWords) ≡ i = omega arith in
           let k : i - setWords < rowWords = omega arith in
-          (rw j at (in-rows (i - setWords) k)) ∙ sym (at-first (tableWords G) rest (setWords + rowWords) i 0 table-length b
+          (rw j at (in-rows (i - setWords) k)) ∙ sym (at-first (tableWords G) rest (setWords + rowWords) i 0 (table-length G) b
           ∙ (rw j at (at-second (listed setWords (setWord G)) (listed rowWords (rowWord G)) setWords (i - setWords) 0 (listed-long setWords (setWord G))))
           ∙ listed-at rowWords (rowWord G) (i - setWords) k)
       go (no a) (no b) =
           let j : setWords + rowWords + (i - (setWords + rowWords)) ≡ i = omega arith in
           rows .outside i (inr (omega arith)) ∙ sets .behind i (omega arith) ∙ getD-replicate memoryWords i noEntry 0 h
-          ∙ sym ((rw j at (at-second (tableWords G) rest (setWords + rowWords) (i - (setWords + rowWords)) 0 table-length))
-          ∙ getD-replicate (memoryWords - length (tableWords G)) (i - (setWords + rowWords)) noEntry 0 (omega (arith, table-length)))
+          ∙ sym ((rw j at (at-second (tableWords G) rest (setWords + rowWords) (i - (setWords + rowWords)) 0 (table-length G)))
+          ∙ getD-replicate (memoryWords - length (tableWords G)) (i - (setWords + rowWords)) noEntry 0 (omega (arith, table-length G)))
 
   -- the memory is the table, with no entries behind it
   pub table-filled : table ≡ filled (tableWords G)
@@ -134,19 +121,5 @@ module _ (G : Grammar) (few : G .nonterminals ≤ maxNonterminals) (few′ : G .
       let l : length table ≡ memoryWords = rows .long ∙ sets .long ∙ length-replicate {A = ℕ} memoryWords noEntry in
       let rest = replicate {A = ℕ} (memoryWords - length (tableWords G)) noEntry in
       let long = length-replicate {A = ℕ} (memoryWords - length (tableWords G)) noEntry in
-      let m : length (filled (tableWords G)) ≡ memoryWords = omega (arith, length-append (tableWords G) rest, long, table-length, room) in
+      let m : length (filled (tableWords G)) ≡ memoryWords = omega (arith, length-append (tableWords G) rest, long, table-length G, room) in
       ext-getD 0 table (filled (tableWords G)) (l ∙ sym m) (λ i h. each i (omega arith))
-
--- with the first conflict found, this is the result
-pub entries-right : {words : List ℕ} {z : Sizes} {firsts follows half table twice : List ℕ} {conflict : Conflict} → Given words z firsts follows
-    → FilledSets (replicate memoryWords noEntry) (z .nonterminals) firsts follows half → FilledRows (grammarOf words) half table twice
-    → conflict ≡ conflictFrom twice (z .terminals) 0 (z .nonterminals * suc (z .terminals)) → tableWith conflict table ≡ entriesOf (grammarOf words)
-unfolding entriesOf
-entries-right {words} {z} {firsts} {follows} {half} {table} {twice} {conflict} g sets rows e =
-    let k = well-read words z (g .read) in
-    let G = grammarOf words in
-    let n : G .nonterminals ≤ maxNonterminals = omega (arith, k .fewNonterminals, k .nonterminals) in
-    let t : G .terminals ≤ maxTerminals = omega (arith, k .fewTerminals, k .terminals) in
-    let w = table-filled G n t (g .first) (g .follow) (rw (k .nonterminals) at sets) rows in
-    let c = (rw (k .nonterminals, k .terminals) at e) ∙ first-clash G t twice (rows .clashing) in
-    rw (w, c)

@@ -1,5 +1,4 @@
 -- What is found of an encoded grammar: the first fault among the errors 3 to 9, or its sizes and the words of its table.
-use mathlib.Core.Path.{_≡_}
 use mathlib.Core.List.{List, [], _∷_, _++_}
 use mathlib.Core.Option.{Option, none, some}
 use Prim.Native.Nat.{ℕ}
@@ -11,7 +10,6 @@ use Rattle.grammar.specs.Codes.{noEntry}
 use Rattle.grammar.specs.Limits.{tableWords as memoryWords}
 use Rattle.grammar.specs.Encoding.{grammarOf}
 use Rattle.grammar.specs.Reading.{reading}
-use Rattle.grammar.specs.declared.reading.Sizes.{Sizes}
 use Rattle.semantics.specs.FirstFollow.{Entry}
 use Rattle.semantics.specs.Claims.{clashes, column}
 use Rattle.sets.specs.declared.Finding.{Finding}
@@ -19,7 +17,7 @@ use Rattle.sets.specs.declared.Finding.the-variants.{Refused}
 use Rattle.table.specs.declared.Analysis.{Analysis}
 use Rattle.sets.specs.Families.{setsFaults, setsFault, findingOf}
 use Rattle.table.specs.Layout.{tableWords}
-use Rattle.table.specs.Entries.{filled, Given}
+use Rattle.table.specs.Entries.{filled}
 
 -- 9: the first entry that two rules claim, by nonterminal, then column
 abbrev pub clashFault : ℕ → List Entry → Option Error
@@ -45,8 +43,3 @@ refusedBy e = analysis (Refused e) (replicate memoryWords noEntry)
 
 unfoldable pub analyzed : List ℕ → Analysis
 analyzed words = analysis (findingOf (fault words) (reading words)) (tableIf (fault words) (filled (tableWords (grammarOf words))))
-
--- a grammar whose sets have been found
-pub record GivenFamilies (words : List ℕ) (z : Sizes) (firsts follows : List ℕ) : Type 0 where
-  pub given : Given words z firsts follows
-  pub faultless : setsFault words ≡ none

@@ -6,6 +6,7 @@ use lib.Dec.{eqb}
 use Rattle.word.specs.Choice.{choose}
 use Rattle.grammar.specs.Codes.{noEntry}
 use Rattle.grammar.specs.Syntax.{Grammar}
+use Rattle.lookahead.specs.Elements.{nothing}
 use Rattle.semantics.specs.Claims.{tableOf}
 use Rattle.sets.specs.Lists.{listed}
 use Rattle.sets.specs.Sets.{firstNumber, followNumber}
@@ -17,6 +18,10 @@ entryWord (some q) = q
 -- the lookahead string of a column: the terminals in order, then the end
 unfoldable pub columnString : ℕ → ℕ → List ℕ
 columnString terminals c = choose (eqb c terminals) [] (c ∷ [])
+
+-- and its element
+unfoldable pub columnElement : ℕ → ℕ → ℕ
+columnElement terminals c = choose (eqb c terminals) nothing c
 
 -- the columns of a row
 abbrev pub columns : Grammar → ℕ

@@ -1,16 +1,19 @@
 // The LL(1) table of an encoded grammar.
 ghost use mathlib.Core.Path.{_≡_};
-ghost use Rattle.table.specs.Analysis.{refusedBy, GivenFamilies, analyzed};
+ghost use Rattle.table.specs.Analysis.{refusedBy, analyzed};
 use answer::Error;
-use entries::Conflict;
-use entries::entries;
+use claims::keep_claims;
+use conflicts::Conflict;
+use conflicts::first_conflict;
 use grammar::codes::NO_ENTRY;
+use grammar::limits::RULES;
 use grammar::limits::TABLE_WORDS;
-use grammar::reading::Sizes;
+use layout::fill;
 use sets::Finding;
-use sets::family::SETS;
 
-mod entries;
+pub mod claims;
+mod conflicts;
+mod layout;
 
 // What is found of an encoded grammar: its sizes, or why it is refused; and the words of its table, all no entry where it is refused.
 pub struct Analysis {
@@ -27,43 +30,46 @@ fn refused(error: Error) -> Analysis
     }
 }
 
-// A grammar whose sets have been found: its table, or the first conflict.
-fn analyze_table(
-    words: &[u32],
-    sizes: Sizes,
-    firsts: &[u64; SETS],
-    follows: &[u64; SETS],
-) -> Analysis
-    requires { ⌜ GivenFamilies (now words) sizes (now firsts) (now follows) ⌝ }
-    ensures { λ r. ⌜ r ≡ analyzed (now (words .entry)) ⌝ }
-{
-    let table = entries(words, sizes, firsts, follows);
-    let conflict = table.conflict;
-    let filled = table.words;
-    match conflict {
-        Conflict::At {
-            nonterminal,
-            column,
-        } => refused(Error::Conflict {
-            nonterminal,
-            column,
-        }),
-        Conflict::Absent => Analysis {
-            finding: Finding::Passed(sizes),
-            table: filled,
-        },
-    }
-}
-
 pub fn analyze(words: &[u32]) -> Analysis
     ensures { λ r. ⌜ r ≡ analyzed (now (words .entry)) ⌝ }
 {
     let families = sets::analyze(words);
     let finding = families.finding;
-    let firsts = families.firsts;
-    let follows = families.follows;
     match finding {
         Finding::Refused(error) => refused(error),
-        Finding::Passed(sizes) => analyze_table(words, sizes, &firsts, &follows),
+        Finding::Passed(sizes) => {
+            let mut heads = [0u8; RULES];
+            let mut sets = [0u64; RULES];
+            keep_claims(
+                words,
+                sizes,
+                &families.firsts,
+                &families.follows,
+                &mut heads,
+                &mut sets,
+            );
+            let conflict = first_conflict(&heads, &sets, sizes);
+            match conflict {
+                Conflict::At {
+                    nonterminal,
+                    column,
+                } => refused(Error::Conflict {
+                    nonterminal,
+                    column,
+                }),
+                Conflict::Absent => {
+                    let mut table = [NO_ENTRY; TABLE_WORDS];
+                    fill(
+                        &mut table,
+                        sizes,
+                        &families.firsts,
+                        &families.follows,
+                        &heads,
+                        &sets,
+                    );
+                    Analysis { finding, table }
+                }
+            }
+        }
     }
 }

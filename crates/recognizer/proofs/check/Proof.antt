@@ -18,15 +18,20 @@ enum-known-finding-2 c = search needs
 
 lend-requires : tie.Need-lend-requires
 lend-requires c κs =
-    let given = c .before .before .before .before .before .before .before .before .before .before .args in
-    lend-given (given .words .now) (given .table .now) (c .before .before .before .before .before .before .before .if1 .left)
-    (found (given .words .now) (c .before .before .before .before .before .before .analyze .ensures) (c .before .before .before .finding2 .given .1))
+    let at-finding2 = c .before .before .before .before in
+    let at-analyze = at-finding2 .before .before in
+    let at-if1 = at-analyze .before in
+    let given = at-if1 .before .before .before .args in
+    lend-given (given .words .now) (given .table .now) (at-if1 .if1 .left)
+    (found (given .words .now) (at-analyze .analyze .ensures) (at-finding2 .finding2 .given .1))
 
 returns-2 : tie.Need-returns-2
 returns-2 c =
-    let given = c .before .before .before .before .before .before .before .before .args in
-    check-refused (given .words .now) (given .table .now) (c .before .before .before .before .before .if1 .left)
-    (found-fault (given .words .now) (c .before .before .before .before .analyze .ensures) (c .before .finding .given .1))
+    let at-analyze = c .before .before .before in
+    let at-if1 = at-analyze .before in
+    let given = at-if1 .before .before .before .args in
+    check-refused (given .words .now) (given .table .now) (at-if1 .if1 .left)
+    (found-fault (given .words .now) (at-analyze .analyze .ensures) (c .before .finding .given .1))
 
 same-length : tie.Need-same-length
 same-length c = search needs
@@ -34,11 +39,10 @@ same-length c = search needs
 returns-3 : tie.Need-returns-3
 returns-3 c =
     let at-lend = c .before .before in
-    let at-finding2 = at-lend .before .before .before .before in
-    let at-analyze = at-finding2 .before .before .before in
+    let at-finding2 = at-lend .before .before .before .before .before in
+    let at-analyze = at-finding2 .before .before in
     let at-if1 = at-analyze .before in
-    let start = at-if1 .before .before .before in
-    let given = start .args in
+    let given = at-if1 .before .before .before .args in
     check-passed (given .words .now) (given .table .now) (at-if1 .if1 .left)
     (found (given .words .now) (at-analyze .analyze .ensures) (at-finding2 .finding2 .given .1)) (at-lend .lend .ensures)
 

@@ -26,8 +26,8 @@ enum-known-finding-2 c = search needs
 
 judge-passed-requires : tie.Need-judge-passed-requires
 judge-passed-requires c κs =
-    let passed = c .before .before .before .before in
-    let analyzed = passed .before .before .before in
+    let passed = c .before .before .before .before .before in
+    let analyzed = passed .before .before in
     let room = analyzed .before in
     let long = room .before in
     record {
@@ -38,7 +38,7 @@ judge-passed-requires c κs =
 
 returns-3 : tie.Need-returns-3
 returns-3 c =
-    let analyzed = c .before .before .before .before in
+    let analyzed = c .before .before .before in
     let room = analyzed .before in
     let long = room .before in
     let given = long .before .before .before .before .before .args in

@@ -1,8 +1,8 @@
--- An encoded grammar: by whether its sets are found.
-use mathlib.Core.Path.{_∙_}
-use Rattle.sets.proofs.Telling.{families-told, families-refused}
-use Rattle.table.proofs.Analyzing.{analyzed-refused, given-families}
+-- An encoded grammar: by whether its families are found, and whether two rules claim an entry.
+use mathlib.Core.Path.{refl, _∙_}
 use borrow.Author.Needs.{needs}
+use Rattle.sets.proofs.Telling.{families-told, families-refused}
+use Rattle.table.proofs.Analyzing.{given, analyzed-refused, few-terminals, headed, sets-fit, analyzed-conflict, analyzed-passed}
 use Rattle.table.proofs.analyze.Statement.{statement}
 use Rattle.table.proofs.analyze.Tie as tie
 
@@ -18,21 +18,56 @@ refused-requires c κs = search needs
 enum-known-finding-2 : tie.Need-enum-known-finding-2
 enum-known-finding-2 c = search needs
 
-analyze-table-requires : tie.Need-analyze-table-requires
-analyze-table-requires c κs =
-    let at-finding2 = c .before .before .before in
-    let at-before = at-finding2 .before .before .before in
-    let at-analyze = at-before .before in
-    given-families (families-told (at-analyze .before .before .args .words .now) (at-analyze .analyze .ensures) (at-finding2 .finding2 .given .1))
+keep-claims-requires : tie.Need-keep-claims-requires
+keep-claims-requires c κs =
+    let at-finding = c .before .before .before .before .before .before in
+    let at-analyze = at-finding .before .before in
+    let found = families-told _ (at-analyze .analyze .ensures) (at-finding .finding2 .given .1) in
+    (given found, refl, refl)
+
+first-conflict-requires : tie.Need-first-conflict-requires
+first-conflict-requires c κs =
+    let at-finding = c .before .before .before .before .before .before .before .before .before in
+    let at-analyze = at-finding .before .before in
+    let found = families-told _ (at-analyze .analyze .ensures) (at-finding .finding2 .given .1) in
+    (headed found (c .before .before .keep-claims .ensures), few-terminals found)
+
+enum-known-conflict : tie.Need-enum-known-conflict
+enum-known-conflict c = search needs
+
+refused-requires-2 : tie.Need-refused-requires-2
+refused-requires-2 c κs = search needs
+
+enum-told : tie.Need-enum-told
+enum-told c = search needs
+
+fill-requires : tie.Need-fill-requires
+fill-requires c κs =
+    let at-finding = c .before .before .before .before .before .before .before .before .before .before .before .before .before .before .before .before .before .before in
+    let at-analyze = at-finding .before .before in
+    let found = families-told _ (at-analyze .analyze .ensures) (at-finding .finding2 .given .1) in
+    let kept = c .before .before .before .before .before .before .before .before .before .before .before .keep-claims .ensures in
+    (record { headed = headed found kept; fewTerminals = few-terminals found; long = refl }, sets-fit found .0, sets-fit found .1)
 
 returns : tie.Need-returns
-returns c =
-    let at-analyze = c .before .before .before .before .before .before in
-    let words = at-analyze .before .before .args .words .now in
-    c .refused .ensures ∙ analyzed-refused words (families-refused words (at-analyze .analyze .ensures) (c .before .before .finding .given .1))
+returns c = c .refused .ensures ∙ analyzed-refused _ (families-refused _ (c .before .before .before .before .analyze .ensures) (c .before .before .finding .given .1))
 
 returns-2 : tie.Need-returns-2
-returns-2 c = search needs
+returns-2 c =
+    let at-finding = c .before .before .before .before .before .before .before .before .before .before .before .before .before .before in
+    let at-analyze = at-finding .before .before in
+    let found = families-told _ (at-analyze .analyze .ensures) (at-finding .finding2 .given .1) in
+    c .refused2 .ensures
+    ∙ analyzed-conflict found (c .before .before .before .before .before .before .before .keep-claims .ensures) (c .before .before .before .before .first-conflict .ensures) (c .before .before .conflict .given .1)
+
+returns-3 : tie.Need-returns-3
+returns-3 c =
+    let at-finding = c .before .before .before .before .before .before .before .before .before .before .before .before .before .before .before .before .before .before .before in
+    let at-analyze = at-finding .before .before in
+    let found = families-told _ (at-analyze .analyze .ensures) (at-finding .finding2 .given .1) in
+    let at-conflict = c .before .before .before .before .before .before .before .before .before in
+    analyzed-passed found (at-conflict .before .before .before .keep-claims .ensures) (at-conflict .first-conflict .ensures) (c .before .before .before .before .before .before .before .enum-told .given .1)
+    (c .fill .ensures)
 
 pub analyze-spec : {M : Type 1} → statement M
 analyze-spec =
@@ -42,6 +77,12 @@ analyze-spec =
     enum-known-finding
     refused-requires
     enum-known-finding-2
-    analyze-table-requires
+    keep-claims-requires
+    first-conflict-requires
+    enum-known-conflict
+    refused-requires-2
+    enum-told
+    fill-requires
     returns
-    returns-2)
+    returns-2
+    returns-3)

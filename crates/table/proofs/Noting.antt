@@ -1,0 +1,127 @@
+-- The rules are gone through from the last on: what each adds to the sets claimed once and twice.
+use mathlib.Core.Path.{_≡_, refl, sym, ap, ap₂, _∙_}
+use mathlib.Core.Bool.{Bool, true, false, _&&_, _||_}
+use mathlib.Core.List.{List, [], _∷_}
+use Prim.Native.Nat.{ℕ, zero, suc, _-_, _≤_, _<_}
+use native.Mathlib.Decide.{ℕ-discrete}
+use native.Mathlib.Omega.{arith}
+use lib.ListN.{length, getD, set, replicate, length-set, length-replicate}
+use lib.Seq.{getD-set-same, getD-set-other}
+use Rattle.grammar.specs.Limits.{maxNonterminals}
+use Rattle.lookahead.specs.Elements.{has}
+use Rattle.lookahead.specs.Operations.{join, meet}
+use Rattle.lookahead.proofs.Operations.{has-empty, has-join, has-meet}
+use Rattle.semantics.specs.Quantifiers.{any}
+use Rattle.semantics.specs.FiniteSets.{numbersFrom, numbers}
+use Rattle.semantics.specs.Claims.{several}
+use Rattle.table.specs.Claims.{claimant}
+use Rattle.table.specs.Conflicts.{Noted, Twice}
+use Rattle.table.proofs.Claimants.{claimant-own, claimant-other, numbers-before}
+
+-- these rules have been gone through
+pub record Noting (heads sets rules once twice : List ℕ) : Type 0 where
+  pub long : (length once ≡ maxNonterminals) × (length twice ≡ maxNonterminals)
+  pub once-has : (A l : ℕ) → has (getD once A 0) l ≡ any (claimant heads sets A l) rules
+  pub twice-has : (A l : ℕ) → has (getD twice A 0) l ≡ several (claimant heads sets A l) rules
+
+getD-zeros : (n i : ℕ) → _≡_ {A = ℕ} (getD (replicate n 0) i 0) 0
+getD-zeros zero i = refl
+getD-zeros (suc n) zero = refl
+getD-zeros (suc n) (suc i) = getD-zeros n i
+
+-- before the last rule nothing is claimed
+noting-none : (heads sets : List ℕ) → Noting heads sets [] (replicate maxNonterminals 0) (replicate maxNonterminals 0)
+unfolding any several
+noting-none heads sets = record {
+  long = (length-replicate {A = ℕ} maxNonterminals 0, length-replicate {A = ℕ} maxNonterminals 0);
+  once-has = λ A l. rw (getD-zeros maxNonterminals A) (has-empty l);
+  twice-has = λ A l. rw (getD-zeros maxNonterminals A) (has-empty l);
+}
+
+or-comm : (a b : Bool) → (a || b) ≡ (b || a)
+or-comm true true = refl
+or-comm true false = refl
+or-comm false true = refl
+or-comm false false = refl
+
+and-comm : (a b : Bool) → (a && b) ≡ (b && a)
+and-comm true true = refl
+and-comm true false = refl
+and-comm false true = refl
+and-comm false false = refl
+
+-- a list whose first member does not pass
+any-later : {X : Type 0} (p : X → Bool) (x : X) (l : List X) → p x ≡ false → any p (x ∷ l) ≡ any p l
+unfolding any
+any-later p x l e = rw e
+
+several-later : {X : Type 0} (p : X → Bool) (x : X) (l : List X) → p x ≡ false → several p (x ∷ l) ≡ several p l
+unfolding several
+several-later p x l e = rw e
+
+-- one rule more
+module _ {heads sets : List ℕ} (q : ℕ) {rules once twice once′ twice′ : List ℕ} (f : Noting heads sets rules once twice)
+    (own : getD heads q 0 < maxNonterminals) (n : Noted once twice (getD heads q 0) (getD sets q 0) once′ twice′) where
+  abbrev head : ℕ
+  head = getD heads q 0
+
+  abbrev claim : ℕ
+  claim = getD sets q 0
+
+  own-once : (l : ℕ) → has (join (getD once head 0) claim) l ≡ any (claimant heads sets head l) (q ∷ rules)
+  unfolding any
+  own-once l =
+      has-join (getD once head 0) claim l ∙ ap₂ _||_ (f .once-has head l) (sym (claimant-own heads sets l q))
+      ∙ or-comm (any (claimant heads sets head l) rules) (claimant heads sets head l q)
+
+  own-twice : (l : ℕ) → has (join (getD twice head 0) (meet (getD once head 0) claim)) l ≡ several (claimant heads sets head l) (q ∷ rules)
+  unfolding several
+  own-twice l =
+      let p = claimant heads sets head l in
+      has-join (getD twice head 0) (meet (getD once head 0) claim) l
+      ∙ ap₂ _||_ (f .twice-has head l)
+      (has-meet (getD once head 0) claim l ∙ ap₂ _&&_ (f .once-has head l) (sym (claimant-own heads sets l q)) ∙ and-comm (any p rules) (p q))
+      ∙ or-comm (several p rules) (p q && any p rules)
+
+  noting-rule : Noting heads sets (q ∷ rules) once′ twice′
+  noting-rule = record {
+    long = (ap length (n .first) ∙ length-set once head _ ∙ f .long .0, ap length (n .again) ∙ length-set twice head _ ∙ f .long .1);
+    once-has = λ A l. rw (n .first) (at-once A l (ℕ-discrete A head));
+    twice-has = λ A l. rw (n .again) (at-twice A l (ℕ-discrete A head));
+  }
+    where
+      once-now : ℕ
+      once-now = join (getD once head 0) claim
+
+      twice-now : ℕ
+      twice-now = join (getD twice head 0) (meet (getD once head 0) claim)
+
+      at-once : (A l : ℕ) → Dec (A ≡ head) → has (getD (set once head (join (getD once head 0) claim)) A 0) l ≡ any (claimant heads sets A l) (q ∷ rules)
+      at-once A l (yes e) = rw (e, getD-set-same once head once-now 0 (omega (arith, f .long .0))) (own-once l)
+      at-once A l (no ne) =
+          rw (getD-set-other once head A once-now 0 ne)
+          (f .once-has A l ∙ sym (any-later (claimant heads sets A l) q rules (claimant-other heads sets A l q ne)))
+
+      at-twice : (A l : ℕ) → Dec (A ≡ head)
+          → has (getD (set twice head (join (getD twice head 0) (meet (getD once head 0) claim))) A 0) l ≡ several (claimant heads sets A l) (q ∷ rules)
+      at-twice A l (yes e) = rw (e, getD-set-same twice head twice-now 0 (omega (arith, f .long .1))) (own-twice l)
+      at-twice A l (no ne) =
+          rw (getD-set-other twice head A twice-now 0 ne)
+          (f .twice-has A l ∙ sym (several-later (claimant heads sets A l) q rules (claimant-other heads sets A l q ne)))
+
+-- the same in the loop's numbers, of n rules
+pub noting-turn : {heads sets once twice once′ twice′ : List ℕ} (q n : ℕ) → Noting heads sets (numbersFrom q (n - q)) once twice → 0 < q → q ≤ n
+    → getD heads (q - 1) 0 < maxNonterminals → Noted once twice (getD heads (q - 1) 0) (getD sets (q - 1) 0) once′ twice′
+    → Noting heads sets (numbersFrom (q - 1) (n - (q - 1))) once′ twice′
+noting-turn q n f h k own w = rw (numbers-before q n h k) (noting-rule (q - 1) f own w)
+
+pub noting-start : (heads sets : List ℕ) (n : ℕ) → Noting heads sets (numbersFrom n (n - n)) (replicate maxNonterminals 0) (replicate maxNonterminals 0)
+unfolding numbersFrom
+noting-start heads sets n = let e : n - n ≡ 0 = omega arith in rw e (noting-none heads sets)
+
+pub noting-end : {heads sets once twice : List ℕ} (q n : ℕ) → Noting heads sets (numbersFrom q (n - q)) once twice → q ≤ 0 → Twice heads sets n twice
+unfolding numbers
+noting-end q n f h =
+    let e : q ≡ 0 = omega arith in
+    let d : n - 0 ≡ n = omega arith in
+    record { each = λ A l. rw (e, d) at (f .twice-has A l) }

@@ -1,0 +1,44 @@
+-- An encoded grammar: by whether its families are found.
+use mathlib.Core.Path.{refl}
+use borrow.Author.Needs.{needs}
+use Rattle.sets.proofs.Telling.{families-told, families-refused}
+use Rattle.table.proofs.Analyzing.{given, refused-claims, all-claims}
+use Rattle.table.proofs.claims.analyze.Statement.{statement}
+use Rattle.table.proofs.claims.analyze.Tie as tie
+
+analyze-requires : tie.Need-analyze-requires
+analyze-requires c κs = search needs
+
+enum-told : tie.Need-enum-told
+enum-told c = search needs
+
+enum-known-finding : tie.Need-enum-known-finding
+enum-known-finding c = search needs
+
+keep-claims-requires : tie.Need-keep-claims-requires
+keep-claims-requires c κs =
+    let at-finding = c .before .before .before .before .before .before in
+    let at-analyze = at-finding .before .before in
+    let found = families-told _ (at-analyze .analyze .ensures) (at-finding .finding .given .1) in
+    (given found, refl, refl)
+
+returns : tie.Need-returns
+returns c = let told = c .enum-told .given .1 in refused-claims _ (families-refused _ (c .before .before .analyze .ensures) told) told
+
+returns-2 : tie.Need-returns-2
+returns-2 c =
+    let at-finding = c .before .before .before .before .before .before .before in
+    let at-analyze = at-finding .before .before in
+    let found = families-told _ (at-analyze .analyze .ensures) (at-finding .finding .given .1) in
+    all-claims found (c .keep-claims .ensures)
+
+pub analyze-spec : {M : Type 1} → statement M
+analyze-spec =
+    tie.close
+    (tie.spec
+    analyze-requires
+    enum-told
+    enum-known-finding
+    keep-claims-requires
+    returns
+    returns-2)

@@ -1,0 +1,59 @@
+-- The first entry that two rules claim, by nonterminal, then column.
+use mathlib.Core.Path.{_≡_}
+use mathlib.Core.Bool.{Bool}
+use mathlib.Core.List.{List, [], _∷_}
+use Prim.Native.Nat.{ℕ, zero, suc}
+use lib.ListN.{getD, set}
+use Rattle.word.specs.Choice.{choose}
+use Rattle.grammar.specs.declared.reading.Sizes.{Sizes}
+use Rattle.lookahead.specs.Elements.{has}
+use Rattle.lookahead.specs.Operations.{join, meet}
+use Rattle.semantics.specs.FiniteSets.{numbers}
+use Rattle.semantics.specs.FirstFollow.{Entry}
+use Rattle.semantics.specs.Claims.{several}
+use Rattle.table.specs.declared.conflicts.Conflict.{Conflict}
+use Rattle.table.specs.declared.conflicts.Conflict.the-variants.{Absent, At}
+use Rattle.table.specs.Layout.{columnElement}
+use Rattle.table.specs.Claims.{claimant}
+
+-- the first of a list of entries, where a string's column is known (document 01: the first such cell)
+abbrev pub firstOf : (List ℕ → ℕ) → List Entry → Conflict
+firstOf column [] = Absent
+firstOf column (e ∷ es) = At (e .0) (column (e .1))
+
+-- the first of n columns of A, from one on, that passes a test
+unfoldable pub rowConflict : (ℕ → Bool) → ℕ → ℕ → ℕ → Conflict
+rowConflict p A c zero = Absent
+rowConflict p A c (suc n) = choose (p c) (At A c) (rowConflict p A (suc c) n)
+
+abbrev pub orLater : Conflict → Conflict → Conflict
+orLater Absent later = later
+orLater (At A c) later = At A c
+
+-- the first entry of n rows, from one on, that passes
+unfoldable pub conflictFrom : (ℕ → ℕ → Bool) → ℕ → ℕ → ℕ → Conflict
+conflictFrom p columns A zero = Absent
+conflictFrom p columns A (suc n) = orLater (rowConflict (p A) A 0 columns) (conflictFrom p columns (suc A) n)
+
+-- the columns whose elements are in a set, and the entries whose elements are in a family of sets
+abbrev pub inSet : (ℕ → ℕ) → ℕ → ℕ → Bool
+inSet element s c = has s (element c)
+
+abbrev pub inSets : (ℕ → ℕ) → List ℕ → ℕ → ℕ → Bool
+inSets element sets A = inSet element (getD sets A 0)
+
+-- the entries that two of so many rules claim
+abbrev pub claimedTwice : (ℕ → ℕ) → List ℕ → List ℕ → ℕ → ℕ → ℕ → Bool
+claimedTwice element heads sets rules A c = several (claimant heads sets A (element c)) (numbers rules)
+
+abbrev pub conflictOf : Sizes → List ℕ → List ℕ → Conflict
+conflictOf z heads sets = conflictFrom (claimedTwice (columnElement (z .terminals)) heads sets (z .rules)) (suc (z .terminals)) 0 (z .nonterminals)
+
+-- a claim is joined to the sets claimed once and twice
+pub record Noted (once twice : List ℕ) (head claim : ℕ) (once′ twice′ : List ℕ) : Type 0 where
+  pub first : once′ ≡ set once head (join (getD once head 0) claim)
+  pub again : twice′ ≡ set twice head (join (getD twice head 0) (meet (getD once head 0) claim))
+
+-- the elements that two rules claim, for each nonterminal
+pub record Twice (heads sets : List ℕ) (rules : ℕ) (twice : List ℕ) : Type 0 where
+  pub each : (A l : ℕ) → has (getD twice A 0) l ≡ several (claimant heads sets A l) (numbers rules)

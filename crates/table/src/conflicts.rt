@@ -1,0 +1,99 @@
+// The first entry that two rules claim.
+ghost use mathlib.Core.Path.{_≡_};
+ghost use Prim.Native.Nat.{suc, _≤_, _<_};
+ghost use Rattle.grammar.specs.Limits.{maxNonterminals, maxTerminals};
+ghost use Rattle.table.specs.Layout.{columnElement};
+ghost use Rattle.table.specs.Claims.{Headed};
+ghost use Rattle.table.specs.Conflicts.{rowConflict, conflictFrom, inSet, inSets, conflictOf, Noted, Twice};
+use super::layout::element;
+use grammar::limits::RULES;
+use grammar::reading::Sizes;
+use lookahead::LookaheadSet;
+use sets::family::SETS;
+
+// By nonterminal, then by column.
+pub(crate) enum Conflict {
+    Absent,
+    At { nonterminal: u8, column: u8 },
+}
+
+// Joins a claim for a nonterminal: what was claimed before is claimed twice.
+fn note(once: &mut [u64; SETS], twice: &mut [u64; SETS], head: usize, claim: LookaheadSet)
+    requires { ⌜ head < maxNonterminals ⌝ }
+    ensures { λ _. ⌜ Noted (now (once .entry)) (now (twice .entry)) head (claim .bits) (now (once .exit)) (now (twice .exit)) ⌝ }
+{
+    let before = LookaheadSet { bits: once[head] };
+    let again = LookaheadSet { bits: twice[head] };
+    twice[head] = again.join(before.meet(claim)).bits;
+    once[head] = before.join(claim).bits;
+}
+
+// The elements that two rules claim, for each nonterminal.
+fn claimed_twice(heads: &[u8; RULES], sets: &[u64; RULES], sizes: Sizes) -> [u64; SETS]
+    requires { ⌜ Headed (now heads) (sizes .rules) (sizes .nonterminals) ⌝ }
+    ensures { λ r. ⌜ Twice (now (heads .entry)) (now (sets .entry)) (sizes .rules) r ⌝ }
+{
+    let mut once = [0u64; SETS];
+    let mut twice = [0u64; SETS];
+    let mut rule = sizes.rules;
+    while 0 < rule {
+        rule = rule - 1;
+        let claim = LookaheadSet { bits: sets[rule] };
+        note(&mut once, &mut twice, heads[rule] as usize, claim);
+    }
+    twice
+}
+
+// The first column of a nonterminal whose element is in a set.
+fn first_column(nonterminal: u8, set: LookaheadSet, terminals: u32) -> Conflict
+    requires { ⌜ terminals ≤ maxTerminals ⌝ }
+    ensures { λ r. ⌜ r ≡ rowConflict (inSet (columnElement terminals) (set .bits)) nonterminal 0 (suc terminals) ⌝ }
+{
+    if set.is_empty() {
+        return Conflict::Absent;
+    }
+    let mut column = 0;
+    while column <= terminals {
+        if set.contains(element(terminals, column)) {
+            return Conflict::At {
+                nonterminal,
+                column: column as u8,
+            };
+        }
+        column = column + 1;
+    }
+    Conflict::Absent
+}
+
+// The first entry whose element is in the set of its nonterminal.
+fn first_entry(sets: &[u64; SETS], sizes: Sizes) -> Conflict
+    requires { ⌜ (sizes .nonterminals ≤ maxNonterminals) × (sizes .terminals ≤ maxTerminals) ⌝ }
+    ensures { λ r. ⌜ r ≡ conflictFrom (inSets (columnElement (sizes .terminals)) (now (sets .entry))) (suc (sizes .terminals)) 0 (sizes .nonterminals) ⌝ }
+{
+    let nonterminals = sizes.nonterminals;
+    let terminals = sizes.terminals;
+    let mut nonterminal = 0;
+    while nonterminal < nonterminals {
+        let set = LookaheadSet {
+            bits: sets[nonterminal as usize],
+        };
+        let conflict = first_column(nonterminal as u8, set, terminals);
+        let Conflict::Absent = conflict else {
+            return conflict;
+        };
+        nonterminal = nonterminal + 1;
+    }
+    Conflict::Absent
+}
+
+pub(crate) fn first_conflict<'a>(
+    heads: &'a [u8; RULES],
+    sets: &'a [u64; RULES],
+    sizes: Sizes,
+) -> Conflict
+    requires { ⌜ Headed (now heads) (sizes .rules) (sizes .nonterminals) × (sizes .terminals ≤ maxTerminals) ⌝ }
+    ensures { λ r. ⌜ r ≡ conflictOf sizes (now (heads .entry)) (now (sets .entry)) ⌝ }
+{
+    let twice = claimed_twice(heads, sets, sizes);
+    first_entry(&twice, sizes)
+}
