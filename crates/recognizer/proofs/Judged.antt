@@ -1,5 +1,5 @@
 -- What judging answers and leaves in the lent memories, by the first fault; and what its verdict means. Assumes nothing.
-use mathlib.Core.Path.{_≡_, refl, sym, ap, _∙_}
+use mathlib.Core.Path.{_≡_, refl, sym, ap, subst, _∙_}
 use mathlib.Core.Bool.{Bool, true, false, _&&_, true≢false, false≢true}
 use mathlib.Core.List.{List, [], _∷_, _++_}
 use mathlib.Core.Logic.{_↔_}
@@ -34,6 +34,7 @@ use Rattle.semantics.specs.Strings.{Over}
 use Rattle.semantics.specs.Choices.{tableChoice}
 use Rattle.semantics.specs.Descent.{accepts}
 use Rattle.semantics.specs.Calls.{allCalls, callCount, farthest}
+use Rattle.semantics.specs.Memo.{Recorded}
 use Rattle.semantics.specs.Predictive.{Predictive}
 use Rattle.semantics.proofs.Booleans.{T-true, and-l, and-r}
 use Rattle.semantics.proofs.Range.{all-length}
@@ -46,7 +47,8 @@ use Rattle.recognizer.specs.declared.judging.Unknown.the-variants.{Absen
 use Rattle.recognizer.specs.Memory.{lentBack, memoWord, memoWords, Lent}
 use Rattle.recognizer.specs.Answers.{unknownFrom, unknownFault, checkFault, judgeFault, callsOf, verdictOf, verdictNumbers}
 use Rattle.recognizer.specs.Judging.{PassedGiven, DescendGiven, Descended}
-use Rattle.recognizer.specs.Properties.{PassedGrammar, Recognizes, Judges}
+use Rattle.recognizer.specs.Properties.{PassedGrammar, Readable, Recognizes, Judges}
+use Rattle.recognizer.proofs.Deciding.{words-recorded}
 use Rattle.recognizer.proofs.Checking.{passed-fault, passed-encodes, passed-free, fault-passed, no-clashes, not-left-recursive, lent-table, least}
 use Rattle.recognizer.proofs.Places.{judge-tells, fault-encoded, places}
 
@@ -135,10 +137,9 @@ verdict-tells true c e = ((λ q. refl, λ q. e), (λ q. let z : _≡_ {A = ℕ} 
 verdict-tells false c e = ((λ q. let z : _≡_ {A = ℕ} 0 1 = cc in absurd (omega arith), λ q. absurd (false≢true q)), (λ q. refl, λ q. e))
 
 -- property 3 from the verdict of the descent
-meaning : (words input : List ℕ) (r : Answer) → PassedGrammar words → Over (grammarOf words .terminals) input → r ≡ verdictOf (grammarOf words) input
-    → Recognizes words input r
+meaning : (words input : List ℕ) (r : Answer) → PassedGrammar words → Readable words input → r ≡ verdictOf (grammarOf words) input → Recognizes words input r
 unfolding verdictOf
-meaning words input r p over e =
+meaning words input r p h e =
     let G = grammarOf words in
     let k = passed-encodes words p in
     let free = passed-free words p in
@@ -146,13 +147,17 @@ meaning words input r p over e =
     let predictive : Predictive G 1 = theorems .passed G 1 (k .formed) some-nonterminal .0 (not-left-recursive words p, no-clashes words p) in
     let tells : (v : Valuation) → Solves G input v → ((r ≡ Accepted (callsOf G input)) ↔ (v 0 0 (length input) ≡ true)) × ((r ≡ Rejected (callsOf G input)) ↔ (v 0 0 (length input) ≡ false)) =
     λ v s. verdict-tells {r = r} (v 0 0 (length input)) (callsOf G input)
-    (e ∙ ap (λ b. choose b (Accepted (callsOf G input)) (Rejected (callsOf G input))) (theorems .verdict G 1 predictive input over v s)) in
+    (e ∙ ap (λ b. choose b (Accepted (callsOf G input)) (Rejected (callsOf G input))) (theorems .verdict G 1 predictive input (h .tokens) v s)) in
+    let own = theorems .own-rules G 1 input in
+    let recorded = theorems .memo-right G (k .formed .scoped) free some-nonterminal (tableChoice G 1 input) own input (omega (arith, h .short)) .recorded in
     record {
       one-solution = theorems .one-solution G (k .formed .scoped) free input;
       accepted = λ v s. tells v s .0;
       rejected = λ v s. tells v s .1;
-      descent = theorems .descent-ends G (k .formed .scoped) free (tableChoice G 1 input) (theorems .own-rules G 1 input) input;
-      calls = theorems .calls-counted G (k .formed .scoped) free some-nonterminal (tableChoice G 1 input) (theorems .own-rules G 1 input) input;
+      descent = theorems .descent-ends G (k .formed .scoped) free (tableChoice G 1 input) own input;
+      calls = theorems .calls-counted G (k .formed .scoped) free some-nonterminal (tableChoice G 1 input) own input;
+      memo =
+          subst (λ m. Recorded G (tableChoice G 1 input) input m) (words-recorded G input (k .formed .scoped) free some-nonterminal recorded) recorded;
     }
 
 -- the numbers of what is answered
@@ -189,7 +194,7 @@ judges {words} {input} {table} {memo} {table′} {memo′} {r} a t m = record {
       t ∙ ap (λ y. lentBack y (tableWords (grammarOf words)) table) (e ∙ sym (judged-checked words input (length table) (length memo) e)) ∙ sym (k .table);
   recognizes = λ long room p h.
       let f = no-fault words input table memo long room (fault-passed words p) (h .short) (known-absent (grammarOf words .terminals) 0 input (h .tokens)) in
-      meaning words input r p (h .tokens) (a ∙ ap (λ y. refusedOr y (verdictOf (grammarOf words) input)) f);
+      meaning words input r p h (a ∙ ap (λ y. refusedOr y (verdictOf (grammarOf words) input)) f);
 }
 
 pub judge-refused : {words input table memo : List ℕ} {x : Error} → judgeFault (length table) (length memo) words input ≡ some x

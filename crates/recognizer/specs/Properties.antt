@@ -24,6 +24,7 @@ use Rattle.semantics.specs.Families.{FirstClosed, FollowClosed, Claims, Clash}
 use Rattle.semantics.specs.FirstFollow.{First, Follow}
 use Rattle.semantics.specs.Claims.{clashes, column, tableOf}
 use Rattle.semantics.specs.Choices.{tableChoice}
+use Rattle.semantics.specs.Memo.{Recorded}
 use Rattle.semantics.specs.Theorems.{OneSolution, DescentEnds, CallsCounted}
 use Rattle.table.specs.Layout.{tableWords}
 use Rattle.recognizer.specs.Memory.{lentBack, memoWords}
@@ -85,13 +86,14 @@ pub record Readable (words input : List ℕ) : Type 0 where
 
 -- property 3, of the answer for a passed grammar and a readable input: exactly one valuation solves the grammar on the input, the answer is
 -- acceptance exactly when it gives the whole input to the start, and the answer's numbers are those of the calls that the descent makes, whose
--- outcomes are the only ones that the rules give
+-- outcomes are the only ones that the rules give; the memo table's words are these outcomes, each at its call's index, and nothing else
 pub record Recognizes (words input : List ℕ) (r : Answer) : Type 0 where
   pub one-solution : OneSolution (grammarOf words) input
   pub accepted : (v : Valuation) → Solves (grammarOf words) input v → (r ≡ Accepted (callsOf (grammarOf words) input)) ↔ (v 0 0 (length input) ≡ true)
   pub rejected : (v : Valuation) → Solves (grammarOf words) input v → (r ≡ Rejected (callsOf (grammarOf words) input)) ↔ (v 0 0 (length input) ≡ false)
   pub descent : DescentEnds (grammarOf words) (tableChoice (grammarOf words) 1 input) input
   pub calls : CallsCounted (grammarOf words) (tableChoice (grammarOf words) 1 input) input
+  pub memo : Recorded (grammarOf words) (tableChoice (grammarOf words) 1 input) input (memoWords (grammarOf words) input)
 
 -- judging an input with a lent table and a lent memo table: properties 1 and 3
 pub record Judges (words input table memo : List ℕ) (r : Answer) (table′ memo′ : List ℕ) : Type 0 where
