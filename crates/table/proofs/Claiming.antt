@@ -32,7 +32,7 @@ use Rattle.sets.proofs.FirstPasses.{Onto}
 use Rattle.sets.proofs.Naming.{before-indexed}
 use Rattle.sets.proofs.Numbers.{array-at}
 use Rattle.sets.proofs.Words.{parse-before, parse-over}
-use Rattle.table.specs.Claims.{claimNumber, byRule, Given, Kept, kept, MayClaim, RuleClaims, WordClaims, Empty, AllKept}
+use Rattle.table.specs.Claims.{claimNumber, byRule, Given, Kept, kept, MayClaim, WordClaims, Empty, AllKept}
 use Rattle.table.proofs.Claimed.{claim-found}
 
 -- a word that begins a rule of A

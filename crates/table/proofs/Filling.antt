@@ -9,7 +9,7 @@ use native.Mathlib.Decide.{ℕ-discrete, decLt}
 use native.Mathlib.Nat.{suc-mul, mul-le-mul, mul-le-mul-right}
 use native.Mathlib.Omega.{arith}
 use lib.Arith.{digits-lt}
-use lib.ListN.{length, getD}
+use lib.ListN.{getD}
 use Rattle.word.specs.Choice.{choose}
 use Rattle.grammar.specs.Limits.{maxColumns, tableWords as memoryWords}
 use Rattle.grammar.specs.declared.reading.Sizes.{Sizes}

@@ -1,6 +1,6 @@
 -- The rules are gone through from the last on: what each adds to the sets claimed once and twice.
 use mathlib.Core.Path.{_≡_, refl, sym, ap, ap₂, _∙_}
-use mathlib.Core.Bool.{Bool, true, false, _&&_, _||_}
+use mathlib.Core.Bool.{Bool, false, _&&_, _||_, and-comm, or-comm}
 use mathlib.Core.List.{List, [], _∷_}
 use Prim.Native.Nat.{ℕ, zero, suc, _-_, _≤_, _<_}
 use native.Mathlib.Decide.{ℕ-discrete}
@@ -37,18 +37,6 @@ noting-none heads sets = record {
   once-has = λ A l. rw (getD-zeros maxNonterminals A) (has-empty l);
   twice-has = λ A l. rw (getD-zeros maxNonterminals A) (has-empty l);
 }
-
-or-comm : (a b : Bool) → (a || b) ≡ (b || a)
-or-comm true true = refl
-or-comm true false = refl
-or-comm false true = refl
-or-comm false false = refl
-
-and-comm : (a b : Bool) → (a && b) ≡ (b && a)
-and-comm true true = refl
-and-comm true false = refl
-and-comm false true = refl
-and-comm false false = refl
 
 -- a list whose first member does not pass
 any-later : {X : Type 0} (p : X → Bool) (x : X) (l : List X) → p x ≡ false → any p (x ∷ l) ≡ any p l

@@ -9,9 +9,7 @@ use denote.Enum.Declared.{tagOf}
 use types.Run.{OneOf, miss}
 use lib.ListN.{length}
 use Rattle.word.specs.Choice.{choose}
-use Rattle.grammar.specs.declared.reading.Sizes.{Sizes}
 use Rattle.grammar.specs.Syntax.{Grammar}
-use Rattle.grammar.specs.WellRead.{WellRead}
 use Rattle.lookahead.specs.Elements.{nothing}
 use Rattle.lookahead.specs.Operations.{isEmpty}
 use Rattle.lookahead.proofs.Emptiness.{empty-none}
@@ -21,7 +19,7 @@ use Rattle.semantics.specs.Claims.{several, claims, clashes, column}
 use Rattle.table.specs.declared.conflicts.Conflict.{Conflict}
 use Rattle.table.specs.declared.conflicts.Conflict.the-variants.{Absent, At}
 use Rattle.table.specs.Layout.{columnString, columnElement}
-use Rattle.table.specs.Claims.{headsOf, claimNumbers, byRule, claimant}
+use Rattle.table.specs.Claims.{headsOf, claimNumbers, byRule}
 use Rattle.table.specs.Conflicts.{firstOf, rowConflict, orLater, conflictFrom, inSet, inSets, claimedTwice, Twice}
 use Rattle.table.proofs.Columns.{column-string, element-small, column-back, columns-strings}
 use Rattle.table.proofs.Claimants.{several-claims, told}
@@ -104,9 +102,6 @@ module _ (columns : ℕ) (string : ℕ → List ℕ) (place : List ℕ → ℕ) 
     row-first A c zero a h = refl
     row-first A c (suc n) a h = rw (same A c a (omega arith), row-first A (suc c) n a (omega arith)) (go (q (A, string c)))
       where
-        rest : List Entry
-        rest = keep q (map (λ x. (A, x)) (map string (numbersFrom (suc c) n)))
-
         go : (b : Bool) → choose b (At A c) (firstOf place (keep q (map (λ x. (A, x)) (map string (numbersFrom (suc c) n)))))
             ≡ firstOf place (elim b [
               | true ↦ (A, string c) ∷ keep q (map (λ x. (A, x)) (map string (numbersFrom (suc c) n)))

@@ -1,4 +1,4 @@
-// The first entry that two rules claim.
+// Conflicts: the first entry that two rules claim, read off what each rule claims.
 ghost use mathlib.Core.Path.{_≡_};
 ghost use Prim.Native.Nat.{suc, _≤_, _<_};
 ghost use Rattle.grammar.specs.Limits.{maxNonterminals, maxTerminals};
@@ -86,6 +86,7 @@ fn first_entry(sets: &[u64; SETS], sizes: Sizes) -> Conflict
     Conflict::Absent
 }
 
+// The first entry that two rules claim, by their heads and their claims.
 pub(crate) fn first_conflict<'a>(
     heads: &'a [u8; RULES],
     sets: &'a [u64; RULES],

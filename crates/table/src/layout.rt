@@ -83,6 +83,7 @@ fn fill_sets(
     }
 }
 
+// Writes the sets, and then the rows.
 pub(crate) fn fill<'a>(
     table: &mut [u32; TABLE_WORDS],
     sizes: Sizes,
