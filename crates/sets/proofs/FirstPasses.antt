@@ -1,10 +1,13 @@
 -- What the positives of a rule can all begin with, by its words from their end, and the more the larger the family. Assumes nothing.
-use mathlib.Core.Path.{_≡_, refl}
+use mathlib.Core.Path.{_≡_, refl, ap, _∙_}
 use mathlib.Core.List.{List, [], _∷_}
 use Prim.Native.Nat.{ℕ, suc, _+_, _-_, _≤_, _<_}
 use native.Mathlib.Omega.{arith}
+use denote.Enum.Declared.{tagOf}
+use types.Run.{OneOf, miss}
 use lib.ListN.{getD, drop}
 use lib.Seq.{drop-cons}
+use Rattle.word.proofs.Word.{the-type}
 use Rattle.word.specs.declared.Symbol.{Symbol as GrammarSymbol}
 use Rattle.word.specs.declared.Symbol.the-variants.{Terminal, Nonterminal}
 use Rattle.word.specs.declared.Word.{Word}
@@ -13,16 +16,17 @@ use Rattle.word.specs.Words.{decoded}
 use Rattle.grammar.specs.Syntax.{Body, Rule}
 use Rattle.grammar.specs.Encoding.{Parsed, onWord, parse}
 use Rattle.grammar.specs.WellRead.{firstRule}
+use Rattle.grammar.proofs.Places.{Behind}
 use Rattle.lookahead.specs.Elements.{Subset}
 use Rattle.lookahead.specs.Operations.{end, terminal, full, meet}
 use Rattle.lookahead.proofs.Order.{subset-refl, meet-mono}
 use Rattle.lookahead.proofs.Concat.{concat-mono}
 use Rattle.sets.specs.declared.first.Rest.{Rest}
 use Rattle.sets.specs.Least.{SetFamily, Under}
-use Rattle.sets.specs.First.{symbolFirst, bodyFirst, ruleFirst, restOf, noRest, withWord}
-use Rattle.sets.specs.Rules.{ruleFrom, RuleWords}
+use Rattle.sets.specs.First.{symbolFirst, bodyFirst, ruleFirst, sets, restOf, noRest, withWord, closedMeet, insideWord}
+use Rattle.sets.specs.Rules.{ruleFrom, Inside, RuleWords}
 use Rattle.sets.proofs.Visits.{Larger}
-use Rattle.sets.proofs.Words.{parse-before}
+use Rattle.sets.proofs.Inner.{word-inside}
 
 -- larger families give larger first sets
 module _ (F G : SetFamily) (u : Under F G) where
@@ -55,6 +59,37 @@ with-word t F Invalid p = refl
 pub record Onto (t : ℕ) (F : SetFamily) (w : Word) (rest r : Rest) : Type 0 where
   pub onto : (p : Parsed) → rest ≡ restOf t F p → r ≡ restOf t F (onWord w p)
 
+-- inside a rule it is enough to tell symbols and positives
+pub inside-word : (t : ℕ) (F : SetFamily) (w : Word) (p : Parsed) → Inside w → Behind w p → insideWord F w (restOf t F p) ≡ restOf t F (onWord w p)
+unfolding onWord bodyFirst ruleFirst
+inside-word t F (Symbol X) p i b = refl
+inside-word t F Positive p i b = refl
+inside-word t F Negative p i b = refl
+inside-word t F End p i b = rw (b .positives)
+inside-word t F (RuleWord A) p i b = absurd i
+inside-word t F (Heading m n) p i b = absurd i
+inside-word t F Invalid p i b = absurd i
+
+-- what `closed` and `inside` return for other words
+pub not-positive : (w : Word) (b m : ℕ) → OneOf (0 ∷ 1 ∷ 3 ∷ 4 ∷ 5 ∷ 6 ∷ []) (tagOf the-type w) → m ≡ closedMeet w b m
+not-positive Positive b m h = absurd (miss (0 ∷ 1 ∷ 3 ∷ 4 ∷ 5 ∷ 6 ∷ []) 2 tt h)
+not-positive (Symbol X) b m h = refl
+not-positive Negative b m h = refl
+not-positive End b m h = refl
+not-positive (RuleWord A) b m h = refl
+not-positive (Heading n t) b m h = refl
+not-positive Invalid b m h = refl
+
+pub first-closed : (F : SetFamily) (w : Word) (rest : Rest) → OneOf (0 ∷ 1 ∷ 2 ∷ 3 ∷ 5 ∷ 6 ∷ []) (tagOf the-type w)
+    → sets end (closedMeet w (rest .body .bits) (rest .meet .bits)) ≡ insideWord F w rest
+first-closed F (Symbol X) rest h = absurd (miss (0 ∷ 1 ∷ 2 ∷ 3 ∷ 5 ∷ 6 ∷ []) 4 tt h)
+first-closed F Positive rest h = refl
+first-closed F Negative rest h = refl
+first-closed F End rest h = refl
+first-closed F (RuleWord A) rest h = refl
+first-closed F (Heading m n) rest h = refl
+first-closed F Invalid rest h = refl
+
 -- what a rule gives, the more the larger the family
 abbrev pub ruleGives : ℕ → SetFamily → Rule → ℕ
 ruleGives t F r = ruleFirst t F (r .positives)
@@ -74,12 +109,14 @@ module _ {words : List ℕ} {start end : ℕ} (k : RuleWords words start end) wh
   walk-start t F e = record { low = k .some; high = omega arith; is = rw (k .ended .body, k .ended .positives) e }
 
   pub walk-turn : {t : ℕ} {F : SetFamily} {rest next : Rest} {i : ℕ} {w : Word} → FirstWalk t F words start end rest i → start + 1 < i
-      → w ≡ decoded (getD words (i - 1) 0) → Onto t F w rest next → FirstWalk t F words start end next (i - 1)
-  walk-turn {i = i} v h e o = record {
-    low = omega arith;
-    high = omega (arith, v .high);
-    is = rw (parse-before words i (omega arith) (omega (arith, v .high, k .within)), ← e) (o .onto (parse (drop i words)) (v .is));
-  }
+      → w ≡ decoded (getD words (i - 1) 0) → next ≡ insideWord F w rest → FirstWalk t F words start end next (i - 1)
+  walk-turn {t} {F} {i = i} {w} v h e o =
+      let s = word-inside k i h (v .high) e in
+      record {
+        low = omega arith;
+        high = omega (arith, v .high);
+        is = rw (s .here) (o ∙ ap (insideWord F w) (v .is) ∙ inside-word t F w (parse (drop i words)) (s .inside) (s .behind));
+      }
 
   pub walk-end : {t : ℕ} {F : SetFamily} {rest : Rest} {i : ℕ} → FirstWalk t F words start end rest i → i ≤ start + 1
       → rest .meet .bits ≡ ruleGives t F (ruleFrom words start)

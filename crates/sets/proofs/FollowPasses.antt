@@ -1,13 +1,16 @@
 -- The bodies of a rule, by its words from their end, join into the nonterminals' sets what comes behind them. Assumes nothing.
 use mathlib.Core.Path.{_≡_, refl, sym, ap, _∙_}
 use mathlib.Core.Bool.{Bool, true, false, true≢false, _||_}
-use mathlib.Core.List.{List, [], List·Memᴰ, List·Memᴰ·head, List·Memᴰ·tail}
+use mathlib.Core.List.{List, [], _∷_, List·Memᴰ, List·Memᴰ·head, List·Memᴰ·tail}
 use mathlib.Core.List.{List·Memᴰ·append-cases, Memᴰ·append-left, Memᴰ·append-right}
 use mathlib.Core.Logic.{inl, inr}
 use mathlib.Core.Option.{Option, none, some}
 use Prim.Native.Nat.{ℕ, zero, suc, _+_, _-_, _≤_, _<_}
 use native.Mathlib.Omega.{arith}
+use denote.Enum.Declared.{tagOf}
+use types.Run.{OneOf, miss}
 use lib.ListN.{length, getD, drop}
+use Rattle.word.proofs.Word.{the-type}
 use Rattle.word.specs.declared.Symbol.the-variants.{Terminal, Nonterminal}
 use Rattle.word.specs.declared.Word.{Word}
 use Rattle.word.specs.declared.Word.the-variants.{Heading, Rule as RuleWord, Positive, Negative, Symbol, End, Invalid}
@@ -25,17 +28,16 @@ use Rattle.grammar.proofs.Places.{Behind, read-place}
 use Rattle.lookahead.specs.Elements.{Subset}
 use Rattle.lookahead.specs.Operations.{end, concat}
 use Rattle.lookahead.proofs.Order.{subset-refl}
-use Rattle.lookahead.proofs.Concat.{concat-mono}
-use Rattle.sets.specs.declared.first.Rest.{Rest}
+use Rattle.lookahead.proofs.Concat.{concat-mono, concat-assoc, concat-end-left}
 use Rattle.sets.specs.Naming.{nonterminalOf, Indexed}
 use Rattle.sets.specs.Least.{SetFamily, at, Under, Adds, AddsTo, Passing, Passes}
-use Rattle.sets.specs.First.{bodyFirst, restOf, noRest}
-use Rattle.sets.specs.Follow.{FollowBody, FollowRules, FollowClosed, Asked}
-use Rattle.sets.specs.Rules.{turnOf, Ended, RuleWords, PassGiven}
-use Rattle.sets.proofs.Words.{parse-here, parse-before}
-use Rattle.sets.proofs.Naming.{IndexedName, name-indexed, word-indexed}
-use Rattle.sets.proofs.FirstPasses.{Onto, FirstWalk, walk-start, walk-turn}
-use Rattle.sets.proofs.Rising.{passing-none, passing-on, passing-then, passing-add}
+use Rattle.sets.specs.First.{symbolFirst, bodyFirst}
+use Rattle.sets.specs.Follow.{FollowBody, FollowRules, FollowClosed, tailBefore, Asked}
+use Rattle.sets.specs.Rules.{turnOf, Ended, Inside, RuleWords, PassGiven}
+use Rattle.sets.proofs.Words.{parse-here}
+use Rattle.sets.proofs.Naming.{IndexedName, name-indexed}
+use Rattle.sets.proofs.Inner.{Inner, word-inside}
+use Rattle.sets.proofs.Rising.{passing-none, passing-on, passing-then, passing-late, passing-add}
 use Rattle.sets.proofs.Standing.{rule-in, in-rules, rule-is}
 use Rattle.sets.proofs.Turns.{Turns, turns-next, turns-end}
 use Rattle.sets.proofs.Visits.{ruleNumbered, its-turn}
@@ -45,11 +47,11 @@ abbrev NameAsks : SetFamily → ℕ → Body → Option ℕ → SetFamily → Ty
 NameAsks F B b none L = Unit {0}
 NameAsks F B b (some A) L = Subset (concat (bodyFirst F b) (L B)) (L A)
 
--- a word that begins no rule takes its own part of what is asked, and gives it back
+-- a word inside a rule takes its own part of what is asked, and gives it back
 module _ (F : SetFamily) (B : ℕ) (p : Parsed) (L : SetFamily) where
-  asked-down : (w : Word) → beginsRule w ≡ false → Behind w p → Asked F B (onWord w p) L → Asked F B p L × NameAsks F B (p .body) (nonterminalOf w) L
+  asked-down : (w : Word) → Inside w → Behind w p → Asked F B (onWord w p) L → Asked F B p L × NameAsks F B (p .body) (nonterminalOf w) L
   unfolding onWord
-  asked-down (RuleWord A) n e o = absurd (true≢false n)
+  asked-down (RuleWord A) n e o = absurd n
   asked-down Positive n e o = (
     record {
       body = o .positives (p .body) (List·Memᴰ·head refl);
@@ -76,8 +78,8 @@ module _ (F : SetFamily) (B : ℕ) (p : Parsed) (L : SetFamily) where
     },
     tt,
   )
-  asked-down (Heading m t) n e o = (o, tt)
-  asked-down Invalid n e o = (o, tt)
+  asked-down (Heading m t) n e o = absurd n
+  asked-down Invalid n e o = absurd n
 
   asked-up : (w : Word) → Asked F B p L × NameAsks F B (p .body) (nonterminalOf w) L → Asked F B (onWord w p) L
   unfolding onWord
@@ -102,9 +104,33 @@ module _ (F : SetFamily) (B : ℕ) (p : Parsed) (L : SetFamily) where
 asked-none : (F : SetFamily) (B : ℕ) (p : Parsed) (L : SetFamily) → Ended p → Asked F B p L
 asked-none F B p L e = record { body = rw (e .body) tt; positives = rw (e .positives) (none-in _); negatives = rw (e .negatives) (none-in _) }
 
+-- what comes behind a place, with a word in front
+tail-word : (F : SetFamily) (v : ℕ) (w : Word) (p : Parsed) → Inside w
+    → tailBefore F v w (concat (bodyFirst F (p .body)) v) ≡ concat (bodyFirst F (onWord w p .body)) v
+unfolding onWord bodyFirst
+tail-word F v (Symbol X) p i = sym (concat-assoc (symbolFirst F X) (bodyFirst F (p .body)) v)
+tail-word F v Positive p i = sym (concat-end-left v)
+tail-word F v Negative p i = sym (concat-end-left v)
+tail-word F v End p i = sym (concat-end-left v)
+tail-word F v (RuleWord A) p i = absurd i
+tail-word F v (Heading m n) p i = absurd i
+tail-word F v Invalid p i = absurd i
+
+-- what `tail_before` returns for a word that is no symbol
+pub tail-closed : (F : SetFamily) (v : ℕ) (w : Word) (tail : ℕ) → OneOf (0 ∷ 1 ∷ 2 ∷ 3 ∷ 5 ∷ 6 ∷ []) (tagOf the-type w) → v ≡ tailBefore F v w tail
+tail-closed F v (Symbol X) tail h = absurd (miss (0 ∷ 1 ∷ 2 ∷ 3 ∷ 5 ∷ 6 ∷ []) 4 tt h)
+tail-closed F v Positive tail h = refl
+tail-closed F v Negative tail h = refl
+tail-closed F v End tail h = refl
+tail-closed F v (RuleWord A) tail h = refl
+tail-closed F v (Heading m n) tail h = refl
+tail-closed F v Invalid tail h = refl
+
 -- the words of a rule of B from i on have been gone through
-pub record FollowWalk (F : SetFamily) (B : ℕ) (words l₀ l : List ℕ) (start end : ℕ) (grown : Bool) (rest : Rest) (i : ℕ) : Type 0 where
-  pub walk : FirstWalk 0 F words start end rest i
+pub record FollowWalk (F : SetFamily) (B : ℕ) (words l₀ l : List ℕ) (start end : ℕ) (grown : Bool) (tail i : ℕ) : Type 0 where
+  pub low : start < i
+  pub high : i ≤ end
+  pub is : tail ≡ concat (bodyFirst F (parse (drop i words) .body)) (at l₀ B)
   pub passing : Passing (Asked F B (parse (drop (suc start) words))) (Asked F B (parse (drop i words))) l₀ l grown
 
 module _ {words : List ℕ} {start end : ℕ} (k : RuleWords words start end) where
@@ -119,54 +145,63 @@ module _ {words : List ℕ} {start end : ℕ} (k : RuleWords words start end) wh
       rw e (asked-down F B (parse (drop (suc j) words)) L (decoded (getD words j 0)) (k .inside j (omega arith) (omega arith))
       (read-place words (k .sizes) (k .read) j b .behind) (rw (parse-here words j b) at (asked-from F B L i (omega arith) o)) .0)
 
-  pub follow-start : (F : SetFamily) (B : ℕ) (l : List ℕ) {rest : Rest} → rest ≡ noRest 0 → FollowWalk F B words l l start end false rest end
-  follow-start F B l e = record { walk = walk-start k 0 F e; passing = passing-none l (asked-none F B (parse (drop end words)) (at l) (k .ended)) }
+  pub follow-start : (F : SetFamily) (B : ℕ) (l : List ℕ) → FollowWalk F B words l l start end false (at l B) end
+  unfolding bodyFirst
+  follow-start F B l = record {
+    low = k .some;
+    high = omega arith;
+    is = rw (k .ended .body) (sym (concat-end-left (at l B)));
+    passing = passing-none l (asked-none F B (parse (drop end words)) (at l) (k .ended));
+  }
 
-  module _ {F : SetFamily} {B : ℕ} {l₀ l : List ℕ} (g : Bool) {rest : Rest} {i : ℕ} (v : FollowWalk F B words l₀ l start end g rest i) (h : start + 1 < i)
+  module _ {F : SetFamily} {B : ℕ} {l₀ l : List ℕ} (g : Bool) {tail i : ℕ} (v : FollowWalk F B words l₀ l start end g tail i) (h : start + 1 < i)
       {w : Word} (e : w ≡ decoded (getD words (i - 1) 0)) where
     abbrev p : Parsed
     p = parse (drop i words)
 
-    here : parse (drop (i - 1) words) ≡ onWord w p
-    here = parse-before words i (omega arith) (omega (arith, v .walk .high, k .within)) ∙ ap (λ x. onWord x p) (sym e)
+    inner : Inner words w i
+    inner = word-inside k i h (v .high) e
 
     pub word-here : Indexed w
-    word-here = word-indexed words (k .read) (omega (arith, v .walk .high, k .within)) e
+    word-here = inner .indexed
 
     -- what the whole rule asks, the word asks
     name-asked : (G : SetFamily) → Asked F B (parse (drop (suc start) words)) G → NameAsks F B (p .body) (nonterminalOf w) G
     name-asked G o =
-        let b : i - 1 < length words = omega (arith, v .walk .high, k .within) in
         let f : suc start + (i - 1 - suc start) ≡ i - 1 = omega arith in
-        let n : suc (i - 1) ≡ i = omega arith in
-        let u = rw f at (asked-from F B G (i - 1 - suc start) (omega (arith, v .walk .high)) o) in
-        asked-down F B p G w (rw e (k .inside (i - 1) (omega arith) (omega (arith, v .walk .high))))
-        (rw (← e, n) at (read-place words (k .sizes) (k .read) (i - 1) b .behind)) (rw here at u) .1
+        let u = rw f at (asked-from F B G (i - 1 - suc start) (omega (arith, v .high)) o) in
+        asked-down F B p G w (inner .inside) (inner .behind) (rw (inner .here) at u) .1
 
-    grows : (G : SetFamily) → Under (at l) G → Subset (concat (bodyFirst F (p .body)) (at l B)) (concat (bodyFirst F (p .body)) (G B))
-    grows G u =
+    -- a family that has the array has what came behind the body when the rule had its turn
+    behind-in : (G : SetFamily) → Under (at l₀) G → Subset tail (concat (bodyFirst F (p .body)) (G B))
+    behind-in G u =
         let begins = bodyFirst F (p .body) in
-        concat-mono begins (at l B) begins (G B) (subset-refl begins) (u B)
+        rw (v .is) (concat-mono begins (at l₀ B) begins (G B) (subset-refl begins) (u B))
 
-    pub follow-turn : {l′ : List ℕ} (g′ : Bool) {r : Bool} {next : Rest} → length l₀ ≡ maxNonterminals → Onto 0 F w rest next
-        → AddsTo (nonterminalOf w) l (concat (rest .body .bits) (at l B)) l′ g′ → r ≡ (g || g′)
-        → FollowWalk F B words l₀ l′ start end r next (i - 1)
-    follow-turn {l′} g′ n o a told = record {
-      walk = walk-turn k (v .walk) h e o;
+    pub follow-turn : {l′ : List ℕ} (g′ : Bool) {r : Bool} {next : ℕ} → length l₀ ≡ maxNonterminals → AddsTo (nonterminalOf w) l tail l′ g′ → r ≡ (g || g′)
+        → next ≡ tailBefore F (at l₀ B) w tail → FollowWalk F B words l₀ l′ start end r next (i - 1)
+    follow-turn {l′} g′ n a told o = record {
+      low = omega arith;
+      high = omega (arith, v .high);
+      is = rw (inner .here) (o ∙ ap (tailBefore F (at l₀ B) w) (v .is) ∙ tail-word F (at l₀ B) w p (inner .inside));
       passing =
-          rw (told, here) (passing-on (λ G c. c) (λ G c. asked-up F B p G w c)
-          (passing-then g g′ (v .passing) (named (nonterminalOf w) refl (name-indexed w word-here) (rw (v .walk .is) at a))));
+          rw (told, inner .here) (passing-on (λ G c. c) (λ G c. asked-up F B p G w c)
+          (passing-late g g′ (v .passing) (named (nonterminalOf w) refl (name-indexed w word-here) a)));
     }
       where
-        named : (x : Option ℕ) → nonterminalOf w ≡ x → IndexedName x → AddsTo x l (concat (bodyFirst F (p .body)) (at l B)) l′ g′
-            → Passing (Asked F B (parse (drop (suc start) words))) (NameAsks F B (p .body) (nonterminalOf w)) l l′ g′
-        named none f b a = rw (a .0, a .1) (passing-none l (rw f tt))
-        named (some A) f b a =
-            passing-add (omega (arith, b, n, v .passing .long)) (λ G c u x s. rw f at (name-asked G c) x (grows G u x s)) (λ s. rw f s) a
+        first-under : (G : SetFamily) → Under (at l) G → Under (at l₀) G
+        first-under G u m x s = u m x (v .passing .risen m x s)
 
-  pub follow-end : {F : SetFamily} {B : ℕ} {l₀ l : List ℕ} {grown : Bool} {rest : Rest} {i : ℕ} → FollowWalk F B words l₀ l start end grown rest i → i ≤ start + 1
+        named : (x : Option ℕ) → nonterminalOf w ≡ x → IndexedName x → AddsTo x l tail l′ g′
+            → Passing (Asked F B (parse (drop (suc start) words))) (λ L. l ≡ l₀ → NameAsks F B (p .body) (nonterminalOf w) L) l l′ g′
+        named none f b a = rw (a .0, a .1) (passing-none l (λ s. rw f tt))
+        named (some A) f b a =
+            passing-add (omega (arith, b, n, v .passing .long))
+            (λ G c u x s. rw f at (name-asked G c) x (behind-in G (first-under G u) x s)) (λ s e. rw f (rw (v .is, ← e) at s)) a
+
+  pub follow-end : {F : SetFamily} {B : ℕ} {l₀ l : List ℕ} {grown : Bool} {tail i : ℕ} → FollowWalk F B words l₀ l start end grown tail i → i ≤ start + 1
       → Passes (Asked F B (parse (drop (suc start) words))) l₀ l grown
-  follow-end {i = i} v h = let e : i ≡ suc start = omega (arith, v .walk .low) in rw e at (v .passing)
+  follow-end {i = i} v h = let e : i ≡ suc start = omega (arith, v .low) in rw e at (v .passing)
 
 -- every body of a rule asks its own
 abbrev RuleAsks : SetFamily → SetFamily → Rule → Type 0

@@ -4,9 +4,12 @@ use mathlib.Core.Bool.{Bool, true, false}
 use mathlib.Core.List.{List, [], _∷_, _++_}
 use Prim.Native.Nat.{ℕ, suc, _+_, _-_, _≤_, _<_}
 use native.Mathlib.Omega.{arith}
+use denote.Enum.Declared.{tagOf}
+use types.Run.{OneOf, miss}
 use lib.ListN.{getD, drop}
 use lib.Seq.{drop-cons}
 use borrow.Author.Tests.{lt-ltb}
+use Rattle.word.proofs.Word.{the-type}
 use Rattle.word.specs.declared.Symbol.{Symbol as GrammarSymbol}
 use Rattle.word.specs.declared.Symbol.the-variants.{Terminal, Nonterminal}
 use Rattle.word.specs.declared.Word.{Word}
@@ -15,21 +18,21 @@ use Rattle.word.specs.Choice.{choose}
 use Rattle.word.specs.Words.{decoded}
 use Rattle.grammar.specs.Limits.{maxNonterminals}
 use Rattle.grammar.specs.Syntax.{Body, Rule, bodies}
-use Rattle.grammar.specs.Encoding.{onWord, parse}
+use Rattle.grammar.specs.Encoding.{Parsed, onWord, parse}
 use Rattle.grammar.specs.WellRead.{firstRule}
+use Rattle.grammar.proofs.Places.{Behind}
 use Rattle.lookahead.specs.Elements.{weight, Subset}
 use Rattle.lookahead.specs.Operations.{empty, join, Empty, Joined}
-use Rattle.lookahead.proofs.Order.{subset-refl, subset-antisym, join-left, join-right, join-least, join-mono}
+use Rattle.lookahead.proofs.Order.{subset-refl, subset-antisym, join-left, join-right, join-least, join-mono, join-same}
 use Rattle.semantics.specs.Rounds.{Set}
 use Rattle.sets.specs.declared.left.Left.{Left}
 use Rattle.sets.specs.Least.{SetFamily, Under}
-use Rattle.sets.specs.Left.{symbolLeft, bodyLeft, bodiesLeft, lefts, leftOf, OntoLeft}
+use Rattle.sets.specs.Left.{symbolLeft, bodyLeft, bodiesLeft, lefts, leftOf, insideLeft}
 use Rattle.sets.specs.Naming.{Indexed}
 use Rattle.sets.specs.Nonterminals.{alone, Alone}
-use Rattle.sets.specs.Rules.{ruleFrom, RuleWords}
-use Rattle.sets.proofs.Naming.{before-indexed}
+use Rattle.sets.specs.Rules.{ruleFrom, Inside, RuleWords}
+use Rattle.sets.proofs.Inner.{word-inside}
 use Rattle.sets.proofs.Visits.{Larger}
-use Rattle.sets.proofs.Words.{parse-before}
 
 -- larger families have more at the left
 module _ (s : Set) (F G : SetFamily) (u : Under F G) where
@@ -94,36 +97,27 @@ module _ (s : Set) (R : SetFamily) {X : GrammarSymbol} (behind : ℕ) where
     unfolding symbolLeft
     left-stop t = is ∙ rw (e, t)
 
--- what `onto_left` returns, by the kind of word
-module _ {s : Set} {R : SetFamily} {w : Word} {left : Left} where
-  pub onto-symbol : {X : GrammarSymbol} {x : ℕ} → w ≡ Symbol X → x ≡ symbolLeft s R X (left .body .bits) → OntoLeft s R w left (lefts x (left .rule .bits))
-  unfolding onWord bodyLeft
-  onto-symbol e f = record { onto = λ p h. rw (e, f, h) }
+-- inside a rule it is enough to tell symbols
+pub inside-left : (s : Set) (R : SetFamily) (w : Word) (p : Parsed) → Inside w → Behind w p → insideLeft s R w (leftOf s R p) ≡ leftOf s R (onWord w p)
+unfolding onWord bodyLeft bodiesLeft
+inside-left s R (Symbol X) p i b = refl
+inside-left s R Positive p i b = refl
+inside-left s R Negative p i b = ap (lefts 0) (bodies-between s R (p .positives) (p .body) (p .negatives))
+inside-left s R End p i b = rw (b .body, b .positives, b .negatives) (ap (lefts 0) (join-same empty empty (subset-refl empty)))
+inside-left s R (RuleWord A) p i b = absurd i
+inside-left s R (Heading m n) p i b = absurd i
+inside-left s R Invalid p i b = absurd i
 
-  pub onto-positive : {x y : ℕ} → w ≡ Positive → Empty x → Joined (left .body .bits) (left .rule .bits) y → OntoLeft s R w left (lefts x y)
-  unfolding onWord bodyLeft bodiesLeft
-  onto-positive e n j = record { onto = λ p h. rw (e, n .is, j .is, h) }
-
-  pub onto-negative : {x y : ℕ} → w ≡ Negative → Empty x → Joined (left .body .bits) (left .rule .bits) y → OntoLeft s R w left (lefts x y)
-  unfolding onWord bodyLeft
-  onto-negative e n j =
-      record { onto = λ p h. rw (e, n .is, j .is, h) (ap (lefts 0) (bodies-between s R (p .positives) (p .body) (p .negatives))) }
-
-  pub onto-rule : {A : ℕ} {r : Left} → w ≡ RuleWord A → r ≡ lefts 0 0 → OntoLeft s R w left r
-  unfolding onWord bodyLeft bodiesLeft
-  onto-rule e f = record { onto = λ p h. f ∙ rw e }
-
-  pub onto-end : {r : Left} → w ≡ End → r ≡ lefts 0 0 → OntoLeft s R w left r
-  unfolding onWord bodyLeft bodiesLeft
-  onto-end e f = record { onto = λ p h. f ∙ rw e }
-
-  pub onto-heading : {m n : ℕ} → w ≡ Heading m n → OntoLeft s R w left left
-  unfolding onWord
-  onto-heading e = record { onto = λ p h. rw e h }
-
-  pub onto-invalid : w ≡ Invalid → OntoLeft s R w left left
-  unfolding onWord
-  onto-invalid e = record { onto = λ p h. rw e h }
+-- what `inside_left` returns for a word that is no symbol
+pub left-closed : (s : Set) (R : SetFamily) (w : Word) {left : Left} {x y : ℕ} → OneOf (0 ∷ 1 ∷ 2 ∷ 3 ∷ 5 ∷ 6 ∷ []) (tagOf the-type w) → Empty x
+    → Joined (left .body .bits) (left .rule .bits) y → lefts x y ≡ insideLeft s R w left
+left-closed s R (Symbol X) h n j = absurd (miss (0 ∷ 1 ∷ 2 ∷ 3 ∷ 5 ∷ 6 ∷ []) 4 tt h)
+left-closed s R Positive h n j = rw (n .is, j .is)
+left-closed s R Negative h n j = rw (n .is, j .is)
+left-closed s R End h n j = rw (n .is, j .is)
+left-closed s R (RuleWord A) h n j = rw (n .is, j .is)
+left-closed s R (Heading m t) h n j = rw (n .is, j .is)
+left-closed s R Invalid h n j = rw (n .is, j .is)
 
 -- what a rule gives, the more the larger the family
 abbrev pub ruleLeft : Set → SetFamily → Rule → ℕ
@@ -145,15 +139,17 @@ module _ {words : List ℕ} {start end : ℕ} (k : RuleWords words start end) wh
 
   module _ {s : Set} {R : SetFamily} {left : Left} {i : ℕ} (v : LeftWalk s R words start end left i) where
     pub walk-indexed : {w : Word} → start + 1 < i → w ≡ decoded (getD words (i - 1) 0) → Indexed w
-    walk-indexed h e = before-indexed words (k .read) (omega arith) (omega (arith, v .high, k .within)) e
+    walk-indexed h e = word-inside k i h (v .high) e .indexed
 
-    pub walk-turn : {next : Left} {w : Word} → start + 1 < i → w ≡ decoded (getD words (i - 1) 0) → OntoLeft s R w left next
+    pub walk-turn : {next : Left} {w : Word} → start + 1 < i → w ≡ decoded (getD words (i - 1) 0) → next ≡ insideLeft s R w left
         → LeftWalk s R words start end next (i - 1)
-    walk-turn h e o = record {
-      low = omega arith;
-      high = omega (arith, v .high);
-      is = rw (parse-before words i (omega arith) (omega (arith, v .high, k .within)), ← e) (o .onto (parse (drop i words)) (v .is));
-    }
+    walk-turn {w = w} h e o =
+        let n = word-inside k i h (v .high) e in
+        record {
+          low = omega arith;
+          high = omega (arith, v .high);
+          is = rw (n .here) (o ∙ ap (insideLeft s R w) (v .is) ∙ inside-left s R w (parse (drop i words)) (n .inside) (n .behind));
+        }
 
     pub walk-end : i ≤ start + 1 → left .rule .bits ≡ ruleLeft s R (ruleFrom words start)
     unfolding firstRule

@@ -4,6 +4,7 @@ pub mod Naming
 pub mod Rising
 pub mod Turns
 pub mod Standing
+pub mod Inner
 pub mod Visits
 pub mod FirstPasses
 pub mod Looking

@@ -25,7 +25,9 @@ lookup-each l e n = go (decLt n maxNonterminals)
         let k : maxNonterminals ≤ n = omega arith in
         rw (le-ltb n maxNonterminals k) (sym (List·getD-eq-default l 0 {n = n} (omega arith)))
 
+pub lookup-at : (l : List ℕ) → length l ≡ maxNonterminals → lookup l ≡ at l
+lookup-at l e = λ i. λ n. lookup-each l e n i
+
 pub onto-at : (l : List ℕ) {t : ℕ} {w : Word} {rest r : Rest} → length l ≡ maxNonterminals → r ≡ withWord t (lookup l) w rest → Onto t (at l) w rest r
 onto-at l {t} {w} {rest} {r} e q =
-    let same : lookup l ≡ at l = λ i. λ n. lookup-each l e n i in
-    record { onto = λ p h. q ∙ ap (λ F. withWord t F w rest) same ∙ ap (withWord t (at l) w) h ∙ with-word t (at l) w p }
+    record { onto = λ p h. q ∙ ap (λ F. withWord t F w rest) (lookup-at l e) ∙ ap (withWord t (at l) w) h ∙ with-word t (at l) w p }

@@ -11,7 +11,7 @@ use lib.Seq.{getD-set-same, getD-set-other, set-getD}
 use borrow.Author.Tests.{eq-eqb, ne-eqb}
 use Rattle.lookahead.specs.Elements.{Subset, one}
 use Rattle.lookahead.specs.Operations.{join}
-use Rattle.lookahead.proofs.Order.{empty-least, join-least, join-grows, same-join, subset-le}
+use Rattle.lookahead.proofs.Order.{subset-refl, join-left, empty-least, join-least, join-grows, same-join, subset-le}
 use Rattle.sets.specs.Least.{SetFamily, at, Under, Least, Adds, sum, Passing, Passes}
 
 -- the sum rises by what is stored
@@ -34,15 +34,22 @@ under-join l n v G h u s m = go (ℕ-discrete m n)
     go (yes e) = rw (e, getD-set-same l n (join (at l n) v) 0 h) (join-least (at l n) v (G n) (u n) s)
     go (no ne) = rw (getD-set-other l n m (join (at l n) v) 0 ne) (u m)
 
+grown-under : (l : List ℕ) (n v : ℕ) → n < length l → Under (at l) (at (set l n (join (at l n) v)))
+grown-under l n v h m = go (ℕ-discrete m n)
+  where
+    go : Dec (m ≡ n) → Subset (at l m) (at (set l n (join (at l n) v)) m)
+    go (yes e) = rw (e, getD-set-same l n (join (at l n) v) 0 h) (join-left (at l n) v)
+    go (no ne) = rw (getD-set-other l n m (join (at l n) v) 0 ne) (subset-refl (at l m))
+
 -- where nothing is asked
 pub passing-none : {W C : SetFamily → Type 0} (l : List ℕ) → C (at l) → Passing W C l l false
-passing-none l c = record { long = refl; same = λ e. refl; grows = omega arith; still = λ e. c; below = λ G g u. u }
+passing-none l c = record { long = refl; same = λ e. refl; risen = λ m. subset-refl (at l m); grows = omega arith; still = λ e. c; below = λ G g u. u }
 
 -- for fewer families, and for what follows from what is asked
 pub passing-on : {W W′ C C′ : SetFamily → Type 0} {l₀ l : List ℕ} {grown : Bool} → ((G : SetFamily) → W′ G → W G) → ((G : SetFamily) → C G → C′ G)
     → Passing W C l₀ l grown → Passing W′ C′ l₀ l grown
 passing-on {l = l} fewer more p =
-    record { long = p .long; same = p .same; grows = p .grows; still = λ f. more (at l) (p .still f); below = λ G c. p .below G (fewer G c) }
+    record { long = p .long; same = p .same; risen = p .risen; grows = p .grows; still = λ f. more (at l) (p .still f); below = λ G c. p .below G (fewer G c) }
 
 -- one part behind another
 pub passing-then : {W C C′ : SetFamily → Type 0} {l₀ l l′ : List ℕ} (g g′ : Bool) → Passing W C l₀ l g → Passing W C′ l l′ g′
@@ -50,6 +57,7 @@ pub passing-then : {W C C′ : SetFamily → Type 0} {l₀ l l′ : List ℕ} (g
 passing-then true g′ p q = record {
   long = q .long ∙ p .long;
   same = λ f. absurd (true≢false f);
+  risen = λ m x t. q .risen m x (p .risen m x t);
   grows = omega (arith, p .grows, q .grows);
   still = λ f. absurd (true≢false f);
   below = λ G c u. q .below G c (p .below G c u);
@@ -57,10 +65,29 @@ passing-then true g′ p q = record {
 passing-then false g′ p q = record {
   long = q .long ∙ p .long;
   same = λ f. q .same f ∙ p .same refl;
+  risen = λ m x t. q .risen m x (p .risen m x t);
   grows = omega (arith, p .grows, q .grows);
   still = λ f. (rw (q .same f) (p .still refl), q .still f);
   below = λ G c u. q .below G c (p .below G c u);
 }
+
+-- the same where the second asks its part only of an array that the first has not changed
+pub passing-late : {W C C′ : SetFamily → Type 0} {l₀ l l′ : List ℕ} (g g′ : Bool) → Passing W C l₀ l g → Passing W (λ L. l ≡ l₀ → C′ L) l l′ g′
+    → Passing W (λ L. C L × C′ L) l₀ l′ (g || g′)
+passing-late g g′ p q =
+    let r = passing-then g g′ p q in
+    record {
+      long = r .long;
+      same = r .same;
+      risen = r .risen;
+      grows = r .grows;
+      still = λ f. let s = r .still f in (s .0, s .1 (p .same (neither g f)));
+      below = r .below;
+    }
+  where
+    neither : (g : Bool) → (g || g′) ≡ false → g ≡ false
+    neither true f = f
+    neither false f = refl
 
 -- a store of v into the set of n: every family of W has v there, and a family that has it is closed
 pub passing-add : {W C : SetFamily → Type 0} {l l′ : List ℕ} {n v : ℕ} {r : Bool} → n < length l
@@ -77,6 +104,7 @@ passing-add {W} {C} {l} {l′} {n} {v} {r} h value new a = go (ℕ-discrete (joi
         rw (a .list, told) (record {
           long = length-set l n (join (at l n) v);
           same = λ f. absurd (true≢false f);
+          risen = grown-under l n v h;
           grows = omega (arith, sum-set l n (join (at l n) v) h, join-grows (at l n) v ne);
           still = λ f. absurd (true≢false f);
           below = λ G c u. under-join l n v G h u (value G c u);

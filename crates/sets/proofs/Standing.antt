@@ -12,18 +12,20 @@ use Rattle.word.specs.declared.Word.the-variants.{Heading, Rule as RuleWord, Po
 use Rattle.word.specs.Choice.{choose}
 use Rattle.word.specs.Words.{decoded}
 use Rattle.grammar.specs.declared.reading.Sizes.{Sizes}
+use Rattle.grammar.specs.declared.reading.State.{State}
 use Rattle.grammar.specs.declared.reading.Outcome.the-variants.{Read}
 use Rattle.grammar.specs.Limits.{maxNonterminals, maxRules}
 use Rattle.grammar.specs.Syntax.{Rule}
 use Rattle.grammar.specs.Encoding.{Parsed, ruleOf, onWord, parse, grammarOf}
-use Rattle.grammar.specs.Reading.{beginsRule, reading}
+use Rattle.grammar.specs.Reading.{allows, beginsRule, reading}
 use Rattle.grammar.specs.Starts.{starts, ruleStarts}
 use Rattle.grammar.specs.WellRead.{headOf, firstRule, WellRead}
 use Rattle.grammar.proofs.Begins.{begins, as-many}
 use Rattle.grammar.proofs.Places.{read-whole}
+use Rattle.grammar.proofs.Suffixes.{scan-next, read-reaches}
 use Rattle.grammar.proofs.WellRead.{well-read}
 use Rattle.semantics.proofs.Outcomes.{nth-mem, mem-nth}
-use Rattle.sets.specs.Rules.{ruleFrom, Ended, RuleWords}
+use Rattle.sets.specs.Rules.{ruleFrom, Ended, Inside, RuleWords}
 use Rattle.sets.proofs.Words.{parse-here, parse-over}
 
 -- the rules begin one behind the other
@@ -94,6 +96,16 @@ none-ended : Ended (parse [])
 unfolding parse
 none-ended = record { body = refl; positives = refl; negatives = refl }
 
+-- a word that may stand there and begins no rule stands inside one
+allowed-inside : (w : Word) (s : State) → allows w s ≡ true → beginsRule w ≡ false → Inside w
+allowed-inside (RuleWord A) s a b = absurd (false≢true (sym b))
+allowed-inside Positive s a b = tt
+allowed-inside Negative s a b = tt
+allowed-inside (Symbol X) s a b = tt
+allowed-inside End s a b = tt
+allowed-inside (Heading n t) s a b = absurd (false≢true a)
+allowed-inside Invalid s a b = absurd (false≢true a)
+
 -- a list has an element below its length
 nth-below : {A : Type 0} (l : List A) (q : ℕ) (x : A) → getElem? l q ≡ some x → q < length l
 nth-below [] q x e = let z : _≡_ {A = ℕ} 0 1 = cc in absurd (omega arith)
@@ -114,6 +126,12 @@ module _ (words : List ℕ) (z : Sizes) (read : reading words ≡ Read z) where
       getD-take maxRules (starts 0 words ++ replicate maxRules 0) q 0 (omega (arith, known .fewRules))
       ∙ List·getD-append (starts 0 words) (replicate maxRules 0) 0 q (omega (arith, many))
 
+  plain : (i : ℕ) → 0 < i → i < length words → beginsRule (decoded (getD words i 0)) ≡ false → Inside (decoded (getD words i 0))
+  plain zero p h b = absurd (omega arith)
+  plain (suc i) p h b =
+      let r = read-reaches words z read i (omega arith) in
+      let n = scan-next words (suc i) (r .progress) z h (r .reads) in allowed-inside (decoded (getD words (suc i) 0)) (r .progress .state) (n .passed .allowed) b
+
   -- what `end_of` returns
   module _ (q : ℕ) (h : q < z .rules) where
     pub till-next : suc q < z .rules → RuleWords words (getD (ruleStarts words) q 0) (getD (ruleStarts words) (suc q) 0)
@@ -125,7 +143,7 @@ module _ (words : List ℕ) (z : Sizes) (read : reading words ≡ Read z) where
           some = rw (kept q h, kept (suc q) n) (rising 0 words q (omega (arith, many)));
           within = omega (arith, b .high);
           ended = rw (parse-here words (getD (ruleStarts words) (suc q) 0) (b .high)) (begin-ended _ _ (b .word));
-          inside = λ i l u. between 0 words q i (omega (arith, many)) (omega (arith, b .high)) (omega (arith, kept q h)) (λ s. omega (arith, kept (suc q) n));
+          inside = λ i l u. plain i (omega arith) (omega (arith, b .high)) (between 0 words q i (omega (arith, many)) (omega (arith, b .high)) (omega (arith, kept q h)) (λ s. omega (arith, kept (suc q) n)));
         }
 
     pub till-end : z .rules ≤ suc q → RuleWords words (getD (ruleStarts words) q 0) (length words)
@@ -135,7 +153,7 @@ module _ (words : List ℕ) (z : Sizes) (read : reading words ≡ Read z) where
       some = known .begun q h .high;
       within = omega arith;
       ended = rw (parse-over words (length words) (omega arith)) none-ended;
-      inside = λ i l u. between 0 words q i (omega (arith, many)) u (omega (arith, kept q h)) (λ s. absurd (omega (arith, many)));
+      inside = λ i l u. plain i (omega arith) u (between 0 words q i (omega (arith, many)) u (omega (arith, kept q h)) (λ s. absurd (omega (arith, many))));
     }
 
     -- the rule is one of the grammar's

@@ -49,3 +49,23 @@ withWord t F (RuleWord A) rest = noRest t
 withWord t F End rest = noRest t
 withWord t F (Heading m n) rest = rest
 withWord t F Invalid rest = rest
+
+-- a body ends: if it is a positive, its first set goes into the meet
+abbrev pub closedMeet : Word → ℕ → ℕ → ℕ
+closedMeet Positive b m = meet b m
+closedMeet (Symbol X) b m = m
+closedMeet Negative b m = m
+closedMeet End b m = m
+closedMeet (RuleWord A) b m = m
+closedMeet (Heading n t) b m = m
+closedMeet Invalid b m = m
+
+-- the same for a word inside a rule: a symbol, or what ends the body before it
+abbrev pub insideWord : SetFamily → Word → Rest → Rest
+insideWord F (Symbol X) rest = sets (concat (symbolFirst F X) (rest .body .bits)) (rest .meet .bits)
+insideWord F Positive rest = sets end (meet (rest .body .bits) (rest .meet .bits))
+insideWord F Negative rest = sets end (rest .meet .bits)
+insideWord F End rest = sets end (rest .meet .bits)
+insideWord F (RuleWord A) rest = sets end (rest .meet .bits)
+insideWord F (Heading m n) rest = sets end (rest .meet .bits)
+insideWord F Invalid rest = sets end (rest .meet .bits)

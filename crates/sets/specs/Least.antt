@@ -51,6 +51,7 @@ sum (s ∷ l) = s + sum l
 pub record Passing (Whole Closed : SetFamily → Type 0) (l₀ l : List ℕ) (grown : Bool) : Type 0 where
   pub long : length l ≡ length l₀
   pub same : grown ≡ false → l ≡ l₀
+  pub risen : Under (at l₀) (at l)
   pub grows : sum l₀ + one grown ≤ sum l
   pub still : grown ≡ false → Closed (at l)
   pub below : (G : SetFamily) → Whole G → Under (at l₀) G → Under (at l) G

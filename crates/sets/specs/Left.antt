@@ -4,12 +4,13 @@ use mathlib.Core.List.{List, [], _∷_, _++_, List·Memᴰ}
 use mathlib.Core.Option.{Option, none, some}
 use Prim.Native.Nat.{ℕ}
 use lib.ListN.{getD}
-use Rattle.word.specs.declared.Symbol.{Symbol}
+use Rattle.word.specs.declared.Symbol.{Symbol as GrammarSymbol}
 use Rattle.word.specs.declared.Symbol.the-variants.{Terminal, Nonterminal}
 use Rattle.word.specs.declared.Word.{Word}
+use Rattle.word.specs.declared.Word.the-variants.{Heading, Rule as RuleWord, Positive, Negative, Symbol, End, Invalid}
 use Rattle.word.specs.Choice.{choose}
 use Rattle.grammar.specs.Syntax.{Body, Rule, bodies}
-use Rattle.grammar.specs.Encoding.{Parsed, onWord}
+use Rattle.grammar.specs.Encoding.{Parsed}
 use Rattle.lookahead.specs.Elements.{nothing, weight, has, Subset}
 use Rattle.lookahead.specs.Operations.{empty, join}
 use Rattle.semantics.specs.Rounds.{Set}
@@ -23,7 +24,7 @@ abbrev pub emptyIn : SetFamily → Set
 emptyIn F A = has (F A) nothing
 
 -- a symbol in front of what is at the left of a body: a nonterminal with all that it reaches and, if it is in the set s, what is behind
-unfoldable pub symbolLeft : Set → SetFamily → Symbol → ℕ → ℕ
+unfoldable pub symbolLeft : Set → SetFamily → GrammarSymbol → ℕ → ℕ
 symbolLeft s R (Terminal a) behind = empty
 symbolLeft s R (Nonterminal A) behind = choose (s A) (join (join (weight A) (R A)) behind) (join (weight A) (R A))
 
@@ -46,8 +47,15 @@ lefts b r = record { body = record { bits = b }; rule = record { bits = r } }
 abbrev pub leftOf : Set → SetFamily → Parsed → Left
 leftOf s R p = lefts (bodyLeft s R (p .body)) (bodiesLeft s R (p .positives ++ p .negatives))
 
-pub record OntoLeft (s : Set) (R : SetFamily) (w : Word) (left r : Left) : Type 0 where
-  pub onto : (p : Parsed) → left ≡ leftOf s R p → r ≡ leftOf s R (onWord w p)
+-- the same with a word in front, inside a rule: a symbol, or what ends the body before it
+abbrev pub insideLeft : Set → SetFamily → Word → Left → Left
+insideLeft s R (Symbol X) left = lefts (symbolLeft s R X (left .body .bits)) (left .rule .bits)
+insideLeft s R Positive left = lefts empty (join (left .body .bits) (left .rule .bits))
+insideLeft s R Negative left = lefts empty (join (left .body .bits) (left .rule .bits))
+insideLeft s R End left = lefts empty (join (left .body .bits) (left .rule .bits))
+insideLeft s R (RuleWord A) left = lefts empty (join (left .body .bits) (left .rule .bits))
+insideLeft s R (Heading m n) left = lefts empty (join (left .body .bits) (left .rule .bits))
+insideLeft s R Invalid left = lefts empty (join (left .body .bits) (left .rule .bits))
 
 -- the nonterminals that are in their own sets
 abbrev pub ownIn : List ℕ → Set

@@ -4,13 +4,15 @@ use mathlib.Core.Bool.{Bool, true, false}
 use mathlib.Core.List.{List, []}
 use Prim.Native.Nat.{ℕ, suc, _-_, _≤_, _<_}
 use lib.ListN.{length, getD, drop}
+use Rattle.word.specs.declared.Word.{Word}
+use Rattle.word.specs.declared.Word.the-variants.{Heading, Rule as RuleWord, Positive, Negative, Symbol, End, Invalid}
 use Rattle.word.specs.Words.{decoded}
 use Rattle.grammar.specs.declared.reading.Sizes.{Sizes}
 use Rattle.grammar.specs.declared.reading.Outcome.the-variants.{Read}
 use Rattle.grammar.specs.Limits.{maxNonterminals}
 use Rattle.grammar.specs.Syntax.{Rule}
 use Rattle.grammar.specs.Encoding.{Parsed, parse}
-use Rattle.grammar.specs.Reading.{beginsRule, reading}
+use Rattle.grammar.specs.Reading.{reading}
 use Rattle.grammar.specs.Starts.{ruleStarts}
 use Rattle.grammar.specs.WellRead.{firstRule}
 
@@ -29,6 +31,16 @@ pub record Ended (p : Parsed) : Type 0 where
   pub positives : p .positives ≡ []
   pub negatives : p .negatives ≡ []
 
+-- behind the begin of a rule stand symbols, the begins of conjuncts and, in the end, the end
+abbrev pub Inside : Word → Type 0
+Inside (Symbol X) = Unit {0}
+Inside Positive = Unit {0}
+Inside Negative = Unit {0}
+Inside End = Unit {0}
+Inside (RuleWord A) = ⊥
+Inside (Heading n t) = ⊥
+Inside Invalid = ⊥
+
 -- the words of the rule that begins at an index
 pub record RuleWords (words : List ℕ) (start end : ℕ) : Type 0 where
   pub sizes : Sizes
@@ -36,7 +48,7 @@ pub record RuleWords (words : List ℕ) (start end : ℕ) : Type 0 where
   pub some : start < end
   pub within : end ≤ length words
   pub ended : Ended (parse (drop end words))
-  pub inside : (i : ℕ) → start < i → i < end → beginsRule (decoded (getD words i 0)) ≡ false
+  pub inside : (i : ℕ) → start < i → i < end → Inside (decoded (getD words i 0))
 
 -- what a pass over the rules of a grammar that has been read needs
 pub record PassGiven (words starts : List ℕ) (z : Sizes) (sets : List ℕ) : Type 0 where

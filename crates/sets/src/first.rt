@@ -6,7 +6,7 @@ ghost use Rattle.grammar.specs.Encoding.{parse, grammarOf};
 ghost use Rattle.grammar.specs.Limits.{maxNonterminals};
 ghost use Rattle.grammar.specs.Reading.{reading};
 ghost use Rattle.grammar.specs.Starts.{ruleStarts};
-ghost use Rattle.sets.specs.First.{symbolFirst, ruleFirst, noRest, withWord, FirstClosed};
+ghost use Rattle.sets.specs.First.{symbolFirst, ruleFirst, noRest, withWord, closedMeet, insideWord, FirstClosed};
 ghost use Rattle.sets.specs.Least.{at as family, lookup, Passes};
 ghost use Rattle.sets.specs.Lists.{listed};
 ghost use Rattle.sets.specs.Rules.{RuleWords, PassGiven, ruleFrom};
@@ -42,7 +42,7 @@ pub fn no_rest(terminals: u32) -> Rest
     }
 }
 
-fn symbol_first(symbol: Symbol, firsts: &[u64; SETS]) -> LookaheadSet
+pub(crate) fn symbol_first(symbol: Symbol, firsts: &[u64; SETS]) -> LookaheadSet
     ensures { λ r. ⌜ r .bits ≡ symbolFirst (lookup (now (firsts .entry))) symbol ⌝ }
 {
     match symbol {
@@ -82,6 +82,34 @@ pub fn onto(word: Word, rest: Rest, firsts: &[u64; SETS], terminals: u32) -> Res
     }
 }
 
+// A body ends: if it is a positive, its first set goes into the meet.
+fn closed(word: Word, body: LookaheadSet, meet: LookaheadSet) -> LookaheadSet
+    ensures { λ r. ⌜ r .bits ≡ closedMeet word (body .bits) (meet .bits) ⌝ }
+{
+    let Word::Positive = word else {
+        return meet;
+    };
+    body.meet(meet)
+}
+
+// The rest with a word inside a rule in front.
+fn inside(word: Word, rest: Rest, firsts: &[u64; SETS]) -> Rest
+    ensures { λ r. ⌜ r ≡ insideWord (lookup (now (firsts .entry))) word rest ⌝ }
+{
+    let body = rest.body;
+    let meet = rest.meet;
+    let Word::Symbol(symbol) = word else {
+        return Rest {
+            body: LookaheadSet::end(),
+            meet: closed(word, body, meet),
+        };
+    };
+    Rest {
+        body: symbol_first(symbol, firsts).concat(body),
+        meet,
+    }
+}
+
 // What the positives of a rule can all begin with.
 fn rule_first(
     words: &[u32],
@@ -98,7 +126,7 @@ fn rule_first(
     while start + 1 < at {
         at = at - 1;
         let word = decode(words[at]);
-        rest = onto(word, rest, firsts, terminals);
+        rest = inside(word, rest, firsts);
     }
     rest.meet
 }

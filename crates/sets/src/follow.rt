@@ -7,9 +7,8 @@ ghost use Rattle.grammar.specs.Encoding.{parse, grammarOf};
 ghost use Rattle.grammar.specs.Limits.{maxNonterminals};
 ghost use Rattle.grammar.specs.Reading.{reading};
 ghost use Rattle.grammar.specs.Starts.{ruleStarts};
-ghost use Rattle.lookahead.specs.Operations.{concat as concatOf};
-ghost use Rattle.sets.specs.Follow.{Asked, FollowRules, FollowClosed};
-ghost use Rattle.sets.specs.Least.{at as family, AddsTo, Passes};
+ghost use Rattle.sets.specs.Follow.{Asked, tailBefore, FollowRules, FollowClosed};
+ghost use Rattle.sets.specs.Least.{at as family, lookup, AddsTo, Passes};
 ghost use Rattle.sets.specs.Lists.{listed};
 ghost use Rattle.sets.specs.Naming.{nonterminalOf, Indexed};
 ghost use Rattle.sets.specs.Rules.{RuleWords, PassGiven};
@@ -17,8 +16,7 @@ ghost use Rattle.sets.specs.Sets.{firstNumber, followNumber};
 use super::family::SETS;
 use super::family::add;
 use super::family::either;
-use super::first::no_rest;
-use super::first::onto;
+use super::first::symbol_first;
 use super::rules::end_of;
 use super::rules::head_of;
 use super::rules::turn;
@@ -29,10 +27,10 @@ use word::Symbol;
 use word::Word;
 use word::decode;
 
-// Behind a nonterminal in a body of head comes what is left of the body, then what follows head.
-fn add_behind(word: Word, rest: LookaheadSet, head: u32, follows: &mut [u64; SETS]) -> bool
-    requires { ⌜ Indexed word × (head < maxNonterminals) ⌝ }
-    ensures { λ r. ⌜ AddsTo (nonterminalOf word) (now (follows .entry)) (concatOf (rest .bits) (family (now (follows .entry)) head)) (now (follows .exit)) r ⌝ }
+// What comes behind a place in a body goes into the set of a nonterminal that stands there.
+fn add_behind(word: Word, tail: LookaheadSet, follows: &mut [u64; SETS]) -> bool
+    requires { ⌜ Indexed word ⌝ }
+    ensures { λ r. ⌜ AddsTo (nonterminalOf word) (now (follows .entry)) (tail .bits) (now (follows .exit)) r ⌝ }
 {
     let Word::Symbol(symbol) = word else {
         return false;
@@ -40,13 +38,25 @@ fn add_behind(word: Word, rest: LookaheadSet, head: u32, follows: &mut [u64; SET
     let Symbol::Nonterminal(number) = symbol else {
         return false;
     };
-    let follow = LookaheadSet {
-        bits: follows[head as usize],
-    };
-    add(follows, number, rest.concat(follow))
+    add(follows, number, tail)
 }
 
-// What the bodies of a rule of head ask; whether a set has grown.
+// What comes behind the place before a word inside a rule, where follow comes behind the body.
+fn tail_before(
+    word: Word,
+    tail: LookaheadSet,
+    follow: LookaheadSet,
+    firsts: &[u64; SETS],
+) -> LookaheadSet
+    ensures { λ r. ⌜ r .bits ≡ tailBefore (lookup (now (firsts .entry))) (follow .bits) word (tail .bits) ⌝ }
+{
+    let Word::Symbol(symbol) = word else {
+        return follow;
+    };
+    symbol_first(symbol, firsts).concat(tail)
+}
+
+// Behind each nonterminal in a body of head comes what is left of the body, then what follows head; whether a set has grown.
 fn follow_rule(
     words: &[u32],
     start: usize,
@@ -58,15 +68,17 @@ fn follow_rule(
     requires { ⌜ RuleWords (now words) start end × (head < maxNonterminals) × (length (now firsts) ≡ maxNonterminals) × (length (now follows) ≡ maxNonterminals) ⌝ }
     ensures { λ r. ⌜ Passes (Asked (family (now (firsts .entry))) head (parse (drop (suc start) (now (words .entry))))) (now (follows .entry)) (now (follows .exit)) r ⌝ }
 {
+    let follow = LookaheadSet {
+        bits: follows[head as usize],
+    };
     let mut grown = false;
-    let mut rest = no_rest(0);
+    let mut tail = follow;
     let mut at = end;
     while start + 1 < at {
         at = at - 1;
         let word = decode(words[at]);
-        let body = rest.body;
-        rest = onto(word, rest, firsts, 0);
-        grown = either(grown, add_behind(word, body, head, follows));
+        grown = either(grown, add_behind(word, tail, follows));
+        tail = tail_before(word, tail, follow, firsts);
     }
     grown
 }

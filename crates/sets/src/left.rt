@@ -11,7 +11,7 @@ ghost use Rattle.grammar.specs.Starts.{ruleStarts};
 ghost use Rattle.grammar.specs.Syntax.{bodies};
 ghost use Rattle.semantics.specs.Quantifiers.{lowest};
 ghost use Rattle.sets.specs.Least.{at as family, Passes};
-ghost use Rattle.sets.specs.Left.{emptyIn, symbolLeft, bodiesLeft, lefts, OntoLeft, ReachClosed, ownIn, lowestOf};
+ghost use Rattle.sets.specs.Left.{emptyIn, symbolLeft, bodiesLeft, lefts, insideLeft, ReachClosed, ownIn, lowestOf};
 ghost use Rattle.sets.specs.Lists.{listed};
 ghost use Rattle.sets.specs.Naming.{IndexedSymbol, Indexed};
 ghost use Rattle.sets.specs.Rules.{RuleWords, PassGiven, ruleFrom};
@@ -75,33 +75,22 @@ fn symbol_left(
     }
 }
 
-// The same with a word in front.
-fn onto_left(word: Word, left: Left, firsts: &[u64; SETS], reach: &[u32; SETS]) -> Left
+// The same with a word inside a rule in front.
+fn inside_left(word: Word, left: Left, firsts: &[u64; SETS], reach: &[u32; SETS]) -> Left
     requires { ⌜ Indexed word ⌝ }
-    ensures { λ r. ⌜ OntoLeft (emptyIn (family (now (firsts .entry)))) (family (now (reach .entry))) word left r ⌝ }
+    ensures { λ r. ⌜ r ≡ insideLeft (emptyIn (family (now (firsts .entry)))) (family (now (reach .entry))) word left ⌝ }
 {
     let body = left.body;
     let rule = left.rule;
-    match word {
-        Word::Symbol(symbol) => Left {
-            body: symbol_left(symbol, body, firsts, reach),
-            rule,
-        },
-        Word::Positive => Left {
+    let Word::Symbol(symbol) = word else {
+        return Left {
             body: Nonterminals::empty(),
             rule: body.join(rule),
-        },
-        Word::Negative => Left {
-            body: Nonterminals::empty(),
-            rule: body.join(rule),
-        },
-        Word::Rule(_) => no_left(),
-        Word::End => no_left(),
-        Word::Heading {
-            nonterminals: _,
-            terminals: _,
-        } => left,
-        Word::Invalid => left,
+        };
+    };
+    Left {
+        body: symbol_left(symbol, body, firsts, reach),
+        rule,
     }
 }
 
@@ -121,7 +110,7 @@ fn rule_left(
     while start + 1 < at {
         at = at - 1;
         let word = decode(words[at]);
-        left = onto_left(word, left, firsts, reach);
+        left = inside_left(word, left, firsts, reach);
     }
     left.rule
 }

@@ -1,7 +1,7 @@
 -- The loop keeps `FirstWalk`: the words from `at` on have been gone through.
 use native.Mathlib.Omega.{arith}
 use Rattle.sets.specs.Least.{at as family}
-use Rattle.sets.proofs.Looking.{onto-at}
+use Rattle.sets.proofs.Looking.{lookup-at}
 use Rattle.sets.proofs.FirstPasses.{FirstWalk, walk-start, walk-turn, walk-end}
 use Rattle.sets.proofs.first.rule_first.Statement.{statement}
 use Rattle.sets.proofs.first.rule_first.Tie as tie
@@ -33,8 +33,8 @@ shared-slice-read-decode c = omega (arith, c .before .before .loop .inv .high, c
 decode-requires : tie.Need-decode-requires Inv-loop μ-loop
 decode-requires c κs = tt
 
-onto-requires : tie.Need-onto-requires Inv-loop μ-loop
-onto-requires c κs = tt
+inside-requires : tie.Need-inside-requires Inv-loop μ-loop
+inside-requires c κs = tt
 
 loop-less : tie.Need-loop-less Inv-loop μ-loop
 loop-less c = omega (arith, c .before .before .before .loop-test .taken)
@@ -43,7 +43,7 @@ loop-again : tie.Need-loop-again Inv-loop μ-loop
 loop-again c =
     let start = c .before .before .before .before .before .before .before in
     walk-turn (start .pre .0) (c .before .before .before .before .loop .inv) (c .before .before .before .loop-test .taken) (c .before .decode .ensures)
-    (onto-at (start .args .firsts .now) (start .pre .1) (c .onto .ensures))
+    (rw (lookup-at (start .args .firsts .now) (start .pre .1)) at (c .inside .ensures))
 
 returns : tie.Need-returns Inv-loop μ-loop
 returns c = walk-end (c .before .before .before .before .before .pre .0) (c .before .before .loop .inv) (c .before .loop-test .left)
@@ -61,7 +61,7 @@ rule-first-spec =
     mul-decode
     shared-slice-read-decode
     decode-requires
-    onto-requires
+    inside-requires
     loop-less
     loop-again
     returns)

@@ -20,32 +20,13 @@ enum-told c = search needs
 returns-2 : tie.Need-returns-2
 returns-2 c = rw (c .before .before .before .word .given .1, c .enum-told .given .1) (refl, refl)
 
-mul-t9 : tie.Need-mul-t9
-mul-t9 c = search needs
-
-element-copy-out-t12 : tie.Need-element-copy-out-t12
-element-copy-out-t12 c = search needs
-
-concat-requires : tie.Need-concat-requires
-concat-requires c κs = search needs
-
 add-requires : tie.Need-add-requires
-add-requires c κs = rw (c .before .before .before .before .before .before .before .word .given .1, c .before .before .before .before .symbol .given .1) at (c .before .before .before .before .before .before .before .before .before .pre .0)
+add-requires c κs = rw (c .before .before .before .before .before .word .given .1, c .before .before .symbol .given .1) at (c .before .before .before .before .before .before .before .pre)
 
 returns-3 : tie.Need-returns-3
-returns-3 c = rw (c .before .before .before .before .before .before .before .before .word .given .1, c .before .before .before .before .before .symbol .given .1, ← c .before .concat .ensures .is) (c .add .ensures)
+returns-3 c = rw (c .before .before .before .before .before .before .word .given .1, c .before .before .before .symbol .given .1) (c .add .ensures)
 
 pub add-behind-spec : {M : Type 1} → statement M
 add-behind-spec =
     tie.close
-    (tie.spec
-    enum-known-word
-    returns
-    enum-known-symbol
-    enum-told
-    returns-2
-    mul-t9
-    element-copy-out-t12
-    concat-requires
-    add-requires
-    returns-3)
+    (tie.spec enum-known-word returns enum-known-symbol enum-told returns-2 add-requires returns-3)

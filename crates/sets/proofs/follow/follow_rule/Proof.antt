@@ -1,55 +1,58 @@
 -- The loop keeps `FollowWalk`: the words from `at` on have been gone through.
 use native.Mathlib.Omega.{arith}
 use Rattle.sets.specs.Least.{at as family}
-use Rattle.sets.proofs.Looking.{onto-at}
+use Rattle.sets.proofs.Looking.{lookup-at}
 use Rattle.sets.proofs.FollowPasses.{FollowWalk, follow-start, word-here, follow-turn, follow-end}
 use Rattle.sets.proofs.follow.follow_rule.Statement.{statement}
 use Rattle.sets.proofs.follow.follow_rule.Tie as tie
 
 abbrev Inv-loop : tie.InvT-loop
-Inv-loop words start end head firsts follows₀ grown₀ rest₀ at₀ follows grown rest at = FollowWalk (family firsts) head words follows₀ follows start end grown rest at
+Inv-loop words start end head firsts follows₀ follow grown₀ tail₀ at₀ follows grown tail at = FollowWalk (family firsts) head words follows₀ follows start end grown (tail .bits) at
 
 abbrev μ-loop : tie.MeasureT-loop
-μ-loop words start end head firsts follows₀ grown₀ rest₀ at₀ follows grown rest at = at
+μ-loop words start end head firsts follows₀ follow grown₀ tail₀ at₀ follows grown tail at = at
 
-no-rest-requires : tie.Need-no-rest-requires Inv-loop μ-loop
-no-rest-requires c κs = tt
+mul-t13 : tie.Need-mul-t13 Inv-loop μ-loop
+mul-t13 c = omega (arith, c .before .pre .1)
+
+element-copy-out-t16 : tie.Need-element-copy-out-t16 Inv-loop μ-loop
+element-copy-out-t16 c = omega (arith, c .before .pre .1)
 
 loop-holds : tie.Need-loop-holds Inv-loop μ-loop
-loop-holds c = follow-start (c .before .before .pre .0) _ _ _ (c .no-rest .ensures)
+loop-holds c = follow-start (c .before .before .pre .0) _ _ _
 
 add-loop : tie.Need-add-loop Inv-loop μ-loop
-add-loop c = omega (arith, c .loop .inv .walk .low)
+add-loop c = omega (arith, c .loop .inv .low)
 
 sub-at : tie.Need-sub-at Inv-loop μ-loop
 sub-at c = omega arith
 
 mul-decode : tie.Need-mul-decode Inv-loop μ-loop
-mul-decode c = omega (arith, c .before .loop .inv .walk .high, c .before .before .before .before .pre .0 .within)
+mul-decode c = omega (arith, c .before .loop .inv .high, c .before .before .before .before .pre .0 .within)
 
 shared-slice-read-decode : tie.Need-shared-slice-read-decode Inv-loop μ-loop
-shared-slice-read-decode c = omega (arith, c .before .before .loop .inv .walk .high, c .before .before .before .before .before .pre .0 .within)
+shared-slice-read-decode c = omega (arith, c .before .before .loop .inv .high, c .before .before .before .before .before .pre .0 .within)
 
 decode-requires : tie.Need-decode-requires Inv-loop μ-loop
 decode-requires c κs = tt
 
-onto-requires : tie.Need-onto-requires Inv-loop μ-loop
-onto-requires c κs = tt
-
 add-behind-requires : tie.Need-add-behind-requires Inv-loop μ-loop
-add-behind-requires c κs = (word-here (c .before .before .before .before .before .before .before .before .before .pre .0) _ (c .before .before .before .before .before .before .loop .inv) (c .before .before .before .before .before .loop-test .taken) (c .before .before .before .decode .ensures), c .before .before .before .before .before .before .before .before .before .pre .1)
+add-behind-requires c κs = word-here (c .before .before .before .before .before .before .before .pre .0) _ (c .before .before .before .before .loop .inv) (c .before .before .before .loop-test .taken) (c .before .decode .ensures)
 
 either-requires : tie.Need-either-requires Inv-loop μ-loop
 either-requires c κs = tt
 
+tail-before-requires : tie.Need-tail-before-requires Inv-loop μ-loop
+tail-before-requires c κs = tt
+
 loop-less : tie.Need-loop-less Inv-loop μ-loop
-loop-less c = omega (arith, c .before .before .before .before .before .before .before .loop-test .taken)
+loop-less c = omega (arith, c .before .before .before .before .before .before .loop-test .taken)
 
 loop-again : tie.Need-loop-again Inv-loop μ-loop
 loop-again c =
-    let start = c .before .before .before .before .before .before .before .before .before .before .before in
-    follow-turn (start .pre .0) _ (c .before .before .before .before .before .before .before .before .loop .inv) (c .before .before .before .before .before .before .before .loop-test .taken) (c .before .before .before .before .before .decode .ensures) _ (start .pre .3)
-    (onto-at (start .args .firsts .now) (start .pre .2) (c .before .before .before .onto .ensures)) (c .before .add-behind .ensures) (c .either .ensures)
+    let start = c .before .before .before .before .before .before .before .before .before .before in
+    follow-turn (start .pre .0) _ (c .before .before .before .before .before .before .before .loop .inv) (c .before .before .before .before .before .before .loop-test .taken) (c .before .before .before .before .decode .ensures) _ (start .pre .3)
+    (c .before .before .add-behind .ensures) (c .before .either .ensures) (rw (lookup-at (start .args .firsts .now) (start .pre .2)) at (c .tail-before .ensures))
 
 returns : tie.Need-returns Inv-loop μ-loop
 returns c = follow-end (c .before .before .before .before .pre .0) (c .before .loop .inv) (c .loop-test .left)
@@ -60,16 +63,17 @@ follow-rule-spec =
     (tie.spec
     Inv-loop
     μ-loop
-    no-rest-requires
+    mul-t13
+    element-copy-out-t16
     loop-holds
     add-loop
     sub-at
     mul-decode
     shared-slice-read-decode
     decode-requires
-    onto-requires
     add-behind-requires
     either-requires
+    tail-before-requires
     loop-less
     loop-again
     returns)

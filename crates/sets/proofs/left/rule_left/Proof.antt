@@ -33,14 +33,14 @@ shared-slice-read-decode c = omega (arith, c .before .before .loop .inv .high, c
 decode-requires : tie.Need-decode-requires Inv-loop μ-loop
 decode-requires c κs = tt
 
-onto-left-requires : tie.Need-onto-left-requires Inv-loop μ-loop
-onto-left-requires c κs = walk-indexed (c .before .before .before .before .before .before .pre) (c .before .before .before .loop .inv) (c .before .before .loop-test .taken) (c .decode .ensures)
+inside-left-requires : tie.Need-inside-left-requires Inv-loop μ-loop
+inside-left-requires c κs = walk-indexed (c .before .before .before .before .before .before .pre) (c .before .before .before .loop .inv) (c .before .before .loop-test .taken) (c .decode .ensures)
 
 loop-less : tie.Need-loop-less Inv-loop μ-loop
 loop-less c = omega (arith, c .before .before .before .loop-test .taken)
 
 loop-again : tie.Need-loop-again Inv-loop μ-loop
-loop-again c = walk-turn (c .before .before .before .before .before .before .before .pre) (c .before .before .before .before .loop .inv) (c .before .before .before .loop-test .taken) (c .before .decode .ensures) (c .onto-left .ensures)
+loop-again c = walk-turn (c .before .before .before .before .before .before .before .pre) (c .before .before .before .before .loop .inv) (c .before .before .before .loop-test .taken) (c .before .decode .ensures) (c .inside-left .ensures)
 
 returns : tie.Need-returns Inv-loop μ-loop
 returns c = walk-end (c .before .before .before .before .before .pre) (c .before .before .loop .inv) (c .before .loop-test .left)
@@ -58,7 +58,7 @@ rule-left-spec =
     mul-decode
     shared-slice-read-decode
     decode-requires
-    onto-left-requires
+    inside-left-requires
     loop-less
     loop-again
     returns)
