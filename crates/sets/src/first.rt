@@ -104,8 +104,9 @@ fn inside(word: Word, rest: Rest, firsts: &[u64; SETS]) -> Rest
             meet: closed(word, body, meet),
         };
     };
+    let first = symbol_first(symbol, firsts);
     Rest {
-        body: symbol_first(symbol, firsts).concat(body),
+        body: first.concat(body),
         meet,
     }
 }
