@@ -9,14 +9,14 @@ use Rattle.answer.specs.declared.Error.{Error}
 use Rattle.answer.specs.declared.Answer.{Answer}
 use Rattle.answer.specs.declared.Answer.the-variants.{Refused}
 use Rattle.answer.specs.Numbers.{numbers}
-use Rattle.answer.specs.Faults.{when, firstFault, refusedOr, toldOr}
+use Rattle.answer.specs.Faults.{faultIf, firstFault, refusedOr, toldOr}
 
 -- a fault is there or not
 pub none-some : {e : Error} → none ≡ some e → ⊥
 none-some q = let z : _≡_ {A = ℕ} 0 1 = cc in absurd (omega arith)
 
 -- a test's row is none where the test fails
-pub when-none : (b : Bool) (e : Error) → when b e ≡ none → b ≡ false
+pub when-none : (b : Bool) (e : Error) → faultIf b e ≡ none → b ≡ false
 when-none true e q = absurd (none-some (sym q))
 when-none false e q = refl
 

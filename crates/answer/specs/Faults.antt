@@ -8,9 +8,9 @@ use Rattle.answer.specs.declared.Answer.the-variants.{Refused}
 use Rattle.answer.specs.Numbers.{refused, Numbers, coded, answered}
 
 -- a row: an error where a test holds
-abbrev pub when : Bool → Error → Option Error
-when true e = some e
-when false e = none
+abbrev pub faultIf : Bool → Error → Option Error
+faultIf true e = some e
+faultIf false e = none
 
 -- the first row that holds
 abbrev pub firstFault : List (Option Error) → Option Error

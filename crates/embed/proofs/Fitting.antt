@@ -1,4 +1,4 @@
--- Each answer of the two calls fits the fields, and the fields give it back. Assumes nothing.
+-- Each answer of the two calls fits the fields, and the fields give it back.
 use mathlib.Core.Path.{_≡_, refl, _∙_}
 use mathlib.Core.Bool.{Bool, true, false}
 use mathlib.Core.List.{List}
@@ -13,7 +13,7 @@ use Rattle.answer.specs.declared.Calls.{Calls}
 use Rattle.answer.specs.declared.Answer.{Answer}
 use Rattle.answer.specs.declared.Answer.the-variants.{Refused, Passed, Rejected, Accepted}
 use Rattle.answer.specs.Numbers.{coded, numbers, Numbers}
-use Rattle.word.specs.Choice.{choose}
+use Rattle.booleans.specs.Choice.{choose}
 use Rattle.grammar.specs.Limits.{maxWords, maxNonterminals, maxPlaces}
 use Rattle.grammar.specs.Encoding.{grammarOf}
 use Rattle.semantics.specs.Choices.{tableChoice}
@@ -25,7 +25,7 @@ use Rattle.recognizer.specs.Answers.{checkFault, judgeFault, callsOf, verdictOf
 use Rattle.recognizer.specs.Properties.{Checks, Judges}
 use Rattle.recognizer.proofs.Checking.{passed-fault, passed-encodes, passed-free}
 use Rattle.recognizer.proofs.Judged.{judged-readable}
-use Rattle.embed.specs.Packing.{Fit, Fits, joined, packed, Unpacks}
+use Rattle.embed.specs.Packing.{Fit, NumbersFit, joined, packed, Unpacks}
 use Rattle.embed.specs.Exports.{CheckExported, JudgeExported}
 use Rattle.embed.proofs.Places.{Low, check-low, judge-low}
 
@@ -42,14 +42,14 @@ code-low (Conflict A c) = omega arith
 code-low InputTooLong = omega arith
 code-low (UnknownToken at) = omega arith
 
-refused-fits : (e : Error) → coded e .position ≤ maxWords → Fits (numbers (Refused e))
+refused-fits : (e : Error) → coded e .position ≤ maxWords → NumbersFit (numbers (Refused e))
 refused-fits e h = record { verdict = omega arith; code = code-low e; position = omega arith; count = omega arith; farthest = omega arith }
 
 -- a check
-pub check-fits : {words before after : List ℕ} {a : Answer} → Checks words before a after → Fits (numbers a)
+pub check-fits : {words before after : List ℕ} {a : Answer} → Checks words before a after → NumbersFit (numbers a)
 check-fits {words} {before} {after} {a} c = rw (c .answer) (go (checkFault (length before) words) (check-low (length before) words))
   where
-    go : (f : Option Error) → ((e : Error) → f ≡ some e → Low maxWords e) → Fits (numbers (refusedOr f Passed))
+    go : (f : Option Error) → ((e : Error) → f ≡ some e → Low maxWords e) → NumbersFit (numbers (refusedOr f Passed))
     go none l = record { verdict = omega arith; code = omega arith; position = omega arith; count = omega arith; farthest = omega arith }
     go (some e) l = refused-fits e (l e refl)
 
@@ -71,17 +71,17 @@ calls-fit words input table memo e =
     (omega (arith, c .bounded), omega (arith, far .2, within .1, k .1))
 
 -- a judgement
-pub judge-fits : {words input table memo table′ memo′ : List ℕ} {a : Answer} → Judges words input table memo a table′ memo′ → Fits (numbers a)
+pub judge-fits : {words input table memo table′ memo′ : List ℕ} {a : Answer} → Judges words input table memo a table′ memo′ → NumbersFit (numbers a)
 unfolding verdictOf
 judge-fits {words} {input} {table} {memo} {table′} {memo′} {a} j =
     rw (j .answer) (go (judgeFault (length table) (length memo) words input) refl (judge-low (length table) (length memo) words input))
   where
-    verdict : (b : Bool) (c : Calls) → (c .count < 65536) × (c .farthest < 65536) → Fits (numbers (choose b (Accepted c) (Rejected c)))
+    verdict : (b : Bool) (c : Calls) → (c .count < 65536) × (c .farthest < 65536) → NumbersFit (numbers (choose b (Accepted c) (Rejected c)))
     verdict true c h = record { verdict = omega arith; code = omega arith; position = omega arith; count = h .0; farthest = h .1 }
     verdict false c h = record { verdict = omega arith; code = omega arith; position = omega arith; count = h .0; farthest = h .1 }
 
     go : (f : Option Error) → judgeFault (length table) (length memo) words input ≡ f → ((x : Error) → f ≡ some x → Low maxWords x)
-        → Fits (numbers (refusedOr f (choose (accepts (grammarOf words) (tableChoice (grammarOf words) 1 input) input) (Accepted (callsOf (grammarOf words) input)) (Rejected (callsOf (grammarOf words) input)))))
+        → NumbersFit (numbers (refusedOr f (choose (accepts (grammarOf words) (tableChoice (grammarOf words) 1 input) input) (Accepted (callsOf (grammarOf words) input)) (Rejected (callsOf (grammarOf words) input)))))
     go none e l = verdict (accepts (grammarOf words) (tableChoice (grammarOf words) 1 input) input) (callsOf (grammarOf words) input) (calls-fit words input (length table) (length memo) e)
     go (some x) e l = refused-fits x (l x refl)
 
@@ -91,7 +91,7 @@ any-verdict h k = record { verdict = h; code = k .code; position = k .position; 
 
 -- packing, by the answer
 module _ {a : Answer} where
-  pub refused-fields : {e : Error} {n p : ℕ} → Fits (numbers a) → a ≡ Refused e → n ≡ coded e .code → p ≡ coded e .position → Fit 0 n p 0 0
+  pub refused-fields : {e : Error} {n p : ℕ} → NumbersFit (numbers a) → a ≡ Refused e → n ≡ coded e .code → p ≡ coded e .position → Fit 0 n p 0 0
   refused-fields f q n p = rw (n, p) (rw q at f)
 
   pub refused-packed : {e : Error} {n p r : ℕ} → a ≡ Refused e → n ≡ coded e .code → p ≡ coded e .position → r ≡ joined 0 n p 0 0 → r ≡ packed (numbers a)
@@ -102,14 +102,14 @@ module _ {a : Answer} where
   unfolding packed
   passed-packed q r = r ∙ rw q
 
-  pub rejected-fields : {c : Calls} → Fits (numbers a) → a ≡ Rejected c → {v : ℕ} → v < 256 → Fit v 0 0 (c .count) (c .farthest)
+  pub rejected-fields : {c : Calls} → NumbersFit (numbers a) → a ≡ Rejected c → {v : ℕ} → v < 256 → Fit v 0 0 (c .count) (c .farthest)
   rejected-fields {c} f q h = any-verdict h (rw q at f)
 
   pub rejected-packed : {c : Calls} {r : ℕ} → a ≡ Rejected c → r ≡ joined 2 0 0 (c .count) (c .farthest) → r ≡ packed (numbers a)
   unfolding packed
   rejected-packed q r = r ∙ rw q
 
-  pub accepted-fields : {c : Calls} → Fits (numbers a) → a ≡ Accepted c → {v : ℕ} → v < 256 → Fit v 0 0 (c .count) (c .farthest)
+  pub accepted-fields : {c : Calls} → NumbersFit (numbers a) → a ≡ Accepted c → {v : ℕ} → v < 256 → Fit v 0 0 (c .count) (c .farthest)
   accepted-fields {c} f q h = any-verdict h (rw q at f)
 
   pub accepted-packed : {c : Calls} {r : ℕ} → a ≡ Accepted c → r ≡ joined 3 0 0 (c .count) (c .farthest) → r ≡ packed (numbers a)
@@ -117,7 +117,7 @@ module _ {a : Answer} where
   accepted-packed q r = r ∙ rw q
 
 -- the fields of a joined number
-unpacks : {r : ℕ} (n : Numbers) → Fits n → r ≡ packed n → Unpacks r n
+unpacks : {r : ℕ} (n : Numbers) → NumbersFit n → r ≡ packed n → Unpacks r n
 unfolding packed
 unpacks {r} n f e = record {
   verdict = omega (arith, e, f .verdict, f .code, f .position, f .count, f .farthest);

@@ -1,4 +1,4 @@
--- The place of a refusal is a small number: an index of a word or a token, a nonterminal, or an entry of the table. Assumes nothing.
+-- The place of a refusal is a small number: an index of a word or a token, a nonterminal, or an entry of the table.
 use mathlib.Core.Path.{_≡_, refl}
 use mathlib.Core.Bool.{Bool, true, false, _&&_}
 use mathlib.Core.List.{List, [], _∷_, _++_, List·Memᴰ, List·Memᴰ·head}
@@ -11,12 +11,12 @@ use borrow.Author.Tests.{ltb-false}
 use Rattle.answer.specs.declared.Error.{Error}
 use Rattle.answer.specs.declared.Error.the-variants.{TableTooShort, MemoTooShort, Length, Heading, UnexpectedWord, OutOfRange, TooManyRules, LeftRecursive, Conflict, InputTooLong, UnknownToken}
 use Rattle.answer.specs.Numbers.{coded}
-use Rattle.answer.specs.Faults.{when}
+use Rattle.answer.specs.Faults.{faultIf}
 use Rattle.answer.proofs.Faults.{none-some, when-none, EachFault, first-each}
-use Rattle.word.specs.Choice.{choose}
+use Rattle.booleans.specs.Choice.{choose}
 use Rattle.word.specs.Words.{decoded}
 use Rattle.word.specs.declared.Word.{Word}
-use Rattle.grammar.specs.Limits.{maxWords, maxRules, maxTokens, tableWords as memoryWords, memoEntries, maxNonterminals, maxTerminals}
+use Rattle.grammar.specs.Limits.{maxWords, maxRules, maxTokens, maxTableWords, maxMemoEntries, maxNonterminals, maxTerminals}
 use Rattle.grammar.specs.Syntax.{Grammar}
 use Rattle.grammar.specs.Encoding.{declaredBy, grammarOf}
 use Rattle.grammar.specs.Reading.{row, allows, inRange, beginsRule, counted, stepped, onStep, finished, scan, fresh, within, headed, opened, reading}
@@ -27,16 +27,16 @@ use Rattle.grammar.specs.declared.reading.Step.the-variants.{Go, Stop}
 use Rattle.grammar.specs.declared.reading.Outcome.{Outcome}
 use Rattle.grammar.specs.declared.reading.Outcome.the-variants.{Read, Faulty}
 use Rattle.grammar.proofs.WellRead.{well-read}
-use Rattle.semantics.specs.Quantifiers.{all}
+use Rattle.booleans.specs.Quantifiers.{allOf}
 use Rattle.semantics.specs.Strings.{Over}
 use Rattle.semantics.specs.LeftRecursion.{leftRecursive, lowestLeftRecursive}
 use Rattle.semantics.specs.FirstFollow.{Entry, entries}
 use Rattle.semantics.specs.Claims.{clashes, column}
-use Rattle.semantics.proofs.Booleans.{and-l}
+use Rattle.booleans.proofs.Booleans.{and-l}
 use Rattle.semantics.proofs.FiniteSets.{keep-elim}
-use Rattle.semantics.proofs.Quantified.{lowest-some}
+use Rattle.booleans.proofs.Quantified.{lowest-some}
 use Rattle.semantics.proofs.LookaheadSets.{entries-elim}
-use Rattle.sets.specs.Families.{readingFault, leftFault}
+use Rattle.sets.specs.Analysis.{readingFault, leftFault}
 use Rattle.table.specs.Analysis.{clashFault, grammarFaults}
 use Rattle.recognizer.specs.declared.judging.Unknown.the-variants.{At}
 use Rattle.recognizer.specs.Answers.{unknownFrom, unknownFault, checkFault, judgeFault}
@@ -124,7 +124,7 @@ module _ (G : Grammar) (few : G .nonterminals ≤ maxNonterminals) (small : G .t
   left-low (some A) e = some-low maxWords (LeftRecursive A) (omega (arith, lowest-some (G .nonterminals) (leftRecursive G) A .0 e .0))
 
   column-low : (x : List ℕ) → Over (G .terminals) x → column (G .terminals) x ≤ maxTerminals
-  unfolding all
+  unfolding allOf
   column-low [] h = small
   column-low (a ∷ x) h = omega (arith, ltb→lt a (G .terminals) (and-l (ltb a (G .terminals)) _ h))
 
@@ -136,7 +136,7 @@ module _ (G : Grammar) (few : G .nonterminals ≤ maxNonterminals) (small : G .t
       let k = entries-elim G 1 e (keep-elim _ (entries G 1) e m .0) in
       some-low maxWords (Conflict (e .0) (column (G .terminals) (e .1))) (omega (arith, k .0, column-low (e .1) (k .1 .1)))
 
-when-low : (n : ℕ) (b : Bool) (x : Error) → coded x .position ≤ n → LowFault n (when b x)
+when-low : (n : ℕ) (b : Bool) (x : Error) → coded x .position ≤ n → LowFault n (faultIf b x)
 when-low n true x h = some-low n x h
 when-low n false x h = none-low n
 
@@ -168,18 +168,18 @@ unknown-low n t at (a ∷ w) h = go (ltb a t) (unknown-low n t (suc at) w (omega
 pub check-low : (table : ℕ) (words : List ℕ) (e : Error) → checkFault table words ≡ some e → Low maxWords e
 unfolding checkFault
 check-low table words =
-    first-each (Low maxWords) (when (ltb table memoryWords) TableTooShort ∷ grammarFaults words)
-    (when-low maxWords (ltb table memoryWords) TableTooShort (omega arith), λ _. grammar-rows words [] tt)
+    first-each (Low maxWords) (faultIf (ltb table maxTableWords) TableTooShort ∷ grammarFaults words)
+    (when-low maxWords (ltb table maxTableWords) TableTooShort (omega arith), λ _. grammar-rows words [] tt)
 
 pub judge-low : (table memo : ℕ) (words input : List ℕ) (e : Error) → judgeFault table memo words input ≡ some e → Low maxWords e
 unfolding judgeFault
 judge-low table memo words input =
-    let long = when (ltb maxTokens (length input)) InputTooLong in
+    let long = faultIf (ltb maxTokens (length input)) InputTooLong in
     let unknown = unknownFault (unknownFrom (grammarOf words .terminals) 0 input) in
-    first-each (Low maxWords) (when (ltb table memoryWords) TableTooShort ∷ when (ltb memo memoEntries) MemoTooShort ∷ grammarFaults words ++ long ∷ unknown ∷ []) (
-      when-low maxWords (ltb table memoryWords) TableTooShort (omega arith),
+    first-each (Low maxWords) (faultIf (ltb table maxTableWords) TableTooShort ∷ faultIf (ltb memo maxMemoEntries) MemoTooShort ∷ grammarFaults words ++ long ∷ unknown ∷ []) (
+      when-low maxWords (ltb table maxTableWords) TableTooShort (omega arith),
       λ _. (
-        when-low maxWords (ltb memo memoEntries) MemoTooShort (omega arith),
+        when-low maxWords (ltb memo maxMemoEntries) MemoTooShort (omega arith),
         λ _. grammar-rows words (long ∷ unknown ∷ []) (
           when-low maxWords (ltb maxTokens (length input)) InputTooLong (omega arith),
           λ q. (

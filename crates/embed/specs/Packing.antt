@@ -24,8 +24,8 @@ pub record Fit (v n p c f : ℕ) : Type 0 where
   pub count : c < 65536
   pub farthest : f < 65536
 
-abbrev pub Fits : Numbers → Type 0
-Fits n = Fit (verdictNumber (n .verdict)) (n .code) (n .position) (n .count) (n .farthest)
+abbrev pub NumbersFit : Numbers → Type 0
+NumbersFit n = Fit (verdictNumber (n .verdict)) (n .code) (n .position) (n .count) (n .farthest)
 
 -- the bits of a packed answer give it back
 pub record Unpacks (r : ℕ) (n : Numbers) : Type 0 where

@@ -1,7 +1,7 @@
 // The public calls for programs in C and Rust: the library's answers, packed into one number.
 ghost use mathlib.Core.Path.{_≡_};
 ghost use Rattle.answer.specs.Numbers.{numbers};
-ghost use Rattle.embed.specs.Packing.{Fit, Fits, joined, packed};
+ghost use Rattle.embed.specs.Packing.{Fit, NumbersFit, joined, packed};
 ghost use Rattle.embed.specs.Exports.{CheckExported, JudgeExported};
 use answer::Answer;
 use answer::code;
@@ -18,7 +18,7 @@ fn join(verdict: u64, code: u64, position: u64, count: u64, farthest: u64) -> u6
 }
 
 fn pack(answer: Answer) -> u64
-    requires { ⌜ Fits (numbers answer) ⌝ }
+    requires { ⌜ NumbersFit (numbers answer) ⌝ }
     ensures { λ r. ⌜ r ≡ packed (numbers answer) ⌝ }
 {
     match answer {

@@ -70,7 +70,7 @@ rules-fit G f r m = record {
   positive = f .positive r m;
 }
 
--- THE THEOREM: nothing is lost
+-- nothing is lost
 pub encoded : (G : Grammar) → WellFormed G → WithinLimits G → grammarOf (encode G) ≡ G
 unfolding grammarOf encode
 encoded G f l =

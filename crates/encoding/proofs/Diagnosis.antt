@@ -13,7 +13,7 @@ use Rattle.answer.specs.declared.Error.the-variants.{Length, Heading as Heading
 use Rattle.word.specs.declared.Symbol.the-variants.{Terminal, Nonterminal}
 use Rattle.word.specs.declared.Word.{Word}
 use Rattle.word.specs.declared.Word.the-variants.{Heading, Rule as RuleWord, Positive, Negative, Symbol, End, Invalid}
-use Rattle.word.specs.Choice.{choose}
+use Rattle.booleans.specs.Choice.{choose}
 use Rattle.word.specs.Words.{kind, payload, bare, heading, ofKind, decoded}
 use Rattle.grammar.specs.declared.reading.Sizes.{Sizes}
 use Rattle.grammar.specs.declared.reading.Step.{Step}
@@ -170,7 +170,6 @@ diagnosed-opened (w ∷ ws) short = go (within (d .nonterminals) maxNonterminals
     go false c = headed-fault c
     go true c = behind c (scan (fresh d) 1 ws) refl
 
--- THE THEOREM
 pub diagnosed-reading : (words : List ℕ) → Diagnosis words (reading words)
 unfolding reading
 diagnosed-reading words = go (ltb maxWords (length words)) refl

@@ -123,7 +123,7 @@ within-true : (n m : ℕ) → 0 < n → n ≤ m → within n m ≡ true
 unfolding within
 within-true n m l h = rw (lt-ltb 0 n l, le-leb n m h)
 
--- THE THEOREM, but for the limit on the number of words
+-- all, but for the limit on the number of words
 pub encode-opened : (G : Grammar) → WellFormed G → WithinLimits G → opened (encode G) ≡ Read (sizesOf G)
 unfolding opened headed encode
 encode-opened G f l =

@@ -15,6 +15,5 @@ use Rattle.encoding.proofs.OneDiagnosis.{one-diagnosis}
 pub reading-diagnosed : (words : List ℕ) (o : Outcome) → (reading words ≡ o) ↔ Diagnosis words o
 reading-diagnosed words o = (λ e. rw e at (diagnosed-reading words), λ d. one-diagnosis words (reading words) o (diagnosed-reading words) d)
 
--- THE THEOREM
 pub faithful : (words : List ℕ) → FaithfulReading words
 faithful words = record { outcome = reading-diagnosed words; grammar = encodes-grammar words }

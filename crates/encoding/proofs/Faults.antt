@@ -10,7 +10,7 @@ use Rattle.answer.specs.declared.Error.{Error}
 use Rattle.answer.specs.declared.Error.the-variants.{UnexpectedWord, OutOfRange, TooManyRules}
 use Rattle.word.specs.declared.Word.{Word}
 use Rattle.word.specs.declared.Word.the-variants.{Positive}
-use Rattle.word.specs.Choice.{choose}
+use Rattle.booleans.specs.Choice.{choose}
 use Rattle.word.specs.Words.{decoded}
 use Rattle.grammar.specs.declared.reading.State.{State}
 use Rattle.grammar.specs.declared.reading.State.the-variants.{Before, Opened, InPositive, InNegative, Closed}
@@ -23,7 +23,7 @@ use Rattle.grammar.specs.Limits.{maxRules}
 use Rattle.grammar.specs.Reading.{row, progress, counted, stepped, onStep, finished, scan}
 use Rattle.encoding.specs.Encode.{positiveWord, endWord}
 use Rattle.grammar.proofs.Scanning.{stepped-rule, stepped-other, Stepped, stepping}
-use Rattle.grammar.proofs.WellFormed.{faulty, never, passed}
+use Rattle.grammar.proofs.WellFormed.{faulty, never, step-passed}
 use Rattle.encoding.proofs.Words.{decoded-positive}
 use Rattle.encoding.proofs.EncodingRead.{Goes, goes-word, closed-goes, end-goes}
 
@@ -112,7 +112,7 @@ faults p at (w ∷ ws) x e = go (stepped (decoded w) p at) refl e (λ q. faults 
     }
     go (Go q) t e f =
         let h = f q e in
-        let k = passed (decoded w) p q at t in
+        let k = step-passed (decoded w) p q at t in
         let n : at + suc (h .before) ≡ suc at + h .before = omega arith in
         record {
           before = suc (h .before);

@@ -56,7 +56,6 @@ one-fault words i _ _ (WordFault.tooMany t) (WordFault.unexpected n m) = absurd 
 one-fault words i _ _ (WordFault.tooMany t) (WordFault.outOfRange o) = absurd (ranged-not-many words i o t)
 one-fault words i _ _ (WordFault.tooMany t) (WordFault.tooMany t′) = refl
 
--- THE THEOREM
 pub one-diagnosis : (words : List ℕ) (o u : Outcome) → Diagnosis words o → Diagnosis words u → o ≡ u
 one-diagnosis words _ _ (Diagnosis.encoding {G} s e) (Diagnosis.encoding {G = H} t f) = ap (λ F. Read (sizesOf F)) (encode-injective words G H e f)
 one-diagnosis words _ _ (Diagnosis.encoding s e) (Diagnosis.long t) = absurd (omega arith)

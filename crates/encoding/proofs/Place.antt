@@ -19,7 +19,7 @@ use Rattle.grammar.specs.Encoding.{grammarOf}
 use Rattle.grammar.specs.Reading.{symbolInRange, stepped, scan, opened}
 use Rattle.encoding.specs.Encode.{symbolWord, endWord, sizesOf, Encodes}
 use Rattle.encoding.specs.Diagnosis.{BeginsEncoding}
-use Rattle.grammar.proofs.WellFormed.{never, passed, onward}
+use Rattle.grammar.proofs.WellFormed.{never, step-passed, onward}
 use Rattle.encoding.proofs.Words.{decoded-end}
 use Rattle.encoding.proofs.EncodingRead.{Within, Between, within-between, goes-word, end-goes}
 use Rattle.encoding.proofs.ReadingEncodes.{opened-encodes, encodes-opened}
@@ -78,10 +78,10 @@ module _ (words : List ℕ) (i : ℕ) (x : Error) (h : Place words i x) where
       (record { rest = endWord ∷ []; grammar = grammarOf ((take i words ++ (symbolWord X ∷ [])) ++ (endWord ∷ [])); encodes = e .0 }, e .1)
 
   pub may-begin : (G : Grammar) → Encodes (take i words ++ (endWord ∷ [])) G → Between (h .come .state)
-  may-begin G e = let g = goes-on endWord [] G e in rw decoded-end at (passed (decoded endWord) (h .come) (g .0) i (g .1) .allowed)
+  may-begin G e = let g = goes-on endWord [] G e in rw decoded-end at (step-passed (decoded endWord) (h .come) (g .0) i (g .1) .allowed)
 
   pub may-follow : (X : symbol.Symbol) → decoded (symbolWord X) ≡ Symbol X → BeginsEncoding (take i words ++ (symbolWord X ∷ [])) → Within (h .come .state)
   may-follow X d b =
       let e : Encodes (take i words ++ (symbolWord X ∷ b .rest)) (b .grammar) = rw (← append-assoc (take i words) (symbolWord X ∷ []) (b .rest)) (b .encodes) in
       let g = goes-on (symbolWord X) (b .rest) (b .grammar) e in
-      rw d at (passed (decoded (symbolWord X)) (h .come) (g .0) i (g .1) .allowed)
+      rw d at (step-passed (decoded (symbolWord X)) (h .come) (g .0) i (g .1) .allowed)

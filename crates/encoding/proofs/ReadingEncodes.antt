@@ -22,7 +22,7 @@ use Rattle.grammar.specs.Syntax.{Grammar}
 use Rattle.grammar.specs.Encoding.{Parsed, onWord, parse, sizes, declaredBy, grammarOf}
 use Rattle.grammar.specs.Reading.{row, allows, after, stepped, scan, fresh, within, headed, opened, reading}
 use Rattle.encoding.specs.Encode.{headingWord, positiveWord, negativeWord, endWord, bodyWords, conjunctWords, ruleWords, rulesWords, encode, sizesOf, Encodes}
-use Rattle.grammar.proofs.WellFormed.{faulty, finished-read, Empty, Shape, Reads, reads, passed, onward}
+use Rattle.grammar.proofs.WellFormed.{faulty, finished-read, Empty, Shape, Reads, reads, step-passed, onward}
 use Rattle.grammar.proofs.WellRead.{chosen, refused, both, Within, within-limits, fit-formed, declares-no-rules}
 use Rattle.encoding.proofs.Words.{WrittenAs, written-as}
 use Rattle.encoding.proofs.EncodingRead.{encode-opened}
@@ -79,7 +79,7 @@ unfolding scan parse
 unparsed p at [] z e = rw (finished-read p at z e .0) refl
 unparsed p at (w ∷ ws) z e =
     let g = onward (stepped (decoded w) p at) (λ q. scan q (suc at) ws) z e in
-    let k = passed (decoded w) p (g .0) at (g .1) in
+    let k = step-passed (decoded w) p (g .0) at (g .1) in
     let r = reads (g .0) (suc at) ws z (g .2) in
     unparsed-allowed (decoded w) (p .state) (w ∷ ws) (k .allowed)
     (unparsed-word (decoded w) w (p .state) ws (written-as w) (k .allowed) (rw (k .state) at (r .fits .shape)) (rw (k .state) at (unparsed (g .0) (suc at) ws z (g .2))))
@@ -150,7 +150,7 @@ opened-encodes (w ∷ ws) z e =
 pub encodes-opened : (words : List ℕ) (G : Grammar) → Encodes words G → opened words ≡ Read (sizesOf G)
 encodes-opened words G h = rw (h .encoded) (encode-opened G (h .formed) (h .limited))
 
--- THE THEOREM: the rows read without a fault are the encodings of at most 2,048 words
+-- the rows read without a fault are the encodings of at most 2,048 words
 pub read-encodes : (words : List ℕ) (z : Sizes) → reading words ≡ Read z
     → (length words ≤ maxWords) × Encodes words (grammarOf words) × (z ≡ sizesOf (grammarOf words))
 unfolding reading

@@ -9,7 +9,7 @@ use Rattle.word.specs.declared.Symbol.the-variants.{Terminal, Nonterminal}
 use Rattle.word.specs.declared.Symbol as symbol
 use Rattle.word.specs.declared.Word.{Word}
 use Rattle.word.specs.declared.Word.the-variants.{Heading, Rule as RuleWord, Positive, Negative, Symbol, End, Invalid}
-use Rattle.word.specs.Choice.{choose}
+use Rattle.booleans.specs.Choice.{choose}
 use Rattle.word.specs.Words.{kind, payload, bare, heading, ofKind, decoded}
 use Rattle.encoding.specs.Encode.{word, headingWord, ruleWord, positiveWord, negativeWord, symbolWord, endWord}
 
@@ -113,6 +113,6 @@ written-parts (Symbol (Nonterminal A)) w h = omega arith
 written-parts End w h = omega arith
 written-parts Invalid w h = tt
 
--- THE THEOREM: a number is the one that stands for what it decodes to. From 2 ^ 32 on kinds are above 7 and the word is invalid, so no bound is asked for
+-- a number is the one that stands for what it decodes to. From 2 ^ 32 on kinds are above 7 and the word is invalid, so no bound is asked for
 pub written-as : (w : ℕ) → WrittenAs (decoded w) w
 written-as w = written-parts (decoded w) w (parts w)

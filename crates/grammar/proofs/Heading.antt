@@ -1,4 +1,4 @@
--- What the first word settles of a reading. Assumes nothing.
+-- What the first word settles of a reading.
 use mathlib.Core.Path.{_≡_, refl, _∙_}
 use mathlib.Core.Bool.{true, false}
 use mathlib.Core.List.{List, [], _∷_}

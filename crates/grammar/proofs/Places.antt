@@ -1,4 +1,4 @@
--- What stands at each place of a row that is read: a word whose number is in range, and behind it what may stand there. Assumes nothing.
+-- What stands at each place of a row that is read: a word whose number is in range, and behind it what may stand there.
 use mathlib.Core.Path.{_≡_, refl, sym, _∙_}
 use mathlib.Core.Bool.{true, _&&_}
 use mathlib.Core.List.{List, [], _∷_}
@@ -17,7 +17,7 @@ use Rattle.grammar.specs.declared.reading.Outcome.the-variants.{Read, Fa
 use Rattle.grammar.specs.Limits.{maxWords, maxNonterminals, maxTerminals}
 use Rattle.grammar.specs.Encoding.{Parsed, onWord, parse, declaredBy, grammarOf}
 use Rattle.grammar.specs.Reading.{inRange, after, fresh, stepped, scan, within, headed, opened, reading}
-use Rattle.grammar.proofs.WellFormed.{faulty, Empty, Shape, reads, passed, onward, in-range-same}
+use Rattle.grammar.proofs.WellFormed.{faulty, Empty, Shape, reads, step-passed, onward, in-range-same}
 use Rattle.grammar.proofs.WellRead.{chosen, refused, both, within-limits}
 
 -- behind a rule's begin no body stands open, and behind the end nothing does
@@ -50,7 +50,7 @@ unfolding scan
 places p at [] z e i h = absurd (omega arith)
 places p at (w ∷ ws) z e zero h =
     let g = onward (stepped (decoded w) p at) (λ q. scan q (suc at) ws) z e in
-    let k = passed (decoded w) p (g .0) at (g .1) in
+    let k = step-passed (decoded w) p (g .0) at (g .1) in
     let r = reads (g .0) (suc at) ws z (g .2) in
     record {
       ranged = sym (in-range-same (decoded w) (p .sizes) z (r .nonterminals ∙ k .nonterminals) (r .terminals ∙ k .terminals)) ∙ k .ranged;

@@ -1,4 +1,4 @@
--- Where rules begin is noted word by word: what `note` and `rule_starts` need. Assumes nothing.
+-- Where rules begin is noted word by word: what `note` and `rule_starts` need.
 use mathlib.Core.Path.{_≡_, refl, sym, ap, _∙_}
 use mathlib.Core.Bool.{Bool, true, false}
 use mathlib.Core.List.{List, [], _∷_, _++_, append-assoc}
@@ -10,7 +10,7 @@ use lib.ListN.{length, getD, take, drop, set, replicate, length-take, length-set
 use lib.Seq.{drop-cons, drop-drop, drop-set-lt, take-suc-set, take-append-le, take-append-add}
 use borrow.Author.Tests.{lt-ltb, le-ltb}
 use Rattle.word.specs.declared.Word.{Word}
-use Rattle.word.specs.Choice.{choose}
+use Rattle.booleans.specs.Choice.{choose}
 use Rattle.word.specs.Words.{decoded}
 use Rattle.grammar.specs.Limits.{maxRules}
 use Rattle.grammar.specs.Reading.{beginsRule}
@@ -23,9 +23,6 @@ module _ {before : List ℕ} {rules at : ℕ} (w : Word) where
 
   pub not-noted-full : beginsRule w ≡ true → maxRules ≤ rules → Noted before rules at w before rules
   not-noted-full b l = record { list = rw (b, le-ltb rules maxRules l); number = rw (b, le-ltb rules maxRules l) }
-
-  pub not-noted : beginsRule w ≡ false → Noted before rules at w before rules
-  not-noted b = record { list = rw b; number = rw b }
 
 drop-replicate : (n m : ℕ) → drop n (replicate {A = ℕ} m 0) ≡ replicate (m - n) 0
 drop-replicate zero m = let e : m - 0 ≡ m = omega arith in rw e

@@ -1,4 +1,4 @@
--- The words from any index on of a row that is read: what is in range, and which shape it has where it stands. Assumes nothing.
+-- The words from any index on of a row that is read: what is in range, and which shape it has where it stands.
 use mathlib.Core.Path.{_≡_, refl, sym, ap, _∙_}
 use mathlib.Core.Bool.{Bool, true, false, false≢true}
 use mathlib.Core.List.{List, [], _∷_, _++_, List·Memᴰ, List·Memᴰ·cases-cons, List·Memᴰ·not-nil, List·Memᴰ·append-cases}
@@ -13,7 +13,7 @@ use Rattle.word.specs.declared.Symbol.the-variants.{Terminal, Nonterminal}
 use Rattle.word.specs.declared.Symbol as symbol
 use Rattle.word.specs.declared.Word.{Word}
 use Rattle.word.specs.declared.Word.the-variants.{Heading, Rule as RuleWord, Positive, Negative, Symbol, End, Invalid}
-use Rattle.word.specs.Choice.{choose}
+use Rattle.booleans.specs.Choice.{choose}
 use Rattle.word.specs.Words.{decoded}
 use Rattle.grammar.specs.declared.reading.State.{State}
 use Rattle.grammar.specs.declared.reading.State.the-variants.{Before, Opened, InPositive, InNegative, Closed}
@@ -59,7 +59,7 @@ Shape InPositive p = Unit {0}
 Shape InNegative p = p .positives ≡ []
 Shape Closed p = Empty p
 
-pub record Fits (s : State) (z : Sizes) (p : Parsed) : Type 0 where
+pub record RestFits (s : State) (z : Sizes) (p : Parsed) : Type 0 where
   pub body : InRange z (p .body)
   pub positives : Each (InRange z) (p .positives)
   pub negatives : Each (InRange z) (p .negatives)
@@ -76,7 +76,7 @@ more-in P y l h f x m = elim (List·Memᴰ·cases-cons m) [ inl e ↦ rw e h | i
 empty : Empty (parsed [] [] [] [])
 empty = record { body = refl; positives = refl; negatives = refl }
 
-fits-nothing : (z : Sizes) → Fits Closed z (parse [])
+fits-nothing : (z : Sizes) → RestFits Closed z (parse [])
 unfolding parse
 fits-nothing z = record { body = (tt, tt); positives = none-in _; negatives = none-in _; rules = none-in _; shape = empty }
 
@@ -112,7 +112,7 @@ shape-within InNegative p q e same h = same ∙ h refl
 shape-within Closed p q e same h = absurd (false≢true e)
 
 -- what fits behind a word fits before it, where the word may stand and its number is in range
-fits-word : (w : Word) (s : State) (z : Sizes) (p : Parsed) → allows w s ≡ true → inRange w z ≡ true → Fits (after w s) z p → Fits s z (onWord w p)
+fits-word : (w : Word) (s : State) (z : Sizes) (p : Parsed) → allows w s ≡ true → inRange w z ≡ true → RestFits (after w s) z p → RestFits s z (onWord w p)
 unfolding onWord
 fits-word (RuleWord A) s z p a i h = record {
   body = (tt, tt);
@@ -171,8 +171,8 @@ go-same p q e = cc
 pub never : (x : Error) (q : Progress) → Stop x ≡ Go q → ⊥
 never x q e = let n : _≡_ {A = ℕ} 0 1 = cc in omega arith
 
-pub passed : (w : Word) (p q : Progress) (at : ℕ) → stepped w p at ≡ Go q → Passed w p q
-passed w p q at e = go (stepped w p at) (stepping w p at) e
+pub step-passed : (w : Word) (p q : Progress) (at : ℕ) → stepped w p at ≡ Go q → Passed w p q
+step-passed w p q at e = go (stepped w p at) (stepping w p at) e
   where
     go : (t : Step) → Stepped w p at t → t ≡ Go q → Passed w p q
     go _ (Stepped.unexpected a) g = absurd (never (UnexpectedWord at) q g)
@@ -211,7 +211,7 @@ pub record Reads (p : Progress) (z : Sizes) (ps : Parsed) : Type 0 where
   pub terminals : z .terminals ≡ p .sizes .terminals
   pub rules : z .rules ≡ p .sizes .rules + length (ps .rules)
   pub room : p .sizes .rules ≤ maxRules → z .rules ≤ maxRules
-  pub fits : Fits (p .state) z ps
+  pub fits : RestFits (p .state) z ps
 
 rules-more : (w : Word) (p : Parsed) → length (onWord w p .rules) ≡ one (beginsRule w) + length (p .rules)
 unfolding onWord
@@ -263,13 +263,13 @@ ended p at z e =
       fits = rw (f .0) (fits-nothing (p .sizes));
     })
 
--- THE THEOREM, from any place on
+-- from any index on
 pub reads : (p : Progress) (at : ℕ) (ws : List ℕ) (z : Sizes) → scan p at ws ≡ Read z → Reads p z (parse ws)
 unfolding scan parse
 reads p at [] z e = ended p at z e
 reads p at (w ∷ ws) z e =
     let g = onward (stepped (decoded w) p at) (λ q. scan q (suc at) ws) z e in
-    turn (g .0) (passed (decoded w) p (g .0) at (g .1)) (reads (g .0) (suc at) ws z (g .2))
+    turn (g .0) (step-passed (decoded w) p (g .0) at (g .1)) (reads (g .0) (suc at) ws z (g .2))
   where
     turn : (q : Progress) → Passed (decoded w) p q → Reads q z (parse ws) → Reads p z (onWord (decoded w) (parse ws))
     turn q k h = record {

@@ -1,4 +1,4 @@
--- A row that is read without a fault is a well-formed grammar of the sizes told. Assumes nothing.
+-- A row that is read without a fault is a well-formed grammar of the sizes told.
 use mathlib.Core.Path.{_≡_, refl, sym, ap, _∙_}
 use mathlib.Core.Bool.{Bool, true, false, _&&_, false≢true}
 use mathlib.Core.List.{List, [], _∷_, _++_}
@@ -12,7 +12,7 @@ use borrow.Author.Tests.{ltb-true, leb-true, ltb-false}
 use Rattle.answer.specs.declared.Error.the-variants.{Length, Heading as HeadingFault}
 use Rattle.word.specs.declared.Word.{Word}
 use Rattle.word.specs.declared.Word.the-variants.{Heading, Rule as RuleWord, Positive, Negative, Symbol, End, Invalid}
-use Rattle.word.specs.Choice.{choose}
+use Rattle.booleans.specs.Choice.{choose}
 use Rattle.word.specs.Words.{decoded}
 use Rattle.grammar.specs.declared.reading.Sizes.{Sizes}
 use Rattle.grammar.specs.declared.reading.Outcome.{Outcome}
@@ -139,7 +139,6 @@ declares-no-rules (Symbol X) = refl
 declares-no-rules End = refl
 declares-no-rules Invalid = refl
 
--- THE THEOREM
 pub well-read : (words : List ℕ) (z : Sizes) → reading words ≡ Read z → WellRead words z
 unfolding reading opened headed
 well-read [] z e = absurd (faulty HeadingFault z (refused (ltb maxWords 0) (Faulty HeadingFault) z e .1))

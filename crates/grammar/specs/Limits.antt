@@ -28,12 +28,12 @@ abbrev pub maxPlaces : ℕ
 maxPlaces = maxTokens + 1
 
 -- the lent table holds two sets for each nonterminal, and a row for each
-abbrev pub tableWords : ℕ
-tableWords = maxNonterminals * (2 + maxColumns)
+abbrev pub maxTableWords : ℕ
+maxTableWords = maxNonterminals * (2 + maxColumns)
 
 -- the lent memo table holds an entry for each nonterminal and place
-abbrev pub memoEntries : ℕ
-memoEntries = maxNonterminals * maxPlaces
+abbrev pub maxMemoEntries : ℕ
+maxMemoEntries = maxNonterminals * maxPlaces
 
 abbrev pub limited : Limits
 limited = record {
@@ -44,6 +44,6 @@ limited = record {
   tokens = maxTokens;
   columns = maxColumns;
   places = maxPlaces;
-  «table_words» = tableWords;
-  «memo_entries» = memoEntries;
+  «table_words» = maxTableWords;
+  «memo_entries» = maxMemoEntries;
 }

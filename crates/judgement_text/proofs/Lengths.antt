@@ -1,4 +1,4 @@
--- How long a judgement can be. Assumes nothing.
+-- How long a judgement can be.
 use mathlib.Core.List.{List, [], _++_}
 use Prim.Native.Nat.{ℕ, _+_, _*_, _/_, _%_, _≤_, _<_}
 use Prim.Native.String.{String}
@@ -6,7 +6,7 @@ use native.Mathlib.Nat.{mod-lt, div-lt-iff-lt-mul, mul-le-mul}
 use native.Mathlib.Omega.{arith}
 use lib.Dec.{eqb}
 use lib.ListN.{length, getD, length-append}
-use Rattle.grammar.specs.Limits.{maxNonterminals, maxTokens, maxPlaces, memoEntries}
+use Rattle.grammar.specs.Limits.{maxNonterminals, maxTokens, maxPlaces, maxMemoEntries}
 use Rattle.grammar.specs.Codes.{failedCode, uncalledCode}
 use Rattle.answer.specs.declared.Calls.{Calls}
 use Rattle.text.specs.Ascii.{ascii}
@@ -28,7 +28,7 @@ abbrev pub Small : List ℕ → Type 0
 Small memo = (k : ℕ) → getD memo k uncalledCode < 100000
 
 pub calls-most : (nonterminals tokens : ℕ) (memo : List ℕ) → nonterminals ≤ maxNonterminals → tokens ≤ maxTokens → Small memo
-    → length (callsText nonterminals tokens memo) ≤ memoEntries * callRoom
+    → length (callsText nonterminals tokens memo) ≤ maxMemoEntries * callRoom
 unfolding callsText
 calls-most n t memo few short small =
     let m = mul-le-mul {n₁ = n} {m₁ = t + 1} {n₂ = maxNonterminals} {m₂ = maxPlaces} few (omega arith) in

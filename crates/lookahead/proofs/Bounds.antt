@@ -2,7 +2,7 @@
 use Prim.Native.Nat.{ℕ, _^_, _<_}
 use native.Mathlib.Omega.{arith}
 use lib.Bits.{or-lt}
-use Rattle.lookahead.specs.Operations.{join, meet, concat}
+use Rattle.lookahead.specs.Operations.{join, meet, concatNumbers}
 use Rattle.lookahead.proofs.Order.{subset-le, meet-left}
 use Rattle.lookahead.proofs.Concat.{concat-join}
 
@@ -14,5 +14,5 @@ module _ (k x y : ℕ) where
   pub meet-bound : x < 2 ^ k → meet x y < 2 ^ k
   meet-bound h = omega (arith, subset-le (meet x y) x (meet-left x y))
 
-  pub concat-bound : x < 2 ^ k → y < 2 ^ k → concat x y < 2 ^ k
-  concat-bound h i = omega (arith, subset-le (concat x y) (join x y) (concat-join x y), join-bound h i)
+  pub concat-bound : x < 2 ^ k → y < 2 ^ k → concatNumbers x y < 2 ^ k
+  concat-bound h i = omega (arith, subset-le (concatNumbers x y) (join x y) (concat-join x y), join-bound h i)

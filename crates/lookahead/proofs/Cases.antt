@@ -9,28 +9,28 @@ use lib.Dec.{eqb, ltb}
 use lib.Pow.{shl-exact}
 use borrow.Author.Tests.{eqb-true, eq-eqb, ne-eqb, lt-ltb, le-ltb}
 use Rattle.lookahead.specs.Elements.{nothing, weight, has, width}
-use Rattle.lookahead.specs.Operations.{empty, isEmpty, end, terminal, full, join, terminals, concat}
+use Rattle.lookahead.specs.Operations.{empty, isEmpty, end, terminal, full, join, terminals, concatNumbers}
 use Rattle.lookahead.specs.Operations.{Empty, Terminal, Full, Concatenated}
-use Rattle.lookahead.proofs.Booleans.{passed}
+use Rattle.booleans.proofs.Booleans.{true-T}
 use Rattle.lookahead.proofs.Elements.{same-elements, has-or, has-weight}
 use Rattle.lookahead.proofs.Operations.{has-end, has-full, is-terminal, is-full, is-concat}
 use Rattle.lookahead.proofs.Powers.{has-ones}
 
 -- a set with the element nothing is no smaller a number than its weight
 pub nothing-fits : (x : ℕ) → has x nothing ≡ true → end ≤ x
-nothing-fits x h = has-weight x nothing (passed h)
+nothing-fits x h = has-weight x nothing (true-T _ h)
 
 -- concatenation by cases
 pub concat-empty : {x y : ℕ} → isEmpty y ≡ true → Concatenated x y y
-unfolding concat isEmpty
+unfolding concatNumbers isEmpty
 concat-empty {x} {y} e = is-concat (eqb-true y empty e ∙ sym (rw e))
 
 pub concat-more : {x y : ℕ} → isEmpty y ≡ false → has x nothing ≡ true → Concatenated x y (join (x - end) y)
-unfolding concat terminals
+unfolding concatNumbers terminals
 concat-more e h = is-concat (sym (rw (e, h)))
 
 pub concat-terminals : {x y : ℕ} → isEmpty y ≡ false → has x nothing ≡ false → Concatenated x y x
-unfolding concat terminals join
+unfolding concatNumbers terminals join
 concat-terminals {x} e h = is-concat (sym (rw (e, h) (or-zero-r x)))
 
 -- one, shifted to a terminal's place, is its weight

@@ -11,8 +11,9 @@ use lib.Bits.{bitAnd, bitOr, and-shr, or-shr, and-mod, or-mod}
 use lib.Dec.{T, eqb}
 use lib.Pow.{shr-shr, pow-mono, pow-pos}
 use borrow.Author.Tests.{eq-eqb, ne-eqb}
-use Rattle.lookahead.specs.Elements.{has, one}
-use Rattle.lookahead.proofs.Booleans.{passed}
+use Rattle.booleans.specs.Quantifiers.{one}
+use Rattle.lookahead.specs.Elements.{has}
+use Rattle.booleans.proofs.Booleans.{true-T}
 
 -- one digit
 digits : (x y : ℕ) → x < 2 → y < 2 → (eqb (bitOr x y) 1 ≡ (eqb x 1 || eqb y 1)) × (eqb (bitAnd x y) 1 ≡ (eqb x 1 && eqb y 1))
@@ -76,7 +77,7 @@ some-element = bin-ind (λ (n : ℕ). (n ≡ 0 → ⊥) → (l : ℕ) × T (has 
     step n ih ne = go (has n 0) refl
       where
         go : (b : Bool) → has n 0 ≡ b → (l : ℕ) × T (has n l)
-        go true e = (0, passed e)
+        go true e = (0, true-T _ e)
         go false e = let z = lowest n in let even : n % 2 ≡ 0 = rw e at z in let r = ih (λ h. ne (omega arith)) in (suc (r .0), rw (has-suc n (r .0)) (r .1))
 
 -- numbers with the same elements are equal

@@ -1,4 +1,3 @@
-pub mod Booleans
 pub mod Elements
 pub mod Powers
 pub mod Weights

@@ -8,7 +8,7 @@ use lib.Bits.{or-add-and, and-le-l, and-le-r}
 use mir.Facts.{and-yes, yes-and, or-yes}
 use Rattle.lookahead.specs.Elements.{has, Subset}
 use Rattle.lookahead.specs.Operations.{empty, join, meet}
-use Rattle.lookahead.proofs.Booleans.{both-ways, or-l, or-r}
+use Rattle.booleans.proofs.Booleans.{both, or-l, or-r}
 use Rattle.lookahead.proofs.Elements as elements
 use Rattle.lookahead.proofs.Operations.{has-empty, has-join, has-meet}
 
@@ -16,11 +16,8 @@ use Rattle.lookahead.proofs.Operations.{has-empty, has-join, has-meet}
 pub subset-refl : (x : ℕ) → Subset x x
 subset-refl x l t = t
 
-pub subset-trans : (x y z : ℕ) → Subset x y → Subset y z → Subset x z
-subset-trans x y z f g l t = g l (f l t)
-
 pub subset-antisym : (x y : ℕ) → Subset x y → Subset y x → x ≡ y
-subset-antisym x y f g = elements.same-elements x y (λ l. both-ways (has x l) (has y l) (f l) (g l))
+subset-antisym x y f g = elements.same-elements x y (λ l. both (has x l) (has y l) (f l) (g l))
 
 -- the empty set is in every set
 pub empty-least : (x : ℕ) → Subset empty x

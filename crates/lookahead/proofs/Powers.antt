@@ -7,8 +7,9 @@ use native.Mathlib.Omega.{arith}
 use lib.Dec.{eqb, ltb, leb·suc-suc, eqb·suc-suc, eqb·zero-suc, eqb·suc-zero}
 use lib.Pow.{pow-pos}
 use borrow.Author.Tests.{eq-eqb, ne-eqb, lt-ltb, le-ltb}
-use Rattle.lookahead.specs.Elements.{has, one}
-use Rattle.lookahead.proofs.Booleans.{passed}
+use Rattle.booleans.specs.Quantifiers.{one}
+use Rattle.lookahead.specs.Elements.{has}
+use Rattle.booleans.proofs.Booleans.{true-T}
 use Rattle.lookahead.proofs.Elements.{has-zero, has-weight, has-suc, lowest}
 
 -- a power of two has one element
@@ -52,7 +53,7 @@ has-without zero n (suc l) h =
     has-suc (n - 1) l ∙ ap (λ (m : ℕ). has m l) half ∙ sym (has-suc n l) ∙ sym (rw (eqb·suc-zero l) (and-true (has n (suc l))))
 has-without (suc k) n zero h =
     let p = pow-suc 2 k in
-    let w = has-weight n (suc k) (passed h) in
+    let w = has-weight n (suc k) (true-T _ h) in
     same-lowest (n - 2 ^ suc k) n (omega arith) ∙ sym (rw (eqb·zero-suc k) (and-true (has n 0)))
 has-without (suc k) n (suc l) h =
     let p = pow-suc 2 k in

@@ -1,9 +1,10 @@
 -- A lookahead set (document 01: event set) is a number, the sum of its elements' weights.
 use mathlib.Core.Path.{_≡_}
-use mathlib.Core.Bool.{Bool, true, false}
+use mathlib.Core.Bool.{Bool}
 use mathlib.Core.Logic.{_⊎_}
 use Prim.Native.Nat.{ℕ, zero, suc, _+_, _*_, _/_, _%_, _^_, _<_}
 use lib.Dec.{T, eqb}
+use Rattle.booleans.specs.Quantifiers.{one, countBelow}
 
 -- the element for the end of the input and the empty string (document 01: "nothing"); the numbers below it are the terminals
 abbrev pub nothing : ℕ
@@ -21,17 +22,8 @@ abbrev pub Subset : ℕ → ℕ → Type 0
 Subset x y = (l : ℕ) → T (has x l) → T (has y l)
 
 -- s has no elements but nothing and the first t terminals: a set over a grammar with t terminals
-abbrev pub Over : ℕ → ℕ → Type 0
-Over t s = (l : ℕ) → T (has s l) → (l < t) ⊎ (l ≡ nothing)
-
-abbrev pub one : Bool → ℕ
-one true = 1
-one false = 0
-
--- how many numbers below k pass the test
-unfoldable pub count : ℕ → (ℕ → Bool) → ℕ
-count zero p = 0
-count (suc k) p = one (p k) + count k p
+abbrev pub OverTerminals : ℕ → ℕ → Type 0
+OverTerminals t s = (l : ℕ) → T (has s l) → (l < t) ⊎ (l ≡ nothing)
 
 -- the weights of the numbers below k that pass the test, added up
 unfoldable pub total : ℕ → (ℕ → Bool) → ℕ
@@ -44,4 +36,4 @@ width = 64
 
 -- how many elements a set has
 unfoldable pub size : ℕ → ℕ
-size s = count width (has s)
+size s = countBelow width (has s)

@@ -4,11 +4,8 @@ use mathlib.Core.Bool.{Bool, true, false, not, _&&_, _||_}
 use Prim.Native.Nat.{ℕ, suc, _-_}
 use lib.Bits.{bitAnd, bitOr}
 use lib.Dec.{eqb, ltb}
+use Rattle.booleans.specs.Choice.{choose}
 use Rattle.lookahead.specs.Elements.{nothing, weight, has, total}
-
-abbrev pub pick : Bool → ℕ → ℕ → ℕ
-pick true a b = a
-pick false a b = b
 
 abbrev pub empty : ℕ
 empty = 0
@@ -30,7 +27,7 @@ pub record End (r : ℕ) : Type 0 where
 
 -- the set of a terminal alone, empty where the number is no terminal's
 unfoldable pub terminal : ℕ → ℕ
-terminal a = pick (ltb a nothing) (weight a) empty
+terminal a = choose (ltb a nothing) (weight a) empty
 
 pub record Terminal (a r : ℕ) : Type 0 where
   pub is : r ≡ terminal a
@@ -62,12 +59,12 @@ pub record Met (x y r : ℕ) : Type 0 where
 
 -- the elements but nothing
 unfoldable pub terminals : ℕ → ℕ
-terminals x = pick (has x nothing) (x - end) x
+terminals x = choose (has x nothing) (x - end) x
 
 -- x followed by y: the terminals of x, and y as well if x has nothing; but empty if y is (document 01: strung together)
-unfoldable pub concat : ℕ → ℕ → ℕ
-concat x y = pick (isEmpty y) empty (join (terminals x) (pick (has x nothing) y empty))
+unfoldable pub concatNumbers : ℕ → ℕ → ℕ
+concatNumbers x y = choose (isEmpty y) empty (join (terminals x) (choose (has x nothing) y empty))
 
 pub record Concatenated (x y r : ℕ) : Type 0 where
-  pub is : r ≡ concat x y
+  pub is : r ≡ concatNumbers x y
   pub member : (l : ℕ) → has r l ≡ (not (isEmpty y) && ((has x l && not (eqb l nothing)) || (has x nothing && has y l)))

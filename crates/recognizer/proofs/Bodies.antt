@@ -1,4 +1,4 @@
--- Skipping the symbols of a body leaves the rest of its rule as it is. Assumes nothing.
+-- Skipping the symbols of a body leaves the rest of its rule as it is.
 use mathlib.Core.Path.{_≡_, refl, sym, ap, _∙_}
 use mathlib.Core.List.{List, [], _∷_}
 use mathlib.Core.Logic.{_⊎_, ⊎-elim}

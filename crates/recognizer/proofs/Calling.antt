@@ -1,4 +1,4 @@
--- Calling a nonterminal: the bodies of its rule agree on the end that the descent with a memo table gives. Assumes nothing.
+-- Calling a nonterminal: the bodies of its rule agree on the end that the descent with a memo table gives.
 use mathlib.Core.Path.{_≡_, refl, sym, ap, _∙_}
 use mathlib.Core.Bool.{Bool, true, false, true≢false, false≢true}
 use mathlib.Core.List.{List, [], _∷_, List·Memᴰ, List·Memᴰ·head, List·Memᴰ·tail}
@@ -9,7 +9,7 @@ use native.Mathlib.Decide.{decLt}
 use lib.Dec.{ltb}
 use lib.ListN.{length, getD, drop}
 use borrow.Author.Tests.{lt-ltb, ltb-true}
-use Rattle.word.specs.Choice.{choose}
+use Rattle.booleans.specs.Choice.{choose}
 use Rattle.word.specs.Words.{decoded}
 use Rattle.word.specs.declared.Symbol as grammar
 use Rattle.word.specs.declared.Word.{Word}
@@ -22,8 +22,8 @@ use Rattle.grammar.specs.declared.reading.State.{State}
 use Rattle.grammar.specs.declared.reading.State.the-variants as state
 use Rattle.grammar.specs.declared.reading.Progress.{Progress}
 use Rattle.grammar.proofs.Suffixes.{Next, scan-next}
-use Rattle.grammar.proofs.WellFormed.{Fits, reads}
-use Rattle.semantics.specs.Quantifiers.{pick}
+use Rattle.grammar.proofs.WellFormed.{RestFits, reads}
+use Rattle.booleans.specs.Choice.{choose}
 use Rattle.semantics.specs.Choices.{Choice}
 use Rattle.semantics.specs.Descent.{Outcome, Failed, End, endsAt, select}
 use Rattle.semantics.specs.MemoDescent.{Memoized, memoized, andThen, MemoCalls, memoRun, memoNegatives, memoPositives, memoRule, memoObey}
@@ -73,18 +73,18 @@ module _ (M : MemoCalls) (w : List ℕ) (i : ℕ) (b : Body) (ns : List Body) (m
       go (End e) = refl
 
   positive-keeps : (e : ℕ) (ps : List Body) → memoRest M w i (agreement.At e) (b ∷ ps) ns m ≡ memoRest M w i (joinedBy Positive (agreement.At e) o) ps ns m′
-  unfolding memoRest memoPositives pick
+  unfolding memoRest memoPositives
   positive-keeps e ps = rw run (go (endsAt o e))
     where
-      go : (x : Bool) → pick x (memoPositives M w i e ps ns m′) (memoized Failed m′) ≡ memoRest M w i (choose x (agreement.At e) agreement.Failed) ps ns m′
+      go : (x : Bool) → choose x (memoPositives M w i e ps ns m′) (memoized Failed m′) ≡ memoRest M w i (choose x (agreement.At e) agreement.Failed) ps ns m′
       go true = refl
       go false = refl
 
   negative-keeps : (e : ℕ) → memoRest M w i (agreement.At e) [] (b ∷ ns) m ≡ memoRest M w i (joinedBy Negative (agreement.At e) o) [] ns m′
-  unfolding memoRest memoPositives memoNegatives pick
+  unfolding memoRest memoPositives memoNegatives
   negative-keeps e = rw run (go (endsAt o e))
     where
-      go : (x : Bool) → pick x (memoized Failed m′) (memoNegatives M w i e ns m′) ≡ memoRest M w i (choose x agreement.Failed (agreement.At e)) [] ns m′
+      go : (x : Bool) → choose x (memoized Failed m′) (memoNegatives M w i e ns m′) ≡ memoRest M w i (choose x agreement.Failed (agreement.At e)) [] ns m′
       go true = refl
       go false = refl
 
@@ -134,7 +134,7 @@ module _ {choice : Choice} {words choices tokens input memo₀ : List ℕ} {A pl
     next-reads : scan (next .progress) (at + 1) (drop (at + 1) words) ≡ reading words
     next-reads = next .reads ∙ sym (g .given .read)
 
-    fits : Fits (next .progress .state) (g .given .sizes) Q
+    fits : RestFits (next .progress .state) (g .given .sizes) Q
     fits = reads (next .progress) (at + 1) (drop (at + 1) words) (g .given .sizes) (next .reads) .fits
 
     module _ (goes : goesOn sign agreed ≡ true) where

@@ -1,4 +1,4 @@
--- What checking answers and leaves in the lent table, by what is found of the grammar; and what it means to pass. Assumes nothing.
+-- What checking answers and leaves in the lent table, by what is found of the grammar; and what it means to pass.
 use mathlib.Core.Path.{_≡_, refl, sym, ap, _∙_}
 use mathlib.Core.List.{List, [], _∷_, _++_, List·Memᴰ·head, List·Memᴰ·not-nil}
 use mathlib.Core.Option.{Option, none, some}
@@ -17,7 +17,7 @@ use Rattle.answer.proofs.Faults.{each-none, numbers-told}
 use Rattle.answer.specs.declared.Answer.{Answer}
 use Rattle.answer.specs.declared.Answer.the-variants.{Refused, Passed}
 use Rattle.grammar.specs.Codes.{noEntry}
-use Rattle.grammar.specs.Limits.{maxNonterminals, maxColumns, tableWords as memoryWords}
+use Rattle.grammar.specs.Limits.{maxNonterminals, maxColumns, maxTableWords}
 use Rattle.grammar.specs.Syntax.{Grammar}
 use Rattle.grammar.specs.Encoding.{grammarOf}
 use Rattle.grammar.specs.Reading.{reading}
@@ -38,13 +38,13 @@ use Rattle.sets.specs.declared.Finding.the-variants as finding
 use Rattle.table.specs.declared.Analysis.{Analysis}
 use Rattle.table.specs.Layout.{tableWords}
 use Rattle.table.specs.Entries.{filled}
-use Rattle.sets.specs.Families.{readingFault, leftFault}
-use Rattle.sets.proofs.Telling.{told-passed, told-refused}
+use Rattle.sets.specs.Analysis.{readingFault, leftFault}
+use Rattle.sets.proofs.Findings.{told-passed, told-refused}
 use Rattle.table.specs.Analysis.{clashFault, grammarFaults, fault, tableIf, analyzed}
 use Rattle.table.proofs.Words.{table-long}
 use Rattle.recognizer.specs.Memory.{lentBack, wordCount, LendGiven, Lent}
 use Rattle.recognizer.specs.Answers.{checkFault}
-use Rattle.recognizer.specs.Judging.{Found}
+use Rattle.recognizer.specs.Judging.{TableFound}
 use Rattle.recognizer.specs.Properties.{PassedGrammar, LeastFamilies, Checks}
 use Rattle.recognizer.proofs.Places.{check-tells, fault-encoded, places}
 
@@ -121,9 +121,9 @@ module _ (words : List ℕ) (p : PassedGrammar words) where
   fault-passed = rw (passed-read, not-left-recursive, no-clashes)
 
 -- with a table that is long enough only the grammar's faults are left
-pub check-fault-long : (n : ℕ) (words : List ℕ) → memoryWords ≤ n → checkFault n words ≡ fault words
+pub check-fault-long : (n : ℕ) (words : List ℕ) → maxTableWords ≤ n → checkFault n words ≡ fault words
 unfolding checkFault fault
-check-fault-long n words h = rw (le-ltb n memoryWords h)
+check-fault-long n words h = rw (le-ltb n maxTableWords h)
 
 refused-passed : (f : Option Error) → refusedOr f Passed ≡ Passed → f ≡ none
 refused-passed none e = refl
@@ -148,12 +148,12 @@ checks {words} {before} {after} {r} a t = record {
   least = families;
 }
 
-pub check-short : {words before : List ℕ} → length before < memoryWords → Checks words before (Refused TableTooShort) before
+pub check-short : {words before : List ℕ} → length before < maxTableWords → Checks words before (Refused TableTooShort) before
 unfolding checkFault
-check-short {words} {before} h = checks (rw (lt-ltb (length before) memoryWords h)) (rw (lt-ltb (length before) memoryWords h))
+check-short {words} {before} h = checks (rw (lt-ltb (length before) maxTableWords h)) (rw (lt-ltb (length before) maxTableWords h))
 
 -- an analysis that finds no fault tells the sizes and the whole table
-pub found : (words : List ℕ) {a : Analysis} {z : Sizes} → a ≡ analyzed words → a .finding ≡ finding.Passed z → Found words z (a .table)
+pub found : (words : List ℕ) {a : Analysis} {z : Sizes} → a ≡ analyzed words → a .finding ≡ finding.Passed z → TableFound words z (a .table)
 unfolding analyzed
 found words {a} {z} e q =
     let k = told-passed (fault words) (reading words) (sym (ap (λ y. y .finding) e) ∙ q) in
@@ -164,7 +164,7 @@ unfolding analyzed fault
 found-fault words e q = told-refused (fault words) (reading words) (λ y f. rw f) (sym (ap (λ y. y .finding) e) ∙ q)
 
 -- the table of a grammar that passes, lent back
-module _ (words before : List ℕ) (long : memoryWords ≤ length before) {z : Sizes} {entries : List ℕ} (f : Found words z entries) where
+module _ (words before : List ℕ) (long : maxTableWords ≤ length before) {z : Sizes} {entries : List ℕ} (f : TableFound words z entries) where
   words-count : length (tableWords (grammarOf words)) ≡ wordCount z
   words-count = let r = well-read words z (f .read) in table-long (grammarOf words) ∙ rw (r .nonterminals, r .terminals)
 
@@ -185,7 +185,7 @@ module _ (words before : List ℕ) (long : memoryWords ≤ length before) {z : S
   lent-table l =
       let w : take (wordCount z) entries ≡ tableWords (grammarOf words) =
       ap (take (wordCount z)) (f .table)
-      ∙ take-at (tableWords (grammarOf words)) (replicate (memoryWords - length (tableWords (grammarOf words))) noEntry) (wordCount z) words-count in
+      ∙ take-at (tableWords (grammarOf words)) (replicate (maxTableWords - length (tableWords (grammarOf words))) noEntry) (wordCount z) words-count in
       l .words ∙ ap (λ y. y ++ drop (wordCount z) before) w ∙ ap (λ y. tableWords (grammarOf words) ++ drop y before) (sym words-count)
 
   pub check-passed : {after : List ℕ} → Lent before entries z after → Checks words before Passed after
@@ -193,7 +193,7 @@ module _ (words before : List ℕ) (long : memoryWords ≤ length before) {z : S
       let c : checkFault (length before) words ≡ none = check-fault-long (length before) words long ∙ f .faultless in
       checks (sym (ap (λ y. refusedOr y Passed) c)) (lent-table l ∙ sym (ap (λ y. lentBack y (tableWords (grammarOf words)) before) c))
 
-pub check-refused : (words before : List ℕ) → memoryWords ≤ length before → {x : Error} → fault words ≡ some x → Checks words before (Refused x) before
+pub check-refused : (words before : List ℕ) → maxTableWords ≤ length before → {x : Error} → fault words ≡ some x → Checks words before (Refused x) before
 check-refused words before long {x} f =
     let c : checkFault (length before) words ≡ some x = check-fault-long (length before) words long ∙ f in
     checks (sym (ap (λ y. refusedOr y Passed) c)) (sym (ap (λ y. lentBack y (tableWords (grammarOf words)) before) c))

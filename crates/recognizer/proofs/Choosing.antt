@@ -1,4 +1,4 @@
--- What a call has for finding its entry and its rule. Assumes nothing.
+-- What a call has for finding its entry and its rule.
 use mathlib.Core.Path.{_≡_, refl}
 use mathlib.Core.List.{List}
 use mathlib.Core.Option.{Option, none, some}
@@ -11,10 +11,10 @@ use Rattle.grammar.specs.Encoding.{grammarOf}
 use Rattle.grammar.specs.WellRead.{WellRead}
 use Rattle.grammar.proofs.WellRead.{well-read}
 use Rattle.semantics.specs.Choices.{Choice}
-use Rattle.recognizer.specs.Descent.{firstConjunct, TokenGiven, EntryGiven, ChosenGiven, Given, CallGiven}
+use Rattle.recognizer.specs.Descent.{firstConjunct, TokenGiven, EntryGiven, ChosenGiven, ArraysGiven, CallGiven}
 use Rattle.recognizer.proofs.Starting.{nth-below}
 
-pub token-given : {choice : Choice} {words choices tokens input memo : List ℕ} → Given choice words choices tokens input memo
+pub token-given : {choice : Choice} {words choices tokens input memo : List ℕ} → ArraysGiven choice words choices tokens input memo
     → {place : ℕ} → place ≤ length input → TokenGiven tokens place
 token-given g {place} h = record { placed = omega (arith, g .short); element = g .elements place h }
 

@@ -1,4 +1,4 @@
--- From a descent that has ended to its answer and to what the memo table then holds. Assumes nothing.
+-- From a descent that has ended to its answer and to what the memo table then holds.
 use mathlib.Core.Path.{_≡_, refl, sym, ap, subst, _∙_}
 use mathlib.Core.Bool.{Bool, true, false}
 use mathlib.Core.List.{List, map}
@@ -13,7 +13,7 @@ use borrow.Author.Tests.{lt-ltb, le-ltb}
 use Rattle.answer.specs.declared.Answer.{Answer}
 use Rattle.answer.specs.declared.Answer.the-variants.{Rejected, Accepted}
 use Rattle.answer.specs.declared.Calls.{Calls}
-use Rattle.word.specs.Choice.{choose}
+use Rattle.booleans.specs.Choice.{choose}
 use Rattle.grammar.specs.Codes.{uncalledCode}
 use Rattle.grammar.specs.Syntax.{Grammar, WellScoped}
 use Rattle.grammar.specs.Encoding.{grammarOf}
@@ -27,7 +27,7 @@ use Rattle.semantics.specs.Choices.{Choice, tableChoice}
 use Rattle.semantics.specs.Descent.{endsAt, descend, accepts}
 use Rattle.semantics.specs.ComesTo.{Call, callAt, InRange}
 use Rattle.semantics.specs.Calls.{Listing, sameCall, allCalls, calls}
-use Rattle.semantics.specs.Memo.{Fits, encode, entry, indexOf, blank, Recorded}
+use Rattle.semantics.specs.Memo.{EndsFit, encode, entry, indexOf, blank, Recorded}
 use Rattle.semantics.specs.MemoDescent.{memoized, memoCall}
 use Rattle.semantics.proofs.FiniteSets.{member-mem, mem-member}
 use Rattle.semantics.proofs.Range.{calls-equality, all-length, all-ordered, index-range}
@@ -168,7 +168,7 @@ module _ {words : List ℕ} {z : Sizes} {entries input memo : List ℕ} (g : Des
       d : CallDone one-token words input blanked 0 0 o memo′
       d = rw input-is at (ensured one-token begun-held)
 
-      fits : Fits input
+      fits : EndsFit input
       fits = omega (arith, g .short)
 
       done : (meant o ≡ descend G one-token input 0 0) × Recorded G one-token input memo′

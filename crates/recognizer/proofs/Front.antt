@@ -1,4 +1,4 @@
--- A list whose first i elements have been replaced by those of another: what a loop that writes one element a turn keeps. Assumes nothing.
+-- A list whose first i elements have been replaced by those of another: what a loop that writes one element a turn keeps.
 use mathlib.Core.Path.{_≡_, sym, ap, _∙_}
 use mathlib.Core.List.{List, _++_}
 use Prim.Native.Nat.{ℕ, suc, _+_, _≤_, _<_}
@@ -6,7 +6,7 @@ use native.Mathlib.Nat.{mul-le-mul}
 use native.Mathlib.Omega.{arith}
 use native.Mathlib.Numerals.{add-one}
 use lib.ListN.{length, take, drop, set, getD}
-use Rattle.grammar.specs.Limits.{maxNonterminals, maxColumns, tableWords as memoryWords}
+use Rattle.grammar.specs.Limits.{maxNonterminals, maxColumns, maxTableWords}
 use Rattle.grammar.specs.declared.reading.Sizes.{Sizes}
 use Rattle.recognizer.specs.Memory.{wordCount, LendGiven}
 use lib.Seq.{take-suc, drop-cons, set-at, append-snoc, length-take-le}
@@ -22,7 +22,7 @@ front-more xs d e i is h k =
     ∙ sym (rw (add-one, take-suc xs i 0 h) (append-snoc (take i xs) (getD xs i 0) (drop (suc i) d)))
 
 -- a table has at most as many words as the memory that it is lent back in
-pub count-low : (table entries : List ℕ) (z : Sizes) → LendGiven table entries z → wordCount z ≤ memoryWords
+pub count-low : (table entries : List ℕ) (z : Sizes) → LendGiven table entries z → wordCount z ≤ maxTableWords
 count-low table entries z g =
     let m = mul-le-mul {n₁ = z .nonterminals} {m₁ = z .terminals + 3} {n₂ = maxNonterminals} {m₂ = 2 + maxColumns} (g .fewNonterminals) (omega (arith, g .fewTerminals)) in
     omega arith

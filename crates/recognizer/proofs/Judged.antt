@@ -1,4 +1,4 @@
--- What judging answers and leaves in the lent memories, by the first fault; and what its verdict means. Assumes nothing.
+-- What judging answers and leaves in the lent memories, by the first fault; and what its verdict means.
 use mathlib.Core.Path.{_≡_, refl, sym, ap, subst, _∙_}
 use mathlib.Core.Bool.{Bool, true, false, _&&_, true≢false, false≢true}
 use mathlib.Core.List.{List, [], _∷_, _++_}
@@ -15,20 +15,20 @@ use borrow.Author.Tests.{lt-ltb, le-ltb, ltb-false}
 use Rattle.answer.specs.declared.Error.{Error}
 use Rattle.answer.specs.declared.Error.the-variants.{TableTooShort, MemoTooShort, InputTooLong, UnknownToken}
 use Rattle.answer.specs.Numbers.{accepted, rejected, answered, numbers}
-use Rattle.answer.specs.Faults.{when, firstFault, refusedOr, toldOr}
+use Rattle.answer.specs.Faults.{faultIf, firstFault, refusedOr, toldOr}
 use Rattle.answer.proofs.Faults.{Faultless, when-none, each-none, first-nested, numbers-told}
 use Rattle.answer.specs.declared.Calls.{Calls}
 use Rattle.answer.specs.declared.Answer.{Answer}
 use Rattle.answer.specs.declared.Answer.the-variants.{Refused, Accepted, Rejected}
-use Rattle.word.specs.Choice.{choose}
-use Rattle.grammar.specs.Limits.{tableWords as memoryWords, memoEntries, maxTokens, maxNonterminals, maxPlaces}
+use Rattle.booleans.specs.Choice.{choose}
+use Rattle.grammar.specs.Limits.{maxTableWords, maxMemoEntries, maxTokens, maxNonterminals, maxPlaces}
 use Rattle.grammar.specs.Syntax.{Grammar}
 use Rattle.grammar.specs.Encoding.{grammarOf}
 use Rattle.grammar.specs.WellRead.{WellRead}
 use Rattle.grammar.specs.declared.reading.Sizes.{Sizes}
 use Rattle.grammar.proofs.WellRead.{well-read}
 use Rattle.encoding.proofs.Faithful.{faithful}
-use Rattle.semantics.specs.Quantifiers.{all}
+use Rattle.booleans.specs.Quantifiers.{allOf}
 use Rattle.semantics.specs.Valuations.{Valuation, Solves, pairs}
 use Rattle.semantics.specs.Strings.{Over}
 use Rattle.semantics.specs.Choices.{tableChoice}
@@ -36,7 +36,7 @@ use Rattle.semantics.specs.Descent.{accepts}
 use Rattle.semantics.specs.Calls.{allCalls, callCount, farthest}
 use Rattle.semantics.specs.Memo.{Recorded}
 use Rattle.semantics.specs.Predictive.{Predictive}
-use Rattle.semantics.proofs.Booleans.{T-true, and-l, and-r}
+use Rattle.booleans.proofs.Booleans.{T-true, and-l, and-r}
 use Rattle.semantics.proofs.Range.{all-length}
 use Rattle.semantics.proofs.Theorems.{theorems}
 use Rattle.table.specs.Layout.{tableWords}
@@ -54,54 +54,54 @@ use Rattle.recognizer.proofs.Places.{judge-tells, fault-encoded, places
 
 -- an input is of known tokens exactly when no unknown one is found
 pub known-absent : (n at : ℕ) (w : List ℕ) → Over n w → unknownFrom n at w ≡ Absent
-unfolding unknownFrom all
+unfolding unknownFrom allOf
 known-absent n at [] h = refl
 known-absent n at (a ∷ w) h = rw (T-true (ltb a n) (and-l (ltb a n) _ h)) (known-absent n (suc at) w (and-r (ltb a n) _ h))
 
 pub absent-known : (n at : ℕ) (w : List ℕ) → unknownFrom n at w ≡ Absent → Over n w
-unfolding unknownFrom all
+unfolding unknownFrom allOf
 absent-known n at [] e = tt
 absent-known n at (a ∷ w) e = go (ltb a n) e (absent-known n (suc at) w)
   where
-    go : (b : Bool) → choose b (unknownFrom n (suc at) w) (At at) ≡ Absent → (unknownFrom n (suc at) w ≡ Absent → Over n w) → T (b && all (λ c. ltb c n) w)
+    go : (b : Bool) → choose b (unknownFrom n (suc at) w) (At at) ≡ Absent → (unknownFrom n (suc at) w ≡ Absent → Over n w) → T (b && allOf (λ c. ltb c n) w)
     go true f over = over f
     go false f over = let z : _≡_ {A = ℕ} 0 1 = cc in absurd (omega arith)
 
 -- the rows of judging, with the grammar's faults as one
 abbrev pub judgeRows : ℕ → ℕ → List ℕ → List ℕ → List (Option Error)
 judgeRows table memo words input =
-    when (ltb table memoryWords) TableTooShort
-    ∷ when (ltb memo memoEntries) MemoTooShort
+    faultIf (ltb table maxTableWords) TableTooShort
+    ∷ faultIf (ltb memo maxMemoEntries) MemoTooShort
     ∷ fault words
-    ∷ when (ltb maxTokens (length input)) InputTooLong
+    ∷ faultIf (ltb maxTokens (length input)) InputTooLong
     ∷ unknownFault (unknownFrom (grammarOf words .terminals) 0 input)
     ∷ []
 
 pub judged-rows : (table memo : ℕ) (words input : List ℕ) → judgeFault table memo words input ≡ firstFault (judgeRows table memo words input)
 unfolding judgeFault fault
 judged-rows table memo words input =
-    first-nested (when (ltb table memoryWords) TableTooShort ∷ when (ltb memo memoEntries) MemoTooShort ∷ []) (grammarFaults words)
-    (when (ltb maxTokens (length input)) InputTooLong ∷ unknownFault (unknownFrom (grammarOf words .terminals) 0 input) ∷ [])
+    first-nested (faultIf (ltb table maxTableWords) TableTooShort ∷ faultIf (ltb memo maxMemoEntries) MemoTooShort ∷ []) (grammarFaults words)
+    (faultIf (ltb maxTokens (length input)) InputTooLong ∷ unknownFault (unknownFrom (grammarOf words .terminals) 0 input) ∷ [])
 
 -- the first fault, by what holds
 module _ (words input table memo : List ℕ) where
   abbrev judged : Option Error
   judged = judgeFault (length table) (length memo) words input
 
-  pub table-short : length table < memoryWords → judged ≡ some TableTooShort
+  pub table-short : length table < maxTableWords → judged ≡ some TableTooShort
   unfolding judgeFault
-  table-short h = rw (lt-ltb (length table) memoryWords h)
+  table-short h = rw (lt-ltb (length table) maxTableWords h)
 
-  module _ (long : memoryWords ≤ length table) where
-    pub memo-short : length memo < memoEntries → judged ≡ some MemoTooShort
+  module _ (long : maxTableWords ≤ length table) where
+    pub memo-short : length memo < maxMemoEntries → judged ≡ some MemoTooShort
     unfolding judgeFault
-    memo-short h = rw (le-ltb (length table) memoryWords long, lt-ltb (length memo) memoEntries h)
+    memo-short h = rw (le-ltb (length table) maxTableWords long, lt-ltb (length memo) maxMemoEntries h)
 
-    module _ (room : memoEntries ≤ length memo) where
+    module _ (room : maxMemoEntries ≤ length memo) where
       judge-fault-long : {f : Option Error} → fault words ≡ f → judged
-          ≡ firstFault (f ∷ when (ltb maxTokens (length input)) InputTooLong ∷ unknownFault (unknownFrom (grammarOf words .terminals) 0 input) ∷ [])
+          ≡ firstFault (f ∷ faultIf (ltb maxTokens (length input)) InputTooLong ∷ unknownFault (unknownFrom (grammarOf words .terminals) 0 input) ∷ [])
       judge-fault-long e =
-          rw (judged-rows (length table) (length memo) words input, le-ltb (length table) memoryWords long, le-ltb (length memo) memoEntries room, e)
+          rw (judged-rows (length table) (length memo) words input, le-ltb (length table) maxTableWords long, le-ltb (length memo) maxMemoEntries room, e)
 
       pub grammar-fault : {x : Error} → fault words ≡ some x → judged ≡ some x
       grammar-fault e = judge-fault-long e
@@ -222,7 +222,7 @@ module _ {words entries table memo : List ℕ} {z : Sizes} (g : PassedGiven word
         judge-refused (unknown-token words input table memo (g .long-table) (g .long-memo) (g .found .faultless) short (sym q ∙ e ∙ rw (well g .terminals)))
 
     -- so many entries are needed, and there are
-    pub needed-few : z .nonterminals * (length input + 1) ≤ memoEntries
+    pub needed-few : z .nonterminals * (length input + 1) ≤ maxMemoEntries
     needed-few =
         let m = mul-le-mul {n₁ = z .nonterminals} {m₁ = length input + 1} {n₂ = maxNonterminals} {m₂ = maxPlaces} (well g .fewNonterminals) (omega arith) in
         omega arith

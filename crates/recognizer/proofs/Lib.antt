@@ -1,4 +1,3 @@
-pub mod Headings
 pub mod Bodies
 pub mod Running
 pub mod Calling
@@ -6,9 +5,9 @@ pub mod Storing
 pub mod Starting
 pub mod Choosing
 pub mod Tokens
-pub mod Filling
+pub mod ChoiceRows
 pub mod OneToken
-pub mod Appending
+pub mod JoinedLists
 pub mod Tallying
 pub mod Front
 pub mod Places

@@ -1,4 +1,4 @@
--- The arrays made of a grammar's own table hold the choice by one token of lookahead: here alone the descent is tied to it. Assumes nothing.
+-- The arrays made of a grammar's own table hold the choice by one token of lookahead: here alone the descent is tied to it.
 use mathlib.Core.Path.{_≡_, refl, ap, _∙_}
 use mathlib.Core.List.{List}
 use mathlib.Core.Option.{Option, none, some}
@@ -10,7 +10,7 @@ use lib.Dec.{eqb, ltb}
 use lib.ListN.{length, getD, drop-of-length-le}
 use lib.Seq.{drop-cons}
 use borrow.Author.Tests.{lt-ltb, le-ltb, eq-eqb, ne-eqb}
-use Rattle.word.specs.Choice.{choose}
+use Rattle.booleans.specs.Choice.{choose}
 use Rattle.grammar.specs.Codes.{noEntry}
 use Rattle.grammar.specs.Limits.{maxNonterminals, maxTerminals, maxTokens}
 use Rattle.grammar.specs.Syntax.{Grammar}

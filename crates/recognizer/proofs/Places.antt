@@ -12,8 +12,8 @@ use Rattle.answer.specs.declared.Error.the-variants.{InputTooLong, LeftRecursiv
 use Rattle.answer.specs.declared.Answer.{Answer}
 use Rattle.answer.specs.declared.Answer.the-variants.{Refused, Passed, Accepted, Rejected}
 use Rattle.answer.specs.declared.Calls.{Calls}
-use Rattle.answer.specs.Faults.{when, firstFault, refusedOr}
-use Rattle.word.specs.Choice.{choose}
+use Rattle.answer.specs.Faults.{faultIf, firstFault, refusedOr}
+use Rattle.booleans.specs.Choice.{choose}
 use Rattle.grammar.specs.Syntax.{Grammar, WellScoped}
 use Rattle.grammar.specs.Limits.{maxWords}
 use Rattle.encoding.specs.Encode.{Encodes}
@@ -24,7 +24,7 @@ use Rattle.semantics.specs.FirstFollow.{Entry}
 use Rattle.semantics.specs.Claims.{clashes, column}
 use Rattle.semantics.specs.Theorems.{LeastSets}
 use Rattle.semantics.proofs.Theorems.{theorems}
-use Rattle.sets.specs.Families.{leftFault}
+use Rattle.sets.specs.Analysis.{leftFault}
 use Rattle.table.specs.Analysis.{clashFault, fault}
 use Rattle.recognizer.specs.declared.judging.Unknown.{Unknown}
 use Rattle.recognizer.specs.declared.judging.Unknown.the-variants.{Absent, At}
@@ -57,7 +57,7 @@ check-tells none q =
 
 -- what judging answers, by the grammar's fault and what is found of the input
 pub judge-tells : (f : Option Error) (long : Bool) (u : Unknown) (b : Bool) (c : Calls) {r : Answer}
-    → r ≡ refusedOr (firstFault (f ∷ when long InputTooLong ∷ unknownFault u ∷ [])) (choose b (Accepted c) (Rejected c)) → Tells f r
+    → r ≡ refusedOr (firstFault (f ∷ faultIf long InputTooLong ∷ unknownFault u ∷ [])) (choose b (Accepted c) (Rejected c)) → Tells f r
 judge-tells (some e) long u b c q = refused-tells q
 judge-tells none true u b c q =
     silent q (λ A p. let z : _≡_ {A = ℕ} 0 1 = cc in absurd (omega arith)) (λ A c p. let z : _≡_ {A = ℕ} 0 1 = cc in absurd (omega arith))

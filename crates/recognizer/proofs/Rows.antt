@@ -1,4 +1,4 @@
--- Each starred row of document 01 comes out by the definitions, from the words of its card on, by computation. Assumes nothing.
+-- Each starred row of document 01 comes out by the definitions, from the words of its card on, by computation.
 use mathlib.Core.Path.{_≡_, refl}
 use mathlib.Core.List.{map}
 use Rattle.word.specs.Words.{bare, heading, ofKind, decoded}

@@ -1,4 +1,4 @@
--- Running a body: what the descent with a memo table gives for the rest of the body is what it gave for the whole. Assumes nothing.
+-- Running a body: what the descent with a memo table gives for the rest of the body is what it gave for the whole.
 use mathlib.Core.Path.{_≡_, refl, sym, ap, _∙_}
 use mathlib.Core.Bool.{Bool, true, false, _&&_, false≢true}
 use mathlib.Core.List.{List, [], _∷_}
@@ -24,7 +24,7 @@ use Rattle.grammar.specs.declared.reading.State.{State}
 use Rattle.grammar.specs.declared.reading.Progress.{Progress}
 use Rattle.grammar.proofs.Suffixes.{scan-next}
 use Rattle.grammar.proofs.WellRead.{well-read}
-use Rattle.semantics.specs.Quantifiers.{pick}
+use Rattle.booleans.specs.Choice.{choose}
 use Rattle.semantics.specs.LeftRecursion.{nullable, LeftIn, here, there, LeftDepends}
 use Rattle.semantics.specs.Choices.{Choice}
 use Rattle.semantics.specs.Descent.{Outcome, Failed, End}
@@ -187,7 +187,7 @@ module _ {choice : Choice} {words choices tokens input memo₀ : List ℕ} {A fr
 
     -- a token that is the terminal
     pub running-terminal : matchesAt tokens place a ≡ true → Running choice words input memo₀ A from start memo (at + 1) (place + 1)
-    unfolding memoRun pick
+    unfolding memoRun
     running-terminal matched =
         let m : (ltb place (length input) && eqb (getD input place 0) a) ≡ true = sym running-token ∙ matched in
         let l : place < length input = ltb-true place (length input) (both (ltb place (length input)) (eqb (getD input place 0) a) m) in
@@ -206,7 +206,7 @@ module _ {choice : Choice} {words choices tokens input memo₀ : List ℕ} {A fr
 
     -- another token, or the end
     pub running-mismatch : matchesAt tokens place a ≡ false → RunDone choice words input memo₀ A from start (stopped outcome.Failed at) memo
-    unfolding body-at memoRun pick
+    unfolding body-at memoRun
     running-mismatch m = record {
       model = λ n k. rest-here (Terminal a) h x n k ∙ rw (sym running-token ∙ m);
       sound = v .sound;

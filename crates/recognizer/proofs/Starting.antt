@@ -1,4 +1,4 @@
--- The rule that is chosen: where it begins, and that its bodies are all still to be run. Assumes nothing.
+-- The rule that is chosen: where it begins, and that its bodies are all still to be run.
 use mathlib.Core.Path.{_≡_, refl, sym, ap, _∙_}
 use mathlib.Core.Bool.{true, false, false≢true}
 use mathlib.Core.List.{List, [], _∷_, List·Memᴰ, Memᴰ·append-left, Memᴰ·append-right}

@@ -1,4 +1,4 @@
--- A call is done: from what the descent with a memo table gives, for every depth that is enough, to what holds of its outcome. Assumes nothing.
+-- A call is done: from what the descent with a memo table gives, for every depth that is enough, to what holds of its outcome.
 use mathlib.Core.Path.{_≡_, refl, sym, ap, _∙_}
 use mathlib.Core.List.{List, [], _∷_}
 use mathlib.Core.Option.{Option}
@@ -12,11 +12,11 @@ use Rattle.grammar.specs.Syntax.{Rule, Grammar}
 use Rattle.grammar.specs.Encoding.{grammarOf}
 use Rattle.grammar.specs.WellRead.{WellRead}
 use Rattle.grammar.proofs.WellRead.{well-read}
-use Rattle.semantics.specs.Quantifiers.{pick}
+use Rattle.booleans.specs.Choice.{choose}
 use Rattle.semantics.specs.Choices.{Choice}
 use Rattle.semantics.specs.Descent.{Outcome, select, descend}
 use Rattle.semantics.specs.ComesTo.{callAt}
-use Rattle.semantics.specs.Memo.{Fits, encode, decode, indexOf, entry}
+use Rattle.semantics.specs.Memo.{EndsFit, encode, decode, indexOf, entry}
 use Rattle.semantics.specs.MemoDescent.{memoized, memoObey, stored, memoCall}
 use Rattle.semantics.proofs.Outcomes.{end-ends}
 use Rattle.semantics.proofs.Ends.{descend-forward, descend-null}
@@ -55,7 +55,7 @@ module _ {choice : Choice} {words choices tokens input memo : List ℕ} {A place
   r : WellRead words (g .given .sizes)
   r = well-read words (g .given .sizes) (g .given .read)
 
-  fits : Fits input
+  fits : EndsFit input
   fits = omega (arith, g .given .short)
 
   -- the model tells all that is asked of a call
@@ -95,7 +95,7 @@ module _ {choice : Choice} {words choices tokens input memo : List ℕ} {A place
     -- an entry that is written is recalled
     pub call-recalled : {o : code.Outcome} → (getD memo x 0 ≡ uncalledCode → ⊥) → meant o ≡ decode (getD memo x 0)
         → CallDone choice words input memo A place o memo
-    unfolding memoCall pick
+    unfolding memoCall
     call-recalled {o} known d = call-done g model
       where
         model : (n : ℕ) → level words input A place < n → deep choice words input n A place memo ≡ memoized (meant o) memo
@@ -108,7 +108,7 @@ module _ {choice : Choice} {words choices tokens input memo : List ℕ} {A place
           → {o : code.Outcome} {memo₁ : List ℕ} {v : ℕ}
           → ((n : ℕ) → level words input A place ≤ n → memoObey (deep choice words input n) input r place memo ≡ memoized (meant o) memo₁)
           → v ≡ encode (meant o) → CallDone choice words input memo A place o (set memo₁ x v)
-      unfolding memoCall pick stored
+      unfolding memoCall stored
       call-stored r s {o} {memo₁} {v} run c = call-done g model
         where
           model : (n : ℕ) → level words input A place < n → deep choice words input n A place memo ≡ memoized (meant o) (set memo₁ x v)

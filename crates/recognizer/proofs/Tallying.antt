@@ -9,7 +9,7 @@ use lib.Dec.{eqb}
 use borrow.Author.Tests.{eq-eqb, ne-eqb}
 use lib.ListN.{length, getD, length-append, length-map}
 use Rattle.answer.specs.declared.Calls.{Calls}
-use Rattle.word.specs.Choice.{choose}
+use Rattle.booleans.specs.Choice.{choose}
 use Rattle.grammar.specs.Codes.{uncalledCode}
 use Rattle.grammar.specs.Syntax.{Grammar}
 use Rattle.semantics.specs.FiniteSets.{keep, numbersFrom, numbers, combine}
@@ -20,7 +20,7 @@ use Rattle.semantics.specs.Memo.{Memo, Recorded, written}
 use Rattle.semantics.proofs.FiniteSets.{numbers-length}
 use Rattle.semantics.proofs.Distinct.{combine-length}
 use Rattle.recognizer.specs.Tally.{tallyOf, together, writtenAmong, entryCount, recordedRow, recordedCalls}
-use Rattle.recognizer.proofs.Appending.{keep-append, keep-length, numbers-more, combine-more}
+use Rattle.recognizer.proofs.JoinedLists.{keep-append, keep-length, numbers-more, combine-more}
 use Rattle.recognizer.proofs.Storing.{getD-any}
 
 calls-same : (a b : Calls) → a .count ≡ b .count → a .farthest ≡ b .farthest → a ≡ b

@@ -1,4 +1,4 @@
--- The words of the tokens that are made before the descent. Assumes nothing.
+-- The words of the tokens that are made before the descent.
 use mathlib.Core.Path.{_≡_, refl, sym, ap, _∙_}
 use mathlib.Core.List.{List, [], _∷_, _++_, map, map-append}
 use Prim.Native.Nat.{ℕ, zero, suc, _+_, _-_, _*_, _%_, _≤_, _<_}
@@ -9,15 +9,15 @@ use lib.ListN.{length, getD, take, set, replicate, length-map, getD-replicate, L
 use lib.Seq.{getD-append-add, take-suc, take-length, set-at, append-snoc, length-take-le}
 use borrow.Author.Tests.{eq-eqb, ne-eqb}
 use Rattle.grammar.specs.Limits.{maxTerminals, maxTokens, maxPlaces}
-use Rattle.semantics.proofs.Booleans.{and-l, and-r}
+use Rattle.booleans.proofs.Booleans.{and-l, and-r}
 use Rattle.semantics.specs.Strings.{Over}
-use Rattle.semantics.specs.Quantifiers.{all}
+use Rattle.booleans.specs.Quantifiers.{allOf}
 use Rattle.recognizer.specs.Arrays.{endMark, elementWeight, held}
 use Rattle.recognizer.specs.Preparing.{tokenWords}
 
 -- every token is a terminal of the grammar
 pub token-below : (n : ℕ) (w : List ℕ) → Over n w → (i : ℕ) → i < length w → getD w i 0 < n
-unfolding all
+unfolding allOf
 token-below n [] h i l = absurd (omega arith)
 token-below n (x ∷ w) h zero l = ltb→lt x n (and-l (ltb x n) _ h)
 token-below n (x ∷ w) h (suc i) l = token-below n w (and-r (ltb x n) _ h) i (omega arith)
@@ -44,7 +44,7 @@ held-end zero e h q = absurd (omega arith)
 held-end (suc m) e h q = rw (eq-eqb (e % elementWeight) endMark q)
 
 held-before : (n : ℕ) → n ≤ maxTerminals → (w rest : List ℕ) → Over n w → held rest ≡ [] → held (map (λ a. a * (elementWeight + 1)) w ++ rest) ≡ w
-unfolding held all
+unfolding held allOf
 held-before n few [] rest h e = e
 held-before n few (a ∷ w) rest h e =
     let l = ltb→lt a n (and-l (ltb a n) _ h) in

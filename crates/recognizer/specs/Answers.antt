@@ -11,11 +11,11 @@ use Rattle.answer.specs.declared.Calls.{Calls}
 use Rattle.answer.specs.declared.Answer.{Answer}
 use Rattle.answer.specs.declared.Answer.the-variants.{Rejected, Accepted}
 use Rattle.answer.specs.Numbers.{passed, rejected, accepted, Numbers, answered}
-use Rattle.answer.specs.Faults.{when, firstFault}
+use Rattle.answer.specs.Faults.{faultIf, firstFault}
 use Rattle.recognizer.specs.declared.judging.Unknown.{Unknown}
 use Rattle.recognizer.specs.declared.judging.Unknown.the-variants.{Absent, At}
-use Rattle.word.specs.Choice.{choose}
-use Rattle.grammar.specs.Limits.{maxTokens, tableWords, memoEntries}
+use Rattle.booleans.specs.Choice.{choose}
+use Rattle.grammar.specs.Limits.{maxTokens, maxTableWords, maxMemoEntries}
 use Rattle.grammar.specs.Syntax.{Grammar}
 use Rattle.grammar.specs.Encoding.{grammarOf}
 use Rattle.semantics.specs.Choices.{tableChoice}
@@ -34,16 +34,16 @@ unknownFault (At i) = some (UnknownToken i)
 
 -- why checking is refused, in document 01's order: the table's length, then the grammar's faults
 unfoldable pub checkFault : ℕ → List ℕ → Option Error
-checkFault table words = firstFault (when (ltb table tableWords) TableTooShort ∷ grammarFaults words)
+checkFault table words = firstFault (faultIf (ltb table maxTableWords) TableTooShort ∷ grammarFaults words)
 
 -- and judging
 unfoldable pub judgeFault : ℕ → ℕ → List ℕ → List ℕ → Option Error
 judgeFault table memo words input =
     firstFault
-    (when (ltb table tableWords) TableTooShort
-    ∷ when (ltb memo memoEntries) MemoTooShort
+    (faultIf (ltb table maxTableWords) TableTooShort
+    ∷ faultIf (ltb memo maxMemoEntries) MemoTooShort
     ∷ grammarFaults words
-    ++ when (ltb maxTokens (length input)) InputTooLong
+    ++ faultIf (ltb maxTokens (length input)) InputTooLong
     ∷ unknownFault (unknownFrom (grammarOf words .terminals) 0 input)
     ∷ [])
 

@@ -7,12 +7,12 @@ use mathlib.Core.Option.{Option, none, some}
 use Prim.Native.Nat.{ℕ, suc, _+_, _*_, _/_, _%_, _≤_, _<_}
 use lib.Dec.{T, eqb}
 use lib.ListN.{length, getD, drop}
-use Rattle.word.specs.Choice.{choose}
+use Rattle.booleans.specs.Choice.{choose}
 use Rattle.word.specs.Words.{decoded}
 use Rattle.word.specs.declared.Symbol as grammar
 use Rattle.word.specs.declared.Word.the-variants.{Symbol}
 use Rattle.grammar.specs.Codes.{uncalledCode}
-use Rattle.grammar.specs.Limits.{maxWords, maxNonterminals, maxTokens, memoEntries}
+use Rattle.grammar.specs.Limits.{maxWords, maxNonterminals, maxTokens, maxMemoEntries}
 use Rattle.grammar.specs.Syntax.{Rule, bodies}
 use Rattle.grammar.specs.Encoding.{parse, grammarOf}
 use Rattle.grammar.specs.Reading.{scan, reading}
@@ -43,7 +43,7 @@ pub record TokenGiven (tokens : List ℕ) (place : ℕ) : Type 0 where
 
 pub record EntryGiven (choices : List ℕ) (A : ℕ) : Type 0 where
   pub named : A < maxNonterminals
-  pub low : rowAt choices A < memoEntries
+  pub low : rowAt choices A < maxMemoEntries
 
 pub record ChosenGiven (choices tokens : List ℕ) (A place : ℕ) : Type 0 where
   pub named : A < maxNonterminals
@@ -70,7 +70,7 @@ pub record MemoSound (choice : Choice) (words input memo : List ℕ) : Type 0 wh
       → entry input memo x ≡ encode (descend (grammarOf words) choice input (x .nonterminal) (x .place))
 
 -- the arrays hold a choice of rules, each of its own nonterminal, and the tokens of the input
-pub record Given (choice : Choice) (words choices tokens input memo : List ℕ) : Type 0 where
+pub record ArraysGiven (choice : Choice) (words choices tokens input memo : List ℕ) : Type 0 where
   pub sizes : Sizes
   pub read : reading words ≡ Read sizes
   pub free : NoLeftRecursion (grammarOf words)
@@ -84,7 +84,7 @@ pub record Given (choice : Choice) (words choices tokens input memo : List ℕ) 
   pub sound : MemoSound choice words input memo
 
 pub record CallGiven (choice : Choice) (words choices tokens input memo : List ℕ) (A place : ℕ) : Type 0 where
-  pub given : Given choice words choices tokens input memo
+  pub given : ArraysGiven choice words choices tokens input memo
   pub named : A < grammarOf words .nonterminals
   pub placed : place ≤ length input
 

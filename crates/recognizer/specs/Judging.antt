@@ -5,7 +5,7 @@ use mathlib.Core.Option.{none}
 use Prim.Native.Nat.{ℕ, _≤_}
 use lib.ListN.{length}
 use Rattle.answer.specs.declared.Answer.{Answer}
-use Rattle.grammar.specs.Limits.{maxTokens, tableWords as memoryWords, memoEntries}
+use Rattle.grammar.specs.Limits.{maxTokens, maxTableWords, maxMemoEntries}
 use Rattle.grammar.specs.Encoding.{grammarOf}
 use Rattle.grammar.specs.Reading.{reading}
 use Rattle.grammar.specs.declared.reading.Sizes.{Sizes}
@@ -21,16 +21,16 @@ use Rattle.recognizer.specs.Memory.{memoWords}
 use Rattle.recognizer.specs.Answers.{verdictOf}
 
 -- what is found of a grammar that passes: its sizes, no fault, and all the words of its table
-pub record Found (words : List ℕ) (z : Sizes) (entries : List ℕ) : Type 0 where
+pub record TableFound (words : List ℕ) (z : Sizes) (entries : List ℕ) : Type 0 where
   pub read : reading words ≡ Read z
   pub faultless : fault words ≡ none
   pub table : entries ≡ filled (tableWords (grammarOf words))
 
 -- and memory that is long enough has been lent
 pub record PassedGiven (words : List ℕ) (z : Sizes) (entries table memo : List ℕ) : Type 0 where
-  pub found : Found words z entries
-  pub long-table : memoryWords ≤ length table
-  pub long-memo : memoEntries ≤ length memo
+  pub found : TableFound words z entries
+  pub long-table : maxTableWords ≤ length table
+  pub long-memo : maxMemoEntries ≤ length memo
 
 pub record DescendGiven (words : List ℕ) (z : Sizes) (entries input memo : List ℕ) : Type 0 where
   pub read : reading words ≡ Read z

@@ -5,9 +5,9 @@ use mathlib.Core.Option.{Option, none, some}
 use Prim.Native.Nat.{ℕ, _+_, _*_, _≤_}
 use lib.ListN.{length, take, drop}
 use Rattle.answer.specs.declared.Error.{Error}
-use Rattle.word.specs.Choice.{choose}
+use Rattle.booleans.specs.Choice.{choose}
 use Rattle.grammar.specs.Codes.{uncalledCode}
-use Rattle.grammar.specs.Limits.{maxNonterminals, maxTerminals, tableWords as memoryWords}
+use Rattle.grammar.specs.Limits.{maxNonterminals, maxTerminals, maxTableWords}
 use Rattle.grammar.specs.Syntax.{Grammar}
 use Rattle.grammar.specs.declared.reading.Sizes.{Sizes}
 use Rattle.semantics.specs.FiniteSets.{member}
@@ -35,8 +35,8 @@ abbrev pub wordCount : Sizes → ℕ
 wordCount z = z .nonterminals * (z .terminals + 3)
 
 pub record LendGiven (table entries : List ℕ) (z : Sizes) : Type 0 where
-  pub long : memoryWords ≤ length table
-  pub whole : length entries ≡ memoryWords
+  pub long : maxTableWords ≤ length table
+  pub whole : length entries ≡ maxTableWords
   pub fewNonterminals : z .nonterminals ≤ maxNonterminals
   pub fewTerminals : z .terminals ≤ maxTerminals
 

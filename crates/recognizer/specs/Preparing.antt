@@ -4,7 +4,7 @@ use mathlib.Core.List.{List, _++_, map}
 use Prim.Native.Nat.{ℕ, _+_, _-_, _*_, _≤_, _<_}
 use lib.Dec.{eqb}
 use lib.ListN.{length, getD, replicate}
-use Rattle.word.specs.Choice.{choose}
+use Rattle.booleans.specs.Choice.{choose}
 use Rattle.grammar.specs.Codes.{noEntry}
 use Rattle.grammar.specs.Limits.{maxWords, maxNonterminals, maxTerminals, maxRules, maxTokens, maxPlaces}
 use Rattle.grammar.specs.Syntax.{Grammar}

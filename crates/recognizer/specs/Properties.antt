@@ -12,7 +12,7 @@ use Rattle.answer.specs.Faults.{refusedOr, toldOr}
 use Rattle.answer.specs.declared.Answer.{Answer}
 use Rattle.answer.specs.declared.Answer.the-variants.{Refused, Passed, Accepted, Rejected}
 use Rattle.answer.specs.declared.Error.the-variants.{LeftRecursive, Conflict}
-use Rattle.grammar.specs.Limits.{tableWords as memoryWords, memoEntries, maxTokens, maxWords}
+use Rattle.grammar.specs.Limits.{maxTableWords, maxMemoEntries, maxTokens, maxWords}
 use Rattle.grammar.specs.Syntax.{Grammar}
 use Rattle.grammar.specs.Encoding.{grammarOf}
 use Rattle.encoding.specs.Encode.{Encodes}
@@ -74,8 +74,8 @@ pub record Checks (words before : List ℕ) (r : Answer) (after : List ℕ) : Ty
   pub told : numbers r ≡ toldOr (checkFault (length before) words) passedNumbers
   pub table : after ≡ lentBack (checkFault (length before) words) (tableWords (grammarOf words)) before
   -- passed exactly when well formed, not left-recursive and without a clash, where the table is long enough
-  pub passed : memoryWords ≤ length before → (r ≡ Passed) ↔ PassedGrammar words
-  pub places : memoryWords ≤ length before → length words ≤ maxWords → (G : Grammar) → Encodes words G → Places G r
+  pub passed : maxTableWords ≤ length before → (r ≡ Passed) ↔ PassedGrammar words
+  pub places : maxTableWords ≤ length before → length words ≤ maxWords → (G : Grammar) → Encodes words G → Places G r
   -- the sets and the entries of an encoded grammar are the least ones
   pub least : (G : Grammar) → Encodes words G → LeastFamilies G
 
@@ -104,9 +104,9 @@ pub record Judges (words input table memo : List ℕ) (r : Answer) (table′ mem
   pub told : numbers r ≡ toldOr (judgeFault (length table) (length memo) words input) (verdictNumbers (grammarOf words) input)
   pub lent-table : table′ ≡ lentBack (judgeFault (length table) (length memo) words input) (tableWords (grammarOf words)) table
   pub lent-memo : memo′ ≡ lentBack (judgeFault (length table) (length memo) words input) (memoWords (grammarOf words) input) memo
-  pub places : memoryWords ≤ length table → memoEntries ≤ length memo → length words ≤ maxWords → (G : Grammar) → Encodes words G → Places G r
+  pub places : maxTableWords ≤ length table → maxMemoEntries ≤ length memo → length words ≤ maxWords → (G : Grammar) → Encodes words G → Places G r
   -- where judging is not refused, the table is as checking leaves it
   pub as-checked : judgeFault (length table) (length memo) words input ≡ none → (c : Answer) (checked : List ℕ) → Checks words table c checked
       → table′ ≡ checked
   -- where the memories are long enough, each passed grammar and readable input is judged by its one meaning, whatever the memories held
-  pub recognizes : memoryWords ≤ length table → memoEntries ≤ length memo → PassedGrammar words → Readable words input → Recognizes words input r
+  pub recognizes : maxTableWords ≤ length table → maxMemoEntries ≤ length memo → PassedGrammar words → Readable words input → Recognizes words input r

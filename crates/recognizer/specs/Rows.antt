@@ -3,7 +3,7 @@ use mathlib.Core.List.{List, [], _∷_}
 use Prim.Native.Nat.{ℕ}
 use Rattle.answer.specs.Numbers.{Verdict, accepted, rejected, Numbers, answered, numbers}
 use Rattle.grammar.specs.Cards.{wordsR, wordsM, wordsE}
-use Rattle.grammar.specs.Limits.{tableWords as memoryWords, memoEntries}
+use Rattle.grammar.specs.Limits.{maxTableWords, maxMemoEntries}
 use Rattle.grammar.specs.Encoding.{grammarOf}
 use Rattle.answer.specs.Faults.{refusedOr}
 use Rattle.recognizer.specs.Answers.{judgeFault, verdictOf}
@@ -32,4 +32,4 @@ starred =
 
 -- what the promise of judging tells: the first refusal that holds, or else the verdict of the descent
 unfoldable pub judged : List ℕ → List ℕ → Numbers
-judged words w = numbers (refusedOr (judgeFault memoryWords memoEntries words w) (verdictOf (grammarOf words) w))
+judged words w = numbers (refusedOr (judgeFault maxTableWords maxMemoEntries words w) (verdictOf (grammarOf words) w))

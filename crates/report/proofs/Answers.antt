@@ -1,4 +1,4 @@
--- What is printed of words that are checked and of an input that is judged, from what the two calls promise. Assumes nothing.
+-- What is printed of words that are checked and of an input that is judged, from what the two calls promise.
 use mathlib.Core.Path.{_≡_, refl, ap, ap₂, subst, _∙_}
 use mathlib.Core.List.{List}
 use mathlib.Core.Option.{Option, none, some}
@@ -7,7 +7,7 @@ use lib.ListN.{length}
 use borrow.Author.Tests.{le-leb}
 use Rattle.answer.specs.declared.Error.{Error}
 use Rattle.answer.specs.declared.Answer.{Answer}
-use Rattle.grammar.specs.Limits.{maxTokens, memoEntries, tableWords as memoryWords}
+use Rattle.grammar.specs.Limits.{maxTokens, maxMemoEntries, maxTableWords}
 use Rattle.grammar.specs.Encoding.{grammarOf}
 use Rattle.grammar.specs.Reading.{reading}
 use Rattle.recognizer.specs.Properties.{Checks, Judges}
@@ -24,31 +24,31 @@ use Rattle.report.specs.Report.{blankTable, blankMemo, checkedText, judg
 -- the numbers of nonterminals and tokens are those printed, wherever judging is not refused
 module _ (words input memo : List ℕ) (v : Answer) where
   abbrev f : Option Error
-  f = judgeFault memoryWords memoEntries words input
+  f = judgeFault maxTableWords maxMemoEntries words input
 
   same-sizes : (g : Option Error) → f ≡ g
       → judgementText (refusedOr f v) (nonterminalsOf (reading words)) (tokensOf input) memo ≡ judgementText (refusedOr f v) (grammarOf words .nonterminals) (length input) memo
   unfolding judgementText tokensOf
   same-sizes (some x) e = rw e
   same-sizes none e =
-      let k = judged-readable words input memoryWords memoEntries e in
+      let k = judged-readable words input maxTableWords maxMemoEntries e in
       let n : nonterminalsOf (reading words) ≡ grammarOf words .nonterminals = ap nonterminalsOf (passed-read words (passed-fault words (k .0))) in
       let t : tokensOf input ≡ length input = rw (le-leb (length input) maxTokens (k .1)) in
       ap₂ (λ a b. judgementText (refusedOr f v) a b memo) n t
 
 module _ {l m : List ℕ} {k : ℕ} where
-  pub put-checked-text : {words table : List ℕ} {answer : Answer} → length blankTable ≡ memoryWords → Checks words blankTable answer table
+  pub put-checked-text : {words table : List ℕ} {answer : Answer} → length blankTable ≡ maxTableWords → Checks words blankTable answer table
       → Put l 0 (checkText answer (reading words) table) m k → Put l 0 (checkedText words) m k
   unfolding checkedText
   put-checked-text size c p = rw (← size, ← c .answer, ← c .table) p
 
-  pub put-judged-text : {words input table table′ memo : List ℕ} {answer : Answer} {nonterminals tokens : ℕ} → length table ≡ memoryWords
-      → length blankMemo ≡ memoEntries
+  pub put-judged-text : {words input table table′ memo : List ℕ} {answer : Answer} {nonterminals tokens : ℕ} → length table ≡ maxTableWords
+      → length blankMemo ≡ maxMemoEntries
       → nonterminals ≡ nonterminalsOf (reading words) → tokens ≡ tokensOf input → Judges words input table blankMemo answer table′ memo
       → Put l 0 (judgementText answer nonterminals tokens memo) m k → Put l 0 (judgedText words input) m k
   unfolding judgedText
   put-judged-text {words} {input} {table} {table′} {memo} {answer} size room n w j p =
-      let g = judgeFault memoryWords memoEntries words input in
+      let g = judgeFault maxTableWords maxMemoEntries words input in
       let same : judgeFault (length table) (length blankMemo) words input ≡ g = ap₂ (λ a b. judgeFault a b words input) size room in
       let a : answer ≡ refusedOr g (verdictOf (grammarOf words) input) = j .answer ∙ ap (λ y. refusedOr y (verdictOf (grammarOf words) input)) same in
       let b : memo ≡ lentBack g (memoWords (grammarOf words) input) blankMemo = j .lent-memo ∙ ap (λ y. lentBack y (memoWords (grammarOf words) input) blankMemo) same in

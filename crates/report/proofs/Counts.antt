@@ -5,7 +5,7 @@ use Prim.Native.Nat.{ℕ, _+_, _*_, _/_, _%_, _≤_, _<_}
 use native.Mathlib.Omega.{arith}
 use lib.ListN.{length, drop, length-append, List·getD-append}
 use Rattle.grammar.specs.Codes.{noEntry}
-use Rattle.grammar.specs.Limits.{tableWords as memoryWords}
+use Rattle.grammar.specs.Limits.{maxTableWords}
 use Rattle.grammar.specs.Syntax.{Grammar}
 use Rattle.grammar.specs.Encoding.{grammarOf}
 use Rattle.lookahead.specs.Elements.{nothing, size}
@@ -48,7 +48,7 @@ module _ (words : List ℕ) (p : PassedGrammar words) where
   G = grammarOf words
 
   lent : checkedTable words ≡ tableWords G ++ drop (length (tableWords G)) blankTable
-  lent = rw (check-fault-long memoryWords words (omega arith), fault-passed words p)
+  lent = rw (check-fault-long maxTableWords words (omega arith), fault-passed words p)
 
   -- the sizes of the two numbers
   module _ (A : ℕ) where

@@ -11,8 +11,8 @@ use lib.Seq.{length-take-le, take-all}
 use borrow.Author.Tests.{lt-ltb, lt-leb}
 use Rattle.answer.specs.declared.Error.{Error}
 use Rattle.answer.specs.declared.Error.the-variants.{Length, InputTooLong}
-use Rattle.word.specs.Choice.{choose}
-use Rattle.grammar.specs.Limits.{maxWords, maxTokens, memoEntries, tableWords as memoryWords}
+use Rattle.booleans.specs.Choice.{choose}
+use Rattle.grammar.specs.Limits.{maxWords, maxTokens, maxMemoEntries, maxTableWords}
 use Rattle.text.specs.Words.{bytesOfWord, wordsOf, areWords}
 use Rattle.text.specs.Refusal.{refusalText}
 use Rattle.table.specs.Analysis.{fault}
@@ -45,9 +45,9 @@ orLong none = InputTooLong
 orLong (some e) = e
 
 long-fault : (words input : List ℕ) → maxTokens < length input → (f : Option Error) → fault words ≡ f
-    → judgeFault memoryWords memoEntries words input ≡ some (orLong f)
-long-fault words input h (some x) e = rw (judged-rows memoryWords memoEntries words input, e)
-long-fault words input h none e = rw (judged-rows memoryWords memoEntries words input, e, lt-ltb maxTokens (length input) h)
+    → judgeFault maxTableWords maxMemoEntries words input ≡ some (orLong f)
+long-fault words input h (some x) e = rw (judged-rows maxTableWords maxMemoEntries words input, e)
+long-fault words input h none e = rw (judged-rows maxTableWords maxMemoEntries words input, e, lt-ltb maxTokens (length input) h)
 
 long-text : (words input : List ℕ) → maxTokens < length input → judgedText words input ≡ refusalText (orLong (fault words))
 unfolding judgedText judgementText

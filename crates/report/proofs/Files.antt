@@ -1,4 +1,4 @@
--- What loading a file tells of its words, and what is printed by whether there are any. Assumes nothing.
+-- What loading a file tells of its words, and what is printed by whether there are any.
 use mathlib.Core.Path.{_≡_, refl, sym, ap, _∙_}
 use mathlib.Core.Bool.{Bool, true, false, _&&_}
 use mathlib.Core.List.{List}
@@ -24,7 +24,7 @@ use Rattle.report.specs.Report.{Printed, checkedText, sheetOf, judgedTex
 use Rattle.report.proofs.Lengths.{checked-short, judged-short}
 
 -- the words of a file that was loaded
-pub record Found (bytes after : List ℕ) (n : ℕ) : Type 0 where
+pub record FoundWords (bytes after : List ℕ) (n : ℕ) : Type 0 where
   pub are : areWords bytes ≡ true
   pub few : n ≤ length after
   pub part : n ≡ length (take n after)
@@ -34,11 +34,11 @@ short : (a b : Bool) → (a && b) ≡ true → a ≡ true
 short true b e = refl
 short false b e = e
 
-pub found : {bytes before after : List ℕ} {r : Loaded} {n : ℕ} → Loading bytes before r after → r ≡ Words n → length before ≡ maxWords → Found bytes after n
+pub found : {bytes before after : List ℕ} {r : Loaded} {n : ℕ} → Loading bytes before r after → r ≡ Words n → length before ≡ maxWords → FoundWords bytes after n
 unfolding areWords
 found {bytes} {before} {after} {r} {n} l told size = go (areWords bytes) refl
   where
-    go : (b : Bool) → areWords bytes ≡ b → Found bytes after n
+    go : (b : Bool) → areWords bytes ≡ b → FoundWords bytes after n
     go true e =
         let m : n ≡ length bytes / bytesOfWord = cc (rw e at (l .told)) in
         let w : after ≡ sets before 0 (wordsOf bytes) = rw e at (l .words) in
@@ -71,7 +71,7 @@ module _ {l m : List ℕ} {k : ℕ} where
   unfolding sheetOf
   sheet-refused bytes e p = rw e (printed (omega (arith, refusal-most Length)) p)
 
-  pub sheet-checked : {bytes words : List ℕ} {n : ℕ} → Found bytes words n → Put l 0 (checkedText (take n words)) m k → Printed sheetRoom (sheetOf bytes) l m k
+  pub sheet-checked : {bytes words : List ℕ} {n : ℕ} → FoundWords bytes words n → Put l 0 (checkedText (take n words)) m k → Printed sheetRoom (sheetOf bytes) l m k
   unfolding sheetOf
   sheet-checked f p = rw (f .are, ← f .words) (printed (checked-short _) p)
 
@@ -79,7 +79,7 @@ module _ {l m : List ℕ} {k : ℕ} where
   unfolding judgementOf
   judgement-refused bytes input e p = rw e (printed (omega (arith, refusal-most Length)) p)
 
-  pub judgement-judged : {bytes words : List ℕ} {n : ℕ} → Found bytes words n → (input : List ℕ) → Put l 0 (judgedText (take n words) input) m k
+  pub judgement-judged : {bytes words : List ℕ} {n : ℕ} → FoundWords bytes words n → (input : List ℕ) → Put l 0 (judgedText (take n words) input) m k
       → Printed judgementRoom (judgementOf bytes input) l m k
   unfolding judgementOf
   judgement-judged f input p = rw (f .are, ← f .words) (printed (judged-short _ input) p)

@@ -1,4 +1,4 @@
--- Every sheet and every judgement has room in the buffers that the programs lend. Assumes nothing.
+-- Every sheet and every judgement has room in the buffers that the programs lend.
 use mathlib.Core.Path.{_≡_, refl}
 use mathlib.Core.Bool.{Bool, true, false}
 use mathlib.Core.List.{List, [], _∷_, _++_, map, List·Memᴰ, List·Memᴰ·head, List·Memᴰ·tail}
@@ -8,9 +8,9 @@ use native.Mathlib.Omega.{arith}
 use lib.ListN.{length, getD, drop, replicate, length-append}
 use Rattle.answer.specs.declared.Error.{Error}
 use Rattle.answer.specs.declared.Answer.the-variants.{Passed, Rejected, Accepted}
-use Rattle.word.specs.Choice.{choose}
+use Rattle.booleans.specs.Choice.{choose}
 use Rattle.grammar.specs.Codes.{uncalledCode}
-use Rattle.grammar.specs.Limits.{memoEntries, tableWords as memoryWords}
+use Rattle.grammar.specs.Limits.{maxMemoEntries, maxTableWords}
 use Rattle.grammar.specs.Syntax.{Grammar}
 use Rattle.grammar.specs.Encoding.{grammarOf}
 use Rattle.grammar.specs.Reading.{reading}
@@ -42,7 +42,7 @@ use Rattle.report.specs.Report.{blankTable, blankMemo, checkedText, judg
 
 pub checked-short : (words : List ℕ) → length (checkedText words) ≤ sheetRoom
 unfolding checkedText checkText sheetText
-checked-short words = go (checkFault memoryWords words) (reading words) refl
+checked-short words = go (checkFault maxTableWords words) (reading words) refl
   where
     table : Option Error → List ℕ
     table f = lentBack f (tableWords (grammarOf words)) blankTable
@@ -104,11 +104,11 @@ module _ (words input : List ℕ) (table memo : ℕ) (e : judgeFault table memo 
   unfolding memoWords blankMemo
   memo-each =
       let front = map (memoWord G input) (allCalls G input) in
-      let behind = replicate memoEntries uncalledCode in
+      let behind = replicate maxMemoEntries uncalledCode in
       each-append front (drop (length front) behind) (each-map (memoWord G input) (allCalls G input) entry-low)
-      (each-drop (length front) behind (each-replicate memoEntries uncalledCode (omega arith)))
+      (each-drop (length front) behind (each-replicate maxMemoEntries uncalledCode (omega arith)))
 
-  calls-short : length (callsText (G .nonterminals) (length input) (lentBack none (memoWords G input) blankMemo)) ≤ memoEntries * callRoom
+  calls-short : length (callsText (G .nonterminals) (length input) (lentBack none (memoWords G input) blankMemo)) ≤ maxMemoEntries * callRoom
   calls-short =
       let k = judged-readable words input table memo e in
       let r = passed-encodes words (passed-fault words (k .0)) in
@@ -117,21 +117,21 @@ module _ (words input : List ℕ) (table memo : ℕ) (e : judgeFault table memo 
 
 pub judged-short : (words input : List ℕ) → length (judgedText words input) ≤ judgementRoom
 unfolding judgedText judgementText verdictOf
-judged-short words input = go (judgeFault memoryWords memoEntries words input) refl
+judged-short words input = go (judgeFault maxTableWords maxMemoEntries words input) refl
   where
     text : Option Error → List ℕ
     text f =
         judgementText (refusedOr f (verdictOf (grammarOf words) input)) (grammarOf words .nonterminals) (length input)
         (lentBack f (memoWords (grammarOf words) input) blankMemo)
 
-    go : (f : Option Error) → judgeFault memoryWords memoEntries words input ≡ f → length (text f) ≤ judgementRoom
+    go : (f : Option Error) → judgeFault maxTableWords maxMemoEntries words input ≡ f → length (text f) ≤ judgementRoom
     go (some x) e = omega (arith, refusal-most x)
-    go none e = verdict (accepts (grammarOf words) (tableChoice (grammarOf words) 1 input) input) (calls-short words input memoryWords memoEntries e)
+    go none e = verdict (accepts (grammarOf words) (tableChoice (grammarOf words) 1 input) input) (calls-short words input maxTableWords maxMemoEntries e)
       where
         made : List ℕ
         made = callsText (grammarOf words .nonterminals) (length input) (lentBack none (memoWords (grammarOf words) input) blankMemo)
 
-        verdict : (b : Bool) → length made ≤ memoEntries * callRoom
+        verdict : (b : Bool) → length made ≤ maxMemoEntries * callRoom
             → length (judgementText (choose b (Accepted (callsOf (grammarOf words) input)) (Rejected (callsOf (grammarOf words) input))) (grammarOf words .nonterminals)
             (length input) (lentBack none (memoWords (grammarOf words) input) blankMemo)) ≤ judgementRoom
         verdict true h = omega (arith, length-append (verdictLine "accepted " (callsOf (grammarOf words) input)) made, verdict-most "accepted " (callsOf (grammarOf words) input))

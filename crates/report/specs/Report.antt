@@ -6,11 +6,11 @@ use lib.Dec.{leb}
 use lib.ListN.{length, take, replicate}
 use Rattle.answer.specs.declared.Answer.the-variants.{Passed}
 use Rattle.answer.specs.declared.Error.the-variants.{Length}
-use Rattle.word.specs.Choice.{choose}
+use Rattle.booleans.specs.Choice.{choose}
 use Rattle.grammar.specs.Codes.{noEntry, uncalledCode}
 use Rattle.grammar.specs.declared.reading.Outcome.{Outcome}
 use Rattle.grammar.specs.declared.reading.Outcome.the-variants.{Read, Faulty}
-use Rattle.grammar.specs.Limits.{maxWords, maxTokens, memoEntries, tableWords as memoryWords}
+use Rattle.grammar.specs.Limits.{maxWords, maxTokens, maxMemoEntries, maxTableWords}
 use Rattle.grammar.specs.Encoding.{grammarOf}
 use Rattle.grammar.specs.Reading.{reading}
 use Rattle.lookahead.specs.Elements.{size}
@@ -44,15 +44,15 @@ enoughRoom = record { sheet = sheetRoom; judgement = judgementRoom }
 
 -- the memory that is lent for the table
 unfoldable pub blankTable : List ℕ
-blankTable = replicate memoryWords noEntry
+blankTable = replicate maxTableWords noEntry
 
 -- the same after checking words
 abbrev pub checkedTable : List ℕ → List ℕ
-checkedTable words = lentBack (checkFault memoryWords words) (tableWords (grammarOf words)) blankTable
+checkedTable words = lentBack (checkFault maxTableWords words) (tableWords (grammarOf words)) blankTable
 
 -- what is printed of words that are checked, by the answer and the table that checking gives
 unfoldable pub checkedText : List ℕ → List ℕ
-checkedText words = checkText (refusedOr (checkFault memoryWords words) Passed) (reading words) (checkedTable words)
+checkedText words = checkText (refusedOr (checkFault maxTableWords words) Passed) (reading words) (checkedTable words)
 
 -- the sets of a nonterminal in the sheet of a passed grammar: FIRST and FOLLOW as numbers, and the size that is printed is how many strings they have
 pub record SetsTold (words : List ℕ) (A : ℕ) : Type 0 where
@@ -71,12 +71,12 @@ pub record SheetPrinted (bytes before after : List ℕ) (n : ℕ) : Type 0 where
 
 -- the memory that is lent for the memo table
 unfoldable pub blankMemo : List ℕ
-blankMemo = replicate memoEntries uncalledCode
+blankMemo = replicate maxMemoEntries uncalledCode
 
 -- what is printed of an input that is judged by words, by the answer and the memo table that judging gives
 unfoldable pub judgedText : List ℕ → List ℕ → List ℕ
 judgedText words input =
-    let f = judgeFault memoryWords memoEntries words input in
+    let f = judgeFault maxTableWords maxMemoEntries words input in
     judgementText (refusedOr f (verdictOf (grammarOf words) input)) (grammarOf words .nonterminals) (length input)
     (lentBack f (memoWords (grammarOf words) input) blankMemo)
 

@@ -8,14 +8,14 @@ use lib.Dec.{T, leb, ltb, eqb, leb→le, le→leb, ltb→lt, lt→ltb}
 use lib.ListN.{length, getD, take}
 use Rattle.word.specs.declared.Symbol.the-variants.{Terminal, Nonterminal}
 use Rattle.grammar.specs.Syntax.{Body, Grammar, NonterminalsBelow}
-use Rattle.semantics.specs.Quantifiers.{below}
+use Rattle.booleans.specs.Quantifiers.{anyBelow}
 use Rattle.semantics.specs.Valuations.{Valuation, contains}
 use Rattle.semantics.specs.LeftRecursion.{nullable, LeftIn, here, there}
 use Rattle.semantics.specs.Strings.{span, look}
 use Rattle.semantics.specs.Families.{Family, FollowBody}
 use Rattle.semantics.specs.Descent.{Outcome, endsAt, onward, Outcomes, read, run}
-use Rattle.semantics.proofs.Booleans.{T-subst, both, and-l, and-r, and-make, and-cong, and-twist}
-use Rattle.semantics.proofs.Quantified.{below-cong, below-elim, below-make}
+use Rattle.booleans.proofs.Booleans.{T-subst, both, and-l, and-r, and-make, and-cong, and-twist}
+use Rattle.booleans.proofs.Quantified.{below-cong, below-elim, below-make}
 use Rattle.semantics.proofs.Unique.{NullSound}
 use Rattle.semantics.proofs.Strings.{look-split}
 use Rattle.semantics.proofs.FirstSound.{FirstSound, contains-first}
@@ -24,7 +24,7 @@ use Rattle.semantics.proofs.Ends.{Forward, run-forward, EmptyNull}
 
 -- to go on from where o ends is to go on from some place between
 onward-below : (o : Outcome) (f : ℕ → Outcome) (i j : ℕ) → ((m : ℕ) → T (endsAt o m) → T (endsAt (f m) j) → (i ≤ m) × (m ≤ j))
-    → endsAt (onward o f) j ≡ below (suc j) (λ m. leb i m && (endsAt o m && endsAt (f m) j))
+    → endsAt (onward o f) j ≡ anyBelow (suc j) (λ m. leb i m && (endsAt o m && endsAt (f m) j))
 onward-below o f i j h = both _ _
     (λ t.
     let s = onward-elim o f j t in

@@ -7,12 +7,12 @@ use Prim.Native.Nat.{ℕ}
 use lib.Dec.{T, ltb, ltb→lt}
 use Rattle.word.specs.declared.Symbol.the-variants.{Terminal, Nonterminal}
 use Rattle.grammar.specs.Syntax.{Body, Rule, Grammar, bodies, NonterminalsBelow, TerminalsBelow, WellScoped}
-use Rattle.semantics.specs.Quantifiers.{all}
+use Rattle.booleans.specs.Quantifiers.{allOf}
 use Rattle.semantics.specs.LeftRecursion.{lowestLeftRecursive}
 use Rattle.semantics.specs.Claims.{clashes, everyEnds}
 use Rattle.semantics.specs.Predictive.{Predictive}
-use Rattle.semantics.proofs.Booleans.{and-l, and-r}
-use Rattle.semantics.proofs.Quantified.{all-elim}
+use Rattle.booleans.proofs.Booleans.{and-l, and-r}
+use Rattle.booleans.proofs.Quantified.{all-elim}
 use Rattle.semantics.proofs.LeftRecursion.{lowestLeftRecursive-none}
 
 unfoldable pub belowTest : ℕ → Body → Bool
@@ -27,13 +27,13 @@ belowTest-sound n (Terminal a ∷ b) t = belowTest-sound n b t
 belowTest-sound n (Nonterminal A ∷ b) t = (ltb→lt A n (and-l (ltb A n) (belowTest n b) t), belowTest-sound n b (and-r (ltb A n) (belowTest n b) t))
 
 unfoldable pub scopedTest : Grammar → Bool
-scopedTest G = all (λ r. ltb (r .head) (G .nonterminals) && all (belowTest (G .nonterminals)) (bodies r)) (G .rules)
+scopedTest G = allOf (λ r. ltb (r .head) (G .nonterminals) && allOf (belowTest (G .nonterminals)) (bodies r)) (G .rules)
 
 -- a grammar that passes the test is well scoped
 pub scopedTest-sound : (G : Grammar) → T (scopedTest G) → WellScoped G
 unfolding scopedTest
 scopedTest-sound G t =
-    let at : (r : Rule) → List·Memᴰ r (G .rules) → T (ltb (r .head) (G .nonterminals) && all (belowTest (G .nonterminals)) (bodies r)) =
+    let at : (r : Rule) → List·Memᴰ r (G .rules) → T (ltb (r .head) (G .nonterminals) && allOf (belowTest (G .nonterminals)) (bodies r)) =
     all-elim _ (G .rules) t in
     record {
       heads = λ r m. ltb→lt (r .head) (G .nonterminals) (and-l (ltb (r .head) (G .nonterminals)) _ (at r m));
@@ -53,7 +53,7 @@ terminalsTest-sound n (Terminal a ∷ b) t = (ltb→lt a n (and-l (ltb a n) (ter
 terminalsTest-sound n (Nonterminal A ∷ b) t = terminalsTest-sound n b t
 
 unfoldable pub ownTest : Grammar → Bool
-ownTest G = all (λ r. all (terminalsTest (G .terminals)) (bodies r)) (G .rules)
+ownTest G = allOf (λ r. allOf (terminalsTest (G .terminals)) (bodies r)) (G .rules)
 
 -- k tokens are enough for a grammar that passes the tests
 pub predictive : (G : Grammar) (k : ℕ) → T (scopedTest G) → T (ownTest G) → T (ltb 0 (G .nonterminals))

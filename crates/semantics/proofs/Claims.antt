@@ -9,12 +9,12 @@ use native.Mathlib.Decide.{decLt}
 use native.Mathlib.Omega.{arith}
 use lib.Dec.{T, eqb, ltb, eqb→eq, eqb-refl, ltb→lt, lt→ltb}
 use Rattle.grammar.specs.Syntax.{Body, Rule, Grammar}
-use Rattle.semantics.specs.Quantifiers.{all}
+use Rattle.booleans.specs.Quantifiers.{allOf}
 use Rattle.semantics.specs.Families.{Claims, Clash, TableRight, EveryEnds}
 use Rattle.semantics.specs.FirstFollow.{strings, sameString, Entry, entries, firstSets, firstRule, First, followSets, Follow}
 use Rattle.semantics.specs.Claims.{meeting, claimed, claims, clashes, tableOf, without, everyEnds}
-use Rattle.semantics.proofs.Booleans.{and-l, and-r, and-make, or-cases}
-use Rattle.semantics.proofs.Quantified.{all-elim, all-make}
+use Rattle.booleans.proofs.Booleans.{and-l, and-r, and-make, or-cases}
+use Rattle.booleans.proofs.Quantified.{all-elim, all-make}
 use Rattle.semantics.proofs.FiniteSets.{member-mem, mem-member, keep-make, keep-elim}
 use Rattle.semantics.proofs.LookaheadSets.{strings-equality, strings-make, strings-elim, entries-make, concat-make, concat-elim, cut-lookahead}
 use Rattle.semantics.proofs.First.{In, firstBody-mono, firstRule-make, firstRule-elim, in-first, first-in}
@@ -82,14 +82,6 @@ module _ (G : Grammar) (k : ℕ) where
       keep-make _ (entries G k) (A, x) (claims-entry (c .one) A x (c .claimsOne))
       (several-make (claims G k (A, x)) (G .rules) (c .one) (c .other) (c .different) one other)
 
-  -- either no entry is claimed twice, or the first of the clashes is
-  pub clash-decided : ((A : ℕ) (x : List ℕ) → ClashAt A x → ⊥) ⊎ ((A : ℕ) × (x : List ℕ) × ClashAt A x)
-  clash-decided = go (clashes G k) refl
-    where
-      go : (l : List Entry) → clashes G k ≡ l → ((A : ℕ) (x : List ℕ) → ClashAt A x → ⊥) ⊎ ((A : ℕ) × (x : List ℕ) × ClashAt A x)
-      go [] e = inl (λ A x c. List·Memᴰ·not-nil (rw e at (clashes-make A x c)))
-      go (d ∷ l) e = inr (d .0, d .1, clashes-elim (d .0) (d .1) (rw e (List·Memᴰ·head refl)))
-
   -- no rule claims an entry that the table lacks
   pub table-none : (A : ℕ) (x : List ℕ) → (tableOf G k A x ≡ none) ↔ ((q : ℕ) → ClaimsAt q A x → ⊥)
   unfolding tableOf
@@ -132,15 +124,15 @@ module _ (G : Grammar) (k : ℕ) where
   -- the condition on rules without positive bodies is decided
   pub everyEnds-elim : T (everyEnds G k) → EveryEnds G k (Follow G k)
   unfolding everyEnds
-  everyEnds-elim t r m e = go (or-cases (not (without (r .positives))) (ltb 0 k && all (sameString []) ys) (all-elim _ (G .rules) t r m))
+  everyEnds-elim t r m e = go (or-cases (not (without (r .positives))) (ltb 0 k && allOf (sameString []) ys) (all-elim _ (G .rules) t r m))
     where
       ys : List (List ℕ)
       ys = followSets G k (r .head)
 
-      go : T (not (without (r .positives))) ⊎ T (ltb 0 k && all (sameString []) ys) → (0 < k) × ((y : List ℕ) → Follow G k (r .head) y → y ≡ [])
+      go : T (not (without (r .positives))) ⊎ T (ltb 0 k && allOf (sameString []) ys) → (0 < k) × ((y : List ℕ) → Follow G k (r .head) y → y ≡ [])
       go (inl n) = absurd (rw e at n)
       go (inr u) =
-          let only = all-elim (sameString []) ys (and-r (ltb 0 k) (all (sameString []) ys) u) in
+          let only = all-elim (sameString []) ys (and-r (ltb 0 k) (allOf (sameString []) ys) u) in
           (ltb→lt 0 k (and-l (ltb 0 k) _ u), λ y f. sym (strings-equality .equal [] y (only y (in-follow G k (r .head) y f))))
 
   pub everyEnds-make : EveryEnds G k (Follow G k) → T (everyEnds G k)
@@ -148,7 +140,7 @@ module _ (G : Grammar) (k : ℕ) where
   everyEnds-make h = all-make _ (G .rules) (λ r m. go r (r .positives) refl (h r m))
     where
       go : (r : Rule) (ps : List Body) → r .positives ≡ ps → (r .positives ≡ [] → (0 < k) × ((y : List ℕ) → Follow G k (r .head) y → y ≡ []))
-          → T (not (without ps) || (ltb 0 k && all (sameString []) (followSets G k (r .head))))
+          → T (not (without ps) || (ltb 0 k && allOf (sameString []) (followSets G k (r .head))))
       go r [] e f = and-make (ltb 0 k) _ (lt→ltb 0 k (f e .0)) (all-make (sameString []) (followSets G k (r .head)) (λ y n.
           let d : y ≡ [] = f e .1 y (follow-in G k (r .head) y n) in
           rw d (strings-equality .itself [])))

@@ -1,12 +1,13 @@
 -- The definitions that things compute by, to be named together: `unfolding tables-compute` for sets, clashes and tables, and so on.
 use mathlib.Core.List.{flatMap}
-use Rattle.semantics.specs.Quantifiers.{pick, any, all, below, lowest}
+use Rattle.booleans.specs.Quantifiers.{anyOf, allOf, anyBelow, lowest}
+use Rattle.booleans.specs.Choice.{choose}
 use Rattle.semantics.specs.FiniteSets.{member, keep, distinct, numbersFrom, numbers, combine}
 use Rattle.semantics.specs.Rounds.{round, settle, members, least}
 use Rattle.semantics.specs.LeftRecursion.{allNullable, nullStep, nullable, leftIn, leftDepends, reachStep, leftReaches, leftRecursive}
 use Rattle.semantics.specs.LeftRecursion.{lowestLeftRecursive}
 use Rattle.semantics.specs.Strings.{look}
-use Rattle.semantics.specs.FirstFollow.{strings, sameString, concat, sameEntry, entries, setsOf, firstOf, firstBody, firstRule, firstStep}
+use Rattle.semantics.specs.FirstFollow.{strings, sameString, concatStrings, sameEntry, entries, setsOf, firstOfSymbol, firstBody, firstRule, firstStep}
 use Rattle.semantics.specs.FirstFollow.{first, firstSets, behind, followStep, follow, followSets}
 use Rattle.semantics.specs.Claims.{several, position, meeting, claimed, claims, clashes, tableOf, everyEnds}
 use Rattle.semantics.specs.Descent.{read, run, agrees, confirm, conclude, obey, select, byChoice, within, descend, accepts}
@@ -14,20 +15,20 @@ use Rattle.semantics.specs.ComesTo.{when, bodyComesTo, negativesComeTo, 
 use Rattle.semantics.specs.Calls.{callsWithin, allCalls, calls, callCount, greatestPlace, farthest}
 
 unfoldable pub tables-compute : Unit {0}
-unfolding any all member keep distinct numbersFrom numbers combine round settle members least strings sameString concat sameEntry entries setsOf
-    firstOf firstBody firstRule firstStep first firstSets behind followStep follow followSets several position meeting claimed claims clashes tableOf everyEnds
+unfolding anyOf allOf member keep distinct numbersFrom numbers combine round settle members least strings sameString concatStrings sameEntry entries setsOf
+    firstOfSymbol firstBody firstRule firstStep first firstSets behind followStep follow followSets several position meeting claimed claims clashes tableOf everyEnds
 tables-compute = tt
 
 unfoldable pub left-recursion-computes : Unit {0}
-unfolding any all below lowest pick member keep numbersFrom numbers round settle members least nullable nullStep allNullable
+unfolding anyOf allOf anyBelow lowest member keep numbersFrom numbers round settle members least nullable nullStep allNullable
     leftIn leftDepends reachStep leftReaches leftRecursive lowestLeftRecursive
 left-recursion-computes = tt
 
 unfoldable pub descent-computes : Unit {0}
-unfolding any all look read run agrees confirm conclude obey select byChoice within descend accepts
+unfolding anyOf allOf look read run agrees confirm conclude obey select byChoice within descend accepts
 descent-computes = tt
 
 unfoldable pub calls-compute : Unit {0}
-unfolding any member keep numbersFrom numbers combine when bodyComesTo negativesComeTo positivesComeTo ruleComesTo selectedComesTo callComesTo flatMap callsWithin
+unfolding anyOf member keep numbersFrom numbers combine when bodyComesTo negativesComeTo positivesComeTo ruleComesTo selectedComesTo callComesTo flatMap callsWithin
     allCalls calls callCount greatestPlace farthest
 calls-compute = tt

@@ -9,13 +9,13 @@ use lib.Dec.{T, ltb, eqb, ltb→lt, eqb→eq, eqb-refl}
 use lib.ListN.{length, getD, getElem?}
 use Rattle.word.specs.declared.Symbol.the-variants.{Terminal, Nonterminal}
 use Rattle.grammar.specs.Syntax.{Body, Rule, Grammar, WellScoped}
-use Rattle.semantics.specs.Quantifiers.{all}
+use Rattle.booleans.specs.Quantifiers.{allOf}
 use Rattle.semantics.specs.Valuations.{pairs}
 use Rattle.semantics.specs.LeftRecursion.{allNullable, nullStep, nullable}
 use Rattle.semantics.specs.Choices.{Choice, OwnRules}
 use Rattle.semantics.specs.Descent.{endsAt, guard, Outcomes, read, run, agrees, obey, select, byChoice, within, descend}
-use Rattle.semantics.proofs.Booleans.{and-l, and-make}
-use Rattle.semantics.proofs.Quantified.{all-map, any-make}
+use Rattle.booleans.proofs.Booleans.{and-l, and-make}
+use Rattle.booleans.proofs.Quantified.{all-map, any-make}
 use Rattle.semantics.proofs.Nullable.{nullable-closed}
 use Rattle.semantics.proofs.Outcomes.{onward-elim, guard-elim, conclude-elim, conclude-make, nth-mem, obey-elim, select-elim}
 
@@ -84,12 +84,12 @@ module _ (G : Grammar) (choice : Choice) (w : List ℕ) (own : OwnRules G choice
     byChoice-make A i j q r e d h u = rw (e, d) (conclude-make (λ b. run c w b i) (length w) (r .positives) (r .negatives) j h u)
 
     byChoice-forward : Forward w c → Forward w (byChoice G choice w c)
-    unfolding agrees all
+    unfolding agrees allOf
     byChoice-forward f A i j iw u =
         let r = byChoice-elim A i j u in
-        go (r .0 .positives) (r .3) (and-l (all (λ b. endsAt (run c w b i) j) (r .0 .positives)) _ (r .4))
+        go (r .0 .positives) (r .3) (and-l (allOf (λ b. endsAt (run c w b i) j) (r .0 .positives)) _ (r .4))
       where
-        go : (ps : List Body) → (ps ≡ [] → length w ≡ j) → T (all (λ b. endsAt (run c w b i) j) ps) → (i ≤ j) × (j ≤ length w)
+        go : (ps : List Body) → (ps ≡ [] → length w ≡ j) → T (allOf (λ b. endsAt (run c w b i) j) ps) → (i ≤ j) × (j ≤ length w)
         go [] h a = let e : length w ≡ j = h refl in omega arith
         go (b ∷ ps) h a = run-forward w c f b i j iw (and-l (endsAt (run c w b i) j) _ a)
 
@@ -98,7 +98,7 @@ module _ (G : Grammar) (choice : Choice) (w : List ℕ) (own : OwnRules G choice
     byChoice-null scoped f h A i j iw e u =
         let r = byChoice-elim A i j u in
         let R = r .0 in
-        let a = and-l (all (λ b. endsAt (run c w b i) j) (R .positives)) _ (r .4) in
+        let a = and-l (allOf (λ b. endsAt (run c w b i) j) (R .positives)) _ (r .4) in
         let named : T (eqb (R .head) A) = rw (r .2) (eqb-refl A) in
         nullable-closed G scoped A (any-make _ (G .rules) R (r .1) (and-make (eqb (R .head) A) _ named
         (all-map (λ b. endsAt (run c w b i) j) (allNullable (nullable G)) (R .positives)

@@ -5,7 +5,7 @@ use mathlib.Core.Path.{_≡_, refl}
 use Prim.Native.Nat.{ℕ}
 use Rattle.word.specs.declared.Symbol.the-variants.{Terminal, Nonterminal}
 use Rattle.grammar.specs.Syntax.{Grammar}
-use Rattle.semantics.specs.Quantifiers.{any, all, below}
+use Rattle.booleans.specs.Quantifiers.{anyOf, allOf, anyBelow}
 use Rattle.semantics.specs.Valuations.{contains, derives, byRules, rounds, pairs, solution}
 use Rattle.semantics.specs.Choices.{tableChoice}
 use Rattle.semantics.specs.Descent.{Failed, End, descend, accepts}
@@ -66,7 +66,7 @@ unfolding tables-compute descent-computes
 ba-ends = refl
 
 ba-solution : solution grammarE (1 ∷ 0 ∷ []) 1 0 1 ≡ false
-unfolding solution rounds byRules derives contains any all below
+unfolding solution rounds byRules derives contains anyOf allOf anyBelow
 ba-solution = refl
 
 -- S → a: on aa the start ends at 1, before the input does, and aa is rejected

@@ -5,7 +5,7 @@ use mathlib.Core.Path.{_≡_, refl}
 use Prim.Native.Nat.{ℕ, zero, suc}
 use Rattle.word.specs.declared.Symbol.the-variants.{Terminal, Nonterminal}
 use Rattle.grammar.specs.Syntax.{Body}
-use Rattle.semantics.specs.Quantifiers.{pick}
+use Rattle.booleans.specs.Choice.{choose}
 use Rattle.semantics.specs.Strings.{look}
 use Rattle.semantics.specs.Families.{Table}
 use Rattle.semantics.specs.Choices.{byLookahead}
@@ -27,12 +27,12 @@ aabb : memoStart balanced (byLookahead balancedTable 1 (0 ∷ 0 ∷ 1 ∷ 1 ∷ 
     4 ∷ 65535 ∷ 65535 ∷ 65535 ∷ 65535
     ∷ 4 ∷ 3 ∷ 2 ∷ 65535 ∷ 65535 ∷ []
     )
-unfolding memoStart memoCall memoObey memoRule memoPositives memoNegatives memoRun andThen pick stored encode decode select look
+unfolding memoStart memoCall memoObey memoRule memoPositives memoNegatives memoRun andThen stored encode decode select look
 aabb = refl
 
 -- T ends at 2, and a b ends there: the rule fails
 ab : memoStart balanced (byLookahead balancedTable 1 (0 ∷ 1 ∷ [])) (0 ∷ 1 ∷ []) ≡ memoized Failed (65534 ∷ 65535 ∷ 65535 ∷ 2 ∷ 1 ∷ 65535 ∷ [])
-unfolding memoStart memoCall memoObey memoRule memoPositives memoNegatives memoRun andThen pick stored encode decode select look
+unfolding memoStart memoCall memoObey memoRule memoPositives memoNegatives memoRun andThen stored encode decode select look
 ab = refl
 
 -- results for the laws of `ruleComesTo`: 1 and 2 end at 1, 3 ends at 2, 4 fails

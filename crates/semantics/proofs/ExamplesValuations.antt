@@ -7,7 +7,7 @@ use Prim.Native.Nat.{ℕ}
 use native.Mathlib.Omega.{arith}
 use Rattle.word.specs.declared.Symbol.the-variants.{Terminal, Nonterminal}
 use Rattle.grammar.specs.Syntax.{Grammar, WellScoped}
-use Rattle.semantics.specs.Quantifiers.{any, all, below}
+use Rattle.booleans.specs.Quantifiers.{anyOf, allOf, anyBelow}
 use Rattle.semantics.specs.Valuations.{Valuation, contains, derives, byRules, rounds, Solves, solution}
 use Rattle.semantics.specs.LeftRecursion.{NoLeftRecursion, lowestLeftRecursive}
 use Rattle.semantics.proofs.LeftRecursion.{lowestLeftRecursive-none}
@@ -27,7 +27,7 @@ balanced = record {
 }
 
 pub balanced-scoped : WellScoped balanced
-unfolding scopedTest belowTest all
+unfolding scopedTest belowTest allOf
 balanced-scoped = scopedTest-sound balanced tt
 
 -- no nonterminal is found that left-reaches itself
@@ -40,11 +40,11 @@ balanced-solves = solution-solves balanced balanced-scoped balanced-free
 
 -- by four rounds, the count that matters here
 aabb : rounds balanced (0 ∷ 0 ∷ 1 ∷ 1 ∷ []) 4 (λ _ _ _. false) 0 0 4 ≡ true
-unfolding rounds byRules derives contains any all below
+unfolding rounds byRules derives contains anyOf allOf anyBelow
 aabb = refl
 
 ab : rounds balanced (0 ∷ 1 ∷ []) 4 (λ _ _ _. false) 0 0 2 ≡ false
-unfolding rounds byRules derives contains any all below
+unfolding rounds byRules derives contains anyOf allOf anyBelow
 ab = refl
 
 -- S → ¬ S: left-recursive by its negative body, and no valuation solves it
@@ -60,15 +60,15 @@ liar-flips true e = true≢false e
 liar-flips false e = false≢true e
 
 liar-none : (w : List ℕ) (v : Valuation) → Solves liar w v → ⊥
-unfolding byRules derives contains any all below
+unfolding byRules derives contains anyOf allOf anyBelow
 liar-none w v k = liar-flips (v 0 0 0) (k 0 0 0 (omega arith) (omega arith) (omega arith))
 
 aabb-whole : solution balanced (0 ∷ 0 ∷ 1 ∷ 1 ∷ []) 0 0 4 ≡ true
-unfolding solution rounds byRules derives contains any all below
+unfolding solution rounds byRules derives contains anyOf allOf anyBelow
 aabb-whole = refl
 
 ab-whole : solution balanced (0 ∷ 1 ∷ []) 0 0 2 ≡ false
-unfolding solution rounds byRules derives contains any all below
+unfolding solution rounds byRules derives contains anyOf allOf anyBelow
 ab-whole = refl
 
 -- S → T a, T → S: both left-reach themselves, and S is the lower

@@ -8,12 +8,12 @@ use lib.Dec.{T, eqb, eqb→eq, eqb-refl}
 use Rattle.word.specs.declared.Symbol.{Symbol}
 use Rattle.word.specs.declared.Symbol.the-variants.{Terminal, Nonterminal}
 use Rattle.grammar.specs.Syntax.{Body, Rule, Grammar, WellScoped}
-use Rattle.semantics.specs.Rounds.{_⊆_}
+use Rattle.semantics.specs.Rounds.{_⊆ᵇ_}
 use Rattle.semantics.specs.Strings.{Lookahead}
 use Rattle.semantics.specs.Families.{Family, Least, FirstOf, FirstBody, FirstRule, FirstClosed}
-use Rattle.semantics.specs.FirstFollow.{sameString, Entry, Sets, setsOf, firstOf, firstBody, firstRule, firstStep, first, firstSets, First}
-use Rattle.semantics.proofs.Booleans.{and-l, and-r, and-make}
-use Rattle.semantics.proofs.Quantified.{any-elim, any-make, all-elim, all-make}
+use Rattle.semantics.specs.FirstFollow.{sameString, Entry, Sets, setsOf, firstOfSymbol, firstBody, firstRule, firstStep, first, firstSets, First}
+use Rattle.booleans.proofs.Booleans.{and-l, and-r, and-make}
+use Rattle.booleans.proofs.Quantified.{any-elim, any-make, all-elim, all-make}
 use Rattle.semantics.proofs.FiniteSets.{member-mem, mem-member}
 use Rattle.semantics.proofs.LookaheadSets.{strings-equality, sets-elim, sets-mono, concat-make, concat-elim}
 use Rattle.semantics.proofs.LookaheadSets.{entry-lookahead, entry-sets, entry-kept, entry-closed}
@@ -37,13 +37,13 @@ module _ (k : ℕ) (F F′ : Family) (h : (A : ℕ) (x : List ℕ) → F A x →
 
 -- the computed sets of symbols, bodies and rules are the ones that the families ask for
 module _ (k : ℕ) (s : Sets) where
-  firstOf-make : (X : Symbol) (x : List ℕ) → FirstOf k (In s) X x → List·Memᴰ x (firstOf k s X)
-  unfolding firstOf
+  firstOf-make : (X : Symbol) (x : List ℕ) → FirstOf k (In s) X x → List·Memᴰ x (firstOfSymbol k s X)
+  unfolding firstOfSymbol
   firstOf-make (Terminal a) x f = List·Memᴰ·head f
   firstOf-make (Nonterminal A) x f = f
 
-  firstOf-elim : (X : Symbol) (x : List ℕ) → List·Memᴰ x (firstOf k s X) → FirstOf k (In s) X x
-  unfolding firstOf
+  firstOf-elim : (X : Symbol) (x : List ℕ) → List·Memᴰ x (firstOfSymbol k s X) → FirstOf k (In s) X x
+  unfolding firstOfSymbol
   firstOf-elim (Terminal a) x m = List·Memᴰ·eq-of-singleton m
   firstOf-elim (Nonterminal A) x m = m
 
@@ -51,13 +51,13 @@ module _ (k : ℕ) (s : Sets) where
   unfolding firstBody
   firstBody-make [] x f = List·Memᴰ·head f
   firstBody-make (X ∷ b) x f =
-      Memᴰ·cast (f .4) (concat-make k (firstOf k s X) (firstBody k s b) (f .0) (f .1) (firstOf-make X (f .0) (f .2)) (firstBody-make b (f .1) (f .3)))
+      Memᴰ·cast (f .4) (concat-make k (firstOfSymbol k s X) (firstBody k s b) (f .0) (f .1) (firstOf-make X (f .0) (f .2)) (firstBody-make b (f .1) (f .3)))
 
   pub firstBody-elim : (b : Body) (x : List ℕ) → List·Memᴰ x (firstBody k s b) → FirstBody k (In s) b x
   unfolding firstBody
   firstBody-elim [] x m = List·Memᴰ·eq-of-singleton m
   firstBody-elim (X ∷ b) x m =
-      let r = concat-elim k (firstOf k s X) (firstBody k s b) x m in
+      let r = concat-elim k (firstOfSymbol k s X) (firstBody k s b) x m in
       (r .0, r .1, firstOf-elim X (r .0) (r .2), firstBody-elim b (r .1) (r .3), r .4)
 
   pub firstRule-make : (r : Rule) (x : List ℕ) → FirstRule k (In s) r x → T (firstRule k s r x)
@@ -82,7 +82,7 @@ module _ (G : Grammar) (k : ℕ) where
       let named = and-l (eqb (r .0 .head) A) _ (r .2) in
       (r .0, r .1, eqb→eq (r .0 .head) A named, firstRule-elim k (setsOf G k p) (r .0) x (and-r (eqb (r .0 .head) A) _ (r .2)))
 
-  firstStep-mono : (p q : Entry → Bool) → p ⊆ q → firstStep G k p ⊆ firstStep G k q
+  firstStep-mono : (p q : Entry → Bool) → p ⊆ᵇ q → firstStep G k p ⊆ᵇ firstStep G k q
   firstStep-mono p q h e t =
       let x : List ℕ = e .1 in
       let r = firstStep-elim p (e .0) x t in

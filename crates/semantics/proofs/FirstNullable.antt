@@ -9,13 +9,13 @@ use lib.ListN.{length, take}
 use lib.Seq.{take-nil}
 use Rattle.word.specs.declared.Symbol.the-variants.{Terminal, Nonterminal}
 use Rattle.grammar.specs.Syntax.{Body, Grammar, WellScoped}
-use Rattle.semantics.specs.Quantifiers.{all}
-use Rattle.semantics.specs.Rounds.{Set}
+use Rattle.booleans.specs.Quantifiers.{allOf}
+use Rattle.semantics.specs.Rounds.{NumberSet}
 use Rattle.semantics.specs.LeftRecursion.{allNullable, nullStep, nullable}
 use Rattle.semantics.specs.Families.{Family, FirstBody}
 use Rattle.semantics.specs.FirstFollow.{setsOf, firstStep, first, First}
-use Rattle.semantics.proofs.Booleans.{and-l, and-r, and-make}
-use Rattle.semantics.proofs.Quantified.{any-elim, any-make, all-elim, all-make}
+use Rattle.booleans.proofs.Booleans.{and-l, and-r, and-make}
+use Rattle.booleans.proofs.Quantified.{any-elim, any-make, all-elim, all-make}
 use Rattle.semantics.proofs.Nullable.{nullable-least, nullable-closed}
 use Rattle.semantics.proofs.LookaheadSets.{entry-kept}
 use Rattle.semantics.proofs.First.{In, firstStep-elim, first-closed}
@@ -27,7 +27,7 @@ cut-none (suc k) [] (a ∷ y) h e = absurd (omega (arith, ap length e))
 cut-none (suc k) (a ∷ u) y h e = absurd (omega (arith, ap length e))
 
 -- a body whose set has the empty string consists of nonterminals whose sets have it, and back
-body-none : (k : ℕ) (F : Family) (s : Set) → 0 < k → ((A : ℕ) → F A [] → T (s A)) → (b : Body) → FirstBody k F b [] → T (allNullable s b)
+body-none : (k : ℕ) (F : Family) (s : NumberSet) → 0 < k → ((A : ℕ) → F A [] → T (s A)) → (b : Body) → FirstBody k F b [] → T (allNullable s b)
 unfolding allNullable
 body-none k F s h n [] f = tt
 body-none k F s h n (Terminal a ∷ b) f =
@@ -38,7 +38,7 @@ body-none k F s h n (Nonterminal A ∷ b) f =
     let e = cut-none k (f .0) (f .1) h (sym (f .4)) in
     and-make (s A) (allNullable s b) (n A (rw (e .0) at (f .2))) (body-none k F s h n b (rw (e .1) at (f .3)))
 
-none-body : (k : ℕ) (F : Family) (s : Set) → ((A : ℕ) → T (s A) → F A []) → (b : Body) → T (allNullable s b) → FirstBody k F b []
+none-body : (k : ℕ) (F : Family) (s : NumberSet) → ((A : ℕ) → T (s A) → F A []) → (b : Body) → T (allNullable s b) → FirstBody k F b []
 unfolding allNullable
 none-body k F s n [] t = refl
 none-body k F s n (Terminal a ∷ b) t = absurd t
@@ -56,7 +56,7 @@ module _ (G : Grammar) (k : ℕ) (c : WellScoped G) where
       (and-make (eqb (r .0 .head) B) _ (rw (r .2) (eqb-refl B)) (all-make (allNullable (nullable G)) (r .0 .positives) none)))) A [] t refl
 
   nullable-first : (A : ℕ) → T (nullable G A) → First G k A []
-  unfolding nullStep all
+  unfolding nullStep allOf
   nullable-first A t = nullable-least G (λ B. first G k (B, [])) (λ B u.
       let r = any-elim _ (G .rules) u in
       let R = r .0 in

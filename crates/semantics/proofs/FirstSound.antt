@@ -9,13 +9,13 @@ use lib.ListN.{length, getD, take}
 use lib.Seq.{take-nil}
 use Rattle.word.specs.declared.Symbol.the-variants.{Terminal, Nonterminal}
 use Rattle.grammar.specs.Syntax.{Body, Rule, Grammar, NonterminalsBelow, WellScoped}
-use Rattle.semantics.specs.Quantifiers.{all}
+use Rattle.booleans.specs.Quantifiers.{allOf}
 use Rattle.semantics.specs.Valuations.{Valuation, contains, derives, byRules, rounds, Solves, solution}
 use Rattle.semantics.specs.LeftRecursion.{NoLeftRecursion}
 use Rattle.semantics.specs.Strings.{span, Over}
 use Rattle.semantics.specs.Families.{Family, FirstBody, FirstRule, FirstClosed}
-use Rattle.semantics.proofs.Booleans.{T-subst, and-l, and-r}
-use Rattle.semantics.proofs.Quantified.{all-elim, any-elim, below-elim}
+use Rattle.booleans.proofs.Booleans.{T-subst, and-l, and-r}
+use Rattle.booleans.proofs.Quantified.{all-elim, any-elim, below-elim}
 use Rattle.semantics.proofs.Unique.{solution-solves, solution-unique}
 use Rattle.semantics.proofs.Strings.{take-cut, span-none, span-split, span-cons, all-span, take-short}
 
@@ -70,7 +70,7 @@ module _ (G : Grammar) (k : ℕ) (F : Family) (w : List ℕ) (v : Valuation) whe
 
   -- the string of a span that every positive body of a rule contains
   pub rule-first : WellScoped G → FirstSound → (i j : ℕ) → i ≤ j → j ≤ length w → (r : Rule) → List·Memᴰ r (G .rules)
-      → T (all (λ b. contains v w b i j) (r .positives)) → FirstRule k F r (take k (span w i j))
+      → T (allOf (λ b. contains v w b i j) (r .positives)) → FirstRule k F r (take k (span w i j))
   rule-first c h i j ij jw r m t b n =
       contains-first h b i j ij jw (c .nonterminals r m b (Memᴰ·append-left (r .negatives) n)) (all-elim (λ b. contains v w b i j) (r .positives) t b n)
 
@@ -81,7 +81,7 @@ module _ (G : Grammar) (k : ℕ) (F : Family) (w : List ℕ) (v : Valuation) whe
       let r = any-elim _ (G .rules) t in
       let R = r .0 in
       let e : R .head ≡ A = eqb→eq (R .head) A (and-l (eqb (R .head) A) _ (r .2)) in
-      let ps = and-l (all (λ b. contains v w b i j) (R .positives)) _ (and-r (eqb (R .head) A) _ (r .2)) in
+      let ps = and-l (allOf (λ b. contains v w b i j) (R .positives)) _ (and-r (eqb (R .head) A) _ (r .2)) in
       rw e at (fc R (r .1) (take k (span w i j)) (take-short k (span w i j), all-span _ k w i j ws) (rule-first c h i j ij jw R (r .1) ps))
 
 -- for every solution: the first k tokens of a span that A derives are in FIRST of A; the same for a body

@@ -9,14 +9,14 @@ use lib.Dec.{T, eqb, ltb, eqb→eq, eqb-refl, lt→ltb}
 use lib.ListN.{take}
 use Rattle.word.specs.declared.Symbol.the-variants.{Terminal, Nonterminal}
 use Rattle.grammar.specs.Syntax.{Body, Rule, Grammar, bodies, NonterminalsBelow, TerminalsBelow, WellScoped}
-use Rattle.semantics.specs.Quantifiers.{all}
-use Rattle.semantics.specs.Rounds.{_⊆_}
+use Rattle.booleans.specs.Quantifiers.{allOf}
+use Rattle.semantics.specs.Rounds.{_⊆ᵇ_}
 use Rattle.semantics.specs.Strings.{Over, Lookahead}
 use Rattle.semantics.specs.Families.{Family, Least, FirstBody, FollowBody, FollowClosed, OwnTerminals}
-use Rattle.semantics.specs.FirstFollow.{sameString, concat, Entry, sameEntry, Sets, setsOf, firstBody, firstSets, First}
+use Rattle.semantics.specs.FirstFollow.{sameString, concatStrings, Entry, sameEntry, Sets, setsOf, firstBody, firstSets, First}
 use Rattle.semantics.specs.FirstFollow.{behind, followStep, follow, followSets, Follow}
-use Rattle.semantics.proofs.Booleans.{true-T, and-make, or-cases, or-l, or-r}
-use Rattle.semantics.proofs.Quantified.{any-elim, any-make}
+use Rattle.booleans.proofs.Booleans.{true-T, and-make, or-cases, or-l, or-r}
+use Rattle.booleans.proofs.Quantified.{any-elim, any-make}
 use Rattle.semantics.proofs.FiniteSets.{member-mem, mem-member}
 use Rattle.semantics.proofs.Strings.{all-take}
 use Rattle.semantics.proofs.LookaheadSets.{strings-equality, entries-equality, sets-elim, sets-mono, concat-make, concat-elim, cut-lookahead}
@@ -26,7 +26,7 @@ use Rattle.semantics.proofs.First.{In, firstBody-mono, firstBody-make, 
 -- a string of the set of a body over n terminals is one over n terminals
 firstBody-over : (k n : ℕ) (F : Family) → ((A : ℕ) (x : List ℕ) → F A x → Over n x) → (b : Body) → TerminalsBelow n b
     → (x : List ℕ) → FirstBody k F b x → Over n x
-unfolding all
+unfolding allOf
 firstBody-over k n F h [] t x f = rw f tt
 firstBody-over k n F h (Terminal a ∷ b) t x f =
     let u : Over n (f .0) = rw (f .2) (all-take _ k (a ∷ []) (and-make (ltb a n) _ (lt→ltb a n (t .0)) tt)) in
@@ -35,11 +35,11 @@ firstBody-over k n F h (Nonterminal A ∷ b) t x f =
     rw (f .4) (cut-lookahead k n (f .0) (f .1) (h A (f .0) (f .2)) (firstBody-over k n F h b t (f .1) (f .3)) .1)
 
 module _ (k : ℕ) (s : Sets) (ys : List (List ℕ)) where
-  behind-here : (A : ℕ) (b : Body) (x : List ℕ) → List·Memᴰ x (concat k (firstBody k s b) ys) → List·Memᴰ x (behind k s A ys (Nonterminal A ∷ b))
+  behind-here : (A : ℕ) (b : Body) (x : List ℕ) → List·Memᴰ x (concatStrings k (firstBody k s b) ys) → List·Memᴰ x (behind k s A ys (Nonterminal A ∷ b))
   unfolding behind
   behind-here A b x m = go (eqb A A) (eqb-refl A)
     where
-      go : (t : Bool) → T t → List·Memᴰ x (elim t [ true ↦ concat k (firstBody k s b) ys ++ behind k s A ys b | false ↦ behind k s A ys b ])
+      go : (t : Bool) → T t → List·Memᴰ x (elim t [ true ↦ concatStrings k (firstBody k s b) ys ++ behind k s A ys b | false ↦ behind k s A ys b ])
       go true t = Memᴰ·append-left (behind k s A ys b) m
       go false t = absurd t
 
@@ -47,18 +47,18 @@ module _ (k : ℕ) (s : Sets) (ys : List (List ℕ)) where
   unfolding behind
   behind-there A B b x m = go (eqb A B)
     where
-      go : (t : Bool) → List·Memᴰ x (elim t [ true ↦ concat k (firstBody k s b) ys ++ behind k s A ys b | false ↦ behind k s A ys b ])
-      go true = Memᴰ·append-right (concat k (firstBody k s b) ys) m
+      go : (t : Bool) → List·Memᴰ x (elim t [ true ↦ concatStrings k (firstBody k s b) ys ++ behind k s A ys b | false ↦ behind k s A ys b ])
+      go true = Memᴰ·append-right (concatStrings k (firstBody k s b) ys) m
       go false = m
 
   behind-elim : (A B : ℕ) (b : Body) (x : List ℕ) → List·Memᴰ x (behind k s A ys (Nonterminal B ∷ b))
-      → ((A ≡ B) × List·Memᴰ x (concat k (firstBody k s b) ys)) ⊎ List·Memᴰ x (behind k s A ys b)
+      → ((A ≡ B) × List·Memᴰ x (concatStrings k (firstBody k s b) ys)) ⊎ List·Memᴰ x (behind k s A ys b)
   unfolding behind
   behind-elim A B b x m = go (eqb A B) refl m
     where
-      go : (t : Bool) → eqb A B ≡ t → List·Memᴰ x (elim t [ true ↦ concat k (firstBody k s b) ys ++ behind k s A ys b | false ↦ behind k s A ys b ])
-          → ((A ≡ B) × List·Memᴰ x (concat k (firstBody k s b) ys)) ⊎ List·Memᴰ x (behind k s A ys b)
-      go true e n = elim (List·Memᴰ·append-cases (concat k (firstBody k s b) ys) n) [ inl i ↦ inl (eqb→eq A B (true-T (eqb A B) e), i) | inr i ↦ inr i ]
+      go : (t : Bool) → eqb A B ≡ t → List·Memᴰ x (elim t [ true ↦ concatStrings k (firstBody k s b) ys ++ behind k s A ys b | false ↦ behind k s A ys b ])
+          → ((A ≡ B) × List·Memᴰ x (concatStrings k (firstBody k s b) ys)) ⊎ List·Memᴰ x (behind k s A ys b)
+      go true e n = elim (List·Memᴰ·append-cases (concatStrings k (firstBody k s b) ys) n) [ inl i ↦ inl (eqb→eq A B (true-T (eqb A B) e), i) | inr i ↦ inr i ]
       go false e n = inr n
 
   -- a family that holds what stands after the nonterminals of a body has what `FollowBody` asks
@@ -82,7 +82,7 @@ module _ (k : ℕ) (s : Sets) (ys : List (List ℕ)) where
   follow-behind F L h (Terminal a ∷ b) f A x m = follow-behind F L h b f A x m
   follow-behind F L h (Nonterminal B ∷ b) f A x m = go (behind-elim A B b x m) (follow-behind F L h b (λ y i. f y i .1) A x)
     where
-      go : ((A ≡ B) × List·Memᴰ x (concat k (firstBody k s b) ys)) ⊎ List·Memᴰ x (behind k s A ys b) → (List·Memᴰ x (behind k s A ys b) → L A x) → L A x
+      go : ((A ≡ B) × List·Memᴰ x (concatStrings k (firstBody k s b) ys)) ⊎ List·Memᴰ x (behind k s A ys b) → (List·Memᴰ x (behind k s A ys b) → L A x) → L A x
       go (inr i) g = g i
       go (inl i) g =
           let r = concat-elim k (firstBody k s b) ys x (i .1) in
@@ -95,7 +95,7 @@ behind-mono k s ys zs h A [] x m = m
 behind-mono k s ys zs h A (Terminal a ∷ b) x m = behind-mono k s ys zs h A b x m
 behind-mono k s ys zs h A (Nonterminal B ∷ b) x m = go (behind-elim k s ys A B b x m) (behind-mono k s ys zs h A b x)
   where
-    go : ((A ≡ B) × List·Memᴰ x (concat k (firstBody k s b) ys)) ⊎ List·Memᴰ x (behind k s A ys b)
+    go : ((A ≡ B) × List·Memᴰ x (concatStrings k (firstBody k s b) ys)) ⊎ List·Memᴰ x (behind k s A ys b)
         → (List·Memᴰ x (behind k s A ys b) → List·Memᴰ x (behind k s A zs b)) → List·Memᴰ x (behind k s A zs (Nonterminal B ∷ b))
     go (inr i) f = behind-there k s zs A B b x (f i)
     go (inl i) f =
@@ -131,7 +131,7 @@ module _ (G : Grammar) (k : ℕ) where
       or-r (sameEntry (A, x) (0, [])) _ (any-make _ (G .rules) (d .rule) (d .listed) (any-make _ (bodies (d .rule)) (d .body) (d .held)
       (mem-member sameString strings-equality _ x (d .stands))))
 
-  followStep-mono : (p q : Entry → Bool) → p ⊆ q → followStep G k p ⊆ followStep G k q
+  followStep-mono : (p q : Entry → Bool) → p ⊆ᵇ q → followStep G k p ⊆ᵇ followStep G k q
   followStep-mono p q h e t = elim (followStep-elim p (e .0) (e .1) t) [
     | inl d ↦ rw d (followStep-start q)
     | inr d ↦ followStep-make q (e .0) (e .1) (record {
@@ -163,7 +163,7 @@ module _ (G : Grammar) (k : ℕ) where
 
   module _ (c : WellScoped G) (own : OwnTerminals G) (n : 0 < G .nonterminals) where
     follow-start : Follow G k 0 []
-    unfolding follow all
+    unfolding follow allOf
     follow-start = entry-closed G k (followStep G k) followStep-mono 0 [] n (omega arith, tt) (followStep-start (follow G k))
 
     follow-follows : (r : Rule) → List·Memᴰ r (G .rules) → (b : Body) → List·Memᴰ b (bodies r) → (y : List ℕ) → Follow G k (r .head) y

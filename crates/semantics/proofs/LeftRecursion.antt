@@ -8,17 +8,17 @@ use Prim.Native.Nat.{ℕ, _<_}
 use lib.Dec.{T, T-not, not-T, eqb, eqb→eq, eqb-refl}
 use Rattle.word.specs.declared.Symbol.the-variants.{Terminal, Nonterminal}
 use Rattle.grammar.specs.Syntax.{Body, Grammar, bodies, NonterminalsBelow, WellScoped}
-use Rattle.semantics.specs.Quantifiers.{any}
+use Rattle.booleans.specs.Quantifiers.{anyOf}
 use Rattle.semantics.specs.FiniteSets.{numbers}
-use Rattle.semantics.specs.Rounds.{Set, _⊆_}
+use Rattle.semantics.specs.Rounds.{NumberSet, _⊆ᵇ_}
 use Rattle.semantics.specs.LeftRecursion.{nullable, LeftIn, here, there, LeftDepends, LeftReaches, once, more, NoLeftRecursion}
 use Rattle.semantics.specs.LeftRecursion.{leftIn, leftDepends, reachStep, leftReaches, leftRecursive, lowestLeftRecursive}
-use Rattle.semantics.proofs.Booleans.{and-l, and-r, and-make, or-cases, or-map, or-l, or-r}
-use Rattle.semantics.proofs.Quantified.{any-elim, any-make, below-elim, below-make, lowest-some, lowest-none}
+use Rattle.booleans.proofs.Booleans.{and-l, and-r, and-make, or-cases, or-map, or-l, or-r}
+use Rattle.booleans.proofs.Quantified.{any-elim, any-make, below-elim, below-make, lowest-some, lowest-none}
 use Rattle.semantics.proofs.FiniteSets.{numbers-equality, numbers-make}
 use Rattle.semantics.proofs.Rounds.{least-kept, least-closed}
 
-leftIn-sound : (s : Set) (B : ℕ) (b : Body) → T (leftIn s B b) → LeftIn s B b
+leftIn-sound : (s : NumberSet) (B : ℕ) (b : Body) → T (leftIn s B b) → LeftIn s B b
 unfolding leftIn
 leftIn-sound s B [] t = absurd t
 leftIn-sound s B (Terminal a ∷ b) t = absurd t
@@ -28,13 +28,13 @@ leftIn-sound s B (Nonterminal C ∷ b) t = go (or-cases (eqb C B) (s C && leftIn
     go (inl e) f = rw (eqb→eq C B e) here
     go (inr u) f = there (and-l (s C) (leftIn s B b) u) (f (and-r (s C) (leftIn s B b) u))
 
-leftIn-complete : (s : Set) (B : ℕ) (b : Body) → LeftIn s B b → T (leftIn s B b)
+leftIn-complete : (s : NumberSet) (B : ℕ) (b : Body) → LeftIn s B b → T (leftIn s B b)
 unfolding leftIn
 leftIn-complete s B (Nonterminal C ∷ b) here = or-l (eqb C C) (s C && leftIn s C b) (eqb-refl C)
 leftIn-complete s B (Nonterminal C ∷ b) (there u l) =
     or-r (eqb C B) (s C && leftIn s B b) (and-make (s C) (leftIn s B b) u (leftIn-complete s B b l))
 
-left-below : (n : ℕ) (s : Set) (B : ℕ) (b : Body) → NonterminalsBelow n b → LeftIn s B b → B < n
+left-below : (n : ℕ) (s : NumberSet) (B : ℕ) (b : Body) → NonterminalsBelow n b → LeftIn s B b → B < n
 left-below n s B (Nonterminal C ∷ b) k here = k .0
 left-below n s B (Nonterminal C ∷ b) k (there u l) = left-below n s B b (k .1) l
 
@@ -57,7 +57,7 @@ module _ (G : Grammar) where
   unfolding leftDepends
   leftDepends-complete A B d =
       let named : T (eqb (d .rule .head) A) = rw (d .heads) (eqb-refl A) in
-      let at : T (any (leftIn (nullable G) B) (bodies (d .rule))) =
+      let at : T (anyOf (leftIn (nullable G) B) (bodies (d .rule))) =
       any-make (leftIn (nullable G) B) (bodies (d .rule)) (d .body) (d .held) (leftIn-complete (nullable G) B (d .body) (d .left)) in
       any-make _ (G .rules) (d .rule) (d .listed) (and-make (eqb (d .rule .head) A) _ named at)
 
@@ -66,7 +66,7 @@ module _ (G : Grammar) where
   reaches-then A B C d (once e) = more (once d) e
   reaches-then A B C d (more {B = D} p e) = more (reaches-then A B D d p) e
 
-  reachStep-mono : (A : ℕ) (s s′ : Set) → s ⊆ s′ → reachStep G A s ⊆ reachStep G A s′
+  reachStep-mono : (A : ℕ) (s s′ : NumberSet) → s ⊆ᵇ s′ → reachStep G A s ⊆ᵇ reachStep G A s′
   unfolding reachStep
   reachStep-mono A s s′ h B t = or-map (leftDepends G A B) _ _ (λ u.
       let r = below-elim (G .nonterminals) _ u in
@@ -94,7 +94,7 @@ module _ (G : Grammar) where
     reacher-below A B (once d) = source-below A B d
     reacher-below A B (more {B = C} p d) = reacher-below A C p
 
-    reachStep-below : (A : ℕ) (s : Set) (B : ℕ) → T (reachStep G A s B) → B < G .nonterminals
+    reachStep-below : (A : ℕ) (s : NumberSet) (B : ℕ) → T (reachStep G A s B) → B < G .nonterminals
     unfolding reachStep
     reachStep-below A s B t = elim (or-cases (leftDepends G A B) _ t) [
       | inl u ↦ target-below A B (leftDepends-sound A B u)
@@ -103,7 +103,7 @@ module _ (G : Grammar) where
           target-below (r .0) B (leftDepends-sound (r .0) B (and-r (s (r .0)) (leftDepends G (r .0) B) (r .2)))
     ]
 
-    leftReaches-closed : (A : ℕ) → reachStep G A (leftReaches G A) ⊆ leftReaches G A
+    leftReaches-closed : (A : ℕ) → reachStep G A (leftReaches G A) ⊆ᵇ leftReaches G A
     unfolding leftReaches
     leftReaches-closed A B t =
         least-closed eqb numbers-equality (numbers (G .nonterminals)) (reachStep G A) (reachStep-mono A) B

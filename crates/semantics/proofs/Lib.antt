@@ -1,5 +1,3 @@
-pub mod Booleans
-pub mod Quantified
 pub mod FiniteSets
 pub mod Rounds
 pub mod Nullable

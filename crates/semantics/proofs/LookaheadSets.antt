@@ -9,13 +9,13 @@ use native.Mathlib.Omega.{arith}
 use lib.Dec.{T, eqb, ltb, eqb→eq, eqb-refl, ltb→lt, lt→ltb}
 use lib.ListN.{length, take}
 use Rattle.grammar.specs.Syntax.{Grammar}
-use Rattle.semantics.specs.Quantifiers.{all}
+use Rattle.booleans.specs.Quantifiers.{allOf}
 use Rattle.semantics.specs.FiniteSets.{numbers, combine}
-use Rattle.semantics.specs.Rounds.{_⊆_, least}
+use Rattle.semantics.specs.Rounds.{_⊆ᵇ_, least}
 use Rattle.semantics.specs.Strings.{Over, Lookahead}
 use Rattle.semantics.specs.Families.{Family}
-use Rattle.semantics.specs.FirstFollow.{strings, sameString, concat, Entry, sameEntry, entries, setsOf}
-use Rattle.semantics.proofs.Booleans.{and-l, and-r, and-make}
+use Rattle.semantics.specs.FirstFollow.{strings, sameString, concatStrings, Entry, sameEntry, entries, setsOf}
+use Rattle.booleans.proofs.Booleans.{and-l, and-r, and-make}
 use Rattle.semantics.proofs.Strings.{all-take, take-short}
 use Rattle.semantics.proofs.FiniteSets.{Equality, distinct-make, distinct-elim, keep-make, keep-elim, numbers-make, numbers-elim}
 use Rattle.semantics.proofs.FiniteSets.{combine-make, combine-elim}
@@ -52,16 +52,16 @@ entries-equality = record {
 
 -- the strings of at most k terminals below n
 pub strings-make : (k n : ℕ) (x : List ℕ) → Lookahead k n x → List·Memᴰ x (strings k n)
-unfolding strings all
+unfolding strings allOf
 strings-make zero n [] h = List·Memᴰ·head refl
 strings-make zero n (a ∷ x) h = absurd (omega arith)
 strings-make (suc k) n [] h = Memᴰ·append-right (combine (λ a x. a ∷ x) (numbers n) (strings k n)) (List·Memᴰ·head refl)
 strings-make (suc k) n (a ∷ x) h =
     Memᴰ·append-left ([] ∷ []) (combine-make (λ a x. a ∷ x) (numbers n) (strings k n) a x (numbers-make n a (ltb→lt a n (and-l (ltb a n) _ (h .1))))
-    (strings-make k n x (omega arith, and-r (ltb a n) (all (λ a. ltb a n) x) (h .1))))
+    (strings-make k n x (omega arith, and-r (ltb a n) (allOf (λ a. ltb a n) x) (h .1))))
 
 pub strings-elim : (k n : ℕ) (x : List ℕ) → List·Memᴰ x (strings k n) → Lookahead k n x
-unfolding strings all
+unfolding strings allOf
 strings-elim zero n x m = rw (List·Memᴰ·eq-of-singleton m) (omega arith, tt)
 strings-elim (suc k) n x m = go (List·Memᴰ·append-cases (combine (λ a y. a ∷ y) (numbers n) (strings k n)) m) (strings-elim k n)
   where
@@ -71,7 +71,7 @@ strings-elim (suc k) n x m = go (List·Memᴰ·append-cases (combine (λ a y. a 
         let r = combine-elim (λ a y. a ∷ y) (numbers n) (strings k n) x l in
         let h = f (r .1) (r .3) in
         let i : length (r .1) < suc k = omega (arith, h .0) in
-        rw (r .4) (i, and-make (ltb (r .0) n) (all (λ a. ltb a n) (r .1)) (lt→ltb (r .0) n (numbers-elim n (r .0) (r .2))) (h .1))
+        rw (r .4) (i, and-make (ltb (r .0) n) (allOf (λ a. ltb a n) (r .1)) (lt→ltb (r .0) n (numbers-elim n (r .0) (r .2))) (h .1))
     go (inr l) f = rw (List·Memᴰ·eq-of-singleton l) (omega arith, tt)
 
 module _ (G : Grammar) (k : ℕ) where
@@ -114,29 +114,29 @@ module _ (G : Grammar) (k : ℕ) (Φ : (Entry → Bool) → Entry → Bool) wher
       least-kept sameEntry entries-equality (entries G k) Φ (λ e. F (e .0) (e .1))
       (λ p h e m. kept p (λ B y i. h (B, y) (sets-elim G k p B y i .1)) (e .0) (e .1) (entries-elim G k e m .1)) (A, x)
 
-  pub entry-closed : ((p q : Entry → Bool) → p ⊆ q → Φ p ⊆ Φ q)
+  pub entry-closed : ((p q : Entry → Bool) → p ⊆ᵇ q → Φ p ⊆ᵇ Φ q)
       → (A : ℕ) (x : List ℕ) → A < G .nonterminals → Lookahead k (G .terminals) x → T (Φ built (A, x)) → T (built (A, x))
   entry-closed mono A x a l = least-closed sameEntry entries-equality (entries G k) Φ mono (A, x) (entries-make G k A x a l)
 
 -- a larger test gives larger sets
-pub sets-mono : (G : Grammar) (k : ℕ) (p q : Entry → Bool) → p ⊆ q → (A : ℕ) (x : List ℕ) → List·Memᴰ x (setsOf G k p A) → List·Memᴰ x (setsOf G k q A)
+pub sets-mono : (G : Grammar) (k : ℕ) (p q : Entry → Bool) → p ⊆ᵇ q → (A : ℕ) (x : List ℕ) → List·Memᴰ x (setsOf G k p A) → List·Memᴰ x (setsOf G k q A)
 sets-mono G k p q h A x m = let s = sets-elim G k p A x m in sets-make G k q A x (s .0) (h (A, x) (s .1))
 
 -- one string of each set, one after the other, and the first k of that
-pub concat-make : (k : ℕ) (us ys : List (List ℕ)) (u y : List ℕ) → List·Memᴰ u us → List·Memᴰ y ys → List·Memᴰ (take k (u ++ y)) (concat k us ys)
-unfolding concat
+pub concat-make : (k : ℕ) (us ys : List (List ℕ)) (u y : List ℕ) → List·Memᴰ u us → List·Memᴰ y ys → List·Memᴰ (take k (u ++ y)) (concatStrings k us ys)
+unfolding concatStrings
 concat-make k us ys u y m n = distinct-make sameString strings-equality _ _ (combine-make (λ u y. take k (u ++ y)) us ys u y m n)
 
-pub concat-elim : (k : ℕ) (us ys : List (List ℕ)) (x : List ℕ) → List·Memᴰ x (concat k us ys)
+pub concat-elim : (k : ℕ) (us ys : List (List ℕ)) (x : List ℕ) → List·Memᴰ x (concatStrings k us ys)
     → (u : List ℕ) × (y : List ℕ) × List·Memᴰ u us × List·Memᴰ y ys × (x ≡ take k (u ++ y))
-unfolding concat
+unfolding concatStrings
 concat-elim k us ys x m = combine-elim (λ u y. take k (u ++ y)) us ys x (distinct-elim sameString strings-equality _ x m)
 
 over-append : (n : ℕ) (x y : List ℕ) → Over n x → Over n y → Over n (x ++ y)
-unfolding all
+unfolding allOf
 over-append n [] y h l = l
 over-append n (a ∷ x) y h l =
-    and-make (ltb a n) (all (λ a. ltb a n) (x ++ y)) (and-l (ltb a n) _ h) (over-append n x y (and-r (ltb a n) (all (λ a. ltb a n) x) h) l)
+    and-make (ltb a n) (allOf (λ a. ltb a n) (x ++ y)) (and-l (ltb a n) _ h) (over-append n x y (and-r (ltb a n) (allOf (λ a. ltb a n) x) h) l)
 
 -- the concatenation, cut to k, of strings over n terminals is a lookahead string
 pub cut-lookahead : (k n : ℕ) (x y : List ℕ) → Over n x → Over n y → Lookahead k n (take k (x ++ y))

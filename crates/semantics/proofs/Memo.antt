@@ -16,9 +16,9 @@ use Rattle.semantics.specs.Choices.{Choice, OwnRules}
 use Rattle.semantics.specs.Descent.{descend}
 use Rattle.semantics.specs.ComesTo.{Call, callAt, measure}
 use Rattle.semantics.specs.Calls.{Called, start, more, allCalls, calls}
-use Rattle.semantics.specs.Memo.{Memo, indexOf, entry, blank, Recorded, Fits}
+use Rattle.semantics.specs.Memo.{Memo, indexOf, entry, blank, Recorded, EndsFit}
 use Rattle.semantics.specs.MemoDescent.{memoCall, memoStart}
-use Rattle.semantics.proofs.Booleans.{both, test}
+use Rattle.booleans.proofs.Booleans.{both, test}
 use Rattle.semantics.proofs.Rank.{level-top}
 use Rattle.semantics.proofs.Range.{index-range, all-range}
 use Rattle.semantics.proofs.Called.{called-test}
@@ -37,7 +37,7 @@ keep-cong p q (x ∷ l) h = go (p x) (q x) (h x (List·Memᴰ·head refl)) (keep
     go false true e r = absurd (false≢true e)
     go false false e r = r
 
-module _ (G : Grammar) (choice : Choice) (w : List ℕ) (scoped : WellScoped G) (free : NoLeftRecursion G) (own : OwnRules G choice) (fits : Fits w) where
+module _ (G : Grammar) (choice : Choice) (w : List ℕ) (scoped : WellScoped G) (free : NoLeftRecursion G) (own : OwnRules G choice) (fits : EndsFit w) where
   -- the memo table changes no outcome: from entries that hold results, a call gives its result and leaves such entries
   pub transparent : (n A i : ℕ) (m : Memo) → A < G .nonterminals → i ≤ length w → measure G w (callAt A i) < n → Sound G w (descend G choice w) (λ _. Unit {0}) m
       → (memoCall G choice w n A i m .outcome ≡ descend G choice w A i) × Sound G w (descend G choice w) (λ _. Unit {0}) (memoCall G choice w n A i m .memo)

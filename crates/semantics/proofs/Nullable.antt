@@ -5,16 +5,16 @@ use Prim.Native.Nat.{ℕ, _<_}
 use lib.Dec.{T, eqb, eqb→eq}
 use Rattle.word.specs.declared.Symbol.the-variants.{Terminal, Nonterminal}
 use Rattle.grammar.specs.Syntax.{Body, Grammar, WellScoped}
-use Rattle.semantics.specs.Quantifiers.{all}
+use Rattle.booleans.specs.Quantifiers.{allOf}
 use Rattle.semantics.specs.FiniteSets.{numbers}
-use Rattle.semantics.specs.Rounds.{Set, _⊆_}
+use Rattle.semantics.specs.Rounds.{NumberSet, _⊆ᵇ_}
 use Rattle.semantics.specs.LeftRecursion.{allNullable, nullStep, nullable}
-use Rattle.semantics.proofs.Booleans.{and-l, and-r, and-make}
-use Rattle.semantics.proofs.Quantified.{all-map, any-map, any-elim}
+use Rattle.booleans.proofs.Booleans.{and-l, and-r, and-make}
+use Rattle.booleans.proofs.Quantified.{all-map, any-map, any-elim}
 use Rattle.semantics.proofs.FiniteSets.{numbers-equality, numbers-make}
 use Rattle.semantics.proofs.Rounds.{least-least, least-closed}
 
-allNullable-mono : (s s′ : Set) → s ⊆ s′ → (b : Body) → T (allNullable s b) → T (allNullable s′ b)
+allNullable-mono : (s s′ : NumberSet) → s ⊆ᵇ s′ → (b : Body) → T (allNullable s b) → T (allNullable s′ b)
 unfolding allNullable
 allNullable-mono s s′ h [] t = tt
 allNullable-mono s s′ h (Terminal a ∷ b) t = t
@@ -22,19 +22,19 @@ allNullable-mono s s′ h (Nonterminal A ∷ b) t =
     and-make (s′ A) (allNullable s′ b) (h A (and-l (s A) (allNullable s b) t)) (allNullable-mono s s′ h b (and-r (s A) (allNullable s b) t))
 
 module _ (G : Grammar) where
-  nullStep-mono : (s s′ : Set) → s ⊆ s′ → nullStep G s ⊆ nullStep G s′
+  nullStep-mono : (s s′ : NumberSet) → s ⊆ᵇ s′ → nullStep G s ⊆ᵇ nullStep G s′
   unfolding nullStep
   nullStep-mono s s′ h A t = any-map _ _ (G .rules) (λ r m u.
-      and-make (eqb (r .head) A) (all (allNullable s′) (r .positives)) (and-l (eqb (r .head) A) _ u)
+      and-make (eqb (r .head) A) (allOf (allNullable s′) (r .positives)) (and-l (eqb (r .head) A) _ u)
       (all-map (allNullable s) (allNullable s′) (r .positives) (λ b _. allNullable-mono s s′ h b) (and-r (eqb (r .head) A) _ u))) t
 
   -- the least set: any set that is closed holds it
-  pub nullable-least : (s : Set) → nullStep G s ⊆ s → nullable G ⊆ s
+  pub nullable-least : (s : NumberSet) → nullStep G s ⊆ᵇ s → nullable G ⊆ᵇ s
   unfolding nullable
   nullable-least = least-least eqb numbers-equality (numbers (G .nonterminals)) (nullStep G) nullStep-mono
 
   module _ (c : WellScoped G) where
-    head-below : (s : Set) (A : ℕ) → T (nullStep G s A) → A < G .nonterminals
+    head-below : (s : NumberSet) (A : ℕ) → T (nullStep G s A) → A < G .nonterminals
     unfolding nullStep
     head-below s A t =
         let r = any-elim _ (G .rules) t in
@@ -42,7 +42,7 @@ module _ (G : Grammar) where
         rw e at (c .heads (r .0) (r .1))
 
     -- whatever the rules make nullable is in the set
-    pub nullable-closed : nullStep G (nullable G) ⊆ nullable G
+    pub nullable-closed : nullStep G (nullable G) ⊆ᵇ nullable G
     unfolding nullable
     nullable-closed A t =
         let m = numbers-make (G .nonterminals) A (head-below (nullable G) A t) in

@@ -9,10 +9,10 @@ use native.Mathlib.Omega.{arith}
 use lib.Dec.{T, eqb→eq, eqb-refl}
 use lib.ListN.{getElem?}
 use Rattle.grammar.specs.Syntax.{Body, Rule, Grammar, bodies}
-use Rattle.semantics.specs.Quantifiers.{any, all}
+use Rattle.booleans.specs.Quantifiers.{anyOf, allOf}
 use Rattle.semantics.specs.Descent.{Outcome, Failed, End, endsAt, onward, guard, agrees, confirm, conclude, obey, select}
-use Rattle.semantics.proofs.Booleans.{T-true, true-T, T-subst, and-l, and-r, and-make, and-assoc}
-use Rattle.semantics.proofs.Quantified.{any-cong, all-cong}
+use Rattle.booleans.proofs.Booleans.{T-true, true-T, T-subst, and-l, and-r, and-make, and-assoc}
+use Rattle.booleans.proofs.Quantified.{any-cong, all-cong}
 
 pub ends-end : (o : Outcome) (j : ℕ) → T (endsAt o j) → o ≡ End j
 ends-end Failed j t = absurd t
@@ -46,8 +46,8 @@ onward-guard true e f j = refl
 onward-guard false e f j = refl
 
 agrees-cons : (o : Body → Outcome) (b : Body) (ps ns : List Body) (j : ℕ) → agrees o (b ∷ ps) ns j ≡ (endsAt (o b) j && agrees o ps ns j)
-unfolding agrees all
-agrees-cons o b ps ns j = and-assoc (endsAt (o b) j) (all (λ b. endsAt (o b) j) ps) (not (any (λ b. endsAt (o b) j) ns))
+unfolding agrees allOf
+agrees-cons o b ps ns j = and-assoc (endsAt (o b) j) (allOf (λ b. endsAt (o b) j) ps) (not (anyOf (λ b. endsAt (o b) j) ns))
 
 pub conclude-elim : (o : Body → Outcome) (n : ℕ) (ps ns : List Body) (j : ℕ) → T (endsAt (conclude o n ps ns) j) → (ps ≡ [] → n ≡ j) × T (agrees o ps ns j)
 unfolding conclude confirm

@@ -8,9 +8,9 @@ use Prim.Native.Nat.{ℕ, zero, suc, _<_}
 use native.Mathlib.Omega.{arith}
 use lib.Dec.{T}
 use lib.ListN.{getElem?}
-use Rattle.semantics.specs.Quantifiers.{any}
+use Rattle.booleans.specs.Quantifiers.{anyOf}
 use Rattle.semantics.specs.Claims.{several, position}
-use Rattle.semantics.proofs.Booleans.{T-subst, true-T, and-l, and-r, and-make, or-cases, or-l, or-r}
+use Rattle.booleans.proofs.Booleans.{T-subst, true-T, and-l, and-r, and-make, or-cases, or-l, or-r}
 
 module _ {X : Type 0} (p : X → Bool) where
   -- the member at place q passes
@@ -20,29 +20,29 @@ module _ {X : Type 0} (p : X → Bool) where
   nowhere : (q : ℕ) → PassesAt [] q → ⊥
   nowhere q h = let z : _≡_ {A = ℕ} 0 1 = cc (h .1) in omega arith
 
-  any-at : (l : List X) → T (any p l) → (q : ℕ) × PassesAt l q
-  unfolding any
+  any-at : (l : List X) → T (anyOf p l) → (q : ℕ) × PassesAt l q
+  unfolding anyOf
   any-at [] t = absurd t
-  any-at (x ∷ l) t = go (or-cases (p x) (any p l) t) (any-at l)
+  any-at (x ∷ l) t = go (or-cases (p x) (anyOf p l) t) (any-at l)
     where
-      go : T (p x) ⊎ T (any p l) → (T (any p l) → (q : ℕ) × PassesAt l q) → (q : ℕ) × PassesAt (x ∷ l) q
+      go : T (p x) ⊎ T (anyOf p l) → (T (anyOf p l) → (q : ℕ) × PassesAt l q) → (q : ℕ) × PassesAt (x ∷ l) q
       go (inl u) f = (0, (x, refl, u))
       go (inr u) f = let r = f u in (suc (r .0), r .1)
 
-  at-any : (l : List X) (q : ℕ) → PassesAt l q → T (any p l)
-  unfolding any
+  at-any : (l : List X) (q : ℕ) → PassesAt l q → T (anyOf p l)
+  unfolding anyOf
   at-any [] q h = absurd (nowhere q h)
-  at-any (x ∷ l) zero h = let e : x ≡ h .0 = cc (h .1) in or-l (p x) (any p l) (rw e (h .2))
-  at-any (x ∷ l) (suc q) h = or-r (p x) (any p l) (at-any l q h)
+  at-any (x ∷ l) zero h = let e : x ≡ h .0 = cc (h .1) in or-l (p x) (anyOf p l) (rw e (h .2))
+  at-any (x ∷ l) (suc q) h = or-r (p x) (anyOf p l) (at-any l q h)
 
   pub several-elim : (l : List X) → T (several p l) → (q : ℕ) × (q′ : ℕ) × (q < q′) × PassesAt l q × PassesAt l q′
   unfolding several
   several-elim [] t = absurd t
-  several-elim (x ∷ l) t = go (or-cases (p x && any p l) (several p l) t) (several-elim l)
+  several-elim (x ∷ l) t = go (or-cases (p x && anyOf p l) (several p l) t) (several-elim l)
     where
-      go : T (p x && any p l) ⊎ T (several p l) → (T (several p l) → (q : ℕ) × (q′ : ℕ) × (q < q′) × PassesAt l q × PassesAt l q′)
+      go : T (p x && anyOf p l) ⊎ T (several p l) → (T (several p l) → (q : ℕ) × (q′ : ℕ) × (q < q′) × PassesAt l q × PassesAt l q′)
           → (q : ℕ) × (q′ : ℕ) × (q < q′) × PassesAt (x ∷ l) q × PassesAt (x ∷ l) q′
-      go (inl u) f = let r = any-at l (and-r (p x) (any p l) u) in (0, suc (r .0), omega arith, (x, refl, and-l (p x) (any p l) u), r .1)
+      go (inl u) f = let r = any-at l (and-r (p x) (anyOf p l) u) in (0, suc (r .0), omega arith, (x, refl, and-l (p x) (anyOf p l) u), r .1)
       go (inr u) f = let r = f u in (suc (r .0), suc (r .1), omega (arith, r .2), r .3, r .4)
 
   pub several-make : (l : List X) (q q′ : ℕ) → q < q′ → PassesAt l q → PassesAt l q′ → T (several p l)
@@ -51,8 +51,8 @@ module _ {X : Type 0} (p : X → Bool) where
   several-make (x ∷ l) q zero h a b = absurd (omega arith)
   several-make (x ∷ l) zero (suc q′) h a b =
       let e : x ≡ a .0 = cc (a .1) in
-      or-l (p x && any p l) (several p l) (and-make (p x) (any p l) (rw e (a .2)) (at-any l q′ b))
-  several-make (x ∷ l) (suc q) (suc q′) h a b = or-r (p x && any p l) (several p l) (several-make l q q′ (omega arith) a b)
+      or-l (p x && anyOf p l) (several p l) (and-make (p x) (anyOf p l) (rw e (a .2)) (at-any l q′ b))
+  several-make (x ∷ l) (suc q) (suc q′) h a b = or-r (p x && anyOf p l) (several p l) (several-make l q q′ (omega arith) a b)
 
   -- the first member that passes does, and where there is none, none does
   pub position-some : (l : List X) (q : ℕ) → position p l ≡ some q → PassesAt l q

@@ -29,8 +29,8 @@ own-guides G k p = record {
 }
 
 -- k tokens are enough for a well-formed grammar in which nothing is left-recursive and nothing clashes
-pub passed : (G : Grammar) (k : ℕ) → WellFormed G → 0 < G .nonterminals → lowestLeftRecursive G ≡ none → clashes G k ≡ [] → Predictive G k
-passed G k formed start lowest clash = record {
+pub predictive-passed : (G : Grammar) (k : ℕ) → WellFormed G → 0 < G .nonterminals → lowestLeftRecursive G ≡ none → clashes G k ≡ [] → Predictive G k
+predictive-passed G k formed start lowest clash = record {
   scoped = formed .scoped;
   terminals = formed .terminals;
   start = start;
@@ -42,6 +42,6 @@ passed G k formed start lowest clash = record {
 -- and for no other well-formed grammar
 pub passed-iff : (G : Grammar) (k : ℕ) → WellFormed G → 0 < G .nonterminals → ((lowestLeftRecursive G ≡ none) × (clashes G k ≡ [])) ↔ Predictive G k
 passed-iff G k formed start = (
-  λ h. passed G k formed start (h .0) (h .1),
+  λ h. predictive-passed G k formed start (h .0) (h .1),
   λ p. (lowestLeftRecursive-none G (p .scoped) .1 (p .unrecursive), p .clashless),
 )

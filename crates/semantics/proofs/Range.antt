@@ -15,7 +15,7 @@ use Rattle.semantics.specs.Valuations.{pairs}
 use Rattle.semantics.specs.ComesTo.{Call, callAt, InRange}
 use Rattle.semantics.specs.Calls.{sameCall, allCalls, Distinct}
 use Rattle.semantics.specs.Memo.{indexOf}
-use Rattle.semantics.proofs.Booleans.{and-l, and-r, and-make}
+use Rattle.booleans.proofs.Booleans.{and-l, and-r, and-make}
 use Rattle.semantics.proofs.FiniteSets.{Equality, numbers-make, numbers-elim, numbers-length, combine-make, combine-elim}
 use Rattle.semantics.proofs.Distinct.{distinct-numbers, distinct-combine, combine-length}
 

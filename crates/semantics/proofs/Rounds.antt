@@ -7,10 +7,10 @@ use native.Mathlib.Decide.{ℕ-discrete}
 use native.Mathlib.Omega.{arith}
 use lib.Dec.{T, eqb, eqb→eq, eqb-refl}
 use lib.ListN.{length}
-use Rattle.semantics.specs.Quantifiers.{any}
+use Rattle.booleans.specs.Quantifiers.{anyOf}
 use Rattle.semantics.specs.FiniteSets.{member, keep}
-use Rattle.semantics.specs.Rounds.{_⊆_, round, settle, members, least}
-use Rattle.semantics.proofs.Booleans.{T-subst, true-T}
+use Rattle.semantics.specs.Rounds.{_⊆ᵇ_, round, settle, members, least}
+use Rattle.booleans.proofs.Booleans.{T-subst, true-T}
 use Rattle.semantics.proofs.FiniteSets.{Equality, member-mem, mem-member, keep-make, keep-elim, keep-grows, keep-same, keep-all, keep-none}
 
 unequal : (m n : ℕ) → eqb m n ≡ false → n ≤ m → n < m
@@ -48,12 +48,12 @@ module _ {X : Type 0} (same : X → X → Bool) (eq : Equality same) (U : List X
 
   -- induction on the rounds
   pub least-kept : (P : X → Type 0) → Kept P → (x : X) → T (least same U Φ x) → P x
-  unfolding least members member any
+  unfolding least members member anyOf
   least-kept P h = settle-kept P h (length U) [] (λ x t. absurd t)
 
-  module _ (mono : (s s′ : X → Bool) → s ⊆ s′ → Φ s ⊆ Φ s′) where
+  module _ (mono : (s s′ : X → Bool) → s ⊆ᵇ s′ → Φ s ⊆ᵇ Φ s′) where
     -- contained in every set that is closed under the operator
-    pub least-least : (s : X → Bool) → Φ s ⊆ s → least same U Φ ⊆ s
+    pub least-least : (s : X → Bool) → Φ s ⊆ᵇ s → least same U Φ ⊆ᵇ s
     least-least s h = least-kept (λ x. T (s x)) (λ p k x m t. h x (mono p s k x t))
 
     -- a set that a round does not shrink, written out from the universe

@@ -7,9 +7,9 @@ use native.Mathlib.Omega.{arith}
 use lib.Dec.{T}
 use lib.ListN.{length, getD, take, drop, length-take, length-drop, take-append-drop}
 use lib.Seq.{take-take, take-nil, take-add, drop-drop, drop-cons, drop-length}
-use Rattle.semantics.specs.Quantifiers.{all}
+use Rattle.booleans.specs.Quantifiers.{allOf}
 use Rattle.semantics.specs.Strings.{span, look}
-use Rattle.semantics.proofs.Booleans.{and-l, and-r, and-make}
+use Rattle.booleans.proofs.Booleans.{and-l, and-r, and-make}
 
 -- to cut the parts to at least n does not change the first n of the whole
 pub take-cut : (n a b : ℕ) (xs ys : List ℕ) → n ≤ a → n ≤ b → take n (take a xs ++ take b ys) ≡ take n (xs ++ ys)
@@ -57,19 +57,19 @@ pub look-none : (k : ℕ) (w : List ℕ) (i : ℕ) → 0 < k → i ≤ length w 
 unfolding look
 look-none k w i h l e = omega (arith, length-take k (drop i w), length-drop i w, ap length e)
 
-pub all-take : (p : ℕ → Bool) (n : ℕ) (l : List ℕ) → T (all p l) → T (all p (take n l))
-unfolding all
+pub all-take : (p : ℕ → Bool) (n : ℕ) (l : List ℕ) → T (allOf p l) → T (allOf p (take n l))
+unfolding allOf
 all-take p zero l t = tt
 all-take p (suc n) [] t = tt
-all-take p (suc n) (x ∷ l) t = and-make (p x) (all p (take n l)) (and-l (p x) (all p l) t) (all-take p n l (and-r (p x) (all p l) t))
+all-take p (suc n) (x ∷ l) t = and-make (p x) (allOf p (take n l)) (and-l (p x) (allOf p l) t) (all-take p n l (and-r (p x) (allOf p l) t))
 
-all-drop : (p : ℕ → Bool) (n : ℕ) (l : List ℕ) → T (all p l) → T (all p (drop n l))
-unfolding all
+all-drop : (p : ℕ → Bool) (n : ℕ) (l : List ℕ) → T (allOf p l) → T (allOf p (drop n l))
+unfolding allOf
 all-drop p zero l t = t
 all-drop p (suc n) [] t = tt
-all-drop p (suc n) (x ∷ l) t = all-drop p n l (and-r (p x) (all p l) t)
+all-drop p (suc n) (x ∷ l) t = all-drop p n l (and-r (p x) (allOf p l) t)
 
-pub all-span : (p : ℕ → Bool) (k : ℕ) (w : List ℕ) (i j : ℕ) → T (all p w) → T (all p (take k (span w i j)))
+pub all-span : (p : ℕ → Bool) (k : ℕ) (w : List ℕ) (i j : ℕ) → T (allOf p w) → T (allOf p (take k (span w i j)))
 unfolding span
 all-span p k w i j t = all-take p k _ (all-take p (j - i) _ (all-drop p i w t))
 

@@ -9,12 +9,12 @@ use lib.Dec.{T, leb, ltb, eqb, leb→le, ltb→lt, eqb→eq}
 use lib.ListN.{length, getD}
 use Rattle.word.specs.declared.Symbol.the-variants.{Terminal, Nonterminal}
 use Rattle.grammar.specs.Syntax.{Body, Rule, Grammar, bodies, NonterminalsBelow, WellScoped}
-use Rattle.semantics.specs.Quantifiers.{all}
+use Rattle.booleans.specs.Quantifiers.{allOf}
 use Rattle.semantics.specs.Valuations.{Valuation, contains, derives, byRules, rounds, Solves, pairs, solution}
 use Rattle.semantics.specs.LeftRecursion.{allNullable, nullStep, nullable, LeftIn, here, there, LeftDepends, NoLeftRecursion, level}
 use Rattle.semantics.specs.Theorems.{AgreeBelow}
-use Rattle.semantics.proofs.Booleans.{and-l, and-r, and-make, and-cong}
-use Rattle.semantics.proofs.Quantified.{any-cong, all-cong, all-map, any-map, below-cong, below-elim}
+use Rattle.booleans.proofs.Booleans.{and-l, and-r, and-make, and-cong}
+use Rattle.booleans.proofs.Quantified.{any-cong, all-cong, all-map, any-map, below-cong, below-elim}
 use Rattle.semantics.proofs.Nullable.{nullable-closed}
 use Rattle.semantics.proofs.Rank.{level-shorter, level-left, level-top}
 
@@ -73,11 +73,11 @@ module _ (G : Grammar) (w : List ℕ) (v v′ : Valuation) (A i j : ℕ)
     unfolding byRules derives nullStep
     byRules-null e t = any-map _ _ (G .rules) (λ r m u.
         let named = and-l (eqb (r .head) A) _ u in
-        and-make (eqb (r .head) A) (all (allNullable (nullable G)) (r .positives)) named
+        and-make (eqb (r .head) A) (allOf (allNullable (nullable G)) (r .positives)) named
         (all-map (λ b. contains v w b i j) (allNullable (nullable G)) (r .positives) (λ b n h.
         let n′ = Memᴰ·append-left (r .negatives) n in
         contains-allNullable e b i (omega arith) ij (c .nonterminals r m b n′) (dependence r m named b n′) h)
-        (and-l (all (λ b. contains v w b i j) (r .positives)) _ (and-r (eqb (r .head) A) _ u)))) t
+        (and-l (allOf (λ b. contains v w b i j) (r .positives)) _ (and-r (eqb (r .head) A) _ u)))) t
 
 rounds-byRules : (G : Grammar) (w : List ℕ) (n : ℕ) (v : Valuation) → rounds G w n (byRules G w v) ≡ byRules G w (rounds G w n v)
 unfolding rounds

@@ -10,7 +10,7 @@ use lib.Dec.{T, eqb, eqb→eq, eqb-refl}
 use lib.ListN.{length, take}
 use Rattle.word.specs.declared.Symbol.the-variants.{Nonterminal}
 use Rattle.grammar.specs.Syntax.{Body, Rule, Grammar, bodies, NonterminalsBelow, WellScoped}
-use Rattle.semantics.specs.Quantifiers.{any, all}
+use Rattle.booleans.specs.Quantifiers.{anyOf, allOf}
 use Rattle.semantics.specs.Valuations.{Valuation, contains, derives, byRules, Solves, pairs}
 use Rattle.semantics.specs.LeftRecursion.{LeftDepends, NoLeftRecursion, level}
 use Rattle.semantics.specs.Strings.{span, look, Over}
@@ -19,8 +19,8 @@ use Rattle.semantics.specs.Predictive.{Guides}
 use Rattle.semantics.specs.Choices.{Choice, OwnRules, byLookahead}
 use Rattle.semantics.specs.Theorems.{Piece}
 use Rattle.semantics.specs.Descent.{End, endsAt, onward, Outcomes, read, run, agrees, byChoice, descend, accepts}
-use Rattle.semantics.proofs.Booleans.{T-subst, both, and-l, and-r, and-make}
-use Rattle.semantics.proofs.Quantified.{any-cong, all-cong, any-make, any-elim}
+use Rattle.booleans.proofs.Booleans.{T-subst, both, and-l, and-r, and-make}
+use Rattle.booleans.proofs.Quantified.{any-cong, all-cong, any-make, any-elim}
 use Rattle.semantics.proofs.Rank.{level-onward, level-top}
 use Rattle.semantics.proofs.Unique.{NullSound, solution-null}
 use Rattle.semantics.proofs.Strings.{look-split, look-end, look-none, all-span, take-short}
@@ -74,7 +74,7 @@ module _ {G : Grammar} {k : ℕ} {F L : Family} {t : Table} (scoped : WellScoped
 
       same : (r : Rule) → List·Memᴰ r (G .rules) → r .head ≡ B
           → agrees (λ b. run outcomes w b i) (r .positives) (r .negatives) j
-          ≡ (all (λ b. contains v w b i j) (r .positives) && not (any (λ b. contains v w b i j) (r .negatives)))
+          ≡ (allOf (λ b. contains v w b i j) (r .positives) && not (anyOf (λ b. contains v w b i j) (r .negatives)))
       same r m e =
           let ends : Body → Bool = λ b. endsAt (run outcomes w b i) j in
           let has : Body → Bool = λ b. contains v w b i j in
@@ -82,20 +82,20 @@ module _ {G : Grammar} {k : ℕ} {F L : Family} {t : Table} (scoped : WellScoped
           let q = any-cong ends has (r .negatives) (λ b n. body r m e b (Memᴰ·append-right (r .positives) n)) in
           cc
 
-      there′ : T (endsAt (byChoice G choice w outcomes B i) j) → T (any (derives v w B i j) (G .rules))
+      there′ : T (endsAt (byChoice G choice w outcomes B i) j) → T (anyOf (derives v w B i j) (G .rules))
       there′ u =
           let r = byChoice-elim G choice w own outcomes B i j u in
           let named : T (eqb (r .0 .head) B) = rw (r .2) (eqb-refl B) in
           any-make (derives v w B i j) (G .rules) (r .0) (r .1) (and-make (eqb (r .0 .head) B) _ named (T-subst (same (r .0) (r .1) (r .2)) (r .4)))
 
-      back : T (any (derives v w B i j) (G .rules)) → T (endsAt (byChoice G choice w outcomes B i) j)
+      back : T (anyOf (derives v w B i j) (G .rules)) → T (endsAt (byChoice G choice w outcomes B i) j)
       back u =
           let s = any-elim (derives v w B i j) (G .rules) u in
           let r : Rule = s .0 in
           let m : List·Memᴰ r (G .rules) = s .1 in
           let e : r .head ≡ B = eqb→eq (r .head) B (and-l (eqb (r .head) B) _ (s .2)) in
-          let x = and-r (eqb (r .head) B) (all (λ b. contains v w b i j) (r .positives) && not (any (λ b. contains v w b i j) (r .negatives))) (s .2) in
-          let p = and-l (all (λ b. contains v w b i j) (r .positives)) _ x in
+          let x = and-r (eqb (r .head) B) (allOf (λ b. contains v w b i j) (r .positives) && not (anyOf (λ b. contains v w b i j) (r .negatives))) (s .2) in
+          let p = and-l (allOf (λ b. contains v w b i j) (r .positives)) _ x in
           let q = mem-nth (G .rules) r m in
           let y′ : L (r .head) (look k w j) = rw e y in
           let f = rule-first G k F w v scoped first i j ij jw r m p in

@@ -12,15 +12,15 @@ use lib.ListN.{length, set, length-set}
 use lib.Seq.{getD-set-same, getD-set-other}
 use Rattle.grammar.specs.Codes.{failedCode, uncalledCode}
 use Rattle.grammar.specs.Syntax.{Rule, Grammar, WellScoped}
-use Rattle.semantics.specs.Quantifiers.{pick}
+use Rattle.booleans.specs.Choice.{choose}
 use Rattle.semantics.specs.Valuations.{pairs}
 use Rattle.semantics.specs.LeftRecursion.{NoLeftRecursion}
 use Rattle.semantics.specs.Choices.{Choice, OwnRules}
 use Rattle.semantics.specs.Descent.{Outcome, Failed, End, endsAt, Outcomes, select, byChoice, descend}
 use Rattle.semantics.specs.ComesTo.{Call, callAt, InRange, measure, callComesTo}
-use Rattle.semantics.specs.Memo.{Memo, encode, decode, indexOf, entry, written, Fits}
+use Rattle.semantics.specs.Memo.{Memo, encode, decode, indexOf, entry, written, EndsFit}
 use Rattle.semantics.specs.MemoDescent.{Memoized, memoized, memoObey, memoCall, stored}
-use Rattle.semantics.proofs.Booleans.{T-true, T-false, test}
+use Rattle.booleans.proofs.Booleans.{T-true, T-false, test}
 use Rattle.semantics.proofs.Plan.{Plan, Done, Ask, value, asked, through, plan, plan-value, plan-asked, plan-through}
 use Rattle.semantics.proofs.Ends.{descend-forward}
 use Rattle.semantics.proofs.Results.{descend-results}
@@ -42,11 +42,11 @@ encode-written n Failed s h = tt
 encode-written n (End j) s h = not-T (eqb j uncalledCode) (λ t. absurd (omega (arith, eqb→eq j uncalledCode t, h j (eqb-refl j))))
 
 decode-encode : (n : ℕ) (o : Outcome) → n < failedCode → ((j : ℕ) → T (endsAt o j) → j ≤ n) → decode (encode o) ≡ o
-unfolding encode decode pick
+unfolding encode decode
 decode-encode n Failed s h = refl
 decode-encode n (End j) s h = go (eqb j failedCode) (eqb→eq j failedCode)
   where
-    go : (b : Bool) → (T b → j ≡ failedCode) → pick b Failed (End j) ≡ End j
+    go : (b : Bool) → (T b → j ≡ failedCode) → choose b Failed (End j) ≡ End j
     go true f = absurd (omega (arith, f tt, h j (eqb-refl j)))
     go false f = refl
 
@@ -75,7 +75,7 @@ module _ (G : Grammar) (w : List ℕ) (m : Memo) (size : length m ≡ pairs G w)
     | no e ↦ let s = getD-set-other m (indexOf w x) (indexOf w y) v uncalledCode e in (h .0, rw s (h .1))
   ]
 
-module _ (G : Grammar) (choice : Choice) (w : List ℕ) (scoped : WellScoped G) (free : NoLeftRecursion G) (own : OwnRules G choice) (fits : Fits w) where
+module _ (G : Grammar) (choice : Choice) (w : List ℕ) (scoped : WellScoped G) (free : NoLeftRecursion G) (own : OwnRules G choice) (fits : EndsFit w) where
   abbrev pub result : Call → Outcome
   result x = descend G choice w (x .nonterminal) (x .place)
 
@@ -176,7 +176,7 @@ module _ (G : Grammar) (choice : Choice) (w : List ℕ) (scoped : WellScoped G) 
         }
 
     pub good-calls : (n : ℕ) → GoodCalls n
-    unfolding callComesTo memoCall pick byChoice
+    unfolding callComesTo memoCall byChoice
     good-calls zero x m ranged l s p = absurd (omega arith)
     good-calls (suc n) x m ranged l s p = go (test (eqb (entry w m x) uncalledCode)) (good-calls n)
       where

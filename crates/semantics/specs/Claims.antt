@@ -5,16 +5,16 @@ use mathlib.Core.Option.{Option, none, some}
 use Prim.Native.Nat.{ℕ, suc}
 use lib.Dec.{eqb, ltb}
 use Rattle.grammar.specs.Syntax.{Body, Rule, Grammar}
-use Rattle.semantics.specs.Quantifiers.{any, all}
+use Rattle.booleans.specs.Quantifiers.{anyOf, allOf}
 use Rattle.semantics.specs.FiniteSets.{member, keep}
 use Rattle.semantics.specs.Families.{Table}
-use Rattle.semantics.specs.FirstFollow.{strings, sameString, concat, Entry, entries, firstSets, firstRule, followSets}
+use Rattle.semantics.specs.FirstFollow.{strings, sameString, concatStrings, Entry, entries, firstSets, firstRule, followSets}
 
 module _ {X : Type 0} (p : X → Bool) where
   -- two members at different places pass
   unfoldable pub several : List X → Bool
   several [] = false
-  several (x ∷ l) = (p x && any p l) || several l
+  several (x ∷ l) = (p x && anyOf p l) || several l
 
   -- the place of the first member that passes
   unfoldable pub position : List X → Option ℕ
@@ -27,7 +27,7 @@ meeting G k r = keep (firstRule k (firstSets G k) r) (strings k (G .terminals))
 
 -- the strings that a rule claims for its head (document 01: a rule claims columns)
 unfoldable pub claimed : Grammar → ℕ → Rule → List (List ℕ)
-claimed G k r = concat k (meeting G k r) (followSets G k (r .head))
+claimed G k r = concatStrings k (meeting G k r) (followSets G k (r .head))
 
 unfoldable pub claims : Grammar → ℕ → Entry → Rule → Bool
 claims G k e r = eqb (r .head) (e .0) && member sameString (claimed G k r) (e .1)
@@ -51,4 +51,4 @@ without (b ∷ l) = false
 
 -- a head of a rule without positives is followed by the end alone
 unfoldable pub everyEnds : Grammar → ℕ → Bool
-everyEnds G k = all (λ r. not (without (r .positives)) || (ltb 0 k && all (sameString []) (followSets G k (r .head)))) (G .rules)
+everyEnds G k = allOf (λ r. not (without (r .positives)) || (ltb 0 k && allOf (sameString []) (followSets G k (r .head)))) (G .rules)

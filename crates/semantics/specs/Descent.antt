@@ -9,7 +9,7 @@ use lib.Dec.{ltb, eqb}
 use Rattle.word.specs.declared.Symbol.{Symbol}
 use Rattle.word.specs.declared.Symbol.the-variants.{Terminal, Nonterminal}
 use Rattle.grammar.specs.Syntax.{Body, Rule, Grammar}
-use Rattle.semantics.specs.Quantifiers.{any, all}
+use Rattle.booleans.specs.Quantifiers.{anyOf, allOf}
 use Rattle.semantics.specs.Valuations.{pairs}
 use Rattle.semantics.specs.Choices.{Choice}
 
@@ -44,7 +44,7 @@ run c w (X ∷ b) i = onward (read c w X i) (λ m. run c w b m)
 
 -- every positive body ends at e, and no negative one does
 unfoldable pub agrees : (Body → Outcome) → List Body → List Body → ℕ → Bool
-agrees o ps ns e = all (λ b. endsAt (o b) e) ps && not (any (λ b. endsAt (o b) e) ns)
+agrees o ps ns e = allOf (λ b. endsAt (o b) e) ps && not (anyOf (λ b. endsAt (o b) e) ns)
 
 unfoldable pub confirm : (Body → Outcome) → List Body → List Body → ℕ → Outcome
 confirm o ps ns e = guard (agrees o ps ns e) e

@@ -2,12 +2,12 @@
 use mathlib.Core.Bool.{Bool, true, false}
 use mathlib.Core.List.{List, [], _∷_, _++_, map}
 use Prim.Native.Nat.{ℕ, zero, suc}
-use Rattle.semantics.specs.Quantifiers.{any}
+use Rattle.booleans.specs.Quantifiers.{anyOf}
 
 module _ {X : Type 0} where
   -- a member of the list, by a test for equality
   unfoldable pub member : (X → X → Bool) → List X → X → Bool
-  member same l x = any (same x) l
+  member same l x = anyOf (same x) l
 
   -- the members of the list that pass
   unfoldable pub keep : (X → Bool) → List X → List X

@@ -7,7 +7,7 @@ use lib.ListN.{take}
 use Rattle.word.specs.declared.Symbol.{Symbol}
 use Rattle.word.specs.declared.Symbol.the-variants.{Terminal, Nonterminal}
 use Rattle.grammar.specs.Syntax.{Body, Rule, Grammar, bodies}
-use Rattle.semantics.specs.Quantifiers.{any, all}
+use Rattle.booleans.specs.Quantifiers.{anyOf, allOf}
 use Rattle.semantics.specs.FiniteSets.{member, keep, distinct, numbers, combine}
 use Rattle.semantics.specs.Rounds.{least}
 use Rattle.semantics.specs.Families.{Family}
@@ -24,8 +24,8 @@ sameString (x ∷ xs) [] = false
 sameString (x ∷ xs) (y ∷ ys) = eqb x y && sameString xs ys
 
 -- the concatenation of two sets, cut to k (document 01: stringing)
-unfoldable pub concat : ℕ → List (List ℕ) → List (List ℕ) → List (List ℕ)
-concat k us ys = distinct sameString (combine (λ u y. take k (u ++ y)) us ys)
+unfoldable pub concatStrings : ℕ → List (List ℕ) → List (List ℕ) → List (List ℕ)
+concatStrings k us ys = distinct sameString (combine (λ u y. take k (u ++ y)) us ys)
 
 -- a nonterminal and a string
 abbrev pub Entry : Type 0
@@ -45,20 +45,20 @@ Sets = ℕ → List (List ℕ)
 unfoldable pub setsOf : Grammar → ℕ → (Entry → Bool) → Sets
 setsOf G k p A = keep (λ x. p (A, x)) (strings k (G .terminals))
 
-unfoldable pub firstOf : ℕ → Sets → Symbol → List (List ℕ)
-firstOf k s (Terminal a) = take k (a ∷ []) ∷ []
-firstOf k s (Nonterminal A) = s A
+unfoldable pub firstOfSymbol : ℕ → Sets → Symbol → List (List ℕ)
+firstOfSymbol k s (Terminal a) = take k (a ∷ []) ∷ []
+firstOfSymbol k s (Nonterminal A) = s A
 
 unfoldable pub firstBody : ℕ → Sets → Body → List (List ℕ)
 firstBody k s [] = [] ∷ []
-firstBody k s (X ∷ b) = concat k (firstOf k s X) (firstBody k s b)
+firstBody k s (X ∷ b) = concatStrings k (firstOfSymbol k s X) (firstBody k s b)
 
 -- in the set of every positive body
 unfoldable pub firstRule : ℕ → Sets → Rule → List ℕ → Bool
-firstRule k s r x = all (λ b. member sameString (firstBody k s b) x) (r .positives)
+firstRule k s r x = allOf (λ b. member sameString (firstBody k s b) x) (r .positives)
 
 unfoldable pub firstStep : Grammar → ℕ → (Entry → Bool) → Entry → Bool
-firstStep G k p e = any (λ r. eqb (r .head) (e .0) && firstRule k (setsOf G k p) r (e .1)) (G .rules)
+firstStep G k p e = anyOf (λ r. eqb (r .head) (e .0) && firstRule k (setsOf G k p) r (e .1)) (G .rules)
 
 -- FIRST_k (document 01, k = 1: first sets)
 unfoldable pub first : Grammar → ℕ → Entry → Bool
@@ -71,12 +71,12 @@ firstSets G k = setsOf G k (first G k)
 unfoldable pub behind : ℕ → Sets → ℕ → List (List ℕ) → Body → List (List ℕ)
 behind k s A ys [] = []
 behind k s A ys (Terminal a ∷ b) = behind k s A ys b
-behind k s A ys (Nonterminal B ∷ b) = elim (eqb A B) [ true ↦ concat k (firstBody k s b) ys ++ behind k s A ys b | false ↦ behind k s A ys b ]
+behind k s A ys (Nonterminal B ∷ b) = elim (eqb A B) [ true ↦ concatStrings k (firstBody k s b) ys ++ behind k s A ys b | false ↦ behind k s A ys b ]
 
 -- the end follows the start, and after a nonterminal of a body, positive or negative, stands what its rest and the head's set allow
 unfoldable pub followStep : Grammar → ℕ → (Entry → Bool) → Entry → Bool
 followStep G k p e =
-    sameEntry e (0, []) || any (λ r. any (λ b. member sameString (behind k (firstSets G k) (e .0) (setsOf G k p (r .head)) b) (e .1)) (bodies r)) (G .rules)
+    sameEntry e (0, []) || anyOf (λ r. anyOf (λ b. member sameString (behind k (firstSets G k) (e .0) (setsOf G k p (r .head)) b) (e .1)) (bodies r)) (G .rules)
 
 -- FOLLOW_k (document 01, k = 1: follow sets)
 unfoldable pub follow : Grammar → ℕ → Entry → Bool

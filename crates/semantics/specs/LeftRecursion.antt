@@ -7,25 +7,25 @@ use Prim.Native.Nat.{ℕ, _+_, _*_}
 use lib.Dec.{T, eqb}
 use Rattle.word.specs.declared.Symbol.the-variants.{Terminal, Nonterminal}
 use Rattle.grammar.specs.Syntax.{Body, Rule, Grammar, bodies}
-use Rattle.semantics.specs.Quantifiers.{any, all, below, count, lowest}
+use Rattle.booleans.specs.Quantifiers.{anyOf, allOf, anyBelow, countBelow, lowest}
 use Rattle.semantics.specs.FiniteSets.{numbers}
-use Rattle.semantics.specs.Rounds.{Set, least}
+use Rattle.semantics.specs.Rounds.{NumberSet, least}
 
 -- the body consists of nonterminals of the set
-unfoldable pub allNullable : Set → Body → Bool
+unfoldable pub allNullable : NumberSet → Body → Bool
 allNullable s [] = true
 allNullable s (Terminal a ∷ b) = false
 allNullable s (Nonterminal A ∷ b) = s A && allNullable s b
 
-unfoldable pub nullStep : Grammar → Set → Set
-nullStep G s A = any (λ r. eqb (r .head) A && all (allNullable s) (r .positives)) (G .rules)
+unfoldable pub nullStep : Grammar → NumberSet → NumberSet
+nullStep G s A = anyOf (λ r. eqb (r .head) A && allOf (allNullable s) (r .positives)) (G .rules)
 
 -- (document 01: maybe-empty)
-unfoldable pub nullable : Grammar → Set
+unfoldable pub nullable : Grammar → NumberSet
 nullable G = least eqb (numbers (G .nonterminals)) (nullStep G)
 
 -- B stands in the body after nonterminals of the set alone
-pub data LeftIn (s : Set) (B : ℕ) : Body → Type 0 where
+pub data LeftIn (s : NumberSet) (B : ℕ) : Body → Type 0 where
   here : {b : Body} → LeftIn s B (Nonterminal B ∷ b)
   there : {C : ℕ} {b : Body} → T (s C) → LeftIn s B b → LeftIn s B (Nonterminal C ∷ b)
 
@@ -48,21 +48,21 @@ abbrev pub NoLeftRecursion : Grammar → Type 0
 NoLeftRecursion G = (A : ℕ) → LeftReaches G A A → ⊥
 
 -- the same as tests
-unfoldable pub leftIn : Set → ℕ → Body → Bool
+unfoldable pub leftIn : NumberSet → ℕ → Body → Bool
 leftIn s B [] = false
 leftIn s B (Terminal a ∷ b) = false
 leftIn s B (Nonterminal C ∷ b) = eqb C B || (s C && leftIn s B b)
 
-unfoldable pub leftDepends : Grammar → ℕ → Set
-leftDepends G A B = any (λ r. eqb (r .head) A && any (leftIn (nullable G) B) (bodies r)) (G .rules)
+unfoldable pub leftDepends : Grammar → ℕ → NumberSet
+leftDepends G A B = anyOf (λ r. eqb (r .head) A && anyOf (leftIn (nullable G) B) (bodies r)) (G .rules)
 
-unfoldable pub reachStep : Grammar → ℕ → Set → Set
-reachStep G A s B = leftDepends G A B || below (G .nonterminals) (λ C. s C && leftDepends G C B)
+unfoldable pub reachStep : Grammar → ℕ → NumberSet → NumberSet
+reachStep G A s B = leftDepends G A B || anyBelow (G .nonterminals) (λ C. s C && leftDepends G C B)
 
-unfoldable pub leftReaches : Grammar → ℕ → Set
+unfoldable pub leftReaches : Grammar → ℕ → NumberSet
 leftReaches G A = least eqb (numbers (G .nonterminals)) (reachStep G A)
 
-unfoldable pub leftRecursive : Grammar → Set
+unfoldable pub leftRecursive : Grammar → NumberSet
 leftRecursive G A = leftReaches G A A
 
 unfoldable pub lowestLeftRecursive : Grammar → Option ℕ
@@ -70,7 +70,7 @@ lowestLeftRecursive G = lowest (G .nonterminals) (leftRecursive G)
 
 -- how many nonterminals A left-reaches (document 01: leaning rank)
 unfoldable pub rank : Grammar → ℕ → ℕ
-rank G A = count (G .nonterminals) (leftReaches G A)
+rank G A = countBelow (G .nonterminals) (leftReaches G A)
 
 -- a length first, then the rank: the measure of a span, and of a call by the tokens left
 unfoldable pub level : Grammar → ℕ → ℕ → ℕ

@@ -1,4 +1,3 @@
-pub mod Quantifiers
 pub mod FiniteSets
 pub mod Rounds
 pub mod Valuations

@@ -7,7 +7,7 @@ use lib.ListN.{length, getD, replicate}
 use lib.Dec.{eqb}
 use Rattle.grammar.specs.Codes.{failedCode, uncalledCode}
 use Rattle.grammar.specs.Syntax.{Grammar}
-use Rattle.semantics.specs.Quantifiers.{pick}
+use Rattle.booleans.specs.Choice.{choose}
 use Rattle.semantics.specs.FiniteSets.{keep}
 use Rattle.semantics.specs.Valuations.{pairs}
 use Rattle.semantics.specs.Choices.{Choice}
@@ -16,8 +16,8 @@ use Rattle.semantics.specs.ComesTo.{Call, InRange}
 use Rattle.semantics.specs.Calls.{Called, allCalls, calls}
 
 -- every place of the input is below the two codes
-abbrev pub Fits : List ℕ → Type 0
-Fits w = length w < failedCode
+abbrev pub EndsFit : List ℕ → Type 0
+EndsFit w = length w < failedCode
 
 -- an entry for each pair of a nonterminal and a place
 abbrev pub Memo : Type 0
@@ -28,7 +28,7 @@ encode Failed = failedCode
 encode (End e) = e
 
 unfoldable pub decode : ℕ → Outcome
-decode v = pick (eqb v failedCode) Failed (End v)
+decode v = choose (eqb v failedCode) Failed (End v)
 
 -- a row for each nonterminal, with an entry for each place (document 01: name × (events + 1) + place)
 abbrev pub indexOf : List ℕ → Call → ℕ

@@ -8,7 +8,7 @@ use lib.Dec.{ltb, eqb}
 use Rattle.word.specs.declared.Symbol.the-variants.{Terminal, Nonterminal}
 use Rattle.grammar.specs.Codes.{uncalledCode}
 use Rattle.grammar.specs.Syntax.{Body, Rule, Grammar}
-use Rattle.semantics.specs.Quantifiers.{pick}
+use Rattle.booleans.specs.Choice.{choose}
 use Rattle.semantics.specs.Valuations.{pairs}
 use Rattle.semantics.specs.Choices.{Choice}
 use Rattle.semantics.specs.Descent.{Outcome, Failed, End, endsAt, select}
@@ -32,20 +32,20 @@ MemoCalls = ℕ → ℕ → Memo → Memoized
 
 unfoldable pub memoRun : MemoCalls → List ℕ → Body → ℕ → Memo → Memoized
 memoRun M w [] i m = memoized (End i) m
-memoRun M w (Terminal a ∷ b) i m = pick (ltb i (length w) && eqb (getD w i 0) a) (memoRun M w b (suc i) m) (memoized Failed m)
+memoRun M w (Terminal a ∷ b) i m = choose (ltb i (length w) && eqb (getD w i 0) a) (memoRun M w b (suc i) m) (memoized Failed m)
 memoRun M w (Nonterminal A ∷ b) i m = andThen (M A i m .outcome) (M A i m .memo) (λ j m′. memoRun M w b j m′)
 
 unfoldable pub memoNegatives : MemoCalls → List ℕ → ℕ → ℕ → List Body → Memo → Memoized
 memoNegatives M w i e [] m = memoized (End e) m
 memoNegatives M w i e (b ∷ ns) m =
     let r = memoRun M w b i m in
-    pick (endsAt (r .outcome) e) (memoized Failed (r .memo)) (memoNegatives M w i e ns (r .memo))
+    choose (endsAt (r .outcome) e) (memoized Failed (r .memo)) (memoNegatives M w i e ns (r .memo))
 
 unfoldable pub memoPositives : MemoCalls → List ℕ → ℕ → ℕ → List Body → List Body → Memo → Memoized
 memoPositives M w i e [] ns m = memoNegatives M w i e ns m
 memoPositives M w i e (b ∷ ps) ns m =
     let r = memoRun M w b i m in
-    pick (endsAt (r .outcome) e) (memoPositives M w i e ps ns (r .memo)) (memoized Failed (r .memo))
+    choose (endsAt (r .outcome) e) (memoPositives M w i e ps ns (r .memo)) (memoized Failed (r .memo))
 
 unfoldable pub memoRule : MemoCalls → List ℕ → ℕ → List Body → List Body → ℕ → Memo → Memoized
 memoRule M w n [] ns i m = memoNegatives M w i n ns m
@@ -64,7 +64,7 @@ stored x r = memoized (r .outcome) (set (r .memo) x (encode (r .outcome)))
 unfoldable pub memoCall : Grammar → Choice → List ℕ → ℕ → MemoCalls
 memoCall G choice w zero A i m = memoized Failed m
 memoCall G choice w (suc n) A i m =
-    pick (eqb (entry w m (callAt A i)) uncalledCode)
+    choose (eqb (entry w m (callAt A i)) uncalledCode)
     (stored (indexOf w (callAt A i)) (memoObey (memoCall G choice w n) w (select G (choice A i)) i m))
     (memoized (decode (entry w m (callAt A i))) m)
 

@@ -6,13 +6,13 @@ use lib.Dec.{T, eqb}
 use lib.ListN.{length}
 use Rattle.semantics.specs.FiniteSets.{member, keep}
 
-abbrev pub Set : Type 0
-Set = ℕ → Bool
+abbrev pub NumberSet : Type 0
+NumberSet = ℕ → Bool
 
-abbrev pub _⊆_ : {X : Type 0} → (X → Bool) → (X → Bool) → Type 0
-_⊆_ {X} s s′ = (x : X) → T (s x) → T (s′ x)
+abbrev pub _⊆ᵇ_ : {X : Type 0} → (X → Bool) → (X → Bool) → Type 0
+_⊆ᵇ_ {X} s s′ = (x : X) → T (s x) → T (s′ x)
 
-infix 40 _⊆_
+infix 40 _⊆ᵇ_
 module _ {X : Type 0} (same : X → X → Bool) (universe : List X) (Φ : (X → Bool) → X → Bool) where
   -- those of the universe that the operator gives from the set s
   unfoldable pub round : List X → List X

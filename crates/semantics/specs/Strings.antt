@@ -3,7 +3,7 @@ use mathlib.Core.List.{List}
 use Prim.Native.Nat.{ℕ, _-_, _≤_}
 use lib.ListN.{length, take, drop}
 use lib.Dec.{T, ltb}
-use Rattle.semantics.specs.Quantifiers.{all}
+use Rattle.booleans.specs.Quantifiers.{allOf}
 
 -- from i to j (document 01: the events of a stretch)
 unfoldable pub span : List ℕ → ℕ → ℕ → List ℕ
@@ -15,7 +15,7 @@ look k w i = take k (drop i w)
 
 -- a string over n terminals
 abbrev pub Over : ℕ → List ℕ → Type 0
-Over n x = T (all (λ a. ltb a n) x)
+Over n x = T (allOf (λ a. ltb a n) x)
 
 -- one of at most k terminals; the empty one stands for the end (document 01, k = 1: a letter or "nothing")
 abbrev pub Lookahead : ℕ → ℕ → List ℕ → Type 0

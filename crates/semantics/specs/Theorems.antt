@@ -11,7 +11,7 @@ use Rattle.word.specs.declared.Symbol.{Symbol}
 use Rattle.word.specs.declared.Symbol.the-variants.{Nonterminal}
 use Rattle.grammar.specs.Syntax.{Body, Rule, Grammar, bodies, NonterminalsBelow, WellScoped, WellFormed}
 use Rattle.semantics.specs.FiniteSets.{numbers}
-use Rattle.semantics.specs.Rounds.{Set, _⊆_}
+use Rattle.semantics.specs.Rounds.{NumberSet, _⊆ᵇ_}
 use Rattle.semantics.specs.Valuations.{Valuation, contains, byRules, Solves, solution}
 use Rattle.semantics.specs.LeftRecursion.{nullStep, nullable, LeftDepends, LeftReaches, NoLeftRecursion, leftRecursive, lowestLeftRecursive, rank, level}
 use Rattle.semantics.specs.Strings.{span, look, Over, Lookahead}
@@ -23,7 +23,7 @@ use Rattle.semantics.specs.Choices.{Choice, OwnRules, tableChoice}
 use Rattle.semantics.specs.Descent.{End, Outcomes, run, Results, descend, accepts}
 use Rattle.semantics.specs.ComesTo.{Call, InRange, callComesTo}
 use Rattle.semantics.specs.Calls.{Called, Listing, allCalls, calls, callCount, farthest}
-use Rattle.semantics.specs.Memo.{indexOf, Recorded, Fits}
+use Rattle.semantics.specs.Memo.{indexOf, Recorded, EndsFit}
 use Rattle.semantics.specs.MemoDescent.{memoStart}
 use Rattle.semantics.specs.Predictive.{Predictive}
 
@@ -48,8 +48,8 @@ pub record LeftRecursionDecided (G : Grammar) : Type 0 where
 
 -- 3. The sets as computed are least; clashes and the table are as the rules claim
 pub record LeastSets (G : Grammar) (k : ℕ) : Type 1 where
-  pub nullable-closed : nullStep G (nullable G) ⊆ nullable G
-  pub nullable-least : (s : Set) → nullStep G s ⊆ s → nullable G ⊆ s
+  pub nullable-closed : nullStep G (nullable G) ⊆ᵇ nullable G
+  pub nullable-least : (s : NumberSet) → nullStep G s ⊆ᵇ s → nullable G ⊆ᵇ s
   pub first : Least (FirstClosed G k) (First G k)
   pub follow : Least (FollowClosed G k (First G k)) (Follow G k)
   pub first-lookahead : (A : ℕ) (x : List ℕ) → First G k A x → (A < G .nonterminals) × Lookahead k (G .terminals) x
@@ -99,8 +99,8 @@ pub record LocalVerdict (G : Grammar) (k : ℕ) (w : List ℕ) (v : Valuation) :
       → (m : ℕ) × Piece k (Follow G k) w v (descend G (tableChoice G k w) w) A b i m j
 
 -- 6. The verdict for a solution v
-abbrev pub Verdict : Grammar → ℕ → List ℕ → Valuation → Type 0
-Verdict G k w v = accepts G (tableChoice G k w) w ≡ v 0 0 (length w)
+abbrev pub VerdictByMeaning : Grammar → ℕ → List ℕ → Valuation → Type 0
+VerdictByMeaning G k w v = accepts G (tableChoice G k w) w ≡ v 0 0 (length w)
 
 -- 7. The descent ends: its outcomes are what the rules give and the only such ones; from each call to those it makes the tokens left fall, or else
 -- the rank does
@@ -136,12 +136,12 @@ pub record Theorems : Type 1 where
   pub sound-first : (G : Grammar) → WellScoped G → NoLeftRecursion G → (k : ℕ) (w : List ℕ) → Over (G .terminals) w
       → (v : Valuation) → Solves G w v → SoundFirst G k w v
   pub local-verdict : (G : Grammar) (k : ℕ) → Predictive G k → (w : List ℕ) → Over (G .terminals) w → (v : Valuation) → Solves G w v → LocalVerdict G k w v
-  pub verdict : (G : Grammar) (k : ℕ) → Predictive G k → (w : List ℕ) → Over (G .terminals) w → (v : Valuation) → Solves G w v → Verdict G k w v
+  pub verdict : (G : Grammar) (k : ℕ) → Predictive G k → (w : List ℕ) → Over (G .terminals) w → (v : Valuation) → Solves G w v → VerdictByMeaning G k w v
   pub descent-ends : (G : Grammar) → WellScoped G → NoLeftRecursion G → (choice : Choice) → OwnRules G choice → (w : List ℕ) → DescentEnds G choice w
   pub calls-counted : (G : Grammar) → WellScoped G → NoLeftRecursion G → 0 < G .nonterminals
       → (choice : Choice) → OwnRules G choice → (w : List ℕ) → CallsCounted G choice w
   pub memo-right : (G : Grammar) → WellScoped G → NoLeftRecursion G → 0 < G .nonterminals
-      → (choice : Choice) → OwnRules G choice → (w : List ℕ) → Fits w → MemoRight G choice w
+      → (choice : Choice) → OwnRules G choice → (w : List ℕ) → EndsFit w → MemoRight G choice w
   -- the needs of 5 to 9 are met: the table's choice is of own rules, and of the well-formed grammars just those that pass are predictive
   pub own-rules : (G : Grammar) (k : ℕ) (w : List ℕ) → OwnRules G (tableChoice G k w)
   pub passed : (G : Grammar) (k : ℕ) → WellFormed G → 0 < G .nonterminals → ((lowestLeftRecursive G ≡ none) × (clashes G k ≡ [])) ↔ Predictive G k

@@ -7,7 +7,7 @@ use lib.ListN.{length, getD}
 use lib.Dec.{leb, ltb, eqb}
 use Rattle.word.specs.declared.Symbol.the-variants.{Terminal, Nonterminal}
 use Rattle.grammar.specs.Syntax.{Body, Rule, Grammar}
-use Rattle.semantics.specs.Quantifiers.{any, all, below}
+use Rattle.booleans.specs.Quantifiers.{anyOf, allOf, anyBelow}
 
 -- yes or no for a nonterminal and a span from i to j (document 01: a way)
 abbrev pub Valuation : Type 0
@@ -17,16 +17,16 @@ Valuation = ℕ → ℕ → ℕ → Bool
 unfoldable pub contains : Valuation → List ℕ → Body → ℕ → ℕ → Bool
 contains v w [] i j = eqb i j
 contains v w (Terminal a ∷ b) i j = ltb i j && (eqb (getD w i 0) a && contains v w b (suc i) j)
-contains v w (Nonterminal A ∷ b) i j = below (suc j) (λ m. leb i m && (v A i m && contains v w b m j))
+contains v w (Nonterminal A ∷ b) i j = anyBelow (suc j) (λ m. leb i m && (v A i m && contains v w b m j))
 
 -- a rule of A whose positive bodies all contain the span, and whose negative ones do not
 unfoldable pub derives : Valuation → List ℕ → ℕ → ℕ → ℕ → Rule → Bool
 derives v w A i j r =
-    eqb (r .head) A && (all (λ b. contains v w b i j) (r .positives) && not (any (λ b. contains v w b i j) (r .negatives)))
+    eqb (r .head) A && (allOf (λ b. contains v w b i j) (r .positives) && not (anyOf (λ b. contains v w b i j) (r .negatives)))
 
 -- what the rules answer where bodies are read by v
 unfoldable pub byRules : Grammar → List ℕ → Valuation → Valuation
-byRules G w v A i j = any (derives v w A i j) (G .rules)
+byRules G w v A i j = anyOf (derives v w A i j) (G .rules)
 
 unfoldable pub rounds : Grammar → List ℕ → ℕ → Valuation → Valuation
 rounds G w zero v = v

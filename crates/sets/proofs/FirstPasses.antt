@@ -1,4 +1,4 @@
--- What the positives of a rule can all begin with, by its words from their end, and the more the larger the family. Assumes nothing.
+-- What the positives of a rule can all begin with, by its words from their end, and the more the larger the family.
 use mathlib.Core.Path.{_≡_, refl, ap, _∙_}
 use mathlib.Core.List.{List, [], _∷_}
 use Prim.Native.Nat.{ℕ, suc, _+_, _-_, _≤_, _<_}
@@ -25,7 +25,7 @@ use Rattle.sets.specs.declared.first.Rest.{Rest}
 use Rattle.sets.specs.Least.{SetFamily, Under}
 use Rattle.sets.specs.First.{symbolFirst, bodyFirst, ruleFirst, sets, restOf, noRest, withWord, closedMeet, insideWord}
 use Rattle.sets.specs.Rules.{ruleFrom, Inside, RuleWords}
-use Rattle.sets.proofs.Visits.{Larger}
+use Rattle.sets.proofs.HeadPasses.{Larger}
 use Rattle.sets.proofs.Inner.{word-inside}
 
 -- larger families give larger first sets

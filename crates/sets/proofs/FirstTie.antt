@@ -1,4 +1,4 @@
--- The least family of sets that the rules close is FIRST_1 of the grammar, in numbers. Assumes nothing.
+-- The least family of sets that the rules close is FIRST_1 of the grammar, in numbers.
 use mathlib.Core.Path.{_≡_, refl}
 use mathlib.Core.List.{List, [], _∷_, List·Memᴰ, List·Memᴰ·head, List·Memᴰ·tail, Memᴰ·append-left}
 use Prim.Native.Nat.{ℕ, _≤_}
@@ -16,17 +16,17 @@ use Rattle.grammar.proofs.Places.{read-whole}
 use Rattle.grammar.proofs.WellFormed.{none-in, more-in}
 use Rattle.grammar.proofs.WellRead.{well-read}
 use Rattle.semantics.specs.Strings.{Lookahead}
-use Rattle.semantics.specs.Families.{FirstBody, FirstRule, FirstClosed as FirstClosedStrings}
+use Rattle.semantics.specs.Families.{FirstBody, FirstRule, FirstNumbersClosed as FirstClosedStrings}
 use Rattle.semantics.specs.FirstFollow.{first, First}
 use Rattle.semantics.proofs.First.{firstBody-mono, first-lookahead, first-closed, first-smallest}
 use Rattle.lookahead.specs.Elements.{nothing, has}
 use Rattle.lookahead.specs.Operations.{full}
 use Rattle.lookahead.proofs.Operations.{has-meet}
 use Rattle.lookahead.proofs.Order.{meet-left, meet-right}
-use Rattle.sets.specs.Least.{SetFamily, at, Least}
+use Rattle.sets.specs.Least.{SetFamily, at, LeastNumbers}
 use Rattle.sets.specs.Lists.{listed}
 use Rattle.sets.specs.Sets.{stringOf, firstNumber}
-use Rattle.sets.specs.First.{bodyFirst, ruleFirst, FirstClosed}
+use Rattle.sets.specs.First.{bodyFirst, ruleFirst, FirstNumbersClosed}
 use Rattle.sets.proofs.Lists.{listed-is}
 use Rattle.sets.proofs.Strings.{elementOf, lookahead-string, lookahead-full, full-has, StringIn, stringsOf, string-in, in-element, body-in, in-body}
 use Rattle.sets.proofs.Numbers.{number-string, string-number, in-number, least-numbers}
@@ -69,7 +69,7 @@ module _ (G : Grammar) (formed : WellFormed G) (few : G .terminals ≤ nothing) 
       below b n = formed .terminals r m b (Memᴰ·append-left (r .negatives) n)
 
   -- so a closed family of numbers is one of strings, which FIRST_1 is contained in
-  strings-closed : (F : SetFamily) → FirstClosed (G .terminals) (G .rules) F → FirstClosedStrings G 1 (stringsOf F)
+  strings-closed : (F : SetFamily) → FirstNumbersClosed (G .terminals) (G .rules) F → FirstClosedStrings G 1 (stringsOf F)
   strings-closed F c r m x l f = let i = rule-in F r m x l f in (i .0, c r m (i .0) (i .1), i .2)
 
   -- the set of a body under the numbers of FIRST_1 holds the strings that the body can begin with
@@ -101,26 +101,26 @@ module _ (G : Grammar) (formed : WellFormed G) (few : G .terminals ≤ nothing) 
       (λ b n. firstBody-mono 1 (First G 1) (stringsOf (firstNumber G)) (in-number G few (first G 1) (first-lookahead G 1)) b x (f b n))
 
   -- so these numbers are a closed family
-  numbers-closed : FirstClosed (G .terminals) (G .rules) (firstNumber G)
+  numbers-closed : FirstNumbersClosed (G .terminals) (G .rules) (firstNumber G)
   unfolding firstNumber
   numbers-closed r m l s =
       let i = rule-begins r l s in
       string-number G few (first G 1) (first-lookahead G 1) (r .head) l (first-closed G 1 (formed .scoped) r m (stringOf l) (i .0) (i .1))
 
   -- the least closed array of a well-formed grammar holds its FIRST_1
-  pub first-numbers : (l : List ℕ) → Least (FirstClosed (G .terminals) (G .rules)) l → (A : ℕ) → at l A ≡ firstNumber G A
+  pub first-numbers : (l : List ℕ) → LeastNumbers (FirstNumbersClosed (G .terminals) (G .rules)) l → (A : ℕ) → at l A ≡ firstNumber G A
   unfolding firstNumber
   first-numbers l least =
-      least-numbers G few (first G 1) (first-lookahead G 1) (FirstClosed (G .terminals) (G .rules)) numbers-closed l least
+      least-numbers G few (first G 1) (first-lookahead G 1) (FirstNumbersClosed (G .terminals) (G .rules)) numbers-closed l least
       (first-smallest G 1 (stringsOf (at l)) (strings-closed (at l) (least .closed)))
 
 -- the sets of all terminals and nothing are a closed family, which bounds the others
-pub full-closed : (t : ℕ) (rs : List Rule) → FirstClosed t rs (λ A. full t)
+pub full-closed : (t : ℕ) (rs : List Rule) → FirstNumbersClosed t rs (λ A. full t)
 full-closed t rs r m l s = has-full-rule t (λ A. full t) l (r .positives) s
 
 -- and so for the words of a grammar that has been read
 pub first-listed : (words : List ℕ) (z : Sizes) → reading words ≡ Read z → (l : List ℕ) → length l ≡ maxNonterminals
-    → Least (FirstClosed (z .terminals) (parse words .rules)) l → l ≡ listed maxNonterminals (firstNumber (grammarOf words))
+    → LeastNumbers (FirstNumbersClosed (z .terminals) (parse words .rules)) l → l ≡ listed maxNonterminals (firstNumber (grammarOf words))
 first-listed words z e l n least =
     let k = well-read words z e in
     listed-is maxNonterminals (firstNumber (grammarOf words)) l n

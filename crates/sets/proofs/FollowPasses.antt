@@ -1,4 +1,4 @@
--- The bodies of a rule, by its words from their end, join into the nonterminals' sets what comes behind them. Assumes nothing.
+-- The bodies of a rule, by its words from their end, join into the nonterminals' sets what comes behind them.
 use mathlib.Core.Path.{_≡_, refl, sym, ap, _∙_}
 use mathlib.Core.Bool.{Bool, true, false, true≢false, _||_}
 use mathlib.Core.List.{List, [], _∷_, List·Memᴰ, List·Memᴰ·head, List·Memᴰ·tail}
@@ -26,26 +26,26 @@ use Rattle.grammar.proofs.WellFormed.{none-in, more-in}
 use Rattle.grammar.proofs.WellRead.{well-read}
 use Rattle.grammar.proofs.Places.{Behind, read-place}
 use Rattle.lookahead.specs.Elements.{Subset}
-use Rattle.lookahead.specs.Operations.{end, concat}
+use Rattle.lookahead.specs.Operations.{end, concatNumbers}
 use Rattle.lookahead.proofs.Order.{subset-refl}
 use Rattle.lookahead.proofs.Concat.{concat-mono, concat-assoc, concat-end-left}
 use Rattle.sets.specs.Naming.{nonterminalOf, Indexed}
 use Rattle.sets.specs.Least.{SetFamily, at, Under, Adds, AddsTo, Passing, Passes}
 use Rattle.sets.specs.First.{symbolFirst, bodyFirst}
-use Rattle.sets.specs.Follow.{FollowBody, FollowRules, FollowClosed, tailBefore, Asked}
+use Rattle.sets.specs.Follow.{FollowNumbersBody, FollowRules, FollowNumbersClosed, tailBefore, Asked}
 use Rattle.sets.specs.Rules.{turnOf, Ended, Inside, RuleWords, PassGiven}
 use Rattle.sets.proofs.Words.{parse-here}
-use Rattle.sets.proofs.Naming.{IndexedName, name-indexed}
+use Rattle.sets.proofs.NamedNonterminals.{IndexedName, name-indexed}
 use Rattle.sets.proofs.Inner.{Inner, word-inside}
-use Rattle.sets.proofs.Rising.{passing-none, passing-on, passing-then, passing-late, passing-add}
-use Rattle.sets.proofs.Standing.{rule-in, in-rules, rule-is}
-use Rattle.sets.proofs.Turns.{Turns, turns-next, turns-end}
-use Rattle.sets.proofs.Visits.{ruleNumbered, its-turn}
+use Rattle.sets.proofs.LeastByPasses.{passing-none, passing-on, passing-then, passing-late, passing-add}
+use Rattle.sets.proofs.RuleRanges.{rule-in, in-rules, rule-is}
+use Rattle.sets.proofs.RulePasses.{Turns, turns-next, turns-end}
+use Rattle.sets.proofs.HeadPasses.{ruleNumbered, its-turn}
 
 -- what a nonterminal asks, with the rest b of a body of B behind it
 abbrev NameAsks : SetFamily → ℕ → Body → Option ℕ → SetFamily → Type 0
 NameAsks F B b none L = Unit {0}
-NameAsks F B b (some A) L = Subset (concat (bodyFirst F b) (L B)) (L A)
+NameAsks F B b (some A) L = Subset (concatNumbers (bodyFirst F b) (L B)) (L A)
 
 -- a word inside a rule takes its own part of what is asked, and gives it back
 module _ (F : SetFamily) (B : ℕ) (p : Parsed) (L : SetFamily) where
@@ -86,13 +86,13 @@ module _ (F : SetFamily) (B : ℕ) (p : Parsed) (L : SetFamily) where
   asked-up (RuleWord A) o = record { body = tt; positives = none-in _; negatives = none-in _ }
   asked-up Positive o = record {
     body = tt;
-    positives = more-in (FollowBody F L B) (p .body) (p .positives) (o .0 .body) (o .0 .positives);
+    positives = more-in (FollowNumbersBody F L B) (p .body) (p .positives) (o .0 .body) (o .0 .positives);
     negatives = o .0 .negatives;
   }
   asked-up Negative o = record {
     body = tt;
     positives = o .0 .positives;
-    negatives = more-in (FollowBody F L B) (p .body) (p .negatives) (o .0 .body) (o .0 .negatives);
+    negatives = more-in (FollowNumbersBody F L B) (p .body) (p .negatives) (o .0 .body) (o .0 .negatives);
   }
   asked-up (Symbol (Terminal c)) o = record { body = o .0 .body; positives = o .0 .positives; negatives = o .0 .negatives }
   asked-up (Symbol (Nonterminal A)) o = record { body = (o .1, o .0 .body); positives = o .0 .positives; negatives = o .0 .negatives }
@@ -106,7 +106,7 @@ asked-none F B p L e = record { body = rw (e .body) tt; positives = rw (e .posit
 
 -- what comes behind a place, with a word in front
 tail-word : (F : SetFamily) (v : ℕ) (w : Word) (p : Parsed) → Inside w
-    → tailBefore F v w (concat (bodyFirst F (p .body)) v) ≡ concat (bodyFirst F (onWord w p .body)) v
+    → tailBefore F v w (concatNumbers (bodyFirst F (p .body)) v) ≡ concatNumbers (bodyFirst F (onWord w p .body)) v
 unfolding onWord bodyFirst
 tail-word F v (Symbol X) p i = sym (concat-assoc (symbolFirst F X) (bodyFirst F (p .body)) v)
 tail-word F v Positive p i = sym (concat-end-left v)
@@ -130,7 +130,7 @@ tail-closed F v Invalid tail h = refl
 pub record FollowWalk (F : SetFamily) (B : ℕ) (words l₀ l : List ℕ) (start end : ℕ) (grown : Bool) (tail i : ℕ) : Type 0 where
   pub low : start < i
   pub high : i ≤ end
-  pub is : tail ≡ concat (bodyFirst F (parse (drop i words) .body)) (at l₀ B)
+  pub is : tail ≡ concatNumbers (bodyFirst F (parse (drop i words) .body)) (at l₀ B)
   pub passing : Passing (Asked F B (parse (drop (suc start) words))) (Asked F B (parse (drop i words))) l₀ l grown
 
 module _ {words : List ℕ} {start end : ℕ} (k : RuleWords words start end) where
@@ -173,7 +173,7 @@ module _ {words : List ℕ} {start end : ℕ} (k : RuleWords words start end) wh
         asked-down F B p G w (inner .inside) (inner .behind) (rw (inner .here) at u) .1
 
     -- a family that has the array has what came behind the body when the rule had its turn
-    behind-in : (G : SetFamily) → Under (at l₀) G → Subset tail (concat (bodyFirst F (p .body)) (G B))
+    behind-in : (G : SetFamily) → Under (at l₀) G → Subset tail (concatNumbers (bodyFirst F (p .body)) (G B))
     behind-in G u =
         let begins = bodyFirst F (p .body) in
         rw (v .is) (concat-mono begins (at l₀ B) begins (G B) (subset-refl begins) (u B))
@@ -205,7 +205,7 @@ module _ {words : List ℕ} {start end : ℕ} (k : RuleWords words start end) wh
 
 -- every body of a rule asks its own
 abbrev RuleAsks : SetFamily → SetFamily → Rule → Type 0
-RuleAsks F L r = (b : Body) → List·Memᴰ b (bodies r) → FollowBody F L (r .head) b
+RuleAsks F L r = (b : Body) → List·Memᴰ b (bodies r) → FollowNumbersBody F L (r .head) b
 
 rule-asked : (F L : SetFamily) (A : ℕ) (p : Parsed) → p .body ≡ [] → RuleAsks F L (ruleOf A p) → Asked F A p L
 rule-asked F L A p e o = record {
@@ -264,7 +264,7 @@ module _ {words starts : List ℕ} {z : Sizes} {l₀ : List ℕ} (k : PassGiven 
 
 -- the end behind the start, and the rules
 pub follow-passes : (F : SetFamily) (words : List ℕ) {l₀ l l′ : List ℕ} {g g′ : Bool} → 0 < length l₀ → Adds l₀ 0 end l g
-    → Passes (FollowRules F (parse words .rules)) l l′ g′ → Passes (FollowClosed F (parse words .rules)) l₀ l′ (g || g′)
+    → Passes (FollowRules F (parse words .rules)) l l′ g′ → Passes (FollowNumbersClosed F (parse words .rules)) l₀ l′ (g || g′)
 follow-passes F words {g = g} {g′} h a p =
     passing-on (λ G c. c) (λ G c. record { start = c .0; follows = c .1 })
     (passing-then g g′ (passing-add h (λ G c u. c .start) (λ s. s) a) (passing-on (λ G c. c .follows) (λ G c. c) p))

@@ -1,4 +1,4 @@
--- A word inside a rule, before an index: what stands there, and what stands behind it. Assumes nothing.
+-- A word inside a rule, before an index: what stands there, and what stands behind it.
 use mathlib.Core.Path.{_≡_, sym, ap, _∙_}
 use mathlib.Core.List.{List}
 use Prim.Native.Nat.{ℕ, suc, _+_, _-_, _≤_, _<_}
@@ -10,7 +10,7 @@ use Rattle.grammar.specs.Encoding.{onWord, parse}
 use Rattle.grammar.proofs.Places.{Behind, read-place}
 use Rattle.sets.specs.Naming.{Indexed}
 use Rattle.sets.specs.Rules.{Inside, RuleWords}
-use Rattle.sets.proofs.Naming.{word-indexed}
+use Rattle.sets.proofs.NamedNonterminals.{word-indexed}
 use Rattle.sets.proofs.Words.{parse-before}
 
 pub record Inner (words : List ℕ) (w : Word) (i : ℕ) : Type 0 where

@@ -1,4 +1,4 @@
--- What is at the left of a rule's bodies, by its words from their end, and the more the larger the family. Assumes nothing.
+-- What is at the left of a rule's bodies, by its words from their end, and the more the larger the family.
 use mathlib.Core.Path.{_≡_, refl, ap, _∙_}
 use mathlib.Core.Bool.{Bool, true, false}
 use mathlib.Core.List.{List, [], _∷_, _++_}
@@ -14,7 +14,7 @@ use Rattle.word.specs.declared.Symbol.{Symbol as GrammarSymbol}
 use Rattle.word.specs.declared.Symbol.the-variants.{Terminal, Nonterminal}
 use Rattle.word.specs.declared.Word.{Word}
 use Rattle.word.specs.declared.Word.the-variants.{Heading, Rule as RuleWord, Positive, Negative, Symbol, End, Invalid}
-use Rattle.word.specs.Choice.{choose}
+use Rattle.booleans.specs.Choice.{choose}
 use Rattle.word.specs.Words.{decoded}
 use Rattle.grammar.specs.Limits.{maxNonterminals}
 use Rattle.grammar.specs.Syntax.{Body, Rule, bodies}
@@ -24,7 +24,7 @@ use Rattle.grammar.proofs.Places.{Behind}
 use Rattle.lookahead.specs.Elements.{weight, Subset}
 use Rattle.lookahead.specs.Operations.{empty, join, Empty, Joined}
 use Rattle.lookahead.proofs.Order.{subset-refl, subset-antisym, join-left, join-right, join-least, join-mono, join-same}
-use Rattle.semantics.specs.Rounds.{Set}
+use Rattle.semantics.specs.Rounds.{NumberSet}
 use Rattle.sets.specs.declared.left.Left.{Left}
 use Rattle.sets.specs.Least.{SetFamily, Under}
 use Rattle.sets.specs.Left.{symbolLeft, bodyLeft, bodiesLeft, lefts, leftOf, insideLeft}
@@ -32,10 +32,10 @@ use Rattle.sets.specs.Naming.{Indexed}
 use Rattle.sets.specs.Nonterminals.{alone, Alone}
 use Rattle.sets.specs.Rules.{ruleFrom, Inside, RuleWords}
 use Rattle.sets.proofs.Inner.{word-inside}
-use Rattle.sets.proofs.Visits.{Larger}
+use Rattle.sets.proofs.HeadPasses.{Larger}
 
 -- larger families have more at the left
-module _ (s : Set) (F G : SetFamily) (u : Under F G) where
+module _ (s : NumberSet) (F G : SetFamily) (u : Under F G) where
   symbol-mono : (X : GrammarSymbol) (x y : ℕ) → Subset x y → Subset (symbolLeft s F X x) (symbolLeft s G X y)
   unfolding symbolLeft
   symbol-mono (Terminal a) x y h = subset-refl empty
@@ -68,7 +68,7 @@ join-swap x y z = subset-antisym (join x (join y z)) (join y (join x z)) (half x
         join-least x (join y z) (join y (join x z)) (λ l t. join-right y (join x z) l (join-left x z l t))
         (join-least y z (join y (join x z)) (join-left y (join x z)) (λ l t. join-right y (join x z) l (join-right x z l t)))
 
-bodies-between : (s : Set) (R : SetFamily) (ps : List Body) (b : Body) (ns : List Body)
+bodies-between : (s : NumberSet) (R : SetFamily) (ps : List Body) (b : Body) (ns : List Body)
     → join (bodyLeft s R b) (bodiesLeft s R (ps ++ ns)) ≡ bodiesLeft s R (ps ++ (b ∷ ns))
 unfolding bodiesLeft
 bodies-between s R [] b ns = refl
@@ -80,7 +80,7 @@ pub left-alone : {A x : ℕ} → Alone A x → A < maxNonterminals → x ≡ wei
 unfolding alone
 left-alone {A} a h = a .is ∙ rw (lt-ltb A maxNonterminals h)
 
-module _ (s : Set) (R : SetFamily) {X : GrammarSymbol} (behind : ℕ) where
+module _ (s : NumberSet) (R : SetFamily) {X : GrammarSymbol} (behind : ℕ) where
   pub left-terminal : {a x : ℕ} → X ≡ Terminal a → Empty x → x ≡ symbolLeft s R X behind
   unfolding symbolLeft
   left-terminal e n = n .is ∙ rw e
@@ -98,7 +98,7 @@ module _ (s : Set) (R : SetFamily) {X : GrammarSymbol} (behind : ℕ) where
     left-stop t = is ∙ rw (e, t)
 
 -- inside a rule it is enough to tell symbols
-pub inside-left : (s : Set) (R : SetFamily) (w : Word) (p : Parsed) → Inside w → Behind w p → insideLeft s R w (leftOf s R p) ≡ leftOf s R (onWord w p)
+pub inside-left : (s : NumberSet) (R : SetFamily) (w : Word) (p : Parsed) → Inside w → Behind w p → insideLeft s R w (leftOf s R p) ≡ leftOf s R (onWord w p)
 unfolding onWord bodyLeft bodiesLeft
 inside-left s R (Symbol X) p i b = refl
 inside-left s R Positive p i b = refl
@@ -109,7 +109,7 @@ inside-left s R (Heading m n) p i b = absurd i
 inside-left s R Invalid p i b = absurd i
 
 -- what `inside_left` returns for a word that is no symbol
-pub left-closed : (s : Set) (R : SetFamily) (w : Word) {left : Left} {x y : ℕ} → OneOf (0 ∷ 1 ∷ 2 ∷ 3 ∷ 5 ∷ 6 ∷ []) (tagOf the-type w) → Empty x
+pub left-closed : (s : NumberSet) (R : SetFamily) (w : Word) {left : Left} {x y : ℕ} → OneOf (0 ∷ 1 ∷ 2 ∷ 3 ∷ 5 ∷ 6 ∷ []) (tagOf the-type w) → Empty x
     → Joined (left .body .bits) (left .rule .bits) y → lefts x y ≡ insideLeft s R w left
 left-closed s R (Symbol X) h n j = absurd (miss (0 ∷ 1 ∷ 2 ∷ 3 ∷ 5 ∷ 6 ∷ []) 4 tt h)
 left-closed s R Positive h n j = rw (n .is, j .is)
@@ -120,24 +120,24 @@ left-closed s R (Heading m t) h n j = rw (n .is, j .is)
 left-closed s R Invalid h n j = rw (n .is, j .is)
 
 -- what a rule gives, the more the larger the family
-abbrev pub ruleLeft : Set → SetFamily → Rule → ℕ
+abbrev pub ruleLeft : NumberSet → SetFamily → Rule → ℕ
 ruleLeft s R r = bodiesLeft s R (bodies r)
 
-pub rule-larger : (s : Set) → Larger (ruleLeft s)
+pub rule-larger : (s : NumberSet) → Larger (ruleLeft s)
 rule-larger s F G u r = bodies-mono s F G u (bodies r)
 
 -- the words of a rule, from their end: those from i on have been gone through
-pub record LeftWalk (s : Set) (R : SetFamily) (words : List ℕ) (start end : ℕ) (left : Left) (i : ℕ) : Type 0 where
+pub record LeftWalk (s : NumberSet) (R : SetFamily) (words : List ℕ) (start end : ℕ) (left : Left) (i : ℕ) : Type 0 where
   pub low : start < i
   pub high : i ≤ end
   pub is : left ≡ leftOf s R (parse (drop i words))
 
 module _ {words : List ℕ} {start end : ℕ} (k : RuleWords words start end) where
-  pub walk-start : (s : Set) (R : SetFamily) {left : Left} → left ≡ lefts 0 0 → LeftWalk s R words start end left end
+  pub walk-start : (s : NumberSet) (R : SetFamily) {left : Left} → left ≡ lefts 0 0 → LeftWalk s R words start end left end
   unfolding bodyLeft bodiesLeft
   walk-start s R e = record { low = k .some; high = omega arith; is = rw (k .ended .body, k .ended .positives, k .ended .negatives) e }
 
-  module _ {s : Set} {R : SetFamily} {left : Left} {i : ℕ} (v : LeftWalk s R words start end left i) where
+  module _ {s : NumberSet} {R : SetFamily} {left : Left} {i : ℕ} (v : LeftWalk s R words start end left i) where
     pub walk-indexed : {w : Word} → start + 1 < i → w ≡ decoded (getD words (i - 1) 0) → Indexed w
     walk-indexed h e = word-inside k i h (v .high) e .indexed
 

@@ -1,4 +1,4 @@
--- The least family that left dependence closes is what the nonterminals left-reach, in numbers. Assumes nothing.
+-- The least family that left dependence closes is what the nonterminals left-reach, in numbers.
 use mathlib.Core.Path.{_≡_, refl, sym, subst, _∙_}
 use mathlib.Core.Bool.{Bool, true, false}
 use mathlib.Core.List.{List, [], _∷_, List·Memᴰ, List·Memᴰ·head, List·Memᴰ·tail, List·Memᴰ·cases-cons, List·Memᴰ·not-nil}
@@ -8,7 +8,7 @@ use native.Mathlib.Omega.{arith}
 use lib.Dec.{T, ltb, eqb→eq, eqb-refl, ltb→lt, lt→ltb}
 use lib.ListN.{length}
 use Rattle.word.specs.declared.Symbol.the-variants.{Terminal, Nonterminal}
-use Rattle.word.specs.Choice.{choose}
+use Rattle.booleans.specs.Choice.{choose}
 use Rattle.grammar.specs.declared.reading.Sizes.{Sizes}
 use Rattle.grammar.specs.declared.reading.Outcome.the-variants.{Read}
 use Rattle.grammar.specs.Limits.{maxNonterminals}
@@ -24,18 +24,18 @@ use Rattle.lookahead.proofs.Operations.{has-empty, has-join}
 use Rattle.lookahead.proofs.Order.{subset-antisym, join-left, join-right}
 use Rattle.lookahead.proofs.Powers.{has-pow}
 use Rattle.lookahead.proofs.Weights.{has-total}
-use Rattle.semantics.specs.Quantifiers.{lowest}
-use Rattle.semantics.specs.Rounds.{Set}
+use Rattle.booleans.specs.Quantifiers.{lowest}
+use Rattle.semantics.specs.Rounds.{NumberSet}
 use Rattle.semantics.specs.FirstFollow.{first}
 use Rattle.semantics.specs.LeftRecursion.{nullable, LeftIn, here, there, LeftDepends, LeftReaches, once, more, leftReaches, leftRecursive, lowestLeftRecursive}
-use Rattle.semantics.proofs.Booleans.{T-true, and-l, and-r, and-make, or-cases}
+use Rattle.booleans.proofs.Booleans.{T-true, and-l, and-r, and-make, or-cases}
 use Rattle.semantics.proofs.First.{first-lookahead}
 use Rattle.semantics.proofs.FirstNullable.{first-none}
 use Rattle.semantics.proofs.LeftRecursion.{reaches-then, target-below, leftReaches-iff}
 use Rattle.sets.specs.declared.left.Lowest.{Lowest}
 use Rattle.sets.specs.Lists.{listed}
 use Rattle.sets.specs.Sets.{firstNumber, reachNumber}
-use Rattle.sets.specs.Least.{SetFamily, at, Least}
+use Rattle.sets.specs.Least.{SetFamily, at, LeastNumbers}
 use Rattle.sets.specs.Left.{emptyIn, symbolLeft, bodyLeft, bodiesLeft, ReachClosed, ownIn, lowestOf}
 use Rattle.sets.proofs.Lists.{listed-is, listed-at}
 use Rattle.sets.proofs.Strings.{string-nothing}
@@ -57,7 +57,7 @@ module _ (R : SetFamily) where
   own-make C B (inl e) = join-left (weight C) (R C) B (rw (has-pow C B, e) (eqb-refl C))
   own-make C B (inr t) = join-right (weight C) (R C) B t
 
-  module _ (s : Set) where
+  module _ (s : NumberSet) where
     -- what is at the left of a body is a nonterminal there, or reached from one
     body-elim : (b : Body) (B : ℕ) → T (has (bodyLeft s R b) B) → (C : ℕ) × LeftIn s C b × AtOrFrom R C B
     unfolding bodyLeft symbolLeft
@@ -107,11 +107,11 @@ module _ (R : SetFamily) where
     ]
 
 -- nullable nonterminals are at the left of the same bodies
-left-same : (s s′ : Set) → ((A : ℕ) → T (s A) → T (s′ A)) → (B : ℕ) (b : Body) → LeftIn s B b → LeftIn s′ B b
+left-same : (s s′ : NumberSet) → ((A : ℕ) → T (s A) → T (s′ A)) → (B : ℕ) (b : Body) → LeftIn s B b → LeftIn s′ B b
 left-same s s′ f B (Nonterminal C ∷ b) here = here
 left-same s s′ f B (Nonterminal C ∷ b) (there u l) = there (f C u) (left-same s s′ f B b l)
 
-module _ (G : Grammar) (scoped : WellScoped G) (s : Set) (is : (A : ℕ) → T (s A) ↔ T (nullable G A)) where
+module _ (G : Grammar) (scoped : WellScoped G) (s : NumberSet) (is : (A : ℕ) → T (s A) ↔ T (nullable G A)) where
   -- a closed family has what a nonterminal left-depends on, and what that has
   depends-in : (R : SetFamily) → ReachClosed s (G .rules) R → (A C : ℕ) → LeftDepends G A C → (B : ℕ) → AtOrFrom R C B → T (has (R A) B)
   depends-in R c A C d B h =
@@ -152,7 +152,7 @@ module _ (G : Grammar) (scoped : WellScoped G) (s : Set) (is : (A : ℕ) → T (
       on C d (inr u) = reaches-then G (r .head) C B d (number-reaches C B u)
 
   -- and the least
-  pub reach-numbers : (l : List ℕ) → Least (ReachClosed s (G .rules)) l → (A : ℕ) → at l A ≡ reachNumber G A
+  pub reach-numbers : (l : List ℕ) → LeastNumbers (ReachClosed s (G .rules)) l → (A : ℕ) → at l A ≡ reachNumber G A
   reach-numbers l least A = subset-antisym (at l A) (reachNumber G A) (least .least (reachNumber G) numbers-closed A)
       (λ B t. reaches-in (at l) (least .closed) A B (number-reaches A B t) B (inl refl))
 
@@ -193,7 +193,7 @@ module _ (words : List ℕ) {firsts : List ℕ} {z : Sizes} (read : reading word
   pub reach-small : (A : ℕ) → reachNumber (grammarOf words) A ≤ 2 ^ maxNonterminals
   reach-small A = omega (arith, reach-bound (grammarOf words) many A)
 
-  pub reach-listed : (l : List ℕ) → length l ≡ maxNonterminals → Least (ReachClosed (emptyIn (at firsts)) (parse words .rules)) l
+  pub reach-listed : (l : List ℕ) → length l ≡ maxNonterminals → LeastNumbers (ReachClosed (emptyIn (at firsts)) (parse words .rules)) l
       → l ≡ listed maxNonterminals (reachNumber (grammarOf words))
   reach-listed l n least =
       listed-is maxNonterminals (reachNumber (grammarOf words)) l n

@@ -1,13 +1,13 @@
 pub mod Lists
 pub mod Words
-pub mod Naming
-pub mod Rising
-pub mod Turns
-pub mod Standing
+pub mod NamedNonterminals
+pub mod LeastByPasses
+pub mod RulePasses
+pub mod RuleRanges
 pub mod Inner
-pub mod Visits
+pub mod HeadPasses
 pub mod FirstPasses
-pub mod Looking
+pub mod ArrayLookup
 pub mod Strings
 pub mod Numbers
 pub mod Members
@@ -18,4 +18,4 @@ pub mod NonterminalSets
 pub mod LeftPasses
 pub mod Lowest
 pub mod LeftTie
-pub mod Telling
+pub mod Findings

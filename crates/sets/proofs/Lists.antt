@@ -1,4 +1,4 @@
--- A list is written out by the function that gives its elements. Assumes nothing.
+-- A list is written out by the function that gives its elements.
 use mathlib.Core.Path.{_≡_, refl, ap, ap₂}
 use mathlib.Core.List.{List, [], _∷_}
 use Prim.Native.Nat.{ℕ, zero, suc, _<_}

@@ -5,9 +5,9 @@ use Prim.Native.Nat.{ℕ, zero, suc, _+_, _≤_, _<_}
 use native.Mathlib.Decide.{ℕ-discrete}
 use native.Mathlib.Omega.{arith}
 use lib.Dec.{T}
-use Rattle.semantics.specs.Quantifiers.{lowest}
-use Rattle.semantics.proofs.Booleans.{true-T}
-use Rattle.semantics.proofs.Quantified.{NoneBelow, below-cong, lowest-some, lowest-none}
+use Rattle.booleans.specs.Quantifiers.{lowest}
+use Rattle.booleans.proofs.Booleans.{true-T}
+use Rattle.booleans.proofs.Quantified.{NoneBelow, below-cong, lowest-some, lowest-none}
 use Rattle.sets.specs.declared.left.Lowest.the-variants.{Absent, At}
 use Rattle.sets.specs.Left.{lowestOf}
 

@@ -1,4 +1,4 @@
--- The size of a set's number is how many strings the set has, however many terminals there are. Assumes nothing.
+-- The size of a set's number is how many strings the set has, however many terminals there are.
 use mathlib.Core.Path.{_≡_, refl, sym, ap, _∙_}
 use mathlib.Core.Bool.{Bool, true, false}
 use mathlib.Core.List.{List, [], _∷_, _++_, map}
@@ -14,7 +14,8 @@ use Rattle.semantics.proofs.FiniteSets.{keep-make, keep-elim}
 use Rattle.semantics.proofs.Columns.{strings-columns}
 use Rattle.semantics.proofs.LookaheadSets.{strings-make}
 use Rattle.semantics.proofs.Distinct.{distinct-keep, distinct-strings}
-use Rattle.lookahead.specs.Elements.{nothing, has, one, Over, count, size}
+use Rattle.booleans.specs.Quantifiers.{one, countBelow}
+use Rattle.lookahead.specs.Elements.{nothing, has, OverTerminals, size}
 use Rattle.lookahead.proofs.Size.{count-cong, count-first, size-over}
 use Rattle.lookahead.proofs.Weights.{has-total}
 use Rattle.sets.specs.Sets.{stringOf, numberOf, Members}
@@ -40,13 +41,13 @@ unfolding keep
 kept-map p f [] = refl
 kept-map p f (x ∷ l) = omega (arith, kept-more p (f x) (map f l), kept-more (λ y. p (f y)) x l, kept-map p f l)
 
-kept-numbers : (p : ℕ → Bool) (a n : ℕ) → length (keep p (numbersFrom a n)) ≡ count n (λ l. p (a + l))
-unfolding numbersFrom count keep
+kept-numbers : (p : ℕ → Bool) (a n : ℕ) → length (keep p (numbersFrom a n)) ≡ countBelow n (λ l. p (a + l))
+unfolding numbersFrom countBelow keep
 kept-numbers p a zero = refl
 kept-numbers p a (suc n) =
     kept-more p a (numbersFrom (suc a) n)
     ∙ ap (λ k. one (p a) + k) (kept-numbers p (suc a) n ∙ count-cong n (λ l. p (suc a + l)) (λ l. p (a + suc l)) (λ l h. ap p (omega arith)))
-    ∙ ap (λ b. one (p b) + count n (λ l. p (a + suc l))) (omega arith)
+    ∙ ap (λ b. one (p b) + countBelow n (λ l. p (a + suc l))) (omega arith)
     ∙ sym (count-first n (λ l. p (a + l)))
 
 -- over t terminals, for any t
@@ -55,14 +56,14 @@ module _ (t : ℕ) (few : t ≤ nothing) (p : List ℕ → Bool) (within : (x : 
   unfolding numberOf
   has-string l h = has-total (suc nothing) (λ k. p (stringOf k)) l ∙ rw (lt-ltb l (suc nothing) h)
 
-  over : Over t (numberOf p)
+  over : OverTerminals t (numberOf p)
   over l s = rw (element-string l) at (lookahead-string t (stringOf l) few (within (stringOf l) (number-has p l s)) .over)
 
   size-strings : size (numberOf p) ≡ length (keep p (strings 1 t))
   unfolding numbers keep
   size-strings =
       let ends : has (numberOf p) nothing ≡ p [] = has-string nothing (omega arith) ∙ ap p string-nothing in
-      let begins : count t (has (numberOf p)) ≡ count t (λ l. p ((0 + l) ∷ [])) =
+      let begins : countBelow t (has (numberOf p)) ≡ countBelow t (λ l. p ((0 + l) ∷ [])) =
       count-cong t (has (numberOf p)) (λ l. p ((0 + l) ∷ [])) (λ l h. has-string l (omega arith) ∙ ap p (string-terminal l (omega arith) ∙ ap (λ a. a ∷ []) (omega arith))) in
       size-over t (numberOf p) few over
       ∙ rw (ends, begins)

@@ -1,4 +1,4 @@
--- The set of a nonterminal alone, by cases, as the code goes. Assumes nothing.
+-- The set of a nonterminal alone, by cases, as the code goes.
 use mathlib.Core.Path.{_≡_, sym, ap, _∙_}
 use mathlib.Core.Bool.{Bool, _&&_}
 use Prim.Native.Nat.{ℕ, _*_, _%_, _^_, _≤_, _<_}
@@ -9,7 +9,7 @@ use borrow.Author.Tests.{lt-ltb, le-ltb}
 use Rattle.grammar.specs.Limits.{maxNonterminals}
 use Rattle.lookahead.specs.Elements.{weight}
 use Rattle.lookahead.specs.Operations.{Empty}
-use Rattle.lookahead.proofs.Operations.{has-pick}
+use Rattle.lookahead.proofs.Operations.{has-choose}
 use Rattle.lookahead.proofs.Powers.{has-pow}
 use Rattle.sets.specs.Nonterminals.{alone, Alone}
 
@@ -17,7 +17,7 @@ is-alone : {A r : ℕ} → r ≡ alone A → Alone A r
 unfolding alone
 is-alone {A} e = record {
   is = e;
-  member = λ B. rw e (has-pick (ltb A maxNonterminals) (weight A) B ∙ ap (λ (b : Bool). ltb A maxNonterminals && b) (has-pow A B));
+  member = λ B. rw e (has-choose (ltb A maxNonterminals) (weight A) B ∙ ap (λ (b : Bool). ltb A maxNonterminals && b) (has-pow A B));
 }
 
 -- one, shifted to the nonterminal's place, is its weight

@@ -1,4 +1,4 @@
--- A family of strings of at most one terminal as one of numbers, and when the least family of numbers is it. Assumes nothing.
+-- A family of strings of at most one terminal as one of numbers, and when the least family of numbers is it.
 use mathlib.Core.Path.{_≡_, sym, _∙_}
 use mathlib.Core.Bool.{Bool}
 use mathlib.Core.List.{List}
@@ -13,7 +13,7 @@ use Rattle.semantics.specs.Strings.{Lookahead}
 use Rattle.semantics.specs.FirstFollow.{Entry}
 use Rattle.lookahead.specs.Elements.{nothing, has}
 use Rattle.lookahead.proofs.Order.{subset-antisym, empty-least}
-use Rattle.sets.specs.Least.{SetFamily, at, Least}
+use Rattle.sets.specs.Least.{SetFamily, at, LeastNumbers}
 use Rattle.sets.specs.Lists.{listed}
 use Rattle.sets.specs.Sets.{stringOf, numberOf}
 use Rattle.sets.proofs.Lists.{listed-long, listed-at}
@@ -47,7 +47,7 @@ module _ (G : Grammar) (few : G .terminals ≤ nothing) (p : Entry → Bool)
       subset-antisym (numbersOf p A) 0 (λ l s. absurd (omega (arith, within A (stringOf l) (element-passes A l s) .0))) (empty-least (numbersOf p A))
 
   -- where the numbers are closed and the strings are in every closed array, the least array has the numbers
-  pub least-numbers : (Closed : SetFamily → Type 0) → Closed (numbersOf p) → (l : List ℕ) → Least Closed l
+  pub least-numbers : (Closed : SetFamily → Type 0) → Closed (numbersOf p) → (l : List ℕ) → LeastNumbers Closed l
       → ((A : ℕ) (x : List ℕ) → T (p (A, x)) → StringIn (at l A) x) → (A : ℕ) → at l A ≡ numbersOf p A
   least-numbers Closed closed l least strings A =
       subset-antisym (at l A) (numbersOf p A) (least .least (numbersOf p) closed A)

@@ -1,4 +1,4 @@
--- With one token of lookahead: strings of at most one terminal and the elements of sets, one to one, and First_1 of a concatenation. Assumes nothing.
+-- With one token of lookahead: strings of at most one terminal and the elements of sets, one to one, and First_1 of a concatenation.
 use mathlib.Core.Path.{_≡_, refl, sym, ap, ap₂, _∙_}
 use mathlib.Core.Bool.{Bool, true, false, or-true}
 use mathlib.Core.List.{List, [], _∷_, _++_}
@@ -10,15 +10,16 @@ use lib.Dec.{T, eqb, ltb, ltb→lt, lt→ltb, eqb→eq, eqb-refl}
 use lib.ListN.{take}
 use borrow.Author.Tests.{eqb-true, eq-eqb, ne-eqb, lt-ltb}
 use mir.Facts.{and-yes, yes-and}
-use Rattle.word.specs.Choice.{choose}
+use Rattle.booleans.specs.Choice.{choose}
 use Rattle.word.specs.declared.Symbol.{Symbol}
 use Rattle.word.specs.declared.Symbol.the-variants.{Terminal, Nonterminal}
 use Rattle.grammar.specs.Syntax.{Body, TerminalsBelow}
-use Rattle.semantics.specs.Quantifiers.{all}
+use Rattle.booleans.specs.Quantifiers.{allOf}
 use Rattle.semantics.specs.Strings.{Lookahead}
 use Rattle.semantics.specs.Families.{Family, FirstOf, FirstBody}
-use Rattle.lookahead.specs.Elements.{nothing, weight, has, Over}
-use Rattle.lookahead.specs.Operations.{pick, full}
+use Rattle.lookahead.specs.Elements.{nothing, weight, has, OverTerminals}
+use Rattle.booleans.specs.Choice.{choose}
+use Rattle.lookahead.specs.Operations.{full}
 use Rattle.lookahead.proofs.Operations.{has-end, has-terminal, has-full}
 use Rattle.lookahead.proofs.Over.{over-full}
 use Rattle.lookahead.proofs.Pairs.{first, concat-pair}
@@ -55,14 +56,14 @@ unfolding stringOf first
 string-first a b = go (eqb a nothing) refl (eqb b nothing) refl
   where
     go : (c : Bool) → eqb a nothing ≡ c → (d : Bool) → eqb b nothing ≡ d
-        → take 1 (choose c [] (a ∷ []) ++ choose d [] (b ∷ [])) ≡ choose (eqb (pick c b a) nothing) [] (pick c b a ∷ [])
+        → take 1 (choose c [] (a ∷ []) ++ choose d [] (b ∷ [])) ≡ choose (eqb (choose c b a) nothing) [] (choose c b a ∷ [])
     go true e true f = rw f
     go true e false f = rw f
     go false e d f = rw e
 
 -- over t terminals these are the lookahead strings
 pub string-lookahead : (t l : ℕ) → t ≤ nothing → (l < t) ⊎ (l ≡ nothing) → Lookahead 1 t (stringOf l)
-unfolding all
+unfolding allOf
 string-lookahead t l h (inl b) = rw (string-terminal l (omega arith)) (omega arith, yes-and (ltb l t) true (lt→ltb l t b) tt)
 string-lookahead t l h (inr e) = rw (e, string-nothing) (omega arith, tt)
 
@@ -71,7 +72,7 @@ pub record Stands (t : ℕ) (x : List ℕ) : Type 0 where
   pub is : x ≡ stringOf (elementOf x)
 
 pub lookahead-string : (t : ℕ) (x : List ℕ) → t ≤ nothing → Lookahead 1 t x → Stands t x
-unfolding all
+unfolding allOf
 lookahead-string t [] h l = record { over = inr refl; is = sym string-nothing }
 lookahead-string t (a ∷ []) h l =
     let b = ltb→lt a t (and-yes (ltb a t) true (l .1) .0) in record { over = inl b; is = sym (string-terminal a (omega arith)) }
@@ -122,7 +123,7 @@ unfolding numberOf
 number-below p = total-bound (suc nothing) (λ l. p (stringOf l))
 
 -- and no others
-pub number-over : (p : List ℕ → Bool) → Over nothing (numberOf p)
+pub number-over : (p : List ℕ → Bool) → OverTerminals nothing (numberOf p)
 unfolding numberOf
 number-over p l t =
     let b = ltb→lt l (suc nothing) (and-yes (ltb l (suc nothing)) (p (stringOf l)) (rw (has-total (suc nothing) (λ l. p (stringOf l)) l) at t) .0) in

@@ -1,4 +1,4 @@
--- What the words from a place on say, by the word that stands there. Assumes nothing.
+-- What the words from a place on say, by the word that stands there.
 use mathlib.Core.Path.{_≡_, ap}
 use mathlib.Core.List.{List, []}
 use Prim.Native.Nat.{ℕ, suc, _-_, _≤_, _<_}

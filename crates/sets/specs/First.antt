@@ -8,7 +8,7 @@ use Rattle.word.specs.declared.Word.the-variants.{Heading, Rule as RuleWord, Po
 use Rattle.grammar.specs.Syntax.{Body, Rule}
 use Rattle.grammar.specs.Encoding.{Parsed}
 use Rattle.lookahead.specs.Elements.{Subset}
-use Rattle.lookahead.specs.Operations.{end, terminal, full, meet, concat}
+use Rattle.lookahead.specs.Operations.{end, terminal, full, meet, concatNumbers}
 use Rattle.sets.specs.declared.first.Rest.{Rest}
 use Rattle.sets.specs.Least.{SetFamily}
 
@@ -19,7 +19,7 @@ symbolFirst F (Nonterminal A) = F A
 -- (document 01: a body strings its symbols' first sets)
 unfoldable pub bodyFirst : SetFamily → Body → ℕ
 bodyFirst F [] = end
-bodyFirst F (X ∷ b) = concat (symbolFirst F X) (bodyFirst F b)
+bodyFirst F (X ∷ b) = concatNumbers (symbolFirst F X) (bodyFirst F b)
 
 -- (document 01: the meeting of the must bodies), over t terminals
 unfoldable pub ruleFirst : ℕ → SetFamily → List Body → ℕ
@@ -27,8 +27,8 @@ ruleFirst t F [] = full t
 ruleFirst t F (b ∷ bs) = meet (bodyFirst F b) (ruleFirst t F bs)
 
 -- each rule's set is contained in its head's
-abbrev pub FirstClosed : ℕ → List Rule → SetFamily → Type 0
-FirstClosed t rs F = (r : Rule) → List·Memᴰ r rs → Subset (ruleFirst t F (r .positives)) (F (r .head))
+abbrev pub FirstNumbersClosed : ℕ → List Rule → SetFamily → Type 0
+FirstNumbersClosed t rs F = (r : Rule) → List·Memᴰ r rs → Subset (ruleFirst t F (r .positives)) (F (r .head))
 
 abbrev pub sets : ℕ → ℕ → Rest
 sets b m = record { body = record { bits = b }; meet = record { bits = m } }
@@ -42,7 +42,7 @@ noRest t = sets end (full t)
 
 -- the rest with a word in front
 abbrev pub withWord : ℕ → SetFamily → Word → Rest → Rest
-withWord t F (Symbol X) rest = sets (concat (symbolFirst F X) (rest .body .bits)) (rest .meet .bits)
+withWord t F (Symbol X) rest = sets (concatNumbers (symbolFirst F X) (rest .body .bits)) (rest .meet .bits)
 withWord t F Positive rest = sets end (meet (rest .body .bits) (rest .meet .bits))
 withWord t F Negative rest = sets end (rest .meet .bits)
 withWord t F (RuleWord A) rest = noRest t
@@ -62,7 +62,7 @@ closedMeet Invalid b m = m
 
 -- the same for a word inside a rule: a symbol, or what ends the body before it
 abbrev pub insideWord : SetFamily → Word → Rest → Rest
-insideWord F (Symbol X) rest = sets (concat (symbolFirst F X) (rest .body .bits)) (rest .meet .bits)
+insideWord F (Symbol X) rest = sets (concatNumbers (symbolFirst F X) (rest .body .bits)) (rest .meet .bits)
 insideWord F Positive rest = sets end (meet (rest .body .bits) (rest .meet .bits))
 insideWord F Negative rest = sets end (rest .meet .bits)
 insideWord F End rest = sets end (rest .meet .bits)

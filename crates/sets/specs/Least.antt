@@ -6,9 +6,10 @@ use mathlib.Core.Option.{Option, none, some}
 use Prim.Native.Nat.{ℕ, _+_, _≤_}
 use lib.Dec.{eqb, ltb}
 use lib.ListN.{length, getD, set}
-use Rattle.word.specs.Choice.{choose}
+use Rattle.booleans.specs.Choice.{choose}
 use Rattle.grammar.specs.Limits.{maxNonterminals}
-use Rattle.lookahead.specs.Elements.{Subset, one}
+use Rattle.booleans.specs.Quantifiers.{one}
+use Rattle.lookahead.specs.Elements.{Subset}
 use Rattle.lookahead.specs.Operations.{join}
 
 -- for each nonterminal the number of a set
@@ -28,7 +29,7 @@ abbrev pub Under : SetFamily → SetFamily → Type 0
 Under F G = (n : ℕ) → Subset (F n) (G n)
 
 -- closed, and under every closed family
-pub record Least (Closed : SetFamily → Type 0) (l : List ℕ) : Type 0 where
+pub record LeastNumbers (Closed : SetFamily → Type 0) (l : List ℕ) : Type 0 where
   pub closed : Closed (at l)
   pub least : (G : SetFamily) → Closed G → Under (at l) G
 

@@ -8,47 +8,47 @@ use Rattle.word.specs.declared.Symbol.{Symbol as GrammarSymbol}
 use Rattle.word.specs.declared.Symbol.the-variants.{Terminal, Nonterminal}
 use Rattle.word.specs.declared.Word.{Word}
 use Rattle.word.specs.declared.Word.the-variants.{Heading, Rule as RuleWord, Positive, Negative, Symbol, End, Invalid}
-use Rattle.word.specs.Choice.{choose}
+use Rattle.booleans.specs.Choice.{choose}
 use Rattle.grammar.specs.Syntax.{Body, Rule, bodies}
 use Rattle.grammar.specs.Encoding.{Parsed}
 use Rattle.lookahead.specs.Elements.{nothing, weight, has, Subset}
 use Rattle.lookahead.specs.Operations.{empty, join}
-use Rattle.semantics.specs.Rounds.{Set}
+use Rattle.semantics.specs.Rounds.{NumberSet}
 use Rattle.sets.specs.declared.left.Left.{Left}
 use Rattle.sets.specs.declared.left.Lowest.{Lowest}
 use Rattle.sets.specs.declared.left.Lowest.the-variants.{Absent, At}
 use Rattle.sets.specs.Least.{SetFamily}
 
 -- the nonterminals whose first sets have nothing: those that are nullable
-abbrev pub emptyIn : SetFamily → Set
+abbrev pub emptyIn : SetFamily → NumberSet
 emptyIn F A = has (F A) nothing
 
 -- a symbol in front of what is at the left of a body: a nonterminal with all that it reaches and, if it is in the set s, what is behind
-unfoldable pub symbolLeft : Set → SetFamily → GrammarSymbol → ℕ → ℕ
+unfoldable pub symbolLeft : NumberSet → SetFamily → GrammarSymbol → ℕ → ℕ
 symbolLeft s R (Terminal a) behind = empty
 symbolLeft s R (Nonterminal A) behind = choose (s A) (join (join (weight A) (R A)) behind) (join (weight A) (R A))
 
-unfoldable pub bodyLeft : Set → SetFamily → Body → ℕ
+unfoldable pub bodyLeft : NumberSet → SetFamily → Body → ℕ
 bodyLeft s R [] = empty
 bodyLeft s R (X ∷ b) = symbolLeft s R X (bodyLeft s R b)
 
-unfoldable pub bodiesLeft : Set → SetFamily → List Body → ℕ
+unfoldable pub bodiesLeft : NumberSet → SetFamily → List Body → ℕ
 bodiesLeft s R [] = empty
 bodiesLeft s R (b ∷ bs) = join (bodyLeft s R b) (bodiesLeft s R bs)
 
 -- what is at the left of each rule's bodies, of both signs, is contained in its head's set
-abbrev pub ReachClosed : Set → List Rule → SetFamily → Type 0
+abbrev pub ReachClosed : NumberSet → List Rule → SetFamily → Type 0
 ReachClosed s rs R = (r : Rule) → List·Memᴰ r rs → Subset (bodiesLeft s R (bodies r)) (R (r .head))
 
 abbrev pub lefts : ℕ → ℕ → Left
 lefts b r = record { body = record { bits = b }; rule = record { bits = r } }
 
 -- of what is left of a body and of a rule's bodies
-abbrev pub leftOf : Set → SetFamily → Parsed → Left
+abbrev pub leftOf : NumberSet → SetFamily → Parsed → Left
 leftOf s R p = lefts (bodyLeft s R (p .body)) (bodiesLeft s R (p .positives ++ p .negatives))
 
 -- the same with a word in front, inside a rule: a symbol, or what ends the body before it
-abbrev pub insideLeft : Set → SetFamily → Word → Left → Left
+abbrev pub insideLeft : NumberSet → SetFamily → Word → Left → Left
 insideLeft s R (Symbol X) left = lefts (symbolLeft s R X (left .body .bits)) (left .rule .bits)
 insideLeft s R Positive left = lefts empty (join (left .body .bits) (left .rule .bits))
 insideLeft s R Negative left = lefts empty (join (left .body .bits) (left .rule .bits))
@@ -58,7 +58,7 @@ insideLeft s R (Heading m n) left = lefts empty (join (left .body .bits) (left .
 insideLeft s R Invalid left = lefts empty (join (left .body .bits) (left .rule .bits))
 
 -- the nonterminals that are in their own sets
-abbrev pub ownIn : List ℕ → Set
+abbrev pub ownIn : List ℕ → NumberSet
 ownIn l A = has (getD l A 0) A
 
 abbrev pub lowestOf : Option ℕ → Lowest

@@ -7,4 +7,4 @@ pub mod First
 pub mod Follow
 pub mod Sets
 pub mod Left
-pub mod Families
+pub mod Analysis

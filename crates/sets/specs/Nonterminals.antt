@@ -5,11 +5,12 @@ use Prim.Native.Nat.{ℕ}
 use lib.Dec.{eqb, ltb}
 use Rattle.grammar.specs.Limits.{maxNonterminals}
 use Rattle.lookahead.specs.Elements.{weight, has}
-use Rattle.lookahead.specs.Operations.{pick, empty}
+use Rattle.booleans.specs.Choice.{choose}
+use Rattle.lookahead.specs.Operations.{empty}
 
 -- the set of a nonterminal alone, empty where the number is no nonterminal's
 unfoldable pub alone : ℕ → ℕ
-alone A = pick (ltb A maxNonterminals) (weight A) empty
+alone A = choose (ltb A maxNonterminals) (weight A) empty
 
 pub record Alone (A r : ℕ) : Type 0 where
   pub is : r ≡ alone A

@@ -6,7 +6,7 @@ use mathlib.Core.Logic.{_↔_}
 use Prim.Native.Nat.{ℕ, suc}
 use lib.Dec.{eqb}
 use lib.ListN.{length}
-use Rattle.word.specs.Choice.{choose}
+use Rattle.booleans.specs.Choice.{choose}
 use Rattle.grammar.specs.Syntax.{Grammar}
 use Rattle.lookahead.specs.Elements.{nothing, total}
 use Rattle.semantics.specs.FirstFollow.{first, follow}

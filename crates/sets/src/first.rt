@@ -6,7 +6,7 @@ ghost use Rattle.grammar.specs.Encoding.{parse, grammarOf};
 ghost use Rattle.grammar.specs.Limits.{maxNonterminals};
 ghost use Rattle.grammar.specs.Reading.{reading};
 ghost use Rattle.grammar.specs.Starts.{ruleStarts};
-ghost use Rattle.sets.specs.First.{symbolFirst, ruleFirst, noRest, withWord, closedMeet, insideWord, FirstClosed};
+ghost use Rattle.sets.specs.First.{symbolFirst, ruleFirst, noRest, withWord, closedMeet, insideWord, FirstNumbersClosed};
 ghost use Rattle.sets.specs.Least.{at as family, lookup, Passes};
 ghost use Rattle.sets.specs.Lists.{listed};
 ghost use Rattle.sets.specs.Rules.{RuleWords, PassGiven, ruleFrom};
@@ -141,7 +141,7 @@ fn first_pass(
     forward: bool,
 ) -> bool
     requires { ⌜ PassGiven (now words) (now starts) sizes (now firsts) ⌝ }
-    ensures { λ r. ⌜ Passes (FirstClosed (sizes .terminals) (parse (now (words .entry)) .rules)) (now (firsts .entry)) (now (firsts .exit)) r ⌝ }
+    ensures { λ r. ⌜ Passes (FirstNumbersClosed (sizes .terminals) (parse (now (words .entry)) .rules)) (now (firsts .entry)) (now (firsts .exit)) r ⌝ }
 {
     let terminals = sizes.terminals;
     let mut grown = false;

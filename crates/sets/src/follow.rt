@@ -7,7 +7,7 @@ ghost use Rattle.grammar.specs.Encoding.{parse, grammarOf};
 ghost use Rattle.grammar.specs.Limits.{maxNonterminals};
 ghost use Rattle.grammar.specs.Reading.{reading};
 ghost use Rattle.grammar.specs.Starts.{ruleStarts};
-ghost use Rattle.sets.specs.Follow.{Asked, tailBefore, FollowRules, FollowClosed};
+ghost use Rattle.sets.specs.Follow.{Asked, tailBefore, FollowRules, FollowNumbersClosed};
 ghost use Rattle.sets.specs.Least.{at as family, lookup, AddsTo, Passes};
 ghost use Rattle.sets.specs.Lists.{listed};
 ghost use Rattle.sets.specs.Naming.{nonterminalOf, Indexed};
@@ -118,7 +118,7 @@ fn follow_pass(
     forward: bool,
 ) -> bool
     requires { ⌜ PassGiven (now words) (now starts) sizes (now follows) × (length (now firsts) ≡ maxNonterminals) ⌝ }
-    ensures { λ r. ⌜ Passes (FollowClosed (family (now (firsts .entry))) (parse (now (words .entry)) .rules)) (now (follows .entry)) (now (follows .exit)) r ⌝ }
+    ensures { λ r. ⌜ Passes (FollowNumbersClosed (family (now (firsts .entry))) (parse (now (words .entry)) .rules)) (now (follows .entry)) (now (follows .exit)) r ⌝ }
 {
     let began = add(follows, 0, LookaheadSet::end());
     either(

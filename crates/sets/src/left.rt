@@ -9,7 +9,7 @@ ghost use Rattle.grammar.specs.Limits.{maxNonterminals};
 ghost use Rattle.grammar.specs.Reading.{reading};
 ghost use Rattle.grammar.specs.Starts.{ruleStarts};
 ghost use Rattle.grammar.specs.Syntax.{bodies};
-ghost use Rattle.semantics.specs.Quantifiers.{lowest};
+ghost use Rattle.booleans.specs.Quantifiers.{lowest};
 ghost use Rattle.sets.specs.Least.{at as family, Passes};
 ghost use Rattle.sets.specs.Left.{emptyIn, symbolLeft, bodiesLeft, lefts, insideLeft, ReachClosed, ownIn, lowestOf};
 ghost use Rattle.sets.specs.Lists.{listed};

@@ -2,7 +2,7 @@
 ghost use mathlib.Core.Path.{_≡_};
 ghost use Rattle.grammar.specs.Reading.{reading};
 ghost use Rattle.grammar.specs.declared.reading.Outcome.the-variants.{Read};
-ghost use Rattle.sets.specs.Families.{refusedBy, familiesOf};
+ghost use Rattle.sets.specs.Analysis.{refusedBy, familiesOf};
 use answer::Error;
 use family::SETS;
 use first::first_sets;

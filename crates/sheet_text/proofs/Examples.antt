@@ -3,7 +3,8 @@ use mathlib.Core.Path.{_≡_, refl}
 use mathlib.Core.List.{[], _∷_}
 use Rattle.grammar.specs.declared.reading.Outcome.the-variants.{Read}
 use Rattle.grammar.specs.Encoding.{sizes}
-use Rattle.lookahead.specs.Elements.{has, count, size}
+use Rattle.booleans.specs.Quantifiers.{countBelow}
+use Rattle.lookahead.specs.Elements.{has, size}
 use Rattle.text.specs.Ascii.{ascii}
 use Rattle.text.specs.Decimal.{digits, decimal, orDash}
 use Rattle.text.specs.Writing.{upTo}
@@ -12,7 +13,7 @@ use Rattle.sheet_text.specs.Sheet.{sizesLine, setsLine, entryText, entri
 -- the text that document 01 shows of card R
 sheet-R : sheetText (Read (sizes 1 1 2)) (16777217 ∷ 16777216 ∷ 0 ∷ 1 ∷ [])
     ≡ ascii "names 1 letters 1 rules 2\nname 0 first 16777217 2 follow 16777216 1\ncells 0 1\n"
-unfolding sheetText sizesLine nonterminalText setsLine entriesLine orDash upTo decimal digits size count has
+unfolding sheetText sizesLine nonterminalText setsLine entriesLine orDash upTo decimal digits size countBelow has
 sheet-R = refl
 
 -- a dash for no entry

@@ -1,4 +1,4 @@
--- How long a sheet can be. Assumes nothing.
+-- How long a sheet can be.
 use mathlib.Core.List.{List}
 use Prim.Native.Nat.{ℕ, _+_, _*_, _≤_}
 use native.Mathlib.Nat.{mul-le-mul-right}

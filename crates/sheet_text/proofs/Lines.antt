@@ -1,10 +1,10 @@
--- What is put into a buffer is the text asked for, by what the values put are. Assumes nothing.
+-- What is put into a buffer is the text asked for, by what the values put are.
 use mathlib.Core.Path.{_≡_}
 use mathlib.Core.List.{List, _++_}
 use Prim.Native.Nat.{ℕ, suc, _+_, _*_, _≤_, _<_}
 use native.Mathlib.Nat.{mul-le-mul, suc-mul}
 use native.Mathlib.Omega.{arith}
-use Rattle.grammar.specs.Limits.{maxNonterminals, maxTerminals, maxColumns, tableWords as memoryWords}
+use Rattle.grammar.specs.Limits.{maxNonterminals, maxTerminals, maxColumns, maxTableWords}
 use Rattle.lookahead.specs.Elements.{size}
 use Rattle.text.specs.Ascii.{ascii}
 use Rattle.text.specs.Decimal.{decimal, labelled}
@@ -12,7 +12,7 @@ use Rattle.text.specs.Writing.{Put}
 use Rattle.sheet_text.specs.Sheet.{wordAt, setText, setsLine}
 
 -- the row of a nonterminal stands within the table
-pub row-within : (n A t : ℕ) → n ≤ maxNonterminals → A < maxNonterminals → t ≤ maxTerminals → 2 * n + A * (t + 1) + (t + 1) ≤ memoryWords
+pub row-within : (n A t : ℕ) → n ≤ maxNonterminals → A < maxNonterminals → t ≤ maxTerminals → 2 * n + A * (t + 1) + (t + 1) ≤ maxTableWords
 row-within n A t few h k = let m = mul-le-mul {n₁ = suc A} {m₁ = t + 1} {n₂ = maxNonterminals} {m₂ = maxColumns} h (omega arith) in omega (arith, suc-mul A (t + 1))
 
 module _ {l m : List ℕ} {at next : ℕ} where

@@ -3,7 +3,7 @@ ghost use mathlib.Core.Path.{_≡_};
 ghost use mathlib.Core.List.{_++_};
 ghost use Prim.Native.Nat.{_+_, _*_, _≤_, _<_};
 ghost use Rattle.grammar.specs.Reading.{reading};
-ghost use Rattle.grammar.specs.Limits.{maxNonterminals, maxTerminals, tableWords as memoryWords};
+ghost use Rattle.grammar.specs.Limits.{maxNonterminals, maxTerminals, maxTableWords};
 ghost use Rattle.lookahead.specs.Elements.{size as sizeOf};
 ghost use Rattle.text.specs.Decimal.{decimal, labelled};
 ghost use Rattle.text.specs.Writing.{Put, upTo};
@@ -80,7 +80,7 @@ fn put_entry(out: &mut [u8], at: usize, entry: u32) -> usize
 
 // The entries of a row, from its start on.
 fn put_row(out: &mut [u8], at: usize, table: &[u32], start: usize, columns: usize) -> usize
-    requires { ⌜ start + columns ≤ memoryWords ⌝ }
+    requires { ⌜ start + columns ≤ maxTableWords ⌝ }
     ensures { λ r. ⌜ Put (now (out .entry)) at (upTo columns (λ c. entryText (wordAt (now (table .entry)) (start + c)))) (now (out .exit)) r ⌝ }
 {
     let mut next = at;
@@ -93,7 +93,7 @@ fn put_row(out: &mut [u8], at: usize, table: &[u32], start: usize, columns: usiz
 }
 
 fn put_entries(out: &mut [u8], at: usize, table: &[u32], start: usize, columns: usize) -> usize
-    requires { ⌜ start + columns ≤ memoryWords ⌝ }
+    requires { ⌜ start + columns ≤ maxTableWords ⌝ }
     ensures { λ r. ⌜ Put (now (out .entry)) at (entriesLine (now (table .entry)) start columns) (now (out .exit)) r ⌝ }
 {
     let at = put_bytes(out, at, b"cells");

@@ -12,7 +12,7 @@ use Rattle.answer.specs.Faults.{firstFault}
 use Rattle.answer.proofs.Faults.{first-nested}
 use Rattle.grammar.specs.Codes.{noEntry}
 use Rattle.grammar.specs.Encoding.{grammarOf}
-use Rattle.grammar.specs.Limits.{maxNonterminals, maxTerminals, maxRules, tableWords as memoryWords}
+use Rattle.grammar.specs.Limits.{maxNonterminals, maxTerminals, maxRules, maxTableWords}
 use Rattle.grammar.specs.declared.reading.Sizes.{Sizes}
 use Rattle.grammar.specs.WellRead.{WellRead}
 use Rattle.grammar.proofs.WellRead.{well-read}
@@ -22,21 +22,21 @@ use Rattle.semantics.specs.Claims.{clashes, column}
 use Rattle.semantics.proofs.Outcomes.{nth-mem}
 use Rattle.sets.specs.declared.Finding.{Finding}
 use Rattle.sets.specs.declared.Finding.the-variants.{Passed, Refused}
-use Rattle.sets.specs.Families.{setsFaults, setsFault}
+use Rattle.sets.specs.Analysis.{setsFaults, setsFault}
 use Rattle.sets.specs.Lists.{listed}
 use Rattle.sets.specs.Sets.{numberOf, firstNumber, followNumber}
 use Rattle.sets.proofs.Lists.{listed-below}
 use Rattle.sets.proofs.Strings.{number-below}
-use Rattle.sets.proofs.Telling.{FoundFamilies}
+use Rattle.sets.proofs.Findings.{FoundFamilies}
 use Rattle.table.specs.declared.conflicts.Conflict.{Conflict}
 use Rattle.table.specs.declared.conflicts.Conflict.the-variants as conflict
-use Rattle.table.specs.Claims.{claimsWith, claimsOf, Given, Headed, AllKept}
-use Rattle.table.specs.Conflicts.{firstOf, conflictOf}
+use Rattle.table.specs.Claims.{claimsWith, claimsOf, FamiliesGiven, Headed, AllKept}
+use Rattle.table.specs.Conflicts.{firstConflictOf, conflictOf}
 use Rattle.table.specs.Entries.{FitWords, Filled}
 use Rattle.table.specs.Analysis.{clashFault, fault, analysis, refusedBy, analyzed}
 use Rattle.table.proofs.Claimants.{heads-own}
-use Rattle.table.proofs.Scanning.{first-clash}
-use Rattle.table.proofs.Whole.{table-filled}
+use Rattle.table.proofs.ConflictScan.{first-clash}
+use Rattle.table.proofs.TableFilled.{table-filled}
 
 -- the faults found with the sets come first
 fault-sets : (words : List ℕ) → fault words ≡ firstFault (setsFault words ∷ clashFault (grammarOf words .terminals) (clashes (grammarOf words) 1) ∷ [])
@@ -44,16 +44,16 @@ unfolding fault setsFault
 fault-sets words = first-nested [] (setsFaults words) (clashFault (grammarOf words .terminals) (clashes (grammarOf words) 1) ∷ [])
 
 -- the first conflict that is told
-conflict-at : (t : ℕ) (l : List Entry) {n c : ℕ} → firstOf (column t) l ≡ conflict.At n c → clashFault t l ≡ some (error.Conflict n c)
+conflict-at : (t : ℕ) (l : List Entry) {n c : ℕ} → firstConflictOf (column t) l ≡ conflict.At n c → clashFault t l ≡ some (error.Conflict n c)
 conflict-at t [] e = let z : _≡_ {A = ℕ} 0 1 = cc in absurd (omega arith)
 conflict-at t (x ∷ l) {n} {c} e = let a : x .0 ≡ n = cc in let b : column t (x .1) ≡ c = cc in rw (a, b)
 
-conflict-absent : (t : ℕ) (l : List Entry) → firstOf (column t) l ≡ conflict.Absent → clashFault t l ≡ none
+conflict-absent : (t : ℕ) (l : List Entry) → firstConflictOf (column t) l ≡ conflict.Absent → clashFault t l ≡ none
 conflict-absent t [] e = refl
 conflict-absent t (x ∷ l) e = let z : _≡_ {A = ℕ} 0 1 = cc in absurd (omega arith)
 
 -- the families that are found: a grammar to go on with, or a refusal
-pub given : {words : List ℕ} {z : Sizes} {firsts follows : List ℕ} → FoundFamilies words z firsts follows → Given words z firsts follows
+pub given : {words : List ℕ} {z : Sizes} {firsts follows : List ℕ} → FoundFamilies words z firsts follows → FamiliesGiven words z firsts follows
 given f = record { read = f .read; first = f .first; follow = f .follow }
 
 module _ (words : List ℕ) {x : Error} (q : setsFault words ≡ some x) where
@@ -98,7 +98,7 @@ module _ {words : List ℕ} {z : Sizes} {firsts follows heads sets : List ℕ} (
   }
 
   module _ {v : Conflict} (d : v ≡ conflictOf z heads sets) where
-    clash : v ≡ firstOf (column (grammarOf words .terminals)) (clashes (grammarOf words) 1)
+    clash : v ≡ firstConflictOf (column (grammarOf words .terminals)) (clashes (grammarOf words) 1)
     clash =
         (rw (known f .nonterminals, known f .terminals, known f .rules) at d)
         ∙ first-clash (grammarOf words) (omega (arith, known f .terminals, known f .fewTerminals)) (k .own) (k .claims)
@@ -109,7 +109,7 @@ module _ {words : List ℕ} {z : Sizes} {firsts follows heads sets : List ℕ} (
         let x = conflict-at (grammarOf words .terminals) (clashes (grammarOf words) 1) (sym clash ∙ t) in
         rw (fault-sets words, f .read, f .faultless, x)
 
-    pub analyzed-passed : {table : List ℕ} → v ≡ conflict.Absent → Filled z firsts follows heads sets (replicate memoryWords noEntry) table
+    pub analyzed-passed : {table : List ℕ} → v ≡ conflict.Absent → Filled z firsts follows heads sets (replicate maxTableWords noEntry) table
         → analysis (Passed z) table ≡ analyzed words
     unfolding analyzed
     analyzed-passed t w =

@@ -11,13 +11,13 @@ use lib.ListN.{length, getD, getElem?, replicate}
 use Rattle.grammar.specs.Limits.{maxRules}
 use Rattle.grammar.specs.Syntax.{Rule, Grammar}
 use Rattle.lookahead.specs.Elements.{nothing, has}
-use Rattle.semantics.specs.Quantifiers.{any}
+use Rattle.booleans.specs.Quantifiers.{anyOf}
 use Rattle.semantics.specs.FiniteSets.{member, numbersFrom, numbers}
 use Rattle.semantics.specs.FirstFollow.{sameString}
 use Rattle.semantics.specs.Claims.{several, position, claimed, claims, tableOf}
 use Rattle.sets.specs.Sets.{stringOf}
 use Rattle.table.specs.Claims.{claimNumber, headsOf, claimNumbers, byRule, claimant}
-use Rattle.table.proofs.Claimed.{claim-has}
+use Rattle.table.proofs.RuleClaims.{claim-has}
 
 -- a rule claims what its claim has, for its head alone
 module _ (heads sets : List ℕ) where
@@ -48,8 +48,8 @@ module _ {X : Type 0} (p : ℕ → Bool) (f : X → Bool) where
   alike-later : (a : ℕ) (x : X) (l : List X) → Alike a (x ∷ l) → Alike (suc a) l
   alike-later a x l h q y e = let n : a + suc q ≡ suc a + q = omega arith in rw n at (h (suc q) y e)
 
-  any-alike : (a : ℕ) (l : List X) → Alike a l → any p (numbersFrom a (length l)) ≡ any f l
-  unfolding any numbersFrom
+  any-alike : (a : ℕ) (l : List X) → Alike a l → anyOf p (numbersFrom a (length l)) ≡ anyOf f l
+  unfolding anyOf numbersFrom
   any-alike a [] h = refl
   any-alike a (x ∷ l) h = ap₂ _||_ (alike-here a x l h) (any-alike (suc a) l (alike-later a x l h))
 

@@ -17,8 +17,8 @@ use Rattle.table.specs.declared.conflicts.Conflict.the-variants.{At}
 use Rattle.sets.specs.Lists.{listed}
 use Rattle.sets.specs.Sets.{stringOf, numberOf, firstNumber, followNumber}
 use Rattle.table.specs.Layout.{columnString, entryAt, setWord, rowWord, tableWords}
-use Rattle.table.specs.Conflicts.{firstOf}
-use Rattle.sets.specs.Families.{leftFault}
+use Rattle.table.specs.Conflicts.{firstConflictOf}
+use Rattle.sets.specs.Analysis.{leftFault}
 
 abbrev numbers : Grammar → List ℕ × List ℕ
 numbers G = (listed (G .nonterminals) (firstNumber G), listed (G .nonterminals) (followNumber G))
@@ -52,7 +52,7 @@ twiceA = record { nonterminals = 1; terminals = 1; rules = ruleA [] ∷ ruleA []
 abbrev notItself : Grammar
 notItself = record { nonterminals = 1; terminals = 1; rules = ruleA ((Nonterminal 0 ∷ []) ∷ []) ∷ [] }
 
-claimed-twice : firstOf (column 1) (clashes twiceA 1) ≡ At 0 0
+claimed-twice : firstConflictOf (column 1) (clashes twiceA 1) ≡ At 0 0
 unfolding tables-compute clashes
 claimed-twice = refl
 

@@ -9,7 +9,7 @@ use lib.Arith.{digits-lt, digits-div, digits-mod}
 use lib.ListN.{length, getD, replicate, length-append, List·getD-append}
 use lib.Seq.{getD-append-add}
 use Rattle.grammar.specs.Codes.{noEntry}
-use Rattle.grammar.specs.Limits.{tableWords as memoryWords}
+use Rattle.grammar.specs.Limits.{maxTableWords}
 use Rattle.grammar.specs.Syntax.{Grammar}
 use Rattle.sets.specs.Lists.{listed}
 use Rattle.sets.proofs.Lists.{listed-long, listed-at}
@@ -37,7 +37,7 @@ unfolding filled tableWords rowWord
 filled-entries G A c a h =
     let sets = listed (2 * G .nonterminals) (setWord G) in
     let rows = listed (G .nonterminals * columns G) (rowWord G) in
-    let behind = replicate (memoryWords - length (sets ++ rows)) noEntry in
+    let behind = replicate (maxTableWords - length (sets ++ rows)) noEntry in
     let i = A * columns G + c in
     let low : i < G .nonterminals * columns G = digits-lt a h in
     let n = listed-long (2 * G .nonterminals) (setWord G) in

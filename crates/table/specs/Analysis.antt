@@ -7,7 +7,7 @@ use Rattle.answer.specs.declared.Error.{Error}
 use Rattle.answer.specs.declared.Error.the-variants.{Conflict}
 use Rattle.answer.specs.Faults.{firstFault}
 use Rattle.grammar.specs.Codes.{noEntry}
-use Rattle.grammar.specs.Limits.{tableWords as memoryWords}
+use Rattle.grammar.specs.Limits.{maxTableWords}
 use Rattle.grammar.specs.Encoding.{grammarOf}
 use Rattle.grammar.specs.Reading.{reading}
 use Rattle.semantics.specs.FirstFollow.{Entry}
@@ -15,7 +15,7 @@ use Rattle.semantics.specs.Claims.{clashes, column}
 use Rattle.sets.specs.declared.Finding.{Finding}
 use Rattle.sets.specs.declared.Finding.the-variants.{Refused}
 use Rattle.table.specs.declared.Analysis.{Analysis}
-use Rattle.sets.specs.Families.{setsFaults, setsFault, findingOf}
+use Rattle.sets.specs.Analysis.{setsFaults, setsFault, findingOf}
 use Rattle.table.specs.Layout.{tableWords}
 use Rattle.table.specs.Entries.{filled}
 
@@ -33,13 +33,13 @@ fault words = firstFault (grammarFaults words)
 
 abbrev pub tableIf : Option Error → List ℕ → List ℕ
 tableIf none l = l
-tableIf (some e) l = replicate memoryWords noEntry
+tableIf (some e) l = replicate maxTableWords noEntry
 
 abbrev pub analysis : Finding → List ℕ → Analysis
 analysis f l = record { finding = f; table = l }
 
 abbrev pub refusedBy : Error → Analysis
-refusedBy e = analysis (Refused e) (replicate memoryWords noEntry)
+refusedBy e = analysis (Refused e) (replicate maxTableWords noEntry)
 
 unfoldable pub analyzed : List ℕ → Analysis
 analyzed words = analysis (findingOf (fault words) (reading words)) (tableIf (fault words) (filled (tableWords (grammarOf words))))

@@ -15,12 +15,12 @@ use Rattle.grammar.specs.Limits.{maxNonterminals, maxRules}
 use Rattle.grammar.specs.Reading.{reading, beginsRule}
 use Rattle.grammar.specs.Syntax.{Rule, Grammar}
 use Rattle.lookahead.specs.Elements.{has}
-use Rattle.lookahead.specs.Operations.{concat}
+use Rattle.lookahead.specs.Operations.{concatNumbers}
 use Rattle.semantics.specs.FiniteSets.{member}
 use Rattle.semantics.specs.FirstFollow.{sameString}
 use Rattle.semantics.specs.Claims.{claimed}
 use Rattle.sets.specs.declared.Finding.{Finding}
-use Rattle.sets.specs.Families.{setsFault, findingOf}
+use Rattle.sets.specs.Analysis.{setsFault, findingOf}
 use Rattle.sets.specs.Lists.{listed}
 use Rattle.sets.specs.Naming.{Indexed}
 use Rattle.sets.specs.Sets.{numberOf, firstNumber, followNumber}
@@ -65,7 +65,7 @@ pub record Headed (heads : List ℕ) (rules nonterminals : ℕ) : Type 0 where
   pub allowed : nonterminals ≤ maxNonterminals
 
 -- a grammar that has been read, and its sets
-pub record Given (words : List ℕ) (z : Sizes) (firsts follows : List ℕ) : Type 0 where
+pub record FamiliesGiven (words : List ℕ) (z : Sizes) (firsts follows : List ℕ) : Type 0 where
   pub read : reading words ≡ Read z
   pub first : firsts ≡ listed maxNonterminals (firstNumber (grammarOf words))
   pub follow : follows ≡ listed maxNonterminals (followNumber (grammarOf words))
@@ -101,4 +101,4 @@ pub record RuleClaims (A claim : ℕ) (before after : Kept) : Type 0 where
 -- by the word before them: a rule of A that begins with it claims what its positives' meet, and then what may follow A, begins with
 abbrev pub WordClaims : Option ℕ → List ℕ → ℕ → Kept → Kept → Type 0
 WordClaims none follows meet before after = after ≡ before
-WordClaims (some A) follows meet before after = RuleClaims A (concat meet (getD follows A 0)) before after
+WordClaims (some A) follows meet before after = RuleClaims A (concatNumbers meet (getD follows A 0)) before after

@@ -4,7 +4,7 @@ use mathlib.Core.Bool.{Bool}
 use mathlib.Core.List.{List, [], _∷_}
 use Prim.Native.Nat.{ℕ, zero, suc}
 use lib.ListN.{getD, set}
-use Rattle.word.specs.Choice.{choose}
+use Rattle.booleans.specs.Choice.{choose}
 use Rattle.grammar.specs.declared.reading.Sizes.{Sizes}
 use Rattle.lookahead.specs.Elements.{has}
 use Rattle.lookahead.specs.Operations.{join, meet}
@@ -17,9 +17,9 @@ use Rattle.table.specs.Layout.{columnElement}
 use Rattle.table.specs.Claims.{claimant}
 
 -- the first of a list of entries, where a string's column is known (document 01: the first such cell)
-abbrev pub firstOf : (List ℕ → ℕ) → List Entry → Conflict
-firstOf column [] = Absent
-firstOf column (e ∷ es) = At (e .0) (column (e .1))
+abbrev pub firstConflictOf : (List ℕ → ℕ) → List Entry → Conflict
+firstConflictOf column [] = Absent
+firstConflictOf column (e ∷ es) = At (e .0) (column (e .1))
 
 -- the first of n columns of A, from one on, that passes a test
 unfoldable pub rowConflict : (ℕ → Bool) → ℕ → ℕ → ℕ → Conflict

@@ -5,10 +5,10 @@ use mathlib.Core.Logic.{_⊎_}
 use mathlib.Core.Option.{Option, none, some}
 use Prim.Native.Nat.{ℕ, suc, _+_, _-_, _*_, _^_, _≤_, _<_}
 use lib.ListN.{length, getD, replicate}
-use Rattle.word.specs.Choice.{choose}
+use Rattle.booleans.specs.Choice.{choose}
 use Rattle.grammar.specs.Codes.{noEntry}
 use Rattle.grammar.specs.declared.reading.Sizes.{Sizes}
-use Rattle.grammar.specs.Limits.{maxTerminals, tableWords as memoryWords}
+use Rattle.grammar.specs.Limits.{maxTerminals, maxTableWords}
 use Rattle.lookahead.specs.Elements.{has}
 use Rattle.semantics.specs.FiniteSets.{numbers}
 use Rattle.semantics.specs.Claims.{position}
@@ -17,7 +17,7 @@ use Rattle.table.specs.Claims.{claimant, Headed}
 
 -- all of the memory: the table, and behind it no entries
 unfoldable pub filled : List ℕ → List ℕ
-filled l = l ++ replicate (memoryWords - length l) noEntry
+filled l = l ++ replicate (maxTableWords - length l) noEntry
 
 -- the first n columns of a row have the rule where it claims their elements
 pub record FilledRow (before : List ℕ) (row : ℕ) (element : ℕ → ℕ) (n claim rule : ℕ) (after : List ℕ) : Type 0 where
@@ -71,7 +71,7 @@ pub record FilledRows (R : Rows) (heads sets : List ℕ) (first : ℕ) (rules : 
 pub record RowsGiven (z : Sizes) (heads table : List ℕ) : Type 0 where
   pub headed : Headed heads (z .rules) (z .nonterminals)
   pub fewTerminals : z .terminals ≤ maxTerminals
-  pub long : length table ≡ memoryWords
+  pub long : length table ≡ maxTableWords
 
 -- the sets and the rows are filled in, one after the other
 pub record Filled (z : Sizes) (firsts follows heads sets before after : List ℕ) : Type 0 where

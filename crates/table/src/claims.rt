@@ -2,7 +2,7 @@
 ghost use mathlib.Core.Path.{_≡_};
 ghost use Rattle.sets.specs.Naming.{ruleHead};
 ghost use Rattle.grammar.specs.Encoding.{grammarOf};
-ghost use Rattle.table.specs.Claims.{claimsOf, Given, kept, MayClaim, WordClaims, Empty, AllKept};
+ghost use Rattle.table.specs.Claims.{claimsOf, FamiliesGiven, kept, MayClaim, WordClaims, Empty, AllKept};
 use grammar::limits::RULES;
 use grammar::reading::Sizes;
 use lookahead::LookaheadSet;
@@ -58,7 +58,7 @@ pub(crate) fn keep_claims<'a>(
     heads: &mut [u8; RULES],
     sets: &mut [u64; RULES],
 )
-    requires { ⌜ Given (now words) sizes (now firsts) (now follows) × Empty (now heads) × Empty (now sets) ⌝ }
+    requires { ⌜ FamiliesGiven (now words) sizes (now firsts) (now follows) × Empty (now heads) × Empty (now sets) ⌝ }
     ensures { λ _. ⌜ AllKept (grammarOf (now (words .entry))) (now (heads .exit)) (now (sets .exit)) ⌝ }
 {
     let terminals = sizes.terminals;

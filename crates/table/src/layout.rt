@@ -2,8 +2,8 @@
 ghost use mathlib.Core.Path.{_≡_};
 ghost use Prim.Native.Nat.{suc, _+_, _≤_, _<_};
 ghost use lib.ListN.{length};
-ghost use Rattle.word.specs.Choice.{choose};
-ghost use Rattle.grammar.specs.Limits.{maxNonterminals, tableWords as memoryWords};
+ghost use Rattle.booleans.specs.Choice.{choose};
+ghost use Rattle.grammar.specs.Limits.{maxNonterminals, maxTableWords};
 ghost use Rattle.lookahead.specs.Elements.{has};
 ghost use Rattle.semantics.specs.FiniteSets.{numbers};
 ghost use Rattle.table.specs.Layout.{columnElement};
@@ -37,7 +37,7 @@ fn fill_row(
     claim: LookaheadSet,
     rule: u32,
 )
-    requires { ⌜ (length (now table) ≡ memoryWords) × (row + terminals < memoryWords) ⌝ }
+    requires { ⌜ (length (now table) ≡ maxTableWords) × (row + terminals < maxTableWords) ⌝ }
     ensures { λ _. ⌜ FilledRow (now (table .entry)) row (columnElement terminals) (suc terminals) (claim .bits) rule (now (table .exit)) ⌝ }
 {
     let mut column = 0;
@@ -72,7 +72,7 @@ fn fill_sets(
     firsts: &[u64; SETS],
     follows: &[u64; SETS],
 )
-    requires { ⌜ (length (now table) ≡ memoryWords) × (nonterminals ≤ maxNonterminals) × FitWords (now firsts) × FitWords (now follows) ⌝ }
+    requires { ⌜ (length (now table) ≡ maxTableWords) × (nonterminals ≤ maxNonterminals) × FitWords (now firsts) × FitWords (now follows) ⌝ }
     ensures { λ _. ⌜ FilledSets (now (table .entry)) nonterminals (now (firsts .entry)) (now (follows .entry)) (now (table .exit)) ⌝ }
 {
     let mut nonterminal = 0;

@@ -1,4 +1,4 @@
--- A number's digits are those of its tenth and its last digit. Assumes nothing.
+-- A number's digits are those of its tenth and its last digit.
 use mathlib.Core.Path.{_≡_, ap}
 use mathlib.Core.List.{[], _∷_, _++_}
 use Prim.Native.Nat.{ℕ, zero, suc, _+_, _/_, _%_, _^_, _≤_, _<_}

@@ -1,4 +1,4 @@
--- The words of a row of bytes are the fours of bytes in order. Assumes nothing.
+-- The words of a row of bytes are the fours of bytes in order.
 use mathlib.Core.Path.{_≡_, refl, sym, _∙_}
 use mathlib.Core.List.{List, [], _∷_}
 use Prim.Native.Nat.{ℕ, zero, suc, _+_, _*_, _/_, _%_, _≤_, _<_}

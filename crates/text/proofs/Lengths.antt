@@ -1,4 +1,4 @@
--- How long texts can be. Assumes nothing.
+-- How long texts can be.
 use mathlib.Core.Bool.{Bool, true, false}
 use mathlib.Core.List.{List, [], _∷_, _++_}
 use Prim.Native.Nat.{ℕ, zero, suc, _+_, _*_, _/_, _%_, _^_, _≤_, _<_}
@@ -9,7 +9,7 @@ use lib.ListN.{length, length-append}
 use borrow.Author.Tests.{lt-ltb}
 use Rattle.answer.specs.declared.Error.{Error}
 use Rattle.answer.specs.Numbers.{coded}
-use Rattle.word.specs.Choice.{choose}
+use Rattle.booleans.specs.Choice.{choose}
 use Rattle.text.specs.Ascii.{ascii}
 use Rattle.text.specs.Decimal.{digit, digits, decimal, labelled, orDash}
 use Rattle.text.specs.Refusal.{refusalText}

@@ -1,4 +1,4 @@
--- What is put into a buffer is the text asked for, by what the values put are. Assumes nothing.
+-- What is put into a buffer is the text asked for, by what the values put are.
 use mathlib.Core.Path.{_≡_, refl}
 use mathlib.Core.List.{List, [], _∷_, _++_}
 use Prim.Native.Nat.{ℕ, zero, suc, _<_}

@@ -1,4 +1,4 @@
--- The laws of texts put into a buffer one behind the other. Assumes nothing.
+-- The laws of texts put into a buffer one behind the other.
 use mathlib.Core.Path.{_≡_, refl, sym, ap, _∙_}
 use mathlib.Core.List.{List, [], _∷_, _++_}
 use Prim.Native.Nat.{ℕ, suc, _+_, _-_, _≤_, _<_, min}
@@ -21,10 +21,6 @@ sets-append [] ys l i = rw add-zero
 sets-append (x ∷ xs) ys l i =
     let e : suc i + length xs ≡ i + suc (length xs) = omega arith in
     rw (← e) (sets-append xs ys (set l i x) (suc i))
-
--- one byte, where there is room and where there is none
-pub put-one : (l : List ℕ) (at v : ℕ) → at < length l → Put l at (v ∷ []) (set l at v) (at + 1)
-put-one l at v h = record { bytes = refl; position = omega arith }
 
 pub put-lost : (l : List ℕ) (at v : ℕ) → length l ≤ at → Put l at (v ∷ []) l at
 put-lost l at v h = record { bytes = sym (set-out l at v h); position = omega arith }

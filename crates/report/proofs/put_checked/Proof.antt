@@ -2,7 +2,7 @@
 use Prim.Native.Nat.{ℕ}
 use lib.ListN.{length-replicate}
 use Rattle.grammar.specs.Codes.{noEntry}
-use Rattle.grammar.specs.Limits.{tableWords as memoryWords}
+use Rattle.grammar.specs.Limits.{maxTableWords}
 use Rattle.report.specs.Report.{blankTable}
 use Rattle.report.proofs.Answers.{put-checked-text}
 use borrow.Author.Needs.{needs}
@@ -29,7 +29,7 @@ unfolding blankTable
 returns c =
     let at-put-check = c .before .before in
     let at-check = at-put-check .before .before .before .before in
-    put-checked-text (length-replicate {A = ℕ} memoryWords noEntry) (at-check .check .ensures) (at-put-check .put-check .ensures)
+    put-checked-text (length-replicate {A = ℕ} maxTableWords noEntry) (at-check .check .ensures) (at-put-check .put-check .ensures)
 
 pub put-checked-spec : {M : Type 1} → statement M
 put-checked-spec =

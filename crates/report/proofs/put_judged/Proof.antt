@@ -2,7 +2,7 @@
 use Prim.Native.Nat.{ℕ}
 use lib.ListN.{length-replicate}
 use Rattle.grammar.specs.Codes.{noEntry, uncalledCode}
-use Rattle.grammar.specs.Limits.{tableWords as memoryWords, memoEntries}
+use Rattle.grammar.specs.Limits.{maxTableWords, maxMemoEntries}
 use Rattle.report.specs.Report.{blankMemo}
 use Rattle.report.proofs.Answers.{put-judged-text}
 use borrow.Author.Needs.{needs}
@@ -40,7 +40,7 @@ returns c =
     let at-tokens = at-put-judgement .before .before in
     let at-nonterminals = at-tokens .before in
     let at-judge = at-nonterminals .before .before .before .before in
-    put-judged-text (length-replicate {A = ℕ} memoryWords noEntry) (length-replicate {A = ℕ} memoEntries uncalledCode) (at-nonterminals .nonterminals .ensures)
+    put-judged-text (length-replicate {A = ℕ} maxTableWords noEntry) (length-replicate {A = ℕ} maxMemoEntries uncalledCode) (at-nonterminals .nonterminals .ensures)
     (at-tokens .tokens .ensures) (at-judge .judge .ensures) (at-put-judgement .put-judgement .ensures)
 
 pub put-judged-spec : {M : Type 1} → statement M

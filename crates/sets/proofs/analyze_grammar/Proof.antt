@@ -1,7 +1,7 @@
 -- A grammar that has been read: by whether it is left-recursive.
 use mathlib.Core.Path.{_∙_}
 use Rattle.grammar.proofs.WellRead.{well-read}
-use Rattle.sets.proofs.Telling.{families-left, families-found}
+use Rattle.sets.proofs.Findings.{families-left, families-found}
 use Rattle.sets.proofs.LeftTie.{lowest-reached}
 use borrow.Author.Needs.{needs}
 use Rattle.sets.proofs.analyze_grammar.Statement.{statement}

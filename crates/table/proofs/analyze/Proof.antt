@@ -1,7 +1,7 @@
 -- An encoded grammar: by whether its families are found, and whether two rules claim an entry.
 use mathlib.Core.Path.{refl, _∙_}
 use borrow.Author.Needs.{needs}
-use Rattle.sets.proofs.Telling.{families-told, families-refused}
+use Rattle.sets.proofs.Findings.{families-told, families-refused}
 use Rattle.table.proofs.Analyzing.{given, analyzed-refused, few-terminals, headed, sets-fit, analyzed-conflict, analyzed-passed}
 use Rattle.table.proofs.analyze.Statement.{statement}
 use Rattle.table.proofs.analyze.Tie as tie

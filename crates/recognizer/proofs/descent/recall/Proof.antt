@@ -1,17 +1,17 @@
 use borrow.Author.Tests.{eq-eqb, ne-eqb}
 use Rattle.semantics.specs.Memo.{decode}
-use Rattle.semantics.specs.Quantifiers.{pick}
+use Rattle.booleans.specs.Choice.{choose}
 use Rattle.recognizer.proofs.descent.recall.Statement.{statement}
 use Rattle.recognizer.proofs.descent.recall.Tie as tie
 use Rattle.recognizer.proofs.descent.recall.Reads as reads
 use Rattle.recognizer.proofs.descent.recall.Lts as lts
 
 returns : tie.Need-returns
-unfolding decode pick
+unfolding decode
 returns c = rw (eq-eqb _ _ (c .if1 .taken))
 
 returns-2 : tie.Need-returns-2
-unfolding decode pick
+unfolding decode
 returns-2 c = rw (ne-eqb _ _ (c .if1 .left))
 
 pub recall-spec : {M : Type 1} → statement M

@@ -3,14 +3,14 @@ use mathlib.Core.Path.{_≡_, refl, _∙_}
 use Prim.Native.Nat.{_-_, _≤_}
 use native.Mathlib.Omega.{arith}
 use lib.ListN.{length, length-set}
-use Rattle.grammar.specs.Limits.{tableWords as memoryWords}
+use Rattle.grammar.specs.Limits.{maxTableWords}
 use Rattle.recognizer.specs.Memory.{wordCount}
 use Rattle.recognizer.proofs.Front.{front, front-more, count-low}
 use Rattle.recognizer.proofs.lending.lend.Statement.{statement}
 use Rattle.recognizer.proofs.lending.lend.Tie as tie
 
 abbrev Inv-loop : tie.InvT-loop
-Inv-loop table₀ entries count i₀ table i = (count ≤ memoryWords) × (i ≤ count) × (length table ≡ length table₀) × (table ≡ front entries i table₀)
+Inv-loop table₀ entries count i₀ table i = (count ≤ maxTableWords) × (i ≤ count) × (length table ≡ length table₀) × (table ≡ front entries i table₀)
 
 abbrev μ-loop : tie.MeasureT-loop
 μ-loop table₀ entries count i₀ table i = count - i

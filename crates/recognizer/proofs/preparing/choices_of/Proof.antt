@@ -2,7 +2,7 @@ use Prim.Native.Nat.{ℕ, _-_}
 use native.Mathlib.Omega.{arith}
 use lib.ListN.{length-replicate}
 use Rattle.recognizer.specs.Arrays.{choiceWords}
-use Rattle.recognizer.proofs.Filling.{Rows, rows-none, rows-more, rows-all}
+use Rattle.recognizer.proofs.ChoiceRows.{Rows, rows-none, rows-more, rows-all}
 use Rattle.recognizer.proofs.OneToken.{few-sizes, row-given}
 use Rattle.recognizer.proofs.preparing.choices_of.Statement.{statement}
 use Rattle.recognizer.proofs.preparing.choices_of.Tie as tie

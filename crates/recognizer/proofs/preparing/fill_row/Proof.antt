@@ -1,6 +1,6 @@
 use Prim.Native.Nat.{_-_}
 use native.Mathlib.Omega.{arith}
-use Rattle.recognizer.proofs.Filling.{placed, Writing, writing-none, writing-more, row-filled}
+use Rattle.recognizer.proofs.ChoiceRows.{placed, Writing, writing-none, writing-more, row-filled}
 use Rattle.recognizer.proofs.preparing.fill_row.Statement.{statement}
 use Rattle.recognizer.proofs.preparing.fill_row.Tie as tie
 

@@ -5,14 +5,14 @@ use lib.ListN.{length}
 use Rattle.grammar.specs.Limits.{maxNonterminals}
 use Rattle.grammar.specs.Encoding.{parse}
 use Rattle.lookahead.specs.Operations.{full}
-use Rattle.sets.specs.First.{FirstClosed}
-use Rattle.sets.proofs.Rising.{Below, below-none, missing, below-pass, least-pass, missing-falls}
+use Rattle.sets.specs.First.{FirstNumbersClosed}
+use Rattle.sets.proofs.LeastByPasses.{Below, below-none, missing, below-pass, least-pass, missing-falls}
 use Rattle.sets.proofs.FirstTie.{full-closed, first-listed}
 use Rattle.sets.proofs.first.first_sets.Statement.{statement}
 use Rattle.sets.proofs.first.first_sets.Tie as tie
 
 abbrev Inv-loop : tie.InvT-loop
-Inv-loop words starts sizes firsts₀ forward₀ firsts forward = (length firsts ≡ maxNonterminals) × Below (FirstClosed (sizes .terminals) (parse words .rules)) firsts
+Inv-loop words starts sizes firsts₀ forward₀ firsts forward = (length firsts ≡ maxNonterminals) × Below (FirstNumbersClosed (sizes .terminals) (parse words .rules)) firsts
 
 abbrev μ-loop : tie.MeasureT-loop
 μ-loop words starts sizes firsts₀ forward₀ firsts forward = missing (full (sizes .terminals)) firsts

@@ -1,7 +1,7 @@
 -- The loop keeps `FollowWalk`: the words from `at` on have been gone through.
 use native.Mathlib.Omega.{arith}
 use Rattle.sets.specs.Least.{at as family}
-use Rattle.sets.proofs.Looking.{lookup-at}
+use Rattle.sets.proofs.ArrayLookup.{lookup-at}
 use Rattle.sets.proofs.FollowPasses.{FollowWalk, follow-start, word-here, follow-turn, follow-end}
 use Rattle.sets.proofs.follow.follow_rule.Statement.{statement}
 use Rattle.sets.proofs.follow.follow_rule.Tie as tie

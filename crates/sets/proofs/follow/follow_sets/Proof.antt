@@ -7,15 +7,15 @@ use Rattle.grammar.specs.Encoding.{parse}
 use Rattle.lookahead.specs.Elements.{nothing}
 use Rattle.lookahead.specs.Operations.{full}
 use Rattle.sets.specs.Least.{at as family}
-use Rattle.sets.specs.Follow.{FollowClosed}
+use Rattle.sets.specs.Follow.{FollowNumbersClosed}
 use Rattle.sets.proofs.Lists.{listed-long}
-use Rattle.sets.proofs.Rising.{Below, below-none, missing, below-pass, least-pass, missing-falls}
+use Rattle.sets.proofs.LeastByPasses.{Below, below-none, missing, below-pass, least-pass, missing-falls}
 use Rattle.sets.proofs.FollowTie.{full-closed, firsts-over, follow-listed}
 use Rattle.sets.proofs.follow.follow_sets.Statement.{statement}
 use Rattle.sets.proofs.follow.follow_sets.Tie as tie
 
 abbrev Inv-loop : tie.InvT-loop
-Inv-loop words starts sizes firsts follows₀ forward₀ follows forward = (length follows ≡ maxNonterminals) × Below (FollowClosed (family firsts) (parse words .rules)) follows
+Inv-loop words starts sizes firsts follows₀ forward₀ follows forward = (length follows ≡ maxNonterminals) × Below (FollowNumbersClosed (family firsts) (parse words .rules)) follows
 
 abbrev μ-loop : tie.MeasureT-loop
 μ-loop words starts sizes firsts follows₀ forward₀ follows forward = missing (full nothing) follows

@@ -2,7 +2,7 @@
 use mathlib.Core.Path.{sym, _∙_}
 use Prim.Native.Nat.{_-_, _≤_}
 use native.Mathlib.Omega.{arith}
-use Rattle.semantics.proofs.Quantified.{NoneBelow}
+use Rattle.booleans.proofs.Quantified.{NoneBelow}
 use Rattle.sets.specs.Left.{ownIn}
 use Rattle.sets.proofs.Lowest.{lowest-found, lowest-absent, none-more}
 use Rattle.sets.proofs.left.lowest_own.Statement.{statement}

@@ -1,7 +1,7 @@
 -- An encoded grammar: by whether its families are found.
 use mathlib.Core.Path.{refl}
 use borrow.Author.Needs.{needs}
-use Rattle.sets.proofs.Telling.{families-told, families-refused}
+use Rattle.sets.proofs.Findings.{families-told, families-refused}
 use Rattle.table.proofs.Analyzing.{given, refused-claims, all-claims}
 use Rattle.table.proofs.claims.analyze.Statement.{statement}
 use Rattle.table.proofs.claims.analyze.Tie as tie

@@ -2,8 +2,8 @@
 use mathlib.Core.Path.{refl}
 use native.Mathlib.Omega.{arith}
 use borrow.Author.Needs.{needs}
-use Rattle.sets.proofs.Naming.{no-head}
-use Rattle.table.proofs.Claiming.{own, some-rule, claim-kept}
+use Rattle.sets.proofs.NamedNonterminals.{no-head}
+use Rattle.table.proofs.ClaimWalk.{own, some-rule, claim-kept}
 use Rattle.table.proofs.claims.claim.Statement.{statement}
 use Rattle.table.proofs.claims.claim.Tie as tie
 

@@ -3,9 +3,9 @@ use mathlib.Core.Path.{ap, _∙_}
 use native.Mathlib.Omega.{arith}
 use lib.ListN.{length}
 use Rattle.sets.proofs.Lists.{listed-long}
-use Rattle.sets.proofs.Looking.{onto-at}
+use Rattle.sets.proofs.ArrayLookup.{onto-at}
 use Rattle.table.specs.Claims.{kept}
-use Rattle.table.proofs.Claiming.{Claiming, claiming-start, may-claim, claiming-turn, claiming-end}
+use Rattle.table.proofs.ClaimWalk.{Claiming, claiming-start, may-claim, claiming-turn, claiming-end}
 use Rattle.table.proofs.claims.keep_claims.Statement.{statement}
 use Rattle.table.proofs.claims.keep_claims.Tie as tie
 

@@ -2,7 +2,7 @@
 use Prim.Native.Nat.{_-_, _≤_}
 use native.Mathlib.Omega.{arith}
 use Rattle.semantics.specs.FiniteSets.{numbersFrom}
-use Rattle.table.proofs.Noting.{Noting, noting-start, noting-turn, noting-end}
+use Rattle.table.proofs.ClaimedTwice.{Noting, noting-start, noting-turn, noting-end}
 use Rattle.table.proofs.conflicts.claimed_twice.Statement.{statement}
 use Rattle.table.proofs.conflicts.claimed_twice.Tie as tie
 

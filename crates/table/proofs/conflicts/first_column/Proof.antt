@@ -4,7 +4,7 @@ use Prim.Native.Nat.{suc, _-_, _≤_}
 use native.Mathlib.Omega.{arith}
 use Rattle.table.specs.Layout.{columnElement}
 use Rattle.table.specs.Conflicts.{rowConflict, inSet}
-use Rattle.table.proofs.Scanning.{column-empty, column-all, column-here, column-later, column-none}
+use Rattle.table.proofs.ConflictScan.{column-empty, column-all, column-here, column-later, column-none}
 use Rattle.table.proofs.conflicts.first_column.Statement.{statement}
 use Rattle.table.proofs.conflicts.first_column.Tie as tie
 

@@ -1,7 +1,7 @@
 -- The first entry in the sets that are claimed twice.
 use mathlib.Core.Path.{_∙_}
 use borrow.Author.Needs.{needs}
-use Rattle.table.proofs.Scanning.{twice-claimed}
+use Rattle.table.proofs.ConflictScan.{twice-claimed}
 use Rattle.table.proofs.conflicts.first_conflict.Statement.{statement}
 use Rattle.table.proofs.conflicts.first_conflict.Tie as tie
 

@@ -4,7 +4,7 @@ use Prim.Native.Nat.{suc, _-_, _≤_}
 use native.Mathlib.Omega.{arith}
 use Rattle.table.specs.Layout.{columnElement}
 use Rattle.table.specs.Conflicts.{conflictFrom, inSets}
-use Rattle.table.proofs.Scanning.{rows-all, row-here, row-later, rows-none}
+use Rattle.table.proofs.ConflictScan.{rows-all, row-here, row-later, rows-none}
 use Rattle.table.proofs.conflicts.first_entry.Statement.{statement}
 use Rattle.table.proofs.conflicts.first_entry.Tie as tie
 

@@ -4,7 +4,7 @@ use Prim.Native.Nat.{suc, _-_, _≤_}
 use native.Mathlib.Omega.{arith}
 use Rattle.table.specs.Layout.{columnElement}
 use Rattle.table.specs.Entries.{FilledRow}
-use Rattle.table.proofs.Filled.{row-none, row-more}
+use Rattle.table.proofs.FillSteps.{row-none, row-more}
 use Rattle.table.proofs.layout.fill_row.Statement.{statement}
 use Rattle.table.proofs.layout.fill_row.Tie as tie
 

@@ -5,7 +5,7 @@ use native.Mathlib.Numerals.{add-one}
 use native.Mathlib.Omega.{arith}
 use Rattle.semantics.specs.FiniteSets.{numbersFrom}
 use Rattle.table.specs.Entries.{rowsOf, FilledRows}
-use Rattle.table.proofs.Filling.{row-room, rows-start, rows-turn, rows-end}
+use Rattle.table.proofs.FillInvariant.{row-room, rows-start, rows-turn, rows-end}
 use Rattle.table.proofs.layout.fill_rows.Statement.{statement}
 use Rattle.table.proofs.layout.fill_rows.Tie as tie
 

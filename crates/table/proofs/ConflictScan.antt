@@ -8,7 +8,7 @@ use native.Mathlib.Omega.{arith}
 use denote.Enum.Declared.{tagOf}
 use types.Run.{OneOf, miss}
 use lib.ListN.{length}
-use Rattle.word.specs.Choice.{choose}
+use Rattle.booleans.specs.Choice.{choose}
 use Rattle.grammar.specs.Syntax.{Grammar}
 use Rattle.lookahead.specs.Elements.{nothing}
 use Rattle.lookahead.specs.Operations.{isEmpty}
@@ -20,7 +20,7 @@ use Rattle.table.specs.declared.conflicts.Conflict.{Conflict}
 use Rattle.table.specs.declared.conflicts.Conflict.the-variants.{Absent, At}
 use Rattle.table.specs.Layout.{columnString, columnElement}
 use Rattle.table.specs.Claims.{headsOf, claimNumbers, byRule}
-use Rattle.table.specs.Conflicts.{firstOf, rowConflict, orLater, conflictFrom, inSet, inSets, claimedTwice, Twice}
+use Rattle.table.specs.Conflicts.{firstConflictOf, rowConflict, orLater, conflictFrom, inSet, inSets, claimedTwice, Twice}
 use Rattle.table.proofs.Columns.{column-string, element-small, column-back, columns-strings}
 use Rattle.table.proofs.Claimants.{several-claims, told}
 use Rattle.table.proofs.conflicts.Conflict.{the-type}
@@ -84,26 +84,26 @@ twice-claimed element columns n {heads} {sets} {twice} {rules} t =
 
 -- for any lookahead: the strings of the columns in order, and a string's column
 module _ (columns : ℕ) (string : ℕ → List ℕ) (place : List ℕ → ℕ) (back : (c : ℕ) → c < columns → place (string c) ≡ c) (q : Entry → Bool) where
-  first-append : (xs ys : List Entry) → firstOf place (keep q (xs ++ ys)) ≡ orLater (firstOf place (keep q xs)) (firstOf place (keep q ys))
+  first-append : (xs ys : List Entry) → firstConflictOf place (keep q (xs ++ ys)) ≡ orLater (firstConflictOf place (keep q xs)) (firstConflictOf place (keep q ys))
   unfolding keep
   first-append [] ys = refl
   first-append (x ∷ xs) ys = go (q x) (first-append xs ys)
     where
-      go : (b : Bool) → firstOf place (keep q (xs ++ ys)) ≡ orLater (firstOf place (keep q xs)) (firstOf place (keep q ys))
-          → firstOf place (elim b [ true ↦ x ∷ keep q (xs ++ ys) | false ↦ keep q (xs ++ ys) ])
-          ≡ orLater (firstOf place (elim b [ true ↦ x ∷ keep q xs | false ↦ keep q xs ])) (firstOf place (keep q ys))
+      go : (b : Bool) → firstConflictOf place (keep q (xs ++ ys)) ≡ orLater (firstConflictOf place (keep q xs)) (firstConflictOf place (keep q ys))
+          → firstConflictOf place (elim b [ true ↦ x ∷ keep q (xs ++ ys) | false ↦ keep q (xs ++ ys) ])
+          ≡ orLater (firstConflictOf place (elim b [ true ↦ x ∷ keep q xs | false ↦ keep q xs ])) (firstConflictOf place (keep q ys))
       go true h = refl
       go false h = h
 
   module _ (p : ℕ → ℕ → Bool) (rows : ℕ) (same : (A c : ℕ) → A < rows → c < columns → p A c ≡ q (A, string c)) where
     row-first : (A c n : ℕ) → A < rows → c + n ≤ columns
-        → rowConflict (p A) A c n ≡ firstOf place (keep q (map (λ x. (A, x)) (map string (numbersFrom c n))))
+        → rowConflict (p A) A c n ≡ firstConflictOf place (keep q (map (λ x. (A, x)) (map string (numbersFrom c n))))
     unfolding rowConflict keep numbersFrom
     row-first A c zero a h = refl
     row-first A c (suc n) a h = rw (same A c a (omega arith), row-first A (suc c) n a (omega arith)) (go (q (A, string c)))
       where
-        go : (b : Bool) → choose b (At A c) (firstOf place (keep q (map (λ x. (A, x)) (map string (numbersFrom (suc c) n)))))
-            ≡ firstOf place (elim b [
+        go : (b : Bool) → choose b (At A c) (firstConflictOf place (keep q (map (λ x. (A, x)) (map string (numbersFrom (suc c) n)))))
+            ≡ firstConflictOf place (elim b [
               | true ↦ (A, string c) ∷ keep q (map (λ x. (A, x)) (map string (numbersFrom (suc c) n)))
               | false ↦ keep q (map (λ x. (A, x)) (map string (numbersFrom (suc c) n)))
             ])
@@ -111,7 +111,7 @@ module _ (columns : ℕ) (string : ℕ → List ℕ) (place : List ℕ → ℕ) 
         go false = refl
 
     pub rows-first : (A n : ℕ) → A + n ≤ rows
-        → conflictFrom p columns A n ≡ firstOf place (keep q (combine (λ A x. (A, x)) (numbersFrom A n) (map string (numbersFrom 0 columns))))
+        → conflictFrom p columns A n ≡ firstConflictOf place (keep q (combine (λ A x. (A, x)) (numbersFrom A n) (map string (numbersFrom 0 columns))))
     unfolding conflictFrom combine numbersFrom keep
     rows-first A zero h = refl
     rows-first A (suc n) h =
@@ -121,7 +121,7 @@ module _ (columns : ℕ) (string : ℕ → List ℕ) (place : List ℕ → ℕ) 
 -- for one token of lookahead, with the heads and the claims of a grammar's rules
 pub first-clash : (G : Grammar) → G .terminals ≤ nothing → {heads sets : List ℕ} → heads ≡ byRule (headsOf G) → sets ≡ byRule (claimNumbers G)
     → conflictFrom (claimedTwice (columnElement (G .terminals)) heads sets (length (G .rules))) (suc (G .terminals)) 0 (G .nonterminals)
-    ≡ firstOf (column (G .terminals)) (clashes G 1)
+    ≡ firstConflictOf (column (G .terminals)) (clashes G 1)
 unfolding clashes entries numbers
 first-clash G few {heads} {sets} h s =
     rw (columns-strings t) (rows-first (suc t) (columnString t) (column t) (λ c b. column-back t c few b) (λ e. several (claims G 1 e) (G .rules))

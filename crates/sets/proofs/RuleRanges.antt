@@ -1,4 +1,4 @@
--- Where the words of each rule of a grammar that has been read stand, and that these rules are the grammar's. Assumes nothing.
+-- Where the words of each rule of a grammar that has been read stand, and that these rules are the grammar's.
 use mathlib.Core.Path.{_≡_, refl, sym, ap, _∙_}
 use mathlib.Core.Bool.{Bool, true, false, false≢true}
 use mathlib.Core.List.{List, [], _∷_, _++_, List·Memᴰ}
@@ -9,7 +9,7 @@ use lib.ListN.{length, getD, take, drop, replicate, getElem?, List·getD-append}
 use lib.Seq.{drop-cons, getD-take}
 use Rattle.word.specs.declared.Word.{Word}
 use Rattle.word.specs.declared.Word.the-variants.{Heading, Rule as RuleWord, Positive, Negative, Symbol, End, Invalid}
-use Rattle.word.specs.Choice.{choose}
+use Rattle.booleans.specs.Choice.{choose}
 use Rattle.word.specs.Words.{decoded}
 use Rattle.grammar.specs.declared.reading.Sizes.{Sizes}
 use Rattle.grammar.specs.declared.reading.State.{State}

@@ -1,4 +1,4 @@
--- The rows of choices, written one after the other, each column by column. Assumes nothing.
+-- The rows of choices, written one after the other, each column by column.
 use mathlib.Core.Path.{_≡_, refl, sym, _∙_}
 use mathlib.Core.List.{List}
 use Prim.Native.Nat.{ℕ, suc, _+_, _*_, _≤_, _<_}
@@ -8,16 +8,16 @@ use native.Mathlib.Decide.{decLt}
 use lib.ListN.{length, getD, set, length-set}
 use lib.Seq.{getD-set-same, getD-set-other}
 use Rattle.grammar.specs.declared.reading.Sizes.{Sizes}
-use Rattle.grammar.specs.Limits.{maxNonterminals, maxTerminals, maxColumns, maxPlaces, memoEntries, tableWords as memoryWords}
+use Rattle.grammar.specs.Limits.{maxNonterminals, maxTerminals, maxColumns, maxPlaces, maxMemoEntries, maxTableWords}
 use Rattle.grammar.specs.Starts.{ruleStarts}
 use Rattle.recognizer.specs.Arrays.{choiceColumns, rowColumn, choiceWords, rowAt}
 use Rattle.recognizer.specs.Preparing.{entryOf, firstWord, RowGiven, RowFilled, Filled}
 
 -- where a row is read and written
 pub record Placed (z : Sizes) (A places : ℕ) : Type 0 where
-  pub from : 2 * z .nonterminals + A * (z .terminals + 1) + (z .terminals + 1) ≤ memoryWords
+  pub from : 2 * z .nonterminals + A * (z .terminals + 1) + (z .terminals + 1) ≤ maxTableWords
   pub to : A * choiceColumns + choiceColumns ≤ choiceWords
-  pub row : A * places + places ≤ memoEntries
+  pub row : A * places + places ≤ maxMemoEntries
 
 pub placed : {starts entries : List ℕ} {z : Sizes} {A places : ℕ} {choices : List ℕ} → RowGiven starts entries z A places choices → Placed z A places
 placed {z = z} {A = A} {places = places} g =

@@ -8,8 +8,8 @@ use native.Mathlib.Omega.{arith}
 use borrow.Author.Tests.{lt-ltb}
 use lib.ListN.{take}
 use Rattle.grammar.specs.Syntax.{Rule, Grammar, WellFormed}
-use Rattle.lookahead.specs.Elements.{nothing, has, Over}
-use Rattle.lookahead.specs.Operations.{concat as concatNumbers}
+use Rattle.lookahead.specs.Elements.{nothing, has, OverTerminals}
+use Rattle.lookahead.specs.Operations.{concatStrings as concatNumbers}
 use Rattle.lookahead.proofs.Pairs.{first, concat-pair}
 use Rattle.lookahead.proofs.Concat.{paired}
 use Rattle.lookahead.proofs.Order.{subset-antisym}
@@ -18,7 +18,7 @@ use Rattle.lookahead.proofs.Weights.{has-total}
 use Rattle.semantics.specs.Strings.{Lookahead}
 use Rattle.semantics.specs.Families.{FirstRule}
 use Rattle.semantics.specs.FiniteSets.{member}
-use Rattle.semantics.specs.FirstFollow.{strings, sameString, concat, firstSets, firstRule, First, follow, followSets}
+use Rattle.semantics.specs.FirstFollow.{strings, sameString, concatStrings, firstSets, firstRule, First, follow, followSets}
 use Rattle.semantics.specs.Claims.{meeting, claimed}
 use Rattle.semantics.proofs.FiniteSets.{member-mem, mem-member, keep-make, keep-elim}
 use Rattle.semantics.proofs.LookaheadSets.{strings-equality, strings-make, strings-elim, sets-make, sets-elim, concat-make, concat-elim}
@@ -37,7 +37,7 @@ abbrev Lists : List (List ℕ) → ℕ → Type 0
 Lists us s = (x : List ℕ) → List·Memᴰ x us ↔ StringIn s x
 
 -- a concatenation lists what the concatenation of the numbers has
-concat-lists : (us ys : List (List ℕ)) (s t : ℕ) → Lists us s → Lists ys t → Lists (concat 1 us ys) (concatNumbers s t)
+concat-lists : (us ys : List (List ℕ)) (s t : ℕ) → Lists us s → Lists ys t → Lists (concatStrings 1 us ys) (concatNumbers s t)
 concat-lists us ys s t f g x = (
   λ m.
       let r = concat-elim 1 us ys x m in
@@ -86,7 +86,7 @@ module _ (G : Grammar) (formed : WellFormed G) (few : G .terminals ≤ nothing) 
         (firstRule-make 1 (firstSets G 1) r x (λ b n. firstBody-mono 1 (First G 1) (In (firstSets G 1)) (in-first G 1) b x (k .1 b n))),
   )
 
-  first-over : (r : Rule) → Over nothing (ruleFirst t (firstNumber G) (r .positives))
+  first-over : (r : Rule) → OverTerminals nothing (ruleFirst t (firstNumber G) (r .positives))
   first-over r l s = at-most l (lookahead-bound t l few (rule-begins G formed few r l s .0))
 
   -- the number that the code finds is that of the strings that a rule claims

@@ -1,4 +1,4 @@
--- An array that has a set for each nonterminal gives the same family with and without a look at its length. Assumes nothing.
+-- An array that has a set for each nonterminal gives the same family with and without a look at its length.
 use mathlib.Core.Path.{_≡_, sym, ap, _∙_}
 use mathlib.Core.List.{List}
 use Prim.Native.Nat.{ℕ, _≤_, _<_}
@@ -7,7 +7,7 @@ use native.Mathlib.Decide.{decLt}
 use lib.Dec.{ltb}
 use lib.ListN.{length, getD, List·getD-eq-default}
 use borrow.Author.Tests.{lt-ltb, le-ltb}
-use Rattle.word.specs.Choice.{choose}
+use Rattle.booleans.specs.Choice.{choose}
 use Rattle.word.specs.declared.Word.{Word}
 use Rattle.grammar.specs.Limits.{maxNonterminals}
 use Rattle.sets.specs.declared.first.Rest.{Rest}

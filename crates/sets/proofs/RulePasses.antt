@@ -1,4 +1,4 @@
--- A pass goes over the rules in any order: what each rule asks of a family is met in its turn, and in the end all of it. Assumes nothing.
+-- A pass goes over the rules in any order: what each rule asks of a family is met in its turn, and in the end all of it.
 use mathlib.Core.Path.{_≡_, refl}
 use mathlib.Core.Bool.{Bool, true, false, _||_}
 use mathlib.Core.List.{List}
@@ -8,7 +8,7 @@ use native.Mathlib.Numerals.{add-one}
 use native.Mathlib.Omega.{arith}
 use Rattle.sets.specs.Least.{SetFamily, at, Passing, Passes}
 use Rattle.sets.specs.Rules.{turnOf}
-use Rattle.sets.proofs.Rising.{passing-none, passing-on, passing-then}
+use Rattle.sets.proofs.LeastByPasses.{passing-none, passing-on, passing-then}
 
 -- every rule has its turn
 pub turn-below : (forward : Bool) (n i : ℕ) → i < n → turnOf forward n i < n

@@ -1,4 +1,4 @@
--- Passes that join sets into an array until one adds nothing: the array is then the least closed family, whatever "closed" means. Assumes nothing.
+-- Passes that join sets into an array until one adds nothing: the array is then the least closed family, whatever "closed" means.
 use mathlib.Core.Path.{_≡_, refl, sym, ap, _∙_}
 use mathlib.Core.Bool.{Bool, true, false, true≢false, _||_}
 use mathlib.Core.List.{List, [], _∷_}
@@ -9,10 +9,11 @@ use native.Mathlib.Decide.{ℕ-discrete}
 use lib.ListN.{length, getD, set, replicate, length-set}
 use lib.Seq.{getD-set-same, getD-set-other, set-getD}
 use borrow.Author.Tests.{eq-eqb, ne-eqb}
-use Rattle.lookahead.specs.Elements.{Subset, one}
+use Rattle.booleans.specs.Quantifiers.{one}
+use Rattle.lookahead.specs.Elements.{Subset}
 use Rattle.lookahead.specs.Operations.{join}
 use Rattle.lookahead.proofs.Order.{subset-refl, join-left, empty-least, join-least, join-grows, same-join, subset-le}
-use Rattle.sets.specs.Least.{SetFamily, at, Under, Least, Adds, sum, Passing, Passes}
+use Rattle.sets.specs.Least.{SetFamily, at, Under, LeastNumbers, Adds, sum, Passing, Passes}
 
 -- the sum rises by what is stored
 sum-set : (l : List ℕ) (n v : ℕ) → n < length l → sum (set l n v) + at l n ≡ sum l + v
@@ -132,7 +133,7 @@ module _ {C : SetFamily → Type 0} {l l′ : List ℕ} {r : Bool} (p : Passes C
   pub below-pass : Below C l′
   below-pass G c = p .below G c (b G c)
 
-  pub least-pass : r ≡ false → Least C l′
+  pub least-pass : r ≡ false → LeastNumbers C l′
   least-pass e = record { closed = p .still e; least = below-pass }
 
   pub missing-falls : (m : ℕ) (G : SetFamily) → C G → ((n : ℕ) → G n ≤ m) → r ≡ true → missing m l′ < missing m l

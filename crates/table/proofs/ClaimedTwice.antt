@@ -11,7 +11,7 @@ use Rattle.grammar.specs.Limits.{maxNonterminals}
 use Rattle.lookahead.specs.Elements.{has}
 use Rattle.lookahead.specs.Operations.{join, meet}
 use Rattle.lookahead.proofs.Operations.{has-empty, has-join, has-meet}
-use Rattle.semantics.specs.Quantifiers.{any}
+use Rattle.booleans.specs.Quantifiers.{anyOf}
 use Rattle.semantics.specs.FiniteSets.{numbersFrom, numbers}
 use Rattle.semantics.specs.Claims.{several}
 use Rattle.table.specs.Claims.{claimant}
@@ -21,7 +21,7 @@ use Rattle.table.proofs.Claimants.{claimant-own, claimant-other, number
 -- these rules have been gone through
 pub record Noting (heads sets rules once twice : List ℕ) : Type 0 where
   pub long : (length once ≡ maxNonterminals) × (length twice ≡ maxNonterminals)
-  pub once-has : (A l : ℕ) → has (getD once A 0) l ≡ any (claimant heads sets A l) rules
+  pub once-has : (A l : ℕ) → has (getD once A 0) l ≡ anyOf (claimant heads sets A l) rules
   pub twice-has : (A l : ℕ) → has (getD twice A 0) l ≡ several (claimant heads sets A l) rules
 
 getD-zeros : (n i : ℕ) → _≡_ {A = ℕ} (getD (replicate n 0) i 0) 0
@@ -31,7 +31,7 @@ getD-zeros (suc n) (suc i) = getD-zeros n i
 
 -- before the last rule nothing is claimed
 noting-none : (heads sets : List ℕ) → Noting heads sets [] (replicate maxNonterminals 0) (replicate maxNonterminals 0)
-unfolding any several
+unfolding anyOf several
 noting-none heads sets = record {
   long = (length-replicate {A = ℕ} maxNonterminals 0, length-replicate {A = ℕ} maxNonterminals 0);
   once-has = λ A l. rw (getD-zeros maxNonterminals A) (has-empty l);
@@ -39,8 +39,8 @@ noting-none heads sets = record {
 }
 
 -- a list whose first member does not pass
-any-later : {X : Type 0} (p : X → Bool) (x : X) (l : List X) → p x ≡ false → any p (x ∷ l) ≡ any p l
-unfolding any
+any-later : {X : Type 0} (p : X → Bool) (x : X) (l : List X) → p x ≡ false → anyOf p (x ∷ l) ≡ anyOf p l
+unfolding anyOf
 any-later p x l e = rw e
 
 several-later : {X : Type 0} (p : X → Bool) (x : X) (l : List X) → p x ≡ false → several p (x ∷ l) ≡ several p l
@@ -56,11 +56,11 @@ module _ {heads sets : List ℕ} (q : ℕ) {rules once twice once′ twice′ : 
   abbrev claim : ℕ
   claim = getD sets q 0
 
-  own-once : (l : ℕ) → has (join (getD once head 0) claim) l ≡ any (claimant heads sets head l) (q ∷ rules)
-  unfolding any
+  own-once : (l : ℕ) → has (join (getD once head 0) claim) l ≡ anyOf (claimant heads sets head l) (q ∷ rules)
+  unfolding anyOf
   own-once l =
       has-join (getD once head 0) claim l ∙ ap₂ _||_ (f .once-has head l) (sym (claimant-own heads sets l q))
-      ∙ or-comm (any (claimant heads sets head l) rules) (claimant heads sets head l q)
+      ∙ or-comm (anyOf (claimant heads sets head l) rules) (claimant heads sets head l q)
 
   own-twice : (l : ℕ) → has (join (getD twice head 0) (meet (getD once head 0) claim)) l ≡ several (claimant heads sets head l) (q ∷ rules)
   unfolding several
@@ -68,8 +68,8 @@ module _ {heads sets : List ℕ} (q : ℕ) {rules once twice once′ twice′ : 
       let p = claimant heads sets head l in
       has-join (getD twice head 0) (meet (getD once head 0) claim) l
       ∙ ap₂ _||_ (f .twice-has head l)
-      (has-meet (getD once head 0) claim l ∙ ap₂ _&&_ (f .once-has head l) (sym (claimant-own heads sets l q)) ∙ and-comm (any p rules) (p q))
-      ∙ or-comm (several p rules) (p q && any p rules)
+      (has-meet (getD once head 0) claim l ∙ ap₂ _&&_ (f .once-has head l) (sym (claimant-own heads sets l q)) ∙ and-comm (anyOf p rules) (p q))
+      ∙ or-comm (several p rules) (p q && anyOf p rules)
 
   noting-rule : Noting heads sets (q ∷ rules) once′ twice′
   noting-rule = record {
@@ -84,7 +84,7 @@ module _ {heads sets : List ℕ} (q : ℕ) {rules once twice once′ twice′ : 
       twice-now : ℕ
       twice-now = join (getD twice head 0) (meet (getD once head 0) claim)
 
-      at-once : (A l : ℕ) → Dec (A ≡ head) → has (getD (set once head (join (getD once head 0) claim)) A 0) l ≡ any (claimant heads sets A l) (q ∷ rules)
+      at-once : (A l : ℕ) → Dec (A ≡ head) → has (getD (set once head (join (getD once head 0) claim)) A 0) l ≡ anyOf (claimant heads sets A l) (q ∷ rules)
       at-once A l (yes e) = rw (e, getD-set-same once head once-now 0 (omega (arith, f .long .0))) (own-once l)
       at-once A l (no ne) =
           rw (getD-set-other once head A once-now 0 ne)

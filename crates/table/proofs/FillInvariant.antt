@@ -10,8 +10,8 @@ use native.Mathlib.Nat.{suc-mul, mul-le-mul, mul-le-mul-right}
 use native.Mathlib.Omega.{arith}
 use lib.Arith.{digits-lt}
 use lib.ListN.{getD}
-use Rattle.word.specs.Choice.{choose}
-use Rattle.grammar.specs.Limits.{maxColumns, tableWords as memoryWords}
+use Rattle.booleans.specs.Choice.{choose}
+use Rattle.grammar.specs.Limits.{maxColumns, maxTableWords}
 use Rattle.grammar.specs.declared.reading.Sizes.{Sizes}
 use Rattle.lookahead.specs.Elements.{has}
 use Rattle.semantics.specs.FiniteSets.{numbersFrom, numbers}
@@ -97,7 +97,7 @@ module _ {R : Rows} {heads sets : List ℕ} (q : ℕ) {rules before table table�
 
 -- a rule's row is in the memory
 pub row-room : {z : Sizes} {heads table : List ℕ} → RowsGiven z heads table → (q : ℕ) → q < z .rules
-    → 2 * z .nonterminals + getD heads q 0 * (z .terminals + 1) + z .terminals < memoryWords
+    → 2 * z .nonterminals + getD heads q 0 * (z .terminals + 1) + z .terminals < maxTableWords
 row-room {z} g q h =
     let l : z .terminals + 1 ≤ maxColumns = omega (arith, g .fewTerminals) in
     let k : z .terminals < z .terminals + 1 = omega arith in

@@ -1,4 +1,4 @@
--- A pass of an analysis that joins into the set of each rule's head what the rule gives. Assumes nothing.
+-- A pass of an analysis that joins into the set of each rule's head what the rule gives.
 use mathlib.Core.Path.{_≡_, _∙_}
 use mathlib.Core.Bool.{Bool, _||_}
 use mathlib.Core.List.{List, List·Memᴰ}
@@ -18,9 +18,9 @@ use Rattle.grammar.proofs.WellRead.{well-read}
 use Rattle.lookahead.specs.Elements.{Subset}
 use Rattle.sets.specs.Least.{SetFamily, at, Under, Adds, Passes}
 use Rattle.sets.specs.Rules.{turnOf, ruleFrom, PassGiven}
-use Rattle.sets.proofs.Rising.{passing-add}
-use Rattle.sets.proofs.Standing.{rule-in, in-rules, rule-is}
-use Rattle.sets.proofs.Turns.{turn-below, All, Turns, turns-next, turns-end}
+use Rattle.sets.proofs.LeastByPasses.{passing-add}
+use Rattle.sets.proofs.RuleRanges.{rule-in, in-rules, rule-is}
+use Rattle.sets.proofs.RulePasses.{turn-below, All, Turns, turns-next, turns-end}
 
 -- what each rule gives is contained in its head's set
 abbrev pub Closes : (SetFamily → Rule → ℕ) → List Rule → SetFamily → Type 0

@@ -1,4 +1,4 @@
--- The nonterminals that words name: what other kinds of words leave out, and that those of a row that is read have a set. Assumes nothing.
+-- The nonterminals that words name: what other kinds of words leave out, and that those of a row that is read have a set.
 use mathlib.Core.Path.{_≡_, refl}
 use mathlib.Core.Bool.{true}
 use mathlib.Core.List.{List, [], _∷_}

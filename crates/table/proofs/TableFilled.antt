@@ -11,9 +11,9 @@ use lib.ListN.{length, getD, replicate, length-append, length-replicate, getD-re
 use lib.Seq.{ext-getD, getD-append-add}
 use borrow.Author.Tests.{eq-eqb, ne-eqb}
 use lib.Dec.{eqb}
-use Rattle.word.specs.Choice.{choose}
+use Rattle.booleans.specs.Choice.{choose}
 use Rattle.grammar.specs.Codes.{noEntry}
-use Rattle.grammar.specs.Limits.{maxNonterminals, maxTerminals, maxColumns, tableWords as memoryWords}
+use Rattle.grammar.specs.Limits.{maxNonterminals, maxTerminals, maxColumns, maxTableWords}
 use Rattle.grammar.specs.Syntax.{Grammar}
 use Rattle.semantics.specs.FiniteSets.{numbers}
 use Rattle.semantics.specs.Claims.{tableOf}
@@ -41,10 +41,10 @@ fresh-entry (some q) = omega arith
 module _ (G : Grammar) (few : G .nonterminals ≤ maxNonterminals) (few′ : G .terminals ≤ maxTerminals) {firsts follows heads claims : List ℕ}
     (f : firsts ≡ listed maxNonterminals (firstNumber G)) (g : follows ≡ listed maxNonterminals (followNumber G))
     (head : heads ≡ byRule (headsOf G)) (claim : claims ≡ byRule (claimNumbers G)) {half table : List ℕ}
-    (sets : FilledSets (replicate memoryWords noEntry) (G .nonterminals) firsts follows half)
+    (sets : FilledSets (replicate maxTableWords noEntry) (G .nonterminals) firsts follows half)
     (rows : FilledRows (rowsOf (G .nonterminals) (G .terminals)) heads claims 0 (numbers (length (G .rules))) half table) where
   abbrev before : List ℕ
-  before = replicate memoryWords noEntry
+  before = replicate maxTableWords noEntry
 
   abbrev setWords : ℕ
   setWords = 2 * G .nonterminals
@@ -52,7 +52,7 @@ module _ (G : Grammar) (few : G .nonterminals ≤ maxNonterminals) (few′ : G .
   abbrev rowWords : ℕ
   rowWords = G .nonterminals * columns G
 
-  room : setWords + rowWords ≤ memoryWords
+  room : setWords + rowWords ≤ maxTableWords
   room = let l : columns G ≤ maxColumns = omega arith in omega (arith, mul-le-mul few l)
 
   -- the sets
@@ -83,19 +83,19 @@ module _ (G : Grammar) (few : G .nonterminals ≤ maxNonterminals) (few′ : G .
       let c : i % columns G < columns G = mod-lt i z in
       let element = columnElement (G .terminals) (i % columns G) in
       let fresh : getD half (setWords + i) 0 ≡ noEntry =
-      sets .behind (setWords + i) (omega arith) ∙ getD-replicate memoryWords (setWords + i) noEntry 0 (omega (arith, room)) in
+      sets .behind (setWords + i) (omega arith) ∙ getD-replicate maxTableWords (setWords + i) noEntry 0 (omega (arith, room)) in
       let r = rw (div-add-mod' i (columns G), fresh) at (rows .entries (i / columns G) (i % columns G) A c) in
       let found = first-claim (told G head claim element (element-small (G .terminals) (i % columns G) few′ c)) (i / columns G)
       ∙ ap (tableOf G 1 (i / columns G)) (column-string (G .terminals) (i % columns G) few′ c) in
       r ∙ ap (entryOver 0 noEntry) found ∙ fresh-entry (tableOf G 1 (i / columns G) (columnString (G .terminals) (i % columns G)))
 
   -- every word
-  each : (i : ℕ) → i < memoryWords → getD table i 0 ≡ getD (filled (tableWords G)) i 0
+  each : (i : ℕ) → i < maxTableWords → getD table i 0 ≡ getD (filled (tableWords G)) i 0
   unfolding filled tableWords
   each i h = go (decLt i setWords) (decLt i (setWords + rowWords))
     where
       rest : List ℕ
-      rest = replicate (memoryWords - length (tableWords G)) noEntry
+      rest = replicate (maxTableWords - length (tableWords G)) noEntry
 
       go : Dec (i < setWords) → Dec (i < setWords + rowWords) → getD table i 0 ≡ getD ((listed setWords (setWord G) ++ listed rowWords (rowWord G)) ++ rest) i 0
       go (yes a) d =
@@ -110,16 +110,16 @@ module _ (G : Grammar) (few : G .nonterminals ≤ maxNonterminals) (few′ : G .
           ∙ listed-at rowWords (rowWord G) (i - setWords) k)
       go (no a) (no b) =
           let j : setWords + rowWords + (i - (setWords + rowWords)) ≡ i = omega arith in
-          rows .outside i (inr (omega arith)) ∙ sets .behind i (omega arith) ∙ getD-replicate memoryWords i noEntry 0 h
+          rows .outside i (inr (omega arith)) ∙ sets .behind i (omega arith) ∙ getD-replicate maxTableWords i noEntry 0 h
           ∙ sym ((rw j at (at-second (tableWords G) rest (setWords + rowWords) (i - (setWords + rowWords)) 0 (table-length G)))
-          ∙ getD-replicate (memoryWords - length (tableWords G)) (i - (setWords + rowWords)) noEntry 0 (omega (arith, table-length G)))
+          ∙ getD-replicate (maxTableWords - length (tableWords G)) (i - (setWords + rowWords)) noEntry 0 (omega (arith, table-length G)))
 
   -- the memory is the table, with no entries behind it
   pub table-filled : table ≡ filled (tableWords G)
   unfolding filled
   table-filled =
-      let l : length table ≡ memoryWords = rows .long ∙ sets .long ∙ length-replicate {A = ℕ} memoryWords noEntry in
-      let rest = replicate {A = ℕ} (memoryWords - length (tableWords G)) noEntry in
-      let long = length-replicate {A = ℕ} (memoryWords - length (tableWords G)) noEntry in
-      let m : length (filled (tableWords G)) ≡ memoryWords = omega (arith, length-append (tableWords G) rest, long, table-length G, room) in
+      let l : length table ≡ maxTableWords = rows .long ∙ sets .long ∙ length-replicate {A = ℕ} maxTableWords noEntry in
+      let rest = replicate {A = ℕ} (maxTableWords - length (tableWords G)) noEntry in
+      let long = length-replicate {A = ℕ} (maxTableWords - length (tableWords G)) noEntry in
+      let m : length (filled (tableWords G)) ≡ maxTableWords = omega (arith, length-append (tableWords G) rest, long, table-length G, room) in
       ext-getD 0 table (filled (tableWords G)) (l ∙ sym m) (λ i h. each i (omega arith))

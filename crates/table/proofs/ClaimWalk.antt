@@ -18,7 +18,7 @@ use Rattle.grammar.specs.Reading.{beginsRule}
 use Rattle.grammar.specs.WellRead.{WellRead}
 use Rattle.grammar.proofs.WellRead.{well-read}
 use Rattle.grammar.proofs.Places.{read-whole}
-use Rattle.lookahead.specs.Operations.{concat}
+use Rattle.lookahead.specs.Operations.{concatNumbers}
 use Rattle.lookahead.specs.Elements.{nothing}
 use Rattle.semantics.specs.FirstFollow.{first, follow}
 use Rattle.semantics.proofs.First.{first-lookahead}
@@ -29,11 +29,11 @@ use Rattle.sets.specs.Least.{at as family}
 use Rattle.sets.specs.Naming.{ruleHead}
 use Rattle.sets.specs.First.{bodyFirst, ruleFirst, restOf, noRest}
 use Rattle.sets.proofs.FirstPasses.{Onto}
-use Rattle.sets.proofs.Naming.{before-indexed}
+use Rattle.sets.proofs.NamedNonterminals.{before-indexed}
 use Rattle.sets.proofs.Numbers.{array-at}
 use Rattle.sets.proofs.Words.{parse-before, parse-over}
-use Rattle.table.specs.Claims.{claimNumber, byRule, Given, Kept, kept, MayClaim, WordClaims, Empty, AllKept}
-use Rattle.table.proofs.Claimed.{claim-found}
+use Rattle.table.specs.Claims.{claimNumber, byRule, FamiliesGiven, Kept, kept, MayClaim, WordClaims, Empty, AllKept}
+use Rattle.table.proofs.RuleClaims.{claim-found}
 
 -- a word that begins a rule of A
 module _ {w : Word} {behind A : ℕ} (m : MayClaim w behind) (e : w ≡ RuleWord A) where
@@ -43,7 +43,7 @@ module _ {w : Word} {behind A : ℕ} (m : MayClaim w behind) (e : w ≡ RuleWord
   pub some-rule : 0 < behind
   some-rule = m .numbered (rw e)
 
-  pub claim-kept : (follows : List ℕ) (meet : ℕ) (heads sets : List ℕ) {claim : ℕ} → claim ≡ concat meet (getD follows A 0)
+  pub claim-kept : (follows : List ℕ) (meet : ℕ) (heads sets : List ℕ) {claim : ℕ} → claim ≡ concatNumbers meet (getD follows A 0)
       → WordClaims (ruleHead w) follows meet (kept heads sets behind) (kept (set heads (behind - 1) A) (set sets (behind - 1) claim) (behind - 1))
   claim-kept follows meet heads sets c = rw e (record { numbered = omega (arith, some-rule); head = refl; claims = ap (set sets (behind - 1)) c })
 
@@ -121,7 +121,7 @@ pub record Claiming (words : List ℕ) (terminals all : ℕ) (firsts : List ℕ)
   pub claims : From (claimNumber (grammarOf words)) (parse (drop i words) .rules) all (b .rule) (b .sets)
   pub counted : all ≡ b .rule + length (parse (drop i words) .rules)
 
-module _ {words : List ℕ} {z : Sizes} {firsts follows : List ℕ} (g : Given words z firsts follows) where
+module _ {words : List ℕ} {z : Sizes} {firsts follows : List ℕ} (g : FamiliesGiven words z firsts follows) where
   known : WellRead words z
   known = well-read words z (g .read)
 
@@ -184,7 +184,7 @@ module _ {words : List ℕ} {z : Sizes} {firsts follows : List ℕ} (g : Given w
     }
 
     -- the claim of the rule that begins here
-    claimed : (A : ℕ) → w ≡ RuleWord A → concat (rest .meet .bits) (getD follows A 0) ≡ claimNumber (grammarOf words) (ruleOf A p)
+    claimed : (A : ℕ) → w ≡ RuleWord A → concatNumbers (rest .meet .bits) (getD follows A 0) ≡ claimNumber (grammarOf words) (ruleOf A p)
     unfolding onWord
     claimed A d =
         let r = ruleOf A p in

@@ -1,4 +1,4 @@
--- What is found of an encoded grammar, by what its parts find. Assumes nothing.
+-- What is found of an encoded grammar, by what its parts find.
 use mathlib.Core.Path.{_≡_, refl, sym, ap, _∙_}
 use mathlib.Core.List.{List}
 use mathlib.Core.Option.{Option, none, some}
@@ -20,7 +20,7 @@ use Rattle.sets.specs.declared.left.Lowest.the-variants as lowest
 use Rattle.sets.specs.Lists.{listed}
 use Rattle.sets.specs.Left.{lowestOf}
 use Rattle.sets.specs.Sets.{firstNumber, followNumber, reachNumber}
-use Rattle.sets.specs.Families.{setsFault, findingOf, setsIf, families, refusedBy, familiesOf}
+use Rattle.sets.specs.Analysis.{setsFault, findingOf, setsIf, families, refusedBy, familiesOf}
 
 pub families-faulty : (words : List ℕ) {e : Error} {o : Outcome} → o ≡ reading words → o ≡ Faulty e → refusedBy e ≡ familiesOf words
 unfolding familiesOf setsFault

@@ -18,6 +18,10 @@ T-false false t = refl
 pub true-T : (b : Bool) → b ≡ true → T b
 true-T b e = rw e tt
 
+pub T-none : (b : Bool) → (T b → ⊥) → b ≡ false
+T-none true f = absurd (f tt)
+T-none false f = refl
+
 pub and-l : (a b : Bool) → T (a && b) → T a
 and-l true b t = tt
 and-l false b t = t

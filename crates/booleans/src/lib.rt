@@ -1,0 +1,1 @@
+// Tests: definitions and laws alone, no code.
