@@ -66,7 +66,9 @@ fn symbol_left(
         return Nonterminals::empty();
     };
     let at = number as usize;
-    let own = Nonterminals::alone(number).join(Nonterminals { bits: reach[at] });
+    let alone = Nonterminals::alone(number);
+    let reached = Nonterminals { bits: reach[at] };
+    let own = alone.join(reached);
     let first = LookaheadSet { bits: firsts[at] };
     if first.contains(NOTHING) {
         own.join(behind)

@@ -24,17 +24,17 @@ cast-at c = search needs
 alone-requires : tie.Need-alone-requires
 alone-requires c κs = search needs
 
-mul-t10 : tie.Need-mul-t10
-mul-t10 c = search needs
+mul-t11 : tie.Need-mul-t11
+mul-t11 c = search needs
 
-element-copy-out-t13 : tie.Need-element-copy-out-t13
-element-copy-out-t13 c = omega (arith, rw (c .before .before .symbol .given .1) at (c .before .before .before .before .pre))
+element-copy-out-t14 : tie.Need-element-copy-out-t14
+element-copy-out-t14 c = omega (arith, rw (c .before .before .symbol .given .1) at (c .before .before .before .before .pre))
 
 join-requires : tie.Need-join-requires
 join-requires c κs = search needs
 
-mul-t10-2 : tie.Need-mul-t10-2
-mul-t10-2 c = search needs
+mul-t11-2 : tie.Need-mul-t11-2
+mul-t11-2 c = search needs
 
 element-copy-out-t17 : tie.Need-element-copy-out-t17
 element-copy-out-t17 c = omega (arith, rw (c .before .before .before .before .symbol .given .1) at (c .before .before .before .before .before .before .pre))
@@ -67,10 +67,10 @@ symbol-left-spec =
     returns
     cast-at
     alone-requires
-    mul-t10
-    element-copy-out-t13
+    mul-t11
+    element-copy-out-t14
     join-requires
-    mul-t10-2
+    mul-t11-2
     element-copy-out-t17
     contains-requires
     join-requires-2
