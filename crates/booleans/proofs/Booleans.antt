@@ -30,6 +30,10 @@ pub and-r : (a b : Bool) → T (a && b) → T b
 and-r true b t = t
 and-r false b t = absurd t
 
+pub and-first : (a b : Bool) → (a && b) ≡ true → a ≡ true
+and-first true b e = refl
+and-first false b e = absurd (false≢true e)
+
 pub and-make : (a b : Bool) → T a → T b → T (a && b)
 and-make true b t u = u
 and-make false b t u = t

@@ -31,13 +31,13 @@ use Rattle.grammar.proofs.WellRead.{chosen, both, within-limits}
 use Rattle.encoding.proofs.Words.{Parts, parts, decoded-symbol}
 use Rattle.encoding.proofs.ReadingEncodes.{opened-encodes, encodes-opened}
 use Rattle.encoding.proofs.Faults.{stop-same, Faults, faults}
-use Rattle.encoding.proofs.Place.{Place, begins, begun, stuck, may-end, may-stand, may-begin, may-follow}
+use Rattle.encoding.proofs.FaultIndex.{Place, begins, begun, stuck, may-end, may-stand, may-begin, may-follow}
 
 decoded-kind : (w k : ℕ) → kind w ≡ k → decoded w ≡ ofKind k (payload w)
 unfolding decoded
 decoded-kind w k e = rw e
 
--- what is wrong with the word at the place
+-- what is wrong with the word at the index
 module _ (words : List ℕ) (i : ℕ) (x : Error) (h : Place words i x) where
   out-of-range : (v : Word) → Parts v (kind (getD words i 0)) (payload (getD words i 0)) → allows v (h .come .state) ≡ true → inRange v (h .come .sizes) ≡ false
       → OutOfRangeAt words i

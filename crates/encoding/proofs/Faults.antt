@@ -27,7 +27,7 @@ use Rattle.grammar.proofs.WellFormed.{faulty, never, step-passed}
 use Rattle.encoding.proofs.Words.{decoded-positive}
 use Rattle.encoding.proofs.EncodingRead.{Goes, goes-word, closed-goes, end-goes}
 
--- from every place there is a way to the end
+-- from every index there is a way to the end
 pub record Completes (p : Progress) : Type 0 where
   pub rest : List ℕ
   pub sizes : Sizes

@@ -3,7 +3,7 @@ pub mod Decoding
 pub mod EncodingRead
 pub mod ReadingEncodes
 pub mod Faults
-pub mod Place
+pub mod FaultIndex
 pub mod Diagnosis
 pub mod OneDiagnosis
 pub mod Faithful

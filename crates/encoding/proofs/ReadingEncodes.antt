@@ -31,7 +31,7 @@ use Rattle.encoding.proofs.EncodingRead.{encode-opened}
 unfoldable unparse : Parsed → List ℕ
 unparse p = bodyWords (p .body) (conjunctWords positiveWord (p .positives) (conjunctWords negativeWord (p .negatives) (rulesWords (p .rules) (endWord ∷ []))))
 
--- the words from a place on are those of what they say; behind the end there are none
+-- the words from an index on are those of what they say; behind the end there are none
 abbrev Unparsed : State → List ℕ → Type 0
 Unparsed Before ws = ws ≡ unparse (parse ws)
 Unparsed Opened ws = ws ≡ unparse (parse ws)

@@ -6,4 +6,4 @@ pub mod Begins
 pub mod WellRead
 pub mod Examples
 pub mod Starts
-pub mod Places
+pub mod EachIndex

@@ -34,7 +34,7 @@ take-replicate zero m h = refl
 take-replicate (suc n) zero h = absurd (omega arith)
 take-replicate (suc n) (suc m) h = ap {B = List ℕ} (λ l. 0 ∷ l) (take-replicate n m (omega arith))
 
--- after the words before an index: the first `rules` places hold the begins found, the others zero
+-- after the words before an index: the first `rules` numbers hold the begins found, the others zero
 pub record Noting (words found : List ℕ) (rules at : ℕ) : Type 0 where
   pub room : rules ≤ maxRules
   pub size : length found ≡ maxRules

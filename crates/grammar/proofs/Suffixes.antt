@@ -13,19 +13,19 @@ use Rattle.grammar.specs.Encoding.{declaredBy}
 use Rattle.grammar.specs.Reading.{fresh, stepped, scan, reading}
 use Rattle.grammar.proofs.Scanning.{scan-here}
 use Rattle.grammar.proofs.WellFormed.{Passed, step-passed, onward}
-use Rattle.grammar.proofs.Places.{read-opened}
+use Rattle.grammar.proofs.EachIndex.{read-opened}
 
 -- the progress behind the word at an index, and the reading from there
 pub record Next (words : List ℕ) (at : ℕ) (p : Progress) (z : Sizes) : Type 0 where
   pub progress : Progress
-  pub step-passed : Passed (decoded (getD words at 0)) p progress
+  pub passed : Passed (decoded (getD words at 0)) p progress
   pub reads : scan progress (at + 1) (drop (at + 1) words) ≡ Read z
 
 pub scan-next : (words : List ℕ) (at : ℕ) (p : Progress) (z : Sizes) → at < length words → scan p at (drop at words) ≡ Read z → Next words at p z
 scan-next words at p z h e =
     let w = decoded (getD words at 0) in
     let g = onward (stepped w p at) (λ q. scan q (suc at) (drop (suc at) words)) z (sym (scan-here words p at h) ∙ e) in
-    record { progress = g .0; step-passed = step-passed w p (g .0) at (g .1); reads = rw (add-one at) (g .2) }
+    record { progress = g .0; passed = step-passed w p (g .0) at (g .1); reads = rw (add-one at) (g .2) }
 
 -- a reading that has come to an index
 pub record Reached (words : List ℕ) (at : ℕ) (z : Sizes) : Type 0 where

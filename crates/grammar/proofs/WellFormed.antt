@@ -51,7 +51,7 @@ pub record Empty (p : Parsed) : Type 0 where
   pub positives : p .positives ≡ []
   pub negatives : p .negatives ≡ []
 
--- what the words behind a place are, by what stands before it
+-- what the words behind an index are, by what stands before it
 abbrev pub Shape : State → Parsed → Type 0
 Shape Before p = Empty p
 Shape Opened p = (p .body ≡ []) × (p .positives ≡ [] → ⊥)
@@ -205,7 +205,7 @@ unfolding onStep
 onward (Go q) f z e = (q, refl, e)
 onward (Stop x) f z e = let n : _≡_ {A = ℕ} 0 1 = cc in absurd (omega arith)
 
--- what a reading from a place to its end tells of the words
+-- what a reading from an index to its end tells of the words
 pub record Reads (p : Progress) (z : Sizes) (ps : Parsed) : Type 0 where
   pub nonterminals : z .nonterminals ≡ p .sizes .nonterminals
   pub terminals : z .terminals ≡ p .sizes .terminals

@@ -10,6 +10,7 @@ use lib.Dec.{ltb, eqb}
 use lib.ListN.{length, getD, drop}
 use denote.Enum.Declared.{tagOf}
 use borrow.Author.Tests.{lt-ltb, le-ltb, ne-eqb, ltb-true}
+use Rattle.booleans.proofs.Booleans.{and-first}
 use Rattle.word.proofs.Word.{the-type}
 use Rattle.word.specs.Words.{decoded}
 use Rattle.word.specs.declared.Symbol as grammar
@@ -109,10 +110,6 @@ module _ {choice : Choice} {words choices tokens input memo₀ : List ℕ} {A fr
           let n : endMark ≡ a → ⊥ = λ q. absurd (omega (arith, r .terminals, r .fewTerminals)) in
           rw (le-ltb place (length input) (omega arith), e, g .call .given .end, ne-eqb endMark a n)
 
-both : (a b : Bool) → (a && b) ≡ true → a ≡ true
-both true b e = refl
-both false b e = absurd (false≢true e)
-
 end-same : (i j : ℕ) → End i ≡ End j → i ≡ j
 end-same i j e = cc
 
@@ -190,7 +187,7 @@ module _ {choice : Choice} {words choices tokens input memo₀ : List ℕ} {A fr
     unfolding memoRun
     running-terminal matched =
         let m : (ltb place (length input) && eqb (getD input place 0) a) ≡ true = sym running-token ∙ matched in
-        let l : place < length input = ltb-true place (length input) (both (ltb place (length input)) (eqb (getD input place 0) a) m) in
+        let l : place < length input = ltb-true place (length input) (and-first (ltb place (length input)) (eqb (getD input place 0) a) m) in
         record {
           behind = omega (arith, v .behind);
           placed = omega arith;

@@ -8,6 +8,7 @@ use lib.Dec.{leb, eqb}
 use lib.ListN.{length, take, drop}
 use lib.Seq.{sets, sets-eq, length-sets, take-at, length-take-le}
 use borrow.Author.Tests.{leb-true}
+use Rattle.booleans.proofs.Booleans.{and-first}
 use Rattle.answer.specs.declared.Error.the-variants.{Length}
 use Rattle.grammar.specs.Limits.{maxWords}
 use Rattle.text.specs.declared.words.Loaded.{Loaded}
@@ -30,10 +31,6 @@ pub record FoundWords (bytes after : List ℕ) (n : ℕ) : Type 0 where
   pub part : n ≡ length (take n after)
   pub words : take n after ≡ wordsOf bytes
 
-short : (a b : Bool) → (a && b) ≡ true → a ≡ true
-short true b e = refl
-short false b e = e
-
 pub found : {bytes before after : List ℕ} {r : Loaded} {n : ℕ} → Loading bytes before r after → r ≡ Words n → length before ≡ maxWords → FoundWords bytes after n
 unfolding areWords
 found {bytes} {before} {after} {r} {n} l told size = go (areWords bytes) refl
@@ -42,7 +39,7 @@ found {bytes} {before} {after} {r} {n} l told size = go (areWords bytes) refl
     go true e =
         let m : n ≡ length bytes / bytesOfWord = cc (rw e at (l .told)) in
         let w : after ≡ sets before 0 (wordsOf bytes) = rw e at (l .words) in
-        let k : length bytes ≤ bytesOfWord * maxWords = leb-true _ _ (short (leb (length bytes) (bytesOfWord * maxWords)) (eqb (length bytes % bytesOfWord) 0) e) in
+        let k : length bytes ≤ bytesOfWord * maxWords = leb-true _ _ (and-first (leb (length bytes) (bytesOfWord * maxWords)) (eqb (length bytes % bytesOfWord) 0) e) in
         let j : length (wordsOf bytes) ≡ n = length-words bytes ∙ sym m in
         let a : length after ≡ length before = ap length w ∙ length-sets before 0 (wordsOf bytes) in
         record {

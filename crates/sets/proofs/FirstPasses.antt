@@ -16,7 +16,7 @@ use Rattle.word.specs.Words.{decoded}
 use Rattle.grammar.specs.Syntax.{Body, Rule}
 use Rattle.grammar.specs.Encoding.{Parsed, onWord, parse}
 use Rattle.grammar.specs.WellRead.{firstRule}
-use Rattle.grammar.proofs.Places.{Behind}
+use Rattle.grammar.proofs.EachIndex.{Behind}
 use Rattle.lookahead.specs.Elements.{Subset}
 use Rattle.lookahead.specs.Operations.{end, terminal, full, meet}
 use Rattle.lookahead.proofs.Order.{subset-refl, meet-mono}

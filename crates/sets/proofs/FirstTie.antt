@@ -12,11 +12,11 @@ use Rattle.grammar.specs.Limits.{maxNonterminals}
 use Rattle.grammar.specs.Syntax.{Body, Rule, Grammar, WellFormed, TerminalsBelow}
 use Rattle.grammar.specs.Encoding.{parse, grammarOf}
 use Rattle.grammar.specs.Reading.{reading}
-use Rattle.grammar.proofs.Places.{read-whole}
+use Rattle.grammar.proofs.EachIndex.{read-whole}
 use Rattle.grammar.proofs.WellFormed.{none-in, more-in}
 use Rattle.grammar.proofs.WellRead.{well-read}
 use Rattle.semantics.specs.Strings.{Lookahead}
-use Rattle.semantics.specs.Families.{FirstBody, FirstRule, FirstNumbersClosed as FirstClosedStrings}
+use Rattle.semantics.specs.Families.{FirstBody, FirstRule, FirstClosed}
 use Rattle.semantics.specs.FirstFollow.{first, First}
 use Rattle.semantics.proofs.First.{firstBody-mono, first-lookahead, first-closed, first-smallest}
 use Rattle.lookahead.specs.Elements.{nothing, has}
@@ -69,7 +69,7 @@ module _ (G : Grammar) (formed : WellFormed G) (few : G .terminals ≤ nothing) 
       below b n = formed .terminals r m b (Memᴰ·append-left (r .negatives) n)
 
   -- so a closed family of numbers is one of strings, which FIRST_1 is contained in
-  strings-closed : (F : SetFamily) → FirstNumbersClosed (G .terminals) (G .rules) F → FirstClosedStrings G 1 (stringsOf F)
+  strings-closed : (F : SetFamily) → FirstNumbersClosed (G .terminals) (G .rules) F → FirstClosed G 1 (stringsOf F)
   strings-closed F c r m x l f = let i = rule-in F r m x l f in (i .0, c r m (i .0) (i .1), i .2)
 
   -- the set of a body under the numbers of FIRST_1 holds the strings that the body can begin with

@@ -24,7 +24,7 @@ use Rattle.grammar.specs.Starts.{ruleStarts}
 use Rattle.grammar.specs.WellRead.{headOf, Begun}
 use Rattle.grammar.proofs.WellFormed.{none-in, more-in}
 use Rattle.grammar.proofs.WellRead.{well-read}
-use Rattle.grammar.proofs.Places.{Behind, read-place}
+use Rattle.grammar.proofs.EachIndex.{Behind, read-place}
 use Rattle.lookahead.specs.Elements.{Subset}
 use Rattle.lookahead.specs.Operations.{end, concatNumbers}
 use Rattle.lookahead.proofs.Order.{subset-refl}
@@ -104,7 +104,7 @@ module _ (F : SetFamily) (B : ℕ) (p : Parsed) (L : SetFamily) where
 asked-none : (F : SetFamily) (B : ℕ) (p : Parsed) (L : SetFamily) → Ended p → Asked F B p L
 asked-none F B p L e = record { body = rw (e .body) tt; positives = rw (e .positives) (none-in _); negatives = rw (e .negatives) (none-in _) }
 
--- what comes behind a place, with a word in front
+-- what comes behind an index, with a word in front
 tail-word : (F : SetFamily) (v : ℕ) (w : Word) (p : Parsed) → Inside w
     → tailBefore F v w (concatNumbers (bodyFirst F (p .body)) v) ≡ concatNumbers (bodyFirst F (onWord w p .body)) v
 unfolding onWord bodyFirst

@@ -15,9 +15,9 @@ use Rattle.grammar.specs.Limits.{maxNonterminals}
 use Rattle.grammar.specs.Syntax.{Body, Rule, Grammar, WellFormed, TerminalsBelow}
 use Rattle.grammar.specs.Encoding.{parse, grammarOf}
 use Rattle.grammar.specs.Reading.{reading}
-use Rattle.grammar.proofs.Places.{read-whole}
+use Rattle.grammar.proofs.EachIndex.{read-whole}
 use Rattle.grammar.proofs.WellRead.{well-read}
-use Rattle.semantics.specs.Families.{FirstBody, FollowNumbersBody as FollowStrings, FollowNumbersClosed as FollowClosedStrings}
+use Rattle.semantics.specs.Families.{FirstBody, FollowBody, FollowClosed}
 use Rattle.semantics.specs.FirstFollow.{first, follow, First, Follow}
 use Rattle.semantics.proofs.First.{first-lookahead}
 use Rattle.semantics.proofs.Follow.{follow-lookahead, follow-closed, follow-smallest}
@@ -40,7 +40,7 @@ use Rattle.sets.proofs.FirstTie.{body-begins, begins-body}
 module _ (G : Grammar) (formed : WellFormed G) (few : G .terminals ≤ nothing) (some : 0 < G .nonterminals) where
   -- a closed family of numbers is one of strings, which FOLLOW_1 is contained in
   strings-body : (L : SetFamily) (B : ℕ) (y : List ℕ) → StringIn (L B) y → (b : Body) → TerminalsBelow (G .terminals) b → FollowNumbersBody (firstNumber G) L B b
-      → FollowStrings 1 (First G 1) (stringsOf L) y b
+      → FollowBody 1 (First G 1) (stringsOf L) y b
   strings-body L B y i [] t f = tt
   strings-body L B y i (Terminal a ∷ b) t f = strings-body L B y i b (t .1) f
   strings-body L B y i (Nonterminal A ∷ b) t f = (behind, strings-body L B y i b t (f .1))
@@ -53,14 +53,14 @@ module _ (G : Grammar) (formed : WellFormed G) (few : G .terminals ≤ nothing) 
             ap₂ (λ v z. take 1 (v ++ z)) (j .2) (i .2) ∙ string-first (j .0) (i .0),
           )
 
-  strings-closed : (L : SetFamily) → FollowNumbersClosed (firstNumber G) (G .rules) L → FollowClosedStrings G 1 (First G 1) (stringsOf L)
+  strings-closed : (L : SetFamily) → FollowNumbersClosed (firstNumber G) (G .rules) L → FollowClosed G 1 (First G 1) (stringsOf L)
   strings-closed L c = record {
     start = (nothing, c .start nothing (rw (has-end nothing) tt), sym string-nothing);
     follows = λ r m b n y i. strings-body L (r .head) y i b (formed .terminals r m b n) (c .follows r m b n);
   }
 
   -- and the numbers of FOLLOW_1 are a closed family
-  numbers-body : (B : ℕ) (b : Body) → ((y : List ℕ) → Follow G 1 B y → FollowStrings 1 (First G 1) (Follow G 1) y b)
+  numbers-body : (B : ℕ) (b : Body) → ((y : List ℕ) → Follow G 1 B y → FollowBody 1 (First G 1) (Follow G 1) y b)
       → FollowNumbersBody (firstNumber G) (followNumber G) B b
   unfolding followNumber
   numbers-body B [] f = tt

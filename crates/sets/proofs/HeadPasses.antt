@@ -13,7 +13,7 @@ use Rattle.grammar.specs.Syntax.{Rule}
 use Rattle.grammar.specs.Encoding.{parse, grammarOf}
 use Rattle.grammar.specs.Starts.{ruleStarts}
 use Rattle.grammar.specs.WellRead.{headOf}
-use Rattle.grammar.proofs.Places.{read-whole}
+use Rattle.grammar.proofs.EachIndex.{read-whole}
 use Rattle.grammar.proofs.WellRead.{well-read}
 use Rattle.lookahead.specs.Elements.{Subset}
 use Rattle.sets.specs.Least.{SetFamily, at, Under, Adds, Passes}

@@ -7,7 +7,7 @@ use lib.ListN.{length, getD, drop}
 use Rattle.word.specs.declared.Word.{Word}
 use Rattle.word.specs.Words.{decoded}
 use Rattle.grammar.specs.Encoding.{onWord, parse}
-use Rattle.grammar.proofs.Places.{Behind, read-place}
+use Rattle.grammar.proofs.EachIndex.{Behind, read-place}
 use Rattle.sets.specs.Naming.{Indexed}
 use Rattle.sets.specs.Rules.{Inside, RuleWords}
 use Rattle.sets.proofs.NamedNonterminals.{word-indexed}

@@ -20,7 +20,7 @@ use Rattle.grammar.specs.Limits.{maxNonterminals}
 use Rattle.grammar.specs.Syntax.{Body, Rule, bodies}
 use Rattle.grammar.specs.Encoding.{Parsed, onWord, parse}
 use Rattle.grammar.specs.WellRead.{firstRule}
-use Rattle.grammar.proofs.Places.{Behind}
+use Rattle.grammar.proofs.EachIndex.{Behind}
 use Rattle.lookahead.specs.Elements.{weight, Subset}
 use Rattle.lookahead.specs.Operations.{empty, join, Empty, Joined}
 use Rattle.lookahead.proofs.Order.{subset-refl, subset-antisym, join-left, join-right, join-least, join-mono, join-same}

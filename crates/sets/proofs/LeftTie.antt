@@ -16,7 +16,7 @@ use Rattle.grammar.specs.Reading.{reading}
 use Rattle.grammar.specs.Syntax.{Body, Grammar, WellScoped, bodies}
 use Rattle.grammar.specs.Encoding.{parse, grammarOf}
 use Rattle.grammar.proofs.WellRead.{well-read}
-use Rattle.grammar.proofs.Places.{read-whole}
+use Rattle.grammar.proofs.EachIndex.{read-whole}
 use Rattle.lookahead.specs.Elements.{nothing, weight, has}
 use Rattle.lookahead.specs.Operations.{join}
 use Rattle.lookahead.proofs.Elements.{bound}

@@ -19,7 +19,7 @@ use Rattle.grammar.specs.declared.reading.Outcome.the-variants.{Read}
 use Rattle.grammar.specs.Limits.{maxNonterminals}
 use Rattle.grammar.specs.Reading.{inRange, reading}
 use Rattle.grammar.specs.WellRead.{headOf}
-use Rattle.grammar.proofs.Places.{read-place}
+use Rattle.grammar.proofs.EachIndex.{read-place}
 use Rattle.grammar.proofs.WellRead.{well-read}
 use Rattle.sets.specs.Naming.{ruleHead, nonterminalOf, Indexed}
 
@@ -77,7 +77,7 @@ in-range-indexed End z h e = tt
 in-range-indexed (Heading n t) z h e = tt
 in-range-indexed Invalid z h e = tt
 
--- each word of a row that is read, at a place and before one
+-- each word of a row that is read, at an index and before one
 pub word-indexed : (words : List ℕ) {z : Sizes} {w : Word} {i : ℕ} → reading words ≡ Read z → i < length words → w ≡ decoded (getD words i 0) → Indexed w
 word-indexed words {z} {w} {i} e h is =
     rw is (in-range-indexed (decoded (getD words i 0)) z (well-read words z e .fewNonterminals) (read-place words z e i h .ranged))

@@ -21,7 +21,7 @@ use Rattle.grammar.specs.Reading.{allows, beginsRule, reading}
 use Rattle.grammar.specs.Starts.{starts, ruleStarts}
 use Rattle.grammar.specs.WellRead.{headOf, firstRule, WellRead}
 use Rattle.grammar.proofs.Begins.{begins, as-many}
-use Rattle.grammar.proofs.Places.{read-whole}
+use Rattle.grammar.proofs.EachIndex.{read-whole}
 use Rattle.grammar.proofs.Suffixes.{scan-next, read-reaches}
 use Rattle.grammar.proofs.WellRead.{well-read}
 use Rattle.semantics.proofs.Outcomes.{nth-mem, mem-nth}

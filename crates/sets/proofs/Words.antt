@@ -1,4 +1,4 @@
--- What the words from a place on say, by the word that stands there.
+-- What the words from an index on say, by the word that stands there.
 use mathlib.Core.Path.{_≡_, ap}
 use mathlib.Core.List.{List, []}
 use Prim.Native.Nat.{ℕ, suc, _-_, _≤_, _<_}
@@ -9,12 +9,12 @@ use Rattle.word.specs.Words.{decoded}
 use Rattle.grammar.specs.Encoding.{onWord, parse}
 
 module _ (words : List ℕ) (i : ℕ) where
-  -- the word at a place, in front of what the words behind it say
+  -- the word at an index, in front of what the words behind it say
   pub parse-here : i < length words → parse (drop i words) ≡ onWord (decoded (getD words i 0)) (parse (drop (suc i) words))
   unfolding parse
   parse-here h = rw (drop-cons words i 0 h)
 
-  -- the word before a place, in front of what the words from it on say
+  -- the word before an index, in front of what the words from it on say
   pub parse-before : 0 < i → i ≤ length words → parse (drop (i - 1) words) ≡ onWord (decoded (getD words (i - 1) 0)) (parse (drop i words))
   unfolding parse
   parse-before h k =

@@ -26,7 +26,7 @@ pub record FollowNumbersClosed (F : SetFamily) (rs : List Rule) (L : SetFamily) 
   pub start : Subset end (L 0)
   pub follows : FollowRules F rs L
 
--- what comes behind a place in a body, where v comes behind the body: with a word in front, a symbol or what ends the body before it
+-- what comes behind an index in a body, where v comes behind the body: with a word in front, a symbol or what ends the body before it
 abbrev pub tailBefore : SetFamily → ℕ → Word → ℕ → ℕ
 tailBefore F v (Symbol X) tail = concatNumbers (symbolFirst F X) tail
 tailBefore F v Positive tail = v

@@ -25,7 +25,7 @@ use word::Symbol;
 use word::Word;
 use word::decode;
 
-// Of the words from a place on: the first set of what is left of the body, and the meet of those of the rule's positives
+// Of the words from an index on: the first set of what is left of the body, and the meet of those of the rule's positives
 // behind it.
 pub struct Rest {
     pub body: LookaheadSet,

@@ -27,7 +27,7 @@ use word::Symbol;
 use word::Word;
 use word::decode;
 
-// What comes behind a place in a body goes into the set of a nonterminal that stands there.
+// What comes behind an index in a body goes into the set of a nonterminal that stands there.
 fn add_behind(word: Word, tail: LookaheadSet, follows: &mut [u64; SETS]) -> bool
     requires { ⌜ Indexed word ⌝ }
     ensures { λ r. ⌜ AddsTo (nonterminalOf word) (now (follows .entry)) (tail .bits) (now (follows .exit)) r ⌝ }
@@ -41,7 +41,7 @@ fn add_behind(word: Word, tail: LookaheadSet, follows: &mut [u64; SETS]) -> bool
     add(follows, number, tail)
 }
 
-// What comes behind the place before a word inside a rule, where follow comes behind the body.
+// What comes behind the index before a word inside a rule, where follow comes behind the body.
 fn tail_before(
     word: Word,
     tail: LookaheadSet,

@@ -31,7 +31,7 @@ use word::Symbol;
 use word::Word;
 use word::decode;
 
-// Of the words from a place on: what is at the left of the rest of the body, and of the rule's bodies behind it, with all
+// Of the words from an index on: what is at the left of the rest of the body, and of the rule's bodies behind it, with all
 // that this left-reaches.
 struct Left {
     pub body: Nonterminals,

@@ -17,7 +17,7 @@ use Rattle.grammar.specs.Encoding.{Parsed, ruleOf, onWord, parse, grammarOf}
 use Rattle.grammar.specs.Reading.{beginsRule}
 use Rattle.grammar.specs.WellRead.{WellRead}
 use Rattle.grammar.proofs.WellRead.{well-read}
-use Rattle.grammar.proofs.Places.{read-whole}
+use Rattle.grammar.proofs.EachIndex.{read-whole}
 use Rattle.lookahead.specs.Operations.{concatNumbers}
 use Rattle.lookahead.specs.Elements.{nothing}
 use Rattle.semantics.specs.FirstFollow.{first, follow}

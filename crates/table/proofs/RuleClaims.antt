@@ -9,7 +9,7 @@ use borrow.Author.Tests.{lt-ltb}
 use lib.ListN.{take}
 use Rattle.grammar.specs.Syntax.{Rule, Grammar, WellFormed}
 use Rattle.lookahead.specs.Elements.{nothing, has, OverTerminals}
-use Rattle.lookahead.specs.Operations.{concatStrings as concatNumbers}
+use Rattle.lookahead.specs.Operations.{concatNumbers}
 use Rattle.lookahead.proofs.Pairs.{first, concat-pair}
 use Rattle.lookahead.proofs.Concat.{paired}
 use Rattle.lookahead.proofs.Order.{subset-antisym}

@@ -78,7 +78,7 @@ pub record AllKept (G : Grammar) (heads sets : List ℕ) : Type 0 where
   pub own : heads ≡ byRule (headsOf G)
   pub claims : sets ≡ byRule (claimNumbers G)
 
--- what is kept of the rules behind a place, and the number of the first of them
+-- what is kept of the rules behind an index, and the number of the first of them
 pub record Kept : Type 0 where
   pub heads : List ℕ
   pub sets : List ℕ

@@ -1,4 +1,4 @@
--- The loop keeps `Noting`: the places before `rules` hold the begins found so far.
+-- The loop keeps `Noting`: the numbers before `rules` hold the begins found so far.
 use Prim.Native.Nat.{_-_}
 use native.Mathlib.Omega.{arith}
 use lib.ListN.{length}

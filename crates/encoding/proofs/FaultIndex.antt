@@ -1,4 +1,4 @@
--- The place of a fault: the words before it begin an encoding, with the word at it they do not, and which words might stand there.
+-- The index of a fault: the words before it begin an encoding, with the word at it they do not, and which words might stand there.
 use mathlib.Core.Path.{_≡_, refl, sym, _∙_}
 use mathlib.Core.Bool.{true}
 use mathlib.Core.List.{List, [], _∷_, _++_, append-assoc}
@@ -25,7 +25,7 @@ use Rattle.encoding.proofs.EncodingRead.{Within, Between, within-betwee
 use Rattle.encoding.proofs.ReadingEncodes.{opened-encodes, encodes-opened}
 use Rattle.encoding.proofs.Faults.{complete}
 
--- the place of a fault behind the heading
+-- the index of a fault behind the heading
 pub record Place (words : List ℕ) (i : ℕ) (x : Error) : Type 0 where
   pub come : Progress
   pub opens : (us : List ℕ) → opened (take i words ++ us) ≡ scan come i us
@@ -39,12 +39,12 @@ pub record Place (words : List ℕ) (i : ℕ) (x : Error) : Type 0 where
 pub begins : (ws rest : List ℕ) (z : Sizes) → opened (ws ++ rest) ≡ Read z → BeginsEncoding ws
 begins ws rest z e = record { rest = rest; grammar = grammarOf (ws ++ rest); encodes = opened-encodes (ws ++ rest) z e .0 }
 
--- a fault at a place, by the words before it and the word at it
+-- a fault at an index, by the words before it and the word at it
 module _ (words : List ℕ) (i : ℕ) (x : Error) (h : Place words i x) where
   pub begun : BeginsEncoding (take i words)
   begun = let c = complete (h .come .state) (h .come .sizes) in begins (take i words) (c .rest) (c .sizes) (h .opens (c .rest) ∙ c .goes i)
 
-  -- the words before the place, and behind them others that make an encoding
+  -- the words before the index, and behind them others that make an encoding
   scanned : (us : List ℕ) (G : Grammar) → Encodes (take i words ++ us) G → scan (h .come) i us ≡ Read (sizesOf G)
   scanned us G e = sym (h .opens us) ∙ encodes-opened (take i words ++ us) G e
 
