@@ -3,7 +3,7 @@ use mathlib.Core.Path.{_≡_, refl}
 use mathlib.Core.Bool.{true}
 use mathlib.Core.List.{List, [], _∷_}
 use mathlib.Core.Option.{Option, none, some}
-use Prim.Native.Nat.{ℕ, _≤_, _<_}
+use Prim.Native.Nat.{ℕ, _-_, _≤_, _<_}
 use native.Mathlib.Omega.{arith}
 use denote.Enum.Declared.{tagOf}
 use types.Run.{OneOf, miss}
@@ -77,7 +77,11 @@ in-range-indexed End z h e = tt
 in-range-indexed (Heading n t) z h e = tt
 in-range-indexed Invalid z h e = tt
 
--- each word of a row that is read
+-- each word of a row that is read, at a place and before one
 pub word-indexed : (words : List ℕ) {z : Sizes} {w : Word} {i : ℕ} → reading words ≡ Read z → i < length words → w ≡ decoded (getD words i 0) → Indexed w
 word-indexed words {z} {w} {i} e h is =
     rw is (in-range-indexed (decoded (getD words i 0)) z (well-read words z e .fewNonterminals) (read-place words z e i h .ranged))
+
+pub before-indexed : (words : List ℕ) {z : Sizes} {w : Word} {i : ℕ} → reading words ≡ Read z → 0 < i → i ≤ length words
+    → w ≡ decoded (getD words (i - 1) 0) → Indexed w
+before-indexed words e h k is = word-indexed words e (omega arith) is
