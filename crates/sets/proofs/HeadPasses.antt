@@ -10,7 +10,7 @@ use Rattle.word.specs.Words.{decoded}
 use Rattle.grammar.specs.declared.reading.Sizes.{Sizes}
 use Rattle.grammar.specs.Limits.{maxNonterminals}
 use Rattle.grammar.specs.Syntax.{Rule}
-use Rattle.grammar.specs.Encoding.{parse, grammarOf}
+use Rattle.grammar.specs.Encoding.{parse}
 use Rattle.grammar.specs.Starts.{ruleStarts}
 use Rattle.grammar.specs.WellRead.{headOf}
 use Rattle.grammar.proofs.EachIndex.{read-whole}
@@ -20,7 +20,7 @@ use Rattle.sets.specs.Least.{SetFamily, at, Under, Adds, Passes}
 use Rattle.sets.specs.Rules.{turnOf, ruleFrom, PassGiven}
 use Rattle.sets.proofs.LeastByPasses.{passing-add}
 use Rattle.sets.proofs.RuleRanges.{rule-in, in-rules, rule-is}
-use Rattle.sets.proofs.RulePasses.{turn-below, All, Turns, turns-next, turns-end}
+use Rattle.sets.proofs.RulePasses.{turn-below, Turns, turns-next, turns-end}
 
 -- what each rule gives is contained in its head's set
 abbrev pub Closes : (SetFamily → Rule → ℕ) → List Rule → SetFamily → Type 0

@@ -10,7 +10,7 @@ use Rattle.grammar.specs.Encoding.{onWord, parse}
 use Rattle.grammar.proofs.EachIndex.{Behind, read-place}
 use Rattle.sets.specs.Naming.{Indexed}
 use Rattle.sets.specs.Rules.{Inside, RuleWords}
-use Rattle.sets.proofs.NamedNonterminals.{word-indexed}
+use Rattle.sets.proofs.NamedNonterminals.{before-indexed}
 use Rattle.sets.proofs.Words.{parse-before}
 
 pub record Inner (words : List ℕ) (w : Word) (i : ℕ) : Type 0 where
@@ -27,6 +27,6 @@ word-inside {words} k i h u {w} e =
     record {
       here = parse-before words i (omega arith) (omega (arith, k .within)) ∙ ap (λ x. onWord x (parse (drop i words))) (sym e);
       inside = rw e (k .inside (i - 1) (omega arith) (omega arith));
-      indexed = word-indexed words (k .read) b e;
+      indexed = before-indexed words (k .read) (omega arith) (omega (arith, k .within)) e;
       behind = rw (← e, n) at (read-place words (k .sizes) (k .read) (i - 1) b .behind);
     }

@@ -1,5 +1,5 @@
 -- Passes that join sets into an array until one adds nothing: the array is then the least closed family, whatever "closed" means.
-use mathlib.Core.Path.{_≡_, refl, sym, ap, _∙_}
+use mathlib.Core.Path.{_≡_, refl, ap, _∙_}
 use mathlib.Core.Bool.{Bool, true, false, true≢false, _||_}
 use mathlib.Core.List.{List, [], _∷_}
 use Prim.Native.Nat.{ℕ, zero, suc, _+_, _*_, _-_, _≤_, _<_}
@@ -9,7 +9,6 @@ use native.Mathlib.Decide.{ℕ-discrete}
 use lib.ListN.{length, getD, set, replicate, length-set}
 use lib.Seq.{getD-set-same, getD-set-other, set-getD}
 use borrow.Author.Tests.{eq-eqb, ne-eqb}
-use Rattle.booleans.specs.Quantifiers.{one}
 use Rattle.lookahead.specs.Elements.{Subset}
 use Rattle.lookahead.specs.Operations.{join}
 use Rattle.lookahead.proofs.Order.{subset-refl, join-left, empty-least, join-least, join-grows, same-join, subset-le}

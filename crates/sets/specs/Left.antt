@@ -1,5 +1,4 @@
 -- Left recursion in numbers: what a nonterminal left-reaches is a set in which B weighs 2^B.
-use mathlib.Core.Path.{_≡_}
 use mathlib.Core.List.{List, [], _∷_, _++_, List·Memᴰ}
 use mathlib.Core.Option.{Option, none, some}
 use Prim.Native.Nat.{ℕ}
