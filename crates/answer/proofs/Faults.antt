@@ -2,9 +2,7 @@
 use mathlib.Core.Path.{_≡_, refl, sym}
 use mathlib.Core.Bool.{Bool, true, false}
 use mathlib.Core.List.{List, [], _∷_, _++_}
-use mathlib.Core.Option.{Option, none, some}
-use Prim.Native.Nat.{ℕ}
-use native.Mathlib.Omega.{arith}
+use mathlib.Core.Option.{Option, none, some, Option·some-ne-none}
 use Rattle.answer.specs.declared.Error.{Error}
 use Rattle.answer.specs.declared.Answer.{Answer}
 use Rattle.answer.specs.declared.Answer.the-variants.{Refused}
@@ -13,12 +11,12 @@ use Rattle.answer.specs.Faults.{faultIf, firstFault, refusedOr, toldOr}
 
 -- a fault is there or not
 pub none-some : {e : Error} → none ≡ some e → ⊥
-none-some q = let z : _≡_ {A = ℕ} 0 1 = cc in absurd (omega arith)
+none-some {e} q = Option·some-ne-none e (sym q)
 
--- a test's row is none where the test fails
-pub when-none : (b : Bool) (e : Error) → faultIf b e ≡ none → b ≡ false
-when-none true e q = absurd (none-some (sym q))
-when-none false e q = refl
+-- a row that is none is of a test that fails
+pub fault-none : (b : Bool) (e : Error) → faultIf b e ≡ none → b ≡ false
+fault-none true e q = absurd (none-some (sym q))
+fault-none false e q = refl
 
 -- no row holds
 abbrev pub Faultless : List (Option Error) → Type 0

@@ -24,7 +24,7 @@ use Rattle.answer.specs.Faults.{refusedOr}
 use Rattle.recognizer.specs.Answers.{checkFault, judgeFault, callsOf, verdictOf}
 use Rattle.recognizer.specs.Properties.{Checks, Judges}
 use Rattle.recognizer.proofs.Checking.{passed-fault, passed-encodes, passed-free}
-use Rattle.recognizer.proofs.Judged.{judged-readable}
+use Rattle.recognizer.proofs.JudgeFaults.{judged-readable}
 use Rattle.embed.specs.Packing.{Fit, NumbersFit, joined, packed, Unpacks}
 use Rattle.embed.specs.Exports.{CheckExported, JudgeExported}
 use Rattle.embed.proofs.Places.{Low, check-low, judge-low}

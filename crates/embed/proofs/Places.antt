@@ -1,29 +1,23 @@
--- The place of a refusal is a small number: an index of a word or a token, a nonterminal, or an entry of the table.
+-- The position that a refusal tells is a small number: an index of a word or a token, a nonterminal, or an entry of the table.
 use mathlib.Core.Path.{_≡_, refl}
-use mathlib.Core.Bool.{Bool, true, false, _&&_}
+use mathlib.Core.Bool.{Bool, true, false}
 use mathlib.Core.List.{List, [], _∷_, _++_, List·Memᴰ, List·Memᴰ·head}
 use mathlib.Core.Option.{Option, none, some}
 use Prim.Native.Nat.{ℕ, suc, _+_, _≤_}
 use native.Mathlib.Omega.{arith}
-use lib.Dec.{ltb, leb, ltb→lt}
+use lib.Dec.{ltb, ltb→lt}
 use lib.ListN.{length}
 use borrow.Author.Tests.{ltb-false}
 use Rattle.answer.specs.declared.Error.{Error}
-use Rattle.answer.specs.declared.Error.the-variants.{TableTooShort, MemoTooShort, Length, Heading, UnexpectedWord, OutOfRange, TooManyRules, LeftRecursive, Conflict, InputTooLong, UnknownToken}
+use Rattle.answer.specs.declared.Error.the-variants.{TableTooShort, MemoTooShort, LeftRecursive, Conflict, InputTooLong, UnknownToken}
 use Rattle.answer.specs.Numbers.{coded}
 use Rattle.answer.specs.Faults.{faultIf}
-use Rattle.answer.proofs.Faults.{none-some, when-none, EachFault, first-each}
+use Rattle.answer.proofs.Faults.{none-some, fault-none, EachFault, first-each}
 use Rattle.booleans.specs.Choice.{choose}
-use Rattle.word.specs.Words.{decoded}
-use Rattle.word.specs.declared.Word.{Word}
-use Rattle.grammar.specs.Limits.{maxWords, maxRules, maxTokens, maxTableWords, maxMemoEntries, maxNonterminals, maxTerminals}
+use Rattle.grammar.specs.Limits.{maxWords, maxTokens, maxTableWords, maxMemoEntries, maxNonterminals, maxTerminals}
 use Rattle.grammar.specs.Syntax.{Grammar}
-use Rattle.grammar.specs.Encoding.{declaredBy, grammarOf}
-use Rattle.grammar.specs.Reading.{row, allows, inRange, beginsRule, counted, stepped, onStep, finished, scan, fresh, within, headed, opened, reading}
-use Rattle.grammar.specs.declared.reading.Sizes.{Sizes}
-use Rattle.grammar.specs.declared.reading.Progress.{Progress}
-use Rattle.grammar.specs.declared.reading.Step.{Step}
-use Rattle.grammar.specs.declared.reading.Step.the-variants.{Go, Stop}
+use Rattle.grammar.specs.Encoding.{grammarOf}
+use Rattle.grammar.specs.Reading.{reading}
 use Rattle.grammar.specs.declared.reading.Outcome.{Outcome}
 use Rattle.grammar.specs.declared.reading.Outcome.the-variants.{Read, Faulty}
 use Rattle.grammar.proofs.WellRead.{well-read}
@@ -41,14 +35,9 @@ use Rattle.table.specs.Analysis.{clashFault, grammarFaults}
 use Rattle.recognizer.specs.declared.judging.Unknown.the-variants.{At}
 use Rattle.recognizer.specs.Answers.{unknownFrom, unknownFault, checkFault, judgeFault}
 use Rattle.recognizer.proofs.Checking.{read-some}
+use Rattle.grammar.proofs.FaultPositions.{LowOutcome, reading-low}
 
--- what tells an error tells it at most at a place
-record LowStep (n : ℕ) (s : Step) : Type 0 where
-  low : (e : Error) → s ≡ Stop e → coded e .position ≤ n
-
-record LowOutcome (n : ℕ) (o : Outcome) : Type 0 where
-  low : (e : Error) → o ≡ Faulty e → coded e .position ≤ n
-
+-- what tells an error tells it at most at a position
 abbrev pub Low : ℕ → Error → Type 0
 Low n e = coded e .position ≤ n
 
@@ -56,65 +45,11 @@ abbrev LowFault : ℕ → Option Error → Type 0
 LowFault n f = (e : Error) → f ≡ some e → Low n e
 
 module _ (n : ℕ) where
-  go-low : (p : Progress) → LowStep n (Go p)
-  go-low p = record { low = λ e q. let z : _≡_ {A = ℕ} 0 1 = cc in absurd (omega arith) }
-
-  stop-low : (x : Error) → coded x .position ≤ n → LowStep n (Stop x)
-  stop-low x h = record { low = λ e q. let z : e ≡ x = cc in rw z h }
-
-  read-low : (z : Sizes) → LowOutcome n (Read z)
-  read-low z = record { low = λ e q. let y : _≡_ {A = ℕ} 0 1 = cc in absurd (omega arith) }
-
-  faulty-low : (x : Error) → coded x .position ≤ n → LowOutcome n (Faulty x)
-  faulty-low x h = record { low = λ e q. let z : e ≡ x = cc in rw z h }
-
   none-low : LowFault n none
   none-low e q = absurd (none-some q)
 
   some-low : (x : Error) → coded x .position ≤ n → LowFault n (some x)
   some-low x h e q = let z : e ≡ x = cc in rw z h
-
-  -- reading: at most the index behind the last word
-  choose-step : (b : Bool) (x y : Step) → LowStep n x → LowStep n y → LowStep n (choose b x y)
-  choose-step true x y l k = l
-  choose-step false x y l k = k
-
-  choose-outcome : (b : Bool) (x y : Outcome) → LowOutcome n x → LowOutcome n y → LowOutcome n (choose b x y)
-  choose-outcome true x y l k = l
-  choose-outcome false x y l k = k
-
-  on-step : (s : Step) (f : Progress → Outcome) → LowStep n s → ((q : Progress) → LowOutcome n (f q)) → LowOutcome n (onStep s f)
-  unfolding onStep
-  on-step (Go p) f l g = g p
-  on-step (Stop e) f l g = faulty-low e (l .low e refl)
-
-  step-low : (w : Word) (p : Progress) (at : ℕ) → at ≤ n → LowStep n (stepped w p at)
-  unfolding stepped counted
-  step-low w p at h =
-      choose-step (allows w (p .state)) _ _
-      (choose-step (inRange w (p .sizes)) _ _
-      (choose-step (beginsRule w) _ _ (choose-step (leb maxRules (p .sizes .rules)) _ _ (stop-low (TooManyRules at) h) (go-low _)) (go-low _)) (stop-low (OutOfRange at) h))
-      (stop-low (UnexpectedWord at) h)
-
-  scan-low : (ws : List ℕ) (p : Progress) (at : ℕ) → at + length ws ≤ n → LowOutcome n (scan p at ws)
-  unfolding scan finished
-  scan-low [] p at h = choose-outcome (row false false false false true (p .state)) _ _ (read-low (p .sizes)) (faulty-low (UnexpectedWord at) (omega arith))
-  scan-low (w ∷ ws) p at h = on-step (stepped (decoded w) p at) _ (step-low (decoded w) p at (omega arith)) (λ q. scan-low ws q (suc at) (omega arith))
-
-opened-low : (words : List ℕ) → length words ≤ maxWords → LowOutcome maxWords (opened words)
-unfolding opened headed
-opened-low [] h = faulty-low maxWords Heading (omega arith)
-opened-low (w ∷ ws) h =
-    let z = declaredBy (decoded w) in
-    choose-outcome maxWords (within (z .nonterminals) maxNonterminals && within (z .terminals) maxTerminals) _ _ (scan-low maxWords ws (fresh (declaredBy (decoded w))) 1 (omega arith)) (faulty-low maxWords Heading (omega arith))
-
-reading-low : (words : List ℕ) → LowOutcome maxWords (reading words)
-unfolding reading
-reading-low words = go (ltb maxWords (length words)) refl
-  where
-    go : (b : Bool) → ltb maxWords (length words) ≡ b → LowOutcome maxWords (choose b (Faulty Length) (opened words))
-    go true e = faulty-low maxWords Length (omega arith)
-    go false e = opened-low words (ltb-false maxWords (length words) e)
 
 -- left recursion and conflicts: a nonterminal, and an entry of the table
 module _ (G : Grammar) (few : G .nonterminals ≤ maxNonterminals) (small : G .terminals ≤ maxTerminals) where
@@ -184,7 +119,7 @@ judge-low table memo words input =
           when-low maxWords (ltb maxTokens (length input)) InputTooLong (omega arith),
           λ q. (
             unknown-low maxWords (grammarOf words .terminals) 0 input
-                (omega (arith, ltb-false maxTokens (length input) (when-none (ltb maxTokens (length input)) InputTooLong q))),
+                (omega (arith, ltb-false maxTokens (length input) (fault-none (ltb maxTokens (length input)) InputTooLong q))),
             λ _. tt,
           ),
         ),

@@ -7,3 +7,4 @@ pub mod WellRead
 pub mod Examples
 pub mod Starts
 pub mod EachIndex
+pub mod FaultPositions

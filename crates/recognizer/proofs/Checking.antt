@@ -9,11 +9,12 @@ use lib.Dec.{T}
 use lib.ListN.{length, take, drop, replicate, length-append, length-replicate}
 use lib.Seq.{take-at}
 use borrow.Author.Tests.{lt-ltb, le-ltb}
+use Rattle.answer.proofs.Apart.{fault-number, refused-ne-passed}
 use Rattle.answer.specs.declared.Error.{Error}
 use Rattle.answer.specs.declared.Error.the-variants.{TableTooShort}
 use Rattle.answer.specs.Numbers.{numbers}
 use Rattle.answer.specs.Faults.{refusedOr}
-use Rattle.answer.proofs.Faults.{each-none, numbers-told}
+use Rattle.answer.proofs.Faults.{none-some, each-none, numbers-told}
 use Rattle.answer.specs.declared.Answer.{Answer}
 use Rattle.answer.specs.declared.Answer.the-variants.{Refused, Passed}
 use Rattle.grammar.specs.Codes.{noEntry}
@@ -50,15 +51,15 @@ use Rattle.recognizer.proofs.Places.{check-tells, fault-encoded, places
 
 none-left : (o : Option ℕ) → leftFault o ≡ none → o ≡ none
 none-left none e = refl
-none-left (some A) e = let z : _≡_ {A = ℕ} 0 1 = cc in absurd (omega arith)
+none-left (some A) e = absurd (omega (arith, fault-number e))
 
 none-clash : (t : ℕ) (l : List Entry) → clashFault t l ≡ none → l ≡ []
 none-clash t [] e = refl
-none-clash t (x ∷ l) e = let z : _≡_ {A = ℕ} 0 1 = cc in absurd (omega arith)
+none-clash t (x ∷ l) e = absurd (omega (arith, fault-number e))
 
 pub read-some : (o : Outcome) → readingFault o ≡ none → (z : Sizes) × (o ≡ Read z)
 read-some (Read z) e = (z, refl)
-read-some (Faulty x) e = let z : _≡_ {A = ℕ} 0 1 = cc in absurd (omega arith)
+read-some (Faulty x) e = absurd (none-some (sym e))
 
 -- the theorems of the semantics about an encoded grammar
 pub least : {words : List ℕ} (G : Grammar) → Encodes words G → LeastSets G 1
@@ -127,7 +128,7 @@ check-fault-long n words h = rw (le-ltb n maxTableWords h)
 
 refused-passed : (f : Option Error) → refusedOr f Passed ≡ Passed → f ≡ none
 refused-passed none e = refl
-refused-passed (some x) e = let z : _≡_ {A = ℕ} 0 1 = cc in absurd (omega arith)
+refused-passed (some x) e = absurd (refused-ne-passed e)
 
 -- the promise from the answer and the table
 checks : {words before after : List ℕ} {r : Answer} → r ≡ refusedOr (checkFault (length before) words) Passed

@@ -1,164 +1,47 @@
--- What judging answers and leaves in the lent memories, by the first fault; and what its verdict means.
-use mathlib.Core.Path.{_≡_, refl, sym, ap, subst, _∙_}
-use mathlib.Core.Bool.{Bool, true, false, _&&_, true≢false, false≢true}
-use mathlib.Core.List.{List, [], _∷_, _++_}
-use mathlib.Core.Logic.{_↔_}
-use mathlib.Core.Option.{Option, none, some}
-use Prim.Native.Nat.{ℕ, suc, _+_, _*_, _≤_, _<_}
+-- What judging answers and leaves in the lent memories, by the first fault.
+use mathlib.Core.Path.{_≡_, refl, sym, ap, _∙_}
+use mathlib.Core.Bool.{Bool, true, false}
+use mathlib.Core.List.{List, _++_}
+use mathlib.Core.Option.{some}
+use Prim.Native.Nat.{ℕ, _+_, _*_, _≤_, _<_}
 use native.Mathlib.Nat.{mul-le-mul}
 use native.Mathlib.Numerals.{add-one}
 use native.Mathlib.Omega.{arith}
-use lib.Dec.{T, ltb}
+use lib.Dec.{ltb}
 use lib.ListN.{length, take, drop, length-map}
 use lib.Seq.{length-take-le}
-use borrow.Author.Tests.{lt-ltb, le-ltb, ltb-false}
 use Rattle.answer.specs.declared.Error.{Error}
-use Rattle.answer.specs.declared.Error.the-variants.{TableTooShort, MemoTooShort, InputTooLong, UnknownToken}
+use Rattle.answer.specs.declared.Error.the-variants.{InputTooLong, UnknownToken}
 use Rattle.answer.specs.Numbers.{accepted, rejected, answered, numbers}
-use Rattle.answer.specs.Faults.{faultIf, firstFault, refusedOr, toldOr}
-use Rattle.answer.proofs.Faults.{Faultless, when-none, each-none, first-nested, numbers-told}
-use Rattle.answer.specs.declared.Calls.{Calls}
+use Rattle.answer.specs.Faults.{refusedOr, toldOr}
+use Rattle.answer.proofs.Faults.{numbers-told}
 use Rattle.answer.specs.declared.Answer.{Answer}
 use Rattle.answer.specs.declared.Answer.the-variants.{Refused, Accepted, Rejected}
 use Rattle.booleans.specs.Choice.{choose}
-use Rattle.grammar.specs.Limits.{maxTableWords, maxMemoEntries, maxTokens, maxNonterminals, maxPlaces}
+use Rattle.grammar.specs.Limits.{maxMemoEntries, maxTokens, maxNonterminals, maxPlaces}
 use Rattle.grammar.specs.Syntax.{Grammar}
 use Rattle.grammar.specs.Encoding.{grammarOf}
 use Rattle.grammar.specs.WellRead.{WellRead}
 use Rattle.grammar.specs.declared.reading.Sizes.{Sizes}
 use Rattle.grammar.proofs.WellRead.{well-read}
 use Rattle.encoding.proofs.Faithful.{faithful}
-use Rattle.booleans.specs.Quantifiers.{allOf}
-use Rattle.semantics.specs.Valuations.{Valuation, Solves, pairs}
-use Rattle.semantics.specs.Strings.{Over}
+use Rattle.semantics.specs.Valuations.{pairs}
 use Rattle.semantics.specs.Choices.{tableChoice}
 use Rattle.semantics.specs.Descent.{accepts}
 use Rattle.semantics.specs.Calls.{allCalls, callCount, farthest}
-use Rattle.semantics.specs.Memo.{Recorded}
-use Rattle.semantics.specs.Predictive.{Predictive}
-use Rattle.booleans.proofs.Booleans.{T-true, and-l, and-r}
 use Rattle.semantics.proofs.Range.{all-length}
-use Rattle.semantics.proofs.Theorems.{theorems}
 use Rattle.table.specs.Layout.{tableWords}
-use Rattle.table.specs.Analysis.{grammarFaults, fault}
 use Rattle.table.proofs.Words.{filled-entries}
 use Rattle.recognizer.specs.declared.judging.Unknown.{Unknown}
 use Rattle.recognizer.specs.declared.judging.Unknown.the-variants.{Absent, At}
 use Rattle.recognizer.specs.Memory.{lentBack, memoWord, memoWords, Lent}
-use Rattle.recognizer.specs.Answers.{unknownFrom, unknownFault, checkFault, judgeFault, callsOf, verdictOf, verdictNumbers}
+use Rattle.recognizer.specs.Answers.{unknownFrom, judgeFault, callsOf, verdictOf, verdictNumbers}
 use Rattle.recognizer.specs.Judging.{PassedGiven, DescendGiven, Descended}
-use Rattle.recognizer.specs.Properties.{PassedGrammar, Readable, Recognizes, Judges}
-use Rattle.recognizer.proofs.Deciding.{words-recorded}
-use Rattle.recognizer.proofs.Checking.{passed-fault, passed-encodes, passed-free, fault-passed, no-clashes, not-left-recursive, lent-table, least}
+use Rattle.recognizer.specs.Properties.{Judges}
+use Rattle.recognizer.proofs.Checking.{passed-fault, passed-free, fault-passed, lent-table, least}
 use Rattle.recognizer.proofs.Places.{judge-tells, fault-encoded, places}
-
--- an input is of known tokens exactly when no unknown one is found
-pub known-absent : (n at : ℕ) (w : List ℕ) → Over n w → unknownFrom n at w ≡ Absent
-unfolding unknownFrom allOf
-known-absent n at [] h = refl
-known-absent n at (a ∷ w) h = rw (T-true (ltb a n) (and-l (ltb a n) _ h)) (known-absent n (suc at) w (and-r (ltb a n) _ h))
-
-pub absent-known : (n at : ℕ) (w : List ℕ) → unknownFrom n at w ≡ Absent → Over n w
-unfolding unknownFrom allOf
-absent-known n at [] e = tt
-absent-known n at (a ∷ w) e = go (ltb a n) e (absent-known n (suc at) w)
-  where
-    go : (b : Bool) → choose b (unknownFrom n (suc at) w) (At at) ≡ Absent → (unknownFrom n (suc at) w ≡ Absent → Over n w) → T (b && allOf (λ c. ltb c n) w)
-    go true f over = over f
-    go false f over = let z : _≡_ {A = ℕ} 0 1 = cc in absurd (omega arith)
-
--- the rows of judging, with the grammar's faults as one
-abbrev pub judgeRows : ℕ → ℕ → List ℕ → List ℕ → List (Option Error)
-judgeRows table memo words input =
-    faultIf (ltb table maxTableWords) TableTooShort
-    ∷ faultIf (ltb memo maxMemoEntries) MemoTooShort
-    ∷ fault words
-    ∷ faultIf (ltb maxTokens (length input)) InputTooLong
-    ∷ unknownFault (unknownFrom (grammarOf words .terminals) 0 input)
-    ∷ []
-
-pub judged-rows : (table memo : ℕ) (words input : List ℕ) → judgeFault table memo words input ≡ firstFault (judgeRows table memo words input)
-unfolding judgeFault fault
-judged-rows table memo words input =
-    first-nested (faultIf (ltb table maxTableWords) TableTooShort ∷ faultIf (ltb memo maxMemoEntries) MemoTooShort ∷ []) (grammarFaults words)
-    (faultIf (ltb maxTokens (length input)) InputTooLong ∷ unknownFault (unknownFrom (grammarOf words .terminals) 0 input) ∷ [])
-
--- the first fault, by what holds
-module _ (words input table memo : List ℕ) where
-  abbrev judged : Option Error
-  judged = judgeFault (length table) (length memo) words input
-
-  pub table-short : length table < maxTableWords → judged ≡ some TableTooShort
-  unfolding judgeFault
-  table-short h = rw (lt-ltb (length table) maxTableWords h)
-
-  module _ (long : maxTableWords ≤ length table) where
-    pub memo-short : length memo < maxMemoEntries → judged ≡ some MemoTooShort
-    unfolding judgeFault
-    memo-short h = rw (le-ltb (length table) maxTableWords long, lt-ltb (length memo) maxMemoEntries h)
-
-    module _ (room : maxMemoEntries ≤ length memo) where
-      judge-fault-long : {f : Option Error} → fault words ≡ f → judged
-          ≡ firstFault (f ∷ faultIf (ltb maxTokens (length input)) InputTooLong ∷ unknownFault (unknownFrom (grammarOf words .terminals) 0 input) ∷ [])
-      judge-fault-long e =
-          rw (judged-rows (length table) (length memo) words input, le-ltb (length table) maxTableWords long, le-ltb (length memo) maxMemoEntries room, e)
-
-      pub grammar-fault : {x : Error} → fault words ≡ some x → judged ≡ some x
-      grammar-fault e = judge-fault-long e
-
-      module _ (passed : fault words ≡ none) where
-        pub too-long : maxTokens < length input → judged ≡ some InputTooLong
-        too-long h = judge-fault-long passed ∙ rw (lt-ltb maxTokens (length input) h)
-
-        module _ (short : length input ≤ maxTokens) where
-          pub unknown-token : {at : ℕ} → At at ≡ unknownFrom (grammarOf words .terminals) 0 input → judged ≡ some (UnknownToken at)
-          unknown-token u = judge-fault-long passed ∙ rw (le-ltb maxTokens (length input) short, sym u)
-
-          pub no-fault : unknownFrom (grammarOf words .terminals) 0 input ≡ Absent → judged ≡ none
-          no-fault u = judge-fault-long passed ∙ rw (le-ltb maxTokens (length input) short, u)
-
-module _ (words input : List ℕ) (table memo : ℕ) (e : judgeFault table memo words input ≡ none) where
-  each : Faultless (judgeRows table memo words input)
-  each = each-none (judgeRows table memo words input) (sym (judged-rows table memo words input) ∙ e)
-
-  -- what is judged is checked
-  judged-checked : checkFault table words ≡ none
-  unfolding checkFault fault
-  judged-checked = rw (each .0) (each .1 .1 .0)
-
-  -- and is read and not too long
-  pub judged-readable : (fault words ≡ none) × (length input ≤ maxTokens)
-  judged-readable = (each .1 .1 .0, ltb-false maxTokens (length input) (when-none (ltb maxTokens (length input)) InputTooLong (each .1 .1 .1 .0)))
-
--- a verdict by a test tells the test
-verdict-tells : {r : Answer} (b : Bool) (c : Calls) → r ≡ choose b (Accepted c) (Rejected c)
-    → ((r ≡ Accepted c) ↔ (b ≡ true)) × ((r ≡ Rejected c) ↔ (b ≡ false))
-verdict-tells true c e = ((λ q. refl, λ q. e), (λ q. let z : _≡_ {A = ℕ} 0 1 = cc in absurd (omega arith), λ q. absurd (true≢false q)))
-verdict-tells false c e = ((λ q. let z : _≡_ {A = ℕ} 0 1 = cc in absurd (omega arith), λ q. absurd (false≢true q)), (λ q. refl, λ q. e))
-
--- property 3 from the verdict of the descent
-meaning : (words input : List ℕ) (r : Answer) → PassedGrammar words → Readable words input → r ≡ verdictOf (grammarOf words) input → Recognizes words input r
-unfolding verdictOf
-meaning words input r p h e =
-    let G = grammarOf words in
-    let k = passed-encodes words p in
-    let free = passed-free words p in
-    let some-nonterminal : 0 < G .nonterminals = k .limited .someNonterminal in
-    let predictive : Predictive G 1 = theorems .passed G 1 (k .formed) some-nonterminal .0 (not-left-recursive words p, no-clashes words p) in
-    let tells : (v : Valuation) → Solves G input v → ((r ≡ Accepted (callsOf G input)) ↔ (v 0 0 (length input) ≡ true)) × ((r ≡ Rejected (callsOf G input)) ↔ (v 0 0 (length input) ≡ false)) =
-    λ v s. verdict-tells {r = r} (v 0 0 (length input)) (callsOf G input)
-    (e ∙ ap (λ b. choose b (Accepted (callsOf G input)) (Rejected (callsOf G input))) (theorems .verdict G 1 predictive input (h .tokens) v s)) in
-    let own = theorems .own-rules G 1 input in
-    let recorded = theorems .memo-right G (k .formed .scoped) free some-nonterminal (tableChoice G 1 input) own input (omega (arith, h .short)) .recorded in
-    record {
-      one-solution = theorems .one-solution G (k .formed .scoped) free input;
-      accepted = λ v s. tells v s .0;
-      rejected = λ v s. tells v s .1;
-      descent = theorems .descent-ends G (k .formed .scoped) free (tableChoice G 1 input) own input;
-      calls = theorems .calls-counted G (k .formed .scoped) free some-nonterminal (tableChoice G 1 input) own input;
-      memo =
-          subst (λ m. Recorded G (tableChoice G 1 input) input m) (words-recorded G input (k .formed .scoped) free some-nonterminal recorded) recorded;
-    }
+use Rattle.recognizer.proofs.JudgeFaults.{known-absent, absent-known, judge-fault-long, too-long, unknown-token, no-fault, judged-checked}
+use Rattle.recognizer.proofs.Meaning.{meaning}
 
 -- the numbers of what is answered
 verdict-told : (G : Grammar) (w : List ℕ) → numbers (verdictOf G w) ≡ verdictNumbers G w

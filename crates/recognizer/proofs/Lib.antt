@@ -13,5 +13,7 @@ pub mod Front
 pub mod Places
 pub mod Checking
 pub mod Deciding
+pub mod JudgeFaults
+pub mod Meaning
 pub mod Judged
 pub mod Rows

@@ -28,7 +28,7 @@ use Rattle.recognizer.specs.Arrays.{choiceColumns, choiceWords, endMark,
 use Rattle.recognizer.specs.Descent.{firstConjunct}
 use Rattle.recognizer.specs.Preparing.{tokenWords, entryOf, firstWord, FirstGiven, ChoicesGiven, RowGiven, Filled}
 use Rattle.recognizer.proofs.Tokens.{token-below, word-at, end-at}
-use Rattle.recognizer.proofs.Starting.{nth-below}
+use Rattle.semantics.proofs.Outcomes.{nth-below}
 
 -- the column of the token at a place, or of the end
 abbrev columnAt : ℕ → List ℕ → ℕ → ℕ

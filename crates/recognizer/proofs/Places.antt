@@ -3,10 +3,11 @@ use mathlib.Core.Path.{_≡_, refl, sym, ap, subst, _∙_}
 use mathlib.Core.Bool.{Bool, true, false}
 use mathlib.Core.List.{List, [], _∷_, List·Memᴰ, List·Memᴰ·head, List·Memᴰ·not-nil}
 use mathlib.Core.Logic.{_↔_, _⊎_, inl, inr}
-use mathlib.Core.Option.{Option, none, some}
+use mathlib.Core.Option.{Option, none, some, Option·some-ne-none}
 use Prim.Native.Nat.{ℕ, _≤_, _<_}
 use native.Mathlib.Omega.{arith}
 use lib.ListN.{length}
+use Rattle.answer.proofs.Apart.{answer-number, fault-number}
 use Rattle.answer.specs.declared.Error.{Error}
 use Rattle.answer.specs.declared.Error.the-variants.{InputTooLong, LeftRecursive, Conflict}
 use Rattle.answer.specs.declared.Answer.{Answer}
@@ -45,28 +46,28 @@ refused-tells {e} {r} q =
 -- an answer that is none of the two
 silent : {r a : Answer} → r ≡ a → ((A : ℕ) → a ≡ Refused (LeftRecursive A) → ⊥) → ((A c : ℕ) → a ≡ Refused (Conflict A c) → ⊥) → Tells none r
 silent q left clash = record {
-  recursive = λ A. (λ p. absurd (left A (sym q ∙ p)), λ p. let z : _≡_ {A = ℕ} 0 1 = cc in absurd (omega arith));
-  conflict = λ A c. (λ p. absurd (clash A c (sym q ∙ p)), λ p. let z : _≡_ {A = ℕ} 0 1 = cc in absurd (omega arith));
+  recursive = λ A. (λ p. absurd (left A (sym q ∙ p)), λ p. absurd (omega (arith, fault-number p)));
+  conflict = λ A c. (λ p. absurd (clash A c (sym q ∙ p)), λ p. absurd (omega (arith, fault-number p)));
 }
 
 -- what checking answers, by the grammar's fault
 pub check-tells : (f : Option Error) {r : Answer} → r ≡ refusedOr f Passed → Tells f r
 check-tells (some e) q = refused-tells q
 check-tells none q =
-    silent q (λ A p. let z : _≡_ {A = ℕ} 0 1 = cc in absurd (omega arith)) (λ A c p. let z : _≡_ {A = ℕ} 0 1 = cc in absurd (omega arith))
+    silent q (λ A p. absurd (omega (arith, answer-number p))) (λ A c p. absurd (omega (arith, answer-number p)))
 
 -- what judging answers, by the grammar's fault and what is found of the input
 pub judge-tells : (f : Option Error) (long : Bool) (u : Unknown) (b : Bool) (c : Calls) {r : Answer}
     → r ≡ refusedOr (firstFault (f ∷ faultIf long InputTooLong ∷ unknownFault u ∷ [])) (choose b (Accepted c) (Rejected c)) → Tells f r
 judge-tells (some e) long u b c q = refused-tells q
 judge-tells none true u b c q =
-    silent q (λ A p. let z : _≡_ {A = ℕ} 0 1 = cc in absurd (omega arith)) (λ A c p. let z : _≡_ {A = ℕ} 0 1 = cc in absurd (omega arith))
+    silent q (λ A p. absurd (omega (arith, answer-number p))) (λ A c p. absurd (omega (arith, answer-number p)))
 judge-tells none false (At i) b c q =
-    silent q (λ A p. let z : _≡_ {A = ℕ} 0 1 = cc in absurd (omega arith)) (λ A c p. let z : _≡_ {A = ℕ} 0 1 = cc in absurd (omega arith))
+    silent q (λ A p. absurd (omega (arith, answer-number p))) (λ A c p. absurd (omega (arith, answer-number p)))
 judge-tells none false Absent true c q =
-    silent q (λ A p. let z : _≡_ {A = ℕ} 0 1 = cc in absurd (omega arith)) (λ A c p. let z : _≡_ {A = ℕ} 0 1 = cc in absurd (omega arith))
+    silent q (λ A p. absurd (omega (arith, answer-number p))) (λ A c p. absurd (omega (arith, answer-number p)))
 judge-tells none false Absent false c q =
-    silent q (λ A p. let z : _≡_ {A = ℕ} 0 1 = cc in absurd (omega arith)) (λ A c p. let z : _≡_ {A = ℕ} 0 1 = cc in absurd (omega arith))
+    silent q (λ A p. absurd (omega (arith, answer-number p))) (λ A c p. absurd (omega (arith, answer-number p)))
 
 -- the fault of an encoded grammar
 pub fault-encoded : (words : List ℕ) (G : Grammar) → length words ≤ maxWords → Encodes words G
@@ -76,18 +77,18 @@ fault-encoded words G short e = rw (encodes-read words G short e, encodes-gramma
 
 -- by the lowest nonterminal that reaches itself and the list of clashes
 left-told : (o : Option ℕ) (t : ℕ) (l : List Entry) (A : ℕ) → (firstFault (leftFault o ∷ clashFault t l ∷ []) ≡ some (LeftRecursive A)) ↔ (o ≡ some A)
-left-told none t [] A = (λ e. let z : _≡_ {A = ℕ} 0 1 = cc in absurd (omega arith), λ e. let z : _≡_ {A = ℕ} 0 1 = cc in absurd (omega arith))
-left-told none t (x ∷ l) A = (λ e. let z : _≡_ {A = ℕ} 0 1 = cc in absurd (omega arith), λ e. let z : _≡_ {A = ℕ} 0 1 = cc in absurd (omega arith))
+left-told none t [] A = (λ e. absurd (omega (arith, fault-number e)), λ e. absurd (Option·some-ne-none A (sym e)))
+left-told none t (x ∷ l) A = (λ e. absurd (omega (arith, fault-number e)), λ e. absurd (Option·some-ne-none A (sym e)))
 left-told (some B) t l A = (λ e. let z : B ≡ A = cc in ap some z, λ e. let z : B ≡ A = cc in ap (λ C. some (LeftRecursive C)) z)
 
 clash-told : (o : Option ℕ) (t : ℕ) (l : List Entry) (A c : ℕ) → firstFault (leftFault o ∷ clashFault t l ∷ []) ≡ some (Conflict A c)
     → (o ≡ none) × (x : List ℕ) × (m : List Entry) × (l ≡ (A, x) ∷ m) × (column t x ≡ c)
-clash-told none t [] A c e = let z : _≡_ {A = ℕ} 0 1 = cc in absurd (omega arith)
+clash-told none t [] A c e = absurd (omega (arith, fault-number e))
 clash-told none t (x ∷ l) A c e =
     let z : x .0 ≡ A = cc in
     let k : column t (x .1) ≡ c = cc in
     (refl, x .1, l, ap (λ B. (B, x .1) ∷ l) z, k)
-clash-told (some B) t l A c e = let z : _≡_ {A = ℕ} 0 1 = cc in absurd (omega arith)
+clash-told (some B) t l A c e = absurd (omega (arith, fault-number e))
 
 -- two entries that each come first are one
 same-place : {A B c d : ℕ} → (A < B) ⊎ ((A ≡ B) × (c ≤ d)) → (B < A) ⊎ ((B ≡ A) × (d ≤ c)) → (A ≡ B) × (c ≡ d)

@@ -27,18 +27,13 @@ use Rattle.semantics.specs.Choices.{Choice}
 use Rattle.semantics.specs.Descent.{Failed, select}
 use Rattle.semantics.specs.Memo.{encode}
 use Rattle.semantics.specs.MemoDescent.{MemoCalls, memoized, memoObey}
-use Rattle.semantics.proofs.Outcomes.{nth-mem}
+use Rattle.semantics.proofs.Outcomes.{nth-below, nth-mem}
 use Rattle.rule.specs.declared.Sign.{Sign}
 use Rattle.rule.specs.declared.Agreement.the-variants as agreement
 use Rattle.rule.specs.Rule.{signAt}
 use Rattle.recognizer.specs.Arrays.{firstAt}
 use Rattle.recognizer.specs.Descent.{firstConjunct, CallGiven}
 use Rattle.recognizer.proofs.Calling.{memoRest, Calling, InRule}
-
-pub nth-below : (l : List Rule) (q : ℕ) (r : Rule) → getElem? l q ≡ some r → q < length l
-nth-below [] q r e = let z : _≡_ {A = ℕ} 0 1 = cc in absurd (omega arith)
-nth-below (x ∷ l) zero r e = omega arith
-nth-below (x ∷ l) (suc q) r e = omega (arith, nth-below l q r e)
 
 rule-opens : (w : Word) (s : State) → beginsRule w ≡ true → after w s ≡ state.Opened
 rule-opens (word.Heading n t) s e = absurd (false≢true e)

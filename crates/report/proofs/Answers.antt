@@ -14,7 +14,7 @@ use Rattle.recognizer.specs.Properties.{Checks, Judges}
 use Rattle.answer.specs.Faults.{refusedOr}
 use Rattle.recognizer.specs.Answers.{judgeFault, verdictOf}
 use Rattle.recognizer.specs.Memory.{lentBack, memoWords}
-use Rattle.recognizer.proofs.Judged.{judged-readable}
+use Rattle.recognizer.proofs.JudgeFaults.{judged-readable}
 use Rattle.recognizer.proofs.Checking.{passed-fault, passed-read}
 use Rattle.text.specs.Writing.{Put}
 use Rattle.sheet_text.specs.Sheet.{checkText}

@@ -18,7 +18,7 @@ use Rattle.text.specs.Refusal.{refusalText}
 use Rattle.table.specs.Analysis.{fault}
 use Rattle.judgement_text.specs.Judgement.{judgementText}
 use Rattle.recognizer.specs.Answers.{judgeFault}
-use Rattle.recognizer.proofs.Judged.{judged-rows}
+use Rattle.recognizer.proofs.JudgeFaults.{judged-rows}
 use Rattle.report.specs.Report.{sheetOf, judgedText, judgementOf, enoughRead, Enough}
 
 -- a function that does not tell lists longer than a limit apart is the same of a list cut past the limit

@@ -30,7 +30,7 @@ use Rattle.answer.specs.Faults.{refusedOr}
 use Rattle.recognizer.specs.Answers.{checkFault, judgeFault, callsOf, verdictOf}
 use Rattle.recognizer.specs.Memory.{lentBack, memoWord, memoWords}
 use Rattle.recognizer.proofs.Checking.{passed-fault, passed-encodes, passed-free}
-use Rattle.recognizer.proofs.Judged.{judged-readable}
+use Rattle.recognizer.proofs.JudgeFaults.{judged-readable}
 use Rattle.text.proofs.Lengths.{refusal-most}
 use Rattle.sheet_text.specs.Sheet.{sheetText, checkText}
 use Rattle.sheet_text.proofs.Lengths.{sheet-most}

@@ -2,12 +2,12 @@
 use mathlib.Core.Bool.{Bool, true, false, not, _&&_}
 use mathlib.Core.List.{List, [], _∷_, _++_, List·Memᴰ, List·Memᴰ·head, List·Memᴰ·tail, Memᴰ·append-left, Memᴰ·append-right}
 use mathlib.Core.Logic.{_↔_}
-use mathlib.Core.Option.{Option, none, some}
+use mathlib.Core.Option.{Option, none, some, Option·some-ne-none}
 use mathlib.Core.Path.{_≡_, refl, sym, ap, _∙_}
-use Prim.Native.Nat.{ℕ, zero, suc}
+use Prim.Native.Nat.{ℕ, zero, suc, _<_}
 use native.Mathlib.Omega.{arith}
 use lib.Dec.{T, eqb→eq, eqb-refl}
-use lib.ListN.{getElem?}
+use lib.ListN.{length, getElem?}
 use Rattle.grammar.specs.Syntax.{Body, Rule, Grammar, bodies}
 use Rattle.booleans.specs.Quantifiers.{anyOf, allOf}
 use Rattle.semantics.specs.Descent.{Outcome, Failed, End, endsAt, onward, guard, agrees, confirm, conclude, obey, select}
@@ -72,8 +72,14 @@ conclude-make o n (b ∷ ps) ns j h t =
     (guard-make (agrees o ps ns j) j (and-r (endsAt (o b) j) (agrees o ps ns j) u))
 
 -- the q-th rule is a rule, and every rule has a number
+-- a list has an element below its length
+pub nth-below : {A : Type 0} (l : List A) (q : ℕ) (x : A) → getElem? l q ≡ some x → q < length l
+nth-below [] q x e = absurd (Option·some-ne-none x (sym e))
+nth-below (y ∷ l) zero x e = omega arith
+nth-below (y ∷ l) (suc q) x e = omega (arith, nth-below l q x e)
+
 pub nth-mem : (l : List Rule) (q : ℕ) (r : Rule) → getElem? l q ≡ some r → List·Memᴰ r l
-nth-mem [] q r e = let z : _≡_ {A = ℕ} 0 1 = cc in absurd (omega arith)
+nth-mem [] q r e = absurd (Option·some-ne-none r (sym e))
 nth-mem (x ∷ l) zero r e = let s : r ≡ x = cc in List·Memᴰ·head s
 nth-mem (x ∷ l) (suc q) r e = List·Memᴰ·tail (nth-mem l q r e)
 
@@ -89,7 +95,7 @@ obey-elim o n (some r) j t = (r, refl, t)
 
 pub select-elim : (G : Grammar) (x : Option ℕ) (r : Rule) → select G x ≡ some r → (q : ℕ) × (x ≡ some q) × (getElem? (G .rules) q ≡ some r)
 unfolding select
-select-elim G none r e = let z : _≡_ {A = ℕ} 0 1 = cc in absurd (omega arith)
+select-elim G none r e = absurd (Option·some-ne-none r (sym e))
 select-elim G (some q) r e = (q, refl, e)
 
 pub onward-cong : (o : Outcome) (f g : ℕ → Outcome) → ((m : ℕ) → T (endsAt o m) → f m ≡ g m) → onward o f ≡ onward o g

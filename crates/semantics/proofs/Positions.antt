@@ -2,8 +2,8 @@
 use mathlib.Core.Bool.{Bool, true, false, _&&_}
 use mathlib.Core.List.{List, [], _∷_}
 use mathlib.Core.Logic.{_⊎_, inl, inr}
-use mathlib.Core.Option.{Option, none, some}
-use mathlib.Core.Path.{_≡_, refl}
+use mathlib.Core.Option.{Option, none, some, Option·some-ne-none}
+use mathlib.Core.Path.{_≡_, refl, sym}
 use Prim.Native.Nat.{ℕ, zero, suc, _<_}
 use native.Mathlib.Omega.{arith}
 use lib.Dec.{T}
@@ -57,13 +57,13 @@ module _ {X : Type 0} (p : X → Bool) where
   -- the first member that passes does, and where there is none, none does
   pub position-some : (l : List X) (q : ℕ) → position p l ≡ some q → PassesAt l q
   unfolding position
-  position-some [] q e = let z : _≡_ {A = ℕ} 0 1 = cc in absurd (omega arith)
+  position-some [] q e = absurd (Option·some-ne-none q (sym e))
   position-some (x ∷ l) q e = go (p x) refl (position p l) (position-some l) e
     where
       go : (b : Bool) → p x ≡ b → (o : Option ℕ) → ((q : ℕ) → o ≡ some q → PassesAt l q)
           → elim b as (λ _. Option ℕ) [ true ↦ some 0 | false ↦ elim o [ none ↦ none | some q ↦ some (suc q) ] ] ≡ some q → PassesAt (x ∷ l) q
       go true d o f e = let z : 0 ≡ q = cc in rw (← z) (x, refl, true-T (p x) d)
-      go false d none f e = let z : _≡_ {A = ℕ} 0 1 = cc in absurd (omega arith)
+      go false d none f e = absurd (Option·some-ne-none q (sym e))
       go false d (some m) f e = let z : suc m ≡ q = cc in rw (← z) (f m refl)
 
   pub position-none : (l : List X) → position p l ≡ none → (q : ℕ) → PassesAt l q → ⊥
@@ -73,7 +73,7 @@ module _ {X : Type 0} (p : X → Bool) where
     where
       go : (b : Bool) → p x ≡ b → (o : Option ℕ) → (o ≡ none → (q : ℕ) → PassesAt l q → ⊥)
           → _≡_ {A = Option ℕ} (elim b [ true ↦ some 0 | false ↦ elim o [ none ↦ none | some q ↦ some (suc q) ] ]) none → (q : ℕ) → PassesAt (x ∷ l) q → ⊥
-      go true d o f e q h = let z : _≡_ {A = ℕ} 0 1 = cc in omega arith
-      go false d (some m) f e q h = let z : _≡_ {A = ℕ} 0 1 = cc in omega arith
+      go true d o f e q h = Option·some-ne-none 0 e
+      go false d (some m) f e q h = Option·some-ne-none (suc m) e
       go false d none f e zero h = let z : x ≡ h .0 = cc (h .1) in T-subst d (rw z (h .2))
       go false d none f e (suc q) h = f refl q h

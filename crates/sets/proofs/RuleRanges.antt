@@ -24,7 +24,7 @@ use Rattle.grammar.proofs.Begins.{begins, as-many}
 use Rattle.grammar.proofs.EachIndex.{read-whole}
 use Rattle.grammar.proofs.Suffixes.{scan-next, read-reaches}
 use Rattle.grammar.proofs.WellRead.{well-read}
-use Rattle.semantics.proofs.Outcomes.{nth-mem, mem-nth}
+use Rattle.semantics.proofs.Outcomes.{nth-below, nth-mem, mem-nth}
 use Rattle.sets.specs.Rules.{ruleFrom, Ended, Inside, RuleWords}
 use Rattle.sets.proofs.Words.{parse-here, parse-over}
 
@@ -105,12 +105,6 @@ allowed-inside (Symbol X) s a b = tt
 allowed-inside End s a b = tt
 allowed-inside (Heading n t) s a b = absurd (false≢true a)
 allowed-inside Invalid s a b = absurd (false≢true a)
-
--- a list has an element below its length
-nth-below : {A : Type 0} (l : List A) (q : ℕ) (x : A) → getElem? l q ≡ some x → q < length l
-nth-below [] q x e = let z : _≡_ {A = ℕ} 0 1 = cc in absurd (omega arith)
-nth-below (y ∷ l) zero x e = omega arith
-nth-below (y ∷ l) (suc q) x e = omega (arith, nth-below l q x e)
 
 module _ (words : List ℕ) (z : Sizes) (read : reading words ≡ Read z) where
   known : WellRead words z

@@ -1,6 +1,6 @@
 -- The words are gone through from their end: each that begins a rule has its head and its claim kept.
 use mathlib.Core.Path.{_≡_, refl, sym, ap, fun-ext, _∙_}
-use mathlib.Core.Bool.{true}
+use mathlib.Core.Bool.{true, false≢true}
 use mathlib.Core.List.{List, [], _∷_, _++_, map, List·Memᴰ, List·Memᴰ·head, List·Memᴰ·tail}
 use mathlib.Core.Option.{none}
 use Prim.Native.Nat.{ℕ, zero, suc, _+_, _-_, _≤_, _<_}
@@ -168,12 +168,12 @@ module _ {words : List ℕ} {z : Sizes} {firsts follows : List ℕ} (g : Familie
         let f = rules-from (i - 1) words in
         let l : length (parse (drop (i - 1) words) .rules) ≡ suc (length (p .rules)) = rw (from-here, d) in
         omega (arith, v .counted, known .rules, all-rules)
-    numbered Positive d t = let z : _≡_ {A = ℕ} 0 1 = cc in absurd (omega arith)
-    numbered Negative d t = let z : _≡_ {A = ℕ} 0 1 = cc in absurd (omega arith)
-    numbered (Symbol X) d t = let z : _≡_ {A = ℕ} 0 1 = cc in absurd (omega arith)
-    numbered End d t = let z : _≡_ {A = ℕ} 0 1 = cc in absurd (omega arith)
-    numbered (Heading n u) d t = let z : _≡_ {A = ℕ} 0 1 = cc in absurd (omega arith)
-    numbered Invalid d t = let z : _≡_ {A = ℕ} 0 1 = cc in absurd (omega arith)
+    numbered Positive d t = absurd (false≢true t)
+    numbered Negative d t = absurd (false≢true t)
+    numbered (Symbol X) d t = absurd (false≢true t)
+    numbered End d t = absurd (false≢true t)
+    numbered (Heading n u) d t = absurd (false≢true t)
+    numbered Invalid d t = absurd (false≢true t)
 
     -- what `claim` requires
     pub may-claim : MayClaim w (b .rule)

@@ -1,6 +1,7 @@
 -- What judging answers, by the lengths of the memories and by what is found of the grammar.
 use Rattle.recognizer.proofs.Checking.{found, found-fault}
-use Rattle.recognizer.proofs.Judged.{judge-refused, table-short, memo-short, grammar-fault}
+use Rattle.recognizer.proofs.JudgeFaults.{table-short, memo-short, grammar-fault}
+use Rattle.recognizer.proofs.Judged.{judge-refused}
 use borrow.Author.Needs.{needs}
 use Rattle.recognizer.proofs.judge.Statement.{statement}
 use Rattle.recognizer.proofs.judge.Tie as tie
