@@ -94,7 +94,8 @@ module _ {a : Answer} where
   pub refused-fields : {e : Error} {n p : ℕ} → NumbersFit (numbers a) → a ≡ Refused e → n ≡ coded e .code → p ≡ coded e .position → Fit 0 n p 0 0
   refused-fields f q n p = rw (n, p) (rw q at f)
 
-  pub refused-packed : {e : Error} {n p r : ℕ} → a ≡ Refused e → n ≡ coded e .code → p ≡ coded e .position → r ≡ joined 0 n p 0 0 → r ≡ packed (numbers a)
+  pub refused-packed : {e : Error} {n p r : ℕ} → a ≡ Refused e → n ≡ coded e .code → p ≡ coded e .position → r ≡ joined 0 n p 0 0
+      → r ≡ packed (numbers a)
   unfolding packed
   refused-packed q n p r = r ∙ rw (n, p, q)
 
@@ -131,6 +132,7 @@ pub check-exported : {words before after : List ℕ} {a : Answer} {r : ℕ} → 
     → CheckExported words before r after
 check-exported {a = a} c e = record { answer = a; checks = c; packs = e; unpacks = unpacks (numbers a) (check-fits c) e }
 
-pub judge-exported : {words input table memo table′ memo′ : List ℕ} {a : Answer} {r : ℕ} → Judges words input table memo a table′ memo′ → r ≡ packed (numbers a)
+pub judge-exported : {words input table memo table′ memo′ : List ℕ} {a : Answer} {r : ℕ} → Judges words input table memo a table′ memo′
+    → r ≡ packed (numbers a)
     → JudgeExported words input table memo r table′ memo′
 judge-exported {a = a} j e = record { answer = a; judges = j; packs = e; unpacks = unpacks (numbers a) (judge-fits j) e }

@@ -34,7 +34,8 @@ module _ (n t : ℕ) (fewNonterminals : n < 2 ^ 8) (fewTerminals : t < 2 ^ 8) wh
     body-parsed [] bs ws h e = e
     body-parsed (X ∷ b) bs ws h e = rw (symbol-of X b h, body-parsed b bs ws (rest-of X b h) e) (symbols X b bs)
 
-    conjuncts-parsed : (bs : List Body) (ws : List ℕ) → Each (InRange (sizes n t 0)) bs → parse ws ≡ f [] [] → parse (conjunctWords begin bs ws) ≡ f [] bs
+    conjuncts-parsed : (bs : List Body) (ws : List ℕ) → Each (InRange (sizes n t 0)) bs → parse ws ≡ f [] []
+        → parse (conjunctWords begin bs ws) ≡ f [] bs
     unfolding conjunctWords parse
     conjuncts-parsed [] ws h e = e
     conjuncts-parsed (b ∷ bs) ws h e =

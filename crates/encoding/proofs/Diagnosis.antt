@@ -39,7 +39,8 @@ decoded-kind w k e = rw e
 
 -- what is wrong with the word at the index
 module _ (words : List ℕ) (i : ℕ) (x : Error) (h : Place words i x) where
-  out-of-range : (v : Word) → Parts v (kind (getD words i 0)) (payload (getD words i 0)) → allows v (h .come .state) ≡ true → inRange v (h .come .sizes) ≡ false
+  out-of-range : (v : Word) → Parts v (kind (getD words i 0)) (payload (getD words i 0)) → allows v (h .come .state) ≡ true
+      → inRange v (h .come .sizes) ≡ false
       → OutOfRangeAt words i
   out-of-range (RuleWord A) o a r =
       let e = opened-encodes (take i words ++ (endWord ∷ [])) (h .come .sizes) (may-end words i x h a) in
@@ -56,7 +57,8 @@ module _ (words : List ℕ) (i : ℕ) (x : Error) (h : Place words i x) where
   out-of-range (Heading n t) o a r = absurd (false≢true a)
   out-of-range Invalid o a r = absurd (false≢true a)
 
-  too-many : (v : Word) → Parts v (kind (getD words i 0)) (payload (getD words i 0)) → allows v (h .come .state) ≡ true → inRange v (h .come .sizes) ≡ true
+  too-many : (v : Word) → Parts v (kind (getD words i 0)) (payload (getD words i 0)) → allows v (h .come .state) ≡ true
+      → inRange v (h .come .sizes) ≡ true
       → beginsRule v ≡ true → maxRules ≤ h .come .sizes .rules → RuleTooMany words i
   too-many (RuleWord A) o a r b l =
       let e = opened-encodes (take i words ++ (endWord ∷ [])) (h .come .sizes) (may-end words i x h a) in
@@ -100,7 +102,8 @@ over-ranged words i l (OutOfRangeAt.nonterminal k b m) = let d = List·getD-eq-d
 over-many : (words : List ℕ) (i : ℕ) → length words ≤ i → RuleTooMany words i → ⊥
 over-many words i l m = let d = List·getD-eq-default words 0 l in let k = m .begins in omega arith
 
-diagnosed-place : (words : List ℕ) (i : ℕ) (x : Error) → length words ≤ maxWords → opened words ≡ Faulty x → Place words i x → Diagnosis words (Faulty x)
+diagnosed-place : (words : List ℕ) (i : ℕ) (x : Error) → length words ≤ maxWords → opened words ≡ Faulty x → Place words i x
+    → Diagnosis words (Faulty x)
 diagnosed-place words i x short e h = go (decLt i (length words))
   where
     first : FirstFault words i
@@ -126,7 +129,8 @@ begins-nothing : BeginsEncoding []
 unfolding opened headed within scan finished onStep stepped decoded ofKind heading bare
 begins-nothing = begins [] (headingWord 1 1 ∷ endWord ∷ []) (sizes 1 1 0) refl
 
-diagnosed-heading : (words : List ℕ) → length words ≤ maxWords → opened words ≡ Faulty HeadingFault → (0 < length words → BeginsEncoding (take 1 words) → ⊥)
+diagnosed-heading : (words : List ℕ) → length words ≤ maxWords → opened words ≡ Faulty HeadingFault
+    → (0 < length words → BeginsEncoding (take 1 words) → ⊥)
     → Diagnosis words (Faulty HeadingFault)
 diagnosed-heading words short e n = Diagnosis.heading short (record { among = omega arith; before = begins-nothing; here = n; whole = λ G c. faulty HeadingFault (sizesOf G) (sym e ∙ encodes-opened words G c) })
 

@@ -31,7 +31,8 @@ abbrev pub Goes : Progress → List ℕ → Sizes → Type 0
 Goes p ws z = (at : ℕ) → scan p at ws ≡ Read z
 
 -- one word that begins no rule, and one that begins a rule
-pub goes-word : (w : ℕ) (v : Word) (s : State) (y z : Sizes) (ws : List ℕ) → decoded w ≡ v → allows v s ≡ true → inRange v y ≡ true → beginsRule v ≡ false
+pub goes-word : (w : ℕ) (v : Word) (s : State) (y z : Sizes) (ws : List ℕ) → decoded w ≡ v → allows v s ≡ true → inRange v y ≡ true
+    → beginsRule v ≡ false
     → Goes (progress (after v s) y) ws z → Goes (progress s y) (w ∷ ws) z
 unfolding scan onStep
 goes-word w v s y z ws e a i b g at = rw (e, stepped-other v (progress s y) at a i b) (g (suc at))
@@ -92,7 +93,8 @@ module _ (n t : ℕ) (fewNonterminals : n < 2 ^ 8) (fewTerminals : t < 2 ^ 8) wh
       (body-goes b InPositive k z _ refl (h b (List·Memᴰ·head refl)) (positives-go ps k z ws (each-rest _ b ps h) g))
 
   -- here alone it matters that a rule has a positive conjunct
-  conjuncts-go : (ps ns : List Body) (k : ℕ) (z : Sizes) (ws : List ℕ) → (ps ≡ [] → ⊥) → Each (InRange (sizes n t 0)) ps → Each (InRange (sizes n t 0)) ns
+  conjuncts-go : (ps ns : List Body) (k : ℕ) (z : Sizes) (ws : List ℕ) → (ps ≡ [] → ⊥) → Each (InRange (sizes n t 0)) ps
+      → Each (InRange (sizes n t 0)) ns
       → ((s : State) → Within s → Goes (progress s (sizes n t k)) ws z)
       → Goes (progress Opened (sizes n t k)) (conjunctWords positiveWord ps (conjunctWords negativeWord ns ws)) z
   unfolding conjunctWords

@@ -80,7 +80,8 @@ module _ (words : List ℕ) (i : ℕ) (x : Error) (h : Place words i x) where
   pub may-begin : (G : Grammar) → Encodes (take i words ++ (endWord ∷ [])) G → Between (h .come .state)
   may-begin G e = let g = goes-on endWord [] G e in rw decoded-end at (step-passed (decoded endWord) (h .come) (g .0) i (g .1) .allowed)
 
-  pub may-follow : (X : symbol.Symbol) → decoded (symbolWord X) ≡ Symbol X → BeginsEncoding (take i words ++ (symbolWord X ∷ [])) → Within (h .come .state)
+  pub may-follow : (X : symbol.Symbol) → decoded (symbolWord X) ≡ Symbol X → BeginsEncoding (take i words ++ (symbolWord X ∷ []))
+      → Within (h .come .state)
   may-follow X d b =
       let e : Encodes (take i words ++ (symbolWord X ∷ b .rest)) (b .grammar) = rw (← append-assoc (take i words) (symbolWord X ∷ []) (b .rest)) (b .encodes) in
       let g = goes-on (symbolWord X) (b .rest) (b .grammar) e in

@@ -47,7 +47,8 @@ unparsed-within InNegative ws a l = l
 unparsed-within Closed ws a l = absurd (false≢true a)
 
 -- one word more in front
-unparsed-word : (v : Word) (w : ℕ) (s : State) (ws : List ℕ) → WrittenAs v w → allows v s ≡ true → Shape (after v s) (parse ws) → Unparsed (after v s) ws
+unparsed-word : (v : Word) (w : ℕ) (s : State) (ws : List ℕ) → WrittenAs v w → allows v s ≡ true → Shape (after v s) (parse ws)
+    → Unparsed (after v s) ws
     → w ∷ ws ≡ unparse (onWord v (parse ws))
 unfolding unparse onWord bodyWords conjunctWords ruleWords rulesWords parse
 unparsed-word (RuleWord A) w s ws f a h l = cc (rw (h .0) at l)
@@ -85,7 +86,8 @@ unparsed p at (w ∷ ws) z e =
     (unparsed-word (decoded w) w (p .state) ws (written-as w) (k .allowed) (rw (k .state) at (r .fits .shape)) (rw (k .state) at (unparsed (g .0) (suc at) ws z (g .2))))
 
 -- a word that declares nonterminals is the heading of what it declares
-heading-written : (v : Word) (w : ℕ) → 0 < declaredBy v .nonterminals → WrittenAs v w → w ≡ headingWord (declaredBy v .nonterminals) (declaredBy v .terminals)
+heading-written : (v : Word) (w : ℕ) → 0 < declaredBy v .nonterminals → WrittenAs v w
+    → w ≡ headingWord (declaredBy v .nonterminals) (declaredBy v .terminals)
 heading-written (Heading n t) w h f = f
 heading-written (RuleWord A) w h f = absurd (omega arith)
 heading-written Positive w h f = absurd (omega arith)

@@ -28,10 +28,13 @@ pub record FirstFault (words : List ℕ) (i : ℕ) : Type 0 where
 
 -- a word of its kind may stand at i, but its number is not below the heading's: a rule may begin where the grammar may end, and a symbol may stand where the one of its kind with number 0 may
 pub data OutOfRangeAt (words : List ℕ) (i : ℕ) : Type 0 where
-  head : {G : Grammar} → kind (getD words i 0) ≡ 2 → Encodes (take i words ++ (endWord ∷ [])) G → G .nonterminals ≤ payload (getD words i 0) → OutOfRangeAt words i
-  terminal : kind (getD words i 0) ≡ 5 → (b : BeginsEncoding (take i words ++ (symbolWord (Terminal 0) ∷ []))) → b .grammar .terminals ≤ payload (getD words i 0)
+  head : {G : Grammar} → kind (getD words i 0) ≡ 2 → Encodes (take i words ++ (endWord ∷ [])) G → G .nonterminals ≤ payload (getD words i 0)
       → OutOfRangeAt words i
-  nonterminal : kind (getD words i 0) ≡ 6 → (b : BeginsEncoding (take i words ++ (symbolWord (Nonterminal 0) ∷ []))) → b .grammar .nonterminals ≤ payload (getD words i 0)
+  terminal : kind (getD words i 0) ≡ 5 → (b : BeginsEncoding (take i words ++ (symbolWord (Terminal 0) ∷ [])))
+      → b .grammar .terminals ≤ payload (getD words i 0)
+      → OutOfRangeAt words i
+  nonterminal : kind (getD words i 0) ≡ 6 → (b : BeginsEncoding (take i words ++ (symbolWord (Nonterminal 0) ∷ [])))
+      → b .grammar .nonterminals ≤ payload (getD words i 0)
       → OutOfRangeAt words i
 
 -- the word at i begins a rule, and the rules before it are as many as there may be

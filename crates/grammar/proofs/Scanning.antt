@@ -58,7 +58,8 @@ pub data Stepped (w : Word) (p : Progress) (at : ℕ) : Step → Type 0 where
       → Stepped w p at (Stop (TooManyRules at))
   rule : allows w (p .state) ≡ true → inRange w (p .sizes) ≡ true → beginsRule w ≡ true → p .sizes .rules < maxRules
       → Stepped w p at (Go (progress (after w (p .state)) (oneMore (p .sizes))))
-  other : allows w (p .state) ≡ true → inRange w (p .sizes) ≡ true → beginsRule w ≡ false → Stepped w p at (Go (progress (after w (p .state)) (p .sizes)))
+  other : allows w (p .state) ≡ true → inRange w (p .sizes) ≡ true → beginsRule w ≡ false
+      → Stepped w p at (Go (progress (after w (p .state)) (p .sizes)))
 
 pub stepping : (w : Word) (p : Progress) (at : ℕ) → Stepped w p at (stepped w p at)
 unfolding stepped counted

@@ -82,7 +82,8 @@ module _ {words found : List ℕ} {rules at : ℕ} (v : Noting words found rules
         full maxRules (take rules found) at (starts (at + 1) (drop (at + 1) words)) (replicate maxRules 0) (omega arith) ∙ (rw s at (v .whole));
   }
 
-  one-more : (w : Word) → w ≡ decoded (getD words at 0) → beginsRule w ≡ true → rules < maxRules → Noting words (set found rules at) (rules + 1) (at + 1)
+  one-more : (w : Word) → w ≡ decoded (getD words at 0) → beginsRule w ≡ true → rules < maxRules
+      → Noting words (set found rules at) (rules + 1) (at + 1)
   one-more w e b l = record {
     room = omega arith;
     size = length-set found rules at ∙ v .size;

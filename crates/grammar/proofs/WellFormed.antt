@@ -95,7 +95,8 @@ shape-between Closed rs e = absurd (false≢true e)
 cons-some : {A : Type 0} (x : A) (l : List A) → x ∷ l ≡ [] → ⊥
 cons-some x l e = let n = ap length e in omega arith
 
-shape-positive : (s : State) (b : Body) (ps ns : List Body) (rs : List Rule) → row false true true false false s ≡ true → Shape s (parsed [] (b ∷ ps) ns rs)
+shape-positive : (s : State) (b : Body) (ps ns : List Body) (rs : List Rule) → row false true true false false s ≡ true
+    → Shape s (parsed [] (b ∷ ps) ns rs)
 shape-positive Before b ps ns rs e = absurd (false≢true e)
 shape-positive Opened b ps ns rs e = (refl, cons-some b ps)
 shape-positive InPositive b ps ns rs e = tt
@@ -103,7 +104,8 @@ shape-positive InNegative b ps ns rs e = absurd (false≢true e)
 shape-positive Closed b ps ns rs e = absurd (false≢true e)
 
 -- in a conjunct only the positives behind it matter
-shape-within : (s : State) (p q : Parsed) → row false false true true false s ≡ true → p .positives ≡ q .positives → (s ≡ InNegative → q .positives ≡ [])
+shape-within : (s : State) (p q : Parsed) → row false false true true false s ≡ true → p .positives ≡ q .positives
+    → (s ≡ InNegative → q .positives ≡ [])
     → Shape s p
 shape-within Before p q e same h = absurd (false≢true e)
 shape-within Opened p q e same h = absurd (false≢true e)
@@ -112,7 +114,8 @@ shape-within InNegative p q e same h = same ∙ h refl
 shape-within Closed p q e same h = absurd (false≢true e)
 
 -- what fits behind a word fits before it, where the word may stand and its number is in range
-fits-word : (w : Word) (s : State) (z : Sizes) (p : Parsed) → allows w s ≡ true → inRange w z ≡ true → RestFits (after w s) z p → RestFits s z (onWord w p)
+fits-word : (w : Word) (s : State) (z : Sizes) (p : Parsed) → allows w s ≡ true → inRange w z ≡ true → RestFits (after w s) z p
+    → RestFits s z (onWord w p)
 unfolding onWord
 fits-word (RuleWord A) s z p a i h = record {
   body = (tt, tt);
@@ -244,7 +247,8 @@ pub finished-read : (p : Progress) (at : ℕ) (z : Sizes) → finished p at ≡ 
 unfolding finished
 finished-read p at z e = go (p .state) e
   where
-    go : (s : State) → choose (row false false false false true s) (Read (p .sizes)) (Faulty (UnexpectedWord at)) ≡ Read z → (s ≡ Closed) × (z ≡ p .sizes)
+    go : (s : State) → choose (row false false false false true s) (Read (p .sizes)) (Faulty (UnexpectedWord at)) ≡ Read z
+        → (s ≡ Closed) × (z ≡ p .sizes)
     go Before e = absurd (faulty (UnexpectedWord at) z e)
     go Opened e = absurd (faulty (UnexpectedWord at) z e)
     go InPositive e = absurd (faulty (UnexpectedWord at) z e)

@@ -62,7 +62,8 @@ start-kept : (xs : List ℕ) (m q : ℕ) → length xs ≤ m → q < length xs �
 start-kept xs m q l h = getD-take m (xs ++ replicate m 0) q 0 (omega arith) ∙ List·getD-append xs (replicate m 0) 0 q h
 
 -- rules that fit a grammar's numbers make it well formed
-pub fit-formed : (G : Grammar) (z : Sizes) → z .nonterminals ≡ G .nonterminals → z .terminals ≡ G .terminals → Each (RuleFits z) (G .rules) → WellFormed G
+pub fit-formed : (G : Grammar) (z : Sizes) → z .nonterminals ≡ G .nonterminals → z .terminals ≡ G .terminals → Each (RuleFits z) (G .rules)
+    → WellFormed G
 fit-formed G z n t h = record {
   scoped = record {
     heads = λ r m. omega (arith, h r m .head);

@@ -23,11 +23,13 @@ use Rattle.sets.proofs.Words.{parse-here as parse-first}
 use Rattle.recognizer.specs.Descent.{Skipped, BodyEnd}
 
 -- the row from an index on: its first word, and the rest
-pub parse-here : (words : List ℕ) (at : ℕ) → at < length words → parse (drop at words) ≡ onWord (decoded (getD words at 0)) (parse (drop (at + 1) words))
+pub parse-here : (words : List ℕ) (at : ℕ) → at < length words
+    → parse (drop at words) ≡ onWord (decoded (getD words at 0)) (parse (drop (at + 1) words))
 parse-here words at h = rw (add-one at) (parse-first words at h)
 
 -- a symbol leaves the progress of a reading as it is
-pub symbol-reads : (words : List ℕ) (at : ℕ) (p : Progress) (z : Sizes) (X : grammar.Symbol) → at < length words → decoded (getD words at 0) ≡ Symbol X
+pub symbol-reads : (words : List ℕ) (at : ℕ) (p : Progress) (z : Sizes) (X : grammar.Symbol) → at < length words
+    → decoded (getD words at 0) ≡ Symbol X
     → scan p at (drop at words) ≡ Read z → scan p (at + 1) (drop (at + 1) words) ≡ Read z
 symbol-reads words at p z X h x e =
     let n = scan-next words at p z h e in

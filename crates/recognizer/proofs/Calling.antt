@@ -72,11 +72,13 @@ module _ (M : MemoCalls) (w : List ℕ) (i : ℕ) (b : Body) (ns : List Body) (m
       go Failed = refl
       go (End e) = refl
 
-  positive-keeps : (e : ℕ) (ps : List Body) → memoRest M w i (agreement.At e) (b ∷ ps) ns m ≡ memoRest M w i (joinedBy Positive (agreement.At e) o) ps ns m′
+  positive-keeps : (e : ℕ) (ps : List Body)
+      → memoRest M w i (agreement.At e) (b ∷ ps) ns m ≡ memoRest M w i (joinedBy Positive (agreement.At e) o) ps ns m′
   unfolding memoRest memoPositives
   positive-keeps e ps = rw run (go (endsAt o e))
     where
-      go : (x : Bool) → choose x (memoPositives M w i e ps ns m′) (memoized Failed m′) ≡ memoRest M w i (choose x (agreement.At e) agreement.Failed) ps ns m′
+      go : (x : Bool)
+          → choose x (memoPositives M w i e ps ns m′) (memoized Failed m′) ≡ memoRest M w i (choose x (agreement.At e) agreement.Failed) ps ns m′
       go true = refl
       go false = refl
 
@@ -84,7 +86,8 @@ module _ (M : MemoCalls) (w : List ℕ) (i : ℕ) (b : Body) (ns : List Body) (m
   unfolding memoRest memoPositives memoNegatives
   negative-keeps e = rw run (go (endsAt o e))
     where
-      go : (x : Bool) → choose x (memoized Failed m′) (memoNegatives M w i e ns m′) ≡ memoRest M w i (choose x agreement.Failed (agreement.At e)) [] ns m′
+      go : (x : Bool)
+          → choose x (memoized Failed m′) (memoNegatives M w i e ns m′) ≡ memoRest M w i (choose x agreement.Failed (agreement.At e)) [] ns m′
       go true = refl
       go false = refl
 
@@ -218,7 +221,8 @@ module _ {choice : Choice} {words choices tokens input memo₀ : List ℕ} {A pl
 
   -- one body more
   pub calling-turn : goesOn sign agreed ≡ true → {o : Run} {memo′ : List ℕ} {at′ : ℕ} {sign′ : Sign} {agreed′ : Agreement}
-      → RunDone choice words input memo A (at + 1) place o memo′ → agreed′ ≡ joinedBy sign agreed (meant (o .outcome)) → BodyEnd words (o .at) at′ → sign′ ≡ signAt words at′
+      → RunDone choice words input memo A (at + 1) place o memo′ → agreed′ ≡ joinedBy sign agreed (meant (o .outcome)) → BodyEnd words (o .at) at′
+      → sign′ ≡ signAt words at′
       → Calling choice words input memo₀ A place r memo′ at′ sign′ agreed′
   calling-turn goes {o} {memo′} {at′} {sign′} {agreed′} d j b s =
       let k = conjunct goes in
@@ -306,7 +310,8 @@ module _ {choice : Choice} {words choices tokens input memo₀ : List ℕ} {A pl
   rule-run goes = calling-run g (v .rule) (v .listed) (v .heads) (v .calling) (conjunct g (v .rule) (v .listed) (v .heads) (v .calling) goes)
 
   pub rule-turn : goesOn sign agreed ≡ true → {o : Run} {memo′ : List ℕ} {at′ : ℕ} {sign′ : Sign} {agreed′ : Agreement}
-      → RunDone choice words input memo A (at + 1) place o memo′ → agreed′ ≡ joinedBy sign agreed (meant (o .outcome)) → BodyEnd words (o .at) at′ → sign′ ≡ signAt words at′
+      → RunDone choice words input memo A (at + 1) place o memo′ → agreed′ ≡ joinedBy sign agreed (meant (o .outcome)) → BodyEnd words (o .at) at′
+      → sign′ ≡ signAt words at′
       → InRule choice words input memo₀ A place memo′ at′ sign′ agreed′
   rule-turn goes d j b s = record {
     rule = v .rule;

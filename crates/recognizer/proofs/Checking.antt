@@ -181,7 +181,8 @@ module _ (words before : List ℕ) (long : maxTableWords ≤ length before) {z :
         fewTerminals = r .fewTerminals;
       }
 
-  pub lent-table : {after : List ℕ} → Lent before entries z after → after ≡ tableWords (grammarOf words) ++ drop (length (tableWords (grammarOf words))) before
+  pub lent-table : {after : List ℕ} → Lent before entries z after
+      → after ≡ tableWords (grammarOf words) ++ drop (length (tableWords (grammarOf words))) before
   unfolding filled
   lent-table l =
       let w : take (wordCount z) entries ≡ tableWords (grammarOf words) =
@@ -194,7 +195,8 @@ module _ (words before : List ℕ) (long : maxTableWords ≤ length before) {z :
       let c : checkFault (length before) words ≡ none = check-fault-long (length before) words long ∙ f .faultless in
       checks (sym (ap (λ y. refusedOr y Passed) c)) (lent-table l ∙ sym (ap (λ y. lentBack y (tableWords (grammarOf words)) before) c))
 
-pub check-refused : (words before : List ℕ) → maxTableWords ≤ length before → {x : Error} → fault words ≡ some x → Checks words before (Refused x) before
+pub check-refused : (words before : List ℕ) → maxTableWords ≤ length before → {x : Error} → fault words ≡ some x
+    → Checks words before (Refused x) before
 check-refused words before long {x} f =
     let c : checkFault (length before) words ≡ some x = check-fault-long (length before) words long ∙ f in
     checks (sym (ap (λ y. refusedOr y Passed) c)) (sym (ap (λ y. lentBack y (tableWords (grammarOf words)) before) c))

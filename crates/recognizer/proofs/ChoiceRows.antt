@@ -69,7 +69,8 @@ row-filled {A = A} {places = places} {now = now} g w h =
 -- the rows of the first nonterminals are written
 pub record Rows (words entries : List ℕ) (z : Sizes) (places A : ℕ) (choices : List ℕ) : Type 0 where
   pub long : length choices ≡ choiceWords
-  pub columns : (B c : ℕ) → B < A → c < z .terminals + 1 → getD choices (B * choiceColumns + c) 0 ≡ firstWord (ruleStarts words) (entryOf z entries B c)
+  pub columns : (B c : ℕ) → B < A → c < z .terminals + 1
+      → getD choices (B * choiceColumns + c) 0 ≡ firstWord (ruleStarts words) (entryOf z entries B c)
   pub rows : (B : ℕ) → B < A → rowAt choices B ≡ B * places
 
 module _ {words starts entries : List ℕ} {z : Sizes} {places A : ℕ} {choices choices′ : List ℕ} (few : z .terminals ≤ maxTerminals) (s : starts ≡ ruleStarts words)
@@ -78,7 +79,8 @@ module _ {words starts entries : List ℕ} {z : Sizes} {places A : ℕ} {choices
   unfolding rowAt
   rows-more = record { long = f .long ∙ w .long; columns = λ B c b h. columns B c b h (decLt B A); rows = λ B b. rows B b (decLt B A) }
     where
-      columns : (B c : ℕ) → B < A + 1 → c < z .terminals + 1 → Dec (B < A) → getD choices′ (B * choiceColumns + c) 0 ≡ firstWord (ruleStarts words) (entryOf z entries B c)
+      columns : (B c : ℕ) → B < A + 1 → c < z .terminals + 1 → Dec (B < A)
+          → getD choices′ (B * choiceColumns + c) 0 ≡ firstWord (ruleStarts words) (entryOf z entries B c)
       columns B c b h (yes l) = f .kept (B * choiceColumns + c) (omega arith) ∙ w .columns B c l h
       columns B c b h (no l) = let q : B ≡ A = omega arith in rw (q, sym s) (f .columns c h)
 
@@ -86,7 +88,8 @@ module _ {words starts entries : List ℕ} {z : Sizes} {places A : ℕ} {choices
       rows B b (yes l) = f .kept (B * choiceColumns + rowColumn) (omega arith) ∙ w .rows B l
       rows B b (no l) = let q : B ≡ A = omega arith in rw q (f .row)
 
-pub rows-none : (words entries : List ℕ) (z : Sizes) (places : ℕ) (choices : List ℕ) → length choices ≡ choiceWords → Rows words entries z places 0 choices
+pub rows-none : (words entries : List ℕ) (z : Sizes) (places : ℕ) (choices : List ℕ) → length choices ≡ choiceWords
+    → Rows words entries z places 0 choices
 rows-none words entries z places choices long = record { long = long; columns = λ B c b. absurd (omega arith); rows = λ B b. absurd (omega arith) }
 
 pub rows-all : {words entries : List ℕ} {z : Sizes} {places A : ℕ} {choices : List ℕ} → z .nonterminals ≤ A → Rows words entries z places A choices

@@ -52,7 +52,8 @@ use Rattle.recognizer.proofs.Tallying.{tally-recorded}
 
 -- the search for an unknown token, by the token at an index
 module _ (n : ℕ) (input : List ℕ) (at : ℕ) where
-  unknown-at : at < length input → unknownFrom n at (drop at input) ≡ choose (ltb (getD input at 0) n) (unknownFrom n (suc at) (drop (suc at) input)) (At at)
+  unknown-at : at < length input
+      → unknownFrom n at (drop at input) ≡ choose (ltb (getD input at 0) n) (unknownFrom n (suc at) (drop (suc at) input)) (At at)
   unfolding unknownFrom
   unknown-at h = rw (drop-cons input at 0 h)
 

@@ -33,7 +33,8 @@ unfolding unknownFrom allOf
 absent-known n at [] e = tt
 absent-known n at (a ∷ w) e = go (ltb a n) e (absent-known n (suc at) w)
   where
-    go : (b : Bool) → choose b (unknownFrom n (suc at) w) (At at) ≡ Absent → (unknownFrom n (suc at) w ≡ Absent → Over n w) → T (b && allOf (λ c. ltb c n) w)
+    go : (b : Bool) → choose b (unknownFrom n (suc at) w) (At at) ≡ Absent → (unknownFrom n (suc at) w ≡ Absent → Over n w)
+        → T (b && allOf (λ c. ltb c n) w)
     go true f over = over f
     go false f over = let z : _≡_ {A = ℕ} 0 1 = cc in absurd (omega arith)
 

@@ -30,7 +30,8 @@ verdict-tells true c e = ((λ q. refl, λ q. e), (λ q. absurd (omega (arith, an
 verdict-tells false c e = ((λ q. absurd (omega (arith, answer-number (sym e ∙ q))), λ q. absurd (false≢true q)), (λ q. refl, λ q. e))
 
 -- property 3 from the verdict of the descent
-pub meaning : (words input : List ℕ) (r : Answer) → PassedGrammar words → Readable words input → r ≡ verdictOf (grammarOf words) input → Recognizes words input r
+pub meaning : (words input : List ℕ) (r : Answer) → PassedGrammar words → Readable words input → r ≡ verdictOf (grammarOf words) input
+    → Recognizes words input r
 unfolding verdictOf
 meaning words input r p h e =
     let G = grammarOf words in

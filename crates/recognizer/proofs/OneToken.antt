@@ -77,7 +77,8 @@ module _ {words : List ℕ} {z : Sizes} {entries : List ℕ} {places : ℕ} (g :
   few-sizes = (r .fewNonterminals, r .fewTerminals)
 
   -- an entry is that of the grammar's table
-  entry-is : (A c : ℕ) → A < z .nonterminals → c < z .terminals + 1 → entryOf z entries A c ≡ entryWord (tableOf G 1 A (columnString (G .terminals) c))
+  entry-is : (A c : ℕ) → A < z .nonterminals → c < z .terminals + 1
+      → entryOf z entries A c ≡ entryWord (tableOf G 1 A (columnString (G .terminals) c))
   unfolding entryAt
   entry-is A c a h = rw (r .nonterminals, r .terminals, add-one) (g .table A c (omega (arith, r .nonterminals)) (omega (arith, r .terminals)))
 
@@ -109,12 +110,14 @@ module _ {words : List ℕ} {z : Sizes} {entries : List ℕ} {places : ℕ} (g :
   unfolding firstWord
   first-is A x = go (tableOf G 1 A x) refl
     where
-      go : (o : Option ℕ) → tableOf G 1 A x ≡ o → choose (eqb (entryWord o) noEntry) 0 (getD (ruleStarts words) (entryWord o) 0 + 1) ≡ firstConjunct words o
+      go : (o : Option ℕ) → tableOf G 1 A x ≡ o
+          → choose (eqb (entryWord o) noEntry) 0 (getD (ruleStarts words) (entryWord o) 0 + 1) ≡ firstConjunct words o
       go none e = refl
       go (some q) e = let l = rule-low A q x e in rw (ne-eqb q noEntry (λ n. absurd (omega (arith, r .fewRules))))
 
   -- the rows hold the choice by one token
-  pub choices-hold : (input : List ℕ) {choices : List ℕ} → Filled words entries z places choices → Over (G .terminals) input → length input ≤ maxTokens
+  pub choices-hold : (input : List ℕ) {choices : List ℕ} → Filled words entries z places choices → Over (G .terminals) input
+      → length input ≤ maxTokens
       → (A i : ℕ) → A < G .nonterminals → i ≤ length input
       → firstAt choices (tokenWords (G .terminals) input) A i ≡ firstConjunct words (tableChoice G 1 input A i)
   unfolding firstAt

@@ -71,7 +71,8 @@ pub record Running (choice : Choice) (words input memo₀ : List ℕ) (A from st
   pub skipped : Skipped words from at
 
 -- where two ways meet
-pub running-as : {choice : Choice} {words input memo₀ : List ℕ} {A from start : ℕ} {memo memo′ : List ℕ} {at place place′ : ℕ} → memo′ ≡ memo → place′ ≡ place
+pub running-as : {choice : Choice} {words input memo₀ : List ℕ} {A from start : ℕ} {memo memo′ : List ℕ} {at place place′ : ℕ} → memo′ ≡ memo
+    → place′ ≡ place
     → Running choice words input memo₀ A from start memo at place → Running choice words input memo₀ A from start memo′ at place′
 running-as m p v = rw (m, p) v
 

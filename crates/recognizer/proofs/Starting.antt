@@ -138,7 +138,8 @@ module _ {choice : Choice} {words choices tokens input memo : List ℕ} {A place
   unfolding select
   select-none e = rw e
 
-  pub start-rule : {at : ℕ} (k : Chosen at) {sign : Sign} → sign ≡ signAt words at → InRule choice words input memo A place memo at sign agreement.Open
+  pub start-rule : {at : ℕ} (k : Chosen at) {sign : Sign} → sign ≡ signAt words at
+      → InRule choice words input memo A place memo at sign agreement.Open
   start-rule k {sign} s = rw (k .behind) (record {
     rule = k .rule;
     listed = k .listed;

@@ -30,7 +30,8 @@ use Rattle.recognizer.specs.Arrays.{rowAt}
 use Rattle.recognizer.specs.Descent.{MemoSound, CallGiven, CallDone}
 use Rattle.recognizer.proofs.Running.{deep, level}
 
-pub memo-same : {choice : Choice} {words input memo memo′ : List ℕ} → MemoSound choice words input memo → MemoSound choice words input memo′ → length memo ≡ length memo′
+pub memo-same : {choice : Choice} {words input memo memo′ : List ℕ} → MemoSound choice words input memo → MemoSound choice words input memo′
+    → length memo ≡ length memo′
 memo-same m m′ = m .size ∙ sym (m′ .size)
 
 -- the two ways to say that a memo table is sound
@@ -59,7 +60,8 @@ module _ {choice : Choice} {words choices tokens input memo : List ℕ} {A place
   fits = omega (arith, g .given .short)
 
   -- the model tells all that is asked of a call
-  pub call-done : {o : code.Outcome} {memo′ : List ℕ} → ((n : ℕ) → level words input A place < n → deep choice words input n A place memo ≡ memoized (meant o) memo′)
+  pub call-done : {o : code.Outcome} {memo′ : List ℕ}
+      → ((n : ℕ) → level words input A place < n → deep choice words input n A place memo ≡ memoized (meant o) memo′)
       → CallDone choice words input memo A place o memo′
   call-done {o} {memo′} model =
       let n = suc (level words input A place) in

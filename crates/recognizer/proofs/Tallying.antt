@@ -76,7 +76,8 @@ module _ (m : Memo) (tokens : ℕ) where
       go true = omega arith
       go false = omega arith
 
-  one-written : (A i : ℕ) → (getD m (A * suc tokens + i) uncalledCode ≡ uncalledCode → ⊥) → greatestPlace (keep (writtenAmong tokens m) (callAt A i ∷ [])) ≡ i
+  one-written : (A i : ℕ) → (getD m (A * suc tokens + i) uncalledCode ≡ uncalledCode → ⊥)
+      → greatestPlace (keep (writtenAmong tokens m) (callAt A i ∷ [])) ≡ i
   unfolding keep greatestPlace
   one-written A i h = go (eqb (getD m (A * suc tokens + i) uncalledCode) uncalledCode) (ne-eqb _ uncalledCode h)
     where
@@ -84,7 +85,8 @@ module _ (m : Memo) (tokens : ℕ) where
       go true e = absurd (true≢false e)
       go false e = omega arith
 
-  one-unwritten : (A i : ℕ) → getD m (A * suc tokens + i) uncalledCode ≡ uncalledCode → greatestPlace (keep (writtenAmong tokens m) (callAt A i ∷ [])) ≡ 0
+  one-unwritten : (A i : ℕ) → getD m (A * suc tokens + i) uncalledCode ≡ uncalledCode
+      → greatestPlace (keep (writtenAmong tokens m) (callAt A i ∷ [])) ≡ 0
   unfolding keep greatestPlace
   one-unwritten A i h = go (eqb (getD m (A * suc tokens + i) uncalledCode) uncalledCode) (eq-eqb _ uncalledCode h)
     where
@@ -142,7 +144,8 @@ module _ (m : Memo) (tokens : ℕ) where
     pub farthest-here : (getD m (A * (tokens + 1) + i) 0 ≡ uncalledCode → ⊥) → i ≡ greatestPlace (recordedRow m tokens A (i + 1))
     farthest-here h = omega (arith, row-greatest A i, row-low A i, one-written A i (λ e. h (entry-same A i low ∙ e)))
 
-    pub farthest-before : getD m (A * (tokens + 1) + i) 0 ≡ uncalledCode → greatestPlace (recordedRow m tokens A (i + 1)) ≡ greatestPlace (recordedRow m tokens A i)
+    pub farthest-before : getD m (A * (tokens + 1) + i) 0 ≡ uncalledCode
+        → greatestPlace (recordedRow m tokens A (i + 1)) ≡ greatestPlace (recordedRow m tokens A i)
     farthest-before h = omega (arith, row-greatest A i, one-unwritten A i (sym (entry-same A i low) ∙ h))
 
   pub farthest-none : (A : ℕ) → 0 ≡ greatestPlace (recordedRow m tokens A 1)

@@ -65,7 +65,8 @@ partly w e at = map (λ a. a * (elementWeight + 1)) (take at w) ++ replicate (ma
 pub partly-none : (w : List ℕ) (e : ℕ) → replicate (maxPlaces) e ≡ partly w e 0
 partly-none w e = refl
 
-pub partly-more : (w : List ℕ) (e at : ℕ) → at < length w → length w ≤ maxTokens → set (partly w e at) at (getD w at 0 * (elementWeight + 1)) ≡ partly w e (at + 1)
+pub partly-more : (w : List ℕ) (e at : ℕ) → at < length w → length w ≤ maxTokens
+    → set (partly w e at) at (getD w at 0 * (elementWeight + 1)) ≡ partly w e (at + 1)
 partly-more w e at h short =
     let n : maxPlaces - at ≡ suc (maxPlaces - (at + 1)) = omega arith in
     let m : length (map (λ a. a * (elementWeight + 1)) (take at w)) ≡ at = length-map (take at w) (λ a. a * (elementWeight + 1)) ∙ length-take-le at w (omega arith) in

@@ -61,5 +61,6 @@ pub record RowFilled (starts entries : List ℕ) (z : Sizes) (A places : ℕ) (b
   pub row : rowAt after A ≡ A * places
 
 pub record Filled (words entries : List ℕ) (z : Sizes) (places : ℕ) (choices : List ℕ) : Type 0 where
-  pub columns : (A c : ℕ) → A < z .nonterminals → c < z .terminals + 1 → getD choices (A * choiceColumns + c) 0 ≡ firstWord (ruleStarts words) (entryOf z entries A c)
+  pub columns : (A c : ℕ) → A < z .nonterminals → c < z .terminals + 1
+      → getD choices (A * choiceColumns + c) 0 ≡ firstWord (ruleStarts words) (entryOf z entries A c)
   pub rows : (A : ℕ) → A < z .nonterminals → rowAt choices A ≡ A * places

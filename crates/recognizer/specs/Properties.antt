@@ -90,7 +90,8 @@ pub record Readable (words input : List ℕ) : Type 0 where
 pub record Recognizes (words input : List ℕ) (r : Answer) : Type 0 where
   pub one-solution : OneSolution (grammarOf words) input
   pub accepted : (v : Valuation) → Solves (grammarOf words) input v → (r ≡ Accepted (callsOf (grammarOf words) input)) ↔ (v 0 0 (length input) ≡ true)
-  pub rejected : (v : Valuation) → Solves (grammarOf words) input v → (r ≡ Rejected (callsOf (grammarOf words) input)) ↔ (v 0 0 (length input) ≡ false)
+  pub rejected : (v : Valuation) → Solves (grammarOf words) input v
+      → (r ≡ Rejected (callsOf (grammarOf words) input)) ↔ (v 0 0 (length input) ≡ false)
   pub descent : DescentEnds (grammarOf words) (tableChoice (grammarOf words) 1 input) input
   pub calls : CallsCounted (grammarOf words) (tableChoice (grammarOf words) 1 input) input
   pub memo : Recorded (grammarOf words) (tableChoice (grammarOf words) 1 input) input (memoWords (grammarOf words) input)

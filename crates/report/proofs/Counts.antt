@@ -77,5 +77,6 @@ module _ (words : List ℕ) (p : PassedGrammar words) where
           follow-members = subst (λ n. Members (Follow G 1 A) (size n)) (sym two) follow-size;
         }
 
-pub sheet-printed : (bytes : List ℕ) {before after : List ℕ} {n : ℕ} → Printed sheetRoom (sheetOf bytes) before after n → SheetPrinted bytes before after n
+pub sheet-printed : (bytes : List ℕ) {before after : List ℕ} {n : ℕ} → Printed sheetRoom (sheetOf bytes) before after n
+    → SheetPrinted bytes before after n
 sheet-printed bytes r = record { printed = r; sets = λ p A h. sets-told (wordsOf bytes) p A h }

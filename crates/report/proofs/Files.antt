@@ -31,7 +31,8 @@ pub record FoundWords (bytes after : List ℕ) (n : ℕ) : Type 0 where
   pub part : n ≡ length (take n after)
   pub words : take n after ≡ wordsOf bytes
 
-pub found : {bytes before after : List ℕ} {r : Loaded} {n : ℕ} → Loading bytes before r after → r ≡ Words n → length before ≡ maxWords → FoundWords bytes after n
+pub found : {bytes before after : List ℕ} {r : Loaded} {n : ℕ} → Loading bytes before r after → r ≡ Words n → length before ≡ maxWords
+    → FoundWords bytes after n
 unfolding areWords
 found {bytes} {before} {after} {r} {n} l told size = go (areWords bytes) refl
   where
@@ -68,11 +69,13 @@ module _ {l m : List ℕ} {k : ℕ} where
   unfolding sheetOf
   sheet-refused bytes e p = rw e (printed (omega (arith, refusal-most Length)) p)
 
-  pub sheet-checked : {bytes words : List ℕ} {n : ℕ} → FoundWords bytes words n → Put l 0 (checkedText (take n words)) m k → Printed sheetRoom (sheetOf bytes) l m k
+  pub sheet-checked : {bytes words : List ℕ} {n : ℕ} → FoundWords bytes words n → Put l 0 (checkedText (take n words)) m k
+      → Printed sheetRoom (sheetOf bytes) l m k
   unfolding sheetOf
   sheet-checked f p = rw (f .are, ← f .words) (printed (checked-short _) p)
 
-  pub judgement-refused : (bytes input : List ℕ) → areWords bytes ≡ false → Put l 0 (refusalText Length) m k → Printed judgementRoom (judgementOf bytes input) l m k
+  pub judgement-refused : (bytes input : List ℕ) → areWords bytes ≡ false → Put l 0 (refusalText Length) m k
+      → Printed judgementRoom (judgementOf bytes input) l m k
   unfolding judgementOf
   judgement-refused bytes input e p = rw e (printed (omega (arith, refusal-most Length)) p)
 

@@ -88,7 +88,8 @@ module _ (words input : List ℕ) (table memo : ℕ) (e : judgeFault table memo 
   unfolding memoWord encode
   entry-low x m = go (member sameCall (calls G (tableChoice G 1 input) input) x) (descend G (tableChoice G 1 input) input (x .nonterminal) (x .place)) refl
     where
-      go : (b : Bool) (o : Ended) → descend G (tableChoice G 1 input) input (x .nonterminal) (x .place) ≡ o → choose b (encode o) uncalledCode < 100000
+      go : (b : Bool) (o : Ended) → descend G (tableChoice G 1 input) input (x .nonterminal) (x .place) ≡ o
+          → choose b (encode o) uncalledCode < 100000
       go false o q = omega arith
       go true Failed q = omega arith
       go true (End j) q =

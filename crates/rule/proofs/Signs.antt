@@ -44,7 +44,8 @@ sign-negative word.End e = absurd (omega (arith, sign-number e))
 sign-negative word.Invalid e = absurd (omega (arith, sign-number e))
 
 -- a sign but neither stands within the words
-pub sign-within : (words : List ℕ) (at : ℕ) → (signAt words at ≡ Neither → ⊥) → (at < length words) × (signAt words at ≡ signOf (decoded (getD words at 0)))
+pub sign-within : (words : List ℕ) (at : ℕ) → (signAt words at ≡ Neither → ⊥)
+    → (at < length words) × (signAt words at ≡ signOf (decoded (getD words at 0)))
 unfolding signAt
 sign-within words at h = go (ltb at (length words)) refl h
   where

@@ -25,7 +25,8 @@ take-one [] h = refl
 take-one (a ∷ []) h = refl
 take-one (a ∷ b ∷ x) h = absurd (omega arith)
 
-pub cut-one : (P Q : List ℕ → Type 0) → ((x : List ℕ) → P x → length x ≤ 1) → ((x : List ℕ) → Q x → length x ≤ 1) → (x : List ℕ) → Cut 1 P Q x ↔ Strung P Q x
+pub cut-one : (P Q : List ℕ → Type 0) → ((x : List ℕ) → P x → length x ≤ 1) → ((x : List ℕ) → Q x → length x ≤ 1) → (x : List ℕ)
+    → Cut 1 P Q x ↔ Strung P Q x
 cut-one P Q p q x = (λ c. there (c .0) (c .1) (c .2) (c .3) (c .4), λ s. back (s .0 .0) (s .0 .1) (s .1))
   where
     there : (u y : List ℕ) → P u → Q y → x ≡ take 1 (u ++ y) → Strung P Q x
@@ -51,7 +52,8 @@ firstBody-short k F [] x f = rw f (omega arith)
 firstBody-short k F (X ∷ b) x f = rw (f .4) (take-short k (f .0 ++ f .1))
 
 -- so a body strings the sets of its symbols
-pub body-strung : (F : Family) → Short 1 F → (X : Symbol) (b : Body) (x : List ℕ) → FirstBody 1 F (X ∷ b) x ↔ Strung (FirstOf 1 F X) (FirstBody 1 F b) x
+pub body-strung : (F : Family) → Short 1 F → (X : Symbol) (b : Body) (x : List ℕ)
+    → FirstBody 1 F (X ∷ b) x ↔ Strung (FirstOf 1 F X) (FirstBody 1 F b) x
 body-strung F h X b x = cut-one (FirstOf 1 F X) (FirstBody 1 F b) (firstOf-short 1 F h X) (firstBody-short 1 F b) x
 
 module _ (G : Grammar) where
@@ -59,7 +61,8 @@ module _ (G : Grammar) where
   follow-short A x f = follow-lookahead G 1 A x f .1 .0
 
   -- a body's FIRST set is that of its first symbol strung with that of the rest
-  pub first-strung : (X : Symbol) (b : Body) (x : List ℕ) → FirstBody 1 (First G 1) (X ∷ b) x ↔ Strung (FirstOf 1 (First G 1) X) (FirstBody 1 (First G 1) b) x
+  pub first-strung : (X : Symbol) (b : Body) (x : List ℕ)
+      → FirstBody 1 (First G 1) (X ∷ b) x ↔ Strung (FirstOf 1 (First G 1) X) (FirstBody 1 (First G 1) b) x
   first-strung = body-strung (First G 1) (λ A x f. first-lookahead G 1 A x f .1 .0)
 
   -- a family of such strings is closed as FOLLOW is to be just where it holds what comes after a nonterminal strung with what can follow the head

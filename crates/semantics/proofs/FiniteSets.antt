@@ -48,7 +48,8 @@ module _ {X : Type 0} (same : X → X → Bool) (eq : Equality same) where
   distinct-elim [] x m = m
   distinct-elim (y ∷ l) x m = go (member same (distinct same l) y) (distinct-elim l x) m
     where
-      go : (b : Bool) → (List·Memᴰ x (distinct same l) → List·Memᴰ x l) → List·Memᴰ x (elim b [ true ↦ distinct same l | false ↦ y ∷ distinct same l ])
+      go : (b : Bool) → (List·Memᴰ x (distinct same l) → List·Memᴰ x l)
+          → List·Memᴰ x (elim b [ true ↦ distinct same l | false ↦ y ∷ distinct same l ])
           → List·Memᴰ x (y ∷ l)
       go true f n = List·Memᴰ·tail (f n)
       go false f n = elim (List·Memᴰ·cases-cons n) [ inl e ↦ List·Memᴰ·head e | inr k ↦ List·Memᴰ·tail (f k) ]
@@ -104,7 +105,8 @@ module _ {X : Type 0} where
     where
       go : (a b : Bool) → p y ≡ a → q y ≡ b
           → length {A = X} (elim b [ true ↦ y ∷ keep q l | false ↦ keep q l ]) ≤ length {A = X} (elim a [ true ↦ y ∷ keep p l | false ↦ keep p l ])
-          → length (keep p l) ≤ length (keep q l) → (length (keep q l) ≤ length (keep p l) → List·Memᴰ x l → T (p x)) → (x ≡ y) ⊎ List·Memᴰ x l → T (p x)
+          → length (keep p l) ≤ length (keep q l) → (length (keep q l) ≤ length (keep p l) → List·Memᴰ x l → T (p x)) → (x ≡ y) ⊎ List·Memᴰ x l
+          → T (p x)
       go true b d e le i f (inl z) = true-T (p x) (ap p z ∙ d)
       go false true d e le i f (inl z) = absurd (omega arith)
       go false false d e le i f (inl z) = absurd (T-subst (ap q z ∙ e) t)
@@ -168,7 +170,8 @@ module _ {X Y Z : Type 0} (f : X → Y → Z) where
       go (inl e) g = rw e (Memᴰ·append-left (combine f xs ys) (Memᴰ·map (f x′) n))
       go (inr k) g = Memᴰ·append-right (map (f x′) ys) (g k)
 
-  pub combine-elim : (xs : List X) (ys : List Y) (z : Z) → List·Memᴰ z (combine f xs ys) → (x : X) × (y : Y) × List·Memᴰ x xs × List·Memᴰ y ys × (z ≡ f x y)
+  pub combine-elim : (xs : List X) (ys : List Y) (z : Z) → List·Memᴰ z (combine f xs ys)
+      → (x : X) × (y : Y) × List·Memᴰ x xs × List·Memᴰ y ys × (z ≡ f x y)
   unfolding combine
   combine-elim [] ys z m = absurd (List·Memᴰ·not-nil m)
   combine-elim (x ∷ xs) ys z m = go (List·Memᴰ·append-cases (map (f x) ys) m) (combine-elim xs ys z)

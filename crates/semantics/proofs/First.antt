@@ -69,7 +69,8 @@ module _ (k : ℕ) (s : Sets) where
   firstRule-elim r x t b m = firstBody-elim b x (member-mem sameString strings-equality (firstBody k s b) x (all-elim _ (r .positives) t b m))
 
 module _ (G : Grammar) (k : ℕ) where
-  firstStep-make : (p : Entry → Bool) (r : Rule) (x : List ℕ) → List·Memᴰ r (G .rules) → FirstRule k (In (setsOf G k p)) r x → T (firstStep G k p (r .head, x))
+  firstStep-make : (p : Entry → Bool) (r : Rule) (x : List ℕ) → List·Memᴰ r (G .rules) → FirstRule k (In (setsOf G k p)) r x
+      → T (firstStep G k p (r .head, x))
   unfolding firstStep
   firstStep-make p r x m f =
       any-make _ (G .rules) r m (and-make (eqb (r .head) (r .head)) _ (eqb-refl (r .head)) (firstRule-make k (setsOf G k p) r x f))

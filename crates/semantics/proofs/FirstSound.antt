@@ -90,5 +90,6 @@ module _ (G : Grammar) (c : WellScoped G) (free : NoLeftRecursion G) (w : List �
   first-sound k F fc ws = by-rounds G c free w (λ A i j. F A (take k (span w i j))) (λ u h. byRules-first G k F w u c fc ws h) v solves
 
   pub first-sound-body : (k : ℕ) (F : Family) → FirstClosed G k F → Over (G .terminals) w
-      → (b : Body) (i j : ℕ) → i ≤ j → j ≤ length w → NonterminalsBelow (G .nonterminals) b → T (contains v w b i j) → FirstBody k F b (take k (span w i j))
+      → (b : Body) (i j : ℕ) → i ≤ j → j ≤ length w → NonterminalsBelow (G .nonterminals) b → T (contains v w b i j)
+      → FirstBody k F b (take k (span w i j))
   first-sound-body k F fc ws = contains-first G k F w v (first-sound k F fc ws)

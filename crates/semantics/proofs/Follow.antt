@@ -35,7 +35,8 @@ firstBody-over k n F h (Nonterminal A ∷ b) t x f =
     rw (f .4) (cut-lookahead k n (f .0) (f .1) (h A (f .0) (f .2)) (firstBody-over k n F h b t (f .1) (f .3)) .1)
 
 module _ (k : ℕ) (s : Sets) (ys : List (List ℕ)) where
-  behind-here : (A : ℕ) (b : Body) (x : List ℕ) → List·Memᴰ x (concatStrings k (firstBody k s b) ys) → List·Memᴰ x (behind k s A ys (Nonterminal A ∷ b))
+  behind-here : (A : ℕ) (b : Body) (x : List ℕ) → List·Memᴰ x (concatStrings k (firstBody k s b) ys)
+      → List·Memᴰ x (behind k s A ys (Nonterminal A ∷ b))
   unfolding behind
   behind-here A b x m = go (eqb A A) (eqb-refl A)
     where
@@ -56,14 +57,16 @@ module _ (k : ℕ) (s : Sets) (ys : List (List ℕ)) where
   unfolding behind
   behind-elim A B b x m = go (eqb A B) refl m
     where
-      go : (t : Bool) → eqb A B ≡ t → List·Memᴰ x (elim t [ true ↦ concatStrings k (firstBody k s b) ys ++ behind k s A ys b | false ↦ behind k s A ys b ])
+      go : (t : Bool) → eqb A B ≡ t
+          → List·Memᴰ x (elim t [ true ↦ concatStrings k (firstBody k s b) ys ++ behind k s A ys b | false ↦ behind k s A ys b ])
           → ((A ≡ B) × List·Memᴰ x (concatStrings k (firstBody k s b) ys)) ⊎ List·Memᴰ x (behind k s A ys b)
       go true e n = elim (List·Memᴰ·append-cases (concatStrings k (firstBody k s b) ys) n) [ inl i ↦ inl (eqb→eq A B (true-T (eqb A B) e), i) | inr i ↦ inr i ]
       go false e n = inr n
 
   -- a family that holds what stands after the nonterminals of a body has what `FollowBody` asks
   behind-follow : (L : Family) (n N : ℕ) → ((A : ℕ) (x : List ℕ) → In s A x → Over n x) → ((y : List ℕ) → List·Memᴰ y ys → Over n y)
-      → (b : Body) → NonterminalsBelow N b → TerminalsBelow n b → ((A : ℕ) (x : List ℕ) → A < N → Lookahead k n x → List·Memᴰ x (behind k s A ys b) → L A x)
+      → (b : Body) → NonterminalsBelow N b → TerminalsBelow n b
+      → ((A : ℕ) (x : List ℕ) → A < N → Lookahead k n x → List·Memᴰ x (behind k s A ys b) → L A x)
       → (y : List ℕ) → List·Memᴰ y ys → FollowBody k (In s) L y b
   unfolding behind
   behind-follow L n N o p [] c t h y m = tt
@@ -82,7 +85,8 @@ module _ (k : ℕ) (s : Sets) (ys : List (List ℕ)) where
   follow-behind F L h (Terminal a ∷ b) f A x m = follow-behind F L h b f A x m
   follow-behind F L h (Nonterminal B ∷ b) f A x m = go (behind-elim A B b x m) (follow-behind F L h b (λ y i. f y i .1) A x)
     where
-      go : ((A ≡ B) × List·Memᴰ x (concatStrings k (firstBody k s b) ys)) ⊎ List·Memᴰ x (behind k s A ys b) → (List·Memᴰ x (behind k s A ys b) → L A x) → L A x
+      go : ((A ≡ B) × List·Memᴰ x (concatStrings k (firstBody k s b) ys)) ⊎ List·Memᴰ x (behind k s A ys b)
+          → (List·Memᴰ x (behind k s A ys b) → L A x) → L A x
       go (inr i) g = g i
       go (inl i) g =
           let r = concat-elim k (firstBody k s b) ys x (i .1) in

@@ -119,11 +119,13 @@ module _ (G : Grammar) (k : ℕ) (Φ : (Entry → Bool) → Entry → Bool) wher
   entry-closed mono A x a l = least-closed sameEntry entries-equality (entries G k) Φ mono (A, x) (entries-make G k A x a l)
 
 -- a larger test gives larger sets
-pub sets-mono : (G : Grammar) (k : ℕ) (p q : Entry → Bool) → p ⊆ᵇ q → (A : ℕ) (x : List ℕ) → List·Memᴰ x (setsOf G k p A) → List·Memᴰ x (setsOf G k q A)
+pub sets-mono : (G : Grammar) (k : ℕ) (p q : Entry → Bool) → p ⊆ᵇ q → (A : ℕ) (x : List ℕ) → List·Memᴰ x (setsOf G k p A)
+    → List·Memᴰ x (setsOf G k q A)
 sets-mono G k p q h A x m = let s = sets-elim G k p A x m in sets-make G k q A x (s .0) (h (A, x) (s .1))
 
 -- one string of each set, one after the other, and the first k of that
-pub concat-make : (k : ℕ) (us ys : List (List ℕ)) (u y : List ℕ) → List·Memᴰ u us → List·Memᴰ y ys → List·Memᴰ (take k (u ++ y)) (concatStrings k us ys)
+pub concat-make : (k : ℕ) (us ys : List (List ℕ)) (u y : List ℕ) → List·Memᴰ u us → List·Memᴰ y ys
+    → List·Memᴰ (take k (u ++ y)) (concatStrings k us ys)
 unfolding concatStrings
 concat-make k us ys u y m n = distinct-make sameString strings-equality _ _ (combine-make (λ u y. take k (u ++ y)) us ys u y m n)
 

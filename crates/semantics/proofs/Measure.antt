@@ -112,7 +112,8 @@ module _ (G : Grammar) (choice : Choice) (w : List ℕ) (scoped : WellScoped G) 
         (l .0, l .1, λ e. rank-falls G scoped free (x .nonterminal) (y .nonterminal) (l .2 e))
 
     -- and so the measure falls
-    pub measure-falls : (x : Call) → InRange G w x → (y : Call) → List·Memᴰ y (callComesTo G choice w x) → InRange G w y × (measure G w y < measure G w x)
+    pub measure-falls : (x : Call) → InRange G w x → (y : Call) → List·Memᴰ y (callComesTo G choice w x)
+        → InRange G w y × (measure G w y < measure G w x)
     unfolding measure
     measure-falls x h y m =
         let l = comes-onward x h y m in

@@ -39,7 +39,8 @@ keep-cong p q (x ∷ l) h = go (p x) (q x) (h x (List·Memᴰ·head refl)) (keep
 
 module _ (G : Grammar) (choice : Choice) (w : List ℕ) (scoped : WellScoped G) (free : NoLeftRecursion G) (own : OwnRules G choice) (fits : EndsFit w) where
   -- the memo table changes no outcome: from entries that hold results, a call gives its result and leaves such entries
-  pub transparent : (n A i : ℕ) (m : Memo) → A < G .nonterminals → i ≤ length w → measure G w (callAt A i) < n → Sound G w (descend G choice w) (λ _. Unit {0}) m
+  pub transparent : (n A i : ℕ) (m : Memo) → A < G .nonterminals → i ≤ length w → measure G w (callAt A i) < n
+      → Sound G w (descend G choice w) (λ _. Unit {0}) m
       → (memoCall G choice w n A i m .outcome ≡ descend G choice w A i) × Sound G w (descend G choice w) (λ _. Unit {0}) (memoCall G choice w n A i m .memo)
   transparent n A i m a iw l s =
       let g = good-calls G choice w scoped free own fits (λ _. Unit {0}) (λ _ _ _ _ _. tt) n (callAt A i) m (a, iw) l s tt in
@@ -85,6 +86,7 @@ module _ (G : Grammar) (choice : Choice) (w : List ℕ) (scoped : WellScoped G) 
     )
 
   -- the descent with a memo table gives the start's result and records just the calls made
-  pub memo-recorded : 0 < G .nonterminals → (memoStart G choice w .outcome ≡ descend G choice w 0 0) × Recorded G choice w (memoStart G choice w .memo)
+  pub memo-recorded : 0 < G .nonterminals
+      → (memoStart G choice w .outcome ≡ descend G choice w 0 0) × Recorded G choice w (memoStart G choice w .memo)
   unfolding memoStart measure
   memo-recorded nonempty = memo-recorded-within nonempty (pairs G w) (level-top G scoped free w 0 (length w - 0) nonempty (omega arith))

@@ -49,7 +49,8 @@ agrees-cons : (o : Body → Outcome) (b : Body) (ps ns : List Body) (j : ℕ) �
 unfolding agrees allOf
 agrees-cons o b ps ns j = and-assoc (endsAt (o b) j) (allOf (λ b. endsAt (o b) j) ps) (not (anyOf (λ b. endsAt (o b) j) ns))
 
-pub conclude-elim : (o : Body → Outcome) (n : ℕ) (ps ns : List Body) (j : ℕ) → T (endsAt (conclude o n ps ns) j) → (ps ≡ [] → n ≡ j) × T (agrees o ps ns j)
+pub conclude-elim : (o : Body → Outcome) (n : ℕ) (ps ns : List Body) (j : ℕ) → T (endsAt (conclude o n ps ns) j)
+    → (ps ≡ [] → n ≡ j) × T (agrees o ps ns j)
 unfolding conclude confirm
 conclude-elim o n [] ns j t =
     let g = guard-elim (agrees o [] ns n) n j t in
@@ -63,7 +64,8 @@ conclude-elim o n (b ∷ ps) ns j t =
     let rest : T (agrees o ps ns j) = rw e at (g .0) in
     (λ q. let z : _≡_ {A = ℕ} 0 1 = cc in absurd (omega arith), rw (agrees-cons o b ps ns j) (and-make (endsAt (o b) j) (agrees o ps ns j) first rest))
 
-pub conclude-make : (o : Body → Outcome) (n : ℕ) (ps ns : List Body) (j : ℕ) → (ps ≡ [] → n ≡ j) → T (agrees o ps ns j) → T (endsAt (conclude o n ps ns) j)
+pub conclude-make : (o : Body → Outcome) (n : ℕ) (ps ns : List Body) (j : ℕ) → (ps ≡ [] → n ≡ j) → T (agrees o ps ns j)
+    → T (endsAt (conclude o n ps ns) j)
 unfolding conclude confirm
 conclude-make o n [] ns j h t = rw (h refl) (guard-make (agrees o [] ns j) j t)
 conclude-make o n (b ∷ ps) ns j h t =
@@ -102,7 +104,8 @@ pub onward-cong : (o : Outcome) (f g : ℕ → Outcome) → ((m : ℕ) → T (en
 onward-cong Failed f g h = refl
 onward-cong (End m) f g h = h m (eqb-refl m)
 
-agrees-cong : (o o′ : Body → Outcome) (ps ns : List Body) (j : ℕ) → ((b : Body) → List·Memᴰ b (ps ++ ns) → o b ≡ o′ b) → agrees o ps ns j ≡ agrees o′ ps ns j
+agrees-cong : (o o′ : Body → Outcome) (ps ns : List Body) (j : ℕ) → ((b : Body) → List·Memᴰ b (ps ++ ns) → o b ≡ o′ b)
+    → agrees o ps ns j ≡ agrees o′ ps ns j
 unfolding agrees
 agrees-cong o o′ ps ns j h =
     let p = all-cong (λ b. endsAt (o b) j) (λ b. endsAt (o′ b) j) ps (λ b m. ap (λ x. endsAt x j) (h b (Memᴰ·append-left ns m))) in

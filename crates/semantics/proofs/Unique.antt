@@ -23,7 +23,8 @@ use Rattle.semantics.proofs.Rank.{level-shorter, level-left, level-top}
 module _ (G : Grammar) (w : List ℕ) (v v′ : Valuation) (A i j : ℕ)
     (H : (B k m : ℕ) → B < G .nonterminals → i ≤ k → k ≤ m → m ≤ j → (k ≡ i → m ≡ j → LeftDepends G A B)
     → (v B k m ≡ v′ B k m) × (k ≡ m → T (v B k m) → T (nullable G B))) where
-  contains-same : (b : Body) (k : ℕ) → i ≤ k → k ≤ j → NonterminalsBelow (G .nonterminals) b → (k ≡ i → (B : ℕ) → LeftIn (nullable G) B b → LeftDepends G A B)
+  contains-same : (b : Body) (k : ℕ) → i ≤ k → k ≤ j → NonterminalsBelow (G .nonterminals) b
+      → (k ≡ i → (B : ℕ) → LeftIn (nullable G) B b → LeftDepends G A B)
       → contains v w b k j ≡ contains v′ w b k j
   unfolding contains
   contains-same [] k ik kj scoped front = refl
@@ -145,7 +146,8 @@ module _ (G : Grammar) (c : WellScoped G) (free : NoLeftRecursion G) (w : List �
       e ∙ ap (λ (u : Valuation). u A i j) (rounds-byRules G w n v)
 
   -- every two solutions agree on all spans of the input
-  pub solution-unique : (v v′ : Valuation) → Solves G w v → Solves G w v′ → (A i j : ℕ) → A < G .nonterminals → i ≤ j → j ≤ length w → v A i j ≡ v′ A i j
+  pub solution-unique : (v v′ : Valuation) → Solves G w v → Solves G w v′ → (A i j : ℕ) → A < G .nonterminals → i ≤ j → j ≤ length w
+      → v A i j ≡ v′ A i j
   unfolding Same
   solution-unique v v′ k k′ A i j a ij jw = (solutions-agree (pairs G w) v v′ k k′ A i j a ij jw (level-top G c free w A (j - i) a (omega arith))) .0
 

@@ -67,7 +67,8 @@ module _ {G : Grammar} {k : ℕ} {F L : Family} {t : Table} (scoped : WellScoped
           → endsAt (outcomes A i′) m ≡ v A i′ m
       H A i′ m a ii im mw left z = h A i′ m a im mw (omega (arith, level-onward G scoped free B A (length w) i i′ a ii (omega arith) left)) z
 
-      body : (r : Rule) → List·Memᴰ r (G .rules) → r .head ≡ B → (b : Body) → List·Memᴰ b (bodies r) → endsAt (run outcomes w b i) j ≡ contains v w b i j
+      body : (r : Rule) → List·Memᴰ r (G .rules) → r .head ≡ B → (b : Body) → List·Memᴰ b (bodies r)
+          → endsAt (run outcomes w b i) j ≡ contains v w b i j
       body r m e b n =
           run-contains G k F L w v outcomes first null forward empty (LeftDepends G B) i j jw H b i (omega arith) ij (scoped .nonterminals r m b n)
           (guides .follows .follows r m b n (look k w j) (rw e y)) (λ _ A l. record { rule = r; body = b; listed = m; heads = e; held = n; left = l })
@@ -149,7 +150,8 @@ module _ {G : Grammar} {k : ℕ} {F L : Family} {t : Table} (scoped : WellScoped
     local-verdict-body = ends-iff (run outcomes w rest i) j (contains v w rest i j) (rest-at i j ij jw rest rest-below rest-follow)
 
   -- A nonterminal that such a body comes to at i ends where its own FOLLOW set has the lookahead string, and so has the right verdict
-  pub local-verdict-piece : (r : Rule) → List·Memᴰ r (G .rules) → (front : Body) (A : ℕ) (b : Body) → List·Memᴰ (front ++ Nonterminal A ∷ b) (bodies r)
+  pub local-verdict-piece : (r : Rule) → List·Memᴰ r (G .rules) → (front : Body) (A : ℕ) (b : Body)
+      → List·Memᴰ (front ++ Nonterminal A ∷ b) (bodies r)
       → (i j : ℕ) → i ≤ j → j ≤ length w → L (r .head) (look k w j) → run outcomes w (Nonterminal A ∷ b) i ≡ End j
       → (m : ℕ) × Piece k L w v outcomes A b i m j
   unfolding run read

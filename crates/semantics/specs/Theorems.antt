@@ -63,7 +63,8 @@ pub record LeastSets (G : Grammar) (k : ℕ) : Type 1 where
 -- With one token of lookahead, in document 01's words: sets are strung together, and the entries of a row are its columns, terminals in order and the
 -- end last; the first clash is the first by nonterminal, then by column
 pub record OneToken (G : Grammar) : Type 1 where
-  pub first : (X : Symbol) (b : Body) (x : List ℕ) → FirstBody 1 (First G 1) (X ∷ b) x ↔ Strung (FirstOf 1 (First G 1) X) (FirstBody 1 (First G 1) b) x
+  pub first : (X : Symbol) (b : Body) (x : List ℕ)
+      → FirstBody 1 (First G 1) (X ∷ b) x ↔ Strung (FirstOf 1 (First G 1) X) (FirstBody 1 (First G 1) b) x
   pub follow : (L : Family) → Short 1 L → FollowClosed G 1 (First G 1) L ↔ FollowStrung G (First G 1) L
   pub claims : (q A : ℕ) (x : List ℕ) → Claims G 1 (First G 1) (Follow G 1) q A x
       ↔ ((r : Rule) × (getElem? (G .rules) q ≡ some r) × (r .head ≡ A) × Strung (Meeting G 1 (First G 1) r) (Follow G 1 A) x)
@@ -135,8 +136,10 @@ pub record Theorems : Type 1 where
   pub one-token : (G : Grammar) → OneToken G
   pub sound-first : (G : Grammar) → WellScoped G → NoLeftRecursion G → (k : ℕ) (w : List ℕ) → Over (G .terminals) w
       → (v : Valuation) → Solves G w v → SoundFirst G k w v
-  pub local-verdict : (G : Grammar) (k : ℕ) → Predictive G k → (w : List ℕ) → Over (G .terminals) w → (v : Valuation) → Solves G w v → LocalVerdict G k w v
-  pub verdict : (G : Grammar) (k : ℕ) → Predictive G k → (w : List ℕ) → Over (G .terminals) w → (v : Valuation) → Solves G w v → VerdictByMeaning G k w v
+  pub local-verdict : (G : Grammar) (k : ℕ) → Predictive G k → (w : List ℕ) → Over (G .terminals) w → (v : Valuation) → Solves G w v
+      → LocalVerdict G k w v
+  pub verdict : (G : Grammar) (k : ℕ) → Predictive G k → (w : List ℕ) → Over (G .terminals) w → (v : Valuation) → Solves G w v
+      → VerdictByMeaning G k w v
   pub descent-ends : (G : Grammar) → WellScoped G → NoLeftRecursion G → (choice : Choice) → OwnRules G choice → (w : List ℕ) → DescentEnds G choice w
   pub calls-counted : (G : Grammar) → WellScoped G → NoLeftRecursion G → 0 < G .nonterminals
       → (choice : Choice) → OwnRules G choice → (w : List ℕ) → CallsCounted G choice w

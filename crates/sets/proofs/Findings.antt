@@ -59,7 +59,8 @@ told-passed none (Read y) {z} q = let e : y ≡ z = cc in (refl, ap Read e)
 told-passed none (Faulty x) q = let n : _≡_ {A = ℕ} 0 1 = cc in absurd (omega arith)
 told-passed (some x) o q = let n : _≡_ {A = ℕ} 0 1 = cc in absurd (omega arith)
 
-pub families-told : (words : List ℕ) {r : Families} {z : Sizes} → r ≡ familiesOf words → r .finding ≡ Passed z → FoundFamilies words z (r .firsts) (r .follows)
+pub families-told : (words : List ℕ) {r : Families} {z : Sizes} → r ≡ familiesOf words → r .finding ≡ Passed z
+    → FoundFamilies words z (r .firsts) (r .follows)
 unfolding familiesOf
 families-told words {r} {z} e q =
     let k = told-passed (setsFault words) (reading words) (sym (ap (λ x. x .finding) e) ∙ q) in

@@ -79,7 +79,8 @@ module _ (G : Grammar) (formed : WellFormed G) (few : G .terminals ≤ nothing) 
       firstBody-mono 1 (stringsOf (firstNumber G)) (First G 1) (number-string G few (first G 1) (first-lookahead G 1)) b (stringOf l)
       (in-body (firstNumber G) (G .terminals) few b (stringOf l) (string-in (bodyFirst (firstNumber G) b) l h))
 
-  pub begins-body : (b : Body) → TerminalsBelow (G .terminals) b → (x : List ℕ) → FirstBody 1 (First G 1) b x → StringIn (bodyFirst (firstNumber G) b) x
+  pub begins-body : (b : Body) → TerminalsBelow (G .terminals) b → (x : List ℕ) → FirstBody 1 (First G 1) b x
+      → StringIn (bodyFirst (firstNumber G) b) x
   unfolding firstNumber
   begins-body b t x f =
       body-in (firstNumber G) (G .terminals) few b t x

@@ -178,7 +178,8 @@ module _ {words : List ℕ} {start end : ℕ} (k : RuleWords words start end) wh
         let begins = bodyFirst F (p .body) in
         rw (v .is) (concat-mono begins (at l₀ B) begins (G B) (subset-refl begins) (u B))
 
-    pub follow-turn : {l′ : List ℕ} (g′ : Bool) {r : Bool} {next : ℕ} → length l₀ ≡ maxNonterminals → AddsTo (nonterminalOf w) l tail l′ g′ → r ≡ (g || g′)
+    pub follow-turn : {l′ : List ℕ} (g′ : Bool) {r : Bool} {next : ℕ} → length l₀ ≡ maxNonterminals → AddsTo (nonterminalOf w) l tail l′ g′
+        → r ≡ (g || g′)
         → next ≡ tailBefore F (at l₀ B) w tail → FollowWalk F B words l₀ l′ start end r next (i - 1)
     follow-turn {l′} g′ n a told o = record {
       low = omega arith;
@@ -199,7 +200,8 @@ module _ {words : List ℕ} {start end : ℕ} (k : RuleWords words start end) wh
             passing-add (omega (arith, b, n, v .passing .long))
             (λ G c u x s. rw f at (name-asked G c) x (behind-in G (first-under G u) x s)) (λ s e. rw f (rw (v .is, ← e) at s)) a
 
-  pub follow-end : {F : SetFamily} {B : ℕ} {l₀ l : List ℕ} {grown : Bool} {tail i : ℕ} → FollowWalk F B words l₀ l start end grown tail i → i ≤ start + 1
+  pub follow-end : {F : SetFamily} {B : ℕ} {l₀ l : List ℕ} {grown : Bool} {tail i : ℕ} → FollowWalk F B words l₀ l start end grown tail i
+      → i ≤ start + 1
       → Passes (Asked F B (parse (drop (suc start) words))) l₀ l grown
   follow-end {i = i} v h = let e : i ≡ suc start = omega (arith, v .low) in rw e at (v .passing)
 
@@ -234,7 +236,8 @@ module _ {words starts : List ℕ} {z : Sizes} {l₀ : List ℕ} (k : PassGiven 
 
   pub follow-visit : {l l′ : List ℕ} (g : Bool) {g′ r : Bool} {i rule head : ℕ} {w : Word} → Turns (Asks F words) (z .rules) forward l₀ l g i
       → i < z .rules → rule ≡ turnOf forward (z .rules) i → w ≡ decoded (getD words (getD starts rule 0) 0) → head ≡ headOf w
-      → Passes (Asked F head (parse (drop (suc (getD starts rule 0)) words))) l l′ g′ → r ≡ (g || g′) → Turns (Asks F words) (z .rules) forward l₀ l′ r (i + 1)
+      → Passes (Asked F head (parse (drop (suc (getD starts rule 0)) words))) l l′ g′ → r ≡ (g || g′)
+      → Turns (Asks F words) (z .rules) forward l₀ l′ r (i + 1)
   follow-visit {l} {l′} g {g′} {i = i} {rule} {head} {w} t h f e d a told =
       turns-next (Asks F words) (z .rules) forward g g′ t h (rw f at met) told
     where

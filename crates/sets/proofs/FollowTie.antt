@@ -39,7 +39,8 @@ use Rattle.sets.proofs.FirstTie.{body-begins, begins-body}
 
 module _ (G : Grammar) (formed : WellFormed G) (few : G .terminals ≤ nothing) (some : 0 < G .nonterminals) where
   -- a closed family of numbers is one of strings, which FOLLOW_1 is contained in
-  strings-body : (L : SetFamily) (B : ℕ) (y : List ℕ) → StringIn (L B) y → (b : Body) → TerminalsBelow (G .terminals) b → FollowNumbersBody (firstNumber G) L B b
+  strings-body : (L : SetFamily) (B : ℕ) (y : List ℕ) → StringIn (L B) y → (b : Body) → TerminalsBelow (G .terminals) b
+      → FollowNumbersBody (firstNumber G) L B b
       → FollowBody 1 (First G 1) (stringsOf L) y b
   strings-body L B y i [] t f = tt
   strings-body L B y i (Terminal a ∷ b) t f = strings-body L B y i b (t .1) f

@@ -98,7 +98,8 @@ module _ (s : NumberSet) (R : SetFamily) {X : GrammarSymbol} (behind : ℕ) wher
     left-stop t = is ∙ rw (e, t)
 
 -- inside a rule it is enough to tell symbols
-pub inside-left : (s : NumberSet) (R : SetFamily) (w : Word) (p : Parsed) → Inside w → Behind w p → insideLeft s R w (leftOf s R p) ≡ leftOf s R (onWord w p)
+pub inside-left : (s : NumberSet) (R : SetFamily) (w : Word) (p : Parsed) → Inside w → Behind w p
+    → insideLeft s R w (leftOf s R p) ≡ leftOf s R (onWord w p)
 unfolding onWord bodyLeft bodiesLeft
 inside-left s R (Symbol X) p i b = refl
 inside-left s R Positive p i b = refl

@@ -78,7 +78,8 @@ in-range-indexed (Heading n t) z h e = tt
 in-range-indexed Invalid z h e = tt
 
 -- each word of a row that is read, at an index and before one
-pub word-indexed : (words : List ℕ) {z : Sizes} {w : Word} {i : ℕ} → reading words ≡ Read z → i < length words → w ≡ decoded (getD words i 0) → Indexed w
+pub word-indexed : (words : List ℕ) {z : Sizes} {w : Word} {i : ℕ} → reading words ≡ Read z → i < length words → w ≡ decoded (getD words i 0)
+    → Indexed w
 word-indexed words {z} {w} {i} e h is =
     rw is (in-range-indexed (decoded (getD words i 0)) z (well-read words z e .fewNonterminals) (read-place words z e i h .ranged))
 

@@ -70,7 +70,8 @@ between at (w ∷ ws) q k n h a b = go (beginsRule (decoded w)) refl q k n h a b
     later = starts (suc at) ws
 
     go : (c : Bool) → beginsRule (decoded w) ≡ c → (q k : ℕ) → q < length (choose c (at ∷ later) later) → k < length (w ∷ ws)
-        → getD (choose c (at ∷ later) later) q 0 < at + k → (suc q < length (choose c (at ∷ later) later) → at + k < getD (choose c (at ∷ later) later) (suc q) 0)
+        → getD (choose c (at ∷ later) later) q 0 < at + k
+        → (suc q < length (choose c (at ∷ later) later) → at + k < getD (choose c (at ∷ later) later) (suc q) 0)
         → ((q k : ℕ) → q < length later → k < length ws → getD later q 0 < suc at + k → (suc q < length later → suc at + k < getD later (suc q) 0)
         → beginsRule (decoded (getD ws k 0)) ≡ false)
         → beginsRule (decoded (getD (w ∷ ws) k 0)) ≡ false

@@ -43,7 +43,8 @@ nonterminal-most z table A h =
       mul-le-mul-right {m = z .terminals + 1} {n = maxColumns} entryRoom (omega arith),
     )
 
-pub sheet-most : (z : Sizes) (table : List ℕ) → z .nonterminals ≤ maxNonterminals → z .terminals ≤ maxTerminals → length (sheetText (Read z) table) ≤ sheetRoom
+pub sheet-most : (z : Sizes) (table : List ℕ) → z .nonterminals ≤ maxNonterminals → z .terminals ≤ maxTerminals
+    → length (sheetText (Read z) table) ≤ sheetRoom
 unfolding sheetText
 sheet-most z table n t =
     omega (

@@ -208,7 +208,8 @@ module _ {words : List ℕ} {z : Sizes} {firsts follows : List ℕ} (g : Familie
               counted = rw (q, r) (v .counted);
             }
 
-        go : (w′ : Word) → w ≡ w′ → WordClaims (ruleHead w′) follows (rest .meet .bits) b b′ → Claiming words (z .terminals) (z .rules) firsts next b′ (i - 1)
+        go : (w′ : Word) → w ≡ w′ → WordClaims (ruleHead w′) follows (rest .meet .bits) b b′
+            → Claiming words (z .terminals) (z .rules) firsts next b′ (i - 1)
         go (RuleWord A) d n =
             let r : parse (drop (i - 1) words) .rules ≡ ruleOf A p ∷ p .rules = rw (from-here, d) in
             let low : b′ .rule < maxRules = omega (arith, n .numbered, v .counted, known .fewRules) in

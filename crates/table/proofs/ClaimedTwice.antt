@@ -84,7 +84,8 @@ module _ {heads sets : List ℕ} (q : ℕ) {rules once twice once′ twice′ : 
       twice-now : ℕ
       twice-now = join (getD twice head 0) (meet (getD once head 0) claim)
 
-      at-once : (A l : ℕ) → Dec (A ≡ head) → has (getD (set once head (join (getD once head 0) claim)) A 0) l ≡ anyOf (claimant heads sets A l) (q ∷ rules)
+      at-once : (A l : ℕ) → Dec (A ≡ head)
+          → has (getD (set once head (join (getD once head 0) claim)) A 0) l ≡ anyOf (claimant heads sets A l) (q ∷ rules)
       at-once A l (yes e) = rw (e, getD-set-same once head once-now 0 (omega (arith, f .long .0))) (own-once l)
       at-once A l (no ne) =
           rw (getD-set-other once head A once-now 0 ne)
@@ -103,7 +104,8 @@ pub noting-turn : {heads sets once twice once′ twice′ : List ℕ} (q n : ℕ
     → Noting heads sets (numbersFrom (q - 1) (n - (q - 1))) once′ twice′
 noting-turn q n f h k own w = rw (numbers-before q n h k) (noting-rule (q - 1) f own w)
 
-pub noting-start : (heads sets : List ℕ) (n : ℕ) → Noting heads sets (numbersFrom n (n - n)) (replicate maxNonterminals 0) (replicate maxNonterminals 0)
+pub noting-start : (heads sets : List ℕ) (n : ℕ)
+    → Noting heads sets (numbersFrom n (n - n)) (replicate maxNonterminals 0) (replicate maxNonterminals 0)
 unfolding numbersFrom
 noting-start heads sets n = let e : n - n ≡ 0 = omega arith in rw e (noting-none heads sets)
 

@@ -84,7 +84,8 @@ twice-claimed element columns n {heads} {sets} {twice} {rules} t =
 
 -- for any lookahead: the strings of the columns in order, and a string's column
 module _ (columns : ℕ) (string : ℕ → List ℕ) (place : List ℕ → ℕ) (back : (c : ℕ) → c < columns → place (string c) ≡ c) (q : Entry → Bool) where
-  first-append : (xs ys : List Entry) → firstConflictOf place (keep q (xs ++ ys)) ≡ orLater (firstConflictOf place (keep q xs)) (firstConflictOf place (keep q ys))
+  first-append : (xs ys : List Entry)
+      → firstConflictOf place (keep q (xs ++ ys)) ≡ orLater (firstConflictOf place (keep q xs)) (firstConflictOf place (keep q ys))
   unfolding keep
   first-append [] ys = refl
   first-append (x ∷ xs) ys = go (q x) (first-append xs ys)

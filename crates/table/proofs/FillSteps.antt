@@ -15,7 +15,8 @@ use Rattle.table.specs.Entries.{FilledRow, FilledSets}
 pub row-none : (table : List ℕ) (row : ℕ) (element : ℕ → ℕ) (claim rule : ℕ) → FilledRow table row element 0 claim rule table
 row-none table row element claim rule = record { long = refl; inside = λ c h. absurd (omega arith); outside = λ i h. refl }
 
-pub row-more : {before : List ℕ} {row : ℕ} {element : ℕ → ℕ} {n claim rule : ℕ} {after : List ℕ} {v : ℕ} → FilledRow before row element n claim rule after
+pub row-more : {before : List ℕ} {row : ℕ} {element : ℕ → ℕ} {n claim rule : ℕ} {after : List ℕ} {v : ℕ}
+    → FilledRow before row element n claim rule after
     → row + n < length after → v ≡ choose (has claim (element n)) rule (getD after (row + n) 0)
     → FilledRow before row element (n + 1) claim rule (set after (row + n) v)
 row-more {before} {row} {element} {n} {claim} {rule} {after} {v} f h e = record {

@@ -97,7 +97,8 @@ module _ (G : Grammar) (few : G .nonterminals ≤ maxNonterminals) (few′ : G .
       rest : List ℕ
       rest = replicate (maxTableWords - length (tableWords G)) noEntry
 
-      go : Dec (i < setWords) → Dec (i < setWords + rowWords) → getD table i 0 ≡ getD ((listed setWords (setWord G) ++ listed rowWords (rowWord G)) ++ rest) i 0
+      go : Dec (i < setWords) → Dec (i < setWords + rowWords)
+          → getD table i 0 ≡ getD ((listed setWords (setWord G) ++ listed rowWords (rowWord G)) ++ rest) i 0
       go (yes a) d =
           in-sets i a ∙ sym (at-first (tableWords G) rest (setWords + rowWords) i 0 (table-length G) (omega arith)
           ∙ at-first (listed setWords (setWord G)) (listed rowWords (rowWord G)) setWords i 0 (listed-long setWords (setWord G)) a

@@ -38,7 +38,8 @@ digits-few zero k n h = omega arith
 digits-few (suc most) zero n h = rw (lt-ltb n 10 (omega arith)) (omega arith)
 digits-few (suc most) (suc k) n h = go (digits-few most k (n / 10) (omega (arith, pow-suc 10 (suc k))))
   where
-    go : length (digits most (n / 10)) ≤ suc k → length (choose (ltb n 10) (digit n ∷ []) (digits most (n / 10) ++ (digit (n % 10) ∷ []))) ≤ suc (suc k)
+    go : length (digits most (n / 10)) ≤ suc k
+        → length (choose (ltb n 10) (digit n ∷ []) (digits most (n / 10) ++ (digit (n % 10) ∷ []))) ≤ suc (suc k)
     go l =
         choose-most (ltb n 10) (digit n ∷ []) (digits most (n / 10) ++ (digit (n % 10) ∷ [])) (suc (suc k)) (omega arith)
         (omega (arith, length-append (digits most (n / 10)) (digit (n % 10) ∷ [])))

@@ -264,10 +264,12 @@ run-body-shared-slice-read-decode : (t : ℕ)
     → run-body-lts.Need-shared-slice-read-decode (run-body-claims t) (run-body-at t) run-body.Post run-body-Inv-loop run-body-μ-loop
 run-body-shared-slice-read-decode t c = omega arith
 
-run-body-decode-requires : (t : ℕ) → run-body-lts.Need-decode-requires (run-body-claims t) (run-body-at t) run-body.Post run-body-Inv-loop run-body-μ-loop
+run-body-decode-requires : (t : ℕ)
+    → run-body-lts.Need-decode-requires (run-body-claims t) (run-body-at t) run-body.Post run-body-Inv-loop run-body-μ-loop
 run-body-decode-requires t c κs = tt
 
-run-body-enum-known-word : (t : ℕ) → run-body-lts.Need-enum-known-word (run-body-claims t) (run-body-at t) run-body.Post run-body-Inv-loop run-body-μ-loop
+run-body-enum-known-word : (t : ℕ)
+    → run-body-lts.Need-enum-known-word (run-body-claims t) (run-body-at t) run-body.Post run-body-Inv-loop run-body-μ-loop
 run-body-enum-known-word t c = c .match .keys1
 
 run-body-same-length : (t : ℕ) → run-body-lts.Need-same-length (run-body-claims t) (run-body-at t) run-body.Post run-body-Inv-loop run-body-μ-loop
@@ -284,10 +286,12 @@ run-body-returns t c =
     λ choice g.
     running-done g (at-loop .loop .inv choice g) _ (at-loop-test .loop-test .taken) (at-decode .decode .ensures) (no-symbol _ (c .match .keys2))
 
-run-body-enum-known-symbol : (t : ℕ) → run-body-lts.Need-enum-known-symbol (run-body-claims t) (run-body-at t) run-body.Post run-body-Inv-loop run-body-μ-loop
+run-body-enum-known-symbol : (t : ℕ)
+    → run-body-lts.Need-enum-known-symbol (run-body-claims t) (run-body-at t) run-body.Post run-body-Inv-loop run-body-μ-loop
 run-body-enum-known-symbol t c = c .match2 .keys1
 
-run-body-matches-requires : (t : ℕ) → run-body-lts.Need-matches-requires (run-body-claims t) (run-body-at t) run-body.Post run-body-Inv-loop run-body-μ-loop
+run-body-matches-requires : (t : ℕ)
+    → run-body-lts.Need-matches-requires (run-body-claims t) (run-body-at t) run-body.Post run-body-Inv-loop run-body-μ-loop
 run-body-matches-requires t c κs =
     let at-loop = c .before .before .before .before .before .before .before .before .before in
     let start = at-loop .before .before .before in
@@ -350,7 +354,8 @@ run-body-call-requires t c κs =
       (_, running-given (start .pre .1 .1) run _ (at-loop-test .loop-test .taken) word),
     )
 
-run-body-enum-known-outcome : (t : ℕ) → run-body-lts.Need-enum-known-outcome (run-body-claims t) (run-body-at t) run-body.Post run-body-Inv-loop run-body-μ-loop
+run-body-enum-known-outcome : (t : ℕ)
+    → run-body-lts.Need-enum-known-outcome (run-body-claims t) (run-body-at t) run-body.Post run-body-Inv-loop run-body-μ-loop
 run-body-enum-known-outcome t c = c .match3 .keys1
 
 run-body-enum-told : (t : ℕ) → run-body-lts.Need-enum-told (run-body-claims t) (run-body-at t) run-body.Post run-body-Inv-loop run-body-μ-loop
