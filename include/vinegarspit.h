@@ -50,7 +50,8 @@ enum {
  *    6  a name or letter number not below the heading's              the word's index
  *    7  a 129th rule                                                 the word's index
  *    8  the grammar is left-recursive                                the lowest name that reaches itself
- *    9  two rules claim an entry of the table                        name * 32 + column of the first such entry */
+ *    9  two rules claim an entry of the table, or a letter may       name * 32 + column of the first clash, by name, then
+ *       follow a name that has a rule of must-nots alone             column; of the second kind it is in column 0 */
 uint64_t vinegarspit_check(const uint32_t *card, size_t card_len, uint32_t *table, size_t table_len);
 
 /* Judges an input. Answers ACCEPTED or REJECTED, with count and far, or REFUSED.

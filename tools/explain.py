@@ -2,6 +2,7 @@
 
 Nothing here decides: the programs refuse, with a number and a place, and what they found is looked up again in the grammar."""
 from typing import NamedTuple, Optional
+from itertools import product
 from notation import MAX_WORDS, MAX_INPUT, NONTERMINAL, RULE, Grammar, Damaged, body_text, rule_text, scan, unknown_event
 
 
@@ -30,17 +31,61 @@ def shortened(text):
     return text if len(text) <= LONGEST else text[:LONGEST] + ' ...'
 
 
-# Left recursion
+# Names in bodies
 
 class Step(NamedTuple):
-    """A body of one name comes to another before any event is read, as the names before it may be empty."""
+    """A body of one name has another in it."""
     name: int
     to: int
     word: int          # where `to` stands on the card
     body: tuple
     negative: bool
-    passed: tuple
+    at: int            # where `to` stands in the body
 
+    @property
+    def passed(self):
+        return tuple(symbol.number for symbol in self.body[:self.at])
+
+    @property
+    def rest(self):
+        return self.body[self.at + 1:]
+
+
+def steps(grammar):
+    """A step for each name in each body, of both signs, in card order."""
+    word = 1
+    for rule in grammar.rules:
+        word += 1
+        for negative, bodies in ((False, rule.positives), (True, rule.negatives)):
+            for body in bodies:
+                word += 1
+                for at, symbol in enumerate(body):
+                    if symbol.kind == NONTERMINAL:
+                        yield Step(rule.head, symbol.number, word + at, body, negative, at)
+                word += len(body)
+
+
+def shortest(start, onward):
+    """A shortest row of steps; onward gives the steps from a name, each with the name that it leads to, or none where it is the last."""
+    ways, seen = [(start, [])], set()
+    while ways:
+        longer = []
+        for name, way in ways:
+            for step, to in onward(name):
+                if to is None:
+                    return way + [step]
+                if to not in seen:
+                    seen.add(to)
+                    longer.append((to, way + [step]))
+        ways = longer
+    return None
+
+
+def body_of(card, step):
+    return shortened(('not ' if step.negative else '') + body_text(card.grammar, step.body))
+
+
+# Left recursion
 
 def nullable(grammar):
     """The names that may be empty, by the least rule."""
@@ -54,47 +99,25 @@ def nullable(grammar):
 
 
 def left_steps(grammar):
-    """The steps of left dependence from each name, over bodies of both signs."""
-    empty, steps, word = nullable(grammar), [[] for _ in grammar.nonterminals], 1
-    for rule in grammar.rules:
-        word += 1
-        for negative, bodies in ((False, rule.positives), (True, rule.negatives)):
-            for body in bodies:
-                word += 1
-                for at, symbol in enumerate(body):
-                    if symbol.kind != NONTERMINAL:
-                        break
-                    passed = tuple(before.number for before in body[:at])
-                    steps[rule.head].append(Step(rule.head, symbol.number, word + at, body, negative, passed))
-                    if symbol.number not in empty:
-                        break
-                word += len(body)
-    return steps
+    """The steps of left dependence from each name: only names that may be empty stand before the other."""
+    empty, found = nullable(grammar), [[] for _ in grammar.nonterminals]
+    for step in steps(grammar):
+        if all(symbol.kind == NONTERMINAL and symbol.number in empty for symbol in step.body[:step.at]):
+            found[step.name].append(step)
+    return found
 
 
 def way_back(grammar, name):
-    """A shortest row of steps from a name back to itself, or none."""
-    steps, ways = left_steps(grammar), [[]]
-    seen = set()
-    while ways:
-        longer = []
-        for way in ways:
-            for step in steps[way[-1].to if way else name]:
-                if step.to == name:
-                    return way + [step]
-                if step.to not in seen:
-                    seen.add(step.to)
-                    longer.append(way + [step])
-        ways = longer
-    return None
+    """A shortest row of steps of left dependence from a name back to itself, or none."""
+    found = left_steps(grammar)
+    return shortest(name, lambda at: ((step, None if step.to == name else step.to) for step in found[at]))
 
 
 def step_text(card, step):
     names = card.grammar.nonterminals
-    body = shortened(('not ' if step.negative else '') + body_text(card.grammar, step.body))
     passed = list(dict.fromkeys(names[name] for name in step.passed))
     reason = f', since {" and ".join(passed)} may be empty' if passed else ''
-    return f"{card.where(step.word)}: {names[step.name]} comes to {names[step.to]} in '{body}'{reason}"
+    return f"{card.where(step.word)}: {names[step.name]} comes to {names[step.to]} in '{body_of(card, step)}'{reason}"
 
 
 # Claims. A lookahead set is a set of rows of at most k letters, the empty row standing for the end.
@@ -122,28 +145,69 @@ def least(sizes, additions):
     return sets
 
 
-def claims(grammar, k=1):
-    """What each rule claims: the rows of letters on which it would be chosen."""
-    names = len(grammar.nonterminals)
+def every_row(grammar, k):
+    return {row for length in range(k + 1) for row in product(range(len(grammar.terminals)), repeat=length)}
 
-    def rule_first(rule, first):
-        return set.intersection(*(first_of(body, first, k) for body in rule.positives))
-    first = least(names, lambda sets: ((rule.head, rule_first(rule, sets)) for rule in grammar.rules))
+
+def rule_first(grammar, rule, first, k):
+    """The meeting of a rule's musts; without any, all rows of the card's letters."""
+    return every_row(grammar, k).intersection(*(first_of(body, first, k) for body in rule.positives))
+
+
+def first_and_follow(grammar, k=1):
+    names = len(grammar.nonterminals)
+    first = least(names, lambda sets: ((rule.head, rule_first(grammar, rule, sets, k)) for rule in grammar.rules))
 
     def followed(sets):
         yield 0, {()}
-        for rule in grammar.rules:
-            for body in rule.positives + rule.negatives:
-                for at, symbol in enumerate(body):
-                    if symbol.kind == NONTERMINAL:
-                        yield symbol.number, strung(first_of(body[at + 1:], first, k), sets[rule.head], k)
-    follow = least(names, followed)
-    return [strung(rule_first(rule, first), follow[rule.head], k) for rule in grammar.rules]
+        for step in steps(grammar):
+            yield step.to, strung(first_of(step.rest, first, k), sets[step.name], k)
+    return first, least(names, followed)
+
+
+def claims(grammar, k=1):
+    """What each rule claims: the rows of letters on which it would be chosen."""
+    first, follow = first_and_follow(grammar, k)
+    return [strung(rule_first(grammar, rule, first, k), follow[rule.head], k) for rule in grammar.rules]
 
 
 def claimants(grammar, name, string):
     """The rules of a name that claim the entry for a row of letters."""
     return [number for number, claimed in enumerate(claims(grammar)) if grammar.rules[number].head == name and string in claimed]
+
+
+# Rules of must-nots alone. Such a rule takes all up to the end of the log, so no letter may follow its name.
+
+def only_forbid(grammar, name):
+    """The rules of a name that have no must."""
+    return [number for number, rule in enumerate(grammar.rules) if rule.head == name and not rule.positives]
+
+
+def letters_behind(grammar, name):
+    """The letters that may follow a name, if it has a rule of must-nots alone."""
+    if not only_forbid(grammar, name):
+        return []
+    return sorted(row[0] for row in first_and_follow(grammar)[1][name] if row)
+
+
+def way_behind(grammar, name, letter):
+    """A shortest row of steps from the name to a body in which the letter may come behind what is at the end of the steps before."""
+    first, follow = first_and_follow(grammar)
+
+    def onward(at):
+        for step in steps(grammar):
+            behind = first_of(step.rest, first, 1)
+            if step.to == at and (letter,) in strung(behind, follow[step.name], 1):
+                yield step, None if (letter,) in behind else step.name
+    return shortest(name, onward)
+
+
+def behind_text(card, step, letter, last):
+    name, head = (card.grammar.nonterminals[at] for at in (step.to, step.name))
+    where = f"{card.where(step.word)}: in '{body_of(card, step)}'"
+    if last:
+        return f'{where} {card.grammar.terminals[letter]} may come behind {name}'
+    return f'{where} nothing need come behind {name}, so what follows {head} may follow {name}'
 
 
 # Refusals
@@ -155,6 +219,31 @@ def damage(card):
             pass
     except Damaged as fault:
         return fault
+
+
+def several_meant(card, name, column):
+    """The rules that claim an entry, if there are two or more."""
+    grammar = card.grammar
+    end = column == len(grammar.terminals)
+    rules = claimants(grammar, name, () if end else (column,))
+    if len(rules) < 2:
+        return []
+    count = {2: 'two'}.get(len(rules), len(rules))
+    there = 'at the end of the log' if end else f'where the next event is {grammar.terminals[column]}'
+    return [f'{count} rules of {grammar.nonterminals[name]} may be meant {there}'] + [card.rule(rule) for rule in rules]
+
+
+def no_end_settled(card, name):
+    """The rules of must-nots alone of a name that letters may follow, and where the first of the letters comes from; nothing if there are none."""
+    grammar = card.grammar
+    letters = letters_behind(grammar, name)
+    if not letters:
+        return []
+    *way, last = way_behind(grammar, name, letters[0])
+    told = ', '.join(grammar.terminals[letter] for letter in letters)
+    return ([f'{grammar.nonterminals[name]} has a rule of must-nots alone, which takes all up to the end of the log, but {told} may follow {grammar.nonterminals[name]}']
+            + [card.rule(rule) for rule in only_forbid(grammar, name)]
+            + [behind_text(card, step, letters[0], False) for step in way] + [behind_text(card, last, letters[0], True)])
 
 
 def refusal(card, number, place, log=()):
@@ -176,9 +265,6 @@ def refusal(card, number, place, log=()):
             step_text(card, step) for step in way_back(grammar, place) or ()]
     if number == 9:
         name, column = divmod(place, 32)
-        end = column == len(grammar.terminals)
-        rules = claimants(grammar, name, () if end else (column,))
-        count = {2: 'two'}.get(len(rules), len(rules))
-        there = 'at the end of the log' if end else f'where the next event is {grammar.terminals[column]}'
-        return [f'{count} rules of {grammar.nonterminals[name]} may be meant {there}'] + [card.rule(rule) for rule in rules]
+        reasons = (no_end_settled(card, name) if column == 0 else []) + several_meant(card, name, column)
+        return reasons or ['two rules claim an entry of the table']
     return [unknown_event(grammar, place, log[place])]

@@ -25,8 +25,8 @@ class Symbol(NamedTuple):
 
 class Rule(NamedTuple):
     head: int
-    positives: tuple   # of bodies, each a tuple of symbols
-    negatives: tuple
+    positives: tuple   # of bodies, each a tuple of symbols; there may be none
+    negatives: tuple   # of bodies; where there is no positive one, at least one
 
 
 class Grammar(NamedTuple):
@@ -197,8 +197,6 @@ def parse_rule(head, line, items, resolve):
     for line, conjunct in split(line, items, '&'):
         negative = bool(conjunct) and conjunct[0][0] == 'not'
         body = parse_body(line, conjunct[1:] if negative else conjunct, resolve)
-        if negative and not positives:
-            raise TextError(line, "a rule begins with a must, not with 'not'")
         if negatives and not negative:
             raise TextError(line, 'a must behind a must-not: the musts come first')
         (negatives if negative else positives).append(body)
@@ -302,9 +300,9 @@ KIND_NAMES = {HEADING: 'a heading', RULE: 'a rule', POSITIVE: 'a must', NEGATIVE
               TERMINAL: 'a letter', NONTERMINAL: 'a name', END: 'the end'}
 
 # which kinds may stand behind which, where the words between are symbols
-ALLOWED = {HEADING: {RULE, END}, RULE: {POSITIVE}, POSITIVE: {RULE, POSITIVE, NEGATIVE, TERMINAL, NONTERMINAL, END},
+ALLOWED = {HEADING: {RULE, END}, RULE: {POSITIVE, NEGATIVE}, POSITIVE: {RULE, POSITIVE, NEGATIVE, TERMINAL, NONTERMINAL, END},
            NEGATIVE: {RULE, NEGATIVE, TERMINAL, NONTERMINAL, END}, END: set()}
-STANDING = {HEADING: 'before the first rule', RULE: 'where a must has to begin', POSITIVE: 'in a must',
+STANDING = {HEADING: 'before the first rule', RULE: 'where a must or a must-not has to begin', POSITIVE: 'in a must',
             NEGATIVE: 'behind a must-not', END: 'behind the end'}
 
 

@@ -155,6 +155,16 @@ pub fn chain(nonterminals: usize, terminals: usize) -> Draft {
     Draft { nonterminals, terminals, rules }
 }
 
+/// A chain of nonterminals, each of which is all that the next is not; the last reads a token and calls the first again, or is empty: as
+/// deep as `chain`, with rules of negative conjuncts alone.
+pub fn forbidding_chain(nonterminals: usize, terminals: usize) -> Draft {
+    let mut draft = chain(nonterminals, terminals);
+    for link in &mut draft.rules[..nonterminals - 1] {
+        link.negatives = std::mem::take(&mut link.positives);
+    }
+    draft
+}
+
 /// Nonterminal 1 reads everything; nonterminals from 2 on read terminals 0. The start's one rule takes what 1 does, unless it
 /// is a row of terminals 0 with one other after it: each of these is forbidden by a negative conjunct of its own.
 pub fn negatives(nonterminals: usize) -> Draft {
@@ -260,7 +270,7 @@ fn any_grammar(random: &mut Random) -> Draft {
     let rules = (0..small_or_large(random, 6, 40))
         .map(|_| Rule {
             nonterminal: random.below(nonterminals),
-            positives: (0..=random.below(6) / 4).map(|_| body(random, nonterminals, terminals, 4)).collect(),
+            positives: (0..[1, 1, 1, 1, 2, 0][random.below(6)]).map(|_| body(random, nonterminals, terminals, 4)).collect(),
             negatives: (0..random.below(6) / 3).map(|_| body(random, nonterminals, terminals, 4)).collect(),
         })
         .collect();
@@ -336,16 +346,78 @@ fn predictive(random: &mut Random) -> Draft {
     Draft { nonterminals, terminals, rules }
 }
 
+/// A body with each nonterminal's number so much higher.
+fn shifted(mut body: Body, by: usize) -> Body {
+    for symbol in &mut body {
+        if let Nonterminal(b) = symbol {
+            *b += by as u8;
+        }
+    }
+    body
+}
+
+/// Nonterminals in front of a predictive grammar that stand only at the ends of one another's bodies, so that only the end may follow them.
+/// Each has a rule of negative conjuncts alone, or rules that are led by different terminals.
+fn forbidding(random: &mut Random) -> Draft {
+    let mut draft = predictive(random);
+    let front = random.between(1, 4).min(MAX_NONTERMINALS - draft.nonterminals);
+    let (behind, terminals) = (draft.nonterminals, draft.terminals);
+    for rule in &mut draft.rules {
+        rule.nonterminal += front;
+        for body in rule.positives.iter_mut().chain(&mut rule.negatives) {
+            *body = shifted(std::mem::take(body), front);
+        }
+    }
+    draft.nonterminals += front;
+    for b in 0..front {
+        if draft.rules.len() + 4 >= MAX_RULES {
+            break;
+        }
+        // perhaps one of those in front, behind a body: any one if a terminal leads it, else a later one
+        let end = |random: &mut Random, mut body: Body| {
+            let least = if matches!(body.first(), Some(Terminal(_))) { 0 } else { b + 1 };
+            if least < front && random.chance(50) {
+                body.push(Nonterminal(random.between(least, front - 1) as u8));
+            }
+            body
+        };
+        let mut negatives: Vec<Body> = Vec::new();
+        for _ in 0..random.between(1, 3) {
+            let made = body(random, behind, terminals, 3);
+            negatives.push(end(random, shifted(made, front)));
+        }
+        if b == 0 || random.chance(50) {
+            draft.rules.push(Rule { nonterminal: b, positives: vec![], negatives });
+            continue;
+        }
+        for lead in 0..random.between(1, terminals.min(3)) {
+            let made = [vec![Terminal(lead as u8)], shifted(body(random, behind, terminals, 2), front)].concat();
+            let positives = vec![end(random, made)];
+            draft.rules.push(Rule { nonterminal: b, positives, negatives: if random.chance(30) { negatives.clone() } else { vec![] } });
+        }
+    }
+    // the start may also come to a rule of negative conjuncts alone behind a terminal
+    if front > 1 && random.chance(50) {
+        draft.rules.retain(|rule| rule.nonterminal != 0);
+        let count = random.between(1, terminals.min(3));
+        for lead in 0..count {
+            let next = random.between(1, front - 1) as u8;
+            draft.rules.push(rule(0, &[&[Terminal(lead as u8), Nonterminal(next)]], &[]));
+        }
+    }
+    draft
+}
+
 /// A chain of some length, some of whose links have further conjuncts.
 fn random_chain(random: &mut Random) -> Draft {
     let nonterminals = random.between(1, MAX_NONTERMINALS);
     let terminals = small_or_large(random, 3, MAX_TERMINALS);
-    let mut draft = chain(nonterminals, terminals);
+    let mut draft = if random.chance(30) { forbidding_chain(nonterminals, terminals) } else { chain(nonterminals, terminals) };
     for at in 0..draft.rules.len() {
         let lead = random.below(terminals) as u8;
         let link = &mut draft.rules[at];
         if random.chance(8) {
-            link.positives.push(link.positives[0].clone());
+            link.positives.extend_from_within(..link.positives.len().min(1));
         }
         if random.chance(8) {
             link.negatives.push(guarded(random, link.nonterminal, lead, nonterminals, terminals));
@@ -356,10 +428,12 @@ fn random_chain(random: &mut Random) -> Draft {
 
 /// A grammar at or near the limits.
 fn near_limits(random: &mut Random) -> Draft {
-    let mut draft = match random.below(4) {
+    let mut draft = match random.below(6) {
         0 => largest(),
         1 => chain(MAX_NONTERMINALS, random.between(20, MAX_TERMINALS)),
-        2 => negatives(random.between(3, 25)),
+        2 => forbidding_chain(MAX_NONTERMINALS, random.between(20, MAX_TERMINALS)),
+        3 => negatives(random.between(3, 25)),
+        4 => forbidding(random),
         _ => predictive(random),
     };
     match random.below(5) {
@@ -378,8 +452,10 @@ fn near_limits(random: &mut Random) -> Draft {
             let missing = wanted.saturating_sub(draft.words().len());
             let at = random.below(draft.rules.len());
             let filler = Terminal(random.below(draft.terminals) as u8);
-            let longer = &mut draft.rules[at].positives[0];
-            longer.extend(std::iter::repeat(filler).take(missing));
+            let chosen = &mut draft.rules[at];
+            if let Some(longer) = chosen.positives.first_mut().or(chosen.negatives.first_mut()) {
+                longer.extend(std::iter::repeat(filler).take(missing));
+            }
         }
         _ => {}
     }
@@ -416,8 +492,11 @@ fn damage(random: &mut Random, words: &mut Vec<u32>) {
     }
     let at = random.below(words.len());
     let other = random.below(words.len());
-    match random.below(9) {
-        0 => words[at] ^= 1 << random.below(32),
+    match random.below(11) {
+        // a conjunct of the other sign: a positive one behind a negative, a rule of negative ones alone
+        0 | 1 if matches!(words[at] >> 28, 3 | 4) => words[at] ^= 7 << 28,
+        0 => words.insert(at, 4 << 28),
+        9 => words[at] ^= 1 << random.below(32),
         1 => words[at] ^= 1 << random.below(4),
         2 => words[at] = any_word(random),
         3 => words.truncate(at),
@@ -431,7 +510,7 @@ fn damage(random: &mut Random, words: &mut Vec<u32>) {
     }
 }
 
-/// One change to a grammar that leaves it well formed.
+/// One change to a grammar that leaves it well formed, unless a rule is left without any conjunct.
 fn edit(random: &mut Random, draft: &mut Draft) {
     let (nonterminals, terminals) = (draft.nonterminals, draft.terminals);
     if draft.rules.is_empty() {
@@ -440,18 +519,21 @@ fn edit(random: &mut Random, draft: &mut Draft) {
     let at = random.below(draft.rules.len());
     let copy = draft.rules[at].clone();
     let edited = &mut draft.rules[at];
-    match random.below(8) {
+    match random.below(10) {
         0 => edited.negatives.push(body(random, nonterminals, terminals, 3)),
         1 => edited.positives.push(body(random, nonterminals, terminals, 3)),
         2 => edited.negatives.clear(),
-        3 => edited.positives[0] = body(random, nonterminals, terminals, 3),
+        3 => edited.positives = vec![body(random, nonterminals, terminals, 3)],
         4 => edited.nonterminal = random.below(nonterminals),
         5 => {
-            let longer = &mut edited.positives[0];
-            let place = random.between(0, longer.len());
-            longer.insert(place, symbol(random, nonterminals, terminals));
+            if let Some(longer) = edited.positives.first_mut().or(edited.negatives.first_mut()) {
+                let place = random.between(0, longer.len());
+                longer.insert(place, symbol(random, nonterminals, terminals));
+            }
         }
-        6 => {
+        6 if !edited.negatives.is_empty() || random.chance(10) => edited.positives.clear(),
+        7 => std::mem::swap(&mut edited.positives, &mut edited.negatives),
+        8 => {
             let moved = random.between(0, draft.rules.len());
             draft.rules.insert(moved, copy);
         }
@@ -465,13 +547,14 @@ fn edit(random: &mut Random, draft: &mut Draft) {
 pub fn words(random: &mut Random) -> Vec<u32> {
     let mut draft = match random.below(100) {
         0..=5 => return noise(random),
-        6..=20 => any_grammar(random),
-        21..=64 => predictive(random),
-        65..=74 => card_m(),
-        75..=79 => card_e(),
-        80..=83 => card_r(),
-        84..=86 => negatives(random.between(3, 25)),
-        87..=91 => random_chain(random),
+        6..=19 => any_grammar(random),
+        20..=51 => predictive(random),
+        52..=67 => forbidding(random),
+        68..=75 => card_m(),
+        76..=79 => card_e(),
+        80..=82 => card_r(),
+        83..=85 => negatives(random.between(3, 25)),
+        86..=91 => random_chain(random),
         _ => near_limits(random),
     };
     for _ in 0..[0, 0, 0, 0, 1, 2, 3][random.below(7)] {
@@ -512,7 +595,7 @@ fn derived(random: &mut Random, grammar: &Grammar, longest: usize) -> Vec<u8> {
                     continue;
                 }
                 steps += 1;
-                let length = |&number: &usize| grammar.first_positive(number).len();
+                let length = |&number: &usize| grammar.first_positive(number).map_or(0, <[Symbol]>::len);
                 let chosen = if steps > 2 * longest || tokens.len() + stack.len() >= longest {
                     rules.iter().copied().min_by_key(length)
                 } else if greedy && random.chance(80) {
@@ -521,7 +604,14 @@ fn derived(random: &mut Random, grammar: &Grammar, longest: usize) -> Vec<u8> {
                     Some(rules[random.below(rules.len())])
                 };
                 let Some(chosen) = chosen else { continue };
-                stack.extend(grammar.first_positive(chosen).iter().rev());
+                match grammar.first_positive(chosen) {
+                    Some(body) => stack.extend(body.iter().rev()),
+                    // any tokens, and the end of the input behind them
+                    None => {
+                        let length = random.below(8);
+                        tokens.extend((0..length).map(|_| random.below(grammar.terminals) as u8));
+                    }
+                }
             }
         }
         if tokens.len() > longest || steps > 20 * longest + 100 {

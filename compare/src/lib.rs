@@ -2,5 +2,7 @@
 //! random grammars and inputs.
 
 pub mod cards;
+#[cfg(test)]
+mod meaning;
 pub mod text;
 pub mod twin;

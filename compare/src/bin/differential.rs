@@ -4,7 +4,7 @@
 mod linked;
 
 use compare::cards::{self, rule, Draft, Random};
-use compare::twin::{self, Outcome, Symbol, Verdict, MAX_TOKENS, MEMO_ENTRIES, TABLE_WORDS};
+use compare::twin::{self, Grammar, Outcome, Symbol, Verdict, MAX_TOKENS, MEMO_ENTRIES, TABLE_WORDS};
 use std::{fmt::Debug, process::ExitCode, thread, time::Instant};
 
 /// How many words or entries lie before and behind what is lent, and must not change.
@@ -74,6 +74,8 @@ struct Tally {
     passed: u64,
     rejected: u64,
     accepted: u64,
+    /// Verdicts by a grammar in which a rule has negative conjuncts alone.
+    forbidding: u64,
     calls: u64,
     most_calls: u16,
 }
@@ -91,6 +93,10 @@ impl Tally {
         }
     }
 
+    fn verdicts(&self) -> u64 {
+        self.rejected + self.accepted
+    }
+
     fn print(&self) {
         for (code, times) in self.refused.iter().enumerate().skip(1) {
             println!("  refused {code:<2} {times:>9}");
@@ -98,12 +104,13 @@ impl Tally {
         println!("  passed     {:>9}", self.passed);
         println!("  rejected   {:>9}", self.rejected);
         println!("  accepted   {:>9}", self.accepted);
+        println!("  verdicts by a grammar with a rule of negatives alone {}", self.forbidding);
         println!("  calls of nonterminals {}, in one descent at most {}", self.calls, self.most_calls);
     }
 
     /// Whether every outcome that document 01 knows was seen.
     fn complete(&self) -> bool {
-        self.refused[1..].iter().chain([&self.passed, &self.rejected, &self.accepted]).all(|&times| times > 0)
+        self.refused[1..].iter().chain([&self.passed, &self.rejected, &self.accepted, &self.forbidding]).all(|&times| times > 0)
     }
 }
 
@@ -164,13 +171,21 @@ fn print_first_difference<T: PartialEq + Debug>(name: &str, twin: &[T], proved: 
     }
 }
 
-/// The judged inputs and the limits that document 01 states, with the verdict, the code and position or the count and
-/// farthest place that it gives.
+/// The judged inputs and the limits that document 01 states, and rows for the sentences of request P1, with the verdict, the code and
+/// position or the count and farthest place that the papers give.
 fn stated_cases(pair: &mut Pair) {
     use Verdict::{Accepted, Refused, Rejected};
     let (r, m, e) = (cards::card_r().words(), cards::card_m().words(), cards::card_e().words());
     let one = |rules| Draft { nonterminals: 1, terminals: 1, rules }.words();
-    let a = Symbol::Terminal(0);
+    let (a, b) = (Symbol::Terminal(0), Symbol::Terminal(1));
+    let two = |nonterminals, rules| Draft { nonterminals, terminals: 2, rules }.words();
+    let x = Symbol::Nonterminal(1);
+    let forbids_a = two(1, vec![rule(0, &[], &[&[a]])]);
+    let forbids_nothing = two(1, vec![rule(0, &[], &[&[]])]);
+    let forbids_both = two(1, vec![rule(0, &[], &[&[], &[a, b]])]);
+    let followed = two(2, vec![rule(0, &[&[x, b]], &[]), rule(1, &[], &[&[a]])]);
+    let followed_in_a_negative = two(2, vec![rule(0, &[&[x]], &[&[x, b]]), rule(1, &[], &[&[a]])]);
+    let deepest_forbidding = cards::forbidding_chain(32, 24).words();
     let unproductive = one(vec![]);
     let deepest = cards::chain(32, 24);
     let largest = cards::largest().words();
@@ -198,6 +213,23 @@ fn stated_cases(pair: &mut Pair) {
         (one(vec![rule(0, &[&[a]], &[]), rule(0, &[&[a]], &[])]), vec![], Refused, 9, 0),
         (unproductive.clone(), vec![], Rejected, 1, 0),
         (unproductive, vec![0; MAX_TOKENS], Rejected, 1, 0),
+        (forbids_a.clone(), vec![], Accepted, 1, 0),
+        (forbids_a.clone(), vec![0], Rejected, 1, 0),
+        (forbids_a.clone(), vec![1], Accepted, 1, 0),
+        (forbids_a.clone(), vec![0, 0], Accepted, 1, 0),
+        (forbids_a, vec![1; MAX_TOKENS], Accepted, 1, 0),
+        (forbids_nothing.clone(), vec![], Rejected, 1, 0),
+        (forbids_nothing, vec![0], Accepted, 1, 0),
+        (forbids_both.clone(), vec![0, 1], Rejected, 1, 0),
+        (forbids_both, vec![0, 1, 0], Accepted, 1, 0),
+        (followed, vec![], Refused, 9, 32),
+        (followed_in_a_negative, vec![], Refused, 9, 32),
+        // the last of the chain has what begins with a letter and goes on as the start, and each before it what the next has not: so the
+        // start has the inputs of an odd length
+        (deepest_forbidding.clone(), vec![], Rejected, 32, 0),
+        (deepest_forbidding, vec![0; MAX_TOKENS], Rejected, 16_032, 500),
+        (two(1, vec![rule(0, &[], &[])]), vec![], Refused, 5, 2),
+        (two(2, vec![rule(0, &[], &[&[x]]), rule(1, &[], &[&[Symbol::Nonterminal(0)]])]), vec![], Refused, 8, 0),
     ];
     for (words, input, verdict, first, second) in rows {
         pair.check(&words, Lengths::LEAST);
@@ -208,9 +240,14 @@ fn stated_cases(pair: &mut Pair) {
         };
         if (outcome.verdict, told) != (verdict, (first, second)) {
             pair.tally.differ += 1;
-            println!("document 01 states {verdict:?} {first} {second}, the twin answers {outcome:?}");
+            println!("the papers state {verdict:?} {first} {second}, the twin answers {outcome:?}");
         }
     }
+}
+
+/// Whether these words are those of a grammar in which a rule has negative conjuncts alone.
+fn only_forbids(words: &[u32]) -> bool {
+    Grammar::read(words).is_ok_and(|grammar| grammar.rules.iter().any(|rule| grammar.only_forbids(rule)))
 }
 
 /// A check and a judgement for each of `count` random grammars, inputs and memories; a case depends on the seed and its
@@ -224,7 +261,8 @@ fn random_cases(pair: &mut Pair, seed: u64, count: u64) {
         pair.refill(&mut random);
         let differ = pair.tally.differ;
         pair.check(&words, lengths);
-        pair.judge(&words, &input, lengths);
+        let outcome = pair.judge(&words, &input, lengths);
+        pair.tally.forbidding += u64::from(outcome.verdict != Verdict::Refused && only_forbids(&words));
         if pair.tally.differ > differ {
             println!("  this was case {number} of seed {seed}");
         }
@@ -252,7 +290,11 @@ impl SmallCases {
         let outcome = pair.check(words, Lengths::LEAST);
         let faulty = matches!(outcome.code, 3..=7) && (outcome.position as usize) < words.len();
         if outcome.verdict == Verdict::Passed {
+            let before = pair.tally.verdicts();
             self.inputs(pair, words, &mut Vec::new());
+            if only_forbids(words) {
+                pair.tally.forbidding += pair.tally.verdicts() - before;
+            }
         }
         if faulty || words.len() == self.most_words {
             return;
@@ -282,7 +324,7 @@ fn run(seed: u64, count: u64) -> bool {
     let memory = Memory::random(&mut random);
     let mut pair = Pair { twin: memory.clone(), proved: memory, tally: Tally::default() };
 
-    println!("stated: the judged inputs and limits of document 01");
+    println!("stated: the judged inputs and limits of document 01, and rows of request P1");
     stated_cases(&mut pair);
     println!("  {} cases, {} differ", pair.tally.cases, pair.tally.differ);
     let stated_tally = std::mem::take(&mut pair.tally);

@@ -1,7 +1,7 @@
 //! Runs the twin over the recorded rows of tests/vectors and tells where its texts differ.
 
 use compare::text;
-use std::{fs, path::Path, process::ExitCode};
+use std::{fs, path::{Path, PathBuf}, process::ExitCode};
 
 fn bytes_of(field: &str) -> Vec<u8> {
     let digits = if field == "-" { "" } else { field };
@@ -14,10 +14,19 @@ fn recorded_call(call: &str, card: &str, log: &str) -> String {
     text::call(name, &sizes, &bytes_of(card), &bytes_of(log))
 }
 
+/// The files of rows, by name; those of request P1 begin with p01_, and so on.
+fn files() -> Vec<PathBuf> {
+    let folder = Path::new(env!("CARGO_MANIFEST_DIR")).join("../tests/vectors");
+    let mut found: Vec<PathBuf> = fs::read_dir(folder).expect("the recorded rows").map(|file| file.expect("a file").path()).collect();
+    found.sort();
+    found
+}
+
 fn main() -> ExitCode {
     let mut all_agree = true;
-    for name in ["sheet", "judge", "calls"] {
-        let path = Path::new(env!("CARGO_MANIFEST_DIR")).join(format!("../tests/vectors/{name}.txt"));
+    for path in files() {
+        let name = path.file_stem().and_then(|stem| stem.to_str()).expect("a name");
+        let kind = name.rsplit('_').next().expect("a part");
         let rows = fs::read_to_string(&path).expect("the recorded rows");
         let (mut run, mut wrong) = (0, 0);
         for (number, row) in rows.lines().enumerate() {
@@ -26,7 +35,7 @@ fn main() -> ExitCode {
             }
             let fields: Vec<&str> = row.split('|').map(str::trim).collect();
             let (&expected, given) = fields.split_last().expect("fields");
-            let printed = match (name, given) {
+            let printed = match (kind, given) {
                 ("sheet", [card]) => text::sheet(&bytes_of(card)),
                 ("judge", [card, log]) => text::judgement(&bytes_of(card), &bytes_of(log)),
                 ("calls", [call, card]) => recorded_call(call, card, "-"),

@@ -43,8 +43,15 @@ impl<'a, const K: usize, const L: usize> Descent<'a, K, L> {
         if number == NO_RULE {
             return None;
         }
-        let (first, later) = grammar.conjuncts_of(&grammar.rules[number as usize]).split_first()?;
-        let end = self.run_body(grammar.body(first), place)?;
+        let rule = &grammar.rules[number as usize];
+        let conjuncts = grammar.conjuncts_of(rule);
+        // without a positive conjunct, all up to the end of the input is taken, and nothing is called for it
+        let (end, later) = if grammar.only_forbids(rule) {
+            (self.input.len(), conjuncts)
+        } else {
+            let (first, later) = conjuncts.split_first()?;
+            (self.run_body(grammar.body(first), place)?, later)
+        };
         for conjunct in later {
             let ends_there = self.run_body(grammar.body(conjunct), place) == Some(end);
             if ends_there == conjunct.negative {

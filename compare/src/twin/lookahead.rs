@@ -25,13 +25,17 @@ impl<const K: usize, const L: usize> Set<K, L> {
     pub const EMPTY: Self = Set(0);
     /// The empty string alone (document 01: "nothing").
     pub const NOTHING: Self = Set(1);
-    /// The unit of meeting.
-    pub const EVERY: Self = Set(u64::MAX);
     /// How many strings there are.
     pub const STRINGS: usize = first_of_length(K + 1, L);
 
     pub fn letter(letter: u8) -> Self {
         Set(1 << (1 + letter))
+    }
+
+    /// Every string over the first so many letters: nothing or a letter, K times.
+    pub fn every(letters: usize) -> Self {
+        let once = (0..letters).fold(Self::NOTHING, |set, letter| set.join(Self::letter(letter as u8)));
+        (0..K).fold(Self::NOTHING, |set, _| set.then(once))
     }
 
     pub fn bits(self) -> u64 {
@@ -139,6 +143,10 @@ mod tests {
         assert_eq!(strings.len(), Set::<K, L>::STRINGS);
         for (at, letters) in strings.iter().enumerate() {
             assert_eq!(at, string::<K, L>(letters));
+        }
+        for letters in 0..=L {
+            let over: Plain = strings.iter().filter(|string| string.iter().all(|&letter| (letter as usize) < letters)).cloned().collect();
+            assert_eq!(Set::<K, L>::every(letters), number(&over));
         }
         let mut random = Random::new((100 * K + L) as u64);
         let mut some = |percent: usize| -> Plain { strings.iter().filter(|_| random.chance(percent)).cloned().collect() };

@@ -64,9 +64,9 @@ impl Grammar {
         Sets { first, follow: self.follow_sets(&first) }
     }
 
-    /// The first set of a rule: the meeting of those of its positive conjuncts.
+    /// The first set of a rule: the meeting of those of its positive conjuncts; without any, every string over the card's letters.
     pub fn first_of_rule<const K: usize, const L: usize>(&self, rule: &Rule, first: &[Set<K, L>; MAX_NONTERMINALS]) -> Set<K, L> {
-        let mut met = Set::EVERY;
+        let mut met = Set::every(self.terminals);
         for conjunct in self.positives_of(rule) {
             let body = self.body(conjunct).iter().rev();
             met = met.meet(body.fold(Set::NOTHING, |tail, &symbol| first_of(symbol, first).then(tail)));

@@ -5,10 +5,12 @@ use super::lookahead::Set;
 use super::sets::Sets;
 use super::words::{Grammar, Rule};
 
-/// The rule for each nonterminal and string, and for each nonterminal the strings that two rules claim.
+/// The rule for each nonterminal and string; for each nonterminal the strings that two rules claim, and whether it has a rule of negative
+/// conjuncts alone though a letter may follow it.
 pub struct Table<const K: usize, const L: usize> {
     rules: Vec<u32>,
     claimed_twice: [Set<K, L>; MAX_NONTERMINALS],
+    end_unsettled: [bool; MAX_NONTERMINALS],
 }
 
 impl Grammar {
@@ -21,17 +23,19 @@ impl Grammar {
         let mut rules = vec![NO_RULE; self.nonterminals * Set::<K, L>::STRINGS];
         let mut claimed = [Set::EMPTY; MAX_NONTERMINALS];
         let mut claimed_twice = [Set::EMPTY; MAX_NONTERMINALS];
+        let mut end_unsettled = [false; MAX_NONTERMINALS];
         for (number, rule) in self.rules.iter().enumerate() {
             let a = rule.nonterminal as usize;
             let claims = self.claims(rule, sets);
             claimed_twice[a].add(claims.meet(claimed[a]));
             claimed[a].add(claims);
+            end_unsettled[a] |= self.only_forbids(rule) && sets.follow[a].join(Set::NOTHING) != Set::NOTHING;
             let row = &mut rules[a * Set::<K, L>::STRINGS..][..Set::<K, L>::STRINGS];
             for string in claims.strings() {
                 row[string] = number as u32;
             }
         }
-        Table { rules, claimed_twice }
+        Table { rules, claimed_twice, end_unsettled }
     }
 }
 
@@ -41,9 +45,13 @@ impl<const K: usize, const L: usize> Table<K, L> {
         self.rules[nonterminal * Set::<K, L>::STRINGS + string]
     }
 
-    /// The lowest nonterminal with a string that two rules claim, and the lowest column of such a string.
+    /// The lowest nonterminal with a clash, and the lowest column of one: that of a string that two rules claim, or 0 where no end is
+    /// settled for a rule of negative conjuncts alone.
     pub fn clash(&self, column: impl Fn(usize) -> usize) -> Option<(usize, usize)> {
-        self.claimed_twice.iter().enumerate().find_map(|(a, twice)| Some((a, twice.strings().map(&column).min()?)))
+        (0..MAX_NONTERMINALS).find_map(|a| {
+            let twice = self.claimed_twice[a].strings().map(&column);
+            Some((a, twice.chain(self.end_unsettled[a].then_some(0)).min()?))
+        })
     }
 }
 
@@ -62,6 +70,22 @@ mod tests {
         let grammar = Grammar::read(&Draft { nonterminals: 3, terminals: 2, rules }.words()).expect("well formed");
         assert_eq!(grammar.table(&grammar.sets::<1, 24>()).clash(|string| if string == 0 { 2 } else { string - 1 }), Some((0, 1)));
         assert_eq!(grammar.table(&grammar.sets::<2, 7>()).clash(|string| string), Some((0, 0)));
+    }
+
+    /// S: X b, X: not a. A letter follows X, so its one rule is a clash in column 0. Alone, with only the end behind it, it is none.
+    #[test]
+    fn only_the_end_may_follow_what_only_forbids() {
+        let forbids = |x| rule(x, &[], &[&[Terminal(0)]]);
+        let clash = |rules: Vec<_>| {
+            let grammar = Grammar::read(&Draft { nonterminals: 2, terminals: 2, rules }.words()).expect("well formed");
+            grammar.table(&grammar.sets::<1, 24>()).clash(|string| if string == 0 { 2 } else { string - 1 })
+        };
+        assert_eq!(clash(vec![rule(0, &[&[Nonterminal(1), Terminal(1)]], &[]), forbids(1)]), Some((1, 0)));
+        assert_eq!(clash(vec![rule(0, &[&[Nonterminal(1)]], &[&[Nonterminal(1), Terminal(1)]]), forbids(1)]), Some((1, 0)));
+        assert_eq!(clash(vec![rule(0, &[&[Nonterminal(1)]], &[]), forbids(1)]), None);
+        // name 1 is not reached, so nothing follows it; beside another rule of name 0 the clash is in that rule's column
+        assert_eq!(clash(vec![forbids(0), forbids(1)]), None);
+        assert_eq!(clash(vec![forbids(0), rule(0, &[&[Terminal(1)]], &[])]), Some((0, 1)));
     }
 
     /// S: a b or a c: a clash with one letter, none with two.

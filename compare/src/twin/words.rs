@@ -101,7 +101,7 @@ impl Grammar {
                 self.begin_conjunct(false);
                 Ok(InPositive)
             }
-            4 if payload == 0 && in_body => {
+            4 if payload == 0 && (state == RuleBegun || in_body) => {
                 self.begin_conjunct(true);
                 Ok(InNegative)
             }
@@ -148,9 +148,14 @@ impl Grammar {
         self.rules[rule].nonterminal as usize
     }
 
-    /// The symbols of a rule's first positive conjunct.
-    pub fn first_positive(&self, rule: usize) -> &[Symbol] {
-        self.body(&self.conjuncts[self.rules[rule].start as usize])
+    /// The symbols of a rule's first positive conjunct, if it has one.
+    pub fn first_positive(&self, rule: usize) -> Option<&[Symbol]> {
+        self.positives_of(&self.rules[rule]).next().map(|conjunct| self.body(conjunct))
+    }
+
+    /// Whether a rule has negative conjuncts alone (request P1).
+    pub fn only_forbids(&self, rule: &Rule) -> bool {
+        self.positives_of(rule).next().is_none()
     }
 
     pub fn conjuncts_of(&self, rule: &Rule) -> &[Conjunct] {

@@ -1,4 +1,4 @@
-// Document 01's limit cases. Each grammar is a file; behind its name stands what the program sheet prints of it, or, for
+// Document 01's limit cases and those of request P1. Each grammar is a file; behind its name stands what the program sheet prints of it, or, for
 // each input, the first line of what the program judge prints.
 ghost use Rattle.io.specs.Counts.{Counts};
 use grammar::limits::PLACES;
@@ -80,6 +80,8 @@ fn limits_of_checking() {
     checked(b"claimed_twice");
     checked(b"no_rule");
     checked(b"rules_apart");
+    checked(b"must_nots_alone");
+    checked(b"letter_behind_must_nots");
 }
 
 // No token, one, the most and one more, and four of which the third is unknown.
@@ -105,7 +107,10 @@ fn main() {
     limits_of_checking();
     limits_of_judging(b"repeated");
     limits_of_judging(b"no_rule");
+    limits_of_judging(b"must_nots_alone");
+    limits_of_judging(b"must_not_empty");
     deepest(b"chain");
     deepest(b"chain_of_two_musts");
     deepest(b"chain_of_must_nots");
+    deepest(b"chain_of_must_nots_alone");
 }

@@ -68,7 +68,7 @@ pub rules-fit : (G : Grammar) → WellFormed G → Each (RuleFits (sizes (G .non
 rules-fit G f r m = record {
   head = f .scoped .heads r m;
   inRange = λ b k. (f .scoped .nonterminals r m b k, f .terminals r m b k);
-  positive = f .positive r m;
+  conjunct = f .conjunct r m;
 }
 
 -- nothing is lost

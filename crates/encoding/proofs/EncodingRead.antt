@@ -1,7 +1,7 @@
 -- The words of a well-formed grammar within the limits are read without a fault.
 use mathlib.Core.Path.{_≡_, refl, ap, _∙_}
 use mathlib.Core.Bool.{true, false}
-use mathlib.Core.List.{List, [], _∷_, List·Memᴰ·head, Memᴰ·append-left, Memᴰ·append-right}
+use mathlib.Core.List.{List, [], _∷_, _++_, List·Memᴰ·head, Memᴰ·append-left, Memᴰ·append-right}
 use Prim.Native.Nat.{ℕ, suc, _+_, _^_, _≤_, _<_}
 use native.Mathlib.Omega.{arith}
 use lib.ListN.{length}
@@ -56,6 +56,13 @@ within-between InPositive h = refl
 within-between InNegative h = refl
 within-between Closed h = h
 
+within-negative : (s : State) → Within s → allows Negative s ≡ true
+within-negative Before h = h
+within-negative Opened h = refl
+within-negative InPositive h = refl
+within-negative InNegative h = refl
+within-negative Closed h = h
+
 pub closed-goes : (y : Sizes) → Goes (progress Closed y) [] y
 unfolding scan finished
 closed-goes y at = refl
@@ -81,7 +88,7 @@ module _ (n t : ℕ) (fewNonterminals : n < 2 ^ 8) (fewTerminals : t < 2 ^ 8) wh
   unfolding conjunctWords
   negatives-go [] s k z ws w h g = g s w
   negatives-go (b ∷ ns) s k z ws w h g =
-      goes-word negativeWord Negative s (sizes n t k) z _ decoded-negative w refl refl
+      goes-word negativeWord Negative s (sizes n t k) z _ decoded-negative (within-negative s w) refl refl
       (body-goes b InNegative k z _ refl (h b (List·Memᴰ·head refl)) (negatives-go ns InNegative k z ws refl (each-rest _ b ns h) g))
 
   positives-go : (ps : List Body) (k : ℕ) (z : Sizes) (ws : List ℕ) → Each (InRange (sizes n t 0)) ps
@@ -92,13 +99,16 @@ module _ (n t : ℕ) (fewNonterminals : n < 2 ^ 8) (fewTerminals : t < 2 ^ 8) wh
       goes-word positiveWord Positive InPositive (sizes n t k) z _ decoded-positive refl refl refl
       (body-goes b InPositive k z _ refl (h b (List·Memᴰ·head refl)) (positives-go ps k z ws (each-rest _ b ps h) g))
 
-  -- here alone it matters that a rule has a positive conjunct
-  conjuncts-go : (ps ns : List Body) (k : ℕ) (z : Sizes) (ws : List ℕ) → (ps ≡ [] → ⊥) → Each (InRange (sizes n t 0)) ps
+  -- here alone it matters that a rule has a conjunct
+  conjuncts-go : (ps ns : List Body) (k : ℕ) (z : Sizes) (ws : List ℕ) → (ps ++ ns ≡ [] → ⊥) → Each (InRange (sizes n t 0)) ps
       → Each (InRange (sizes n t 0)) ns
       → ((s : State) → Within s → Goes (progress s (sizes n t k)) ws z)
       → Goes (progress Opened (sizes n t k)) (conjunctWords positiveWord ps (conjunctWords negativeWord ns ws)) z
   unfolding conjunctWords
-  conjuncts-go [] ns k z ws some hp hn g = absurd (some refl)
+  conjuncts-go [] [] k z ws some hp hn g = absurd (some refl)
+  conjuncts-go [] (b ∷ ns) k z ws some hp hn g =
+      goes-word negativeWord Negative Opened (sizes n t k) z _ decoded-negative refl refl refl
+      (body-goes b InNegative k z _ refl (hn b (List·Memᴰ·head refl)) (negatives-go ns InNegative k z ws refl (each-rest _ b ns hn) g))
   conjuncts-go (b ∷ ps) ns k z ws some hp hn g =
       goes-word positiveWord Positive Opened (sizes n t k) z _ decoded-positive refl refl refl
       (body-goes b InPositive k z _ refl (hp b (List·Memᴰ·head refl))
@@ -109,7 +119,7 @@ module _ (n t : ℕ) (fewNonterminals : n < 2 ^ 8) (fewTerminals : t < 2 ^ 8) wh
   unfolding ruleWords
   rule-goes r s k z ws b l h g =
       goes-rule (ruleWord (r .head)) (RuleWord (r .head)) s (sizes n t k) z _ (decoded-rule (r .head) (omega (arith, h .head))) b (lt-ltb (r .head) n (h .head)) refl l
-      (conjuncts-go (r .positives) (r .negatives) (k + 1) z ws (h .positive)
+      (conjuncts-go (r .positives) (r .negatives) (k + 1) z ws (h .conjunct)
       (λ x m. h .inRange x (Memᴰ·append-left (r .negatives) m)) (λ x m. h .inRange x (Memᴰ·append-right (r .positives) m))
       (λ s w. g s (within-between s w)))
 

@@ -44,7 +44,7 @@ InRange z b = NonterminalsBelow (z .nonterminals) b × TerminalsBelow (z .termin
 pub record RuleFits (z : Sizes) (r : Rule) : Type 0 where
   pub head : r .head < z .nonterminals
   pub inRange : Each (InRange z) (bodies r)
-  pub positive : r .positives ≡ [] → ⊥
+  pub conjunct : bodies r ≡ [] → ⊥
 
 pub record Empty (p : Parsed) : Type 0 where
   pub body : p .body ≡ []
@@ -54,7 +54,7 @@ pub record Empty (p : Parsed) : Type 0 where
 -- what the words behind an index are, by what stands before it
 abbrev pub Shape : State → Parsed → Type 0
 Shape Before p = Empty p
-Shape Opened p = (p .body ≡ []) × (p .positives ≡ [] → ⊥)
+Shape Opened p = (p .body ≡ []) × (p .positives ++ p .negatives ≡ [] → ⊥)
 Shape InPositive p = Unit {0}
 Shape InNegative p = p .positives ≡ []
 Shape Closed p = Empty p
@@ -98,10 +98,18 @@ cons-some x l e = let n = ap length e in omega arith
 shape-positive : (s : State) (b : Body) (ps ns : List Body) (rs : List Rule) → row false true true false false s ≡ true
     → Shape s (parsed [] (b ∷ ps) ns rs)
 shape-positive Before b ps ns rs e = absurd (false≢true e)
-shape-positive Opened b ps ns rs e = (refl, cons-some b ps)
+shape-positive Opened b ps ns rs e = (refl, cons-some b (ps ++ ns))
 shape-positive InPositive b ps ns rs e = tt
 shape-positive InNegative b ps ns rs e = absurd (false≢true e)
 shape-positive Closed b ps ns rs e = absurd (false≢true e)
+
+shape-negative : (s : State) (ps : List Body) (b : Body) (ns : List Body) (rs : List Rule) → row false true true true false s ≡ true → ps ≡ []
+    → Shape s (parsed [] ps (b ∷ ns) rs)
+shape-negative Before ps b ns rs e h = absurd (false≢true e)
+shape-negative Opened ps b ns rs e h = (refl, rw h (cons-some b ns))
+shape-negative InPositive ps b ns rs e h = tt
+shape-negative InNegative ps b ns rs e h = h
+shape-negative Closed ps b ns rs e h = absurd (false≢true e)
 
 -- in a conjunct only the positives behind it matter
 shape-within : (s : State) (p q : Parsed) → row false false true true false s ≡ true → p .positives ≡ q .positives
@@ -121,7 +129,7 @@ fits-word (RuleWord A) s z p a i h = record {
   body = (tt, tt);
   positives = none-in _;
   negatives = none-in _;
-  rules = more-in (RuleFits z) (ruleOf A p) (p .rules) (record { head = ltb-true A (z .nonterminals) i; inRange = both; positive = h .shape .1 }) (h .rules);
+  rules = more-in (RuleFits z) (ruleOf A p) (p .rules) (record { head = ltb-true A (z .nonterminals) i; inRange = both; conjunct = h .shape .1 }) (h .rules);
   shape = shape-between s _ a;
 }
   where
@@ -139,7 +147,7 @@ fits-word Negative s z p a i h = record {
   positives = h .positives;
   negatives = more-in (InRange z) (p .body) (p .negatives) (h .body) (h .negatives);
   rules = h .rules;
-  shape = shape-within s _ p a refl (λ _. h .shape);
+  shape = shape-negative s (p .positives) _ _ _ a (h .shape);
 }
 fits-word (Symbol X) s z p a i h = record {
   body = symbol-fits X z (p .body) i (h .body);

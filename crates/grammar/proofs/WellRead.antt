@@ -70,7 +70,7 @@ fit-formed G z n t h = record {
     nonterminals = λ r m b k. rw n at (h r m .inRange b k .0);
   };
   terminals = λ r m b k. rw t at (h r m .inRange b k .1);
-  positive = λ r m. h r m .positive;
+  conjunct = λ r m. h r m .conjunct;
 }
 
 -- by the first word and the reading behind it

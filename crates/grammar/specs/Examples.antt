@@ -41,7 +41,7 @@ examples =
     ∷ example (0x10000101 ∷ 0x70000000 ∷ 0x70000000 ∷ []) (Faulty (UnexpectedWord 2))
     -- a rule without a conjunct, and one that begins with a negative conjunct
     ∷ example (0x10000101 ∷ 0x20000000 ∷ 0x70000000 ∷ []) (Faulty (UnexpectedWord 2))
-    ∷ example (0x10000101 ∷ 0x20000000 ∷ 0x40000000 ∷ 0x70000000 ∷ []) (Faulty (UnexpectedWord 2))
+    ∷ example (0x10000101 ∷ 0x20000000 ∷ 0x40000000 ∷ 0x70000000 ∷ []) (Read (sizes 1 1 1))
     -- a positive conjunct behind a negative one
     ∷ example (0x10000101 ∷ 0x20000000 ∷ 0x30000000 ∷ 0x40000000 ∷ 0x30000000 ∷ 0x70000000 ∷ []) (Faulty (UnexpectedWord 4))
     -- a payload where there is none to be, and a kind that is none

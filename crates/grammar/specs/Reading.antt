@@ -33,7 +33,7 @@ row b o p n c Closed = c
 abbrev pub allows : Word → State → Bool
 allows (Rule A) s = row true false true true false s
 allows Positive s = row false true true false false s
-allows Negative s = row false false true true false s
+allows Negative s = row false true true true false s
 allows (Symbol X) s = row false false true true false s
 allows End s = row true false true true false s
 allows (Heading n t) s = false

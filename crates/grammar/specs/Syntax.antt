@@ -40,8 +40,8 @@ pub record WellScoped (G : Grammar) : Type 0 where
   pub heads : (r : Rule) → List·Memᴰ r (G .rules) → r .head < G .nonterminals
   pub nonterminals : (r : Rule) → List·Memᴰ r (G .rules) → (b : Body) → List·Memᴰ b (bodies r) → NonterminalsBelow (G .nonterminals) b
 
--- every number is below the grammar's own, and each rule has a positive conjunct
+-- every number is below the grammar's own, and each rule has a conjunct
 pub record WellFormed (G : Grammar) : Type 0 where
   pub scoped : WellScoped G
   pub terminals : (r : Rule) → List·Memᴰ r (G .rules) → (b : Body) → List·Memᴰ b (bodies r) → TerminalsBelow (G .terminals) b
-  pub positive : (r : Rule) → List·Memᴰ r (G .rules) → r .positives ≡ [] → ⊥
+  pub conjunct : (r : Rule) → List·Memᴰ r (G .rules) → bodies r ≡ [] → ⊥

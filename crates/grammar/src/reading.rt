@@ -73,7 +73,7 @@ fn allows(word: Word, state: State) -> bool
     match word {
         Word::Rule(_) => row(state, true, false, true, true, false),
         Word::Positive => row(state, false, true, true, false, false),
-        Word::Negative => row(state, false, false, true, true, false),
+        Word::Negative => row(state, false, true, true, true, false),
         Word::Symbol(_) => row(state, false, false, true, true, false),
         Word::End => row(state, true, false, true, true, false),
         Word::Heading {

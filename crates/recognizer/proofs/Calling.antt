@@ -60,6 +60,7 @@ pub record Calling (choice : Choice) (words input memo₀ : List ℕ) (A place :
   pub progress : Progress
   pub reads : scan progress at (drop at words) ≡ reading words
   pub opens : agreed ≡ agreement.Open → progress .state ≡ state.Opened
+  pub opened : agreed ≡ agreement.Open → sign ≡ Negative → ⊥
   pub boundary : (X : grammar.Symbol) → at < length words → decoded (getD words at 0) ≡ Symbol X → ⊥
 
 -- one body more of what is left
@@ -103,6 +104,7 @@ module _ {choice : Choice} {words choices tokens input memo₀ : List ℕ} {A pl
       free = g .given .free;
       own = g .given .own;
       rows = g .given .rows;
+      ends = g .given .ends;
       elements = g .given .elements;
       firsts = g .given .firsts;
       terminals = g .given .terminals;
@@ -166,7 +168,7 @@ module _ {choice : Choice} {words choices tokens input memo₀ : List ℕ} {A pl
           join (agreement.At e) t n m′ o run = positive-keeps (deep choice words input n) input place (Q .body) (Q .negatives) memo m′ o run e (Q .positives)
           join agreement.Failed t n m′ o run = absurd (false≢true t)
 
-      -- a negative conjunct: no positive one stands behind it, and one stood before it
+      -- a negative conjunct: no positive one stands behind it
       negative : decoded (getD words at 0) ≡ word.Negative → sign ≡ Negative → Conjunct
       unfolding onWord
       negative x s =
@@ -190,7 +192,7 @@ module _ {choice : Choice} {words choices tokens input memo₀ : List ℕ} {A pl
               → (n : ℕ) (m′ : List ℕ) (o : Outcome) → memoRun (deep choice words input n) input (Q .body) place memo ≡ memoized o m′
               → memoRest (deep choice words input n) input place a [] (Q .body ∷ Q .negatives) memo
               ≡ memoRest (deep choice words input n) input place (joinedBy Negative a o) [] (Q .negatives) m′
-          join agreement.Open e w t n m′ o run = absurd (false≢true (rw (v .opens e) at w))
+          join agreement.Open e w t n m′ o run = absurd (v .opened e s)
           join (agreement.At x) e w t n m′ o run = negative-keeps (deep choice words input n) input place (Q .body) (Q .negatives) memo m′ o run x
           join agreement.Failed e w t n m′ o run = absurd (false≢true t)
 
@@ -238,6 +240,7 @@ module _ {choice : Choice} {words choices tokens input memo₀ : List ℕ} {A pl
         progress = k .progress;
         reads = t .reads (k .progress) (g .given .sizes) (k .reads ∙ g .given .read) ∙ sym (g .given .read);
         opens = λ q. absurd (opens-no-more sign agreed (meant (o .outcome)) goes (sym j ∙ q));
+        opened = λ q. absurd (opens-no-more sign agreed (meant (o .outcome)) goes (sym j ∙ q));
         boundary = b .boundary;
       }
 
@@ -289,7 +292,8 @@ module _ {choice : Choice} {words choices tokens input memo₀ : List ℕ} {A pl
           → memoRest (deep choice words input n) input place a (parse (drop at words) .positives) (parse (drop at words) .negatives) memo ≡ memoized (concluded a) memo
       go agreement.Open e t =
           let f = reads (v .progress) at (drop at words) (g .given .sizes) (v .reads ∙ g .given .read) .fits in
-          absurd ((rw (v .opens e) at (f .shape)) .1 (none-left (neither sign t) .0))
+          let k = none-left (neither sign t) in
+          absurd ((rw (v .opens e) at (f .shape)) .1 (rw (k .0, k .1)))
       go (agreement.At x) e t = let k = none-left (neither sign t) in rw (k .0, k .1)
       go agreement.Failed e t = refl
 

@@ -1,7 +1,7 @@
 -- The rows of choices, written one after the other, each column by column.
 use mathlib.Core.Path.{_≡_, refl, sym, _∙_}
 use mathlib.Core.List.{List}
-use Prim.Native.Nat.{ℕ, suc, _+_, _*_, _≤_, _<_}
+use Prim.Native.Nat.{ℕ, suc, _+_, _-_, _*_, _≤_, _<_}
 use native.Mathlib.Nat.{mul-le-mul, suc-mul}
 use native.Mathlib.Omega.{arith}
 use native.Mathlib.Decide.{decLt}
@@ -10,7 +10,7 @@ use lib.Seq.{getD-set-same, getD-set-other}
 use Rattle.grammar.specs.declared.reading.Sizes.{Sizes}
 use Rattle.grammar.specs.Limits.{maxNonterminals, maxTerminals, maxColumns, maxPlaces, maxMemoEntries, maxTableWords}
 use Rattle.grammar.specs.Starts.{ruleStarts}
-use Rattle.recognizer.specs.Arrays.{choiceColumns, rowColumn, choiceWords, rowAt}
+use Rattle.recognizer.specs.Arrays.{choiceColumns, rowColumn, endColumn, choiceWords, rowAt, endAt}
 use Rattle.recognizer.specs.Preparing.{entryOf, firstWord, RowGiven, RowFilled, Filled}
 
 -- where a row is read and written
@@ -52,18 +52,26 @@ module _ {starts entries : List ℕ} {from to column : ℕ} {before now : List �
       go c l (yes k) = getD-set-other now (to + column) (to + c) v 0 (λ q. absurd (omega arith)) ∙ w .written c k
       go c l (no k) = let q : c ≡ column = omega arith in rw q (getD-set-same now (to + column) v 0 h ∙ e)
 
--- all columns, and the row's place in the memo table
+-- all columns, the input's length and the row's place in the memo table
 pub row-filled : {starts entries : List ℕ} {z : Sizes} {A places column : ℕ} {before now : List ℕ} → RowGiven starts entries z A places before
     → Writing starts entries (2 * z .nonterminals + A * (z .terminals + 1)) (A * choiceColumns) column before now → z .terminals + 1 ≤ column
-    → RowFilled starts entries z A places before (set now (A * choiceColumns + rowColumn) (A * places))
-unfolding rowAt
+    → RowFilled starts entries z A places before (set (set now (A * choiceColumns + endColumn) (places - 1)) (A * choiceColumns + rowColumn) (A * places))
+unfolding rowAt endAt
 row-filled {A = A} {places = places} {now = now} g w h =
     let p = placed g in
+    let ended = set now (A * choiceColumns + endColumn) (places - 1) in
+    let row = A * choiceColumns + rowColumn in
+    let end = A * choiceColumns + endColumn in
+    let long : length ended ≡ length now = length-set now end (places - 1) in
+    let other : (x v : ℕ) → (x ≡ row → ⊥) → (x ≡ end → ⊥) → getD (set ended row (A * places)) x 0 ≡ getD now x 0 =
+    λ x v n m. getD-set-other ended row x (A * places) 0 n ∙ getD-set-other now end x (places - 1) 0 m in
     record {
-      long = length-set now (A * choiceColumns + rowColumn) (A * places) ∙ w .long;
-      kept = λ x l. getD-set-other now (A * choiceColumns + rowColumn) x (A * places) 0 (λ q. absurd (omega arith)) ∙ w .kept x l;
-      columns = λ c l. getD-set-other now (A * choiceColumns + rowColumn) (A * choiceColumns + c) (A * places) 0 (λ q. absurd (omega (arith, g .fewTerminals))) ∙ w .written c (omega arith);
-      row = getD-set-same now (A * choiceColumns + rowColumn) (A * places) 0 (omega (arith, w .long, g .long, p .to));
+      long = length-set ended row (A * places) ∙ long ∙ w .long;
+      kept = λ x l. other x 0 (λ q. absurd (omega arith)) (λ q. absurd (omega arith)) ∙ w .kept x l;
+      columns = λ c l.
+          other (A * choiceColumns + c) 0 (λ q. absurd (omega (arith, g .fewTerminals))) (λ q. absurd (omega (arith, g .fewTerminals))) ∙ w .written c (omega arith);
+      row = getD-set-same ended row (A * places) 0 (omega (arith, long, w .long, g .long, p .to));
+      end = getD-set-other ended row end (A * places) 0 (λ q. absurd (omega arith)) ∙ getD-set-same now end (places - 1) 0 (omega (arith, w .long, g .long, p .to));
     }
 
 -- the rows of the first nonterminals are written
@@ -72,12 +80,18 @@ pub record Rows (words entries : List ℕ) (z : Sizes) (places A : ℕ) (choices
   pub columns : (B c : ℕ) → B < A → c < z .terminals + 1
       → getD choices (B * choiceColumns + c) 0 ≡ firstWord (ruleStarts words) (entryOf z entries B c)
   pub rows : (B : ℕ) → B < A → rowAt choices B ≡ B * places
+  pub ends : (B : ℕ) → B < A → endAt choices B ≡ places - 1
 
 module _ {words starts entries : List ℕ} {z : Sizes} {places A : ℕ} {choices choices′ : List ℕ} (few : z .terminals ≤ maxTerminals) (s : starts ≡ ruleStarts words)
     (w : Rows words entries z places A choices) (f : RowFilled starts entries z A places choices choices′) where
   pub rows-more : Rows words entries z places (A + 1) choices′
-  unfolding rowAt
-  rows-more = record { long = f .long ∙ w .long; columns = λ B c b h. columns B c b h (decLt B A); rows = λ B b. rows B b (decLt B A) }
+  unfolding rowAt endAt
+  rows-more = record {
+    long = f .long ∙ w .long;
+    columns = λ B c b h. columns B c b h (decLt B A);
+    rows = λ B b. rows B b (decLt B A);
+    ends = λ B b. ends B b (decLt B A);
+  }
     where
       columns : (B c : ℕ) → B < A + 1 → c < z .terminals + 1 → Dec (B < A)
           → getD choices′ (B * choiceColumns + c) 0 ≡ firstWord (ruleStarts words) (entryOf z entries B c)
@@ -88,10 +102,14 @@ module _ {words starts entries : List ℕ} {z : Sizes} {places A : ℕ} {choices
       rows B b (yes l) = f .kept (B * choiceColumns + rowColumn) (omega arith) ∙ w .rows B l
       rows B b (no l) = let q : B ≡ A = omega arith in rw q (f .row)
 
+      ends : (B : ℕ) → B < A + 1 → Dec (B < A) → endAt choices′ B ≡ places - 1
+      ends B b (yes l) = f .kept (B * choiceColumns + endColumn) (omega arith) ∙ w .ends B l
+      ends B b (no l) = let q : B ≡ A = omega arith in rw q (f .end)
+
 pub rows-none : (words entries : List ℕ) (z : Sizes) (places : ℕ) (choices : List ℕ) → length choices ≡ choiceWords
     → Rows words entries z places 0 choices
-rows-none words entries z places choices long = record { long = long; columns = λ B c b. absurd (omega arith); rows = λ B b. absurd (omega arith) }
+rows-none words entries z places choices long = record { long = long; columns = λ B c b. absurd (omega arith); rows = λ B b. absurd (omega arith); ends = λ B b. absurd (omega arith) }
 
 pub rows-all : {words entries : List ℕ} {z : Sizes} {places A : ℕ} {choices : List ℕ} → z .nonterminals ≤ A → Rows words entries z places A choices
     → Filled words entries z places choices
-rows-all h w = record { columns = λ B c b. w .columns B c (omega arith); rows = λ B b. w .rows B (omega arith) }
+rows-all h w = record { columns = λ B c b. w .columns B c (omega arith); rows = λ B b. w .rows B (omega arith); ends = λ B b. w .ends B (omega arith) }

@@ -122,7 +122,7 @@ module _ {words : List ℕ} {z : Sizes} {entries input memo : List ℕ} (g : Des
   some-nonterminal = omega (arith, r .nonterminals, r .someNonterminal)
 
   pub choices-given : ChoicesGiven words z entries (length input + 1)
-  choices-given = record { read = g .read; table = g .table; few = omega (arith, g .short) }
+  choices-given = record { read = g .read; table = g .table; some-place = omega arith; few = omega (arith, g .short) }
 
   pub tokens-given : TokensGiven input (z .terminals)
   tokens-given = record { short = g .short; few = r .fewTerminals }
@@ -148,6 +148,7 @@ module _ {words : List ℕ} {z : Sizes} {entries input memo : List ℕ} (g : Des
         free = g .free;
         own = theorems .own-rules G 1 input;
         rows = λ A a. f .rows A (omega (arith, r .nonterminals)) ∙ ap (λ n. A * n) (add-one (length input));
+        ends = λ A a. f .ends A (omega (arith, r .nonterminals)) ∙ omega arith;
         elements = λ i h. let k = column (G .terminals) input (g .tokens) (g .short) (omega (arith, few)) i h in omega (arith, k .element, k .low, few);
         firsts = choices-hold choices-given input f (g .tokens) (g .short);
         terminals = λ i h. let e = word-at (G .terminals) input i h in let l = token-below (G .terminals) input (g .tokens) i h in omega (arith, e, few);

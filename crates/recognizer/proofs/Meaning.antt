@@ -38,7 +38,7 @@ meaning words input r p h e =
     let k = passed-encodes words p in
     let free = passed-free words p in
     let some-nonterminal : 0 < G .nonterminals = k .limited .someNonterminal in
-    let predictive : Predictive G 1 = theorems .passed G 1 (k .formed) some-nonterminal .0 (not-left-recursive words p, no-clashes words p) in
+    let predictive : Predictive G 1 = theorems .passed G 1 (omega arith) (k .formed) some-nonterminal .0 (not-left-recursive words p, no-clashes words p) in
     let tells : (v : Valuation) → Solves G input v → ((r ≡ Accepted (callsOf G input)) ↔ (v 0 0 (length input) ≡ true)) × ((r ≡ Rejected (callsOf G input)) ↔ (v 0 0 (length input) ≡ false)) =
     λ v s. verdict-tells {r = r} (v 0 0 (length input)) (callsOf G input)
     (e ∙ ap (λ b. choose b (Accepted (callsOf G input)) (Rejected (callsOf G input))) (theorems .verdict G 1 predictive input (h .tokens) v s)) in

@@ -100,6 +100,7 @@ module _ {words : List ℕ} {z : Sizes} {entries : List ℕ} {places : ℕ} (g :
   row-given {starts} {choices} {A} s a long = rw s (record {
     long = long;
     named = a;
+    some-place = g .some-place;
     fewNonterminals = r .fewNonterminals;
     fewTerminals = r .fewTerminals;
     few = g .few;

@@ -222,6 +222,7 @@ module _ {choice : Choice} {words choices tokens input memo₀ : List ℕ} {A fr
         free = g .call .given .free;
         own = g .call .given .own;
         rows = g .call .given .rows;
+        ends = g .call .given .ends;
         elements = g .call .given .elements;
         firsts = g .call .given .firsts;
         terminals = g .call .given .terminals;

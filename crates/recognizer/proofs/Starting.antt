@@ -13,8 +13,8 @@ use Rattle.word.specs.declared.Symbol as grammar
 use Rattle.word.specs.declared.Word.{Word}
 use Rattle.word.specs.declared.Word.the-variants as word
 use Rattle.grammar.specs.Codes.{failedCode}
-use Rattle.grammar.specs.Syntax.{Rule, Grammar}
-use Rattle.grammar.specs.Encoding.{parse, grammarOf}
+use Rattle.grammar.specs.Syntax.{Body, Rule, Grammar}
+use Rattle.grammar.specs.Encoding.{onWord, parse, grammarOf}
 use Rattle.grammar.specs.Reading.{allows, after, beginsRule, scan, reading}
 use Rattle.grammar.specs.Starts.{ruleStarts}
 use Rattle.grammar.specs.WellRead.{firstRule, Begun, WellRead}
@@ -26,12 +26,18 @@ use Rattle.grammar.proofs.WellRead.{well-read}
 use Rattle.semantics.specs.Choices.{Choice}
 use Rattle.semantics.specs.Descent.{Failed, select}
 use Rattle.semantics.specs.Memo.{encode}
-use Rattle.semantics.specs.MemoDescent.{MemoCalls, memoized, memoObey}
+use Rattle.semantics.specs.MemoDescent.{MemoCalls, memoized, memoPositives, memoRule, memoObey}
 use Rattle.semantics.proofs.Outcomes.{nth-below, nth-mem}
 use Rattle.rule.specs.declared.Sign.{Sign}
-use Rattle.rule.specs.declared.Agreement.the-variants as agreement
-use Rattle.rule.specs.Rule.{signAt}
-use Rattle.recognizer.specs.Arrays.{firstAt}
+use Rattle.rule.specs.declared.Agreement.{Agreement}
+use Rattle.rule.specs.declared.Sign.the-variants.{Positive, Negative, Neither}
+use Rattle.rule.proofs.Signs.{sign-number, sign-negative, sign-within}
+use Rattle.rule.proofs.Agreements.{opening-ends, opening-open}
+use Rattle.recognizer.proofs.Bodies.{parse-here}
+use Rattle.recognizer.proofs.Running.{deep}
+use Rattle.grammar.proofs.WellFormed.{reads}
+use Rattle.rule.specs.Rule.{signAt, openingBy}
+use Rattle.recognizer.specs.Arrays.{endAt, firstAt}
 use Rattle.recognizer.specs.Descent.{firstConjunct, CallGiven}
 use Rattle.recognizer.proofs.Calling.{memoRest, Calling, InRule}
 
@@ -111,23 +117,47 @@ module _ {choice : Choice} {words choices tokens input memo : List ℕ} {A place
       let n = scan-next words (suc i) (at .progress) (g .given .sizes) (b .high) (at .reads) in
       (n .progress, n .reads ∙ sym (g .given .read), n .passed .state ∙ rule-opens (decoded (getD words (suc i) 0)) (at .progress .state) (b .word))
 
+  -- no positive conjunct stands behind a negative one
+  none-behind : (at : ℕ) (p : Progress) → scan p at (drop at words) ≡ reading words → signAt words at ≡ Negative → parse (drop at words) .positives ≡ []
+  unfolding onWord
+  none-behind at p e s =
+      let k = sign-within words at (λ n. absurd (omega (arith, sign-number (sym n ∙ s)))) in
+      let x = sign-negative (decoded (getD words at 0)) (sym (k .1) ∙ s) in
+      let n = scan-next words at p (g .given .sizes) (k .0) (e ∙ g .given .read) in
+      let f = reads (n .progress) (at + 1) (drop (at + 1) words) (g .given .sizes) (n .reads) .fits in
+      let after-negative : n .progress .state ≡ state.InNegative = rw x at (n .passed .state) in
+      let none : parse (drop (at + 1) words) .positives ≡ [] = rw after-negative at (f .shape) in
+      ap (λ q. q .positives) (parse-here words at (k .0) ∙ ap (λ w. onWord w (parse (drop (at + 1) words))) x) ∙ none
+
+  -- a rule before its first body, by what that is
+  opening-rest : (M : MemoCalls) (s : Sign) (ps ns : List Body) → (s ≡ Negative → ps ≡ [])
+      → memoRule M input (length input) ps ns place memo ≡ memoRest M input place (openingBy s (length input)) ps ns memo
+  unfolding memoRest memoRule memoPositives
+  opening-rest M Positive ps ns h = refl
+  opening-rest M Neither ps ns h = refl
+  opening-rest M Negative ps ns h = rw (h refl)
+
   -- before its first body
   calling-start : {at : ℕ} (k : Chosen at) {sign : Sign} → sign ≡ signAt words (k .start + 1)
-      → Calling choice words input memo A place (k .rule) memo (k .start + 1) sign agreement.Open
-  unfolding memoRest memoObey
-  calling-start k s =
+      → Calling choice words input memo A place (k .rule) memo (k .start + 1) sign (openingBy sign (length input))
+  unfolding memoObey
+  calling-start k {sign} s =
       let n = begin-next (k .start) (k .begun) in
       record {
         sound = g .given .sound;
         within = omega (arith, k .begun .high);
         signed = s;
-        ends = λ e c. let z : _≡_ {A = ℕ} 0 1 = cc in absurd (omega arith);
-        rest = λ m l. rw (k .positives, k .negatives);
+        ends = λ e c. opening-ends sign (length input) e c;
+        rest = λ m l.
+            (rw (k .positives, k .negatives))
+            ∙ opening-rest (deep choice words input m) sign (parse (drop (k .start + 1) words) .positives) (parse (drop (k .start + 1) words) .negatives)
+            (λ q. none-behind (k .start + 1) (n .0) (n .1) (sym s ∙ q));
         positives = λ b m. let h : List·Memᴰ b (k .rule .positives) = rw (k .positives) m in Memᴰ·append-left (k .rule .negatives) h;
         negatives = λ b m. let h : List·Memᴰ b (k .rule .negatives) = rw (k .negatives) m in Memᴰ·append-right (k .rule .positives) h;
         progress = n .0;
         reads = n .1;
         opens = λ _. n .2;
+        opened = λ q. opening-open sign (length input) q;
         boundary = λ X l x.
             let w = scan-next words (k .start + 1) (n .0) (g .given .sizes) l (n .1 ∙ g .given .read) in
             let a : allows (word.Symbol X) state.Opened ≡ true = rw (x, n .2) at (w .passed .allowed) in
@@ -138,9 +168,9 @@ module _ {choice : Choice} {words choices tokens input memo : List ℕ} {A place
   unfolding select
   select-none e = rw e
 
-  pub start-rule : {at : ℕ} (k : Chosen at) {sign : Sign} → sign ≡ signAt words at
-      → InRule choice words input memo A place memo at sign agreement.Open
-  start-rule k {sign} s = rw (k .behind) (record {
+  pub start-rule : {at : ℕ} (k : Chosen at) {sign : Sign} {agreed : Agreement} → sign ≡ signAt words at → agreed ≡ openingBy sign (endAt choices A)
+      → InRule choice words input memo A place memo at sign agreed
+  start-rule k {sign} s o = rw (k .behind, o, g .given .ends A (g .named)) (record {
     rule = k .rule;
     listed = k .listed;
     heads = k .heads;

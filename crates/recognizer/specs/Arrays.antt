@@ -8,12 +8,16 @@ use Rattle.booleans.specs.Choice.{choose}
 use Rattle.grammar.specs.Limits.{maxNonterminals}
 use Rattle.recognizer.specs.declared.arrays.Arrays.{Arrays}
 
--- the columns of a row of choices, one for each element of lookahead; the last tells where the row of the memo table begins
+-- the columns of a row of choices, one for each element of lookahead; the last two tell the input's length, and where the row of the memo
+-- table begins
 abbrev pub choiceColumns : ℕ
 choiceColumns = 64
 
 abbrev pub rowColumn : ℕ
 rowColumn = choiceColumns - 1
+
+abbrev pub endColumn : ℕ
+endColumn = rowColumn - 1
 
 -- a row for each nonterminal
 abbrev pub choiceWords : ℕ
@@ -30,6 +34,7 @@ abbrev pub arrays : Arrays
 arrays = record {
   «choice_columns» = choiceColumns;
   «row_column» = rowColumn;
+  «end_column» = endColumn;
   choices = choiceWords;
   «end_mark» = endMark;
   element = elementWeight;
@@ -46,6 +51,10 @@ matchesAt tokens place a = eqb (getD tokens place 0 % elementWeight) a
 -- where the row of a nonterminal begins in the memo table
 unfoldable pub rowAt : List ℕ → ℕ → ℕ
 rowAt choices A = getD choices (A * choiceColumns + rowColumn) 0
+
+-- the input's length, in the row of a nonterminal
+unfoldable pub endAt : List ℕ → ℕ → ℕ
+endAt choices A = getD choices (A * choiceColumns + endColumn) 0
 
 -- where the first conjunct stands of the rule for a nonterminal and the element of lookahead at a place, or 0
 unfoldable pub firstAt : (choices tokens : List ℕ) (A place : ℕ) → ℕ

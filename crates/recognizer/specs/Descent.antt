@@ -30,7 +30,7 @@ use Rattle.semantics.specs.MemoDescent.{memoized, memoRun, memoCall}
 use Rattle.rule.specs.declared.Outcome as code
 use Rattle.rule.specs.Rule.{meant}
 use Rattle.recognizer.specs.declared.descent.Run.{Run}
-use Rattle.recognizer.specs.Arrays.{rowColumn, endMark, elementWeight, held, rowAt, firstAt}
+use Rattle.recognizer.specs.Arrays.{rowColumn, endMark, elementWeight, held, rowAt, endAt, firstAt}
 
 -- where the first conjunct stands of a rule by its number, or 0
 abbrev pub firstConjunct : List ℕ → Option ℕ → ℕ
@@ -44,6 +44,9 @@ pub record TokenGiven (tokens : List ℕ) (place : ℕ) : Type 0 where
 pub record EntryGiven (choices : List ℕ) (A : ℕ) : Type 0 where
   pub named : A < maxNonterminals
   pub low : rowAt choices A < maxMemoEntries
+
+pub record EndGiven (choices : List ℕ) (A : ℕ) : Type 0 where
+  pub named : A < maxNonterminals
 
 pub record ChosenGiven (choices tokens : List ℕ) (A place : ℕ) : Type 0 where
   pub named : A < maxNonterminals
@@ -76,6 +79,7 @@ pub record ArraysGiven (choice : Choice) (words choices tokens input memo : List
   pub free : NoLeftRecursion (grammarOf words)
   pub own : OwnRules (grammarOf words) choice
   pub rows : (A : ℕ) → A < grammarOf words .nonterminals → rowAt choices A ≡ A * suc (length input)
+  pub ends : (A : ℕ) → A < grammarOf words .nonterminals → endAt choices A ≡ length input
   pub elements : (i : ℕ) → i ≤ length input → getD tokens i 0 / elementWeight < rowColumn
   pub firsts : (A i : ℕ) → A < grammarOf words .nonterminals → i ≤ length input → firstAt choices tokens A i ≡ firstConjunct words (choice A i)
   pub terminals : (i : ℕ) → i < length input → getD tokens i 0 % elementWeight ≡ getD input i 0

@@ -14,7 +14,7 @@ use Rattle.grammar.specs.Starts.{ruleStarts}
 use Rattle.grammar.specs.declared.reading.Sizes.{Sizes}
 use Rattle.grammar.specs.declared.reading.Outcome.the-variants.{Read}
 use Rattle.table.specs.Layout.{columns, entryAt}
-use Rattle.recognizer.specs.Arrays.{endMark, elementWeight, choiceColumns, choiceWords, rowAt}
+use Rattle.recognizer.specs.Arrays.{endMark, elementWeight, choiceColumns, choiceWords, rowAt, endAt}
 
 -- a terminal's element of lookahead is its number (so it stands in the word twice), and that of the end comes behind those of the n terminals
 unfoldable pub tokenWords : ℕ → List ℕ → List ℕ
@@ -43,6 +43,7 @@ Entries G table = (A c : ℕ) → A < G .nonterminals → c < columns G → getD
 pub record ChoicesGiven (words : List ℕ) (z : Sizes) (entries : List ℕ) (places : ℕ) : Type 0 where
   pub read : reading words ≡ Read z
   pub table : Entries (grammarOf words) entries
+  pub some-place : 0 < places
   pub few : places ≤ maxPlaces
 
 pub record RowGiven (starts entries : List ℕ) (z : Sizes) (A places : ℕ) (choices : List ℕ) : Type 0 where
@@ -50,6 +51,7 @@ pub record RowGiven (starts entries : List ℕ) (z : Sizes) (A places : ℕ) (ch
   pub named : A < z .nonterminals
   pub fewNonterminals : z .nonterminals ≤ maxNonterminals
   pub fewTerminals : z .terminals ≤ maxTerminals
+  pub some-place : 0 < places
   pub few : places ≤ maxPlaces
   pub firsts : (c : ℕ) → c < z .terminals + 1 → FirstGiven starts (entryOf z entries A c)
 
@@ -59,8 +61,10 @@ pub record RowFilled (starts entries : List ℕ) (z : Sizes) (A places : ℕ) (b
   pub kept : (x : ℕ) → x < A * choiceColumns → getD after x 0 ≡ getD before x 0
   pub columns : (c : ℕ) → c < z .terminals + 1 → getD after (A * choiceColumns + c) 0 ≡ firstWord starts (entryOf z entries A c)
   pub row : rowAt after A ≡ A * places
+  pub end : endAt after A ≡ places - 1
 
 pub record Filled (words entries : List ℕ) (z : Sizes) (places : ℕ) (choices : List ℕ) : Type 0 where
   pub columns : (A c : ℕ) → A < z .nonterminals → c < z .terminals + 1
       → getD choices (A * choiceColumns + c) 0 ≡ firstWord (ruleStarts words) (entryOf z entries A c)
   pub rows : (A : ℕ) → A < z .nonterminals → rowAt choices A ≡ A * places
+  pub ends : (A : ℕ) → A < z .nonterminals → endAt choices A ≡ places - 1

@@ -30,7 +30,8 @@ use Rattle.table.specs.Layout.{tableWords}
 use Rattle.recognizer.specs.Memory.{lentBack, memoWords}
 use Rattle.recognizer.specs.Answers.{checkFault, judgeFault, callsOf, verdictOf, passedNumbers, verdictNumbers}
 
--- a grammar that passes (document 01: a passed card): at most 2,048 words that encode a well-formed grammar within the limits, not left-recursive, and no entry is claimed by two rules
+-- a grammar that passes (document 01: a passed card): at most 2,048 words that encode a well-formed grammar within the limits, not
+-- left-recursive, and without a clash: no entry is claimed by two rules, and only the end can follow a rule without positives
 pub record PassedGrammar (words : List ℕ) : Type 0 where
   pub short : length words ≤ maxWords
   pub grammar : Grammar
@@ -53,7 +54,7 @@ pub record LowestRecursive (G : Grammar) (A : ℕ) : Type 0 where
   pub reaches : LeftReaches G A A
   pub lowest : (B : ℕ) → B < A → LeftReaches G B B → ⊥
 
--- the first entry that two rules claim, by nonterminal, then column (document 01: the place of 9)
+-- the first clash, by nonterminal, then column (document 01: the place of 9)
 pub record FirstClash (G : Grammar) (A c : ℕ) : Type 0 where
   pub string : List ℕ
   pub clash : Clash G 1 (First G 1) (Follow G 1) A string

@@ -4,10 +4,12 @@ ghost use Rattle.recognizer.specs.Arrays.{arrays};
 use grammar::limits::NONTERMINALS;
 
 // A row of choices for each nonterminal: where the first conjunct stands of the rule to run for each element of lookahead, 0 for
-// none, and in the last column where its row of the memo table begins.
+// none; in the last columns the input's length, and where the row of the memo table begins.
 pub(crate) const CHOICE_COLUMNS: usize = 64;
 
 pub(crate) const ROW_COLUMN: usize = CHOICE_COLUMNS - 1;
+
+pub(crate) const END_COLUMN: usize = ROW_COLUMN - 1;
 
 pub(crate) const CHOICES: usize = (NONTERMINALS as usize) * CHOICE_COLUMNS;
 
@@ -19,6 +21,7 @@ pub(crate) const ELEMENT: u32 = END_MARK + 1;
 pub struct Arrays {
     pub choice_columns: usize,
     pub row_column: usize,
+    pub end_column: usize,
     pub choices: usize,
     pub end_mark: u32,
     pub element: u32,
@@ -31,6 +34,7 @@ pub fn all() -> Arrays
     Arrays {
         choice_columns: CHOICE_COLUMNS,
         row_column: ROW_COLUMN,
+        end_column: END_COLUMN,
         choices: CHOICES,
         end_mark: END_MARK,
         element: ELEMENT,

@@ -3,21 +3,24 @@ ghost use mathlib.Core.Path.{_≡_};
 ghost use Prim.Native.Nat.{_+_, _≤_};
 ghost use lib.ListN.{length};
 ghost use Rattle.semantics.specs.Memo.{encode, decode as decodedEntry};
-ghost use Rattle.rule.specs.Rule.{meant};
-ghost use Rattle.recognizer.specs.Arrays.{rowAt, firstAt, matchesAt};
-ghost use Rattle.recognizer.specs.Descent.{BodyEnd, TokenGiven, EntryGiven, ChosenGiven, CallRequires, CallEnsures, RunRequires, RunEnsures};
+ghost use Rattle.rule.specs.Rule.{meant, openingBy};
+ghost use Rattle.recognizer.specs.Arrays.{rowAt, endAt, firstAt, matchesAt};
+ghost use Rattle.recognizer.specs.Descent.{BodyEnd, TokenGiven, EntryGiven, EndGiven, ChosenGiven, CallRequires, CallEnsures, RunRequires, RunEnsures};
 use super::arrays::CHOICE_COLUMNS;
 use super::arrays::CHOICES;
 use super::arrays::ELEMENT;
+use super::arrays::END_COLUMN;
 use super::arrays::ROW_COLUMN;
 use grammar::codes::FAILED;
 use grammar::codes::UNCALLED;
 use grammar::limits::PLACES;
 use rule::Agreement;
 use rule::Outcome;
+use rule::Sign;
 use rule::conclude;
 use rule::goes_on;
 use rule::joined;
+use rule::opening;
 use rule::sign_at;
 use word::Symbol;
 use word::Word;
@@ -71,6 +74,14 @@ fn chosen(choices: &[u16; CHOICES], tokens: &[u16; PLACES], nonterminal: usize, 
 {
     let element = tokens[place as usize] as usize / WEIGHT;
     choices[nonterminal * CHOICE_COLUMNS + element] as usize
+}
+
+// Where the bodies of a rule agree to end before the first has run, by what its first conjunct is.
+fn first_agreement(choices: &[u16; CHOICES], nonterminal: usize, sign: Sign) -> Agreement
+    requires { ⌜ EndGiven (now choices) nonterminal ⌝ }
+    ensures { λ r. ⌜ r ≡ openingBy sign (endAt (now (choices .entry)) nonterminal) ⌝ }
+{
+    opening(sign, choices[nonterminal * CHOICE_COLUMNS + END_COLUMN])
 }
 
 // An outcome as an entry of the memo table, and back.
@@ -168,7 +179,7 @@ pub(crate) fn call(
         return Outcome::Failed;
     }
     let mut sign = sign_at(words, at);
-    let mut agreement = Agreement::Open;
+    let mut agreement = first_agreement(choices, nonterminal, sign);
     while goes_on(sign, agreement) {
         let run = run_body(nonterminal, words, choices, tokens, memo, at + 1, place);
         let outcome = run.outcome;

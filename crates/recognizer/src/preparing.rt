@@ -4,6 +4,7 @@ ghost use Rattle.recognizer.specs.Preparing.{firstWord, tokenWords, Firs
 use super::arrays::CHOICE_COLUMNS;
 use super::arrays::CHOICES;
 use super::arrays::ELEMENT;
+use super::arrays::END_COLUMN;
 use super::arrays::END_MARK;
 use super::arrays::ROW_COLUMN;
 use grammar::codes::NO_ENTRY;
@@ -63,6 +64,7 @@ fn fill_row(
         choices[to + column] = first_conjunct(starts, entries[from + column]);
         column = column + 1;
     }
+    choices[to + END_COLUMN] = (places - 1) as u16;
     choices[to + ROW_COLUMN] = (nonterminal * places) as u16;
 }
 

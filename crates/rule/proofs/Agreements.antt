@@ -1,5 +1,5 @@
 -- An agreement with one body more: it is open no more, and its end is no farther than the bodies' ends.
-use mathlib.Core.Path.{_≡_, refl, ap}
+use mathlib.Core.Path.{_≡_, refl, sym, ap, _∙_}
 use mathlib.Core.Bool.{Bool, true, false, false≢true}
 use Prim.Native.Nat.{ℕ, _≤_}
 use native.Mathlib.Omega.{arith}
@@ -10,7 +10,7 @@ use Rattle.rule.specs.declared.Sign.{Sign}
 use Rattle.rule.specs.declared.Sign.the-variants.{Positive, Negative, Neither}
 use Rattle.rule.specs.declared.Agreement.{Agreement}
 use Rattle.rule.specs.declared.Agreement.the-variants.{Open, At, Failed}
-use Rattle.rule.specs.Rule.{goesOn, joinedBy}
+use Rattle.rule.specs.Rule.{openingBy, goesOn, joinedBy}
 
 -- agreements are told apart by a number
 abbrev agreementNumber : Agreement → ℕ
@@ -20,6 +20,15 @@ agreementNumber Failed = 2
 
 agreement-number : {a b : Agreement} → a ≡ b → agreementNumber a ≡ agreementNumber b
 agreement-number e = ap agreementNumber e
+
+-- before the first body
+pub opening-ends : (s : Sign) (n e : ℕ) → openingBy s n ≡ At e → e ≤ n
+opening-ends Positive n e q = absurd (omega (arith, agreement-number q))
+opening-ends Negative n e q = let z : n ≡ e = cc in omega arith
+opening-ends Neither n e q = absurd (omega (arith, agreement-number q))
+
+pub opening-open : (s : Sign) (n : ℕ) → openingBy s n ≡ Open → s ≡ Negative → ⊥
+opening-open s n q e = omega (arith, agreement-number (sym (ap (λ t. openingBy t n) e) ∙ q))
 
 -- an agreement that is joined to is open no more, and ends where the body or the bodies before it did
 pub opens-no-more : (s : Sign) (g : Agreement) (o : semantics.Outcome) → goesOn s g ≡ true → joinedBy s g o ≡ Open → ⊥

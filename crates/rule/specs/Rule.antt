@@ -45,6 +45,12 @@ goesOn s Open = beginsBody s
 goesOn s (At e) = beginsBody s
 goesOn s Failed = false
 
+-- before the first body: a rule that begins with a negative conjunct has no positive one, and takes all up to the input's end
+abbrev pub openingBy : Sign → ℕ → Agreement
+openingBy Positive end = Open
+openingBy Negative end = At end
+openingBy Neither end = Open
+
 -- the first body sets the end
 abbrev pub openedBy : semantics.Outcome → Agreement
 openedBy semantics.Failed = Failed

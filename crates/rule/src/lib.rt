@@ -1,7 +1,7 @@
 // The bodies of a rule, run one after the other: what a word begins, and how the bodies come to agree on an end.
 ghost use mathlib.Core.Path.{_≡_};
 ghost use Rattle.semantics.specs.Descent.{endsAt};
-ghost use Rattle.rule.specs.Rule.{meant, signOf, signAt, beginsBody, goesOn, openedBy, keptBy, joinedBy, concluded};
+ghost use Rattle.rule.specs.Rule.{meant, signOf, signAt, beginsBody, goesOn, openingBy, openedBy, keptBy, joinedBy, concluded};
 use word::Word;
 use word::decode;
 
@@ -79,6 +79,17 @@ pub fn ends_at(outcome: Outcome, place: u16) -> bool
     match outcome {
         Outcome::Failed => false,
         Outcome::End(end) => end == place,
+    }
+}
+
+// Before the first body: a rule that begins with a negative conjunct has no positive one, and takes all up to the input's end.
+pub fn opening(sign: Sign, end: u16) -> Agreement
+    ensures { λ r. ⌜ r ≡ openingBy sign end ⌝ }
+{
+    match sign {
+        Sign::Positive => Agreement::Open,
+        Sign::Negative => Agreement::At(end),
+        Sign::Neither => Agreement::Open,
     }
 }
 

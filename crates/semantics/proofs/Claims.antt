@@ -1,5 +1,5 @@
 -- The computed claims are the ones defined, clashes are decided, and without clash the table has exactly the claiming rules.
-use mathlib.Core.Bool.{not, _&&_, _||_}
+use mathlib.Core.Bool.{Bool, true, not, _&&_, _||_}
 use mathlib.Core.List.{List, [], _∷_, List·Memᴰ, List·Memᴰ·head, List·Memᴰ·not-nil, Memᴰ·cast}
 use mathlib.Core.Logic.{_↔_, _⊎_, inl, inr}
 use mathlib.Core.Option.{Option, none, some}
@@ -7,19 +7,27 @@ use mathlib.Core.Path.{_≡_, refl, sym, ap, subst}
 use Prim.Native.Nat.{ℕ, _<_}
 use native.Mathlib.Decide.{decLt}
 use native.Mathlib.Omega.{arith}
-use lib.Dec.{T, eqb, ltb, eqb→eq, eqb-refl, ltb→lt, lt→ltb}
+use lib.ListN.{length}
+use lib.Dec.{T, T-not, not-T, eqb, ltb, eqb→eq, eqb-refl, ltb→lt, lt→ltb}
 use Rattle.grammar.specs.Syntax.{Body, Rule, Grammar}
-use Rattle.booleans.specs.Quantifiers.{allOf}
-use Rattle.semantics.specs.Families.{Claims, Clash, TableRight, EveryEnds}
+use Rattle.booleans.specs.Quantifiers.{anyOf, allOf}
+use Rattle.semantics.specs.Families.{Claims, Overlap, Overrun, Clash, TableRight, EveryEnds}
 use Rattle.semantics.specs.FirstFollow.{strings, sameString, Entry, entries, firstSets, firstRule, First, followSets, Follow}
-use Rattle.semantics.specs.Claims.{meeting, claimed, claims, clashes, tableOf, without, everyEnds}
-use Rattle.booleans.proofs.Booleans.{and-l, and-r, and-make, or-cases}
-use Rattle.booleans.proofs.Quantified.{all-elim, all-make}
+use Rattle.semantics.specs.Claims.{several, meeting, claimed, claims, overruns, clashes, tableOf, without, everyEnds}
+use Rattle.booleans.proofs.Booleans.{and-l, and-r, and-make, or-cases, or-l, or-r}
+use Rattle.booleans.proofs.Quantified.{any-elim, any-make, all-elim, all-make}
 use Rattle.semantics.proofs.FiniteSets.{member-mem, mem-member, keep-make, keep-elim}
 use Rattle.semantics.proofs.LookaheadSets.{strings-equality, strings-make, strings-elim, entries-make, concat-make, concat-elim, cut-lookahead}
 use Rattle.semantics.proofs.First.{In, firstBody-mono, firstRule-make, firstRule-elim, in-first, first-in}
 use Rattle.semantics.proofs.Follow.{follow-lookahead, in-follow, follow-in}
 use Rattle.semantics.proofs.Positions.{PassesAt, several-elim, several-make, position-some, position-none}
+
+none-without : (l : List Body) → T (without l) → l ≡ []
+none-without [] t = refl
+none-without (b ∷ l) t = absurd t
+
+cons-nil : (a : ℕ) (y : List ℕ) → a ∷ y ≡ [] → ⊥
+cons-nil a y e = let n = ap length e in omega arith
 
 module _ (G : Grammar) (k : ℕ) where
   -- rule q claims the string for A, by FIRST_k and FOLLOW_k of the grammar
@@ -67,20 +75,73 @@ module _ (G : Grammar) (k : ℕ) where
       let l = follow-lookahead G k A (c .behind) (c .follows) in
       entries-make G k A x (l .0) (rw (c .makes) (cut-lookahead k (G .terminals) (c .begins) (c .behind) (c .lookahead .1) (l .1 .1)))
 
-  -- the clashes are the entries that two different rules claim
+  -- a nonterminal that overruns is found, and its entry is one of the grammar
+  overruns-elim : (A : ℕ) → T (overruns G k A) → Overrun G (Follow G k) A
+  unfolding overruns
+  overruns-elim A t =
+      let alone : Rule → Bool = λ r. eqb (r .head) A && without (r .positives) in
+      let more : List ℕ → Bool = λ y. not (sameString [] y) in
+      let r = any-elim alone (G .rules) (and-l (anyOf alone (G .rules)) (anyOf more (followSets G k A)) t) in
+      let y = any-elim more (followSets G k A) (and-r (anyOf alone (G .rules)) (anyOf more (followSets G k A)) t) in
+      record {
+        rule = r .0;
+        listed = r .1;
+        heads = eqb→eq (r .0 .head) A (and-l (eqb (r .0 .head) A) _ (r .2));
+        alone = none-without (r .0 .positives) (and-r (eqb (r .0 .head) A) _ (r .2));
+        behind = y .0;
+        follows = follow-in G k A (y .0) (y .1);
+        more = λ e. T-not (sameString [] (y .0)) (y .2) (rw e (strings-equality .itself []));
+      }
+
+  overruns-make : (A : ℕ) → Overrun G (Follow G k) A → T (overruns G k A)
+  unfolding overruns
+  overruns-make A o =
+      and-make (anyOf (λ r. eqb (r .head) A && without (r .positives)) (G .rules)) (anyOf (λ y. not (sameString [] y)) (followSets G k A))
+      (any-make (λ r. eqb (r .head) A && without (r .positives)) (G .rules) (o .rule) (o .listed)
+      (and-make (eqb (o .rule .head) A) (without (o .rule .positives)) (rw (o .heads) (eqb-refl A)) (rw (o .alone) tt)))
+      (any-make (λ y. not (sameString [] y)) (followSets G k A) (o .behind) (in-follow G k A (o .behind) (o .follows))
+      (not-T (sameString [] (o .behind)) (λ t. o .more (sym (strings-equality .equal [] (o .behind) t)))))
+
+  overrun-entry : (A : ℕ) → Overrun G (Follow G k) A → List·Memᴰ (A, 0 ∷ []) (entries G k)
+  unfolding allOf
+  overrun-entry A o = go (o .behind) refl
+    where
+      go : (y : List ℕ) → o .behind ≡ y → List·Memᴰ (A, 0 ∷ []) (entries G k)
+      go [] e = absurd (o .more e)
+      go (a ∷ y) e =
+          let l = follow-lookahead G k A (a ∷ y) (rw (← e) (o .follows)) in
+          let letters : 0 < G .terminals = omega (arith, ltb→lt a (G .terminals) (and-l (ltb a (G .terminals)) _ (l .1 .1))) in
+          entries-make G k A (0 ∷ []) (l .0) (omega (arith, l .1 .0), and-make (ltb 0 (G .terminals)) true (lt→ltb 0 (G .terminals) letters) tt)
+
+  -- the clashes are the entries that two different rules claim, and those of the nonterminals that overrun
   pub clashes-elim : (A : ℕ) (x : List ℕ) → List·Memᴰ (A, x) (clashes G k) → ClashAt A x
   unfolding clashes
-  clashes-elim A x m =
-      let r = several-elim (claims G k (A, x)) (G .rules) (keep-elim _ (entries G k) (A, x) m .1) in
-      record { one = r .0; other = r .1; different = r .2; claimsOne = claims-elim (r .0) A x (r .3); claimsOther = claims-elim (r .1) A x (r .4) }
+  clashes-elim A x m = go (or-cases (several (claims G k (A, x)) (G .rules)) _ (keep-elim _ (entries G k) (A, x) m .1))
+    where
+      go : T (several (claims G k (A, x)) (G .rules)) ⊎ T (overruns G k A && sameString (0 ∷ []) x) → ClashAt A x
+      go (inl t) =
+          let r = several-elim (claims G k (A, x)) (G .rules) t in
+          inl (record { one = r .0; other = r .1; different = r .2; claimsOne = claims-elim (r .0) A x (r .3); claimsOther = claims-elim (r .1) A x (r .4) })
+      go (inr t) =
+          inr (overruns-elim A (and-l (overruns G k A) _ t), sym (strings-equality .equal (0 ∷ []) x (and-r (overruns G k A) _ t)))
 
-  pub clashes-make : (A : ℕ) (x : List ℕ) → ClashAt A x → List·Memᴰ (A, x) (clashes G k)
+  overlap-clash : (A : ℕ) (x : List ℕ) → Overlap G k (First G k) (Follow G k) A x → List·Memᴰ (A, x) (clashes G k)
   unfolding clashes
-  clashes-make A x c =
+  overlap-clash A x c =
       let one = claims-make (c .one) A x (c .claimsOne) in
       let other = claims-make (c .other) A x (c .claimsOther) in
       keep-make _ (entries G k) (A, x) (claims-entry (c .one) A x (c .claimsOne))
-      (several-make (claims G k (A, x)) (G .rules) (c .one) (c .other) (c .different) one other)
+      (or-l (several (claims G k (A, x)) (G .rules)) (overruns G k A && sameString (0 ∷ []) x) (several-make (claims G k (A, x)) (G .rules) (c .one) (c .other) (c .different) one other))
+
+  overrun-clash : (A : ℕ) → Overrun G (Follow G k) A → List·Memᴰ (A, 0 ∷ []) (clashes G k)
+  unfolding clashes
+  overrun-clash A o =
+      keep-make _ (entries G k) (A, 0 ∷ []) (overrun-entry A o)
+      (or-r (several (claims G k (A, 0 ∷ [])) (G .rules)) (overruns G k A && sameString (0 ∷ []) (0 ∷ [])) (and-make (overruns G k A) (sameString (0 ∷ []) (0 ∷ [])) (overruns-make A o) (strings-equality .itself (0 ∷ []))))
+
+  pub clashes-make : (A : ℕ) (x : List ℕ) → ClashAt A x → List·Memᴰ (A, x) (clashes G k)
+  clashes-make A x (inl c) = overlap-clash A x c
+  clashes-make A x (inr o) = subst (λ y. List·Memᴰ (A, y) (clashes G k)) (sym (o .1)) (overrun-clash A (o .0))
 
   -- no rule claims an entry that the table lacks
   pub table-none : (A : ℕ) (x : List ℕ) → (tableOf G k A x ≡ none) ↔ ((q : ℕ) → ClaimsAt q A x → ⊥)
@@ -99,12 +160,21 @@ module _ (G : Grammar) (k : ℕ) where
     no-clash : (A : ℕ) (x : List ℕ) → ClashAt A x → ⊥
     no-clash A x c = List·Memᴰ·not-nil (rw free at (clashes-make A x c))
 
+    -- so nothing but the end follows a rule without positive bodies
+    pub clashless-ends : 0 < k → EveryEnds G k (Follow G k)
+    clashless-ends token r m e = (token, ends)
+      where
+        ends : (y : List ℕ) → Follow G k (r .head) y → y ≡ []
+        ends [] f = refl
+        ends (a ∷ y) f =
+            absurd (no-clash (r .head) (0 ∷ []) (inr (record { rule = r; listed = m; heads = refl; alone = e; behind = a ∷ y; follows = f; more = cons-nil a y }, refl)))
+
     claims-once : (q q′ A : ℕ) (x : List ℕ) → ClaimsAt q A x → ClaimsAt q′ A x → q ≡ q′
     claims-once q q′ A x c d = go (decLt q q′) (decLt q′ q)
       where
         go : Dec (q < q′) → Dec (q′ < q) → q ≡ q′
-        go (yes l) m = absurd (no-clash A x (record { one = q; other = q′; different = l; claimsOne = c; claimsOther = d }))
-        go (no l) (yes m) = absurd (no-clash A x (record { one = q′; other = q; different = m; claimsOne = d; claimsOther = c }))
+        go (yes l) m = absurd (no-clash A x (inl (record { one = q; other = q′; different = l; claimsOne = c; claimsOther = d })))
+        go (no l) (yes m) = absurd (no-clash A x (inl (record { one = q′; other = q; different = m; claimsOne = d; claimsOther = c })))
         go (no l) (no m) = omega arith
 
     -- without clash each entry of the table is exactly the rule that claims it

@@ -1,5 +1,5 @@
 -- Lists in order, and the order of the entries for one token of lookahead: by nonterminal, then by column.
-use mathlib.Core.Bool.{Bool, true, false}
+use mathlib.Core.Bool.{Bool, true, false, _&&_, _||_}
 use mathlib.Core.List.{List, [], _∷_, _++_, map, List·Memᴰ, List·Memᴰ·head, List·Memᴰ·tail, List·Memᴰ·cases-cons, List·Memᴰ·eq-of-singleton}
 use mathlib.Core.List.{List·Memᴰ·not-nil, Memᴰ·of-map, List·Memᴰ·append-cases}
 use mathlib.Core.Logic.{_⊎_, inl, inr}
@@ -9,8 +9,8 @@ use native.Mathlib.Omega.{arith}
 use Rattle.grammar.specs.Syntax.{Grammar}
 use Rattle.semantics.specs.FiniteSets.{keep, numbersFrom, numbers, combine}
 use Rattle.semantics.specs.Families.{Clash}
-use Rattle.semantics.specs.FirstFollow.{strings, Entry, entries, First, Follow}
-use Rattle.semantics.specs.Claims.{several, claims, clashes, column}
+use Rattle.semantics.specs.FirstFollow.{strings, sameString, Entry, entries, First, Follow}
+use Rattle.semantics.specs.Claims.{several, claims, overruns, clashes, column}
 use Rattle.semantics.proofs.FiniteSets.{keep-elim, numbers-elim, combine-elim}
 use Rattle.semantics.proofs.Distinct.{from-above}
 use Rattle.semantics.proofs.Claims.{clashes-make}
@@ -107,7 +107,7 @@ first-clash G A x l e B y c = go (List·Memᴰ·cases-cons (rw e at (clashes-mak
     n = G .terminals
 
     ordered : Ordered (Before n) ((A, x) ∷ l)
-    ordered = rw e at (ordered-keep (Before n) (λ d. several (claims G 1 d) (G .rules)) (entries G 1)
+    ordered = rw e at (ordered-keep (Before n) (λ d. several (claims G 1 d) (G .rules) || (overruns G 1 (d .0) && sameString (0 ∷ []) (d .1))) (entries G 1)
         (rows-ordered n (numbers (G .nonterminals)) (strings 1 n) (numbersFrom-ordered 0 (G .nonterminals)) (columns-ordered n)))
 
     go : _≡_ {A = Entry} (B, y) (A, x) ⊎ List·Memᴰ (B, y) l → Before n (A, x) (B, y)

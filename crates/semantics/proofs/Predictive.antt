@@ -13,7 +13,7 @@ use Rattle.semantics.specs.Predictive.{Guides, Predictive}
 use Rattle.semantics.proofs.LeftRecursion.{lowestLeftRecursive-none}
 use Rattle.semantics.proofs.First.{first-closed}
 use Rattle.semantics.proofs.Follow.{follow-closed}
-use Rattle.semantics.proofs.Claims.{table-claims, table-right, everyEnds-elim, everyEnds-make}
+use Rattle.semantics.proofs.Claims.{table-claims, table-right, clashless-ends, everyEnds-elim, everyEnds-make}
 
 -- each entry of the computed table is the number of a rule of its nonterminal
 pub table-own : (G : Grammar) (k : ℕ) → OwnEntries G (tableOf G k)
@@ -29,19 +29,19 @@ own-guides G k p = record {
 }
 
 -- k tokens are enough for a well-formed grammar in which nothing is left-recursive and nothing clashes
-pub predictive-passed : (G : Grammar) (k : ℕ) → WellFormed G → 0 < G .nonterminals → lowestLeftRecursive G ≡ none → clashes G k ≡ [] → Predictive G k
-predictive-passed G k formed start lowest clash = record {
+pub predictive-passed : (G : Grammar) (k : ℕ) → 0 < k → WellFormed G → 0 < G .nonterminals → lowestLeftRecursive G ≡ none → clashes G k ≡ [] → Predictive G k
+predictive-passed G k token formed start lowest clash = record {
   scoped = formed .scoped;
   terminals = formed .terminals;
   start = start;
   unrecursive = lowestLeftRecursive-none G (formed .scoped) .0 lowest;
   clashless = clash;
-  ends = everyEnds-make G k (λ r m e. absurd (formed .positive r m e));
+  ends = everyEnds-make G k (clashless-ends G k clash token);
 }
 
 -- and for no other well-formed grammar
-pub passed-iff : (G : Grammar) (k : ℕ) → WellFormed G → 0 < G .nonterminals → ((lowestLeftRecursive G ≡ none) × (clashes G k ≡ [])) ↔ Predictive G k
-passed-iff G k formed start = (
-  λ h. predictive-passed G k formed start (h .0) (h .1),
+pub passed-iff : (G : Grammar) (k : ℕ) → 0 < k → WellFormed G → 0 < G .nonterminals → ((lowestLeftRecursive G ≡ none) × (clashes G k ≡ [])) ↔ Predictive G k
+passed-iff G k token formed start = (
+  λ h. predictive-passed G k token formed start (h .0) (h .1),
   λ p. (lowestLeftRecursive-none G (p .scoped) .1 (p .unrecursive), p .clashless),
 )

@@ -32,9 +32,18 @@ claimed G k r = concatStrings k (meeting G k r) (followSets G k (r .head))
 unfoldable pub claims : Grammar → ℕ → Entry → Rule → Bool
 claims G k e r = eqb (r .head) (e .0) && member sameString (claimed G k r) (e .1)
 
--- the entries that two rules claim, by nonterminal, then in the order of `strings` (document 01, k = 1: by name, then column)
+abbrev pub without : List Body → Bool
+without [] = true
+without (b ∷ l) = false
+
+-- a nonterminal with a rule without positives that more than the end can follow
+unfoldable pub overruns : Grammar → ℕ → ℕ → Bool
+overruns G k A = anyOf (λ r. eqb (r .head) A && without (r .positives)) (G .rules) && anyOf (λ y. not (sameString [] y)) (followSets G k A)
+
+-- the entries that two rules claim, and for such a nonterminal that of the first terminal, by nonterminal, then in the order of `strings`
+-- (document 01, k = 1: by name, then column)
 unfoldable pub clashes : Grammar → ℕ → List Entry
-clashes G k = keep (λ e. several (claims G k e) (G .rules)) (entries G k)
+clashes G k = keep (λ e. several (claims G k e) (G .rules) || (overruns G k (e .0) && sameString (0 ∷ []) (e .1))) (entries G k)
 
 -- where an entry stands in its row of n terminals, for one token of lookahead: the terminals in order, then the end (document 01: the column)
 abbrev pub column : ℕ → List ℕ → ℕ
@@ -44,10 +53,6 @@ column n (a ∷ x) = a
 -- the number of the first rule that claims an entry; where nothing clashes it is the only one
 unfoldable pub tableOf : Grammar → ℕ → Table
 tableOf G k A x = position (claims G k (A, x)) (G .rules)
-
-abbrev pub without : List Body → Bool
-without [] = true
-without (b ∷ l) = false
 
 -- a head of a rule without positives is followed by the end alone
 unfoldable pub everyEnds : Grammar → ℕ → Bool

@@ -90,12 +90,26 @@ pub record Claims (G : Grammar) (k : ℕ) (F L : Family) (q A : ℕ) (x : List �
   pub makes : x ≡ take k (begins ++ behind)
 
 -- two different rules claim one entry; rules differ by their numbers (document 01: two rules claim a cell)
-pub record Clash (G : Grammar) (k : ℕ) (F L : Family) (A : ℕ) (x : List ℕ) : Type 0 where
+pub record Overlap (G : Grammar) (k : ℕ) (F L : Family) (A : ℕ) (x : List ℕ) : Type 0 where
   pub one : ℕ
   pub other : ℕ
   pub different : one < other
   pub claimsOne : Claims G k F L one A x
   pub claimsOther : Claims G k F L other A x
+
+-- a rule of A without positive bodies takes all that is left, yet more than the end can follow A
+pub record Overrun (G : Grammar) (L : Family) (A : ℕ) : Type 0 where
+  pub rule : Rule
+  pub listed : List·Memᴰ rule (G .rules)
+  pub heads : rule .head ≡ A
+  pub alone : rule .positives ≡ []
+  pub behind : List ℕ
+  pub follows : L A behind
+  pub more : behind ≡ [] → ⊥
+
+-- an overlap, or such a nonterminal, which is told as a clash in the entry of the first terminal
+abbrev pub Clash : Grammar → ℕ → Family → Family → ℕ → List ℕ → Type 0
+Clash G k F L A x = Overlap G k F L A x ⊎ (Overrun G L A × (x ≡ 0 ∷ []))
 
 -- the table has each rule wherever the rule claims an entry; of an entry that none claims it is only asked that a rule there be the nonterminal's own
 pub record TableRight (G : Grammar) (k : ℕ) (F L : Family) (t : Table) : Type 0 where

@@ -147,4 +147,4 @@ pub record Theorems : Type 1 where
       → (choice : Choice) → OwnRules G choice → (w : List ℕ) → EndsFit w → MemoRight G choice w
   -- the needs of 5 to 9 are met: the table's choice is of own rules, and of the well-formed grammars just those that pass are predictive
   pub own-rules : (G : Grammar) (k : ℕ) (w : List ℕ) → OwnRules G (tableChoice G k w)
-  pub passed : (G : Grammar) (k : ℕ) → WellFormed G → 0 < G .nonterminals → ((lowestLeftRecursive G ≡ none) × (clashes G k ≡ [])) ↔ Predictive G k
+  pub passed : (G : Grammar) (k : ℕ) → 0 < k → WellFormed G → 0 < G .nonterminals → ((lowestLeftRecursive G ≡ none) × (clashes G k ≡ [])) ↔ Predictive G k

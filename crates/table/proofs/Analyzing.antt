@@ -1,4 +1,4 @@
--- What is found of an encoded grammar, by its families, by the heads and the claims of its rules, and by the first conflict.
+-- What is found of an encoded grammar, by its families, by the heads and the claims of its rules, by the nonterminals that overrun, and by the first conflict.
 use mathlib.Core.Path.{_≡_, refl, sym, _∙_}
 use mathlib.Core.Bool.{Bool}
 use mathlib.Core.List.{List, [], _∷_}
@@ -11,7 +11,7 @@ use Rattle.answer.specs.declared.Error.the-variants as error
 use Rattle.answer.specs.Faults.{firstFault}
 use Rattle.answer.proofs.Faults.{first-nested}
 use Rattle.grammar.specs.Codes.{noEntry}
-use Rattle.grammar.specs.Encoding.{grammarOf}
+use Rattle.grammar.specs.Encoding.{parse, grammarOf}
 use Rattle.grammar.specs.Limits.{maxNonterminals, maxTerminals, maxRules, maxTableWords}
 use Rattle.grammar.specs.declared.reading.Sizes.{Sizes}
 use Rattle.grammar.specs.WellRead.{WellRead}
@@ -25,16 +25,19 @@ use Rattle.sets.specs.declared.Finding.the-variants.{Passed, Refused}
 use Rattle.sets.specs.Analysis.{setsFaults, setsFault}
 use Rattle.sets.specs.Lists.{listed}
 use Rattle.sets.specs.Sets.{numberOf, firstNumber, followNumber}
-use Rattle.sets.proofs.Lists.{listed-below}
+use Rattle.sets.proofs.Lists.{listed-is, listed-below}
 use Rattle.sets.proofs.Strings.{number-below}
+use Rattle.sets.proofs.NamedNonterminals.{word-indexed}
 use Rattle.sets.proofs.Findings.{FoundFamilies}
 use Rattle.table.specs.declared.conflicts.Conflict.{Conflict}
 use Rattle.table.specs.declared.conflicts.Conflict.the-variants as conflict
 use Rattle.table.specs.Claims.{claimsWith, claimsOf, FamiliesGiven, Headed, AllKept}
+use Rattle.table.specs.Overruns.{WordsIndexed, Overrunning}
 use Rattle.table.specs.Conflicts.{firstConflictOf, conflictOf}
 use Rattle.table.specs.Entries.{FitWords, Filled}
 use Rattle.table.specs.Analysis.{clashFault, fault, analysis, refusedBy, analyzed}
 use Rattle.table.proofs.Claimants.{heads-own}
+use Rattle.table.proofs.OverrunSets.{overruns-told}
 use Rattle.table.proofs.ConflictScan.{first-clash}
 use Rattle.table.proofs.TableFilled.{table-filled}
 
@@ -58,7 +61,7 @@ pub given : {words : List ℕ} {z : Sizes} {firsts follows : List ℕ} → Found
 given f = record { read = f .read; first = f .first; follow = f .follow }
 
 module _ (words : List ℕ) {x : Error} (q : setsFault words ≡ some x) where
-  pub refused-claims : {v : Finding} → v ≡ Refused x → claimsWith v (replicate maxRules 0) (replicate maxRules 0) ≡ claimsOf words
+  pub refused-claims : {v : Finding} → v ≡ Refused x → claimsWith v (replicate maxRules 0) (replicate maxRules 0) (replicate maxNonterminals 0) ≡ claimsOf words
   unfolding claimsOf
   refused-claims e = rw (e, q)
 
@@ -78,15 +81,18 @@ module _ {words : List ℕ} {z : Sizes} {firsts follows : List ℕ} (f : FoundFa
   known : WellRead words z
   known = well-read words z (f .read)
 
+  pub words-indexed : WordsIndexed words
+  words-indexed i h = word-indexed words (f .read) h refl
+
   pub few-terminals : z .terminals ≤ maxTerminals
   few-terminals = known .fewTerminals
 
 -- with the heads and the claims of all rules
 module _ {words : List ℕ} {z : Sizes} {firsts follows heads sets : List ℕ} (f : FoundFamilies words z firsts follows)
     (k : AllKept (grammarOf words) heads sets) where
-  pub all-claims : claimsWith (Passed z) heads sets ≡ claimsOf words
+  pub all-claims : {told : List ℕ} → Overrunning (parse words .rules) follows told → claimsWith (Passed z) heads sets told ≡ claimsOf words
   unfolding claimsOf
-  all-claims = rw (f .read, f .faultless, k .own, k .claims)
+  all-claims {told} o = rw (f .read, f .faultless, k .own, k .claims, listed-is maxNonterminals _ told (o .long) (overruns-told (given f) o))
 
   pub headed : Headed heads (z .rules) (z .nonterminals)
   headed = record {
@@ -98,11 +104,11 @@ module _ {words : List ℕ} {z : Sizes} {firsts follows heads sets : List ℕ} (
     allowed = known f .fewNonterminals;
   }
 
-  module _ {v : Conflict} (d : v ≡ conflictOf z heads sets) where
+  module _ {told : List ℕ} (o : Overrunning (parse words .rules) follows told) {v : Conflict} (d : v ≡ conflictOf z heads sets told) where
     clash : v ≡ firstConflictOf (column (grammarOf words .terminals)) (clashes (grammarOf words) 1)
     clash =
         (rw (known f .nonterminals, known f .terminals, known f .rules) at d)
-        ∙ first-clash (grammarOf words) (omega (arith, known f .terminals, known f .fewTerminals)) (k .own) (k .claims)
+        ∙ first-clash (grammarOf words) (omega (arith, known f .terminals, known f .fewTerminals)) told (k .own) (k .claims) (overruns-told (given f) o)
 
     pub analyzed-conflict : {n l : ℕ} → v ≡ conflict.At n l → refusedBy (error.Conflict n l) ≡ analyzed words
     unfolding analyzed

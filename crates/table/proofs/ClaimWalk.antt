@@ -128,14 +128,14 @@ module _ {words : List ℕ} {z : Sizes} {firsts follows : List ℕ} (g : Familie
   many : grammarOf words .nonterminals ≤ maxNonterminals
   many = omega (arith, known .fewNonterminals, known .nonterminals)
 
-  few : grammarOf words .terminals ≤ nothing
+  pub few : grammarOf words .terminals ≤ nothing
   few = omega (arith, known .fewTerminals, known .terminals)
 
   firsts-are : family firsts ≡ firstNumber (grammarOf words)
   unfolding firstNumber
   firsts-are = rw (g .first) (fun-ext (array-at (grammarOf words) few (first (grammarOf words) 1) (first-lookahead (grammarOf words) 1) many))
 
-  follow-is : (A : ℕ) → getD follows A 0 ≡ followNumber (grammarOf words) A
+  pub follow-is : (A : ℕ) → getD follows A 0 ≡ followNumber (grammarOf words) A
   unfolding followNumber
   follow-is A = rw (g .follow) (array-at (grammarOf words) few (follow (grammarOf words) 1) (follow-lookahead (grammarOf words) 1) many A)
 

@@ -1,6 +1,6 @@
 -- The rules are gone through from the last on: what each adds to the sets claimed once and twice.
 use mathlib.Core.Path.{_≡_, refl, sym, ap, ap₂, _∙_}
-use mathlib.Core.Bool.{Bool, false, _&&_, _||_, and-comm, or-comm}
+use mathlib.Core.Bool.{Bool, true, false, _&&_, _||_, and-comm, or-comm}
 use mathlib.Core.List.{List, [], _∷_}
 use Prim.Native.Nat.{ℕ, zero, suc, _-_, _≤_, _<_}
 use native.Mathlib.Decide.{ℕ-discrete}
@@ -19,23 +19,23 @@ use Rattle.table.specs.Conflicts.{Noted, Twice}
 use Rattle.table.proofs.Claimants.{claimant-own, claimant-other, numbers-before}
 
 -- these rules have been gone through
-pub record Noting (heads sets rules once twice : List ℕ) : Type 0 where
+pub record Noting (heads sets told rules once twice : List ℕ) : Type 0 where
   pub long : (length once ≡ maxNonterminals) × (length twice ≡ maxNonterminals)
   pub once-has : (A l : ℕ) → has (getD once A 0) l ≡ anyOf (claimant heads sets A l) rules
-  pub twice-has : (A l : ℕ) → has (getD twice A 0) l ≡ several (claimant heads sets A l) rules
+  pub twice-has : (A l : ℕ) → has (getD twice A 0) l ≡ (several (claimant heads sets A l) rules || has (getD told A 0) l)
 
-getD-zeros : (n i : ℕ) → _≡_ {A = ℕ} (getD (replicate n 0) i 0) 0
+pub getD-zeros : (n i : ℕ) → _≡_ {A = ℕ} (getD (replicate n 0) i 0) 0
 getD-zeros zero i = refl
 getD-zeros (suc n) zero = refl
 getD-zeros (suc n) (suc i) = getD-zeros n i
 
--- before the last rule nothing is claimed
-noting-none : (heads sets : List ℕ) → Noting heads sets [] (replicate maxNonterminals 0) (replicate maxNonterminals 0)
+-- behind the last rule nothing is claimed
+noting-none : (heads sets told : List ℕ) → length told ≡ maxNonterminals → Noting heads sets told [] (replicate maxNonterminals 0) told
 unfolding anyOf several
-noting-none heads sets = record {
-  long = (length-replicate {A = ℕ} maxNonterminals 0, length-replicate {A = ℕ} maxNonterminals 0);
+noting-none heads sets told long = record {
+  long = (length-replicate {A = ℕ} maxNonterminals 0, long);
   once-has = λ A l. rw (getD-zeros maxNonterminals A) (has-empty l);
-  twice-has = λ A l. rw (getD-zeros maxNonterminals A) (has-empty l);
+  twice-has = λ A l. refl;
 }
 
 -- a list whose first member does not pass
@@ -47,8 +47,14 @@ several-later : {X : Type 0} (p : X → Bool) (x : X) (l : List X) → p x ≡ f
 unfolding several
 several-later p x l e = rw e
 
+or-turned : (a b c : Bool) → ((a || b) || c) ≡ ((c || a) || b)
+or-turned true b c = rw (or-comm c true)
+or-turned false true c = rw (or-comm (c || false) true)
+or-turned false false true = refl
+or-turned false false false = refl
+
 -- one rule more
-module _ {heads sets : List ℕ} (q : ℕ) {rules once twice once′ twice′ : List ℕ} (f : Noting heads sets rules once twice)
+module _ {heads sets told : List ℕ} (q : ℕ) {rules once twice once′ twice′ : List ℕ} (f : Noting heads sets told rules once twice)
     (own : getD heads q 0 < maxNonterminals) (n : Noted once twice (getD heads q 0) (getD sets q 0) once′ twice′) where
   abbrev head : ℕ
   head = getD heads q 0
@@ -62,16 +68,17 @@ module _ {heads sets : List ℕ} (q : ℕ) {rules once twice once′ twice′ : 
       has-join (getD once head 0) claim l ∙ ap₂ _||_ (f .once-has head l) (sym (claimant-own heads sets l q))
       ∙ or-comm (anyOf (claimant heads sets head l) rules) (claimant heads sets head l q)
 
-  own-twice : (l : ℕ) → has (join (getD twice head 0) (meet (getD once head 0) claim)) l ≡ several (claimant heads sets head l) (q ∷ rules)
+  own-twice : (l : ℕ) → has (join (getD twice head 0) (meet (getD once head 0) claim)) l
+      ≡ (several (claimant heads sets head l) (q ∷ rules) || has (getD told head 0) l)
   unfolding several
   own-twice l =
       let p = claimant heads sets head l in
       has-join (getD twice head 0) (meet (getD once head 0) claim) l
       ∙ ap₂ _||_ (f .twice-has head l)
       (has-meet (getD once head 0) claim l ∙ ap₂ _&&_ (f .once-has head l) (sym (claimant-own heads sets l q)) ∙ and-comm (anyOf p rules) (p q))
-      ∙ or-comm (several p rules) (p q && anyOf p rules)
+      ∙ or-turned (several p rules) (has (getD told head 0) l) (p q && anyOf p rules)
 
-  noting-rule : Noting heads sets (q ∷ rules) once′ twice′
+  noting-rule : Noting heads sets told (q ∷ rules) once′ twice′
   noting-rule = record {
     long = (ap length (n .first) ∙ length-set once head _ ∙ f .long .0, ap length (n .again) ∙ length-set twice head _ ∙ f .long .1);
     once-has = λ A l. rw (n .first) (at-once A l (ℕ-discrete A head));
@@ -92,24 +99,26 @@ module _ {heads sets : List ℕ} (q : ℕ) {rules once twice once′ twice′ : 
           (f .once-has A l ∙ sym (any-later (claimant heads sets A l) q rules (claimant-other heads sets A l q ne)))
 
       at-twice : (A l : ℕ) → Dec (A ≡ head)
-          → has (getD (set twice head (join (getD twice head 0) (meet (getD once head 0) claim))) A 0) l ≡ several (claimant heads sets A l) (q ∷ rules)
+          → has (getD (set twice head (join (getD twice head 0) (meet (getD once head 0) claim))) A 0) l
+          ≡ (several (claimant heads sets A l) (q ∷ rules) || has (getD told A 0) l)
       at-twice A l (yes e) = rw (e, getD-set-same twice head twice-now 0 (omega (arith, f .long .1))) (own-twice l)
       at-twice A l (no ne) =
           rw (getD-set-other twice head A twice-now 0 ne)
-          (f .twice-has A l ∙ sym (several-later (claimant heads sets A l) q rules (claimant-other heads sets A l q ne)))
+          (f .twice-has A l
+          ∙ ap (λ b. b || has (getD told A 0) l) (sym (several-later (claimant heads sets A l) q rules (claimant-other heads sets A l q ne))))
 
 -- the same in the loop's numbers, of n rules
-pub noting-turn : {heads sets once twice once′ twice′ : List ℕ} (q n : ℕ) → Noting heads sets (numbersFrom q (n - q)) once twice → 0 < q → q ≤ n
+pub noting-turn : {heads sets told once twice once′ twice′ : List ℕ} (q n : ℕ) → Noting heads sets told (numbersFrom q (n - q)) once twice → 0 < q → q ≤ n
     → getD heads (q - 1) 0 < maxNonterminals → Noted once twice (getD heads (q - 1) 0) (getD sets (q - 1) 0) once′ twice′
-    → Noting heads sets (numbersFrom (q - 1) (n - (q - 1))) once′ twice′
+    → Noting heads sets told (numbersFrom (q - 1) (n - (q - 1))) once′ twice′
 noting-turn q n f h k own w = rw (numbers-before q n h k) (noting-rule (q - 1) f own w)
 
-pub noting-start : (heads sets : List ℕ) (n : ℕ)
-    → Noting heads sets (numbersFrom n (n - n)) (replicate maxNonterminals 0) (replicate maxNonterminals 0)
+pub noting-start : (heads sets told : List ℕ) (n : ℕ) → length told ≡ maxNonterminals
+    → Noting heads sets told (numbersFrom n (n - n)) (replicate maxNonterminals 0) told
 unfolding numbersFrom
-noting-start heads sets n = let e : n - n ≡ 0 = omega arith in rw e (noting-none heads sets)
+noting-start heads sets told n long = let e : n - n ≡ 0 = omega arith in rw e (noting-none heads sets told long)
 
-pub noting-end : {heads sets once twice : List ℕ} (q n : ℕ) → Noting heads sets (numbersFrom q (n - q)) once twice → q ≤ 0 → Twice heads sets n twice
+pub noting-end : {heads sets told once twice : List ℕ} (q n : ℕ) → Noting heads sets told (numbersFrom q (n - q)) once twice → q ≤ 0 → Twice heads sets told n twice
 unfolding numbers
 noting-end q n f h =
     let e : q ≡ 0 = omega arith in

@@ -1,28 +1,30 @@
--- Entries are looked through by nonterminal, then column: the loops' turns, and the first that two rules claim is the first of the clashes.
-use mathlib.Core.Path.{_≡_, refl, sym, ap, _∙_}
-use mathlib.Core.Bool.{Bool, true, false}
+-- Entries are looked through by nonterminal, then column: the loops' turns, and the first that is found is the first of the clashes.
+use mathlib.Core.Path.{_≡_, refl, sym, ap, ap₂, _∙_}
+use mathlib.Core.Bool.{Bool, true, false, _&&_, _||_}
 use mathlib.Core.List.{List, [], _∷_, _++_, map}
 use Prim.Native.Nat.{ℕ, zero, suc, _+_, _-_, _≤_, _<_}
 use native.Mathlib.Numerals.{add-one}
 use native.Mathlib.Omega.{arith}
 use denote.Enum.Declared.{tagOf}
 use types.Run.{OneOf, miss}
-use lib.ListN.{length}
+use lib.ListN.{length, getD}
 use Rattle.booleans.specs.Choice.{choose}
 use Rattle.grammar.specs.Syntax.{Grammar}
 use Rattle.lookahead.specs.Elements.{nothing}
 use Rattle.lookahead.specs.Operations.{isEmpty}
 use Rattle.lookahead.proofs.Emptiness.{empty-none}
 use Rattle.semantics.specs.FiniteSets.{keep, numbersFrom, numbers, combine}
-use Rattle.semantics.specs.FirstFollow.{strings, Entry, entries}
-use Rattle.semantics.specs.Claims.{several, claims, clashes, column}
+use Rattle.semantics.specs.FirstFollow.{strings, sameString, Entry, entries}
+use Rattle.semantics.specs.Claims.{several, claims, overruns, clashes, column}
 use Rattle.table.specs.declared.conflicts.Conflict.{Conflict}
 use Rattle.table.specs.declared.conflicts.Conflict.the-variants.{Absent, At}
 use Rattle.table.specs.Layout.{columnString, columnElement}
 use Rattle.table.specs.Claims.{headsOf, claimNumbers, byRule}
+use Rattle.table.specs.Overruns.{overrunSet}
 use Rattle.table.specs.Conflicts.{firstConflictOf, rowConflict, orLater, conflictFrom, inSet, inSets, claimedTwice, Twice}
 use Rattle.table.proofs.Columns.{column-string, element-small, column-back, columns-strings}
-use Rattle.table.proofs.Claimants.{several-claims, told}
+use Rattle.table.proofs.Claimants.{several-claims, told as rules-told}
+use Rattle.table.proofs.OverrunSets.{overrun-column}
 use Rattle.table.proofs.conflicts.Conflict.{the-type}
 
 -- one turn of the loop over a row's columns
@@ -76,10 +78,10 @@ unfolding conflictFrom
 rows-none p columns A n h = let e : n - A ≡ 0 = omega arith in rw e
 
 -- the sets claimed twice have the entries that two rules claim
-pub twice-claimed : (element : ℕ → ℕ) (columns n : ℕ) {heads sets twice : List ℕ} {rules : ℕ} → Twice heads sets rules twice
-    → conflictFrom (inSets element twice) columns 0 n ≡ conflictFrom (claimedTwice element heads sets rules) columns 0 n
-twice-claimed element columns n {heads} {sets} {twice} {rules} t =
-    let same : inSets element twice ≡ claimedTwice element heads sets rules = λ i. λ A c. t .each A (element c) i in
+pub twice-claimed : (element : ℕ → ℕ) (columns n : ℕ) {heads sets told twice : List ℕ} {rules : ℕ} → Twice heads sets told rules twice
+    → conflictFrom (inSets element twice) columns 0 n ≡ conflictFrom (claimedTwice element heads sets told rules) columns 0 n
+twice-claimed element columns n {heads} {sets} {told} {twice} {rules} t =
+    let same : inSets element twice ≡ claimedTwice element heads sets told rules = λ i. λ A c. t .each A (element c) i in
     ap (λ p. conflictFrom p columns 0 n) same
 
 -- for any lookahead: the strings of the columns in order, and a string's column
@@ -119,20 +121,25 @@ module _ (columns : ℕ) (string : ℕ → List ℕ) (place : List ℕ → ℕ) 
         rw (row-first A 0 columns (omega arith) (omega arith), rows-first (suc A) n (omega arith))
         (sym (first-append (map (λ x. (A, x)) (map string (numbersFrom 0 columns))) (combine (λ A x. (A, x)) (numbersFrom (suc A) n) (map string (numbersFrom 0 columns)))))
 
--- for one token of lookahead, with the heads and the claims of a grammar's rules
-pub first-clash : (G : Grammar) → G .terminals ≤ nothing → {heads sets : List ℕ} → heads ≡ byRule (headsOf G) → sets ≡ byRule (claimNumbers G)
-    → conflictFrom (claimedTwice (columnElement (G .terminals)) heads sets (length (G .rules))) (suc (G .terminals)) 0 (G .nonterminals)
+-- for one token of lookahead, with the heads and the claims of a grammar's rules, and what is told of its nonterminals that overrun
+pub first-clash : (G : Grammar) → G .terminals ≤ nothing → {heads sets : List ℕ} (told : List ℕ) → heads ≡ byRule (headsOf G) → sets ≡ byRule (claimNumbers G)
+    → ((A : ℕ) → getD told A 0 ≡ overrunSet (overruns G 1 A))
+    → conflictFrom (claimedTwice (columnElement (G .terminals)) heads sets told (length (G .rules))) (suc (G .terminals)) 0 (G .nonterminals)
     ≡ firstConflictOf (column (G .terminals)) (clashes G 1)
 unfolding clashes entries numbers
-first-clash G few {heads} {sets} h s =
-    rw (columns-strings t) (rows-first (suc t) (columnString t) (column t) (λ c b. column-back t c few b) (λ e. several (claims G 1 e) (G .rules))
-    (claimedTwice (columnElement t) heads sets (length (G .rules))) (G .nonterminals) same 0 (G .nonterminals) (omega arith))
+first-clash G few {heads} {sets} told h s o =
+    rw (columns-strings t) (rows-first (suc t) (columnString t) (column t) (λ c b. column-back t c few b)
+    (λ e. several (claims G 1 e) (G .rules) || (overruns G 1 (e .0) && sameString (0 ∷ []) (e .1)))
+    (claimedTwice (columnElement t) heads sets told (length (G .rules))) (G .nonterminals) same 0 (G .nonterminals) (omega arith))
   where
     t : ℕ
     t = G .terminals
 
     same : (A c : ℕ) → A < G .nonterminals → c < suc t
-        → claimedTwice (columnElement t) heads sets (length (G .rules)) A c ≡ several (claims G 1 (A, columnString t c)) (G .rules)
+        → claimedTwice (columnElement t) heads sets told (length (G .rules)) A c
+        ≡ (several (claims G 1 (A, columnString t c)) (G .rules) || (overruns G 1 A && sameString (0 ∷ []) (columnString t c)))
     same A c a b =
-        several-claims (told G h s (columnElement t c) (element-small t c few b)) A
-        ∙ ap (λ x. several (claims G 1 (A, x)) (G .rules)) (column-string t c few b)
+        ap₂ _||_
+        (several-claims (rules-told G h s (columnElement t c) (element-small t c few b)) A
+        ∙ ap (λ x. several (claims G 1 (A, x)) (G .rules)) (column-string t c few b))
+        (rw (o A) (overrun-column (overruns G 1 A) t c few b))

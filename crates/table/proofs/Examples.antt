@@ -52,6 +52,28 @@ twiceA = record { nonterminals = 1; terminals = 1; rules = ruleA [] ∷ ruleA []
 abbrev notItself : Grammar
 notItself = record { nonterminals = 1; terminals = 1; rules = ruleA ((Nonterminal 0 ∷ []) ∷ []) ∷ [] }
 
+-- a rule with a negative alone: of the nonterminal that a terminal follows it is a conflict in the first column, of the start it is none
+abbrev notA : ℕ → Rule
+notA A = record { head = A; positives = []; negatives = (Terminal 0 ∷ []) ∷ [] }
+
+abbrev notABefore : Grammar
+notABefore = record {
+  nonterminals = 2;
+  terminals = 2;
+  rules = record { head = 0; positives = (Nonterminal 1 ∷ Terminal 1 ∷ []) ∷ []; negatives = [] } ∷ notA 1 ∷ [];
+}
+
+abbrev notAWhole : Grammar
+notAWhole = record { nonterminals = 1; terminals = 1; rules = notA 0 ∷ [] }
+
+overruns : firstConflictOf (column 2) (clashes notABefore 1) ≡ At 1 0
+unfolding tables-compute clashes
+overruns = refl
+
+takes-all : (clashes notAWhole 1 ≡ []) × (tableWords notAWhole ≡ 16777217 ∷ 16777216 ∷ 0 ∷ 0 ∷ [])
+unfolding tables-compute listed total stringOf numberOf firstNumber followNumber first follow tableWords setWord rowWord entryAt columnString tableOf clashes
+takes-all = (refl, refl)
+
 claimed-twice : firstConflictOf (column 1) (clashes twiceA 1) ≡ At 0 0
 unfolding tables-compute clashes
 claimed-twice = refl

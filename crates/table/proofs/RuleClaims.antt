@@ -65,7 +65,7 @@ module _ (G : Grammar) (formed : WellFormed G) (few : G .terminals ≤ nothing) 
   abbrev t : ℕ
   t = G .terminals
 
-  follow-lists : (A : ℕ) → Lists (followSets G 1 A) (followNumber G A)
+  pub follow-lists : (A : ℕ) → Lists (followSets G 1 A) (followNumber G A)
   unfolding followSets followNumber
   follow-lists A x = (
     λ m. in-number G few (follow G 1) (follow-lookahead G 1) A x (sets-elim G 1 (follow G 1) A x m .1),

@@ -15,11 +15,11 @@ use Rattle.semantics.specs.Claims.{clashes, column}
 use Rattle.sets.specs.declared.Finding.{Finding}
 use Rattle.sets.specs.declared.Finding.the-variants.{Refused}
 use Rattle.table.specs.declared.Analysis.{Analysis}
-use Rattle.sets.specs.Analysis.{setsFaults, setsFault, findingOf}
+use Rattle.sets.specs.Analysis.{setsFaults, findingOf}
 use Rattle.table.specs.Layout.{tableWords}
 use Rattle.table.specs.Entries.{filled}
 
--- 9: the first entry that two rules claim, by nonterminal, then column
+-- 9: the first clash, by nonterminal, then column
 abbrev pub clashFault : ℕ → List Entry → Option Error
 clashFault terminals [] = none
 clashFault terminals (e ∷ es) = some (Conflict (e .0) (column terminals (e .1)))

@@ -18,12 +18,13 @@ use Rattle.lookahead.specs.Elements.{has}
 use Rattle.lookahead.specs.Operations.{concatNumbers}
 use Rattle.semantics.specs.FiniteSets.{member}
 use Rattle.semantics.specs.FirstFollow.{sameString}
-use Rattle.semantics.specs.Claims.{claimed}
+use Rattle.semantics.specs.Claims.{claimed, overruns}
 use Rattle.sets.specs.declared.Finding.{Finding}
 use Rattle.sets.specs.Analysis.{setsFault, findingOf}
 use Rattle.sets.specs.Lists.{listed}
 use Rattle.sets.specs.Naming.{Indexed}
 use Rattle.sets.specs.Sets.{numberOf, firstNumber, followNumber}
+use Rattle.table.specs.Overruns.{overrunSet}
 use Rattle.table.specs.declared.claims.Claims.{Claims}
 
 -- the strings that a rule claims for its head, as a number (document 01: the columns that a rule claims)
@@ -45,14 +46,23 @@ abbrev pub byRuleIf : Option Error → List ℕ → List ℕ
 byRuleIf none l = byRule l
 byRuleIf (some e) l = replicate maxRules 0
 
-abbrev pub claimsWith : Finding → List ℕ → List ℕ → Claims
-claimsWith f h s = record { finding = f; heads = h; sets = s }
+-- for each nonterminal the first terminal's set where it overruns, else the empty one
+abbrev pub overrunsOf : Grammar → List ℕ
+overrunsOf G = listed maxNonterminals (λ A. overrunSet (overruns G 1 A))
 
--- what is found of an encoded grammar: the first fault among the errors 3 to 8, or its sizes, and the head and the claim of each rule
+abbrev pub overrunsIf : Option Error → List ℕ → List ℕ
+overrunsIf none l = l
+overrunsIf (some e) l = replicate maxNonterminals 0
+
+abbrev pub claimsWith : Finding → List ℕ → List ℕ → List ℕ → Claims
+claimsWith f h s o = record { finding = f; heads = h; sets = s; overruns = o }
+
+-- what is found of an encoded grammar: the first fault among the errors 3 to 8, or its sizes, the head and the claim of each rule, and
+-- the nonterminals that overrun
 unfoldable pub claimsOf : List ℕ → Claims
 claimsOf words =
     claimsWith (findingOf (setsFault words) (reading words)) (byRuleIf (setsFault words) (headsOf (grammarOf words)))
-    (byRuleIf (setsFault words) (claimNumbers (grammarOf words)))
+    (byRuleIf (setsFault words) (claimNumbers (grammarOf words))) (overrunsIf (setsFault words) (overrunsOf (grammarOf words)))
 
 -- by heads and claims: rule q claims an element for A
 unfoldable pub claimant : (heads sets : List ℕ) → ℕ → ℕ → ℕ → Bool

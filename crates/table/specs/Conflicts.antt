@@ -1,6 +1,6 @@
--- The first entry that two rules claim, by nonterminal, then column.
+-- The first entry that two rules claim or that is told of a nonterminal, by nonterminal, then column.
 use mathlib.Core.Path.{_≡_}
-use mathlib.Core.Bool.{Bool}
+use mathlib.Core.Bool.{Bool, _||_}
 use mathlib.Core.List.{List, [], _∷_}
 use Prim.Native.Nat.{ℕ, zero, suc}
 use lib.ListN.{getD, set}
@@ -42,18 +42,19 @@ inSet element s c = has s (element c)
 abbrev pub inSets : (ℕ → ℕ) → List ℕ → ℕ → ℕ → Bool
 inSets element sets A = inSet element (getD sets A 0)
 
--- the entries that two of so many rules claim
-abbrev pub claimedTwice : (ℕ → ℕ) → List ℕ → List ℕ → ℕ → ℕ → ℕ → Bool
-claimedTwice element heads sets rules A c = several (claimant heads sets A (element c)) (numbers rules)
+-- the entries that two of so many rules claim, and those whose elements are told of their nonterminals
+abbrev pub claimedTwice : (ℕ → ℕ) → List ℕ → List ℕ → List ℕ → ℕ → ℕ → ℕ → Bool
+claimedTwice element heads sets told rules A c = several (claimant heads sets A (element c)) (numbers rules) || inSets element told A c
 
-abbrev pub conflictOf : Sizes → List ℕ → List ℕ → Conflict
-conflictOf z heads sets = conflictFrom (claimedTwice (columnElement (z .terminals)) heads sets (z .rules)) (suc (z .terminals)) 0 (z .nonterminals)
+abbrev pub conflictOf : Sizes → List ℕ → List ℕ → List ℕ → Conflict
+conflictOf z heads sets told =
+    conflictFrom (claimedTwice (columnElement (z .terminals)) heads sets told (z .rules)) (suc (z .terminals)) 0 (z .nonterminals)
 
 -- a claim is joined to the sets claimed once and twice
 pub record Noted (once twice : List ℕ) (head claim : ℕ) (once′ twice′ : List ℕ) : Type 0 where
   pub first : once′ ≡ set once head (join (getD once head 0) claim)
   pub again : twice′ ≡ set twice head (join (getD twice head 0) (meet (getD once head 0) claim))
 
--- the elements that two rules claim, for each nonterminal
-pub record Twice (heads sets : List ℕ) (rules : ℕ) (twice : List ℕ) : Type 0 where
-  pub each : (A l : ℕ) → has (getD twice A 0) l ≡ several (claimant heads sets A l) (numbers rules)
+-- the elements that two rules claim, for each nonterminal, with those told of it
+pub record Twice (heads sets told : List ℕ) (rules : ℕ) (twice : List ℕ) : Type 0 where
+  pub each : (A l : ℕ) → has (getD twice A 0) l ≡ (several (claimant heads sets A l) (numbers rules) || has (getD told A 0) l)

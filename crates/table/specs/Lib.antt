@@ -1,4 +1,5 @@
 pub mod Layout
+pub mod Overruns
 pub mod Claims
 pub mod Conflicts
 pub mod Entries

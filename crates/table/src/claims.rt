@@ -1,8 +1,9 @@
-// What each rule claims, found once: conflicts and the table are read off it.
+// What each rule claims, and which nonterminals overrun, found once: conflicts and the table are read off it.
 ghost use mathlib.Core.Path.{_≡_};
 ghost use Rattle.sets.specs.Naming.{ruleHead};
 ghost use Rattle.grammar.specs.Encoding.{grammarOf};
 ghost use Rattle.table.specs.Claims.{claimsOf, FamiliesGiven, kept, MayClaim, WordClaims, Empty, AllKept};
+use super::overruns::overrunning;
 use grammar::limits::RULES;
 use grammar::reading::Sizes;
 use lookahead::LookaheadSet;
@@ -13,12 +14,13 @@ use sets::first::onto;
 use word::Word;
 use word::decode;
 
-// What is found of an encoded grammar: its sizes, or why it is refused; and for each rule its head and the set that it claims for
-// it. Zeros stand behind the last rule, and where the grammar is refused.
+// What is found of an encoded grammar: its sizes, or why it is refused; for each rule its head and the set that it claims for it;
+// and for each nonterminal the first terminal's set where it overruns. Zeros stand elsewhere, and where the grammar is refused.
 pub struct Claims {
     pub finding: Finding,
     pub heads: [u8; RULES],
     pub sets: [u64; RULES],
+    pub overruns: [u64; SETS],
 }
 
 // Where a rule begins, keeps its head, and what its positives' meet, and then what may follow the head, begins with. Tells the
@@ -86,6 +88,7 @@ pub fn analyze(words: &[u32]) -> Claims
             finding,
             heads,
             sets,
+            overruns: [0u64; SETS],
         },
         Finding::Passed(sizes) => {
             keep_claims(
@@ -100,6 +103,7 @@ pub fn analyze(words: &[u32]) -> Claims
                 finding,
                 heads,
                 sets,
+                overruns: overrunning(words, &families.follows),
             }
         }
     }

@@ -1,6 +1,7 @@
-// Conflicts: the first entry that two rules claim, read off what each rule claims.
+// Conflicts: the first entry that two rules claim, read off what each rule claims, or that is told of a nonterminal that overruns.
 ghost use mathlib.Core.Path.{_≡_};
 ghost use Prim.Native.Nat.{suc, _≤_, _<_};
+ghost use lib.ListN.{length};
 ghost use Rattle.grammar.specs.Limits.{maxNonterminals, maxTerminals};
 ghost use Rattle.table.specs.Layout.{columnElement};
 ghost use Rattle.table.specs.Claims.{Headed};
@@ -28,13 +29,18 @@ fn note(once: &mut [u64; SETS], twice: &mut [u64; SETS], head: usize, claim: Loo
     once[head] = before.join(claim).bits;
 }
 
-// The elements that two rules claim, for each nonterminal.
-fn claimed_twice(heads: &[u8; RULES], sets: &[u64; RULES], sizes: Sizes) -> [u64; SETS]
-    requires { ⌜ Headed (now heads) (sizes .rules) (sizes .nonterminals) ⌝ }
-    ensures { λ r. ⌜ Twice (now (heads .entry)) (now (sets .entry)) (sizes .rules) r ⌝ }
+// The elements that two rules claim, for each nonterminal, added to those already told of it.
+fn claimed_twice(
+    heads: &[u8; RULES],
+    sets: &[u64; RULES],
+    told: [u64; SETS],
+    sizes: Sizes,
+) -> [u64; SETS]
+    requires { ⌜ Headed (now heads) (sizes .rules) (sizes .nonterminals) × (length told ≡ maxNonterminals) ⌝ }
+    ensures { λ r. ⌜ Twice (now (heads .entry)) (now (sets .entry)) told (sizes .rules) r ⌝ }
 {
     let mut once = [0u64; SETS];
-    let mut twice = [0u64; SETS];
+    let mut twice = told;
     let mut rule = sizes.rules;
     while 0 < rule {
         rule = rule - 1;
@@ -86,15 +92,16 @@ fn first_entry(sets: &[u64; SETS], sizes: Sizes) -> Conflict
     Conflict::Absent
 }
 
-// The first entry that two rules claim, by their heads and their claims.
+// The first entry that two rules claim, by their heads and their claims, or that is told of a nonterminal that overruns.
 pub(crate) fn first_conflict<'a>(
     heads: &'a [u8; RULES],
     sets: &'a [u64; RULES],
+    overruns: [u64; SETS],
     sizes: Sizes,
 ) -> Conflict
-    requires { ⌜ Headed (now heads) (sizes .rules) (sizes .nonterminals) × (sizes .terminals ≤ maxTerminals) ⌝ }
-    ensures { λ r. ⌜ r ≡ conflictOf sizes (now (heads .entry)) (now (sets .entry)) ⌝ }
+    requires { ⌜ Headed (now heads) (sizes .rules) (sizes .nonterminals) × (sizes .terminals ≤ maxTerminals) × (length overruns ≡ maxNonterminals) ⌝ }
+    ensures { λ r. ⌜ r ≡ conflictOf sizes (now (heads .entry)) (now (sets .entry)) overruns ⌝ }
 {
-    let twice = claimed_twice(heads, sets, sizes);
+    let twice = claimed_twice(heads, sets, overruns, sizes);
     first_entry(&twice, sizes)
 }

@@ -9,11 +9,13 @@ use grammar::codes::NO_ENTRY;
 use grammar::limits::RULES;
 use grammar::limits::TABLE_WORDS;
 use layout::fill;
+use overruns::overrunning;
 use sets::Finding;
 
 pub mod claims;
 mod conflicts;
 mod layout;
+mod overruns;
 
 // What is found of an encoded grammar: its sizes, or why it is refused; and the words of its table, all no entry where it is refused.
 pub struct Analysis {
@@ -48,7 +50,8 @@ pub fn analyze(words: &[u32]) -> Analysis
                 &mut heads,
                 &mut sets,
             );
-            let conflict = first_conflict(&heads, &sets, sizes);
+            let overruns = overrunning(words, &families.follows);
+            let conflict = first_conflict(&heads, &sets, overruns, sizes);
             match conflict {
                 Conflict::At {
                     nonterminal,

@@ -1,8 +1,8 @@
--- An encoded grammar: by whether its families are found, and whether two rules claim an entry.
+-- An encoded grammar: by whether its families are found, and whether an entry clashes.
 use mathlib.Core.Path.{refl, _∙_}
 use borrow.Author.Needs.{needs}
 use Rattle.sets.proofs.Findings.{families-told, families-refused}
-use Rattle.table.proofs.Analyzing.{given, analyzed-refused, few-terminals, headed, sets-fit, analyzed-conflict, analyzed-passed}
+use Rattle.table.proofs.Analyzing.{given, analyzed-refused, words-indexed, few-terminals, headed, sets-fit, analyzed-conflict, analyzed-passed}
 use Rattle.table.proofs.analyze.Statement.{statement}
 use Rattle.table.proofs.analyze.Tie as tie
 
@@ -25,12 +25,18 @@ keep-claims-requires c κs =
     let found = families-told _ (at-analyze .analyze .ensures) (at-finding .finding2 .given .1) in
     (given found, refl, refl)
 
-first-conflict-requires : tie.Need-first-conflict-requires
-first-conflict-requires c κs =
+overrunning-requires : tie.Need-overrunning-requires
+overrunning-requires c κs =
     let at-finding = c .before .before .before .before .before .before .before .before .before in
     let at-analyze = at-finding .before .before in
+    words-indexed (families-told _ (at-analyze .analyze .ensures) (at-finding .finding2 .given .1))
+
+first-conflict-requires : tie.Need-first-conflict-requires
+first-conflict-requires c κs =
+    let at-finding = c .before .before .before .before .before .before .before .before .before .before .before .before in
+    let at-analyze = at-finding .before .before in
     let found = families-told _ (at-analyze .analyze .ensures) (at-finding .finding2 .given .1) in
-    (headed found (c .before .before .keep-claims .ensures), few-terminals found)
+    (headed found (c .before .before .before .before .before .keep-claims .ensures), few-terminals found, c .before .before .overrunning .ensures .long)
 
 enum-known-conflict : tie.Need-enum-known-conflict
 enum-known-conflict c = search needs
@@ -43,10 +49,10 @@ enum-told c = search needs
 
 fill-requires : tie.Need-fill-requires
 fill-requires c κs =
-    let at-finding = c .before .before .before .before .before .before .before .before .before .before .before .before .before .before .before .before .before .before in
+    let at-finding = c .before .before .before .before .before .before .before .before .before .before .before .before .before .before .before .before .before .before .before .before .before in
     let at-analyze = at-finding .before .before in
     let found = families-told _ (at-analyze .analyze .ensures) (at-finding .finding2 .given .1) in
-    let kept = c .before .before .before .before .before .before .before .before .before .before .before .keep-claims .ensures in
+    let kept = c .before .before .before .before .before .before .before .before .before .before .before .before .before .before .keep-claims .ensures in
     (record { headed = headed found kept; fewTerminals = few-terminals found; long = refl }, sets-fit found .0, sets-fit found .1)
 
 returns : tie.Need-returns
@@ -54,19 +60,19 @@ returns c = c .refused .ensures ∙ analyzed-refused _ (families-refused _ (c .b
 
 returns-2 : tie.Need-returns-2
 returns-2 c =
-    let at-finding = c .before .before .before .before .before .before .before .before .before .before .before .before .before .before in
+    let at-finding = c .before .before .before .before .before .before .before .before .before .before .before .before .before .before .before .before .before in
     let at-analyze = at-finding .before .before in
     let found = families-told _ (at-analyze .analyze .ensures) (at-finding .finding2 .given .1) in
     c .refused2 .ensures
-    ∙ analyzed-conflict found (c .before .before .before .before .before .before .before .keep-claims .ensures) (c .before .before .before .before .first-conflict .ensures) (c .before .before .conflict .given .1)
+    ∙ analyzed-conflict found (c .before .before .before .before .before .before .before .before .before .before .keep-claims .ensures) (c .before .before .before .before .before .before .before .overrunning .ensures) (c .before .before .before .before .first-conflict .ensures) (c .before .before .conflict .given .1)
 
 returns-3 : tie.Need-returns-3
 returns-3 c =
-    let at-finding = c .before .before .before .before .before .before .before .before .before .before .before .before .before .before .before .before .before .before .before in
+    let at-finding = c .before .before .before .before .before .before .before .before .before .before .before .before .before .before .before .before .before .before .before .before .before .before in
     let at-analyze = at-finding .before .before in
     let found = families-told _ (at-analyze .analyze .ensures) (at-finding .finding2 .given .1) in
     let at-conflict = c .before .before .before .before .before .before .before .before .before in
-    analyzed-passed found (at-conflict .before .before .before .keep-claims .ensures) (at-conflict .first-conflict .ensures) (c .before .before .before .before .before .before .before .enum-told .given .1)
+    analyzed-passed found (at-conflict .before .before .before .before .before .before .keep-claims .ensures) (at-conflict .before .before .before .overrunning .ensures) (at-conflict .first-conflict .ensures) (c .before .before .before .before .before .before .before .enum-told .given .1)
     (c .fill .ensures)
 
 pub analyze-spec : {M : Type 1} → statement M
@@ -78,6 +84,7 @@ analyze-spec =
     refused-requires
     enum-known-finding-2
     keep-claims-requires
+    overrunning-requires
     first-conflict-requires
     enum-known-conflict
     refused-requires-2

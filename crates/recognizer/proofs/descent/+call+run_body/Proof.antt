@@ -30,6 +30,7 @@ use Rattle.recognizer.proofs.descent.body_end.Reads as body-end-reads
 use Rattle.recognizer.proofs.descent.chosen.Reads as chosen-reads
 use Rattle.recognizer.proofs.descent.code.Reads as code-reads
 use Rattle.recognizer.proofs.descent.entry_of.Reads as entry-of-reads
+use Rattle.recognizer.proofs.descent.first_agreement.Reads as first-agreement-reads
 use Rattle.recognizer.proofs.descent.matches.Reads as matches-reads
 use Rattle.recognizer.proofs.descent.recall.Reads as recall-reads
 use Rattle.rule.proofs.conclude.Reads as conclude-reads
@@ -70,6 +71,8 @@ call-claims t = (
   chosen-reads.Learnt,
   sign-at-reads.Asked,
   sign-at-reads.Learnt,
+  first-agreement-reads.Asked,
+  first-agreement-reads.Learnt,
   goes-on-reads.Asked,
   goes-on-reads.Learnt,
   run-body-below t,
@@ -138,8 +141,14 @@ call-returns-2 t c =
 call-sign-at-requires : (t : ℕ) → call-lts.Need-sign-at-requires (call-claims t) (call-at t) call.Post call-Inv-loop call-μ-loop
 call-sign-at-requires t c κs = tt
 
+call-first-agreement-requires : (t : ℕ)
+    → call-lts.Need-first-agreement-requires (call-claims t) (call-at t) call.Post call-Inv-loop call-μ-loop
+call-first-agreement-requires t c κs = record { named = entry-given (c .before .before .before .before .before .before .before .before .pre .1 .1) .named }
+
 call-loop-holds : (t : ℕ) → call-lts.Need-loop-holds (call-claims t) (call-at t) call.Post call-Inv-loop call-μ-loop
-call-loop-holds t c = λ choice g. start-rule g (rule-chosen g (c .before .before .chosen .ensures) (c .before .if2 .left)) (c .sign-at .ensures)
+call-loop-holds t c =
+    λ choice g. start-rule g (rule-chosen g (c .before .before .before .chosen .ensures) (c .before .before .if2 .left)) (c .before .sign-at .ensures)
+    (c .first-agreement .ensures)
 
 call-goes-on-requires : (t : ℕ) → call-lts.Need-goes-on-requires (call-claims t) (call-at t) call.Post call-Inv-loop call-μ-loop
 call-goes-on-requires t c κs = tt
@@ -149,7 +158,7 @@ call-add-run-body t c =
     let at-then = c .before in
     let at-goes-on = at-then .before in
     let at-loop = at-goes-on .before in
-    let start = at-loop .before .before .before .before .before .before .before .before .before in
+    let start = at-loop .before .before .before .before .before .before .before .before .before .before in
     let rule = at-loop .loop .inv _ (start .pre .1 .1) in
     let goes = sym (at-goes-on .goes-on .ensures) ∙ at-then .if3 .taken in
     omega (arith, rule-conjunct (start .pre .1 .1) rule goes)
@@ -159,7 +168,7 @@ call-run-body-requires t c κs =
     let at-then = c .before in
     let at-goes-on = at-then .before in
     let at-loop = at-goes-on .before in
-    let start = at-loop .before .before .before .before .before .before .before .before .before in
+    let start = at-loop .before .before .before .before .before .before .before .before .before .before in
     let rule = at-loop .loop .inv _ (start .pre .1 .1) in
     let goes = sym (at-goes-on .goes-on .ensures) ∙ at-then .if3 .taken in
     (omega (arith, start .pre .0), (_, rule-run (start .pre .1 .1) rule goes))
@@ -172,7 +181,7 @@ call-body-end-requires t c κs =
     let at-then = c .before .before .before .before .before in
     let at-goes-on = at-then .before in
     let at-loop = at-goes-on .before in
-    let start = at-loop .before .before .before .before .before .before .before .before .before in
+    let start = at-loop .before .before .before .before .before .before .before .before .before .before in
     let rule = at-loop .loop .inv _ (start .pre .1 .1) in
     let goes = sym (at-goes-on .goes-on .ensures) ∙ at-then .if3 .taken in
     c .before .before .before .run-body .ensures _ (rule-run (start .pre .1 .1) rule goes) .skipped .within
@@ -185,7 +194,7 @@ call-loop-less t c =
     let at-then = c .before .before .before .before .before .before .before in
     let at-goes-on = at-then .before in
     let at-loop = at-goes-on .before in
-    let start = at-loop .before .before .before .before .before .before .before .before .before in
+    let start = at-loop .before .before .before .before .before .before .before .before .before .before in
     let rule = at-loop .loop .inv _ (start .pre .1 .1) in
     let goes = sym (at-goes-on .goes-on .ensures) ∙ at-then .if3 .taken in
     omega (
@@ -216,19 +225,19 @@ call-code-requires : (t : ℕ) → call-lts.Need-code-requires (call-claims t) (
 call-code-requires t c κs = tt
 
 call-mul-memo-2 : (t : ℕ) → call-lts.Need-mul-memo-2 (call-claims t) (call-at t) call.Post call-Inv-loop call-μ-loop
-call-mul-memo-2 t c = omega (arith, index-low (c .before .before .before .before .before .before .before .before .before .before .before .before .before .pre .1 .1) (c .before .before .before .before .before .before .before .before .before .before .entry-of .ensures))
+call-mul-memo-2 t c = omega (arith, index-low (c .before .before .before .before .before .before .before .before .before .before .before .before .before .before .pre .1 .1) (c .before .before .before .before .before .before .before .before .before .before .before .entry-of .ensures))
 
 call-slice-write-memo-2 : (t : ℕ) → call-lts.Need-slice-write-memo-2 (call-claims t) (call-at t) call.Post call-Inv-loop call-μ-loop
 call-slice-write-memo-2 t c =
     let at-loop = c .before .before .before .before in
-    let start = at-loop .before .before .before .before .before .before .before .before .before in
+    let start = at-loop .before .before .before .before .before .before .before .before .before .before in
     let rule = at-loop .loop .inv _ (start .pre .1 .1) in
-    omega (arith, index-low (c .before .before .before .before .before .before .before .before .before .before .before .before .before .pre .1 .1) (c .before .before .before .before .before .before .before .before .before .before .entry-of .ensures), memo-same (rule .calling .sound) (start .pre .1 .1 .given .sound))
+    omega (arith, index-low (c .before .before .before .before .before .before .before .before .before .before .before .before .before .before .pre .1 .1) (c .before .before .before .before .before .before .before .before .before .before .before .entry-of .ensures), memo-same (rule .calling .sound) (start .pre .1 .1 .given .sound))
 
 call-same-length-2 : (t : ℕ) → call-lts.Need-same-length-2 (call-claims t) (call-at t) call.Post call-Inv-loop call-μ-loop
 call-same-length-2 t c =
     let at-loop = c .before .before .before .before in
-    let start = at-loop .before .before .before .before .before .before .before .before .before in
+    let start = at-loop .before .before .before .before .before .before .before .before .before .before in
     let rule = at-loop .loop .inv _ (start .pre .1 .1) in
     simp length-set (memo-same (rule .calling .sound) (start .pre .1 .1 .given .sound))
 
@@ -238,7 +247,7 @@ call-returns-3 t c =
     let at-else = at-conclude .before in
     let at-goes-on = at-else .before in
     let at-loop = at-goes-on .before in
-    let at-fresh = at-loop .before .before .before .before in
+    let at-fresh = at-loop .before .before .before .before .before in
     λ choice g.
     let rule = at-loop .loop .inv choice g in
     let stops = sym (at-goes-on .goes-on .ensures) ∙ at-else .if3 .left in
@@ -433,6 +442,7 @@ pub +call+run-body-spec : {M : Type 1} → statement M
     (call-same-length t)
     (call-returns-2 t)
     (call-sign-at-requires t)
+    (call-first-agreement-requires t)
     (call-loop-holds t)
     (call-goes-on-requires t)
     (call-add-run-body t)

@@ -69,20 +69,35 @@ loop-again c =
     let p = placed (start .pre) in
     writing-more (at-loop .loop .inv) (omega (arith, at-loop .loop .inv .long, start .pre .long, p .to, start .pre .fewTerminals)) (c .first-conjunct .ensures)
 
-mul-choices-2 : tie.Need-mul-choices-2 Inv-loop μ-loop
-mul-choices-2 c = let p = placed (c .before .before .before .before .pre) in omega (arith, p .from, p .to, p .row, c .before .before .before .before .pre .fewNonterminals, c .before .before .before .before .pre .fewTerminals)
+sub-choices : tie.Need-sub-choices Inv-loop μ-loop
+sub-choices c = let g = c .before .before .before .before .pre in let p = placed g in omega (arith, p .from, p .to, p .row, g .some-place, g .few, g .fewNonterminals, g .fewTerminals)
 
 cast-choices : tie.Need-cast-choices Inv-loop μ-loop
-cast-choices c = let p = placed (c .before .before .before .before .pre) in omega (arith, p .from, p .to, p .row, c .before .before .before .before .pre .fewNonterminals, c .before .before .before .before .pre .fewTerminals)
+cast-choices c = let g = c .before .before .before .before .pre in let p = placed g in omega (arith, p .from, p .to, p .row, g .some-place, g .few, g .fewNonterminals, g .fewTerminals)
 
 add-choices-2 : tie.Need-add-choices-2 Inv-loop μ-loop
-add-choices-2 c = let p = placed (c .before .before .before .before .pre) in omega (arith, p .from, p .to, p .row, c .before .before .before .before .pre .fewNonterminals, c .before .before .before .before .pre .fewTerminals)
+add-choices-2 c = let g = c .before .before .before .before .pre in let p = placed g in omega (arith, p .from, p .to, p .row, g .some-place, g .few, g .fewNonterminals, g .fewTerminals)
 
-mul-choices-3 : tie.Need-mul-choices-3 Inv-loop μ-loop
-mul-choices-3 c = let p = placed (c .before .before .before .before .pre) in omega (arith, p .from, p .to, p .row, c .before .before .before .before .pre .fewNonterminals, c .before .before .before .before .pre .fewTerminals)
+mul-choices-2 : tie.Need-mul-choices-2 Inv-loop μ-loop
+mul-choices-2 c = let g = c .before .before .before .before .pre in let p = placed g in omega (arith, p .from, p .to, p .row, g .some-place, g .few, g .fewNonterminals, g .fewTerminals)
 
 element-write-choices-2 : tie.Need-element-write-choices-2 Inv-loop μ-loop
-element-write-choices-2 c = let p = placed (c .before .before .before .before .pre) in omega (arith, p .from, p .to, p .row, c .before .before .before .before .pre .fewNonterminals, c .before .before .before .before .pre .fewTerminals)
+element-write-choices-2 c = let g = c .before .before .before .before .pre in let p = placed g in omega (arith, p .from, p .to, p .row, g .some-place, g .few, g .fewNonterminals, g .fewTerminals)
+
+mul-choices-3 : tie.Need-mul-choices-3 Inv-loop μ-loop
+mul-choices-3 c = let g = c .before .before .before .before .pre in let p = placed g in omega (arith, p .from, p .to, p .row, g .some-place, g .few, g .fewNonterminals, g .fewTerminals)
+
+cast-choices-2 : tie.Need-cast-choices-2 Inv-loop μ-loop
+cast-choices-2 c = let g = c .before .before .before .before .pre in let p = placed g in omega (arith, p .from, p .to, p .row, g .some-place, g .few, g .fewNonterminals, g .fewTerminals)
+
+add-choices-3 : tie.Need-add-choices-3 Inv-loop μ-loop
+add-choices-3 c = let g = c .before .before .before .before .pre in let p = placed g in omega (arith, p .from, p .to, p .row, g .some-place, g .few, g .fewNonterminals, g .fewTerminals)
+
+mul-choices-4 : tie.Need-mul-choices-4 Inv-loop μ-loop
+mul-choices-4 c = let g = c .before .before .before .before .pre in let p = placed g in omega (arith, p .from, p .to, p .row, g .some-place, g .few, g .fewNonterminals, g .fewTerminals)
+
+element-write-choices-3 : tie.Need-element-write-choices-3 Inv-loop μ-loop
+element-write-choices-3 c = let g = c .before .before .before .before .pre in let p = placed g in omega (arith, p .from, p .to, p .row, g .some-place, g .few, g .fewNonterminals, g .fewTerminals)
 
 returns : tie.Need-returns Inv-loop μ-loop
 returns c = row-filled (c .before .before .before .before .pre) (c .before .loop .inv) (c .loop-test .left)
@@ -111,9 +126,14 @@ fill-row-spec =
     add-column
     loop-less
     loop-again
-    mul-choices-2
+    sub-choices
     cast-choices
     add-choices-2
-    mul-choices-3
+    mul-choices-2
     element-write-choices-2
+    mul-choices-3
+    cast-choices-2
+    add-choices-3
+    mul-choices-4
+    element-write-choices-3
     returns)

@@ -7,31 +7,31 @@ use Rattle.table.proofs.conflicts.claimed_twice.Statement.{statement}
 use Rattle.table.proofs.conflicts.claimed_twice.Tie as tie
 
 abbrev Inv-loop : tie.InvT-loop
-Inv-loop heads sets once₀ twice₀ rule₀ once twice rule = (rule ≤ rule₀) × Noting heads sets (numbersFrom rule (rule₀ - rule)) once twice
+Inv-loop heads sets once₀ twice₀ rule₀ once twice rule = (rule ≤ rule₀) × Noting heads sets twice₀ (numbersFrom rule (rule₀ - rule)) once twice
 
 abbrev μ-loop : tie.MeasureT-loop
 μ-loop heads sets once₀ twice₀ rule₀ once twice rule = rule
 
 loop-holds : tie.Need-loop-holds Inv-loop μ-loop
-loop-holds c = (omega arith, noting-start _ _ _)
+loop-holds c = (omega arith, noting-start _ _ _ _ (c .pre .1))
 
 sub-rule : tie.Need-sub-rule Inv-loop μ-loop
 sub-rule c = omega arith
 
-mul-t9 : tie.Need-mul-t9 Inv-loop μ-loop
-mul-t9 c = omega (arith, c .before .before .pre .few)
+mul-t10 : tie.Need-mul-t10 Inv-loop μ-loop
+mul-t10 c = omega (arith, c .before .before .pre .0 .few)
 
-element-copy-out-t12 : tie.Need-element-copy-out-t12 Inv-loop μ-loop
-element-copy-out-t12 c = omega (arith, c .before .before .pre .few)
+element-copy-out-t13 : tie.Need-element-copy-out-t13 Inv-loop μ-loop
+element-copy-out-t13 c = omega (arith, c .before .before .pre .0 .few)
 
 element-copy-out-note : tie.Need-element-copy-out-note Inv-loop μ-loop
-element-copy-out-note c = omega (arith, c .before .before .before .before .before .pre .few)
+element-copy-out-note c = omega (arith, c .before .before .before .before .before .pre .0 .few)
 
 cast-note : tie.Need-cast-note Inv-loop μ-loop
-cast-note c = omega (arith, c .before .before .before .before .before .before .pre .own (c .before .before .before .before .before .loop .rule - 1) (omega arith), c .before .before .before .before .before .before .pre .allowed)
+cast-note c = omega (arith, c .before .before .before .before .before .before .pre .0 .own (c .before .before .before .before .before .loop .rule - 1) (omega arith), c .before .before .before .before .before .before .pre .0 .allowed)
 
 note-requires : tie.Need-note-requires Inv-loop μ-loop
-note-requires c κs = omega (arith, c .before .before .before .before .before .before .pre .own (c .before .before .before .before .before .loop .rule - 1) (omega arith), c .before .before .before .before .before .before .pre .allowed)
+note-requires c κs = omega (arith, c .before .before .before .before .before .before .pre .0 .own (c .before .before .before .before .before .loop .rule - 1) (omega arith), c .before .before .before .before .before .before .pre .0 .allowed)
 
 loop-less : tie.Need-loop-less Inv-loop μ-loop
 loop-less c = omega arith
@@ -40,7 +40,7 @@ loop-again : tie.Need-loop-again Inv-loop μ-loop
 loop-again c =
     let turn = c .before .before .before .before .before in
     let loop = turn .before in
-    let given = loop .before .pre in
+    let given = loop .before .pre .0 in
     let low = given .own (loop .loop .rule - 1) (omega arith) in
     (omega arith, noting-turn _ _ (loop .loop .inv .1) (turn .loop-test .taken) (loop .loop .inv .0) (omega (arith, given .allowed)) (c .note .ensures))
 
@@ -55,8 +55,8 @@ claimed-twice-spec =
     μ-loop
     loop-holds
     sub-rule
-    mul-t9
-    element-copy-out-t12
+    mul-t10
+    element-copy-out-t13
     element-copy-out-note
     cast-note
     note-requires

@@ -1,0 +1,84 @@
+//! What a grammar means, computed from document 01's definition alone, to try the twin's verdicts by.
+
+use crate::cards::{self, Random};
+use crate::twin::{self, Grammar, Symbol, Verdict, MEMO_ENTRIES, TABLE_WORDS};
+
+/// For each nonterminal and span of an input, whether the span belongs to the nonterminal.
+#[derive(Clone, PartialEq)]
+struct Valuation {
+    places: usize,
+    belongs: Vec<bool>,
+}
+
+impl Valuation {
+    fn index(&self, nonterminal: usize, start: usize, end: usize) -> usize {
+        (nonterminal * self.places + start) * self.places + end
+    }
+
+    /// Whether a span can be cut into pieces, one for each symbol of a body.
+    fn contains(&self, input: &[u8], body: &[Symbol], start: usize, end: usize) -> bool {
+        let mut reached = vec![false; self.places];
+        reached[start] = true;
+        for symbol in body {
+            let piece = |from: usize, to: usize| match *symbol {
+                Symbol::Terminal(a) => to == from + 1 && input[from] == a,
+                Symbol::Nonterminal(b) => self.belongs[self.index(b as usize, from, to)],
+            };
+            reached = (0..self.places).map(|to| (start..=to).any(|from| reached[from] && piece(from, to))).collect();
+        }
+        reached[end]
+    }
+
+    /// What the rules say if this is how things are.
+    fn by_rules(&self, grammar: &Grammar, input: &[u8]) -> Valuation {
+        let mut said = Valuation { places: self.places, belongs: vec![false; self.belongs.len()] };
+        for rule in &grammar.rules {
+            for start in 0..self.places {
+                for end in start..self.places {
+                    let index = self.index(rule.nonterminal as usize, start, end);
+                    let all = grammar.conjuncts_of(rule).iter().all(|conjunct| {
+                        self.contains(input, grammar.body(conjunct), start, end) != conjunct.negative
+                    });
+                    said.belongs[index] |= all;
+                }
+            }
+        }
+        said
+    }
+}
+
+/// The valuation that solves a grammar without left recursion: what the rules say is settled for one more level in each round.
+fn solution(grammar: &Grammar, input: &[u8]) -> Valuation {
+    let places = input.len() + 1;
+    let mut valuation = Valuation { places, belongs: vec![false; grammar.nonterminals * places * places] };
+    loop {
+        let next = valuation.by_rules(grammar, input);
+        if next == valuation {
+            return valuation;
+        }
+        valuation = next;
+    }
+}
+
+#[test]
+fn verdicts_are_by_the_meaning() {
+    let (mut table, mut memo) = (vec![0; TABLE_WORDS], vec![0; MEMO_ENTRIES]);
+    let (mut accepted, mut rejected) = ([0; 2], [0; 2]);
+    for seed in 0..60_000 {
+        let mut random = Random::new(seed);
+        let words = cards::words(&mut random);
+        let input = cards::input(&mut random, &words);
+        let Ok(grammar) = Grammar::read(&words) else { continue };
+        let outcome = twin::judge(&words, &input, &mut table, &mut memo);
+        if outcome.verdict == Verdict::Refused || input.len() > 8 || grammar.nonterminals > 8 {
+            continue;
+        }
+        let solution = solution(&grammar, &input);
+        let belongs = solution.belongs[solution.index(0, 0, input.len())];
+        assert_eq!(outcome.verdict == Verdict::Accepted, belongs, "{words:x?} {input:?}");
+        let kind = usize::from(grammar.rules.iter().any(|rule| grammar.only_forbids(rule)));
+        (if belongs { &mut accepted } else { &mut rejected })[kind] += 1;
+    }
+    // without and with a rule of negative conjuncts alone
+    assert!(accepted.iter().chain(&rejected).all(|&times| times > 500), "{accepted:?} {rejected:?}");
+}

@@ -1,0 +1,25 @@
+-- The end is kept where the sign is a negative's.
+use borrow.Author.Needs.{needs}
+use Rattle.rule.proofs.opening.Statement.{statement}
+use Rattle.rule.proofs.opening.Tie as tie
+
+enum-told : tie.Need-enum-told
+enum-told c = search needs
+
+enum-told-2 : tie.Need-enum-told-2
+enum-told-2 c = search needs
+
+enum-told-3 : tie.Need-enum-told-3
+enum-told-3 c = search needs
+
+returns : tie.Need-returns
+returns c = search needs
+
+returns-2 : tie.Need-returns-2
+returns-2 c = rw (c .enum-told2 .given .1)
+
+returns-3 : tie.Need-returns-3
+returns-3 c = search needs
+
+pub opening-spec : {M : Type 1} → statement M
+opening-spec = tie.close (tie.spec enum-told enum-told-2 enum-told-3 returns returns-2 returns-3)
