@@ -1,7 +1,7 @@
 // A record of how a judge has been used: four counters, each of which stops at the largest number of 32 bits.
 ghost use mathlib.Core.Path.{_≡_};
 ghost use Prim.Native.Nat.{_+_};
-ghost use Rattle.usage.specs.Counters.{saturated, usageOf, unused};
+ghost use Rattle.usage.specs.Counters.{saturated, unused, added};
 ghost use Rattle.usage.specs.Histories.{counted};
 use answer::Answer;
 
@@ -20,11 +20,10 @@ fn add(counter: u32, n: usize) -> u32
     ensures { λ r. ⌜ r ≡ saturated (counter + n) ⌝ }
 {
     let room = LIMIT - counter;
-    if n <= room as usize {
-        counter + n as u32
-    } else {
-        LIMIT
+    if n > room as usize {
+        return LIMIT;
     }
+    counter + n as u32
 }
 
 impl Usage {
@@ -40,12 +39,12 @@ impl Usage {
         }
     }
 
-    // One call more, and what its answer counts besides.
-    fn plus(self, refusals: usize, acceptances: usize, called: usize) -> Usage
-        ensures { λ r. ⌜ r ≡ usageOf (saturated (self .calls + 1)) (saturated (self .refusals + refusals)) (saturated (self .acceptances + acceptances)) (saturated (self .called + called)) ⌝ }
+    // Each counter with what is added to it.
+    fn plus(self, calls: usize, refusals: usize, acceptances: usize, called: usize) -> Usage
+        ensures { λ r. ⌜ r ≡ added self calls refusals acceptances called ⌝ }
     {
         Usage {
-            calls: add(self.calls, 1),
+            calls: add(self.calls, calls),
             refusals: add(self.refusals, refusals),
             acceptances: add(self.acceptances, acceptances),
             called: add(self.called, called),
@@ -57,10 +56,10 @@ impl Usage {
         ensures { λ r. ⌜ r ≡ counted self answer ⌝ }
     {
         match answer {
-            Answer::Refused(_) => self.plus(1, 0, 0),
-            Answer::Passed => self.plus(0, 0, 0),
-            Answer::Rejected(calls) => self.plus(0, 0, calls.count),
-            Answer::Accepted(calls) => self.plus(0, 1, calls.count),
+            Answer::Refused(_) => self.plus(1, 1, 0, 0),
+            Answer::Passed => self.plus(1, 0, 0, 0),
+            Answer::Rejected(calls) => self.plus(1, 0, 0, calls.count),
+            Answer::Accepted(calls) => self.plus(1, 0, 1, calls.count),
         }
     }
 }
