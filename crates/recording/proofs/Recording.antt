@@ -7,14 +7,14 @@ use Rattle.recognizer.specs.Properties.{Judges}
 use Rattle.usage.specs.declared.Usage.{Usage}
 use Rattle.usage.specs.Counters.{unused}
 use Rattle.usage.specs.Histories.{counted, recordOf, summed, spent}
-use Rattle.usage.proofs.Histories.{record-append, from-first, from-unused}
+use Rattle.usage.proofs.Histories.{record-append, once-counted, from-unused}
 use Rattle.recording.specs.declared.Recorded.{Recorded}
 use Rattle.recording.specs.Properties.{Continues, Records}
 
 -- a history with an answer at its end is not empty, so its sums are cut
 append-summed : (u : Usage) (l : List Answer) (x : Answer) → recordOf u (l ++ x ∷ []) ≡ summed u (l ++ x ∷ [])
-append-summed u [] x = from-first u x []
-append-summed u (y ∷ l) x = from-first u y (l ++ x ∷ [])
+append-summed u [] x = once-counted u x []
+append-summed u (y ∷ l) x = once-counted u y (l ++ x ∷ [])
 
 module _ {before after : Usage} (x : Answer) (e : after ≡ counted before x) where
   counted-last : (first : Usage) (l : List Answer) → before ≡ recordOf first l → after ≡ recordOf first (l ++ x ∷ [])

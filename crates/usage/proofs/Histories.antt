@@ -22,15 +22,15 @@ counted-summed : (u : Usage) (x : Answer) (l : List Answer) → summed (counted 
 unfolding summed counted total eachCounter
 counted-summed u x l = each-same (λ m n. saturated (saturated (n + m x) + total m l)) (λ m n. saturated (n + (m x + total m l))) (λ m n. omega arith) u
 
-pub from-first : (u : Usage) (x : Answer) (l : List Answer) → recordOf u (x ∷ l) ≡ summed u (x ∷ l)
+pub once-counted : (u : Usage) (x : Answer) (l : List Answer) → recordOf u (x ∷ l) ≡ summed u (x ∷ l)
 unfolding recordOf summed counted total
-from-first u x [] = each-same (λ m n. saturated (n + m x)) (λ m n. saturated (n + (m x + 0))) (λ m n. omega arith) u
-from-first u x (y ∷ l) = from-first (counted u x) y l ∙ counted-summed u x (y ∷ l)
+once-counted u x [] = each-same (λ m n. saturated (n + m x)) (λ m n. saturated (n + (m x + 0))) (λ m n. omega arith) u
+once-counted u x (y ∷ l) = once-counted (counted u x) y l ∙ counted-summed u x (y ∷ l)
 
 pub from-any : (u : Usage) → InRange u → (l : List Answer) → recordOf u l ≡ summed u l
 unfolding recordOf summed total
 from-any u h [] = sym h ∙ each-same (λ m n. saturated n) (λ m n. saturated (n + 0)) (λ m n. omega arith) u
-from-any u h (x ∷ l) = from-first u x l
+from-any u h (x ∷ l) = once-counted u x l
 
 -- every answer is of a call
 total-calls : (l : List Answer) → total callOf l ≡ length l
@@ -47,7 +47,7 @@ unfolding eachCounter
 from-unused l = from-any unused refl l ∙ summed-unused l
 
 pub sums-cut : SumsCut
-sums-cut = record { from-any = from-any; from-first = from-first; from-unused = from-unused }
+sums-cut = record { from-any = from-any; once-counted = once-counted; from-unused = from-unused }
 
 -- an answer at the end of a history is counted last
 pub record-append : (u : Usage) (l : List Answer) (x : Answer) → recordOf u (l ++ x ∷ []) ≡ counted (recordOf u l) x

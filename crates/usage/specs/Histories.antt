@@ -33,8 +33,10 @@ spent l = usageOf (saturated (length l)) (saturated (total refusalOf l)) (satura
 abbrev pub InRange : Usage → Type 0
 InRange u = eachCounter (λ m n. saturated n) u ≡ u
 
--- counters that stop on the way tell what the exact sums come to, cut at the end: from any record, and from the empty one
+-- counters that stop on the way tell what the exact sums come to, cut at the end
 pub record SumsCut : Type 0 where
+  -- from any record of 32-bit numbers; once an answer is counted they are such, so the second law asks for nothing
   pub from-any : (u : Usage) → InRange u → (l : List Answer) → recordOf u l ≡ summed u l
-  pub from-first : (u : Usage) (x : Answer) (l : List Answer) → recordOf u (x ∷ l) ≡ summed u (x ∷ l)
+  pub once-counted : (u : Usage) (x : Answer) (l : List Answer) → recordOf u (x ∷ l) ≡ summed u (x ∷ l)
+  -- from the empty record
   pub from-unused : (l : List Answer) → recordOf unused l ≡ spent l
