@@ -2,7 +2,7 @@
 
 use super::{linked, Lengths, Pair};
 use compare::cards::{self, Random};
-use compare::twin::{self, Outcome, Usage, Verdict};
+use compare::twin::{self, Outcome, Usage, Verdict, MAX_TOKENS};
 
 /// Where a counter stops.
 const LAST: u64 = 4_294_967_295;
@@ -103,6 +103,29 @@ fn history(pair: &mut Pair, random: &mut Random, seen: &mut Seen) {
         }
     }
     seen.add(sums);
+}
+
+/// A day of four judgements from the empty record, and the deepest descent near the end of the counters, with the records that the papers give.
+pub fn stated_histories(pair: &mut Pair) {
+    let record = |[calls, refusals, acceptances, called]: [u32; 4]| Usage { calls, refusals, acceptances, called };
+    let (m, deepest) = (cards::card_m().words(), cards::chain(32, 24).words());
+    let last = u32::MAX;
+    let rows: [(&[u32], Vec<u8>, [u32; 4], [u32; 4]); 7] = [
+        (&m, vec![0], [0, 0, 0, 0], [1, 0, 1, 6]),
+        (&m, vec![0, 1, 2], [1, 0, 1, 6], [2, 0, 1, 15]),
+        (&m, vec![3], [2, 0, 1, 15], [3, 1, 1, 15]),
+        (&[], vec![], [3, 1, 1, 15], [4, 2, 1, 15]),
+        (&deepest, vec![0; MAX_TOKENS], [last - 1, 5, last - 2, last - 16_033], [last, 5, last - 1, last - 1]),
+        (&deepest, vec![0; MAX_TOKENS], [last, 5, last - 1, last - 16_032], [last, 5, last, last]),
+        (&deepest, vec![0; MAX_TOKENS + 1], [last, last, last, last - 1], [last, last, last, last - 1]),
+    ];
+    for (words, input, before, after) in rows {
+        let (_, usage) = judge_recorded(pair, words, &input, Lengths::LEAST, record(before));
+        if usage != record(after) {
+            pair.tally.differ += 1;
+            println!("the papers give {after:?} from {before:?}, the library {usage:?}");
+        }
+    }
 }
 
 /// So many histories, each of which depends on the seed and its number alone.

@@ -333,8 +333,9 @@ fn run(seed: u64, count: u64) -> bool {
     let memory = Memory::random(&mut random);
     let mut pair = Pair { twin: memory.clone(), proved: memory, tally: Tally::default() };
 
-    println!("stated: the judged inputs and limits of document 01, and rows of request P1");
+    println!("stated: the judged inputs and limits of document 01, and rows of the requests P1 and P2");
     stated_cases(&mut pair);
+    histories::stated_histories(&mut pair);
     println!("  {} cases, {} differ", pair.tally.cases, pair.tally.differ);
     let stated_tally = std::mem::take(&mut pair.tally);
 
