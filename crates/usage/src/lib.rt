@@ -6,7 +6,7 @@ ghost use Rattle.usage.specs.Histories.{counted};
 use answer::Answer;
 
 // Where a counter stops.
-const LIMIT: u32 = 4294967295;
+const COUNTER_LIMIT: u32 = 4294967295;
 
 // Calls to the judge, those refused, those accepted, and the calls that all their descents made (document 02: called pairs in all).
 pub struct Usage {
@@ -19,9 +19,9 @@ pub struct Usage {
 fn add(counter: u32, n: usize) -> u32
     ensures { λ r. ⌜ r ≡ saturated (counter + n) ⌝ }
 {
-    let room = LIMIT - counter;
+    let room = COUNTER_LIMIT - counter;
     if n > room as usize {
-        return LIMIT;
+        return COUNTER_LIMIT;
     }
     counter + n as u32
 }
