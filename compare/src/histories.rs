@@ -3,6 +3,7 @@
 use super::{linked, Lengths, Pair};
 use compare::cards::{self, Random};
 use compare::twin::{self, Outcome, Usage, Verdict, MAX_TOKENS};
+use std::cmp::Ordering;
 
 /// Where a counter stops.
 const LAST: u64 = 4_294_967_295;
@@ -32,10 +33,10 @@ impl Seen {
     fn add(&mut self, sums: [u64; 4]) {
         self.histories += 1;
         for (at, sum) in sums.into_iter().enumerate() {
-            let seen = match sum {
-                0..LAST => &mut self.below,
-                LAST => &mut self.exactly,
-                _ => &mut self.stopped,
+            let seen = match sum.cmp(&LAST) {
+                Ordering::Less => &mut self.below,
+                Ordering::Equal => &mut self.exactly,
+                Ordering::Greater => &mut self.stopped,
             };
             seen[at] += 1;
         }
