@@ -1,7 +1,7 @@
 /* Checking encoded Boolean grammars and judging inputs by them, in memory that the caller lends.
  *
  * A grammar (a card) is a row of 32-bit words; an input (a log) is a row of bytes, each the number of a terminal.
- * Both calls take any lengths, keep nothing, allocate nothing, and end. A pointer that goes with the length 0 is not read, but must not be
+ * Each call takes any lengths, keeps nothing, allocates nothing, and ends. A pointer that goes with the length 0 is not read, but must not be
  * null; a row of words must be aligned as its type asks, and memory that is written must not overlap anything else that is passed.
  *
  * Link with the archive that `rt staticlib embed` writes, target/staticlib/libembed.a. */
@@ -68,6 +68,15 @@ uint64_t vinegarspit_check(const uint32_t *card, size_t card_len, uint32_t *tabl
  * The deepest grammars nest 16,032 calls: have 4 MiB of stack, or see README.md. */
 uint64_t vinegarspit_judge(const uint32_t *card, size_t card_len, const uint8_t *log, size_t log_len,
                            uint32_t *table, size_t table_len, uint16_t *memo, size_t memo_len);
+
+/* Judges an input as vinegarspit_judge does, and counts the answer in a record that goes from call to call: usage[0] calls, usage[1]
+ * refusals, usage[2] acceptances, usage[3] the counts of all (called pairs). Each stops at 4,294,967,295, and all 0 is the empty record.
+ *
+ * Answer, table and memo are those of vinegarspit_judge. The record is no lent memory: a refusal, too, is counted, as a call and as a refusal.
+ * From the empty record each counter is the exact sum over all answers so far, cut at that number; whatever the record holds is taken as it
+ * is. */
+uint64_t vinegarspit_judge_recorded(const uint32_t *card, size_t card_len, const uint8_t *log, size_t log_len,
+                                    uint32_t *table, size_t table_len, uint16_t *memo, size_t memo_len, uint32_t usage[4]);
 
 /* The parts of an answer. */
 static inline unsigned vinegarspit_verdict(uint64_t answer) { return (unsigned)(answer & 255); }

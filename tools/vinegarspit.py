@@ -1,14 +1,17 @@
 """The proved library for scripts: a function for each call that include/vinegarspit.h declares.
 
-    from vinegarspit import judge, table, memo
+    from vinegarspit import judge, judge_recorded, table, memo, usage
     lent = table(), memo()
     answer = judge(words, b'\\0', *lent)     # for card R: Answer(verdict='accepted', number=0, place=0, count=2, far=1)
     lent[1][:2]                              # array('H', [1, 1])
+    day = usage()
+    judge_recorded(words, b'\\0', *lent, day)
+    day                                      # array('I', [1, 0, 1, 2]): calls, refusals, acceptances, called pairs
 
-A card is a row of words and a log a row of bytes. Lent memory is an array that the call writes into: array('I') for words of 32
-bits, 'H' for entries of 16. What the header states stands there alone: its limits and codes are attributes here (TABLE_WORDS,
-NO_RULE, ...), and the types of arguments and the parts of an answer are read from it. The library is made by tools/build_library
-when it is first called. The deepest cards need 4 MiB of stack, which the main thread has."""
+A card is a row of words and a log a row of bytes. Lent memory, or a record, is an array that the call writes into: array('I') for
+words of 32 bits, 'H' for entries of 16. What the header states stands there alone: its limits and codes are attributes here
+(TABLE_WORDS, NO_RULE, ...), and the types of arguments and the parts of an answer are read from it. The library is made by
+tools/build_library when it is first called. The deepest cards need 4 MiB of stack, which the main thread has."""
 import ctypes, functools, os, re, subprocess
 from array import array
 from typing import NamedTuple
@@ -24,8 +27,9 @@ TYPES = {'uint8_t': ('B', ctypes.c_uint8), 'uint16_t': ('H', ctypes.c_uint16), '
 class Parameter(NamedTuple):
     name: str
     type: str
-    row: bool        # a pointer; the number of its elements is the parameter behind it
-    written: bool    # lent memory
+    row: bool        # a pointer; the number of its elements is the parameter behind it, unless it is told
+    written: bool    # lent memory, or a record
+    length: int      # the number of elements of a row that always has as many, else 0
 
 
 @functools.cache
@@ -46,9 +50,9 @@ def calls():
     """The parameters of each call; the length of a row goes with it."""
     found = {}
     for name, text in re.findall(r'\buint64_t vinegarspit_(\w+)\(([^)]*)\);', header()):
-        parameters = [re.fullmatch(r'\s*(const )?(\w+) (\*?)(\w+)\s*', part).groups() for part in text.split(',')]
-        found[name] = [Parameter(each, kind, bool(star), bool(star) and not const)
-                       for const, kind, star, each in parameters if not each.endswith('_len')]
+        parameters = [re.fullmatch(r'\s*(const )?(\w+) (\*?)(\w+)(?:\[(\d+)\])?\s*', part).groups() for part in text.split(',')]
+        found[name] = [Parameter(each, kind, bool(star or length), bool(star or length) and not const, int(length or 0))
+                       for const, kind, star, each, length in parameters if not each.endswith('_len')]
     return found
 
 
@@ -100,12 +104,14 @@ def row_of(parameter, argument):
         argument = array(code, list(argument))
     if not isinstance(argument, array) or argument.typecode != code:
         raise TypeError(f"{parameter.name} has to be an array('{code}')")
+    if parameter.length and len(argument) != parameter.length:
+        raise ValueError(f'{parameter.name} has to be of {parameter.length} elements')
     elements = (element * len(argument)).from_buffer(argument) if argument else (element * 1)()    # no pointer may be null
-    return [elements, ctypes.c_size_t(len(argument))]
+    return [elements] if parameter.length else [elements, ctypes.c_size_t(len(argument))]
 
 
 def call(name, *arguments):
-    """Calls vinegarspit_NAME; each row is passed with its length, each number as it is."""
+    """Calls vinegarspit_NAME; each row is passed with its length, unless that is always the same, each number as it is."""
     parameters = calls()[name]
     if len(arguments) != len(parameters):
         raise TypeError(f'{name} takes {len(parameters)} arguments')
@@ -133,7 +139,12 @@ def judge(card, log, table, memo):
     return call('judge', card, log, table, memo)
 
 
-# Memory to lend, as much as each call asks for
+def judge_recorded(card, log, table, memo, usage):
+    """Judges a log, and counts the answer in the record: an array of calls, refusals, acceptances and called pairs."""
+    return call('judge_recorded', card, log, table, memo, usage)
+
+
+# Memory to lend, as much as each call asks for, and the empty record
 
 def table(fill=0):
     return array('I', [fill]) * constants()['TABLE_WORDS']
@@ -141,3 +152,7 @@ def table(fill=0):
 
 def memo(fill=0):
     return array('H', [fill]) * constants()['MEMO_ENTRIES']
+
+
+def usage():
+    return array('I', [0]) * next(parameter.length for parameter in calls()['judge_recorded'] if parameter.name == 'usage')

@@ -1,6 +1,6 @@
-//! The proved library's two calls, as the static library exports them, behind safe functions.
+//! The proved library's calls, as the static library exports them, behind safe functions.
 
-use compare::twin::{Outcome, Verdict};
+use compare::twin::{Outcome, Usage, Verdict};
 
 extern "C" {
     fn vinegarspit_check(card: *const u32, card_len: usize, table: *mut u32, table_len: usize) -> u64;
@@ -13,6 +13,17 @@ extern "C" {
         table_len: usize,
         memo: *mut u16,
         memo_len: usize,
+    ) -> u64;
+    fn vinegarspit_judge_recorded(
+        card: *const u32,
+        card_len: usize,
+        log: *const u8,
+        log_len: usize,
+        table: *mut u32,
+        table_len: usize,
+        memo: *mut u16,
+        memo_len: usize,
+        usage: *mut u32,
     ) -> u64;
 }
 
@@ -35,6 +46,27 @@ pub fn judge(words: &[u32], input: &[u8], table: &mut [u32], memo: &mut [u16]) -
             memo.len(),
         )
     }
+}
+
+/// The answer, and the record with it counted.
+pub fn judge_recorded(words: &[u32], input: &[u8], table: &mut [u32], memo: &mut [u16], usage: Usage) -> (u64, Usage) {
+    let mut counters = [usage.calls, usage.refusals, usage.acceptances, usage.called];
+    // Sound: as above, and the library writes four counters.
+    let answer = unsafe {
+        vinegarspit_judge_recorded(
+            words.as_ptr(),
+            words.len(),
+            input.as_ptr(),
+            input.len(),
+            table.as_mut_ptr(),
+            table.len(),
+            memo.as_mut_ptr(),
+            memo.len(),
+            counters.as_mut_ptr(),
+        )
+    };
+    let [calls, refusals, acceptances, called] = counters;
+    (answer, Usage { calls, refusals, acceptances, called })
 }
 
 /// The answer that the library packs an outcome into.

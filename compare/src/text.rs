@@ -1,6 +1,6 @@
 //! The texts that the two programs print, and those that record calls, made from the twin's answers.
 
-use crate::twin::{self, Grammar, Outcome, Verdict, MAX_TOKENS, MAX_WORDS, MEMO_ENTRIES, NO_RULE, NOT_CALLED, FAILED, TABLE_WORDS};
+use crate::twin::{self, Grammar, Outcome, Usage, Verdict, MAX_TOKENS, MAX_WORDS, MEMO_ENTRIES, NO_RULE, NOT_CALLED, FAILED, TABLE_WORDS};
 use std::fmt::Write;
 
 /// The words of a file, low byte first; none if it is not made of 4-byte words, or of more than so many.
@@ -71,15 +71,24 @@ fn changed<T: Copy + PartialEq + std::fmt::Display>(name: &str, memory: &[T], fi
     memory[..used].iter().fold(format!("/{name}"), |text, element| format!("{text} {element}"))
 }
 
-/// What a recorded call answers, and what it leaves in the memory that is lent to it; the sizes are those of the memories.
-pub fn call(name: &str, sizes: &[usize], card: &[u8], log: &[u8]) -> String {
+/// What a recorded call answers, and what it leaves in the memory that is lent to it and in the record; the numbers are the sizes of the
+/// memories, and behind them the record.
+pub fn call(name: &str, numbers: &[usize], card: &[u8], log: &[u8]) -> String {
     let words = words_of(card, usize::MAX).expect("words");
     let (word, entry) = (u32::from_le_bytes([FILL; 4]), u16::from_le_bytes([FILL; 2]));
-    let lent = |at: usize| sizes.get(at).copied().unwrap_or(0);
-    let (mut table, mut memo) = (vec![word; lent(0)], vec![entry; lent(1)]);
+    let given = |at: usize| numbers.get(at).copied().unwrap_or(0);
+    let (mut table, mut memo) = (vec![word; given(0)], vec![entry; given(1)]);
+    let mut record = String::new();
     let outcome = match name {
         "check" => twin::check(&words, &mut table),
         "judge" => twin::judge(&words, log, &mut table, &mut memo),
+        "judge_recorded" => {
+            let [calls, refusals, acceptances, called] = [2, 3, 4, 5].map(|at| given(at) as u32);
+            let usage = Usage { calls, refusals, acceptances, called };
+            let (outcome, next) = twin::judge_recorded(&words, log, &mut table, &mut memo, usage);
+            record = format!("/usage {} {} {} {}", next.calls, next.refusals, next.acceptances, next.called);
+            outcome
+        }
         _ => panic!("no call {name}"),
     };
     let answer = match outcome.verdict {
@@ -88,5 +97,5 @@ pub fn call(name: &str, sizes: &[usize], card: &[u8], log: &[u8]) -> String {
         Verdict::Rejected => format!("rejected {} {}", outcome.count, outcome.farthest),
         Verdict::Accepted => format!("accepted {} {}", outcome.count, outcome.farthest),
     };
-    answer + &changed("table", &table, word) + &changed("memo", &memo, entry)
+    answer + &changed("table", &table, word) + &changed("memo", &memo, entry) + &record
 }

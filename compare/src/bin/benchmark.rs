@@ -4,7 +4,7 @@
 mod linked;
 
 use compare::cards::{self, Draft};
-use compare::twin::{self, MEMO_ENTRIES, TABLE_WORDS};
+use compare::twin::{self, Usage, MEMO_ENTRIES, TABLE_WORDS};
 use std::{hint::black_box, time::Instant};
 
 /// How many batches of each kind are timed; an odd number, so that one of them is the median.
@@ -117,6 +117,31 @@ fn time_judge(what: &str, draft: &Draft, input: &[u8], with_peg: bool) {
     print_row(&format!("judge {what}, {} tokens", input.len()), &format!("{:?}", outcome.verdict).to_lowercase(), &times);
 }
 
+/// As `time_judge`, with a record that goes from call to call.
+fn time_judge_recorded(what: &str, draft: &Draft, input: &[u8]) {
+    let words = draft.words();
+    let (mut proved, mut twin) = (Memory::new(), Memory::new());
+    let empty = Usage::default();
+    let (outcome, record) = twin::judge_recorded(&words, input, &mut twin.table, &mut twin.memo, empty);
+    let answer = linked::judge_recorded(&words, input, &mut proved.table, &mut proved.memo, empty);
+    let agree = answer == (linked::packed(outcome), record) && twin.table == proved.table && twin.memo == proved.memo;
+    assert!(agree, "{what}: the answers differ");
+    let (mut kept, mut kept_by_twin) = (empty, empty);
+    let times = medians(&mut [
+        &mut || {
+            let (answer, next) = linked::judge_recorded(black_box(&words), black_box(input), &mut proved.table, &mut proved.memo, kept);
+            kept = next;
+            answer
+        },
+        &mut || {
+            let (outcome, next) = twin::judge_recorded(black_box(&words), black_box(input), &mut twin.table, &mut twin.memo, kept_by_twin);
+            kept_by_twin = next;
+            linked::packed(outcome)
+        },
+    ]);
+    print_row(&format!("recorded {what}, {} tokens", input.len()), &format!("{:?}", outcome.verdict).to_lowercase(), &times);
+}
+
 /// An input of card M's language where `before` is not `nested`: a's, then b's and as many c's.
 fn axles(before: usize, nested: usize) -> Vec<u8> {
     [vec![0; before], vec![1; nested], vec![2; nested]].concat()
@@ -142,6 +167,7 @@ fn main() {
     for (before, nested) in [(0, 0), (10, 20), (100, 200)] {
         time_judge("card M", &cards::card_m(), &axles(before, nested), peg::MADE);
     }
+    time_judge_recorded("card M", &cards::card_m(), &axles(10, 20));
     for tokens in [0, 50, 500] {
         time_judge("chain of 32", &cards::chain(32, 1), &vec![0; tokens], false);
     }

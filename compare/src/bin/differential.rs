@@ -1,5 +1,7 @@
-//! Compares the proved library with the twin, answer and memory, on random, damaged and all small grammars and inputs.
+//! Compares the proved library with the twin, answer, memory and record, on random, damaged and all small grammars and inputs.
 
+#[path = "../histories.rs"]
+mod histories;
 #[path = "../linked.rs"]
 mod linked;
 
@@ -16,6 +18,8 @@ const SMALL: [(u32, u32, usize); 4] = [(1, 1, 11), (1, 2, 10), (2, 1, 10), (2, 2
 const MOST_TOKENS: usize = 4;
 const DEFAULT_SEED: u64 = 1;
 const DEFAULT_COUNT: u64 = 150_000;
+/// How many random cases there are for each random history.
+const CASES_A_HISTORY: u64 = 10;
 
 /// The memory lent to one of the two, with what lies around it.
 #[derive(Clone)]
@@ -108,9 +112,14 @@ impl Tally {
         println!("  calls of nonterminals {}, in one descent at most {}", self.calls, self.most_calls);
     }
 
-    /// Whether every outcome that document 01 knows was seen.
+    /// Whether every outcome of judging was seen.
+    fn judged(&self) -> bool {
+        self.refused[1..].iter().chain([&self.rejected, &self.accepted]).all(|&times| times > 0)
+    }
+
+    /// Whether every outcome that document 01 knows was seen, and a grammar of the form that request P1 adds.
     fn complete(&self) -> bool {
-        self.refused[1..].iter().chain([&self.passed, &self.rejected, &self.accepted, &self.forbidding]).all(|&times| times > 0)
+        self.judged() && self.passed > 0 && self.forbidding > 0
     }
 }
 
@@ -324,8 +333,9 @@ fn run(seed: u64, count: u64) -> bool {
     let memory = Memory::random(&mut random);
     let mut pair = Pair { twin: memory.clone(), proved: memory, tally: Tally::default() };
 
-    println!("stated: the judged inputs and limits of document 01, and rows of request P1");
+    println!("stated: the judged inputs and limits of document 01, and rows of the requests P1 and P2");
     stated_cases(&mut pair);
+    histories::stated_histories(&mut pair);
     println!("  {} cases, {} differ", pair.tally.cases, pair.tally.differ);
     let stated_tally = std::mem::take(&mut pair.tally);
 
@@ -338,6 +348,15 @@ fn run(seed: u64, count: u64) -> bool {
     let random_tally = std::mem::take(&mut pair.tally);
 
     let start = Instant::now();
+    println!("recorded: seed {seed}, random histories of judgements, each with the record that the one before handed back");
+    let seen = histories::random_histories(&mut pair, seed, count / CASES_A_HISTORY);
+    pair.tally.print();
+    seen.print();
+    let complete = complete && pair.tally.judged() && seen.complete();
+    println!("  {} cases, {} differ, {:.1} s", pair.tally.cases, pair.tally.differ, start.elapsed().as_secs_f64());
+    let recorded_tally = std::mem::take(&mut pair.tally);
+
+    let start = Instant::now();
     println!("small: every grammar over few words, and every input up to {MOST_TOKENS} tokens for each that passes");
     for (nonterminals, terminals, most_words) in SMALL {
         pair.refill(&mut random);
@@ -348,12 +367,12 @@ fn run(seed: u64, count: u64) -> bool {
     pair.tally.print();
     println!("  {} cases, {} differ, {:.1} s", pair.tally.cases, pair.tally.differ, start.elapsed().as_secs_f64());
 
-    let tallies = [&stated_tally, &random_tally, &pair.tally];
+    let tallies = [&stated_tally, &random_tally, &recorded_tally, &pair.tally];
     let differ: u64 = tallies.iter().map(|tally| tally.differ).sum();
     let cases: u64 = tallies.iter().map(|tally| tally.cases).sum();
     println!("{cases} cases, {differ} differ");
     if !complete {
-        println!("an outcome never occurred among the random cases");
+        println!("an outcome never occurred among the random cases or histories");
     }
     differ == 0 && (complete || count < 10_000)
 }

@@ -8,9 +8,11 @@ mod lookahead;
 mod one;
 mod sets;
 mod table;
+mod usage;
 mod words;
 
 pub use answers::{Outcome, Refusal, Verdict};
 pub use calls::{check, judge};
 pub use limits::*;
+pub use usage::{judge_recorded, Usage};
 pub use words::{Grammar, Symbol};

@@ -1,4 +1,4 @@
--- Each answer of the two calls fits the fields, and the fields give it back.
+-- Each answer of the calls fits the fields, and the fields give it back.
 use mathlib.Core.Path.{_≡_, refl, _∙_}
 use mathlib.Core.Bool.{Bool, true, false}
 use mathlib.Core.List.{List}
@@ -25,8 +25,12 @@ use Rattle.recognizer.specs.Answers.{checkFault, judgeFault, callsOf, verdictOf
 use Rattle.recognizer.specs.Properties.{Checks, Judges}
 use Rattle.recognizer.proofs.Checking.{passed-fault, passed-encodes, passed-free}
 use Rattle.recognizer.proofs.JudgeFaults.{judged-readable}
+use Rattle.usage.specs.declared.Usage.{Usage}
+use Rattle.recording.specs.declared.Recorded.{Recorded}
+use Rattle.recording.specs.Properties.{Records}
 use Rattle.embed.specs.Packing.{Fit, NumbersFit, joined, packed, Unpacks}
-use Rattle.embed.specs.Exports.{CheckExported, JudgeExported}
+use Rattle.embed.specs.Records.{countersOf, usageIn}
+use Rattle.embed.specs.Exports.{CheckExported, JudgeExported, RecordedExported}
 use Rattle.embed.proofs.Places.{Low, check-low, judge-low}
 
 code-low : (e : Error) → coded e .code < 256
@@ -136,3 +140,16 @@ pub judge-exported : {words input table memo table′ memo′ : List ℕ} {a : A
     → r ≡ packed (numbers a)
     → JudgeExported words input table memo r table′ memo′
 judge-exported {a = a} j e = record { answer = a; judges = j; packs = e; unpacks = unpacks (numbers a) (judge-fits j) e }
+
+pub recorded-exported : {words input table memo table′ memo′ counters counters′ : List ℕ} {u : Usage} {x : Recorded} {r : ℕ} → u ≡ usageIn counters
+    → Records words input table memo u x table′ memo′
+    → counters′ ≡ countersOf (x .usage)
+    → r ≡ packed (numbers (x .answer))
+    → RecordedExported words input table memo counters r table′ memo′ counters′
+recorded-exported {x = x} h c w e = record {
+  recorded = x;
+  records = rw h at c;
+  written = w;
+  packs = e;
+  unpacks = unpacks (numbers (x .answer)) (judge-fits (c .judges)) e;
+}

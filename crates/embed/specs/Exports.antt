@@ -6,7 +6,10 @@ use Prim.Native.Nat.{ℕ}
 use Rattle.answer.specs.declared.Answer.{Answer}
 use Rattle.answer.specs.Numbers.{numbers}
 use Rattle.recognizer.specs.Properties.{Checks, Judges}
+use Rattle.recording.specs.declared.Recorded.{Recorded}
+use Rattle.recording.specs.Properties.{Records}
 use Rattle.embed.specs.Packing.{packed, Unpacks}
+use Rattle.embed.specs.Records.{countersOf, usageIn}
 
 pub record CheckExported (words before : List ℕ) (r : ℕ) (after : List ℕ) : Type 0 where
   pub answer : Answer
@@ -19,3 +22,11 @@ pub record JudgeExported (words input table memo : List ℕ) (r : ℕ) (table′
   pub judges : Judges words input table memo answer table′ memo′
   pub packs : r ≡ packed (numbers answer)
   pub unpacks : Unpacks r (numbers answer)
+
+-- the record is read from four numbers of the caller's and written back into them
+pub record RecordedExported (words input table memo counters : List ℕ) (r : ℕ) (table′ memo′ counters′ : List ℕ) : Type 0 where
+  pub recorded : Recorded
+  pub records : Records words input table memo (usageIn counters) recorded table′ memo′
+  pub written : counters′ ≡ countersOf (recorded .usage)
+  pub packs : r ≡ packed (numbers (recorded .answer))
+  pub unpacks : Unpacks r (numbers (recorded .answer))

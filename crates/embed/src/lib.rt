@@ -9,6 +9,8 @@ use answer::position;
 use recognizer::check;
 use recognizer::judge;
 
+mod recorded;
+
 // The five fields side by side.
 fn join(verdict: u64, code: u64, position: u64, count: u64, farthest: u64) -> u64
     requires { ⌜ Fit verdict code position count farthest ⌝ }
