@@ -1,7 +1,8 @@
--- The numbers that document 01 gives to each answer: one row for each case.
+-- The numbers that documents 01 and 02 give to each answer: one row for each case.
 use Prim.Native.Nat.{ℕ, _+_, _*_}
 use Rattle.answer.specs.declared.Error.{Error}
-use Rattle.answer.specs.declared.Error.the-variants.{TableTooShort, MemoTooShort, Length, Heading, UnexpectedWord, OutOfRange, TooManyRules, LeftRecursive, Conflict, InputTooLong, UnknownToken}
+use Rattle.answer.specs.declared.Error.the-variants.{TableTooShort, MemoTooShort, Length, Heading, UnexpectedWord, OutOfRange, TooManyRules, LeftRecursive, Unproductive, Conflict, InputTooLong, UnknownToken}
+use Rattle.answer.specs.declared.Error.the-variants.{SpansTooShort, TreeTooShort, WideTableTooShort, BufferTooShort, UnknownClient, QuotaReached, TooManyTerminals, UnknownCheckpoint, CheckpointNotSet, InputFull, TooManyInputs}
 use Rattle.answer.specs.declared.Answer.{Answer}
 use Rattle.answer.specs.declared.Answer.the-variants.{Refused, Passed, Rejected, Accepted}
 
@@ -22,9 +23,21 @@ coded (UnexpectedWord at) = row 5 at
 coded (OutOfRange at) = row 6 at
 coded (TooManyRules at) = row 7 at
 coded (LeftRecursive nonterminal) = row 8 nonterminal
+coded (Unproductive nonterminal) = row 13 nonterminal
 coded (Conflict nonterminal column) = row 9 (nonterminal * 32 + column)
 coded InputTooLong = row 10 0
 coded (UnknownToken at) = row 11 at
+coded SpansTooShort = row 12 0
+coded TreeTooShort = row 14 0
+coded WideTableTooShort = row 17 0
+coded BufferTooShort = row 23 0
+coded UnknownClient = row 15 0
+coded QuotaReached = row 16 0
+coded TooManyTerminals = row 18 0
+coded UnknownCheckpoint = row 19 0
+coded CheckpointNotSet = row 20 0
+coded InputFull = row 21 0
+coded TooManyInputs = row 22 0
 
 pub data Verdict : Type 0 where
   refused passed rejected accepted : Verdict

@@ -8,7 +8,8 @@ use native.Mathlib.Nat.{mul-le-mul}
 use native.Mathlib.Omega.{arith}
 use lib.ListN.{length}
 use Rattle.answer.specs.declared.Error.{Error}
-use Rattle.answer.specs.declared.Error.the-variants.{TableTooShort, MemoTooShort, Length, Heading, UnexpectedWord, OutOfRange, TooManyRules, LeftRecursive, Conflict, InputTooLong, UnknownToken}
+use Rattle.answer.specs.declared.Error.the-variants.{TableTooShort, MemoTooShort, Length, Heading, UnexpectedWord, OutOfRange, TooManyRules, LeftRecursive, Unproductive, Conflict, InputTooLong, UnknownToken}
+use Rattle.answer.specs.declared.Error.the-variants.{SpansTooShort, TreeTooShort, WideTableTooShort, BufferTooShort, UnknownClient, QuotaReached, TooManyTerminals, UnknownCheckpoint, CheckpointNotSet, InputFull, TooManyInputs}
 use Rattle.answer.specs.declared.Calls.{Calls}
 use Rattle.answer.specs.declared.Answer.{Answer}
 use Rattle.answer.specs.declared.Answer.the-variants.{Refused, Passed, Rejected, Accepted}
@@ -42,9 +43,21 @@ code-low (UnexpectedWord at) = omega arith
 code-low (OutOfRange at) = omega arith
 code-low (TooManyRules at) = omega arith
 code-low (LeftRecursive A) = omega arith
+code-low (Unproductive A) = omega arith
 code-low (Conflict A c) = omega arith
 code-low InputTooLong = omega arith
 code-low (UnknownToken at) = omega arith
+code-low SpansTooShort = omega arith
+code-low TreeTooShort = omega arith
+code-low WideTableTooShort = omega arith
+code-low BufferTooShort = omega arith
+code-low UnknownClient = omega arith
+code-low QuotaReached = omega arith
+code-low TooManyTerminals = omega arith
+code-low UnknownCheckpoint = omega arith
+code-low CheckpointNotSet = omega arith
+code-low InputFull = omega arith
+code-low TooManyInputs = omega arith
 
 refused-fits : (e : Error) → coded e .position ≤ maxWords → NumbersFit (numbers (Refused e))
 refused-fits e h = record { verdict = omega arith; code = code-low e; position = omega arith; count = omega arith; farthest = omega arith }
