@@ -1,0 +1,4 @@
+pub mod Lines
+pub mod Overlaps
+pub mod Same
+pub mod Lengths

@@ -1,0 +1,94 @@
+-- What is counted and put is what the rules claim and what is told of the nonterminals.
+use mathlib.Core.Path.{_≡_, refl, sym, ap, _∙_}
+use mathlib.Core.Bool.{Bool, true, false}
+use mathlib.Core.List.{List, [], _++_}
+use Prim.Native.Nat.{ℕ, zero, suc, _+_, _≤_, _<_}
+use native.Mathlib.Numerals.{add-one}
+use native.Mathlib.Omega.{arith}
+use lib.ListN.{getD}
+use borrow.Author.Tests.{eq-eqb, ne-eqb}
+use Rattle.booleans.specs.Quantifiers.{one, countBelow}
+use Rattle.lookahead.specs.Elements.{has}
+use Rattle.lookahead.specs.Operations.{isEmpty}
+use Rattle.table.specs.Claims.{claimant}
+use Rattle.text.specs.Ascii.{ascii}
+use Rattle.text.specs.Decimal.{decimal, labelled}
+use Rattle.text.specs.Writing.{Put, upTo}
+use Rattle.text.proofs.Writing.{put-none}
+use Rattle.gaps_text.specs.Gaps.{claimantText, claimantsText, entryLine, overrunLine}
+use Rattle.gaps_text.specs.Steps.{overrunsBy}
+
+-- by the rule's head
+module _ (heads sets : List ℕ) (A l q : ℕ) where
+  pub claimant-own : {b : Bool} → getD heads q 0 ≡ A → b ≡ has (getD sets q 0) l → b ≡ claimant heads sets A l q
+  unfolding claimant
+  claimant-own e h = h ∙ rw (eq-eqb (getD heads q 0) A e)
+
+  pub claimant-other : (getD heads q 0 ≡ A → ⊥) → false ≡ claimant heads sets A l q
+  unfolding claimant
+  claimant-other e = rw (ne-eqb (getD heads q 0) A e)
+
+-- the count so far, which is at most the number of rules passed
+pub record Counting (p : ℕ → Bool) (rules n rule : ℕ) : Type 0 where
+  pub within : rule ≤ rules
+  pub counted : n ≡ countBelow rule p
+  pub few : n ≤ rule
+
+pub counting-start : (p : ℕ → Bool) (rules : ℕ) → Counting p rules 0 0
+unfolding countBelow
+counting-start p rules = record { within = omega arith; counted = refl; few = omega arith }
+
+pub one-few : (b : Bool) → one b ≤ 1
+one-few true = omega arith
+one-few false = omega arith
+
+module _ {p : ℕ → Bool} {rules n rule : ℕ} (c : Counting p rules n rule) where
+  pub counting-next : rule < rules → {b : Bool} {m : ℕ} → b ≡ p rule → m ≡ one b → Counting p rules (m + n) (rule + 1)
+  unfolding countBelow
+  counting-next h {b} {m} e k = record {
+    within = omega arith;
+    counted = rw (k, e, c .counted, add-one rule);
+    few = omega (arith, one-few b, c .few);
+  }
+
+  pub counting-end : rules ≤ rule → n ≡ countBelow rules p
+  counting-end h = let e : rule ≡ rules = omega (arith, c .within) in c .counted ∙ ap (λ k. countBelow k p) e
+
+-- by what is counted, and by what is told
+module _ {l m : List ℕ} {at next : ℕ} where
+  pub claimant-put : {b : Bool} (q : ℕ) → b ≡ true → Put l at (labelled " " q) m next → Put l at (claimantText b q) m next
+  unfolding claimantText
+  claimant-put q e p = rw e p
+
+  module _ (p : ℕ → Bool) (rules : ℕ) {n : ℕ} (e : n ≡ countBelow rules p) where
+    pub dash-put : n ≡ 0 → Put l at (ascii " -") m next → Put l at (claimantsText rules p) m next
+    unfolding claimantsText
+    dash-put z k = rw (eq-eqb (countBelow rules p) 0 (sym e ∙ z)) k
+
+    pub numbers-put : (n ≡ 0 → ⊥) → Put l at (upTo rules (λ q. claimantText (p q) q)) m next → Put l at (claimantsText rules p) m next
+    unfolding claimantsText
+    numbers-put z k = rw (ne-eqb (countBelow rules p) 0 (λ d. z (e ∙ d))) k
+
+    pub line-put : (A c : ℕ) → (n ≡ 1 → ⊥) → Put l at (decimal A ++ labelled " " c ++ claimantsText rules p ++ ascii "\n") m next
+        → Put l at (entryLine rules p A c) m next
+    unfolding entryLine
+    line-put A c z k = rw (ne-eqb (countBelow rules p) 1 (λ d. z (e ∙ d))) k
+
+  pub overrun-put : (set A : ℕ) {b : Bool} → b ≡ isEmpty set → b ≡ false → Put l at (decimal A ++ ascii "\n") m next
+      → Put l at (overrunLine (overrunsBy set) A) m next
+  unfolding overrunLine
+  overrun-put set A e z k = rw (sym e ∙ z) k
+
+-- where there is nothing to put
+module _ (l : List ℕ) (at : ℕ) where
+  pub nobody-put : (q : ℕ) {b : Bool} → b ≡ false → Put l at (claimantText b q) l at
+  unfolding claimantText
+  nobody-put q e = rw e (put-none l at)
+
+  pub no-line-put : (p : ℕ → Bool) (rules A c : ℕ) {n : ℕ} → n ≡ countBelow rules p → n ≡ 1 → Put l at (entryLine rules p A c) l at
+  unfolding entryLine
+  no-line-put p rules A c e z = rw (eq-eqb (countBelow rules p) 1 (sym e ∙ z)) (put-none l at)
+
+  pub no-overrun-put : (set A : ℕ) {b : Bool} → b ≡ isEmpty set → b ≡ true → Put l at (overrunLine (overrunsBy set) A) l at
+  unfolding overrunLine
+  no-overrun-put set A e z = rw (sym e ∙ z) (put-none l at)

@@ -1,0 +1,150 @@
+-- An entry that two rules claim has more than one claimant; neither such an entry nor a nonterminal that overruns is there exactly when
+-- there is no clash.
+use mathlib.Core.Path.{_≡_, refl, sym, ap, _∙_}
+use mathlib.Core.Bool.{Bool, true, false, _&&_, _||_}
+use mathlib.Core.List.{List, [], _∷_, List·Memᴰ, List·Memᴰ·head, List·Memᴰ·not-nil}
+use mathlib.Core.Logic.{_↔_, _⊎_, inl, inr}
+use mathlib.Core.Option.{Option, none, some}
+use Prim.Native.Nat.{ℕ, zero, suc, _+_, _≤_, _<_}
+use native.Mathlib.Omega.{arith}
+use lib.Dec.{T, eqb, ltb, ltb→lt}
+use lib.ListN.{length, getElem?}
+use borrow.Author.Tests.{eq-eqb, ne-eqb}
+use Rattle.booleans.specs.Choice.{choose}
+use Rattle.booleans.specs.Quantifiers.{anyOf, allOf, one, countBelow}
+use Rattle.booleans.proofs.Booleans.{T-none, and-l, or-cases}
+use Rattle.grammar.specs.Encoding.{grammarOf}
+use Rattle.grammar.specs.Syntax.{Rule, Grammar}
+use Rattle.semantics.specs.Claims.{several, claims, overruns, clashes, column}
+use Rattle.semantics.specs.Families.{Claims}
+use Rattle.semantics.specs.FirstFollow.{Entry, sameString, entries, First, Follow}
+use Rattle.semantics.specs.Strings.{Lookahead}
+use Rattle.semantics.proofs.Claims.{ClaimsAt, claims-make, claims-elim, overruns-make, overruns-elim, clashes-make}
+use Rattle.semantics.proofs.FiniteSets.{keep-elim}
+use Rattle.semantics.proofs.LookaheadSets.{entries-elim}
+use Rattle.semantics.proofs.Positions.{several-elim}
+use Rattle.sets.specs.Analysis.{setsFault}
+use Rattle.table.specs.Analysis.{clashFault, fault}
+use Rattle.table.specs.Layout.{columnString}
+use Rattle.table.proofs.Analyzing.{fault-sets}
+use Rattle.gaps_text.specs.Gaps.{onRule, claimsAt, claimants, NoneShown, LinesTell}
+
+-- the first number, and those above it
+count-first : (n : ℕ) (p : ℕ → Bool) → countBelow (suc n) p ≡ one (p 0) + countBelow n (λ q. p (suc q))
+unfolding countBelow
+count-first zero p = refl
+count-first (suc n) p = let e = count-first n p in omega arith
+
+-- how many rules of a list pass
+module _ (p : Rule → Bool) where
+  abbrev passing : List Rule → ℕ
+  passing l = countBelow (length l) (λ q. onRule (getElem? l q) p)
+
+  passing-cons : (r : Rule) (l : List Rule) → passing (r ∷ l) ≡ one (p r) + passing l
+  passing-cons r l = count-first (length l) (λ q. onRule (getElem? (r ∷ l) q) p)
+
+  none-pass : (l : List Rule) → (anyOf p l ≡ false) ↔ (passing l ≡ 0)
+  unfolding anyOf countBelow
+  none-pass [] = (λ e. refl, λ e. refl)
+  none-pass (r ∷ l) = rw (passing-cons r l) (go (p r) (none-pass l))
+    where
+      go : (b : Bool) → (anyOf p l ≡ false) ↔ (passing l ≡ 0) → ((b || anyOf p l) ≡ false) ↔ (one b + passing l ≡ 0)
+      go true h = (λ e. let z : _≡_ {A = ℕ} 0 1 = cc in absurd (omega arith), λ e. absurd (omega arith))
+      go false h = (λ e. omega (arith, h .0 e), λ e. h .1 (omega arith))
+
+  few-pass : (l : List Rule) → (several p l ≡ false) ↔ (passing l ≤ 1)
+  unfolding several countBelow
+  few-pass [] = (λ e. omega arith, λ e. refl)
+  few-pass (r ∷ l) = rw (passing-cons r l) (go (p r) (anyOf p l) (none-pass l) (few-pass l))
+    where
+      go : (b c : Bool) → (c ≡ false) ↔ (passing l ≡ 0) → (several p l ≡ false) ↔ (passing l ≤ 1)
+          → (((b && c) || several p l) ≡ false) ↔ (one b + passing l ≤ 1)
+      go true true h k = (
+        λ e. let z : _≡_ {A = ℕ} 0 1 = cc in absurd (omega arith),
+        λ e. let z = h .1 (omega arith) in let y : _≡_ {A = ℕ} 0 1 = cc in absurd (omega arith),
+      )
+      go true false h k = (λ e. omega (arith, h .0 refl), λ e. k .1 (omega arith))
+      go false c h k = (λ e. omega (arith, k .0 e), λ e. k .1 (omega arith))
+
+  -- a rule of that number passes
+  on-rule : (o : Option Rule) → T (onRule o p) ↔ ((r : Rule) × (o ≡ some r) × T (p r))
+  on-rule none = (λ t. absurd t, λ h. let e = h .1 in let z : _≡_ {A = ℕ} 0 1 = cc in absurd (omega arith))
+  on-rule (some r) = (λ t. (r, refl, t), λ h. let e = h .1 in let d : r ≡ h .0 = cc in rw d (h .2))
+
+-- the column of a string of at most one terminal
+string-column : (t : ℕ) (x : List ℕ) → Lookahead 1 t x → (column t x < suc t) × (columnString t (column t x) ≡ x)
+unfolding columnString allOf
+string-column t [] h = (omega arith, rw (eq-eqb t t refl))
+string-column t (a ∷ []) h =
+    let l : a < t = ltb→lt a t (and-l (ltb a t) true (h .1)) in
+    (omega arith, rw (ne-eqb a t (λ e. omega arith)))
+string-column t (a ∷ b ∷ x) h = absurd (omega (arith, h .0))
+
+module _ (G : Grammar) where
+  overlapping : (A c : ℕ) → (several (claims G 1 (A, columnString (G .terminals) c)) (G .rules) ≡ false) ↔ (claimants G A c ≤ 1)
+  unfolding claimsAt
+  overlapping A c = few-pass (claims G 1 (A, columnString (G .terminals) c)) (G .rules)
+
+  pub claimed-by : (A c q : ℕ) → T (claimsAt G A c q) ↔ Claims G 1 (First G 1) (Follow G 1) q A (columnString (G .terminals) c)
+  unfolding claimsAt
+  claimed-by A c q =
+      let x = columnString (G .terminals) c in
+      let o = on-rule (claims G 1 (A, x)) (getElem? (G .rules) q) in
+      (λ t. claims-elim G 1 q A x (o .0 t), λ k. o .1 (claims-make G 1 q A x k))
+
+  -- without clash none is shown
+  clashless-none : clashes G 1 ≡ [] → NoneShown G
+  clashless-none free = record {
+    overlap = λ A c a h. overlapping A c .0 (T-none _ (λ t. List·Memᴰ·not-nil (rw free at (overlap-listed A (columnString (G .terminals) c) t))));
+    overrun = λ A a. T-none _ (λ t. List·Memᴰ·not-nil (rw free at (clashes-make G 1 A (0 ∷ []) (inr (overruns-elim G 1 A t, refl)))));
+  }
+    where
+      overlap-listed : (A : ℕ) (x : List ℕ) → T (several (claims G 1 (A, x)) (G .rules)) → List·Memᴰ (A, x) (clashes G 1)
+      overlap-listed A x t =
+          let r = several-elim (claims G 1 (A, x)) (G .rules) t in
+          clashes-make G 1 A x (inl (record {
+            one = r .0;
+            other = r .1;
+            different = r .2;
+            claimsOne = claims-elim G 1 (r .0) A x (r .3);
+            claimsOther = claims-elim G 1 (r .1) A x (r .4);
+          }))
+
+  -- where none is shown there is no clash
+  none-clashless : NoneShown G → clashes G 1 ≡ []
+  unfolding clashes
+  none-clashless n = absent (clashes G 1) refl
+    where
+      unlike : (d : Entry) → d .0 < G .nonterminals → Lookahead 1 (G .terminals) (d .1)
+          → T (several (claims G 1 d) (G .rules)) ⊎ T (overruns G 1 (d .0) && sameString (0 ∷ []) (d .1)) → ⊥
+      unlike d a h (inl t) =
+          let s = string-column (G .terminals) (d .1) h in
+          let c = column (G .terminals) (d .1) in
+          let f : several (claims G 1 (d .0, d .1)) (G .rules) ≡ false = rw (s .1) at (overlapping (d .0) c .1 (n .overlap (d .0) c a (s .0))) in
+          rw f at t
+      unlike d a h (inr t) = rw (n .overrun (d .0) a) at t
+
+      absent : (l : List Entry) → clashes G 1 ≡ l → clashes G 1 ≡ []
+      absent [] e = e
+      absent (d ∷ l) e =
+          let m : List·Memᴰ d (clashes G 1) = rw e (List·Memᴰ·head refl) in
+          let k = keep-elim (λ e. several (claims G 1 e) (G .rules) || (overruns G 1 (e .0) && sameString (0 ∷ []) (e .1))) (entries G 1) d m in
+          let r = entries-elim G 1 d (k .0) in
+          absurd (unlike d (r .0) (r .1) (or-cases (several (claims G 1 d) (G .rules)) _ (k .1)))
+
+none-clash : (t : ℕ) (l : List Entry) → clashFault t l ≡ none → l ≡ []
+none-clash t [] e = refl
+none-clash t (x ∷ l) e = let z : _≡_ {A = ℕ} 0 1 = cc in absurd (omega arith)
+
+pub lines-tell : (words : List ℕ) → LinesTell words
+lines-tell words = record {
+  claimed = claimed-by G;
+  overrun = λ A. (overruns-elim G 1 A, overruns-make G 1 A);
+  nine = λ f. (
+    λ n. let free = none-clashless G n in rw (fault-sets words, f, free),
+    λ e. clashless-none G (none-clash (G .terminals) (clashes G 1) (rw (fault-sets words, f) at e)),
+  );
+}
+  where
+    G : Grammar
+    G = grammarOf words
