@@ -11,12 +11,13 @@ use Rattle.booleans.specs.Quantifiers.{one, countBelow}
 use Rattle.lookahead.specs.Elements.{has}
 use Rattle.lookahead.specs.Operations.{isEmpty}
 use Rattle.table.specs.Claims.{claimant}
+use Rattle.table.specs.Layout.{columnElement}
 use Rattle.text.specs.Ascii.{ascii}
 use Rattle.text.specs.Decimal.{decimal, labelled}
 use Rattle.text.specs.Writing.{Put, upTo}
 use Rattle.text.proofs.Writing.{put-none}
 use Rattle.gaps_text.specs.Gaps.{claimantText, claimantsText, entryLine, overrunLine}
-use Rattle.gaps_text.specs.Steps.{overrunsBy}
+use Rattle.gaps_text.specs.Steps.{claimantAt, overrunsBy}
 
 -- by the rule's head
 module _ (heads sets : List ℕ) (A l q : ℕ) where
@@ -73,6 +74,11 @@ module _ {l m : List ℕ} {at next : ℕ} where
         → Put l at (entryLine rules p A c) m next
     unfolding entryLine
     line-put A c z k = rw (ne-eqb (countBelow rules p) 1 (λ d. z (e ∙ d))) k
+
+  -- the line by a column's element is the line by the column
+  pub column-line : (heads sets : List ℕ) (rules t A c : ℕ) {x : ℕ} → x ≡ columnElement t c → Put l at (entryLine rules (claimant heads sets A x) A c) m next
+      → Put l at (entryLine rules (claimantAt heads sets t A c) A c) m next
+  column-line heads sets rules t A c e k = rw e at k
 
   pub overrun-put : (set A : ℕ) {b : Bool} → b ≡ isEmpty set → b ≡ false → Put l at (decimal A ++ ascii "\n") m next
       → Put l at (overrunLine (overrunsBy set) A) m next

@@ -10,6 +10,8 @@ use native.Mathlib.Omega.{arith}
 use lib.Dec.{T, eqb, ltb, ltb→lt}
 use lib.ListN.{length, getElem?}
 use borrow.Author.Tests.{eq-eqb, ne-eqb}
+use Rattle.answer.specs.declared.Error.{Error}
+use Rattle.answer.specs.Faults.{firstFault}
 use Rattle.booleans.specs.Choice.{choose}
 use Rattle.booleans.specs.Quantifiers.{anyOf, allOf, one, countBelow}
 use Rattle.booleans.proofs.Booleans.{T-none, and-l, or-cases}
@@ -136,15 +138,21 @@ none-clash : (t : ℕ) (l : List Entry) → clashFault t l ≡ none → l ≡ []
 none-clash t [] e = refl
 none-clash t (x ∷ l) e = let z : _≡_ {A = ℕ} 0 1 = cc in absurd (omega arith)
 
+-- the last of the faults
+last : (x : Option Error) → firstFault (none ∷ x ∷ []) ≡ x
+last none = refl
+last (some e) = refl
+
+-- of a grammar clear of the errors 3 to 8: nothing of the kind is shown exactly when 9 is not given
+nine-told : (words : List ℕ) → setsFault words ≡ none → NoneShown (grammarOf words) ↔ (fault words ≡ none)
+nine-told words f =
+    let G = grammarOf words in
+    let d : fault words ≡ clashFault (G .terminals) (clashes G 1) = rw (fault-sets words, f) (last (clashFault (G .terminals) (clashes G 1))) in
+    (λ n. d ∙ ap (clashFault (G .terminals)) (none-clashless G n), λ e. clashless-none G (none-clash (G .terminals) (clashes G 1) (sym d ∙ e)))
+
 pub lines-tell : (words : List ℕ) → LinesTell words
 lines-tell words = record {
-  claimed = claimed-by G;
-  overrun = λ A. (overruns-elim G 1 A, overruns-make G 1 A);
-  nine = λ f. (
-    λ n. let free = none-clashless G n in rw (fault-sets words, f, free),
-    λ e. clashless-none G (none-clash (G .terminals) (clashes G 1) (rw (fault-sets words, f) at e)),
-  );
+  claimed = claimed-by (grammarOf words);
+  overrun = λ A. (overruns-elim (grammarOf words) 1 A, overruns-make (grammarOf words) 1 A);
+  nine = nine-told words;
 }
-  where
-    G : Grammar
-    G = grammarOf words

@@ -17,7 +17,7 @@ use Rattle.grammar.specs.Reading.{reading}
 use Rattle.grammar.specs.Syntax.{Rule, Grammar}
 use Rattle.grammar.specs.WellRead.{WellRead}
 use Rattle.grammar.proofs.WellRead.{well-read}
-use Rattle.lookahead.specs.Elements.{nothing, weight}
+use Rattle.lookahead.specs.Elements.{nothing}
 use Rattle.lookahead.specs.Operations.{isEmpty, terminal}
 use Rattle.semantics.specs.Claims.{claims, overruns}
 use Rattle.sets.specs.declared.Finding.the-variants.{Passed, Refused}
@@ -76,7 +76,7 @@ claimant-same G h s few A c q r b e =
 
 -- the set that is told of a nonterminal tells whether it overruns
 overrun-same : (b : Bool) → overrunsBy (overrunSet b) ≡ b
-unfolding isEmpty terminal weight
+unfolding isEmpty terminal
 overrun-same true = refl
 overrun-same false = refl
 
