@@ -8,6 +8,7 @@ use native.Mathlib.Omega.{arith}
 use lib.ListN.{getD}
 use borrow.Author.Tests.{eq-eqb, ne-eqb}
 use Rattle.booleans.specs.Quantifiers.{one, countBelow}
+use Rattle.booleans.proofs.Quantified.{one-le}
 use Rattle.lookahead.specs.Elements.{has}
 use Rattle.lookahead.specs.Operations.{isEmpty}
 use Rattle.table.specs.Claims.{claimant}
@@ -39,17 +40,13 @@ pub counting-start : (p : ℕ → Bool) (rules : ℕ) → Counting p rules 0 0
 unfolding countBelow
 counting-start p rules = record { within = omega arith; counted = refl; few = omega arith }
 
-pub one-few : (b : Bool) → one b ≤ 1
-one-few true = omega arith
-one-few false = omega arith
-
 module _ {p : ℕ → Bool} {rules n rule : ℕ} (c : Counting p rules n rule) where
   pub counting-next : rule < rules → {b : Bool} {m : ℕ} → b ≡ p rule → m ≡ one b → Counting p rules (m + n) (rule + 1)
   unfolding countBelow
   counting-next h {b} {m} e k = record {
     within = omega arith;
     counted = rw (k, e, c .counted, add-one rule);
-    few = omega (arith, one-few b, c .few);
+    few = omega (arith, one-le b, c .few);
   }
 
   pub counting-end : rules ≤ rule → n ≡ countBelow rules p

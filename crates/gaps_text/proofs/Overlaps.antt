@@ -15,6 +15,7 @@ use Rattle.answer.specs.Faults.{firstFault}
 use Rattle.booleans.specs.Choice.{choose}
 use Rattle.booleans.specs.Quantifiers.{anyOf, allOf, one, countBelow}
 use Rattle.booleans.proofs.Booleans.{T-none, and-l, or-cases}
+use Rattle.booleans.proofs.Quantified.{count-first}
 use Rattle.grammar.specs.Encoding.{grammarOf}
 use Rattle.grammar.specs.Syntax.{Rule, Grammar}
 use Rattle.semantics.specs.Claims.{several, claims, overruns, clashes, column}
@@ -30,12 +31,6 @@ use Rattle.table.specs.Analysis.{clashFault, fault}
 use Rattle.table.specs.Layout.{columnString}
 use Rattle.table.proofs.Analyzing.{fault-sets}
 use Rattle.gaps_text.specs.Gaps.{onRule, claimsAt, claimants, NoneShown, LinesTell}
-
--- the first number, and those above it
-count-first : (n : ℕ) (p : ℕ → Bool) → countBelow (suc n) p ≡ one (p 0) + countBelow n (λ q. p (suc q))
-unfolding countBelow
-count-first zero p = refl
-count-first (suc n) p = let e = count-first n p in omega arith
 
 -- how many rules of a list pass
 module _ (p : Rule → Bool) where

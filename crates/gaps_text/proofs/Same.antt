@@ -8,7 +8,7 @@ use native.Mathlib.Omega.{arith}
 use lib.ListN.{length, getD, getElem?}
 use Rattle.answer.specs.declared.Error.{Error}
 use Rattle.booleans.specs.Choice.{choose}
-use Rattle.booleans.specs.Quantifiers.{one, countBelow}
+use Rattle.booleans.proofs.Quantified.{count-cong}
 use Rattle.grammar.specs.Encoding.{grammarOf}
 use Rattle.grammar.specs.Limits.{maxNonterminals, maxTerminals, maxRules}
 use Rattle.grammar.specs.declared.reading.Sizes.{Sizes}
@@ -42,15 +42,10 @@ unfolding upTo
 up-to-same zero f g h = refl
 up-to-same (suc n) f g h = ap₂ _++_ (up-to-same n f g (λ i l. h i (omega arith))) (h n (omega arith))
 
-count-same : (n : ℕ) (p q : ℕ → Bool) → ((i : ℕ) → i < n → p i ≡ q i) → countBelow n p ≡ countBelow n q
-unfolding countBelow
-count-same zero p q h = refl
-count-same (suc n) p q h = ap₂ (λ b k. one b + k) (h n (omega arith)) (count-same n p q (λ i l. h i (omega arith)))
-
 line-same : (rules A c : ℕ) (p q : ℕ → Bool) → ((i : ℕ) → i < rules → p i ≡ q i) → entryLine rules p A c ≡ entryLine rules q A c
 unfolding entryLine claimantsText
 line-same rules A c p q h =
-    let n = count-same rules p q h in
+    let n = count-cong rules p q h in
     let u = up-to-same rules (λ i. claimantText (p i) i) (λ i. claimantText (q i) i) (λ i l. ap (λ b. claimantText b i) (h i l)) in
     rw (n, u)
 

@@ -6,13 +6,14 @@ use Rattle.grammar.specs.Limits.{maxNonterminals, maxColumns, maxRules}
 abbrev pub ruleRoom : ℕ
 ruleRoom = 4
 
--- nonterminal, column, every rule, and the line's end
+-- the line of an entry but for its rules: nonterminal, column, the line's end, and the dash where there are no rules
 abbrev pub entryRoom : ℕ
-entryRoom = maxRules * ruleRoom + 6
+entryRoom = 8
 
 -- a nonterminal alone on its line
 abbrev pub overrunRoom : ℕ
 overrunRoom = 3
 
+-- a rule stands in the row of its head alone, so all rows together have each rule at most once a column
 abbrev pub gapsRoom : ℕ
-gapsRoom = maxNonterminals * (maxColumns * entryRoom) + maxNonterminals * overrunRoom
+gapsRoom = maxNonterminals * (maxColumns * entryRoom) + maxColumns * (maxRules * ruleRoom) + maxNonterminals * overrunRoom

@@ -26,11 +26,13 @@ use text::refusal::put_refusal;
 // How many bytes the lines take at most, and all of a sheet.
 const RULE_ROOM: usize = 4;
 
-const ENTRY_ROOM: usize = RULES * RULE_ROOM + 6;
+const ENTRY_ROOM: usize = 8;
 
 const OVERRUN_ROOM: usize = 3;
 
+// A rule stands in the row of its head alone.
 pub const ROOM: usize = (NONTERMINALS as usize) * (COLUMNS * ENTRY_ROOM)
+    + COLUMNS * (RULES * RULE_ROOM)
     + (NONTERMINALS as usize) * OVERRUN_ROOM;
 
 // Whether a rule claims an element for a nonterminal.

@@ -1,8 +1,9 @@
 -- The loop keeps the count of the rules passed.
 use Prim.Native.Nat.{_-_}
 use native.Mathlib.Omega.{arith}
+use Rattle.booleans.proofs.Quantified.{one-le}
 use Rattle.table.specs.Claims.{claimant}
-use Rattle.gaps_text.proofs.Lines.{Counting, one-few, counting-start, counting-next, counting-end}
+use Rattle.gaps_text.proofs.Lines.{Counting, counting-start, counting-next, counting-end}
 use Rattle.gaps_text.proofs.count_claimants.Statement.{statement}
 use Rattle.gaps_text.proofs.count_claimants.Tie as tie
 
@@ -26,7 +27,7 @@ add-n c =
     let at-one = c in
     let at-claimed = at-one .before in
     let at-test = at-claimed .before in
-    omega (arith, one-few (at-claimed .claims-element .result), at-one .one .ensures, at-test .before .loop .inv .few, at-test .loop-test .taken, at-test .before .before .pre)
+    omega (arith, one-le (at-claimed .claims-element .result), at-one .one .ensures, at-test .before .loop .inv .few, at-test .loop-test .taken, at-test .before .before .pre)
 
 add-rule : tie.Need-add-rule Inv-loop μ-loop
 add-rule c = omega arith
