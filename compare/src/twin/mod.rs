@@ -13,4 +13,5 @@ mod words;
 pub use answers::{Outcome, Refusal, Verdict};
 pub use calls::{check, judge};
 pub use limits::*;
+pub use one::Gaps;
 pub use words::{Grammar, Symbol};
