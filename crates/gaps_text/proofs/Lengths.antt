@@ -75,8 +75,8 @@ row-most z p A n h k a own =
 
 overrun-most : (b : Bool) (A : ℕ) → A < 100 → length (overrunLine b A) ≤ overrunRoom
 unfolding overrunLine
-overrun-most b A h =
-    choose-most b (decimal A ++ ascii "\n") [] overrunRoom (omega (arith, length-append (decimal A) (ascii "\n"), decimal-few 1 A h)) (omega arith)
+overrun-most true A h = simp length-append (omega (arith, decimal-few 1 A h))
+overrun-most false A h = omega arith
 
 -- the rules with a head below n, and those of n, are those with a head below n + 1
 heads-next : (rules n : ℕ) (h : ℕ → ℕ)

@@ -2,3 +2,4 @@ pub mod Lines
 pub mod Overlaps
 pub mod Same
 pub mod Lengths
+pub mod Examples
