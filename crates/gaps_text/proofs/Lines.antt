@@ -1,8 +1,8 @@
 -- What is counted and put is what the rules claim and what is told of the nonterminals.
 use mathlib.Core.Path.{_≡_, refl, sym, ap, _∙_}
 use mathlib.Core.Bool.{Bool, true, false}
-use mathlib.Core.List.{List, [], _++_}
-use Prim.Native.Nat.{ℕ, zero, suc, _+_, _≤_, _<_}
+use mathlib.Core.List.{List, _++_}
+use Prim.Native.Nat.{ℕ, _+_, _≤_, _<_}
 use native.Mathlib.Numerals.{add-one}
 use native.Mathlib.Omega.{arith}
 use lib.ListN.{getD}
@@ -13,6 +13,7 @@ use Rattle.lookahead.specs.Elements.{has}
 use Rattle.lookahead.specs.Operations.{isEmpty}
 use Rattle.table.specs.Claims.{claimant}
 use Rattle.table.specs.Layout.{columnElement}
+use Rattle.table.proofs.Claimants.{claimant-own}
 use Rattle.text.specs.Ascii.{ascii}
 use Rattle.text.specs.Decimal.{decimal, labelled}
 use Rattle.text.specs.Writing.{Put, upTo}
@@ -20,15 +21,9 @@ use Rattle.text.proofs.Writing.{put-none}
 use Rattle.gaps_text.specs.Gaps.{claimantText, claimantsText, entryLine, overrunLine}
 use Rattle.gaps_text.specs.Steps.{claimantAt, overrunsBy}
 
--- by the rule's head
-module _ (heads sets : List ℕ) (A l q : ℕ) where
-  pub claimant-own : {b : Bool} → getD heads q 0 ≡ A → b ≡ has (getD sets q 0) l → b ≡ claimant heads sets A l q
-  unfolding claimant
-  claimant-own e h = h ∙ rw (eq-eqb (getD heads q 0) A e)
-
-  pub claimant-other : (getD heads q 0 ≡ A → ⊥) → false ≡ claimant heads sets A l q
-  unfolding claimant
-  claimant-other e = rw (ne-eqb (getD heads q 0) A e)
+-- a rule of the nonterminal claims what its claim has
+pub claimant-head : (heads sets : List ℕ) (A l q : ℕ) {b : Bool} → getD heads q 0 ≡ A → b ≡ has (getD sets q 0) l → b ≡ claimant heads sets A l q
+claimant-head heads sets A l q e h = h ∙ sym (claimant-own heads sets l q) ∙ ap (λ B. claimant heads sets B l q) e
 
 -- the count so far, which is at most the number of rules passed
 pub record Counting (p : ℕ → Bool) (rules n rule : ℕ) : Type 0 where

@@ -5,14 +5,13 @@ use mathlib.Core.Bool.{Bool, true, false, _&&_, _||_}
 use mathlib.Core.List.{List, [], _∷_, List·Memᴰ, List·Memᴰ·head, List·Memᴰ·not-nil}
 use mathlib.Core.Logic.{_↔_, _⊎_, inl, inr}
 use mathlib.Core.Option.{Option, none, some}
-use Prim.Native.Nat.{ℕ, zero, suc, _+_, _≤_, _<_}
+use Prim.Native.Nat.{ℕ, suc, _+_, _≤_, _<_}
 use native.Mathlib.Omega.{arith}
-use lib.Dec.{T, eqb, ltb, ltb→lt}
+use lib.Dec.{T, ltb, ltb→lt}
 use lib.ListN.{length, getElem?}
 use borrow.Author.Tests.{eq-eqb, ne-eqb}
 use Rattle.answer.specs.declared.Error.{Error}
 use Rattle.answer.specs.Faults.{firstFault}
-use Rattle.booleans.specs.Choice.{choose}
 use Rattle.booleans.specs.Quantifiers.{anyOf, allOf, one, countBelow}
 use Rattle.booleans.proofs.Booleans.{T-none, and-l, or-cases}
 use Rattle.booleans.proofs.Quantified.{count-first}
@@ -22,7 +21,7 @@ use Rattle.semantics.specs.Claims.{several, claims, overruns, clashes, column}
 use Rattle.semantics.specs.Families.{Claims}
 use Rattle.semantics.specs.FirstFollow.{Entry, sameString, entries, First, Follow}
 use Rattle.semantics.specs.Strings.{Lookahead}
-use Rattle.semantics.proofs.Claims.{ClaimsAt, claims-make, claims-elim, overruns-make, overruns-elim, clashes-make}
+use Rattle.semantics.proofs.Claims.{claims-make, claims-elim, overruns-make, overruns-elim, clashes-make}
 use Rattle.semantics.proofs.FiniteSets.{keep-elim}
 use Rattle.semantics.proofs.LookaheadSets.{entries-elim}
 use Rattle.semantics.proofs.Positions.{several-elim}

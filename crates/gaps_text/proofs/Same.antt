@@ -1,13 +1,12 @@
 -- From what is found of each rule and of each nonterminal to the text of the grammar.
 use mathlib.Core.Path.{_≡_, refl, sym, ap, ap₂, _∙_}
-use mathlib.Core.Bool.{Bool, true, false, not}
+use mathlib.Core.Bool.{Bool, true, false}
 use mathlib.Core.List.{List, _++_}
 use mathlib.Core.Option.{none, some}
 use Prim.Native.Nat.{ℕ, zero, suc, _+_, _≤_, _<_}
 use native.Mathlib.Omega.{arith}
-use lib.ListN.{length, getD, getElem?}
+use lib.ListN.{getD, getElem?}
 use Rattle.answer.specs.declared.Error.{Error}
-use Rattle.booleans.specs.Choice.{choose}
 use Rattle.booleans.proofs.Quantified.{count-cong}
 use Rattle.grammar.specs.Encoding.{grammarOf}
 use Rattle.grammar.specs.Limits.{maxNonterminals, maxTerminals, maxRules}
@@ -26,7 +25,7 @@ use Rattle.sets.proofs.Findings.{told-passed, told-refused}
 use Rattle.sets.proofs.Lists.{listed-at}
 use Rattle.table.specs.declared.claims.Claims.{Claims}
 use Rattle.table.specs.Claims.{headsOf, claimNumbers, byRule, byRuleIf, overrunsOf, overrunsIf, claimsOf}
-use Rattle.table.specs.Layout.{columnElement, columnString}
+use Rattle.table.specs.Layout.{columnElement}
 use Rattle.table.specs.Overruns.{overrunSet}
 use Rattle.table.proofs.Claimants.{claims-alike, told as rules-told}
 use Rattle.table.proofs.Columns.{column-string, element-small}

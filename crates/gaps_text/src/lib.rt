@@ -5,7 +5,6 @@ ghost use lib.ListN.{getD};
 ghost use Rattle.booleans.specs.Quantifiers.{one as oneOf, countBelow};
 ghost use Rattle.grammar.specs.Limits.{maxNonterminals, maxTerminals, maxRules};
 ghost use Rattle.table.specs.Claims.{claimant};
-ghost use Rattle.table.specs.Layout.{columnElement};
 ghost use Rattle.text.specs.Writing.{Put, upTo};
 ghost use Rattle.gaps_text.specs.Gaps.{claimantText, claimantsText, entryLine, rowText, overrunLine, GapsPut};
 ghost use Rattle.gaps_text.specs.Steps.{claimantAt, overrunsBy};

@@ -1,5 +1,7 @@
 -- By whether the rule is one of the nonterminal.
-use Rattle.gaps_text.proofs.Lines.{claimant-own, claimant-other}
+use mathlib.Core.Path.{sym}
+use Rattle.table.proofs.Claimants.{claimant-other}
+use Rattle.gaps_text.proofs.Lines.{claimant-head}
 use borrow.Author.Needs.{needs}
 use Rattle.gaps_text.proofs.claims_element.Statement.{statement}
 use Rattle.gaps_text.proofs.claims_element.Tie as tie
@@ -17,10 +19,10 @@ contains-requires : tie.Need-contains-requires
 contains-requires c κs = search needs
 
 returns : tie.Need-returns
-returns c = claimant-own _ _ _ _ _ (c .before .if1 .taken) (c .contains .ensures)
+returns c = claimant-head _ _ _ _ _ (c .before .if1 .taken) (c .contains .ensures)
 
 returns-2 : tie.Need-returns-2
-returns-2 c = claimant-other _ _ _ _ _ (c .if1 .left)
+returns-2 c = sym (claimant-other _ _ _ _ _ (λ e. c .if1 .left (sym e)))
 
 pub claims-element-spec : {M : Type 1} → statement M
 claims-element-spec =
