@@ -13,11 +13,11 @@ use Rattle.text.specs.Ascii.{ascii}
 use Rattle.text.specs.Decimal.{digits, decimal}
 use Rattle.text.specs.Writing.{upTo}
 use Rattle.word.specs.declared.Symbol.the-variants.{Terminal, Nonterminal}
-use Rattle.gaps_text.specs.Gaps.{claimsAt, claimantText, claimantsText, entryLine, rowText, overrunLine, linesText}
+use Rattle.gaps_text.specs.Gaps.{claimsAt, claimantText, numbersText, claimantsText, entryLine, rowText, overrunLine, overrunsText, linesText}
 
 -- the definitions that lines compute by
 unfoldable lines-compute : Unit {0}
-unfolding countBelow columnString digits decimal upTo claimsAt claimantText claimantsText entryLine rowText overrunLine linesText
+unfolding countBelow columnString digits decimal upTo claimsAt claimantText numbersText claimantsText entryLine rowText overrunLine overrunsText linesText
 lines-compute = tt
 
 -- two nonterminals and two terminals

@@ -30,15 +30,15 @@ use Rattle.text.specs.Decimal.{decimal, labelled}
 use Rattle.text.specs.Writing.{upTo}
 use Rattle.text.proofs.Lengths.{choose-most, decimal-few, up-to-most, refusal-most}
 use Rattle.gaps_text.specs.Room.{ruleRoom, entryRoom, overrunRoom, gapsRoom}
-use Rattle.gaps_text.specs.Gaps.{onRule, claimsAt, claimantText, claimantsText, entryLine, rowText, overrunLine, linesText, foundText, gapsText}
+use Rattle.gaps_text.specs.Gaps.{onRule, claimsAt, claimantText, numbersText, claimantsText, entryLine, rowText, overrunLine, overrunsText, linesText, foundText, gapsText}
 
 claimant-most : (b : Bool) (q : ℕ) → q < 1000 → length (claimantText b q) ≤ one b * ruleRoom
 unfolding claimantText
 claimant-most true q h = omega (arith, decimal-few 2 q h)
 claimant-most false q h = omega arith
 
-numbers-most : (rules : ℕ) (p : ℕ → Bool) → rules ≤ 1000 → length (upTo rules (λ q. claimantText (p q) q)) ≤ countBelow rules p * ruleRoom
-unfolding upTo countBelow
+numbers-most : (rules : ℕ) (p : ℕ → Bool) → rules ≤ 1000 → length (numbersText rules p) ≤ countBelow rules p * ruleRoom
+unfolding numbersText upTo countBelow
 numbers-most zero p h = omega arith
 numbers-most (suc n) p h =
     omega (
@@ -51,7 +51,7 @@ numbers-most (suc n) p h =
 claimants-most : (rules : ℕ) (p : ℕ → Bool) → rules ≤ maxRules → length (claimantsText rules p) ≤ countBelow rules p * ruleRoom + 2
 unfolding claimantsText
 claimants-most rules p h =
-    choose-most (eqb (countBelow rules p) 0) (ascii " -") (upTo rules (λ q. claimantText (p q) q)) (countBelow rules p * ruleRoom + 2) (omega arith)
+    choose-most (eqb (countBelow rules p) 0) (ascii " -") (numbersText rules p) (countBelow rules p * ruleRoom + 2) (omega arith)
     (omega (arith, numbers-most rules p (omega arith)))
 
 -- a line has room for as many rules as claim the entry, which are n at most
@@ -108,7 +108,7 @@ module _ (z : Sizes) (p : ℕ → ℕ → ℕ → Bool) (o : ℕ → Bool) (h : 
       )
 
   lines-most : length (linesText z p o) ≤ gapsRoom
-  unfolding linesText
+  unfolding linesText overrunsText
   lines-most =
       omega (
         arith,

@@ -16,9 +16,9 @@ use Rattle.table.specs.Layout.{columnElement}
 use Rattle.table.proofs.Claimants.{claimant-own}
 use Rattle.text.specs.Ascii.{ascii}
 use Rattle.text.specs.Decimal.{decimal, labelled}
-use Rattle.text.specs.Writing.{Put, upTo}
+use Rattle.text.specs.Writing.{Put}
 use Rattle.text.proofs.Writing.{put-none}
-use Rattle.gaps_text.specs.Gaps.{claimantText, claimantsText, entryLine, overrunLine}
+use Rattle.gaps_text.specs.Gaps.{claimantText, numbersText, claimantsText, entryLine, overrunLine}
 use Rattle.gaps_text.specs.Steps.{claimantAt, overrunsBy}
 
 -- a rule of the nonterminal claims what its claim has
@@ -58,7 +58,7 @@ module _ {l m : List ℕ} {at next : ℕ} where
     unfolding claimantsText
     dash-put z k = rw (eq-eqb (countBelow rules p) 0 (sym e ∙ z)) k
 
-    pub numbers-put : (n ≡ 0 → ⊥) → Put l at (upTo rules (λ q. claimantText (p q) q)) m next → Put l at (claimantsText rules p) m next
+    pub numbers-put : (n ≡ 0 → ⊥) → Put l at (numbersText rules p) m next → Put l at (claimantsText rules p) m next
     unfolding claimantsText
     numbers-put z k = rw (ne-eqb (countBelow rules p) 0 (λ d. z (e ∙ d))) k
 

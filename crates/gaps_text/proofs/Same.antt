@@ -31,8 +31,8 @@ use Rattle.table.proofs.Claimants.{claims-alike, told as rules-told}
 use Rattle.table.proofs.Columns.{column-string, element-small}
 use Rattle.text.specs.Refusal.{refusalText}
 use Rattle.text.specs.Writing.{Put, upTo}
-use Rattle.gaps_text.specs.Gaps.{claimsAt, claimantText, claimantsText, entryLine, rowText, overrunLine, linesText, foundText, gapsText, GapsPut}
-use Rattle.gaps_text.specs.Steps.{claimantAt, overrunsBy}
+use Rattle.gaps_text.specs.Gaps.{claimsAt, claimantText, numbersText, claimantsText, entryLine, rowText, overrunLine, overrunsText, linesText, foundText, gapsText, GapsPut}
+use Rattle.gaps_text.specs.Steps.{claimantAt, overrunsBy, overrunsIn}
 use Rattle.gaps_text.proofs.Overlaps.{lines-tell}
 
 -- texts by tests that agree
@@ -42,7 +42,7 @@ up-to-same zero f g h = refl
 up-to-same (suc n) f g h = ap₂ _++_ (up-to-same n f g (λ i l. h i (omega arith))) (h n (omega arith))
 
 line-same : (rules A c : ℕ) (p q : ℕ → Bool) → ((i : ℕ) → i < rules → p i ≡ q i) → entryLine rules p A c ≡ entryLine rules q A c
-unfolding entryLine claimantsText
+unfolding entryLine claimantsText numbersText
 line-same rules A c p q h =
     let n = count-cong rules p q h in
     let u = up-to-same rules (λ i. claimantText (p i) i) (λ i. claimantText (q i) i) (λ i l. ap (λ b. claimantText b i) (h i l)) in
@@ -50,7 +50,7 @@ line-same rules A c p q h =
 
 lines-same : (z : Sizes) (p q : ℕ → ℕ → ℕ → Bool) (o u : ℕ → Bool) → ((A c i : ℕ) → c < suc (z .terminals) → i < z .rules → p A c i ≡ q A c i)
     → ((A : ℕ) → A < z .nonterminals → o A ≡ u A) → linesText z p o ≡ linesText z q u
-unfolding linesText rowText
+unfolding linesText rowText overrunsText
 lines-same z p q o u h k =
     ap₂ _++_
     (up-to-same (z .nonterminals) _ _ (λ A l.
@@ -87,7 +87,7 @@ module _ (words : List ℕ) {r : Claims} (e : r ≡ claimsOf words) where
     sizes-few = (read .fewNonterminals, read .fewRules, read .fewTerminals)
 
     pub gaps-put : {l m : List ℕ} {n : ℕ}
-        → Put l 0 (linesText z (claimantAt (r .heads) (r .sets) (z .terminals)) (λ A. overrunsBy (getD (r .overruns) A 0))) m n
+        → Put l 0 (linesText z (claimantAt (r .heads) (r .sets) (z .terminals)) (overrunsIn (r .overruns))) m n
         → GapsPut words l m n
     unfolding gapsText foundText claimsOf
     gaps-put {l} {m} {n} p =
@@ -96,11 +96,11 @@ module _ (words : List ℕ) {r : Claims} (e : r ≡ claimsOf words) where
         let cs : r .sets ≡ byRule (claimNumbers G) = ap (λ y. y .sets) e ∙ ap (λ y. byRuleIf y (claimNumbers G)) (told .0) in
         let os : r .overruns ≡ overrunsOf G = ap (λ y. y .overruns) e ∙ ap (λ y. overrunsIf y (overrunsOf G)) (told .0) in
         let few : G .terminals ≤ nothing = omega (arith, read .fewTerminals, read .terminals) in
-        let t : linesText z (claimantAt (r .heads) (r .sets) (z .terminals)) (λ A. overrunsBy (getD (r .overruns) A 0)) ≡ linesText z (claimsAt G) (overruns G 1) =
+        let t : linesText z (claimantAt (r .heads) (r .sets) (z .terminals)) (overrunsIn (r .overruns)) ≡ linesText z (claimsAt G) (overruns G 1) =
         lines-same z _ (claimsAt G) _ (overruns G 1)
         (λ A c i k j. rw (read .terminals) (claimant-same G hs cs few A c i _ (omega (arith, read .terminals)) (read .begins i j)))
         (λ A k.
-        ap (λ l. overrunsBy (getD l A 0)) os ∙ ap overrunsBy (listed-at maxNonterminals (λ A. overrunSet (overruns G 1 A)) A (omega (arith, read .fewNonterminals)))
+        ap (λ l. overrunsIn l A) os ∙ ap overrunsBy (listed-at maxNonterminals (λ A. overrunSet (overruns G 1 A)) A (omega (arith, read .fewNonterminals)))
         ∙ overrun-same (overruns G 1 A)) in
         record { put = rw (told .0, told .1) (rw t at p); tells = lines-tell words }
 

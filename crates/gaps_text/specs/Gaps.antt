@@ -43,9 +43,13 @@ claimants G A c = countBelow (length (G .rules)) (claimsAt G A c)
 unfoldable pub claimantText : Bool → ℕ → List ℕ
 claimantText b q = choose b (labelled " " q) []
 
--- the numbers of the rules that claim the entry, in order, or a dash
+-- the numbers of the rules that claim the entry, in order
+unfoldable pub numbersText : ℕ → (ℕ → Bool) → List ℕ
+numbersText rules p = upTo rules (λ q. claimantText (p q) q)
+
+-- the same, or a dash where there are none
 unfoldable pub claimantsText : ℕ → (ℕ → Bool) → List ℕ
-claimantsText rules p = choose (eqb (countBelow rules p) 0) (ascii " -") (upTo rules (λ q. claimantText (p q) q))
+claimantsText rules p = choose (eqb (countBelow rules p) 0) (ascii " -") (numbersText rules p)
 
 -- the line of an entry; none for one that just one rule claims
 unfoldable pub entryLine : ℕ → (ℕ → Bool) → ℕ → ℕ → List ℕ
@@ -59,10 +63,14 @@ rowText z p A = upTo (z .terminals + 1) (λ c. entryLine (z .rules) (p A c) A c)
 unfoldable pub overrunLine : Bool → ℕ → List ℕ
 overrunLine b A = choose b (decimal A ++ ascii "\n") []
 
+-- the lines of the nonterminals that overrun, the lowest first
+unfoldable pub overrunsText : ℕ → (ℕ → Bool) → List ℕ
+overrunsText n o = upTo n (λ A. overrunLine (o A) A)
+
 -- all lines, by a test for the rules that claim an entry and one for the nonterminals that overrun: each entry and each nonterminal comes
 -- once, since each row, column and nonterminal does
 unfoldable pub linesText : Sizes → (ℕ → ℕ → ℕ → Bool) → (ℕ → Bool) → List ℕ
-linesText z p o = upTo (z .nonterminals) (rowText z p) ++ upTo (z .nonterminals) (λ A. overrunLine (o A) A)
+linesText z p o = upTo (z .nonterminals) (rowText z p) ++ overrunsText (z .nonterminals) o
 
 unfoldable pub foundText : Finding → (ℕ → ℕ → ℕ → Bool) → (ℕ → Bool) → List ℕ
 foundText (Passed z) p o = linesText z p o

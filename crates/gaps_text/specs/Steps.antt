@@ -2,6 +2,7 @@
 use mathlib.Core.Bool.{Bool, not}
 use mathlib.Core.List.{List}
 use Prim.Native.Nat.{ℕ}
+use lib.ListN.{getD}
 use Rattle.lookahead.specs.Operations.{isEmpty}
 use Rattle.table.specs.Claims.{claimant}
 use Rattle.table.specs.Layout.{columnElement}
@@ -13,3 +14,6 @@ claimantAt heads sets terminals A c = claimant heads sets A (columnElement termi
 -- by the set that is told of a nonterminal: it overruns
 abbrev pub overrunsBy : ℕ → Bool
 overrunsBy set = not (isEmpty set)
+
+abbrev pub overrunsIn : List ℕ → ℕ → Bool
+overrunsIn sets A = overrunsBy (getD sets A 0)

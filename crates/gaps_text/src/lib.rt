@@ -1,13 +1,12 @@
 // The gaps and overlaps of a grammar's table, line by line, and the nonterminals that overrun, from what each rule claims.
 ghost use mathlib.Core.Path.{_≡_};
 ghost use Prim.Native.Nat.{_≤_, _<_};
-ghost use lib.ListN.{getD};
 ghost use Rattle.booleans.specs.Quantifiers.{one as oneOf, countBelow};
 ghost use Rattle.grammar.specs.Limits.{maxNonterminals, maxTerminals, maxRules};
 ghost use Rattle.table.specs.Claims.{claimant};
 ghost use Rattle.text.specs.Writing.{Put, upTo};
-ghost use Rattle.gaps_text.specs.Gaps.{claimantText, claimantsText, entryLine, rowText, overrunLine, GapsPut};
-ghost use Rattle.gaps_text.specs.Steps.{claimantAt, overrunsBy};
+ghost use Rattle.gaps_text.specs.Gaps.{claimantText, numbersText, claimantsText, entryLine, rowText, overrunLine, overrunsText, GapsPut};
+ghost use Rattle.gaps_text.specs.Steps.{claimantAt, overrunsBy, overrunsIn};
 use grammar::limits::COLUMNS;
 use grammar::limits::NONTERMINALS;
 use grammar::limits::RULES;
@@ -102,7 +101,7 @@ fn put_numbers(
     element: u32,
 ) -> usize
     requires { ⌜ rules ≤ maxRules ⌝ }
-    ensures { λ r. ⌜ Put (now (out .entry)) at (upTo rules (λ q. claimantText (claimant (now (heads .entry)) (now (sets .entry)) nonterminal element q) q)) (now (out .exit)) r ⌝ }
+    ensures { λ r. ⌜ Put (now (out .entry)) at (numbersText rules (claimant (now (heads .entry)) (now (sets .entry)) nonterminal element)) (now (out .exit)) r ⌝ }
 {
     let mut next = at;
     let mut rule = 0;
@@ -215,7 +214,7 @@ fn put_overrun(out: &mut [u8], at: usize, told: LookaheadSet, nonterminal: u32) 
 
 fn put_overruns(out: &mut [u8], at: usize, overruns: &[u64; SETS], nonterminals: u32) -> usize
     requires { ⌜ nonterminals ≤ maxNonterminals ⌝ }
-    ensures { λ r. ⌜ Put (now (out .entry)) at (upTo nonterminals (λ A. overrunLine (overrunsBy (getD (now (overruns .entry)) A 0)) A)) (now (out .exit)) r ⌝ }
+    ensures { λ r. ⌜ Put (now (out .entry)) at (overrunsText nonterminals (overrunsIn (now (overruns .entry)))) (now (out .exit)) r ⌝ }
 {
     let mut next = at;
     let mut nonterminal = 0;

@@ -5,7 +5,7 @@ use native.Mathlib.Omega.{arith}
 use Rattle.table.specs.Claims.{claimant}
 use Rattle.text.specs.Writing.{Put, upTo}
 use Rattle.text.proofs.Writing.{put-length, put-none, put-next, put-last}
-use Rattle.gaps_text.specs.Gaps.{claimantText}
+use Rattle.gaps_text.specs.Gaps.{claimantText, numbersText}
 use Rattle.gaps_text.proofs.put_numbers.Statement.{statement}
 use Rattle.gaps_text.proofs.put_numbers.Tie as tie
 
@@ -42,6 +42,7 @@ same-length : tie.Need-same-length Inv-loop μ-loop
 same-length c = put-length (c .before .loop .inv .1)
 
 returns : tie.Need-returns Inv-loop μ-loop
+unfolding numbersText
 returns c = put-last _ (c .before .loop .inv .0) (c .loop-test .left) (c .before .loop .inv .1)
 
 pub put-numbers-spec : {M : Type 1} → statement M

@@ -2,16 +2,15 @@
 use mathlib.Core.Path.{refl}
 use Prim.Native.Nat.{_≤_, _-_}
 use native.Mathlib.Omega.{arith}
-use lib.ListN.{getD}
 use Rattle.text.specs.Writing.{Put, upTo}
 use Rattle.text.proofs.Writing.{put-length, put-none, put-next, put-last}
-use Rattle.gaps_text.specs.Gaps.{overrunLine}
-use Rattle.gaps_text.specs.Steps.{overrunsBy}
+use Rattle.gaps_text.specs.Gaps.{overrunLine, overrunsText}
+use Rattle.gaps_text.specs.Steps.{overrunsIn}
 use Rattle.gaps_text.proofs.put_overruns.Statement.{statement}
 use Rattle.gaps_text.proofs.put_overruns.Tie as tie
 
 abbrev Inv-loop : tie.InvT-loop
-Inv-loop out₀ at overruns nonterminals next₀ nonterminal₀ out next nonterminal = (nonterminal ≤ nonterminals) × Put out₀ at (upTo nonterminal (λ A. overrunLine (overrunsBy (getD overruns A 0)) A)) out next
+Inv-loop out₀ at overruns nonterminals next₀ nonterminal₀ out next nonterminal = (nonterminal ≤ nonterminals) × Put out₀ at (upTo nonterminal (λ A. overrunLine (overrunsIn overruns A) A)) out next
 
 abbrev μ-loop : tie.MeasureT-loop
 μ-loop out₀ at overruns nonterminals next₀ nonterminal₀ out next nonterminal = nonterminals - nonterminal
@@ -48,6 +47,7 @@ same-length : tie.Need-same-length Inv-loop μ-loop
 same-length c = put-length (c .before .loop .inv .1)
 
 returns : tie.Need-returns Inv-loop μ-loop
+unfolding overrunsText
 returns c = put-last _ (c .before .loop .inv .0) (c .loop-test .left) (c .before .loop .inv .1)
 
 pub put-overruns-spec : {M : Type 1} → statement M
