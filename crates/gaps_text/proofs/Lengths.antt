@@ -1,6 +1,6 @@
 -- How long the sheet of gaps and overlaps can be: each rule stands in one row, that of its head.
 use mathlib.Core.Path.{_≡_, refl}
-use mathlib.Core.Bool.{Bool, true, false}
+use mathlib.Core.Bool.{Bool, true, false, not}
 use mathlib.Core.List.{List, [], _++_}
 use mathlib.Core.Option.{Option, none, some}
 use Prim.Native.Nat.{ℕ, zero, suc, _+_, _*_, _≤_, _<_}
@@ -19,6 +19,7 @@ use Rattle.grammar.specs.declared.reading.Sizes.{Sizes}
 use Rattle.grammar.specs.Reading.{reading}
 use Rattle.grammar.specs.Syntax.{Rule, Grammar}
 use Rattle.grammar.proofs.WellRead.{well-read}
+use Rattle.lookahead.specs.Elements.{nothing}
 use Rattle.semantics.specs.Claims.{claims, overruns}
 use Rattle.sets.specs.declared.Finding.{Finding}
 use Rattle.sets.specs.declared.Finding.the-variants.{Passed, Refused}
@@ -30,7 +31,9 @@ use Rattle.text.specs.Decimal.{decimal, labelled}
 use Rattle.text.specs.Writing.{upTo}
 use Rattle.text.proofs.Lengths.{choose-most, decimal-few, up-to-most, refusal-most}
 use Rattle.gaps_text.specs.Room.{ruleRoom, entryRoom, overrunRoom, gapsRoom}
-use Rattle.gaps_text.specs.Gaps.{onRule, claimsAt, claimantText, numbersText, claimantsText, entryLine, rowText, overrunLine, overrunsText, linesText, foundText, gapsText}
+use Rattle.gaps_text.specs.Gaps.{onRule, claimsBy, overrunText, foundText, gapsText}
+use Rattle.gaps_text.specs.Steps.{claimantText, numbersText, claimantsText, entryLine, rowText, overrunLine, overrunsText, linesText, claimsAt}
+use Rattle.gaps_text.proofs.Entries.{lines-are}
 
 claimant-most : (b : Bool) (q : ℕ) → q < 1000 → length (claimantText b q) ≤ one b * ruleRoom
 unfolding claimantText
@@ -59,8 +62,8 @@ line-most : (rules : ℕ) (p : ℕ → Bool) (A c n : ℕ) → rules ≤ maxRule
     → length (entryLine rules p A c) ≤ entryRoom + n * ruleRoom
 unfolding entryLine
 line-most rules p A c n h a b k =
-    choose-most (eqb (countBelow rules p) 1) [] (decimal A ++ labelled " " c ++ claimantsText rules p ++ ascii "\n") (entryRoom + n * ruleRoom) (omega arith)
-    (simp length-append (omega (arith, decimal-few 1 A a, decimal-few 1 c b, claimants-most rules p h)))
+    choose-most (not (eqb (countBelow rules p) 1)) (decimal A ++ labelled " " c ++ claimantsText rules p ++ ascii "\n") [] (entryRoom + n * ruleRoom)
+    (simp length-append (omega (arith, decimal-few 1 A a, decimal-few 1 c b, claimants-most rules p h))) (omega arith)
 
 row-most : (z : Sizes) (p : ℕ → ℕ → ℕ → Bool) (A n : ℕ) → z .rules ≤ maxRules → z .terminals ≤ maxTerminals → A < 100
     → ((c : ℕ) → countBelow (z .rules) (p A c) ≤ n) → length (rowText z p A) ≤ maxColumns * (entryRoom + n * ruleRoom)
@@ -74,7 +77,7 @@ row-most z p A n h k a own =
     )
 
 overrun-most : (b : Bool) (A : ℕ) → A < 100 → length (overrunLine b A) ≤ overrunRoom
-unfolding overrunLine
+unfolding overrunLine overrunText
 overrun-most true A h = simp length-append (omega (arith, decimal-few 1 A h))
 overrun-most false A h = omega arith
 
@@ -124,7 +127,7 @@ headAt none = 0
 headAt (some r) = r .head
 
 claims-own : (G : Grammar) (A c q : ℕ) → T (claimsAt G A c q) → headAt (getElem? (G .rules) q) ≡ A
-unfolding claimsAt claims
+unfolding claimsBy claims
 claims-own G A c q = go (getElem? (G .rules) q)
   where
     go : (o : Option Rule) → T (onRule o (claims G 1 (A, columnString (G .terminals) c))) → headAt o ≡ A
@@ -132,13 +135,15 @@ claims-own G A c q = go (getElem? (G .rules) q)
     go (some r) u = eqb→eq (r .head) A (and-l (eqb (r .head) A) _ u)
 
 pub gaps-most : (words : List ℕ) → length (gapsText words) ≤ gapsRoom
-unfolding gapsText foundText
+unfolding gapsText
 gaps-most words = go (findingOf (setsFault words) (reading words)) refl
   where
     go : (f : Finding) → findingOf (setsFault words) (reading words) ≡ f
-        → length (foundText f (claimsAt (grammarOf words)) (overruns (grammarOf words) 1)) ≤ gapsRoom
+        → length (foundText f (grammarOf words)) ≤ gapsRoom
     go (Refused e) q = omega (arith, refusal-most e)
     go (Passed z) q =
         let r = well-read words z (told-passed (setsFault words) (reading words) q .1) in
         let G = grammarOf words in
-        lines-most z (claimsAt G) (overruns G 1) (λ q. headAt (getElem? (G .rules) q)) (claims-own G) (r .fewNonterminals) (r .fewRules) (r .fewTerminals)
+        let few : G .terminals ≤ nothing = omega (arith, r .fewTerminals, r .terminals) in
+        rw (← lines-are G few z (r .nonterminals) (r .terminals) (r .rules))
+        (lines-most z (claimsAt G) (overruns G 1) (λ q. headAt (getElem? (G .rules) q)) (claims-own G) (r .fewNonterminals) (r .fewRules) (r .fewTerminals))

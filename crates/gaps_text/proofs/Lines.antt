@@ -18,8 +18,8 @@ use Rattle.text.specs.Ascii.{ascii}
 use Rattle.text.specs.Decimal.{decimal, labelled}
 use Rattle.text.specs.Writing.{Put}
 use Rattle.text.proofs.Writing.{put-none}
-use Rattle.gaps_text.specs.Gaps.{claimantText, numbersText, claimantsText, entryLine, overrunLine}
-use Rattle.gaps_text.specs.Steps.{claimantAt, overrunsBy}
+use Rattle.gaps_text.specs.Gaps.{overrunText}
+use Rattle.gaps_text.specs.Steps.{claimantText, numbersText, claimantsText, entryLine, overrunLine, claimantAt, overrunsBy}
 
 -- a rule of the nonterminal claims what its claim has
 pub claimant-head : (heads sets : List ℕ) (A l q : ℕ) {b : Bool} → getD heads q 0 ≡ A → b ≡ has (getD sets q 0) l → b ≡ claimant heads sets A l q
@@ -74,7 +74,7 @@ module _ {l m : List ℕ} {at next : ℕ} where
 
   pub overrun-put : (set A : ℕ) {b : Bool} → b ≡ isEmpty set → b ≡ false → Put l at (decimal A ++ ascii "\n") m next
       → Put l at (overrunLine (overrunsBy set) A) m next
-  unfolding overrunLine
+  unfolding overrunLine overrunText
   overrun-put set A e z k = rw (sym e ∙ z) k
 
 -- where there is nothing to put

@@ -7,29 +7,27 @@ use mathlib.Core.Logic.{_↔_, _⊎_, inl, inr}
 use mathlib.Core.Option.{Option, none, some}
 use Prim.Native.Nat.{ℕ, suc, _+_, _≤_, _<_}
 use native.Mathlib.Omega.{arith}
-use lib.Dec.{T, ltb, ltb→lt}
+use lib.Dec.{T}
 use lib.ListN.{length, getElem?}
-use borrow.Author.Tests.{eq-eqb, ne-eqb}
 use Rattle.answer.specs.declared.Error.{Error}
 use Rattle.answer.specs.Faults.{firstFault}
-use Rattle.booleans.specs.Quantifiers.{anyOf, allOf, one, countBelow}
-use Rattle.booleans.proofs.Booleans.{T-none, and-l, or-cases}
+use Rattle.booleans.specs.Quantifiers.{anyOf, one, countBelow}
+use Rattle.booleans.proofs.Booleans.{T-none, or-cases}
 use Rattle.booleans.proofs.Quantified.{count-first}
 use Rattle.grammar.specs.Encoding.{grammarOf}
 use Rattle.grammar.specs.Syntax.{Rule, Grammar}
-use Rattle.semantics.specs.Claims.{several, claims, overruns, clashes, column}
+use Rattle.semantics.specs.Claims.{several, claims, overruns, clashes}
 use Rattle.semantics.specs.Families.{Claims}
 use Rattle.semantics.specs.FirstFollow.{Entry, sameString, entries, First, Follow}
-use Rattle.semantics.specs.Strings.{Lookahead}
 use Rattle.semantics.proofs.Claims.{claims-make, claims-elim, overruns-make, overruns-elim, clashes-make}
 use Rattle.semantics.proofs.FiniteSets.{keep-elim}
 use Rattle.semantics.proofs.LookaheadSets.{entries-elim}
 use Rattle.semantics.proofs.Positions.{several-elim}
 use Rattle.sets.specs.Analysis.{setsFault}
 use Rattle.table.specs.Analysis.{clashFault, fault}
-use Rattle.table.specs.Layout.{columnString}
 use Rattle.table.proofs.Analyzing.{fault-sets}
-use Rattle.gaps_text.specs.Gaps.{onRule, claimsAt, claimants, NoneShown, LinesTell}
+use Rattle.gaps_text.specs.Gaps.{onRule, claimsBy, claimants, NoneShown, LinesTell}
+use Rattle.gaps_text.proofs.Entries.{count-kept, entries-once, overruns-once}
 
 -- how many rules of a list pass
 module _ (p : Rule → Bool) where
@@ -67,43 +65,33 @@ module _ (p : Rule → Bool) where
   on-rule none = (λ t. absurd t, λ h. let e = h .1 in let z : _≡_ {A = ℕ} 0 1 = cc in absurd (omega arith))
   on-rule (some r) = (λ t. (r, refl, t), λ h. let e = h .1 in let d : r ≡ h .0 = cc in rw d (h .2))
 
--- the column of a string of at most one terminal
-string-column : (t : ℕ) (x : List ℕ) → Lookahead 1 t x → (column t x < suc t) × (columnString t (column t x) ≡ x)
-unfolding columnString allOf
-string-column t [] h = (omega arith, rw (eq-eqb t t refl))
-string-column t (a ∷ []) h =
-    let l : a < t = ltb→lt a t (and-l (ltb a t) true (h .1)) in
-    (omega arith, rw (ne-eqb a t (λ e. omega arith)))
-string-column t (a ∷ b ∷ x) h = absurd (omega (arith, h .0))
-
 module _ (G : Grammar) where
-  overlapping : (A c : ℕ) → (several (claims G 1 (A, columnString (G .terminals) c)) (G .rules) ≡ false) ↔ (claimants G A c ≤ 1)
-  unfolding claimsAt
-  overlapping A c = few-pass (claims G 1 (A, columnString (G .terminals) c)) (G .rules)
+  overlapping : (e : Entry) → (several (claims G 1 e) (G .rules) ≡ false) ↔ (length (claimants G e) ≤ 1)
+  unfolding claimants claimsBy
+  overlapping e = rw (← count-kept (length (G .rules)) (claimsBy G e)) (few-pass (claims G 1 e) (G .rules))
 
-  pub claimed-by : (A c q : ℕ) → T (claimsAt G A c q) ↔ Claims G 1 (First G 1) (Follow G 1) q A (columnString (G .terminals) c)
-  unfolding claimsAt
-  claimed-by A c q =
-      let x = columnString (G .terminals) c in
-      let o = on-rule (claims G 1 (A, x)) (getElem? (G .rules) q) in
-      (λ t. claims-elim G 1 q A x (o .0 t), λ k. o .1 (claims-make G 1 q A x k))
+  claimed-by : (e : Entry) (q : ℕ) → T (claimsBy G e q) ↔ Claims G 1 (First G 1) (Follow G 1) q (e .0) (e .1)
+  unfolding claimsBy
+  claimed-by e q =
+      let o = on-rule (claims G 1 e) (getElem? (G .rules) q) in
+      (λ t. claims-elim G 1 q (e .0) (e .1) (o .0 t), λ k. o .1 (claims-make G 1 q (e .0) (e .1) k))
 
   -- without clash none is shown
   clashless-none : clashes G 1 ≡ [] → NoneShown G
   clashless-none free = record {
-    overlap = λ A c a h. overlapping A c .0 (T-none _ (λ t. List·Memᴰ·not-nil (rw free at (overlap-listed A (columnString (G .terminals) c) t))));
+    overlap = λ e m. overlapping e .0 (T-none _ (λ t. List·Memᴰ·not-nil (rw free at (overlap-listed e t))));
     overrun = λ A a. T-none _ (λ t. List·Memᴰ·not-nil (rw free at (clashes-make G 1 A (0 ∷ []) (inr (overruns-elim G 1 A t, refl)))));
   }
     where
-      overlap-listed : (A : ℕ) (x : List ℕ) → T (several (claims G 1 (A, x)) (G .rules)) → List·Memᴰ (A, x) (clashes G 1)
-      overlap-listed A x t =
-          let r = several-elim (claims G 1 (A, x)) (G .rules) t in
-          clashes-make G 1 A x (inl (record {
+      overlap-listed : (e : Entry) → T (several (claims G 1 e) (G .rules)) → List·Memᴰ e (clashes G 1)
+      overlap-listed e t =
+          let r = several-elim (claims G 1 e) (G .rules) t in
+          clashes-make G 1 (e .0) (e .1) (inl (record {
             one = r .0;
             other = r .1;
             different = r .2;
-            claimsOne = claims-elim G 1 (r .0) A x (r .3);
-            claimsOther = claims-elim G 1 (r .1) A x (r .4);
+            claimsOne = claims-elim G 1 (r .0) (e .0) (e .1) (r .3);
+            claimsOther = claims-elim G 1 (r .1) (e .0) (e .1) (r .4);
           }))
 
   -- where none is shown there is no clash
@@ -111,22 +99,17 @@ module _ (G : Grammar) where
   unfolding clashes
   none-clashless n = absent (clashes G 1) refl
     where
-      unlike : (d : Entry) → d .0 < G .nonterminals → Lookahead 1 (G .terminals) (d .1)
+      unlike : (d : Entry) → List·Memᴰ d (entries G 1)
           → T (several (claims G 1 d) (G .rules)) ⊎ T (overruns G 1 (d .0) && sameString (0 ∷ []) (d .1)) → ⊥
-      unlike d a h (inl t) =
-          let s = string-column (G .terminals) (d .1) h in
-          let c = column (G .terminals) (d .1) in
-          let f : several (claims G 1 (d .0, d .1)) (G .rules) ≡ false = rw (s .1) at (overlapping (d .0) c .1 (n .overlap (d .0) c a (s .0))) in
-          rw f at t
-      unlike d a h (inr t) = rw (n .overrun (d .0) a) at t
+      unlike d m (inl t) = rw (overlapping d .1 (n .overlap d m)) at t
+      unlike d m (inr t) = rw (n .overrun (d .0) (entries-elim G 1 d m .0)) at t
 
       absent : (l : List Entry) → clashes G 1 ≡ l → clashes G 1 ≡ []
       absent [] e = e
       absent (d ∷ l) e =
           let m : List·Memᴰ d (clashes G 1) = rw e (List·Memᴰ·head refl) in
           let k = keep-elim (λ e. several (claims G 1 e) (G .rules) || (overruns G 1 (e .0) && sameString (0 ∷ []) (e .1))) (entries G 1) d m in
-          let r = entries-elim G 1 d (k .0) in
-          absurd (unlike d (r .0) (r .1) (or-cases (several (claims G 1 d) (G .rules)) _ (k .1)))
+          absurd (unlike d (k .0) (or-cases (several (claims G 1 d) (G .rules)) _ (k .1)))
 
 none-clash : (t : ℕ) (l : List Entry) → clashFault t l ≡ none → l ≡ []
 none-clash t [] e = refl
@@ -146,6 +129,8 @@ nine-told words f =
 
 pub lines-tell : (words : List ℕ) → LinesTell words
 lines-tell words = record {
+  entries-once = entries-once (grammarOf words);
+  overruns-once = overruns-once (grammarOf words);
   claimed = claimed-by (grammarOf words);
   overrun = λ A. (overruns-elim (grammarOf words) 1 A, overruns-make (grammarOf words) 1 A);
   nine = nine-told words;

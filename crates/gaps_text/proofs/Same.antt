@@ -31,16 +31,12 @@ use Rattle.table.proofs.Claimants.{claims-alike, told as rules-told}
 use Rattle.table.proofs.Columns.{column-string, element-small}
 use Rattle.text.specs.Refusal.{refusalText}
 use Rattle.text.specs.Writing.{Put, upTo}
-use Rattle.gaps_text.specs.Gaps.{claimsAt, claimantText, numbersText, claimantsText, entryLine, rowText, overrunLine, overrunsText, linesText, foundText, gapsText, GapsPut}
-use Rattle.gaps_text.specs.Steps.{claimantAt, overrunsBy, overrunsIn}
+use Rattle.gaps_text.specs.Gaps.{claimsBy, gapsText, GapsPut}
+use Rattle.gaps_text.specs.Steps.{claimantText, numbersText, claimantsText, entryLine, rowText, overrunLine, overrunsText, linesText, claimsAt, claimantAt, overrunsBy, overrunsIn}
+use Rattle.gaps_text.proofs.Entries.{up-to-same, lines-are}
 use Rattle.gaps_text.proofs.Overlaps.{lines-tell}
 
 -- texts by tests that agree
-up-to-same : (n : ℕ) (f g : ℕ → List ℕ) → ((i : ℕ) → i < n → f i ≡ g i) → upTo n f ≡ upTo n g
-unfolding upTo
-up-to-same zero f g h = refl
-up-to-same (suc n) f g h = ap₂ _++_ (up-to-same n f g (λ i l. h i (omega arith))) (h n (omega arith))
-
 line-same : (rules A c : ℕ) (p q : ℕ → Bool) → ((i : ℕ) → i < rules → p i ≡ q i) → entryLine rules p A c ≡ entryLine rules q A c
 unfolding entryLine claimantsText numbersText
 line-same rules A c p q h =
@@ -61,7 +57,7 @@ lines-same z p q o u h k =
 claimant-same : (G : Grammar) {heads sets : List ℕ} → heads ≡ byRule (headsOf G) → sets ≡ byRule (claimNumbers G) → G .terminals ≤ nothing
     → (A c q : ℕ) (r : Rule) → c < suc (G .terminals) → getElem? (G .rules) q ≡ some r
     → claimantAt heads sets (G .terminals) A c q ≡ claimsAt G A c q
-unfolding claimsAt
+unfolding claimsBy
 claimant-same G h s few A c q r b e =
     let t = G .terminals in
     let k = claims-alike (rules-told G h s (columnElement t c) (element-small t c few b)) A q r e in
@@ -89,7 +85,7 @@ module _ (words : List ℕ) {r : Claims} (e : r ≡ claimsOf words) where
     pub gaps-put : {l m : List ℕ} {n : ℕ}
         → Put l 0 (linesText z (claimantAt (r .heads) (r .sets) (z .terminals)) (overrunsIn (r .overruns))) m n
         → GapsPut words l m n
-    unfolding gapsText foundText claimsOf
+    unfolding gapsText claimsOf
     gaps-put {l} {m} {n} p =
         let G = grammarOf words in
         let hs : r .heads ≡ byRule (headsOf G) = ap (λ y. y .heads) e ∙ ap (λ y. byRuleIf y (headsOf G)) (told .0) in
@@ -102,10 +98,11 @@ module _ (words : List ℕ) {r : Claims} (e : r ≡ claimsOf words) where
         (λ A k.
         ap (λ l. overrunsIn l A) os ∙ ap overrunsBy (listed-at maxNonterminals (λ A. overrunSet (overruns G 1 A)) A (omega (arith, read .fewNonterminals)))
         ∙ overrun-same (overruns G 1 A)) in
-        record { put = rw (told .0, told .1) (rw t at p); tells = lines-tell words }
+        let u = lines-are G few z (read .nonterminals) (read .terminals) (read .rules) in
+        record { put = rw (told .0, told .1) (rw (t ∙ u) at p); tells = lines-tell words }
 
   pub refusal-put : {x : Error} → r .finding ≡ Refused x → {l m : List ℕ} {n : ℕ} → Put l 0 (refusalText x) m n → GapsPut words l m n
-  unfolding gapsText foundText claimsOf setsFault
+  unfolding gapsText claimsOf setsFault
   refusal-put {x} q p =
       let f : setsFault words ≡ some x = told-refused (setsFault words) (reading words) (λ y f. rw f) (sym (ap (λ y. y .finding) e) ∙ q) in
       record { put = rw f p; tells = lines-tell words }

@@ -1,95 +1,89 @@
 -- The sheet of gaps and overlaps (document 02, P3): a line for each entry that no rule claims and for each that two or more claim, and
 -- then one for each nonterminal that overruns.
 use mathlib.Core.Path.{_≡_}
-use mathlib.Core.Bool.{Bool, false}
-use mathlib.Core.List.{List, [], _++_}
+use mathlib.Core.Bool.{Bool, false, not}
+use mathlib.Core.List.{List, [], _∷_, _++_, flatMap, List·Memᴰ}
 use mathlib.Core.Logic.{_↔_}
 use mathlib.Core.Option.{Option, none, some}
-use Prim.Native.Nat.{ℕ, _+_, _≤_, _<_}
+use Prim.Native.Nat.{ℕ, _≤_, _<_}
 use lib.Dec.{T, eqb}
 use lib.ListN.{length, getElem?}
-use Rattle.booleans.specs.Choice.{choose}
-use Rattle.booleans.specs.Quantifiers.{countBelow}
-use Rattle.grammar.specs.declared.reading.Sizes.{Sizes}
 use Rattle.grammar.specs.Encoding.{grammarOf}
 use Rattle.grammar.specs.Reading.{reading}
 use Rattle.grammar.specs.Syntax.{Rule, Grammar}
-use Rattle.semantics.specs.Claims.{claims, overruns}
+use Rattle.semantics.specs.Calls.{Distinct}
+use Rattle.semantics.specs.Claims.{claims, overruns, column}
 use Rattle.semantics.specs.Families.{Claims, Overrun}
-use Rattle.semantics.specs.FirstFollow.{First, Follow}
+use Rattle.semantics.specs.FiniteSets.{keep, numbers}
+use Rattle.semantics.specs.FirstFollow.{Entry, entries, First, Follow}
 use Rattle.sets.specs.declared.Finding.{Finding}
 use Rattle.sets.specs.declared.Finding.the-variants.{Passed, Refused}
 use Rattle.sets.specs.Analysis.{setsFault, findingOf}
 use Rattle.table.specs.Analysis.{fault}
-use Rattle.table.specs.Layout.{columns, columnString}
 use Rattle.text.specs.Ascii.{ascii}
 use Rattle.text.specs.Decimal.{decimal, labelled}
 use Rattle.text.specs.Refusal.{refusalText}
-use Rattle.text.specs.Writing.{Put, upTo}
+use Rattle.text.specs.Writing.{Put}
 
 abbrev pub onRule : Option Rule → (Rule → Bool) → Bool
 onRule none p = false
 onRule (some r) p = p r
 
--- rule q claims the entry of A in column c
-unfoldable pub claimsAt : Grammar → ℕ → ℕ → ℕ → Bool
-claimsAt G A c q = onRule (getElem? (G .rules) q) (claims G 1 (A, columnString (G .terminals) c))
+-- rule q claims an entry
+unfoldable pub claimsBy : Grammar → Entry → ℕ → Bool
+claimsBy G e q = onRule (getElem? (G .rules) q) (claims G 1 e)
 
--- how many rules claim it
-abbrev pub claimants : Grammar → ℕ → ℕ → ℕ
-claimants G A c = countBelow (length (G .rules)) (claimsAt G A c)
+-- the numbers of the rules that claim it, in order
+unfoldable pub claimants : Grammar → Entry → List ℕ
+claimants G e = keep (claimsBy G e) (numbers (length (G .rules)))
 
--- a rule's number where it claims the entry
-unfoldable pub claimantText : Bool → ℕ → List ℕ
-claimantText b q = choose b (labelled " " q) []
+-- numbers behind spaces, or a dash where there are none
+abbrev pub rulesText : List ℕ → List ℕ
+rulesText [] = ascii " -"
+rulesText (q ∷ qs) = flatMap (labelled " ") (q ∷ qs)
 
--- the numbers of the rules that claim the entry, in order
-unfoldable pub numbersText : ℕ → (ℕ → Bool) → List ℕ
-numbersText rules p = upTo rules (λ q. claimantText (p q) q)
+-- the line of an entry: nonterminal, column, and the rules that claim it
+unfoldable pub entryText : Grammar → Entry → List ℕ
+entryText G e = decimal (e .0) ++ labelled " " (column (G .terminals) (e .1)) ++ rulesText (claimants G e) ++ ascii "\n"
 
--- the same, or a dash where there are none
-unfoldable pub claimantsText : ℕ → (ℕ → Bool) → List ℕ
-claimantsText rules p = choose (eqb (countBelow rules p) 0) (ascii " -") (numbersText rules p)
+-- the line of a nonterminal that overruns
+unfoldable pub overrunText : ℕ → List ℕ
+overrunText A = decimal A ++ ascii "\n"
 
--- the line of an entry; none for one that just one rule claims
-unfoldable pub entryLine : ℕ → (ℕ → Bool) → ℕ → ℕ → List ℕ
-entryLine rules p A c = choose (eqb (countBelow rules p) 1) [] (decimal A ++ labelled " " c ++ claimantsText rules p ++ ascii "\n")
+abbrev pub isListed : List ℕ → Bool
+isListed qs = not (eqb (length qs) 1)
 
--- the lines of a row, the end's column last
-unfoldable pub rowText : Sizes → (ℕ → ℕ → ℕ → Bool) → ℕ → List ℕ
-rowText z p A = upTo (z .terminals + 1) (λ c. entryLine (z .rules) (p A c) A c)
+-- the entries that not just one rule claims, by nonterminal, then column, the end's column last
+unfoldable pub listedEntries : Grammar → List Entry
+listedEntries G = keep (λ e. isListed (claimants G e)) (entries G 1)
 
--- the line of a nonterminal; none for one that does not overrun
-unfoldable pub overrunLine : Bool → ℕ → List ℕ
-overrunLine b A = choose b (decimal A ++ ascii "\n") []
+-- the nonterminals that overrun, the lowest first
+unfoldable pub listedOverruns : Grammar → List ℕ
+listedOverruns G = keep (overruns G 1) (numbers (G .nonterminals))
 
--- the lines of the nonterminals that overrun, the lowest first
-unfoldable pub overrunsText : ℕ → (ℕ → Bool) → List ℕ
-overrunsText n o = upTo n (λ A. overrunLine (o A) A)
+unfoldable pub gapsLines : Grammar → List ℕ
+gapsLines G = flatMap (entryText G) (listedEntries G) ++ flatMap overrunText (listedOverruns G)
 
--- all lines, by a test for the rules that claim an entry and one for the nonterminals that overrun: each entry and each nonterminal comes
--- once, since each row, column and nonterminal does
-unfoldable pub linesText : Sizes → (ℕ → ℕ → ℕ → Bool) → (ℕ → Bool) → List ℕ
-linesText z p o = upTo (z .nonterminals) (rowText z p) ++ overrunsText (z .nonterminals) o
-
-unfoldable pub foundText : Finding → (ℕ → ℕ → ℕ → Bool) → (ℕ → Bool) → List ℕ
-foundText (Passed z) p o = linesText z p o
-foundText (Refused e) p o = refusalText e
+abbrev pub foundText : Finding → Grammar → List ℕ
+foundText (Passed z) G = gapsLines G
+foundText (Refused e) G = refusalText e
 
 -- what is printed of an encoded grammar; only the errors 3 to 8 are refusals
 unfoldable pub gapsText : List ℕ → List ℕ
-gapsText words = foundText (findingOf (setsFault words) (reading words)) (claimsAt (grammarOf words)) (overruns (grammarOf words) 1)
+gapsText words = foundText (findingOf (setsFault words) (reading words)) (grammarOf words)
 
 -- no entry has two rules, and no nonterminal overruns
 pub record NoneShown (G : Grammar) : Type 0 where
-  pub overlap : (A c : ℕ) → A < G .nonterminals → c < columns G → claimants G A c ≤ 1
+  pub overlap : (e : Entry) → List·Memᴰ e (entries G 1) → length (claimants G e) ≤ 1
   pub overrun : (A : ℕ) → A < G .nonterminals → overruns G 1 A ≡ false
 
--- what the lines of a grammar tell: which rules claim an entry and which nonterminals overrun, by its FIRST and FOLLOW sets; and neither an
--- overlap nor such a nonterminal is shown exactly when 9 would not be given
+-- what the lines of a grammar tell: each entry and each nonterminal is listed once; which rules claim an entry and which nonterminals
+-- overrun, by the FIRST and FOLLOW sets; and neither an overlap nor such a nonterminal is shown exactly when 9 would not be given
 pub record LinesTell (words : List ℕ) : Type 0 where
-  pub claimed : (A c q : ℕ) → T (claimsAt (grammarOf words) A c q)
-      ↔ Claims (grammarOf words) 1 (First (grammarOf words) 1) (Follow (grammarOf words) 1) q A (columnString (grammarOf words .terminals) c)
+  pub entries-once : Distinct (listedEntries (grammarOf words))
+  pub overruns-once : Distinct (listedOverruns (grammarOf words))
+  pub claimed : (e : Entry) (q : ℕ) → T (claimsBy (grammarOf words) e q)
+      ↔ Claims (grammarOf words) 1 (First (grammarOf words) 1) (Follow (grammarOf words) 1) q (e .0) (e .1)
   pub overrun : (A : ℕ) → T (overruns (grammarOf words) 1 A) ↔ Overrun (grammarOf words) (Follow (grammarOf words) 1) A
   pub nine : setsFault words ≡ none → NoneShown (grammarOf words) ↔ (fault words ≡ none)
 
