@@ -15,16 +15,16 @@ use Rattle.grammar.specs.declared.reading.Sizes.{Sizes}
 use Rattle.grammar.specs.Syntax.{Grammar}
 use Rattle.lookahead.specs.Elements.{nothing}
 use Rattle.semantics.specs.Calls.{Distinct}
-use Rattle.semantics.specs.Claims.{column, overruns}
+use Rattle.semantics.specs.Claims.{overruns}
 use Rattle.semantics.specs.FiniteSets.{keep, numbersFrom, numbers, combine}
 use Rattle.semantics.specs.FirstFollow.{Entry, strings, entries}
 use Rattle.semantics.proofs.Distinct.{distinct-keep, distinct-numbers, distinct-combine, distinct-strings}
 use Rattle.table.specs.Layout.{columnString}
 use Rattle.table.proofs.Columns.{column-back, columns-strings}
 use Rattle.text.specs.Ascii.{ascii}
-use Rattle.text.specs.Decimal.{decimal, labelled}
+use Rattle.text.specs.Decimal.{labelled}
 use Rattle.text.specs.Writing.{upTo}
-use Rattle.gaps_text.specs.Gaps.{claimsBy, claimants, rulesText, entryText, overrunText, isListed, listedEntries, listedOverruns, gapsLines}
+use Rattle.gaps_text.specs.Gaps.{claimants, rulesText, entryText, overrunText, isListed, listedEntries, listedOverruns, gapsLines}
 use Rattle.gaps_text.specs.Steps.{claimantText, numbersText, claimantsText, entryLine, rowText, overrunLine, overrunsText, linesText, claimsAt}
 
 -- texts of numbers in order that agree

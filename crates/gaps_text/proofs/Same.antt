@@ -3,9 +3,9 @@ use mathlib.Core.Path.{_≡_, refl, sym, ap, ap₂, _∙_}
 use mathlib.Core.Bool.{Bool, true, false}
 use mathlib.Core.List.{List, _++_}
 use mathlib.Core.Option.{none, some}
-use Prim.Native.Nat.{ℕ, zero, suc, _+_, _≤_, _<_}
+use Prim.Native.Nat.{ℕ, suc, _+_, _≤_, _<_}
 use native.Mathlib.Omega.{arith}
-use lib.ListN.{getD, getElem?}
+use lib.ListN.{getElem?}
 use Rattle.answer.specs.declared.Error.{Error}
 use Rattle.booleans.proofs.Quantified.{count-cong}
 use Rattle.grammar.specs.Encoding.{grammarOf}
@@ -30,7 +30,7 @@ use Rattle.table.specs.Overruns.{overrunSet}
 use Rattle.table.proofs.Claimants.{claims-alike, told as rules-told}
 use Rattle.table.proofs.Columns.{column-string, element-small}
 use Rattle.text.specs.Refusal.{refusalText}
-use Rattle.text.specs.Writing.{Put, upTo}
+use Rattle.text.specs.Writing.{Put}
 use Rattle.gaps_text.specs.Gaps.{claimsBy, gapsText, GapsPut}
 use Rattle.gaps_text.specs.Steps.{claimantText, numbersText, claimantsText, entryLine, rowText, overrunLine, overrunsText, linesText, claimsAt, claimantAt, overrunsBy, overrunsIn}
 use Rattle.gaps_text.proofs.Entries.{up-to-same, lines-are}
