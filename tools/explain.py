@@ -221,16 +221,27 @@ def damage(card):
         return fault
 
 
+def meant(card, name, column, rules):
+    """How many rules claim an entry, and which."""
+    grammar = card.grammar
+    count = {0: 'no rule', 2: 'two rules'}.get(len(rules), f'{len(rules)} rules')
+    there = 'at the end of the log' if column == len(grammar.terminals) else f'where the next event is {grammar.terminals[column]}'
+    return [f'{count} of {grammar.nonterminals[name]} may be meant {there}'] + [card.rule(rule) for rule in rules]
+
+
 def several_meant(card, name, column):
     """The rules that claim an entry, if there are two or more."""
-    grammar = card.grammar
-    end = column == len(grammar.terminals)
-    rules = claimants(grammar, name, () if end else (column,))
-    if len(rules) < 2:
-        return []
-    count = {2: 'two'}.get(len(rules), len(rules))
-    there = 'at the end of the log' if end else f'where the next event is {grammar.terminals[column]}'
-    return [f'{count} rules of {grammar.nonterminals[name]} may be meant {there}'] + [card.rule(rule) for rule in rules]
+    rules = claimants(card.grammar, name, () if column == len(card.grammar.terminals) else (column,))
+    return meant(card, name, column, rules) if len(rules) > 1 else []
+
+
+def gap_told(card, line):
+    """The lines that tell one line of the program gaps: an entry with its rules, or a name with a rule of must-nots alone."""
+    name, *entry = line.split()
+    if not entry:
+        return no_end_settled(card, int(name))
+    column, *rules = entry
+    return meant(card, int(name), int(column), [int(rule) for rule in rules if rule != '-'])
 
 
 def no_end_settled(card, name):

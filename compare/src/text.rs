@@ -1,6 +1,6 @@
-//! The texts that the two programs print, and those that record calls, made from the twin's answers.
+//! The texts that the three programs print, and those that record calls, made from the twin's answers.
 
-use crate::twin::{self, Grammar, Outcome, Usage, Verdict, MAX_TOKENS, MAX_WORDS, MEMO_ENTRIES, NO_RULE, NOT_CALLED, FAILED, TABLE_WORDS};
+use crate::twin::{self, Gaps, Grammar, Outcome, Usage, Verdict, MAX_TOKENS, MAX_WORDS, MEMO_ENTRIES, NO_RULE, NOT_CALLED, FAILED, TABLE_WORDS};
 use std::fmt::Write;
 
 /// The words of a file, low byte first; none if it is not made of 4-byte words, or of more than so many.
@@ -31,6 +31,24 @@ pub fn sheet(card: &[u8]) -> String {
             let _ = if cell == NO_RULE { write!(text, " -") } else { write!(text, " {cell}") };
         }
         text.push('\n');
+    }
+    text
+}
+
+/// What the program gaps prints for a card's bytes.
+pub fn gaps(card: &[u8]) -> String {
+    let Some(words) = words_of(card, MAX_WORDS) else { return "refused 3 0\n".into() };
+    let gaps = match Gaps::find(&words) {
+        Ok(gaps) => gaps,
+        Err(refusal) => return refused(refusal.into()),
+    };
+    let mut text = String::new();
+    for (name, column, rules) in gaps.cells {
+        let rules = rules.iter().map(|rule| format!(" {rule}")).collect::<String>();
+        let _ = writeln!(text, "{name} {column}{}", if rules.is_empty() { " -" } else { &rules });
+    }
+    for name in gaps.unsettled {
+        let _ = writeln!(text, "{name}");
     }
     text
 }

@@ -6,7 +6,7 @@ mod histories;
 mod linked;
 
 use compare::cards::{self, rule, Draft, Random};
-use compare::twin::{self, Grammar, Outcome, Symbol, Verdict, MAX_TOKENS, MEMO_ENTRIES, TABLE_WORDS};
+use compare::twin::{self, Gaps, Grammar, Outcome, Symbol, Verdict, MAX_TOKENS, MEMO_ENTRIES, TABLE_WORDS};
 use std::{fmt::Debug, process::ExitCode, thread, time::Instant};
 
 /// How many words or entries lie before and behind what is lent, and must not change.
@@ -134,7 +134,8 @@ impl Pair {
     fn check(&mut self, words: &[u32], lengths: Lengths) -> Outcome {
         let expected = twin::check(words, self.twin.lend(lengths).0);
         let answer = linked::check(words, self.proved.lend(lengths).0);
-        let agree = answer == linked::packed(expected) && self.twin.table == self.proved.table;
+        let shown = lengths.table < TABLE_WORDS || Gaps::find(words).is_ok_and(|gaps| gaps.clash()) == (expected.code == 9);
+        let agree = answer == linked::packed(expected) && self.twin.table == self.proved.table && shown;
         self.settle("check", agree, expected, answer, words, &[], lengths)
     }
 

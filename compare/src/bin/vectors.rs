@@ -37,6 +37,7 @@ fn main() -> ExitCode {
             let (&expected, given) = fields.split_last().expect("fields");
             let printed = match (kind, given) {
                 ("sheet", [card]) => text::sheet(&bytes_of(card)),
+                ("gaps", [card]) => text::gaps(&bytes_of(card)),
                 ("judge", [card, log]) => text::judgement(&bytes_of(card), &bytes_of(log)),
                 ("calls", [call, card]) => recorded_call(call, card, "-"),
                 ("calls", [call, card, log]) => recorded_call(call, card, log),

@@ -14,5 +14,6 @@ mod words;
 pub use answers::{Outcome, Refusal, Verdict};
 pub use calls::{check, judge};
 pub use limits::*;
+pub use one::Gaps;
 pub use usage::{judge_recorded, Usage};
 pub use words::{Grammar, Symbol};

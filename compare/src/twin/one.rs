@@ -1,4 +1,5 @@
-//! One letter of lookahead (document 01): what a set weighs, which column a string has, and the words of a lent table.
+//! One letter of lookahead (document 01): what a set weighs, which column a string has, the words of a lent table, and the cells that have
+//! no rule or several.
 
 use super::answers::Refusal;
 use super::limits::MAX_TERMINALS;
@@ -28,6 +29,42 @@ fn string(column: usize, letters: usize) -> usize {
     if column == letters { 0 } else { column + 1 }
 }
 
+/// The grammar of these words with its sets, or why it is refused (codes 3 to 8).
+fn clear(words: &[u32]) -> Result<(Grammar, Sets), Refusal> {
+    let grammar = Grammar::read(words)?;
+    if let Some(nonterminal) = grammar.left_recursive() {
+        return Err(Refusal(8, nonterminal));
+    }
+    let sets = grammar.sets();
+    Ok((grammar, sets))
+}
+
+/// The cells with no rule or with two or more (request P3): nonterminal, column and rules, by nonterminal, then column; and the nonterminals
+/// that have a rule of negative conjuncts alone though a letter may follow.
+#[derive(Debug, PartialEq)]
+pub struct Gaps {
+    pub cells: Vec<(usize, usize, Vec<usize>)>,
+    pub unsettled: Vec<usize>,
+}
+
+impl Gaps {
+    pub fn find(words: &[u32]) -> Result<Gaps, Refusal> {
+        let (grammar, sets) = clear(words)?;
+        let letters = grammar.terminals;
+        let cells = (0..grammar.nonterminals).flat_map(|a| (0..=letters).map(move |column| (a, column)));
+        let with_rules = cells.map(|(a, column)| (a, column, grammar.claimants(&sets, a, string(column, letters))));
+        Ok(Gaps {
+            cells: with_rules.filter(|(_, _, rules)| rules.len() != 1).collect(),
+            unsettled: (0..grammar.nonterminals).filter(|&a| grammar.end_unsettled(&sets, a)).collect(),
+        })
+    }
+
+    /// Whether the grammar would be refused with 9.
+    pub fn clash(&self) -> bool {
+        !self.unsettled.is_empty() || self.cells.iter().any(|(_, _, rules)| !rules.is_empty())
+    }
+}
+
 /// A grammar that is not refused, with its sets and its table.
 pub struct Passed {
     pub grammar: Grammar,
@@ -38,11 +75,7 @@ pub struct Passed {
 impl Passed {
     /// The grammar of these words, or why it is refused (codes 3 to 9).
     pub fn check(words: &[u32]) -> Result<Passed, Refusal> {
-        let grammar = Grammar::read(words)?;
-        if let Some(nonterminal) = grammar.left_recursive() {
-            return Err(Refusal(8, nonterminal));
-        }
-        let sets = grammar.sets();
+        let (grammar, sets) = clear(words)?;
         let table = grammar.table(&sets);
         match table.clash(|string| column(string, grammar.terminals)) {
             Some((nonterminal, column)) => Err(Refusal(9, nonterminal * CLASH + column)),

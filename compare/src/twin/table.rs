@@ -19,22 +19,33 @@ impl Grammar {
         self.first_of_rule(rule, &sets.first).then(sets.follow[rule.nonterminal as usize])
     }
 
+    /// The rules of a nonterminal that claim a string, in order.
+    pub fn claimants<const K: usize, const L: usize>(&self, sets: &Sets<K, L>, nonterminal: usize, string: usize) -> Vec<usize> {
+        let claims = |rule: &Rule| rule.nonterminal as usize == nonterminal && self.claims(rule, sets).strings().any(|other| other == string);
+        (0..self.rules.len()).filter(|&number| claims(&self.rules[number])).collect()
+    }
+
+    /// Whether a nonterminal has a rule of negative conjuncts alone though a letter may follow it.
+    pub fn end_unsettled<const K: usize, const L: usize>(&self, sets: &Sets<K, L>, nonterminal: usize) -> bool {
+        sets.follow[nonterminal].join(Set::NOTHING) != Set::NOTHING
+            && self.rules.iter().any(|rule| rule.nonterminal as usize == nonterminal && self.only_forbids(rule))
+    }
+
     pub fn table<const K: usize, const L: usize>(&self, sets: &Sets<K, L>) -> Table<K, L> {
         let mut rules = vec![NO_RULE; self.nonterminals * Set::<K, L>::STRINGS];
         let mut claimed = [Set::EMPTY; MAX_NONTERMINALS];
         let mut claimed_twice = [Set::EMPTY; MAX_NONTERMINALS];
-        let mut end_unsettled = [false; MAX_NONTERMINALS];
         for (number, rule) in self.rules.iter().enumerate() {
             let a = rule.nonterminal as usize;
             let claims = self.claims(rule, sets);
             claimed_twice[a].add(claims.meet(claimed[a]));
             claimed[a].add(claims);
-            end_unsettled[a] |= self.only_forbids(rule) && sets.follow[a].join(Set::NOTHING) != Set::NOTHING;
             let row = &mut rules[a * Set::<K, L>::STRINGS..][..Set::<K, L>::STRINGS];
             for string in claims.strings() {
                 row[string] = number as u32;
             }
         }
+        let end_unsettled = std::array::from_fn(|a| self.end_unsettled(sets, a));
         Table { rules, claimed_twice, end_unsettled }
     }
 }

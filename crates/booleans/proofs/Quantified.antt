@@ -3,7 +3,7 @@ use mathlib.Core.Bool.{Bool, true, false, not, _||_}
 use mathlib.Core.List.{List, [], _∷_, List·Memᴰ, List·Memᴰ·head, List·Memᴰ·tail, List·Memᴰ·cases-cons, List·Memᴰ·not-nil}
 use mathlib.Core.Logic.{_↔_, _⊎_, inl, inr}
 use mathlib.Core.Option.{none, some}
-use mathlib.Core.Path.{_≡_, refl}
+use mathlib.Core.Path.{_≡_, refl, ap₂}
 use Prim.Native.Nat.{ℕ, zero, suc, _+_, _≤_, _<_}
 use native.Mathlib.Decide.{decLt, ℕ-discrete}
 use native.Mathlib.Omega.{arith}
@@ -103,7 +103,7 @@ below-make (suc n) p m l t = go (ℕ-discrete m n) (below-make n p m)
     go (yes e) f = or-l (p n) (anyBelow n p) (rw e at t)
     go (no e) f = or-r (p n) (anyBelow n p) (f (omega arith) t)
 
-one-le : (b : Bool) → one b ≤ 1
+pub one-le : (b : Bool) → one b ≤ 1
 one-le true = omega arith
 one-le false = omega arith
 
@@ -121,15 +121,26 @@ one-full : (b : Bool) → 1 ≤ one b → T b
 one-full true h = tt
 one-full false h = absurd (omega arith)
 
-count-le : (n : ℕ) (p : ℕ → Bool) → countBelow n p ≤ n
+pub count-le : (n : ℕ) (p : ℕ → Bool) → countBelow n p ≤ n
 unfolding countBelow
 count-le zero p = omega arith
 count-le (suc n) p = omega (arith, one-le (p n), count-le n p)
 
-count-mono : (n : ℕ) (p q : ℕ → Bool) → ((m : ℕ) → T (p m) → T (q m)) → countBelow n p ≤ countBelow n q
+pub count-mono : (n : ℕ) (p q : ℕ → Bool) → ((m : ℕ) → T (p m) → T (q m)) → countBelow n p ≤ countBelow n q
 unfolding countBelow
 count-mono zero p q h = omega arith
 count-mono (suc n) p q h = omega (arith, one-mono (p n) (q n) (h n), count-mono n p q h)
+
+pub count-cong : (n : ℕ) (p q : ℕ → Bool) → ((m : ℕ) → m < n → p m ≡ q m) → countBelow n p ≡ countBelow n q
+unfolding countBelow
+count-cong zero p q h = refl
+count-cong (suc n) p q h = ap₂ (λ b k. one b + k) (h n (omega arith)) (count-cong n p q (λ m l. h m (omega arith)))
+
+-- the first number, and those above it
+pub count-first : (n : ℕ) (p : ℕ → Bool) → countBelow (suc n) p ≡ one (p 0) + countBelow n (λ m. p (suc m))
+unfolding countBelow
+count-first zero p = refl
+count-first (suc n) p = let e = count-first n p in omega arith
 
 pub count-lt : (n : ℕ) (p q : ℕ → Bool) → ((m : ℕ) → T (p m) → T (q m)) → (m : ℕ) → m < n → T (not (p m)) → T (q m) → countBelow n p < countBelow n q
 unfolding countBelow

@@ -19,7 +19,7 @@ use Rattle.table.specs.Analysis.{fault}
 use Rattle.judgement_text.specs.Judgement.{judgementText}
 use Rattle.recognizer.specs.Answers.{judgeFault}
 use Rattle.recognizer.proofs.JudgeFaults.{judged-rows}
-use Rattle.report.specs.Report.{sheetOf, judgedText, judgementOf, enoughRead, Enough}
+use Rattle.report.specs.Report.{sheetOf, judgedText, judgementOf, gapsOf, enoughRead, Enough}
 
 -- a function that does not tell lists longer than a limit apart is the same of a list cut past the limit
 cut : {B : Type 0} (f : List ℕ → B) (limit n : ℕ) → limit < n → ((l m : List ℕ) → limit < length l → limit < length m → f l ≡ f m)
@@ -53,15 +53,24 @@ long-text : (words input : List ℕ) → maxTokens < length input → judgedText
 unfolding judgedText judgementText
 long-text words input h = rw (long-fault words input h (fault words) refl)
 
+-- what is refused as no row of words is the same of every file that is too long
+file-cut : (f : List ℕ → List ℕ) (file : ℕ) → bytesOfWord * maxWords < file
+    → ((l : List ℕ) → areWords l ≡ false → f l ≡ refusalText Length) → (bytes : List ℕ) → f (take file bytes) ≡ f bytes
+file-cut f file long same = cut f (bytesOfWord * maxWords) file long (λ l m h k. same l (not-words l h) ∙ sym (same m (not-words m k)))
+
 module _ (file tokens : ℕ) (long : bytesOfWord * maxWords < file) (over : maxTokens < tokens) where
   pub sheet-enough : (bytes : List ℕ) → sheetOf (take file bytes) ≡ sheetOf bytes
   unfolding sheetOf
-  sheet-enough = cut sheetOf (bytesOfWord * maxWords) file long (λ l m h k. rw (not-words l h, not-words m k))
+  sheet-enough = file-cut sheetOf file long (λ l e. rw e)
+
+  pub gaps-enough : (bytes : List ℕ) → gapsOf (take file bytes) ≡ gapsOf bytes
+  unfolding gapsOf
+  gaps-enough = file-cut gapsOf file long (λ l e. rw e)
 
   pub judgement-enough : (bytes input : List ℕ) → judgementOf (take file bytes) (take tokens input) ≡ judgementOf bytes input
   unfolding judgementOf
   judgement-enough bytes input =
-      cut (λ b. judgementOf b (take tokens input)) (bytesOfWord * maxWords) file long (λ l m h k. rw (not-words l h, not-words m k)) bytes
+      file-cut (λ b. judgementOf b (take tokens input)) file long (λ l e. rw e) bytes
       ∙ ap (λ t. choose (areWords bytes) t (refusalText Length))
       (cut (judgedText (wordsOf bytes)) maxTokens tokens over (λ l m h k. long-text (wordsOf bytes) l h ∙ sym (long-text (wordsOf bytes) m k)) input)
 
@@ -70,4 +79,5 @@ enough = record {
   lengths = refl;
   sheet = sheet-enough (enoughRead .file) (enoughRead .input) (omega arith) (omega arith);
   judgement = judgement-enough (enoughRead .file) (enoughRead .input) (omega arith) (omega arith);
+  gaps = gaps-enough (enoughRead .file) (enoughRead .input) (omega arith) (omega arith);
 }

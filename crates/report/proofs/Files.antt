@@ -21,7 +21,10 @@ use Rattle.text.proofs.Lengths.{refusal-most}
 use Rattle.text.proofs.Writing.{put-length, put-whole}
 use Rattle.sheet_text.specs.Room.{sheetRoom}
 use Rattle.judgement_text.specs.Room.{judgementRoom}
-use Rattle.report.specs.Report.{Printed, checkedText, sheetOf, judgedText, judgementOf}
+use Rattle.gaps_text.specs.Gaps.{GapsPut}
+use Rattle.gaps_text.proofs.Lengths.{gaps-most}
+use Rattle.gaps_text.proofs.Overlaps.{lines-tell}
+use Rattle.report.specs.Report.{Printed, checkedText, sheetOf, judgedText, judgementOf, gapsOf, GapsPrinted}
 use Rattle.report.proofs.Lengths.{checked-short, judged-short}
 
 -- the words of a file that was loaded
@@ -83,3 +86,11 @@ module _ {l m : List ℕ} {k : ℕ} where
       → Printed judgementRoom (judgementOf bytes input) l m k
   unfolding judgementOf
   judgement-judged f input p = rw (f .are, ← f .words) (printed (judged-short _ input) p)
+
+  pub gaps-refused : (bytes : List ℕ) → areWords bytes ≡ false → Put l 0 (refusalText Length) m k → GapsPrinted bytes l m k
+  unfolding gapsOf
+  gaps-refused bytes e p = record { printed = rw e (printed (omega (arith, refusal-most Length)) p); tells = lines-tell (wordsOf bytes) }
+
+  pub gaps-told : {bytes words : List ℕ} {n : ℕ} → FoundWords bytes words n → GapsPut (take n words) l m k → GapsPrinted bytes l m k
+  unfolding gapsOf
+  gaps-told f p = record { printed = rw (f .are, ← f .words) (printed (gaps-most _) (p .put)); tells = rw (f .words) at (p .tells) }

@@ -28,8 +28,10 @@ use Rattle.text.specs.Writing.{Put}
 use Rattle.text.specs.Refusal.{refusalText}
 use Rattle.sheet_text.specs.Room.{sheetRoom}
 use Rattle.judgement_text.specs.Room.{judgementRoom}
+use Rattle.gaps_text.specs.Room.{gapsRoom}
 use Rattle.sheet_text.specs.Sheet.{wordAt, checkText}
 use Rattle.judgement_text.specs.Judgement.{judgementText}
+use Rattle.gaps_text.specs.Gaps.{gapsText, LinesTell}
 
 -- a text put from the buffer's front on, of which so many bytes stand there: all of them where the buffer has the room
 pub record Printed (room : ℕ) (text before after : List ℕ) (n : ℕ) : Type 0 where
@@ -38,9 +40,9 @@ pub record Printed (room : ℕ) (text before after : List ℕ) (n : ℕ) : Type 
   pub part : n ≡ length (take n after)
   pub whole : room ≤ length before → take n after ≡ text
 
--- room for every sheet, and for every judgement
+-- room for every sheet, for every judgement, and for all gaps and overlaps
 abbrev pub enoughRoom : Rooms
-enoughRoom = record { sheet = sheetRoom; judgement = judgementRoom }
+enoughRoom = record { sheet = sheetRoom; judgement = judgementRoom; gaps = gapsRoom }
 
 -- the memory that is lent for the table
 unfoldable pub blankTable : List ℕ
@@ -84,6 +86,14 @@ judgedText words input =
 unfoldable pub judgementOf : List ℕ → List ℕ → List ℕ
 judgementOf bytes input = choose (areWords bytes) (judgedText (wordsOf bytes) input) (refusalText Length)
 
+-- (document 02, P3: the third program) the gaps and overlaps of a file's words
+unfoldable pub gapsOf : List ℕ → List ℕ
+gapsOf bytes = choose (areWords bytes) (gapsText (wordsOf bytes)) (refusalText Length)
+
+pub record GapsPrinted (bytes before after : List ℕ) (n : ℕ) : Type 0 where
+  pub printed : Printed gapsRoom (gapsOf bytes) before after n
+  pub tells : LinesTell (wordsOf bytes)
+
 -- one byte more than the longest file of words has, and one token more than the longest input
 abbrev pub enoughRead : Reads
 enoughRead = record { file = suc (bytesOfWord * maxWords); input = suc maxTokens }
@@ -93,6 +103,7 @@ pub record Enough (r : Reads) : Type 0 where
   pub lengths : r ≡ enoughRead
   pub sheet : (bytes : List ℕ) → sheetOf (take (r .file) bytes) ≡ sheetOf bytes
   pub judgement : (bytes input : List ℕ) → judgementOf (take (r .file) bytes) (take (r .input) input) ≡ judgementOf bytes input
+  pub gaps : (bytes : List ℕ) → gapsOf (take (r .file) bytes) ≡ gapsOf bytes
 
 -- how many nonterminals words have that are read
 abbrev pub nonterminalsOf : Outcome → ℕ

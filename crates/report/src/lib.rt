@@ -4,8 +4,9 @@ ghost use Rattle.grammar.specs.Reading.{reading};
 ghost use Rattle.sheet_text.specs.Room.{sheetRoom};
 ghost use Rattle.judgement_text.specs.Room.{judgementRoom};
 ghost use Rattle.text.specs.Writing.{Put};
-ghost use Rattle.report.specs.Report.{Printed, SheetPrinted, Enough, enoughRoom, nonterminalsOf, tokensOf, checkedText, judgedText, judgementOf};
+ghost use Rattle.report.specs.Report.{Printed, SheetPrinted, GapsPrinted, Enough, enoughRoom, nonterminalsOf, tokensOf, checkedText, judgedText, judgementOf};
 use answer::Error;
+use gaps_text::put_gaps;
 use grammar::codes::NO_ENTRY;
 use grammar::codes::UNCALLED;
 use grammar::limits::MEMO_ENTRIES;
@@ -23,23 +24,27 @@ use text::words::Loaded;
 use text::words::WORD_BYTES;
 use text::words::load;
 
-// Room for every sheet, and for every judgement.
+// Room for every sheet, for every judgement, and for all gaps and overlaps.
 pub const SHEET_ROOM: usize = sheet_text::ROOM;
 
 pub const JUDGEMENT_ROOM: usize = judgement_text::ROOM;
 
+pub const GAPS_ROOM: usize = gaps_text::ROOM;
+
 pub struct Rooms {
     pub sheet: usize,
     pub judgement: usize,
+    pub gaps: usize,
 }
 
-// The two in one value, so that what the specifications say of room is proved of these.
+// The three in one value, so that what the specifications say of room is proved of these.
 pub fn enough_room() -> Rooms
     ensures { λ r. ⌜ r ≡ enoughRoom ⌝ }
 {
     Rooms {
         sheet: SHEET_ROOM,
         judgement: JUDGEMENT_ROOM,
+        gaps: GAPS_ROOM,
     }
 }
 
@@ -83,6 +88,18 @@ pub fn judgement(bytes: &[u8], input: &[u8], out: &mut [u8]) -> usize
     let loaded = load(bytes, &mut words);
     match loaded {
         Loaded::Words(n) => put_judged(&words[..n], input, out),
+        Loaded::NotWords => put_refusal(out, 0, Error::Length),
+    }
+}
+
+// The gaps and overlaps of the grammar that a file's bytes are, and its nonterminals that overrun; or why there are none to tell.
+pub fn gaps(bytes: &[u8], out: &mut [u8]) -> usize
+    ensures { λ r. ⌜ GapsPrinted (now (bytes .entry)) (now (out .entry)) (now (out .exit)) r ⌝ }
+{
+    let mut words = [0u32; WORDS];
+    let loaded = load(bytes, &mut words);
+    match loaded {
+        Loaded::Words(n) => put_gaps(out, &words[..n]),
         Loaded::NotWords => put_refusal(out, 0, Error::Length),
     }
 }

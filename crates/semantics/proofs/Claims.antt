@@ -37,7 +37,7 @@ module _ (G : Grammar) (k : ℕ) where
   abbrev pub ClashAt : ℕ → List ℕ → Type 0
   ClashAt = Clash G k (First G k) (Follow G k)
 
-  claims-make : (q A : ℕ) (x : List ℕ) → ClaimsAt q A x → PassesAt (claims G k (A, x)) (G .rules) q
+  pub claims-make : (q A : ℕ) (x : List ℕ) → ClaimsAt q A x → PassesAt (claims G k (A, x)) (G .rules) q
   unfolding claims claimed meeting
   claims-make q A x c =
       let r : Rule = c .rule in
@@ -49,7 +49,7 @@ module _ (G : Grammar) (k : ℕ) where
       let named : T (eqb (r .head) A) = rw (c .heads) (eqb-refl A) in
       (r, c .numbered, and-make (eqb (r .head) A) _ named (mem-member sameString strings-equality (claimed G k r) x (Memᴰ·cast (c .makes) i)))
 
-  claims-elim : (q A : ℕ) (x : List ℕ) → PassesAt (claims G k (A, x)) (G .rules) q → ClaimsAt q A x
+  pub claims-elim : (q A : ℕ) (x : List ℕ) → PassesAt (claims G k (A, x)) (G .rules) q → ClaimsAt q A x
   unfolding claims claimed meeting
   claims-elim q A x h =
       let r : Rule = h .0 in
@@ -76,7 +76,7 @@ module _ (G : Grammar) (k : ℕ) where
       entries-make G k A x (l .0) (rw (c .makes) (cut-lookahead k (G .terminals) (c .begins) (c .behind) (c .lookahead .1) (l .1 .1)))
 
   -- a nonterminal that overruns is found, and its entry is one of the grammar
-  overruns-elim : (A : ℕ) → T (overruns G k A) → Overrun G (Follow G k) A
+  pub overruns-elim : (A : ℕ) → T (overruns G k A) → Overrun G (Follow G k) A
   unfolding overruns
   overruns-elim A t =
       let alone : Rule → Bool = λ r. eqb (r .head) A && without (r .positives) in
@@ -93,7 +93,7 @@ module _ (G : Grammar) (k : ℕ) where
         more = λ e. T-not (sameString [] (y .0)) (y .2) (rw e (strings-equality .itself []));
       }
 
-  overruns-make : (A : ℕ) → Overrun G (Follow G k) A → T (overruns G k A)
+  pub overruns-make : (A : ℕ) → Overrun G (Follow G k) A → T (overruns G k A)
   unfolding overruns
   overruns-make A o =
       and-make (anyOf (λ r. eqb (r .head) A && without (r .positives)) (G .rules)) (anyOf (λ y. not (sameString [] y)) (followSets G k A))

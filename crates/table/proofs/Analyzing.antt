@@ -42,7 +42,7 @@ use Rattle.table.proofs.ConflictScan.{first-clash}
 use Rattle.table.proofs.TableFilled.{table-filled}
 
 -- the faults found with the sets come first
-fault-sets : (words : List ℕ)
+pub fault-sets : (words : List ℕ)
     → fault words ≡ firstFault (setsFault words ∷ clashFault (grammarOf words .terminals) (clashes (grammarOf words) 1) ∷ [])
 unfolding fault setsFault
 fault-sets words = first-nested [] (setsFaults words) (clashFault (grammarOf words .terminals) (clashes (grammarOf words) 1) ∷ [])

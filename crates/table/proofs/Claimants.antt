@@ -39,7 +39,7 @@ numbers-before q n h k =
 
 -- a list's members pass one test as their numbers, counted from a on, pass another
 module _ {X : Type 0} (p : ℕ → Bool) (f : X → Bool) where
-  abbrev Alike : ℕ → List X → Type 0
+  abbrev pub Alike : ℕ → List X → Type 0
   Alike a l = (q : ℕ) (x : X) → getElem? l q ≡ some x → p (a + q) ≡ f x
 
   alike-here : (a : ℕ) (x : X) (l : List X) → Alike a (x ∷ l) → p a ≡ f x
@@ -77,7 +77,7 @@ pub record Told (G : Grammar) (k : ℕ) (heads sets : List ℕ) (l : ℕ) (x : L
   pub claims : (q : ℕ) (r : Rule) → getElem? (G .rules) q ≡ some r → has (getD sets q 0) l ≡ member sameString (claimed G k r) x
 
 module _ {G : Grammar} {k : ℕ} {heads sets : List ℕ} {l : ℕ} {x : List ℕ} (t : Told G k heads sets l x) (A : ℕ) where
-  claims-alike : Alike (claimant heads sets A l) (claims G k (A, x)) 0 (G .rules)
+  pub claims-alike : Alike (claimant heads sets A l) (claims G k (A, x)) 0 (G .rules)
   unfolding claimant claims
   claims-alike q r e =
       let n : 0 + q ≡ q = omega arith in

@@ -16,7 +16,7 @@ use lookahead::NOTHING;
 use sets::family::SETS;
 
 // The element of a column: the terminals in order, then the end.
-pub(crate) fn element(terminals: u32, column: u32) -> u32
+pub fn element(terminals: u32, column: u32) -> u32
     ensures { λ r. ⌜ r ≡ columnElement terminals column ⌝ }
 {
     if column == terminals { NOTHING } else { column }

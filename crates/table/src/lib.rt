@@ -14,7 +14,7 @@ use sets::Finding;
 
 pub mod claims;
 mod conflicts;
-mod layout;
+pub mod layout;
 mod overruns;
 
 // What is found of an encoded grammar: its sizes, or why it is refused; and the words of its table, all no entry where it is refused.

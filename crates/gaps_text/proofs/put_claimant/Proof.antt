@@ -1,0 +1,25 @@
+-- A rule that claims the entry is put behind a space.
+use Rattle.gaps_text.proofs.Lines.{claimant-put, nobody-put}
+use borrow.Author.Needs.{needs}
+use Rattle.gaps_text.proofs.put_claimant.Statement.{statement}
+use Rattle.gaps_text.proofs.put_claimant.Tie as tie
+
+slice-aggregate-put-labelled : tie.Need-slice-aggregate-put-labelled
+slice-aggregate-put-labelled c = search needs
+
+put-labelled-requires : tie.Need-put-labelled-requires
+put-labelled-requires c κs = search needs
+
+same-length : tie.Need-same-length
+same-length c = search needs
+
+returns : tie.Need-returns
+returns c = claimant-put _ (c .before .before .before .before .before .if1 .taken) (c .before .before .put-labelled .ensures)
+
+returns-2 : tie.Need-returns-2
+returns-2 c = nobody-put _ _ _ (c .if1 .left)
+
+pub put-claimant-spec : {M : Type 1} → statement M
+put-claimant-spec =
+    tie.close
+    (tie.spec slice-aggregate-put-labelled put-labelled-requires same-length returns returns-2)

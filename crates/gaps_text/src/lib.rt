@@ -1,0 +1,244 @@
+// The gaps and overlaps of a grammar's table, line by line, and the nonterminals that overrun, from what each rule claims.
+ghost use mathlib.Core.Path.{_≡_};
+ghost use Prim.Native.Nat.{_≤_, _<_};
+ghost use Rattle.booleans.specs.Quantifiers.{one as oneOf, countBelow};
+ghost use Rattle.grammar.specs.Limits.{maxNonterminals, maxTerminals, maxRules};
+ghost use Rattle.table.specs.Claims.{claimant};
+ghost use Rattle.text.specs.Writing.{Put, upTo};
+ghost use Rattle.gaps_text.specs.Gaps.{GapsPut};
+ghost use Rattle.gaps_text.specs.Steps.{claimantText, numbersText, claimantsText, entryLine, rowText, overrunLine, overrunsText, claimantAt, overrunsBy, overrunsIn};
+use grammar::limits::COLUMNS;
+use grammar::limits::NONTERMINALS;
+use grammar::limits::RULES;
+use grammar::reading::Sizes;
+use lookahead::LookaheadSet;
+use sets::Finding;
+use sets::family::SETS;
+use table::claims::analyze;
+use table::layout::element;
+use text::put::put_bytes;
+use text::put::put_labelled;
+use text::put::put_number;
+use text::refusal::put_refusal;
+
+// How many bytes the lines take at most, and all of a sheet.
+const RULE_ROOM: usize = 4;
+
+const ENTRY_ROOM: usize = 8;
+
+const OVERRUN_ROOM: usize = 3;
+
+// A rule stands in the row of its head alone.
+pub const ROOM: usize = (NONTERMINALS as usize) * (COLUMNS * ENTRY_ROOM)
+    + COLUMNS * (RULES * RULE_ROOM)
+    + (NONTERMINALS as usize) * OVERRUN_ROOM;
+
+// Whether a rule claims an element for a nonterminal.
+fn claims_element(
+    heads: &[u8; RULES],
+    sets: &[u64; RULES],
+    nonterminal: u8,
+    element: u32,
+    rule: usize,
+) -> bool
+    requires { ⌜ rule < maxRules ⌝ }
+    ensures { λ r. ⌜ r ≡ claimant (now (heads .entry)) (now (sets .entry)) nonterminal element rule ⌝ }
+{
+    let head = heads[rule];
+    let claim = LookaheadSet { bits: sets[rule] };
+    if head == nonterminal {
+        claim.contains(element)
+    } else {
+        false
+    }
+}
+
+fn one(claimed: bool) -> usize
+    ensures { λ r. ⌜ r ≡ oneOf claimed ⌝ }
+{
+    if claimed { 1 } else { 0 }
+}
+
+// How many rules claim an element for a nonterminal.
+fn count_claimants(
+    heads: &[u8; RULES],
+    sets: &[u64; RULES],
+    rules: usize,
+    nonterminal: u8,
+    element: u32,
+) -> usize
+    requires { ⌜ rules ≤ maxRules ⌝ }
+    ensures { λ r. ⌜ r ≡ countBelow rules (claimant (now (heads .entry)) (now (sets .entry)) nonterminal element) ⌝ }
+{
+    let mut n = 0;
+    let mut rule = 0;
+    while rule < rules {
+        let claimed = claims_element(heads, sets, nonterminal, element, rule);
+        n = one(claimed) + n;
+        rule = rule + 1;
+    }
+    n
+}
+
+fn put_claimant(out: &mut [u8], at: usize, claimed: bool, rule: usize) -> usize
+    ensures { λ r. ⌜ Put (now (out .entry)) at (claimantText claimed rule) (now (out .exit)) r ⌝ }
+{
+    if claimed {
+        put_labelled(out, at, b" ", rule)
+    } else {
+        at
+    }
+}
+
+// The numbers of the rules that claim an element for a nonterminal, in order.
+fn put_numbers(
+    out: &mut [u8],
+    at: usize,
+    heads: &[u8; RULES],
+    sets: &[u64; RULES],
+    rules: usize,
+    nonterminal: u8,
+    element: u32,
+) -> usize
+    requires { ⌜ rules ≤ maxRules ⌝ }
+    ensures { λ r. ⌜ Put (now (out .entry)) at (numbersText rules (claimant (now (heads .entry)) (now (sets .entry)) nonterminal element)) (now (out .exit)) r ⌝ }
+{
+    let mut next = at;
+    let mut rule = 0;
+    while rule < rules {
+        let claimed = claims_element(heads, sets, nonterminal, element, rule);
+        next = put_claimant(out, next, claimed, rule);
+        rule = rule + 1;
+    }
+    next
+}
+
+// The same, or a dash where their number is 0.
+fn put_claimants(
+    out: &mut [u8],
+    at: usize,
+    heads: &[u8; RULES],
+    sets: &[u64; RULES],
+    rules: usize,
+    nonterminal: u8,
+    element: u32,
+    number: usize,
+) -> usize
+    requires { ⌜ (rules ≤ maxRules) × (number ≡ countBelow rules (claimant (now heads) (now sets) nonterminal element)) ⌝ }
+    ensures { λ r. ⌜ Put (now (out .entry)) at (claimantsText rules (claimant (now (heads .entry)) (now (sets .entry)) nonterminal element)) (now (out .exit)) r ⌝ }
+{
+    if number == 0 {
+        put_bytes(out, at, b" -")
+    } else {
+        put_numbers(out, at, heads, sets, rules, nonterminal, element)
+    }
+}
+
+// The line of an entry, unless just one rule claims it.
+fn put_entry(
+    out: &mut [u8],
+    at: usize,
+    heads: &[u8; RULES],
+    sets: &[u64; RULES],
+    sizes: Sizes,
+    nonterminal: u8,
+    column: u32,
+) -> usize
+    requires { ⌜ sizes .rules ≤ maxRules ⌝ }
+    ensures { λ r. ⌜ Put (now (out .entry)) at (entryLine (sizes .rules) (claimantAt (now (heads .entry)) (now (sets .entry)) (sizes .terminals) nonterminal column) nonterminal column) (now (out .exit)) r ⌝ }
+{
+    let rules = sizes.rules;
+    let element = element(sizes.terminals, column);
+    let number = count_claimants(heads, sets, rules, nonterminal, element);
+    if number == 1 {
+        return at;
+    }
+    let at = put_number(out, at, nonterminal as usize);
+    let at = put_labelled(out, at, b" ", column as usize);
+    let at = put_claimants(out, at, heads, sets, rules, nonterminal, element, number);
+    put_bytes(out, at, b"\n")
+}
+
+fn put_row(
+    out: &mut [u8],
+    at: usize,
+    heads: &[u8; RULES],
+    sets: &[u64; RULES],
+    sizes: Sizes,
+    nonterminal: u8,
+) -> usize
+    requires { ⌜ (sizes .rules ≤ maxRules) × (sizes .terminals ≤ maxTerminals) ⌝ }
+    ensures { λ r. ⌜ Put (now (out .entry)) at (rowText sizes (claimantAt (now (heads .entry)) (now (sets .entry)) (sizes .terminals)) nonterminal) (now (out .exit)) r ⌝ }
+{
+    let columns = sizes.terminals + 1;
+    let mut next = at;
+    let mut column = 0;
+    while column < columns {
+        next = put_entry(out, next, heads, sets, sizes, nonterminal, column);
+        column = column + 1;
+    }
+    next
+}
+
+fn put_rows<'a>(
+    out: &mut [u8],
+    at: usize,
+    heads: &'a [u8; RULES],
+    sets: &'a [u64; RULES],
+    sizes: Sizes,
+) -> usize
+    requires { ⌜ (sizes .nonterminals ≤ maxNonterminals) × (sizes .rules ≤ maxRules) × (sizes .terminals ≤ maxTerminals) ⌝ }
+    ensures { λ r. ⌜ Put (now (out .entry)) at (upTo (sizes .nonterminals) (rowText sizes (claimantAt (now (heads .entry)) (now (sets .entry)) (sizes .terminals)))) (now (out .exit)) r ⌝ }
+{
+    let nonterminals = sizes.nonterminals;
+    let mut next = at;
+    let mut nonterminal = 0;
+    while nonterminal < nonterminals {
+        next = put_row(out, next, heads, sets, sizes, nonterminal as u8);
+        nonterminal = nonterminal + 1;
+    }
+    next
+}
+
+// The line of a nonterminal, unless the set that is told of it is empty: it does not overrun.
+fn put_overrun(out: &mut [u8], at: usize, told: LookaheadSet, nonterminal: u32) -> usize
+    ensures { λ r. ⌜ Put (now (out .entry)) at (overrunLine (overrunsBy (told .bits)) nonterminal) (now (out .exit)) r ⌝ }
+{
+    let ends = told.is_empty();
+    if ends {
+        return at;
+    }
+    let at = put_number(out, at, nonterminal as usize);
+    put_bytes(out, at, b"\n")
+}
+
+fn put_overruns(out: &mut [u8], at: usize, overruns: &[u64; SETS], nonterminals: u32) -> usize
+    requires { ⌜ nonterminals ≤ maxNonterminals ⌝ }
+    ensures { λ r. ⌜ Put (now (out .entry)) at (overrunsText nonterminals (overrunsIn (now (overruns .entry)))) (now (out .exit)) r ⌝ }
+{
+    let mut next = at;
+    let mut nonterminal = 0;
+    while nonterminal < nonterminals {
+        let told = LookaheadSet {
+            bits: overruns[nonterminal as usize],
+        };
+        next = put_overrun(out, next, told, nonterminal);
+        nonterminal = nonterminal + 1;
+    }
+    next
+}
+
+// The gaps and overlaps of the grammar that the words are, and its nonterminals that overrun; or why there are none to tell.
+pub fn put_gaps(out: &mut [u8], words: &[u32]) -> usize
+    ensures { λ r. ⌜ GapsPut (now (words .entry)) (now (out .entry)) (now (out .exit)) r ⌝ }
+{
+    let claims = analyze(words);
+    let finding = claims.finding;
+    match finding {
+        Finding::Refused(error) => put_refusal(out, 0, error),
+        Finding::Passed(sizes) => {
+            let at = put_rows(out, 0, &claims.heads, &claims.sets, sizes);
+            put_overruns(out, at, &claims.overruns, sizes.nonterminals)
+        }
+    }
+}
