@@ -23,7 +23,9 @@ pub fn first_unknown(events: &[u8], terminals: u32) -> Unknown
 {
     let mut at = 0;
     while at < events.len() {
-        if terminals <= terminal_of(events[at]) as u32 {
+        let event = events[at];
+        let terminal = terminal_of(event);
+        if terminals <= terminal as u32 {
             return Unknown::At(at);
         }
         at = at + 1;

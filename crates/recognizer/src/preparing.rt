@@ -16,8 +16,8 @@ use grammar::limits::TABLE_WORDS;
 use grammar::reading::Sizes;
 use grammar::reading::rule_starts;
 
-// What a terminal is times this has it twice: as the terminal, and as its element of lookahead.
-const TWICE: u16 = (ELEMENT + 1) as u16;
+// The weight of the element of lookahead in a word of a token.
+const WEIGHT: u16 = ELEMENT as u16;
 
 // The terminal that each event is; its element of lookahead is its column of the table.
 pub(crate) fn tokens_of(events: &[u8], terminals: u32) -> [u16; PLACES]
@@ -28,7 +28,9 @@ pub(crate) fn tokens_of(events: &[u8], terminals: u32) -> [u16; PLACES]
     let mut tokens = [end; PLACES];
     let mut at = 0;
     while at < events.len() {
-        tokens[at] = terminal_of(events[at]) as u16 * TWICE;
+        let event = events[at];
+        let terminal = terminal_of(event);
+        tokens[at] = terminal as u16 * WEIGHT + terminal as u16;
         at = at + 1;
     }
     tokens

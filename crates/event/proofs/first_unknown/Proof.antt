@@ -19,14 +19,14 @@ abbrev μ-loop : tie.MeasureT-loop
 loop-holds : tie.Need-loop-holds Inv-loop μ-loop
 loop-holds c = refl
 
-shared-slice-read-terminal-of : tie.Need-shared-slice-read-terminal-of Inv-loop μ-loop
-shared-slice-read-terminal-of c = omega arith
+shared-slice-read-event : tie.Need-shared-slice-read-event Inv-loop μ-loop
+shared-slice-read-event c = omega arith
 
 terminal-of-requires : tie.Need-terminal-of-requires Inv-loop μ-loop
 terminal-of-requires c κs = search needs
 
 cast-if1 : tie.Need-cast-if1 Inv-loop μ-loop
-cast-if1 c = omega (arith, c .terminal-of .ensures)
+cast-if1 c = omega (arith, c .terminal-of .ensures, c .before .shared-slice-known2 .given (c .before .before .before .loop .at))
 
 returns : tie.Need-returns Inv-loop μ-loop
 returns c =
@@ -35,7 +35,7 @@ returns c =
     let at-loop = turn .before in
     let start = at-loop .before .before in
     unknown-here (start .args .terminals) (start .args .events .now) (at-loop .loop .at) (turn .loop-test .taken)
-    (rw (called .terminal-of .ensures) at (c .if1 .taken)) ∙ at-loop .loop .inv
+    (omega (arith, called .terminal-of .ensures)) ∙ at-loop .loop .inv
 
 add-at : tie.Need-add-at Inv-loop μ-loop
 add-at c = omega arith
@@ -50,7 +50,7 @@ loop-again c =
     let at-loop = turn .before in
     let start = at-loop .before .before in
     unknown-next (start .args .terminals) (start .args .events .now) (at-loop .loop .at) (turn .loop-test .taken)
-    (rw (called .terminal-of .ensures) at (c .if1 .left)) ∙ at-loop .loop .inv
+    (omega (arith, called .terminal-of .ensures)) ∙ at-loop .loop .inv
 
 returns-2 : tie.Need-returns-2 Inv-loop μ-loop
 returns-2 c =
@@ -65,7 +65,7 @@ first-unknown-spec =
     Inv-loop
     μ-loop
     loop-holds
-    shared-slice-read-terminal-of
+    shared-slice-read-event
     terminal-of-requires
     cast-if1
     returns

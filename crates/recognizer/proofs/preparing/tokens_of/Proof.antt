@@ -30,8 +30,8 @@ cast-end c = omega (arith, c .before .pre .few)
 loop-holds : tie.Need-loop-holds Inv-loop μ-loop
 loop-holds c = (omega arith, partly-none (inputOf (c .before .args .events .now)) (c .before .args .terminals * elementWeight + endMark))
 
-shared-slice-read-terminal-of : tie.Need-shared-slice-read-terminal-of Inv-loop μ-loop
-shared-slice-read-terminal-of c = omega arith
+shared-slice-read-event : tie.Need-shared-slice-read-event Inv-loop μ-loop
+shared-slice-read-event c = omega arith
 
 terminal-of-requires : tie.Need-terminal-of-requires Inv-loop μ-loop
 terminal-of-requires c κs = search needs
@@ -41,6 +41,12 @@ cast-tokens c = omega (arith, c .terminal-of .ensures)
 
 mul-tokens : tie.Need-mul-tokens Inv-loop μ-loop
 mul-tokens c = omega (arith, c .terminal-of .ensures)
+
+cast-tokens-2 : tie.Need-cast-tokens-2 Inv-loop μ-loop
+cast-tokens-2 c = omega (arith, c .terminal-of .ensures, c .before .shared-slice-known2 .given (c .before .before .before .loop .at))
+
+add-tokens : tie.Need-add-tokens Inv-loop μ-loop
+add-tokens c = omega (arith, c .terminal-of .ensures, c .before .shared-slice-known2 .given (c .before .before .before .loop .at))
 
 mul-tokens-2 : tie.Need-mul-tokens-2 Inv-loop μ-loop
 mul-tokens-2 c = omega (arith, c .before .before .before .before .before .pre .short)
@@ -61,10 +67,11 @@ loop-again c =
     let start = at-loop .before .before in
     let input = inputOf (start .args .events .now) in
     let at = at-loop .loop .at in
-    let token = c .terminal-of .ensures ∙ sym (input-at (start .args .events .now) at) in
+    let token : c .terminal-of .result * elementWeight + c .terminal-of .result ≡ getD input at 0 * (elementWeight + 1) =
+    omega (arith, c .terminal-of .ensures, input-at (start .args .events .now) at) in
     let long = input-length (start .args .events .now) in (
       omega arith,
-      ap {B = List ℕ} (λ a. set (at-loop .loop .tokens) at (a * (elementWeight + 1))) token
+      ap {B = List ℕ} (set (at-loop .loop .tokens) at) token
           ∙ ap (λ (l : List ℕ). set l at (getD input at 0 * (elementWeight + 1))) (at-loop .loop .inv .1)
           ∙ partly-more input (start .args .terminals * elementWeight + endMark) at (omega (arith, turn .loop-test .taken)) (omega (arith, start .pre .short)),
     )
@@ -87,10 +94,12 @@ tokens-of-spec =
     add-end
     cast-end
     loop-holds
-    shared-slice-read-terminal-of
+    shared-slice-read-event
     terminal-of-requires
     cast-tokens
     mul-tokens
+    cast-tokens-2
+    add-tokens
     mul-tokens-2
     array-write-tokens
     add-at
