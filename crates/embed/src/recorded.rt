@@ -1,5 +1,6 @@
 // Judging with a record of usage that stands in four numbers of the caller's: calls, refusals, acceptances, calls of all descents.
 ghost use mathlib.Core.Path.{_≡_};
+ghost use Rattle.event.specs.Events.{inputOf};
 ghost use Rattle.embed.specs.Records.{countersOf, usageIn};
 ghost use Rattle.embed.specs.Exports.{RecordedExported};
 use super::pack;
@@ -31,7 +32,7 @@ pub extern "C" fn vinegarspit_judge_recorded(
     memo: &mut [u16],
     usage: &mut [u32; 4],
 ) -> u64
-    ensures { λ r. ⌜ RecordedExported (now (card .entry)) (now (log .entry)) (now (table .entry)) (now (memo .entry)) (now (usage .entry)) r (now (table .exit)) (now (memo .exit)) (now (usage .exit)) ⌝ }
+    ensures { λ r. ⌜ RecordedExported (now (card .entry)) (inputOf (now (log .entry))) (now (table .entry)) (now (memo .entry)) (now (usage .entry)) r (now (table .exit)) (now (memo .exit)) (now (usage .exit)) ⌝ }
 {
     let old = *usage;
     let before = usage_in(old);

@@ -1,4 +1,5 @@
 // Judging with a record of usage, which is handed in and handed back by value.
+ghost use Rattle.event.specs.Events.{inputOf};
 ghost use Rattle.recording.specs.Properties.{Records};
 use answer::Answer;
 use recognizer::judge;
@@ -10,17 +11,17 @@ pub struct Recorded {
     pub usage: Usage,
 }
 
-// Judges an input as `judge` does, and counts the answer, a refusal too.
+// Judges a log as `judge` does, and counts the answer, a refusal too.
 pub fn judge_recorded(
     words: &[u32],
-    input: &[u8],
+    events: &[u8],
     table: &mut [u32],
     memo: &mut [u16],
     usage: Usage,
 ) -> Recorded
-    ensures { λ r. ⌜ Records (now (words .entry)) (now (input .entry)) (now (table .entry)) (now (memo .entry)) usage r (now (table .exit)) (now (memo .exit)) ⌝ }
+    ensures { λ r. ⌜ Records (now (words .entry)) (inputOf (now (events .entry))) (now (table .entry)) (now (memo .entry)) usage r (now (table .exit)) (now (memo .exit)) ⌝ }
 {
-    let answer = judge(words, input, table, memo);
+    let answer = judge(words, events, table, memo);
     let next = usage.after(answer);
     Recorded {
         answer,
