@@ -19,6 +19,8 @@ pub enum Error {
     // the input: its length, or a token of it, by index
     InputTooLong,
     UnknownToken(usize),
+    // the lent words of the spans are too few
+    SpansTooShort,
 }
 
 // How many calls a descent made, and the greatest place among them (document 01: count and far).
@@ -52,6 +54,7 @@ pub fn code(error: Error) -> u32
         } => 9,
         Error::InputTooLong => 10,
         Error::UnknownToken(_) => 11,
+        Error::SpansTooShort => 12,
     }
 }
 
@@ -73,5 +76,6 @@ pub fn position(error: Error) -> usize
         } => nonterminal as usize * 32 + column as usize,
         Error::InputTooLong => 0,
         Error::UnknownToken(at) => at,
+        Error::SpansTooShort => 0,
     }
 }

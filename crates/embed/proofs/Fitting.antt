@@ -8,7 +8,7 @@ use native.Mathlib.Nat.{mul-le-mul}
 use native.Mathlib.Omega.{arith}
 use lib.ListN.{length}
 use Rattle.answer.specs.declared.Error.{Error}
-use Rattle.answer.specs.declared.Error.the-variants.{TableTooShort, MemoTooShort, Length, Heading, UnexpectedWord, OutOfRange, TooManyRules, LeftRecursive, Conflict, InputTooLong, UnknownToken}
+use Rattle.answer.specs.declared.Error.the-variants.{TableTooShort, MemoTooShort, Length, Heading, UnexpectedWord, OutOfRange, TooManyRules, LeftRecursive, Conflict, InputTooLong, UnknownToken, SpansTooShort}
 use Rattle.answer.specs.declared.Calls.{Calls}
 use Rattle.answer.specs.declared.Answer.{Answer}
 use Rattle.answer.specs.declared.Answer.the-variants.{Refused, Passed, Rejected, Accepted}
@@ -41,6 +41,7 @@ code-low (LeftRecursive A) = omega arith
 code-low (Conflict A c) = omega arith
 code-low InputTooLong = omega arith
 code-low (UnknownToken at) = omega arith
+code-low SpansTooShort = omega arith
 
 refused-fits : (e : Error) → coded e .position ≤ maxWords → NumbersFit (numbers (Refused e))
 refused-fits e h = record { verdict = omega arith; code = code-low e; position = omega arith; count = omega arith; farthest = omega arith }

@@ -1,5 +1,5 @@
--- The limits of document 01.
-use Prim.Native.Nat.{ℕ, _+_, _*_}
+-- The limits of documents 01 and 02.
+use Prim.Native.Nat.{ℕ, _+_, _*_, _/_}
 use Rattle.grammar.specs.declared.limits.Limits.{Limits}
 
 -- how long an encoded grammar may be, and how many nonterminals, terminals and rules it may have
@@ -35,6 +35,18 @@ maxTableWords = maxNonterminals * (2 + maxColumns)
 abbrev pub maxMemoEntries : ℕ
 maxMemoEntries = maxNonterminals * maxPlaces
 
+-- how long an input of the tabular recognizer may be
+abbrev pub maxTabularTokens : ℕ
+maxTabularTokens = 48
+
+-- the places of such an input
+abbrev pub maxTabularPlaces : ℕ
+maxTabularPlaces = maxTabularTokens + 1
+
+-- the lent words of the spans are one for each span of such an input: from each place to itself and to each behind it
+abbrev pub maxSpanWords : ℕ
+maxSpanWords = maxTabularPlaces * (maxTabularPlaces + 1) / 2
+
 abbrev pub limited : Limits
 limited = record {
   words = maxWords;
@@ -46,4 +58,7 @@ limited = record {
   places = maxPlaces;
   «table_words» = maxTableWords;
   «memo_entries» = maxMemoEntries;
+  «tabular_tokens» = maxTabularTokens;
+  «tabular_places» = maxTabularPlaces;
+  «span_words» = maxSpanWords;
 }

@@ -1,4 +1,4 @@
-// The limits of document 01, each once.
+// The limits of documents 01 and 02, each once.
 ghost use mathlib.Core.Path.{_≡_};
 ghost use Rattle.grammar.specs.Limits.{limited};
 
@@ -23,6 +23,15 @@ pub const TABLE_WORDS: usize = (NONTERMINALS as usize) * (2 + COLUMNS);
 // An entry for each nonterminal and place.
 pub const MEMO_ENTRIES: usize = (NONTERMINALS as usize) * PLACES;
 
+// The tabular recognizer takes shorter inputs.
+pub const TABULAR_TOKENS: usize = 48;
+
+// Such an input has a place before each token and one at its end.
+pub const TABULAR_PLACES: usize = TABULAR_TOKENS + 1;
+
+// A word for each of its spans: from each place to itself and to each behind it.
+pub const SPAN_WORDS: usize = TABULAR_PLACES * (TABULAR_PLACES + 1) / 2;
+
 pub struct Limits {
     pub words: usize,
     pub nonterminals: u32,
@@ -33,6 +42,9 @@ pub struct Limits {
     pub places: usize,
     pub table_words: usize,
     pub memo_entries: usize,
+    pub tabular_tokens: usize,
+    pub tabular_places: usize,
+    pub span_words: usize,
 }
 
 // The constants in one value, so that what the specifications say of them is proved of these.
@@ -49,5 +61,8 @@ pub fn all() -> Limits
         places: PLACES,
         table_words: TABLE_WORDS,
         memo_entries: MEMO_ENTRIES,
+        tabular_tokens: TABULAR_TOKENS,
+        tabular_places: TABULAR_PLACES,
+        span_words: SPAN_WORDS,
     }
 }

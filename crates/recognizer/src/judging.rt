@@ -22,7 +22,7 @@ pub enum Unknown {
 }
 
 // The first token that is no terminal.
-fn first_unknown(input: &[u8], terminals: u32) -> Unknown
+pub fn first_unknown(input: &[u8], terminals: u32) -> Unknown
     ensures { λ r. ⌜ r ≡ unknownFrom terminals 0 (now (input .entry)) ⌝ }
 {
     let mut at = 0;

@@ -11,7 +11,7 @@ use table::analyze;
 
 pub mod arrays;
 mod descent;
-mod judging;
+pub mod judging;
 mod lending;
 mod preparing;
 mod tally;

@@ -51,6 +51,9 @@ enum-told-5 c = search needs
 enum-known-error-6 : tie.Need-enum-known-error-6
 enum-known-error-6 c = search needs
 
+enum-told-6 : tie.Need-enum-told-6
+enum-told-6 c = search needs
+
 returns : tie.Need-returns
 returns c = search needs
 
@@ -84,6 +87,9 @@ returns-10 c = search needs
 returns-11 : tie.Need-returns-11
 returns-11 c = search needs
 
+returns-12 : tie.Need-returns-12
+returns-12 c = search needs
+
 pub position-spec : {M : Type 1} → statement M
 position-spec =
     tie.close
@@ -104,6 +110,7 @@ position-spec =
     add-result
     enum-told-5
     enum-known-error-6
+    enum-told-6
     returns
     returns-2
     returns-3
@@ -114,4 +121,5 @@ position-spec =
     returns-8
     returns-9
     returns-10
-    returns-11)
+    returns-11
+    returns-12)
