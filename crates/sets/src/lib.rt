@@ -20,7 +20,7 @@ pub mod first;
 mod follow;
 mod left;
 pub mod nonterminals;
-mod rules;
+pub mod rules;
 
 pub enum Finding {
     Passed(Sizes),

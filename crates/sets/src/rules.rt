@@ -33,7 +33,7 @@ pub(crate) fn end_of(words: &[u32], starts: &[usize; RULES], sizes: Sizes, rule:
 }
 
 // The nonterminal that a rule defines, by the word that it begins with.
-pub(crate) fn head_of(word: Word) -> u32
+pub fn head_of(word: Word) -> u32
     ensures { λ r. ⌜ r ≡ headOf word ⌝ }
 {
     let Word::Rule(head) = word else {
