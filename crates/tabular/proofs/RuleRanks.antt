@@ -138,14 +138,14 @@ rank-out head A r rankOf there rest e = go (eqb head A) refl
     go false d = refl
 
 -- the rules from number i on have been asked, those of the rank
-pub record Asking (words starts : List ℕ) (z : Sizes) (r : ℕ) (stands chart : List ℕ) (start end found to i : ℕ) : Type 0 where
-  pub high : i ≤ z .rules
+pub record Asking (words starts : List ℕ) (n r : ℕ) (stands chart : List ℕ) (start end found to i : ℕ) : Type 0 where
+  pub high : i ≤ n
   pub bound : (q : ℕ) → suc q ≡ i → RuleWords words (getD starts q 0) to
   pub member : (w : List ℕ) → Over w stands chart end → (A : ℕ)
       → has found A ≡ (eqb (rank (grammarOf words) A) r && anyOf (derives (charted chart) w A start end) (drop i (grammarOf words .rules)))
 
 module _ {words starts : List ℕ} {z : Sizes} (k : RulesGiven words starts z) {r : ℕ} {stands chart : List ℕ} {start end : ℕ} where
-  pub asking-start : Asking words starts z r stands chart start end 0 (length words) (z .rules)
+  pub asking-start : Asking words starts (z .rules) r stands chart start end 0 (length words) (z .rules)
   unfolding anyOf
   asking-start = record {
     high = omega arith;
@@ -156,7 +156,7 @@ module _ {words starts : List ℕ} {z : Sizes} (k : RulesGiven words starts z) {
       all : length (grammarOf words .rules) ≤ z .rules
       all = omega (arith, well-read words z (k .read) .rules)
 
-  module _ {found to i : ℕ} (h : Asking words starts z r stands chart start end found to i) (l : 0 < i) where
+  module _ {found to i : ℕ} (h : Asking words starts (z .rules) r stands chart start end found to i) (l : 0 < i) where
     rule : Rule
     rule = ruleNumbered words (i - 1)
 
@@ -184,7 +184,7 @@ module _ {words starts : List ℕ} {z : Sizes} (k : RulesGiven words starts z) {
     rules-say w A = rw (from-rule, k .begins, rule-is words z (k .read) (i - 1) in-rules)
 
     -- a rule of another rank
-    pub asking-past : {x : List ℕ} → Ranked words z x → (getD x (i - 1) 0 ≡ r → ⊥) → Asking words starts z r stands chart start end found (getD starts (i - 1) 0) (i - 1)
+    pub asking-past : {x : List ℕ} → Ranked words z x → (getD x (i - 1) 0 ≡ r → ⊥) → Asking words starts (z .rules) r stands chart start end found (getD starts (i - 1) 0) (i - 1)
     unfolding rule rest
     asking-past {x} g ne = record {
       high = omega (arith, h .high);
@@ -197,7 +197,7 @@ module _ {words starts : List ℕ} {z : Sizes} (k : RulesGiven words starts z) {
     pub asking-more : {x : List ℕ} {found′ head : ℕ} {there : Bool} {w : Word} → Ranked words z x → getD x (i - 1) 0 ≡ r
         → Keeps words (getD starts (i - 1) 0) stands chart start end there → w ≡ decoded (getD words (getD starts (i - 1) 0) 0) → head ≡ headOf w
         → found′ ≡ choose there (bitOr found (2 ^ head)) found
-        → Asking words starts z r stands chart start end found′ (getD starts (i - 1) 0) (i - 1)
+        → Asking words starts (z .rules) r stands chart start end found′ (getD starts (i - 1) 0) (i - 1)
     unfolding rule ruleSays rest
     asking-more {x} {found′} {head} {there} g same t e f n = record {
       high = omega (arith, h .high);
@@ -206,6 +206,6 @@ module _ {words starts : List ℕ} {z : Sizes} (k : RulesGiven words starts z) {
           (rank-in (rule .head) A r (rank (grammarOf words)) (ruleSays w) (rest w A) (sym (g .is (i - 1) in-rules) ∙ same));
     }
 
-  pub asked : {found to i : ℕ} → Asking words starts z r stands chart start end found to i → i ≤ 0 → Derived words r stands chart start end found
+  pub asked : {found to i : ℕ} → Asking words starts (z .rules) r stands chart start end found to i → i ≤ 0 → Derived words r stands chart start end found
   unfolding byRules
   asked {found} {to} {i} h l = let e : i ≡ 0 = omega arith in record { member = λ w o A. let q = h .member w o A in rw e at q }

@@ -182,6 +182,10 @@ settled {start = start} {end = end} {r = r} g l o f = record {
 }
 
 -- the spans of a length one by one
+pub length-start : (d : ℕ) {words stands chart : List ℕ} {tokens : ℕ} → Long chart
+    → Fills words stands chart tokens tokens (turn 0 d 0) (turn 0 (0 + d) 0) chart
+length-start d l = let e : 0 + d ≡ d = omega arith in rw e (settling-start l)
+
 pub length-more : (start d : ℕ) {words stands before chart chart′ : List ℕ} {tokens : ℕ} → start + d ≤ tokens → tokens ≤ maxTabularTokens
     → Fills words stands before tokens tokens (turn 0 d 0) (turn start (start + d) 0) chart
     → Fills words stands chart (start + d) maxTabularTokens (turn start (start + d) 0) (turn (start + 1) (start + d + 1) 0) chart′
