@@ -1,6 +1,7 @@
 /* Checking encoded Boolean grammars and judging inputs by them, in memory that the caller lends.
  *
- * A grammar (a card) is a row of 32-bit words; an input (a log) is a row of bytes, each the number of a terminal.
+ * A grammar (a card) is a row of 32-bit words; a log is a row of events of a byte each. An event's letter is its value modulo 128: the top bit
+ * tells the direction of an axle, which no call heeds.
  * Both calls take any lengths, keep nothing, allocate nothing, and end. A pointer that goes with the length 0 is not read, but must not be
  * null; a row of words must be aligned as its type asks, and memory that is written must not overlap anything else that is passed.
  *
@@ -54,7 +55,7 @@ enum {
  *       follow a name that has a rule of must-nots alone             column; of the second kind it is in column 0 */
 uint64_t vinegarspit_check(const uint32_t *card, size_t card_len, uint32_t *table, size_t table_len);
 
-/* Judges an input. Answers ACCEPTED or REJECTED, with count and far, or REFUSED.
+/* Judges a log. Answers ACCEPTED or REJECTED, with count and far, or REFUSED.
  *
  * ACCEPTED exactly when the whole log belongs to name 0 by the one meaning that the grammar has; REJECTED exactly when not. Count is the
  * number of pairs of a name and a place that the descent calls, far the greatest place among them. The table is as after a check;
@@ -63,7 +64,7 @@ uint64_t vinegarspit_check(const uint32_t *card, size_t card_len, uint32_t *tabl
  * REFUSED as by a check, and besides, in the order of the numbers:
  *    2  memo_len is under 16,032                                     0
  *   10  log_len is over 500                                          0
- *   11  an event not below the number of letters                     the first such index
+ *   11  an event whose letter is not below the number of letters     the first such index
  *
  * The deepest grammars nest 16,032 calls: have 4 MiB of stack, or see README.md. */
 uint64_t vinegarspit_judge(const uint32_t *card, size_t card_len, const uint8_t *log, size_t log_len,

@@ -250,23 +250,46 @@ def beyond_limits(grammar):
             for size, limit, what, code in sizes if size > limit]
 
 
+WESTWARD = '<'      # behind a letter: the event of a westward axle, which has its top bit set
+DIRECTION = 128     # the weight of that bit
+
+
 def events(grammar, text):
-    """The letters of an input as they are written; those of one character may be written together."""
-    return [letter for word in text.split() for letter in ([word] if word in grammar.terminals else word)]
+    """The events of a log as they are written, each a letter or a letter with the mark of a westward axle; letters of one character may be
+    written together."""
+    written = []
+    for word in text.split():
+        if word in grammar.terminals or word.removesuffix(WESTWARD) in grammar.terminals:
+            written.append(word)
+            continue
+        for at, letter in enumerate(word):
+            if letter == WESTWARD and at and letter not in grammar.terminals:
+                written[-1] += letter
+            else:
+                written.append(letter)
+    return written
 
 
-def unknown_event(grammar, at, letter):
-    return f"event {at}, '{letter}', is not among the letters {' '.join(grammar.terminals)}"
+def event_of(grammar, written):
+    """The byte of an event, or None where it is of no letter."""
+    if written in grammar.terminals:
+        return grammar.terminals.index(written)
+    letter = written.removesuffix(WESTWARD)
+    return grammar.terminals.index(letter) + DIRECTION if letter in grammar.terminals else None
+
+
+def unknown_event(grammar, at, written):
+    return f"event {at}, '{written}', is not among the letters {' '.join(grammar.terminals)}"
 
 
 def parse_input(grammar, text):
-    """The tokens of an input written in the grammar's letters."""
-    numbers = {name: at for at, name in enumerate(grammar.terminals)}
+    """The events of a log written in the grammar's letters, as bytes."""
     written = events(grammar, text)
-    for at, letter in enumerate(written):
-        if letter not in numbers:
-            raise ValueError(unknown_event(grammar, at, letter))
-    return bytes(numbers[letter] for letter in written)
+    found = [event_of(grammar, event) for event in written]
+    if None in found:
+        at = found.index(None)
+        raise ValueError(unknown_event(grammar, at, written[at]))
+    return bytes(found)
 
 
 # Words

@@ -621,6 +621,20 @@ fn derived(random: &mut Random, grammar: &Grammar, longest: usize) -> Vec<u8> {
     tokens
 }
 
+/// The top bit of an event, which tells the direction of an axle.
+pub const WESTWARD: u8 = 0x80;
+
+/// The events of a random input for these words, a third of them with directions.
+pub fn events(random: &mut Random, words: &[u32]) -> Vec<u8> {
+    let mut events = input(random, words);
+    if random.chance(33) {
+        for event in &mut events {
+            *event ^= if random.chance(50) { WESTWARD } else { 0 };
+        }
+    }
+    events
+}
+
 /// A random input for these words, often one that their grammar derives.
 pub fn input(random: &mut Random, words: &[u32]) -> Vec<u8> {
     let grammar = Grammar::read(words);

@@ -3,7 +3,7 @@
 #[path = "../linked.rs"]
 mod linked;
 
-use compare::cards::{self, rule, Draft, Random};
+use compare::cards::{self, rule, Draft, Random, WESTWARD};
 use compare::twin::{self, Grammar, Outcome, Symbol, Verdict, MAX_TOKENS, MEMO_ENTRIES, TABLE_WORDS};
 use std::{fmt::Debug, process::ExitCode, thread, time::Instant};
 
@@ -76,6 +76,8 @@ struct Tally {
     accepted: u64,
     /// Verdicts by a grammar in which a rule has negative conjuncts alone.
     forbidding: u64,
+    /// Verdicts on events of which some are westward.
+    westward: u64,
     calls: u64,
     most_calls: u16,
 }
@@ -105,12 +107,13 @@ impl Tally {
         println!("  rejected   {:>9}", self.rejected);
         println!("  accepted   {:>9}", self.accepted);
         println!("  verdicts by a grammar with a rule of negatives alone {}", self.forbidding);
+        println!("  verdicts on events with directions {}", self.westward);
         println!("  calls of nonterminals {}, in one descent at most {}", self.calls, self.most_calls);
     }
 
     /// Whether every outcome that document 01 knows was seen.
     fn complete(&self) -> bool {
-        self.refused[1..].iter().chain([&self.passed, &self.rejected, &self.accepted, &self.forbidding]).all(|&times| times > 0)
+        self.refused[1..].iter().chain([&self.passed, &self.rejected, &self.accepted, &self.forbidding, &self.westward]).all(|&times| times > 0)
     }
 }
 
@@ -171,7 +174,7 @@ fn print_first_difference<T: PartialEq + Debug>(name: &str, twin: &[T], proved: 
     }
 }
 
-/// The judged inputs and the limits that document 01 states, and rows for the sentences of request P1, with the verdict, the code and
+/// The judged inputs and the limits that document 01 states, and rows for the sentences of requests P1 and P5, with the verdict, the code and
 /// position or the count and farthest place that the papers give.
 fn stated_cases(pair: &mut Pair) {
     use Verdict::{Accepted, Refused, Rejected};
@@ -192,10 +195,12 @@ fn stated_cases(pair: &mut Pair) {
     let with = |nonterminals, terminals| Draft { nonterminals, terminals, ..deepest.clone() }.words();
     let rows: Vec<(Vec<u32>, Vec<u8>, Verdict, u16, u16)> = vec![
         (r.clone(), vec![], Accepted, 1, 0),
-        (r, vec![0], Accepted, 2, 1),
+        (r.clone(), vec![0], Accepted, 2, 1),
+        (r, vec![WESTWARD], Accepted, 2, 1),
         (m.clone(), vec![], Rejected, 5, 0),
         (m.clone(), vec![0], Accepted, 6, 1),
         (m.clone(), vec![1, 2], Accepted, 6, 1),
+        (m.clone(), vec![WESTWARD + 1, 2], Accepted, 6, 1),
         (m.clone(), vec![0, 1], Rejected, 5, 2),
         (m.clone(), vec![0, 1, 2], Rejected, 9, 3),
         (m, vec![2], Rejected, 1, 0),
@@ -204,6 +209,7 @@ fn stated_cases(pair: &mut Pair) {
         (deepest.words(), vec![0; MAX_TOKENS], Accepted, 16_032, 500),
         (deepest.words(), vec![0; MAX_TOKENS + 1], Refused, 10, 0),
         (deepest.words(), vec![0, 23, 24], Refused, 11, 2),
+        (deepest.words(), vec![WESTWARD, WESTWARD + 23, WESTWARD + 24, 24], Refused, 11, 2),
         (with(33, 24), vec![], Refused, 4, 0),
         (with(32, 25), vec![], Refused, 4, 0),
         (largest.clone(), vec![], Rejected, 1, 0),
@@ -256,12 +262,13 @@ fn random_cases(pair: &mut Pair, seed: u64, count: u64) {
     for number in 0..count {
         let mut random = Random::new(seed.wrapping_mul(1_000_003).wrapping_add(number));
         let words = cards::words(&mut random);
-        let input = cards::input(&mut random, &words);
+        let events = cards::events(&mut random, &words);
         let lengths = Lengths::random(&mut random);
         pair.refill(&mut random);
         let differ = pair.tally.differ;
         pair.check(&words, lengths);
-        let outcome = pair.judge(&words, &input, lengths);
+        let outcome = pair.judge(&words, &events, lengths);
+        pair.tally.westward += u64::from(outcome.verdict != Verdict::Refused && events.iter().any(|event| event & WESTWARD != 0));
         pair.tally.forbidding += u64::from(outcome.verdict != Verdict::Refused && only_forbids(&words));
         if pair.tally.differ > differ {
             println!("  this was case {number} of seed {seed}");
@@ -324,7 +331,7 @@ fn run(seed: u64, count: u64) -> bool {
     let memory = Memory::random(&mut random);
     let mut pair = Pair { twin: memory.clone(), proved: memory, tally: Tally::default() };
 
-    println!("stated: the judged inputs and limits of document 01, and rows of request P1");
+    println!("stated: the judged inputs and limits of document 01, and rows of requests P1 and P5");
     stated_cases(&mut pair);
     println!("  {} cases, {} differ", pair.tally.cases, pair.tally.differ);
     let stated_tally = std::mem::take(&mut pair.tally);

@@ -10,14 +10,20 @@ fn enough(lent: usize, asked: usize, code: u8) -> Result<(), Refusal> {
     if lent < asked { Err(Refusal(code, 0)) } else { Ok(()) }
 }
 
-/// Refuses an input that is too long (10) or has a token that is no terminal (11).
-fn readable(input: &[u8], terminals: usize) -> Result<(), Refusal> {
-    if input.len() > MAX_TOKENS {
+/// The letters of a log: an event's top bit is the direction of an axle.
+fn letters(events: &[u8]) -> Vec<u8> {
+    events.iter().map(|&event| event & 0x7f).collect()
+}
+
+/// The letters of a log, unless it is too long (10) or has one that is no terminal (11).
+fn readable(events: &[u8], terminals: usize) -> Result<Vec<u8>, Refusal> {
+    if events.len() > MAX_TOKENS {
         return Err(Refusal(10, 0));
     }
-    match input.iter().position(|&token| token as usize >= terminals) {
+    let input = letters(events);
+    match input.iter().position(|&letter| letter as usize >= terminals) {
         Some(index) => Err(Refusal(11, index)),
-        None => Ok(()),
+        None => Ok(input),
     }
 }
 
@@ -27,13 +33,13 @@ fn try_check(words: &[u32], table: &mut [u32]) -> Result<Outcome, Refusal> {
     Ok(Outcome::passed())
 }
 
-fn try_judge(words: &[u32], input: &[u8], table: &mut [u32], memo: &mut [u16]) -> Result<Outcome, Refusal> {
+fn try_judge(words: &[u32], events: &[u8], table: &mut [u32], memo: &mut [u16]) -> Result<Outcome, Refusal> {
     enough(table.len(), TABLE_WORDS, 1)?;
     enough(memo.len(), MEMO_ENTRIES, 2)?;
     let passed = Passed::check(words)?;
-    readable(input, passed.grammar.terminals)?;
+    let input = readable(events, passed.grammar.terminals)?;
     passed.lend(table);
-    let mut descent = Descent::new(&passed.grammar, &passed.table, input, memo);
+    let mut descent = Descent::new(&passed.grammar, &passed.table, &input, memo);
     let accepted = descent.call(0, 0) == Some(input.len());
     Ok(Outcome::judged(accepted, descent.count, descent.farthest as u16))
 }
@@ -43,7 +49,7 @@ pub fn check(words: &[u32], table: &mut [u32]) -> Outcome {
     try_check(words, table).unwrap_or_else(Outcome::from)
 }
 
-/// Judges an input by the grammar of these words and fills the table and the memo table.
-pub fn judge(words: &[u32], input: &[u8], table: &mut [u32], memo: &mut [u16]) -> Outcome {
-    try_judge(words, input, table, memo).unwrap_or_else(Outcome::from)
+/// Judges a log by the grammar of these words and fills the table and the memo table.
+pub fn judge(words: &[u32], events: &[u8], table: &mut [u32], memo: &mut [u16]) -> Outcome {
+    try_judge(words, events, table, memo).unwrap_or_else(Outcome::from)
 }

@@ -32,8 +32,9 @@ use Rattle.booleans.proofs.Quantified.{lowest-some}
 use Rattle.semantics.proofs.LookaheadSets.{entries-elim}
 use Rattle.sets.specs.Analysis.{readingFault, leftFault}
 use Rattle.table.specs.Analysis.{clashFault, grammarFaults}
-use Rattle.recognizer.specs.declared.judging.Unknown.the-variants.{At}
-use Rattle.recognizer.specs.Answers.{unknownFrom, unknownFault, checkFault, judgeFault}
+use Rattle.event.specs.declared.Unknown.the-variants.{At}
+use Rattle.event.specs.Unknown.{unknownFrom, unknownFault}
+use Rattle.recognizer.specs.Answers.{checkFault, judgeFault}
 use Rattle.recognizer.proofs.Checking.{read-some}
 use Rattle.grammar.proofs.FaultPositions.{LowOutcome, reading-low}
 

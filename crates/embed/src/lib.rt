@@ -1,6 +1,7 @@
 // The public calls for programs in C and Rust: the library's answers, packed into one number.
 ghost use mathlib.Core.Path.{_≡_};
 ghost use Rattle.answer.specs.Numbers.{numbers};
+ghost use Rattle.event.specs.Events.{inputOf};
 ghost use Rattle.embed.specs.Packing.{Fit, NumbersFit, joined, packed};
 ghost use Rattle.embed.specs.Exports.{CheckExported, JudgeExported};
 use answer::Answer;
@@ -44,7 +45,7 @@ pub extern "C" fn vinegarspit_judge(
     table: &mut [u32],
     memo: &mut [u16],
 ) -> u64
-    ensures { λ r. ⌜ JudgeExported (now (card .entry)) (now (log .entry)) (now (table .entry)) (now (memo .entry)) r (now (table .exit)) (now (memo .exit)) ⌝ }
+    ensures { λ r. ⌜ JudgeExported (now (card .entry)) (inputOf (now (log .entry))) (now (table .entry)) (now (memo .entry)) r (now (table .exit)) (now (memo .exit)) ⌝ }
 {
     let answer = judge(card, log, table, memo);
     pack(answer)

@@ -1,3 +1,4 @@
+pub mod Cursors
 pub mod Examples
 pub mod Lengths
 pub mod Lines

@@ -1,2 +1,3 @@
+pub mod Cursors
 pub mod Judgement
 pub mod Room

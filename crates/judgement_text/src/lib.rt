@@ -1,15 +1,17 @@
 // What is printed of a judgement: a refusal, or a verdict and the calls that the memo table holds.
 ghost use mathlib.Core.Path.{_≡_};
 ghost use mathlib.Core.List.{_++_};
-ghost use Prim.Native.Nat.{_+_, _*_, _/_, _%_, _<_};
+ghost use Prim.Native.Nat.{_+_, _/_, _%_};
 ghost use lib.ListN.{getD};
 ghost use Rattle.grammar.specs.Codes.{uncalledCode};
 ghost use Rattle.text.specs.Ascii.{ascii};
 ghost use Rattle.text.specs.Decimal.{decimal, labelled};
 ghost use Rattle.text.specs.Writing.{Put};
+ghost use Rattle.judgement_text.specs.Cursors.{EntryPut};
 ghost use Rattle.judgement_text.specs.Judgement.{endText, callText, callsText, judgementText};
 use answer::Answer;
 use answer::Calls;
+use cursor::Cursor;
 use grammar::codes::FAILED;
 use grammar::codes::UNCALLED;
 use grammar::limits::MEMO_ENTRIES;
@@ -18,6 +20,8 @@ use text::put::put_labelled;
 use text::put::put_number;
 use text::put::put_or_dash;
 use text::refusal::put_refusal;
+
+mod cursor;
 
 // How many bytes the lines take at most, and all of a judgement.
 const VERDICT_ROOM: usize = 51;
@@ -51,16 +55,28 @@ fn put_call(out: &mut [u8], at: usize, nonterminal: usize, place: usize, entry: 
     put_bytes(out, at, b"\n")
 }
 
+// What is printed of the entry at a cursor: the nonterminal and the place of its index are the cursor's.
+fn put_entry(out: &mut [u8], at: usize, cursor: Cursor, memo: &[u16]) -> usize
+    ensures { λ r. ⌜ EntryPut (now (out .entry)) at cursor (now (memo .entry)) (now (out .exit)) r ⌝ }
+{
+    put_call(
+        out,
+        at,
+        cursor.nonterminal,
+        cursor.place,
+        entry_at(memo, cursor.index),
+    )
+}
+
 fn put_calls(out: &mut [u8], at: usize, nonterminals: u32, tokens: u16, memo: &[u16]) -> usize
     ensures { λ r. ⌜ Put (now (out .entry)) at (callsText nonterminals tokens (now (memo .entry))) (now (out .exit)) r ⌝ }
 {
-    let places = tokens as usize + 1;
-    let entries = nonterminals as usize * places;
+    let entries = nonterminals as usize * (tokens as usize + 1);
     let mut next = at;
-    let mut k = 0;
-    while k < entries {
-        next = put_call(out, next, k / places, k % places, entry_at(memo, k));
-        k = k + 1;
+    let mut cursor = Cursor::first();
+    while cursor.index < entries {
+        next = put_entry(out, next, cursor, memo);
+        cursor = cursor.step(tokens);
     }
     next
 }

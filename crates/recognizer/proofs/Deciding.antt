@@ -35,37 +35,22 @@ use Rattle.semantics.proofs.Memo.{memo-recorded-within}
 use Rattle.semantics.proofs.Theorems.{theorems}
 use Rattle.rule.specs.declared.Outcome as code
 use Rattle.grammar.specs.Limits.{maxTerminals}
-use Rattle.recognizer.specs.declared.judging.Unknown.the-variants.{Absent, At}
 use Rattle.rule.specs.Rule.{meant}
 use Rattle.recognizer.specs.Arrays.{held, rowAt}
 use Rattle.recognizer.specs.Descent.{MemoSound, CallGiven, CallDone, CallRequires, CallEnsures}
 use Rattle.recognizer.specs.Tally.{tallyOf, recordedCalls}
 use Rattle.recognizer.specs.Memory.{memoWord, memoWords}
-use Rattle.recognizer.specs.Answers.{unknownFrom, callsOf, verdictOf}
+use Rattle.recognizer.specs.Answers.{callsOf, verdictOf}
 use Rattle.recognizer.specs.Judging.{DescendGiven, Descended}
 use Rattle.recognizer.specs.Preparing.{tokenWords, TokensGiven, ChoicesGiven, Filled}
-use Rattle.recognizer.proofs.Tokens.{token-below, word-at, end-at, held-words}
+use Rattle.event.specs.Events.{inputOf}
+use Rattle.event.proofs.Inputs.{input-length}
+use Rattle.event.proofs.Known.{token-below}
+use Rattle.recognizer.proofs.Tokens.{word-at, end-at, held-words}
 use Rattle.recognizer.proofs.OneToken.{column, choices-hold}
 use Rattle.recognizer.proofs.Running.{level}
 use Rattle.recognizer.proofs.Storing.{getD-any}
 use Rattle.recognizer.proofs.Tallying.{tally-recorded}
-
--- the search for an unknown token, by the token at an index
-module _ (n : ℕ) (input : List ℕ) (at : ℕ) where
-  unknown-at : at < length input
-      → unknownFrom n at (drop at input) ≡ choose (ltb (getD input at 0) n) (unknownFrom n (suc at) (drop (suc at) input)) (At at)
-  unfolding unknownFrom
-  unknown-at h = rw (drop-cons input at 0 h)
-
-  pub unknown-next : at < length input → getD input at 0 < n → unknownFrom n (at + 1) (drop (at + 1) input) ≡ unknownFrom n at (drop at input)
-  unknown-next h l = sym (unknown-at h ∙ rw (lt-ltb (getD input at 0) n l, add-one at))
-
-  pub unknown-here : at < length input → n ≤ getD input at 0 → At at ≡ unknownFrom n at (drop at input)
-  unknown-here h l = sym (unknown-at h ∙ rw (le-ltb (getD input at 0) n l))
-
-  pub unknown-none : length input ≤ at → Absent ≡ unknownFrom n at (drop at input)
-  unfolding unknownFrom
-  unknown-none h = rw (drop-of-length-le input h)
 
 -- a memo table in which no call is recorded is sound
 pub blank-sound : (choice : Choice) (words input : List ℕ) → MemoSound choice words input (blank (grammarOf words) input)
@@ -107,12 +92,18 @@ module _ (G : Grammar) (w : List ℕ) (scoped : WellScoped G) (free : NoLeftRecu
           ∙ getD-any (map (memoWord G w) (allCalls G w)) i (memoWord G w x) uncalledCode k
 
 -- the start's call has been made in a blank memo table
-module _ {words : List ℕ} {z : Sizes} {entries input memo : List ℕ} (g : DescendGiven words z entries input memo) where
+module _ {words : List ℕ} {z : Sizes} {entries memo : List ℕ} (events : List ℕ) (g : DescendGiven words z entries (inputOf events) memo) where
   r : WellRead words z
   r = well-read words z (g .read)
 
   abbrev G : Grammar
   G = grammarOf words
+
+  abbrev input : List ℕ
+  input = inputOf events
+
+  long : length events ≡ length input
+  long = sym (input-length events)
 
   -- the choice that the descent goes by
   abbrev one-token : Choice
@@ -121,14 +112,14 @@ module _ {words : List ℕ} {z : Sizes} {entries input memo : List ℕ} (g : Des
   some-nonterminal : 0 < G .nonterminals
   some-nonterminal = omega (arith, r .nonterminals, r .someNonterminal)
 
-  pub choices-given : ChoicesGiven words z entries (length input + 1)
-  choices-given = record { read = g .read; table = g .table; some-place = omega arith; few = omega (arith, g .short) }
+  pub choices-given : ChoicesGiven words z entries (length events + 1)
+  choices-given = record { read = g .read; table = g .table; some-place = omega arith; few = omega (arith, g .short, long) }
 
-  pub tokens-given : TokensGiven input (z .terminals)
-  tokens-given = record { short = g .short; few = r .fewTerminals }
+  pub tokens-given : TokensGiven events (z .terminals)
+  tokens-given = record { short = omega (arith, g .short, long); few = r .fewTerminals }
 
   -- with the arrays that are made before it
-  module _ {choices tokens blanked : List ℕ} (f : Filled words entries z (length input + 1) choices) (t : tokens ≡ tokenWords (z .terminals) input)
+  module _ {choices tokens blanked : List ℕ} (f : Filled words entries z (length events + 1) choices) (t : tokens ≡ tokenWords (z .terminals) input)
       (b : blanked ≡ replicate (length memo) uncalledCode) where
     words-are : tokens ≡ tokenWords (G .terminals) input
     words-are = t ∙ ap (λ n. tokenWords n input) (r .terminals)
@@ -147,8 +138,8 @@ module _ {words : List ℕ} {z : Sizes} {entries input memo : List ℕ} (g : Des
         read = g .read;
         free = g .free;
         own = theorems .own-rules G 1 input;
-        rows = λ A a. f .rows A (omega (arith, r .nonterminals)) ∙ ap (λ n. A * n) (add-one (length input));
-        ends = λ A a. f .ends A (omega (arith, r .nonterminals)) ∙ omega arith;
+        rows = λ A a. f .rows A (omega (arith, r .nonterminals)) ∙ ap (λ n. A * n) (omega (arith, long));
+        ends = λ A a. f .ends A (omega (arith, r .nonterminals)) ∙ omega (arith, long);
         elements = λ i h. let k = column (G .terminals) input (g .tokens) (g .short) (omega (arith, few)) i h in omega (arith, k .element, k .low, few);
         firsts = choices-hold choices-given input f (g .tokens) (g .short);
         terminals = λ i h. let e = word-at (G .terminals) input i h in let l = token-below (G .terminals) input (g .tokens) i h in omega (arith, e, few);
@@ -182,17 +173,17 @@ module _ {words : List ℕ} {z : Sizes} {entries input memo : List ℕ} (g : Des
           let k = memo-recorded-within G one-token input (r .formed .scoped) (g .free) (theorems .own-rules G 1 input) fits some-nonterminal n l in
           (sym (ap (λ x. x .outcome) m) ∙ k .0, subst (λ x. Recorded G one-token input x) (ap (λ x. x .memo) m) (k .1))
 
-      pub memo-long : length memo′ ≡ z .nonterminals * (length input + 1)
-      memo-long = d .sound .size ∙ rw (r .nonterminals, add-one (length input))
+      pub memo-long : length memo′ ≡ z .nonterminals * (length events + 1)
+      memo-long = d .sound .size ∙ rw (r .nonterminals, long, add-one (length input))
 
-      pub descended : {c : Calls} {t : Bool} {a : Answer} → c ≡ tallyOf (recordedCalls memo′ (z .nonterminals) (length input))
-          → t ≡ endsAt (meant o) (length input)
+      pub descended : {c : Calls} {t : Bool} {a : Answer} → c ≡ tallyOf (recordedCalls memo′ (z .nonterminals) (length events))
+          → t ≡ endsAt (meant o) (length events)
           → a ≡ choose t (Accepted c) (Rejected c) → Descended words input a memo′
       unfolding verdictOf accepts
       descended {c} {t} {a} tallied told e =
           let k = done in
-          let counted : c ≡ callsOf G input = tally-recorded (k .1) (r .nonterminals) tallied in
+          let counted : c ≡ callsOf G input = tally-recorded (k .1) (r .nonterminals) (tallied ∙ ap (λ n. tallyOf (recordedCalls memo′ (z .nonterminals) n)) long) in
           record {
-            answer = e ∙ rw (told, k .0, counted);
+            answer = e ∙ rw (told, long, k .0, counted);
             entries = words-recorded G input (r .formed .scoped) (g .free) some-nonterminal (k .1);
           }

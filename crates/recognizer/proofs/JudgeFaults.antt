@@ -19,24 +19,9 @@ use Rattle.booleans.specs.Quantifiers.{allOf}
 use Rattle.semantics.specs.Strings.{Over}
 use Rattle.booleans.proofs.Booleans.{T-true, and-l, and-r}
 use Rattle.table.specs.Analysis.{grammarFaults, fault}
-use Rattle.recognizer.specs.declared.judging.Unknown.the-variants.{Absent, At}
-use Rattle.recognizer.specs.Answers.{unknownFrom, unknownFault, checkFault, judgeFault}
-
--- an input is of known tokens exactly when no unknown one is found
-pub known-absent : (n at : ℕ) (w : List ℕ) → Over n w → unknownFrom n at w ≡ Absent
-unfolding unknownFrom allOf
-known-absent n at [] h = refl
-known-absent n at (a ∷ w) h = rw (T-true (ltb a n) (and-l (ltb a n) _ h)) (known-absent n (suc at) w (and-r (ltb a n) _ h))
-
-pub absent-known : (n at : ℕ) (w : List ℕ) → unknownFrom n at w ≡ Absent → Over n w
-unfolding unknownFrom allOf
-absent-known n at [] e = tt
-absent-known n at (a ∷ w) e = go (ltb a n) e (absent-known n (suc at) w)
-  where
-    go : (b : Bool) → choose b (unknownFrom n (suc at) w) (At at) ≡ Absent → (unknownFrom n (suc at) w ≡ Absent → Over n w)
-        → T (b && allOf (λ c. ltb c n) w)
-    go true f over = over f
-    go false f over = let z : _≡_ {A = ℕ} 0 1 = cc in absurd (omega arith)
+use Rattle.event.specs.declared.Unknown.the-variants.{Absent, At}
+use Rattle.event.specs.Unknown.{unknownFrom, unknownFault}
+use Rattle.recognizer.specs.Answers.{checkFault, judgeFault}
 
 -- the rows of judging, with the grammar's faults as one
 abbrev pub judgeRows : ℕ → ℕ → List ℕ → List ℕ → List (Option Error)

@@ -32,15 +32,19 @@ use Rattle.semantics.specs.Calls.{allCalls, callCount, farthest}
 use Rattle.semantics.proofs.Range.{all-length}
 use Rattle.table.specs.Layout.{tableWords}
 use Rattle.table.proofs.Words.{filled-entries}
-use Rattle.recognizer.specs.declared.judging.Unknown.{Unknown}
-use Rattle.recognizer.specs.declared.judging.Unknown.the-variants.{Absent, At}
+use Rattle.event.specs.declared.Unknown.{Unknown}
+use Rattle.event.specs.declared.Unknown.the-variants.{Absent, At}
 use Rattle.recognizer.specs.Memory.{lentBack, memoWord, memoWords, Lent}
-use Rattle.recognizer.specs.Answers.{unknownFrom, judgeFault, callsOf, verdictOf, verdictNumbers}
+use Rattle.event.specs.Events.{inputOf}
+use Rattle.event.specs.Unknown.{unknownFrom}
+use Rattle.event.proofs.Inputs.{input-length}
+use Rattle.event.proofs.Known.{known-absent, absent-known}
+use Rattle.recognizer.specs.Answers.{judgeFault, callsOf, verdictOf, verdictNumbers}
 use Rattle.recognizer.specs.Judging.{PassedGiven, DescendGiven, Descended}
 use Rattle.recognizer.specs.Properties.{Judges}
 use Rattle.recognizer.proofs.Checking.{passed-fault, passed-free, fault-passed, lent-table, least}
 use Rattle.recognizer.proofs.Places.{judge-tells, fault-encoded, places}
-use Rattle.recognizer.proofs.JudgeFaults.{known-absent, absent-known, judge-fault-long, too-long, unknown-token, no-fault, judged-checked}
+use Rattle.recognizer.proofs.JudgeFaults.{judge-fault-long, too-long, unknown-token, no-fault, judged-checked}
 use Rattle.recognizer.proofs.Meaning.{meaning}
 
 -- the numbers of what is answered
@@ -94,48 +98,54 @@ memo-count G input = length-map (allCalls G input) (memoWord G input) ∙ all-le
 well : {words entries table memo : List ℕ} {z : Sizes} → PassedGiven words z entries table memo → WellRead words z
 well {words} {z = z} g = well-read words z (g .found .read)
 
-module _ {words entries table memo : List ℕ} {z : Sizes} (g : PassedGiven words z entries table memo) (input : List ℕ) where
-  pub judge-long : maxTokens < length input → Judges words input table memo (Refused InputTooLong) table memo
-  judge-long h = judge-refused (too-long words input table memo (g .long-table) (g .long-memo) (g .found .faultless) h)
+module _ {words entries table memo : List ℕ} {z : Sizes} (g : PassedGiven words z entries table memo) (events : List ℕ) where
+  abbrev input : List ℕ
+  input = inputOf events
 
-  module _ (short : length input ≤ maxTokens) where
+  pub judge-long : maxTokens < length events → Judges words input table memo (Refused InputTooLong) table memo
+  judge-long h = judge-refused (too-long words input table memo (g .long-table) (g .long-memo) (g .found .faultless) (omega (arith, input-length events)))
+
+  module _ (short : length events ≤ maxTokens) where
+    short-input : length input ≤ maxTokens
+    short-input = omega (arith, input-length events)
+
     pub judge-unknown : {u : Unknown} {at : ℕ} → u ≡ unknownFrom (z .terminals) 0 input → u ≡ At at
         → Judges words input table memo (Refused (UnknownToken at)) table memo
     judge-unknown e q =
-        judge-refused (unknown-token words input table memo (g .long-table) (g .long-memo) (g .found .faultless) short (sym q ∙ e ∙ rw (well g .terminals)))
+        judge-refused (unknown-token words input table memo (g .long-table) (g .long-memo) (g .found .faultless) short-input (sym q ∙ e ∙ rw (well g .terminals)))
 
     -- so many entries are needed, and there are
-    pub needed-few : z .nonterminals * (length input + 1) ≤ maxMemoEntries
+    pub needed-few : z .nonterminals * (length events + 1) ≤ maxMemoEntries
     needed-few =
-        let m = mul-le-mul {n₁ = z .nonterminals} {m₁ = length input + 1} {n₂ = maxNonterminals} {m₂ = maxPlaces} (well g .fewNonterminals) (omega arith) in
+        let m = mul-le-mul {n₁ = z .nonterminals} {m₁ = length events + 1} {n₂ = maxNonterminals} {m₂ = maxPlaces} (well g .fewNonterminals) (omega arith) in
         omega arith
 
-    pub needed-room : z .nonterminals * (length input + 1) ≤ length memo
+    pub needed-room : z .nonterminals * (length events + 1) ≤ length memo
     needed-room = omega (arith, needed-few, g .long-memo)
 
     module _ {u : Unknown} (e : u ≡ unknownFrom (z .terminals) 0 input) (q : u ≡ Absent) where
       known : unknownFrom (grammarOf words .terminals) 0 input ≡ Absent
       known = rw (sym (well g .terminals)) (sym e ∙ q)
 
-      needed : z .nonterminals * (length input + 1) ≡ pairs (grammarOf words) input
-      needed = rw (well g .nonterminals, add-one (length input))
+      needed : z .nonterminals * (length events + 1) ≡ pairs (grammarOf words) input
+      needed = rw (well g .nonterminals, sym (input-length events), add-one (length input))
 
-      pub descend-given : DescendGiven words z entries input (take (z .nonterminals * (length input + 1)) memo)
+      pub descend-given : DescendGiven words z entries input (take (z .nonterminals * (length events + 1)) memo)
       descend-given = record {
         read = g .found .read;
         free = passed-free words (passed-fault words (g .found .faultless));
         table = rw (g .found .table) (filled-entries (grammarOf words));
         tokens = absent-known (grammarOf words .terminals) 0 input known;
-        short = short;
-        size = length-take-le (z .nonterminals * (length input + 1)) memo needed-room ∙ needed;
+        short = short-input;
+        size = length-take-le (z .nonterminals * (length events + 1)) memo needed-room ∙ needed;
       }
 
       pub judge-done : {table′ part : List ℕ} {a : Answer} → Lent table entries z table′ → Descended words input a part
-          → Judges words input table memo a table′ (part ++ drop (z .nonterminals * (length input + 1)) memo)
+          → Judges words input table memo a table′ (part ++ drop (z .nonterminals * (length events + 1)) memo)
       judge-done {table′} {part} {a} l d =
-          let f = no-fault words input table memo (g .long-table) (g .long-memo) (g .found .faultless) short known in
-          let n : z .nonterminals * (length input + 1) ≡ length (memoWords (grammarOf words) input) = needed ∙ sym (memo-count (grammarOf words) input) in
+          let f = no-fault words input table memo (g .long-table) (g .long-memo) (g .found .faultless) short-input known in
+          let n : z .nonterminals * (length events + 1) ≡ length (memoWords (grammarOf words) input) = needed ∙ sym (memo-count (grammarOf words) input) in
           judges (d .answer ∙ sym (ap (λ y. refusedOr y (verdictOf (grammarOf words) input)) f))
           (lent-table words table (g .long-table) (g .found) l ∙ sym (ap (λ y. lentBack y (tableWords (grammarOf words)) table) f))
-          (ap (λ y. y ++ drop (z .nonterminals * (length input + 1)) memo) (d .entries) ∙ ap (λ y. memoWords (grammarOf words) input ++ drop y memo) n
+          (ap (λ y. y ++ drop (z .nonterminals * (length events + 1)) memo) (d .entries) ∙ ap (λ y. memoWords (grammarOf words) input ++ drop y memo) n
           ∙ sym (ap (λ y. lentBack y (memoWords (grammarOf words) input) memo) f))

@@ -13,6 +13,7 @@ pub mod Front
 pub mod Places
 pub mod Checking
 pub mod Deciding
+pub mod Directions
 pub mod JudgeFaults
 pub mod Meaning
 pub mod Judged

@@ -27,7 +27,8 @@ use Rattle.table.specs.Layout.{columnString, columns, entryAt, entryWord}
 use Rattle.recognizer.specs.Arrays.{choiceColumns, choiceWords, endMark, elementWeight, firstAt}
 use Rattle.recognizer.specs.Descent.{firstConjunct}
 use Rattle.recognizer.specs.Preparing.{tokenWords, entryOf, firstWord, FirstGiven, ChoicesGiven, RowGiven, Filled}
-use Rattle.recognizer.proofs.Tokens.{token-below, word-at, end-at}
+use Rattle.event.proofs.Known.{token-below}
+use Rattle.recognizer.proofs.Tokens.{word-at, end-at}
 use Rattle.semantics.proofs.Outcomes.{nth-below}
 
 -- the column of the token at a place, or of the end

@@ -27,9 +27,9 @@ use Rattle.semantics.specs.Theorems.{LeastSets}
 use Rattle.semantics.proofs.Theorems.{theorems}
 use Rattle.sets.specs.Analysis.{leftFault}
 use Rattle.table.specs.Analysis.{clashFault, fault}
-use Rattle.recognizer.specs.declared.judging.Unknown.{Unknown}
-use Rattle.recognizer.specs.declared.judging.Unknown.the-variants.{Absent, At}
-use Rattle.recognizer.specs.Answers.{unknownFault}
+use Rattle.event.specs.declared.Unknown.{Unknown}
+use Rattle.event.specs.declared.Unknown.the-variants.{Absent, At}
+use Rattle.event.specs.Unknown.{unknownFault}
 use Rattle.recognizer.specs.Properties.{LowestRecursive, FirstClash, Places}
 
 -- an answer refuses with 8 or 9 exactly when a fault is that one

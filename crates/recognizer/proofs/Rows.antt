@@ -6,7 +6,8 @@ use Rattle.grammar.specs.Encoding.{onWord, parse, grammarOf}
 use Rattle.grammar.specs.Reading.{counted, stepped, onStep, finished, scan, within, headed, opened, reading}
 use Rattle.semantics.proofs.Computing.{left-recursion-computes, tables-compute, descent-computes, calls-compute}
 use Rattle.table.specs.Analysis.{fault}
-use Rattle.recognizer.specs.Answers.{unknownFrom, judgeFault, verdictOf}
+use Rattle.event.specs.Unknown.{unknownFrom}
+use Rattle.recognizer.specs.Answers.{judgeFault, verdictOf}
 use Rattle.recognizer.specs.Rows.{starred, judged}
 
 pub starred-rows : map (λ r. judged (r .words) (r .input)) starred ≡ map (λ r. r .told) starred

@@ -15,13 +15,6 @@ use Rattle.booleans.specs.Quantifiers.{allOf}
 use Rattle.recognizer.specs.Arrays.{endMark, elementWeight, held}
 use Rattle.recognizer.specs.Preparing.{tokenWords}
 
--- every token is a terminal of the grammar
-pub token-below : (n : ℕ) (w : List ℕ) → Over n w → (i : ℕ) → i < length w → getD w i 0 < n
-unfolding allOf
-token-below n [] h i l = absurd (omega arith)
-token-below n (x ∷ w) h zero l = ltb→lt x n (and-l (ltb x n) _ h)
-token-below n (x ∷ w) h (suc i) l = token-below n w (and-r (ltb x n) _ h) i (omega arith)
-
 -- the word at a place
 module _ (n : ℕ) (w : List ℕ) where
   pub word-at : (i : ℕ) → i < length w → getD (tokenWords n w) i 0 ≡ getD w i 0 * (elementWeight + 1)

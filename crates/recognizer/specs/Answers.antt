@@ -12,8 +12,7 @@ use Rattle.answer.specs.declared.Answer.{Answer}
 use Rattle.answer.specs.declared.Answer.the-variants.{Rejected, Accepted}
 use Rattle.answer.specs.Numbers.{passed, rejected, accepted, Numbers, answered}
 use Rattle.answer.specs.Faults.{faultIf, firstFault}
-use Rattle.recognizer.specs.declared.judging.Unknown.{Unknown}
-use Rattle.recognizer.specs.declared.judging.Unknown.the-variants.{Absent, At}
+use Rattle.event.specs.Unknown.{unknownFrom, unknownFault}
 use Rattle.booleans.specs.Choice.{choose}
 use Rattle.grammar.specs.Limits.{maxTokens, maxTableWords, maxMemoEntries}
 use Rattle.grammar.specs.Syntax.{Grammar}
@@ -22,15 +21,6 @@ use Rattle.semantics.specs.Choices.{tableChoice}
 use Rattle.semantics.specs.Descent.{accepts}
 use Rattle.semantics.specs.Calls.{callCount, farthest}
 use Rattle.table.specs.Analysis.{grammarFaults}
-
--- the first token that is no terminal of the grammar, of an input whose first token has the index `at`
-unfoldable pub unknownFrom : ℕ → ℕ → List ℕ → Unknown
-unknownFrom n at [] = Absent
-unknownFrom n at (a ∷ w) = choose (ltb a n) (unknownFrom n (suc at) w) (At at)
-
-abbrev pub unknownFault : Unknown → Option Error
-unknownFault Absent = none
-unknownFault (At i) = some (UnknownToken i)
 
 -- why checking is refused, in document 01's order: the table's length, then the grammar's faults
 unfoldable pub checkFault : ℕ → List ℕ → Option Error

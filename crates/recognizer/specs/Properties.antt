@@ -17,6 +17,7 @@ use Rattle.grammar.specs.Syntax.{Grammar}
 use Rattle.grammar.specs.Encoding.{grammarOf}
 use Rattle.encoding.specs.Encode.{Encodes}
 use Rattle.encoding.specs.Faithful.{FaithfulReading}
+use Rattle.event.specs.Events.{inputOf}
 use Rattle.semantics.specs.Valuations.{Valuation, Solves}
 use Rattle.semantics.specs.LeftRecursion.{LeftReaches, NoLeftRecursion}
 use Rattle.semantics.specs.Strings.{Over}
@@ -97,7 +98,7 @@ pub record Recognizes (words input : List ℕ) (r : Answer) : Type 0 where
   pub calls : CallsCounted (grammarOf words) (tableChoice (grammarOf words) 1 input) input
   pub memo : Recorded (grammarOf words) (tableChoice (grammarOf words) 1 input) input (memoWords (grammarOf words) input)
 
--- judging an input with a lent table and a lent memo table: properties 1 and 3
+-- judging an input with a lent table and a lent memo table: properties 1 and 3. The input is what the events of the lent log are (`inputOf`)
 pub record Judges (words input table memo : List ℕ) (r : Answer) (table′ memo′ : List ℕ) : Type 0 where
   -- as in checking
   pub faithful : FaithfulReading words
@@ -112,3 +113,11 @@ pub record Judges (words input table memo : List ℕ) (r : Answer) (table′ mem
       → table′ ≡ checked
   -- where the memories are long enough, each passed grammar and readable input is judged by its one meaning, whatever the memories held
   pub recognizes : maxTableWords ≤ length table → maxMemoEntries ≤ length memo → PassedGrammar words → Readable words input → Recognizes words input r
+
+-- what is judged of events is the input that they are (`inputOf`), so two calls alike but for the directions in their events get the same answer and
+-- leave the same table and the same memo table
+abbrev pub DirectionsIgnored : Type 0
+DirectionsIgnored =
+    (words events turned table memo : List ℕ) (r s : Answer) (table′ table″ memo′ memo″ : List ℕ) → inputOf events ≡ inputOf turned
+    → Judges words (inputOf events) table memo r table′ memo′ → Judges words (inputOf turned) table memo s table″ memo″
+    → (r ≡ s) × (table′ ≡ table″) × (memo′ ≡ memo″)

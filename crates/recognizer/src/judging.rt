@@ -1,6 +1,5 @@
 // Judging an input by a grammar that has passed.
-ghost use mathlib.Core.Path.{_≡_};
-ghost use Rattle.recognizer.specs.Answers.{unknownFrom};
+ghost use Rattle.event.specs.Events.{inputOf};
 ghost use Rattle.recognizer.specs.Judging.{PassedGiven, DescendGiven, Descended};
 ghost use Rattle.recognizer.specs.Properties.{Judges};
 use super::descent::call;
@@ -11,47 +10,30 @@ use super::tally::clear;
 use super::tally::tally;
 use answer::Answer;
 use answer::Error;
+use event::Unknown;
+use event::first_unknown;
 use grammar::limits::TABLE_WORDS;
 use grammar::limits::TOKENS;
 use grammar::reading::Sizes;
 use rule::ends_at;
-
-pub enum Unknown {
-    Absent,
-    At(usize),
-}
-
-// The first token that is no terminal.
-pub fn first_unknown(input: &[u8], terminals: u32) -> Unknown
-    ensures { λ r. ⌜ r ≡ unknownFrom terminals 0 (now (input .entry)) ⌝ }
-{
-    let mut at = 0;
-    while at < input.len() {
-        if terminals <= input[at] as u32 {
-            return Unknown::At(at);
-        }
-        at = at + 1;
-    }
-    Unknown::Absent
-}
 
 // Runs the descent in a memo table of just the entries that it needs.
 fn descend(
     words: &[u32],
     sizes: Sizes,
     entries: &[u32; TABLE_WORDS],
-    input: &[u8],
+    events: &[u8],
     memo: &mut [u16],
 ) -> Answer
-    requires { ⌜ DescendGiven (now words) sizes (now entries) (now input) (now memo) ⌝ }
-    ensures { λ r. ⌜ Descended (now (words .entry)) (now (input .entry)) r (now (memo .exit)) ⌝ }
+    requires { ⌜ DescendGiven (now words) sizes (now entries) (inputOf (now events)) (now memo) ⌝ }
+    ensures { λ r. ⌜ Descended (now (words .entry)) (inputOf (now (events .entry))) r (now (memo .exit)) ⌝ }
 {
     clear(memo);
-    let choices = choices_of(words, sizes, entries, input.len() + 1);
-    let tokens = tokens_of(input, sizes.terminals);
+    let choices = choices_of(words, sizes, entries, events.len() + 1);
+    let tokens = tokens_of(events, sizes.terminals);
     let outcome = call(0, words, &choices, &tokens, memo, 0);
-    let calls = tally(memo, sizes.nonterminals as usize, input.len());
-    if ends_at(outcome, input.len() as u16) {
+    let calls = tally(memo, sizes.nonterminals as usize, events.len());
+    if ends_at(outcome, events.len() as u16) {
         Answer::Accepted(calls)
     } else {
         Answer::Rejected(calls)
@@ -63,23 +45,23 @@ pub(crate) fn judge_passed(
     words: &[u32],
     sizes: Sizes,
     entries: &[u32; TABLE_WORDS],
-    input: &[u8],
+    events: &[u8],
     table: &mut [u32],
     memo: &mut [u16],
 ) -> Answer
     requires { ⌜ PassedGiven (now words) sizes (now entries) (now table) (now memo) ⌝ }
-    ensures { λ r. ⌜ Judges (now (words .entry)) (now (input .entry)) (now (table .entry)) (now (memo .entry)) r (now (table .exit)) (now (memo .exit)) ⌝ }
+    ensures { λ r. ⌜ Judges (now (words .entry)) (inputOf (now (events .entry))) (now (table .entry)) (now (memo .entry)) r (now (table .exit)) (now (memo .exit)) ⌝ }
 {
-    if TOKENS < input.len() {
+    if TOKENS < events.len() {
         return Answer::Refused(Error::InputTooLong);
     }
-    let unknown = first_unknown(input, sizes.terminals);
+    let unknown = first_unknown(events, sizes.terminals);
     match unknown {
         Unknown::At(at) => Answer::Refused(Error::UnknownToken(at)),
         Unknown::Absent => {
             lend(table, entries, sizes);
-            let needed = sizes.nonterminals as usize * (input.len() + 1);
-            descend(words, sizes, entries, input, &mut memo[..needed])
+            let needed = sizes.nonterminals as usize * (events.len() + 1);
+            descend(words, sizes, entries, events, &mut memo[..needed])
         }
     }
 }

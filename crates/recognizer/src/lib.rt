@@ -1,4 +1,5 @@
 // Recognizing an input by memoized recursive descent, in memory that the caller lends.
+ghost use Rattle.event.specs.Events.{inputOf};
 ghost use Rattle.recognizer.specs.Properties.{Checks, Judges};
 use answer::Answer;
 use answer::Error;
@@ -11,7 +12,7 @@ use table::analyze;
 
 pub mod arrays;
 mod descent;
-pub mod judging;
+mod judging;
 mod lending;
 mod preparing;
 mod tally;
@@ -34,9 +35,9 @@ pub fn check(words: &[u32], table: &mut [u32]) -> Answer
     }
 }
 
-// Judges an input by an encoded grammar, and fills the lent table and memo table.
-pub fn judge(words: &[u32], input: &[u8], table: &mut [u32], memo: &mut [u16]) -> Answer
-    ensures { λ r. ⌜ Judges (now (words .entry)) (now (input .entry)) (now (table .entry)) (now (memo .entry)) r (now (table .exit)) (now (memo .exit)) ⌝ }
+// Judges the input that the events of a log are by an encoded grammar, and fills the lent table and memo table.
+pub fn judge(words: &[u32], events: &[u8], table: &mut [u32], memo: &mut [u16]) -> Answer
+    ensures { λ r. ⌜ Judges (now (words .entry)) (inputOf (now (events .entry))) (now (table .entry)) (now (memo .entry)) r (now (table .exit)) (now (memo .exit)) ⌝ }
 {
     if table.len() < TABLE_WORDS {
         return Answer::Refused(Error::TableTooShort);
@@ -48,6 +49,6 @@ pub fn judge(words: &[u32], input: &[u8], table: &mut [u32], memo: &mut [u16]) -
     let finding = analysis.finding;
     match finding {
         Finding::Refused(found) => Answer::Refused(found),
-        Finding::Passed(sizes) => judge_passed(words, sizes, &analysis.table, input, table, memo),
+        Finding::Passed(sizes) => judge_passed(words, sizes, &analysis.table, events, table, memo),
     }
 }

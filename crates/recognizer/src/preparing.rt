@@ -1,5 +1,6 @@
 // What the descent reads beside the words, made before it starts: a choice of rules by one token of lookahead, and the tokens.
 ghost use mathlib.Core.Path.{_≡_};
+ghost use Rattle.event.specs.Events.{inputOf};
 ghost use Rattle.recognizer.specs.Preparing.{firstWord, tokenWords, FirstGiven, TokensGiven, ChoicesGiven, RowGiven, RowFilled, Filled};
 use super::arrays::CHOICE_COLUMNS;
 use super::arrays::CHOICES;
@@ -7,6 +8,7 @@ use super::arrays::ELEMENT;
 use super::arrays::END_COLUMN;
 use super::arrays::END_MARK;
 use super::arrays::ROW_COLUMN;
+use event::terminal_of;
 use grammar::codes::NO_ENTRY;
 use grammar::limits::PLACES;
 use grammar::limits::RULES;
@@ -14,19 +16,21 @@ use grammar::limits::TABLE_WORDS;
 use grammar::reading::Sizes;
 use grammar::reading::rule_starts;
 
-// What a terminal is times this has it twice: as the terminal, and as its element of lookahead.
-const TWICE: u16 = (ELEMENT + 1) as u16;
+// The weight of the element of lookahead in a word of a token.
+const WEIGHT: u16 = ELEMENT as u16;
 
-// A token's element of lookahead is its column of the table.
-pub(crate) fn tokens_of(input: &[u8], terminals: u32) -> [u16; PLACES]
-    requires { ⌜ TokensGiven (now input) terminals ⌝ }
-    ensures { λ r. ⌜ r ≡ tokenWords terminals (now (input .entry)) ⌝ }
+// The terminal that each event is; its element of lookahead is its column of the table.
+pub(crate) fn tokens_of(events: &[u8], terminals: u32) -> [u16; PLACES]
+    requires { ⌜ TokensGiven (now events) terminals ⌝ }
+    ensures { λ r. ⌜ r ≡ tokenWords terminals (inputOf (now (events .entry))) ⌝ }
 {
     let end = (terminals * ELEMENT + END_MARK) as u16;
     let mut tokens = [end; PLACES];
     let mut at = 0;
-    while at < input.len() {
-        tokens[at] = input[at] as u16 * TWICE;
+    while at < events.len() {
+        let event = events[at];
+        let terminal = terminal_of(event);
+        tokens[at] = terminal as u16 * WEIGHT + terminal as u16;
         at = at + 1;
     }
     tokens

@@ -7,6 +7,8 @@ use lib.ListN.{length}
 use borrow.Author.Tests.{le-leb}
 use Rattle.answer.specs.declared.Error.{Error}
 use Rattle.answer.specs.declared.Answer.{Answer}
+use Rattle.event.specs.Events.{inputOf}
+use Rattle.event.proofs.Inputs.{input-length}
 use Rattle.grammar.specs.Limits.{maxTokens, maxMemoEntries, maxTableWords}
 use Rattle.grammar.specs.Encoding.{grammarOf}
 use Rattle.grammar.specs.Reading.{reading}
@@ -22,6 +24,11 @@ use Rattle.judgement_text.specs.Judgement.{judgementText}
 use Rattle.report.specs.Report.{blankTable, blankMemo, checkedText, judgedText, nonterminalsOf, tokensOf}
 
 -- the numbers of nonterminals and tokens are those printed, wherever judging is not refused
+-- there are as many tokens as events
+tokens-same : (events : List ℕ) → tokensOf events ≡ tokensOf (inputOf events)
+unfolding tokensOf
+tokens-same events = rw (input-length events)
+
 module _ (words input memo : List ℕ) (v : Answer) where
   abbrev f : Option Error
   f = judgeFault maxTableWords maxMemoEntries words input
@@ -42,16 +49,17 @@ module _ {l m : List ℕ} {k : ℕ} where
   unfolding checkedText
   put-checked-text size c p = rw (← size, ← c .answer, ← c .table) p
 
-  pub put-judged-text : {words input table table′ memo : List ℕ} {answer : Answer} {nonterminals tokens : ℕ} → length table ≡ maxTableWords
+  pub put-judged-text : {words table table′ memo : List ℕ} (events : List ℕ) {answer : Answer} {nonterminals tokens : ℕ} → length table ≡ maxTableWords
       → length blankMemo ≡ maxMemoEntries
-      → nonterminals ≡ nonterminalsOf (reading words) → tokens ≡ tokensOf input → Judges words input table blankMemo answer table′ memo
-      → Put l 0 (judgementText answer nonterminals tokens memo) m k → Put l 0 (judgedText words input) m k
+      → nonterminals ≡ nonterminalsOf (reading words) → tokens ≡ tokensOf events → Judges words (inputOf events) table blankMemo answer table′ memo
+      → Put l 0 (judgementText answer nonterminals tokens memo) m k → Put l 0 (judgedText words (inputOf events)) m k
   unfolding judgedText
-  put-judged-text {words} {input} {table} {table′} {memo} {answer} size room n w j p =
+  put-judged-text {words} {table} {table′} {memo} events {answer} size room n w j p =
+      let input = inputOf events in
       let g = judgeFault maxTableWords maxMemoEntries words input in
       let same : judgeFault (length table) (length blankMemo) words input ≡ g = ap₂ (λ a b. judgeFault a b words input) size room in
       let a : answer ≡ refusedOr g (verdictOf (grammarOf words) input) = j .answer ∙ ap (λ y. refusedOr y (verdictOf (grammarOf words) input)) same in
       let b : memo ≡ lentBack g (memoWords (grammarOf words) input) blankMemo = j .lent-memo ∙ ap (λ y. lentBack y (memoWords (grammarOf words) input) blankMemo) same in
       let t = ap₂ (λ x y. judgementText x (nonterminalsOf (reading words)) (tokensOf input) y) a b
       ∙ same-sizes words input (lentBack g (memoWords (grammarOf words) input) blankMemo) (verdictOf (grammarOf words) input) g refl in
-      subst (λ x. Put l 0 x m k) t (rw (n, w) at p)
+      subst (λ x. Put l 0 x m k) t (rw (n, w ∙ tokens-same events) at p)

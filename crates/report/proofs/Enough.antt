@@ -12,6 +12,8 @@ use borrow.Author.Tests.{lt-ltb, lt-leb}
 use Rattle.answer.specs.declared.Error.{Error}
 use Rattle.answer.specs.declared.Error.the-variants.{Length, InputTooLong}
 use Rattle.booleans.specs.Choice.{choose}
+use Rattle.event.specs.Events.{inputOf}
+use Rattle.event.proofs.Inputs.{input-length}
 use Rattle.grammar.specs.Limits.{maxWords, maxTokens, maxMemoEntries, maxTableWords}
 use Rattle.text.specs.Words.{bytesOfWord, wordsOf, areWords}
 use Rattle.text.specs.Refusal.{refusalText}
@@ -49,21 +51,22 @@ long-fault : (words input : List ℕ) → maxTokens < length input → (f : Opti
 long-fault words input h (some x) e = rw (judged-rows maxTableWords maxMemoEntries words input, e)
 long-fault words input h none e = rw (judged-rows maxTableWords maxMemoEntries words input, e, lt-ltb maxTokens (length input) h)
 
-long-text : (words input : List ℕ) → maxTokens < length input → judgedText words input ≡ refusalText (orLong (fault words))
+long-text : (words events : List ℕ) → maxTokens < length events → judgedText words (inputOf events) ≡ refusalText (orLong (fault words))
 unfolding judgedText judgementText
-long-text words input h = rw (long-fault words input h (fault words) refl)
+long-text words events h = rw (long-fault words (inputOf events) (omega (arith, input-length events)) (fault words) refl)
 
 module _ (file tokens : ℕ) (long : bytesOfWord * maxWords < file) (over : maxTokens < tokens) where
   pub sheet-enough : (bytes : List ℕ) → sheetOf (take file bytes) ≡ sheetOf bytes
   unfolding sheetOf
   sheet-enough = cut sheetOf (bytesOfWord * maxWords) file long (λ l m h k. rw (not-words l h, not-words m k))
 
-  pub judgement-enough : (bytes input : List ℕ) → judgementOf (take file bytes) (take tokens input) ≡ judgementOf bytes input
+  pub judgement-enough : (bytes events : List ℕ) → judgementOf (take file bytes) (take tokens events) ≡ judgementOf bytes events
   unfolding judgementOf
-  judgement-enough bytes input =
-      cut (λ b. judgementOf b (take tokens input)) (bytesOfWord * maxWords) file long (λ l m h k. rw (not-words l h, not-words m k)) bytes
+  judgement-enough bytes events =
+      cut (λ b. judgementOf b (take tokens events)) (bytesOfWord * maxWords) file long (λ l m h k. rw (not-words l h, not-words m k)) bytes
       ∙ ap (λ t. choose (areWords bytes) t (refusalText Length))
-      (cut (judgedText (wordsOf bytes)) maxTokens tokens over (λ l m h k. long-text (wordsOf bytes) l h ∙ sym (long-text (wordsOf bytes) m k)) input)
+      (cut (λ l. judgedText (wordsOf bytes) (inputOf l)) maxTokens tokens over
+      (λ l m h k. long-text (wordsOf bytes) l h ∙ sym (long-text (wordsOf bytes) m k)) events)
 
 pub enough : Enough enoughRead
 enough = record {

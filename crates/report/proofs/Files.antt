@@ -10,6 +10,7 @@ use lib.Seq.{sets, sets-eq, length-sets, take-at, length-take-le}
 use borrow.Author.Tests.{leb-true}
 use Rattle.booleans.proofs.Booleans.{and-first}
 use Rattle.answer.specs.declared.Error.the-variants.{Length}
+use Rattle.event.specs.Events.{inputOf}
 use Rattle.grammar.specs.Limits.{maxWords}
 use Rattle.text.specs.declared.words.Loaded.{Loaded}
 use Rattle.text.specs.declared.words.Loaded.the-variants.{Words, NotWords}
@@ -74,12 +75,12 @@ module _ {l m : List ℕ} {k : ℕ} where
   unfolding sheetOf
   sheet-checked f p = rw (f .are, ← f .words) (printed (checked-short _) p)
 
-  pub judgement-refused : (bytes input : List ℕ) → areWords bytes ≡ false → Put l 0 (refusalText Length) m k
-      → Printed judgementRoom (judgementOf bytes input) l m k
+  pub judgement-refused : (bytes events : List ℕ) → areWords bytes ≡ false → Put l 0 (refusalText Length) m k
+      → Printed judgementRoom (judgementOf bytes events) l m k
   unfolding judgementOf
-  judgement-refused bytes input e p = rw e (printed (omega (arith, refusal-most Length)) p)
+  judgement-refused bytes events e p = rw e (printed (omega (arith, refusal-most Length)) p)
 
-  pub judgement-judged : {bytes words : List ℕ} {n : ℕ} → FoundWords bytes words n → (input : List ℕ) → Put l 0 (judgedText (take n words) input) m k
-      → Printed judgementRoom (judgementOf bytes input) l m k
+  pub judgement-judged : {bytes words : List ℕ} {n : ℕ} → FoundWords bytes words n → (events : List ℕ) → Put l 0 (judgedText (take n words) (inputOf events)) m k
+      → Printed judgementRoom (judgementOf bytes events) l m k
   unfolding judgementOf
-  judgement-judged f input p = rw (f .are, ← f .words) (printed (judged-short _ input) p)
+  judgement-judged f events p = rw (f .are, ← f .words) (printed (judged-short _ (inputOf events)) p)

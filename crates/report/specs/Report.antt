@@ -7,6 +7,7 @@ use lib.ListN.{length, take, replicate}
 use Rattle.answer.specs.declared.Answer.the-variants.{Passed}
 use Rattle.answer.specs.declared.Error.the-variants.{Length}
 use Rattle.booleans.specs.Choice.{choose}
+use Rattle.event.specs.Events.{inputOf}
 use Rattle.grammar.specs.Codes.{noEntry, uncalledCode}
 use Rattle.grammar.specs.declared.reading.Outcome.{Outcome}
 use Rattle.grammar.specs.declared.reading.Outcome.the-variants.{Read, Faulty}
@@ -80,9 +81,9 @@ judgedText words input =
     judgementText (refusedOr f (verdictOf (grammarOf words) input)) (grammarOf words .nonterminals) (length input)
     (lentBack f (memoWords (grammarOf words) input) blankMemo)
 
--- (document 01: the second program) the judgement of an input by a file's words
+-- (document 01: the second program) the judgement of a log's events by a file's words
 unfoldable pub judgementOf : List ℕ → List ℕ → List ℕ
-judgementOf bytes input = choose (areWords bytes) (judgedText (wordsOf bytes) input) (refusalText Length)
+judgementOf bytes events = choose (areWords bytes) (judgedText (wordsOf bytes) (inputOf events)) (refusalText Length)
 
 -- one byte more than the longest file of words has, and one token more than the longest input
 abbrev pub enoughRead : Reads
@@ -92,7 +93,7 @@ enoughRead = record { file = suc (bytesOfWord * maxWords); input = suc maxTokens
 pub record Enough (r : Reads) : Type 0 where
   pub lengths : r ≡ enoughRead
   pub sheet : (bytes : List ℕ) → sheetOf (take (r .file) bytes) ≡ sheetOf bytes
-  pub judgement : (bytes input : List ℕ) → judgementOf (take (r .file) bytes) (take (r .input) input) ≡ judgementOf bytes input
+  pub judgement : (bytes events : List ℕ) → judgementOf (take (r .file) bytes) (take (r .input) events) ≡ judgementOf bytes events
 
 -- how many nonterminals words have that are read
 abbrev pub nonterminalsOf : Outcome → ℕ

@@ -1,5 +1,6 @@
 // What the programs print: from the bytes of files to the bytes of the text.
 ghost use mathlib.Core.Path.{_≡_};
+ghost use Rattle.event.specs.Events.{inputOf};
 ghost use Rattle.grammar.specs.Reading.{reading};
 ghost use Rattle.sheet_text.specs.Room.{sheetRoom};
 ghost use Rattle.judgement_text.specs.Room.{judgementRoom};
@@ -75,14 +76,14 @@ pub fn sheet(bytes: &[u8], out: &mut [u8]) -> usize
     }
 }
 
-// The judgement of an input by the grammar that a file's bytes are, or why there is none.
-pub fn judgement(bytes: &[u8], input: &[u8], out: &mut [u8]) -> usize
-    ensures { λ r. ⌜ Printed judgementRoom (judgementOf (now (bytes .entry)) (now (input .entry))) (now (out .entry)) (now (out .exit)) r ⌝ }
+// The judgement of a log's events by the grammar that a file's bytes are, or why there is none.
+pub fn judgement(bytes: &[u8], events: &[u8], out: &mut [u8]) -> usize
+    ensures { λ r. ⌜ Printed judgementRoom (judgementOf (now (bytes .entry)) (now (events .entry))) (now (out .entry)) (now (out .exit)) r ⌝ }
 {
     let mut words = [0u32; WORDS];
     let loaded = load(bytes, &mut words);
     match loaded {
-        Loaded::Words(n) => put_judged(&words[..n], input, out),
+        Loaded::Words(n) => put_judged(&words[..n], events, out),
         Loaded::NotWords => put_refusal(out, 0, Error::Length),
     }
 }
@@ -95,13 +96,13 @@ fn put_checked(words: &[u32], out: &mut [u8]) -> usize
     put_check(out, answer, words, &table)
 }
 
-fn put_judged(words: &[u32], input: &[u8], out: &mut [u8]) -> usize
-    ensures { λ r. ⌜ Put (now (out .entry)) 0 (judgedText (now (words .entry)) (now (input .entry))) (now (out .exit)) r ⌝ }
+fn put_judged(words: &[u32], events: &[u8], out: &mut [u8]) -> usize
+    ensures { λ r. ⌜ Put (now (out .entry)) 0 (judgedText (now (words .entry)) (inputOf (now (events .entry)))) (now (out .exit)) r ⌝ }
 {
     let mut table = [NO_ENTRY; TABLE_WORDS];
     let mut memo = [UNCALLED; MEMO_ENTRIES];
-    let answer = judge(words, input, &mut table, &mut memo);
-    put_judgement(out, answer, nonterminals(words), tokens(input), &memo)
+    let answer = judge(words, events, &mut table, &mut memo);
+    put_judgement(out, answer, nonterminals(words), tokens(events), &memo)
 }
 
 // How many nonterminals words have that are read.
@@ -115,12 +116,12 @@ fn nonterminals(words: &[u32]) -> u32
     }
 }
 
-// How many tokens an input has that is not too long.
-fn tokens(input: &[u8]) -> u16
-    ensures { λ r. ⌜ r ≡ tokensOf (now (input .entry)) ⌝ }
+// How many tokens an input has that is not too long: as many as there are events.
+fn tokens(events: &[u8]) -> u16
+    ensures { λ r. ⌜ r ≡ tokensOf (now (events .entry)) ⌝ }
 {
-    if input.len() <= TOKENS {
-        input.len() as u16
+    if events.len() <= TOKENS {
+        events.len() as u16
     } else {
         0
     }

@@ -18,7 +18,7 @@ use Rattle.grammar.specs.Syntax.{Grammar}
 use Rattle.grammar.specs.Encoding.{grammarOf}
 use Rattle.semantics.specs.Valuations.{solution}
 use Rattle.sets.specs.Analysis.{setsFaults}
-use Rattle.recognizer.specs.Answers.{unknownFrom, unknownFault}
+use Rattle.event.specs.Unknown.{unknownFrom, unknownFault}
 use Rattle.tabular.specs.Spans.{spanWords, solutionWord}
 
 -- why judging is refused: the lent words of the spans, the grammar's faults up to left recursion, then the input's

@@ -1,6 +1,7 @@
 // The chart filled from short spans to long ones, and at each span in the order of rank.
 ghost use Rattle.tabular.specs.Places.{Standing, InputGiven};
 ghost use Prim.Native.Nat.{_+_};
+ghost use Rattle.event.specs.Events.{inputOf};
 ghost use Rattle.grammar.specs.Limits.{maxTabularTokens};
 ghost use Rattle.tabular.specs.Filling.{RanksGiven, Ranked, DerivedGiven, Derived, turn, Fills, SettleGiven, LengthGiven, FillGiven, Filled};
 use super::bodies::STANDS;
@@ -9,6 +10,7 @@ use super::chart::CHART;
 use super::chart::add;
 use super::chart::found_by;
 use super::places::put;
+use event::terminal_of;
 use grammar::limits::RULES;
 use grammar::reading::Sizes;
 use grammar::reading::rule_starts;
@@ -16,15 +18,15 @@ use sets::family::SETS;
 use sets::rules::head_of;
 use word::decode;
 
-// Where each terminal stands in the input.
-fn standing(input: &[u8]) -> [u64; STANDS]
-    requires { ⌜ InputGiven (now input) ⌝ }
-    ensures { λ r. ⌜ Standing (now (input .entry)) r ⌝ }
+// Where each terminal stands in the input that the events are.
+fn standing(events: &[u8]) -> [u64; STANDS]
+    requires { ⌜ InputGiven (inputOf (now events)) ⌝ }
+    ensures { λ r. ⌜ Standing (inputOf (now (events .entry))) r ⌝ }
 {
     let mut stands = [0u64; STANDS];
     let mut at = 0;
-    while at < input.len() {
-        let terminal = input[at] as usize;
+    while at < events.len() {
+        let terminal = terminal_of(events[at]) as usize;
         stands[terminal] = put(stands[terminal], at, true);
         at = at + 1;
     }
@@ -125,17 +127,17 @@ fn fill_length(
     }
 }
 
-pub(crate) fn fill(words: &[u32], sizes: Sizes, reaches: &[u32; SETS], input: &[u8]) -> [u64; CHART]
-    requires { ⌜ FillGiven (now words) sizes (now reaches) (now input) ⌝ }
-    ensures { λ r. ⌜ Filled (now (words .entry)) (now (input .entry)) r ⌝ }
+pub(crate) fn fill(words: &[u32], sizes: Sizes, reaches: &[u32; SETS], events: &[u8]) -> [u64; CHART]
+    requires { ⌜ FillGiven (now words) sizes (now reaches) (inputOf (now events)) ⌝ }
+    ensures { λ r. ⌜ Filled (now (words .entry)) (inputOf (now (events .entry))) r ⌝ }
 {
     let starts = rule_starts(words);
     let ranks = ranks_of(words, &starts, sizes, reaches);
-    let stands = standing(input);
+    let stands = standing(events);
     let mut chart = [0u64; CHART];
     let mut length = 0;
-    while length <= input.len() {
-        fill_length(words, &starts, &ranks, sizes, &stands, &mut chart, input.len(), length);
+    while length <= events.len() {
+        fill_length(words, &starts, &ranks, sizes, &stands, &mut chart, events.len(), length);
         length = length + 1;
     }
     chart

@@ -1,19 +1,20 @@
 // A second recognizer, by tabulation: which nonterminals derive which span of the input, for every span from short to long. It needs neither table
 // nor memo table, only a grammar without left recursion, and takes shorter inputs.
 ghost use mathlib.Core.Path.{_≡_};
+ghost use Rattle.event.specs.Events.{inputOf};
 ghost use Rattle.tabular.specs.Answers.{told};
 ghost use Rattle.tabular.specs.Judging.{TabulateGiven, Tabulated, PassedGiven};
 ghost use Rattle.tabular.specs.Properties.{TabularJudges};
 use answer::Answer;
 use answer::Calls;
 use answer::Error;
+use event::Unknown;
+use event::first_unknown;
 use filling::fill;
 use grammar::limits::SPAN_WORDS;
 use grammar::limits::TABULAR_TOKENS;
 use grammar::reading::Sizes;
 use places::contains;
-use recognizer::judging::Unknown;
-use recognizer::judging::first_unknown;
 use sets::Finding;
 use sets::analyze;
 use sets::family::SETS;
@@ -30,15 +31,15 @@ fn tabulate(
     words: &[u32],
     sizes: Sizes,
     reaches: &[u32; SETS],
-    input: &[u8],
+    events: &[u8],
     spans: &mut [u32],
 ) -> bool
-    requires { ⌜ TabulateGiven (now words) sizes (now reaches) (now input) (now spans) ⌝ }
-    ensures { λ r. ⌜ Tabulated (now (words .entry)) (now (input .entry)) (now (spans .entry)) r (now (spans .exit)) ⌝ }
+    requires { ⌜ TabulateGiven (now words) sizes (now reaches) (inputOf (now events)) (now spans) ⌝ }
+    ensures { λ r. ⌜ Tabulated (now (words .entry)) (inputOf (now (events .entry))) (now (spans .entry)) r (now (spans .exit)) ⌝ }
 {
-    let chart = fill(words, sizes, reaches, input);
-    write(&chart, sizes.nonterminals, input.len(), spans);
-    contains(chart[input.len()], 0)
+    let chart = fill(words, sizes, reaches, events);
+    write(&chart, sizes.nonterminals, events.len(), spans);
+    contains(chart[events.len()], 0)
 }
 
 fn verdict(accepted: bool) -> Answer
@@ -60,25 +61,25 @@ fn judge_passed(
     words: &[u32],
     sizes: Sizes,
     reaches: &[u32; SETS],
-    input: &[u8],
+    events: &[u8],
     spans: &mut [u32],
 ) -> Answer
     requires { ⌜ PassedGiven (now words) sizes (now reaches) (now spans) ⌝ }
-    ensures { λ r. ⌜ TabularJudges (now (words .entry)) (now (input .entry)) (now (spans .entry)) r (now (spans .exit)) ⌝ }
+    ensures { λ r. ⌜ TabularJudges (now (words .entry)) (inputOf (now (events .entry))) (now (spans .entry)) r (now (spans .exit)) ⌝ }
 {
-    if TABULAR_TOKENS < input.len() {
+    if TABULAR_TOKENS < events.len() {
         return Answer::Refused(Error::InputTooLong);
     }
-    let unknown = first_unknown(input, sizes.terminals);
+    let unknown = first_unknown(events, sizes.terminals);
     match unknown {
         Unknown::At(at) => Answer::Refused(Error::UnknownToken(at)),
-        Unknown::Absent => verdict(tabulate(words, sizes, reaches, input, spans)),
+        Unknown::Absent => verdict(tabulate(words, sizes, reaches, events, spans)),
     }
 }
 
-// Judges an input by an encoded grammar, and fills the lent words with the nonterminals of every span.
-pub fn judge(words: &[u32], input: &[u8], spans: &mut [u32]) -> Answer
-    ensures { λ r. ⌜ TabularJudges (now (words .entry)) (now (input .entry)) (now (spans .entry)) r (now (spans .exit)) ⌝ }
+// Judges the input that the events of a log are by an encoded grammar, and fills the lent words with the nonterminals of every span.
+pub fn judge(words: &[u32], events: &[u8], spans: &mut [u32]) -> Answer
+    ensures { λ r. ⌜ TabularJudges (now (words .entry)) (inputOf (now (events .entry))) (now (spans .entry)) r (now (spans .exit)) ⌝ }
 {
     if spans.len() < SPAN_WORDS {
         return Answer::Refused(Error::SpansTooShort);
@@ -87,6 +88,6 @@ pub fn judge(words: &[u32], input: &[u8], spans: &mut [u32]) -> Answer
     let finding = families.finding;
     match finding {
         Finding::Refused(error) => Answer::Refused(error),
-        Finding::Passed(sizes) => judge_passed(words, sizes, &families.reaches, input, spans),
+        Finding::Passed(sizes) => judge_passed(words, sizes, &families.reaches, events, spans),
     }
 }

@@ -1,4 +1,5 @@
 -- What judging answers, by the lengths of the memories and by what is found of the grammar.
+use Rattle.event.specs.Events.{inputOf}
 use Rattle.recognizer.proofs.Checking.{found, found-fault}
 use Rattle.recognizer.proofs.JudgeFaults.{table-short, memo-short, grammar-fault}
 use Rattle.recognizer.proofs.Judged.{judge-refused}
@@ -9,12 +10,12 @@ use Rattle.recognizer.proofs.judge.Tie as tie
 returns : tie.Need-returns
 returns c =
     let given = c .before .before .before .before .before .args in
-    judge-refused (table-short (given .words .now) (given .input .now) (given .table .now) (given .memo .now) (c .if1 .taken))
+    judge-refused (table-short (given .words .now) (inputOf (given .events .now)) (given .table .now) (given .memo .now) (c .if1 .taken))
 
 returns-2 : tie.Need-returns-2
 returns-2 c =
     let given = c .before .before .before .before .before .before .args in
-    judge-refused (memo-short (given .words .now) (given .input .now) (given .table .now) (given .memo .now) (c .before .if1 .left) (c .if2 .taken))
+    judge-refused (memo-short (given .words .now) (inputOf (given .events .now)) (given .table .now) (given .memo .now) (c .before .if1 .left) (c .if2 .taken))
 
 analyze-requires : tie.Need-analyze-requires
 analyze-requires c κs = search needs
@@ -43,7 +44,7 @@ returns-3 c =
     let room = analyzed .before in
     let long = room .before in
     let given = long .before .before .before .before .before .args in
-    judge-refused (grammar-fault (given .words .now) (given .input .now) (given .table .now) (given .memo .now) (long .if1 .left) (room .if2 .left)
+    judge-refused (grammar-fault (given .words .now) (inputOf (given .events .now)) (given .table .now) (given .memo .now) (long .if1 .left) (room .if2 .left)
     (found-fault (given .words .now) (analyzed .analyze .ensures) (c .before .finding .given .1)))
 
 same-length : tie.Need-same-length

@@ -41,7 +41,7 @@ returns c =
     let at-load = at-loaded .before .before in
     let at-before = at-load .before .before .before .before in
     let s = at-before .before in
-    judgement-judged (found (at-load .load .ensures) (at-loaded .loaded .given .1) (length-replicate {A = ℕ} maxWords 0)) (s .args .input .now)
+    judgement-judged (found (at-load .load .ensures) (at-loaded .loaded .given .1) (length-replicate {A = ℕ} maxWords 0)) (s .args .events .now)
     (at-put-judged .put-judged .ensures)
 
 same-length-2 : tie.Need-same-length-2
@@ -54,7 +54,7 @@ returns-2 c =
     let at-load = at-enum-told .before .before in
     let at-before = at-load .before .before .before .before in
     let s = at-before .before in
-    judgement-refused (s .args .bytes .now) (s .args .input .now) (not-found (at-load .load .ensures) (at-enum-told .enum-told .given .1))
+    judgement-refused (s .args .bytes .now) (s .args .events .now) (not-found (at-load .load .ensures) (at-enum-told .enum-told .given .1))
     (at-put-refusal .put-refusal .ensures)
 
 pub judgement-spec : {M : Type 1} → statement M

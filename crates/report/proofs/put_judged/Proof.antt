@@ -40,7 +40,8 @@ returns c =
     let at-tokens = at-put-judgement .before .before in
     let at-nonterminals = at-tokens .before in
     let at-judge = at-nonterminals .before .before .before .before in
-    put-judged-text (length-replicate {A = ℕ} maxTableWords noEntry) (length-replicate {A = ℕ} maxMemoEntries uncalledCode) (at-nonterminals .nonterminals .ensures)
+    let start = at-judge .before .before .before .before .before .before in
+    put-judged-text (start .args .events .now) (length-replicate {A = ℕ} maxTableWords noEntry) (length-replicate {A = ℕ} maxMemoEntries uncalledCode) (at-nonterminals .nonterminals .ensures)
     (at-tokens .tokens .ensures) (at-judge .judge .ensures) (at-put-judgement .put-judgement .ensures)
 
 pub put-judged-spec : {M : Type 1} → statement M

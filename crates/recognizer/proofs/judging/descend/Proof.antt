@@ -1,5 +1,6 @@
 -- The start is called in a blank memo table, with the arrays made for it, and the calls are read off the table afterwards.
 use native.Mathlib.Omega.{arith}
+use Rattle.event.proofs.Inputs.{input-length}
 use Rattle.recognizer.proofs.Deciding.{choices-given, tokens-given, start-given, memo-long, descended}
 use borrow.Author.Needs.{needs}
 use Rattle.recognizer.proofs.judging.descend.Statement.{statement}
@@ -12,17 +13,17 @@ add-choices-of : tie.Need-add-choices-of
 add-choices-of c = search needs
 
 choices-of-requires : tie.Need-choices-of-requires
-choices-of-requires c κs = choices-given (c .before .before .before .before .before .before .before .pre)
+choices-of-requires c κs = choices-given (c .before .before .before .before .before .before .before .args .events .now) (c .before .before .before .before .before .before .before .pre)
 
 tokens-of-requires : tie.Need-tokens-of-requires
-tokens-of-requires c κs = tokens-given (c .before .before .before .before .before .before .before .before .pre)
+tokens-of-requires c κs = tokens-given (c .before .before .before .before .before .before .before .before .args .events .now) (c .before .before .before .before .before .before .before .before .pre)
 
 call-requires : tie.Need-call-requires
 call-requires c κs =
     let made = c .before .before .before in
     let cleared = made .before .before .before .before in
     let start = cleared .before .before .before .before .before in
-    start-given (start .pre) (made .before .choices-of .ensures) (made .tokens-of .ensures) (cleared .clear .ensures)
+    start-given (start .args .events .now) (start .pre) (made .before .choices-of .ensures) (made .tokens-of .ensures) (cleared .clear .ensures)
 
 cast-tally : tie.Need-cast-tally
 cast-tally c = search needs
@@ -33,10 +34,10 @@ tally-requires c κs =
     let made = called .before .before .before .before in
     let cleared = made .before .before .before .before in
     let start = cleared .before .before .before .before .before in
-    memo-long (start .pre) (made .before .choices-of .ensures) (made .tokens-of .ensures) (cleared .clear .ensures) (called .call .ensures)
+    memo-long (start .args .events .now) (start .pre) (made .before .choices-of .ensures) (made .tokens-of .ensures) (cleared .clear .ensures) (called .call .ensures)
 
 cast-ends-at : tie.Need-cast-ends-at
-cast-ends-at c = omega (arith, c .before .before .before .before .before .before .before .before .before .before .before .before .before .before .before .before .before .before .pre .short)
+cast-ends-at c = let start = c .before .before .before .before .before .before .before .before .before .before .before .before .before .before .before .before .before .before in omega (arith, start .pre .short, input-length (start .args .events .now))
 
 ends-at-requires : tie.Need-ends-at-requires
 ends-at-requires c κs = search needs
@@ -50,7 +51,7 @@ returns c =
     let made = called .before .before .before .before in
     let cleared = made .before .before .before .before in
     let start = cleared .before .before .before .before .before in
-    descended (start .pre) (made .before .choices-of .ensures) (made .tokens-of .ensures) (cleared .clear .ensures) (called .call .ensures)
+    descended (start .args .events .now) (start .pre) (made .before .choices-of .ensures) (made .tokens-of .ensures) (cleared .clear .ensures) (called .call .ensures)
     (c .before .before .tally .ensures) (c .before .ends-at .ensures) (rw (c .if1 .taken))
 
 same-length-2 : tie.Need-same-length-2
@@ -62,7 +63,7 @@ returns-2 c =
     let made = called .before .before .before .before in
     let cleared = made .before .before .before .before in
     let start = cleared .before .before .before .before .before in
-    descended (start .pre) (made .before .choices-of .ensures) (made .tokens-of .ensures) (cleared .clear .ensures) (called .call .ensures)
+    descended (start .args .events .now) (start .pre) (made .before .choices-of .ensures) (made .tokens-of .ensures) (cleared .clear .ensures) (called .call .ensures)
     (c .before .before .tally .ensures) (c .before .ends-at .ensures) (rw (c .if1 .left))
 
 pub descend-spec : {M : Type 1} → statement M

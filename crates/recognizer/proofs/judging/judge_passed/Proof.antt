@@ -13,7 +13,7 @@ use Rattle.recognizer.proofs.judging.judge_passed.Tie as tie
 returns : tie.Need-returns
 returns c =
     let start = c .before .before .before .before .before in
-    judge-long (start .pre) (start .args .input .now) (c .if1 .taken)
+    judge-long (start .pre) (start .args .events .now) (c .if1 .taken)
 
 first-unknown-requires : tie.Need-first-unknown-requires
 first-unknown-requires c κs = search needs
@@ -39,20 +39,20 @@ mul-needed : tie.Need-mul-needed
 mul-needed c =
     let short = c .before .before .before .before .before .before .before .before in
     let start = short .before .before .before .before .before in
-    omega (arith, needed-few (start .pre) (start .args .input .now) (short .if1 .left))
+    omega (arith, needed-few (start .pre) (start .args .events .now) (short .if1 .left))
 
 slice-relend-prefix-descend : tie.Need-slice-relend-prefix-descend
 slice-relend-prefix-descend c =
     let short = c .before .before .before .before .before .before .before .before in
     let start = short .before .before .before .before .before in
-    needed-room (start .pre) (start .args .input .now) (short .if1 .left)
+    needed-room (start .pre) (start .args .events .now) (short .if1 .left)
 
 slice-aggregate-descend : tie.Need-slice-aggregate-descend
 slice-aggregate-descend c =
     let short = c .before .before .before .before .before .before .before .before .before in
     let start = short .before .before .before .before .before in
-    sym (length-take-le (start .args .sizes .nonterminals * (length (start .args .input .now) + 1)) (start .args .memo .now)
-    (needed-room (start .pre) (start .args .input .now) (short .if1 .left)))
+    sym (length-take-le (start .args .sizes .nonterminals * (length (start .args .events .now) + 1)) (start .args .memo .now)
+    (needed-room (start .pre) (start .args .events .now) (short .if1 .left)))
 
 descend-requires : tie.Need-descend-requires
 descend-requires c κs =
@@ -60,14 +60,14 @@ descend-requires c κs =
     let searched = told .before .before in
     let short = searched .before in
     let start = short .before .before .before .before .before in
-    descend-given (start .pre) (start .args .input .now) (short .if1 .left) (searched .first-unknown .ensures) (told .enum-told .given .1)
+    descend-given (start .pre) (start .args .events .now) (short .if1 .left) (searched .first-unknown .ensures) (told .enum-told .given .1)
 
 returns-2 : tie.Need-returns-2
 returns-2 c =
     let searched = c .before .before .before in
     let short = searched .before in
     let start = short .before .before .before .before .before in
-    judge-unknown (start .pre) (start .args .input .now) (short .if1 .left) (searched .first-unknown .ensures) (c .before .unknown .given .1)
+    judge-unknown (start .pre) (start .args .events .now) (short .if1 .left) (searched .first-unknown .ensures) (c .before .unknown .given .1)
 
 same-length : tie.Need-same-length
 same-length c = search needs
@@ -83,7 +83,7 @@ returns-3 c =
     let searched = told .before .before in
     let short = searched .before in
     let start = short .before .before .before .before .before in
-    judge-done (start .pre) (start .args .input .now) (short .if1 .left) (searched .first-unknown .ensures) (told .enum-told .given .1)
+    judge-done (start .pre) (start .args .events .now) (short .if1 .left) (searched .first-unknown .ensures) (told .enum-told .given .1)
     (lent .lend .ensures) (run .descend .ensures)
 
 pub judge-passed-spec : {M : Type 1} → statement M
