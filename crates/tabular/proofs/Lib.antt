@@ -6,3 +6,5 @@ pub mod RuleRanks
 pub mod Turns
 pub mod Writing
 pub mod Tabulating
+pub mod Rows
+pub mod Judged

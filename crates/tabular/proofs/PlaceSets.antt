@@ -16,7 +16,9 @@ use Rattle.grammar.specs.Limits.{maxTerminals, maxTabularPlaces, maxNonterminal
 use Rattle.lookahead.specs.Elements.{has}
 use Rattle.lookahead.proofs.Elements.{has-or, has-zero}
 use Rattle.lookahead.proofs.Powers.{has-pow}
-use Rattle.tabular.specs.Places.{Put, Standing}
+use Rattle.event.specs.Events.{terminalOf, inputOf}
+use Rattle.event.proofs.Inputs.{input-length, input-at}
+use Rattle.tabular.specs.Places.{Put, Standing, InputGiven}
 
 -- a place's weight, and a nonterminal's
 pub weight-64 : (k : ℕ) → k < maxTabularPlaces → 1 * 2 ^ k % 2 ^ 64 ≡ 2 ^ k
@@ -50,9 +52,9 @@ standing-start w n e = record {
   at = λ a k h. rw (getD-replicate {A = ℕ} n a 0 0 (omega arith), le-ltb k 0 (omega arith)) (has-zero k);
 }
 
-pub standing-more : {w l l′ : List ℕ} {i r : ℕ} → StandingTo w l i → i < length w → getD w i 0 < maxTerminals
+one-more : {w l l′ : List ℕ} {i r : ℕ} → StandingTo w l i → i < length w → getD w i 0 < maxTerminals
     → Put (getD l (getD w i 0) 0) i true r → l′ ≡ set l (getD w i 0) r → StandingTo w l′ (i + 1)
-standing-more {w} {l} {l′} {i} {r} h o t g e = record {
+one-more {w} {l} {l′} {i} {r} h o t g e = record {
   long = rw (e, length-set l (getD w i 0) r) (h .long);
   within = omega arith;
   at = λ a k b. rw (e, add-one) (go a k b (ℕ-discrete a (getD w i 0)) (ℕ-discrete k i));
@@ -74,6 +76,18 @@ standing-more {w} {l} {l′} {i} {r} h o t g e = record {
         rw (getD-set-other l (getD w i 0) a r 0 p, h .at a k b, le-ltb k i (omega arith), lt-ltb k (suc i) (omega arith))
         (sym (ne-eqb (getD w k 0) a (λ d. p (sym d ∙ ap (λ (n : ℕ). getD w n 0) q))))
     go a k b (no p) (no q) = rw (getD-set-other l (getD w i 0) a r 0 p, h .at a k b, later k q)
+
+-- the same of events
+module _ (events : List ℕ) (g : InputGiven (inputOf events)) {i : ℕ} (o : i < length events) {a : ℕ} (t : a ≡ terminalOf (getD events i 0)) where
+  its-token : a ≡ getD (inputOf events) i 0
+  its-token = t ∙ sym (input-at events i)
+
+  pub terminal-low : a < maxTerminals
+  terminal-low = rw its-token (g .terminals i (omega (arith, input-length events)))
+
+  pub standing-more : {l l′ : List ℕ} {r : ℕ} → StandingTo (inputOf events) l i → Put (getD l a 0) i true r → l′ ≡ set l a r
+      → StandingTo (inputOf events) l′ (i + 1)
+  standing-more h p e = one-more h (omega (arith, input-length events)) (rw its-token at terminal-low) (rw its-token at p) (rw its-token at e)
 
 pub standing-end : {w l : List ℕ} {i : ℕ} → StandingTo w l i → length w ≤ i → Standing w l
 standing-end {w} {l} {i} h o = let e : i ≡ length w = omega (arith, h .within) in record { at = λ a k b. rw e at (h .at a k b) }

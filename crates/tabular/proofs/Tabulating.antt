@@ -33,10 +33,10 @@ module _ {words w chart : List ℕ} {z : Sizes} (read : reading words ≡ Read z
       rw (well-read words z read .nonterminals)
       (total-cong (grammarOf words .nonterminals) (λ A. charted chart A i j) (λ A. solution (grammarOf words) w A i j) (λ A a. f .right A i j a h k))
 
-  pub tabulated : {before after : List ℕ} {r : Bool} → Spans (length w) (wordAt chart (z .nonterminals)) before after → r ≡ has (getD chart (length w) 0) 0
-      → Tabulated words w before r after
-  tabulated {before} {after} m e = record {
-    verdict = verdict-right e;
-    memory = m ∙ ap (_++ drop (spanCount (length w)) before)
+  pub tabulated : {tokens : ℕ} {before after : List ℕ} {r : Bool} → tokens ≡ length w → Spans tokens (wordAt chart (z .nonterminals)) before after
+      → r ≡ has (getD chart tokens 0) 0 → Tabulated words w before r after
+  tabulated {tokens} {before} {after} n m e = record {
+    verdict = verdict-right (rw n at e);
+    memory = rw n at m ∙ ap (_++ drop (spanCount (length w)) before)
         (words-cong (length w) (wordAt chart (z .nonterminals)) (solutionWord (grammarOf words) w) word-right);
   }

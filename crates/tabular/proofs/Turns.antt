@@ -91,9 +91,11 @@ module _ {words starts ranks chart : List ℕ} {z : Sizes} (g : FillingGiven wor
       where
         agree : AgreeBelow (grammarOf words) (charted chart₁) (solution (grammarOf words) w) A start end
         agree B k m b sk km me h =
-            let q = f .right B k m b km (omega arith) (earlier A e B k m b sk km me h) in
-            (q, λ km′ t. solution-null (grammarOf words) scoped (g .free) w (solution (grammarOf words) w)
-            (solution-solves (grammarOf words) scoped (g .free) w) B k m b km (omega arith) (rw q at t) km′)
+            let q = f .right B k m b km (omega arith) (earlier A e B k m b sk km me h) in (
+              q,
+              λ km′ t. solution-null (grammarOf words) scoped (g .free) w (solution (grammarOf words) w)
+                  (solution-solves (grammarOf words) scoped (g .free) w) B k m b km (omega arith) (rw q at t) km′,
+            )
 
     -- nonterminals of other ranks are not told
     untold : (A : ℕ) → (rank (grammarOf words) A ≡ r → ⊥) → has found A ≡ false

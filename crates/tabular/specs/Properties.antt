@@ -15,6 +15,7 @@ use Rattle.grammar.specs.Syntax.{Grammar}
 use Rattle.grammar.specs.Encoding.{grammarOf}
 use Rattle.encoding.specs.Encode.{Encodes}
 use Rattle.encoding.specs.Faithful.{FaithfulReading}
+use Rattle.event.specs.Events.{inputOf}
 use Rattle.lookahead.specs.Elements.{has}
 use Rattle.semantics.specs.Valuations.{Valuation, Solves}
 use Rattle.semantics.specs.LeftRecursion.{NoLeftRecursion}
@@ -52,7 +53,7 @@ pub record Tabulates (words input : List ℕ) (r : Answer) (after : List ℕ) : 
   pub descent : PassedGrammar words → (table memo table′ memo′ : List ℕ) (d : Answer) → Judges words input table memo d table′ memo′
       → maxTableWords ≤ length table → maxMemoEntries ≤ length memo → numbers d .verdict ≡ numbers r .verdict
 
--- judging an input with lent words for its spans
+-- judging an input with lent words for its spans. The input is what the events of the lent log are (`inputOf`)
 pub record TabularJudges (words input before : List ℕ) (r : Answer) (after : List ℕ) : Type 0 where
   -- the refusals 3 to 7, and the grammar of the words, are told without the reading that finds them
   pub faithful : FaithfulReading words
@@ -66,3 +67,9 @@ pub record TabularJudges (words input before : List ℕ) (r : Answer) (after : L
   pub conflictless : (A c : ℕ) → r ≡ Refused (Conflict A c) → ⊥
   -- where the lent words are enough, each grammar without left recursion and each input of its terminals that is short enough is judged by its one meaning
   pub tabulates : maxSpanWords ≤ length before → FreeGrammar words → ShortInput words input → Tabulates words input r after
+
+-- two calls alike but for the directions in their events get the same answer and leave the same words
+abbrev pub DirectionsIgnored : Type 0
+DirectionsIgnored =
+    (words events turned spans : List ℕ) (r s : Answer) (spans′ spans″ : List ℕ) → inputOf events ≡ inputOf turned
+    → TabularJudges words (inputOf events) spans r spans′ → TabularJudges words (inputOf turned) spans s spans″ → (r ≡ s) × (spans′ ≡ spans″)

@@ -72,13 +72,7 @@ pub(crate) fn word_at(chart: &[u64; CHART], nonterminals: u32, start: usize, end
 }
 
 // The chart gives a span to the nonterminals of a word too.
-pub(crate) fn add(
-    chart: &mut [u64; CHART],
-    nonterminals: u32,
-    start: usize,
-    end: usize,
-    word: u32,
-)
+pub(crate) fn add(chart: &mut [u64; CHART], nonterminals: u32, start: usize, end: usize, word: u32)
     requires { ⌜ AddGiven (now chart) nonterminals start end ⌝ }
     ensures { λ _. ⌜ Added (now (chart .entry)) nonterminals start end word (now (chart .exit)) ⌝ }
 {

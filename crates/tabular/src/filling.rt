@@ -122,12 +122,26 @@ fn fill_length(
 {
     let mut start = 0;
     while start + length <= tokens {
-        settle(words, starts, ranks, sizes, stands, chart, start, start + length);
+        settle(
+            words,
+            starts,
+            ranks,
+            sizes,
+            stands,
+            chart,
+            start,
+            start + length,
+        );
         start = start + 1;
     }
 }
 
-pub(crate) fn fill(words: &[u32], sizes: Sizes, reaches: &[u32; SETS], events: &[u8]) -> [u64; CHART]
+pub(crate) fn fill(
+    words: &[u32],
+    sizes: Sizes,
+    reaches: &[u32; SETS],
+    events: &[u8],
+) -> [u64; CHART]
     requires { ⌜ FillGiven (now words) sizes (now reaches) (inputOf (now events)) ⌝ }
     ensures { λ r. ⌜ Filled (now (words .entry)) (inputOf (now (events .entry))) r ⌝ }
 {
@@ -137,7 +151,16 @@ pub(crate) fn fill(words: &[u32], sizes: Sizes, reaches: &[u32; SETS], events: &
     let mut chart = [0u64; CHART];
     let mut length = 0;
     while length <= events.len() {
-        fill_length(words, &starts, &ranks, sizes, &stands, &mut chart, events.len(), length);
+        fill_length(
+            words,
+            &starts,
+            &ranks,
+            sizes,
+            &stands,
+            &mut chart,
+            events.len(),
+            length,
+        );
         length = length + 1;
     }
     chart

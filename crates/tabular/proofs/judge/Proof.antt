@@ -1,42 +1,34 @@
+-- What judging answers, by the length of the lent words and by what is found of the grammar.
 use borrow.Author.Needs.{needs}
+use Rattle.event.specs.Events.{inputOf}
+use Rattle.sets.proofs.Findings.{families-told, families-refused}
+use Rattle.tabular.proofs.Judged.{judge-short, judge-faulty, found-reaches}
 use Rattle.tabular.proofs.judge.Statement.{statement}
 use Rattle.tabular.proofs.judge.Tie as tie
-use Rattle.tabular.proofs.judge.Reads as reads
-use Rattle.tabular.proofs.judge.Lts as lts
-use Rattle.sets.proofs.analyze.Reads as analyze-reads
-use Rattle.tabular.proofs.judge_passed.Reads as judge-passed-reads
 
--- src/lib.rt:84:9
 returns : tie.Need-returns
-returns c = ?
+returns c = judge-short (c .before .before .before .before .args .words .now) (inputOf (c .before .before .before .before .args .events .now)) (c .before .before .before .before .args .spans .now) (c .if1 .taken)
 
--- src/lib.rt:86:20
 analyze-requires : tie.Need-analyze-requires
 analyze-requires c κs = search needs
 
--- src/lib.rt:89:26
 enum-known-finding : tie.Need-enum-known-finding
 enum-known-finding c = search needs
 
--- src/lib.rt:90:25
 enum-known-finding-2 : tie.Need-enum-known-finding-2
 enum-known-finding-2 c = search needs
 
--- src/lib.rt:90:35
 judge-passed-requires : tie.Need-judge-passed-requires
-judge-passed-requires c κs = ?
+judge-passed-requires c κs = let found = families-told (c .before .before .before .before .before .before .before .before .before .before .before .args .words .now) (c .before .before .before .before .before .before .analyze .ensures) (c .before .before .before .before .finding2 .given .1) in record { read = found .read; faultless = found .faultless; reached = found-reaches (c .before .before .before .before .before .before .before .before .before .before .before .args .words .now) (c .before .before .before .before .before .before .analyze .ensures) (found .faultless); room = c .before .before .before .before .before .before .before .if1 .left }
 
--- src/lib.rt:80:1
 returns-2 : tie.Need-returns-2
-returns-2 c = ?
+returns-2 c = judge-faulty (c .before .before .before .before .before .before .before .before .args .words .now) (inputOf (c .before .before .before .before .before .before .before .before .args .events .now)) (c .before .before .before .before .before .before .before .before .args .spans .now) (c .before .before .before .before .if1 .left) (families-refused (c .before .before .before .before .before .before .before .before .args .words .now) (c .before .before .before .analyze .ensures) (c .before .finding .given .1))
 
--- src/lib.rt:80:1
 same-length : tie.Need-same-length
 same-length c = search needs
 
--- src/lib.rt:80:1
 returns-3 : tie.Need-returns-3
-returns-3 c = search needs
+returns-3 c = c .before .before .judge-passed .ensures
 
 pub judge-spec : {M : Type 1} → statement M
 judge-spec =

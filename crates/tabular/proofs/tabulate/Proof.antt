@@ -1,39 +1,33 @@
+-- The chart is filled and written out.
+use mathlib.Core.Path.{sym}
+use native.Mathlib.Omega.{arith}
+use Rattle.event.proofs.Inputs.{input-length}
+use Rattle.grammar.proofs.WellRead.{well-read}
 use borrow.Author.Needs.{needs}
+use Rattle.tabular.proofs.Tabulating.{tabulated}
 use Rattle.tabular.proofs.tabulate.Statement.{statement}
 use Rattle.tabular.proofs.tabulate.Tie as tie
-use Rattle.tabular.proofs.tabulate.Reads as reads
-use Rattle.tabular.proofs.tabulate.Lts as lts
-use Rattle.tabular.proofs.filling.fill.Reads as fill-reads
-use Rattle.tabular.proofs.places.contains.Reads as contains-reads
-use Rattle.tabular.proofs.spans.write.Reads as write-reads
 
--- src/lib.rt:39:17
 fill-requires : tie.Need-fill-requires
 fill-requires c κs = search needs
 
--- src/lib.rt:40:5
 write-requires : tie.Need-write-requires
-write-requires c κs = ?
+write-requires c κs = let g = c .before .before .before .before .before .before .pre in record { few = well-read _ _ (g .given .read) .fewNonterminals; short = omega (arith, g .given .input .short, input-length (c .before .before .before .before .before .before .args .events .now)); room = g .room }
 
--- src/lib.rt:41:14
 mul-contains : tie.Need-mul-contains
-mul-contains c = search needs
+mul-contains c = omega (arith, c .before .before .before .before .before .before .before .before .before .pre .given .input .short, input-length (c .before .before .before .before .before .before .before .before .before .args .events .now))
 
--- src/lib.rt:41:14
 array-read-contains : tie.Need-array-read-contains
-array-read-contains c = search needs
+array-read-contains c = omega (arith, c .before .before .before .before .before .before .before .before .before .pre .given .input .short, input-length (c .before .before .before .before .before .before .before .before .before .args .events .now))
 
--- src/lib.rt:41:5
 contains-requires : tie.Need-contains-requires
 contains-requires c κs = search needs
 
--- src/lib.rt:29:1
 same-length : tie.Need-same-length
 same-length c = search needs
 
--- src/lib.rt:29:1
 returns : tie.Need-returns
-returns c = ?
+returns c = tabulated (c .before .before .before .before .before .before .before .before .before .before .pre .given .read) (c .before .before .before .before .before .before .fill .ensures) (sym (input-length (c .before .before .before .before .before .before .before .before .before .before .args .events .now))) (c .before .before .before .write .ensures) (c .contains .ensures)
 
 pub tabulate-spec : {M : Type 1} → statement M
 tabulate-spec =

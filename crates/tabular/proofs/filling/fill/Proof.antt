@@ -2,6 +2,8 @@
 use Prim.Native.Nat.{ℕ, suc, _-_, _≤_}
 use native.Mathlib.Omega.{arith}
 use lib.ListN.{length as List·length, length-replicate}
+use Rattle.event.specs.Events.{inputOf}
+use Rattle.event.proofs.Inputs.{input-length}
 use Rattle.grammar.specs.Encoding.{grammarOf}
 use Rattle.tabular.specs.Chart.{Long}
 use Rattle.tabular.specs.Filling.{turn, FilledTo}
@@ -10,10 +12,10 @@ use Rattle.tabular.proofs.filling.fill.Statement.{statement}
 use Rattle.tabular.proofs.filling.fill.Tie as tie
 
 abbrev Inv-loop : tie.InvT-loop
-Inv-loop words sizes reaches input starts ranks stands chart₀ length₀ chart length = (length ≤ suc (List·length input)) × Long chart × FilledTo (grammarOf words) input (turn 0 length 0) chart
+Inv-loop words sizes reaches events starts ranks stands chart₀ length₀ chart length = (length ≤ suc (List·length events)) × Long chart × FilledTo (grammarOf words) (inputOf events) (turn 0 length 0) chart
 
 abbrev μ-loop : tie.MeasureT-loop
-μ-loop words sizes reaches input starts ranks stands chart₀ length₀ chart length = suc (List·length input) - length
+μ-loop words sizes reaches events starts ranks stands chart₀ length₀ chart length = suc (List·length events) - length
 
 rule-starts-requires : tie.Need-rule-starts-requires Inv-loop μ-loop
 rule-starts-requires c κs = tt
@@ -28,19 +30,19 @@ loop-holds : tie.Need-loop-holds Inv-loop μ-loop
 loop-holds c = (omega arith, length-replicate {A = ℕ} 1568 0, filled-start _ _ 1568)
 
 fill-length-requires : tie.Need-fill-length-requires Inv-loop μ-loop
-fill-length-requires c κs = record { given = record { rules = record { read = c .before .before .before .before .before .before .before .before .before .before .before .before .pre .read; begins = c .before .before .before .before .before .before .before .before .before .rule-starts .ensures }; ranked = c .before .before .before .before .before .before .before .ranks-of .ensures; free = c .before .before .before .before .before .before .before .before .before .before .before .before .pre .free; long = c .before .before .before .before .before .loop .inv .1 }; short = c .before .before .before .before .before .before .before .before .before .before .before .before .pre .input .short; within = omega (arith, c .before .before .before .before .loop-test .taken) }
+fill-length-requires c κs = record { given = record { rules = record { read = c .before .before .before .before .before .before .before .before .before .before .before .before .pre .read; begins = c .before .before .before .before .before .before .before .before .before .rule-starts .ensures }; ranked = c .before .before .before .before .before .before .before .ranks-of .ensures; free = c .before .before .before .before .before .before .before .before .before .before .before .before .pre .free; long = c .before .before .before .before .before .loop .inv .1 }; short = omega (arith, c .before .before .before .before .before .before .before .before .before .before .before .before .pre .input .short, input-length (c .before .before .before .before .before .before .before .before .before .before .before .before .args .events .now)); within = omega (arith, c .before .before .before .before .loop-test .taken) }
 
 add-length : tie.Need-add-length Inv-loop μ-loop
-add-length c = omega (arith, c .before .before .before .before .before .loop-test .taken, c .before .before .before .before .before .before .before .before .before .before .before .before .before .pre .input .short)
+add-length c = omega (arith, c .before .before .before .before .before .loop-test .taken, c .before .before .before .before .before .before .before .before .before .before .before .before .before .pre .input .short, input-length (c .before .before .before .before .before .before .before .before .before .before .before .before .before .args .events .now))
 
 loop-less : tie.Need-loop-less Inv-loop μ-loop
 loop-less c = omega (arith, c .before .before .before .before .before .loop-test .taken)
 
 loop-again : tie.Need-loop-again Inv-loop μ-loop
-loop-again c = let e = c .fill-length .ensures in (omega (arith, c .before .before .before .before .before .loop-test .taken), e .long, e .filled (c .before .before .before .before .before .before .before .before .before .before .before .before .before .args .input .now) (c .before .before .before .before .before .before .before .standing .ensures) (omega arith) (omega arith) (c .before .before .before .before .before .before .loop .inv .2))
+loop-again c = let e = c .fill-length .ensures in (omega (arith, c .before .before .before .before .before .loop-test .taken), e .long, e .filled (inputOf (c .before .before .before .before .before .before .before .before .before .before .before .before .before .args .events .now)) (c .before .before .before .before .before .before .before .standing .ensures) (omega (arith, input-length (c .before .before .before .before .before .before .before .before .before .before .before .before .before .args .events .now))) (omega (arith, input-length (c .before .before .before .before .before .before .before .before .before .before .before .before .before .args .events .now))) (c .before .before .before .before .before .before .loop .inv .2))
 
 returns : tie.Need-returns Inv-loop μ-loop
-returns c = filled (record { rules = record { read = c .before .before .before .before .before .before .before .before .pre .read; begins = c .before .before .before .before .before .rule-starts .ensures }; ranked = c .before .before .before .ranks-of .ensures; free = c .before .before .before .before .before .before .before .before .pre .free; long = c .before .loop .inv .1 }) (c .loop-test .left) (c .before .before .before .before .before .before .before .before .pre .input .short) (c .before .loop .inv .2)
+returns c = filled (record { rules = record { read = c .before .before .before .before .before .before .before .before .pre .read; begins = c .before .before .before .before .before .rule-starts .ensures }; ranked = c .before .before .before .ranks-of .ensures; free = c .before .before .before .before .before .before .before .before .pre .free; long = c .before .loop .inv .1 }) (omega (arith, c .loop-test .left, input-length (c .before .before .before .before .before .before .before .before .args .events .now))) (c .before .before .before .before .before .before .before .before .pre .input .short) (c .before .loop .inv .2)
 
 pub fill-spec : {M : Type 1} → statement M
 fill-spec =
