@@ -133,6 +133,11 @@ def judge(card, log, table, memo):
     return call('judge', card, log, table, memo)
 
 
+def judge_plain(card, log, spans):
+    """Judges a log by a card plainly and fills the words of the stretches."""
+    return call('judge_plain', card, log, spans)
+
+
 # Memory to lend, as much as each call asks for
 
 def table(fill=0):
@@ -141,3 +146,15 @@ def table(fill=0):
 
 def memo(fill=0):
     return array('H', [fill]) * constants()['MEMO_ENTRIES']
+
+
+def spans(fill=0):
+    return array('I', [fill]) * constants()['SPAN_WORDS']
+
+
+# What lent memory holds
+
+def span_words(spans, length):
+    """The words of the stretches of a log of so many events, by their start and their end."""
+    stretches = [(start, end) for start in range(length + 1) for end in range(start, length + 1)]
+    return dict(zip(stretches, spans))
