@@ -1,4 +1,4 @@
-//! The proved library's two calls, as the static library exports them, behind safe functions.
+//! The proved library's calls, as the static library exports them, behind safe functions.
 
 use compare::twin::{Outcome, Verdict};
 
@@ -13,6 +13,14 @@ extern "C" {
         table_len: usize,
         memo: *mut u16,
         memo_len: usize,
+    ) -> u64;
+    fn vinegarspit_judge_plain(
+        card: *const u32,
+        card_len: usize,
+        log: *const u8,
+        log_len: usize,
+        spans: *mut u32,
+        spans_len: usize,
     ) -> u64;
 }
 
@@ -35,6 +43,11 @@ pub fn judge(words: &[u32], input: &[u8], table: &mut [u32], memo: &mut [u16]) -
             memo.len(),
         )
     }
+}
+
+pub fn judge_plain(words: &[u32], input: &[u8], spans: &mut [u32]) -> u64 {
+    // Sound: as above.
+    unsafe { vinegarspit_judge_plain(words.as_ptr(), words.len(), input.as_ptr(), input.len(), spans.as_mut_ptr(), spans.len()) }
 }
 
 /// The answer that the library packs an outcome into.

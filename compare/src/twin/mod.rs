@@ -6,11 +6,12 @@ mod descent;
 mod limits;
 mod lookahead;
 mod one;
+mod plain;
 mod sets;
 mod table;
 mod words;
 
 pub use answers::{Outcome, Refusal, Verdict};
-pub use calls::{check, judge};
+pub use calls::{check, judge, judge_plain};
 pub use limits::*;
 pub use words::{Grammar, Symbol};

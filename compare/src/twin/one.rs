@@ -38,10 +38,7 @@ pub struct Passed {
 impl Passed {
     /// The grammar of these words, or why it is refused (codes 3 to 9).
     pub fn check(words: &[u32]) -> Result<Passed, Refusal> {
-        let grammar = Grammar::read(words)?;
-        if let Some(nonterminal) = grammar.left_recursive() {
-            return Err(Refusal(8, nonterminal));
-        }
+        let grammar = Grammar::read_free(words)?;
         let sets = grammar.sets();
         let table = grammar.table(&sets);
         match table.clash(|string| column(string, grammar.terminals)) {
