@@ -83,10 +83,10 @@ uint64_t vinegarspit_judge(const uint32_t *card, size_t card_len, const uint8_t 
  * REFUSED: nothing is written. The first of these that holds:
  *   12  spans_len is under 1,225                                     0
  *       3 to 8, as by a check
- *       10  log_len is over 48
+ *       10, where log_len is over 48
  *       11, as by judging
  *
- * Nothing nests: some 20 KiB of stack are enough. */
+ * Nothing nests: 64 KiB of stack are enough. */
 uint64_t vinegarspit_judge_plain(const uint32_t *card, size_t card_len, const uint8_t *log, size_t log_len, uint32_t *spans, size_t spans_len);
 
 /* The parts of an answer. */
