@@ -20,8 +20,8 @@ use sets::analyze;
 use sets::family::SETS;
 use spans::write;
 
-pub mod bodies;
-pub mod chart;
+mod bodies;
+mod chart;
 mod filling;
 mod places;
 mod spans;
