@@ -264,7 +264,7 @@ def events(grammar, text):
             written.append(word)
             continue
         for at, letter in enumerate(word):
-            if letter == WESTWARD and at and letter not in grammar.terminals:
+            if letter == WESTWARD and at:
                 written[-1] += letter
             else:
                 written.append(letter)
@@ -273,10 +273,10 @@ def events(grammar, text):
 
 def event_of(grammar, written):
     """The byte of an event, or None where it is of no letter."""
-    if written in grammar.terminals:
-        return grammar.terminals.index(written)
     letter = written.removesuffix(WESTWARD)
-    return grammar.terminals.index(letter) + DIRECTION if letter in grammar.terminals else None
+    if letter not in grammar.terminals:
+        return None
+    return grammar.terminals.index(letter) + (DIRECTION if letter != written else 0)
 
 
 def unknown_event(grammar, at, written):
