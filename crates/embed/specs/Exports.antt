@@ -21,7 +21,7 @@ pub record JudgeExported (words input table memo : List ℕ) (r : ℕ) (table′
   pub packs : r ≡ packed (numbers answer)
   pub unpacks : Unpacks r (numbers answer)
 
-pub record PlainExported (words input before : List ℕ) (r : ℕ) (after : List ℕ) : Type 0 where
+pub record TabularExported (words input before : List ℕ) (r : ℕ) (after : List ℕ) : Type 0 where
   pub answer : Answer
   pub judges : TabularJudges words input before answer after
   pub packs : r ≡ packed (numbers answer)
