@@ -53,7 +53,7 @@ use Rattle.tabular.specs.Spans.{indexOf, spanWords, solutionWord}
 use Rattle.tabular.specs.Answers.{tabularFault, noCalls, told, tabularVerdict, tabularNumbers, tabularWords}
 use Rattle.tabular.specs.Judging.{TabulateGiven, Tabulated, PassedGiven}
 use Rattle.tabular.specs.Properties.{FreeGrammar, ShortInput, Tabulates, TabularJudges, DirectionsIgnored}
-use Rattle.tabular.proofs.Rows.{spans-short, fault-long, too-long, unknown-token, no-fault, fault-other}
+use Rattle.tabular.proofs.TabularFaults.{spans-short, fault-long, too-long, unknown-token, no-fault, fault-other}
 use Rattle.tabular.proofs.Writing.{index-low, words-long, words-at}
 
 -- a grammar that is taken is the one that is read, so the promises are about that
