@@ -46,7 +46,8 @@ use Rattle.sets.specs.Lists.{listed}
 use Rattle.sets.specs.Sets.{reachNumber}
 use Rattle.sets.specs.declared.Families.{Families}
 use Rattle.recognizer.specs.Memory.{lentBack}
-use Rattle.recognizer.specs.Properties.{PassedGrammar, LowestRecursive, Readable, Judges}
+use Rattle.recognizer.specs.Properties.{PassedGrammar, Judges}
+use Rattle.recognizer.proofs.Checking.{none-left}
 use Rattle.recognizer.proofs.Meaning.{verdict-tells}
 use Rattle.recognizer.proofs.Places.{judge-tells}
 use Rattle.tabular.specs.Spans.{indexOf, spanWords, solutionWord}
@@ -76,10 +77,6 @@ module _ (words : List ℕ) (p : FreeGrammar words) where
       )
 
 -- without a fault there is no left recursion
-none-left : (o : Option ℕ) → leftFault o ≡ none → o ≡ none
-none-left none e = refl
-none-left (some A) e = absurd (omega (arith, fault-number e))
-
 faultless-free : (words : List ℕ) (z : Sizes) → reading words ≡ Read z → setsFault words ≡ none → NoLeftRecursion (grammarOf words)
 unfolding setsFault
 faultless-free words z r e =

@@ -1,5 +1,5 @@
 -- The order of the faults of judging by tabulation: which is the first, by what holds; and that none is a conflict.
-use mathlib.Core.Path.{_≡_, refl, sym, ap, _∙_}
+use mathlib.Core.Path.{_≡_, refl, sym, _∙_}
 use mathlib.Core.Bool.{Bool, true, false}
 use mathlib.Core.List.{List, [], _∷_}
 use mathlib.Core.Option.{Option, none, some}
@@ -9,7 +9,7 @@ use lib.Dec.{ltb}
 use lib.ListN.{length}
 use borrow.Author.Tests.{lt-ltb, le-ltb}
 use Rattle.answer.specs.declared.Error.{Error}
-use Rattle.answer.specs.declared.Error.the-variants.{Length, Heading, UnexpectedWord, OutOfRange, TooManyRules, LeftRecursive, InputTooLong, UnknownToken, SpansTooShort}
+use Rattle.answer.specs.declared.Error.the-variants.{Length, Heading, LeftRecursive, InputTooLong, UnknownToken, SpansTooShort}
 use Rattle.answer.specs.Numbers.{coded}
 use Rattle.answer.specs.Faults.{faultIf, firstFault}
 use Rattle.answer.proofs.Faults.{none-some, first-nested, first-each}
@@ -20,7 +20,6 @@ use Rattle.grammar.specs.Limits.{maxTabularTokens, maxSpanWords}
 use Rattle.grammar.specs.Encoding.{grammarOf}
 use Rattle.grammar.specs.Reading.{reading}
 use Rattle.grammar.specs.declared.reading.Outcome.{Outcome}
-use Rattle.grammar.specs.declared.reading.Outcome.the-variants.{Read, Faulty}
 use Rattle.encoding.specs.Diagnosis.{WordFault, unexpected, outOfRange, tooMany, Diagnosis, long, heading, behind, encoding}
 use Rattle.encoding.proofs.Faithful.{reading-diagnosed}
 use Rattle.semantics.specs.LeftRecursion.{lowestLeftRecursive}
