@@ -12,7 +12,7 @@ enum-known-word : tie.Need-enum-known-word
 enum-known-word c = c .match .keys1
 
 symbol-onto-requires : tie.Need-symbol-onto-requires
-symbol-onto-requires c κs = let start = c .before .before .before in record { known = rw (c .before .word .given .1) at (start .pre .known); span = start .pre .span }
+symbol-onto-requires c κs = record { known = rw (c .before .word .given .1) at (c .before .before .before .pre .known); span = c .before .before .before .pre .span }
 
 enum-told : tie.Need-enum-told
 enum-told c = c .match .keys2
@@ -35,8 +35,14 @@ kept-negative-requires c κs = tt
 enum-told-3 : tie.Need-enum-told-3
 enum-told-3 c = c .match .keys4
 
+none-open-requires : tie.Need-none-open-requires
+none-open-requires c κs = c .before .before .pre .span .short
+
 enum-told-4 : tie.Need-enum-told-4
 enum-told-4 c = c .match .keys5
+
+none-open-requires-2 : tie.Need-none-open-requires-2
+none-open-requires-2 c κs = c .before .before .pre .span .short
 
 enum-told-5 : tie.Need-enum-told-5
 enum-told-5 c = c .match .keys6
@@ -54,10 +60,10 @@ returns-3 : tie.Need-returns-3
 returns-3 c = by-negative (c .before .before .enum-told2 .given .1) (weight-64 _ (c .before .before .before .before .pre .span .short)) (c .before .contains2 .ensures) (c .kept-negative .ensures)
 
 returns-4 : tie.Need-returns-4
-returns-4 c = by-rule (c .enum-told3 .given .1) (weight-64 _ (c .before .before .pre .span .short))
+returns-4 c = by-rule (c .before .enum-told3 .given .1) (c .none-open .ensures)
 
 returns-5 : tie.Need-returns-5
-returns-5 c = by-end (c .enum-told4 .given .1) (weight-64 _ (c .before .before .pre .span .short))
+returns-5 c = by-end (c .before .enum-told4 .given .1) (c .none-open2 .ensures)
 
 returns-6 : tie.Need-returns-6
 returns-6 c = by-heading (c .enum-told5 .given .1)
@@ -79,7 +85,9 @@ onto-spec =
     contains-requires-2
     kept-negative-requires
     enum-told-3
+    none-open-requires
     enum-told-4
+    none-open-requires-2
     enum-told-5
     enum-told-6
     returns
