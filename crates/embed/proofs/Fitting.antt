@@ -34,8 +34,8 @@ use Rattle.embed.specs.Packing.{Fit, NumbersFit, joined, packed, Unpacks
 use Rattle.tabular.specs.Answers.{tabularFault, noCalls, told, tabularVerdict}
 use Rattle.tabular.specs.Properties.{TabularJudges}
 use Rattle.embed.specs.Records.{countersOf, usageIn}
-use Rattle.embed.specs.Exports.{CheckExported, JudgeExported, RecordedExported, PlainExported}
-use Rattle.embed.proofs.Places.{Low, check-low, judge-low, plain-low}
+use Rattle.embed.specs.Exports.{CheckExported, JudgeExported, RecordedExported, TabularExported}
+use Rattle.embed.proofs.Places.{Low, check-low, judge-low, tabular-low}
 
 code-low : (e : Error) → coded e .code < 256
 code-low TableTooShort = omega arith
@@ -107,10 +107,10 @@ judge-fits {words} {input} {table} {memo} {table′} {memo′} {a} j =
     go (some x) e l = refused-fits x (l x refl)
 
 -- one by tabulation
-pub plain-fits : {words input before after : List ℕ} {a : Answer} → TabularJudges words input before a after → NumbersFit (numbers a)
+pub tabular-fits : {words input before after : List ℕ} {a : Answer} → TabularJudges words input before a after → NumbersFit (numbers a)
 unfolding tabularVerdict
-plain-fits {words} {input} {before} {after} {a} j =
-    rw (j .answer) (go (tabularFault (length before) words input) (solution (grammarOf words) input 0 0 (length input)) (plain-low (length before) words input))
+tabular-fits {words} {input} {before} {after} {a} j =
+    rw (j .answer) (go (tabularFault (length before) words input) (solution (grammarOf words) input 0 0 (length input)) (tabular-low (length before) words input))
   where
     go : (f : Option Error) (b : Bool) → ((x : Error) → f ≡ some x → Low maxWords x) → NumbersFit (numbers (refusedOr f (told b)))
     go none b l = verdict-fits b noCalls (omega arith, omega arith)
@@ -181,6 +181,6 @@ recorded-exported {x = x} h c w e = record {
   unpacks = unpacks (numbers (x .answer)) (judge-fits (c .judges)) e;
 }
 
-pub plain-exported : {words input before after : List ℕ} {a : Answer} {r : ℕ} → TabularJudges words input before a after → r ≡ packed (numbers a)
-    → PlainExported words input before r after
-plain-exported {a = a} j e = record { answer = a; judges = j; packs = e; unpacks = unpacks (numbers a) (plain-fits j) e }
+pub tabular-exported : {words input before after : List ℕ} {a : Answer} {r : ℕ} → TabularJudges words input before a after → r ≡ packed (numbers a)
+    → TabularExported words input before r after
+tabular-exported {a = a} j e = record { answer = a; judges = j; packs = e; unpacks = unpacks (numbers a) (tabular-fits j) e }

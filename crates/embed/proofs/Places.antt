@@ -140,9 +140,9 @@ judge-low table memo words input =
       ),
     )
 
-pub plain-low : (spans : ℕ) (words input : List ℕ) (e : Error) → tabularFault spans words input ≡ some e → Low maxWords e
+pub tabular-low : (spans : ℕ) (words input : List ℕ) (e : Error) → tabularFault spans words input ≡ some e → Low maxWords e
 unfolding tabularFault
-plain-low spans words input =
+tabular-low spans words input =
     let long = faultIf (ltb maxTabularTokens (length input)) InputTooLong in
     let unknown = unknownFault (unknownFrom (grammarOf words .terminals) 0 input) in
     first-each (Low maxWords) (faultIf (ltb spans maxSpanWords) SpansTooShort ∷ setsFaults words ++ long ∷ unknown ∷ []) (

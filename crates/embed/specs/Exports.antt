@@ -32,7 +32,7 @@ pub record RecordedExported (words input table memo counters : List ℕ) (r : �
   pub packs : r ≡ packed (numbers (recorded .answer))
   pub unpacks : Unpacks r (numbers (recorded .answer))
 
-pub record PlainExported (words input before : List ℕ) (r : ℕ) (after : List ℕ) : Type 0 where
+pub record TabularExported (words input before : List ℕ) (r : ℕ) (after : List ℕ) : Type 0 where
   pub answer : Answer
   pub judges : TabularJudges words input before answer after
   pub packs : r ≡ packed (numbers answer)

@@ -3,7 +3,7 @@ ghost use mathlib.Core.Path.{_≡_};
 ghost use Rattle.answer.specs.Numbers.{numbers};
 ghost use Rattle.event.specs.Events.{inputOf};
 ghost use Rattle.embed.specs.Packing.{Fit, NumbersFit, joined, packed};
-ghost use Rattle.embed.specs.Exports.{CheckExported, JudgeExported, PlainExported};
+ghost use Rattle.embed.specs.Exports.{CheckExported, JudgeExported, TabularExported};
 use answer::Answer;
 use answer::code;
 use answer::position;
@@ -56,7 +56,7 @@ pub extern "C" fn vinegarspit_judge(
 
 #[no_mangle]
 pub extern "C" fn vinegarspit_judge_plain(card: &[u32], log: &[u8], spans: &mut [u32]) -> u64
-    ensures { λ r. ⌜ PlainExported (now (card .entry)) (inputOf (now (log .entry))) (now (spans .entry)) r (now (spans .exit)) ⌝ }
+    ensures { λ r. ⌜ TabularExported (now (card .entry)) (inputOf (now (log .entry))) (now (spans .entry)) r (now (spans .exit)) ⌝ }
 {
     let answer = judge_plain(card, log, spans);
     pack(answer)

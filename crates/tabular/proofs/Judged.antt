@@ -46,14 +46,15 @@ use Rattle.sets.specs.Lists.{listed}
 use Rattle.sets.specs.Sets.{reachNumber}
 use Rattle.sets.specs.declared.Families.{Families}
 use Rattle.recognizer.specs.Memory.{lentBack}
-use Rattle.recognizer.specs.Properties.{PassedGrammar, LowestRecursive, Readable, Judges}
+use Rattle.recognizer.specs.Properties.{PassedGrammar, Judges}
+use Rattle.recognizer.proofs.Checking.{none-left}
 use Rattle.recognizer.proofs.Meaning.{verdict-tells}
 use Rattle.recognizer.proofs.Places.{judge-tells}
 use Rattle.tabular.specs.Spans.{indexOf, spanWords, solutionWord}
 use Rattle.tabular.specs.Answers.{tabularFault, noCalls, told, tabularVerdict, tabularNumbers, tabularWords}
 use Rattle.tabular.specs.Judging.{TabulateGiven, Tabulated, PassedGiven}
 use Rattle.tabular.specs.Properties.{FreeGrammar, ShortInput, Tabulates, TabularJudges, DirectionsIgnored}
-use Rattle.tabular.proofs.Rows.{spans-short, fault-long, too-long, unknown-token, no-fault, fault-other}
+use Rattle.tabular.proofs.TabularFaults.{spans-short, fault-long, too-long, unknown-token, no-fault, fault-other}
 use Rattle.tabular.proofs.Writing.{index-low, words-long, words-at}
 
 -- a grammar that is taken is the one that is read, so the promises are about that
@@ -76,10 +77,6 @@ module _ (words : List ℕ) (p : FreeGrammar words) where
       )
 
 -- without a fault there is no left recursion
-none-left : (o : Option ℕ) → leftFault o ≡ none → o ≡ none
-none-left none e = refl
-none-left (some A) e = absurd (omega (arith, fault-number e))
-
 faultless-free : (words : List ℕ) (z : Sizes) → reading words ≡ Read z → setsFault words ≡ none → NoLeftRecursion (grammarOf words)
 unfolding setsFault
 faultless-free words z r e =

@@ -6,5 +6,6 @@ pub mod RuleRanks
 pub mod Turns
 pub mod Writing
 pub mod Tabulating
-pub mod Rows
+pub mod TabularFaults
 pub mod Judged
+pub mod Rows

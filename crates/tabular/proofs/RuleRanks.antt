@@ -13,13 +13,13 @@ use lib.ListN.{length, getD, drop, getElem?, set, replicate, length-set, length-
 use lib.Seq.{getD-set-same, getD-set-other}
 use borrow.Author.Tests.{eq-eqb, ne-eqb, lt-ltb}
 use Rattle.booleans.specs.Choice.{choose}
-use Rattle.booleans.specs.Quantifiers.{anyOf, countBelow}
+use Rattle.booleans.specs.Quantifiers.{anyOf}
 use Rattle.booleans.proofs.Booleans.{true-T}
 use Rattle.word.specs.declared.Word.{Word}
 use Rattle.word.specs.Words.{decoded}
 use Rattle.grammar.specs.Limits.{maxNonterminals, maxRules}
 use Rattle.grammar.specs.Syntax.{Grammar, Rule}
-use Rattle.grammar.specs.Encoding.{Parsed, ruleOf, parse, grammarOf}
+use Rattle.grammar.specs.Encoding.{parse, grammarOf}
 use Rattle.grammar.specs.Starts.{ruleStarts}
 use Rattle.grammar.specs.WellRead.{headOf}
 use Rattle.grammar.specs.declared.reading.Sizes.{Sizes}
@@ -31,8 +31,7 @@ use Rattle.lookahead.proofs.Powers.{has-pow}
 use Rattle.lookahead.proofs.Size.{ones-count, count-cong}
 use Rattle.lookahead.proofs.Weights.{total-bound, has-total}
 use Rattle.semantics.specs.LeftRecursion.{leftReaches, rank}
-use Rattle.semantics.specs.Valuations.{Valuation, derives, byRules}
-use Rattle.sets.specs.Lists.{listed}
+use Rattle.semantics.specs.Valuations.{derives, byRules}
 use Rattle.sets.specs.Rules.{RuleWords, ruleFrom}
 use Rattle.sets.specs.Sets.{reachNumber}
 use Rattle.sets.proofs.Lists.{listed-at}

@@ -1,11 +1,11 @@
 -- A word in front of words: what is known of a span.
-use mathlib.Core.Path.{_≡_, refl, sym, ap, _∙_}
+use mathlib.Core.Path.{_≡_, refl, sym}
 use mathlib.Core.Bool.{Bool, true, false, not, _&&_, _||_, and-false}
 use mathlib.Core.List.{List, _∷_}
 use Prim.Native.Nat.{ℕ, suc, _+_, _-_, _/_, _^_, _≤_, _<_}
 use native.Mathlib.Omega.{arith}
 use lib.Bits.{bitAnd}
-use lib.ListN.{length, getD, drop}
+use lib.ListN.{getD, drop}
 use borrow.Author.Tests.{ltb-true}
 use Rattle.booleans.specs.Choice.{choose}
 use Rattle.booleans.specs.Quantifiers.{anyOf, allOf}
@@ -26,7 +26,7 @@ use Rattle.sets.specs.Rules.{RuleWords}
 use Rattle.sets.proofs.Words.{parse-before}
 use Rattle.tabular.specs.declared.bodies.Scan.{Scan}
 use Rattle.tabular.specs.Chart.{charted, Before, Span}
-use Rattle.tabular.specs.Scanning.{Over, Reads, holds, Scanned, SymbolKnown, Known, SymbolOnto, Onto, Keeps}
+use Rattle.tabular.specs.Scanning.{Over, Reads, holds, Scanned, noneOpen, SymbolKnown, Known, SymbolOnto, Onto, Keeps}
 use Rattle.tabular.proofs.Reaching.{nothing-reads, terminal-reads, nonterminal-reads}
 
 abbrev pub scanOf : ℕ → Bool → Scan
@@ -58,11 +58,11 @@ module _ (v : Valuation) (w : List ℕ) (start end : ℕ) (p : Parsed) (scan : S
       go true = sym (and-false (allOf (λ b. contains v w b start end) (p .positives)))
       go false = refl
 
-  onto-rule : (A : ℕ) → Scanned v w start end (onWord (Rule A) p) (scanOf (2 ^ end) true)
+  onto-rule : (A : ℕ) → Scanned v w start end (onWord (Rule A) p) (noneOpen end)
   unfolding onWord holds anyOf allOf
   onto-rule A = record { set = nothing-reads v w start end refl; kept = refl }
 
-  onto-end : Scanned v w start end (onWord End p) (scanOf (2 ^ end) true)
+  onto-end : Scanned v w start end (onWord End p) (noneOpen end)
   unfolding onWord holds allOf anyOf
   onto-end = record { set = nothing-reads v w start end refl; kept = refl }
 
@@ -80,10 +80,10 @@ module _ {stands chart : List ℕ} {word : Word} {scan : Scan} {start end : ℕ}
       → Onto stands chart word scan start end (scanOf last kept)
   by-negative e l t k = record { onto = λ w o p h. rw (e, l, k, t) (onto-negative (charted chart) w start end p scan h) }
 
-  pub by-rule : {A last : ℕ} → word ≡ Rule A → last ≡ 2 ^ end → Onto stands chart word scan start end (scanOf last true)
+  pub by-rule : {A : ℕ} {r : Scan} → word ≡ Rule A → r ≡ noneOpen end → Onto stands chart word scan start end r
   by-rule {A} e l = record { onto = λ w o p h. rw (e, l) (onto-rule (charted chart) w start end p scan h A) }
 
-  pub by-end : {last : ℕ} → word ≡ End → last ≡ 2 ^ end → Onto stands chart word scan start end (scanOf last true)
+  pub by-end : {r : Scan} → word ≡ End → r ≡ noneOpen end → Onto stands chart word scan start end r
   by-end e l = record { onto = λ w o p h. rw (e, l) (onto-end (charted chart) w start end p scan h) }
 
   pub by-heading : {n t : ℕ} → word ≡ Heading n t → Onto stands chart word scan start end scan
@@ -109,7 +109,7 @@ pub record Walk (words : List ℕ) (from to : ℕ) (stands chart : List ℕ) (st
 
 module _ {words : List ℕ} {from to : ℕ} (k : RuleWords words from to) {stands chart : List ℕ} {start end : ℕ} where
   -- behind the rule nothing is open
-  pub walk-start : {last : ℕ} → last ≡ 2 ^ end → Walk words from to stands chart start end (scanOf last true) to
+  pub walk-start : {scan : Scan} → scan ≡ noneOpen end → Walk words from to stands chart start end scan to
   unfolding holds allOf anyOf
   walk-start e = record {
     low = k .some;

@@ -1,13 +1,13 @@
 -- The chart filled turn by turn: each asks only for what earlier ones have filled in.
-use mathlib.Core.Path.{_≡_, refl, sym, ap, _∙_}
-use mathlib.Core.Bool.{Bool, true, false, _&&_, _||_, or-false}
+use mathlib.Core.Path.{_≡_, sym, _∙_}
+use mathlib.Core.Bool.{false, _||_, or-false}
 use mathlib.Core.List.{List}
 use mathlib.Core.Logic.{_⊎_, inl, inr}
-use Prim.Native.Nat.{ℕ, suc, _+_, _*_, _-_, _≤_, _<_}
+use Prim.Native.Nat.{ℕ, suc, _+_, _-_, _≤_, _<_}
 use native.Mathlib.Decide.{ℕ-discrete, decLt}
 use native.Mathlib.Omega.{arith}
 use lib.Dec.{T, eqb, eqb→eq}
-use lib.ListN.{length, getD, replicate, List·getD-eq-default, getD-replicate, length-replicate}
+use lib.ListN.{length, replicate}
 use borrow.Author.Tests.{eq-eqb, ne-eqb}
 use Rattle.booleans.proofs.Booleans.{and-l, or-cases, T-none}
 use Rattle.grammar.specs.Limits.{maxNonterminals, maxTabularTokens, maxTabularPlaces}
@@ -17,26 +17,21 @@ use Rattle.grammar.specs.declared.reading.Sizes.{Sizes}
 use Rattle.grammar.proofs.WellRead.{well-read}
 use Rattle.lookahead.specs.Elements.{has}
 use Rattle.lookahead.proofs.Elements.{has-zero}
-use Rattle.semantics.specs.Valuations.{byRules, solution}
-use Rattle.semantics.specs.LeftRecursion.{nullable, rank, level}
+use Rattle.semantics.specs.Valuations.{solution}
+use Rattle.semantics.specs.LeftRecursion.{rank, level}
 use Rattle.semantics.specs.Theorems.{AgreeBelow}
 use Rattle.semantics.proofs.Rank.{rank-below}
 use Rattle.semantics.proofs.Unique.{rules-lower, solution-solves, solution-null}
+use Rattle.table.proofs.ClaimedTwice.{getD-zeros}
 use Rattle.tabular.specs.Places.{Standing}
-use Rattle.tabular.specs.Chart.{charted, Long, Forward, Span, Added}
+use Rattle.tabular.specs.Chart.{charted, Long, Span, Added}
 use Rattle.tabular.specs.Scanning.{Over}
 use Rattle.tabular.specs.Filling.{turn, FilledTo, Fills, Derived, FillingGiven, SettleGiven, LengthGiven, Filled}
 
 -- an empty chart is filled up to the first turn
-zero-at : (n i : ℕ) → getD (replicate {A = ℕ} n 0) i 0 ≡ 0
-zero-at n i = elim (decLt i n) [
-  | yes h ↦ getD-replicate n i 0 0 h
-  | no h ↦ List·getD-eq-default (replicate {A = ℕ} n 0) 0 (omega (arith, length-replicate {A = ℕ} n 0))
-]
-
 pub filled-start : (G : Grammar) (w : List ℕ) (n : ℕ) → FilledTo G w 0 (replicate n 0)
 unfolding charted
-filled-start G w n = record { right = λ A k m a km mw l. absurd (omega arith); only = λ A k m a b t. absurd (rw (zero-at n _, has-zero k) at t) }
+filled-start G w n = record { right = λ A k m a km mw l. absurd (omega arith); only = λ A k m a b t. absurd (rw (getD-zeros n _, has-zero k) at t) }
 
 -- where no turn lies between two, a chart that is filled up to the one is filled up to the other
 filled-up : {G : Grammar} {w : List ℕ} {x y : ℕ} {chart : List ℕ} → FilledTo G w x chart → x ≤ y

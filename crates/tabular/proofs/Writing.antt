@@ -5,7 +5,7 @@ use mathlib.Core.List.{List, _∷_, _++_}
 use Prim.Native.Nat.{ℕ, zero, suc, _+_, _*_, _-_, _≤_, _<_}
 use native.Mathlib.Decide.{ℕ-discrete}
 use native.Mathlib.Omega.{arith}
-use lib.ListN.{length, take, drop, set, getD, length-append, length-set, List·getD-append}
+use lib.ListN.{length, drop, set, getD, length-append, length-set, List·getD-append}
 use lib.Seq.{take-all, getD-append-add}
 use Rattle.booleans.specs.Quantifiers.{one}
 use Rattle.grammar.specs.Limits.{maxTabularTokens, maxTabularPlaces, maxSpanWords}

@@ -4,5 +4,6 @@ pub mod Scanning
 pub mod Filling
 pub mod Spans
 pub mod Answers
+pub mod Rows
 pub mod Properties
 pub mod Judging

@@ -1,7 +1,7 @@
 -- What a pass over the words of a rule, from their end, knows at a span: the set of places from which the rest of a body leads to the span's end, and
 -- whether the conjuncts behind it hold.
 use mathlib.Core.Path.{_≡_}
-use mathlib.Core.Bool.{Bool, not, _&&_}
+use mathlib.Core.Bool.{Bool, true, not, _&&_}
 use mathlib.Core.List.{List, _∷_}
 use Prim.Native.Nat.{ℕ, suc, _≤_, _<_}
 use lib.ListN.{length, drop}
@@ -13,7 +13,7 @@ use Rattle.word.specs.declared.Word.the-variants.{Heading, Rule, Positive, Nega
 use Rattle.grammar.specs.Limits.{maxNonterminals, maxTerminals}
 use Rattle.grammar.specs.Syntax.{Body}
 use Rattle.grammar.specs.Encoding.{Parsed, onWord, parse}
-use Rattle.lookahead.specs.Elements.{has}
+use Rattle.lookahead.specs.Elements.{weight, has}
 use Rattle.semantics.specs.Valuations.{Valuation, contains}
 use Rattle.sets.specs.Rules.{RuleWords}
 use Rattle.tabular.specs.declared.bodies.Scan.{Scan}
@@ -37,6 +37,10 @@ holds v w start end p = allOf (λ b. contains v w b start end) (p .positives) &&
 pub record Scanned (v : Valuation) (w : List ℕ) (start end : ℕ) (p : Parsed) (scan : Scan) : Type 0 where
   pub set : Reads v w (p .body) start end (scan .set)
   pub kept : scan .kept ≡ holds v w start end p
+
+-- where nothing of a rule is open: nothing is left of a body, and no conjunct is behind
+abbrev pub noneOpen : ℕ → Scan
+noneOpen end = record { set = weight end; kept = true }
 
 -- a symbol's number is within the limits
 abbrev pub SymbolKnown : GrammarSymbol → Type 0

@@ -1,8 +1,10 @@
 // A rule read at one span, by a pass over its words from their end.
 ghost use mathlib.Core.Path.{_≡_};
 ghost use mathlib.Core.Bool.{false};
+ghost use Prim.Native.Nat.{_<_};
 ghost use Rattle.booleans.specs.Choice.{choose};
-ghost use Rattle.tabular.specs.Scanning.{SymbolGiven, SymbolOnto, OntoGiven, Onto, KeepsGiven, Keeps};
+ghost use Rattle.grammar.specs.Limits.{maxTabularPlaces};
+ghost use Rattle.tabular.specs.Scanning.{noneOpen, SymbolGiven, SymbolOnto, OntoGiven, Onto, KeepsGiven, Keeps};
 use super::chart::CHART;
 use super::chart::before;
 use super::places::contains;
@@ -19,6 +21,17 @@ pub const STANDS: usize = TERMINALS as usize;
 struct Scan {
     pub set: u64,
     pub kept: bool,
+}
+
+// Where nothing of a rule is open: nothing is left of a body, and no conjunct is behind.
+fn none_open(end: usize) -> Scan
+    requires { ⌜ end < maxTabularPlaces ⌝ }
+    ensures { λ r. ⌜ r ≡ noneOpen end ⌝ }
+{
+    Scan {
+        set: 1u64 << end,
+        kept: true,
+    }
 }
 
 fn symbol_onto(
@@ -79,14 +92,8 @@ fn onto(
             set: last,
             kept: kept_negative(contains(set, start), kept),
         },
-        Word::Rule(_) => Scan {
-            set: last,
-            kept: true,
-        },
-        Word::End => Scan {
-            set: last,
-            kept: true,
-        },
+        Word::Rule(_) => none_open(end),
+        Word::End => none_open(end),
         Word::Heading {
             nonterminals: _,
             terminals: _,
@@ -108,10 +115,7 @@ pub(crate) fn keeps(
     requires { ⌜ KeepsGiven (now words) from to start end ⌝ }
     ensures { λ r. ⌜ Keeps (now (words .entry)) from (now (stands .entry)) (now (chart .entry)) start end r ⌝ }
 {
-    let mut scan = Scan {
-        set: 1u64 << end,
-        kept: true,
-    };
+    let mut scan = none_open(end);
     let mut at = to;
     while from + 1 < at {
         at = at - 1;

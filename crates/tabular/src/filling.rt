@@ -136,6 +136,7 @@ fn fill_length(
     }
 }
 
+// The chart of the input that the events are, by a grammar without left recursion and what its nonterminals left-reach.
 pub(crate) fn fill(
     words: &[u32],
     sizes: Sizes,

@@ -2,27 +2,26 @@
 use mathlib.Core.Path.{refl}
 use native.Mathlib.Omega.{arith}
 use Rattle.tabular.proofs.Scans.{by-terminal, by-nonterminal}
-use borrow.Author.Needs.{needs}
 use Rattle.tabular.proofs.bodies.symbol_onto.Statement.{statement}
 use Rattle.tabular.proofs.bodies.symbol_onto.Tie as tie
 
 enum-known-symbol : tie.Need-enum-known-symbol
-enum-known-symbol c = search needs
+enum-known-symbol c = c .match .keys1
 
 cast-result : tie.Need-cast-result
-cast-result c = search needs
+cast-result c = omega (arith, rw (c .before .symbol .given .1) at (c .before .before .before .pre .known))
 
 mul-result : tie.Need-mul-result
-mul-result c = search needs
+mul-result c = omega (arith, rw (c .before .symbol .given .1) at (c .before .before .before .pre .known))
 
 element-copy-out-result : tie.Need-element-copy-out-result
 element-copy-out-result c = omega (arith, rw (c .before .symbol .given .1) at (c .before .before .before .pre .known))
 
 enum-known-symbol-2 : tie.Need-enum-known-symbol-2
-enum-known-symbol-2 c = search needs
+enum-known-symbol-2 c = c .match .keys2
 
 cast-before : tie.Need-cast-before
-cast-before c = search needs
+cast-before c = omega (arith, rw (c .before .symbol2 .given .1) at (c .before .before .before .pre .known))
 
 before-requires : tie.Need-before-requires
 before-requires c κs =
