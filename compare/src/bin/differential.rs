@@ -20,6 +20,8 @@ const MOST_PLAIN: usize = 2;
 /// The longest grammar that is always judged plainly too, and how many of the longer ones are not, for one that is.
 const PLAIN_WORDS: usize = 200;
 const PASSED_OVER: u64 = 40;
+/// The refusal that judging plainly alone can give, behind those of the others.
+const PLAIN_REFUSAL: usize = 12;
 const DEFAULT_SEED: u64 = 1;
 const DEFAULT_COUNT: u64 = 150_000;
 /// How many random cases there are for each random history.
@@ -131,12 +133,13 @@ impl Tally {
 
     /// Whether every outcome of judging was seen.
     fn judged(&self) -> bool {
-        self.refused[1..].iter().chain([&self.rejected, &self.accepted]).all(|&times| times > 0)
+        self.refused[1..PLAIN_REFUSAL].iter().chain([&self.rejected, &self.accepted]).all(|&times| times > 0)
     }
 
     /// Whether every outcome that the papers know was seen.
     fn complete(&self) -> bool {
-        self.judged() && [&self.passed, &self.forbidding, &self.westward].into_iter().chain(&self.plain).all(|&times| times > 0)
+        let others = [self.passed, self.forbidding, self.westward, self.refused[PLAIN_REFUSAL]];
+        self.judged() && others.iter().chain(&self.plain).all(|&times| times > 0)
     }
 }
 
