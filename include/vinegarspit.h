@@ -16,12 +16,14 @@
 extern "C" {
 #endif
 
-/* How much memory is to be lent, and the longest grammar and input. */
+/* How much memory is to be lent, the longest grammar, and the longest log: of judging, and of judging plainly. */
 enum {
     VINEGARSPIT_TABLE_WORDS = 864,
     VINEGARSPIT_MEMO_ENTRIES = 16032,
     VINEGARSPIT_CARD_WORDS = 2048,
-    VINEGARSPIT_LOG_EVENTS = 500
+    VINEGARSPIT_LOG_EVENTS = 500,
+    VINEGARSPIT_SPAN_WORDS = 1225,
+    VINEGARSPIT_PLAIN_LOG_EVENTS = 48
 };
 
 /* What an answer tells. */
@@ -78,6 +80,23 @@ uint64_t vinegarspit_judge(const uint32_t *card, size_t card_len, const uint8_t 
  * is. */
 uint64_t vinegarspit_judge_recorded(const uint32_t *card, size_t card_len, const uint8_t *log, size_t log_len,
                                     uint32_t *table, size_t table_len, uint16_t *memo, size_t memo_len, uint32_t usage[4]);
+
+/* Judges a log plainly: without table and memo table, by finding for every stretch of the log, from short to long, the names that it belongs to. It
+ * takes every grammar that is not left-recursive, also those that a check refuses with 9, and logs of at most 48 events. Answers ACCEPTED or REJECTED,
+ * with count and far 0, or REFUSED.
+ *
+ * ACCEPTED exactly when the whole log belongs to name 0 by the one meaning that the grammar has; REJECTED exactly when not. Where a check passes the
+ * grammar, judging has the same verdict. The stretches, by start and then by end, have a word each in spans, in which name l weighs 2^l: the one from
+ * place i to place j stands at i * (log_len + 1) - i * (i - 1) / 2 + j - i. Later words keep their contents.
+ *
+ * REFUSED: nothing is written. The first of these that holds:
+ *   12  spans_len is under 1,225                                     0
+ *       3 to 8, as by a check
+ *       10, where log_len is over 48
+ *       11, as by judging
+ *
+ * Nothing nests: 64 KiB of stack are enough. */
+uint64_t vinegarspit_judge_plain(const uint32_t *card, size_t card_len, const uint8_t *log, size_t log_len, uint32_t *spans, size_t spans_len);
 
 /* The parts of an answer. */
 static inline unsigned vinegarspit_verdict(uint64_t answer) { return (unsigned)(answer & 255); }

@@ -257,8 +257,8 @@ def no_end_settled(card, name):
             + [behind_text(card, step, letters[0], False) for step in way] + [behind_text(card, last, letters[0], True)])
 
 
-def refusal(card, number, place, log=()):
-    """The lines that tell a refusal; the log is a row of letters as they were written."""
+def refusal(card, number, place, log=(), longest=MAX_INPUT):
+    """The lines that tell a refusal; the log is a row of letters as they were written, and of so many events at most."""
     grammar = card.grammar
     if number == 3 and len(card.words) <= MAX_WORDS:
         return ['the file is no row of 4-byte words']
@@ -267,7 +267,7 @@ def refusal(card, number, place, log=()):
         reason = fault.reason if fault and (fault.code, fault.position) == (number, place) else 'a damaged card'
         return [(f'{card.where(place)}: ' if number > 4 else '') + reason]
     if number == 10:
-        return [f'the log has {len(log)} events, and the limit is {MAX_INPUT}']
+        return [f'the log has {len(log)} events, and the limit is {longest}']
     if grammar is None or number not in (8, 9, 11):
         return ['README.md has a table of refusals']
     if number == 8:

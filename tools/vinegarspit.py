@@ -144,6 +144,11 @@ def judge_recorded(card, log, table, memo, usage):
     return call('judge_recorded', card, log, table, memo, usage)
 
 
+def judge_plain(card, log, spans):
+    """Judges a log by a card plainly and fills the words of the stretches."""
+    return call('judge_plain', card, log, spans)
+
+
 # Memory to lend, as much as each call asks for, and the empty record
 
 def table(fill=0):
@@ -156,3 +161,15 @@ def memo(fill=0):
 
 def usage():
     return array('I', [0]) * next(parameter.length for parameter in calls()['judge_recorded'] if parameter.name == 'usage')
+
+
+def spans(fill=0):
+    return array('I', [fill]) * constants()['SPAN_WORDS']
+
+
+# What lent memory holds
+
+def span_words(spans, length):
+    """The words of the stretches of a log of so many events, by their start and their end."""
+    stretches = [(start, end) for start in range(length + 1) for end in range(start, length + 1)]
+    return dict(zip(stretches, spans))

@@ -242,6 +242,17 @@ pub fn slowest() -> Draft {
     padded(Draft { nonterminals: MAX_NONTERMINALS, terminals: gates + 1, rules }, links - 1, last, MAX_WORDS).reversed()
 }
 
+/// As slow to judge plainly as any that was found, on rows of terminal 0: 128 rules, and 2,048 words, nearly all of them a nonterminal that has
+/// every span.
+pub fn slowest_plain() -> Draft {
+    let last = MAX_NONTERMINALS - 1;
+    let every = Nonterminal(last as u8);
+    let mut rules: Vec<Rule> = (0..MAX_RULES - 2).map(|number| rule(number % last, &[&[every]], &[])).collect();
+    rules.push(rule(last, &[&[Terminal(0), every]], &[]));
+    rules.push(rule(last, &[&[]], &[]));
+    padded(Draft { nonterminals: MAX_NONTERMINALS, terminals: 1, rules }, MAX_RULES - 2, every, MAX_WORDS)
+}
+
 fn symbol(random: &mut Random, nonterminals: usize, terminals: usize) -> Symbol {
     if random.chance(50) {
         Terminal(random.below(terminals) as u8)

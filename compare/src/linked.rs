@@ -25,6 +25,14 @@ extern "C" {
         memo_len: usize,
         usage: *mut u32,
     ) -> u64;
+    fn vinegarspit_judge_plain(
+        card: *const u32,
+        card_len: usize,
+        log: *const u8,
+        log_len: usize,
+        spans: *mut u32,
+        spans_len: usize,
+    ) -> u64;
 }
 
 pub fn check(words: &[u32], table: &mut [u32]) -> u64 {
@@ -67,6 +75,11 @@ pub fn judge_recorded(words: &[u32], input: &[u8], table: &mut [u32], memo: &mut
     };
     let [calls, refusals, acceptances, called] = counters;
     (answer, Usage { calls, refusals, acceptances, called })
+}
+
+pub fn judge_plain(words: &[u32], input: &[u8], spans: &mut [u32]) -> u64 {
+    // Sound: as above.
+    unsafe { vinegarspit_judge_plain(words.as_ptr(), words.len(), input.as_ptr(), input.len(), spans.as_mut_ptr(), spans.len()) }
 }
 
 /// The answer that the library packs an outcome into.

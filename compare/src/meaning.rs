@@ -1,7 +1,7 @@
 //! What a grammar means, computed from document 01's definition alone, to try the twin's verdicts by.
 
-use crate::cards::{self, Random};
-use crate::twin::{self, Grammar, Symbol, Verdict, MEMO_ENTRIES, TABLE_WORDS};
+use crate::cards::{self, Random, WESTWARD};
+use crate::twin::{self, Grammar, Symbol, Verdict, MEMO_ENTRIES, SPAN_WORDS, TABLE_WORDS};
 
 /// For each nonterminal and span of an input, whether the span belongs to the nonterminal.
 #[derive(Clone, PartialEq)]
@@ -81,4 +81,35 @@ fn verdicts_are_by_the_meaning() {
     }
     // without and with a rule of negative conjuncts alone
     assert!(accepted.iter().chain(&rejected).all(|&times| times > 500), "{accepted:?} {rejected:?}");
+}
+
+#[test]
+fn plain_words_are_by_the_meaning() {
+    let (mut tried, mut clashing) = (0, 0);
+    for seed in 0..60_000 {
+        let mut random = Random::new(seed);
+        let words = cards::words(&mut random);
+        let input: Vec<u8> = cards::input(&mut random, &words).iter().map(|event| event & !WESTWARD).collect();
+        let Ok(grammar) = Grammar::read(&words) else { continue };
+        if input.len() > 8 || grammar.nonterminals > 8 || words.len() > 200 {
+            continue;
+        }
+        let mut spans = vec![0; SPAN_WORDS];
+        let outcome = twin::judge_plain(&words, &input, &mut spans);
+        if outcome.verdict == Verdict::Refused {
+            continue;
+        }
+        let solution = solution(&grammar, &input);
+        let places = (0..=input.len()).flat_map(|start| (start..=input.len()).map(move |end| (start, end)));
+        for (&word, (start, end)) in spans.iter().zip(places) {
+            for a in 0..32 {
+                let belongs = a < grammar.nonterminals && solution.belongs[solution.index(a, start, end)];
+                assert_eq!(word >> a & 1 == 1, belongs, "{words:x?} {input:?} {a} {start} {end}");
+            }
+        }
+        assert_eq!(outcome.verdict == Verdict::Accepted, solution.belongs[solution.index(0, 0, input.len())]);
+        tried += 1;
+        clashing += usize::from(twin::check(&words, &mut vec![0; TABLE_WORDS]).code == 9);
+    }
+    assert!(tried > 5_000 && clashing > 500, "{tried} {clashing}");
 }

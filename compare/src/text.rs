@@ -89,6 +89,26 @@ fn changed<T: Copy + PartialEq + std::fmt::Display>(name: &str, memory: &[T], fi
     memory[..used].iter().fold(format!("/{name}"), |text, element| format!("{text} {element}"))
 }
 
+fn verdict(outcome: Outcome) -> &'static str {
+    match outcome.verdict {
+        Verdict::Refused => "refused",
+        Verdict::Passed => "passed",
+        Verdict::Rejected => "rejected",
+        Verdict::Accepted => "accepted",
+    }
+}
+
+/// What the plain judge answers, all of it, and the words that it writes for the spans, where so many are lent.
+pub fn plain(card: &[u8], log: &[u8], lent: usize) -> String {
+    let words = words_of(card, usize::MAX).expect("words");
+    let fill = u32::from_le_bytes([FILL; 4]);
+    let mut spans = vec![fill; lent];
+    let outcome = twin::judge_plain(&words, log, &mut spans);
+    let told = format!("{} {} {} {} {}", verdict(outcome), outcome.code, outcome.position, outcome.count, outcome.farthest);
+    let written = changed("", &spans, fill);
+    told + " | " + if written.is_empty() { "-" } else { &written["/ ".len()..] }
+}
+
 /// What a recorded call answers, and what it leaves in the memory that is lent to it and in the record; the numbers are the sizes of the
 /// memories, and behind them the record.
 pub fn call(name: &str, numbers: &[usize], card: &[u8], log: &[u8]) -> String {
@@ -109,11 +129,11 @@ pub fn call(name: &str, numbers: &[usize], card: &[u8], log: &[u8]) -> String {
         }
         _ => panic!("no call {name}"),
     };
-    let answer = match outcome.verdict {
-        Verdict::Refused => format!("refused {} {}", outcome.code, outcome.position),
-        Verdict::Passed => "passed".into(),
-        Verdict::Rejected => format!("rejected {} {}", outcome.count, outcome.farthest),
-        Verdict::Accepted => format!("accepted {} {}", outcome.count, outcome.farthest),
+    let numbers = match outcome.verdict {
+        Verdict::Refused => format!(" {} {}", outcome.code, outcome.position),
+        Verdict::Passed => String::new(),
+        Verdict::Rejected | Verdict::Accepted => format!(" {} {}", outcome.count, outcome.farthest),
     };
+    let answer = verdict(outcome).to_string() + &numbers;
     answer + &changed("table", &table, word) + &changed("memo", &memo, entry) + &record
 }

@@ -4,7 +4,7 @@
 mod linked;
 
 use compare::cards::{self, Draft};
-use compare::twin::{self, Usage, MEMO_ENTRIES, TABLE_WORDS};
+use compare::twin::{self, Usage, MAX_PLAIN_TOKENS, MEMO_ENTRIES, SPAN_WORDS, TABLE_WORDS};
 use std::{hint::black_box, time::Instant};
 
 /// How many batches of each kind are timed; an odd number, so that one of them is the median.
@@ -142,6 +142,19 @@ fn time_judge_recorded(what: &str, draft: &Draft, input: &[u8]) {
     print_row(&format!("recorded {what}, {} tokens", input.len()), &format!("{:?}", outcome.verdict).to_lowercase(), &times);
 }
 
+fn time_plain(what: &str, draft: &Draft, input: &[u8]) {
+    let words = draft.words();
+    let (mut proved, mut twin) = (vec![0; SPAN_WORDS], vec![0; SPAN_WORDS]);
+    let outcome = twin::judge_plain(&words, input, &mut twin);
+    let answer = linked::judge_plain(&words, input, &mut proved);
+    assert!(answer == linked::packed(outcome) && twin == proved, "{what}: the answers differ");
+    let times = medians(&mut [
+        &mut || linked::judge_plain(black_box(&words), black_box(input), &mut proved),
+        &mut || linked::packed(twin::judge_plain(black_box(&words), black_box(input), &mut twin)),
+    ]);
+    print_row(&format!("plain {what}, {} tokens", input.len()), &format!("{:?}", outcome.verdict).to_lowercase(), &times);
+}
+
 /// An input of card M's language where `before` is not `nested`: a's, then b's and as many c's.
 fn axles(before: usize, nested: usize) -> Vec<u8> {
     [vec![0; before], vec![1; nested], vec![2; nested]].concat()
@@ -174,4 +187,9 @@ fn main() {
     for tokens in [0, 50, 500] {
         time_judge("23 negatives", &cards::negatives(25), &vec![0; tokens], false);
     }
+    let longest = [0; MAX_PLAIN_TOKENS];
+    time_plain("card M", &cards::card_m(), &axles(14, 17));
+    time_plain("chain of 32", &cards::chain(32, 1), &longest);
+    time_plain("23 negatives", &cards::negatives(25), &longest);
+    time_plain("slowest found", &cards::slowest_plain(), &longest);
 }

@@ -6,7 +6,7 @@ mod histories;
 mod linked;
 
 use compare::cards::{self, rule, Draft, Random, WESTWARD};
-use compare::twin::{self, Gaps, Grammar, Outcome, Symbol, Verdict, MAX_TOKENS, MEMO_ENTRIES, TABLE_WORDS};
+use compare::twin::{self, Gaps, Grammar, Outcome, Symbol, Verdict, MAX_PLAIN_TOKENS, MAX_TOKENS, MEMO_ENTRIES, SPAN_WORDS, TABLE_WORDS};
 use std::{fmt::Debug, process::ExitCode, thread, time::Instant};
 
 /// How many words or entries lie before and behind what is lent, and must not change.
@@ -16,6 +16,12 @@ const STACK: usize = 4 << 20;
 /// The nonterminals, the terminals and the most words of the grammars that are tried without exception.
 const SMALL: [(u32, u32, usize); 4] = [(1, 1, 11), (1, 2, 10), (2, 1, 10), (2, 2, 9)];
 const MOST_TOKENS: usize = 4;
+const MOST_PLAIN: usize = 2;
+/// The longest grammar that is always judged plainly too, and how many of the longer ones are not, for one that is.
+const PLAIN_WORDS: usize = 200;
+const PASSED_OVER: u64 = 40;
+/// The refusal that judging plainly alone can give, behind those of the others.
+const PLAIN_REFUSAL: usize = 12;
 const DEFAULT_SEED: u64 = 1;
 const DEFAULT_COUNT: u64 = 150_000;
 /// How many random cases there are for each random history.
@@ -26,11 +32,12 @@ const CASES_A_HISTORY: u64 = 10;
 struct Memory {
     table: Vec<u32>,
     memo: Vec<u16>,
+    spans: Vec<u32>,
 }
 
 impl Memory {
     fn random(random: &mut Random) -> Memory {
-        let mut memory = Memory { table: vec![0; TABLE_WORDS + 200], memo: vec![0; MEMO_ENTRIES + 200] };
+        let mut memory = Memory { table: vec![0; TABLE_WORDS + 200], memo: vec![0; MEMO_ENTRIES + 200], spans: vec![0; SPAN_WORDS + 200] };
         memory.refill(random);
         memory
     }
@@ -38,10 +45,15 @@ impl Memory {
     fn refill(&mut self, random: &mut Random) {
         random.fill_words(&mut self.table);
         random.fill_entries(&mut self.memo);
+        random.fill_words(&mut self.spans);
     }
 
     fn lend(&mut self, lengths: Lengths) -> (&mut [u32], &mut [u16]) {
         (&mut self.table[GUARD..GUARD + lengths.table], &mut self.memo[GUARD..GUARD + lengths.memo])
+    }
+
+    fn lend_spans(&mut self, lengths: Lengths) -> &mut [u32] {
+        &mut self.spans[GUARD..GUARD + lengths.spans]
     }
 }
 
@@ -49,13 +61,14 @@ impl Memory {
 struct Lengths {
     table: usize,
     memo: usize,
+    spans: usize,
 }
 
 impl Lengths {
-    const LEAST: Lengths = Lengths { table: TABLE_WORDS, memo: MEMO_ENTRIES };
+    const LEAST: Lengths = Lengths { table: TABLE_WORDS, memo: MEMO_ENTRIES, spans: SPAN_WORDS };
 
     fn random(random: &mut Random) -> Lengths {
-        Lengths { table: length(random, TABLE_WORDS), memo: length(random, MEMO_ENTRIES) }
+        Lengths { table: length(random, TABLE_WORDS), memo: length(random, MEMO_ENTRIES), spans: length(random, SPAN_WORDS) }
     }
 }
 
@@ -74,7 +87,7 @@ fn length(random: &mut Random, enough: usize) -> usize {
 struct Tally {
     cases: u64,
     differ: u64,
-    refused: [u64; 12],
+    refused: [u64; 13],
     passed: u64,
     rejected: u64,
     accepted: u64,
@@ -82,6 +95,8 @@ struct Tally {
     forbidding: u64,
     /// Verdicts on events of which some are westward.
     westward: u64,
+    /// Plain verdicts by a grammar that a check passes, and by one that it refuses for a clash.
+    plain: [u64; 2],
     calls: u64,
     most_calls: u16,
 }
@@ -112,17 +127,19 @@ impl Tally {
         println!("  accepted   {:>9}", self.accepted);
         println!("  verdicts by a grammar with a rule of negatives alone {}", self.forbidding);
         println!("  verdicts on events with directions {}", self.westward);
+        println!("  plain verdicts by grammars that pass {}, by clashing ones {}", self.plain[0], self.plain[1]);
         println!("  calls of nonterminals {}, in one descent at most {}", self.calls, self.most_calls);
     }
 
     /// Whether every outcome of judging was seen.
     fn judged(&self) -> bool {
-        self.refused[1..].iter().chain([&self.rejected, &self.accepted]).all(|&times| times > 0)
+        self.refused[1..PLAIN_REFUSAL].iter().chain([&self.rejected, &self.accepted]).all(|&times| times > 0)
     }
 
-    /// Whether every outcome that document 01 knows was seen, and a grammar of the form that request P1 adds.
+    /// Whether every outcome that the papers know was seen.
     fn complete(&self) -> bool {
-        self.judged() && self.passed > 0 && self.forbidding > 0 && self.westward > 0
+        let others = [self.passed, self.forbidding, self.westward, self.refused[PLAIN_REFUSAL]];
+        self.judged() && others.iter().chain(&self.plain).all(|&times| times > 0)
     }
 }
 
@@ -153,6 +170,20 @@ impl Pair {
         self.settle("judge", agree, expected, answer, words, input, lengths)
     }
 
+    /// Judges plainly; where a check passes the grammar, the verdict has to be that of judging too.
+    fn judge_plain(&mut self, words: &[u32], input: &[u8], lengths: Lengths) -> Outcome {
+        let expected = twin::judge_plain(words, input, self.twin.lend_spans(lengths));
+        let answer = linked::judge_plain(words, input, self.proved.lend_spans(lengths));
+        let mut agree = answer == linked::packed(expected) && self.twin.spans == self.proved.spans;
+        if expected.verdict != Verdict::Refused {
+            let (mut table, mut memo) = ([0; TABLE_WORDS], [0; MEMO_ENTRIES]);
+            let judged = twin::judge(words, input, &mut table, &mut memo);
+            agree &= judged.verdict == expected.verdict || judged.code == 9;
+            self.tally.plain[usize::from(judged.code == 9)] += 1;
+        }
+        self.settle("judge_plain", agree, expected, answer, words, input, lengths)
+    }
+
     fn settle(&mut self, call: &str, agree: bool, expected: Outcome, answer: u64, words: &[u32], input: &[u8], lengths: Lengths) -> Outcome {
         self.tally.add(expected);
         if !agree {
@@ -165,6 +196,7 @@ impl Pair {
                 println!("  the library answers {answer:016x}");
                 print_first_difference("table", &self.twin.table, &self.proved.table);
                 print_first_difference("memo", &self.twin.memo, &self.proved.memo);
+                print_first_difference("spans", &self.twin.spans, &self.proved.spans);
             }
             self.proved = self.twin.clone();
         }
@@ -261,6 +293,39 @@ fn stated_cases(pair: &mut Pair) {
     }
 }
 
+/// Rows for the sentences of request P6: verdict, code and position, and the words of the spans.
+fn stated_plain_cases(pair: &mut Pair) {
+    use Verdict::{Accepted, Refused, Rejected};
+    let (r, e) = (cards::card_r().words(), cards::card_e().words());
+    let (a, s) = (Symbol::Terminal(0), Symbol::Nonterminal(0));
+    let one = |rules| Draft { nonterminals: 1, terminals: 1, rules }.words();
+    let clashing = one(vec![rule(0, &[&[a]], &[]), rule(0, &[&[a]], &[])]);
+    let overrun = one(vec![rule(0, &[&[a, s, a]], &[]), rule(0, &[], &[&[a]])]);
+    let few = Lengths { spans: SPAN_WORDS - 1, ..Lengths::LEAST };
+    let rows: Vec<(Vec<u32>, Vec<u8>, Lengths, Verdict, u8, u16, Vec<u32>)> = vec![
+        (r.clone(), vec![], Lengths::LEAST, Accepted, 0, 0, vec![1]),
+        (r.clone(), vec![0], Lengths::LEAST, Accepted, 0, 0, vec![1, 1, 1]),
+        (r.clone(), vec![0; MAX_PLAIN_TOKENS], Lengths::LEAST, Accepted, 0, 0, vec![1; SPAN_WORDS]),
+        (r.clone(), vec![0; MAX_PLAIN_TOKENS + 1], Lengths::LEAST, Refused, 10, 0, vec![]),
+        (r.clone(), vec![0, WESTWARD, WESTWARD + 1], Lengths::LEAST, Refused, 11, 2, vec![]),
+        (r, vec![0], few, Refused, 12, 0, vec![]),
+        (vec![], vec![7; MAX_PLAIN_TOKENS + 1], few, Refused, 12, 0, vec![]),
+        (vec![], vec![7; MAX_PLAIN_TOKENS + 1], Lengths::LEAST, Refused, 4, 0, vec![]),
+        (one(vec![rule(0, &[&[s]], &[])]), vec![1; MAX_PLAIN_TOKENS + 1], Lengths::LEAST, Refused, 8, 0, vec![]),
+        (clashing, vec![0], Lengths::LEAST, Accepted, 0, 0, vec![0, 1, 0]),
+        (overrun, vec![0, 0], Lengths::LEAST, Accepted, 0, 0, vec![1, 0, 1, 1, 0, 1]),
+        // S, A, B and C of card E: of "ba" A has nothing but a, for b is what it must not have, and S has nothing
+        (e, vec![1, 0], Lengths::LEAST, Rejected, 0, 0, vec![8, 4, 0, 8, 6, 8]),
+    ];
+    for (words, input, lengths, verdict, code, position, spans) in rows {
+        let outcome = pair.judge_plain(&words, &input, lengths);
+        if (outcome.verdict, outcome.code, outcome.position) != (verdict, code, position) || pair.twin.lend_spans(lengths)[..spans.len()] != spans {
+            pair.tally.differ += 1;
+            println!("the papers state {verdict:?} {code} {position} {spans:?}, the twin answers {outcome:?}");
+        }
+    }
+}
+
 /// Whether these words are those of a grammar in which a rule has negative conjuncts alone.
 fn only_forbids(words: &[u32]) -> bool {
     Grammar::read(words).is_ok_and(|grammar| grammar.rules.iter().any(|rule| grammar.only_forbids(rule)))
@@ -277,6 +342,9 @@ fn random_cases(pair: &mut Pair, seed: u64, count: u64) {
         pair.refill(&mut random);
         let differ = pair.tally.differ;
         pair.check(&words, lengths);
+        if words.len() <= PLAIN_WORDS || number % PASSED_OVER == 0 {
+            pair.judge_plain(&words, &events, lengths);
+        }
         let outcome = pair.judge(&words, &events, lengths);
         pair.tally.westward += u64::from(outcome.verdict != Verdict::Refused && events.iter().any(|event| event & WESTWARD != 0));
         pair.tally.forbidding += u64::from(outcome.verdict != Verdict::Refused && only_forbids(&words));
@@ -306,6 +374,9 @@ impl SmallCases {
     fn grammars(&self, pair: &mut Pair, words: &mut Vec<u32>) {
         let outcome = pair.check(words, Lengths::LEAST);
         let faulty = matches!(outcome.code, 3..=7) && (outcome.position as usize) < words.len();
+        if outcome.code == 9 {
+            self.plain_inputs(pair, words, &mut Vec::new());
+        }
         if outcome.verdict == Verdict::Passed {
             let before = pair.tally.verdicts();
             self.inputs(pair, words, &mut Vec::new());
@@ -323,8 +394,24 @@ impl SmallCases {
         }
     }
 
+    /// A grammar that clashes has plain verdicts alone.
+    fn plain_inputs(&self, pair: &mut Pair, words: &[u32], input: &mut Vec<u8>) {
+        let outcome = pair.judge_plain(words, input, Lengths::LEAST);
+        if outcome.code == 11 || input.len() == MOST_PLAIN {
+            return;
+        }
+        for token in 0..self.tokens {
+            input.push(token);
+            self.plain_inputs(pair, words, input);
+            input.pop();
+        }
+    }
+
     fn inputs(&self, pair: &mut Pair, words: &[u32], input: &mut Vec<u8>) {
         let outcome = pair.judge(words, input, Lengths::LEAST);
+        if input.len() <= MOST_PLAIN {
+            pair.judge_plain(words, input, Lengths::LEAST);
+        }
         if outcome.code == 11 || input.len() == self.most_tokens {
             return;
         }
@@ -341,9 +428,10 @@ fn run(seed: u64, count: u64) -> bool {
     let memory = Memory::random(&mut random);
     let mut pair = Pair { twin: memory.clone(), proved: memory, tally: Tally::default() };
 
-    println!("stated: the judged inputs and limits of document 01, and rows of the requests P1, P2 and P5");
+    println!("stated: the judged inputs and limits of document 01, and rows of the requests P1, P2, P5 and P6");
     stated_cases(&mut pair);
     histories::stated_histories(&mut pair);
+    stated_plain_cases(&mut pair);
     println!("  {} cases, {} differ", pair.tally.cases, pair.tally.differ);
     let stated_tally = std::mem::take(&mut pair.tally);
 

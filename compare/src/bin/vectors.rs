@@ -34,13 +34,16 @@ fn main() -> ExitCode {
                 continue;
             }
             let fields: Vec<&str> = row.split('|').map(str::trim).collect();
-            let (&expected, given) = fields.split_last().expect("fields");
+            let told = if kind == "plain" { 2 } else { 1 };
+            let (given, expected) = fields.split_at(fields.len().saturating_sub(told));
+            let expected = expected.join(" | ");
             let printed = match (kind, given) {
                 ("sheet", [card]) => text::sheet(&bytes_of(card)),
                 ("gaps", [card]) => text::gaps(&bytes_of(card)),
                 ("judge", [card, log]) => text::judgement(&bytes_of(card), &bytes_of(log)),
                 ("calls", [call, card]) => recorded_call(call, card, "-"),
                 ("calls", [call, card, log]) => recorded_call(call, card, log),
+                ("plain", [card, log, lent]) => text::plain(&bytes_of(card), &bytes_of(log), lent.parse().expect("a size")),
                 _ => panic!("{name}.txt:{}: not a row", number + 1),
             };
             let printed = printed.trim_end().replace('\n', "/");

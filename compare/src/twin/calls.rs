@@ -2,8 +2,10 @@
 
 use super::answers::{Outcome, Refusal};
 use super::descent::Descent;
-use super::limits::{MAX_TOKENS, MEMO_ENTRIES, TABLE_WORDS};
+use super::limits::{MAX_PLAIN_TOKENS, MAX_TOKENS, MEMO_ENTRIES, SPAN_WORDS, TABLE_WORDS};
 use super::one::Passed;
+use super::plain::Spans;
+use super::words::Grammar;
 
 /// Refuses with this code if less is lent than is asked for.
 fn enough(lent: usize, asked: usize, code: u8) -> Result<(), Refusal> {
@@ -15,9 +17,9 @@ fn letters(events: &[u8]) -> Vec<u8> {
     events.iter().map(|&event| event & 0x7f).collect()
 }
 
-/// The letters of a log, unless it is too long (10) or has one that is no terminal (11).
-fn readable(events: &[u8], terminals: usize) -> Result<Vec<u8>, Refusal> {
-    if events.len() > MAX_TOKENS {
+/// The letters of a log, unless it has more than so many events (10) or one that is no terminal (11).
+fn readable(events: &[u8], most: usize, terminals: usize) -> Result<Vec<u8>, Refusal> {
+    if events.len() > most {
         return Err(Refusal(10, 0));
     }
     let input = letters(events);
@@ -37,11 +39,20 @@ fn try_judge(words: &[u32], events: &[u8], table: &mut [u32], memo: &mut [u16]) 
     enough(table.len(), TABLE_WORDS, 1)?;
     enough(memo.len(), MEMO_ENTRIES, 2)?;
     let passed = Passed::check(words)?;
-    let input = readable(events, passed.grammar.terminals)?;
+    let input = readable(events, MAX_TOKENS, passed.grammar.terminals)?;
     passed.lend(table);
     let mut descent = Descent::new(&passed.grammar, &passed.table, &input, memo);
     let accepted = descent.call(0, 0) == Some(input.len());
     Ok(Outcome::judged(accepted, descent.count, descent.farthest as u16))
+}
+
+fn try_judge_plain(words: &[u32], events: &[u8], spans: &mut [u32]) -> Result<Outcome, Refusal> {
+    enough(spans.len(), SPAN_WORDS, 12)?;
+    let grammar = Grammar::read_free(words)?;
+    let input = readable(events, MAX_PLAIN_TOKENS, grammar.terminals)?;
+    let found = Spans::of(&grammar, &input);
+    found.lend(spans);
+    Ok(Outcome::judged(found.accepted(), 0, 0))
 }
 
 /// Checks the grammar of these words and fills the table.
@@ -52,4 +63,9 @@ pub fn check(words: &[u32], table: &mut [u32]) -> Outcome {
 /// Judges a log by the grammar of these words and fills the table and the memo table.
 pub fn judge(words: &[u32], events: &[u8], table: &mut [u32], memo: &mut [u16]) -> Outcome {
     try_judge(words, events, table, memo).unwrap_or_else(Outcome::from)
+}
+
+/// Judges a log by the grammar of these words without a table, and fills the words of the spans.
+pub fn judge_plain(words: &[u32], events: &[u8], spans: &mut [u32]) -> Outcome {
+    try_judge_plain(words, events, spans).unwrap_or_else(Outcome::from)
 }

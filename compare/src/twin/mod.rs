@@ -6,13 +6,14 @@ mod descent;
 mod limits;
 mod lookahead;
 mod one;
+mod plain;
 mod sets;
 mod table;
 mod usage;
 mod words;
 
 pub use answers::{Outcome, Refusal, Verdict};
-pub use calls::{check, judge};
+pub use calls::{check, judge, judge_plain};
 pub use limits::*;
 pub use one::Gaps;
 pub use usage::{judge_recorded, Usage};

@@ -31,10 +31,7 @@ fn string(column: usize, letters: usize) -> usize {
 
 /// The grammar of these words with its sets, or why it is refused (codes 3 to 8).
 fn clear(words: &[u32]) -> Result<(Grammar, Sets), Refusal> {
-    let grammar = Grammar::read(words)?;
-    if let Some(nonterminal) = grammar.left_recursive() {
-        return Err(Refusal(8, nonterminal));
-    }
+    let grammar = Grammar::read_free(words)?;
     let sets = grammar.sets();
     Ok((grammar, sets))
 }

@@ -33,8 +33,8 @@ impl Grammar {
         }
     }
 
-    /// The lowest nonterminal that reaches itself by left dependence (document 01: leaning), if any does.
-    pub fn left_recursive(&self) -> Option<usize> {
+    /// The nonterminals that each one reaches by left dependence (document 01: leaning), in one step or more, a bit for each.
+    fn left_reaches(&self) -> [u32; MAX_NONTERMINALS] {
         let nullable = self.nullable();
         let mut reaches = [0u32; MAX_NONTERMINALS];
         for rule in &self.rules {
@@ -56,7 +56,21 @@ impl Grammar {
                 }
             }
         }
+        reaches
+    }
+
+    /// The lowest nonterminal that reaches itself, if any does.
+    pub fn left_recursive(&self) -> Option<usize> {
+        let reaches = self.left_reaches();
         (0..self.nonterminals).find(|&a| reaches[a] >> a & 1 == 1)
+    }
+
+    /// The nonterminals by the number of those that they reach (document 01: leaning rank), the lowest first.
+    pub fn by_rank(&self) -> Vec<usize> {
+        let reaches = self.left_reaches();
+        let mut order: Vec<usize> = (0..self.nonterminals).collect();
+        order.sort_by_key(|&a| reaches[a].count_ones());
+        order
     }
 
     pub fn sets<const K: usize, const L: usize>(&self) -> Sets<K, L> {

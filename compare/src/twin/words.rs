@@ -80,6 +80,15 @@ impl Grammar {
         Ok(grammar)
     }
 
+    /// The grammar of these words, or why it has no meaning (codes 3 to 8).
+    pub fn read_free(words: &[u32]) -> Result<Grammar, Refusal> {
+        let grammar = Grammar::read(words)?;
+        match grammar.left_recursive() {
+            Some(nonterminal) => Err(Refusal(8, nonterminal)),
+            None => Ok(grammar),
+        }
+    }
+
     /// Takes in one word after the heading, and gives the state after it or the code of what is wrong with it.
     fn read_word(&mut self, state: State, word: u32) -> Result<State, u8> {
         use State::*;

@@ -19,6 +19,7 @@ use Rattle.grammar.specs.Limits.{maxWords, maxNonterminals, maxPlaces}
 use Rattle.grammar.specs.Encoding.{grammarOf}
 use Rattle.semantics.specs.Choices.{tableChoice}
 use Rattle.semantics.specs.Descent.{accepts}
+use Rattle.semantics.specs.Valuations.{solution}
 use Rattle.semantics.proofs.Called.{called-range}
 use Rattle.semantics.proofs.Theorems.{theorems}
 use Rattle.answer.specs.Faults.{refusedOr}
@@ -30,9 +31,11 @@ use Rattle.usage.specs.declared.Usage.{Usage}
 use Rattle.recording.specs.declared.Recorded.{Recorded}
 use Rattle.recording.specs.Properties.{Records}
 use Rattle.embed.specs.Packing.{Fit, NumbersFit, joined, packed, Unpacks}
+use Rattle.tabular.specs.Answers.{tabularFault, noCalls, told, tabularVerdict}
+use Rattle.tabular.specs.Properties.{TabularJudges}
 use Rattle.embed.specs.Records.{countersOf, usageIn}
-use Rattle.embed.specs.Exports.{CheckExported, JudgeExported, RecordedExported}
-use Rattle.embed.proofs.Places.{Low, check-low, judge-low}
+use Rattle.embed.specs.Exports.{CheckExported, JudgeExported, RecordedExported, TabularExported}
+use Rattle.embed.proofs.Places.{Low, check-low, judge-low, tabular-low}
 
 code-low : (e : Error) → coded e .code < 256
 code-low TableTooShort = omega arith
@@ -87,20 +90,31 @@ calls-fit words input table memo e =
     let within = called-range G (tableChoice G 1 input) input (r .formed .scoped) free own some-nonterminal (far .0) (far .1) in
     (omega (arith, c .bounded), omega (arith, far .2, within .1, k .1))
 
+-- a verdict with its calls
+verdict-fits : (b : Bool) (c : Calls) → (c .count < 65536) × (c .farthest < 65536) → NumbersFit (numbers (choose b (Accepted c) (Rejected c)))
+verdict-fits true c h = record { verdict = omega arith; code = omega arith; position = omega arith; count = h .0; farthest = h .1 }
+verdict-fits false c h = record { verdict = omega arith; code = omega arith; position = omega arith; count = h .0; farthest = h .1 }
+
 -- a judgement
 pub judge-fits : {words input table memo table′ memo′ : List ℕ} {a : Answer} → Judges words input table memo a table′ memo′ → NumbersFit (numbers a)
 unfolding verdictOf
 judge-fits {words} {input} {table} {memo} {table′} {memo′} {a} j =
     rw (j .answer) (go (judgeFault (length table) (length memo) words input) refl (judge-low (length table) (length memo) words input))
   where
-    verdict : (b : Bool) (c : Calls) → (c .count < 65536) × (c .farthest < 65536) → NumbersFit (numbers (choose b (Accepted c) (Rejected c)))
-    verdict true c h = record { verdict = omega arith; code = omega arith; position = omega arith; count = h .0; farthest = h .1 }
-    verdict false c h = record { verdict = omega arith; code = omega arith; position = omega arith; count = h .0; farthest = h .1 }
-
     go : (f : Option Error) → judgeFault (length table) (length memo) words input ≡ f → ((x : Error) → f ≡ some x → Low maxWords x)
         → NumbersFit (numbers (refusedOr f (choose (accepts (grammarOf words) (tableChoice (grammarOf words) 1 input) input) (Accepted (callsOf (grammarOf words) input)) (Rejected (callsOf (grammarOf words) input)))))
-    go none e l = verdict (accepts (grammarOf words) (tableChoice (grammarOf words) 1 input) input) (callsOf (grammarOf words) input) (calls-fit words input (length table) (length memo) e)
+    go none e l = verdict-fits (accepts (grammarOf words) (tableChoice (grammarOf words) 1 input) input) (callsOf (grammarOf words) input) (calls-fit words input (length table) (length memo) e)
     go (some x) e l = refused-fits x (l x refl)
+
+-- one by tabulation
+pub tabular-fits : {words input before after : List ℕ} {a : Answer} → TabularJudges words input before a after → NumbersFit (numbers a)
+unfolding tabularVerdict
+tabular-fits {words} {input} {before} {after} {a} j =
+    rw (j .answer) (go (tabularFault (length before) words input) (solution (grammarOf words) input 0 0 (length input)) (tabular-low (length before) words input))
+  where
+    go : (f : Option Error) (b : Bool) → ((x : Error) → f ≡ some x → Low maxWords x) → NumbersFit (numbers (refusedOr f (told b)))
+    go none b l = verdict-fits b noCalls (omega arith, omega arith)
+    go (some x) b l = refused-fits x (l x refl)
 
 -- whichever verdict the fields are of
 any-verdict : {u v n p c f : ℕ} → v < 256 → Fit u n p c f → Fit v n p c f
@@ -166,3 +180,7 @@ recorded-exported {x = x} h c w e = record {
   packs = e;
   unpacks = unpacks (numbers (x .answer)) (judge-fits (c .judges)) e;
 }
+
+pub tabular-exported : {words input before after : List ℕ} {a : Answer} {r : ℕ} → TabularJudges words input before a after → r ≡ packed (numbers a)
+    → TabularExported words input before r after
+tabular-exported {a = a} j e = record { answer = a; judges = j; packs = e; unpacks = unpacks (numbers a) (tabular-fits j) e }

@@ -9,12 +9,12 @@ use lib.Dec.{ltb, ltb→lt}
 use lib.ListN.{length}
 use borrow.Author.Tests.{ltb-false}
 use Rattle.answer.specs.declared.Error.{Error}
-use Rattle.answer.specs.declared.Error.the-variants.{TableTooShort, MemoTooShort, LeftRecursive, Conflict, InputTooLong, UnknownToken}
+use Rattle.answer.specs.declared.Error.the-variants.{TableTooShort, MemoTooShort, LeftRecursive, Conflict, InputTooLong, UnknownToken, SpansTooShort}
 use Rattle.answer.specs.Numbers.{coded}
 use Rattle.answer.specs.Faults.{faultIf}
 use Rattle.answer.proofs.Faults.{none-some, fault-none, EachFault, first-each}
 use Rattle.booleans.specs.Choice.{choose}
-use Rattle.grammar.specs.Limits.{maxWords, maxTokens, maxTableWords, maxMemoEntries, maxNonterminals, maxTerminals}
+use Rattle.grammar.specs.Limits.{maxWords, maxTokens, maxTableWords, maxMemoEntries, maxNonterminals, maxTerminals, maxTabularTokens, maxSpanWords}
 use Rattle.grammar.specs.Syntax.{Grammar}
 use Rattle.grammar.specs.Encoding.{grammarOf}
 use Rattle.grammar.specs.Reading.{reading}
@@ -30,11 +30,12 @@ use Rattle.booleans.proofs.Booleans.{and-l}
 use Rattle.semantics.proofs.FiniteSets.{keep-elim}
 use Rattle.booleans.proofs.Quantified.{lowest-some}
 use Rattle.semantics.proofs.LookaheadSets.{entries-elim}
-use Rattle.sets.specs.Analysis.{readingFault, leftFault}
+use Rattle.sets.specs.Analysis.{readingFault, leftFault, setsFaults}
 use Rattle.table.specs.Analysis.{clashFault, grammarFaults}
 use Rattle.event.specs.declared.Unknown.the-variants.{At}
 use Rattle.event.specs.Unknown.{unknownFrom, unknownFault}
 use Rattle.recognizer.specs.Answers.{checkFault, judgeFault}
+use Rattle.tabular.specs.Answers.{tabularFault}
 use Rattle.recognizer.proofs.Checking.{read-some}
 use Rattle.grammar.proofs.FaultPositions.{LowOutcome, reading-low}
 
@@ -80,17 +81,25 @@ reading-row : (o : Outcome) → LowOutcome maxWords o → LowFault maxWords (rea
 reading-row (Read z) l = none-low maxWords
 reading-row (Faulty e) l = some-low maxWords e (l .low e refl)
 
--- the rows of a grammar's faults, and those behind them
-grammar-rows : (words : List ℕ) (l : List (Option Error)) → EachFault (Low maxWords) l → EachFault (Low maxWords) (grammarFaults words ++ l)
-grammar-rows words l h = (
+-- the rows of a grammar's faults up to left recursion, and those behind them
+sets-rows : (words : List ℕ) (l : List (Option Error))
+    → ((few : grammarOf words .nonterminals ≤ maxNonterminals) (small : grammarOf words .terminals ≤ maxTerminals) → EachFault (Low maxWords) l)
+    → EachFault (Low maxWords) (setsFaults words ++ l)
+sets-rows words l h = (
   reading-row (reading words) (reading-low words),
   λ q.
       let k = read-some (reading words) q in
       let r = well-read words (k .0) (k .1) in
       let few : grammarOf words .nonterminals ≤ maxNonterminals = omega (arith, r .nonterminals, r .fewNonterminals) in
       let small : grammarOf words .terminals ≤ maxTerminals = omega (arith, r .terminals, r .fewTerminals) in
-      (left-low (grammarOf words) few small _ refl, λ _. (clash-low (grammarOf words) few small _ refl, λ _. h)),
+      (left-low (grammarOf words) few small _ refl, λ _. h few small),
 )
+
+-- all rows of a grammar's faults, and those behind them
+grammar-rows : (words : List ℕ) (l : List (Option Error)) → EachFault (Low maxWords) l → EachFault (Low maxWords) (grammarFaults words ++ l)
+grammar-rows words l h =
+    sets-rows words (clashFault (grammarOf words .terminals) (clashes (grammarOf words) 1) ∷ l)
+    (λ few small. (clash-low (grammarOf words) few small _ refl, λ _. h))
 
 unknown-low : (n t at : ℕ) (w : List ℕ) → at + length w ≤ n → LowFault n (unknownFault (unknownFrom t at w))
 unfolding unknownFrom
@@ -100,6 +109,17 @@ unknown-low n t at (a ∷ w) h = go (ltb a t) (unknown-low n t (suc at) w (omega
     go : (b : Bool) → LowFault n (unknownFault (unknownFrom t (suc at) w)) → LowFault n (unknownFault (choose b (unknownFrom t (suc at) w) (At at)))
     go true k = k
     go false k = some-low n (UnknownToken at) (omega arith)
+
+-- the rows of an input's faults, where it may have so many tokens
+input-rows : (tokens t : ℕ) (input : List ℕ) → tokens ≤ maxWords
+    → EachFault (Low maxWords) (faultIf (ltb tokens (length input)) InputTooLong ∷ unknownFault (unknownFrom t 0 input) ∷ [])
+input-rows tokens t input few = (
+  when-low maxWords (ltb tokens (length input)) InputTooLong (omega arith),
+  λ q. (
+    unknown-low maxWords t 0 input (omega (arith, ltb-false tokens (length input) (fault-none (ltb tokens (length input)) InputTooLong q))),
+    λ _. tt,
+  ),
+)
 
 pub check-low : (table : ℕ) (words : List ℕ) (e : Error) → checkFault table words ≡ some e → Low maxWords e
 unfolding checkFault
@@ -116,13 +136,16 @@ judge-low table memo words input =
       when-low maxWords (ltb table maxTableWords) TableTooShort (omega arith),
       λ _. (
         when-low maxWords (ltb memo maxMemoEntries) MemoTooShort (omega arith),
-        λ _. grammar-rows words (long ∷ unknown ∷ []) (
-          when-low maxWords (ltb maxTokens (length input)) InputTooLong (omega arith),
-          λ q. (
-            unknown-low maxWords (grammarOf words .terminals) 0 input
-                (omega (arith, ltb-false maxTokens (length input) (fault-none (ltb maxTokens (length input)) InputTooLong q))),
-            λ _. tt,
-          ),
-        ),
+        λ _. grammar-rows words (long ∷ unknown ∷ []) (input-rows maxTokens (grammarOf words .terminals) input (omega arith)),
       ),
+    )
+
+pub tabular-low : (spans : ℕ) (words input : List ℕ) (e : Error) → tabularFault spans words input ≡ some e → Low maxWords e
+unfolding tabularFault
+tabular-low spans words input =
+    let long = faultIf (ltb maxTabularTokens (length input)) InputTooLong in
+    let unknown = unknownFault (unknownFrom (grammarOf words .terminals) 0 input) in
+    first-each (Low maxWords) (faultIf (ltb spans maxSpanWords) SpansTooShort ∷ setsFaults words ++ long ∷ unknown ∷ []) (
+      when-low maxWords (ltb spans maxSpanWords) SpansTooShort (omega arith),
+      λ _. sets-rows words (long ∷ unknown ∷ []) (λ _ _. input-rows maxTabularTokens (grammarOf words .terminals) input (omega arith)),
     )

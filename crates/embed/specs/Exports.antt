@@ -8,6 +8,7 @@ use Rattle.answer.specs.Numbers.{numbers}
 use Rattle.recognizer.specs.Properties.{Checks, Judges}
 use Rattle.recording.specs.declared.Recorded.{Recorded}
 use Rattle.recording.specs.Properties.{Records}
+use Rattle.tabular.specs.Properties.{TabularJudges}
 use Rattle.embed.specs.Packing.{packed, Unpacks}
 use Rattle.embed.specs.Records.{countersOf, usageIn}
 
@@ -30,3 +31,9 @@ pub record RecordedExported (words input table memo counters : List ℕ) (r : �
   pub written : counters′ ≡ countersOf (recorded .usage)
   pub packs : r ≡ packed (numbers (recorded .answer))
   pub unpacks : Unpacks r (numbers (recorded .answer))
+
+pub record TabularExported (words input before : List ℕ) (r : ℕ) (after : List ℕ) : Type 0 where
+  pub answer : Answer
+  pub judges : TabularJudges words input before answer after
+  pub packs : r ≡ packed (numbers answer)
+  pub unpacks : Unpacks r (numbers answer)

@@ -3,12 +3,13 @@ ghost use mathlib.Core.Path.{_≡_};
 ghost use Rattle.answer.specs.Numbers.{numbers};
 ghost use Rattle.event.specs.Events.{inputOf};
 ghost use Rattle.embed.specs.Packing.{Fit, NumbersFit, joined, packed};
-ghost use Rattle.embed.specs.Exports.{CheckExported, JudgeExported};
+ghost use Rattle.embed.specs.Exports.{CheckExported, JudgeExported, TabularExported};
 use answer::Answer;
 use answer::code;
 use answer::position;
 use recognizer::check;
 use recognizer::judge;
+use tabular::judge as judge_plain;
 
 mod recorded;
 
@@ -50,5 +51,13 @@ pub extern "C" fn vinegarspit_judge(
     ensures { λ r. ⌜ JudgeExported (now (card .entry)) (inputOf (now (log .entry))) (now (table .entry)) (now (memo .entry)) r (now (table .exit)) (now (memo .exit)) ⌝ }
 {
     let answer = judge(card, log, table, memo);
+    pack(answer)
+}
+
+#[no_mangle]
+pub extern "C" fn vinegarspit_judge_plain(card: &[u32], log: &[u8], spans: &mut [u32]) -> u64
+    ensures { λ r. ⌜ TabularExported (now (card .entry)) (inputOf (now (log .entry))) (now (spans .entry)) r (now (spans .exit)) ⌝ }
+{
+    let answer = judge_plain(card, log, spans);
     pack(answer)
 }

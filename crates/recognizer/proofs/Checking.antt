@@ -49,7 +49,7 @@ use Rattle.recognizer.specs.Judging.{TableFound}
 use Rattle.recognizer.specs.Properties.{PassedGrammar, LeastFamilies, Checks}
 use Rattle.recognizer.proofs.Places.{check-tells, fault-encoded, places}
 
-none-left : (o : Option ℕ) → leftFault o ≡ none → o ≡ none
+pub none-left : (o : Option ℕ) → leftFault o ≡ none → o ≡ none
 none-left none e = refl
 none-left (some A) e = absurd (omega (arith, fault-number e))
 

@@ -24,7 +24,7 @@ use Rattle.recognizer.proofs.Deciding.{words-recorded}
 use Rattle.recognizer.proofs.Checking.{passed-encodes, passed-free, no-clashes, not-left-recursive}
 
 -- a verdict by a test tells the test
-verdict-tells : {r : Answer} (b : Bool) (c : Calls) → r ≡ choose b (Accepted c) (Rejected c)
+pub verdict-tells : {r : Answer} (b : Bool) (c : Calls) → r ≡ choose b (Accepted c) (Rejected c)
     → ((r ≡ Accepted c) ↔ (b ≡ true)) × ((r ≡ Rejected c) ↔ (b ≡ false))
 verdict-tells true c e = ((λ q. refl, λ q. e), (λ q. absurd (omega (arith, answer-number (sym e ∙ q))), λ q. absurd (true≢false q)))
 verdict-tells false c e = ((λ q. absurd (omega (arith, answer-number (sym e ∙ q))), λ q. absurd (false≢true q)), (λ q. refl, λ q. e))

@@ -1,0 +1,11 @@
+pub mod PlaceSets
+pub mod Reaching
+pub mod Scans
+pub mod Charts
+pub mod RuleRanks
+pub mod Turns
+pub mod Writing
+pub mod Tabulating
+pub mod TabularFaults
+pub mod Judged
+pub mod Rows

@@ -1,0 +1,49 @@
+-- The loop keeps the chart filled up to the turn of the rank.
+use Prim.Native.Nat.{_-_, _≤_}
+use native.Mathlib.Omega.{arith}
+use Rattle.grammar.specs.Limits.{maxTabularTokens}
+use Rattle.tabular.specs.Filling.{turn, Fills}
+use Rattle.tabular.proofs.Turns.{few, settling-start, settling-more, settled}
+use Rattle.tabular.proofs.filling.settle.Statement.{statement}
+use Rattle.tabular.proofs.filling.settle.Tie as tie
+
+abbrev Inv-loop : tie.InvT-loop
+Inv-loop words starts ranks sizes stands chart₀ start end nonterminals rank₀ chart rank = (rank ≤ nonterminals) × Fills words stands chart₀ end maxTabularTokens (turn start end 0) (turn start end rank) chart
+
+abbrev μ-loop : tie.MeasureT-loop
+μ-loop words starts ranks sizes stands chart₀ start end nonterminals rank₀ chart rank = nonterminals - rank
+
+loop-holds : tie.Need-loop-holds Inv-loop μ-loop
+loop-holds c = (omega arith, settling-start (c .before .pre .given .long))
+
+derived-requires : tie.Need-derived-requires Inv-loop μ-loop
+derived-requires c κs = record { rules = c .before .before .before .before .pre .given .rules; ranked = c .before .before .before .before .pre .given .ranked; span = c .before .before .before .before .pre .span }
+
+add-requires : tie.Need-add-requires Inv-loop μ-loop
+add-requires c κs = record { long = c .before .before .before .before .loop .inv .1 .long; given = record { span = c .before .before .before .before .before .before .pre .span; few = few (c .before .before .before .before .before .before .pre .given) } }
+
+add-rank : tie.Need-add-rank Inv-loop μ-loop
+add-rank c = omega (arith, c .before .before .before .before .loop-test .taken, few (c .before .before .before .before .before .before .before .pre .given))
+
+loop-less : tie.Need-loop-less Inv-loop μ-loop
+loop-less c = omega (arith, c .before .before .before .before .loop-test .taken)
+
+loop-again : tie.Need-loop-again Inv-loop μ-loop
+loop-again c = (omega (arith, c .before .before .before .before .loop-test .taken), settling-more (c .before .before .before .before .before .before .before .pre) (c .before .before .before .before .loop-test .taken) (c .before .before .before .before .before .loop .inv .1) (c .before .before .derived .ensures) (c .add .ensures))
+
+returns : tie.Need-returns Inv-loop μ-loop
+returns c = settled (c .before .before .before .pre) (c .before .loop .inv .0) (c .loop-test .left) (c .before .loop .inv .1)
+
+pub settle-spec : {M : Type 1} → statement M
+settle-spec =
+    tie.close
+    (tie.spec
+    Inv-loop
+    μ-loop
+    loop-holds
+    derived-requires
+    add-requires
+    add-rank
+    loop-less
+    loop-again
+    returns)

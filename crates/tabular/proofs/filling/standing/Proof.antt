@@ -1,0 +1,75 @@
+-- The loop keeps `StandingTo`.
+use mathlib.Core.Path.{refl}
+use Prim.Native.Nat.{_-_}
+use native.Mathlib.Omega.{arith}
+use lib.ListN.{length}
+use Rattle.event.specs.Events.{inputOf}
+use Rattle.event.proofs.Inputs.{input-length}
+use Rattle.tabular.proofs.PlaceSets.{StandingTo, standing-start, terminal-low, standing-more, standing-end}
+use Rattle.tabular.proofs.filling.standing.Statement.{statement}
+use Rattle.tabular.proofs.filling.standing.Tie as tie
+
+abbrev Inv-loop : tie.InvT-loop
+Inv-loop events stands₀ at₀ stands at = StandingTo (inputOf events) stands at
+
+abbrev μ-loop : tie.MeasureT-loop
+μ-loop events stands₀ at₀ stands at = length events - at
+
+loop-holds : tie.Need-loop-holds Inv-loop μ-loop
+loop-holds c = standing-start _ 24 refl
+
+shared-slice-read-terminal-of : tie.Need-shared-slice-read-terminal-of Inv-loop μ-loop
+shared-slice-read-terminal-of c = c .before .loop-test .taken
+
+terminal-of-requires : tie.Need-terminal-of-requires Inv-loop μ-loop
+terminal-of-requires c κs = tt
+
+cast-terminal : tie.Need-cast-terminal Inv-loop μ-loop
+cast-terminal c = omega (arith, terminal-low (c .before .before .before .before .before .args .events .now) (c .before .before .before .before .before .pre) (c .before .before .loop-test .taken) (c .terminal-of .ensures))
+
+mul-put : tie.Need-mul-put Inv-loop μ-loop
+mul-put c = omega (arith, terminal-low (c .before .before .before .before .before .args .events .now) (c .before .before .before .before .before .pre) (c .before .before .loop-test .taken) (c .terminal-of .ensures))
+
+array-read-put : tie.Need-array-read-put Inv-loop μ-loop
+array-read-put c = omega (arith, terminal-low (c .before .before .before .before .before .args .events .now) (c .before .before .before .before .before .pre) (c .before .before .loop-test .taken) (c .terminal-of .ensures), c .before .before .before .loop .inv .long)
+
+put-requires : tie.Need-put-requires Inv-loop μ-loop
+put-requires c κs = omega (arith, c .before .before .before .before .before .pre .short, c .before .before .loop-test .taken, input-length (c .before .before .before .before .before .args .events .now))
+
+mul-stands : tie.Need-mul-stands Inv-loop μ-loop
+mul-stands c = omega (arith, terminal-low (c .before .before .before .before .before .before .args .events .now) (c .before .before .before .before .before .before .pre) (c .before .before .before .loop-test .taken) (c .before .terminal-of .ensures))
+
+array-write-stands : tie.Need-array-write-stands Inv-loop μ-loop
+array-write-stands c = omega (arith, terminal-low (c .before .before .before .before .before .before .args .events .now) (c .before .before .before .before .before .before .pre) (c .before .before .before .loop-test .taken) (c .before .terminal-of .ensures), c .before .before .before .before .loop .inv .long)
+
+add-at : tie.Need-add-at Inv-loop μ-loop
+add-at c = omega (arith, c .before .before .before .loop-test .taken)
+
+loop-less : tie.Need-loop-less Inv-loop μ-loop
+loop-less c = omega (arith, c .before .before .before .loop-test .taken)
+
+loop-again : tie.Need-loop-again Inv-loop μ-loop
+loop-again c = standing-more (c .before .before .before .before .before .before .args .events .now) (c .before .before .before .before .before .before .pre) (c .before .before .before .loop-test .taken) (c .before .terminal-of .ensures) (c .before .before .before .before .loop .inv) (c .put .ensures) refl
+
+returns : tie.Need-returns Inv-loop μ-loop
+returns c = standing-end (c .before .loop .inv) (omega (arith, c .loop-test .left, input-length (c .before .before .before .args .events .now)))
+
+pub standing-spec : {M : Type 1} → statement M
+standing-spec =
+    tie.close
+    (tie.spec
+    Inv-loop
+    μ-loop
+    loop-holds
+    shared-slice-read-terminal-of
+    terminal-of-requires
+    cast-terminal
+    mul-put
+    array-read-put
+    put-requires
+    mul-stands
+    array-write-stands
+    add-at
+    loop-less
+    loop-again
+    returns)

@@ -1,0 +1,9 @@
+pub mod Places
+pub mod Chart
+pub mod Scanning
+pub mod Filling
+pub mod Spans
+pub mod Answers
+pub mod Rows
+pub mod Properties
+pub mod Judging

@@ -1,0 +1,168 @@
+// The chart filled from short spans to long ones, and at each span in the order of rank.
+ghost use Rattle.tabular.specs.Places.{Standing, InputGiven};
+ghost use Prim.Native.Nat.{_+_};
+ghost use Rattle.event.specs.Events.{inputOf};
+ghost use Rattle.grammar.specs.Limits.{maxTabularTokens};
+ghost use Rattle.tabular.specs.Filling.{RanksGiven, Ranked, DerivedGiven, Derived, turn, Fills, SettleGiven, LengthGiven, FillGiven, Filled};
+use super::bodies::STANDS;
+use super::bodies::keeps;
+use super::chart::CHART;
+use super::chart::add;
+use super::chart::found_by;
+use super::places::put;
+use event::terminal_of;
+use grammar::limits::RULES;
+use grammar::reading::Sizes;
+use grammar::reading::rule_starts;
+use sets::family::SETS;
+use sets::rules::head_of;
+use word::decode;
+
+// Where each terminal stands in the input that the events are.
+fn standing(events: &[u8]) -> [u64; STANDS]
+    requires { ⌜ InputGiven (inputOf (now events)) ⌝ }
+    ensures { λ r. ⌜ Standing (inputOf (now (events .entry))) r ⌝ }
+{
+    let mut stands = [0u64; STANDS];
+    let mut at = 0;
+    while at < events.len() {
+        let terminal = terminal_of(events[at]) as usize;
+        stands[terminal] = put(stands[terminal], at, true);
+        at = at + 1;
+    }
+    stands
+}
+
+// The rank of each rule's nonterminal: how many nonterminals it left-reaches.
+fn ranks_of(
+    words: &[u32],
+    starts: &[usize; RULES],
+    sizes: Sizes,
+    reaches: &[u32; SETS],
+) -> [u32; RULES]
+    requires { ⌜ RanksGiven (now words) (now starts) sizes (now reaches) ⌝ }
+    ensures { λ r. ⌜ Ranked (now (words .entry)) sizes r ⌝ }
+{
+    let mut ranks = [0u32; RULES];
+    let mut rule = 0;
+    while rule < sizes.rules {
+        let head = head_of(decode(words[starts[rule]]));
+        ranks[rule] = u32::count_ones(reaches[head as usize]);
+        rule = rule + 1;
+    }
+    ranks
+}
+
+// The nonterminals of a rank that the rules give a span to, where bodies are read by the chart.
+fn derived(
+    words: &[u32],
+    starts: &[usize; RULES],
+    ranks: &[u32; RULES],
+    sizes: Sizes,
+    rank: u32,
+    stands: &[u64; STANDS],
+    chart: &[u64; CHART],
+    start: usize,
+    end: usize,
+) -> u32
+    requires { ⌜ DerivedGiven (now words) (now starts) (now ranks) sizes start end ⌝ }
+    ensures { λ r. ⌜ Derived (now (words .entry)) rank (now (stands .entry)) (now (chart .entry)) start end r ⌝ }
+{
+    let mut found = 0u32;
+    let mut to = words.len();
+    let mut rule = sizes.rules;
+    while 0 < rule {
+        rule = rule - 1;
+        let from = starts[rule];
+        if ranks[rule] == rank {
+            let there = keeps(words, from, to, stands, chart, start, end);
+            found = found_by(head_of(decode(words[from])), there, found);
+        }
+        to = from;
+    }
+    found
+}
+
+// Asks the rules of one span, those of lower rank first: what a nonterminal asks of the same span is of nonterminals of lower rank.
+fn settle(
+    words: &[u32],
+    starts: &[usize; RULES],
+    ranks: &[u32; RULES],
+    sizes: Sizes,
+    stands: &[u64; STANDS],
+    chart: &mut [u64; CHART],
+    start: usize,
+    end: usize,
+)
+    requires { ⌜ SettleGiven (now words) (now starts) (now ranks) sizes (now chart) start end ⌝ }
+    ensures { λ _. ⌜ Fills (now (words .entry)) (now (stands .entry)) (now (chart .entry)) end maxTabularTokens (turn start end 0) (turn (start + 1) (end + 1) 0) (now (chart .exit)) ⌝ }
+{
+    let nonterminals = sizes.nonterminals;
+    let mut rank = 0;
+    while rank < nonterminals {
+        let found = derived(words, starts, ranks, sizes, rank, stands, chart, start, end);
+        add(chart, nonterminals, start, end, found);
+        rank = rank + 1;
+    }
+}
+
+// The spans of one length.
+fn fill_length(
+    words: &[u32],
+    starts: &[usize; RULES],
+    ranks: &[u32; RULES],
+    sizes: Sizes,
+    stands: &[u64; STANDS],
+    chart: &mut [u64; CHART],
+    tokens: usize,
+    length: usize,
+)
+    requires { ⌜ LengthGiven (now words) (now starts) (now ranks) sizes (now chart) tokens length ⌝ }
+    ensures { λ _. ⌜ Fills (now (words .entry)) (now (stands .entry)) (now (chart .entry)) tokens tokens (turn 0 length 0) (turn 0 (length + 1) 0) (now (chart .exit)) ⌝ }
+{
+    let mut start = 0;
+    while start + length <= tokens {
+        settle(
+            words,
+            starts,
+            ranks,
+            sizes,
+            stands,
+            chart,
+            start,
+            start + length,
+        );
+        start = start + 1;
+    }
+}
+
+// The chart of the input that the events are, by a grammar without left recursion and what its nonterminals left-reach.
+pub(crate) fn fill(
+    words: &[u32],
+    sizes: Sizes,
+    reaches: &[u32; SETS],
+    events: &[u8],
+) -> [u64; CHART]
+    requires { ⌜ FillGiven (now words) sizes (now reaches) (inputOf (now events)) ⌝ }
+    ensures { λ r. ⌜ Filled (now (words .entry)) (inputOf (now (events .entry))) r ⌝ }
+{
+    let starts = rule_starts(words);
+    let ranks = ranks_of(words, &starts, sizes, reaches);
+    let stands = standing(events);
+    let mut chart = [0u64; CHART];
+    let mut length = 0;
+    while length <= events.len() {
+        fill_length(
+            words,
+            &starts,
+            &ranks,
+            sizes,
+            &stands,
+            &mut chart,
+            events.len(),
+            length,
+        );
+        length = length + 1;
+    }
+    chart
+}
