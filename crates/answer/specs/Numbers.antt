@@ -1,7 +1,7 @@
--- The numbers that document 01 gives to each answer: one row for each case.
+-- The numbers that documents 01 and 02 give to each answer: one row for each case.
 use Prim.Native.Nat.{ℕ, _+_, _*_}
 use Rattle.answer.specs.declared.Error.{Error}
-use Rattle.answer.specs.declared.Error.the-variants.{TableTooShort, MemoTooShort, Length, Heading, UnexpectedWord, OutOfRange, TooManyRules, LeftRecursive, Conflict, InputTooLong, UnknownToken}
+use Rattle.answer.specs.declared.Error.the-variants.{TableTooShort, MemoTooShort, Length, Heading, UnexpectedWord, OutOfRange, TooManyRules, LeftRecursive, Unproductive, Conflict, InputTooLong, UnknownToken}
 use Rattle.answer.specs.declared.Answer.{Answer}
 use Rattle.answer.specs.declared.Answer.the-variants.{Refused, Passed, Rejected, Accepted}
 
@@ -22,6 +22,7 @@ coded (UnexpectedWord at) = row 5 at
 coded (OutOfRange at) = row 6 at
 coded (TooManyRules at) = row 7 at
 coded (LeftRecursive nonterminal) = row 8 nonterminal
+coded (Unproductive nonterminal) = row 13 nonterminal
 coded (Conflict nonterminal column) = row 9 (nonterminal * 32 + column)
 coded InputTooLong = row 10 0
 coded (UnknownToken at) = row 11 at

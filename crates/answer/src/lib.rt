@@ -13,8 +13,10 @@ pub enum Error {
     UnexpectedWord(usize),
     OutOfRange(usize),
     TooManyRules(usize),
-    // the grammar: the lowest nonterminal that left-reaches itself; the first table entry that two rules claim
+    // the grammar: the lowest nonterminal that left-reaches itself, and the lowest whose first set is empty; the first table entry that
+    // two rules claim
     LeftRecursive(u8),
+    Unproductive(u8),
     Conflict { nonterminal: u8, column: u8 },
     // the input: its length, or a token of it, by index
     InputTooLong,
@@ -46,6 +48,7 @@ pub fn code(error: Error) -> u32
         Error::OutOfRange(_) => 6,
         Error::TooManyRules(_) => 7,
         Error::LeftRecursive(_) => 8,
+        Error::Unproductive(_) => 13,
         Error::Conflict {
             nonterminal: _,
             column: _,
@@ -67,6 +70,7 @@ pub fn position(error: Error) -> usize
         Error::OutOfRange(at) => at,
         Error::TooManyRules(at) => at,
         Error::LeftRecursive(nonterminal) => nonterminal as usize,
+        Error::Unproductive(nonterminal) => nonterminal as usize,
         Error::Conflict {
             nonterminal,
             column,

@@ -5,7 +5,7 @@ use mathlib.Core.Logic.{_↔_, _⊎_, inl, inr}
 use mathlib.Core.Option.{none, some}
 use mathlib.Core.Path.{_≡_}
 use Prim.Native.Nat.{ℕ, _<_}
-use lib.Dec.{T, T-not, not-T, eqb, eqb→eq, eqb-refl}
+use lib.Dec.{T, eqb, eqb→eq, eqb-refl}
 use Rattle.word.specs.declared.Symbol.the-variants.{Terminal, Nonterminal}
 use Rattle.grammar.specs.Syntax.{Body, Grammar, bodies, NonterminalsBelow, WellScoped}
 use Rattle.booleans.specs.Quantifiers.{anyOf}
@@ -14,8 +14,9 @@ use Rattle.semantics.specs.Rounds.{NumberSet, _⊆ᵇ_}
 use Rattle.semantics.specs.LeftRecursion.{nullable, LeftIn, here, there, LeftDepends, LeftReaches, once, more, NoLeftRecursion}
 use Rattle.semantics.specs.LeftRecursion.{leftIn, leftDepends, reachStep, leftReaches, leftRecursive, lowestLeftRecursive}
 use Rattle.booleans.proofs.Booleans.{and-l, and-r, and-make, or-cases, or-map, or-l, or-r}
-use Rattle.booleans.proofs.Quantified.{any-elim, any-make, below-elim, below-make, lowest-some, lowest-none}
+use Rattle.booleans.proofs.Quantified.{any-elim, any-make, below-elim, below-make}
 use Rattle.semantics.proofs.FiniteSets.{numbers-equality, numbers-make}
+use Rattle.semantics.proofs.Lowest.{lowest-decided, none-decided}
 use Rattle.semantics.proofs.Rounds.{least-kept, least-closed}
 
 leftIn-sound : (s : NumberSet) (B : ℕ) (b : Body) → T (leftIn s B b) → LeftIn s B b
@@ -129,18 +130,12 @@ module _ (G : Grammar) where
     pub lowestLeftRecursive-some : (A : ℕ) → (lowestLeftRecursive G ≡ some A) ↔ (LeftReaches G A A × ((B : ℕ) → B < A → LeftReaches G B B → ⊥))
     unfolding lowestLeftRecursive
     lowestLeftRecursive-some A =
-        let iff = lowest-some (G .nonterminals) (leftRecursive G) A in (
-          λ e.
-              let h = iff .0 e in
-              (leftRecursive-iff A .0 (h .1), λ B l q. T-not (leftRecursive G B) (h .2 B l) (leftRecursive-iff B .1 q)),
-          λ h. iff .1 (reacher-below A A (h .0), leftRecursive-iff A .1 (h .0), λ B l. not-T (leftRecursive G B) (λ u. h .1 B l (leftRecursive-iff B .0 u))),
-        )
+        let l = lowest-decided (G .nonterminals) (leftRecursive G) (λ B. LeftReaches G B B) leftRecursive-iff A in
+        (λ e. let h = l .0 e in (h .1, h .2), λ h. l .1 (reacher-below A A (h .0), h .0, h .1))
 
     -- none is found just where there is no left recursion
     pub lowestLeftRecursive-none : (lowestLeftRecursive G ≡ none) ↔ NoLeftRecursion G
     unfolding lowestLeftRecursive
     lowestLeftRecursive-none =
-        let iff = lowest-none (G .nonterminals) (leftRecursive G) in (
-          λ e A q. T-not (leftRecursive G A) (iff .0 e A (reacher-below A A q)) (leftRecursive-iff A .1 q),
-          λ free. iff .1 (λ A l. not-T (leftRecursive G A) (λ u. free A (leftRecursive-iff A .0 u))),
-        )
+        let l = none-decided (G .nonterminals) (leftRecursive G) (λ A. LeftReaches G A A) leftRecursive-iff in
+        (λ e A q. l .0 e A (reacher-below A A q) q, λ free. l .1 (λ A a. free A))

@@ -1,6 +1,7 @@
 pub mod FiniteSets
 pub mod Rounds
 pub mod Nullable
+pub mod Lowest
 pub mod LeftRecursion
 pub mod Rank
 pub mod Unique
@@ -8,6 +9,7 @@ pub mod Strings
 pub mod LookaheadSets
 pub mod First
 pub mod FirstNullable
+pub mod Productive
 pub mod Follow
 pub mod Concatenation
 pub mod FollowCuts

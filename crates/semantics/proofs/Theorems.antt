@@ -12,6 +12,7 @@ use Rattle.semantics.proofs.Rank.{rank-falls, rank-below}
 use Rattle.semantics.proofs.Unique.{rules-lower, solution-solves, solution-unique, solution-null}
 use Rattle.semantics.proofs.First.{first-closed, first-least, first-lookahead, least-unique}
 use Rattle.semantics.proofs.FirstNullable.{first-none}
+use Rattle.semantics.proofs.Productive.{unproductive-iff, lowest-unproductive, all-productive}
 use Rattle.semantics.proofs.Follow.{follow-least, follow-lookahead}
 use Rattle.semantics.proofs.Concatenation.{first-strung, follow-strung, claims-strung}
 use Rattle.semantics.proofs.Claims.{clashes-elim, clashes-make, table-some, table-none, everyEnds-elim, everyEnds-make}
@@ -54,6 +55,7 @@ theorems = record {
     unclaimed = table-none G k;
     ends = (everyEnds-elim G k, everyEnds-make G k);
   };
+  productive-decided = λ G k. record { test = unproductive-iff G k; lowest = lowest-unproductive G k; absent = all-productive G k };
   least-unique = least-unique;
   one-token = λ G. record {
     first = first-strung G;

@@ -5,6 +5,7 @@ pub mod LeftRecursion
 pub mod Strings
 pub mod Families
 pub mod FirstFollow
+pub mod Productive
 pub mod Claims
 pub mod Predictive
 pub mod Choices

@@ -17,6 +17,7 @@ use Rattle.semantics.specs.LeftRecursion.{nullStep, nullable, LeftDepend
 use Rattle.semantics.specs.Strings.{span, look, Over, Lookahead}
 use Rattle.semantics.specs.Families.{Family, Least, Short, FirstOf, FirstBody, Strung, Meeting, FirstClosed, FollowClosed, FollowStrung, Claims, Clash}
 use Rattle.semantics.specs.Families.{EveryEnds, OwnTerminals}
+use Rattle.semantics.specs.Productive.{Unproductive, unproductive, lowestUnproductive}
 use Rattle.semantics.specs.FirstFollow.{strings, Entry, First, Follow}
 use Rattle.semantics.specs.Claims.{clashes, column, tableOf, everyEnds}
 use Rattle.semantics.specs.Choices.{Choice, OwnRules, tableChoice}
@@ -59,6 +60,13 @@ pub record LeastSets (G : Grammar) (k : ℕ) : Type 1 where
   pub claimed : clashes G k ≡ [] → (A : ℕ) (x : List ℕ) (q : ℕ) → (tableOf G k A x ≡ some q) ↔ Claims G k (First G k) (Follow G k) q A x
   pub unclaimed : (A : ℕ) (x : List ℕ) → (tableOf G k A x ≡ none) ↔ ((q : ℕ) → Claims G k (First G k) (Follow G k) q A x → ⊥)
   pub ends : T (everyEnds G k) ↔ EveryEnds G k (Follow G k)
+
+-- Which nonterminals are unproductive is decided, with the lowest; where there is none, each has a string in its FIRST set
+pub record ProductiveDecided (G : Grammar) (k : ℕ) : Type 0 where
+  pub test : (A : ℕ) → T (unproductive G k A) ↔ Unproductive G k A
+  pub lowest : (A : ℕ)
+      → (lowestUnproductive G k ≡ some A) ↔ ((A < G .nonterminals) × Unproductive G k A × ((B : ℕ) → B < A → Unproductive G k B → ⊥))
+  pub absent : (lowestUnproductive G k ≡ none) ↔ ((A : ℕ) → A < G .nonterminals → (x : List ℕ) × First G k A x)
 
 -- With one token of lookahead, in document 01's words: sets are strung together, and the entries of a row are its columns, terminals in order and the
 -- end last; the first clash is the first by nonterminal, then by column
@@ -132,6 +140,7 @@ pub record Theorems : Type 1 where
   pub one-solution : (G : Grammar) → WellScoped G → NoLeftRecursion G → (w : List ℕ) → OneSolution G w
   pub left-recursion-decided : (G : Grammar) → WellScoped G → LeftRecursionDecided G
   pub least-sets : (G : Grammar) → WellScoped G → OwnTerminals G → 0 < G .nonterminals → (k : ℕ) → LeastSets G k
+  pub productive-decided : (G : Grammar) (k : ℕ) → ProductiveDecided G k
   pub least-unique : (Closed : Family → Type 0) (F F′ : Family) → Least Closed F → Least Closed F′ → (A : ℕ) (x : List ℕ) → F A x ↔ F′ A x
   pub one-token : (G : Grammar) → OneToken G
   pub sound-first : (G : Grammar) → WellScoped G → NoLeftRecursion G → (k : ℕ) (w : List ℕ) → Over (G .terminals) w

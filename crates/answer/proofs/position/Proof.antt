@@ -36,11 +36,17 @@ enum-known-error-5 c = search needs
 cast-result-2 : tie.Need-cast-result-2
 cast-result-2 c = search needs
 
-mul-result : tie.Need-mul-result
-mul-result c = search needs
+enum-known-error-6 : tie.Need-enum-known-error-6
+enum-known-error-6 c = search needs
 
 cast-result-3 : tie.Need-cast-result-3
 cast-result-3 c = search needs
+
+mul-result : tie.Need-mul-result
+mul-result c = search needs
+
+cast-result-4 : tie.Need-cast-result-4
+cast-result-4 c = search needs
 
 add-result : tie.Need-add-result
 add-result c = search needs
@@ -48,8 +54,8 @@ add-result c = search needs
 enum-told-5 : tie.Need-enum-told-5
 enum-told-5 c = search needs
 
-enum-known-error-6 : tie.Need-enum-known-error-6
-enum-known-error-6 c = search needs
+enum-known-error-7 : tie.Need-enum-known-error-7
+enum-known-error-7 c = search needs
 
 returns : tie.Need-returns
 returns c = search needs
@@ -76,13 +82,16 @@ returns-8 : tie.Need-returns-8
 returns-8 c = search needs
 
 returns-9 : tie.Need-returns-9
-returns-9 c = rw (c .before .error5 .given .1)
+returns-9 c = search needs
 
 returns-10 : tie.Need-returns-10
-returns-10 c = search needs
+returns-10 c = rw (c .before .error6 .given .1)
 
 returns-11 : tie.Need-returns-11
 returns-11 c = search needs
+
+returns-12 : tie.Need-returns-12
+returns-12 c = search needs
 
 pub position-spec : {M : Type 1} → statement M
 position-spec =
@@ -99,11 +108,13 @@ position-spec =
     cast-result
     enum-known-error-5
     cast-result-2
-    mul-result
+    enum-known-error-6
     cast-result-3
+    mul-result
+    cast-result-4
     add-result
     enum-told-5
-    enum-known-error-6
+    enum-known-error-7
     returns
     returns-2
     returns-3
@@ -114,4 +125,5 @@ position-spec =
     returns-8
     returns-9
     returns-10
-    returns-11)
+    returns-11
+    returns-12)
