@@ -36,13 +36,16 @@ pub struct Passed {
 }
 
 impl Passed {
-    /// The grammar of these words, or why it is refused (codes 3 to 9).
+    /// The grammar of these words, or why it is refused (codes 3 to 8, then 13, then 9).
     pub fn check(words: &[u32]) -> Result<Passed, Refusal> {
         let grammar = Grammar::read(words)?;
         if let Some(nonterminal) = grammar.left_recursive() {
             return Err(Refusal(8, nonterminal));
         }
         let sets = grammar.sets();
+        if let Some(nonterminal) = sets.unproductive(grammar.nonterminals) {
+            return Err(Refusal(13, nonterminal));
+        }
         let table = grammar.table(&sets);
         match table.clash(|string| column(string, grammar.terminals)) {
             Some((nonterminal, column)) => Err(Refusal(9, nonterminal * CLASH + column)),
