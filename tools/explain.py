@@ -215,7 +215,7 @@ def way_to_never(grammar, name):
         way, met = [], set()
         while name not in met and found[name]:
             met.add(name)
-            way.append(found[name][0])
+            way.append(next((step for step in found[name] if step.to not in met), found[name][0]))
             name = way[-1].to
     return way
 
