@@ -123,8 +123,8 @@ module _ (G : Grammar) (scoped : WellScoped G) (l : LeastSets G 1) where
       let empty = unproductive-told (lowestLeftRecursive G) (lowestUnproductive G 1) (G .terminals) (clashes G 1) A in
       let free = theorems .left-recursion-decided G scoped .absent in
       let decided = theorems .productive-decided G 1 .lowest A in (
-        λ e. let h = empty .0 e in let k = decided .0 (h .1) in (free .0 (h .0), record { named = k .0; begins = k .1; lowest = k .2 }),
-        λ h. empty .1 (free .1 (h .0), decided .1 (h .1 .named, h .1 .begins, h .1 .lowest)),
+        λ e. let h = empty .0 e in let k = decided .0 (h .1) in (free .0 (h .0), record { named = k .0; unproductive = k .1; lowest = k .2 }),
+        λ h. empty .1 (free .1 (h .0), decided .1 (h .1 .named, h .1 .unproductive, h .1 .lowest)),
       )
 
   first-told : (A c : ℕ) → told ≡ some (Conflict A c) → NoLeftRecursion G × AllProductive G × FirstClash G A c

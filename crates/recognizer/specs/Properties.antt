@@ -66,7 +66,7 @@ pub record LowestRecursive (G : Grammar) (A : ℕ) : Type 0 where
 -- the lowest nonterminal whose first set is empty (document 02: the place of 13)
 pub record LowestUnproductive (G : Grammar) (A : ℕ) : Type 0 where
   pub named : A < G .nonterminals
-  pub begins : Unproductive G 1 A
+  pub unproductive : Unproductive G 1 A
   pub lowest : (B : ℕ) → B < A → Unproductive G 1 B → ⊥
 
 -- the first clash, by nonterminal, then column (document 01: the place of 9)
