@@ -48,7 +48,7 @@ fn try_judge(words: &[u32], events: &[u8], table: &mut [u32], memo: &mut [u16]) 
 
 fn try_judge_plain(words: &[u32], events: &[u8], spans: &mut [u32]) -> Result<Outcome, Refusal> {
     enough(spans.len(), SPAN_WORDS, 12)?;
-    let grammar = Grammar::read_free(words)?;
+    let (grammar, _) = clear(words)?;
     let input = readable(events, MAX_PLAIN_TOKENS, grammar.terminals)?;
     let found = Spans::of(&grammar, &input);
     found.lend(spans);
