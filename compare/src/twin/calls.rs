@@ -3,7 +3,7 @@
 use super::answers::{Outcome, Refusal};
 use super::descent::Descent;
 use super::limits::{MAX_PLAIN_TOKENS, MAX_TOKENS, MEMO_ENTRIES, SPAN_WORDS, TABLE_WORDS};
-use super::one::Passed;
+use super::one::{clear, Passed};
 use super::plain::Spans;
 use super::words::Grammar;
 
