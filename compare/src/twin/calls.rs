@@ -5,7 +5,6 @@ use super::descent::Descent;
 use super::limits::{MAX_PLAIN_TOKENS, MAX_TOKENS, MEMO_ENTRIES, SPAN_WORDS, TABLE_WORDS};
 use super::one::{clear, Passed};
 use super::plain::Spans;
-use super::words::Grammar;
 
 /// Refuses with this code if less is lent than is asked for.
 fn enough(lent: usize, asked: usize, code: u8) -> Result<(), Refusal> {

@@ -68,7 +68,7 @@ judge-tells none false Absent true c q = silent q (λ e. absurd (omega arith)) (
 judge-tells none false Absent false c q = silent q (λ e. absurd (omega arith)) (λ e. absurd (omega arith)) (λ e. absurd (omega arith))
 
 -- the fault of a grammar that has been read, by what is found of it
-abbrev grammarFault : Option ℕ → Option ℕ → ℕ → List Entry → Option Error
+abbrev pub grammarFault : Option ℕ → Option ℕ → ℕ → List Entry → Option Error
 grammarFault o u t l = firstFault (leftFault o ∷ unproductiveFault u ∷ clashFault t l ∷ [])
 
 pub fault-encoded : (words : List ℕ) (G : Grammar) → length words ≤ maxWords → Encodes words G
@@ -76,13 +76,13 @@ pub fault-encoded : (words : List ℕ) (G : Grammar) → length words ≤ maxWor
 unfolding fault
 fault-encoded words G short e = rw (encodes-read words G short e, encodes-grammar words G e)
 
-left-told : (o u : Option ℕ) (t : ℕ) (l : List Entry) (A : ℕ) → (grammarFault o u t l ≡ some (LeftRecursive A)) ↔ (o ≡ some A)
+pub left-told : (o u : Option ℕ) (t : ℕ) (l : List Entry) (A : ℕ) → (grammarFault o u t l ≡ some (LeftRecursive A)) ↔ (o ≡ some A)
 left-told none none t [] A = (λ e. absurd (omega (arith, fault-number e)), λ e. absurd (Option·some-ne-none A (sym e)))
 left-told none none t (x ∷ l) A = (λ e. absurd (omega (arith, fault-number e)), λ e. absurd (Option·some-ne-none A (sym e)))
 left-told none (some B) t l A = (λ e. absurd (omega (arith, fault-number e)), λ e. absurd (Option·some-ne-none A (sym e)))
 left-told (some B) u t l A = (λ e. let z : B ≡ A = cc in ap some z, λ e. let z : B ≡ A = cc in ap (λ C. some (LeftRecursive C)) z)
 
-unproductive-told : (o u : Option ℕ) (t : ℕ) (l : List Entry) (A : ℕ) → (grammarFault o u t l ≡ some (Unproductive A)) ↔ ((o ≡ none) × (u ≡ some A))
+pub unproductive-told : (o u : Option ℕ) (t : ℕ) (l : List Entry) (A : ℕ) → (grammarFault o u t l ≡ some (Unproductive A)) ↔ ((o ≡ none) × (u ≡ some A))
 unproductive-told none none t [] A = (λ e. absurd (omega (arith, fault-number e)), λ e. absurd (Option·some-ne-none A (sym (e .1))))
 unproductive-told none none t (x ∷ l) A = (λ e. absurd (omega (arith, fault-number e)), λ e. absurd (Option·some-ne-none A (sym (e .1))))
 unproductive-told none (some B) t l A =
