@@ -53,6 +53,7 @@ enum {
  *    6  a name or letter number not below the heading's              the word's index
  *    7  a 129th rule                                                 the word's index
  *    8  the grammar is left-recursive                                the lowest name that reaches itself
+ *   13  the first set of a name is empty, be it reached or not      the lowest such name
  *    9  two rules claim an entry of the table, or a letter may       name * 32 + column of the first clash, by name, then
  *       follow a name that has a rule of must-nots alone             column; of the second kind it is in column 0 */
 uint64_t vinegarspit_check(const uint32_t *card, size_t card_len, uint32_t *table, size_t table_len);
@@ -63,7 +64,7 @@ uint64_t vinegarspit_check(const uint32_t *card, size_t card_len, uint32_t *tabl
  * number of pairs of a name and a place that the descent calls, far the greatest place among them. The table is as after a check;
  * memo[name * (log_len + 1) + place] is where the call ended, FAILED or NOT_CALLED; later entries keep their contents.
  *
- * REFUSED as by a check, and besides, in the order of the numbers:
+ * REFUSED as by a check, and besides with 2, next after 1, and with 10 and 11, after all others:
  *    2  memo_len is under 16,032                                     0
  *   10  log_len is over 500                                          0
  *   11  an event whose letter is not below the number of letters     the first such index

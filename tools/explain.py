@@ -20,6 +20,10 @@ class Card(NamedTuple):
             return f'line {self.lines[min(at, len(self.lines) - 1)]}'
         return f'word {at}' + (f' ({self.words[at]:08x})' if at < len(self.words) else '')
 
+    def rule_at(self, at):
+        """The number of the rule that a word stands in."""
+        return sum(word >> 28 == RULE for word in self.words[:at]) - 1
+
     def rule(self, number):
         """A rule, with where it begins."""
         rule = self.grammar.rules[number]
@@ -176,6 +180,52 @@ def claimants(grammar, name, string):
     return [number for number, claimed in enumerate(claims(grammar)) if grammar.rules[number].head == name and string in claimed]
 
 
+# Names whose first set is empty: nothing can begin them, so no log belongs to them.
+
+def never_begun(grammar):
+    """The names whose first set is empty, lowest first."""
+    return [name for name, rows in enumerate(first_and_follow(grammar)[0]) if not rows]
+
+
+def rules_of(grammar, name):
+    return [number for number, rule in enumerate(grammar.rules) if rule.head == name]
+
+
+def needed(grammar, number, never):
+    """The names in the musts of a rule that nothing can begin."""
+    found = (symbol.number for body in grammar.rules[number].positives for symbol in body if symbol.kind == NONTERMINAL)
+    return [name for name in dict.fromkeys(found) if name in never]
+
+
+def own_reason(grammar, name, never):
+    """Whether a name has no rule, or one whose musts begin apart."""
+    rules = rules_of(grammar, name)
+    return not rules or any(not needed(grammar, number, never) for number in rules)
+
+
+def way_to_never(grammar, name):
+    """Steps by musts from a name that nothing can begin, to such names: a shortest row to one that has a reason of its own, or, where none can be
+    come to, up to one that was met before."""
+    never, found = never_begun(grammar), [[] for _ in grammar.nonterminals]
+    for step in steps(grammar):
+        if step.to in never and not step.negative:
+            found[step.name].append(step)
+    way = shortest(name, lambda at: ((step, None if own_reason(grammar, step.to, never) else step.to) for step in found[at]))
+    if way is None:
+        way, met = [], set()
+        while name not in met and found[name]:
+            met.add(name)
+            way.append(next((step for step in found[name] if step.to not in met), found[name][0]))
+            name = way[-1].to
+    return way
+
+
+def why_never(card, number, never):
+    """A rule that nothing can begin, and why."""
+    names = [card.grammar.nonterminals[name] for name in needed(card.grammar, number, never)]
+    return f'{card.rule(number)}: ' + (f'nothing can begin {" or ".join(names)}' if names else 'its musts have no beginning in common')
+
+
 # Rules of must-nots alone. Such a rule takes all up to the end of the log, so no letter may follow its name.
 
 def only_forbid(grammar, name):
@@ -257,6 +307,24 @@ def no_end_settled(card, name):
             + [behind_text(card, step, letters[0], False) for step in way] + [behind_text(card, last, letters[0], True)])
 
 
+def nothing_begins(card, name):
+    """Why a name's first set is empty: each of its rules, and one row of names that lead to one with a reason of its own."""
+    grammar, never = card.grammar, never_begun(card.grammar)
+    rules, called = rules_of(grammar, name), grammar.nonterminals[name]
+    if not rules:
+        return [f'{called} has no rule, so no log belongs to it']
+    told = [why_never(card, number, never) for number in rules]
+    way = way_to_never(grammar, name)
+    for step in way[1:]:
+        told.append(why_never(card, card.rule_at(step.word), never))
+    last = way[-1].to if way else name
+    if not rules_of(grammar, last):
+        told.append(f'{grammar.nonterminals[last]} has no rule')
+    elif last != name:
+        told += [why_never(card, number, never) for number in rules_of(grammar, last) if not needed(grammar, number, never)][:1]
+    return [f'nothing can begin {called}, so no log belongs to it'] + told
+
+
 def refusal(card, number, place, log=(), longest=MAX_INPUT):
     """The lines that tell a refusal; the log is a row of letters as they were written, and of so many events at most."""
     grammar = card.grammar
@@ -268,12 +336,14 @@ def refusal(card, number, place, log=(), longest=MAX_INPUT):
         return [(f'{card.where(place)}: ' if number > 4 else '') + reason]
     if number == 10:
         return [f'the log has {len(log)} events, and the limit is {longest}']
-    if grammar is None or number not in (8, 9, 11):
+    if grammar is None or number not in (8, 9, 11, 13):
         return ['README.md has a table of refusals']
     if number == 8:
         name = grammar.nonterminals[place]
         return [f'left-recursive: {name} comes to {name} again before any event is read'] + [
             step_text(card, step) for step in way_back(grammar, place) or ()]
+    if number == 13:
+        return nothing_begins(card, place)
     if number == 9:
         name, column = divmod(place, 32)
         reasons = (no_end_settled(card, name) if column == 0 else []) + several_meant(card, name, column)

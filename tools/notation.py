@@ -188,7 +188,7 @@ def resolver(nonterminals, terminals, listed):
             raise TextError(line, f"'{token}' is not among the letters")
         if listed:
             raise TextError(line, f"{token} is not in the line 'names'")
-        raise TextError(line, f"{token} has no rule; if that is meant, list every name in a line 'names'")
+        raise TextError(line, f'{token} has no rule')
     return resolve
 
 

@@ -357,6 +357,23 @@ fn predictive(random: &mut Random) -> Draft {
     Draft { nonterminals, terminals, rules }
 }
 
+/// The same grammar with a first set for each nonterminal that had an empty one: where it has a rule, the bodies of the first are cut to the
+/// symbol that they begin with, so that nothing more is claimed; else it gets a rule of one terminal. Higher ones come first, since rules of
+/// the form above begin with those.
+fn begun(random: &mut Random, mut draft: Draft) -> Draft {
+    for b in (0..draft.nonterminals).rev() {
+        let unproductive = Grammar::read(&draft.words()).is_ok_and(|grammar| grammar.sets::<1, MAX_TERMINALS>().first[b].bits() == 0);
+        if !unproductive {
+            continue;
+        }
+        match draft.rules.iter_mut().find(|rule| rule.nonterminal == b) {
+            Some(first) => first.positives.iter_mut().for_each(|body| body.truncate(1)),
+            None => draft.rules.push(rule(b, &[&[Terminal(random.below(draft.terminals) as u8)]], &[])),
+        }
+    }
+    draft
+}
+
 /// A body with each nonterminal's number so much higher.
 fn shifted(mut body: Body, by: usize) -> Body {
     for symbol in &mut body {
@@ -568,6 +585,9 @@ pub fn words(random: &mut Random) -> Vec<u32> {
         86..=91 => random_chain(random),
         _ => near_limits(random),
     };
+    if random.chance(90) {
+        draft = begun(random, draft);
+    }
     for _ in 0..[0, 0, 0, 0, 1, 2, 3][random.below(7)] {
         edit(random, &mut draft);
     }

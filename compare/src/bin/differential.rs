@@ -20,7 +20,10 @@ const MOST_PLAIN: usize = 2;
 /// The longest grammar that is always judged plainly too, and how many of the longer ones are not, for one that is.
 const PLAIN_WORDS: usize = 200;
 const PASSED_OVER: u64 = 40;
-/// The refusal that judging plainly alone can give, behind those of the others.
+/// More than the greatest number of a refusal that the papers know.
+const CODES: usize = 24;
+/// The refusals that a check or a judgement can give, in the order in which they are told; and that of judging plainly alone.
+const REFUSALS: [usize; 12] = [1, 2, 3, 4, 5, 6, 7, 8, 13, 9, 10, 11];
 const PLAIN_REFUSAL: usize = 12;
 const DEFAULT_SEED: u64 = 1;
 const DEFAULT_COUNT: u64 = 150_000;
@@ -87,7 +90,7 @@ fn length(random: &mut Random, enough: usize) -> usize {
 struct Tally {
     cases: u64,
     differ: u64,
-    refused: [u64; 13],
+    refused: [u64; CODES],
     passed: u64,
     rejected: u64,
     accepted: u64,
@@ -119,8 +122,8 @@ impl Tally {
     }
 
     fn print(&self) {
-        for (code, times) in self.refused.iter().enumerate().skip(1) {
-            println!("  refused {code:<2} {times:>9}");
+        for code in REFUSALS {
+            println!("  refused {code:<2} {:>9}", self.refused[code]);
         }
         println!("  passed     {:>9}", self.passed);
         println!("  rejected   {:>9}", self.rejected);
@@ -133,7 +136,7 @@ impl Tally {
 
     /// Whether every outcome of judging was seen.
     fn judged(&self) -> bool {
-        self.refused[1..PLAIN_REFUSAL].iter().chain([&self.rejected, &self.accepted]).all(|&times| times > 0)
+        REFUSALS.iter().map(|&code| self.refused[code]).chain([self.rejected, self.accepted]).all(|times| times > 0)
     }
 
     /// Whether every outcome that the papers know was seen.
@@ -216,7 +219,7 @@ fn print_first_difference<T: PartialEq + Debug>(name: &str, twin: &[T], proved: 
     }
 }
 
-/// The judged inputs and the limits that document 01 states, and rows for the sentences of requests P1 and P5, with the verdict, the code and
+/// The judged inputs and the limits that document 01 states, and rows for the sentences of requests P1, P5 and P7, with the verdict, the code and
 /// position or the count and farthest place that the papers give.
 fn stated_cases(pair: &mut Pair) {
     use Verdict::{Accepted, Refused, Rejected};
@@ -231,7 +234,8 @@ fn stated_cases(pair: &mut Pair) {
     let followed = two(2, vec![rule(0, &[&[x, b]], &[]), rule(1, &[], &[&[a]])]);
     let followed_in_a_negative = two(2, vec![rule(0, &[&[x]], &[&[x, b]]), rule(1, &[], &[&[a]])]);
     let deepest_forbidding = cards::forbidding_chain(32, 24).words();
-    let unproductive = one(vec![]);
+    let start = Symbol::Nonterminal(0);
+    let clash = [rule(0, &[&[a]], &[]), rule(0, &[&[a]], &[])];
     let deepest = cards::chain(32, 24);
     let largest = cards::largest().words();
     let with = |nonterminals, terminals| Draft { nonterminals, terminals, ..deepest.clone() }.words();
@@ -258,9 +262,18 @@ fn stated_cases(pair: &mut Pair) {
         ([largest, vec![7 << 28]].concat(), vec![], Refused, 3, 0),
         (one(vec![rule(0, &[&[]], &[]); 129]), vec![], Refused, 7, 257),
         (one(vec![rule(0, &[&[a]], &[&[Symbol::Nonterminal(0)]])]), vec![], Refused, 8, 0),
-        (one(vec![rule(0, &[&[a]], &[]), rule(0, &[&[a]], &[])]), vec![], Refused, 9, 0),
-        (unproductive.clone(), vec![], Rejected, 1, 0),
-        (unproductive, vec![0; MAX_TOKENS], Rejected, 1, 0),
+        (one(clash.to_vec()), vec![], Refused, 9, 0),
+        (one(vec![]), vec![], Refused, 13, 0),
+        (one(vec![]), vec![0; MAX_TOKENS + 1], Refused, 13, 0),
+        (one(vec![rule(0, &[&[a, start]], &[])]), vec![0], Refused, 13, 0),
+        // name 1 is not reached; with one letter of lookahead its two bodies begin apart
+        (two(2, vec![rule(0, &[&[a]], &[])]), vec![0], Refused, 13, 1),
+        (two(2, vec![rule(0, &[&[a]], &[]), rule(1, &[&[a], &[b]], &[])]), vec![0], Refused, 13, 1),
+        (two(1, vec![rule(0, &[&[a, b], &[a, a]], &[])]), vec![0], Rejected, 1, 0),
+        // the lowest of two; before a clash; behind left recursion
+        (two(3, vec![rule(0, &[&[a]], &[]), rule(1, &[&[Symbol::Nonterminal(2)]], &[])]), vec![], Refused, 13, 1),
+        (two(2, clash.to_vec()), vec![], Refused, 13, 1),
+        (two(2, vec![rule(0, &[&[x, start]], &[&[start]])]), vec![], Refused, 8, 0),
         (forbids_a.clone(), vec![], Accepted, 1, 0),
         (forbids_a.clone(), vec![0], Rejected, 1, 0),
         (forbids_a.clone(), vec![1], Accepted, 1, 0),
@@ -428,7 +441,7 @@ fn run(seed: u64, count: u64) -> bool {
     let memory = Memory::random(&mut random);
     let mut pair = Pair { twin: memory.clone(), proved: memory, tally: Tally::default() };
 
-    println!("stated: the judged inputs and limits of document 01, and rows of the requests P1, P2, P5 and P6");
+    println!("stated: the judged inputs and limits of document 01, and rows of the requests P1, P2, P5, P6 and P7");
     stated_cases(&mut pair);
     histories::stated_histories(&mut pair);
     stated_plain_cases(&mut pair);

@@ -3,9 +3,8 @@
 use super::answers::{Outcome, Refusal};
 use super::descent::Descent;
 use super::limits::{MAX_PLAIN_TOKENS, MAX_TOKENS, MEMO_ENTRIES, SPAN_WORDS, TABLE_WORDS};
-use super::one::Passed;
+use super::one::{clear, Passed};
 use super::plain::Spans;
-use super::words::Grammar;
 
 /// Refuses with this code if less is lent than is asked for.
 fn enough(lent: usize, asked: usize, code: u8) -> Result<(), Refusal> {
@@ -48,7 +47,7 @@ fn try_judge(words: &[u32], events: &[u8], table: &mut [u32], memo: &mut [u16]) 
 
 fn try_judge_plain(words: &[u32], events: &[u8], spans: &mut [u32]) -> Result<Outcome, Refusal> {
     enough(spans.len(), SPAN_WORDS, 12)?;
-    let grammar = Grammar::read_free(words)?;
+    let (grammar, _) = clear(words)?;
     let input = readable(events, MAX_PLAIN_TOKENS, grammar.terminals)?;
     let found = Spans::of(&grammar, &input);
     found.lend(spans);

@@ -29,11 +29,14 @@ fn string(column: usize, letters: usize) -> usize {
     if column == letters { 0 } else { column + 1 }
 }
 
-/// The grammar of these words with its sets, or why it is refused (codes 3 to 8).
-fn clear(words: &[u32]) -> Result<(Grammar, Sets), Refusal> {
+/// The grammar of these words with its sets, or why it is refused before its table is made (codes 3 to 8 and 13).
+pub fn clear(words: &[u32]) -> Result<(Grammar, Sets), Refusal> {
     let grammar = Grammar::read_free(words)?;
     let sets = grammar.sets();
-    Ok((grammar, sets))
+    match sets.unproductive(grammar.nonterminals) {
+        Some(nonterminal) => Err(Refusal(13, nonterminal)),
+        None => Ok((grammar, sets)),
+    }
 }
 
 /// The cells with no rule or with two or more (request P3): nonterminal, column and rules, by nonterminal, then column; and the nonterminals
@@ -70,7 +73,7 @@ pub struct Passed {
 }
 
 impl Passed {
-    /// The grammar of these words, or why it is refused (codes 3 to 9).
+    /// The grammar of these words, or why it is refused (codes 3 to 8, then 13, then 9).
     pub fn check(words: &[u32]) -> Result<Passed, Refusal> {
         let (grammar, sets) = clear(words)?;
         let table = grammar.table(&sets);

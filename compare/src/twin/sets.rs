@@ -10,6 +10,13 @@ pub struct Sets<const K: usize, const L: usize> {
     pub follow: [Set<K, L>; MAX_NONTERMINALS],
 }
 
+impl<const K: usize, const L: usize> Sets<K, L> {
+    /// The lowest nonterminal whose first set is empty (request P7), if there is one; reached from the start or not.
+    pub fn unproductive(&self, nonterminals: usize) -> Option<usize> {
+        self.first[..nonterminals].iter().position(|&first| first == Set::EMPTY)
+    }
+}
+
 impl Grammar {
     /// The nullable nonterminals (document 01: maybe-empty), a bit for each.
     fn nullable(&self) -> u32 {

@@ -107,4 +107,13 @@ mod tests {
         assert_eq!(grammar.table(&grammar.sets::<1, 24>()).clash(|string| string), Some((0, 1)));
         assert_eq!(grammar.table(&grammar.sets::<2, 7>()).clash(|string| string), None);
     }
+
+    /// S: a b and a c: a first set with one letter, none with two.
+    #[test]
+    fn two_letters_begin_apart() {
+        let rules = vec![rule(0, &[&[Terminal(0), Terminal(1)], &[Terminal(0), Terminal(2)]], &[])];
+        let grammar = Grammar::read(&Draft { nonterminals: 1, terminals: 3, rules }.words()).expect("well formed");
+        assert_eq!(grammar.sets::<1, 24>().unproductive(1), None);
+        assert_eq!(grammar.sets::<2, 7>().unproductive(1), Some(0));
+    }
 }

@@ -1,4 +1,4 @@
-// Document 01's limit cases and those of request P1. Each grammar is a file; behind its name stands what the program sheet prints of it, or, for
+// Document 01's limit cases and those of requests P1 and P7. Each grammar is a file; behind its name stands what the program sheet prints of it, or, for
 // each input, the first line of what the program judge prints.
 ghost use Rattle.io.specs.Counts.{Counts};
 use grammar::limits::PLACES;
@@ -84,6 +84,14 @@ fn limits_of_checking() {
     checked(b"letter_behind_must_nots");
 }
 
+// An empty first set: of a name that never ends, of one that nothing reaches; before a clash, and behind left recursion.
+fn unproductive() {
+    checked(b"never_ends");
+    checked(b"no_rule_unreached");
+    checked(b"no_rule_and_clash");
+    checked(b"no_rule_and_left_recursive");
+}
+
 // No token, one, the most and one more, and four of which the third is unknown.
 fn limits_of_judging(path: &[u8]) {
     name(path);
@@ -105,6 +113,7 @@ fn deepest(path: &[u8]) {
 
 fn main() {
     limits_of_checking();
+    unproductive();
     limits_of_judging(b"repeated");
     limits_of_judging(b"no_rule");
     limits_of_judging(b"must_nots_alone");

@@ -9,7 +9,7 @@ use lib.Dec.{ltb, ltb→lt}
 use lib.ListN.{length}
 use borrow.Author.Tests.{ltb-false}
 use Rattle.answer.specs.declared.Error.{Error}
-use Rattle.answer.specs.declared.Error.the-variants.{TableTooShort, MemoTooShort, LeftRecursive, Conflict, InputTooLong, UnknownToken, SpansTooShort}
+use Rattle.answer.specs.declared.Error.the-variants.{TableTooShort, MemoTooShort, LeftRecursive, Unproductive, Conflict, InputTooLong, UnknownToken, SpansTooShort}
 use Rattle.answer.specs.Numbers.{coded}
 use Rattle.answer.specs.Faults.{faultIf}
 use Rattle.answer.proofs.Faults.{none-some, fault-none, EachFault, first-each}
@@ -24,13 +24,14 @@ use Rattle.grammar.proofs.WellRead.{well-read}
 use Rattle.booleans.specs.Quantifiers.{allOf}
 use Rattle.semantics.specs.Strings.{Over}
 use Rattle.semantics.specs.LeftRecursion.{leftRecursive, lowestLeftRecursive}
+use Rattle.semantics.specs.Productive.{unproductive, lowestUnproductive}
 use Rattle.semantics.specs.FirstFollow.{Entry, entries}
 use Rattle.semantics.specs.Claims.{clashes, column}
 use Rattle.booleans.proofs.Booleans.{and-l}
 use Rattle.semantics.proofs.FiniteSets.{keep-elim}
 use Rattle.booleans.proofs.Quantified.{lowest-some}
 use Rattle.semantics.proofs.LookaheadSets.{entries-elim}
-use Rattle.sets.specs.Analysis.{readingFault, leftFault, setsFaults}
+use Rattle.sets.specs.Analysis.{readingFault, leftFault, unproductiveFault, setsFaults}
 use Rattle.table.specs.Analysis.{clashFault, grammarFaults}
 use Rattle.event.specs.declared.Unknown.the-variants.{At}
 use Rattle.event.specs.Unknown.{unknownFrom, unknownFault}
@@ -59,6 +60,11 @@ module _ (G : Grammar) (few : G .nonterminals ≤ maxNonterminals) (small : G .t
   unfolding lowestLeftRecursive
   left-low none e = none-low maxWords
   left-low (some A) e = some-low maxWords (LeftRecursive A) (omega (arith, lowest-some (G .nonterminals) (leftRecursive G) A .0 e .0))
+
+  unproductive-low : (o : Option ℕ) → lowestUnproductive G 1 ≡ o → LowFault maxWords (unproductiveFault o)
+  unfolding lowestUnproductive
+  unproductive-low none e = none-low maxWords
+  unproductive-low (some A) e = some-low maxWords (Unproductive A) (omega (arith, lowest-some (G .nonterminals) (unproductive G 1) A .0 e .0))
 
   column-low : (x : List ℕ) → Over (G .terminals) x → column (G .terminals) x ≤ maxTerminals
   unfolding allOf
@@ -92,7 +98,8 @@ sets-rows words l h = (
       let r = well-read words (k .0) (k .1) in
       let few : grammarOf words .nonterminals ≤ maxNonterminals = omega (arith, r .nonterminals, r .fewNonterminals) in
       let small : grammarOf words .terminals ≤ maxTerminals = omega (arith, r .terminals, r .fewTerminals) in
-      (left-low (grammarOf words) few small _ refl, λ _. h few small),
+      let G = grammarOf words in
+      (left-low G few small _ refl, λ _. (unproductive-low G few small _ refl, λ _. h few small)),
 )
 
 -- all rows of a grammar's faults, and those behind them

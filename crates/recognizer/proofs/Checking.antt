@@ -32,6 +32,7 @@ use Rattle.encoding.proofs.ReadingEncodes.{read-encodes, encodes-read}
 use Rattle.encoding.proofs.Faithful.{faithful}
 use Rattle.semantics.specs.LeftRecursion.{NoLeftRecursion, lowestLeftRecursive}
 use Rattle.semantics.specs.FirstFollow.{Entry}
+use Rattle.semantics.specs.Productive.{lowestUnproductive}
 use Rattle.semantics.specs.Claims.{clashes}
 use Rattle.semantics.specs.Theorems.{LeastSets}
 use Rattle.semantics.proofs.Theorems.{theorems}
@@ -39,7 +40,7 @@ use Rattle.sets.specs.declared.Finding.the-variants as finding
 use Rattle.table.specs.declared.Analysis.{Analysis}
 use Rattle.table.specs.Layout.{tableWords}
 use Rattle.table.specs.Entries.{filled}
-use Rattle.sets.specs.Analysis.{readingFault, leftFault}
+use Rattle.sets.specs.Analysis.{readingFault, leftFault, unproductiveFault}
 use Rattle.sets.proofs.Findings.{told-passed, told-refused}
 use Rattle.table.specs.Analysis.{clashFault, grammarFaults, fault, tableIf, analyzed}
 use Rattle.table.proofs.Words.{table-long}
@@ -52,6 +53,10 @@ use Rattle.recognizer.proofs.Places.{check-tells, fault-encoded, places
 pub none-left : (o : Option ℕ) → leftFault o ≡ none → o ≡ none
 none-left none e = refl
 none-left (some A) e = absurd (omega (arith, fault-number e))
+
+none-unproductive : (o : Option ℕ) → unproductiveFault o ≡ none → o ≡ none
+none-unproductive none e = refl
+none-unproductive (some A) e = absurd (omega (arith, fault-number e))
 
 none-clash : (t : ℕ) (l : List Entry) → clashFault t l ≡ none → l ≡ []
 none-clash t [] e = refl
@@ -83,13 +88,14 @@ unfolding fault
 passed-fault words e =
     let f = each-none (grammarFaults words) e in
     let z = read-some (reading words) (f .0) in
-    let none-clashes : clashes (grammarOf words) 1 ≡ [] = none-clash _ (clashes (grammarOf words) 1) (f .1 .1 .0) in
+    let none-clashes : clashes (grammarOf words) 1 ≡ [] = none-clash _ (clashes (grammarOf words) 1) (f .1 .1 .1 .0) in
     let r = read-encodes words (z .0) (z .1) in
     record {
       short = r .0;
       grammar = grammarOf words;
       encodes = r .1;
       free = theorems .left-recursion-decided (grammarOf words) (r .1 .formed .scoped) .absent .0 (none-left (lowestLeftRecursive (grammarOf words)) (f .1 .0));
+      productive = theorems .productive-decided (grammarOf words) 1 .absent .0 (none-unproductive (lowestUnproductive (grammarOf words) 1) (f .1 .1 .0));
       clashless = λ A x c. List·Memᴰ·not-nil (rw none-clashes at (least (grammarOf words) (r .1) .clash A x .1 c));
     }
 
@@ -114,12 +120,15 @@ module _ (words : List ℕ) (p : PassedGrammar words) where
   pub not-left-recursive : lowestLeftRecursive (grammarOf words) ≡ none
   not-left-recursive = theorems .left-recursion-decided (grammarOf words) (passed-encodes .formed .scoped) .absent .1 passed-free
 
+  pub all-productive : lowestUnproductive (grammarOf words) 1 ≡ none
+  all-productive = theorems .productive-decided (grammarOf words) 1 .absent .1 (rw (← same-grammar) (p .productive))
+
   pub passed-read : reading words ≡ Read (sizesOf (grammarOf words))
   passed-read = encodes-read words (grammarOf words) (p .short) passed-encodes
 
   pub fault-passed : fault words ≡ none
   unfolding fault
-  fault-passed = rw (passed-read, not-left-recursive, no-clashes)
+  fault-passed = rw (passed-read, not-left-recursive, all-productive, no-clashes)
 
 -- with a table that is long enough only the grammar's faults are left
 pub check-fault-long : (n : ℕ) (words : List ℕ) → maxTableWords ≤ n → checkFault n words ≡ fault words

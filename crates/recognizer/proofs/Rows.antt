@@ -5,6 +5,7 @@ use Rattle.word.specs.Words.{bare, heading, ofKind, decoded}
 use Rattle.grammar.specs.Encoding.{onWord, parse, grammarOf}
 use Rattle.grammar.specs.Reading.{counted, stepped, onStep, finished, scan, within, headed, opened, reading}
 use Rattle.semantics.proofs.Computing.{left-recursion-computes, tables-compute, descent-computes, calls-compute}
+use Rattle.semantics.specs.Productive.{unproductive, lowestUnproductive}
 use Rattle.table.specs.Analysis.{fault}
 use Rattle.event.specs.Unknown.{unknownFrom}
 use Rattle.recognizer.specs.Answers.{judgeFault, verdictOf}
@@ -12,5 +13,5 @@ use Rattle.recognizer.specs.Rows.{starred, judged}
 
 pub starred-rows : map (λ r. judged (r .words) (r .input)) starred ≡ map (λ r. r .told) starred
 unfolding judged judgeFault verdictOf unknownFrom fault reading opened headed within scan finished onStep stepped counted
-    grammarOf parse onWord decoded ofKind heading bare left-recursion-computes tables-compute descent-computes calls-compute
+    grammarOf parse onWord decoded ofKind heading bare lowestUnproductive unproductive left-recursion-computes tables-compute descent-computes calls-compute
 starred-rows = refl

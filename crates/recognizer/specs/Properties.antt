@@ -12,6 +12,7 @@ use Rattle.answer.specs.Faults.{refusedOr, toldOr}
 use Rattle.answer.specs.declared.Answer.{Answer}
 use Rattle.answer.specs.declared.Answer.the-variants.{Refused, Passed, Accepted, Rejected}
 use Rattle.answer.specs.declared.Error.the-variants.{LeftRecursive, Conflict}
+use Rattle.answer.specs.declared.Error.the-variants as error
 use Rattle.grammar.specs.Limits.{maxTableWords, maxMemoEntries, maxTokens, maxWords}
 use Rattle.grammar.specs.Syntax.{Grammar}
 use Rattle.grammar.specs.Encoding.{grammarOf}
@@ -23,6 +24,7 @@ use Rattle.semantics.specs.LeftRecursion.{LeftReaches, NoLeftRecursion}
 use Rattle.semantics.specs.Strings.{Over}
 use Rattle.semantics.specs.Families.{FirstClosed, FollowClosed, Claims, Clash}
 use Rattle.semantics.specs.FirstFollow.{First, Follow}
+use Rattle.semantics.specs.Productive.{Unproductive}
 use Rattle.semantics.specs.Claims.{clashes, column, tableOf}
 use Rattle.semantics.specs.Choices.{tableChoice}
 use Rattle.semantics.specs.Memo.{Recorded}
@@ -31,13 +33,19 @@ use Rattle.table.specs.Layout.{tableWords}
 use Rattle.recognizer.specs.Memory.{lentBack, memoWords}
 use Rattle.recognizer.specs.Answers.{checkFault, judgeFault, callsOf, verdictOf, passedNumbers, verdictNumbers}
 
+-- each nonterminal, reachable or not, has a string in its first set (document 02: none whose first set is empty)
+abbrev pub AllProductive : Grammar → Type 0
+AllProductive G = (A : ℕ) → A < G .nonterminals → (x : List ℕ) × First G 1 A x
+
 -- a grammar that passes (document 01: a passed card): at most 2,048 words that encode a well-formed grammar within the limits, not
--- left-recursive, and without a clash: no entry is claimed by two rules, and only the end can follow a rule without positives
+-- left-recursive, without an empty first set, and without a clash: no entry is claimed by two rules, and only the end can follow a rule
+-- without positives
 pub record PassedGrammar (words : List ℕ) : Type 0 where
   pub short : length words ≤ maxWords
   pub grammar : Grammar
   pub encodes : Encodes words grammar
   pub free : NoLeftRecursion grammar
+  pub productive : AllProductive grammar
   pub clashless : (A : ℕ) (x : List ℕ) → Clash grammar 1 (First grammar 1) (Follow grammar 1) A x → ⊥
 
 -- the sets and the entries of a grammar with one token of lookahead: no smaller than the rules ask, and no larger than any family of tests that they
@@ -55,6 +63,12 @@ pub record LowestRecursive (G : Grammar) (A : ℕ) : Type 0 where
   pub reaches : LeftReaches G A A
   pub lowest : (B : ℕ) → B < A → LeftReaches G B B → ⊥
 
+-- the lowest nonterminal whose first set is empty (document 02: the place of 13)
+pub record LowestUnproductive (G : Grammar) (A : ℕ) : Type 0 where
+  pub named : A < G .nonterminals
+  pub unproductive : Unproductive G 1 A
+  pub lowest : (B : ℕ) → B < A → Unproductive G 1 B → ⊥
+
 -- the first clash, by nonterminal, then column (document 01: the place of 9)
 pub record FirstClash (G : Grammar) (A c : ℕ) : Type 0 where
   pub string : List ℕ
@@ -62,10 +76,11 @@ pub record FirstClash (G : Grammar) (A c : ℕ) : Type 0 where
   pub stands : column (G .terminals) string ≡ c
   pub first : (B : ℕ) (x : List ℕ) → Clash G 1 (First G 1) (Follow G 1) B x → (A < B) ⊎ ((A ≡ B) × (c ≤ column (G .terminals) x))
 
--- when a grammar that is read is refused, and where: 8 comes before 9
+-- when a grammar that is read is refused, and where: 8 comes before 13, and 13 before 9
 pub record Places (G : Grammar) (r : Answer) : Type 0 where
   pub recursive : (A : ℕ) → (r ≡ Refused (LeftRecursive A)) ↔ LowestRecursive G A
-  pub conflict : (A c : ℕ) → (r ≡ Refused (Conflict A c)) ↔ (NoLeftRecursion G × FirstClash G A c)
+  pub unproductive : (A : ℕ) → (r ≡ Refused (error.Unproductive A)) ↔ (NoLeftRecursion G × LowestUnproductive G A)
+  pub conflict : (A c : ℕ) → (r ≡ Refused (Conflict A c)) ↔ (NoLeftRecursion G × AllProductive G × FirstClash G A c)
 
 -- checking an encoded grammar with a lent table: properties 1 and 2
 pub record Checks (words before : List ℕ) (r : Answer) (after : List ℕ) : Type 0 where
@@ -75,7 +90,7 @@ pub record Checks (words before : List ℕ) (r : Answer) (after : List ℕ) : Ty
   pub answer : r ≡ refusedOr (checkFault (length before) words) Passed
   pub told : numbers r ≡ toldOr (checkFault (length before) words) passedNumbers
   pub table : after ≡ lentBack (checkFault (length before) words) (tableWords (grammarOf words)) before
-  -- passed exactly when well formed, not left-recursive and without a clash, where the table is long enough
+  -- passed exactly when well formed, not left-recursive, without an empty first set and without a clash, where the table is long enough
   pub passed : maxTableWords ≤ length before → (r ≡ Passed) ↔ PassedGrammar words
   pub places : maxTableWords ≤ length before → length words ≤ maxWords → (G : Grammar) → Encodes words G → Places G r
   -- the sets and the entries of an encoded grammar are the least ones

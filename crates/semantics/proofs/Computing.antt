@@ -9,6 +9,7 @@ use Rattle.semantics.specs.LeftRecursion.{lowestLeftRecursive}
 use Rattle.semantics.specs.Strings.{look}
 use Rattle.semantics.specs.FirstFollow.{strings, sameString, concatStrings, sameEntry, entries, setsOf, firstOfSymbol, firstBody, firstRule, firstStep}
 use Rattle.semantics.specs.FirstFollow.{first, firstSets, behind, followStep, follow, followSets}
+use Rattle.semantics.specs.Productive.{unproductive, lowestUnproductive}
 use Rattle.semantics.specs.Claims.{several, position, meeting, claimed, claims, overruns, clashes, tableOf, everyEnds}
 use Rattle.semantics.specs.Descent.{read, run, agrees, confirm, conclude, obey, select, byChoice, within, descend, accepts}
 use Rattle.semantics.specs.ComesTo.{when, bodyComesTo, negativesComeTo, positivesComeTo, ruleComesTo, selectedComesTo, callComesTo}
@@ -18,6 +19,10 @@ unfoldable pub tables-compute : Unit {0}
 unfolding anyOf allOf member keep distinct numbersFrom numbers combine round settle members least strings sameString concatStrings sameEntry entries setsOf
     firstOfSymbol firstBody firstRule firstStep first firstSets behind followStep follow followSets several position meeting claimed claims overruns clashes tableOf everyEnds
 tables-compute = tt
+
+unfoldable pub productive-computes : Unit {0}
+unfolding tables-compute anyBelow lowest unproductive lowestUnproductive
+productive-computes = tt
 
 unfoldable pub left-recursion-computes : Unit {0}
 unfolding anyOf allOf anyBelow lowest member keep numbersFrom numbers round settle members least nullable nullStep allNullable

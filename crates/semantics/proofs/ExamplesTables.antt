@@ -1,17 +1,19 @@
--- The sheets of document 01's grammars R, M and E, and tables for two tokens and for a rule without positive bodies, by computation.
+-- The sheets of document 01's grammars R, M and E, tables for two tokens and for a rule without positive bodies, and grammars with and
+-- without an unproductive nonterminal, by computation.
 use mathlib.Core.Bool.{Bool, true, false}
 use mathlib.Core.List.{List, [], _∷_, map}
 use mathlib.Core.Option.{Option, none, some}
 use mathlib.Core.Path.{_≡_, refl}
 use Prim.Native.Nat.{ℕ, _+_, _^_}
 use Rattle.word.specs.declared.Symbol.the-variants.{Terminal, Nonterminal}
-use Rattle.grammar.specs.Syntax.{Grammar}
+use Rattle.grammar.specs.Syntax.{Rule, Grammar}
 use Rattle.semantics.specs.FiniteSets.{member, numbers}
 use Rattle.semantics.specs.Rounds.{settle}
 use Rattle.semantics.specs.FirstFollow.{strings, sameEntry, entries, firstStep, firstSets, followSets}
 use Rattle.semantics.specs.Claims.{clashes, tableOf, everyEnds}
 use Rattle.grammar.specs.Cards.{grammarR, grammarM, grammarE}
-use Rattle.semantics.proofs.Computing.{tables-compute}
+use Rattle.semantics.specs.Productive.{lowestUnproductive}
+use Rattle.semantics.proofs.Computing.{tables-compute, productive-computes}
 
 -- the number of a set at k = 1: a terminal a weighs 2 ^ a, the empty string 2 ^ 24
 weight : List (List ℕ) → ℕ
@@ -78,6 +80,11 @@ meets-sheet : _≡_ {A = List Row} (sheet meets) (
 unfolding tables-compute weight sheet
 meets-sheet = refl
 
+-- D, the nonterminal 3, is the lowest unproductive one, though it has a rule
+meets-lowest : lowestUnproductive meets 1 ≡ some 3
+unfolding productive-computes
+meets-lowest = refl
+
 -- (ab)ⁿac but for ac: S → T & ¬ X, T → a b T, T → a c, X → a c
 abbrev pub repeated : Grammar
 repeated = record {
@@ -127,3 +134,26 @@ others-ends = refl
 others-two : firstSets others 2 0 ≡ (0 ∷ 0 ∷ []) ∷ (0 ∷ []) ∷ [] ∷ []
 unfolding tables-compute
 others-two = refl
+
+-- one nonterminal and no rule; and S → a S, which never ends: both are unproductive
+abbrev alone : List Rule → Grammar
+alone rules = record { nonterminals = 1; terminals = 1; rules = rules }
+
+alone-unproductive : _≡_ {A = List (Option ℕ)}
+    (map (λ rules. lowestUnproductive (alone rules) 1)
+    ([] ∷ (record { head = 0; positives = (Terminal 0 ∷ Nonterminal 0 ∷ []) ∷ []; negatives = [] } ∷ []) ∷ []))
+    (some 0 ∷ some 0 ∷ [])
+unfolding productive-computes
+alone-unproductive = refl
+
+-- S → a b & a c: with one token both positives begin with a, with two they have nothing in common
+abbrev apart : Grammar
+apart = record {
+  nonterminals = 1;
+  terminals = 3;
+  rules = record { head = 0; positives = (Terminal 0 ∷ Terminal 1 ∷ []) ∷ (Terminal 0 ∷ Terminal 2 ∷ []) ∷ []; negatives = [] } ∷ [];
+}
+
+apart-lowest : _≡_ {A = List (Option ℕ)} (lowestUnproductive apart 1 ∷ lowestUnproductive apart 2 ∷ []) (none ∷ some 0 ∷ [])
+unfolding productive-computes
+apart-lowest = refl

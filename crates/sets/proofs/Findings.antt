@@ -5,7 +5,7 @@ use mathlib.Core.Option.{Option, none, some}
 use Prim.Native.Nat.{ℕ}
 use native.Mathlib.Omega.{arith}
 use Rattle.answer.specs.declared.Error.{Error}
-use Rattle.answer.specs.declared.Error.the-variants.{LeftRecursive}
+use Rattle.answer.specs.declared.Error.the-variants.{LeftRecursive, Unproductive}
 use Rattle.grammar.specs.Limits.{maxNonterminals}
 use Rattle.grammar.specs.Encoding.{grammarOf}
 use Rattle.grammar.specs.Reading.{reading}
@@ -13,12 +13,13 @@ use Rattle.grammar.specs.declared.reading.Sizes.{Sizes}
 use Rattle.grammar.specs.declared.reading.Outcome.{Outcome}
 use Rattle.grammar.specs.declared.reading.Outcome.the-variants.{Read, Faulty}
 use Rattle.semantics.specs.LeftRecursion.{lowestLeftRecursive}
+use Rattle.semantics.specs.Productive.{lowestUnproductive}
 use Rattle.sets.specs.declared.Finding.the-variants.{Passed, Refused}
 use Rattle.sets.specs.declared.Families.{Families}
-use Rattle.sets.specs.declared.left.Lowest.{Lowest}
-use Rattle.sets.specs.declared.left.Lowest.the-variants as lowest
+use Rattle.sets.specs.declared.flaws.Lowest.{Lowest}
+use Rattle.sets.specs.declared.flaws.Lowest.the-variants as lowest
 use Rattle.sets.specs.Lists.{listed}
-use Rattle.sets.specs.Left.{lowestOf}
+use Rattle.sets.specs.Flaws.{lowestOf}
 use Rattle.sets.specs.Sets.{firstNumber, followNumber, reachNumber}
 use Rattle.sets.specs.Analysis.{setsFault, findingOf, setsIf, families, refusedBy, familiesOf}
 
@@ -35,16 +36,22 @@ lowest-some : (o : Option ℕ) {l : Lowest} {A : ℕ} → l ≡ lowestOf o → l
 lowest-some none e a = let z : _≡_ {A = ℕ} 0 1 = cc in absurd (omega arith)
 lowest-some (some B) {l} {A} e a = let z : B ≡ A = cc in ap some z
 
-module _ (words : List ℕ) {z : Sizes} {l : Lowest} (read : reading words ≡ Read z) (e : l ≡ lowestOf (lowestLeftRecursive (grammarOf words))) where
+module _ (words : List ℕ) {z : Sizes} {l m : Lowest} (read : reading words ≡ Read z) (e : l ≡ lowestOf (lowestLeftRecursive (grammarOf words)))
+    (d : m ≡ lowestOf (lowestUnproductive (grammarOf words) 1)) where
   pub families-left : {A : ℕ} → l ≡ lowest.At A → refusedBy (LeftRecursive A) ≡ familiesOf words
   unfolding familiesOf setsFault
   families-left a = rw (read, lowest-some (lowestLeftRecursive (grammarOf words)) e a)
 
-  pub families-found : {firsts follows reaches : List ℕ} → l ≡ lowest.Absent → firsts ≡ listed maxNonterminals (firstNumber (grammarOf words))
+  pub families-unproductive : {A : ℕ} → l ≡ lowest.Absent → m ≡ lowest.At A → refusedBy (Unproductive A) ≡ familiesOf words
+  unfolding familiesOf setsFault
+  families-unproductive a b = rw (read, lowest-none (lowestLeftRecursive (grammarOf words)) e a, lowest-some (lowestUnproductive (grammarOf words) 1) d b)
+
+  pub families-found : {firsts follows reaches : List ℕ} → l ≡ lowest.Absent → m ≡ lowest.Absent → firsts ≡ listed maxNonterminals (firstNumber (grammarOf words))
       → follows ≡ listed maxNonterminals (followNumber (grammarOf words)) → reaches ≡ listed maxNonterminals (reachNumber (grammarOf words))
       → families (Passed z) firsts follows reaches ≡ familiesOf words
   unfolding familiesOf setsFault
-  families-found a f g h = rw (read, lowest-none (lowestLeftRecursive (grammarOf words)) e a, f, g, h)
+  families-found a b f g h =
+      rw (read, lowest-none (lowestLeftRecursive (grammarOf words)) e a, lowest-none (lowestUnproductive (grammarOf words) 1) d b, f, g, h)
 
 -- where sets are found there is no fault, and the sets are those of the grammar
 pub record FoundFamilies (words : List ℕ) (z : Sizes) (firsts follows : List ℕ) : Type 0 where

@@ -24,23 +24,20 @@ use Rattle.lookahead.proofs.Operations.{has-empty, has-join}
 use Rattle.lookahead.proofs.Order.{subset-antisym, join-left, join-right}
 use Rattle.lookahead.proofs.Powers.{has-pow}
 use Rattle.lookahead.proofs.Weights.{has-total}
-use Rattle.booleans.specs.Quantifiers.{lowest}
 use Rattle.semantics.specs.Rounds.{NumberSet}
 use Rattle.semantics.specs.FirstFollow.{first}
-use Rattle.semantics.specs.LeftRecursion.{nullable, LeftIn, here, there, LeftDepends, LeftReaches, once, more, leftReaches, leftRecursive, lowestLeftRecursive}
+use Rattle.semantics.specs.LeftRecursion.{nullable, LeftIn, here, there, LeftDepends, LeftReaches, once, more, leftReaches}
 use Rattle.booleans.proofs.Booleans.{T-true, and-l, and-r, and-make, or-cases}
 use Rattle.semantics.proofs.First.{first-lookahead}
 use Rattle.semantics.proofs.FirstNullable.{first-none}
 use Rattle.semantics.proofs.LeftRecursion.{reaches-then, target-below, leftReaches-iff}
-use Rattle.sets.specs.declared.left.Lowest.{Lowest}
 use Rattle.sets.specs.Lists.{listed}
 use Rattle.sets.specs.Sets.{firstNumber, reachNumber}
 use Rattle.sets.specs.Least.{SetFamily, at, LeastNumbers}
-use Rattle.sets.specs.Left.{emptyIn, symbolLeft, bodyLeft, bodiesLeft, ReachClosed, ownIn, lowestOf}
+use Rattle.sets.specs.Left.{emptyIn, symbolLeft, bodyLeft, bodiesLeft, ReachClosed}
 use Rattle.sets.proofs.Lists.{listed-is, listed-at}
 use Rattle.sets.proofs.Strings.{string-nothing}
 use Rattle.sets.proofs.Numbers.{number-string, string-number, array-at}
-use Rattle.sets.proofs.Lowest.{lowest-cong}
 
 -- B is C, or C reaches it by the family R
 abbrev AtOrFrom : SetFamily → ℕ → ℕ → Type 0
@@ -198,22 +195,3 @@ module _ (words : List ℕ) {firsts : List ℕ} {z : Sizes} (read : reading word
   reach-listed l n least =
       listed-is maxNonterminals (reachNumber (grammarOf words)) l n
       (reach-numbers (grammarOf words) scoped (emptyIn (at firsts)) nullable-in l (rw (← read-whole words z read .rules) at least))
-
-  -- the lowest that is in its own set is the lowest that left-reaches itself
-  pub lowest-reached : {l : List ℕ} {r : Lowest} → l ≡ listed maxNonterminals (reachNumber (grammarOf words))
-      → r ≡ lowestOf (lowest (z .nonterminals) (ownIn l))
-      → r ≡ lowestOf (lowestLeftRecursive (grammarOf words))
-  unfolding lowestLeftRecursive leftRecursive reachNumber
-  lowest-reached {l} e f =
-      let G = grammarOf words in
-      let k = well-read words z read in
-      let same : lowest (G .nonterminals) (ownIn l) ≡ lowest (G .nonterminals) (leftRecursive G) =
-      lowest-cong (G .nonterminals) (ownIn l) (leftRecursive G) (λ A h.
-      rw (e, listed-at maxNonterminals (reachNumber G) A (omega (arith, many))) (own-reached A h)) in
-      f ∙ rw (k .nonterminals, same)
-    where
-      own-reached : (A : ℕ) → A < grammarOf words .nonterminals → has (reachNumber (grammarOf words) A) A ≡ leftRecursive (grammarOf words) A
-      own-reached A h =
-          let G = grammarOf words in
-          let n = T-true (ltb A (G .nonterminals)) (lt→ltb A (G .nonterminals) h) in
-          has-total (G .nonterminals) (leftReaches G A) A ∙ rw n

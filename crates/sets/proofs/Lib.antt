@@ -18,4 +18,5 @@ pub mod NonterminalSets
 pub mod LeftPasses
 pub mod Lowest
 pub mod LeftTie
+pub mod Flawed
 pub mod Findings

@@ -8,8 +8,8 @@ use lib.Dec.{T}
 use Rattle.booleans.specs.Quantifiers.{lowest}
 use Rattle.booleans.proofs.Booleans.{true-T}
 use Rattle.booleans.proofs.Quantified.{NoneBelow, below-cong, lowest-some, lowest-none}
-use Rattle.sets.specs.declared.left.Lowest.the-variants.{Absent, At}
-use Rattle.sets.specs.Left.{lowestOf}
+use Rattle.sets.specs.declared.flaws.Lowest.the-variants.{Absent, At}
+use Rattle.sets.specs.Flaws.{lowestOf}
 
 -- none below a number passes, and so none below the next where it does not
 pub none-more : (n : ℕ) (p : ℕ → Bool) → NoneBelow n p → p n ≡ false → NoneBelow (n + 1) p

@@ -38,7 +38,7 @@ module _ (G : Grammar) (few : G .terminals ≤ nothing) (p : Entry → Bool)
       (elementOf x, string-number A (elementOf x) (rw e at t), e)
 
   -- an element of a number is a string that passes
-  element-passes : (A l : ℕ) → T (has (numbersOf p A) l) → T (p (A, stringOf l))
+  pub element-passes : (A l : ℕ) → T (has (numbersOf p A) l) → T (p (A, stringOf l))
   element-passes A l s = number-string A (stringOf l) (string-in (numbersOf p A) l s)
 
   -- a number that is no nonterminal's has the empty set

@@ -1,10 +1,10 @@
--- What is found of an encoded grammar before its table is made: the first fault among the errors 3 to 8, or its sizes and its sets.
+-- What is found of an encoded grammar before its table is made: the first fault among the errors 3 to 8 and 13, or its sizes and its sets.
 use mathlib.Core.List.{List, [], _∷_}
 use mathlib.Core.Option.{Option, none, some}
 use Prim.Native.Nat.{ℕ}
 use lib.ListN.{replicate}
 use Rattle.answer.specs.declared.Error.{Error}
-use Rattle.answer.specs.declared.Error.the-variants.{LeftRecursive}
+use Rattle.answer.specs.declared.Error.the-variants.{LeftRecursive, Unproductive}
 use Rattle.answer.specs.Faults.{firstFault}
 use Rattle.grammar.specs.Limits.{maxNonterminals}
 use Rattle.grammar.specs.Encoding.{grammarOf}
@@ -12,6 +12,7 @@ use Rattle.grammar.specs.Reading.{reading}
 use Rattle.grammar.specs.declared.reading.Outcome.{Outcome}
 use Rattle.grammar.specs.declared.reading.Outcome.the-variants.{Read, Faulty}
 use Rattle.semantics.specs.LeftRecursion.{lowestLeftRecursive}
+use Rattle.semantics.specs.Productive.{lowestUnproductive}
 use Rattle.sets.specs.declared.Finding.{Finding}
 use Rattle.sets.specs.declared.Finding.the-variants.{Passed, Refused}
 use Rattle.sets.specs.declared.Families.{Families}
@@ -28,8 +29,14 @@ abbrev pub leftFault : Option ℕ → Option Error
 leftFault none = none
 leftFault (some A) = some (LeftRecursive A)
 
+-- 13: the lowest nonterminal whose first set is empty
+abbrev pub unproductiveFault : Option ℕ → Option Error
+unproductiveFault none = none
+unproductiveFault (some A) = some (Unproductive A)
+
 abbrev pub setsFaults : List ℕ → List (Option Error)
-setsFaults words = readingFault (reading words) ∷ leftFault (lowestLeftRecursive (grammarOf words)) ∷ []
+setsFaults words =
+    readingFault (reading words) ∷ leftFault (lowestLeftRecursive (grammarOf words)) ∷ unproductiveFault (lowestUnproductive (grammarOf words) 1) ∷ []
 
 unfoldable pub setsFault : List ℕ → Option Error
 setsFault words = firstFault (setsFaults words)

@@ -1,8 +1,6 @@
 -- Left recursion in numbers: what a nonterminal left-reaches is a set in which B weighs 2^B.
 use mathlib.Core.List.{List, [], _∷_, _++_, List·Memᴰ}
-use mathlib.Core.Option.{Option, none, some}
 use Prim.Native.Nat.{ℕ}
-use lib.ListN.{getD}
 use Rattle.word.specs.declared.Symbol.{Symbol as GrammarSymbol}
 use Rattle.word.specs.declared.Symbol.the-variants.{Terminal, Nonterminal}
 use Rattle.word.specs.declared.Word.{Word}
@@ -14,8 +12,6 @@ use Rattle.lookahead.specs.Elements.{nothing, weight, has, Subset}
 use Rattle.lookahead.specs.Operations.{empty, join}
 use Rattle.semantics.specs.Rounds.{NumberSet}
 use Rattle.sets.specs.declared.left.Left.{Left}
-use Rattle.sets.specs.declared.left.Lowest.{Lowest}
-use Rattle.sets.specs.declared.left.Lowest.the-variants.{Absent, At}
 use Rattle.sets.specs.Least.{SetFamily}
 
 -- the nonterminals whose first sets have nothing: those that are nullable
@@ -55,11 +51,3 @@ insideLeft s R End left = lefts empty (join (left .body .bits) (left .rule .bits
 insideLeft s R (RuleWord A) left = lefts empty (join (left .body .bits) (left .rule .bits))
 insideLeft s R (Heading m n) left = lefts empty (join (left .body .bits) (left .rule .bits))
 insideLeft s R Invalid left = lefts empty (join (left .body .bits) (left .rule .bits))
-
--- the nonterminals that are in their own sets
-abbrev pub ownIn : List ℕ → NumberSet
-ownIn l A = has (getD l A 0) A
-
-abbrev pub lowestOf : Option ℕ → Lowest
-lowestOf none = Absent
-lowestOf (some A) = At A

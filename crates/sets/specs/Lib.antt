@@ -6,5 +6,6 @@ pub mod Nonterminals
 pub mod First
 pub mod Follow
 pub mod Sets
+pub mod Flaws
 pub mod Left
 pub mod Analysis

@@ -1,16 +1,14 @@
 // Left recursion: what each nonterminal left-reaches, by passes over the rules, in both directions by turns, until one adds nothing;
 // the words of a rule from their end.
 ghost use mathlib.Core.Path.{_≡_};
-ghost use Prim.Native.Nat.{_≤_};
 ghost use Rattle.grammar.specs.declared.reading.Outcome.the-variants.{Read};
 ghost use Rattle.grammar.specs.Encoding.{parse, grammarOf};
 ghost use Rattle.grammar.specs.Limits.{maxNonterminals};
 ghost use Rattle.grammar.specs.Reading.{reading};
 ghost use Rattle.grammar.specs.Starts.{ruleStarts};
 ghost use Rattle.grammar.specs.Syntax.{bodies};
-ghost use Rattle.booleans.specs.Quantifiers.{lowest};
 ghost use Rattle.sets.specs.Least.{at as family, Passes};
-ghost use Rattle.sets.specs.Left.{emptyIn, symbolLeft, bodiesLeft, lefts, insideLeft, ReachClosed, ownIn, lowestOf};
+ghost use Rattle.sets.specs.Left.{emptyIn, symbolLeft, bodiesLeft, lefts, insideLeft, ReachClosed};
 ghost use Rattle.sets.specs.Lists.{listed};
 ghost use Rattle.sets.specs.Naming.{IndexedSymbol, Indexed};
 ghost use Rattle.sets.specs.Rules.{RuleWords, PassGiven, ruleFrom};
@@ -35,11 +33,6 @@ use word::decode;
 struct Left {
     pub body: Nonterminals,
     pub rule: Nonterminals,
-}
-
-pub(crate) enum Lowest {
-    Absent,
-    At(u8),
 }
 
 fn no_left() -> Left
@@ -158,22 +151,4 @@ pub(crate) fn reached(
         forward = !forward;
     }
     reach
-}
-
-// The lowest nonterminal that is in its own set.
-pub(crate) fn lowest_own(reach: &[u32; SETS], nonterminals: u32) -> Lowest
-    requires { ⌜ nonterminals ≤ maxNonterminals ⌝ }
-    ensures { λ r. ⌜ r ≡ lowestOf (lowest nonterminals (ownIn (now (reach .entry)))) ⌝ }
-{
-    let mut nonterminal = 0;
-    while nonterminal < nonterminals {
-        let set = Nonterminals {
-            bits: reach[nonterminal as usize],
-        };
-        if set.contains(nonterminal) {
-            return Lowest::At(nonterminal as u8);
-        }
-        nonterminal = nonterminal + 1;
-    }
-    Lowest::Absent
 }

@@ -1,4 +1,4 @@
-// First and follow sets of an encoded grammar, by which left recursion is found too.
+// First and follow sets of an encoded grammar, by which left recursion and unproductive nonterminals are found too.
 ghost use mathlib.Core.Path.{_≡_};
 ghost use Rattle.grammar.specs.Reading.{reading};
 ghost use Rattle.grammar.specs.declared.reading.Outcome.the-variants.{Read};
@@ -6,17 +6,19 @@ ghost use Rattle.sets.specs.Analysis.{refusedBy, familiesOf};
 use answer::Error;
 use family::SETS;
 use first::first_sets;
+use flaws::Flaw;
+use flaws::Lowest;
+use flaws::lowest_with;
 use follow::follow_sets;
 use grammar::reading::Outcome;
 use grammar::reading::Sizes;
 use grammar::reading::read;
 use grammar::reading::rule_starts;
-use left::Lowest;
-use left::lowest_own;
 use left::reached;
 
 pub mod family;
 pub mod first;
+mod flaws;
 mod follow;
 mod left;
 pub mod nonterminals;
@@ -56,18 +58,22 @@ fn analyze_grammar(words: &[u32], sizes: Sizes) -> Families
     let starts = rule_starts(words);
     let firsts = first_sets(words, &starts, sizes);
     let reaches = reached(words, &starts, sizes, &firsts);
-    let lowest = lowest_own(&reaches, nonterminals);
-    match lowest {
+    let recursive = lowest_with(Flaw::LeftRecursive, &firsts, &reaches, nonterminals);
+    let unproductive = lowest_with(Flaw::Unproductive, &firsts, &reaches, nonterminals);
+    match recursive {
         Lowest::At(nonterminal) => refused(Error::LeftRecursive(nonterminal)),
-        Lowest::Absent => {
-            let follows = follow_sets(words, &starts, sizes, &firsts);
-            Families {
-                finding: Finding::Passed(sizes),
-                firsts,
-                follows,
-                reaches,
+        Lowest::Absent => match unproductive {
+            Lowest::At(nonterminal) => refused(Error::Unproductive(nonterminal)),
+            Lowest::Absent => {
+                let follows = follow_sets(words, &starts, sizes, &firsts);
+                Families {
+                    finding: Finding::Passed(sizes),
+                    firsts,
+                    follows,
+                    reaches,
+                }
             }
-        }
+        },
     }
 }
 

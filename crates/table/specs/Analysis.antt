@@ -1,4 +1,4 @@
--- What is found of an encoded grammar: the first fault among the errors 3 to 9, or its sizes and the words of its table.
+-- What is found of an encoded grammar: the first fault among the errors 3 to 8, 13 and 9, or its sizes and the words of its table.
 use mathlib.Core.List.{List, [], _∷_, _++_}
 use mathlib.Core.Option.{Option, none, some}
 use Prim.Native.Nat.{ℕ}
@@ -24,7 +24,7 @@ abbrev pub clashFault : ℕ → List Entry → Option Error
 clashFault terminals [] = none
 clashFault terminals (e ∷ es) = some (Conflict (e .0) (column terminals (e .1)))
 
--- the faults of an encoded grammar, in document 01's order: 3 to 8 come first
+-- the faults of an encoded grammar, in the papers' order: 3 to 8 and 13 come first
 abbrev pub grammarFaults : List ℕ → List (Option Error)
 grammarFaults words = setsFaults words ++ clashFault (grammarOf words .terminals) (clashes (grammarOf words) 1) ∷ []
 

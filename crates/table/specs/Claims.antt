@@ -57,7 +57,7 @@ overrunsIf (some e) l = replicate maxNonterminals 0
 abbrev pub claimsWith : Finding → List ℕ → List ℕ → List ℕ → Claims
 claimsWith f h s o = record { finding = f; heads = h; sets = s; overruns = o }
 
--- what is found of an encoded grammar: the first fault among the errors 3 to 8, or its sizes, the head and the claim of each rule, and
+-- what is found of an encoded grammar: the first fault among the errors 3 to 8 and 13, or its sizes, the head and the claim of each rule, and
 -- the nonterminals that overrun
 unfoldable pub claimsOf : List ℕ → Claims
 claimsOf words =

@@ -3,7 +3,7 @@ use mathlib.Core.Path.{_≡_, refl, sym, ap, _∙_}
 use mathlib.Core.Bool.{Bool, true, false}
 use mathlib.Core.List.{List, [], _∷_, _++_}
 use mathlib.Core.Logic.{_↔_}
-use mathlib.Core.Option.{Option, none, some, Option·some-ne-none}
+use mathlib.Core.Option.{Option, none, some}
 use Prim.Native.Nat.{ℕ, _≤_, _<_}
 use native.Mathlib.Omega.{arith}
 use lib.Dec.{ltb}
@@ -16,7 +16,7 @@ use Rattle.answer.specs.declared.Answer.{Answer}
 use Rattle.answer.specs.declared.Answer.the-variants.{Refused, Accepted, Rejected}
 use Rattle.answer.specs.Numbers.{accepted, rejected, coded, numbers, answered}
 use Rattle.answer.specs.Faults.{firstFault, refusedOr, toldOr}
-use Rattle.answer.proofs.Apart.{answer-number, fault-number}
+use Rattle.answer.proofs.Apart.{answer-number}
 use Rattle.answer.proofs.Faults.{each-none, numbers-told}
 use Rattle.booleans.specs.Choice.{choose}
 use Rattle.event.specs.Events.{inputOf}
@@ -40,8 +40,9 @@ use Rattle.lookahead.specs.Elements.{has}
 use Rattle.lookahead.proofs.Weights.{has-total}
 use Rattle.semantics.specs.Valuations.{Valuation, Solves, solution}
 use Rattle.semantics.specs.LeftRecursion.{NoLeftRecursion, lowestLeftRecursive}
+use Rattle.semantics.specs.Productive.{lowestUnproductive}
 use Rattle.semantics.proofs.Theorems.{theorems}
-use Rattle.sets.specs.Analysis.{leftFault, setsFaults, setsFault, setsIf, familiesOf}
+use Rattle.sets.specs.Analysis.{leftFault, unproductiveFault, setsFaults, setsFault, setsIf, familiesOf}
 use Rattle.sets.specs.Lists.{listed}
 use Rattle.sets.specs.Sets.{reachNumber}
 use Rattle.sets.specs.declared.Families.{Families}
@@ -49,7 +50,7 @@ use Rattle.recognizer.specs.Memory.{lentBack}
 use Rattle.recognizer.specs.Properties.{PassedGrammar, Judges}
 use Rattle.recognizer.proofs.Checking.{none-left}
 use Rattle.recognizer.proofs.Meaning.{verdict-tells}
-use Rattle.recognizer.proofs.Places.{judge-tells}
+use Rattle.recognizer.proofs.Places.{Tells, judge-tells, grammarFault, left-told, unproductive-told}
 use Rattle.tabular.specs.Spans.{indexOf, spanWords, solutionWord}
 use Rattle.tabular.specs.Answers.{tabularFault, noCalls, told, tabularVerdict, tabularNumbers, tabularWords}
 use Rattle.tabular.specs.Judging.{TabulateGiven, Tabulated, PassedGiven}
@@ -74,6 +75,7 @@ module _ (words : List ℕ) (p : FreeGrammar words) where
       rw (
         encodes-read words (grammarOf words) (p .short) free-encodes,
         theorems .left-recursion-decided (grammarOf words) (free-encodes .formed .scoped) .absent .1 free-free,
+        theorems .productive-decided (grammarOf words) 1 .absent .1 (rw (← same-grammar) (p .productive)),
       )
 
 -- without a fault there is no left recursion
@@ -83,18 +85,17 @@ faultless-free words z r e =
     theorems .left-recursion-decided (grammarOf words) (read-encodes words z r .1 .formed .scoped) .absent .0
     (none-left (lowestLeftRecursive (grammarOf words)) (each-none (setsFaults words) e .1 .0))
 
--- 8 is told of the lowest nonterminal that reaches itself
-left-told : (o : Option ℕ) (A : ℕ) → (leftFault o ≡ some (LeftRecursive A)) ↔ (o ≡ some A)
-left-told none A = (λ e. absurd (omega (arith, fault-number e)), λ e. absurd (Option·some-ne-none A (sym e)))
-left-told (some B) A = (λ e. let z : B ≡ A = cc in ap some z, λ e. let z : B ≡ A = cc in ap (λ C. some (LeftRecursive C)) z)
-
-fault-encoded : (words : List ℕ) (G : Grammar) → length words ≤ maxWords → Encodes words G → setsFault words ≡ leftFault (lowestLeftRecursive G)
+-- the fault of a grammar that has been read, as where no entry clashes
+fault-encoded : (words : List ℕ) (G : Grammar) → length words ≤ maxWords → Encodes words G
+    → setsFault words ≡ grammarFault (lowestLeftRecursive G) (lowestUnproductive G 1) 0 []
 unfolding setsFault
-fault-encoded words G short e = rw (encodes-read words G short e, encodes-grammar words G e) (alone (leftFault (lowestLeftRecursive G)))
+fault-encoded words G short e =
+    rw (encodes-read words G short e, encodes-grammar words G e) (alone (leftFault (lowestLeftRecursive G)) (unproductiveFault (lowestUnproductive G 1)))
   where
-    alone : (f : Option Error) → firstFault (f ∷ []) ≡ f
-    alone none = refl
-    alone (some x) = refl
+    alone : (f g : Option Error) → firstFault (f ∷ g ∷ []) ≡ firstFault (f ∷ g ∷ none ∷ [])
+    alone none none = refl
+    alone none (some x) = refl
+    alone (some x) g = refl
 
 -- the lent words of the spans
 module _ (words input before : List ℕ) {after : List ℕ} (m : after ≡ tabularWords (grammarOf words) input ++ drop (length (tabularWords (grammarOf words) input)) before) where
@@ -192,14 +193,22 @@ judges {words} {input} {before} {after} {r} a m = record {
       ap numbers a ∙ numbers-told f (tabularVerdict (grammarOf words) input) ∙ ap (toldOr f) (verdict-told (grammarOf words) input);
   spans = m;
   recursive = λ room short G e A.
-      let f = fault-encoded words G short e in
-      let t = judge-tells _ (ltb maxTabularTokens (length input)) (unknownFrom (grammarOf words .terminals) 0 input)
-      (solution (grammarOf words) input 0 0 (length input)) noCalls
-      (a ∙ ap (λ y. refusedOr y (tabularVerdict (grammarOf words) input)) (fault-long words input before room f)) in
+      let t = tells room short G e in
       let decided = theorems .left-recursion-decided G (e .formed .scoped) .lowest A in
-      let left = left-told (lowestLeftRecursive G) A in (
+      let left = left-told (lowestLeftRecursive G) (lowestUnproductive G 1) 0 [] A in (
         λ q. let k = decided .0 (left .0 (t .recursive A .0 q)) in record { reaches = k .0; lowest = k .1 },
         λ k. t .recursive A .1 (left .1 (decided .1 (k .reaches, k .lowest))),
+      );
+  unproductive = λ room short G e A.
+      let t = tells room short G e in
+      let free = theorems .left-recursion-decided G (e .formed .scoped) .absent in
+      let decided = theorems .productive-decided G 1 .lowest A in
+      let empty = unproductive-told (lowestLeftRecursive G) (lowestUnproductive G 1) 0 [] A in (
+        λ q.
+            let k = empty .0 (t .unproductive A .0 q) in
+            let l = decided .0 (k .1) in
+            (free .0 (k .0), record { named = l .0; unproductive = l .1; lowest = l .2 }),
+        λ k. t .unproductive A .1 (empty .1 (free .1 (k .0), decided .1 (k .1 .named, k .1 .unproductive, k .1 .lowest))),
       );
   conflictless = not-conflict (tabularFault (length before) words input) (fault-other (length before) words input)
       (solution (grammarOf words) input 0 0 (length input)) a;
@@ -208,6 +217,14 @@ judges {words} {input} {before} {after} {r} a m = record {
       tabulates words input before p h (a ∙ ap (λ y. refusedOr y (tabularVerdict (grammarOf words) input)) f)
       (m ∙ ap (λ y. lentBack y (tabularWords (grammarOf words) input) before) f);
 }
+  where
+    -- where the lent words are enough, the answer tells the grammar's fault
+    tells : maxSpanWords ≤ length before → length words ≤ maxWords → (G : Grammar) → Encodes words G
+        → Tells (grammarFault (lowestLeftRecursive G) (lowestUnproductive G 1) 0 []) r
+    tells room short G e =
+        judge-tells _ (ltb maxTabularTokens (length input)) (unknownFrom (grammarOf words .terminals) 0 input)
+        (solution (grammarOf words) input 0 0 (length input)) noCalls
+        (a ∙ ap (λ y. refusedOr y (tabularVerdict (grammarOf words) input)) (fault-long words input before room (fault-encoded words G short e)))
 
 pub judge-refused : {words input before : List ℕ} {x : Error} → tabularFault (length before) words input ≡ some x
     → TabularJudges words input before (Refused x) before

@@ -8,7 +8,8 @@ use Rattle.grammar.specs.Encoding.{onWord, parse, grammarOf}
 use Rattle.grammar.specs.Reading.{counted, stepped, onStep, finished, scan, within, headed, opened, reading}
 use Rattle.lookahead.specs.Elements.{total}
 use Rattle.semantics.specs.Valuations.{contains, derives, byRules, rounds, solution}
-use Rattle.semantics.proofs.Computing.{left-recursion-computes}
+use Rattle.semantics.specs.Productive.{unproductive, lowestUnproductive}
+use Rattle.semantics.proofs.Computing.{left-recursion-computes, tables-compute}
 use Rattle.sets.specs.Lists.{listed}
 use Rattle.tabular.specs.Spans.{solutionWord, rows, spanWords}
 use Rattle.tabular.specs.Answers.{tabularFault, tabularVerdict, tabularWords}
@@ -16,12 +17,12 @@ use Rattle.tabular.specs.Rows.{worked, judged, lent}
 
 pub worked-answers : map (λ r. judged (r .words) (r .input)) worked ≡ map (λ r. r .told) worked
 unfolding judged tabularFault tabularVerdict unknownFrom reading opened headed within scan finished onStep stepped counted
-    grammarOf parse onWord decoded ofKind heading bare left-recursion-computes
+    grammarOf parse onWord decoded ofKind heading bare left-recursion-computes tables-compute lowestUnproductive unproductive
     solution rounds byRules derives contains anyOf allOf anyBelow
 worked-answers = refl
 
 pub worked-words : map (λ r. lent (r .words) (r .input)) worked ≡ map (λ r. r .spans) worked
 unfolding lent tabularFault tabularWords spanWords rows listed solutionWord total unknownFrom reading opened headed within scan finished onStep stepped counted
-    grammarOf parse onWord decoded ofKind heading bare left-recursion-computes
+    grammarOf parse onWord decoded ofKind heading bare left-recursion-computes tables-compute lowestUnproductive unproductive
     solution rounds byRules derives contains anyOf allOf anyBelow
 worked-words = refl

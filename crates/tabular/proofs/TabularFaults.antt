@@ -9,7 +9,7 @@ use lib.Dec.{ltb}
 use lib.ListN.{length}
 use borrow.Author.Tests.{lt-ltb, le-ltb}
 use Rattle.answer.specs.declared.Error.{Error}
-use Rattle.answer.specs.declared.Error.the-variants.{Length, Heading, LeftRecursive, InputTooLong, UnknownToken, SpansTooShort}
+use Rattle.answer.specs.declared.Error.the-variants.{Length, Heading, LeftRecursive, Unproductive, InputTooLong, UnknownToken, SpansTooShort}
 use Rattle.answer.specs.Numbers.{coded}
 use Rattle.answer.specs.Faults.{faultIf, firstFault}
 use Rattle.answer.proofs.Faults.{none-some, first-nested, first-each}
@@ -23,7 +23,8 @@ use Rattle.grammar.specs.declared.reading.Outcome.{Outcome}
 use Rattle.encoding.specs.Diagnosis.{WordFault, unexpected, outOfRange, tooMany, Diagnosis, long, heading, behind, encoding}
 use Rattle.encoding.proofs.Faithful.{reading-diagnosed}
 use Rattle.semantics.specs.LeftRecursion.{lowestLeftRecursive}
-use Rattle.sets.specs.Analysis.{readingFault, leftFault, setsFaults, setsFault}
+use Rattle.semantics.specs.Productive.{lowestUnproductive}
+use Rattle.sets.specs.Analysis.{readingFault, leftFault, unproductiveFault, setsFaults, setsFault}
 use Rattle.tabular.specs.Answers.{tabularFault}
 
 -- the first fault, by what holds
@@ -81,6 +82,10 @@ left-other : (o : Option ℕ) (e : Error) → leftFault o ≡ some e → Other e
 left-other none e q = absurd (none-some q)
 left-other (some A) e q = row-other (LeftRecursive A) (λ n. omega arith) e q
 
+unproductive-other : (o : Option ℕ) (e : Error) → unproductiveFault o ≡ some e → Other e
+unproductive-other none e q = absurd (none-some q)
+unproductive-other (some A) e q = row-other (Unproductive A) (λ n. omega arith) e q
+
 unknown-other : (u : Unknown) (e : Error) → unknownFault u ≡ some e → Other e
 unknown-other Absent e q = absurd (none-some q)
 unknown-other (At i) e q = row-other (UnknownToken i) (λ n. omega arith) e q
@@ -92,6 +97,7 @@ fault-other spans words input =
     (faultIf (ltb spans maxSpanWords) SpansTooShort
     ∷ readingFault (reading words)
     ∷ leftFault (lowestLeftRecursive (grammarOf words))
+    ∷ unproductiveFault (lowestUnproductive (grammarOf words) 1)
     ∷ faultIf (ltb maxTabularTokens (length input)) InputTooLong
     ∷ unknownFault (unknownFrom (grammarOf words .terminals) 0 input)
     ∷ []) (
@@ -101,8 +107,11 @@ fault-other spans words input =
         λ _. (
           left-other (lowestLeftRecursive (grammarOf words)),
           λ _. (
-            if-other (ltb maxTabularTokens (length input)) InputTooLong (λ n. omega arith),
-            λ _. (unknown-other (unknownFrom (grammarOf words .terminals) 0 input), λ _. tt),
+            unproductive-other (lowestUnproductive (grammarOf words) 1),
+            λ _. (
+              if-other (ltb maxTabularTokens (length input)) InputTooLong (λ n. omega arith),
+              λ _. (unknown-other (unknownFrom (grammarOf words .terminals) 0 input), λ _. tt),
+            ),
           ),
         ),
       ),

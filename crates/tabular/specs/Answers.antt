@@ -21,7 +21,7 @@ use Rattle.sets.specs.Analysis.{setsFaults}
 use Rattle.event.specs.Unknown.{unknownFrom, unknownFault}
 use Rattle.tabular.specs.Spans.{spanWords, solutionWord}
 
--- why judging is refused: the lent words of the spans, the grammar's faults up to left recursion, then the input's
+-- why judging is refused: the lent words of the spans, the grammar's faults but for clashes, then the input's
 unfoldable pub tabularFault : ℕ → List ℕ → List ℕ → Option Error
 tabularFault spans words input =
     firstFault

@@ -9,7 +9,7 @@ use Rattle.answer.specs.Numbers.{numbers}
 use Rattle.answer.specs.Faults.{refusedOr, toldOr}
 use Rattle.answer.specs.declared.Answer.{Answer}
 use Rattle.answer.specs.declared.Answer.the-variants.{Refused, Accepted, Rejected}
-use Rattle.answer.specs.declared.Error.the-variants.{LeftRecursive, Conflict}
+use Rattle.answer.specs.declared.Error.the-variants.{LeftRecursive, Unproductive, Conflict}
 use Rattle.grammar.specs.Limits.{maxWords, maxTableWords, maxMemoEntries, maxTabularTokens, maxSpanWords}
 use Rattle.grammar.specs.Syntax.{Grammar}
 use Rattle.grammar.specs.Encoding.{grammarOf}
@@ -22,16 +22,18 @@ use Rattle.semantics.specs.LeftRecursion.{NoLeftRecursion}
 use Rattle.semantics.specs.Strings.{Over}
 use Rattle.semantics.specs.Theorems.{OneSolution}
 use Rattle.recognizer.specs.Memory.{lentBack}
-use Rattle.recognizer.specs.Properties.{PassedGrammar, LowestRecursive, Judges}
+use Rattle.recognizer.specs.Properties.{AllProductive, PassedGrammar, LowestRecursive, LowestUnproductive, Judges}
 use Rattle.tabular.specs.Spans.{indexOf}
 use Rattle.tabular.specs.Answers.{tabularFault, noCalls, tabularVerdict, tabularNumbers, tabularWords}
 
--- a grammar that is taken: at most 2,048 words that encode a well-formed grammar within the limits, not left-recursive; it may have clashes
+-- a grammar that is taken: at most 2,048 words that encode a well-formed grammar within the limits, not left-recursive and without an empty
+-- first set; it may have clashes
 pub record FreeGrammar (words : List ℕ) : Type 0 where
   pub short : length words ≤ maxWords
   pub grammar : Grammar
   pub encodes : Encodes words grammar
   pub free : NoLeftRecursion grammar
+  pub productive : AllProductive grammar
 
 -- an input of at most 48 tokens, all of which are terminals of the grammar
 pub record ShortInput (words input : List ℕ) : Type 0 where
@@ -61,11 +63,13 @@ pub record TabularJudges (words input before : List ℕ) (r : Answer) (after : L
   pub answer : r ≡ refusedOr (tabularFault (length before) words input) (tabularVerdict (grammarOf words) input)
   pub told : numbers r ≡ toldOr (tabularFault (length before) words input) (tabularNumbers (grammarOf words) input)
   pub spans : after ≡ lentBack (tabularFault (length before) words input) (tabularWords (grammarOf words) input) before
-  -- 8 is told just of the lowest nonterminal that reaches itself, and a conflict never
+  -- 8 is told just of the lowest nonterminal that reaches itself, 13 then of the lowest whose first set is empty, and a conflict never
   pub recursive : maxSpanWords ≤ length before → length words ≤ maxWords → (G : Grammar) → Encodes words G
       → (A : ℕ) → (r ≡ Refused (LeftRecursive A)) ↔ LowestRecursive G A
+  pub unproductive : maxSpanWords ≤ length before → length words ≤ maxWords → (G : Grammar) → Encodes words G
+      → (A : ℕ) → (r ≡ Refused (Unproductive A)) ↔ (NoLeftRecursion G × LowestUnproductive G A)
   pub conflictless : (A c : ℕ) → r ≡ Refused (Conflict A c) → ⊥
-  -- where the lent words are enough, each grammar without left recursion and each input of its terminals that is short enough is judged by its one meaning
+  -- where the lent words are enough, each grammar without left recursion and empty first sets and each input of its terminals that is short enough is judged by its one meaning
   pub tabulates : maxSpanWords ≤ length before → FreeGrammar words → ShortInput words input → Tabulates words input r after
 
 -- two calls alike but for the directions in their events get the same answer and leave the same words

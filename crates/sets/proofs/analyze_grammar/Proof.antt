@@ -1,8 +1,8 @@
--- A grammar that has been read: by whether it is left-recursive.
+-- A grammar that has been read: by whether it is left-recursive, and by whether a first set is empty.
 use mathlib.Core.Path.{_∙_}
 use Rattle.grammar.proofs.WellRead.{well-read}
-use Rattle.sets.proofs.Findings.{families-left, families-found}
-use Rattle.sets.proofs.LeftTie.{lowest-reached}
+use Rattle.sets.proofs.Findings.{families-left, families-unproductive, families-found}
+use Rattle.sets.proofs.Flawed.{lowest-recursive, lowest-unproductive}
 use borrow.Author.Needs.{needs}
 use Rattle.sets.proofs.analyze_grammar.Statement.{statement}
 use Rattle.sets.proofs.analyze_grammar.Tie as tie
@@ -16,11 +16,14 @@ first-sets-requires c κs = search needs
 reached-requires : tie.Need-reached-requires
 reached-requires c κs = search needs
 
-lowest-own-requires : tie.Need-lowest-own-requires
-lowest-own-requires c κs = well-read _ _ (c .before .before .before .before .before .before .before .before .pre) .fewNonterminals
+lowest-with-requires : tie.Need-lowest-with-requires
+lowest-with-requires c κs = well-read _ _ (c .before .before .before .before .before .before .before .before .before .pre) .fewNonterminals
 
-enum-known-lowest : tie.Need-enum-known-lowest
-enum-known-lowest c = search needs
+lowest-with-requires-2 : tie.Need-lowest-with-requires-2
+lowest-with-requires-2 c κs = well-read _ _ (c .before .before .before .before .before .before .before .before .before .before .before .before .pre) .fewNonterminals
+
+enum-known-recursive : tie.Need-enum-known-recursive
+enum-known-recursive c = search needs
 
 refused-requires : tie.Need-refused-requires
 refused-requires c κs = search needs
@@ -28,19 +31,58 @@ refused-requires c κs = search needs
 enum-told : tie.Need-enum-told
 enum-told c = search needs
 
+enum-known-unproductive : tie.Need-enum-known-unproductive
+enum-known-unproductive c = search needs
+
+refused-requires-2 : tie.Need-refused-requires-2
+refused-requires-2 c κs = search needs
+
+enum-told-2 : tie.Need-enum-told-2
+enum-told-2 c = search needs
+
 follow-sets-requires : tie.Need-follow-sets-requires
 follow-sets-requires c κs = search needs
 
 returns : tie.Need-returns
 returns c =
-    let start = c .before .before .before .before .before .before .before .before .before .before .before .before .before in
-    c .refused .ensures ∙ families-left (start .args .words .now) (start .pre) (lowest-reached _ (start .pre) (c .before .before .before .before .before .before .before .before .before .first-sets .ensures) (c .before .before .before .before .before .before .reached .ensures) (c .before .before .before .before .lowest-own .ensures)) (c .before .before .lowest .given .1)
+    let unproductive = c .before .before .before .before in
+    let recursive = unproductive .before .before .before in
+    let reached = recursive .before .before .before in
+    let firsts = reached .before .before .before in
+    let start = firsts .before .before .before .before in
+    let first-sets = firsts .first-sets .ensures in
+    let reaches = reached .reached .ensures in
+    let lowest-left = lowest-recursive (start .args .words .now) (start .pre) first-sets reaches (recursive .lowest-with .ensures) in
+    let lowest-empty = lowest-unproductive (start .args .words .now) (start .pre) first-sets reaches (unproductive .lowest-with2 .ensures) in
+    c .refused .ensures ∙ families-left (start .args .words .now) (start .pre) lowest-left lowest-empty (c .before .before .recursive .given .1)
 
 returns-2 : tie.Need-returns-2
 returns-2 c =
-    let start = c .before .before .before .before .before .before .before .before .before .before .before .before .before .before in
-    families-found (start .args .words .now) (start .pre) (lowest-reached _ (start .pre) (c .before .before .before .before .before .before .before .before .before .before .first-sets .ensures) (c .before .before .before .before .before .before .before .reached .ensures) (c .before .before .before .before .before .lowest-own .ensures)) (c .before .before .before .enum-told .given .1) (c .before .before .before .before .before .before .before .before .before .before .first-sets .ensures)
-    (c .follow-sets .ensures) (c .before .before .before .before .before .before .before .reached .ensures)
+    let unproductive = c .before .before .before .before .before .before in
+    let recursive = unproductive .before .before .before in
+    let reached = recursive .before .before .before in
+    let firsts = reached .before .before .before in
+    let start = firsts .before .before .before .before in
+    let first-sets = firsts .first-sets .ensures in
+    let reaches = reached .reached .ensures in
+    let lowest-left = lowest-recursive (start .args .words .now) (start .pre) first-sets reaches (recursive .lowest-with .ensures) in
+    let lowest-empty = lowest-unproductive (start .args .words .now) (start .pre) first-sets reaches (unproductive .lowest-with2 .ensures) in
+    c .refused2 .ensures ∙ families-unproductive (start .args .words .now) (start .pre) lowest-left lowest-empty (c .before .before .before .before .enum-told .given .1)
+    (c .before .before .unproductive .given .1)
+
+returns-3 : tie.Need-returns-3
+returns-3 c =
+    let unproductive = c .before .before .before .before .before .before .before in
+    let recursive = unproductive .before .before .before in
+    let reached = recursive .before .before .before in
+    let firsts = reached .before .before .before in
+    let start = firsts .before .before .before .before in
+    let first-sets = firsts .first-sets .ensures in
+    let reaches = reached .reached .ensures in
+    let lowest-left = lowest-recursive (start .args .words .now) (start .pre) first-sets reaches (recursive .lowest-with .ensures) in
+    let lowest-empty = lowest-unproductive (start .args .words .now) (start .pre) first-sets reaches (unproductive .lowest-with2 .ensures) in
+    families-found (start .args .words .now) (start .pre) lowest-left lowest-empty (c .before .before .before .before .before .enum-told .given .1) (c .before .before .before .enum-told2 .given .1) first-sets
+    (c .follow-sets .ensures) reaches
 
 pub analyze-grammar-spec : {M : Type 1} → statement M
 analyze-grammar-spec =
@@ -49,10 +91,15 @@ analyze-grammar-spec =
     rule-starts-requires
     first-sets-requires
     reached-requires
-    lowest-own-requires
-    enum-known-lowest
+    lowest-with-requires
+    lowest-with-requires-2
+    enum-known-recursive
     refused-requires
     enum-told
+    enum-known-unproductive
+    refused-requires-2
+    enum-told-2
     follow-sets-requires
     returns
-    returns-2)
+    returns-2
+    returns-3)

@@ -1,0 +1,61 @@
+// The lowest nonterminal with a flaw that refuses a grammar.
+ghost use mathlib.Core.Path.{_≡_};
+ghost use Prim.Native.Nat.{_≤_, _<_};
+ghost use Rattle.booleans.specs.Quantifiers.{lowest};
+ghost use Rattle.grammar.specs.Limits.{maxNonterminals};
+ghost use Rattle.sets.specs.Flaws.{flawIn, lowestOf};
+use super::family::SETS;
+use super::nonterminals::Nonterminals;
+use lookahead::LookaheadSet;
+
+pub(crate) enum Flaw {
+    // it left-reaches itself
+    LeftRecursive,
+    // its first set is empty
+    Unproductive,
+}
+
+pub(crate) enum Lowest {
+    Absent,
+    At(u8),
+}
+
+// Whether a nonterminal has a flaw, by the first sets and by what each nonterminal left-reaches.
+fn has_flaw(flaw: Flaw, firsts: &[u64; SETS], reaches: &[u32; SETS], nonterminal: u32) -> bool
+    requires { ⌜ nonterminal < maxNonterminals ⌝ }
+    ensures { λ r. ⌜ r ≡ flawIn flaw (now (firsts .entry)) (now (reaches .entry)) nonterminal ⌝ }
+{
+    match flaw {
+        Flaw::LeftRecursive => {
+            let set = Nonterminals {
+                bits: reaches[nonterminal as usize],
+            };
+            set.contains(nonterminal)
+        }
+        Flaw::Unproductive => {
+            let set = LookaheadSet {
+                bits: firsts[nonterminal as usize],
+            };
+            set.is_empty()
+        }
+    }
+}
+
+pub(crate) fn lowest_with(
+    flaw: Flaw,
+    firsts: &[u64; SETS],
+    reaches: &[u32; SETS],
+    nonterminals: u32,
+) -> Lowest
+    requires { ⌜ nonterminals ≤ maxNonterminals ⌝ }
+    ensures { λ r. ⌜ r ≡ lowestOf (lowest nonterminals (flawIn flaw (now (firsts .entry)) (now (reaches .entry)))) ⌝ }
+{
+    let mut nonterminal = 0;
+    while nonterminal < nonterminals {
+        if has_flaw(flaw, firsts, reaches, nonterminal) {
+            return Lowest::At(nonterminal as u8);
+        }
+        nonterminal = nonterminal + 1;
+    }
+    Lowest::Absent
+}
