@@ -35,7 +35,7 @@ use Rattle.tree.proofs.Reading.{outcomes, Found, Reads, Chosen, chosen}
 use Rattle.tree.proofs.Below.{below-elim, below-make, below-falls}
 use Rattle.tree.proofs.Nodes.{inner-same, leaves-cut, leaves-have, leaves-only, conjuncts-length, at, vertex-end, nodes-cut, inner-node, node-inner, nodes-cover, vertex-rule, conjuncts-correspond}
 
-call-same : (x y : Call) → x .nonterminal ≡ y .nonterminal → x .place ≡ y .place → x ≡ y
+pub call-same : (x y : Call) → x .nonterminal ≡ y .nonterminal → x .place ≡ y .place → x ≡ y
 call-same x y a b = let s : callAt (x .nonterminal) (x .place) ≡ callAt (y .nonterminal) (y .place) = cc in s
 
 module _ (G : Grammar) (k : ℕ) (w : List ℕ) (p : Predictive G k) (over : Over (G .terminals) w) (v : Valuation) (solves : Solves G w v)

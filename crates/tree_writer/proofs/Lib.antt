@@ -1,0 +1,3 @@
+pub mod Labelling
+pub mod Marking
+pub mod Vertices
