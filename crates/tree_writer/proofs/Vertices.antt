@@ -1,5 +1,5 @@
 -- Writing a vertex and what is below it: from what is given to each step of the loop, and to what is written.
-use mathlib.Core.Path.{_≡_, refl, sym, ap, _∙_}
+use mathlib.Core.Path.{_≡_, refl, sym, ap, subst, _∙_}
 use mathlib.Core.Bool.{Bool, true, false, false≢true}
 use mathlib.Core.List.{List, [], _∷_, _++_, map, flatMap, List·Memᴰ, List·Memᴰ·head, List·Memᴰ·tail, List·Memᴰ·not-nil, List·Memᴰ·cases-cons}
 use mathlib.Core.List.{List·Memᴰ·append-cases, Memᴰ·append-left, Memᴰ·append-right, List·Memᴰ·eq-of-singleton, append-nil, append-assoc}
@@ -30,7 +30,7 @@ use Rattle.grammar.specs.Starts.{ruleStarts}
 use Rattle.grammar.specs.WellRead.{firstRule, Begun, WellRead}
 use Rattle.grammar.proofs.WellRead.{well-read}
 use Rattle.grammar.proofs.Suffixes.{Next, scan-next, read-reaches}
-use Rattle.grammar.proofs.WellFormed.{Fits, reads}
+use Rattle.grammar.proofs.WellFormed.{RestFits, reads}
 use Rattle.booleans.specs.Choice.{choose}
 use Rattle.semantics.specs.FiniteSets.{member}
 use Rattle.semantics.specs.Valuations.{Valuation, Solves, solution, pairs}
@@ -42,14 +42,15 @@ use Rattle.semantics.proofs.Theorems.{theorems}
 use Rattle.sets.proofs.Words.{parse-over}
 use Rattle.recognizer.proofs.Bodies.{parse-here, symbol-reads}
 use Rattle.recognizer.proofs.Starting.{begin-next}
-use Rattle.tree.specs.Writing.{numberOf, vertexAt, below, each, visit, InTree, start, more}
+use Rattle.tree.specs.Writing.{numberOf, vertexAt, below, each, visit, InTree, more}
+use Rattle.tree.specs.Writing.{start as root-in}
 use Rattle.tree.specs.Theorems.{Told}
 use Rattle.tree.proofs.Words.{told}
 use Rattle.semantics.proofs.Outcomes.{nth-below}
 use Rattle.tree.proofs.Reading.{Found, Reads, Chosen, chosen}
 use Rattle.tree.proofs.Below.{comes-token, comes-name, below-chosen, below-make, below-falls}
 use Rattle.tree.proofs.Trees.{tree-sound}
-use Rattle.tree_writer.specs.Labels as labels
+use Rattle.tree_writer.specs.Labels.{ruleOf as word-rule, endOf as word-end}
 use Rattle.tree_writer.specs.Writer.{choiceOf, wordAt, Holds, VertexGiven, VertexDone, falling}
 use Rattle.tree_writer.proofs.Marking.{holds-length, unseen, count-low, room, index-room, holds-more}
 
@@ -117,9 +118,9 @@ module _ {input words starts labels tree₀ : List ℕ} {marks₀ : List Bool} {
       (omega (arith, f .onward, f .within, g .accepted .short))
       (omega (arith, vertex-of B i m f, f .within, g .accepted .short))
 
-  pub label-end : (B i m : ℕ) → Found G 1 input B i m → InTree G (choiceOf words input) input (callAt B i) → labels.endOf (getD labels (B * maxPlaces + i) 0) ≡ m
+  pub label-end : (B i m : ℕ) → Found G 1 input B i m → InTree G (choiceOf words input) input (callAt B i) → word-end (getD labels (B * maxPlaces + i) 0) ≡ m
   unfolding wordAt
-  label-end B i m f h = ap labels.endOf (g .labelled (callAt B i) h) ∙ label-told B i m f .end ∙ vertex-of B i m f
+  label-end B i m f h = ap word-end (g .labelled (callAt B i) h) ∙ label-told B i m f .end ∙ vertex-of B i m f
 
   abbrev Below : Call → Type 0
   Below y = List·Memᴰ y (below G (choiceOf words input) input x)
@@ -154,9 +155,9 @@ module _ {input words starts labels tree₀ : List ℕ} {marks₀ : List Bool} {
   pub falling-is : (B i : ℕ) → falling words labels B i ≡ level words input B i
   unfolding measure accepts
   falling-is B i =
-      let root = ends (callAt 0 0) start in
+      let root = ends (callAt 0 0) root-in in
       let e : root .0 ≡ length input = eqb→eq (root .0) (length input) (rw (root .1 .ends) at (g .accepted .accepted)) in
-      ap (λ (n : ℕ). semantics.level G (n - i) B) (label-end 0 0 (root .0) (root .1) start ∙ e)
+      ap (λ (n : ℕ). semantics.level G (n - i) B) (label-end 0 0 (root .0) (root .1) root-in ∙ e)
 
   -- as many words as before
   pub going-length : {tree : List ℕ} {marks : List Bool} {count at place : ℕ} → Going tree marks count at place → length tree ≡ length tree₀
@@ -177,10 +178,10 @@ module _ {input words starts labels tree₀ : List ℕ} {marks₀ : List Bool} {
           rw m h
 
   -- the rule of the call's word, as it stands in the words
-  module _ {q : ℕ} (c : q ≡ labels.ruleOf (getD labels (A * maxPlaces + start) 0)) where
+  module _ {q : ℕ} (c : q ≡ word-rule (getD labels (A * maxPlaces + start) 0)) where
     number-is : q ≡ choice .number
     unfolding wordAt vertexAt
-    number-is = c ∙ ap labels.ruleOf (g .labelled x (g .inTree)) ∙ label-told A start end found .rule ∙ ap numberOf (choice .looked)
+    number-is = c ∙ ap word-rule (g .labelled x (g .inTree)) ∙ label-told A start end found .rule ∙ ap numberOf (choice .looked)
 
     numbered : choice .number < g .accepted .sizes .rules
     numbered = omega (arith, nth-below (G .rules) (choice .number) (choice .rule) (choice .numbered), r .rules)
@@ -189,10 +190,10 @@ module _ {input words starts labels tree₀ : List ℕ} {marks₀ : List Bool} {
     rule-low = omega (arith, number-is, numbered, r .fewRules)
 
     begin-is : getD starts q 0 ≡ getD (ruleStarts words) (choice .number) 0
-    begin-is = rw (g .begins, number-is) refl
+    begin-is = ap (λ (l : List ℕ). getD l q 0) (g .begins) ∙ ap (λ (n : ℕ). getD (ruleStarts words) n 0) number-is
 
     begun : Begun words (getD starts q 0)
-    begun = rw begin-is (r .begun (choice .number) numbered)
+    begun = subst (λ i. Begun words i) (sym begin-is) (r .begun (choice .number) numbered)
 
     pub begin-low : getD starts q 0 < length words
     begin-low = begun .high
@@ -204,7 +205,7 @@ module _ {input words starts labels tree₀ : List ℕ} {marks₀ : List Bool} {
         let f : choice .rule ≡ firstRule (drop i words) = some-same (choice .rule) _ (sym (choice .numbered) ∙ r .begins (choice .number) numbered) in
         let e : choice .rule ≡ firstRule (getD words i 0 ∷ drop (i + 1) words) = f ∙ (rw (add-one i) (ap firstRule (drop-cons words i 0 (r .begun (choice .number) numbered .high)))) in
         let p : choice .rule .positives ≡ parse (drop (i + 1) words) .positives = ap (λ (z : Rule). z .positives) e in
-        rw begin-is p
+        p ∙ ap (λ (n : ℕ). parse (drop (n + 1) words) .positives) (sym begin-is)
       where
         some-same : (y z : Rule) → some y ≡ some z → y ≡ z
         some-same y z e = cc
@@ -280,7 +281,7 @@ module _ {input words starts labels tree₀ : List ℕ} {marks₀ : List Bool} {
       next-reads : scan (next .progress) (at + 1) (drop (at + 1) words) ≡ reading words
       next-reads = next .reads ∙ sym (g .accepted .read)
 
-      fits : Fits (next .progress .state) (g .accepted .sizes) Q
+      fits : RestFits (next .progress .state) (g .accepted .sizes) Q
       fits = reads (next .progress) (at + 1) (drop (at + 1) words) (g .accepted .sizes) (next .reads) .fits
 
       here : (w : Word) → decoded (getD words at 0) ≡ w → parse (drop at words) ≡ onWord w Q
