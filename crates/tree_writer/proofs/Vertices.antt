@@ -394,6 +394,9 @@ module _ {input words starts labels tree₀ : List ℕ} {marks₀ : List Bool} {
         pub called-falls : level words input B place < level words input A start
         called-falls = below-falls G 1 input (g .accepted .predictive) (g .accepted .tokens) meaning solves x end found (callAt B place) called-below .2
 
+        pub called-falling : falling words labels B place < falling words labels A start
+        called-falling = omega (arith, called-falls, falling-is B place, falling-is A start)
+
         pub called-given : VertexGiven input words starts labels tree marks B place count
         called-given =
             let s = u .holds (g .lent) (g .seen) (g .holds) (level words input A start) (omega arith) in
