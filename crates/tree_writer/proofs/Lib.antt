@@ -1,3 +1,4 @@
 pub mod Labelling
 pub mod Marking
 pub mod Vertices
+pub mod Root
