@@ -20,7 +20,7 @@ use Rattle.semantics.specs.Calls.{Called, Distinct, calls, callCount}
 use Rattle.semantics.specs.Calls as called
 use Rattle.semantics.specs.Predictive.{Predictive}
 use Rattle.semantics.proofs.Strings.{look-end}
-use Rattle.semantics.proofs.Outcomes.{ends-end}
+use Rattle.semantics.proofs.Outcomes.{ends-end, nth-below}
 use Rattle.semantics.proofs.Rank.{level-top}
 use Rattle.semantics.proofs.Predictive.{own-guides}
 use Rattle.semantics.proofs.Distinct.{distinct-length}
@@ -241,6 +241,14 @@ module _ (G : Grammar) (k : ℕ) (w : List ℕ) (p : Predictive G k) (over : Ove
 
   ends : (x : Call) → InTree G choice w x → Ends x
   ends x h = tree-sound x h .2
+
+  -- its rule is one of the grammar's, and its span lies within the input
+  pub vertex-within : (x : Call) → InTree G choice w x
+      → (at G k w x .rule < length (G .rules)) × (at G k w x .start ≤ length w) × (at G k w x .end ≤ length w)
+  vertex-within x h =
+      let e = ends x h in
+      let f = e .1 in
+      (nth-below (G .rules) (at G k w x .rule) (picked x e .rule) (labelled x e), omega (arith, vertex-start x, f .onward, f .within), omega (arith, ended x e, f .within))
 
   tree-low : (x : Call) → InTree G choice w x → measure G w x ≤ measure G w root
   tree-low x start = omega arith

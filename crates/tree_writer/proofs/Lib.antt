@@ -2,3 +2,4 @@ pub mod Labelling
 pub mod Marking
 pub mod Vertices
 pub mod Root
+pub mod Showing

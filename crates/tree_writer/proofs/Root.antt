@@ -2,6 +2,7 @@
 use mathlib.Core.Path.{_≡_, refl, sym, ap, _∙_}
 use mathlib.Core.Bool.{Bool, true, false}
 use mathlib.Core.List.{List, [], _∷_, _++_, map, List·Memᴰ, List·Memᴰ·not-nil}
+use denote.Enum.Declared.{tagOf}
 use Prim.Native.Nat.{ℕ, zero, suc, _+_, _*_, _-_, _%_, _≤_, _<_}
 use native.Mathlib.Numerals.{add-one}
 use native.Mathlib.Omega.{arith}
@@ -15,7 +16,9 @@ use Rattle.grammar.specs.Reading.{reading}
 use Rattle.grammar.specs.Starts.{ruleStarts}
 use Rattle.grammar.specs.WellRead.{WellRead}
 use Rattle.grammar.specs.declared.reading.Sizes.{Sizes}
+use Rattle.grammar.specs.declared.reading.Outcome.{Outcome}
 use Rattle.grammar.specs.declared.reading.Outcome.the-variants.{Read}
+use Rattle.grammar.proofs.reading.Outcome.{the-type}
 use Rattle.grammar.proofs.WellRead.{well-read}
 use Rattle.semantics.specs.FiniteSets.{member}
 use Rattle.semantics.specs.Valuations.{Valuation, Solves, solution, pairs}
@@ -59,6 +62,9 @@ module _ {words input table memo tree : List ℕ} (g : TreeGiven words input tab
   -- the sizes are those that reading gives
   pub sizes-are : {z : Sizes} → reading words ≡ Read z → WellRead words z
   sizes-are {z} e = well-read words z e
+
+  pub not-read : {o : Outcome} {n : ℕ} {tree′ : List ℕ} → o ≡ reading words → tagOf the-type o ≡ 1 → TreeDone words input tree n tree′
+  not-read e t = let q : _≡_ {A = ℕ} 0 1 = rw (e ∙ g .accepted .read) at t in absurd (omega arith)
 
   pub labels-given : {z : Sizes} → reading words ≡ Read z → LabelsGiven z input table memo
   labels-given {z} e =

@@ -164,8 +164,7 @@ write-vertex-write-vertex-requires t c κs =
     let u = going t (c .before .before .before .before .before .before .before .before .before .before .before) _ g in
     let h = c .before .before .before .before .before .before .before .before .before .before .loop-test .taken in
     let e = sym (c .before .before .before .before .before .before .before .before .decode .ensures) ∙ c .before .before .before .before .before .before .word .given .1 in
-    let e′ = e ∙ ap Symbol (c .before .before .before .symbol .given .1) in
-    (
+    let e′ = e ∙ ap Symbol (c .before .before .before .symbol .given .1) in (
       omega (arith, called-falling g u h _ e′, s .pre .0),
       (s .pre .1 .0, called-given g u h _ e′),
     )

@@ -1,48 +1,40 @@
+-- The words have been read, so the tree is written from its root.
+use mathlib.Core.Path.{sym, _∙_}
 use borrow.Author.Needs.{needs}
+use Rattle.tree_writer.proofs.Root.{not-read, labels-given, tree-start, tree-done}
 use Rattle.tree_writer.proofs.writing.write_tree.Statement.{statement}
 use Rattle.tree_writer.proofs.writing.write_tree.Tie as tie
-use Rattle.tree_writer.proofs.writing.write_tree.Reads as reads
-use Rattle.tree_writer.proofs.writing.write_tree.Lts as lts
-use Rattle.grammar.proofs.reading.read.Reads as read-reads
-use Rattle.grammar.proofs.reading.rule_starts.Reads as rule-starts-reads
-use Rattle.tree_writer.proofs.labels.labels_of.Reads as labels-of-reads
-use Rattle.tree_writer.proofs.writing.write_vertex.Reads as write-vertex-reads
 
--- src/writing.rt:83:9
 read-requires : tie.Need-read-requires
 read-requires c κs = search needs
 
--- src/writing.rt:84:23
 enum-known-outcome : tie.Need-enum-known-outcome
-enum-known-outcome c = search needs
+enum-known-outcome c = c .match .keys1
 
--- src/writing.rt:85:9
 enum-told : tie.Need-enum-told
-enum-told c = search needs
+enum-told c = c .match .keys2
 
--- src/writing.rt:85:9
 returns : tie.Need-returns
-returns c = ?
+returns c = not-read (c .before .before .before .before .before .before .before .before .pre) (c .before .before .read .ensures) (c .before .match .keys2)
 
--- src/writing.rt:87:18
 rule-starts-requires : tie.Need-rule-starts-requires
 rule-starts-requires c κs = search needs
 
--- src/writing.rt:88:18
 labels-of-requires : tie.Need-labels-of-requires
-labels-of-requires c κs = ?
+labels-of-requires c κs = labels-given (c .before .before .before .before .before .before .before .before .before .before .pre) (sym (c .before .before .before .before .read .ensures) ∙ c .before .before .outcome .given .1)
 
--- src/writing.rt:90:5
 write-vertex-requires : tie.Need-write-vertex-requires
-write-vertex-requires c κs = ?
+write-vertex-requires c κs =
+    tree-start (c .before .before .before .before .before .before .before .before .before .before .before .before .before .before .before .pre) (sym (c .before .before .before .before .before .before .before .before .before .read .ensures) ∙ c .before .before .before .before .before .before .before .outcome .given .1)
+    (c .before .before .before .before .before .rule-starts .ensures) (c .before .before .before .before .labels-of .ensures)
 
--- src/writing.rt:73:1
 same-length : tie.Need-same-length
 same-length c = search needs
 
--- src/writing.rt:73:1
 returns-2 : tie.Need-returns-2
-returns-2 c = ?
+returns-2 c =
+    tree-done (c .before .before .before .before .before .before .before .before .before .before .before .before .before .before .before .before .before .before .pre) (sym (c .before .before .before .before .before .before .before .before .before .before .before .before .read .ensures) ∙ c .before .before .before .before .before .before .before .before .before .before .outcome .given .1)
+    (c .before .before .before .before .before .before .before .before .rule-starts .ensures) (c .before .before .before .before .before .before .before .labels-of .ensures) (c .before .before .write-vertex .ensures)
 
 pub write-tree-spec : {M : Type 1} → statement M
 write-tree-spec =
