@@ -6,11 +6,12 @@ use mathlib.Core.Logic.{⊎-elim}
 use mathlib.Core.Option.{Option, none, some}
 use denote.Enum.Declared.{tagOf}
 use types.Run.{OneOf}
-use Prim.Native.Nat.{ℕ, _+_, _-_, _*_, _≤_, _<_}
+use Prim.Native.Nat.{ℕ, suc, _+_, _-_, _*_, _≤_, _<_}
+use native.Mathlib.Nat.{mul-le-mul}
 use native.Mathlib.Omega.{arith}
 use lib.Dec.{T}
 use lib.Arith.{digits-lt}
-use lib.ListN.{length, getD, drop, replicate, length-append, length-drop, List·getD-append}
+use lib.ListN.{length, getD, drop, replicate, length-append, length-drop, length-map, List·getD-append}
 use borrow.Author.Tests.{lt-ltb, le-ltb}
 use Rattle.answer.specs.Faults.{firstFault, refusedOr, toldOr}
 use Rattle.answer.specs.declared.Error.{Error}
@@ -24,7 +25,7 @@ use Rattle.answer.proofs.Faults.{none-some, each-none}
 use Rattle.booleans.specs.Choice.{choose}
 use Rattle.booleans.proofs.Booleans.{true-T}
 use Rattle.grammar.specs.Codes.{noEntry, uncalledCode}
-use Rattle.grammar.specs.Limits.{maxTokens, maxTableWords, maxMemoEntries}
+use Rattle.grammar.specs.Limits.{maxNonterminals, maxTokens, maxPlaces, maxTableWords, maxMemoEntries}
 use Rattle.grammar.specs.Syntax.{Grammar}
 use Rattle.grammar.specs.Encoding.{grammarOf}
 use Rattle.event.specs.declared.Unknown.{Unknown}
@@ -52,7 +53,7 @@ use Rattle.recognizer.proofs.Checking.{passed-fault, passed-encodes, passed-rea
 use Rattle.recognizer.proofs.JudgeFaults.{judgeRows, judged-rows, judged-readable, table-short, memo-short}
 use Rattle.recognizer.proofs.Judged.{judge-refused}
 use Rattle.recognizer.proofs.Storing.{getD-any}
-use Rattle.tree.specs.Writing.{vertexAt, treeCalls, treeOf, treeWords, InTree}
+use Rattle.tree.specs.Writing.{vertexAt, vertexWord, treeCalls, treeOf, treeWords, InTree}
 use Rattle.tree.specs.Theorems.{Told}
 use Rattle.tree.proofs.Lists.{map-elim}
 use Rattle.tree.proofs.Trees.{tree-right, vertex-within}
@@ -126,6 +127,7 @@ module _ (words input table memo tree : List ℕ) where
     lent-memo = sym (ap (λ f. lentBack f (memoWords (grammarOf words) input) memo) e);
     lent-tree = sym (ap (λ f. lentBack f (wordsOf words input) tree) e);
     written = sym (ap (λ f. writtenOr f (length (wordsOf words input))) e);
+    few = omega arith;
     judges = λ h. judge-refused (k h);
     tells = λ q. absurd (omega (arith, ap refusalNumber q));
   }
@@ -154,16 +156,17 @@ module _ (tree : List ℕ) {words input table memo : List ℕ} (long : maxTableW
   same = then-judged words input table memo tree long room high
 
   -- the promise from the words that are written
-  shows : {n : ℕ} {tree′ : List ℕ} → n ≡ writtenOr fault (length (wordsOf words input)) → tree′ ≡ lentBack fault (wordsOf words input) tree
+  shows : {n : ℕ} {tree′ : List ℕ} → n ≡ writtenOr fault (length (wordsOf words input)) → tree′ ≡ lentBack fault (wordsOf words input) tree → n ≤ maxMemoEntries
       → (a ≡ Accepted (callsOf G input) → TreeTold words input)
       → Shows words input table memo tree (record { answer = a; written = n }) table′ memo′ tree′
-  shows w l t = record {
+  shows w l f t = record {
     answer = j .answer ∙ sym (ap (λ f. refusedOr f (verdictOf G input)) same);
     numbered = j .told ∙ sym (ap (λ f. toldOr f (verdictNumbers G input)) same);
     lent-table = j .lent-table ∙ sym (ap (λ f. lentBack f (tableWords G) table) same);
     lent-memo = j .lent-memo ∙ sym (ap (λ f. lentBack f (memoWords G input) memo) same);
     lent-tree = l ∙ sym (ap (λ f. lentBack f (wordsOf words input) tree) same);
     written = w ∙ sym (ap (λ f. writtenOr f (length (wordsOf words input))) same);
+    few = f;
     judges = λ _. j;
     tells = t;
   }
@@ -173,7 +176,7 @@ module _ (tree : List ℕ) {words input table memo : List ℕ} (long : maxTableW
   unfolding verdictOf treeWords
   shows-none n =
       let t = other-tells fault (accepts G (choiceOf words input) input) (callsOf G input) (λ e. n (callsOf G input) (j .answer ∙ sym e)) in
-      shows (count fault t) (back fault t) (λ q. absurd (n (callsOf G input) q))
+      shows (count fault t) (back fault t) (omega arith) (λ q. absurd (n (callsOf G input) q))
     where
       count : (f : Option Error) → (f ≡ none → accepts G (choiceOf words input) input ≡ false) → 0 ≡ writtenOr f (length (wordsOf words input))
       count (some e) h = refl
@@ -280,9 +283,22 @@ module _ (tree : List ℕ) {words input table memo : List ℕ} (long : maxTableW
             let low = vertex-within G 1 input p over (solution G input) solves t x h in
             word-told _ (omega (arith, low .0, few)) (omega (arith, low .1)) (omega (arith, low .2))
 
+    -- no more words than there are calls
+    few : length (wordsOf words input) ≤ maxMemoEntries
+    unfolding treeWords
+    few =
+        let v = theorems .one-solution G (predictive .scoped) (predictive .unrecursive) input .solves in
+        let vertices = treeOf G (choiceOf words input) input .vertices in
+        let a = tells .right (solution G input) v .written .few in
+        let b = theorems .calls-counted G (predictive .scoped) (predictive .unrecursive) (predictive .start) (choiceOf words input) (theorems .own-rules G 1 input) input .bounded in
+        let k = mul-le-mul {n₁ = G .nonterminals} {m₁ = suc (length input)} {n₂ = maxNonterminals} {m₂ = maxPlaces}
+        (passed-encodes words passed .limited .fewNonterminals) (omega (arith, short)) in
+        rw (told .1) (omega (arith, length-map vertices vertexWord))
+
     pub shows-tree : {n : ℕ} {tree′ : List ℕ} → TreeDone words input tree n tree′
         → Shows words input table memo tree (record { answer = a; written = n }) table′ memo′ tree′
     shows-tree {n} {tree′} d = shows
         (d .number ∙ sym (ap (λ f. writtenOr f (length (wordsOf words input))) (told .0)))
         (d .written ∙ ap (λ m. wordsOf words input ++ drop m tree) (d .number) ∙ sym (ap (λ f. lentBack f (wordsOf words input) tree) (told .0)))
+        (omega (arith, d .number, few))
         (λ _. tells)

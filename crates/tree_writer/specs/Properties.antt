@@ -57,6 +57,7 @@ pub record Shows (words input table memo tree : List ℕ) (r : Shown) (table′ 
   pub written : r .written
       ≡ writtenOr (treeFault (length table) (length memo) (length tree) words input)
       (length (treeWords (grammarOf words) (tableChoice (grammarOf words) 1 input) input))
+  pub few : r .written ≤ maxMemoEntries
   -- all that judging promises of the same call, where the tree memory is long enough
   pub judges : maxMemoEntries ≤ length tree → Judges words input table memo (r .answer) table′ memo′
   -- of an accepted log
