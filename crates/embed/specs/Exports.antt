@@ -8,6 +8,8 @@ use Rattle.answer.specs.Numbers.{numbers}
 use Rattle.recognizer.specs.Properties.{Checks, Judges}
 use Rattle.recording.specs.declared.Recorded.{Recorded}
 use Rattle.recording.specs.Properties.{Records}
+use Rattle.tree_writer.specs.declared.Shown.{Shown}
+use Rattle.tree_writer.specs.Properties.{Shows}
 use Rattle.embed.specs.Packing.{packed, Unpacks}
 use Rattle.embed.specs.Records.{countersOf, usageIn}
 
@@ -30,3 +32,11 @@ pub record RecordedExported (words input table memo counters : List ℕ) (r : �
   pub written : counters′ ≡ countersOf (recorded .usage)
   pub packs : r ≡ packed (numbers (recorded .answer))
   pub unpacks : Unpacks r (numbers (recorded .answer))
+
+-- the number of words that are written stands in a word of the caller's
+pub record TreeExported (words input table memo tree : List ℕ) (r : ℕ) (table′ memo′ tree′ : List ℕ) (written′ : ℕ) : Type 0 where
+  pub shown : Shown
+  pub shows : Shows words input table memo tree shown table′ memo′ tree′
+  pub number : written′ ≡ shown .written
+  pub packs : r ≡ packed (numbers (shown .answer))
+  pub unpacks : Unpacks r (numbers (shown .answer))

@@ -11,6 +11,7 @@ use recognizer::check;
 use recognizer::judge;
 
 mod recorded;
+mod shown;
 
 // The five fields side by side.
 fn join(verdict: u64, code: u64, position: u64, count: u64, farthest: u64) -> u64

@@ -7,6 +7,7 @@ use mathlib.Core.Option.{Option, none, some}
 use denote.Enum.Declared.{tagOf}
 use types.Run.{OneOf}
 use Prim.Native.Nat.{ℕ, suc, _+_, _-_, _*_, _≤_, _<_}
+use native.Mathlib.Decide.{decLt}
 use native.Mathlib.Nat.{mul-le-mul}
 use native.Mathlib.Omega.{arith}
 use lib.Dec.{T}
@@ -14,6 +15,7 @@ use lib.Arith.{digits-lt}
 use lib.ListN.{length, getD, drop, replicate, length-append, length-drop, length-map, List·getD-append}
 use borrow.Author.Tests.{lt-ltb, le-ltb}
 use Rattle.answer.specs.Faults.{firstFault, refusedOr, toldOr}
+use Rattle.answer.specs.Numbers.{coded}
 use Rattle.answer.specs.declared.Error.{Error}
 use Rattle.answer.specs.declared.Error.the-variants.{TableTooShort, MemoTooShort, TreeTooShort}
 use Rattle.answer.specs.declared.Calls.{Calls}
@@ -116,6 +118,15 @@ module _ (words input table memo tree : List ℕ) where
       unfolding treeFault
       then-judged h =
           rw (le-ltb (length table) maxTableWords long, le-ltb (length memo) maxMemoEntries room, le-ltb (length tree) maxMemoEntries h) (alone judged)
+
+  -- tree memory that is too short is refused, if not for another memory's length
+  pub short-refused : length tree < maxMemoEntries → (x : Error) × (showing ≡ some x) × (coded x .position ≡ 0)
+  short-refused h = go (decLt (length table) maxTableWords) (decLt (length memo) maxMemoEntries)
+    where
+      go : Dec (length table < maxTableWords) → Dec (length memo < maxMemoEntries) → (x : Error) × (showing ≡ some x) × (coded x .position ≡ 0)
+      go (yes t) m = (TableTooShort, first-table t, refl)
+      go (no t) (yes m) = (MemoTooShort, first-memo (omega arith) m, refl)
+      go (no t) (no m) = (TreeTooShort, first-tree (omega arith) (omega arith) h, refl)
 
   -- a refusal
   refused : {x : Error} → showing ≡ some x → (maxMemoEntries ≤ length tree → judged ≡ some x)
