@@ -146,7 +146,7 @@ def judge_recorded(card, log, table, memo, usage):
     return call('judge_recorded', card, log, table, memo, usage)
 
 
-def judge_tree(card, log, table, memo, tree, written):
+def tree(card, log, table, memo, tree, written):
     """Judges a log, and writes the parse tree of an accepted one into tree and the number of its words into written[0]."""
     return call('tree', card, log, table, memo, tree, written)
 
@@ -172,7 +172,7 @@ def memo(fill=0):
     return array('H', [fill]) * constants()['MEMO_ENTRIES']
 
 
-def tree(fill=0):
+def tree_words(fill=0):
     return array('I', [fill]) * constants()['MEMO_ENTRIES']
 
 

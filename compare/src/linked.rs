@@ -25,6 +25,19 @@ extern "C" {
         memo_len: usize,
         usage: *mut u32,
     ) -> u64;
+    fn vinegarspit_tree(
+        card: *const u32,
+        card_len: usize,
+        log: *const u8,
+        log_len: usize,
+        table: *mut u32,
+        table_len: usize,
+        memo: *mut u16,
+        memo_len: usize,
+        tree: *mut u32,
+        tree_len: usize,
+        written: *mut u32,
+    ) -> u64;
 }
 
 pub fn check(words: &[u32], table: &mut [u32]) -> u64 {
@@ -67,6 +80,28 @@ pub fn judge_recorded(words: &[u32], input: &[u8], table: &mut [u32], memo: &mut
     };
     let [calls, refusals, acceptances, called] = counters;
     (answer, Usage { calls, refusals, acceptances, called })
+}
+
+/// The answer, and the number of words of the tree.
+pub fn tree(words: &[u32], input: &[u8], table: &mut [u32], memo: &mut [u16], tree: &mut [u32]) -> (u64, u32) {
+    let mut written = 0;
+    // Sound: as above, and the library writes one number.
+    let answer = unsafe {
+        vinegarspit_tree(
+            words.as_ptr(),
+            words.len(),
+            input.as_ptr(),
+            input.len(),
+            table.as_mut_ptr(),
+            table.len(),
+            memo.as_mut_ptr(),
+            memo.len(),
+            tree.as_mut_ptr(),
+            tree.len(),
+            &mut written,
+        )
+    };
+    (answer, written)
 }
 
 /// The answer that the library packs an outcome into.

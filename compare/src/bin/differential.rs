@@ -26,11 +26,12 @@ const CASES_A_HISTORY: u64 = 10;
 struct Memory {
     table: Vec<u32>,
     memo: Vec<u16>,
+    tree: Vec<u32>,
 }
 
 impl Memory {
     fn random(random: &mut Random) -> Memory {
-        let mut memory = Memory { table: vec![0; TABLE_WORDS + 200], memo: vec![0; MEMO_ENTRIES + 200] };
+        let mut memory = Memory { table: vec![0; TABLE_WORDS + 200], memo: vec![0; MEMO_ENTRIES + 200], tree: vec![0; MEMO_ENTRIES + 200] };
         memory.refill(random);
         memory
     }
@@ -38,10 +39,17 @@ impl Memory {
     fn refill(&mut self, random: &mut Random) {
         random.fill_words(&mut self.table);
         random.fill_entries(&mut self.memo);
+        random.fill_words(&mut self.tree);
     }
 
     fn lend(&mut self, lengths: Lengths) -> (&mut [u32], &mut [u16]) {
         (&mut self.table[GUARD..GUARD + lengths.table], &mut self.memo[GUARD..GUARD + lengths.memo])
+    }
+
+    /// With memory for a tree.
+    fn lend_tree(&mut self, lengths: Lengths, tree: usize) -> (&mut [u32], &mut [u16], &mut [u32]) {
+        let memory = (&mut self.table[GUARD..GUARD + lengths.table], &mut self.memo[GUARD..GUARD + lengths.memo]);
+        (memory.0, memory.1, &mut self.tree[GUARD..GUARD + tree])
     }
 }
 
@@ -74,7 +82,9 @@ fn length(random: &mut Random, enough: usize) -> usize {
 struct Tally {
     cases: u64,
     differ: u64,
-    refused: [u64; 12],
+    refused: [u64; 15],
+    /// Words of trees.
+    vertices: u64,
     passed: u64,
     rejected: u64,
     accepted: u64,
@@ -104,7 +114,7 @@ impl Tally {
     }
 
     fn print(&self) {
-        for (code, times) in self.refused.iter().enumerate().skip(1) {
+        for (code, times) in self.refused.iter().enumerate().filter(|(_, &times)| times > 0) {
             println!("  refused {code:<2} {times:>9}");
         }
         println!("  passed     {:>9}", self.passed);
@@ -112,17 +122,18 @@ impl Tally {
         println!("  accepted   {:>9}", self.accepted);
         println!("  verdicts by a grammar with a rule of negatives alone {}", self.forbidding);
         println!("  verdicts on events with directions {}", self.westward);
+        println!("  words of parse trees {}", self.vertices);
         println!("  calls of nonterminals {}, in one descent at most {}", self.calls, self.most_calls);
     }
 
     /// Whether every outcome of judging was seen.
     fn judged(&self) -> bool {
-        self.refused[1..].iter().chain([&self.rejected, &self.accepted]).all(|&times| times > 0)
+        self.refused[1..=11].iter().chain([&self.rejected, &self.accepted]).all(|&times| times > 0)
     }
 
     /// Whether every outcome that document 01 knows was seen, and a grammar of the form that request P1 adds.
     fn complete(&self) -> bool {
-        self.judged() && self.passed > 0 && self.forbidding > 0 && self.westward > 0
+        self.judged() && self.refused[14] > 0 && self.passed > 0 && self.forbidding > 0 && self.westward > 0
     }
 }
 
@@ -153,6 +164,20 @@ impl Pair {
         self.settle("judge", agree, expected, answer, words, input, lengths)
     }
 
+    fn tree(&mut self, words: &[u32], input: &[u8], lengths: Lengths, tree: usize) -> Outcome {
+        let (table, memo, lent) = self.twin.lend_tree(lengths, tree);
+        let (expected, written) = twin::judge_tree(words, input, table, memo, lent);
+        let (table, memo, lent) = self.proved.lend_tree(lengths, tree);
+        let (answer, number) = linked::tree(words, input, table, memo, lent);
+        self.tally.vertices += written as u64;
+        let agree = answer == linked::packed(expected)
+            && number == written
+            && self.twin.table == self.proved.table
+            && self.twin.memo == self.proved.memo
+            && self.twin.tree == self.proved.tree;
+        self.settle("tree", agree, expected, answer, words, input, lengths)
+    }
+
     fn settle(&mut self, call: &str, agree: bool, expected: Outcome, answer: u64, words: &[u32], input: &[u8], lengths: Lengths) -> Outcome {
         self.tally.add(expected);
         if !agree {
@@ -165,6 +190,7 @@ impl Pair {
                 println!("  the library answers {answer:016x}");
                 print_first_difference("table", &self.twin.table, &self.proved.table);
                 print_first_difference("memo", &self.twin.memo, &self.proved.memo);
+                print_first_difference("tree", &self.twin.tree, &self.proved.tree);
             }
             self.proved = self.twin.clone();
         }
@@ -250,6 +276,7 @@ fn stated_cases(pair: &mut Pair) {
     for (words, input, verdict, first, second) in rows {
         pair.check(&words, Lengths::LEAST);
         let outcome = pair.judge(&words, &input, Lengths::LEAST);
+        pair.tree(&words, &input, Lengths::LEAST, MEMO_ENTRIES);
         let told = match verdict {
             Refused => (outcome.code as u16, outcome.position),
             _ => (outcome.count, outcome.farthest),
@@ -274,10 +301,12 @@ fn random_cases(pair: &mut Pair, seed: u64, count: u64) {
         let words = cards::words(&mut random);
         let events = cards::events(&mut random, &words);
         let lengths = Lengths::random(&mut random);
+        let tree = length(&mut random, MEMO_ENTRIES);
         pair.refill(&mut random);
         let differ = pair.tally.differ;
         pair.check(&words, lengths);
         let outcome = pair.judge(&words, &events, lengths);
+        pair.tree(&words, &events, lengths, tree);
         pair.tally.westward += u64::from(outcome.verdict != Verdict::Refused && events.iter().any(|event| event & WESTWARD != 0));
         pair.tally.forbidding += u64::from(outcome.verdict != Verdict::Refused && only_forbids(&words));
         if pair.tally.differ > differ {
@@ -325,6 +354,7 @@ impl SmallCases {
 
     fn inputs(&self, pair: &mut Pair, words: &[u32], input: &mut Vec<u8>) {
         let outcome = pair.judge(words, input, Lengths::LEAST);
+        pair.tree(words, input, Lengths::LEAST, MEMO_ENTRIES);
         if outcome.code == 11 || input.len() == self.most_tokens {
             return;
         }
@@ -348,7 +378,7 @@ fn run(seed: u64, count: u64) -> bool {
     let stated_tally = std::mem::take(&mut pair.tally);
 
     let start = Instant::now();
-    println!("random: seed {seed}, {count} grammars and inputs, each checked and judged");
+    println!("random: seed {seed}, {count} grammars and inputs, each checked, judged and judged with a tree");
     random_cases(&mut pair, seed, count);
     pair.tally.print();
     let complete = pair.tally.complete();

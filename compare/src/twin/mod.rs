@@ -8,6 +8,7 @@ mod lookahead;
 mod one;
 mod sets;
 mod table;
+mod tree;
 mod usage;
 mod words;
 
@@ -15,5 +16,6 @@ pub use answers::{Outcome, Refusal, Verdict};
 pub use calls::{check, judge};
 pub use limits::*;
 pub use one::Gaps;
+pub use tree::judge_tree;
 pub use usage::{judge_recorded, Usage};
 pub use words::{Grammar, Symbol};
