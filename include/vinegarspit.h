@@ -99,6 +99,21 @@ uint64_t vinegarspit_judge_recorded(const uint32_t *card, size_t card_len, const
  * Nothing nests: 64 KiB of stack are enough. */
 uint64_t vinegarspit_judge_plain(const uint32_t *card, size_t card_len, const uint8_t *log, size_t log_len, uint32_t *spans, size_t spans_len);
 
+/* Judges a log as vinegarspit_judge does, and writes the parse tree of an accepted one into tree[0] and the words behind it.
+ *
+ * A vertex is one word: 8 in bits 28 to 31, the rule in bits 0 to 6, its stretch's start in bits 7 to 15 and its end in bits 16 to 24, the
+ * others 0. The root stands first, and what is below a vertex behind it, going down into the rule's musts in order; a vertex that is met again
+ * is not written again. Must-nots have no vertices, and a rule of must-nots alone has the events of its stretch below it. *written is the
+ * number of words; later words keep their contents. A rejected log writes none.
+ *
+ * Answer, table and memo are those of vinegarspit_judge. REFUSED as by it, and besides, behind 2: *written is 0, and nothing else is written.
+ *   14  tree_len is under 16,032                                     0
+ *
+ * The deepest trees nest 16,032 vertices, within the stack that judging them takes. */
+uint64_t vinegarspit_tree(const uint32_t *card, size_t card_len, const uint8_t *log, size_t log_len,
+                          uint32_t *table, size_t table_len, uint16_t *memo, size_t memo_len,
+                          uint32_t *tree, size_t tree_len, uint32_t *written);
+
 /* The parts of an answer. */
 static inline unsigned vinegarspit_verdict(uint64_t answer) { return (unsigned)(answer & 255); }
 static inline unsigned vinegarspit_number(uint64_t answer) { return (unsigned)(answer >> 8 & 255); }
