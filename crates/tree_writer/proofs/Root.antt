@@ -14,7 +14,6 @@ use Rattle.grammar.specs.Syntax.{Grammar}
 use Rattle.grammar.specs.Encoding.{grammarOf}
 use Rattle.grammar.specs.Reading.{reading}
 use Rattle.grammar.specs.Starts.{ruleStarts}
-use Rattle.grammar.specs.WellRead.{WellRead}
 use Rattle.grammar.specs.declared.reading.Sizes.{Sizes}
 use Rattle.grammar.specs.declared.reading.Outcome.{Outcome}
 use Rattle.grammar.specs.declared.reading.Outcome.the-variants.{Read}
@@ -56,19 +55,12 @@ module _ {words input table memo tree : List ℕ} (g : TreeGiven words input tab
   abbrev G : Grammar
   G = grammarOf words
 
-  r : WellRead words (g .accepted .sizes)
-  r = well-read words (g .accepted .sizes) (g .accepted .read)
-
-  -- the sizes are those that reading gives
-  pub sizes-are : {z : Sizes} → reading words ≡ Read z → WellRead words z
-  sizes-are {z} e = well-read words z e
-
   pub not-read : {o : Outcome} {n : ℕ} {tree′ : List ℕ} → o ≡ reading words → tagOf the-type o ≡ 1 → TreeDone words input tree n tree′
   not-read e t = let q : _≡_ {A = ℕ} 0 1 = rw (e ∙ g .accepted .read) at t in absurd (omega arith)
 
   pub labels-given : {z : Sizes} → reading words ≡ Read z → LabelsGiven z input table memo
   labels-given {z} e =
-      let k = sizes-are e in
+      let k = well-read words z e in
       record {
         fewNonterminals = k .fewNonterminals;
         fewTerminals = k .fewTerminals;
@@ -89,7 +81,7 @@ module _ {words input table memo tree : List ℕ} (g : TreeGiven words input tab
       → labelWord z input table memo (x .nonterminal) (x .place) ≡ wordAt words input x
   unfolding labelWord columnAt wordAt vertexAt encode entryAt
   label-right {z} read x h =
-      let k = sizes-are read in
+      let k = well-read words z read in
       let s = tree-sound G 1 input (g .accepted .predictive) (g .accepted .tokens) meaning solves (g .accepted .accepted) x h in
       let f = s .2 .1 in
       let c = chosen G 1 input (g .accepted .predictive) (g .accepted .tokens) meaning solves (x .nonterminal) (x .place) (s .2 .0) f in
@@ -126,7 +118,7 @@ module _ {words input table memo tree : List ℕ} (g : TreeGiven words input tab
       begins = s;
       labelled = λ x h.
           let f = tree-sound G 1 input (g .accepted .predictive) (g .accepted .tokens) meaning solves (g .accepted .accepted) x h .2 .1 in
-          l .word (x .nonterminal) (x .place) (omega (arith, f .named, sizes-are read .nonterminals)) (omega (arith, f .onward, f .within)) ∙ label-right read x h;
+          l .word (x .nonterminal) (x .place) (omega (arith, f .named, well-read words z read .nonterminals)) (omega (arith, f .onward, f .within)) ∙ label-right read x h;
       inTree = start;
       lent = tree;
       seen = [];
