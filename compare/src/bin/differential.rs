@@ -474,7 +474,7 @@ fn run(seed: u64, count: u64) -> bool {
     let memory = Memory::random(&mut random);
     let mut pair = Pair { twin: memory.clone(), proved: memory, tally: Tally::default() };
 
-    println!("stated: the judged inputs and limits of document 01, and rows of the requests P1, P2, P5, P6 and P7");
+    println!("stated: the judged inputs and limits of document 01, and rows of the requests P1, P2 and P5 to P8");
     stated_cases(&mut pair);
     histories::stated_histories(&mut pair);
     stated_plain_cases(&mut pair);
