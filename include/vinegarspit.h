@@ -83,7 +83,7 @@ uint64_t vinegarspit_judge_recorded(const uint32_t *card, size_t card_len, const
                                     uint32_t *table, size_t table_len, uint16_t *memo, size_t memo_len, uint32_t usage[4]);
 
 /* Judges a log plainly: without table and memo table, by finding for every stretch of the log, from short to long, the names that it belongs to. It
- * takes every grammar that is not left-recursive, also those that a check refuses with 9, and logs of at most 48 events. Answers ACCEPTED or REJECTED,
+ * takes every grammar that a check passes or refuses with 9, and logs of at most 48 events. Answers ACCEPTED or REJECTED,
  * with count and far 0, or REFUSED.
  *
  * ACCEPTED exactly when the whole log belongs to name 0 by the one meaning that the grammar has; REJECTED exactly when not. Where a check passes the
@@ -92,7 +92,7 @@ uint64_t vinegarspit_judge_recorded(const uint32_t *card, size_t card_len, const
  *
  * REFUSED: nothing is written. The first of these that holds:
  *   12  spans_len is under 1,225                                     0
- *       3 to 8, as by a check
+ *       3 to 8 and 13, as by a check
  *       10, where log_len is over 48
  *       11, as by judging
  *
