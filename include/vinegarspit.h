@@ -83,7 +83,7 @@ uint64_t vinegarspit_judge_recorded(const uint32_t *card, size_t card_len, const
                                     uint32_t *table, size_t table_len, uint16_t *memo, size_t memo_len, uint32_t usage[4]);
 
 /* Judges a log plainly: without table and memo table, by finding for every stretch of the log, from short to long, the names that it belongs to. It
- * takes every grammar that is not left-recursive, also those that a check refuses with 9, and logs of at most 48 events. Answers ACCEPTED or REJECTED,
+ * takes every grammar that a check passes or refuses with 9, and logs of at most 48 events. Answers ACCEPTED or REJECTED,
  * with count and far 0, or REFUSED.
  *
  * ACCEPTED exactly when the whole log belongs to name 0 by the one meaning that the grammar has; REJECTED exactly when not. Where a check passes the
@@ -92,12 +92,27 @@ uint64_t vinegarspit_judge_recorded(const uint32_t *card, size_t card_len, const
  *
  * REFUSED: nothing is written. The first of these that holds:
  *   12  spans_len is under 1,225                                     0
- *       3 to 8, as by a check
+ *       3 to 8 and 13, as by a check
  *       10, where log_len is over 48
  *       11, as by judging
  *
  * Nothing nests: 64 KiB of stack are enough. */
 uint64_t vinegarspit_judge_plain(const uint32_t *card, size_t card_len, const uint8_t *log, size_t log_len, uint32_t *spans, size_t spans_len);
+
+/* Judges a log as vinegarspit_judge does, and writes the parse tree of an accepted one into tree[0] and the words behind it.
+ *
+ * A vertex is one word: 8 in bits 28 to 31, the rule in bits 0 to 6, its stretch's start in bits 7 to 15 and its end in bits 16 to 24, the
+ * others 0. The root stands first, and what is below a vertex behind it, going down into the rule's musts in order; a vertex that is met again
+ * is not written again. Must-nots have no vertices, and a rule of must-nots alone has the events of its stretch below it. *written is the
+ * number of words; later words keep their contents. A rejected log writes none.
+ *
+ * Answer, table and memo are those of vinegarspit_judge. REFUSED as by it, and besides, behind 2: *written is 0, and nothing else is written.
+ *   14  tree_len is under 16,032                                     0
+ *
+ * The deepest trees nest 16,032 vertices, within the stack that judging them takes. */
+uint64_t vinegarspit_tree(const uint32_t *card, size_t card_len, const uint8_t *log, size_t log_len,
+                          uint32_t *table, size_t table_len, uint16_t *memo, size_t memo_len,
+                          uint32_t *tree, size_t tree_len, uint32_t *written);
 
 /* The parts of an answer. */
 static inline unsigned vinegarspit_verdict(uint64_t answer) { return (unsigned)(answer & 255); }

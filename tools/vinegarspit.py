@@ -27,7 +27,7 @@ TYPES = {'uint8_t': ('B', ctypes.c_uint8), 'uint16_t': ('H', ctypes.c_uint16), '
 class Parameter(NamedTuple):
     name: str
     type: str
-    row: bool        # a pointer; the number of its elements is the parameter behind it, unless it is told
+    row: bool        # a pointer; the number of its elements is the parameter behind it, unless that is told or there is none: then it is 1
     written: bool    # lent memory, or a record
     length: int      # the number of elements of a row that always has as many, else 0
 
@@ -51,7 +51,9 @@ def calls():
     found = {}
     for name, text in re.findall(r'\buint64_t vinegarspit_(\w+)\(([^)]*)\);', header()):
         parameters = [re.fullmatch(r'\s*(const )?(\w+) (\*?)(\w+)(?:\[(\d+)\])?\s*', part).groups() for part in text.split(',')]
-        found[name] = [Parameter(each, kind, bool(star or length), bool(star or length) and not const, int(length or 0))
+        names = [each for *_, each, _ in parameters]
+        found[name] = [Parameter(each, kind, bool(star or length), bool(star or length) and not const,
+                                 int(length or (star and each + '_len' not in names)))
                        for const, kind, star, each, length in parameters if not each.endswith('_len')]
     return found
 
@@ -149,6 +151,22 @@ def judge_plain(card, log, spans):
     return call('judge_plain', card, log, spans)
 
 
+def tree(card, log, table, memo, tree, written):
+    """Judges a log, and writes the parse tree of an accepted one into tree and the number of its words into written[0]."""
+    return call('tree', card, log, table, memo, tree, written)
+
+
+class Vertex(NamedTuple):
+    rule: int
+    start: int
+    end: int
+
+
+def vertex(word):
+    """The vertex that a word of a tree is."""
+    return Vertex(word & 127, word >> 7 & 511, word >> 16 & 511)
+
+
 # Memory to lend, as much as each call asks for, and the empty record
 
 def table(fill=0):
@@ -157,6 +175,10 @@ def table(fill=0):
 
 def memo(fill=0):
     return array('H', [fill]) * constants()['MEMO_ENTRIES']
+
+
+def tree_words(fill=0):
+    return array('I', [fill]) * constants()['MEMO_ENTRIES']
 
 
 def usage():

@@ -33,6 +33,19 @@ extern "C" {
         spans: *mut u32,
         spans_len: usize,
     ) -> u64;
+    fn vinegarspit_tree(
+        card: *const u32,
+        card_len: usize,
+        log: *const u8,
+        log_len: usize,
+        table: *mut u32,
+        table_len: usize,
+        memo: *mut u16,
+        memo_len: usize,
+        tree: *mut u32,
+        tree_len: usize,
+        written: *mut u32,
+    ) -> u64;
 }
 
 pub fn check(words: &[u32], table: &mut [u32]) -> u64 {
@@ -80,6 +93,28 @@ pub fn judge_recorded(words: &[u32], input: &[u8], table: &mut [u32], memo: &mut
 pub fn judge_plain(words: &[u32], input: &[u8], spans: &mut [u32]) -> u64 {
     // Sound: as above.
     unsafe { vinegarspit_judge_plain(words.as_ptr(), words.len(), input.as_ptr(), input.len(), spans.as_mut_ptr(), spans.len()) }
+}
+
+/// The answer, and the number of words of the tree.
+pub fn tree(words: &[u32], input: &[u8], table: &mut [u32], memo: &mut [u16], tree: &mut [u32]) -> (u64, u32) {
+    let mut written = 0;
+    // Sound: as above, and the library writes one number.
+    let answer = unsafe {
+        vinegarspit_tree(
+            words.as_ptr(),
+            words.len(),
+            input.as_ptr(),
+            input.len(),
+            table.as_mut_ptr(),
+            table.len(),
+            memo.as_mut_ptr(),
+            memo.len(),
+            tree.as_mut_ptr(),
+            tree.len(),
+            &mut written,
+        )
+    };
+    (answer, written)
 }
 
 /// The answer that the library packs an outcome into.

@@ -155,6 +155,21 @@ fn time_plain(what: &str, draft: &Draft, input: &[u8]) {
     print_row(&format!("plain {what}, {} tokens", input.len()), &format!("{:?}", outcome.verdict).to_lowercase(), &times);
 }
 
+/// As `time_judge`, with the parse tree.
+fn time_tree(what: &str, draft: &Draft, input: &[u8]) {
+    let words = draft.words();
+    let (mut proved, mut twin) = (Memory::new(), Memory::new());
+    let (mut tree, mut tree_by_twin) = (vec![0; MEMO_ENTRIES], vec![0; MEMO_ENTRIES]);
+    let (outcome, written) = twin::judge_tree(&words, input, &mut twin.table, &mut twin.memo, &mut tree_by_twin);
+    let answer = linked::tree(&words, input, &mut proved.table, &mut proved.memo, &mut tree);
+    assert!(answer == (linked::packed(outcome), written) && tree == tree_by_twin, "{what}: the trees differ");
+    let times = medians(&mut [
+        &mut || linked::tree(black_box(&words), black_box(input), &mut proved.table, &mut proved.memo, &mut tree).0,
+        &mut || linked::packed(twin::judge_tree(black_box(&words), black_box(input), &mut twin.table, &mut twin.memo, &mut tree_by_twin).0),
+    ]);
+    print_row(&format!("tree {what}, {} tokens", input.len()), &format!("{:?}", outcome.verdict).to_lowercase(), &times);
+}
+
 /// An input of card M's language where `before` is not `nested`: a's, then b's and as many c's.
 fn axles(before: usize, nested: usize) -> Vec<u8> {
     [vec![0; before], vec![1; nested], vec![2; nested]].concat()
@@ -181,6 +196,8 @@ fn main() {
         time_judge("card M", &cards::card_m(), &axles(before, nested), peg::MADE);
     }
     time_judge_recorded("card M", &cards::card_m(), &axles(10, 20));
+    time_tree("card M", &cards::card_m(), &axles(10, 20));
+    time_tree("chain of 32", &cards::chain(32, 1), &[0; 500]);
     for tokens in [0, 50, 500] {
         time_judge("chain of 32", &cards::chain(32, 1), &vec![0; tokens], false);
     }

@@ -25,6 +25,8 @@ const CODES: usize = 24;
 /// The refusals that a check or a judgement can give, in the order in which they are told; and that of judging plainly alone.
 const REFUSALS: [usize; 12] = [1, 2, 3, 4, 5, 6, 7, 8, 13, 9, 10, 11];
 const PLAIN_REFUSAL: usize = 12;
+/// And that of judging with a tree alone.
+const TREE_REFUSAL: usize = 14;
 const DEFAULT_SEED: u64 = 1;
 const DEFAULT_COUNT: u64 = 150_000;
 /// How many random cases there are for each random history.
@@ -36,11 +38,13 @@ struct Memory {
     table: Vec<u32>,
     memo: Vec<u16>,
     spans: Vec<u32>,
+    tree: Vec<u32>,
 }
 
 impl Memory {
     fn random(random: &mut Random) -> Memory {
-        let mut memory = Memory { table: vec![0; TABLE_WORDS + 200], memo: vec![0; MEMO_ENTRIES + 200], spans: vec![0; SPAN_WORDS + 200] };
+        let (table, memo) = (vec![0; TABLE_WORDS + 200], vec![0; MEMO_ENTRIES + 200]);
+        let mut memory = Memory { table, memo, spans: vec![0; SPAN_WORDS + 200], tree: vec![0; MEMO_ENTRIES + 200] };
         memory.refill(random);
         memory
     }
@@ -49,6 +53,7 @@ impl Memory {
         random.fill_words(&mut self.table);
         random.fill_entries(&mut self.memo);
         random.fill_words(&mut self.spans);
+        random.fill_words(&mut self.tree);
     }
 
     fn lend(&mut self, lengths: Lengths) -> (&mut [u32], &mut [u16]) {
@@ -57,6 +62,12 @@ impl Memory {
 
     fn lend_spans(&mut self, lengths: Lengths) -> &mut [u32] {
         &mut self.spans[GUARD..GUARD + lengths.spans]
+    }
+
+    /// With memory for a tree.
+    fn lend_tree(&mut self, lengths: Lengths, tree: usize) -> (&mut [u32], &mut [u16], &mut [u32]) {
+        let memory = (&mut self.table[GUARD..GUARD + lengths.table], &mut self.memo[GUARD..GUARD + lengths.memo]);
+        (memory.0, memory.1, &mut self.tree[GUARD..GUARD + tree])
     }
 }
 
@@ -91,6 +102,8 @@ struct Tally {
     cases: u64,
     differ: u64,
     refused: [u64; CODES],
+    /// Words of trees.
+    vertices: u64,
     passed: u64,
     rejected: u64,
     accepted: u64,
@@ -131,6 +144,7 @@ impl Tally {
         println!("  verdicts by a grammar with a rule of negatives alone {}", self.forbidding);
         println!("  verdicts on events with directions {}", self.westward);
         println!("  plain verdicts by grammars that pass {}, by clashing ones {}", self.plain[0], self.plain[1]);
+        println!("  words of parse trees {}", self.vertices);
         println!("  calls of nonterminals {}, in one descent at most {}", self.calls, self.most_calls);
     }
 
@@ -141,7 +155,7 @@ impl Tally {
 
     /// Whether every outcome that the papers know was seen.
     fn complete(&self) -> bool {
-        let others = [self.passed, self.forbidding, self.westward, self.refused[PLAIN_REFUSAL]];
+        let others = [self.passed, self.forbidding, self.westward, self.refused[PLAIN_REFUSAL], self.refused[TREE_REFUSAL]];
         self.judged() && others.iter().chain(&self.plain).all(|&times| times > 0)
     }
 }
@@ -187,6 +201,20 @@ impl Pair {
         self.settle("judge_plain", agree, expected, answer, words, input, lengths)
     }
 
+    fn tree(&mut self, words: &[u32], input: &[u8], lengths: Lengths, tree: usize) -> Outcome {
+        let (table, memo, lent) = self.twin.lend_tree(lengths, tree);
+        let (expected, written) = twin::judge_tree(words, input, table, memo, lent);
+        let (table, memo, lent) = self.proved.lend_tree(lengths, tree);
+        let (answer, number) = linked::tree(words, input, table, memo, lent);
+        self.tally.vertices += written as u64;
+        let agree = answer == linked::packed(expected)
+            && number == written
+            && self.twin.table == self.proved.table
+            && self.twin.memo == self.proved.memo
+            && self.twin.tree == self.proved.tree;
+        self.settle("tree", agree, expected, answer, words, input, lengths)
+    }
+
     fn settle(&mut self, call: &str, agree: bool, expected: Outcome, answer: u64, words: &[u32], input: &[u8], lengths: Lengths) -> Outcome {
         self.tally.add(expected);
         if !agree {
@@ -200,6 +228,7 @@ impl Pair {
                 print_first_difference("table", &self.twin.table, &self.proved.table);
                 print_first_difference("memo", &self.twin.memo, &self.proved.memo);
                 print_first_difference("spans", &self.twin.spans, &self.proved.spans);
+                print_first_difference("tree", &self.twin.tree, &self.proved.tree);
             }
             self.proved = self.twin.clone();
         }
@@ -295,6 +324,7 @@ fn stated_cases(pair: &mut Pair) {
     for (words, input, verdict, first, second) in rows {
         pair.check(&words, Lengths::LEAST);
         let outcome = pair.judge(&words, &input, Lengths::LEAST);
+        pair.tree(&words, &input, Lengths::LEAST, MEMO_ENTRIES);
         let told = match verdict {
             Refused => (outcome.code as u16, outcome.position),
             _ => (outcome.count, outcome.farthest),
@@ -352,6 +382,7 @@ fn random_cases(pair: &mut Pair, seed: u64, count: u64) {
         let words = cards::words(&mut random);
         let events = cards::events(&mut random, &words);
         let lengths = Lengths::random(&mut random);
+        let tree = length(&mut random, MEMO_ENTRIES);
         pair.refill(&mut random);
         let differ = pair.tally.differ;
         pair.check(&words, lengths);
@@ -359,6 +390,7 @@ fn random_cases(pair: &mut Pair, seed: u64, count: u64) {
             pair.judge_plain(&words, &events, lengths);
         }
         let outcome = pair.judge(&words, &events, lengths);
+        pair.tree(&words, &events, lengths, tree);
         pair.tally.westward += u64::from(outcome.verdict != Verdict::Refused && events.iter().any(|event| event & WESTWARD != 0));
         pair.tally.forbidding += u64::from(outcome.verdict != Verdict::Refused && only_forbids(&words));
         if pair.tally.differ > differ {
@@ -425,6 +457,7 @@ impl SmallCases {
         if input.len() <= MOST_PLAIN {
             pair.judge_plain(words, input, Lengths::LEAST);
         }
+        pair.tree(words, input, Lengths::LEAST, MEMO_ENTRIES);
         if outcome.code == 11 || input.len() == self.most_tokens {
             return;
         }
@@ -441,7 +474,7 @@ fn run(seed: u64, count: u64) -> bool {
     let memory = Memory::random(&mut random);
     let mut pair = Pair { twin: memory.clone(), proved: memory, tally: Tally::default() };
 
-    println!("stated: the judged inputs and limits of document 01, and rows of the requests P1, P2, P5, P6 and P7");
+    println!("stated: the judged inputs and limits of document 01, and rows of the requests P1, P2 and P5 to P8");
     stated_cases(&mut pair);
     histories::stated_histories(&mut pair);
     stated_plain_cases(&mut pair);
@@ -449,7 +482,7 @@ fn run(seed: u64, count: u64) -> bool {
     let stated_tally = std::mem::take(&mut pair.tally);
 
     let start = Instant::now();
-    println!("random: seed {seed}, {count} grammars and inputs, each checked and judged");
+    println!("random: seed {seed}, {count} grammars and inputs, each checked, judged and judged with a tree");
     random_cases(&mut pair, seed, count);
     pair.tally.print();
     let complete = pair.tally.complete();

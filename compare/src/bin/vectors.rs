@@ -1,6 +1,6 @@
 //! Runs the twin over the recorded rows of tests/vectors and tells where its texts differ.
 
-use compare::text;
+use compare::{text, twin};
 use std::{fs, path::{Path, PathBuf}, process::ExitCode};
 
 fn bytes_of(field: &str) -> Vec<u8> {
@@ -12,6 +12,21 @@ fn recorded_call(call: &str, card: &str, log: &str) -> String {
     let (name, sizes) = call.split_once(' ').expect("a call and sizes");
     let sizes: Vec<usize> = sizes.split(' ').map(|size| size.parse().expect("a size")).collect();
     text::call(name, &sizes, &bytes_of(card), &bytes_of(log))
+}
+
+/// The words of the tree, or the answer where it is another one.
+fn recorded_tree(card: &str, log: &str, rooms: &str, verdict: &str) -> String {
+    let rooms: Vec<usize> = rooms.split(' ').map(|room| room.parse().expect("a number")).collect();
+    let words: Vec<u32> = bytes_of(card).chunks_exact(4).map(|bytes| u32::from_le_bytes(bytes.try_into().expect("four bytes"))).collect();
+    let (mut table, mut memo, mut tree) = (vec![0; rooms[0]], vec![0; rooms[1]], vec![0; rooms[2]]);
+    let (outcome, written) = twin::judge_tree(&words, &bytes_of(log), &mut table, &mut memo, &mut tree);
+    let numbers = [outcome.code as u16, outcome.position, outcome.count, outcome.farthest].map(|number| number.to_string()).join(" ");
+    let answer = format!("{:?} {numbers}", outcome.verdict).to_lowercase();
+    if answer != verdict {
+        return answer;
+    }
+    let told: Vec<String> = tree[..written as usize].iter().map(|word| format!("{word:08x}")).collect();
+    if told.is_empty() { "-".into() } else { told.join(" ") }
 }
 
 /// The files of rows, by name; those of request P1 begin with p01_, and so on.
@@ -44,6 +59,7 @@ fn main() -> ExitCode {
                 ("calls", [call, card]) => recorded_call(call, card, "-"),
                 ("calls", [call, card, log]) => recorded_call(call, card, log),
                 ("plain", [card, log, lent]) => text::plain(&bytes_of(card), &bytes_of(log), lent.parse().expect("a size")),
+                ("tree", [card, log, rooms, verdict]) => recorded_tree(card, log, rooms, verdict),
                 _ => panic!("{name}.txt:{}: not a row", number + 1),
             };
             let printed = printed.trim_end().replace('\n', "/");

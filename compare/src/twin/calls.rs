@@ -7,12 +7,12 @@ use super::one::{clear, Passed};
 use super::plain::Spans;
 
 /// Refuses with this code if less is lent than is asked for.
-fn enough(lent: usize, asked: usize, code: u8) -> Result<(), Refusal> {
+pub fn enough(lent: usize, asked: usize, code: u8) -> Result<(), Refusal> {
     if lent < asked { Err(Refusal(code, 0)) } else { Ok(()) }
 }
 
 /// The letters of a log: an event's top bit is the direction of an axle.
-fn letters(events: &[u8]) -> Vec<u8> {
+pub fn letters(events: &[u8]) -> Vec<u8> {
     events.iter().map(|&event| event & 0x7f).collect()
 }
 

@@ -9,6 +9,7 @@ mod one;
 mod plain;
 mod sets;
 mod table;
+mod tree;
 mod usage;
 mod words;
 
@@ -16,5 +17,6 @@ pub use answers::{Outcome, Refusal, Verdict};
 pub use calls::{check, judge, judge_plain};
 pub use limits::*;
 pub use one::Gaps;
+pub use tree::judge_tree;
 pub use usage::{judge_recorded, Usage};
 pub use words::{Grammar, Symbol};

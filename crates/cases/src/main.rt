@@ -1,12 +1,18 @@
-// Document 01's limit cases and those of requests P1 and P7. Each grammar is a file; behind its name stands what the program sheet prints of it, or, for
+// Document 01's limit cases and those of requests P1, P7 and P8. Each grammar is a file; behind its name stands what the program sheet prints of it, or, for
 // each input, the first line of what the program judge prints.
 ghost use Rattle.io.specs.Counts.{Counts};
+use grammar::limits::MEMO_ENTRIES;
 use grammar::limits::PLACES;
+use grammar::limits::TABLE_WORDS;
 use grammar::limits::TOKENS;
+use grammar::limits::WORDS;
 use libc::STDOUT_FILENO;
 use report::FILE_BYTES;
 use report::INPUT_BYTES;
 use report::SHEET_ROOM;
+use text::words::Loaded;
+use text::words::load;
+use tree_writer::judge_tree;
 
 // Room for a line.
 const LINE: usize = 32;
@@ -111,6 +117,26 @@ fn deepest(path: &[u8]) {
     judged(path, &log[..TOKENS]);
 }
 
+// The deepest tree that there can be: a vertex for each nonterminal and place.
+fn deepest_tree(path: &[u8]) {
+    name(path);
+    let mut card = [0u8; FILE_BYTES];
+    let n = read(path, &mut card);
+    let mut words = [0u32; WORDS];
+    let loaded = load(&card[..n], &mut words);
+    let Loaded::Words(count) = loaded else {
+        return;
+    };
+    let mut table = [0u32; TABLE_WORDS];
+    let mut memo = [0u16; MEMO_ENTRIES];
+    let mut tree = [0u32; MEMO_ENTRIES];
+    let log = [0u8; TOKENS];
+    let shown = judge_tree(&words[..count], &log, &mut table, &mut memo, &mut tree);
+    if shown.written == MEMO_ENTRIES {
+        io::write_all(STDOUT_FILENO, b"16032 vertices\n");
+    }
+}
+
 fn main() {
     limits_of_checking();
     unproductive();
@@ -122,4 +148,6 @@ fn main() {
     deepest(b"chain_of_two_musts");
     deepest(b"chain_of_must_nots");
     deepest(b"chain_of_must_nots_alone");
+    deepest_tree(b"chain");
+    deepest_tree(b"chain_of_two_musts");
 }

@@ -1,9 +1,10 @@
 -- Each answer of the calls fits the fields, and the fields give it back.
-use mathlib.Core.Path.{_≡_, refl, _∙_}
+use mathlib.Core.Path.{_≡_, refl, ap, _∙_}
 use mathlib.Core.Bool.{Bool, true, false}
 use mathlib.Core.List.{List}
 use mathlib.Core.Option.{Option, none, some}
 use Prim.Native.Nat.{ℕ, suc, _≤_, _<_}
+use native.Mathlib.Decide.{decLt}
 use native.Mathlib.Nat.{mul-le-mul}
 use native.Mathlib.Omega.{arith}
 use lib.ListN.{length}
@@ -15,7 +16,7 @@ use Rattle.answer.specs.declared.Answer.{Answer}
 use Rattle.answer.specs.declared.Answer.the-variants.{Refused, Passed, Rejected, Accepted}
 use Rattle.answer.specs.Numbers.{coded, numbers, Numbers}
 use Rattle.booleans.specs.Choice.{choose}
-use Rattle.grammar.specs.Limits.{maxWords, maxNonterminals, maxPlaces}
+use Rattle.grammar.specs.Limits.{maxWords, maxNonterminals, maxPlaces, maxMemoEntries}
 use Rattle.grammar.specs.Encoding.{grammarOf}
 use Rattle.semantics.specs.Choices.{tableChoice}
 use Rattle.semantics.specs.Descent.{accepts}
@@ -30,11 +31,14 @@ use Rattle.recognizer.proofs.JudgeFaults.{judged-readable}
 use Rattle.usage.specs.declared.Usage.{Usage}
 use Rattle.recording.specs.declared.Recorded.{Recorded}
 use Rattle.recording.specs.Properties.{Records}
+use Rattle.tree_writer.specs.declared.Shown.{Shown}
+use Rattle.tree_writer.specs.Properties.{Shows}
+use Rattle.tree_writer.proofs.Showing.{short-refused}
 use Rattle.embed.specs.Packing.{Fit, NumbersFit, joined, packed, Unpacks}
 use Rattle.tabular.specs.Answers.{tabularFault, noCalls, told, tabularVerdict}
 use Rattle.tabular.specs.Properties.{TabularJudges}
 use Rattle.embed.specs.Records.{countersOf, usageIn}
-use Rattle.embed.specs.Exports.{CheckExported, JudgeExported, RecordedExported, TabularExported}
+use Rattle.embed.specs.Exports.{CheckExported, JudgeExported, RecordedExported, TreeExported, TabularExported}
 use Rattle.embed.proofs.Places.{Low, check-low, judge-low, tabular-low}
 
 code-low : (e : Error) → coded e .code < 256
@@ -116,6 +120,17 @@ tabular-fits {words} {input} {before} {after} {a} j =
     go none b l = verdict-fits b noCalls (omega arith, omega arith)
     go (some x) b l = refused-fits x (l x refl)
 
+-- a judgement with a tree
+pub tree-fits : {words input table memo tree table′ memo′ tree′ : List ℕ} {x : Shown} → Shows words input table memo tree x table′ memo′ tree′
+    → NumbersFit (numbers (x .answer))
+tree-fits {words} {input} {table} {memo} {tree} {x = x} s = go (decLt (length tree) maxMemoEntries)
+  where
+    go : Dec (length tree < maxMemoEntries) → NumbersFit (numbers (x .answer))
+    go (yes h) =
+        let k = short-refused words input table memo tree h in
+        rw (s .answer ∙ ap (λ f. refusedOr f (verdictOf (grammarOf words) input)) (k .1)) (refused-fits (k .0) (omega (arith, k .2)))
+    go (no h) = judge-fits (s .judges (omega (arith, h)))
+
 -- whichever verdict the fields are of
 any-verdict : {u v n p c f : ℕ} → v < 256 → Fit u n p c f → Fit v n p c f
 any-verdict h k = record { verdict = h; code = k .code; position = k .position; count = k .count; farthest = k .farthest }
@@ -184,3 +199,9 @@ recorded-exported {x = x} h c w e = record {
 pub tabular-exported : {words input before after : List ℕ} {a : Answer} {r : ℕ} → TabularJudges words input before a after → r ≡ packed (numbers a)
     → TabularExported words input before r after
 tabular-exported {a = a} j e = record { answer = a; judges = j; packs = e; unpacks = unpacks (numbers a) (tabular-fits j) e }
+
+pub tree-exported : {words input table memo tree table′ memo′ tree′ : List ℕ} {x : Shown} {r written′ : ℕ} → Shows words input table memo tree x table′ memo′ tree′
+    → written′ ≡ x .written
+    → r ≡ packed (numbers (x .answer))
+    → TreeExported words input table memo tree r table′ memo′ tree′ written′
+tree-exported {x = x} s w e = record { shown = x; shows = s; number = w; packs = e; unpacks = unpacks (numbers (x .answer)) (tree-fits s) e }

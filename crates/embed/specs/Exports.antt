@@ -9,6 +9,8 @@ use Rattle.recognizer.specs.Properties.{Checks, Judges}
 use Rattle.recording.specs.declared.Recorded.{Recorded}
 use Rattle.recording.specs.Properties.{Records}
 use Rattle.tabular.specs.Properties.{TabularJudges}
+use Rattle.tree_writer.specs.declared.Shown.{Shown}
+use Rattle.tree_writer.specs.Properties.{Shows}
 use Rattle.embed.specs.Packing.{packed, Unpacks}
 use Rattle.embed.specs.Records.{countersOf, usageIn}
 
@@ -37,3 +39,11 @@ pub record TabularExported (words input before : List ℕ) (r : ℕ) (after : Li
   pub judges : TabularJudges words input before answer after
   pub packs : r ≡ packed (numbers answer)
   pub unpacks : Unpacks r (numbers answer)
+
+-- the number of words that are written stands in a word of the caller's
+pub record TreeExported (words input table memo tree : List ℕ) (r : ℕ) (table′ memo′ tree′ : List ℕ) (written′ : ℕ) : Type 0 where
+  pub shown : Shown
+  pub shows : Shows words input table memo tree shown table′ memo′ tree′
+  pub number : written′ ≡ shown .written
+  pub packs : r ≡ packed (numbers (shown .answer))
+  pub unpacks : Unpacks r (numbers (shown .answer))

@@ -12,6 +12,7 @@ use recognizer::judge;
 use tabular::judge as judge_plain;
 
 mod recorded;
+mod shown;
 
 // The five fields side by side.
 fn join(verdict: u64, code: u64, position: u64, count: u64, farthest: u64) -> u64

@@ -68,7 +68,7 @@ abbrev pub foundText : Finding → Grammar → List ℕ
 foundText (Passed z) G = gapsLines G
 foundText (Refused e) G = refusalText e
 
--- what is printed of an encoded grammar; only the errors 3 to 8 are refusals
+-- what is printed of an encoded grammar; only the errors 3 to 8 and 13 are refusals
 unfoldable pub gapsText : List ℕ → List ℕ
 gapsText words = foundText (findingOf (setsFault words) (reading words)) (grammarOf words)
 

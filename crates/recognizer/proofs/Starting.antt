@@ -21,6 +21,8 @@ use Rattle.grammar.specs.WellRead.{firstRule, Begun, WellRead}
 use Rattle.grammar.specs.declared.reading.State.{State}
 use Rattle.grammar.specs.declared.reading.State.the-variants as state
 use Rattle.grammar.specs.declared.reading.Progress.{Progress}
+use Rattle.grammar.specs.declared.reading.Sizes.{Sizes}
+use Rattle.grammar.specs.declared.reading.Outcome.the-variants.{Read}
 use Rattle.grammar.proofs.Suffixes.{read-reaches, scan-next}
 use Rattle.grammar.proofs.WellRead.{well-read}
 use Rattle.semantics.specs.Choices.{Choice}
@@ -49,6 +51,15 @@ rule-opens word.Negative s e = absurd (false≢true e)
 rule-opens (word.Symbol X) s e = absurd (false≢true e)
 rule-opens word.End s e = absurd (false≢true e)
 rule-opens word.Invalid s e = absurd (false≢true e)
+
+-- the reading has come to a rule's begin, and goes on behind it
+pub begin-next : (words : List ℕ) (z : Sizes) → reading words ≡ Read z → (i : ℕ) → Begun words i
+    → (p : Progress) × (scan p (i + 1) (drop (i + 1) words) ≡ reading words) × (p .state ≡ state.Opened)
+begin-next words z read zero b = absurd (omega (arith, b .low))
+begin-next words z read (suc i) b =
+    let at = read-reaches words z read i (omega (arith, b .high)) in
+    let n = scan-next words (suc i) (at .progress) z (b .high) (at .reads) in
+    (n .progress, n .reads ∙ sym read, n .passed .state ∙ rule-opens (decoded (getD words (suc i) 0)) (at .progress .state) (b .word))
 
 module _ {choice : Choice} {words choices tokens input memo : List ℕ} {A place : ℕ} (g : CallGiven choice words choices tokens input memo A place) where
   abbrev G : Grammar
@@ -109,14 +120,6 @@ module _ {choice : Choice} {words choices tokens input memo : List ℕ} {A place
             negatives = ap (λ x. x .negatives) e;
           }
 
-  -- the reading has come to the rule's begin, and goes on behind it
-  begin-next : (i : ℕ) → Begun words i → (p : Progress) × (scan p (i + 1) (drop (i + 1) words) ≡ reading words) × (p .state ≡ state.Opened)
-  begin-next zero b = absurd (omega (arith, b .low))
-  begin-next (suc i) b =
-      let at = read-reaches words (g .given .sizes) (g .given .read) i (omega (arith, b .high)) in
-      let n = scan-next words (suc i) (at .progress) (g .given .sizes) (b .high) (at .reads) in
-      (n .progress, n .reads ∙ sym (g .given .read), n .passed .state ∙ rule-opens (decoded (getD words (suc i) 0)) (at .progress .state) (b .word))
-
   -- no positive conjunct stands behind a negative one
   none-behind : (at : ℕ) (p : Progress) → scan p at (drop at words) ≡ reading words → signAt words at ≡ Negative → parse (drop at words) .positives ≡ []
   unfolding onWord
@@ -142,7 +145,7 @@ module _ {choice : Choice} {words choices tokens input memo : List ℕ} {A place
       → Calling choice words input memo A place (k .rule) memo (k .start + 1) sign (openingBy sign (length input))
   unfolding memoObey
   calling-start k {sign} s =
-      let n = begin-next (k .start) (k .begun) in
+      let n = begin-next words (g .given .sizes) (g .given .read) (k .start) (k .begun) in
       record {
         sound = g .given .sound;
         within = omega (arith, k .begun .high);

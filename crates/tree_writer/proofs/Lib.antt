@@ -1,0 +1,5 @@
+pub mod Labelling
+pub mod Marking
+pub mod Vertices
+pub mod Root
+pub mod Showing

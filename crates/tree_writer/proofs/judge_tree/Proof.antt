@@ -1,0 +1,69 @@
+-- A refusal and an answer that is no acceptance write nothing; after an acceptance the lent memories are what the tree is written by.
+use mathlib.Core.Path.{_≡_, sym}
+use native.Mathlib.Omega.{arith}
+use borrow.Author.Needs.{needs}
+use Rattle.event.specs.Events.{inputOf}
+use Rattle.tree_writer.proofs.Showing.{is-accepted, not-accepted, short-table, short-memo, short-tree, shows-none, show-given, shows-tree}
+use Rattle.tree_writer.proofs.judge_tree.Statement.{statement}
+use Rattle.tree_writer.proofs.judge_tree.Tie as tie
+
+returns : tie.Need-returns
+returns c = short-table (c .before .before .before .before .before .before .args .words .now) (inputOf (c .before .before .before .before .before .before .args .events .now)) (c .before .before .before .before .before .before .args .table .now) (c .before .before .before .before .before .before .args .memo .now) (c .before .before .before .before .before .before .args .tree .now) (c .if1 .taken)
+
+returns-2 : tie.Need-returns-2
+returns-2 c = short-memo (c .before .before .before .before .before .before .before .args .words .now) (inputOf (c .before .before .before .before .before .before .before .args .events .now)) (c .before .before .before .before .before .before .before .args .table .now) (c .before .before .before .before .before .before .before .args .memo .now) (c .before .before .before .before .before .before .before .args .tree .now) (c .before .if1 .left) (c .if2 .taken)
+
+returns-3 : tie.Need-returns-3
+returns-3 c = short-tree (c .before .before .before .before .before .before .before .before .args .words .now) (inputOf (c .before .before .before .before .before .before .before .before .args .events .now)) (c .before .before .before .before .before .before .before .before .args .table .now) (c .before .before .before .before .before .before .before .before .args .memo .now) (c .before .before .before .before .before .before .before .before .args .tree .now) (c .before .before .if1 .left) (c .before .if2 .left) (c .if3 .taken)
+
+judge-requires : tie.Need-judge-requires
+judge-requires c κs = search needs
+
+enum-told : tie.Need-enum-told
+enum-told c = c .match .keys1
+
+same-length : tie.Need-same-length
+same-length c = search needs
+
+same-length-2 : tie.Need-same-length-2
+same-length-2 c = search needs
+
+returns-4 : tie.Need-returns-4
+returns-4 c = shows-none (c .before .before .before .before .before .before .before .before .before .before .before .before .before .before .before .before .args .tree .now) (c .before .before .before .before .before .before .before .before .before .before .if1 .left) (c .before .before .before .before .before .before .before .before .before .if2 .left) (c .before .before .before .before .before .before .before .before .if3 .left) (c .before .before .before .before .before .judge .ensures) (not-accepted _ (c .match .keys2))
+
+write-tree-requires : tie.Need-write-tree-requires
+write-tree-requires c κs =
+    let a = is-accepted _ (c .before .before .before .before .match .keys1) in
+    show-given (c .before .before .before .before .before .before .before .before .before .before .before .before .before .before .before .before .before .before .before .before .args .tree .now) (c .before .before .before .before .before .before .before .before .before .before .before .before .before .before .if1 .left) (c .before .before .before .before .before .before .before .before .before .before .before .before .before .if2 .left) (c .before .before .before .before .before .before .before .before .before .before .before .before .if3 .left) (c .before .before .before .before .before .before .before .before .before .judge .ensures) (a .0) (a .1)
+
+same-length-3 : tie.Need-same-length-3
+same-length-3 c = search needs
+
+same-length-4 : tie.Need-same-length-4
+same-length-4 c = search needs
+
+same-length-5 : tie.Need-same-length-5
+same-length-5 c = search needs
+
+returns-5 : tie.Need-returns-5
+returns-5 c =
+    let a = is-accepted _ (c .before .before .before .before .before .before .before .match .keys1) in
+    shows-tree (c .before .before .before .before .before .before .before .before .before .before .before .before .before .before .before .before .before .before .before .before .before .before .before .args .tree .now) (c .before .before .before .before .before .before .before .before .before .before .before .before .before .before .before .before .before .if1 .left) (c .before .before .before .before .before .before .before .before .before .before .before .before .before .before .before .before .if2 .left) (c .before .before .before .before .before .before .before .before .before .before .before .before .before .before .before .if3 .left) (c .before .before .before .before .before .before .before .before .before .before .before .before .judge .ensures) (a .0) (a .1) (c .before .before .write-tree .ensures)
+
+pub judge-tree-spec : {M : Type 1} → statement M
+judge-tree-spec =
+    tie.close
+    (tie.spec
+    returns
+    returns-2
+    returns-3
+    judge-requires
+    enum-told
+    same-length
+    same-length-2
+    returns-4
+    write-tree-requires
+    same-length-3
+    same-length-4
+    same-length-5
+    returns-5)

@@ -1,0 +1,66 @@
+-- The loop keeps: the words of the indices passed are made.
+use Prim.Native.Nat.{ℕ, _*_, _-_, _≤_}
+use native.Mathlib.Omega.{arith}
+use Rattle.grammar.specs.Limits.{maxPlaces}
+use Rattle.event.specs.Events.{inputOf}
+use Rattle.tree_writer.specs.Labels.{LabelledBelow}
+use Rattle.tree_writer.proofs.Labelling.{labels-start, labels-more, labels-all}
+use Rattle.tree_writer.proofs.labels.labels_of.Statement.{statement}
+use Rattle.tree_writer.proofs.labels.labels_of.Tie as tie
+
+abbrev Inv-loop : tie.InvT-loop
+Inv-loop sizes events table memo labels₀ at₀ labels at =
+    (at ≤ sizes .nonterminals * maxPlaces) × LabelledBelow sizes (inputOf events) table memo at labels
+
+abbrev μ-loop : tie.MeasureT-loop
+μ-loop sizes events table memo labels₀ at₀ labels at = sizes .nonterminals * maxPlaces - at
+
+loop-holds : tie.Need-loop-holds Inv-loop μ-loop
+loop-holds c = (omega arith, labels-start (c .before .before .before .args .events .now))
+
+cast-if1 : tie.Need-cast-if1 Inv-loop μ-loop
+cast-if1 c = omega (arith, c .before .before .before .before .before .pre .fewNonterminals)
+
+mul-if1 : tie.Need-mul-if1 Inv-loop μ-loop
+mul-if1 c = omega (arith, c .before .before .before .before .before .pre .fewNonterminals)
+
+label-requires : tie.Need-label-requires Inv-loop μ-loop
+label-requires c κs = record { given = c .before .before .before .before .before .before .pre; low = c .if1 .taken }
+
+mul-labels : tie.Need-mul-labels Inv-loop μ-loop
+mul-labels c = omega (arith, c .before .before .before .before .before .before .before .pre .fewNonterminals, c .before .if1 .taken)
+
+array-write-labels : tie.Need-array-write-labels Inv-loop μ-loop
+array-write-labels c = omega (arith, c .before .before .before .before .before .before .before .pre .fewNonterminals, c .before .if1 .taken)
+
+add-at : tie.Need-add-at Inv-loop μ-loop
+add-at c = omega (arith, c .before .before .before .before .before .before .before .pre .fewNonterminals, c .before .if1 .taken)
+
+loop-less : tie.Need-loop-less Inv-loop μ-loop
+loop-less c = omega (arith, c .before .if1 .taken)
+
+loop-again : tie.Need-loop-again Inv-loop μ-loop
+loop-again c = (
+  omega (arith, c .before .if1 .taken),
+  labels-more (c .before .before .before .before .before .before .before .args .events .now) (omega (arith, c .before .before .before .before .before .before .before .pre .fewNonterminals, c .before .if1 .taken)) (c .before .before .before .loop .inv .1) (c .label .ensures),
+)
+
+returns : tie.Need-returns Inv-loop μ-loop
+returns c = labels-all (c .before .before .before .before .before .before .args .events .now) (c .before .before .before .before .before .before .pre) (c .if1 .left) (c .before .before .loop .inv .1)
+
+pub labels-of-spec : {M : Type 1} → statement M
+labels-of-spec =
+    tie.close
+    (tie.spec
+    Inv-loop
+    μ-loop
+    loop-holds
+    cast-if1
+    mul-if1
+    label-requires
+    mul-labels
+    array-write-labels
+    add-at
+    loop-less
+    loop-again
+    returns)

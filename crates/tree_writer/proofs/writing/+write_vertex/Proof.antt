@@ -1,0 +1,311 @@
+-- Writing a vertex ends, and writes what the visit does: from a call to those below it the tokens left fall, or else the rank does.
+use mathlib.Core.Path.{refl, sym, ap, _∙_}
+use mathlib.Core.List.{List}
+use mathlib.Core.Logic.{⊎-elim}
+use Prim.Native.Nat.{ℕ, _-_, _<_}
+use native.Mathlib.Omega.{arith}
+use lib.ListN.{length}
+use Rattle.word.specs.declared.Word.the-variants.{Symbol}
+use Rattle.tree_writer.specs.Writer.{VertexGiven, falling}
+use Rattle.tree_writer.proofs.Vertices.{Onward, Going, going-as, neither, is-terminal, entry-low, names, index-small, label-end, vertex-seen}
+use Rattle.tree_writer.proofs.Vertices.{rule-low, begin-low, written-low, tree-room, going-start, going-over, going-ended, going-positive, going-terminal}
+use Rattle.tree_writer.proofs.Vertices.{terminal-low, called-found, called-in, called-falling, called-given, going-nonterminal, going-length}
+use borrow.Fn.Kinds.{In}
+use borrow.Fn.PlainCycle.{Measures, is, falls, and}
+use Rattle.tree_writer.proofs.writing.write_vertex.Reads as write-vertex
+use Rattle.tree_writer.proofs.writing.write_vertex.Kinds as write-vertex-kinds
+use Rattle.tree_writer.proofs.writing.+write_vertex.Lts-write_vertex as write-vertex-lts
+use Rattle.tree_writer.proofs.labels.end_of.Reads as end-of-reads
+use Rattle.tree_writer.proofs.labels.rule_of.Reads as rule-of-reads
+use Rattle.word.proofs.decode.Reads as decode-reads
+use Rattle.tree_writer.proofs.writing.+write_vertex.{statement}
+use Rattle.tree_writer.proofs.writing.+write_vertex.Tie.{close}
+
+abbrev μ-write-vertex : Measures 5 write-vertex-kinds.ps ℕ
+μ-write-vertex κs a = falling (a .1 .0 .now) (a .1 .1 .1 .0 .now) (a .0) (a .1 .1 .1 .1 .1 .1 .0)
+
+abbrev write-vertex-at : ℕ → In 5 write-vertex-kinds.ps
+write-vertex-at t =
+    and 5 write-vertex-kinds.ps (is 5 write-vertex-kinds.ps μ-write-vertex t) write-vertex.Pre
+
+abbrev write-vertex-below : ℕ → In 5 write-vertex-kinds.ps
+write-vertex-below t =
+    and
+    5
+    write-vertex-kinds.ps
+    (falls 5 write-vertex-kinds.ps _<_ μ-write-vertex t)
+    write-vertex.Pre
+
+-- what the needs read of the callees
+abbrev write-vertex-claims : ℕ → write-vertex-lts.Claims
+write-vertex-claims t = (
+  rule-of-reads.Asked,
+  rule-of-reads.Learnt,
+  decode-reads.Asked,
+  decode-reads.Learnt,
+  write-vertex-below t,
+  write-vertex.Post,
+  end-of-reads.Asked,
+  end-of-reads.Learnt,
+)
+
+abbrev write-vertex-Inv-loop : write-vertex-lts.InvT-loop
+write-vertex-Inv-loop nonterminal words starts labels tree₀ marks₀ start written entry vertex count₀ at₀ place₀ tree marks count at place =
+    Onward words starts labels nonterminal start written tree₀ marks₀ count₀ at₀ place₀ tree marks count at place
+
+abbrev write-vertex-μ-loop : write-vertex-lts.MeasureT-loop
+write-vertex-μ-loop nonterminal words starts labels tree₀ marks₀ start written entry vertex count₀ at₀ place₀ tree marks count at place =
+    length words - at
+
+abbrev Loop : ℕ → Type 0
+Loop t = write-vertex-lts.At-loop (write-vertex-claims t) (write-vertex-at t) write-vertex.Post write-vertex-Inv-loop write-vertex-μ-loop
+
+-- the vertex that the call is to write, for an input
+abbrev Given : (t : ℕ) → Loop t → List ℕ → Type 0
+Given t c input =
+    let a = c .before .before .before .before .before .before .before .before .args in
+    VertexGiven input (a .words .now) (a .starts .now) (a .labels .now) (a .tree .now) (a .marks .now) (a .nonterminal) (a .start) (a .written)
+
+-- what the loop has come to
+going : (t : ℕ) (c : Loop t) (input : List ℕ) (g : Given t c input) → Going g (c .loop .tree) (c .loop .marks) (c .loop .count) (c .loop .at) (c .loop .place)
+going t c input g =
+    c .loop .inv input _ _ g (going-start g (c .before .before .rule-of .ensures) (c .before .before .before .before .if1 .left))
+
+write-vertex-mul-entry : (t : ℕ) → write-vertex-lts.Need-mul-entry (write-vertex-claims t) (write-vertex-at t) write-vertex.Post write-vertex-Inv-loop write-vertex-μ-loop
+write-vertex-mul-entry t c = omega (arith, entry-low (c .before .before .pre .1 .1))
+
+write-vertex-add-entry : (t : ℕ) → write-vertex-lts.Need-add-entry (write-vertex-claims t) (write-vertex-at t) write-vertex.Post write-vertex-Inv-loop write-vertex-μ-loop
+write-vertex-add-entry t c = omega (arith, entry-low (c .before .before .pre .1 .1))
+
+write-vertex-element-copy-out-if1 : (t : ℕ) → write-vertex-lts.Need-element-copy-out-if1 (write-vertex-claims t) (write-vertex-at t) write-vertex.Post write-vertex-Inv-loop write-vertex-μ-loop
+write-vertex-element-copy-out-if1 t c = entry-low (c .before .before .pre .1 .1)
+
+write-vertex-returns : (t : ℕ) → write-vertex-lts.Need-returns (write-vertex-claims t) (write-vertex-at t) write-vertex.Post write-vertex-Inv-loop write-vertex-μ-loop
+write-vertex-returns t c = λ input g. vertex-seen g (c .if1 .taken)
+
+write-vertex-element-write-marks : (t : ℕ) → write-vertex-lts.Need-element-write-marks (write-vertex-claims t) (write-vertex-at t) write-vertex.Post write-vertex-Inv-loop write-vertex-μ-loop
+write-vertex-element-write-marks t c = entry-low (c .before .before .before .before .pre .1 .1)
+
+write-vertex-mul-vertex : (t : ℕ) → write-vertex-lts.Need-mul-vertex (write-vertex-claims t) (write-vertex-at t) write-vertex.Post write-vertex-Inv-loop write-vertex-μ-loop
+write-vertex-mul-vertex t c = omega (arith, entry-low (c .before .before .before .before .pre .1 .1))
+
+write-vertex-element-copy-out-vertex : (t : ℕ) → write-vertex-lts.Need-element-copy-out-vertex (write-vertex-claims t) (write-vertex-at t) write-vertex.Post write-vertex-Inv-loop write-vertex-μ-loop
+write-vertex-element-copy-out-vertex t c = entry-low (c .before .before .before .before .pre .1 .1)
+
+write-vertex-mul-tree : (t : ℕ) → write-vertex-lts.Need-mul-tree (write-vertex-claims t) (write-vertex-at t) write-vertex.Post write-vertex-Inv-loop write-vertex-μ-loop
+write-vertex-mul-tree t c = omega (arith, written-low (c .before .before .before .before .before .pre .1 .1) refl (c .before .if1 .left))
+
+write-vertex-slice-write-tree : (t : ℕ) → write-vertex-lts.Need-slice-write-tree (write-vertex-claims t) (write-vertex-at t) write-vertex.Post write-vertex-Inv-loop write-vertex-μ-loop
+write-vertex-slice-write-tree t c = tree-room (c .before .before .before .before .before .pre .1 .1) refl (c .before .if1 .left)
+
+write-vertex-add-count : (t : ℕ) → write-vertex-lts.Need-add-count (write-vertex-claims t) (write-vertex-at t) write-vertex.Post write-vertex-Inv-loop write-vertex-μ-loop
+write-vertex-add-count t c = omega (arith, written-low (c .before .before .before .before .before .pre .1 .1) refl (c .before .if1 .left))
+
+write-vertex-rule-of-requires : (t : ℕ) → write-vertex-lts.Need-rule-of-requires (write-vertex-claims t) (write-vertex-at t) write-vertex.Post write-vertex-Inv-loop write-vertex-μ-loop
+write-vertex-rule-of-requires t c κs = tt
+
+write-vertex-mul-at : (t : ℕ) → write-vertex-lts.Need-mul-at (write-vertex-claims t) (write-vertex-at t) write-vertex.Post write-vertex-Inv-loop write-vertex-μ-loop
+write-vertex-mul-at t c = omega (arith, rule-low (c .before .before .before .before .before .before .pre .1 .1) (c .rule-of .ensures))
+
+write-vertex-element-copy-out-at : (t : ℕ) → write-vertex-lts.Need-element-copy-out-at (write-vertex-claims t) (write-vertex-at t) write-vertex.Post write-vertex-Inv-loop write-vertex-μ-loop
+write-vertex-element-copy-out-at t c = rule-low (c .before .before .before .before .before .before .pre .1 .1) (c .rule-of .ensures)
+
+write-vertex-add-at : (t : ℕ) → write-vertex-lts.Need-add-at (write-vertex-claims t) (write-vertex-at t) write-vertex.Post write-vertex-Inv-loop write-vertex-μ-loop
+write-vertex-add-at t c = omega (arith, begin-low (c .before .before .before .before .before .before .before .pre .1 .1) (c .before .rule-of .ensures))
+
+write-vertex-loop-holds : (t : ℕ) → write-vertex-lts.Need-loop-holds (write-vertex-claims t) (write-vertex-at t) write-vertex.Post write-vertex-Inv-loop write-vertex-μ-loop
+write-vertex-loop-holds t c = λ _ _ _ g u. u
+
+write-vertex-mul-decode : (t : ℕ) → write-vertex-lts.Need-mul-decode (write-vertex-claims t) (write-vertex-at t) write-vertex.Post write-vertex-Inv-loop write-vertex-μ-loop
+write-vertex-mul-decode t c = omega arith
+
+write-vertex-shared-slice-read-decode : (t : ℕ) → write-vertex-lts.Need-shared-slice-read-decode (write-vertex-claims t) (write-vertex-at t) write-vertex.Post write-vertex-Inv-loop write-vertex-μ-loop
+write-vertex-shared-slice-read-decode t c = omega arith
+
+write-vertex-decode-requires : (t : ℕ) → write-vertex-lts.Need-decode-requires (write-vertex-claims t) (write-vertex-at t) write-vertex.Post write-vertex-Inv-loop write-vertex-μ-loop
+write-vertex-decode-requires t c κs = tt
+
+write-vertex-enum-told : (t : ℕ) → write-vertex-lts.Need-enum-told (write-vertex-claims t) (write-vertex-at t) write-vertex.Post write-vertex-Inv-loop write-vertex-μ-loop
+write-vertex-enum-told t c = c .match .keys1
+
+write-vertex-enum-known-word : (t : ℕ) → write-vertex-lts.Need-enum-known-word (write-vertex-claims t) (write-vertex-at t) write-vertex.Post write-vertex-Inv-loop write-vertex-μ-loop
+write-vertex-enum-known-word t c = c .match .keys2
+
+write-vertex-enum-told-2 : (t : ℕ) → write-vertex-lts.Need-enum-told-2 (write-vertex-claims t) (write-vertex-at t) write-vertex.Post write-vertex-Inv-loop write-vertex-μ-loop
+write-vertex-enum-told-2 t c = c .match2 .keys1
+
+write-vertex-add-place : (t : ℕ) → write-vertex-lts.Need-add-place (write-vertex-claims t) (write-vertex-at t) write-vertex.Post write-vertex-Inv-loop write-vertex-μ-loop
+write-vertex-add-place t c =
+    let s = c .before .before .before .before .before .before .before .before .before .before .before .before .before .before .before .before in
+    let g = s .pre .1 .1 in
+    let u = going t (c .before .before .before .before .before .before .before .before) _ g in
+    let h = c .before .before .before .before .before .before .before .loop-test .taken in
+    let e = sym (c .before .before .before .before .before .decode .ensures) ∙ c .before .before .before .word .given .1 in
+    let a = is-terminal (c .before .before .before .word .given .0 .0) (c .before .match2 .keys1) in
+    omega (arith, terminal-low g u h (a .0) (e ∙ ap Symbol (a .1)), g .accepted .short)
+
+write-vertex-enum-known-symbol : (t : ℕ) → write-vertex-lts.Need-enum-known-symbol (write-vertex-claims t) (write-vertex-at t) write-vertex.Post write-vertex-Inv-loop write-vertex-μ-loop
+write-vertex-enum-known-symbol t c = c .match2 .keys2
+
+write-vertex-cast-write-vertex : (t : ℕ) → write-vertex-lts.Need-cast-write-vertex (write-vertex-claims t) (write-vertex-at t) write-vertex.Post write-vertex-Inv-loop write-vertex-μ-loop
+write-vertex-cast-write-vertex t c =
+    let s = c .before .before .before .before .before .before .before .before .before .before .before .before .before .before .before .before .before in
+    let g = s .pre .1 .1 in
+    let u = going t (c .before .before .before .before .before .before .before .before .before) _ g in
+    let h = c .before .before .before .before .before .before .before .before .loop-test .taken in
+    let e = sym (c .before .before .before .before .before .before .decode .ensures) ∙ c .before .before .before .before .word .given .1 in
+    let e′ = e ∙ ap Symbol (c .before .symbol .given .1) in
+    omega (arith, called-found g u h _ e′ .named, names g)
+
+write-vertex-write-vertex-requires : (t : ℕ) → write-vertex-lts.Need-write-vertex-requires (write-vertex-claims t) (write-vertex-at t) write-vertex.Post write-vertex-Inv-loop write-vertex-μ-loop
+write-vertex-write-vertex-requires t c κs =
+    let s = c .before .before .before .before .before .before .before .before .before .before .before .before .before .before .before .before .before .before .before in
+    let g = s .pre .1 .1 in
+    let u = going t (c .before .before .before .before .before .before .before .before .before .before .before) _ g in
+    let h = c .before .before .before .before .before .before .before .before .before .before .loop-test .taken in
+    let e = sym (c .before .before .before .before .before .before .before .before .decode .ensures) ∙ c .before .before .before .before .before .before .word .given .1 in
+    let e′ = e ∙ ap Symbol (c .before .before .before .symbol .given .1) in (
+      omega (arith, called-falling g u h _ e′, s .pre .0),
+      (s .pre .1 .0, called-given g u h _ e′),
+    )
+
+write-vertex-cast-end-of : (t : ℕ) → write-vertex-lts.Need-cast-end-of (write-vertex-claims t) (write-vertex-at t) write-vertex.Post write-vertex-Inv-loop write-vertex-μ-loop
+write-vertex-cast-end-of t c =
+    let s = c .before .before .before .before .before .before .before .before .before .before .before .before .before .before .before .before .before .before .before .before .before .before in
+    let g = s .pre .1 .1 in
+    let u = going t (c .before .before .before .before .before .before .before .before .before .before .before .before .before .before) _ g in
+    let h = c .before .before .before .before .before .before .before .before .before .before .before .before .before .loop-test .taken in
+    let e = sym (c .before .before .before .before .before .before .before .before .before .before .before .decode .ensures) ∙ c .before .before .before .before .before .before .before .before .before .word .given .1 in
+    let e′ = e ∙ ap Symbol (c .before .before .before .before .before .before .symbol .given .1) in
+    omega (arith, called-found g u h _ e′ .named, names g)
+
+write-vertex-mul-end-of : (t : ℕ) → write-vertex-lts.Need-mul-end-of (write-vertex-claims t) (write-vertex-at t) write-vertex.Post write-vertex-Inv-loop write-vertex-μ-loop
+write-vertex-mul-end-of t c =
+    let s = c .before .before .before .before .before .before .before .before .before .before .before .before .before .before .before .before .before .before .before .before .before .before in
+    let g = s .pre .1 .1 in
+    let u = going t (c .before .before .before .before .before .before .before .before .before .before .before .before .before .before) _ g in
+    let h = c .before .before .before .before .before .before .before .before .before .before .before .before .before .loop-test .taken in
+    let e = sym (c .before .before .before .before .before .before .before .before .before .before .before .decode .ensures) ∙ c .before .before .before .before .before .before .before .before .before .word .given .1 in
+    let e′ = e ∙ ap Symbol (c .before .before .before .before .before .before .symbol .given .1) in
+    omega (arith, index-small g (called-found g u h _ e′))
+
+write-vertex-add-end-of : (t : ℕ) → write-vertex-lts.Need-add-end-of (write-vertex-claims t) (write-vertex-at t) write-vertex.Post write-vertex-Inv-loop write-vertex-μ-loop
+write-vertex-add-end-of t c =
+    let s = c .before .before .before .before .before .before .before .before .before .before .before .before .before .before .before .before .before .before .before .before .before .before in
+    let g = s .pre .1 .1 in
+    let u = going t (c .before .before .before .before .before .before .before .before .before .before .before .before .before .before) _ g in
+    let h = c .before .before .before .before .before .before .before .before .before .before .before .before .before .loop-test .taken in
+    let e = sym (c .before .before .before .before .before .before .before .before .before .before .before .decode .ensures) ∙ c .before .before .before .before .before .before .before .before .before .word .given .1 in
+    let e′ = e ∙ ap Symbol (c .before .before .before .before .before .before .symbol .given .1) in
+    omega (arith, index-small g (called-found g u h _ e′))
+
+write-vertex-mul-end-of-2 : (t : ℕ) → write-vertex-lts.Need-mul-end-of-2 (write-vertex-claims t) (write-vertex-at t) write-vertex.Post write-vertex-Inv-loop write-vertex-μ-loop
+write-vertex-mul-end-of-2 t c =
+    let s = c .before .before .before .before .before .before .before .before .before .before .before .before .before .before .before .before .before .before .before .before .before .before in
+    let g = s .pre .1 .1 in
+    let u = going t (c .before .before .before .before .before .before .before .before .before .before .before .before .before .before) _ g in
+    let h = c .before .before .before .before .before .before .before .before .before .before .before .before .before .loop-test .taken in
+    let e = sym (c .before .before .before .before .before .before .before .before .before .before .before .decode .ensures) ∙ c .before .before .before .before .before .before .before .before .before .word .given .1 in
+    let e′ = e ∙ ap Symbol (c .before .before .before .before .before .before .symbol .given .1) in
+    omega (arith, index-small g (called-found g u h _ e′))
+
+write-vertex-element-copy-out-end-of : (t : ℕ) → write-vertex-lts.Need-element-copy-out-end-of (write-vertex-claims t) (write-vertex-at t) write-vertex.Post write-vertex-Inv-loop write-vertex-μ-loop
+write-vertex-element-copy-out-end-of t c =
+    let s = c .before .before .before .before .before .before .before .before .before .before .before .before .before .before .before .before .before .before .before .before .before .before in
+    let g = s .pre .1 .1 in
+    let u = going t (c .before .before .before .before .before .before .before .before .before .before .before .before .before .before) _ g in
+    let h = c .before .before .before .before .before .before .before .before .before .before .before .before .before .loop-test .taken in
+    let e = sym (c .before .before .before .before .before .before .before .before .before .before .before .decode .ensures) ∙ c .before .before .before .before .before .before .before .before .before .word .given .1 in
+    let e′ = e ∙ ap Symbol (c .before .before .before .before .before .before .symbol .given .1) in
+    index-small g (called-found g u h _ e′)
+
+write-vertex-end-of-requires : (t : ℕ) → write-vertex-lts.Need-end-of-requires (write-vertex-claims t) (write-vertex-at t) write-vertex.Post write-vertex-Inv-loop write-vertex-μ-loop
+write-vertex-end-of-requires t c κs = tt
+
+write-vertex-same-length : (t : ℕ) → write-vertex-lts.Need-same-length (write-vertex-claims t) (write-vertex-at t) write-vertex.Post write-vertex-Inv-loop write-vertex-μ-loop
+write-vertex-same-length t c =
+    let g = c .before .before .before .before .before .before .before .before .before .before .before .before .pre .1 .1 in
+    going-length g (going t (c .before .before .before .before) _ g)
+
+write-vertex-returns-2 : (t : ℕ) → write-vertex-lts.Need-returns-2 (write-vertex-claims t) (write-vertex-at t) write-vertex.Post write-vertex-Inv-loop write-vertex-μ-loop
+write-vertex-returns-2 t c = λ input g.
+    let u = going t (c .before .before .before .before) input g in
+    let h = c .before .before .before .loop-test .taken in
+    let n = neither _ (c .match .keys3) in
+    going-ended g u h _ (c .before .decode .ensures) (n .0) (n .1)
+
+write-vertex-add-at-2 : (t : ℕ) → write-vertex-lts.Need-add-at-2 (write-vertex-claims t) (write-vertex-at t) write-vertex.Post write-vertex-Inv-loop write-vertex-μ-loop
+write-vertex-add-at-2 t c = omega arith
+
+write-vertex-loop-less : (t : ℕ) → write-vertex-lts.Need-loop-less (write-vertex-claims t) (write-vertex-at t) write-vertex.Post write-vertex-Inv-loop write-vertex-μ-loop
+write-vertex-loop-less t c = omega arith
+
+write-vertex-loop-again : (t : ℕ) → write-vertex-lts.Need-loop-again (write-vertex-claims t) (write-vertex-at t) write-vertex.Post write-vertex-Inv-loop write-vertex-μ-loop
+write-vertex-loop-again t c = λ input tree₀ marks₀ g s.
+    let u = c .before .before .before .before .loop .inv input tree₀ marks₀ g s in
+    let h = c .before .before .before .loop-test .taken in
+    let e = sym (c .before .decode .ensures) in
+    ⊎-elim
+    (λ w. going-as g (w .2) (w .3) (w .4) (w .5) (going-positive g u h (e ∙ w .1 .given .1)))
+    (⊎-elim
+    (λ w.
+    let a = is-terminal (w .1 .given .0 .0) (w .3 .keys1) in
+    going-as g (w .5) (w .6) (w .7) (w .8) (going-terminal g u h (a .0) (e ∙ w .1 .given .1 ∙ ap Symbol (a .1))))
+    (λ w.
+    let e′ = e ∙ w .1 .given .1 ∙ ap Symbol (w .4 .given .1) in
+    going-as g (w .13) (w .14) (w .15) (w .16 ∙ w .12 .ensures ∙ label-end g _ _ _ (called-found g u h _ e′) (called-in g u h _ e′))
+    (going-nonterminal g u h _ e′ (w .8 .ensures input (called-given g u h _ e′)))))
+    (c .match .came)
+
+write-vertex-same-length-2 : (t : ℕ) → write-vertex-lts.Need-same-length-2 (write-vertex-claims t) (write-vertex-at t) write-vertex.Post write-vertex-Inv-loop write-vertex-μ-loop
+write-vertex-same-length-2 t c =
+    let g = c .before .before .before .before .before .before .before .before .before .pre .1 .1 in
+    going-length g (going t (c .before) _ g)
+
+write-vertex-returns-3 : (t : ℕ) → write-vertex-lts.Need-returns-3 (write-vertex-claims t) (write-vertex-at t) write-vertex.Post write-vertex-Inv-loop write-vertex-μ-loop
+write-vertex-returns-3 t c = λ input g. going-over g (going t (c .before) input g) (c .loop-test .left)
+
+pub +write-vertex-spec : {M : Type 1} → statement M
++write-vertex-spec = close μ-write-vertex λ t. write-vertex-lts.spec (write-vertex-claims t)
+    (write-vertex-at t)
+    write-vertex.Post
+    write-vertex-Inv-loop
+    write-vertex-μ-loop
+    (write-vertex-mul-entry t)
+    (write-vertex-add-entry t)
+    (write-vertex-element-copy-out-if1 t)
+    (write-vertex-returns t)
+    (write-vertex-element-write-marks t)
+    (write-vertex-mul-vertex t)
+    (write-vertex-element-copy-out-vertex t)
+    (write-vertex-mul-tree t)
+    (write-vertex-slice-write-tree t)
+    (write-vertex-add-count t)
+    (write-vertex-rule-of-requires t)
+    (write-vertex-mul-at t)
+    (write-vertex-element-copy-out-at t)
+    (write-vertex-add-at t)
+    (write-vertex-loop-holds t)
+    (write-vertex-mul-decode t)
+    (write-vertex-shared-slice-read-decode t)
+    (write-vertex-decode-requires t)
+    (write-vertex-enum-told t)
+    (write-vertex-enum-known-word t)
+    (write-vertex-enum-told-2 t)
+    (write-vertex-add-place t)
+    (write-vertex-enum-known-symbol t)
+    (write-vertex-cast-write-vertex t)
+    (write-vertex-write-vertex-requires t)
+    (write-vertex-cast-end-of t)
+    (write-vertex-mul-end-of t)
+    (write-vertex-add-end-of t)
+    (write-vertex-mul-end-of-2 t)
+    (write-vertex-element-copy-out-end-of t)
+    (write-vertex-end-of-requires t)
+    (write-vertex-same-length t)
+    (write-vertex-returns-2 t)
+    (write-vertex-add-at-2 t)
+    (write-vertex-loop-less t)
+    (write-vertex-loop-again t)
+    (write-vertex-same-length-2 t)
+    (write-vertex-returns-3 t)

@@ -1,0 +1,55 @@
+// Judging a log and, where it is accepted, writing its parse tree.
+ghost use Rattle.event.specs.Events.{inputOf};
+ghost use Rattle.tree_writer.specs.Properties.{Shows};
+use answer::Answer;
+use answer::Error;
+use grammar::limits::MEMO_ENTRIES;
+use grammar::limits::TABLE_WORDS;
+use recognizer::judge;
+
+mod labels;
+mod writing;
+
+use writing::write_tree;
+
+// An answer, and how many words of the tree are written.
+pub struct Shown {
+    pub answer: Answer,
+    pub written: usize,
+}
+
+// Judges a log as `judge` does, and writes the parse tree of an accepted one into the front of the tree memory.
+pub fn judge_tree(
+    words: &[u32],
+    events: &[u8],
+    table: &mut [u32],
+    memo: &mut [u16],
+    tree: &mut [u32],
+) -> Shown
+    ensures { λ r. ⌜ Shows (now (words .entry)) (inputOf (now (events .entry))) (now (table .entry)) (now (memo .entry)) (now (tree .entry)) r (now (table .exit)) (now (memo .exit)) (now (tree .exit)) ⌝ }
+{
+    if table.len() < TABLE_WORDS {
+        return Shown {
+            answer: Answer::Refused(Error::TableTooShort),
+            written: 0,
+        };
+    }
+    if memo.len() < MEMO_ENTRIES {
+        return Shown {
+            answer: Answer::Refused(Error::MemoTooShort),
+            written: 0,
+        };
+    }
+    if tree.len() < MEMO_ENTRIES {
+        return Shown {
+            answer: Answer::Refused(Error::TreeTooShort),
+            written: 0,
+        };
+    }
+    let answer = judge(words, events, table, memo);
+    let Answer::Accepted(_) = answer else {
+        return Shown { answer, written: 0 };
+    };
+    let written = write_tree(words, events, table, memo, tree);
+    Shown { answer, written }
+}
