@@ -1,0 +1,7 @@
+pub mod Lists
+pub mod Storing
+pub mod Soundness
+pub mod Stepping
+pub mod Judging
+pub mod Histories
+pub mod Examples
