@@ -39,7 +39,7 @@ within-short n k (some j) e = go (leb j n) refl e
 read-short : (n k x : ℕ) → readCheckpoint n x ≡ some k → k ≤ n
 read-short n k x e = within-short n k (some x) e
 
-within-none : (n : ℕ) (o : Option ℕ) → o ≡ none → within n o ≡ none
+pub within-none : (n : ℕ) (o : Option ℕ) → o ≡ none → within n o ≡ none
 within-none n o e = rw e
 
 module _ (s : Kept) (h : Sound s) where

@@ -16,7 +16,7 @@ returns c =
     let at-read = c .before in
     let start = at-read .before .before in
     let whole : length (start .args .self .events) ≡ maxTokens = search needs in
-    let eight : length (start .args .self .progress .checkpoints) ≡ checkpointCount = search needs in
+    let eight : length (start .args .self .progress .checkpoints) ≡ checkpointCount = search (needs, start .good .0 .1 .1 .1 .0) in
     add-full (start .args .self .events) (start .args .self .progress) whole eight (at-read .read .ensures) (start .args .event) (c .if1 .taken)
 
 cast-events : tie.Need-cast-events
@@ -34,7 +34,7 @@ returns-2 c =
     let at-read = at-test .before in
     let start = at-read .before .before in
     let whole : length (start .args .self .events) ≡ maxTokens = search needs in
-    let eight : length (start .args .self .progress .checkpoints) ≡ checkpointCount = search needs in
+    let eight : length (start .args .self .progress .checkpoints) ≡ checkpointCount = search (needs, start .good .0 .1 .1 .1 .0) in
     add-done (start .args .self .events) (start .args .self .progress) whole eight (at-read .read .ensures) (start .args .event) (at-test .if1 .left)
 
 pub add-spec : {M : Type 1} → statement M
