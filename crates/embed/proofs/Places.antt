@@ -44,14 +44,14 @@ use Rattle.grammar.proofs.FaultPositions.{LowOutcome, reading-low}
 abbrev pub Low : ℕ → Error → Type 0
 Low n e = coded e .position ≤ n
 
-abbrev LowFault : ℕ → Option Error → Type 0
+abbrev pub LowFault : ℕ → Option Error → Type 0
 LowFault n f = (e : Error) → f ≡ some e → Low n e
 
 module _ (n : ℕ) where
-  none-low : LowFault n none
+  pub none-low : LowFault n none
   none-low e q = absurd (none-some q)
 
-  some-low : (x : Error) → coded x .position ≤ n → LowFault n (some x)
+  pub some-low : (x : Error) → coded x .position ≤ n → LowFault n (some x)
   some-low x h e q = let z : e ≡ x = cc in rw z h
 
 -- left recursion and conflicts: a nonterminal, and an entry of the table
@@ -79,7 +79,7 @@ module _ (G : Grammar) (few : G .nonterminals ≤ maxNonterminals) (small : G .t
       let k = entries-elim G 1 e (keep-elim _ (entries G 1) e m .0) in
       some-low maxWords (Conflict (e .0) (column (G .terminals) (e .1))) (omega (arith, k .0, column-low (e .1) (k .1 .1)))
 
-when-low : (n : ℕ) (b : Bool) (x : Error) → coded x .position ≤ n → LowFault n (faultIf b x)
+pub when-low : (n : ℕ) (b : Bool) (x : Error) → coded x .position ≤ n → LowFault n (faultIf b x)
 when-low n true x h = some-low n x h
 when-low n false x h = none-low n
 

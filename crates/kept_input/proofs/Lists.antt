@@ -61,6 +61,11 @@ unfolding valuesOf
 values-list g d [] = refl
 values-list g d (x ∷ l) = ap (λ (m : List ℕ). g x ∷ m) (values-list g d l)
 
+pub elements : (l : List ℕ) → valuesOf (λ m. getD l m 0) (length l) ≡ l
+unfolding valuesOf
+elements [] = refl
+elements (x ∷ l) = ap (λ (m : List ℕ). x ∷ m) (elements l)
+
 -- with another value at one place
 pub values-set : (x : ℕ) (f : ℕ → ℕ) (m n : ℕ) → valuesOf (λ k. choose (eqb k m) x (f k)) n ≡ set (valuesOf f n) m x
 unfolding valuesOf

@@ -59,6 +59,7 @@ module _ (s : Kept) (h : Sound s) where
       inside : (k n : ℕ) (b : Bool) → choose b (some (length (s .events))) (s .checkpoints k) ≡ some n → n ≤ length (s .events)
       inside k n true e = omega (arith, some-same e)
       inside k n false e = h .inside k n e
+
       eight : (k : ℕ) → checkpointCount ≤ k → (b : Bool) → eqb k m ≡ b → choose b (some (length (s .events))) (s .checkpoints k) ≡ none
       eight k a true e = absurd (omega (arith, eqb-true k m e))
       eight k a false e = h .eight k a

@@ -50,7 +50,11 @@ fn bounded(length: u16) -> u16
 fn cleared(checkpoint: u16, length: u16) -> u16
     ensures { λ r. ⌜ r ≡ clearedBeyond length checkpoint ⌝ }
 {
-    if checkpoint <= length { checkpoint } else { UNSET }
+    if checkpoint <= length {
+        checkpoint
+    } else {
+        UNSET
+    }
 }
 
 // Those beyond a length are cleared.
@@ -83,7 +87,10 @@ impl Progress {
         let length = bounded(self.length);
         let old = self.checkpoints;
         let checkpoints = all_cleared(old, length);
-        Progress { length, checkpoints }
+        Progress {
+            length,
+            checkpoints,
+        }
     }
 
     // Notes the length.
@@ -103,7 +110,10 @@ impl Progress {
         checkpoints[at] = length;
         Moved {
             answer: Answer::Passed,
-            progress: Progress { length, checkpoints },
+            progress: Progress {
+                length,
+                checkpoints,
+            },
         }
     }
 
@@ -130,7 +140,10 @@ impl Progress {
         let checkpoints = all_cleared(set, length);
         Moved {
             answer: Answer::Passed,
-            progress: Progress { length, checkpoints },
+            progress: Progress {
+                length,
+                checkpoints,
+            },
         }
     }
 }
