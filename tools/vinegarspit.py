@@ -34,8 +34,11 @@ class Parameter(NamedTuple):
 
 @functools.cache
 def header():
+    """The header without its comments, and with the lengths of rows as numbers."""
     with open(os.path.join(ROOT, 'include', 'vinegarspit.h')) as file:
-        return re.sub(r'/\*.*?\*/', '', file.read(), flags=re.DOTALL)
+        text = re.sub(r'/\*.*?\*/', '', file.read(), flags=re.DOTALL)
+    lengths = dict(re.findall(r'\b(VINEGARSPIT_\w+) = (\d+)', text))
+    return re.sub(r'\[(VINEGARSPIT_\w+)\]', lambda found: f'[{lengths[found[1]]}]', text)
 
 
 @functools.cache
@@ -53,7 +56,7 @@ def calls():
         parameters = [re.fullmatch(r'\s*(const )?(\w+) (\*?)(\w+)(?:\[(\d+)\])?\s*', part).groups() for part in text.split(',')]
         names = [each for *_, each, _ in parameters]
         found[name] = [Parameter(each, kind, bool(star or length), bool(star or length) and not const,
-                                 int(length or (star and each + '_len' not in names)))
+                                 int(length or bool(star and each + '_len' not in names)))
                        for const, kind, star, each, length in parameters if not each.endswith('_len')]
     return found
 
@@ -156,6 +159,26 @@ def tree(card, log, table, memo, tree, written):
     return call('tree', card, log, table, memo, tree, written)
 
 
+def log_add(events, state, event):
+    """Adds an event to a kept log."""
+    return call('log_add', events, state, event)
+
+
+def log_mark(state, mark):
+    """Has a mark of a kept log note its length."""
+    return call('log_mark', state, mark)
+
+
+def log_return(state, mark):
+    """Cuts a kept log where a mark was set."""
+    return call('log_return', state, mark)
+
+
+def log_judge(card, events, state, table, memo):
+    """Judges a kept log by a card and fills the table and the memo table."""
+    return call('log_judge', card, events, state, table, memo)
+
+
 class Vertex(NamedTuple):
     rule: int
     start: int
@@ -187,6 +210,16 @@ def usage():
 
 def spans(fill=0):
     return array('I', [fill]) * constants()['SPAN_WORDS']
+
+
+# A kept log: memory for its events, and the state of an empty one without marks
+
+def log_events(fill=0):
+    return array('B', [fill]) * constants()['LOG_EVENTS']
+
+
+def log_state():
+    return array('H', [0] + [constants()['NOT_SET']] * constants()['LOG_MARKS'])
 
 
 # What lent memory holds
