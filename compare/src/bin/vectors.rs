@@ -29,6 +29,20 @@ fn recorded_tree(card: &str, log: &str, rooms: &str, verdict: &str) -> String {
     if told.is_empty() { "-".into() } else { told.join(" ") }
 }
 
+/// What is told of a history of a kept log, the log that it leaves and its marks.
+fn recorded_history(card: &str, history: &str) -> String {
+    let words: Vec<u32> = bytes_of(card).chunks_exact(4).map(|bytes| u32::from_le_bytes(bytes.try_into().expect("four bytes"))).collect();
+    let mut log = twin::Log::default();
+    let answers: Vec<String> = history.split(' ').map(|step| text::kept_step(&words, &mut log, step)).collect();
+    let left = match log.events.len() {
+        0 => "-".into(),
+        length @ 100.. => length.to_string(),
+        _ => log.events.iter().map(|event| format!("{event:02x}")).collect::<String>(),
+    };
+    let marks = log.marks.map(|mark| mark.map_or("-".into(), |length| length.to_string()));
+    format!("{} | {left} | {}", answers.join(" "), marks.join(" "))
+}
+
 /// The files of rows, by name; those of request P1 begin with p01_, and so on.
 fn files() -> Vec<PathBuf> {
     let folder = Path::new(env!("CARGO_MANIFEST_DIR")).join("../tests/vectors");
@@ -49,7 +63,11 @@ fn main() -> ExitCode {
                 continue;
             }
             let fields: Vec<&str> = row.split('|').map(str::trim).collect();
-            let told = if kind == "plain" { 2 } else { 1 };
+            let told = match kind {
+                "plain" => 2,
+                "kept" => 3,
+                _ => 1,
+            };
             let (given, expected) = fields.split_at(fields.len().saturating_sub(told));
             let expected = expected.join(" | ");
             let printed = match (kind, given) {
@@ -60,6 +78,7 @@ fn main() -> ExitCode {
                 ("calls", [call, card, log]) => recorded_call(call, card, log),
                 ("plain", [card, log, lent]) => text::plain(&bytes_of(card), &bytes_of(log), lent.parse().expect("a size")),
                 ("tree", [card, log, rooms, verdict]) => recorded_tree(card, log, rooms, verdict),
+                ("kept", [card, history]) => recorded_history(card, history),
                 _ => panic!("{name}.txt:{}: not a row", number + 1),
             };
             let printed = printed.trim_end().replace('\n', "/");

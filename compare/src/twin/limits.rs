@@ -22,3 +22,8 @@ pub const NO_RULE: u32 = 4_294_967_295;
 pub const FAILED: u16 = 65_534;
 /// A memo entry of a pair that was not called.
 pub const NOT_CALLED: u16 = 65_535;
+
+/// The marks of a kept log.
+pub const MARKS: usize = 8;
+/// What a mark that is not set is stored as.
+pub const NOT_SET: u16 = 65_535;
