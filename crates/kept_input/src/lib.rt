@@ -172,13 +172,14 @@ impl KeptInput {
         }
         let mut events = self.events;
         events[length as usize] = event;
+        let longer = length + 1;
         let checkpoints = now.checkpoints;
         Changed {
             answer: Answer::Passed,
             kept: KeptInput {
                 events,
                 progress: Progress {
-                    length: length + 1,
+                    length: longer,
                     checkpoints,
                 },
             },

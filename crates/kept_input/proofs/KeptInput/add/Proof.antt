@@ -25,8 +25,8 @@ cast-events c = search needs
 array-write-events : tie.Need-array-write-events
 array-write-events c = search needs
 
-add-t16 : tie.Need-add-t16
-add-t16 c = search needs
+add-longer : tie.Need-add-longer
+add-longer c = search needs
 
 returns-2 : tie.Need-returns-2
 returns-2 c =
@@ -39,4 +39,4 @@ returns-2 c =
 
 pub add-spec : {M : Type 1} → statement M
 add-spec =
-    tie.close (tie.spec read-requires returns cast-events array-write-events add-t16 returns-2)
+    tie.close (tie.spec read-requires returns cast-events array-write-events add-longer returns-2)
