@@ -1,17 +1,16 @@
 -- What document 02 says of the steps, sentence by sentence.
 use mathlib.Core.Path.{_≡_, refl, sym, ap, _∙_}
-use mathlib.Core.Bool.{Bool, true, false}
+use mathlib.Core.Bool.{false}
 use mathlib.Core.List.{List, [], _∷_, _++_, List·Memᴰ, List·Memᴰ·head, List·Memᴰ·tail}
 use mathlib.Core.Option.{Option, none, some}
 use Prim.Native.Nat.{ℕ, _≤_, _<_}
-use native.Mathlib.Decide.{decLt, ℕ-discrete}
+use native.Mathlib.Decide.{decLt}
 use native.Mathlib.Omega.{arith}
-use lib.Dec.{leb, eqb}
+use lib.Dec.{eqb}
 use lib.ListN.{length, take}
 use borrow.Author.Tests.{le-leb, lt-leb, eq-eqb, ne-eqb}
 use Rattle.answer.specs.declared.Error.{Error}
 use Rattle.answer.specs.declared.Error.the-variants.{UnknownCheckpoint, CheckpointNotSet, InputFull}
-use Rattle.booleans.specs.Choice.{choose}
 use Rattle.grammar.specs.Limits.{maxTokens}
 use Rattle.kept_input.specs.Histories.{checkpointCount, Kept, Step, Add, Mark, Return, stepFault, within, cutAt, done, unlessRefused, after, ran}
 use Rattle.kept_input.specs.Runs.{Sentences}

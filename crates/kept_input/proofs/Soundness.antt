@@ -1,5 +1,5 @@
 -- Steps keep events and checkpoints fitting together, and what any value holds does fit.
-use mathlib.Core.Path.{_≡_, refl, sym, ap, _∙_}
+use mathlib.Core.Path.{_≡_, refl}
 use mathlib.Core.Bool.{Bool, true, false}
 use mathlib.Core.List.{List, [], _∷_, _++_}
 use mathlib.Core.Option.{Option, none, some}
@@ -11,12 +11,11 @@ use lib.Seq.{length-take-le}
 use borrow.Author.Tests.{leb-true, leb-false, eqb-true}
 use Rattle.answer.specs.declared.Error.{Error}
 use Rattle.answer.specs.declared.Error.the-variants.{UnknownCheckpoint, InputFull}
-use Rattle.answer.specs.Faults.{faultIf, firstFault}
-use Rattle.answer.proofs.Faults.{none-some, fault-none, each-none}
+use Rattle.answer.proofs.Faults.{fault-none, each-none}
 use Rattle.booleans.specs.Choice.{choose}
 use Rattle.grammar.specs.Limits.{maxTokens}
 use Rattle.kept_input.specs.declared.Progress.{Progress}
-use Rattle.kept_input.specs.Histories.{checkpointCount, Kept, empty, Step, Add, Mark, Return, notSet, stepFault, within, cutAt, done, unlessRefused, after, ran}
+use Rattle.kept_input.specs.Histories.{checkpointCount, Kept, empty, Step, Add, Mark, Return, stepFault, within, cutAt, done, unlessRefused, after, ran}
 use Rattle.kept_input.specs.Stored.{unsetCode, keptInput, readLength, readCheckpoint, held}
 use Rattle.kept_input.specs.Runs.{Sound}
 use Rattle.kept_input.proofs.Storing.{read-unset}

@@ -4,7 +4,6 @@ use mathlib.Core.Bool.{Bool, true, false}
 use mathlib.Core.List.{List, [], _∷_, _++_, map}
 use mathlib.Core.Option.{Option, none, some}
 use Prim.Native.Nat.{ℕ, zero, suc, _+_, _≤_, _<_}
-use native.Mathlib.Numerals.{add-one}
 use native.Mathlib.Omega.{arith}
 use lib.Dec.{leb, eqb}
 use lib.ListN.{length, getD, take, drop, set, replicate, length-append, take-append-drop}
@@ -17,13 +16,13 @@ use Rattle.booleans.specs.Choice.{choose}
 use Rattle.grammar.specs.Limits.{maxTokens}
 use Rattle.kept_input.specs.declared.Progress.{Progress}
 use Rattle.kept_input.specs.declared.KeptInput.{KeptInput}
-use Rattle.kept_input.specs.Histories.{checkpointCount, Kept, empty, Step, Add, Mark, Return, within, stepFault, done, after}
+use Rattle.kept_input.specs.Histories.{checkpointCount, empty, Step, Add, Mark, Return, within, stepFault, done, after}
 use Rattle.kept_input.specs.Stored.{unsetCode, keptInput, readLength, readCheckpoint, held, valuesOf, codeOf, progressOf, stored, clearedBeyond, readProgress}
 use Rattle.kept_input.specs.Properties.{Begins, Steps}
 use Rattle.kept_input.specs.Runs.{Sound}
-use Rattle.kept_input.proofs.Lists.{map-map, values-same, values-list, values-set, values-at}
-use Rattle.kept_input.proofs.Storing.{read-set, read-unset, code-read, code-within, held-stored}
-use Rattle.kept_input.proofs.Soundness.{empty-sound, done-sound, held-length, held-sound}
+use Rattle.kept_input.proofs.Lists.{map-map, values-same, values-list, values-set}
+use Rattle.kept_input.proofs.Storing.{code-read, code-within, held-stored}
+use Rattle.kept_input.proofs.Soundness.{empty-sound, done-sound, held-sound}
 
 -- the first value
 pub begins : {k : KeptInput} → k ≡ stored (replicate maxTokens 0) empty → Begins k

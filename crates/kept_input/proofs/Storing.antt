@@ -1,5 +1,5 @@
 -- What is stored is read as it was, where events and checkpoints fit together.
-use mathlib.Core.Path.{_≡_, refl, ap, _∙_, fun-ext}
+use mathlib.Core.Path.{_≡_, refl, fun-ext}
 use mathlib.Core.Bool.{Bool, true, false}
 use mathlib.Core.List.{List, _++_}
 use mathlib.Core.Option.{Option, none, some}
@@ -9,7 +9,7 @@ use native.Mathlib.Omega.{arith}
 use lib.Dec.{leb}
 use lib.ListN.{length, getD, take, drop, List·getD-eq-default}
 use lib.Seq.{take-append-seam}
-use borrow.Author.Tests.{leb-true, leb-false, le-leb, lt-leb}
+use borrow.Author.Tests.{le-leb, lt-leb}
 use Rattle.booleans.specs.Choice.{choose}
 use Rattle.grammar.specs.Limits.{maxTokens}
 use Rattle.kept_input.specs.Histories.{checkpointCount, Kept, within}
@@ -50,7 +50,6 @@ unfolding held stored progressOf
 held-stored old s h =
     let n = length (s .events) in
     let short : min n maxTokens ≡ n = omega (arith, h .short) in
-    let codes = valuesOf (λ m. codeOf (s .checkpoints m)) checkpointCount in
     let events : take (min n maxTokens) (s .events ++ drop n old) ≡ s .events = rw short (take-append-seam (s .events) (drop n old)) in
     same-kept events (fun-ext λ m. rw short (at m (decLt m checkpointCount)))
   where

@@ -1,7 +1,7 @@
 -- Worked histories.
 use mathlib.Core.Path.{_≡_}
 use mathlib.Core.List.{List, [], _∷_}
-use mathlib.Core.Option.{none, some}
+use mathlib.Core.Option.{some}
 use Prim.Native.Nat.{ℕ}
 use Rattle.answer.specs.declared.Error.the-variants.{UnknownCheckpoint, CheckpointNotSet}
 use Rattle.kept_input.specs.Histories.{empty, Step, Add, Mark, Return, stepFault, ran}

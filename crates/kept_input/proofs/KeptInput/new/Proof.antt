@@ -1,6 +1,4 @@
 -- By computation, but for the events, which are as many as there may be.
-use mathlib.Core.Path.{refl, _∙_}
-use Rattle.kept_input.specs.Stored.{stored}
 use Rattle.kept_input.proofs.Stepping.{begins, begin-stored}
 use borrow.Author.Needs.{needs}
 use Rattle.kept_input.proofs.KeptInput.new.Statement.{statement}
