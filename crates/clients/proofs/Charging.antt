@@ -22,7 +22,7 @@ pub share-reached : {t : Totals} (us : List Usage) (own share limit : ℕ) → s
     → leb limit (t .called) ≡ exhausted own share (sumBelow clients (calledBy us)) limit
 share-reached us own share limit h t = rw (le-leb share own h, t .sums)
 
-pub share-not-reached : (us : List Usage) (own share limit : ℕ) → own < share → leb share own ≡ exhausted own share (sumBelow clients (calledBy us)) limit
+pub share-not-reached : (us : List Usage) (own share limit : ℕ) → own < share → false ≡ exhausted own share (sumBelow clients (calledBy us)) limit
 share-not-reached us own share limit h = rw (lt-leb share own h)
 
 -- what it tells

@@ -33,7 +33,11 @@ fn is_exhausted(usages: [Usage; CLIENTS], own: Usage, share: u32, limit: u32) ->
     ensures { λ r. ⌜ r ≡ exhausted (own .called) share (sumBelow clients (calledBy usages)) limit ⌝ }
 {
     let all = total(usages);
-    share <= own.called && limit as u64 <= all.called
+    let limit_reached = limit as u64 <= all.called;
+    if own.called < share {
+        return false;
+    }
+    limit_reached
 }
 
 // Judges a log for a client as `judge` does, unless the client is none or its allowance is used up, and counts the answer for it.

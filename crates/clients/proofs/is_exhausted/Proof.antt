@@ -10,12 +10,13 @@ total-requires c κs = search needs
 returns : tie.Need-returns
 returns c =
     let given = c .before .before .before .before .args in
-    share-reached (given .usages) (given .own .called) (given .share) (given .limit) (c .before .if1 .taken) (c .before .before .before .total .ensures)
+    share-not-reached (given .usages) (given .own .called) (given .share) (given .limit) (c .if1 .taken)
 
 returns-2 : tie.Need-returns-2
 returns-2 c =
-    let given = c .before .before .before .args in
-    share-not-reached (given .usages) (given .own .called) (given .share) (given .limit) (c .if1 .left)
+    let at-total = c .before .before .before in
+    let given = at-total .before .args in
+    share-reached (given .usages) (given .own .called) (given .share) (given .limit) (c .if1 .left) (at-total .total .ensures)
 
 pub is-exhausted-spec : {M : Type 1} → statement M
 is-exhausted-spec = tie.close (tie.spec total-requires returns returns-2)
