@@ -54,7 +54,7 @@ def calls():
         parameters = [re.fullmatch(r'\s*(const )?(\w+) (\*?)(\w+)(?:\[(\d+)\])?\s*', part).groups() for part in text.split(',')]
         names = [each for *_, each, _ in parameters]
         found[name] = [Parameter(each, kind, bool(star or length), bool(star or length) and not const,
-                                 int(length or (star and each + '_len' not in names)))
+                                 int(length or bool(star) and each + '_len' not in names))
                        for const, kind, star, each, length in parameters if not each.endswith('_len')]
     return found
 
