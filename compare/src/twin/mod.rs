@@ -18,5 +18,5 @@ pub use calls::{check, judge, judge_plain};
 pub use limits::*;
 pub use one::Gaps;
 pub use tree::judge_tree;
-pub use usage::{judge_recorded, Usage};
+pub use usage::{judge_for, totals, Allowance, Usage, Usages};
 pub use words::{Grammar, Symbol};
