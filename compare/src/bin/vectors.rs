@@ -58,6 +58,7 @@ fn main() -> ExitCode {
         let kind = name.rsplit('_').next().expect("a part");
         let rows = fs::read_to_string(&path).expect("the recorded rows");
         let (mut run, mut wrong) = (0, 0);
+        let mut record = twin::Usages::default();
         for (number, row) in rows.lines().enumerate() {
             if row.trim().is_empty() || row.starts_with('#') {
                 continue;
@@ -65,7 +66,7 @@ fn main() -> ExitCode {
             let fields: Vec<&str> = row.split('|').map(str::trim).collect();
             let told = match kind {
                 "plain" => 2,
-                "kept" => 3,
+                "usage" | "kept" => 3,
                 _ => 1,
             };
             let (given, expected) = fields.split_at(fields.len().saturating_sub(told));
@@ -77,6 +78,7 @@ fn main() -> ExitCode {
                 ("calls", [call, card]) => recorded_call(call, card, "-"),
                 ("calls", [call, card, log]) => recorded_call(call, card, log),
                 ("plain", [card, log, lent]) => text::plain(&bytes_of(card), &bytes_of(log), lent.parse().expect("a size")),
+                ("usage", [_, before, allowance, card, log, rooms]) => text::usage(&mut record, before, allowance, &bytes_of(card), &bytes_of(log), rooms),
                 ("tree", [card, log, rooms, verdict]) => recorded_tree(card, log, rooms, verdict),
                 ("kept", [card, history]) => recorded_history(card, history),
                 _ => panic!("{name}.txt:{}: not a row", number + 1),

@@ -23,6 +23,8 @@ pub const FAILED: u16 = 65_534;
 /// A memo entry of a pair that was not called.
 pub const NOT_CALLED: u16 = 65_535;
 
+/// How many clients one judge has (document 02: boxes).
+pub const CLIENTS: usize = 8;
 /// The marks of a kept log.
 pub const MARKS: usize = 8;
 /// What a mark that is not set is stored as.

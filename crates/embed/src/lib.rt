@@ -12,7 +12,7 @@ use recognizer::judge;
 use tabular::judge as judge_plain;
 
 mod kept;
-mod recorded;
+mod served;
 mod shown;
 
 // The five fields side by side.
