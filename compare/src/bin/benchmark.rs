@@ -214,6 +214,12 @@ fn axles(before: usize, nested: usize) -> Vec<u8> {
     [vec![0; before], vec![1; nested], vec![2; nested]].concat()
 }
 
+/// As long as an input may be, and nearly four of five of its tokens nested.
+fn most_axles() -> Vec<u8> {
+    let nested = 2 * MAX_TOKENS / 5;
+    axles(MAX_TOKENS - 2 * nested, nested)
+}
+
 fn main() {
     println!("nanoseconds for each call, medians of {ROUNDS} batches that take turns; judging includes checking the grammar");
     println!("buffers: lent once, not cleared between calls; each call finds in them what the one before left");
@@ -231,18 +237,18 @@ fn main() {
     time_check("largest", &cards::largest());
     time_check("long chain", &cards::long_chain());
     time_check("slowest found", &cards::slowest());
-    for (before, nested) in [(0, 0), (10, 20), (100, 200)] {
-        time_judge("card M", &cards::card_m(), &axles(before, nested), peg::MADE);
+    for input in [axles(0, 0), axles(10, 20), most_axles()] {
+        time_judge("card M", &cards::card_m(), &input, peg::MADE);
     }
     time_judge_for("card M", &cards::card_m(), &axles(10, 20));
     time_totals();
     time_tree("card M", &cards::card_m(), &axles(10, 20));
     time_kept("card M", &cards::card_m(), &axles(10, 20));
-    time_tree("chain of 32", &cards::chain(32, 1), &[0; 500]);
-    for tokens in [0, 50, 500] {
+    time_tree("chain of 32", &cards::chain(32, 1), &[0; MAX_TOKENS]);
+    for tokens in [0, 50, MAX_TOKENS] {
         time_judge("chain of 32", &cards::chain(32, 1), &vec![0; tokens], false);
     }
-    for tokens in [0, 50, 500] {
+    for tokens in [0, 50, MAX_TOKENS] {
         time_judge("23 negatives", &cards::negatives(25), &vec![0; tokens], false);
     }
     let longest = [0; MAX_PLAIN_TOKENS];

@@ -283,7 +283,7 @@ fn stated_cases(pair: &mut Pair) {
         (m, vec![2], Rejected, 1, 0),
         (e.clone(), vec![0, 1], Accepted, 3, 0),
         (e, vec![1, 0], Rejected, 4, 1),
-        (deepest.words(), vec![0; MAX_TOKENS], Accepted, 16_032, 500),
+        (deepest.words(), vec![0; MAX_TOKENS], Accepted, MEMO_ENTRIES as u16, MAX_TOKENS as u16),
         (deepest.words(), vec![0; MAX_TOKENS + 1], Refused, 10, 0),
         (deepest.words(), vec![0, 23, 24], Refused, 11, 2),
         (deepest.words(), vec![WESTWARD, WESTWARD + 23, WESTWARD + 24, 24], Refused, 11, 2),
@@ -319,7 +319,7 @@ fn stated_cases(pair: &mut Pair) {
         // the last of the chain has what begins with a letter and goes on as the start, and each before it what the next has not: so the
         // start has the inputs of an odd length
         (deepest_forbidding.clone(), vec![], Rejected, 32, 0),
-        (deepest_forbidding, vec![0; MAX_TOKENS], Rejected, 16_032, 500),
+        (deepest_forbidding, vec![0; MAX_TOKENS], Rejected, MEMO_ENTRIES as u16, MAX_TOKENS as u16),
         (two(1, vec![rule(0, &[], &[])]), vec![], Refused, 5, 2),
         (two(2, vec![rule(0, &[], &[&[x]]), rule(1, &[], &[&[Symbol::Nonterminal(0)]])]), vec![], Refused, 8, 0),
     ];
