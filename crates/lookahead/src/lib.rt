@@ -3,6 +3,12 @@ ghost use mathlib.Core.Path.{_≡_};
 ghost use Rattle.lookahead.specs.Elements.{has, size};
 ghost use Rattle.lookahead.specs.Operations.{isEmpty, Empty, End, Terminal, Full, Joined, Met, Concatenated};
 
+// How many tokens are looked at.
+pub enum Lookahead {
+    One,
+    Two,
+}
+
 // The element for the end of the input and the empty string (document 01: "nothing"); the terminals are below it.
 pub const NOTHING: u32 = 24;
 
