@@ -1,32 +1,23 @@
+-- By the lookahead.
 use borrow.Author.Needs.{needs}
 use Rattle.admission.proofs.admit.Statement.{statement}
 use Rattle.admission.proofs.admit.Tie as tie
-use Rattle.admission.proofs.admit.Reads as reads
-use Rattle.admission.proofs.admit.Lts as lts
-use Rattle.admission.proofs.admit_two.Reads as admit-two-reads
-use Rattle.grammar.proofs.reading.read.Reads as read-reads
 
--- src/lib.rt:124:9
 read-requires : tie.Need-read-requires
 read-requires c κs = search needs
 
--- src/lib.rt:126:27
 enum-told : tie.Need-enum-told
 enum-told c = search needs
 
--- src/lib.rt:127:27
 enum-told-2 : tie.Need-enum-told-2
 enum-told-2 c = search needs
 
--- src/lib.rt:127:27
 admit-two-requires : tie.Need-admit-two-requires
 admit-two-requires c κs = search needs
 
--- src/lib.rt:121:1
 returns : tie.Need-returns
 returns c = rw (c .enum-told .given .1) (c .before .before .read .ensures)
 
--- src/lib.rt:121:1
 returns-2 : tie.Need-returns-2
 returns-2 c = rw (c .before .enum-told2 .given .1, ← c .before .before .before .read .ensures) (c .admit-two .ensures)
 

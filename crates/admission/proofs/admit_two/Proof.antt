@@ -1,3 +1,4 @@
+-- The length and the heading first, then the terminals, then the words.
 use mathlib.Core.Path.{ap, sym, _∙_}
 use native.Mathlib.Omega.{arith}
 use borrow.Author.Needs.{needs}
@@ -5,28 +6,18 @@ use Rattle.admission.specs.Admission.{wordFault, faultyOr}
 use Rattle.admission.proofs.Admitted.{heading-first, many-terminals, words-then}
 use Rattle.admission.proofs.admit_two.Statement.{statement}
 use Rattle.admission.proofs.admit_two.Tie as tie
-use Rattle.admission.proofs.admit_two.Reads as reads
-use Rattle.admission.proofs.admit_two.Lts as lts
-use Rattle.admission.proofs.declared_terminals.Reads as declared-terminals-reads
-use Rattle.admission.proofs.first_alone.Reads as first-alone-reads
-use Rattle.admission.proofs.of_heading.Reads as of-heading-reads
-use Rattle.admission.proofs.with_alone.Reads as with-alone-reads
 
--- src/lib.rt:111:8
 of-heading-requires : tie.Need-of-heading-requires
 of-heading-requires c κs = search needs
 
--- src/lib.rt:112:9
 returns : tie.Need-returns
 returns c =
     let start = c .before .before .before in
     heading-first (start .args .outcome) (start .args .words .now) (sym (c .before .of-heading .ensures) ∙ c .if1 .taken)
 
--- src/lib.rt:114:24
 declared-terminals-requires : tie.Need-declared-terminals-requires
 declared-terminals-requires c κs = search needs
 
--- src/lib.rt:115:9
 returns-2 : tie.Need-returns-2
 returns-2 c =
     let other = c .before .before in
@@ -34,15 +25,12 @@ returns-2 c =
     many-terminals (start .args .outcome) (start .args .words .now) (sym (other .before .of-heading .ensures) ∙ other .if1 .left)
     (omega (arith, c .before .declared-terminals .ensures))
 
--- src/lib.rt:117:25
 first-alone-requires : tie.Need-first-alone-requires
 first-alone-requires c κs = search needs
 
--- src/lib.rt:117:5
 with-alone-requires : tie.Need-with-alone-requires
 with-alone-requires c κs = search needs
 
--- src/lib.rt:108:1
 returns-3 : tie.Need-returns-3
 returns-3 c =
     let few = c .before .before in
@@ -51,7 +39,7 @@ returns-3 c =
     c .with-alone .ensures
     ∙ ap (λ a. faultyOr (wordFault (start .args .outcome) a) (start .args .outcome)) (c .before .first-alone .ensures)
     ∙ words-then (start .args .outcome) (start .args .words .now) (sym (other .before .of-heading .ensures) ∙ other .if1 .left)
-      (omega (arith, few .before .declared-terminals .ensures))
+    (omega (arith, few .before .declared-terminals .ensures))
 
 pub admit-two-spec : {M : Type 1} → statement M
 admit-two-spec =

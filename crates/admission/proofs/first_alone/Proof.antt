@@ -1,3 +1,4 @@
+-- The loop keeps what the search finds from the index on.
 use mathlib.Core.Path.{_≡_, refl, sym, _∙_}
 use mathlib.Core.Bool.{false}
 use Prim.Native.Nat.{_-_}
@@ -8,11 +9,6 @@ use Rattle.admission.specs.Admission.{aloneFrom, firstAlone}
 use Rattle.admission.proofs.WithoutPositives.{alone-here, alone-next, alone-none}
 use Rattle.admission.proofs.first_alone.Statement.{statement}
 use Rattle.admission.proofs.first_alone.Tie as tie
-use Rattle.admission.proofs.first_alone.Reads as reads
-use Rattle.admission.proofs.first_alone.Lts as lts
-use Rattle.admission.proofs.stands_alone.Reads as stands-alone-reads
-use Rattle.grammar.proofs.reading.begins_rule.Reads as begins-rule-reads
-use Rattle.word.proofs.decode.Reads as decode-reads
 
 abbrev Inv-loop : tie.InvT-loop
 Inv-loop words opened₀ at₀ opened at = aloneFrom opened at (drop at words) ≡ firstAlone words
@@ -20,27 +16,21 @@ Inv-loop words opened₀ at₀ opened at = aloneFrom opened at (drop at words) �
 abbrev μ-loop : tie.MeasureT-loop
 μ-loop words opened₀ at₀ opened at = length words - at
 
--- src/lib.rt:59:5
 loop-holds : tie.Need-loop-holds Inv-loop μ-loop
 loop-holds c = refl
 
--- src/lib.rt:60:27
 mul-decode : tie.Need-mul-decode Inv-loop μ-loop
 mul-decode c = omega arith
 
--- src/lib.rt:60:27
 shared-slice-read-decode : tie.Need-shared-slice-read-decode Inv-loop μ-loop
 shared-slice-read-decode c = omega arith
 
--- src/lib.rt:60:13
 decode-requires : tie.Need-decode-requires Inv-loop μ-loop
 decode-requires c κs = tt
 
--- src/lib.rt:61:12
 stands-alone-requires : tie.Need-stands-alone-requires Inv-loop μ-loop
 stands-alone-requires c κs = tt
 
--- src/lib.rt:62:13
 returns : tie.Need-returns Inv-loop μ-loop
 returns c =
     let told = c .before in
@@ -49,19 +39,15 @@ returns c =
     let at-loop = turn .before in
     sym (alone-here (at-loop .before .before .args .words .now) (at-loop .loop .opened) (at-loop .loop .at) (turn .loop-test .taken) (decoded .decode .ensures) (sym (told .stands-alone .ensures) ∙ c .if1 .taken)) ∙ at-loop .loop .inv
 
--- src/lib.rt:64:9
 begins-rule-requires : tie.Need-begins-rule-requires Inv-loop μ-loop
 begins-rule-requires c κs = tt
 
--- src/lib.rt:65:14
 add-at : tie.Need-add-at Inv-loop μ-loop
 add-at c = omega arith
 
--- src/lib.rt:59:5
 loop-less : tie.Need-loop-less Inv-loop μ-loop
 loop-less c = omega arith
 
--- src/lib.rt:59:5
 loop-again : tie.Need-loop-again Inv-loop μ-loop
 loop-again c =
     let told = c .before .before in
@@ -70,7 +56,6 @@ loop-again c =
     let at-loop = turn .before in
     sym (alone-next (at-loop .before .before .args .words .now) (at-loop .loop .opened) (at-loop .loop .at) (turn .loop-test .taken) (decoded .decode .ensures) (sym (told .stands-alone .ensures) ∙ c .before .if1 .left) (c .begins-rule .ensures)) ∙ at-loop .loop .inv
 
--- src/lib.rt:54:1
 returns-2 : tie.Need-returns-2 Inv-loop μ-loop
 returns-2 c =
     let at-loop = c .before in
