@@ -1,6 +1,6 @@
 //! The texts that the three programs print, and those that record calls, made from the twin's answers.
 
-use crate::twin::{self, Gaps, Grammar, Outcome, Usage, Verdict, MAX_TOKENS, MAX_WORDS, MEMO_ENTRIES, NO_RULE, NOT_CALLED, FAILED, TABLE_WORDS};
+use crate::twin::{self, Allowance, Gaps, Grammar, Outcome, Usage, Usages, Verdict, MAX_TOKENS, MAX_WORDS, MEMO_ENTRIES, NO_RULE, NOT_CALLED, FAILED, TABLE_WORDS};
 use std::fmt::Write;
 
 /// The columns of a row with two letters of lookahead.
@@ -168,22 +168,53 @@ pub fn judge2(card: &[u8], log: &[u8], lent: [usize; 2]) -> String {
     answered(outcome) + " | " + calls_in(pairs, log.len() + 1).trim_end().replace('\n', "/").as_str() + if other { " and other memory" } else { "" }
 }
 
-/// What a recorded call answers, and what it leaves in the memory that is lent to it and in the record; the numbers are the sizes of the
-/// memories, and behind them the record.
+/// A record as rows of usage.txt write it.
+fn record_of(text: &str) -> Usages {
+    let mut usages = Usages::default();
+    for part in text.split(' ').filter(|_| text != "empty") {
+        let (client, counters) = part.split_once('=').expect("a client and its counters");
+        let counters: Vec<u32> = counters.split(',').map(|counter| counter.parse().expect("a counter")).collect();
+        usages[client.parse::<usize>().expect("a client")] = Usage::of(counters.try_into().expect("four counters"));
+    }
+    usages
+}
+
+fn record_text(usages: &Usages) -> String {
+    let told = usages.iter().enumerate().filter(|(_, &usage)| usage != Usage::default());
+    let told: Vec<String> = told.map(|(client, usage)| format!("{client}={}", usage.counters().map(|counter| counter.to_string()).join(","))).collect();
+    if told.is_empty() { "empty".into() } else { told.join(" ") }
+}
+
+/// What is told of a call for a client in a history, with the record that it leaves, which goes to the next row.
+pub fn usage(kept: &mut Usages, before: &str, allowance: &str, card: &[u8], log: &[u8], rooms: &str) -> String {
+    let numbers = |text: &str| text.split(' ').map(|number| number.parse().expect("a number")).collect::<Vec<u32>>();
+    let (words, lent, called) = (words_of(card, usize::MAX).expect("words"), numbers(rooms), numbers(allowance));
+    let (mut table, mut memo) = (vec![0; lent[0] as usize], vec![0; lent[1] as usize]);
+    let usages = if before == "-" { *kept } else { record_of(before) };
+    let allowance = Allowance { client: called[0], share: called[1], limit: called[2] };
+    let (outcome, next) = twin::judge_for(allowance, &words, log, &mut table, &mut memo, &usages);
+    *kept = next;
+    let told = format!("{} {} {} {} {}", verdict(outcome), outcome.code, outcome.position, outcome.count, outcome.farthest);
+    format!("{told} | {} | {}", record_text(&next), twin::totals(&next).map(|sum| sum.to_string()).join(" "))
+}
+
+/// What a recorded call answers, and what it leaves in the memory that is lent to it and in the record; the numbers are, in the order of the
+/// call's parameters, client, share and limit, the sizes of the memories, and the record.
 pub fn call(name: &str, numbers: &[usize], card: &[u8], log: &[u8]) -> String {
     let words = words_of(card, usize::MAX).expect("words");
     let (word, entry) = (u32::from_le_bytes([FILL; 4]), u16::from_le_bytes([FILL; 2]));
+    let (allowance, numbers) = numbers.split_at(if name == "judge_for" { 3 } else { 0 });
     let given = |at: usize| numbers.get(at).copied().unwrap_or(0);
     let (mut table, mut memo) = (vec![word; given(0)], vec![entry; given(1)]);
     let mut record = String::new();
     let outcome = match name {
         "check" => twin::check(&words, &mut table),
         "judge" => twin::judge(&words, log, &mut table, &mut memo),
-        "judge_recorded" => {
-            let [calls, refusals, acceptances, called] = [2, 3, 4, 5].map(|at| given(at) as u32);
-            let usage = Usage { calls, refusals, acceptances, called };
-            let (outcome, next) = twin::judge_recorded(&words, log, &mut table, &mut memo, usage);
-            record = format!("/usage {} {} {} {}", next.calls, next.refusals, next.acceptances, next.called);
+        "judge_for" => {
+            let [client, share, limit] = [0, 1, 2].map(|at| allowance[at] as u32);
+            let usages: Usages = std::array::from_fn(|client| Usage::of(std::array::from_fn(|at| given(2 + 4 * client + at) as u32)));
+            let (outcome, next) = twin::judge_for(Allowance { client, share, limit }, &words, log, &mut table, &mut memo, &usages);
+            record = next.iter().flat_map(|usage| usage.counters()).fold("/usage".into(), |text, counter| format!("{text} {counter}"));
             outcome
         }
         _ => panic!("no call {name}"),

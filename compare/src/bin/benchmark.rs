@@ -4,7 +4,7 @@
 mod linked;
 
 use compare::cards::{self, Draft};
-use compare::twin::{self, Outcome, Usage, MAX_PLAIN_TOKENS, MAX_TOKENS, MEMO_ENTRIES, SPAN_WORDS, TABLE_WORDS, TABLE_WORDS_OF_TWO};
+use compare::twin::{self, Allowance, Outcome, Usages, MAX_PLAIN_TOKENS, MAX_TOKENS, MEMO_ENTRIES, SPAN_WORDS, TABLE_WORDS, TABLE_WORDS_OF_TWO};
 use std::{hint::black_box, time::Instant};
 
 /// How many batches of each kind are timed; an odd number, so that one of them is the median.
@@ -145,29 +145,37 @@ fn time_judge<Word: Clone + From<u32> + PartialEq>(by: &Lookahead<Word>, what: &
     print_row(&format!("judge{} {what}, {} tokens", by.name, input.len()), &format!("{:?}", outcome.verdict).to_lowercase(), &times);
 }
 
-/// As `time_judge`, with a record that goes from call to call.
-fn time_judge_recorded(what: &str, draft: &Draft, input: &[u8]) {
+/// As `time_judge`, for a client, with a record that goes from call to call; share and limit are not reached in the meantime.
+fn time_judge_for(what: &str, draft: &Draft, input: &[u8]) {
     let words = draft.words();
     let (mut proved, mut twin) = (ONE.memory(), ONE.memory());
-    let empty = Usage::default();
-    let (outcome, record) = twin::judge_recorded(&words, input, &mut twin.table, &mut twin.memo, empty);
-    let answer = linked::judge_recorded(&words, input, &mut proved.table, &mut proved.memo, empty);
+    let (empty, allowance) = (Usages::default(), Allowance { client: 3, share: u32::MAX, limit: u32::MAX });
+    let (outcome, record) = twin::judge_for(allowance, &words, input, &mut twin.table, &mut twin.memo, &empty);
+    let answer = linked::judge_for(allowance, &words, input, &mut proved.table, &mut proved.memo, &empty);
     let agree = answer == (linked::packed(outcome), record) && twin.table == proved.table && twin.memo == proved.memo;
     assert!(agree, "{what}: the answers differ");
     let (mut kept, mut kept_by_twin) = (empty, empty);
     let times = medians(&mut [
         &mut || {
-            let (answer, next) = linked::judge_recorded(black_box(&words), black_box(input), &mut proved.table, &mut proved.memo, kept);
+            let (answer, next) = linked::judge_for(allowance, black_box(&words), black_box(input), &mut proved.table, &mut proved.memo, &kept);
             kept = next;
             answer
         },
         &mut || {
-            let (outcome, next) = twin::judge_recorded(black_box(&words), black_box(input), &mut twin.table, &mut twin.memo, kept_by_twin);
+            let (outcome, next) = twin::judge_for(allowance, black_box(&words), black_box(input), &mut twin.table, &mut twin.memo, &kept_by_twin);
             kept_by_twin = next;
             linked::packed(outcome)
         },
     ]);
-    print_row(&format!("recorded {what}, {} tokens", input.len()), &format!("{:?}", outcome.verdict).to_lowercase(), &times);
+    print_row(&format!("client {what}, {} tokens", input.len()), &format!("{:?}", outcome.verdict).to_lowercase(), &times);
+}
+
+/// The totals of a record.
+fn time_totals() {
+    let usages = Usages::default();
+    assert!(linked::totals(&usages) == twin::totals(&usages), "the totals differ");
+    let times = medians(&mut [&mut || linked::totals(black_box(&usages))[3], &mut || twin::totals(black_box(&usages))[3]]);
+    print_row("totals of eight clients", "", &times);
 }
 
 fn time_plain(what: &str, draft: &Draft, input: &[u8]) {
@@ -223,7 +231,8 @@ fn main() {
     for (before, nested) in [(0, 0), (10, 20), (100, 200)] {
         time_judge(&ONE, "card M", &cards::card_m(), &axles(before, nested), peg::MADE);
     }
-    time_judge_recorded("card M", &cards::card_m(), &axles(10, 20));
+    time_judge_for("card M", &cards::card_m(), &axles(10, 20));
+    time_totals();
     time_tree("card M", &cards::card_m(), &axles(10, 20));
     time_tree("chain of 32", &cards::chain(32, 1), &[0; MAX_TOKENS]);
     for tokens in [0, 50, MAX_TOKENS] {

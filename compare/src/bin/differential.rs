@@ -631,7 +631,7 @@ fn run(seed: u64, count: u64) -> bool {
     let memory = Memory::random(&mut random);
     let mut pair = Pair { twin: memory.clone(), proved: memory, tally: Tally::default() };
 
-    println!("stated: the judged inputs and limits of document 01, and rows of the requests P1, P2, P5 to P8 and P10");
+    println!("stated: the judged inputs and limits of document 01, and rows of the requests P1, P2 and P5 to P10");
     stated_cases(&mut pair);
     histories::stated_histories(&mut pair);
     stated_plain_cases(&mut pair);
@@ -649,7 +649,7 @@ fn run(seed: u64, count: u64) -> bool {
     let random_tally = std::mem::take(&mut pair.tally);
 
     let start = Instant::now();
-    println!("recorded: seed {seed}, random histories of judgements, each with the record that the one before handed back");
+    println!("recorded: seed {seed}, random histories of judgements for clients, each with the record that the one before handed back");
     let seen = histories::random_histories(&mut pair, seed, count / CASES_A_HISTORY);
     pair.tally.print();
     seen.print();

@@ -46,12 +46,17 @@ fn main() -> ExitCode {
         let kind = name.rsplit('_').next().expect("a part");
         let rows = fs::read_to_string(&path).expect("the recorded rows");
         let (mut run, mut wrong) = (0, 0);
+        let mut record = twin::Usages::default();
         for (number, row) in rows.lines().enumerate() {
             if row.trim().is_empty() || row.starts_with('#') {
                 continue;
             }
             let fields: Vec<&str> = row.split('|').map(str::trim).collect();
-            let told = if ["plain", "check2", "judge2"].contains(&kind) { 2 } else { 1 };
+            let told = match kind {
+                "plain" | "check2" | "judge2" => 2,
+                "usage" => 3,
+                _ => 1,
+            };
             let (given, expected) = fields.split_at(fields.len().saturating_sub(told));
             let expected = expected.join(" | ");
             let printed = match (kind, given) {
@@ -63,6 +68,7 @@ fn main() -> ExitCode {
                 ("plain", [card, log, lent]) => text::plain(&bytes_of(card), &bytes_of(log), lent.parse().expect("a size")),
                 ("check2", [card, lent]) => text::check2(&bytes_of(card), sizes(lent)[0]),
                 ("judge2", [card, log, lent]) => text::judge2(&bytes_of(card), &bytes_of(log), sizes(lent).try_into().expect("two sizes")),
+                ("usage", [_, before, allowance, card, log, rooms]) => text::usage(&mut record, before, allowance, &bytes_of(card), &bytes_of(log), rooms),
                 ("tree", [card, log, rooms, verdict]) => recorded_tree(card, log, rooms, verdict),
                 _ => panic!("{name}.txt:{}: not a row", number + 1),
             };

@@ -25,3 +25,6 @@ pub const NO_RULE: u32 = 4_294_967_295;
 pub const FAILED: u16 = 65_534;
 /// A memo entry of a pair that was not called.
 pub const NOT_CALLED: u16 = 65_535;
+
+/// How many clients one judge has (document 02: boxes).
+pub const CLIENTS: usize = 8;

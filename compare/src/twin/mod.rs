@@ -20,5 +20,5 @@ pub use calls::{check, check2, judge, judge2, judge_plain};
 pub use limits::*;
 pub use one::Gaps;
 pub use tree::judge_tree;
-pub use usage::{judge_recorded, Usage};
+pub use usage::{judge_for, totals, Allowance, Usage, Usages};
 pub use words::{Grammar, Symbol};

@@ -4,7 +4,7 @@ use mathlib.Core.Bool.{Bool, true, false}
 use mathlib.Core.List.{List}
 use mathlib.Core.Option.{Option, none, some}
 use Prim.Native.Nat.{ℕ, suc, _≤_, _<_}
-use native.Mathlib.Decide.{decLt}
+use native.Mathlib.Decide.{decLt, decLe}
 use native.Mathlib.Nat.{mul-le-mul}
 use native.Mathlib.Omega.{arith}
 use lib.ListN.{length}
@@ -29,16 +29,19 @@ use Rattle.recognizer.specs.Properties.{Checks, Judges}
 use Rattle.recognizer.proofs.Checking.{passed-fault, passed-encodes, passed-free}
 use Rattle.recognizer.proofs.JudgeFaults.{judged-readable}
 use Rattle.usage.specs.declared.Usage.{Usage}
-use Rattle.recording.specs.declared.Recorded.{Recorded}
-use Rattle.recording.specs.Properties.{Records}
+use Rattle.clients.specs.declared.Served.{Served}
+use Rattle.clients.specs.declared.totals.Totals.{Totals}
+use Rattle.clients.specs.Usages.{clients, calledBy, sumBelow}
+use Rattle.clients.specs.Sums.{Totalled}
+use Rattle.clients.specs.Properties.{JudgesFor}
 use Rattle.tree_writer.specs.declared.Shown.{Shown}
 use Rattle.tree_writer.specs.Properties.{Shows}
 use Rattle.tree_writer.proofs.Showing.{short-refused}
 use Rattle.embed.specs.Packing.{Fit, NumbersFit, joined, packed, Unpacks}
 use Rattle.tabular.specs.Answers.{tabularFault, noCalls, told, tabularVerdict}
 use Rattle.tabular.specs.Properties.{TabularJudges}
-use Rattle.embed.specs.Records.{countersOf, usageIn}
-use Rattle.embed.specs.Exports.{CheckExported, JudgeExported, RecordedExported, TreeExported, TabularExported}
+use Rattle.embed.specs.Records.{usagesIn, totalsRow}
+use Rattle.embed.specs.Exports.{CheckExported, JudgeExported, ServedExported, TotalsExported, TreeExported, TabularExported}
 use Rattle.embed.proofs.Places.{Low, check-low, judge-low, tabular-low}
 
 code-low : (e : Error) → coded e .code < 256
@@ -109,6 +112,17 @@ judge-fits {words} {input} {table} {memo} {table′} {memo′} {a} j =
         → NumbersFit (numbers (refusedOr f (choose (accepts (grammarOf words) (tableChoice (grammarOf words) 1 input) input) (Accepted (callsOf (grammarOf words) input)) (Rejected (callsOf (grammarOf words) input)))))
     go none e l = verdict-fits (accepts (grammarOf words) (tableChoice (grammarOf words) 1 input) input) (callsOf (grammarOf words) input) (calls-fit words input (length table) (length memo) e)
     go (some x) e l = refused-fits x (l x refl)
+
+-- one for a client: turned away at place 0, or judged
+pub served-fits : {client share limit : ℕ} {words input table memo table′ memo′ : List ℕ} {us : List Usage} {x : Served}
+    → JudgesFor client share limit words input table memo us x table′ memo′ → NumbersFit (numbers (x .answer))
+served-fits {client} {share} {limit} {us = us} {x = x} j = go (decLt client clients) (decLe share (calledBy us client)) (decLe limit (sumBelow clients (calledBy us)))
+  where
+    go : Dec (client < clients) → Dec (share ≤ calledBy us client) → Dec (limit ≤ sumBelow clients (calledBy us)) → NumbersFit (numbers (x .answer))
+    go (no h) s l = rw (j .unknown .1 (omega (arith, h))) (refused-fits UnknownClient (omega arith))
+    go (yes h) (yes s) (yes l) = rw (j .turned-away .1 (h, s, l)) (refused-fits QuotaReached (omega arith))
+    go (yes h) (no s) l = judge-fits (j .let-through h (λ u. s (u .1)))
+    go (yes h) (yes s) (no l) = judge-fits (j .let-through h (λ u. l (u .2)))
 
 -- one by tabulation
 pub tabular-fits : {words input before after : List ℕ} {a : Answer} → TabularJudges words input before a after → NumbersFit (numbers a)
@@ -183,18 +197,21 @@ pub judge-exported : {words input table memo table′ memo′ : List ℕ} {a : A
     → JudgeExported words input table memo r table′ memo′
 judge-exported {a = a} j e = record { answer = a; judges = j; packs = e; unpacks = unpacks (numbers a) (judge-fits j) e }
 
-pub recorded-exported : {words input table memo table′ memo′ counters counters′ : List ℕ} {u : Usage} {x : Recorded} {r : ℕ} → u ≡ usageIn counters
-    → Records words input table memo u x table′ memo′
-    → counters′ ≡ countersOf (x .usage)
+pub served-exported : {client share limit : ℕ} {words input table memo table′ memo′ row row′ : List ℕ} {us : List Usage} {x : Served} {r : ℕ} → us ≡ usagesIn row
+    → JudgesFor client share limit words input table memo us x table′ memo′
+    → usagesIn row′ ≡ x .usages
     → r ≡ packed (numbers (x .answer))
-    → RecordedExported words input table memo counters r table′ memo′ counters′
-recorded-exported {x = x} h c w e = record {
-  recorded = x;
-  records = rw h at c;
+    → ServedExported client share limit words input table memo row r table′ memo′ row′
+served-exported {x = x} h j w e = record {
+  served = x;
+  judges = rw h at j;
   written = w;
   packs = e;
-  unpacks = unpacks (numbers (x .answer)) (judge-fits (c .judges)) e;
+  unpacks = unpacks (numbers (x .answer)) (served-fits j) e;
 }
+
+pub totals-exported : {row : List ℕ} {us : List Usage} {t : Totals} → us ≡ usagesIn row → Totalled us t → TotalsExported row (totalsRow t)
+totals-exported {t = t} h s = record { totals = t; sums = rw h at s; written = refl }
 
 pub tabular-exported : {words input before after : List ℕ} {a : Answer} {r : ℕ} → TabularJudges words input before a after → r ≡ packed (numbers a)
     → TabularExported words input before r after

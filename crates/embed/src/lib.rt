@@ -11,7 +11,7 @@ use recognizer::check;
 use recognizer::judge;
 use tabular::judge as judge_plain;
 
-mod recorded;
+mod served;
 mod shown;
 
 // The five fields side by side.
