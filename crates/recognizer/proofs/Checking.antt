@@ -39,10 +39,14 @@ use Rattle.semantics.proofs.Theorems.{theorems}
 use Rattle.sets.specs.declared.Finding.the-variants as finding
 use Rattle.table.specs.declared.Analysis.{Analysis}
 use Rattle.table.specs.Layout.{tableWords}
-use Rattle.table.specs.Entries.{filled}
+use Rattle.table.specs.Layout.{filled}
 use Rattle.sets.specs.Analysis.{readingFault, leftFault, unproductiveFault}
 use Rattle.sets.proofs.Findings.{told-passed, told-refused}
 use Rattle.table.specs.Analysis.{clashFault, grammarFaults, fault, tableIf, analyzed}
+use Rattle.table.specs.Conflicts.{firstClash}
+use Rattle.table.specs.declared.conflicts.Conflict.{Conflict}
+use Rattle.table.specs.declared.conflicts.Conflict.the-variants.{Absent, At}
+use Rattle.table.proofs.FirstClash.{clash-absent}
 use Rattle.table.proofs.Words.{table-long}
 use Rattle.recognizer.specs.Memory.{lentBack, wordCount, LendGiven, Lent}
 use Rattle.recognizer.specs.Answers.{checkFault}
@@ -58,9 +62,9 @@ none-unproductive : (o : Option ℕ) → unproductiveFault o ≡ none → o ≡ 
 none-unproductive none e = refl
 none-unproductive (some A) e = absurd (omega (arith, fault-number e))
 
-none-clash : (t : ℕ) (l : List Entry) → clashFault t l ≡ none → l ≡ []
-none-clash t [] e = refl
-none-clash t (x ∷ l) e = absurd (omega (arith, fault-number e))
+none-clash : (r : Conflict) → clashFault r ≡ none → r ≡ Absent
+none-clash Absent e = refl
+none-clash (At A c) e = absurd (omega (arith, fault-number e))
 
 pub read-some : (o : Outcome) → readingFault o ≡ none → (z : Sizes) × (o ≡ Read z)
 read-some (Read z) e = (z, refl)
@@ -88,7 +92,7 @@ unfolding fault
 passed-fault words e =
     let f = each-none (grammarFaults words) e in
     let z = read-some (reading words) (f .0) in
-    let none-clashes : clashes (grammarOf words) 1 ≡ [] = none-clash _ (clashes (grammarOf words) 1) (f .1 .1 .1 .0) in
+    let none-clashes : clashes (grammarOf words) 1 ≡ [] = clash-absent (grammarOf words) .0 (none-clash (firstClash (grammarOf words)) (f .1 .1 .1 .0)) in
     let r = read-encodes words (z .0) (z .1) in
     record {
       short = r .0;
@@ -128,7 +132,7 @@ module _ (words : List ℕ) (p : PassedGrammar words) where
 
   pub fault-passed : fault words ≡ none
   unfolding fault
-  fault-passed = rw (passed-read, not-left-recursive, all-productive, no-clashes)
+  fault-passed = rw (passed-read, not-left-recursive, all-productive, clash-absent (grammarOf words) .1 no-clashes)
 
 -- with a table that is long enough only the grammar's faults are left
 pub check-fault-long : (n : ℕ) (words : List ℕ) → maxTableWords ≤ n → checkFault n words ≡ fault words
@@ -153,7 +157,7 @@ checks {words} {before} {after} {r} a t = record {
         λ p. a ∙ rw (f, fault-passed words p),
       );
   places = λ long short G e.
-      places G (e .formed .scoped) (least G e)
+      places G (e .formed .scoped) (e .limited .fewTerminals)
       (check-tells _ (a ∙ ap (λ f. refusedOr f Passed) (check-fault-long (length before) words long ∙ fault-encoded words G short e)));
   least = families;
 }

@@ -23,7 +23,8 @@ use Rattle.semantics.specs.Strings.{look, Over}
 use Rattle.semantics.specs.Claims.{tableOf}
 use Rattle.semantics.specs.Choices.{tableChoice}
 use Rattle.semantics.proofs.Predictive.{table-own}
-use Rattle.table.specs.Layout.{columnString, columns, entryAt, entryWord}
+use Rattle.table.specs.Columns.{columnString, columns}
+use Rattle.table.specs.Layout.{entryAt, entryWord}
 use Rattle.recognizer.specs.Arrays.{choiceColumns, choiceWords, endMark, elementWeight, firstAt}
 use Rattle.recognizer.specs.Descent.{firstConjunct}
 use Rattle.recognizer.specs.Preparing.{tokenWords, entryOf, firstWord, FirstGiven, ChoicesGiven, RowGiven, Filled}

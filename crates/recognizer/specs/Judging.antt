@@ -14,7 +14,7 @@ use Rattle.semantics.specs.Valuations.{pairs}
 use Rattle.semantics.specs.LeftRecursion.{NoLeftRecursion}
 use Rattle.semantics.specs.Strings.{Over}
 use Rattle.table.specs.Layout.{tableWords}
-use Rattle.table.specs.Entries.{filled}
+use Rattle.table.specs.Layout.{filled}
 use Rattle.table.specs.Analysis.{fault}
 use Rattle.recognizer.specs.Preparing.{Entries}
 use Rattle.recognizer.specs.Memory.{memoWords}

@@ -13,7 +13,8 @@ use Rattle.grammar.specs.Reading.{reading}
 use Rattle.grammar.specs.Starts.{ruleStarts}
 use Rattle.grammar.specs.declared.reading.Sizes.{Sizes}
 use Rattle.grammar.specs.declared.reading.Outcome.the-variants.{Read}
-use Rattle.table.specs.Layout.{columns, entryAt}
+use Rattle.table.specs.Columns.{columns}
+use Rattle.table.specs.Layout.{entryAt}
 use Rattle.recognizer.specs.Arrays.{endMark, elementWeight, choiceColumns, choiceWords, rowAt, endAt}
 
 -- a terminal's element of lookahead is its number (so it stands in the word twice), and that of the end comes behind those of the n terminals
