@@ -47,7 +47,7 @@ use Rattle.table.proofs.Words.{table-long}
 use Rattle.recognizer.specs.Memory.{lentBack, wordCount, LendGiven, Lent}
 use Rattle.recognizer.specs.Answers.{checkFault}
 use Rattle.recognizer.specs.Judging.{TableFound}
-use Rattle.recognizer.specs.Properties.{PassedGrammar, LeastFamilies, Checks}
+use Rattle.recognizer.specs.Properties.{PassedBy, PassedGrammar, LeastFamiliesBy, Checks}
 use Rattle.recognizer.proofs.Places.{check-tells, fault-encoded, places}
 
 pub none-left : (o : Option ℕ) → leftFault o ≡ none → o ≡ none
@@ -67,12 +67,15 @@ read-some (Read z) e = (z, refl)
 read-some (Faulty x) e = absurd (none-some (sym e))
 
 -- the theorems of the semantics about an encoded grammar
-pub least : {words : List ℕ} (G : Grammar) → Encodes words G → LeastSets G 1
-least G e = theorems .least-sets G (e .formed .scoped) (e .formed .terminals) (e .limited .someNonterminal) 1
+pub least-for : (k : ℕ) {words : List ℕ} (G : Grammar) → Encodes words G → LeastSets G k
+least-for k G e = theorems .least-sets G (e .formed .scoped) (e .formed .terminals) (e .limited .someNonterminal) k
 
-families : {words : List ℕ} (G : Grammar) → Encodes words G → LeastFamilies G
-families G e =
-    let l = least G e in
+pub least : {words : List ℕ} (G : Grammar) → Encodes words G → LeastSets G 1
+least = least-for 1
+
+families : (k : ℕ) {words : List ℕ} (G : Grammar) → Encodes words G → LeastFamiliesBy k G
+families k G e =
+    let l = least-for k G e in
     record {
       first-closed = l .first .closed;
       first-least = λ F c A x h. l .first .smallest (λ B y. T (F B y)) c A x h;
@@ -100,7 +103,7 @@ passed-fault words e =
     }
 
 -- a grammar that passes is the one that is read, so its promises are about that
-module _ (words : List ℕ) (p : PassedGrammar words) where
+module _ {k : ℕ} (words : List ℕ) (p : PassedBy k words) where
   same-grammar : p .grammar ≡ grammarOf words
   same-grammar = sym (encodes-grammar words (p .grammar) (p .encodes))
 
@@ -110,25 +113,25 @@ module _ (words : List ℕ) (p : PassedGrammar words) where
   pub passed-free : NoLeftRecursion (grammarOf words)
   passed-free = rw (← same-grammar) (p .free)
 
-  pub no-clashes : clashes (grammarOf words) 1 ≡ []
-  no-clashes = rw (← same-grammar) (go (clashes (p .grammar) 1) refl)
+  pub no-clashes : clashes (grammarOf words) k ≡ []
+  no-clashes = rw (← same-grammar) (go (clashes (p .grammar) k) refl)
     where
-      go : (l : List Entry) → clashes (p .grammar) 1 ≡ l → clashes (p .grammar) 1 ≡ []
+      go : (l : List Entry) → clashes (p .grammar) k ≡ l → clashes (p .grammar) k ≡ []
       go [] e = e
-      go (x ∷ l) e = absurd (p .clashless (x .0) (x .1) (least (p .grammar) (p .encodes) .clash (x .0) (x .1) .0 (rw e (List·Memᴰ·head refl))))
+      go (x ∷ l) e = absurd (p .clashless (x .0) (x .1) (least-for k (p .grammar) (p .encodes) .clash (x .0) (x .1) .0 (rw e (List·Memᴰ·head refl))))
 
   pub not-left-recursive : lowestLeftRecursive (grammarOf words) ≡ none
   not-left-recursive = theorems .left-recursion-decided (grammarOf words) (passed-encodes .formed .scoped) .absent .1 passed-free
 
-  pub all-productive : lowestUnproductive (grammarOf words) 1 ≡ none
-  all-productive = theorems .productive-decided (grammarOf words) 1 .absent .1 (rw (← same-grammar) (p .productive))
+  pub all-productive : lowestUnproductive (grammarOf words) k ≡ none
+  all-productive = theorems .productive-decided (grammarOf words) k .absent .1 (rw (← same-grammar) (p .productive))
 
   pub passed-read : reading words ≡ Read (sizesOf (grammarOf words))
   passed-read = encodes-read words (grammarOf words) (p .short) passed-encodes
 
-  pub fault-passed : fault words ≡ none
-  unfolding fault
-  fault-passed = rw (passed-read, not-left-recursive, all-productive, no-clashes)
+pub fault-passed : (words : List ℕ) → PassedGrammar words → fault words ≡ none
+unfolding fault
+fault-passed words p = rw (passed-read words p, not-left-recursive words p, all-productive words p, no-clashes words p)
 
 -- with a table that is long enough only the grammar's faults are left
 pub check-fault-long : (n : ℕ) (words : List ℕ) → maxTableWords ≤ n → checkFault n words ≡ fault words
@@ -155,7 +158,7 @@ checks {words} {before} {after} {r} a t = record {
   places = λ long short G e.
       places G (e .formed .scoped) (least G e)
       (check-tells _ (a ∙ ap (λ f. refusedOr f Passed) (check-fault-long (length before) words long ∙ fault-encoded words G short e)));
-  least = families;
+  least = families 1;
 }
 
 pub check-short : {words before : List ℕ} → length before < maxTableWords → Checks words before (Refused TableTooShort) before

@@ -39,8 +39,8 @@ use Rattle.rule.specs.Rule.{meant}
 use Rattle.recognizer.specs.Arrays.{held, rowAt}
 use Rattle.recognizer.specs.Descent.{MemoSound, CallGiven, CallDone, CallRequires, CallEnsures}
 use Rattle.recognizer.specs.Tally.{tallyOf, recordedCalls}
-use Rattle.recognizer.specs.Memory.{memoWord, memoWords}
-use Rattle.recognizer.specs.Answers.{callsOf, verdictOf}
+use Rattle.recognizer.specs.Memory.{memoWordBy, memoWordsBy}
+use Rattle.recognizer.specs.Answers.{callsOf, verdictBy}
 use Rattle.recognizer.specs.Judging.{DescendGiven, Descended}
 use Rattle.recognizer.specs.Preparing.{tokenWords, TokensGiven, ChoicesGiven, Filled}
 use Rattle.event.specs.Events.{inputOf}
@@ -60,25 +60,25 @@ blank-sound choice words input = record {
 }
 
 -- the entries of the calls in order are what the memo table records
-module _ (G : Grammar) (w : List ℕ) (scoped : WellScoped G) (free : NoLeftRecursion G) (nonempty : 0 < G .nonterminals) {m : List ℕ} (r : Recorded G (tableChoice G 1 w) w m) where
-  listing : Listing G (tableChoice G 1 w) w (calls G (tableChoice G 1 w) w)
-  listing = theorems .calls-counted G scoped free nonempty (tableChoice G 1 w) (theorems .own-rules G 1 w) w .listing
+module _ (k : ℕ) (G : Grammar) (w : List ℕ) (scoped : WellScoped G) (free : NoLeftRecursion G) (nonempty : 0 < G .nonterminals) {m : List ℕ} (r : Recorded G (tableChoice G k w) w m) where
+  listing : Listing G (tableChoice G k w) w (calls G (tableChoice G k w) w)
+  listing = theorems .calls-counted G scoped free nonempty (tableChoice G k w) (theorems .own-rules G k w) w .listing
 
-  word-is : (x : Call) → InRange G w x → entry w m x ≡ memoWord G w x
-  unfolding memoWord
-  word-is x h = go (member sameCall (calls G (tableChoice G 1 w) w) x) refl
+  word-is : (x : Call) → InRange G w x → entry w m x ≡ memoWordBy k G w x
+  unfolding memoWordBy
+  word-is x h = go (member sameCall (calls G (tableChoice G k w) w) x) refl
     where
-      go : (b : Bool) → member sameCall (calls G (tableChoice G 1 w) w) x ≡ b
-          → entry w m x ≡ choose b (encode (descend G (tableChoice G 1 w) w (x .nonterminal) (x .place))) uncalledCode
-      go true e = r .called x (listing .sound x (member-mem sameCall calls-equality (calls G (tableChoice G 1 w) w) x (rw e tt)))
-      go false e = r .uncalled x h (λ c. rw e at (mem-member sameCall calls-equality (calls G (tableChoice G 1 w) w) x (listing .full x c)))
+      go : (b : Bool) → member sameCall (calls G (tableChoice G k w) w) x ≡ b
+          → entry w m x ≡ choose b (encode (descend G (tableChoice G k w) w (x .nonterminal) (x .place))) uncalledCode
+      go true e = r .called x (listing .sound x (member-mem sameCall calls-equality (calls G (tableChoice G k w) w) x (rw e tt)))
+      go false e = r .uncalled x h (λ c. rw e at (mem-member sameCall calls-equality (calls G (tableChoice G k w) w) x (listing .full x c)))
 
-  pub words-recorded : m ≡ memoWords G w
-  unfolding memoWords
+  pub words-recorded : m ≡ memoWordsBy k G w
+  unfolding memoWordsBy
   words-recorded =
-      ext-getD uncalledCode m (map (memoWord G w) (allCalls G w)) (r .size ∙ sym (length-map (allCalls G w) (memoWord G w) ∙ all-length G w)) same
+      ext-getD uncalledCode m (map (memoWordBy k G w) (allCalls G w)) (r .size ∙ sym (length-map (allCalls G w) (memoWordBy k G w) ∙ all-length G w)) same
     where
-      same : (i : ℕ) → i < length m → getD m i uncalledCode ≡ getD (map (memoWord G w) (allCalls G w)) i uncalledCode
+      same : (i : ℕ) → i < length m → getD m i uncalledCode ≡ getD (map (memoWordBy k G w) (allCalls G w)) i uncalledCode
       same i h =
           let n = suc (length w) in
           let x = callAt (i / n) (i % n) in
@@ -87,9 +87,9 @@ module _ (G : Grammar) (w : List ℕ) (scoped : WellScoped G) (free : NoLeftRecu
           let low : i < G .nonterminals * n = omega (arith, r .size) in
           let inside : InRange G w x = (div-lt-iff-lt-mul z .1 low, omega (arith, mod-lt i z)) in
           let here : getD (allCalls G w) i x ≡ x = ap (λ j. getD (allCalls G w) j x) (sym d) ∙ all-ordered G w x x inside in
-          let k : i < length (map (memoWord G w) (allCalls G w)) = omega (arith, length-map (allCalls G w) (memoWord G w), all-length G w, r .size) in
-          ap (λ j. getD m j uncalledCode) (sym d) ∙ word-is x inside ∙ ap (memoWord G w) (sym here) ∙ sym (List·getD-map (memoWord G w) (allCalls G w) i x)
-          ∙ getD-any (map (memoWord G w) (allCalls G w)) i (memoWord G w x) uncalledCode k
+          let short : i < length (map (memoWordBy k G w) (allCalls G w)) = omega (arith, length-map (allCalls G w) (memoWordBy k G w), all-length G w, r .size) in
+          ap (λ j. getD m j uncalledCode) (sym d) ∙ word-is x inside ∙ ap (memoWordBy k G w) (sym here) ∙ sym (List·getD-map (memoWordBy k G w) (allCalls G w) i x)
+          ∙ getD-any (map (memoWordBy k G w) (allCalls G w)) i (memoWordBy k G w x) uncalledCode short
 
 -- the start's call has been made in a blank memo table
 module _ {words : List ℕ} {z : Sizes} {entries memo : List ℕ} (events : List ℕ) (g : DescendGiven words z entries (inputOf events) memo) where
@@ -179,11 +179,11 @@ module _ {words : List ℕ} {z : Sizes} {entries memo : List ℕ} (events : List
       pub descended : {c : Calls} {t : Bool} {a : Answer} → c ≡ tallyOf (recordedCalls memo′ (z .nonterminals) (length events))
           → t ≡ endsAt (meant o) (length events)
           → a ≡ choose t (Accepted c) (Rejected c) → Descended words input a memo′
-      unfolding verdictOf accepts
+      unfolding verdictBy accepts
       descended {c} {t} {a} tallied told e =
           let k = done in
           let counted : c ≡ callsOf G input = tally-recorded (k .1) (r .nonterminals) (tallied ∙ ap (λ n. tallyOf (recordedCalls memo′ (z .nonterminals) n)) long) in
           record {
             answer = e ∙ rw (told, long, k .0, counted);
-            entries = words-recorded G input (r .formed .scoped) (g .free) some-nonterminal (k .1);
+            entries = words-recorded 1 G input (r .formed .scoped) (g .free) some-nonterminal (k .1);
           }

@@ -34,12 +34,12 @@ use Rattle.table.specs.Layout.{tableWords}
 use Rattle.table.proofs.Words.{filled-entries}
 use Rattle.event.specs.declared.Unknown.{Unknown}
 use Rattle.event.specs.declared.Unknown.the-variants.{Absent, At}
-use Rattle.recognizer.specs.Memory.{lentBack, memoWord, memoWords, Lent}
+use Rattle.recognizer.specs.Memory.{lentBack, memoWord, memoWordsBy, memoWords, Lent}
 use Rattle.event.specs.Events.{inputOf}
 use Rattle.event.specs.Unknown.{unknownFrom}
 use Rattle.event.proofs.Inputs.{input-length}
 use Rattle.event.proofs.Known.{known-absent, absent-known}
-use Rattle.recognizer.specs.Answers.{judgeFault, callsOf, verdictOf, verdictNumbers}
+use Rattle.recognizer.specs.Answers.{judgeFault, callsOf, verdictBy, verdictOf, verdictNumbersBy, verdictNumbers}
 use Rattle.recognizer.specs.Judging.{PassedGiven, DescendGiven, Descended}
 use Rattle.recognizer.specs.Properties.{Judges}
 use Rattle.recognizer.proofs.Checking.{passed-fault, passed-free, fault-passed, lent-table, least}
@@ -49,7 +49,7 @@ use Rattle.recognizer.proofs.Meaning.{meaning}
 
 -- the numbers of what is answered
 verdict-told : (G : Grammar) (w : List ℕ) → numbers (verdictOf G w) ≡ verdictNumbers G w
-unfolding verdictOf verdictNumbers
+unfolding verdictBy verdictNumbersBy
 verdict-told G w = go (accepts G (tableChoice G 1 w) w)
   where
     go : (b : Bool) → numbers (choose b (Accepted (callsOf G w)) (Rejected (callsOf G w)))
@@ -63,7 +63,7 @@ judges : {words input table memo table′ memo′ : List ℕ} {r : Answer}
     → table′ ≡ lentBack (judgeFault (length table) (length memo) words input) (tableWords (grammarOf words)) table
     → memo′ ≡ lentBack (judgeFault (length table) (length memo) words input) (memoWords (grammarOf words) input) memo
     → Judges words input table memo r table′ memo′
-unfolding verdictOf
+unfolding verdictBy
 judges {words} {input} {table} {memo} {table′} {memo′} {r} a t m = record {
   faithful = faithful words;
   answer = a;
@@ -81,7 +81,7 @@ judges {words} {input} {table} {memo} {table′} {memo′} {r} a t m = record {
       t ∙ ap (λ y. lentBack y (tableWords (grammarOf words)) table) (e ∙ sym (judged-checked words input (length table) (length memo) e)) ∙ sym (k .table);
   recognizes = λ long room p h.
       let f = no-fault words input table memo long room (fault-passed words p) (h .short) (known-absent (grammarOf words .terminals) 0 input (h .tokens)) in
-      meaning words input r p h (a ∙ ap (λ y. refusedOr y (verdictOf (grammarOf words) input)) f);
+      meaning 1 (omega arith) words input r p h (a ∙ ap (λ y. refusedOr y (verdictOf (grammarOf words) input)) f);
 }
 
 pub judge-refused : {words input table memo : List ℕ} {x : Error} → judgeFault (length table) (length memo) words input ≡ some x
@@ -91,7 +91,7 @@ judge-refused {words} {input} {table} {memo} f =
     (sym (ap (λ y. lentBack y (memoWords (grammarOf words) input) memo) f))
 
 memo-count : (G : Grammar) (input : List ℕ) → length (memoWords G input) ≡ pairs G input
-unfolding memoWords
+unfolding memoWordsBy
 memo-count G input = length-map (allCalls G input) (memoWord G input) ∙ all-length G input
 
 -- a grammar that has passed, and an input that is short and known

@@ -41,14 +41,25 @@ judgeFault table memo words input =
 abbrev pub passedNumbers : Numbers
 passedNumbers = answered passed 0 0 0 0
 
--- the calls that the descent makes, counted
+-- the calls that the descent makes with k tokens of lookahead, counted
+abbrev pub callsBy : ℕ → Grammar → List ℕ → Calls
+callsBy k G w = record { count = callCount G (tableChoice G k w) w; farthest = farthest G (tableChoice G k w) w }
+
+-- its verdict
+unfoldable pub verdictBy : ℕ → Grammar → List ℕ → Answer
+verdictBy k G w = choose (accepts G (tableChoice G k w) w) (Accepted (callsBy k G w)) (Rejected (callsBy k G w))
+
+-- and the verdict's numbers
+unfoldable pub verdictNumbersBy : ℕ → Grammar → List ℕ → Numbers
+verdictNumbersBy k G w =
+    answered (choose (accepts G (tableChoice G k w) w) accepted rejected) 0 0 (callCount G (tableChoice G k w) w) (farthest G (tableChoice G k w) w)
+
+-- the same with one token (document 01)
 abbrev pub callsOf : Grammar → List ℕ → Calls
-callsOf G w = record { count = callCount G (tableChoice G 1 w) w; farthest = farthest G (tableChoice G 1 w) w }
+callsOf = callsBy 1
 
--- the verdict of the descent
-unfoldable pub verdictOf : Grammar → List ℕ → Answer
-verdictOf G w = choose (accepts G (tableChoice G 1 w) w) (Accepted (callsOf G w)) (Rejected (callsOf G w))
+abbrev pub verdictOf : Grammar → List ℕ → Answer
+verdictOf = verdictBy 1
 
--- and of a verdict
-unfoldable pub verdictNumbers : Grammar → List ℕ → Numbers
-verdictNumbers G w = answered (choose (accepts G (tableChoice G 1 w) w) accepted rejected) 0 0 (callCount G (tableChoice G 1 w) w) (farthest G (tableChoice G 1 w) w)
+abbrev pub verdictNumbers : Grammar → List ℕ → Numbers
+verdictNumbers = verdictNumbersBy 1
