@@ -166,43 +166,48 @@ unfolding checkFault
 check-short {words} {before} h = checks (rw (lt-ltb (length before) maxTableWords h)) (rw (lt-ltb (length before) maxTableWords h))
 
 -- an analysis that finds no fault tells the sizes and the whole table
-pub found : (words : List ℕ) {a : Analysis} {z : Sizes} → a ≡ analyzed words → a .finding ≡ finding.Passed z → TableFound words z (a .table)
+pub found : (words : List ℕ) {a : Analysis} {z : Sizes} → a ≡ analyzed words → a .finding ≡ finding.Passed z → TableFound words z (a .entries) (a .table)
 unfolding analyzed
 found words {a} {z} e q =
     let k = told-passed (fault words) (reading words) (sym (ap (λ y. y .finding) e) ∙ q) in
-    record { read = k .1; faultless = k .0; table = ap (λ y. y .table) e ∙ ap (λ y. tableIf y (filled (tableWords (grammarOf words)))) (k .0) }
+    record {
+      read = k .1;
+      faultless = k .0;
+      entered = {! !};
+      laid = ap (λ y. y .table) e ∙ ap (λ y. tableIf y (filled (tableWords (grammarOf words)))) (k .0);
+    }
 
 pub found-fault : (words : List ℕ) {a : Analysis} {x : Error} → a ≡ analyzed words → a .finding ≡ finding.Refused x → fault words ≡ some x
 unfolding analyzed fault
 found-fault words e q = told-refused (fault words) (reading words) (λ y f. rw f) (sym (ap (λ y. y .finding) e) ∙ q)
 
 -- the table of a grammar that passes, lent back
-module _ (words before : List ℕ) (long : maxTableWords ≤ length before) {z : Sizes} {entries : List ℕ} (f : TableFound words z entries) where
+module _ (words before : List ℕ) (long : maxTableWords ≤ length before) {z : Sizes} {entries laid : List ℕ} (f : TableFound words z entries laid) where
   words-count : length (tableWords (grammarOf words)) ≡ wordCount z
   words-count = let r = well-read words z (f .read) in table-long (grammarOf words) ∙ rw (r .nonterminals, r .terminals)
 
-  pub lend-given : LendGiven before entries z
+  pub lend-given : LendGiven before laid z
   unfolding filled
   lend-given =
       let r = well-read words z (f .read) in
       let m = mul-le-mul {n₁ = z .nonterminals} {m₁ = z .terminals + 3} {n₂ = maxNonterminals} {m₂ = 2 + maxColumns} (r .fewNonterminals) (omega (arith, r .fewTerminals)) in
       record {
         long = long;
-        whole = ap length (f .table) ∙ length-append (tableWords (grammarOf words)) _ ∙ rw length-replicate (omega (arith, words-count));
+        whole = ap length (f .laid) ∙ length-append (tableWords (grammarOf words)) _ ∙ rw length-replicate (omega (arith, words-count));
         fewNonterminals = r .fewNonterminals;
         fewTerminals = r .fewTerminals;
       }
 
-  pub lent-table : {after : List ℕ} → Lent before entries z after
+  pub lent-table : {after : List ℕ} → Lent before laid z after
       → after ≡ tableWords (grammarOf words) ++ drop (length (tableWords (grammarOf words))) before
   unfolding filled
   lent-table l =
-      let w : take (wordCount z) entries ≡ tableWords (grammarOf words) =
-      ap (take (wordCount z)) (f .table)
+      let w : take (wordCount z) laid ≡ tableWords (grammarOf words) =
+      ap (take (wordCount z)) (f .laid)
       ∙ take-at (tableWords (grammarOf words)) (replicate (maxTableWords - length (tableWords (grammarOf words))) noEntry) (wordCount z) words-count in
       l .words ∙ ap (λ y. y ++ drop (wordCount z) before) w ∙ ap (λ y. tableWords (grammarOf words) ++ drop y before) (sym words-count)
 
-  pub check-passed : {after : List ℕ} → Lent before entries z after → Checks words before Passed after
+  pub check-passed : {after : List ℕ} → Lent before laid z after → Checks words before Passed after
   check-passed l =
       let c : checkFault (length before) words ≡ none = check-fault-long (length before) words long ∙ f .faultless in
       checks (sym (ap (λ y. refusedOr y Passed) c)) (lent-table l ∙ sym (ap (λ y. lentBack y (tableWords (grammarOf words)) before) c))

@@ -34,7 +34,6 @@ use Rattle.semantics.proofs.Range.{calls-equality, all-length, all-ordered, ind
 use Rattle.semantics.proofs.Memo.{memo-recorded-within}
 use Rattle.semantics.proofs.Theorems.{theorems}
 use Rattle.rule.specs.declared.Outcome as code
-use Rattle.grammar.specs.Limits.{maxTerminals}
 use Rattle.rule.specs.Rule.{meant}
 use Rattle.recognizer.specs.Arrays.{held, rowAt}
 use Rattle.recognizer.specs.Descent.{MemoSound, CallGiven, CallDone, CallRequires, CallEnsures}
@@ -42,12 +41,11 @@ use Rattle.recognizer.specs.Tally.{tallyOf, recordedCalls}
 use Rattle.recognizer.specs.Memory.{memoWordBy, memoWordsBy}
 use Rattle.recognizer.specs.Answers.{callsOf, verdictBy}
 use Rattle.recognizer.specs.Judging.{DescendGiven, Descended}
-use Rattle.recognizer.specs.Preparing.{tokenWords, TokensGiven, ChoicesGiven, Filled}
+use Rattle.recognizer.specs.Preparing.{TokensGiven, TokensHold, ChoicesGiven, Filled}
 use Rattle.event.specs.Events.{inputOf}
 use Rattle.event.proofs.Inputs.{input-length}
-use Rattle.event.proofs.Known.{token-below}
-use Rattle.recognizer.proofs.Tokens.{word-at, end-at, held-words}
-use Rattle.recognizer.proofs.OneToken.{column, choices-hold}
+use Rattle.recognizer.proofs.Tokens.{column-few}
+use Rattle.recognizer.proofs.TableChoices.{choices-given, choices-hold}
 use Rattle.recognizer.proofs.Running.{level}
 use Rattle.recognizer.proofs.Storing.{getD-any}
 use Rattle.recognizer.proofs.Tallying.{tally-recorded}
@@ -94,7 +92,7 @@ module _ (k : ℕ) (G : Grammar) (w : List ℕ) (scoped : WellScoped G) (free : 
 -- the start's call has been made in a blank memo table
 module _ {words : List ℕ} {z : Sizes} {entries memo : List ℕ} (events : List ℕ) (g : DescendGiven words z entries (inputOf events) memo) where
   r : WellRead words z
-  r = well-read words z (g .read)
+  r = well-read words z (g .ready .read)
 
   abbrev G : Grammar
   G = grammarOf words
@@ -106,84 +104,78 @@ module _ {words : List ℕ} {z : Sizes} {entries memo : List ℕ} (events : List
   long = sym (input-length events)
 
   -- the choice that the descent goes by
-  abbrev one-token : Choice
-  one-token = tableChoice G 1 input
+  abbrev choice : Choice
+  choice = tableChoice G 1 input
 
   some-nonterminal : 0 < G .nonterminals
   some-nonterminal = omega (arith, r .nonterminals, r .someNonterminal)
 
-  pub choices-given : ChoicesGiven words z entries (length events + 1)
-  choices-given = record { read = g .read; table = g .table; some-place = omega arith; few = omega (arith, g .short, long) }
+  pub rows-given : ChoicesGiven words (z .nonterminals) (z .terminals + 1) entries (length events + 1)
+  rows-given = choices-given (g .ready) long
 
-  pub tokens-given : TokensGiven events (z .terminals)
-  tokens-given = record { short = omega (arith, g .short, long); few = r .fewTerminals }
+  pub tokens-given : TokensGiven input (z .terminals)
+  tokens-given = record { short = g .ready .short; few = r .fewTerminals; known = rw (r .terminals) (g .ready .tokens) }
 
   -- with the arrays that are made before it
-  module _ {choices tokens blanked : List ℕ} (f : Filled words entries z (length events + 1) choices) (t : tokens ≡ tokenWords (z .terminals) input)
-      (b : blanked ≡ replicate (length memo) uncalledCode) where
-    words-are : tokens ≡ tokenWords (G .terminals) input
-    words-are = t ∙ ap (λ n. tokenWords n input) (r .terminals)
+  module _ {choices tokens blanked : List ℕ} (f : Filled words (z .nonterminals) (z .terminals + 1) entries (length events + 1) choices)
+      (t : TokensHold (z .terminals) input tokens) (b : blanked ≡ replicate (length memo) uncalledCode) where
+    tokens-hold : TokensHold (G .terminals) input tokens
+    tokens-hold = rw (← r .terminals) t
 
-    few : G .terminals ≤ maxTerminals
-    few = omega (arith, r .terminals, r .fewTerminals)
-
-    input-is : held tokens ≡ input
-    input-is = ap held words-are ∙ held-words (G .terminals) input few (g .short) (g .tokens)
-
-    begun : CallGiven one-token words choices tokens input blanked 0 0
+    begun : CallGiven choice words choices tokens input blanked 0 0
     unfolding rowAt
-    begun = rw (words-are, b, g .size) (record {
+    begun = rw (b, g .size) (record {
       given = record {
         sizes = z;
-        read = g .read;
-        free = g .free;
+        read = g .ready .read;
+        free = g .ready .free;
         own = theorems .own-rules G 1 input;
         rows = λ A a. f .rows A (omega (arith, r .nonterminals)) ∙ ap (λ n. A * n) (omega (arith, long));
         ends = λ A a. f .ends A (omega (arith, r .nonterminals)) ∙ omega (arith, long);
-        elements = λ i h. let k = column (G .terminals) input (g .tokens) (g .short) (omega (arith, few)) i h in omega (arith, k .element, k .low, few);
-        firsts = choices-hold choices-given input f (g .tokens) (g .short);
-        terminals = λ i h. let e = word-at (G .terminals) input i h in let l = token-below (G .terminals) input (g .tokens) i h in omega (arith, e, few);
-        end = let e = end-at (G .terminals) input (g .short) in omega arith;
-        short = g .short;
-        sound = blank-sound one-token words input;
+        columns = λ i h. omega (arith, t .columns i h, column-few (z .terminals) input tokens-given i);
+        firsts = choices-hold (g .ready) f tokens-hold;
+        terminals = t .terminals;
+        end = t .end;
+        short = g .ready .short;
+        sound = blank-sound choice words input;
       };
       named = some-nonterminal;
       placed = omega arith;
     })
 
-    begun-held : CallGiven one-token words choices tokens (held tokens) blanked 0 0
-    begun-held = rw input-is begun
+    begun-held : CallGiven choice words choices tokens (held tokens) blanked 0 0
+    begun-held = rw (t .input) begun
 
     pub start-given : CallRequires words choices tokens blanked 0 0
-    start-given = (one-token, begun-held)
+    start-given = (choice, begun-held)
 
     module _ {o : code.Outcome} {memo′ : List ℕ} (ensured : CallEnsures words choices tokens blanked 0 0 o memo′) where
-      d : CallDone one-token words input blanked 0 0 o memo′
-      d = rw input-is at (ensured one-token begun-held)
+      d : CallDone choice words input blanked 0 0 o memo′
+      d = rw (t .input) at (ensured choice begun-held)
 
       fits : EndsFit input
-      fits = omega (arith, g .short)
+      fits = omega (arith, g .ready .short)
 
-      done : (meant o ≡ descend G one-token input 0 0) × Recorded G one-token input memo′
+      done : (meant o ≡ descend G choice input 0 0) × Recorded G choice input memo′
       done =
           let n = suc (level words input 0 0) in
           let l : level words input 0 0 < n = omega arith in
-          let m : memoCall G one-token input n 0 0 (blank G input) ≡ memoized (meant o) memo′ =
-          ap (λ x. memoCall G one-token input n 0 0 x) (sym (b ∙ ap (λ k. replicate k uncalledCode) (g .size))) ∙ d .model n l in
-          let k = memo-recorded-within G one-token input (r .formed .scoped) (g .free) (theorems .own-rules G 1 input) fits some-nonterminal n l in
-          (sym (ap (λ x. x .outcome) m) ∙ k .0, subst (λ x. Recorded G one-token input x) (ap (λ x. x .memo) m) (k .1))
+          let m : memoCall G choice input n 0 0 (blank G input) ≡ memoized (meant o) memo′ =
+          ap (λ x. memoCall G choice input n 0 0 x) (sym (b ∙ ap (λ k. replicate k uncalledCode) (g .size))) ∙ d .model n l in
+          let k = memo-recorded-within G choice input (r .formed .scoped) (g .ready .free) (theorems .own-rules G 1 input) fits some-nonterminal n l in
+          (sym (ap (λ x. x .outcome) m) ∙ k .0, subst (λ x. Recorded G choice input x) (ap (λ x. x .memo) m) (k .1))
 
       pub memo-long : length memo′ ≡ z .nonterminals * (length events + 1)
       memo-long = d .sound .size ∙ rw (r .nonterminals, long, add-one (length input))
 
-      pub descended : {c : Calls} {t : Bool} {a : Answer} → c ≡ tallyOf (recordedCalls memo′ (z .nonterminals) (length events))
-          → t ≡ endsAt (meant o) (length events)
-          → a ≡ choose t (Accepted c) (Rejected c) → Descended words input a memo′
+      pub descended : {c : Calls} {ended : Bool} {a : Answer} → c ≡ tallyOf (recordedCalls memo′ (z .nonterminals) (length events))
+          → ended ≡ endsAt (meant o) (length events)
+          → a ≡ choose ended (Accepted c) (Rejected c) → Descended words input a memo′
       unfolding verdictBy accepts
-      descended {c} {t} {a} tallied told e =
+      descended {c} {ended} {a} tallied told e =
           let k = done in
           let counted : c ≡ callsOf G input = tally-recorded (k .1) (r .nonterminals) (tallied ∙ ap (λ n. tallyOf (recordedCalls memo′ (z .nonterminals) n)) long) in
           record {
             answer = e ∙ rw (told, long, k .0, counted);
-            entries = words-recorded 1 G input (r .formed .scoped) (g .free) some-nonterminal (k .1);
+            entries = words-recorded 1 G input (r .formed .scoped) (g .ready .free) some-nonterminal (k .1);
           }

@@ -20,22 +20,39 @@ use Rattle.grammar.specs.Encoding.{grammarOf}
 use Rattle.semantics.specs.Choices.{tableChoice}
 use Rattle.semantics.specs.Descent.{accepts}
 use Rattle.semantics.specs.Calls.{callCount, farthest}
+use Rattle.grammar.specs.declared.reading.Sizes.{Sizes}
+use Rattle.sets.specs.declared.Finding.{Finding}
+use Rattle.sets.specs.declared.Finding.the-variants as finding
 use Rattle.table.specs.Analysis.{grammarFaults}
 
 -- why checking is refused, in document 01's order: the table's length, then the grammar's faults
 unfoldable pub checkFault : ℕ → List ℕ → Option Error
 checkFault table words = firstFault (faultIf (ltb table maxTableWords) TableTooShort ∷ grammarFaults words)
 
--- and judging
+-- the faults of an input for a grammar of n terminals: its length, then its tokens
+abbrev pub inputFaults : ℕ → List ℕ → List (Option Error)
+inputFaults n input =
+    faultIf (ltb maxTokens (length input)) InputTooLong
+    ∷ unknownFault (unknownFrom n 0 input)
+    ∷ []
+
+-- why judging is refused
 unfoldable pub judgeFault : ℕ → ℕ → List ℕ → List ℕ → Option Error
 judgeFault table memo words input =
     firstFault
     (faultIf (ltb table maxTableWords) TableTooShort
     ∷ faultIf (ltb memo maxMemoEntries) MemoTooShort
     ∷ grammarFaults words
-    ++ faultIf (ltb maxTokens (length input)) InputTooLong
-    ∷ unknownFault (unknownFrom (grammarOf words .terminals) 0 input)
-    ∷ [])
+    ++ inputFaults (grammarOf words .terminals) input)
+
+-- what is found of a grammar, and then of an input
+abbrev pub passedUnless : Option Error → Sizes → Finding
+passedUnless none z = finding.Passed z
+passedUnless (some e) z = finding.Refused e
+
+abbrev pub withInput : Finding → List ℕ → Finding
+withInput (finding.Refused e) input = finding.Refused e
+withInput (finding.Passed z) input = passedUnless (firstFault (inputFaults (z .terminals) input)) z
 
 -- of a check that passes
 abbrev pub passedNumbers : Numbers

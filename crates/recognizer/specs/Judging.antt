@@ -1,11 +1,13 @@
--- What judging by a grammar that has passed requires, and what running the descent in a memo table of just its entries requires and ensures.
+-- What judging by a grammar that has passed requires and ensures.
 use mathlib.Core.Path.{_≡_}
-use mathlib.Core.List.{List}
-use mathlib.Core.Option.{none}
-use Prim.Native.Nat.{ℕ, _≤_}
-use lib.ListN.{length}
+use mathlib.Core.List.{List, _++_}
+use mathlib.Core.Option.{Option, none, some}
+use Prim.Native.Nat.{ℕ, _+_, _*_, _≤_, _<_}
+use lib.ListN.{length, getD, drop}
 use Rattle.answer.specs.declared.Answer.{Answer}
-use Rattle.grammar.specs.Limits.{maxTokens, maxTableWords, maxMemoEntries}
+use Rattle.grammar.specs.Codes.{noRule}
+use Rattle.grammar.specs.Limits.{maxTokens, maxMemoEntries}
+use Rattle.grammar.specs.Syntax.{Grammar}
 use Rattle.grammar.specs.Encoding.{grammarOf}
 use Rattle.grammar.specs.Reading.{reading}
 use Rattle.grammar.specs.declared.reading.Sizes.{Sizes}
@@ -13,31 +15,53 @@ use Rattle.grammar.specs.declared.reading.Outcome.the-variants.{Read}
 use Rattle.semantics.specs.Valuations.{pairs}
 use Rattle.semantics.specs.LeftRecursion.{NoLeftRecursion}
 use Rattle.semantics.specs.Strings.{Over}
-use Rattle.table.specs.Layout.{tableWords}
+use Rattle.semantics.specs.Claims.{tableOf}
+use Rattle.table.specs.Layout.{columns, columnString, tableWords}
 use Rattle.table.specs.Entries.{filled}
 use Rattle.table.specs.Analysis.{fault}
-use Rattle.recognizer.specs.Preparing.{Entries}
 use Rattle.recognizer.specs.Memory.{memoWords}
 use Rattle.recognizer.specs.Answers.{verdictOf}
 
--- what is found of a grammar that passes: its sizes, no fault, and all the words of its table
-pub record TableFound (words : List ℕ) (z : Sizes) (entries : List ℕ) : Type 0 where
+-- TODO B1: table's
+abbrev pub ruleByte : Option ℕ → ℕ
+ruleByte none = noRule
+ruleByte (some q) = q
+
+unfoldable pub byteAt : Grammar → ℕ → ℕ → ℕ
+byteAt G A c = ruleByte (tableOf G 1 A (columnString (G .terminals) c))
+
+-- an array has the entries of the grammar's table
+abbrev pub Entries : Grammar → List ℕ → Type 0
+Entries G entries = (A c : ℕ) → A < G .nonterminals → c < columns G → getD entries (A * columns G + c) 0 ≡ byteAt G A c
+
+-- what is found of a grammar that passes: its sizes, no fault, its entries, and all the words of its table
+pub record TableFound (words : List ℕ) (z : Sizes) (entries table : List ℕ) : Type 0 where
   pub read : reading words ≡ Read z
   pub faultless : fault words ≡ none
-  pub table : entries ≡ filled (tableWords (grammarOf words))
+  pub entered : Entries (grammarOf words) entries
+  pub laid : table ≡ filled (tableWords (grammarOf words))
 
--- and memory that is long enough has been lent
-pub record PassedGiven (words : List ℕ) (z : Sizes) (entries table memo : List ℕ) : Type 0 where
-  pub found : TableFound words z entries
-  pub long-table : maxTableWords ≤ length table
-  pub long-memo : maxMemoEntries ≤ length memo
-
-pub record DescendGiven (words : List ℕ) (z : Sizes) (entries input memo : List ℕ) : Type 0 where
+-- a grammar that passes, with its sizes and its entries, and an input of its terminals
+pub record Ready (words : List ℕ) (z : Sizes) (entries input : List ℕ) : Type 0 where
   pub read : reading words ≡ Read z
   pub free : NoLeftRecursion (grammarOf words)
-  pub table : Entries (grammarOf words) entries
+  pub entered : Entries (grammarOf words) entries
   pub tokens : Over (grammarOf words .terminals) input
   pub short : length input ≤ maxTokens
+
+-- and a memo table that is long enough
+pub record PassedGiven (words : List ℕ) (z : Sizes) (entries input memo : List ℕ) : Type 0 where
+  pub ready : Ready words z entries input
+  pub room : maxMemoEntries ≤ length memo
+
+-- the answer is the verdict, and the memo table holds what is defined in front of what was there
+pub record JudgedPassed (words input memo : List ℕ) (r : Answer) (memo′ : List ℕ) : Type 0 where
+  pub answer : r ≡ verdictOf (grammarOf words) input
+  pub lent : memo′ ≡ memoWords (grammarOf words) input ++ drop (length (memoWords (grammarOf words) input)) memo
+
+-- the same in a memo table of just its entries
+pub record DescendGiven (words : List ℕ) (z : Sizes) (entries input memo : List ℕ) : Type 0 where
+  pub ready : Ready words z entries input
   pub size : length memo ≡ pairs (grammarOf words) input
 
 pub record Descended (words input : List ℕ) (r : Answer) (memo : List ℕ) : Type 0 where
