@@ -9,7 +9,7 @@ use native.Mathlib.Nat.{mul-le-mul}
 use native.Mathlib.Omega.{arith}
 use lib.ListN.{length}
 use Rattle.answer.specs.declared.Error.{Error}
-use Rattle.answer.specs.declared.Error.the-variants.{TableTooShort, MemoTooShort, Length, Heading, UnexpectedWord, OutOfRange, TooManyRules, LeftRecursive, Unproductive, Conflict, InputTooLong, UnknownToken}
+use Rattle.answer.specs.declared.Error.the-variants.{TableTooShort, MemoTooShort, Length, Heading, UnexpectedWord, OutOfRange, TooManyRules, LeftRecursive, Unproductive, Conflict, WideConflict, InputTooLong, UnknownToken}
 use Rattle.answer.specs.declared.Error.the-variants.{SpansTooShort, TreeTooShort, WideTableTooShort, BufferTooShort, UnknownClient, QuotaReached, TooManyTerminals, UnknownCheckpoint, CheckpointNotSet, InputFull, TooManyInputs}
 use Rattle.answer.specs.declared.Calls.{Calls}
 use Rattle.answer.specs.declared.Answer.{Answer}
@@ -52,6 +52,7 @@ code-low (TooManyRules at) = omega arith
 code-low (LeftRecursive A) = omega arith
 code-low (Unproductive A) = omega arith
 code-low (Conflict A c) = omega arith
+code-low (WideConflict A c) = omega arith
 code-low InputTooLong = omega arith
 code-low (UnknownToken at) = omega arith
 code-low SpansTooShort = omega arith

@@ -38,11 +38,15 @@ use Rattle.semantics.specs.Theorems.{LeastSets}
 use Rattle.semantics.proofs.Theorems.{theorems}
 use Rattle.sets.specs.declared.Finding.the-variants as finding
 use Rattle.table.specs.declared.Analysis.{Analysis}
-use Rattle.table.specs.Layout.{tableWords}
-use Rattle.table.specs.Entries.{filled}
+use Rattle.table.specs.Layout.{tableWords, filled}
+use Rattle.table.specs.Entries.{entriesOf}
 use Rattle.sets.specs.Analysis.{readingFault, leftFault, unproductiveFault}
 use Rattle.sets.proofs.Findings.{told-passed, told-refused}
-use Rattle.table.specs.Analysis.{clashFault, grammarFaults, fault, tableIf, analyzed}
+use Rattle.table.specs.Analysis.{clashFault, grammarFaults, fault, entriesIf, tableIf, analyzed}
+use Rattle.table.specs.Conflicts.{firstClash}
+use Rattle.table.specs.declared.conflicts.Conflict.{Conflict}
+use Rattle.table.specs.declared.conflicts.Conflict.the-variants.{Absent, At}
+use Rattle.table.proofs.FirstClash.{clash-absent}
 use Rattle.table.proofs.Words.{table-long}
 use Rattle.recognizer.specs.Memory.{lentBack, wordCount, LendGiven, Lent}
 use Rattle.recognizer.specs.Answers.{checkFault}
@@ -58,9 +62,9 @@ none-unproductive : (o : Option ℕ) → unproductiveFault o ≡ none → o ≡ 
 none-unproductive none e = refl
 none-unproductive (some A) e = absurd (omega (arith, fault-number e))
 
-none-clash : (t : ℕ) (l : List Entry) → clashFault t l ≡ none → l ≡ []
-none-clash t [] e = refl
-none-clash t (x ∷ l) e = absurd (omega (arith, fault-number e))
+none-clash : (r : Conflict) → clashFault r ≡ none → r ≡ Absent
+none-clash Absent e = refl
+none-clash (At A c) e = absurd (omega (arith, fault-number e))
 
 pub read-some : (o : Outcome) → readingFault o ≡ none → (z : Sizes) × (o ≡ Read z)
 read-some (Read z) e = (z, refl)
@@ -91,7 +95,7 @@ unfolding fault
 passed-fault words e =
     let f = each-none (grammarFaults words) e in
     let z = read-some (reading words) (f .0) in
-    let none-clashes : clashes (grammarOf words) 1 ≡ [] = none-clash _ (clashes (grammarOf words) 1) (f .1 .1 .1 .0) in
+    let none-clashes : clashes (grammarOf words) 1 ≡ [] = clash-absent (grammarOf words) .0 (none-clash (firstClash (grammarOf words)) (f .1 .1 .1 .0)) in
     let r = read-encodes words (z .0) (z .1) in
     record {
       short = r .0;
@@ -131,7 +135,7 @@ module _ {k : ℕ} (words : List ℕ) (p : PassedBy k words) where
 
 pub fault-passed : (words : List ℕ) → PassedGrammar words → fault words ≡ none
 unfolding fault
-fault-passed words p = rw (passed-read words p, not-left-recursive words p, all-productive words p, no-clashes words p)
+fault-passed words p = rw (passed-read words p, not-left-recursive words p, all-productive words p, clash-absent (grammarOf words) .1 (no-clashes words p))
 
 -- with a table that is long enough only the grammar's faults are left
 pub check-fault-long : (n : ℕ) (words : List ℕ) → maxTableWords ≤ n → checkFault n words ≡ fault words
@@ -156,7 +160,7 @@ checks {words} {before} {after} {r} a t = record {
         λ p. a ∙ rw (f, fault-passed words p),
       );
   places = λ long short G e.
-      places G (e .formed .scoped) (least G e)
+      places G (e .formed .scoped) (e .limited .fewTerminals)
       (check-tells _ (a ∙ ap (λ f. refusedOr f Passed) (check-fault-long (length before) words long ∙ fault-encoded words G short e)));
   least = families 1;
 }
@@ -173,7 +177,7 @@ found words {a} {z} e q =
     record {
       read = k .1;
       faultless = k .0;
-      entered = {! !};
+      entered = ap (λ y. y .entries) e ∙ ap (λ y. entriesIf y (entriesOf (grammarOf words))) (k .0);
       laid = ap (λ y. y .table) e ∙ ap (λ y. tableIf y (filled (tableWords (grammarOf words)))) (k .0);
     }
 

@@ -10,7 +10,7 @@ use borrow.Author.Tests.{eq-eqb, ne-eqb}
 use Rattle.event.proofs.Known.{token-below}
 use Rattle.semantics.specs.Strings.{look, Over}
 use Rattle.semantics.specs.Claims.{column}
-use Rattle.table.specs.Layout.{columnString}
+use Rattle.table.specs.Columns.{columnString}
 use Rattle.recognizer.specs.Preparing.{columnAt}
 
 module _ (n : ℕ) (w : List ℕ) (i : ℕ) where

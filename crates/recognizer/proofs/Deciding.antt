@@ -35,6 +35,7 @@ use Rattle.semantics.proofs.Memo.{memo-recorded-within}
 use Rattle.semantics.proofs.Theorems.{theorems}
 use Rattle.rule.specs.declared.Outcome as code
 use Rattle.rule.specs.Rule.{meant}
+use Rattle.table.specs.Columns.{columnCount}
 use Rattle.recognizer.specs.Arrays.{held, rowAt}
 use Rattle.recognizer.specs.Descent.{MemoSound, CallGiven, CallDone, CallRequires, CallEnsures}
 use Rattle.recognizer.specs.Tally.{tallyOf, recordedCalls}
@@ -110,14 +111,14 @@ module _ {words : List ℕ} {z : Sizes} {entries memo : List ℕ} (events : List
   some-nonterminal : 0 < G .nonterminals
   some-nonterminal = omega (arith, r .nonterminals, r .someNonterminal)
 
-  pub rows-given : ChoicesGiven words (z .nonterminals) (z .terminals + 1) entries (length events + 1)
+  pub rows-given : ChoicesGiven words (z .nonterminals) (columnCount (z .terminals)) entries (length events + 1)
   rows-given = choices-given (g .ready) long
 
   pub tokens-given : TokensGiven input (z .terminals)
   tokens-given = record { short = g .ready .short; few = r .fewTerminals; known = rw (r .terminals) (g .ready .tokens) }
 
   -- with the arrays that are made before it
-  module _ {choices tokens blanked : List ℕ} (f : Filled words (z .nonterminals) (z .terminals + 1) entries (length events + 1) choices)
+  module _ {choices tokens blanked : List ℕ} (f : Filled words (z .nonterminals) (columnCount (z .terminals)) entries (length events + 1) choices)
       (t : TokensHold (z .terminals) input tokens) (b : blanked ≡ replicate (length memo) uncalledCode) where
     tokens-hold : TokensHold (G .terminals) input tokens
     tokens-hold = rw (← r .terminals) t

@@ -73,7 +73,7 @@ judges {words} {input} {table} {memo} {table′} {memo′} {r} a t m = record {
   lent-memo = m;
   places = λ long room few G e.
       let H = grammarOf words in
-      places G (e .formed .scoped) (least G e)
+      places G (e .formed .scoped) (e .limited .fewTerminals)
       (judge-tells _ (ltb maxTokens (length input)) (unknownFrom (H .terminals) 0 input) (accepts H (tableChoice H 1 input) input) (callsOf H input)
       (a ∙ ap (λ f. refusedOr f (verdictOf H input)) (judge-fault-long words input table memo long room (fault-encoded words G few e))));
   as-checked = λ e c checked k.

@@ -4,7 +4,6 @@ use mathlib.Core.List.{List}
 use mathlib.Core.Option.{Option, none, some}
 use Prim.Native.Nat.{ℕ, suc, _+_, _*_, _≤_, _<_}
 use native.Mathlib.Omega.{arith}
-use native.Mathlib.Numerals.{add-one}
 use lib.Dec.{eqb}
 use lib.ListN.{length, getD}
 use borrow.Author.Tests.{ne-eqb}
@@ -20,11 +19,13 @@ use Rattle.semantics.specs.Claims.{tableOf}
 use Rattle.semantics.specs.Choices.{tableChoice}
 use Rattle.semantics.proofs.Outcomes.{nth-below}
 use Rattle.semantics.proofs.Predictive.{table-own}
-use Rattle.table.specs.Layout.{columnString}
+use Rattle.table.specs.Columns.{columnCount, columnString}
+use Rattle.table.specs.Entries.{ruleByte, byteAt}
+use Rattle.table.proofs.EntriesFilled.{entries-at}
 use Rattle.recognizer.specs.Arrays.{choiceColumns, firstAt}
 use Rattle.recognizer.specs.Descent.{firstConjunct}
 use Rattle.recognizer.specs.Preparing.{columnAt, TokensHold, entryOf, firstWord, FirstGiven, ChoicesGiven, Filled}
-use Rattle.recognizer.specs.Judging.{ruleByte, byteAt, Ready}
+use Rattle.recognizer.specs.Judging.{Ready}
 use Rattle.recognizer.proofs.Columns.{column-right}
 
 module _ {words : List ℕ} {z : Sizes} {entries input : List ℕ} (g : Ready words z entries input) where
@@ -35,10 +36,10 @@ module _ {words : List ℕ} {z : Sizes} {entries input : List ℕ} (g : Ready wo
   r = well-read words z (g .read)
 
   -- an entry is that of the grammar's table
-  entry-is : (A c : ℕ) → A < z .nonterminals → c < z .terminals + 1
-      → entryOf (z .terminals + 1) entries A c ≡ ruleByte (tableOf G 1 A (columnString (G .terminals) c))
+  entry-is : (A c : ℕ) → A < z .nonterminals → c < columnCount (z .terminals)
+      → entryOf (columnCount (z .terminals)) entries A c ≡ ruleByte (tableOf G 1 A (columnString (G .terminals) c))
   unfolding byteAt
-  entry-is A c a h = rw (r .terminals, add-one (G .terminals)) (g .entered A c (omega (arith, r .nonterminals)) (omega (arith, r .terminals)))
+  entry-is A c a h = rw (r .terminals, g .entered) (entries-at G A c (omega (arith, r .nonterminals)) (omega (arith, r .terminals)))
 
   -- the number of a rule is no byte for no rule
   rule-low : (A q : ℕ) (x : List ℕ) → tableOf G 1 A x ≡ some q → q < z .rules
@@ -53,7 +54,7 @@ module _ {words : List ℕ} {z : Sizes} {entries input : List ℕ} (g : Ready wo
           let l = rule-low A q x e in
           record { low = λ n. omega (arith, r .fewRules); high = λ n. omega (arith, r .begun q l .high, r .short) }
 
-  pub choices-given : {n : ℕ} → n ≡ length input → ChoicesGiven words (z .nonterminals) (z .terminals + 1) entries (n + 1)
+  pub choices-given : {n : ℕ} → n ≡ length input → ChoicesGiven words (z .nonterminals) (columnCount (z .terminals)) entries (n + 1)
   choices-given {n} e = record {
     fewNonterminals = r .fewNonterminals;
     fewColumns = omega (arith, r .fewTerminals);
@@ -72,7 +73,7 @@ module _ {words : List ℕ} {z : Sizes} {entries input : List ℕ} (g : Ready wo
       go (some q) e = let l = rule-low A q x e in rw (ne-eqb q noRule (λ n. absurd (omega (arith, r .fewRules))))
 
   -- the rows and the tokens together hold the choice by lookahead
-  pub choices-hold : {choices tokens : List ℕ} {places : ℕ} → Filled words (z .nonterminals) (z .terminals + 1) entries places choices
+  pub choices-hold : {choices tokens : List ℕ} {places : ℕ} → Filled words (z .nonterminals) (columnCount (z .terminals)) entries places choices
       → TokensHold (G .terminals) input tokens → (A i : ℕ) → A < G .nonterminals → i ≤ length input
       → firstAt choices tokens A i ≡ firstConjunct words (tableChoice G 1 input A i)
   unfolding firstAt
@@ -80,7 +81,7 @@ module _ {words : List ℕ} {z : Sizes} {entries input : List ℕ} (g : Ready wo
       let k = column-right (G .terminals) input i (g .tokens) in
       let c : ℕ = columnAt (G .terminals) input i in
       let named : A < z .nonterminals = omega (arith, r .nonterminals) in
-      let low : c < z .terminals + 1 = omega (arith, k .low, r .terminals) in
+      let low : c < columnCount (z .terminals) = omega (arith, k .low, r .terminals) in
       ap (λ e. getD choices (A * choiceColumns + e) 0) (t .columns i h)
       ∙ f .entered A c named low
       ∙ ap (firstWord (ruleStarts words)) (entry-is A c named low)

@@ -1,13 +1,11 @@
 -- What judging by a grammar that has passed requires and ensures.
 use mathlib.Core.Path.{_≡_}
 use mathlib.Core.List.{List, _++_}
-use mathlib.Core.Option.{Option, none, some}
-use Prim.Native.Nat.{ℕ, _+_, _*_, _≤_, _<_}
-use lib.ListN.{length, getD, drop}
+use mathlib.Core.Option.{none}
+use Prim.Native.Nat.{ℕ, _≤_}
+use lib.ListN.{length, drop}
 use Rattle.answer.specs.declared.Answer.{Answer}
-use Rattle.grammar.specs.Codes.{noRule}
 use Rattle.grammar.specs.Limits.{maxTokens, maxMemoEntries}
-use Rattle.grammar.specs.Syntax.{Grammar}
 use Rattle.grammar.specs.Encoding.{grammarOf}
 use Rattle.grammar.specs.Reading.{reading}
 use Rattle.grammar.specs.declared.reading.Sizes.{Sizes}
@@ -15,37 +13,24 @@ use Rattle.grammar.specs.declared.reading.Outcome.the-variants.{Read}
 use Rattle.semantics.specs.Valuations.{pairs}
 use Rattle.semantics.specs.LeftRecursion.{NoLeftRecursion}
 use Rattle.semantics.specs.Strings.{Over}
-use Rattle.semantics.specs.Claims.{tableOf}
-use Rattle.table.specs.Layout.{columns, columnString, tableWords}
-use Rattle.table.specs.Entries.{filled}
+use Rattle.table.specs.Layout.{tableWords, filled}
+use Rattle.table.specs.Entries.{entriesOf}
 use Rattle.table.specs.Analysis.{fault}
 use Rattle.recognizer.specs.Memory.{memoWords}
 use Rattle.recognizer.specs.Answers.{verdictOf}
-
--- TODO B1: table's
-abbrev pub ruleByte : Option ℕ → ℕ
-ruleByte none = noRule
-ruleByte (some q) = q
-
-unfoldable pub byteAt : Grammar → ℕ → ℕ → ℕ
-byteAt G A c = ruleByte (tableOf G 1 A (columnString (G .terminals) c))
-
--- an array has the entries of the grammar's table
-abbrev pub Entries : Grammar → List ℕ → Type 0
-Entries G entries = (A c : ℕ) → A < G .nonterminals → c < columns G → getD entries (A * columns G + c) 0 ≡ byteAt G A c
 
 -- what is found of a grammar that passes: its sizes, no fault, its entries, and all the words of its table
 pub record TableFound (words : List ℕ) (z : Sizes) (entries table : List ℕ) : Type 0 where
   pub read : reading words ≡ Read z
   pub faultless : fault words ≡ none
-  pub entered : Entries (grammarOf words) entries
+  pub entered : entries ≡ entriesOf (grammarOf words)
   pub laid : table ≡ filled (tableWords (grammarOf words))
 
 -- a grammar that passes, with its sizes and its entries, and an input of its terminals
 pub record Ready (words : List ℕ) (z : Sizes) (entries input : List ℕ) : Type 0 where
   pub read : reading words ≡ Read z
   pub free : NoLeftRecursion (grammarOf words)
-  pub entered : Entries (grammarOf words) entries
+  pub entered : entries ≡ entriesOf (grammarOf words)
   pub tokens : Over (grammarOf words .terminals) input
   pub short : length input ≤ maxTokens
 

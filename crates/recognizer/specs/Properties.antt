@@ -2,7 +2,7 @@
 use mathlib.Core.Path.{_≡_}
 use mathlib.Core.Bool.{Bool, true, false}
 use mathlib.Core.List.{List, []}
-use mathlib.Core.Logic.{_↔_, _⊎_}
+use mathlib.Core.Logic.{_↔_}
 use mathlib.Core.Option.{none, some}
 use Prim.Native.Nat.{ℕ, _≤_, _<_}
 use lib.Dec.{T}
@@ -25,10 +25,11 @@ use Rattle.semantics.specs.Strings.{Over}
 use Rattle.semantics.specs.Families.{FirstClosed, FollowClosed, Claims, Clash}
 use Rattle.semantics.specs.FirstFollow.{First, Follow}
 use Rattle.semantics.specs.Productive.{Unproductive}
-use Rattle.semantics.specs.Claims.{clashes, column, tableOf}
+use Rattle.semantics.specs.Claims.{clashes, tableOf}
 use Rattle.semantics.specs.Choices.{tableChoice}
 use Rattle.semantics.specs.Memo.{Recorded}
 use Rattle.semantics.specs.Theorems.{OneSolution, DescentEnds, CallsCounted}
+use Rattle.table.specs.Conflicts.{FirstClash}
 use Rattle.table.specs.Layout.{tableWords}
 use Rattle.recognizer.specs.Memory.{lentBack, memoWordsBy, memoWords}
 use Rattle.recognizer.specs.Answers.{checkFault, judgeFault, callsBy, verdictOf, passedNumbers, verdictNumbers}
@@ -82,14 +83,7 @@ LeastFamilies = LeastFamiliesBy 1
 abbrev pub LowestUnproductive : Grammar → ℕ → Type 0
 LowestUnproductive = LowestUnproductiveBy 1
 
--- the first clash, by nonterminal, then column (document 01: the place of 9)
-pub record FirstClash (G : Grammar) (A c : ℕ) : Type 0 where
-  pub string : List ℕ
-  pub clash : Clash G 1 (First G 1) (Follow G 1) A string
-  pub stands : column (G .terminals) string ≡ c
-  pub first : (B : ℕ) (x : List ℕ) → Clash G 1 (First G 1) (Follow G 1) B x → (A < B) ⊎ ((A ≡ B) × (c ≤ column (G .terminals) x))
-
--- when a grammar that is read is refused, and where: 8 comes before 13, and 13 before 9
+-- when a grammar that is read is refused, and where: 8 comes before 13, and 13 before 9, the first clash by nonterminal, then column
 pub record Places (G : Grammar) (r : Answer) : Type 0 where
   pub recursive : (A : ℕ) → (r ≡ Refused (LeftRecursive A)) ↔ LowestRecursive G A
   pub unproductive : (A : ℕ) → (r ≡ Refused (error.Unproductive A)) ↔ (NoLeftRecursion G × LowestUnproductive G A)

@@ -17,6 +17,7 @@ use grammar::limits::TOKENS;
 use grammar::reading::Sizes;
 use rule::ends_at;
 use sets::Finding;
+use table::columns::count;
 
 // What is found of a grammar and then of an input: its length, and its tokens.
 pub(crate) fn with_input(finding: Finding, events: &[u8]) -> Finding
@@ -50,7 +51,7 @@ fn descend(
 {
     clear(memo);
     let nonterminals = sizes.nonterminals as usize;
-    let columns = sizes.terminals as usize + 1;
+    let columns = count(sizes.terminals);
     let choices = choices_of(words, nonterminals, columns, entries, events.len() + 1);
     let tokens = tokens_of(events, sizes.terminals);
     let outcome = call(0, words, &choices, &tokens, memo, 0);

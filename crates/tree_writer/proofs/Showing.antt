@@ -44,8 +44,9 @@ use Rattle.semantics.specs.Predictive.{Predictive}
 use Rattle.semantics.proofs.Called.{called-range}
 use Rattle.semantics.proofs.Range.{index-range}
 use Rattle.semantics.proofs.Theorems.{theorems}
-use Rattle.table.specs.Layout.{tableWords, columns}
-use Rattle.table.specs.Entries.{filled}
+use Rattle.table.specs.Columns.{columns}
+use Rattle.table.specs.Layout.{tableWords}
+use Rattle.table.specs.Layout.{filled}
 use Rattle.table.proofs.Words.{filled-entries, table-length}
 use Rattle.recognizer.specs.Answers.{judgeFault, callsOf, verdictBy, verdictOf, verdictNumbers}
 use Rattle.recognizer.specs.Memory.{lentBack, memoWords}
