@@ -14,7 +14,7 @@ use lookahead::LookaheadSet;
 use sets::family::SETS;
 
 // By nonterminal, then by column.
-pub(crate) enum Conflict {
+pub enum Conflict {
     Absent,
     At { nonterminal: u8, column: u8 },
 }

@@ -13,7 +13,7 @@ use sets::family::SETS;
 
 pub mod claims;
 pub mod columns;
-mod conflicts;
+pub mod conflicts;
 mod layout;
 mod overruns;
 mod rows;

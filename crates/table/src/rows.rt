@@ -24,13 +24,7 @@ fn entry(claim: LookaheadSet, element: u32, rule: u8, old: u8) -> u8
 }
 
 // Writes a rule's number into the columns of a row that it claims.
-fn fill_row(
-    entries: &mut [u8; ENTRIES],
-    row: usize,
-    terminals: u32,
-    claim: LookaheadSet,
-    rule: u8,
-)
+fn fill_row(entries: &mut [u8; ENTRIES], row: usize, terminals: u32, claim: LookaheadSet, rule: u8)
     requires { ⌜ (length (now entries) ≡ maxEntries) × (terminals ≤ maxTerminals) × (row + columnCount terminals ≤ maxEntries) ⌝ }
     ensures { λ _. ⌜ FilledRow (now (entries .entry)) row (columnElement terminals) (columnCount terminals) (claim .bits) rule (now (entries .exit)) ⌝ }
 {
@@ -44,7 +38,11 @@ fn fill_row(
 }
 
 // The rules in their rows, written from the last on: where two claim an entry, the first has it.
-pub(crate) fn rows<'a>(sizes: Sizes, heads: &'a [u8; RULES], sets: &'a [u64; RULES]) -> [u8; ENTRIES]
+pub(crate) fn rows<'a>(
+    sizes: Sizes,
+    heads: &'a [u8; RULES],
+    sets: &'a [u64; RULES],
+) -> [u8; ENTRIES]
     requires { ⌜ RowsGiven sizes (now heads) ⌝ }
     ensures { λ r. ⌜ FilledRows (rowsOf (sizes .nonterminals) (sizes .terminals)) (now (heads .entry)) (now (sets .entry)) 0 (numbers (sizes .rules)) noRules r ⌝ }
 {
