@@ -111,15 +111,15 @@ module _ {words : List ℕ} {z : Sizes} {entries memo : List ℕ} (events : List
   some-nonterminal : 0 < G .nonterminals
   some-nonterminal = omega (arith, r .nonterminals, r .someNonterminal)
 
-  pub rows-given : ChoicesGiven words (z .nonterminals) (columnCount (z .terminals)) entries (length events + 1)
-  rows-given = choices-given (g .ready) long
+  pub rows-given : {columns : ℕ} → columns ≡ columnCount (z .terminals) → ChoicesGiven words (z .nonterminals) columns entries (length events + 1)
+  rows-given m = rw m (choices-given (g .ready) long)
 
   pub tokens-given : TokensGiven input (z .terminals)
   tokens-given = record { short = g .ready .short; few = r .fewTerminals; known = rw (r .terminals) (g .ready .tokens) }
 
   -- with the arrays that are made before it
-  module _ {choices tokens blanked : List ℕ} (f : Filled words (z .nonterminals) (columnCount (z .terminals)) entries (length events + 1) choices)
-      (t : TokensHold (z .terminals) input tokens) (b : blanked ≡ replicate (length memo) uncalledCode) where
+  module _ {columns : ℕ} {choices tokens blanked : List ℕ} (m : columns ≡ columnCount (z .terminals))
+      (f : Filled words (z .nonterminals) columns entries (length events + 1) choices) (t : TokensHold (z .terminals) input tokens) (b : blanked ≡ replicate (length memo) uncalledCode) where
     tokens-hold : TokensHold (G .terminals) input tokens
     tokens-hold = rw (← r .terminals) t
 
@@ -134,7 +134,7 @@ module _ {words : List ℕ} {z : Sizes} {entries memo : List ℕ} (events : List
         rows = λ A a. f .rows A (omega (arith, r .nonterminals)) ∙ ap (λ n. A * n) (omega (arith, long));
         ends = λ A a. f .ends A (omega (arith, r .nonterminals)) ∙ omega (arith, long);
         columns = λ i h. omega (arith, t .columns i h, column-few (z .terminals) input tokens-given i);
-        firsts = choices-hold (g .ready) f tokens-hold;
+        firsts = choices-hold (g .ready) {places = length events + 1} (rw (← m) f) tokens-hold;
         terminals = t .terminals;
         end = t .end;
         short = g .ready .short;

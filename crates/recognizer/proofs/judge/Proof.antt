@@ -1,59 +1,81 @@
+-- What judging answers, by the lengths of the memories and by what is found of the grammar and the input.
+use Rattle.event.specs.Events.{inputOf}
+use Rattle.recognizer.proofs.Checking.{lend-given}
+use Rattle.recognizer.proofs.JudgeFaults.{table-short, memo-short}
+use Rattle.recognizer.proofs.Judged.{judge-refused, judge-found-refused, judge-found, passed-given, judge-done}
+use borrow.Author.Needs.{needs}
 use Rattle.recognizer.proofs.judge.Statement.{statement}
 use Rattle.recognizer.proofs.judge.Tie as tie
-use Rattle.recognizer.proofs.judge.Reads as reads
-use Rattle.recognizer.proofs.judge.Lts as lts
-use Rattle.recognizer.proofs.judging.judge_passed.Reads as judge-passed-reads
-use Rattle.recognizer.proofs.judging.with_input.Reads as with-input-reads
-use Rattle.recognizer.proofs.lending.lend.Reads as lend-reads
-use Rattle.table.proofs.analyze.Reads as analyze-reads
 
--- src/lib.rt:44:9
 returns : tie.Need-returns
-returns c = ?
+returns c =
+    let given = c .before .before .before .before .before .args in
+    judge-refused (table-short (given .words .now) (inputOf (given .events .now)) (given .table .now) (given .memo .now) (c .if1 .taken))
 
--- src/lib.rt:47:9
 returns-2 : tie.Need-returns-2
-returns-2 c = ?
+returns-2 c =
+    let given = c .before .before .before .before .before .before .args in
+    judge-refused (memo-short (given .words .now) (inputOf (given .events .now)) (given .table .now) (given .memo .now) (c .before .if1 .left) (c .if2 .taken))
 
--- src/lib.rt:49:20
 analyze-requires : tie.Need-analyze-requires
-analyze-requires c κs = ?
+analyze-requires c κs = search needs
 
--- src/lib.rt:50:9
 with-input-requires : tie.Need-with-input-requires
-with-input-requires c κs = ?
+with-input-requires c κs = search needs
 
--- src/lib.rt:52:26
 enum-known-found : tie.Need-enum-known-found
-enum-known-found c = ?
+enum-known-found c = search needs
 
--- src/lib.rt:53:25
 enum-known-found-2 : tie.Need-enum-known-found-2
-enum-known-found-2 c = ?
+enum-known-found-2 c = search needs
 
--- src/lib.rt:54:13
 lend-requires : tie.Need-lend-requires
-lend-requires c κs = ?
+lend-requires c κs =
+    let passed = c .before .before .before .before in
+    let read = passed .before .before in
+    let room = read .before .before in
+    let long = room .before in
+    let given = long .before .before .before .before .before .args in
+    lend-given (given .words .now) (given .table .now) (long .if1 .left)
+    (judge-found (given .words .now) (inputOf (given .events .now)) (given .table .now) (given .memo .now) (long .if1 .left) (room .if2 .left)
+    (read .before .analyze .ensures) (read .with-input .ensures) (passed .found2 .given .1))
 
--- src/lib.rt:55:13
 judge-passed-requires : tie.Need-judge-passed-requires
-judge-passed-requires c κs = ?
+judge-passed-requires c κs =
+    let passed = c .before .before .before .before .before .before .before .before .before .before in
+    let read = passed .before .before in
+    let room = read .before .before in
+    let long = room .before in
+    let given = long .before .before .before .before .before .args in
+    passed-given (given .words .now) (inputOf (given .events .now)) (given .table .now) (given .memo .now) (long .if1 .left) (room .if2 .left)
+    (read .before .analyze .ensures) (read .with-input .ensures) (passed .found2 .given .1)
 
--- src/lib.rt:40:1
 returns-3 : tie.Need-returns-3
-returns-3 c = ?
+returns-3 c =
+    let read = c .before .before .before in
+    let room = read .before .before in
+    let long = room .before in
+    let given = long .before .before .before .before .before .args in
+    judge-found-refused (given .words .now) (inputOf (given .events .now)) (given .table .now) (given .memo .now) (long .if1 .left) (room .if2 .left)
+    (read .before .analyze .ensures) (read .with-input .ensures) (c .before .found .given .1)
 
--- src/lib.rt:40:1
 same-length : tie.Need-same-length
-same-length c = ?
+same-length c = search needs
 
--- src/lib.rt:40:1
 same-length-2 : tie.Need-same-length-2
-same-length-2 c = ?
+same-length-2 c = search needs
 
--- src/lib.rt:40:1
 returns-4 : tie.Need-returns-4
-returns-4 c = ?
+returns-4 c =
+    let judged = c .before .before in
+    let lent = judged .before .before .before .before .before .before in
+    let passed = lent .before .before .before .before .before in
+    let read = passed .before .before in
+    let room = read .before .before in
+    let long = room .before in
+    let given = long .before .before .before .before .before .args in
+    judge-done (given .words .now) (inputOf (given .events .now)) (given .table .now) (given .memo .now) (long .if1 .left) (room .if2 .left)
+    (read .before .analyze .ensures) (read .with-input .ensures) (passed .found2 .given .1) (lent .lend .ensures) (judged .judge-passed .ensures)
 
 pub judge-spec : {M : Type 1} → statement M
 judge-spec =

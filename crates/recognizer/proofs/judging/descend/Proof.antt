@@ -12,17 +12,14 @@ clear-requires c κs = search needs
 cast-nonterminals : tie.Need-cast-nonterminals
 cast-nonterminals c = search needs
 
-cast-columns : tie.Need-cast-columns
-cast-columns c = search needs
-
-add-columns : tie.Need-add-columns
-add-columns c = search needs
+count-requires : tie.Need-count-requires
+count-requires c κs = search needs
 
 add-choices-of : tie.Need-add-choices-of
 add-choices-of c = search needs
 
 choices-of-requires : tie.Need-choices-of-requires
-choices-of-requires c κs = let start = c .before .before .before .before .before .before .before .before .before in rows-given (start .args .events .now) (start .pre)
+choices-of-requires c κs = let start = c .before .before .before .before .before .before .before .before .before in rows-given (start .args .events .now) (start .pre) (c .count .ensures)
 
 tokens-of-requires : tie.Need-tokens-of-requires
 tokens-of-requires c κs = let start = c .before .before .before .before .before .before .before .before .before .before in tokens-given (start .args .events .now) (start .pre)
@@ -32,7 +29,7 @@ call-requires c κs =
     let made = c .before .before .before in
     let cleared = made .before .before .before .before .before .before in
     let start = cleared .before .before .before .before .before in
-    start-given (start .args .events .now) (start .pre) (made .before .choices-of .ensures) (made .tokens-of .ensures) (cleared .clear .ensures)
+    start-given (start .args .events .now) (start .pre) (made .before .before .count .ensures) (made .before .choices-of .ensures) (made .tokens-of .ensures) (cleared .clear .ensures)
 
 tally-requires : tie.Need-tally-requires
 tally-requires c κs =
@@ -40,7 +37,7 @@ tally-requires c κs =
     let made = called .before .before .before .before in
     let cleared = made .before .before .before .before .before .before in
     let start = cleared .before .before .before .before .before in
-    memo-long (start .args .events .now) (start .pre) (made .before .choices-of .ensures) (made .tokens-of .ensures) (cleared .clear .ensures) (called .call .ensures)
+    memo-long (start .args .events .now) (start .pre) (made .before .before .count .ensures) (made .before .choices-of .ensures) (made .tokens-of .ensures) (cleared .clear .ensures) (called .call .ensures)
 
 cast-ends-at : tie.Need-cast-ends-at
 cast-ends-at c =
@@ -60,7 +57,7 @@ returns c =
     let made = called .before .before .before .before in
     let cleared = made .before .before .before .before .before .before in
     let start = cleared .before .before .before .before .before in
-    descended (start .args .events .now) (start .pre) (made .before .choices-of .ensures) (made .tokens-of .ensures) (cleared .clear .ensures) (called .call .ensures)
+    descended (start .args .events .now) (start .pre) (made .before .before .count .ensures) (made .before .choices-of .ensures) (made .tokens-of .ensures) (cleared .clear .ensures) (called .call .ensures)
     (c .before .before .tally .ensures) (c .before .ends-at .ensures) (rw (c .if1 .taken))
 
 same-length-2 : tie.Need-same-length-2
@@ -72,7 +69,7 @@ returns-2 c =
     let made = called .before .before .before .before in
     let cleared = made .before .before .before .before .before .before in
     let start = cleared .before .before .before .before .before in
-    descended (start .args .events .now) (start .pre) (made .before .choices-of .ensures) (made .tokens-of .ensures) (cleared .clear .ensures) (called .call .ensures)
+    descended (start .args .events .now) (start .pre) (made .before .before .count .ensures) (made .before .choices-of .ensures) (made .tokens-of .ensures) (cleared .clear .ensures) (called .call .ensures)
     (c .before .before .tally .ensures) (c .before .ends-at .ensures) (rw (c .if1 .left))
 
 pub descend-spec : {M : Type 1} → statement M
@@ -81,8 +78,7 @@ descend-spec =
     (tie.spec
     clear-requires
     cast-nonterminals
-    cast-columns
-    add-columns
+    count-requires
     add-choices-of
     choices-of-requires
     tokens-of-requires
