@@ -50,7 +50,6 @@ use Rattle.table.specs.Layout.{filled}
 use Rattle.table.proofs.Words.{filled-entries, table-length}
 use Rattle.recognizer.specs.Answers.{judgeFault, callsOf, verdictBy, verdictOf, verdictNumbers}
 use Rattle.recognizer.specs.Memory.{lentBack, memoWords}
-use Rattle.recognizer.specs.Preparing.{Entries}
 use Rattle.recognizer.specs.Properties.{Judges, PassedGrammar}
 use Rattle.recognizer.proofs.Checking.{passed-fault, passed-encodes, passed-read, no-clashes, not-left-recursive}
 use Rattle.recognizer.proofs.JudgeFaults.{judgeRows, judged-rows, judged-readable, table-short, memo-short}
@@ -62,7 +61,7 @@ use Rattle.tree.proofs.Lists.{map-elim}
 use Rattle.tree.proofs.Trees.{tree-right, vertex-within}
 use Rattle.tree.proofs.Words.{told as word-told}
 use Rattle.tree_writer.specs.Writer as writer
-use Rattle.tree_writer.specs.Writer.{choiceOf, wordsOf, TreeGiven, TreeDone}
+use Rattle.tree_writer.specs.Writer.{choiceOf, wordsOf, Entries, TreeGiven, TreeDone}
 use Rattle.tree_writer.specs.declared.Shown.{Shown}
 use Rattle.tree_writer.specs.Properties.{treeFault, writtenOr, TreeTold, Shows}
 
