@@ -24,7 +24,7 @@ use Rattle.semantics.specs.Valuations.{solution}
 use Rattle.semantics.proofs.Called.{called-range}
 use Rattle.semantics.proofs.Theorems.{theorems}
 use Rattle.answer.specs.Faults.{refusedOr}
-use Rattle.recognizer.specs.Answers.{checkFault, judgeFault, callsOf, verdictOf}
+use Rattle.recognizer.specs.Answers.{checkFault, judgeFault, callsOf, verdictBy, verdictOf}
 use Rattle.recognizer.specs.Properties.{Checks, Judges}
 use Rattle.recognizer.proofs.Checking.{passed-fault, passed-encodes, passed-free}
 use Rattle.recognizer.proofs.JudgeFaults.{judged-readable}
@@ -102,7 +102,7 @@ verdict-fits false c h = record { verdict = omega arith; code = omega arith; pos
 
 -- a judgement
 pub judge-fits : {words input table memo table′ memo′ : List ℕ} {a : Answer} → Judges words input table memo a table′ memo′ → NumbersFit (numbers a)
-unfolding verdictOf
+unfolding verdictBy
 judge-fits {words} {input} {table} {memo} {table′} {memo′} {a} j =
     rw (j .answer) (go (judgeFault (length table) (length memo) words input) refl (judge-low (length table) (length memo) words input))
   where
