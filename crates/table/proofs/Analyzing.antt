@@ -19,6 +19,7 @@ use Rattle.grammar.specs.declared.reading.Sizes.{Sizes}
 use Rattle.grammar.specs.declared.reading.Outcome.the-variants.{Read}
 use Rattle.grammar.specs.WellRead.{WellRead}
 use Rattle.grammar.proofs.WellRead.{well-read}
+use Rattle.lookahead.specs.declared.Lookahead.the-variants.{One}
 use Rattle.semantics.specs.FiniteSets.{numbers}
 use Rattle.semantics.specs.Claims.{overruns}
 use Rattle.semantics.proofs.Outcomes.{nth-mem}
@@ -49,23 +50,23 @@ use Rattle.table.proofs.EntriesFilled.{entries-filled}
 use Rattle.table.proofs.WordsLaid.{word-fits, words-table}
 
 -- the faults found with the sets come first
-pub fault-sets : (words : List ℕ) → fault words ≡ firstFault (setsFault words ∷ clashFault (firstClash (grammarOf words)) ∷ [])
+pub fault-sets : (words : List ℕ) → fault words ≡ firstFault (setsFault One words ∷ clashFault (firstClash (grammarOf words)) ∷ [])
 unfolding fault setsFault
-fault-sets words = first-nested [] (setsFaults words) (clashFault (firstClash (grammarOf words)) ∷ [])
+fault-sets words = first-nested [] (setsFaults One words) (clashFault (firstClash (grammarOf words)) ∷ [])
 
 -- the families that are found: a grammar to go on with, or a refusal
-pub given : {words : List ℕ} {z : Sizes} {firsts follows : List ℕ} → FoundFamilies words z firsts follows → FamiliesGiven words z firsts follows
+pub given : {words : List ℕ} {z : Sizes} {firsts follows : List ℕ} → FoundFamilies One words z firsts follows → FamiliesGiven words z firsts follows
 given f = record { read = f .read; first = f .first; follow = f .follow }
 
-pub refused-claims : (words : List ℕ) {r : Families} {x : Error} → r ≡ familiesOf words → r .finding ≡ Refused x
+pub refused-claims : (words : List ℕ) {r : Families} {x : Error} → r ≡ familiesOf One words → r .finding ≡ Refused x
     → claimsWith (r .finding) (r .firsts) (r .follows) (replicate maxRules 0) (replicate maxRules 0) (replicate maxNonterminals 0) ≡ claimsOf words
 unfolding claimsOf familiesOf
-refused-claims words {r} e q = rw (e, families-refused words e q)
+refused-claims words {r} e q = rw (e, families-refused One words e q)
 
-pub words-indexed : {words : List ℕ} {z : Sizes} {firsts follows : List ℕ} → FoundFamilies words z firsts follows → WordsIndexed words
+pub words-indexed : {words : List ℕ} {z : Sizes} {firsts follows : List ℕ} → FoundFamilies One words z firsts follows → WordsIndexed words
 words-indexed {words} f i h = word-indexed words (f .read) h refl
 
-pub all-claims : {words : List ℕ} {z : Sizes} {firsts follows heads sets told : List ℕ} → FoundFamilies words z firsts follows
+pub all-claims : {words : List ℕ} {z : Sizes} {firsts follows heads sets told : List ℕ} → FoundFamilies One words z firsts follows
     → AllKept (grammarOf words) heads sets → Overrunning (parse words .rules) follows told
     → claimsWith (Passed z) firsts follows heads sets told ≡ claimsOf words
 unfolding claimsOf
@@ -75,9 +76,9 @@ all-claims {words} {z} {firsts} {follows} {heads} {sets} {told} f k o =
 -- what claims that are found tell
 pub record Claimed (words : List ℕ) (z : Sizes) (r : Claims) : Type 0 where
   pub read : reading words ≡ Read z
-  pub faultless : setsFault words ≡ none
-  pub first : r .firsts ≡ listed maxNonterminals (firstNumber (grammarOf words))
-  pub follow : r .follows ≡ listed maxNonterminals (followNumber (grammarOf words))
+  pub faultless : setsFault One words ≡ none
+  pub first : r .firsts ≡ listed maxNonterminals (firstNumber One (grammarOf words))
+  pub follow : r .follows ≡ listed maxNonterminals (followNumber One (grammarOf words))
   pub own : r .heads ≡ byRule (headsOf (grammarOf words))
   pub claims : r .sets ≡ byRule (claimNumbers (grammarOf words))
   pub told : r .overruns ≡ overrunsOf (grammarOf words)
@@ -86,13 +87,13 @@ module _ (words : List ℕ) {r : Claims} (e : r ≡ claimsOf words) where
   pub claims-told : {z : Sizes} → r .finding ≡ Passed z → Claimed words z r
   unfolding claimsOf
   claims-told q =
-      let k = told-passed (setsFault words) (reading words) (sym (ap (λ x. x .finding) e) ∙ q) in
+      let k = told-passed (setsFault One words) (reading words) (sym (ap (λ x. x .finding) e) ∙ q) in
       let G = grammarOf words in
       record {
         read = k .1;
         faultless = k .0;
-        first = ap (λ x. x .firsts) e ∙ ap (λ f. setsIf f (listed maxNonterminals (firstNumber G))) (k .0);
-        follow = ap (λ x. x .follows) e ∙ ap (λ f. setsIf f (listed maxNonterminals (followNumber G))) (k .0);
+        first = ap (λ x. x .firsts) e ∙ ap (λ f. setsIf f (listed maxNonterminals (firstNumber One G))) (k .0);
+        follow = ap (λ x. x .follows) e ∙ ap (λ f. setsIf f (listed maxNonterminals (followNumber One G))) (k .0);
         own = ap (λ x. x .heads) e ∙ ap (λ f. byRuleIf f (headsOf G)) (k .0);
         claims = ap (λ x. x .sets) e ∙ ap (λ f. byRuleIf f (claimNumbers G)) (k .0);
         told = ap (λ x. x .overruns) e ∙ ap (λ f. overrunsIf f (overrunsOf G)) (k .0);
@@ -102,7 +103,7 @@ module _ (words : List ℕ) {r : Claims} (e : r ≡ claimsOf words) where
   pub found-refused : {x : Error} → r .finding ≡ Refused x → foundWith (r .finding) (r .firsts) (r .follows) noRules ≡ foundOf words
   unfolding claimsOf foundOf setsFault
   found-refused {x} q =
-      let f : setsFault words ≡ some x = told-refused (setsFault words) (reading words) (λ y f. rw f) (sym (ap (λ x. x .finding) e) ∙ q) in
+      let f : setsFault One words ≡ some x = told-refused (setsFault One words) (reading words) (λ y f. rw f) (sym (ap (λ x. x .finding) e) ∙ q) in
       rw (e, fault-sets words, f)
 
 module _ {words : List ℕ} {z : Sizes} {r : Claims} (f : Claimed words z r) where
@@ -157,14 +158,14 @@ module _ {words : List ℕ} {z : Sizes} {r : Claims} (f : Claimed words z r) whe
 pub record FoundEntries (words : List ℕ) (z : Sizes) (r : Found) : Type 0 where
   pub read : reading words ≡ Read z
   pub faultless : fault words ≡ none
-  pub first : r .firsts ≡ listed maxNonterminals (firstNumber (grammarOf words))
-  pub follow : r .follows ≡ listed maxNonterminals (followNumber (grammarOf words))
+  pub first : r .firsts ≡ listed maxNonterminals (firstNumber One (grammarOf words))
+  pub follow : r .follows ≡ listed maxNonterminals (followNumber One (grammarOf words))
   pub entries : r .entries ≡ entriesOf (grammarOf words)
 
-none-sets : (words : List ℕ) → fault words ≡ none → setsFault words ≡ none
-none-sets words e = go (setsFault words) refl
+none-sets : (words : List ℕ) → fault words ≡ none → setsFault One words ≡ none
+none-sets words e = go (setsFault One words) refl
   where
-    go : (o : Option Error) → setsFault words ≡ o → setsFault words ≡ none
+    go : (o : Option Error) → setsFault One words ≡ o → setsFault One words ≡ none
     go none s = s
     go (some x) s = absurd (none-some (sym e ∙ fault-sets words ∙ ap (λ o. firstFault (o ∷ clashFault (firstClash (grammarOf words)) ∷ [])) s))
 
@@ -184,8 +185,8 @@ module _ (words : List ℕ) {r : Found} (e : r ≡ foundOf words) where
       record {
         read = k .1;
         faultless = k .0;
-        first = ap (λ x. x .firsts) e ∙ ap (λ f. setsIf f (listed maxNonterminals (firstNumber G))) s;
-        follow = ap (λ x. x .follows) e ∙ ap (λ f. setsIf f (listed maxNonterminals (followNumber G))) s;
+        first = ap (λ x. x .firsts) e ∙ ap (λ f. setsIf f (listed maxNonterminals (firstNumber One G))) s;
+        follow = ap (λ x. x .follows) e ∙ ap (λ f. setsIf f (listed maxNonterminals (followNumber One G))) s;
         entries = ap (λ x. x .entries) e ∙ ap (λ f. entriesIf f (entriesOf G)) (k .0);
       }
 

@@ -18,8 +18,9 @@ use Rattle.grammar.specs.Reading.{beginsRule}
 use Rattle.grammar.specs.WellRead.{WellRead}
 use Rattle.grammar.proofs.WellRead.{well-read}
 use Rattle.grammar.proofs.EachIndex.{read-whole}
+use Rattle.lookahead.specs.declared.Lookahead.the-variants.{One}
 use Rattle.lookahead.specs.Operations.{concatNumbers}
-use Rattle.lookahead.specs.Elements.{nothing}
+use Rattle.lookahead.specs.Lookaheads.{nothing}
 use Rattle.semantics.specs.FirstFollow.{first, follow}
 use Rattle.semantics.proofs.First.{first-lookahead}
 use Rattle.semantics.proofs.Follow.{follow-lookahead}
@@ -43,7 +44,7 @@ module _ {w : Word} {behind A : ℕ} (m : MayClaim w behind) (e : w ≡ RuleWord
   pub some-rule : 0 < behind
   some-rule = m .numbered (rw e)
 
-  pub claim-kept : (follows : List ℕ) (meet : ℕ) (heads sets : List ℕ) {claim : ℕ} → claim ≡ concatNumbers meet (getD follows A 0)
+  pub claim-kept : (follows : List ℕ) (meet : ℕ) (heads sets : List ℕ) {claim : ℕ} → claim ≡ concatNumbers One meet (getD follows A 0)
       → WordClaims (ruleHead w) follows meet (kept heads sets behind) (kept (set heads (behind - 1) A) (set sets (behind - 1) claim) (behind - 1))
   claim-kept follows meet heads sets c = rw e (record { numbered = omega (arith, some-rule); head = refl; claims = ap (set sets (behind - 1)) c })
 
@@ -116,9 +117,9 @@ from-all {f} {rs} k = k .from ∙ ap (λ n. map f rs ++ replicate (maxRules - n)
 -- the invariant: the words from i on have been gone through
 pub record Claiming (words : List ℕ) (terminals all : ℕ) (firsts : List ℕ) (rest : Rest) (b : Kept) (i : ℕ) : Type 0 where
   pub within : i ≤ length words
-  pub is : rest ≡ restOf terminals (family firsts) (parse (drop i words))
+  pub is : rest ≡ restOf One terminals (family firsts) (parse (drop i words))
   pub heads : From (λ r. r .head) (parse (drop i words) .rules) all (b .rule) (b .heads)
-  pub claims : From (claimNumber (grammarOf words)) (parse (drop i words) .rules) all (b .rule) (b .sets)
+  pub claims : From (claimNumber One (grammarOf words)) (parse (drop i words) .rules) all (b .rule) (b .sets)
   pub counted : all ≡ b .rule + length (parse (drop i words) .rules)
 
 module _ {words : List ℕ} {z : Sizes} {firsts follows : List ℕ} (g : FamiliesGiven words z firsts follows) where
@@ -128,21 +129,21 @@ module _ {words : List ℕ} {z : Sizes} {firsts follows : List ℕ} (g : Familie
   many : grammarOf words .nonterminals ≤ maxNonterminals
   many = omega (arith, known .fewNonterminals, known .nonterminals)
 
-  pub few : grammarOf words .terminals ≤ nothing
+  pub few : grammarOf words .terminals ≤ (nothing One)
   few = omega (arith, known .fewTerminals, known .terminals)
 
-  firsts-are : family firsts ≡ firstNumber (grammarOf words)
+  firsts-are : family firsts ≡ firstNumber One (grammarOf words)
   unfolding firstNumber
-  firsts-are = rw (g .first) (fun-ext (array-at (grammarOf words) few (first (grammarOf words) 1) (first-lookahead (grammarOf words) 1) many))
+  firsts-are = rw (g .first) (fun-ext (array-at One (grammarOf words) few (first (grammarOf words) 1) (first-lookahead (grammarOf words) 1) many))
 
-  pub follow-is : (A : ℕ) → getD follows A 0 ≡ followNumber (grammarOf words) A
+  pub follow-is : (A : ℕ) → getD follows A 0 ≡ followNumber One (grammarOf words) A
   unfolding followNumber
-  follow-is A = rw (g .follow) (array-at (grammarOf words) few (follow (grammarOf words) 1) (follow-lookahead (grammarOf words) 1) many A)
+  follow-is A = rw (g .follow) (array-at One (grammarOf words) few (follow (grammarOf words) 1) (follow-lookahead (grammarOf words) 1) many A)
 
   all-rules : length (grammarOf words .rules) ≡ length (parse words .rules)
   all-rules = ap length (read-whole words z (g .read) .rules)
 
-  pub claiming-start : {rest : Rest} {heads sets : List ℕ} → rest ≡ noRest (z .terminals) → Empty heads → Empty sets
+  pub claiming-start : {rest : Rest} {heads sets : List ℕ} → rest ≡ noRest One (z .terminals) → Empty heads → Empty sets
       → Claiming words (z .terminals) (z .rules) firsts rest (kept heads sets (z .rules)) (length words)
   unfolding parse bodyFirst ruleFirst
   claiming-start e none-head none-claim =
@@ -151,7 +152,7 @@ module _ {words : List ℕ} {z : Sizes} {firsts follows : List ℕ} (g : Familie
         within = omega arith;
         is = rw none e;
         heads = rw (none, none-head) (from-none (λ r. r .head) (z .rules) (known .fewRules));
-        claims = rw (none, none-claim) (from-none (claimNumber (grammarOf words)) (z .rules) (known .fewRules));
+        claims = rw (none, none-claim) (from-none (claimNumber One (grammarOf words)) (z .rules) (known .fewRules));
         counted = rw none (omega arith);
       }
 
@@ -184,15 +185,15 @@ module _ {words : List ℕ} {z : Sizes} {firsts follows : List ℕ} (g : Familie
     }
 
     -- the claim of the rule that begins here
-    claimed : (A : ℕ) → w ≡ RuleWord A → concatNumbers (rest .meet .bits) (getD follows A 0) ≡ claimNumber (grammarOf words) (ruleOf A p)
+    claimed : (A : ℕ) → w ≡ RuleWord A → concatNumbers One (rest .meet .bits) (getD follows A 0) ≡ claimNumber One (grammarOf words) (ruleOf A p)
     unfolding onWord
     claimed A d =
         let r = ruleOf A p in
         let m : List·Memᴰ r (parse (drop (i - 1) words) .rules) = rw (from-here, d) (List·Memᴰ·head refl) in
         let n : List·Memᴰ r (grammarOf words .rules) = rw (read-whole words z (g .read) .rules) (rule-from (i - 1) words r m) in
-        rw (v .is, known .terminals, firsts-are, follow-is A) (claim-found (grammarOf words) (known .formed) few r n)
+        rw (v .is, known .terminals, firsts-are, follow-is A) (claim-found One (grammarOf words) (known .formed) few r n)
 
-    pub claiming-turn : {next : Rest} (b′ : Kept) → Onto (z .terminals) (family firsts) w rest next
+    pub claiming-turn : {next : Rest} (b′ : Kept) → Onto One (z .terminals) (family firsts) w rest next
         → WordClaims (ruleHead w) follows (rest .meet .bits) b b′ → Claiming words (z .terminals) (z .rules) firsts next b′ (i - 1)
     unfolding onWord
     claiming-turn {next} b′ o c = go w refl c

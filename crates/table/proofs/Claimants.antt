@@ -10,12 +10,13 @@ use lib.Dec.{eqb}
 use lib.ListN.{length, getD, getElem?, replicate}
 use Rattle.grammar.specs.Limits.{maxRules}
 use Rattle.grammar.specs.Syntax.{Rule, Grammar}
-use Rattle.lookahead.specs.Elements.{nothing, has}
+use Rattle.lookahead.specs.declared.Lookahead.the-variants.{One}
+use Rattle.lookahead.specs.Lookaheads.{nothing, stringOf}
+use Rattle.lookahead.specs.Elements.{has}
 use Rattle.booleans.specs.Quantifiers.{anyOf}
 use Rattle.semantics.specs.FiniteSets.{member, numbersFrom, numbers}
 use Rattle.semantics.specs.FirstFollow.{sameString}
 use Rattle.semantics.specs.Claims.{several, position, claimed, claims, tableOf}
-use Rattle.sets.specs.Sets.{stringOf}
 use Rattle.table.specs.Claims.{claimNumber, headsOf, claimNumbers, byRule, claimant}
 use Rattle.table.proofs.RuleClaims.{claim-has}
 
@@ -103,12 +104,12 @@ module _ (G : Grammar) {heads sets : List ℕ} (h : heads ≡ byRule (headsOf G)
   unfolding byRule
   heads-own q r e = rw h (rule-at (λ r. r .head) (G .rules) (replicate (maxRules - length (headsOf G)) 0) q r e)
 
-  module _ (l : ℕ) (small : l < suc nothing) where
-    sets-have : (q : ℕ) (r : Rule) → getElem? (G .rules) q ≡ some r → has (getD sets q 0) l ≡ member sameString (claimed G 1 r) (stringOf l)
+  module _ (l : ℕ) (small : l < suc (nothing One)) where
+    sets-have : (q : ℕ) (r : Rule) → getElem? (G .rules) q ≡ some r → has (getD sets q 0) l ≡ member sameString (claimed G 1 r) (stringOf One l)
     unfolding byRule
     sets-have q r e =
-        let n : getD sets q 0 ≡ claimNumber G r = rw s (rule-at (claimNumber G) (G .rules) (replicate (maxRules - length (claimNumbers G)) 0) q r e) in
-        ap (λ x. has x l) n ∙ claim-has G r l small
+        let n : getD sets q 0 ≡ claimNumber One G r = rw s (rule-at (claimNumber One G) (G .rules) (replicate (maxRules - length (claimNumbers G)) 0) q r e) in
+        ap (λ x. has x l) n ∙ claim-has One G r l small
 
-    pub told : Told G 1 heads sets l (stringOf l)
+    pub told : Told G 1 heads sets l (stringOf One l)
     told = record { own = heads-own; claims = sets-have }

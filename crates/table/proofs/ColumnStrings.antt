@@ -9,30 +9,30 @@ use borrow.Author.Tests.{eq-eqb, ne-eqb}
 use Rattle.booleans.specs.Choice.{choose}
 use Rattle.booleans.specs.Quantifiers.{allOf}
 use Rattle.booleans.proofs.Booleans.{and-l}
-use Rattle.lookahead.specs.Elements.{nothing}
+use Rattle.lookahead.specs.declared.Lookahead.the-variants.{One}
+use Rattle.lookahead.specs.Lookaheads.{nothing, stringOf}
 use Rattle.semantics.specs.FiniteSets.{numbersFrom, numbers}
 use Rattle.semantics.specs.FirstFollow.{strings}
 use Rattle.semantics.specs.Strings.{Lookahead}
 use Rattle.semantics.specs.Claims.{column}
 use Rattle.semantics.proofs.Columns.{strings-columns}
-use Rattle.sets.specs.Sets.{stringOf}
 use Rattle.table.specs.Columns.{columnCount, columnString, columnElement}
 
 -- the string of a column is that of the column's element, and its column is the column
-module _ (t c : ℕ) (few : t ≤ nothing) (h : c < columnCount t) where
-  pub column-string : stringOf (columnElement t c) ≡ columnString t c
+module _ (t c : ℕ) (few : t ≤ (nothing One)) (h : c < columnCount t) where
+  pub column-string : stringOf One (columnElement t c) ≡ columnString t c
   unfolding stringOf columnElement columnString
   column-string = go (ℕ-discrete c t)
     where
-      go : Dec (c ≡ t) → choose (eqb (choose (eqb c t) nothing c) nothing) [] (choose (eqb c t) nothing c ∷ []) ≡ choose (eqb c t) [] (c ∷ [])
+      go : Dec (c ≡ t) → choose (eqb (choose (eqb c t) (nothing One) c) (nothing One)) [] (choose (eqb c t) (nothing One) c ∷ []) ≡ choose (eqb c t) [] (c ∷ [])
       go (yes e) = rw (eq-eqb c t e)
-      go (no ne) = rw (ne-eqb c t ne, ne-eqb c nothing (λ e. omega arith))
+      go (no ne) = rw (ne-eqb c t ne, ne-eqb c (nothing One) (λ e. omega arith))
 
-  pub element-small : columnElement t c < suc nothing
+  pub element-small : columnElement t c < suc (nothing One)
   unfolding columnElement
   element-small = go (ℕ-discrete c t)
     where
-      go : Dec (c ≡ t) → choose (eqb c t) nothing c < suc nothing
+      go : Dec (c ≡ t) → choose (eqb c t) (nothing One) c < suc (nothing One)
       go (yes e) = rw (eq-eqb c t e) (omega arith)
       go (no ne) = rw (ne-eqb c t ne) (omega arith)
 

@@ -9,7 +9,8 @@ use denote.Enum.Declared.{tagOf}
 use types.Run.{OneOf, miss}
 use lib.ListN.{length, getD}
 use Rattle.grammar.specs.Syntax.{Grammar}
-use Rattle.lookahead.specs.Elements.{nothing}
+use Rattle.lookahead.specs.declared.Lookahead.the-variants.{One}
+use Rattle.lookahead.specs.Lookaheads.{nothing}
 use Rattle.lookahead.specs.Operations.{isEmpty}
 use Rattle.lookahead.proofs.Emptiness.{empty-none}
 use Rattle.semantics.specs.Claims.{several, claims, overruns, clashing}
@@ -95,7 +96,7 @@ rows-same p q columns rows h A (suc n) l =
     rw (row-same (p A) (q A) A 0 columns (λ c b. h A c (omega arith) (omega arith)), rows-same p q columns rows h (suc A) n (omega arith))
 
 -- with the heads and the claims of a grammar's rules, and what is told of its nonterminals that overrun
-pub clash-found : (G : Grammar) → G .terminals ≤ nothing → {heads sets : List ℕ} (told : List ℕ) → heads ≡ byRule (headsOf G) → sets ≡ byRule (claimNumbers G)
+pub clash-found : (G : Grammar) → G .terminals ≤ (nothing One) → {heads sets : List ℕ} (told : List ℕ) → heads ≡ byRule (headsOf G) → sets ≡ byRule (claimNumbers G)
     → ((A : ℕ) → A < G .nonterminals → getD told A 0 ≡ overrunSet (overruns G 1 A))
     → conflictFrom (claimedTwice (columnElement (G .terminals)) heads sets told (length (G .rules))) (columns G) 0 (G .nonterminals) ≡ firstClash G
 unfolding firstClash

@@ -8,21 +8,23 @@ use Rattle.word.specs.declared.Symbol.the-variants.{Terminal, Nonterminal}
 use Rattle.grammar.specs.Codes.{noEntry}
 use Rattle.grammar.specs.Cards.{grammarR, grammarM, grammarE}
 use Rattle.grammar.specs.Syntax.{Body, Rule, Grammar}
+use Rattle.lookahead.specs.declared.Lookahead.the-variants.{One}
 use Rattle.lookahead.specs.Elements.{total}
 use Rattle.semantics.specs.FirstFollow.{first, follow}
 use Rattle.semantics.specs.Claims.{clashes, tableOf}
 use Rattle.semantics.specs.LeftRecursion.{lowestLeftRecursive}
 use Rattle.semantics.proofs.Computing.{tables-compute, left-recursion-computes}
 use Rattle.table.specs.declared.conflicts.Conflict.the-variants.{At}
+use Rattle.lookahead.specs.Lookaheads.{stringOf}
 use Rattle.sets.specs.Lists.{listed}
-use Rattle.sets.specs.Sets.{stringOf, numberOf, firstNumber, followNumber}
+use Rattle.sets.specs.Sets.{numberOf, firstNumber, followNumber}
 use Rattle.table.specs.Columns.{columnString}
 use Rattle.table.specs.Layout.{entryAt, setWord, rowWord, tableWords}
 use Rattle.table.specs.Conflicts.{rowConflict, conflictFrom, firstClash}
 use Rattle.sets.specs.Analysis.{leftFault}
 
 abbrev numbers : Grammar → List ℕ × List ℕ
-numbers G = (listed (G .nonterminals) (firstNumber G), listed (G .nonterminals) (followNumber G))
+numbers G = (listed (G .nonterminals) (firstNumber One G), listed (G .nonterminals) (followNumber One G))
 
 sheets : _≡_ {A = List (List ℕ × List ℕ)} (numbers grammarR ∷ numbers grammarM ∷ numbers grammarE ∷ []) (
     (16777217 ∷ [], 16777216 ∷ [])

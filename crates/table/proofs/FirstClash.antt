@@ -9,7 +9,8 @@ use native.Mathlib.Omega.{arith}
 use lib.Dec.{T}
 use Rattle.booleans.specs.Choice.{choose}
 use Rattle.grammar.specs.Syntax.{Grammar}
-use Rattle.lookahead.specs.Elements.{nothing}
+use Rattle.lookahead.specs.declared.Lookahead.the-variants.{One}
+use Rattle.lookahead.specs.Lookaheads.{nothing}
 use Rattle.semantics.specs.Families.{Clash}
 use Rattle.semantics.specs.FirstFollow.{Entry, entries, First, Follow}
 use Rattle.semantics.specs.Strings.{Lookahead}
@@ -118,7 +119,7 @@ module _ (G : Grammar) where
   pub clash-at : {A c : ℕ} → firstClash G ≡ At A c → (A < G .nonterminals) × (c < columns G)
   clash-at e = let s = rw e at scan in (omega (arith, s .1), s .2)
 
-  module _ (few : t ≤ nothing) where
+  module _ (few : t ≤ nothing One) where
     pub clash-first : {A c : ℕ} → firstClash G ≡ At A c → FirstClash G A c
     clash-first {A} {c} e =
         let s = rw e at scan in

@@ -16,6 +16,7 @@ use Rattle.word.specs.Words.{decoded}
 use Rattle.grammar.specs.Limits.{maxNonterminals}
 use Rattle.grammar.specs.Syntax.{Rule}
 use Rattle.grammar.specs.Encoding.{Parsed, ruleOf, onWord, parse}
+use Rattle.lookahead.specs.declared.Lookahead.the-variants.{One}
 use Rattle.lookahead.specs.Operations.{isEmpty, terminal, meet}
 use Rattle.semantics.specs.Claims.{without}
 use Rattle.sets.specs.Naming.{ruleHead, Indexed}
@@ -25,15 +26,15 @@ use Rattle.table.proofs.ClaimedTwice.{getD-zeros}
 
 -- what is told of a nonterminal by one rule
 module _ (alone : Bool) (s : ℕ) (before : ℕ) {ends : Bool} (e : ends ≡ isEmpty (meet s everyTerminal)) where
-  pub told-ends : ends ≡ true → before ≡ choose (alone && beyondEnd s) (terminal 0) before
+  pub told-ends : ends ≡ true → before ≡ choose (alone && beyondEnd s) (terminal One 0) before
   unfolding beyondEnd
   told-ends t = rw (sym e ∙ t) (go alone)
     where
-      go : (b : Bool) → before ≡ choose (b && false) (terminal 0) before
+      go : (b : Bool) → before ≡ choose (b && false) (terminal One 0) before
       go true = refl
       go false = refl
 
-  pub told-more : ends ≡ false → alone ≡ true → terminal 0 ≡ choose (alone && beyondEnd s) (terminal 0) before
+  pub told-more : ends ≡ false → alone ≡ true → terminal One 0 ≡ choose (alone && beyondEnd s) (terminal One 0) before
   unfolding beyondEnd
   told-more t a = rw (a, sym e ∙ t)
 
@@ -42,7 +43,7 @@ module _ {w : Word} {A : ℕ} (e : w ≡ RuleWord A) where
   pub head-own : Indexed w → A < maxNonterminals
   head-own i = rw e at i
 
-  pub head-told : (alone : Bool) (follows before : List ℕ) {v : ℕ} → v ≡ choose (alone && beyondEnd (getD follows A 0)) (terminal 0) (getD before A 0)
+  pub head-told : (alone : Bool) (follows before : List ℕ) {v : ℕ} → v ≡ choose (alone && beyondEnd (getD follows A 0)) (terminal One 0) (getD before A 0)
       → WordOverruns (ruleHead w) alone follows before (set before A v)
   head-told alone follows before d = rw e (ap (set before A) d)
 
@@ -52,14 +53,14 @@ unfolding aloneIn anyOf
 overrun-none follows = record { long = length-replicate {A = ℕ} maxNonterminals 0; each = λ A. getD-zeros maxNonterminals A }
 
 -- one rule more
-one-more : (alone more others : Bool) → choose (alone && more) (terminal 0) (overrunSet (others && more)) ≡ overrunSet ((alone || others) && more)
+one-more : (alone more others : Bool) → choose (alone && more) (terminal One 0) (overrunSet (others && more)) ≡ overrunSet ((alone || others) && more)
 one-more true true others = refl
 one-more true false true = refl
 one-more true false false = refl
 one-more false more others = refl
 
 overrun-rule : (r : Rule) {rules : List Rule} {follows before after : List ℕ} → Overrunning rules follows before → r .head < maxNonterminals
-    → after ≡ set before (r .head) (choose (without (r .positives) && beyondEnd (getD follows (r .head) 0)) (terminal 0) (getD before (r .head) 0))
+    → after ≡ set before (r .head) (choose (without (r .positives) && beyondEnd (getD follows (r .head) 0)) (terminal One 0) (getD before (r .head) 0))
     → Overrunning (r ∷ rules) follows after
 unfolding aloneIn anyOf
 overrun-rule r {rules} {follows} {before} {after} o own e = record {
@@ -74,10 +75,10 @@ overrun-rule r {rules} {follows} {before} {after} o own e = record {
     more A = beyondEnd (getD follows A 0)
 
     now : ℕ
-    now = choose (without (r .positives) && beyondEnd (getD follows (r .head) 0)) (terminal 0) (getD before (r .head) 0)
+    now = choose (without (r .positives) && beyondEnd (getD follows (r .head) 0)) (terminal One 0) (getD before (r .head) 0)
 
     go : (A : ℕ) → Dec (A ≡ head)
-        → getD (set before (r .head) (choose (without (r .positives) && beyondEnd (getD follows (r .head) 0)) (terminal 0) (getD before (r .head) 0))) A 0
+        → getD (set before (r .head) (choose (without (r .positives) && beyondEnd (getD follows (r .head) 0)) (terminal One 0) (getD before (r .head) 0))) A 0
         ≡ overrunSet (aloneIn A (r ∷ rules) && beyondEnd (getD follows A 0))
     go A (yes d) =
         rw (d, getD-set-same before head now 0 (omega (arith, o .long)), eq-eqb (r .head) (r .head) refl, o .each (r .head))

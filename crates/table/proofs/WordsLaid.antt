@@ -17,6 +17,7 @@ use Rattle.grammar.specs.Codes.{noEntry, noRule}
 use Rattle.grammar.specs.Limits.{maxNonterminals, maxRules, maxTableWords}
 use Rattle.grammar.specs.Syntax.{Grammar}
 use Rattle.grammar.specs.declared.reading.Sizes.{Sizes}
+use Rattle.lookahead.specs.declared.Lookahead.the-variants.{One}
 use Rattle.semantics.specs.Claims.{claims, tableOf}
 use Rattle.semantics.specs.FirstFollow.{first, follow}
 use Rattle.semantics.proofs.Outcomes.{nth-below}
@@ -59,12 +60,12 @@ module _ (G : Grammar) (few : G .nonterminals ≤ maxNonterminals) (fewRules : l
   word-small none h = omega arith
   word-small (some q) h = omega (arith, h q refl)
 
-  set-small : (b : Bool) (A : ℕ) → choose b (firstNumber G A) (followNumber G A) < 2 ^ 32
+  set-small : (b : Bool) (A : ℕ) → choose b (firstNumber One G A) (followNumber One G A) < 2 ^ 32
   unfolding firstNumber followNumber
-  set-small true A = omega (arith, number-below (λ x. first G 1 (A, x)))
-  set-small false A = omega (arith, number-below (λ x. follow G 1 (A, x)))
+  set-small true A = omega (arith, number-below One (λ x. first G 1 (A, x)))
+  set-small false A = omega (arith, number-below One (λ x. follow G 1 (A, x)))
 
-  module _ {firsts follows entries : List ℕ} (f : firsts ≡ listed maxNonterminals (firstNumber G)) (g : follows ≡ listed maxNonterminals (followNumber G))
+  module _ {firsts follows entries : List ℕ} (f : firsts ≡ listed maxNonterminals (firstNumber One G)) (g : follows ≡ listed maxNonterminals (followNumber One G))
       (h : entries ≡ entriesOf G) where
     abbrev sets : ℕ
     sets = 2 * G .nonterminals
@@ -82,11 +83,11 @@ module _ (G : Grammar) (few : G .nonterminals ≤ maxNonterminals) (fewRules : l
         let b = g-at (i / 2) (omega arith) in
         rw (lt-ltb i sets l, a, b)
       where
-        f-at : (A : ℕ) → A < maxNonterminals → getD firsts A 0 ≡ firstNumber G A
-        f-at A k = rw f (listed-at maxNonterminals (firstNumber G) A k)
+        f-at : (A : ℕ) → A < maxNonterminals → getD firsts A 0 ≡ firstNumber One G A
+        f-at A k = rw f (listed-at maxNonterminals (firstNumber One G) A k)
 
-        g-at : (A : ℕ) → A < maxNonterminals → getD follows A 0 ≡ followNumber G A
-        g-at A k = rw g (listed-at maxNonterminals (followNumber G) A k)
+        g-at : (A : ℕ) → A < maxNonterminals → getD follows A 0 ≡ followNumber One G A
+        g-at A k = rw g (listed-at maxNonterminals (followNumber One G) A k)
 
     in-rows : (i : ℕ) → i < G .nonterminals * columns G → word (sets + i) ≡ rowWord G i
     unfolding wordAt rowWord entryAt byteAt

@@ -10,6 +10,7 @@ use Rattle.grammar.specs.Codes.{noEntry}
 use Rattle.grammar.specs.Limits.{maxNonterminals, maxTableWords}
 use Rattle.grammar.specs.Encoding.{grammarOf}
 use Rattle.grammar.specs.Reading.{reading}
+use Rattle.lookahead.specs.declared.Lookahead.the-variants.{One}
 use Rattle.sets.specs.declared.Finding.{Finding}
 use Rattle.sets.specs.Analysis.{setsFaults, setsFault, findingOf, setsIf}
 use Rattle.sets.specs.Lists.{listed}
@@ -29,7 +30,7 @@ clashFault (At A c) = some (error.Conflict A c)
 
 -- the faults of an encoded grammar, in the papers' order: 3 to 8 and 13 come first
 abbrev pub grammarFaults : List ℕ → List (Option Error)
-grammarFaults words = setsFaults words ++ clashFault (firstClash (grammarOf words)) ∷ []
+grammarFaults words = setsFaults One words ++ clashFault (firstClash (grammarOf words)) ∷ []
 
 unfoldable pub fault : List ℕ → Option Error
 fault words = firstFault (grammarFaults words)
@@ -49,8 +50,8 @@ foundWith f firsts follows entries = record { finding = f; firsts = firsts; foll
 unfoldable pub foundOf : List ℕ → Found
 foundOf words =
     foundWith (findingOf (fault words) (reading words))
-    (setsIf (setsFault words) (listed maxNonterminals (firstNumber (grammarOf words))))
-    (setsIf (setsFault words) (listed maxNonterminals (followNumber (grammarOf words))))
+    (setsIf (setsFault One words) (listed maxNonterminals (firstNumber One (grammarOf words))))
+    (setsIf (setsFault One words) (listed maxNonterminals (followNumber One (grammarOf words))))
     (entriesIf (fault words) (entriesOf (grammarOf words)))
 
 -- and with them

@@ -14,6 +14,9 @@ use Rattle.grammar.specs.Encoding.{grammarOf}
 use Rattle.grammar.specs.Limits.{maxNonterminals, maxRules}
 use Rattle.grammar.specs.Reading.{reading, beginsRule}
 use Rattle.grammar.specs.Syntax.{Rule, Grammar}
+use Rattle.lookahead.specs.declared.Lookahead.{Lookahead}
+use Rattle.lookahead.specs.declared.Lookahead.the-variants.{One}
+use Rattle.lookahead.specs.Lookaheads.{tokens}
 use Rattle.lookahead.specs.Elements.{has}
 use Rattle.lookahead.specs.Operations.{concatNumbers}
 use Rattle.semantics.specs.FiniteSets.{member}
@@ -28,14 +31,14 @@ use Rattle.table.specs.Overruns.{overrunSet}
 use Rattle.table.specs.declared.claims.Claims.{Claims}
 
 -- the strings that a rule claims for its head, as a number (document 01: the columns that a rule claims)
-unfoldable pub claimNumber : Grammar → Rule → ℕ
-claimNumber G r = numberOf (member sameString (claimed G 1 r))
+unfoldable pub claimNumber : Lookahead → Grammar → Rule → ℕ
+claimNumber k G r = numberOf k (member sameString (claimed G (tokens k) r))
 
 abbrev pub headsOf : Grammar → List ℕ
 headsOf G = map (λ r. r .head) (G .rules)
 
 abbrev pub claimNumbers : Grammar → List ℕ
-claimNumbers G = map (claimNumber G) (G .rules)
+claimNumbers G = map (claimNumber One G) (G .rules)
 
 -- a number for each rule, and zeros behind them
 unfoldable pub byRule : List ℕ → List ℕ
@@ -61,11 +64,11 @@ claimsWith f firsts follows heads sets told = record { finding = f; firsts = fir
 -- each rule, and the nonterminals that overrun
 unfoldable pub claimsOf : List ℕ → Claims
 claimsOf words =
-    claimsWith (findingOf (setsFault words) (reading words))
-    (setsIf (setsFault words) (listed maxNonterminals (firstNumber (grammarOf words))))
-    (setsIf (setsFault words) (listed maxNonterminals (followNumber (grammarOf words))))
-    (byRuleIf (setsFault words) (headsOf (grammarOf words)))
-    (byRuleIf (setsFault words) (claimNumbers (grammarOf words))) (overrunsIf (setsFault words) (overrunsOf (grammarOf words)))
+    claimsWith (findingOf (setsFault One words) (reading words))
+    (setsIf (setsFault One words) (listed maxNonterminals (firstNumber One (grammarOf words))))
+    (setsIf (setsFault One words) (listed maxNonterminals (followNumber One (grammarOf words))))
+    (byRuleIf (setsFault One words) (headsOf (grammarOf words)))
+    (byRuleIf (setsFault One words) (claimNumbers (grammarOf words))) (overrunsIf (setsFault One words) (overrunsOf (grammarOf words)))
 
 -- by heads and claims: rule q claims an element for A
 unfoldable pub claimant : (heads sets : List ℕ) → ℕ → ℕ → ℕ → Bool
@@ -80,8 +83,8 @@ pub record Headed (heads : List ℕ) (rules nonterminals : ℕ) : Type 0 where
 -- a grammar that has been read, and its sets
 pub record FamiliesGiven (words : List ℕ) (z : Sizes) (firsts follows : List ℕ) : Type 0 where
   pub read : reading words ≡ Read z
-  pub first : firsts ≡ listed maxNonterminals (firstNumber (grammarOf words))
-  pub follow : follows ≡ listed maxNonterminals (followNumber (grammarOf words))
+  pub first : firsts ≡ listed maxNonterminals (firstNumber One (grammarOf words))
+  pub follow : follows ≡ listed maxNonterminals (followNumber One (grammarOf words))
 
 -- nothing is kept of any rule, or the heads and the claims of all
 abbrev pub Empty : List ℕ → Type 0
@@ -114,4 +117,4 @@ pub record RuleClaims (A claim : ℕ) (before after : Kept) : Type 0 where
 -- by the word before them: a rule of A that begins with it claims what its positives' meet, and then what may follow A, begins with
 abbrev pub WordClaims : Option ℕ → List ℕ → ℕ → Kept → Kept → Type 0
 WordClaims none follows meet before after = after ≡ before
-WordClaims (some A) follows meet before after = RuleClaims A (concatNumbers meet (getD follows A 0)) before after
+WordClaims (some A) follows meet before after = RuleClaims A (concatNumbers One meet (getD follows A 0)) before after

@@ -4,7 +4,8 @@ use Prim.Native.Nat.{ℕ, suc}
 use lib.Dec.{eqb}
 use Rattle.booleans.specs.Choice.{choose}
 use Rattle.grammar.specs.Syntax.{Grammar}
-use Rattle.lookahead.specs.Elements.{nothing}
+use Rattle.lookahead.specs.declared.Lookahead.the-variants.{One}
+use Rattle.lookahead.specs.Lookaheads.{nothing}
 
 -- how many there are
 abbrev pub columnCount : ℕ → ℕ
@@ -19,4 +20,4 @@ columnString terminals c = choose (eqb c terminals) [] (c ∷ [])
 
 -- and its element
 unfoldable pub columnElement : ℕ → ℕ → ℕ
-columnElement terminals c = choose (eqb c terminals) nothing c
+columnElement terminals c = choose (eqb c terminals) (nothing One) c

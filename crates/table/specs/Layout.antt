@@ -10,6 +10,7 @@ use Rattle.grammar.specs.Codes.{noEntry, noRule}
 use Rattle.grammar.specs.Limits.{maxNonterminals, maxTableWords}
 use Rattle.grammar.specs.Syntax.{Grammar}
 use Rattle.grammar.specs.declared.reading.Sizes.{Sizes}
+use Rattle.lookahead.specs.declared.Lookahead.the-variants.{One}
 use Rattle.semantics.specs.Claims.{tableOf}
 use Rattle.sets.specs.Lists.{listed}
 use Rattle.sets.specs.Sets.{firstNumber, followNumber}
@@ -24,7 +25,7 @@ entryAt G A c = entryWord (tableOf G 1 A (columnString (G .terminals) c))
 
 -- the first set of A at 2 × A, the follow set at 2 × A + 1
 unfoldable pub setWord : Grammar → ℕ → ℕ
-setWord G i = choose (eqb (i % 2) 0) (firstNumber G (i / 2)) (followNumber G (i / 2))
+setWord G i = choose (eqb (i % 2) 0) (firstNumber One G (i / 2)) (followNumber One G (i / 2))
 
 unfoldable pub rowWord : Grammar → ℕ → ℕ
 rowWord G i = entryAt G (i / columns G) (i % columns G)

@@ -13,13 +13,15 @@ use Rattle.word.specs.declared.Word.the-variants.{Heading, Rule as RuleWord, Po
 use Rattle.word.specs.Words.{decoded}
 use Rattle.grammar.specs.Limits.{maxNonterminals}
 use Rattle.grammar.specs.Syntax.{Rule}
-use Rattle.lookahead.specs.Elements.{nothing, weight}
+use Rattle.lookahead.specs.declared.Lookahead.the-variants.{One}
+use Rattle.lookahead.specs.Lookaheads.{nothing}
+use Rattle.lookahead.specs.Elements.{weight}
 use Rattle.lookahead.specs.Operations.{empty, isEmpty, terminal, meet}
 use Rattle.semantics.specs.Claims.{without}
 use Rattle.sets.specs.Naming.{Indexed}
 
 abbrev pub everyTerminal : ℕ
-everyTerminal = weight nothing - 1
+everyTerminal = weight (nothing One) - 1
 
 -- a set has more than nothing
 unfoldable pub beyondEnd : ℕ → Bool
@@ -31,7 +33,7 @@ aloneIn A rs = anyOf (λ r. eqb (r .head) A && without (r .positives)) rs
 
 -- the set that is told of a nonterminal: the first terminal where it overruns, else empty
 abbrev pub overrunSet : Bool → ℕ
-overrunSet b = choose b (terminal 0) empty
+overrunSet b = choose b (terminal One 0) empty
 
 -- whether the rule that is open has no positives from a word on
 abbrev pub aloneFrom : Word → Bool → Bool
@@ -47,7 +49,7 @@ aloneFrom Invalid b = b
 abbrev pub WordOverruns : Option ℕ → Bool → List ℕ → List ℕ → List ℕ → Type 0
 WordOverruns none alone follows before after = after ≡ before
 WordOverruns (some A) alone follows before after =
-    after ≡ set before A (choose (alone && beyondEnd (getD follows A 0)) (terminal 0) (getD before A 0))
+    after ≡ set before A (choose (alone && beyondEnd (getD follows A 0)) (terminal One 0) (getD before A 0))
 
 -- an array of sets has one for what each word names
 abbrev pub WordsIndexed : List ℕ → Type 0

@@ -6,6 +6,7 @@ ghost use Rattle.table.specs.Claims.{claimsOf, FamiliesGiven, kept, MayC
 use super::overruns::overrunning;
 use grammar::limits::RULES;
 use grammar::reading::Sizes;
+use lookahead::Lookahead;
 use lookahead::LookaheadSet;
 use sets::Finding;
 use sets::family::SETS;
@@ -48,7 +49,7 @@ fn claim(
     };
     let rule = behind - 1;
     heads[rule] = head as u8;
-    sets[rule] = meet.concat(follow).bits;
+    sets[rule] = meet.concat(Lookahead::One, follow).bits;
     rule
 }
 
@@ -66,14 +67,14 @@ pub(crate) fn keep_claims<'a>(
     ensures { λ _. ⌜ AllKept (grammarOf (now (words .entry))) (now (heads .exit)) (now (sets .exit)) ⌝ }
 {
     let terminals = sizes.terminals;
-    let mut rest = no_rest(terminals);
+    let mut rest = no_rest(terminals, Lookahead::One);
     let mut rule = sizes.rules;
     let mut at = words.len();
     while 0 < at {
         at = at - 1;
         let word = decode(words[at]);
         let meet = rest.meet;
-        rest = onto(word, rest, firsts, terminals);
+        rest = onto(word, rest, firsts, terminals, Lookahead::One);
         rule = claim(word, meet, follows, heads, sets, rule);
     }
 }
@@ -81,7 +82,7 @@ pub(crate) fn keep_claims<'a>(
 pub fn analyze(words: &[u32]) -> Claims
     ensures { λ r. ⌜ r ≡ claimsOf (now (words .entry)) ⌝ }
 {
-    let families = sets::analyze(words);
+    let families = sets::analyze(words, Lookahead::One);
     let finding = families.finding;
     let mut heads = [0u8; RULES];
     let mut sets = [0u64; RULES];

@@ -3,9 +3,11 @@ ghost use mathlib.Core.Path.{_≡_};
 ghost use mathlib.Core.Bool.{_&&_};
 ghost use Rattle.booleans.specs.Choice.{choose};
 ghost use Rattle.grammar.specs.Encoding.{parse};
+ghost use Rattle.lookahead.specs.declared.Lookahead.the-variants.{One};
 ghost use Rattle.lookahead.specs.Operations.{terminal};
 ghost use Rattle.sets.specs.Naming.{ruleHead, Indexed};
 ghost use Rattle.table.specs.Overruns.{beyondEnd, aloneFrom, WordOverruns, WordsIndexed, Overrunning};
+use lookahead::Lookahead;
 use lookahead::LookaheadSet;
 use lookahead::NOTHING;
 use sets::family::SETS;
@@ -17,7 +19,7 @@ const TERMINALS: u64 = (1 << NOTHING) - 1;
 
 // The first terminal where a rule has no positives and more than the end can follow it, else what was told before.
 fn told(alone: bool, follow: LookaheadSet, before: LookaheadSet) -> LookaheadSet
-    ensures { λ r. ⌜ r .bits ≡ choose (alone && beyondEnd (follow .bits)) (terminal 0) (before .bits) ⌝ }
+    ensures { λ r. ⌜ r .bits ≡ choose (alone && beyondEnd (follow .bits)) (terminal One 0) (before .bits) ⌝ }
 {
     let terminals = LookaheadSet { bits: TERMINALS };
     let ends = follow.meet(terminals).is_empty();
@@ -25,7 +27,7 @@ fn told(alone: bool, follow: LookaheadSet, before: LookaheadSet) -> LookaheadSet
         return before;
     }
     if alone {
-        LookaheadSet::terminal(0)
+        LookaheadSet::terminal(Lookahead::One, 0)
     } else {
         before
     }

@@ -2,6 +2,7 @@
 use mathlib.Core.Path.{ap, _∙_}
 use native.Mathlib.Omega.{arith}
 use lib.ListN.{length}
+use Rattle.lookahead.specs.declared.Lookahead.the-variants.{One}
 use Rattle.sets.proofs.Lists.{listed-long}
 use Rattle.sets.proofs.ArrayLookup.{onto-at}
 use Rattle.table.specs.Claims.{kept}
@@ -54,7 +55,7 @@ loop-again c =
     let turn = at-decode .before .before in
     let loop = turn .before in
     let given = loop .before .before .before .pre .0 in
-    let turned = onto-at _ (ap length (given .first) ∙ listed-long 32 _) (at-onto .onto .ensures) in
+    let turned = onto-at One _ (ap length (given .first) ∙ listed-long 32 _) (at-onto .onto .ensures) in
     claiming-turn given (loop .loop .inv) (turn .loop-test .taken) (at-decode .decode .ensures) _ turned (c .claim .ensures)
 
 returns : tie.Need-returns Inv-loop μ-loop
