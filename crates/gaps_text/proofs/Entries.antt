@@ -13,7 +13,8 @@ use Rattle.booleans.specs.Quantifiers.{one, countBelow}
 use Rattle.booleans.proofs.Quantified.{count-cong, count-first}
 use Rattle.grammar.specs.declared.reading.Sizes.{Sizes}
 use Rattle.grammar.specs.Syntax.{Grammar}
-use Rattle.lookahead.specs.Elements.{nothing}
+use Rattle.lookahead.specs.declared.Lookahead.the-variants.{One}
+use Rattle.lookahead.specs.Lookaheads.{nothing}
 use Rattle.semantics.specs.Calls.{Distinct}
 use Rattle.semantics.specs.Claims.{overruns}
 use Rattle.semantics.specs.FiniteSets.{keep, numbersFrom, numbers, combine}
@@ -105,7 +106,7 @@ rules-are n p =
     go [] = refl
     go (q ∷ qs) = rw (ne-eqb (suc (length qs)) 0 (λ e. omega arith))
 
-module _ (G : Grammar) (few : G .terminals ≤ nothing) where
+module _ (G : Grammar) (few : G .terminals ≤ nothing One) where
   -- the line of an entry, unless just one rule claims it
   abbrev listedText : Entry → List ℕ
   listedText e = choose (isListed (claimants G e)) (entryText G e) []

@@ -16,6 +16,7 @@ use Rattle.booleans.proofs.Booleans.{T-none, or-cases}
 use Rattle.booleans.proofs.Quantified.{count-first}
 use Rattle.grammar.specs.Encoding.{grammarOf}
 use Rattle.grammar.specs.Syntax.{Rule, Grammar}
+use Rattle.lookahead.specs.declared.Lookahead.the-variants.{One}
 use Rattle.semantics.specs.Claims.{several, claims, overruns, clashes}
 use Rattle.semantics.specs.Families.{Claims}
 use Rattle.semantics.specs.FirstFollow.{Entry, sameString, entries, First, Follow}
@@ -125,7 +126,7 @@ last none = refl
 last (some e) = refl
 
 -- of a grammar clear of the errors 3 to 8: nothing of the kind is shown exactly when 9 is not given
-nine-told : (words : List ℕ) → setsFault words ≡ none → NoneShown (grammarOf words) ↔ (fault words ≡ none)
+nine-told : (words : List ℕ) → setsFault One words ≡ none → NoneShown (grammarOf words) ↔ (fault words ≡ none)
 nine-told words f =
     let G = grammarOf words in
     let d : fault words ≡ clashFault (firstClash G) = rw (fault-sets words, f) (last (clashFault (firstClash G))) in

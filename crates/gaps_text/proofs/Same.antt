@@ -16,7 +16,8 @@ use Rattle.grammar.specs.Reading.{reading}
 use Rattle.grammar.specs.Syntax.{Rule, Grammar}
 use Rattle.grammar.specs.WellRead.{WellRead}
 use Rattle.grammar.proofs.WellRead.{well-read}
-use Rattle.lookahead.specs.Elements.{nothing}
+use Rattle.lookahead.specs.declared.Lookahead.the-variants.{One}
+use Rattle.lookahead.specs.Lookaheads.{nothing}
 use Rattle.lookahead.specs.Operations.{isEmpty, terminal}
 use Rattle.semantics.specs.Claims.{claims, overruns}
 use Rattle.sets.specs.declared.Finding.the-variants.{Passed, Refused}
@@ -54,7 +55,7 @@ lines-same z p q o u h k =
     (up-to-same (z .nonterminals) _ _ (λ A l. ap (λ b. overrunLine b A) (k A l)))
 
 -- heads and claims tell which rules claim an entry
-claimant-same : (G : Grammar) {heads sets : List ℕ} → heads ≡ byRule (headsOf G) → sets ≡ byRule (claimNumbers G) → G .terminals ≤ nothing
+claimant-same : (G : Grammar) {heads sets : List ℕ} → heads ≡ byRule (headsOf G) → sets ≡ byRule (claimNumbers G) → G .terminals ≤ nothing One
     → (A c q : ℕ) (r : Rule) → c < suc (G .terminals) → getElem? (G .rules) q ≡ some r
     → claimantAt heads sets (G .terminals) A c q ≡ claimsAt G A c q
 unfolding claimsBy
@@ -72,9 +73,9 @@ overrun-same false = refl
 
 module _ (words : List ℕ) {r : Claims} (e : r ≡ claimsOf words) where
   module _ {z : Sizes} (q : r .finding ≡ Passed z) where
-    told : (setsFault words ≡ none) × (reading words ≡ Read z)
+    told : (setsFault One words ≡ none) × (reading words ≡ Read z)
     unfolding claimsOf
-    told = told-passed (setsFault words) (reading words) (sym (ap (λ y. y .finding) e) ∙ q)
+    told = told-passed (setsFault One words) (reading words) (sym (ap (λ y. y .finding) e) ∙ q)
 
     read : WellRead words z
     read = well-read words z (told .1)
@@ -91,7 +92,7 @@ module _ (words : List ℕ) {r : Claims} (e : r ≡ claimsOf words) where
         let hs : r .heads ≡ byRule (headsOf G) = ap (λ y. y .heads) e ∙ ap (λ y. byRuleIf y (headsOf G)) (told .0) in
         let cs : r .sets ≡ byRule (claimNumbers G) = ap (λ y. y .sets) e ∙ ap (λ y. byRuleIf y (claimNumbers G)) (told .0) in
         let os : r .overruns ≡ overrunsOf G = ap (λ y. y .overruns) e ∙ ap (λ y. overrunsIf y (overrunsOf G)) (told .0) in
-        let few : G .terminals ≤ nothing = omega (arith, read .fewTerminals, read .terminals) in
+        let few : G .terminals ≤ nothing One = omega (arith, read .fewTerminals, read .terminals) in
         let t : linesText z (claimantAt (r .heads) (r .sets) (z .terminals)) (overrunsIn (r .overruns)) ≡ linesText z (claimsAt G) (overruns G 1) =
         lines-same z _ (claimsAt G) _ (overruns G 1)
         (λ A c i k j. rw (read .terminals) (claimant-same G hs cs few A c i _ (omega (arith, read .terminals)) (read .begins i j)))
@@ -104,5 +105,5 @@ module _ (words : List ℕ) {r : Claims} (e : r ≡ claimsOf words) where
   pub refusal-put : {x : Error} → r .finding ≡ Refused x → {l m : List ℕ} {n : ℕ} → Put l 0 (refusalText x) m n → GapsPut words l m n
   unfolding gapsText claimsOf setsFault
   refusal-put {x} q p =
-      let f : setsFault words ≡ some x = told-refused (setsFault words) (reading words) (λ y f. rw f) (sym (ap (λ y. y .finding) e) ∙ q) in
+      let f : setsFault One words ≡ some x = told-refused (setsFault One words) (reading words) (λ y f. rw f) (sym (ap (λ y. y .finding) e) ∙ q) in
       record { put = rw f p; tells = lines-tell words }
