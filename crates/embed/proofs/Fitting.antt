@@ -9,7 +9,7 @@ use native.Mathlib.Nat.{mul-le-mul}
 use native.Mathlib.Omega.{arith}
 use lib.ListN.{length}
 use Rattle.answer.specs.declared.Error.{Error}
-use Rattle.answer.specs.declared.Error.the-variants.{TableTooShort, MemoTooShort, Length, Heading, UnexpectedWord, OutOfRange, TooManyRules, LeftRecursive, Unproductive, Conflict, InputTooLong, UnknownToken}
+use Rattle.answer.specs.declared.Error.the-variants.{TableTooShort, MemoTooShort, Length, Heading, UnexpectedWord, OutOfRange, TooManyRules, LeftRecursive, Unproductive, Conflict, WideConflict, InputTooLong, UnknownToken}
 use Rattle.answer.specs.declared.Error.the-variants.{SpansTooShort, TreeTooShort, WideTableTooShort, BufferTooShort, UnknownClient, QuotaReached, TooManyTerminals, UnknownCheckpoint, CheckpointNotSet, InputFull, TooManyInputs}
 use Rattle.answer.specs.declared.Calls.{Calls}
 use Rattle.answer.specs.declared.Answer.{Answer}
@@ -24,7 +24,7 @@ use Rattle.semantics.specs.Valuations.{solution}
 use Rattle.semantics.proofs.Called.{called-range}
 use Rattle.semantics.proofs.Theorems.{theorems}
 use Rattle.answer.specs.Faults.{refusedOr}
-use Rattle.recognizer.specs.Answers.{checkFault, judgeFault, callsOf, verdictOf}
+use Rattle.recognizer.specs.Answers.{checkFault, judgeFault, callsOf, verdictBy, verdictOf}
 use Rattle.recognizer.specs.Properties.{Checks, Judges}
 use Rattle.recognizer.proofs.Checking.{passed-fault, passed-encodes, passed-free}
 use Rattle.recognizer.proofs.JudgeFaults.{judged-readable}
@@ -52,6 +52,7 @@ code-low (TooManyRules at) = omega arith
 code-low (LeftRecursive A) = omega arith
 code-low (Unproductive A) = omega arith
 code-low (Conflict A c) = omega arith
+code-low (WideConflict A c) = omega arith
 code-low InputTooLong = omega arith
 code-low (UnknownToken at) = omega arith
 code-low SpansTooShort = omega arith
@@ -101,7 +102,7 @@ verdict-fits false c h = record { verdict = omega arith; code = omega arith; pos
 
 -- a judgement
 pub judge-fits : {words input table memo table′ memo′ : List ℕ} {a : Answer} → Judges words input table memo a table′ memo′ → NumbersFit (numbers a)
-unfolding verdictOf
+unfolding verdictBy
 judge-fits {words} {input} {table} {memo} {table′} {memo′} {a} j =
     rw (j .answer) (go (judgeFault (length table) (length memo) words input) refl (judge-low (length table) (length memo) words input))
   where

@@ -21,18 +21,15 @@ use Rattle.grammar.specs.Reading.{reading}
 use Rattle.grammar.specs.declared.reading.Outcome.{Outcome}
 use Rattle.grammar.specs.declared.reading.Outcome.the-variants.{Read, Faulty}
 use Rattle.grammar.proofs.WellRead.{well-read}
-use Rattle.booleans.specs.Quantifiers.{allOf}
-use Rattle.semantics.specs.Strings.{Over}
 use Rattle.semantics.specs.LeftRecursion.{leftRecursive, lowestLeftRecursive}
 use Rattle.semantics.specs.Productive.{unproductive, lowestUnproductive}
-use Rattle.semantics.specs.FirstFollow.{Entry, entries}
-use Rattle.semantics.specs.Claims.{clashes, column}
-use Rattle.booleans.proofs.Booleans.{and-l}
-use Rattle.semantics.proofs.FiniteSets.{keep-elim}
 use Rattle.booleans.proofs.Quantified.{lowest-some}
-use Rattle.semantics.proofs.LookaheadSets.{entries-elim}
 use Rattle.sets.specs.Analysis.{readingFault, leftFault, unproductiveFault, setsFaults}
+use Rattle.table.specs.declared.conflicts.Conflict.{Conflict as Clash}
+use Rattle.table.specs.declared.conflicts.Conflict.the-variants as conflict
 use Rattle.table.specs.Analysis.{clashFault, grammarFaults}
+use Rattle.table.specs.Conflicts.{firstClash}
+use Rattle.table.proofs.FirstClash.{clash-at}
 use Rattle.event.specs.declared.Unknown.the-variants.{At}
 use Rattle.event.specs.Unknown.{unknownFrom, unknownFault}
 use Rattle.recognizer.specs.Answers.{checkFault, judgeFault}
@@ -66,18 +63,9 @@ module _ (G : Grammar) (few : G .nonterminals ≤ maxNonterminals) (small : G .t
   unproductive-low none e = none-low maxWords
   unproductive-low (some A) e = some-low maxWords (Unproductive A) (omega (arith, lowest-some (G .nonterminals) (unproductive G 1) A .0 e .0))
 
-  column-low : (x : List ℕ) → Over (G .terminals) x → column (G .terminals) x ≤ maxTerminals
-  unfolding allOf
-  column-low [] h = small
-  column-low (a ∷ x) h = omega (arith, ltb→lt a (G .terminals) (and-l (ltb a (G .terminals)) _ h))
-
-  clash-low : (l : List Entry) → clashes G 1 ≡ l → LowFault maxWords (clashFault (G .terminals) l)
-  unfolding clashes
-  clash-low [] q = none-low maxWords
-  clash-low (e ∷ es) q =
-      let m : List·Memᴰ e (clashes G 1) = rw q (List·Memᴰ·head refl) in
-      let k = entries-elim G 1 e (keep-elim _ (entries G 1) e m .0) in
-      some-low maxWords (Conflict (e .0) (column (G .terminals) (e .1))) (omega (arith, k .0, column-low (e .1) (k .1 .1)))
+  clash-low : (r : Clash) → firstClash G ≡ r → LowFault maxWords (clashFault r)
+  clash-low conflict.Absent q = none-low maxWords
+  clash-low (conflict.At A c) q = let k = clash-at G q in some-low maxWords (Conflict A c) (omega (arith, k .0, k .1))
 
 when-low : (n : ℕ) (b : Bool) (x : Error) → coded x .position ≤ n → LowFault n (faultIf b x)
 when-low n true x h = some-low n x h
@@ -105,7 +93,7 @@ sets-rows words l h = (
 -- all rows of a grammar's faults, and those behind them
 grammar-rows : (words : List ℕ) (l : List (Option Error)) → EachFault (Low maxWords) l → EachFault (Low maxWords) (grammarFaults words ++ l)
 grammar-rows words l h =
-    sets-rows words (clashFault (grammarOf words .terminals) (clashes (grammarOf words) 1) ∷ l)
+    sets-rows words (clashFault (firstClash (grammarOf words)) ∷ l)
     (λ few small. (clash-low (grammarOf words) few small _ refl, λ _. h))
 
 unknown-low : (n t at : ℕ) (w : List ℕ) → at + length w ≤ n → LowFault n (unknownFault (unknownFrom t at w))

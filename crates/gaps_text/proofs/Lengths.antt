@@ -25,7 +25,7 @@ use Rattle.sets.specs.declared.Finding.{Finding}
 use Rattle.sets.specs.declared.Finding.the-variants.{Passed, Refused}
 use Rattle.sets.specs.Analysis.{setsFault, findingOf}
 use Rattle.sets.proofs.Findings.{told-passed}
-use Rattle.table.specs.Layout.{columnString}
+use Rattle.table.specs.Columns.{columnString}
 use Rattle.text.specs.Ascii.{ascii}
 use Rattle.text.specs.Decimal.{decimal, labelled}
 use Rattle.text.specs.Writing.{upTo}

@@ -12,7 +12,7 @@ use Rattle.booleans.proofs.Quantified.{one-le}
 use Rattle.lookahead.specs.Elements.{has}
 use Rattle.lookahead.specs.Operations.{isEmpty}
 use Rattle.table.specs.Claims.{claimant}
-use Rattle.table.specs.Layout.{columnElement}
+use Rattle.table.specs.Columns.{columnElement}
 use Rattle.table.proofs.Claimants.{claimant-own}
 use Rattle.text.specs.Ascii.{ascii}
 use Rattle.text.specs.Decimal.{decimal, labelled}

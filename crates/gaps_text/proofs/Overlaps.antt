@@ -24,7 +24,11 @@ use Rattle.semantics.proofs.FiniteSets.{keep-elim}
 use Rattle.semantics.proofs.LookaheadSets.{entries-elim}
 use Rattle.semantics.proofs.Positions.{several-elim}
 use Rattle.sets.specs.Analysis.{setsFault}
+use Rattle.table.specs.declared.conflicts.Conflict.{Conflict}
+use Rattle.table.specs.declared.conflicts.Conflict.the-variants.{Absent, At}
 use Rattle.table.specs.Analysis.{clashFault, fault}
+use Rattle.table.specs.Conflicts.{firstClash}
+use Rattle.table.proofs.FirstClash.{clash-absent}
 use Rattle.table.proofs.Analyzing.{fault-sets}
 use Rattle.gaps_text.specs.Gaps.{onRule, claimsBy, claimants, NoneShown, LinesTell}
 use Rattle.gaps_text.proofs.Entries.{count-kept, entries-once, overruns-once}
@@ -111,9 +115,9 @@ module _ (G : Grammar) where
           let k = keep-elim (λ e. several (claims G 1 e) (G .rules) || (overruns G 1 (e .0) && sameString (0 ∷ []) (e .1))) (entries G 1) d m in
           absurd (unlike d (k .0) (or-cases (several (claims G 1 d) (G .rules)) _ (k .1)))
 
-none-clash : (t : ℕ) (l : List Entry) → clashFault t l ≡ none → l ≡ []
-none-clash t [] e = refl
-none-clash t (x ∷ l) e = let z : _≡_ {A = ℕ} 0 1 = cc in absurd (omega arith)
+none-clash : (r : Conflict) → clashFault r ≡ none → r ≡ Absent
+none-clash Absent e = refl
+none-clash (At A c) e = let z : _≡_ {A = ℕ} 0 1 = cc in absurd (omega arith)
 
 -- the last of the faults
 last : (x : Option Error) → firstFault (none ∷ x ∷ []) ≡ x
@@ -124,8 +128,9 @@ last (some e) = refl
 nine-told : (words : List ℕ) → setsFault words ≡ none → NoneShown (grammarOf words) ↔ (fault words ≡ none)
 nine-told words f =
     let G = grammarOf words in
-    let d : fault words ≡ clashFault (G .terminals) (clashes G 1) = rw (fault-sets words, f) (last (clashFault (G .terminals) (clashes G 1))) in
-    (λ n. d ∙ ap (clashFault (G .terminals)) (none-clashless G n), λ e. clashless-none G (none-clash (G .terminals) (clashes G 1) (sym d ∙ e)))
+    let d : fault words ≡ clashFault (firstClash G) = rw (fault-sets words, f) (last (clashFault (firstClash G))) in
+    let k = clash-absent G in
+    (λ n. d ∙ ap clashFault (k .1 (none-clashless G n)), λ e. clashless-none G (k .0 (none-clash (firstClash G) (sym d ∙ e))))
 
 pub lines-tell : (words : List ℕ) → LinesTell words
 lines-tell words = record {

@@ -25,10 +25,10 @@ use Rattle.sets.proofs.Findings.{told-passed, told-refused}
 use Rattle.sets.proofs.Lists.{listed-at}
 use Rattle.table.specs.declared.claims.Claims.{Claims}
 use Rattle.table.specs.Claims.{headsOf, claimNumbers, byRule, byRuleIf, overrunsOf, overrunsIf, claimsOf}
-use Rattle.table.specs.Layout.{columnElement}
+use Rattle.table.specs.Columns.{columnElement}
 use Rattle.table.specs.Overruns.{overrunSet}
 use Rattle.table.proofs.Claimants.{claims-alike, told as rules-told}
-use Rattle.table.proofs.Columns.{column-string, element-small}
+use Rattle.table.proofs.ColumnStrings.{column-string, element-small}
 use Rattle.text.specs.Refusal.{refusalText}
 use Rattle.text.specs.Writing.{Put}
 use Rattle.gaps_text.specs.Gaps.{claimsBy, gapsText, GapsPut}

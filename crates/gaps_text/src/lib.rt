@@ -15,7 +15,7 @@ use lookahead::LookaheadSet;
 use sets::Finding;
 use sets::family::SETS;
 use table::claims::analyze;
-use table::layout::element;
+use table::columns::element;
 use text::put::put_bytes;
 use text::put::put_labelled;
 use text::put::put_number;

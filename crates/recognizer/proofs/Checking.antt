@@ -38,16 +38,20 @@ use Rattle.semantics.specs.Theorems.{LeastSets}
 use Rattle.semantics.proofs.Theorems.{theorems}
 use Rattle.sets.specs.declared.Finding.the-variants as finding
 use Rattle.table.specs.declared.Analysis.{Analysis}
-use Rattle.table.specs.Layout.{tableWords}
-use Rattle.table.specs.Entries.{filled}
+use Rattle.table.specs.Layout.{tableWords, filled}
+use Rattle.table.specs.Entries.{entriesOf}
 use Rattle.sets.specs.Analysis.{readingFault, leftFault, unproductiveFault}
 use Rattle.sets.proofs.Findings.{told-passed, told-refused}
-use Rattle.table.specs.Analysis.{clashFault, grammarFaults, fault, tableIf, analyzed}
+use Rattle.table.specs.Analysis.{clashFault, grammarFaults, fault, entriesIf, tableIf, analyzed}
+use Rattle.table.specs.Conflicts.{firstClash}
+use Rattle.table.specs.declared.conflicts.Conflict.{Conflict}
+use Rattle.table.specs.declared.conflicts.Conflict.the-variants.{Absent, At}
+use Rattle.table.proofs.FirstClash.{clash-absent}
 use Rattle.table.proofs.Words.{table-long}
 use Rattle.recognizer.specs.Memory.{lentBack, wordCount, LendGiven, Lent}
 use Rattle.recognizer.specs.Answers.{checkFault}
 use Rattle.recognizer.specs.Judging.{TableFound}
-use Rattle.recognizer.specs.Properties.{PassedGrammar, LeastFamilies, Checks}
+use Rattle.recognizer.specs.Properties.{PassedBy, PassedGrammar, LeastFamiliesBy, Checks}
 use Rattle.recognizer.proofs.Places.{check-tells, fault-encoded, places}
 
 pub none-left : (o : Option ℕ) → leftFault o ≡ none → o ≡ none
@@ -58,21 +62,24 @@ none-unproductive : (o : Option ℕ) → unproductiveFault o ≡ none → o ≡ 
 none-unproductive none e = refl
 none-unproductive (some A) e = absurd (omega (arith, fault-number e))
 
-none-clash : (t : ℕ) (l : List Entry) → clashFault t l ≡ none → l ≡ []
-none-clash t [] e = refl
-none-clash t (x ∷ l) e = absurd (omega (arith, fault-number e))
+none-clash : (r : Conflict) → clashFault r ≡ none → r ≡ Absent
+none-clash Absent e = refl
+none-clash (At A c) e = absurd (omega (arith, fault-number e))
 
 pub read-some : (o : Outcome) → readingFault o ≡ none → (z : Sizes) × (o ≡ Read z)
 read-some (Read z) e = (z, refl)
 read-some (Faulty x) e = absurd (none-some (sym e))
 
 -- the theorems of the semantics about an encoded grammar
-pub least : {words : List ℕ} (G : Grammar) → Encodes words G → LeastSets G 1
-least G e = theorems .least-sets G (e .formed .scoped) (e .formed .terminals) (e .limited .someNonterminal) 1
+pub least-for : (k : ℕ) {words : List ℕ} (G : Grammar) → Encodes words G → LeastSets G k
+least-for k G e = theorems .least-sets G (e .formed .scoped) (e .formed .terminals) (e .limited .someNonterminal) k
 
-families : {words : List ℕ} (G : Grammar) → Encodes words G → LeastFamilies G
-families G e =
-    let l = least G e in
+pub least : {words : List ℕ} (G : Grammar) → Encodes words G → LeastSets G 1
+least = least-for 1
+
+families : (k : ℕ) {words : List ℕ} (G : Grammar) → Encodes words G → LeastFamiliesBy k G
+families k G e =
+    let l = least-for k G e in
     record {
       first-closed = l .first .closed;
       first-least = λ F c A x h. l .first .smallest (λ B y. T (F B y)) c A x h;
@@ -88,7 +95,7 @@ unfolding fault
 passed-fault words e =
     let f = each-none (grammarFaults words) e in
     let z = read-some (reading words) (f .0) in
-    let none-clashes : clashes (grammarOf words) 1 ≡ [] = none-clash _ (clashes (grammarOf words) 1) (f .1 .1 .1 .0) in
+    let none-clashes : clashes (grammarOf words) 1 ≡ [] = clash-absent (grammarOf words) .0 (none-clash (firstClash (grammarOf words)) (f .1 .1 .1 .0)) in
     let r = read-encodes words (z .0) (z .1) in
     record {
       short = r .0;
@@ -100,7 +107,7 @@ passed-fault words e =
     }
 
 -- a grammar that passes is the one that is read, so its promises are about that
-module _ (words : List ℕ) (p : PassedGrammar words) where
+module _ {k : ℕ} (words : List ℕ) (p : PassedBy k words) where
   same-grammar : p .grammar ≡ grammarOf words
   same-grammar = sym (encodes-grammar words (p .grammar) (p .encodes))
 
@@ -110,25 +117,25 @@ module _ (words : List ℕ) (p : PassedGrammar words) where
   pub passed-free : NoLeftRecursion (grammarOf words)
   passed-free = rw (← same-grammar) (p .free)
 
-  pub no-clashes : clashes (grammarOf words) 1 ≡ []
-  no-clashes = rw (← same-grammar) (go (clashes (p .grammar) 1) refl)
+  pub no-clashes : clashes (grammarOf words) k ≡ []
+  no-clashes = rw (← same-grammar) (go (clashes (p .grammar) k) refl)
     where
-      go : (l : List Entry) → clashes (p .grammar) 1 ≡ l → clashes (p .grammar) 1 ≡ []
+      go : (l : List Entry) → clashes (p .grammar) k ≡ l → clashes (p .grammar) k ≡ []
       go [] e = e
-      go (x ∷ l) e = absurd (p .clashless (x .0) (x .1) (least (p .grammar) (p .encodes) .clash (x .0) (x .1) .0 (rw e (List·Memᴰ·head refl))))
+      go (x ∷ l) e = absurd (p .clashless (x .0) (x .1) (least-for k (p .grammar) (p .encodes) .clash (x .0) (x .1) .0 (rw e (List·Memᴰ·head refl))))
 
   pub not-left-recursive : lowestLeftRecursive (grammarOf words) ≡ none
   not-left-recursive = theorems .left-recursion-decided (grammarOf words) (passed-encodes .formed .scoped) .absent .1 passed-free
 
-  pub all-productive : lowestUnproductive (grammarOf words) 1 ≡ none
-  all-productive = theorems .productive-decided (grammarOf words) 1 .absent .1 (rw (← same-grammar) (p .productive))
+  pub all-productive : lowestUnproductive (grammarOf words) k ≡ none
+  all-productive = theorems .productive-decided (grammarOf words) k .absent .1 (rw (← same-grammar) (p .productive))
 
   pub passed-read : reading words ≡ Read (sizesOf (grammarOf words))
   passed-read = encodes-read words (grammarOf words) (p .short) passed-encodes
 
-  pub fault-passed : fault words ≡ none
-  unfolding fault
-  fault-passed = rw (passed-read, not-left-recursive, all-productive, no-clashes)
+pub fault-passed : (words : List ℕ) → PassedGrammar words → fault words ≡ none
+unfolding fault
+fault-passed words p = rw (passed-read words p, not-left-recursive words p, all-productive words p, clash-absent (grammarOf words) .1 (no-clashes words p))
 
 -- with a table that is long enough only the grammar's faults are left
 pub check-fault-long : (n : ℕ) (words : List ℕ) → maxTableWords ≤ n → checkFault n words ≡ fault words
@@ -153,9 +160,9 @@ checks {words} {before} {after} {r} a t = record {
         λ p. a ∙ rw (f, fault-passed words p),
       );
   places = λ long short G e.
-      places G (e .formed .scoped) (least G e)
+      places G (e .formed .scoped) (e .limited .fewTerminals)
       (check-tells _ (a ∙ ap (λ f. refusedOr f Passed) (check-fault-long (length before) words long ∙ fault-encoded words G short e)));
-  least = families;
+  least = families 1;
 }
 
 pub check-short : {words before : List ℕ} → length before < maxTableWords → Checks words before (Refused TableTooShort) before
@@ -163,43 +170,48 @@ unfolding checkFault
 check-short {words} {before} h = checks (rw (lt-ltb (length before) maxTableWords h)) (rw (lt-ltb (length before) maxTableWords h))
 
 -- an analysis that finds no fault tells the sizes and the whole table
-pub found : (words : List ℕ) {a : Analysis} {z : Sizes} → a ≡ analyzed words → a .finding ≡ finding.Passed z → TableFound words z (a .table)
+pub found : (words : List ℕ) {a : Analysis} {z : Sizes} → a ≡ analyzed words → a .finding ≡ finding.Passed z → TableFound words z (a .entries) (a .table)
 unfolding analyzed
 found words {a} {z} e q =
     let k = told-passed (fault words) (reading words) (sym (ap (λ y. y .finding) e) ∙ q) in
-    record { read = k .1; faultless = k .0; table = ap (λ y. y .table) e ∙ ap (λ y. tableIf y (filled (tableWords (grammarOf words)))) (k .0) }
+    record {
+      read = k .1;
+      faultless = k .0;
+      entered = ap (λ y. y .entries) e ∙ ap (λ y. entriesIf y (entriesOf (grammarOf words))) (k .0);
+      laid = ap (λ y. y .table) e ∙ ap (λ y. tableIf y (filled (tableWords (grammarOf words)))) (k .0);
+    }
 
 pub found-fault : (words : List ℕ) {a : Analysis} {x : Error} → a ≡ analyzed words → a .finding ≡ finding.Refused x → fault words ≡ some x
 unfolding analyzed fault
 found-fault words e q = told-refused (fault words) (reading words) (λ y f. rw f) (sym (ap (λ y. y .finding) e) ∙ q)
 
 -- the table of a grammar that passes, lent back
-module _ (words before : List ℕ) (long : maxTableWords ≤ length before) {z : Sizes} {entries : List ℕ} (f : TableFound words z entries) where
+module _ (words before : List ℕ) (long : maxTableWords ≤ length before) {z : Sizes} {entries laid : List ℕ} (f : TableFound words z entries laid) where
   words-count : length (tableWords (grammarOf words)) ≡ wordCount z
   words-count = let r = well-read words z (f .read) in table-long (grammarOf words) ∙ rw (r .nonterminals, r .terminals)
 
-  pub lend-given : LendGiven before entries z
+  pub lend-given : LendGiven before laid z
   unfolding filled
   lend-given =
       let r = well-read words z (f .read) in
       let m = mul-le-mul {n₁ = z .nonterminals} {m₁ = z .terminals + 3} {n₂ = maxNonterminals} {m₂ = 2 + maxColumns} (r .fewNonterminals) (omega (arith, r .fewTerminals)) in
       record {
         long = long;
-        whole = ap length (f .table) ∙ length-append (tableWords (grammarOf words)) _ ∙ rw length-replicate (omega (arith, words-count));
+        whole = ap length (f .laid) ∙ length-append (tableWords (grammarOf words)) _ ∙ rw length-replicate (omega (arith, words-count));
         fewNonterminals = r .fewNonterminals;
         fewTerminals = r .fewTerminals;
       }
 
-  pub lent-table : {after : List ℕ} → Lent before entries z after
+  pub lent-table : {after : List ℕ} → Lent before laid z after
       → after ≡ tableWords (grammarOf words) ++ drop (length (tableWords (grammarOf words))) before
   unfolding filled
   lent-table l =
-      let w : take (wordCount z) entries ≡ tableWords (grammarOf words) =
-      ap (take (wordCount z)) (f .table)
+      let w : take (wordCount z) laid ≡ tableWords (grammarOf words) =
+      ap (take (wordCount z)) (f .laid)
       ∙ take-at (tableWords (grammarOf words)) (replicate (maxTableWords - length (tableWords (grammarOf words))) noEntry) (wordCount z) words-count in
       l .words ∙ ap (λ y. y ++ drop (wordCount z) before) w ∙ ap (λ y. tableWords (grammarOf words) ++ drop y before) (sym words-count)
 
-  pub check-passed : {after : List ℕ} → Lent before entries z after → Checks words before Passed after
+  pub check-passed : {after : List ℕ} → Lent before laid z after → Checks words before Passed after
   check-passed l =
       let c : checkFault (length before) words ≡ none = check-fault-long (length before) words long ∙ f .faultless in
       checks (sym (ap (λ y. refusedOr y Passed) c)) (lent-table l ∙ sym (ap (λ y. lentBack y (tableWords (grammarOf words)) before) c))

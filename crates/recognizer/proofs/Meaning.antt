@@ -18,8 +18,8 @@ use Rattle.semantics.specs.Choices.{tableChoice}
 use Rattle.semantics.specs.Memo.{Recorded}
 use Rattle.semantics.specs.Predictive.{Predictive}
 use Rattle.semantics.proofs.Theorems.{theorems}
-use Rattle.recognizer.specs.Answers.{callsOf, verdictOf}
-use Rattle.recognizer.specs.Properties.{PassedGrammar, Readable, Recognizes}
+use Rattle.recognizer.specs.Answers.{callsBy, verdictBy}
+use Rattle.recognizer.specs.Properties.{PassedBy, Readable, RecognizesBy}
 use Rattle.recognizer.proofs.Deciding.{words-recorded}
 use Rattle.recognizer.proofs.Checking.{passed-encodes, passed-free, no-clashes, not-left-recursive}
 
@@ -29,27 +29,27 @@ pub verdict-tells : {r : Answer} (b : Bool) (c : Calls) → r ≡ choose b (Acce
 verdict-tells true c e = ((λ q. refl, λ q. e), (λ q. absurd (omega (arith, answer-number (sym e ∙ q))), λ q. absurd (true≢false q)))
 verdict-tells false c e = ((λ q. absurd (omega (arith, answer-number (sym e ∙ q))), λ q. absurd (false≢true q)), (λ q. refl, λ q. e))
 
--- property 3 from the verdict of the descent
-pub meaning : (words input : List ℕ) (r : Answer) → PassedGrammar words → Readable words input → r ≡ verdictOf (grammarOf words) input
-    → Recognizes words input r
-unfolding verdictOf
-meaning words input r p h e =
+-- property 3 from the verdict of the descent, for any lookahead
+pub meaning : (k : ℕ) → 0 < k → (words input : List ℕ) (r : Answer) → PassedBy k words → Readable words input → r ≡ verdictBy k (grammarOf words) input
+    → RecognizesBy k words input r
+unfolding verdictBy
+meaning k some-token words input r p h e =
     let G = grammarOf words in
-    let k = passed-encodes words p in
+    let n = passed-encodes words p in
     let free = passed-free words p in
-    let some-nonterminal : 0 < G .nonterminals = k .limited .someNonterminal in
-    let predictive : Predictive G 1 = theorems .passed G 1 (omega arith) (k .formed) some-nonterminal .0 (not-left-recursive words p, no-clashes words p) in
-    let tells : (v : Valuation) → Solves G input v → ((r ≡ Accepted (callsOf G input)) ↔ (v 0 0 (length input) ≡ true)) × ((r ≡ Rejected (callsOf G input)) ↔ (v 0 0 (length input) ≡ false)) =
-    λ v s. verdict-tells {r = r} (v 0 0 (length input)) (callsOf G input)
-    (e ∙ ap (λ b. choose b (Accepted (callsOf G input)) (Rejected (callsOf G input))) (theorems .verdict G 1 predictive input (h .tokens) v s)) in
-    let own = theorems .own-rules G 1 input in
-    let recorded = theorems .memo-right G (k .formed .scoped) free some-nonterminal (tableChoice G 1 input) own input (omega (arith, h .short)) .recorded in
+    let some-nonterminal : 0 < G .nonterminals = n .limited .someNonterminal in
+    let predictive : Predictive G k = theorems .passed G k some-token (n .formed) some-nonterminal .0 (not-left-recursive words p, no-clashes words p) in
+    let tells : (v : Valuation) → Solves G input v → ((r ≡ Accepted (callsBy k G input)) ↔ (v 0 0 (length input) ≡ true)) × ((r ≡ Rejected (callsBy k G input)) ↔ (v 0 0 (length input) ≡ false)) =
+    λ v s. verdict-tells {r = r} (v 0 0 (length input)) (callsBy k G input)
+    (e ∙ ap (λ b. choose b (Accepted (callsBy k G input)) (Rejected (callsBy k G input))) (theorems .verdict G k predictive input (h .tokens) v s)) in
+    let choice = tableChoice G k input in
+    let own = theorems .own-rules G k input in
+    let recorded = theorems .memo-right G (n .formed .scoped) free some-nonterminal choice own input (omega (arith, h .short)) .recorded in
     record {
-      one-solution = theorems .one-solution G (k .formed .scoped) free input;
+      one-solution = theorems .one-solution G (n .formed .scoped) free input;
       accepted = λ v s. tells v s .0;
       rejected = λ v s. tells v s .1;
-      descent = theorems .descent-ends G (k .formed .scoped) free (tableChoice G 1 input) own input;
-      calls = theorems .calls-counted G (k .formed .scoped) free some-nonterminal (tableChoice G 1 input) own input;
-      memo =
-          subst (λ m. Recorded G (tableChoice G 1 input) input m) (words-recorded G input (k .formed .scoped) free some-nonterminal recorded) recorded;
+      descent = theorems .descent-ends G (n .formed .scoped) free choice own input;
+      calls = theorems .calls-counted G (n .formed .scoped) free some-nonterminal choice own input;
+      memo = subst (λ m. Recorded G choice input m) (words-recorded k G input (n .formed .scoped) free some-nonterminal recorded) recorded;
     }

@@ -20,35 +20,63 @@ use Rattle.grammar.specs.Encoding.{grammarOf}
 use Rattle.semantics.specs.Choices.{tableChoice}
 use Rattle.semantics.specs.Descent.{accepts}
 use Rattle.semantics.specs.Calls.{callCount, farthest}
+use Rattle.grammar.specs.declared.reading.Sizes.{Sizes}
+use Rattle.sets.specs.declared.Finding.{Finding}
+use Rattle.sets.specs.declared.Finding.the-variants as finding
 use Rattle.table.specs.Analysis.{grammarFaults}
 
 -- why checking is refused, in document 01's order: the table's length, then the grammar's faults
 unfoldable pub checkFault : ℕ → List ℕ → Option Error
 checkFault table words = firstFault (faultIf (ltb table maxTableWords) TableTooShort ∷ grammarFaults words)
 
--- and judging
+-- the faults of an input for a grammar of n terminals: its length, then its tokens
+abbrev pub inputFaults : ℕ → List ℕ → List (Option Error)
+inputFaults n input =
+    faultIf (ltb maxTokens (length input)) InputTooLong
+    ∷ unknownFault (unknownFrom n 0 input)
+    ∷ []
+
+-- why judging is refused
 unfoldable pub judgeFault : ℕ → ℕ → List ℕ → List ℕ → Option Error
 judgeFault table memo words input =
     firstFault
     (faultIf (ltb table maxTableWords) TableTooShort
     ∷ faultIf (ltb memo maxMemoEntries) MemoTooShort
     ∷ grammarFaults words
-    ++ faultIf (ltb maxTokens (length input)) InputTooLong
-    ∷ unknownFault (unknownFrom (grammarOf words .terminals) 0 input)
-    ∷ [])
+    ++ inputFaults (grammarOf words .terminals) input)
+
+-- what is found of a grammar, and then of an input
+abbrev pub passedUnless : Option Error → Sizes → Finding
+passedUnless none z = finding.Passed z
+passedUnless (some e) z = finding.Refused e
+
+abbrev pub withInput : Finding → List ℕ → Finding
+withInput (finding.Refused e) input = finding.Refused e
+withInput (finding.Passed z) input = passedUnless (firstFault (inputFaults (z .terminals) input)) z
 
 -- of a check that passes
 abbrev pub passedNumbers : Numbers
 passedNumbers = answered passed 0 0 0 0
 
--- the calls that the descent makes, counted
+-- the calls that the descent makes with k tokens of lookahead, counted
+abbrev pub callsBy : ℕ → Grammar → List ℕ → Calls
+callsBy k G w = record { count = callCount G (tableChoice G k w) w; farthest = farthest G (tableChoice G k w) w }
+
+-- its verdict
+unfoldable pub verdictBy : ℕ → Grammar → List ℕ → Answer
+verdictBy k G w = choose (accepts G (tableChoice G k w) w) (Accepted (callsBy k G w)) (Rejected (callsBy k G w))
+
+-- and the verdict's numbers
+unfoldable pub verdictNumbersBy : ℕ → Grammar → List ℕ → Numbers
+verdictNumbersBy k G w =
+    answered (choose (accepts G (tableChoice G k w) w) accepted rejected) 0 0 (callCount G (tableChoice G k w) w) (farthest G (tableChoice G k w) w)
+
+-- the same with one token (document 01)
 abbrev pub callsOf : Grammar → List ℕ → Calls
-callsOf G w = record { count = callCount G (tableChoice G 1 w) w; farthest = farthest G (tableChoice G 1 w) w }
+callsOf = callsBy 1
 
--- the verdict of the descent
-unfoldable pub verdictOf : Grammar → List ℕ → Answer
-verdictOf G w = choose (accepts G (tableChoice G 1 w) w) (Accepted (callsOf G w)) (Rejected (callsOf G w))
+abbrev pub verdictOf : Grammar → List ℕ → Answer
+verdictOf = verdictBy 1
 
--- and of a verdict
-unfoldable pub verdictNumbers : Grammar → List ℕ → Numbers
-verdictNumbers G w = answered (choose (accepts G (tableChoice G 1 w) w) accepted rejected) 0 0 (callCount G (tableChoice G 1 w) w) (farthest G (tableChoice G 1 w) w)
+abbrev pub verdictNumbers : Grammar → List ℕ → Numbers
+verdictNumbers = verdictNumbersBy 1

@@ -22,13 +22,20 @@ abbrev pub lentBack : Option Error → List ℕ → List ℕ → List ℕ
 lentBack (some e) new old = old
 lentBack none new old = new ++ drop (length new) old
 
--- the entry of a call: its outcome where it was made
-unfoldable pub memoWord : Grammar → List ℕ → Call → ℕ
-memoWord G w x = choose (member sameCall (calls G (tableChoice G 1 w) w) x) (encode (descend G (tableChoice G 1 w) w (x .nonterminal) (x .place))) uncalledCode
+-- the entry of a call with k tokens of lookahead: its outcome where it was made
+unfoldable pub memoWordBy : ℕ → Grammar → List ℕ → Call → ℕ
+memoWordBy k G w x = choose (member sameCall (calls G (tableChoice G k w) w) x) (encode (descend G (tableChoice G k w) w (x .nonterminal) (x .place))) uncalledCode
 
 -- (document 01: the notebook)
-unfoldable pub memoWords : Grammar → List ℕ → List ℕ
-memoWords G w = map (memoWord G w) (allCalls G w)
+unfoldable pub memoWordsBy : ℕ → Grammar → List ℕ → List ℕ
+memoWordsBy k G w = map (memoWordBy k G w) (allCalls G w)
+
+-- the same with one token
+abbrev pub memoWord : Grammar → List ℕ → Call → ℕ
+memoWord = memoWordBy 1
+
+abbrev pub memoWords : Grammar → List ℕ → List ℕ
+memoWords = memoWordsBy 1
 
 -- how many words a table has: two sets, and a row of an entry for each terminal and for the end
 abbrev pub wordCount : Sizes → ℕ

@@ -2,7 +2,7 @@
 use mathlib.Core.Path.{_≡_}
 use mathlib.Core.Bool.{Bool, true, false}
 use mathlib.Core.List.{List, []}
-use mathlib.Core.Logic.{_↔_, _⊎_}
+use mathlib.Core.Logic.{_↔_}
 use mathlib.Core.Option.{none, some}
 use Prim.Native.Nat.{ℕ, _≤_, _<_}
 use lib.Dec.{T}
@@ -25,58 +25,65 @@ use Rattle.semantics.specs.Strings.{Over}
 use Rattle.semantics.specs.Families.{FirstClosed, FollowClosed, Claims, Clash}
 use Rattle.semantics.specs.FirstFollow.{First, Follow}
 use Rattle.semantics.specs.Productive.{Unproductive}
-use Rattle.semantics.specs.Claims.{clashes, column, tableOf}
+use Rattle.semantics.specs.Claims.{clashes, tableOf}
 use Rattle.semantics.specs.Choices.{tableChoice}
 use Rattle.semantics.specs.Memo.{Recorded}
 use Rattle.semantics.specs.Theorems.{OneSolution, DescentEnds, CallsCounted}
+use Rattle.table.specs.Conflicts.{FirstClash}
 use Rattle.table.specs.Layout.{tableWords}
-use Rattle.recognizer.specs.Memory.{lentBack, memoWords}
-use Rattle.recognizer.specs.Answers.{checkFault, judgeFault, callsOf, verdictOf, passedNumbers, verdictNumbers}
+use Rattle.recognizer.specs.Memory.{lentBack, memoWordsBy, memoWords}
+use Rattle.recognizer.specs.Answers.{checkFault, judgeFault, callsBy, verdictOf, passedNumbers, verdictNumbers}
 
--- each nonterminal, reachable or not, has a string in its first set (document 02: none whose first set is empty)
-abbrev pub AllProductive : Grammar → Type 0
-AllProductive G = (A : ℕ) → A < G .nonterminals → (x : List ℕ) × First G 1 A x
+-- each nonterminal, reachable or not, has a string in its first set with k tokens of lookahead (document 02: none whose first set is empty)
+abbrev pub AllProductiveBy : ℕ → Grammar → Type 0
+AllProductiveBy k G = (A : ℕ) → A < G .nonterminals → (x : List ℕ) × First G k A x
 
--- a grammar that passes (document 01: a passed card): at most 2,048 words that encode a well-formed grammar within the limits, not
--- left-recursive, without an empty first set, and without a clash: no entry is claimed by two rules, and only the end can follow a rule
+-- a grammar that passes with k tokens of lookahead (document 01: a passed card): at most 2,048 words that encode a well-formed grammar within the
+-- limits, not left-recursive, without an empty first set, and without a clash: no entry is claimed by two rules, and only the end can follow a rule
 -- without positives
-pub record PassedGrammar (words : List ℕ) : Type 0 where
+pub record PassedBy (k : ℕ) (words : List ℕ) : Type 0 where
   pub short : length words ≤ maxWords
   pub grammar : Grammar
   pub encodes : Encodes words grammar
   pub free : NoLeftRecursion grammar
-  pub productive : AllProductive grammar
-  pub clashless : (A : ℕ) (x : List ℕ) → Clash grammar 1 (First grammar 1) (Follow grammar 1) A x → ⊥
+  pub productive : AllProductiveBy k grammar
+  pub clashless : (A : ℕ) (x : List ℕ) → Clash grammar k (First grammar k) (Follow grammar k) A x → ⊥
 
--- the sets and the entries of a grammar with one token of lookahead: no smaller than the rules ask, and no larger than any family of tests that they
+-- the sets and the entries of a grammar with k tokens of lookahead: no smaller than the rules ask, and no larger than any family of tests that they
 -- close; of all families it is `LeastSets` of semantics/specs/Theorems.antt, which a promise of code cannot quantify over
-pub record LeastFamilies (G : Grammar) : Type 0 where
-  pub first-closed : FirstClosed G 1 (First G 1)
-  pub first-least : (F : ℕ → List ℕ → Bool) → FirstClosed G 1 (λ A x. T (F A x)) → (A : ℕ) (x : List ℕ) → First G 1 A x → T (F A x)
-  pub follow-closed : FollowClosed G 1 (First G 1) (Follow G 1)
-  pub follow-least : (L : ℕ → List ℕ → Bool) → FollowClosed G 1 (First G 1) (λ A x. T (L A x)) → (A : ℕ) (x : List ℕ) → Follow G 1 A x → T (L A x)
-  pub claimed : clashes G 1 ≡ [] → (A : ℕ) (x : List ℕ) (q : ℕ) → (tableOf G 1 A x ≡ some q) ↔ Claims G 1 (First G 1) (Follow G 1) q A x
-  pub unclaimed : (A : ℕ) (x : List ℕ) → (tableOf G 1 A x ≡ none) ↔ ((q : ℕ) → Claims G 1 (First G 1) (Follow G 1) q A x → ⊥)
+pub record LeastFamiliesBy (k : ℕ) (G : Grammar) : Type 0 where
+  pub first-closed : FirstClosed G k (First G k)
+  pub first-least : (F : ℕ → List ℕ → Bool) → FirstClosed G k (λ A x. T (F A x)) → (A : ℕ) (x : List ℕ) → First G k A x → T (F A x)
+  pub follow-closed : FollowClosed G k (First G k) (Follow G k)
+  pub follow-least : (L : ℕ → List ℕ → Bool) → FollowClosed G k (First G k) (λ A x. T (L A x)) → (A : ℕ) (x : List ℕ) → Follow G k A x → T (L A x)
+  pub claimed : clashes G k ≡ [] → (A : ℕ) (x : List ℕ) (q : ℕ) → (tableOf G k A x ≡ some q) ↔ Claims G k (First G k) (Follow G k) q A x
+  pub unclaimed : (A : ℕ) (x : List ℕ) → (tableOf G k A x ≡ none) ↔ ((q : ℕ) → Claims G k (First G k) (Follow G k) q A x → ⊥)
 
 -- the lowest nonterminal that left-reaches itself (document 01: the place of 8)
 pub record LowestRecursive (G : Grammar) (A : ℕ) : Type 0 where
   pub reaches : LeftReaches G A A
   pub lowest : (B : ℕ) → B < A → LeftReaches G B B → ⊥
 
--- the lowest nonterminal whose first set is empty (document 02: the place of 13)
-pub record LowestUnproductive (G : Grammar) (A : ℕ) : Type 0 where
+-- the lowest nonterminal whose first set is empty with k tokens of lookahead (document 02: the place of 13)
+pub record LowestUnproductiveBy (k : ℕ) (G : Grammar) (A : ℕ) : Type 0 where
   pub named : A < G .nonterminals
-  pub unproductive : Unproductive G 1 A
-  pub lowest : (B : ℕ) → B < A → Unproductive G 1 B → ⊥
+  pub unproductive : Unproductive G k A
+  pub lowest : (B : ℕ) → B < A → Unproductive G k B → ⊥
 
--- the first clash, by nonterminal, then column (document 01: the place of 9)
-pub record FirstClash (G : Grammar) (A c : ℕ) : Type 0 where
-  pub string : List ℕ
-  pub clash : Clash G 1 (First G 1) (Follow G 1) A string
-  pub stands : column (G .terminals) string ≡ c
-  pub first : (B : ℕ) (x : List ℕ) → Clash G 1 (First G 1) (Follow G 1) B x → (A < B) ⊎ ((A ≡ B) × (c ≤ column (G .terminals) x))
+-- the same with one token (document 01)
+abbrev pub AllProductive : Grammar → Type 0
+AllProductive = AllProductiveBy 1
 
--- when a grammar that is read is refused, and where: 8 comes before 13, and 13 before 9
+abbrev pub PassedGrammar : List ℕ → Type 0
+PassedGrammar = PassedBy 1
+
+abbrev pub LeastFamilies : Grammar → Type 0
+LeastFamilies = LeastFamiliesBy 1
+
+abbrev pub LowestUnproductive : Grammar → ℕ → Type 0
+LowestUnproductive = LowestUnproductiveBy 1
+
+-- when a grammar that is read is refused, and where: 8 comes before 13, and 13 before 9, the first clash by nonterminal, then column
 pub record Places (G : Grammar) (r : Answer) : Type 0 where
   pub recursive : (A : ℕ) → (r ≡ Refused (LeftRecursive A)) ↔ LowestRecursive G A
   pub unproductive : (A : ℕ) → (r ≡ Refused (error.Unproductive A)) ↔ (NoLeftRecursion G × LowestUnproductive G A)
@@ -101,17 +108,22 @@ pub record Readable (words input : List ℕ) : Type 0 where
   pub short : length input ≤ maxTokens
   pub tokens : Over (grammarOf words .terminals) input
 
--- property 3, of the answer for a passed grammar and a readable input: exactly one valuation solves the grammar on the input, the answer is
--- acceptance exactly when it gives the whole input to the start, and the answer's numbers are those of the calls that the descent makes, whose
--- outcomes are the only ones that the rules give; the memo table's words are these outcomes, each at its call's index, and nothing else
-pub record Recognizes (words input : List ℕ) (r : Answer) : Type 0 where
+-- property 3, of the answer for a grammar that passes with k tokens of lookahead and a readable input: exactly one valuation solves the grammar on
+-- the input, the answer is acceptance exactly when it gives the whole input to the start, and the answer's numbers are those of the calls that the
+-- descent makes, whose outcomes are the only ones that the rules give; the memo table's words are these outcomes, each at its call's index, and
+-- nothing else
+pub record RecognizesBy (k : ℕ) (words input : List ℕ) (r : Answer) : Type 0 where
   pub one-solution : OneSolution (grammarOf words) input
-  pub accepted : (v : Valuation) → Solves (grammarOf words) input v → (r ≡ Accepted (callsOf (grammarOf words) input)) ↔ (v 0 0 (length input) ≡ true)
+  pub accepted : (v : Valuation) → Solves (grammarOf words) input v → (r ≡ Accepted (callsBy k (grammarOf words) input)) ↔ (v 0 0 (length input) ≡ true)
   pub rejected : (v : Valuation) → Solves (grammarOf words) input v
-      → (r ≡ Rejected (callsOf (grammarOf words) input)) ↔ (v 0 0 (length input) ≡ false)
-  pub descent : DescentEnds (grammarOf words) (tableChoice (grammarOf words) 1 input) input
-  pub calls : CallsCounted (grammarOf words) (tableChoice (grammarOf words) 1 input) input
-  pub memo : Recorded (grammarOf words) (tableChoice (grammarOf words) 1 input) input (memoWords (grammarOf words) input)
+      → (r ≡ Rejected (callsBy k (grammarOf words) input)) ↔ (v 0 0 (length input) ≡ false)
+  pub descent : DescentEnds (grammarOf words) (tableChoice (grammarOf words) k input) input
+  pub calls : CallsCounted (grammarOf words) (tableChoice (grammarOf words) k input) input
+  pub memo : Recorded (grammarOf words) (tableChoice (grammarOf words) k input) input (memoWordsBy k (grammarOf words) input)
+
+-- the same with one token
+abbrev pub Recognizes : (words input : List ℕ) (r : Answer) → Type 0
+Recognizes = RecognizesBy 1
 
 -- judging an input with a lent table and a lent memo table: properties 1 and 3. The input is what the events of the lent log are (`inputOf`)
 pub record Judges (words input table memo : List ℕ) (r : Answer) (table′ memo′ : List ℕ) : Type 0 where

@@ -6,6 +6,7 @@ use answer::Error;
 use grammar::limits::MEMO_ENTRIES;
 use grammar::limits::TABLE_WORDS;
 use judging::judge_passed;
+use judging::with_input;
 use lending::lend;
 use sets::Finding;
 use table::analyze;
@@ -46,9 +47,12 @@ pub fn judge(words: &[u32], events: &[u8], table: &mut [u32], memo: &mut [u16]) 
         return Answer::Refused(Error::MemoTooShort);
     }
     let analysis = analyze(words);
-    let finding = analysis.finding;
-    match finding {
-        Finding::Refused(found) => Answer::Refused(found),
-        Finding::Passed(sizes) => judge_passed(words, sizes, &analysis.table, events, table, memo),
+    let found = with_input(analysis.finding, events);
+    match found {
+        Finding::Refused(error) => Answer::Refused(error),
+        Finding::Passed(sizes) => {
+            lend(table, &analysis.table, sizes);
+            judge_passed(words, sizes, &analysis.entries, events, memo)
+        }
     }
 }

@@ -14,7 +14,8 @@ use Rattle.sets.specs.Lists.{listed}
 use Rattle.sets.specs.Sets.{firstNumber, followNumber, Members}
 use Rattle.sets.proofs.Lists.{listed-long, listed-at}
 use Rattle.sets.proofs.Members.{members}
-use Rattle.table.specs.Layout.{columns, setWord, rowWord, tableWords}
+use Rattle.table.specs.Columns.{columns}
+use Rattle.table.specs.Layout.{setWord, rowWord, tableWords}
 use Rattle.recognizer.specs.Properties.{PassedGrammar}
 use Rattle.recognizer.proofs.Checking.{passed-encodes, fault-passed, check-fault-long, least}
 use Rattle.recognizer.proofs.Storing.{getD-any}

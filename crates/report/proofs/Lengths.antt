@@ -27,8 +27,8 @@ use Rattle.semantics.proofs.Range.{all-range}
 use Rattle.semantics.proofs.Theorems.{theorems}
 use Rattle.table.specs.Layout.{tableWords}
 use Rattle.answer.specs.Faults.{refusedOr}
-use Rattle.recognizer.specs.Answers.{checkFault, judgeFault, callsOf, verdictOf}
-use Rattle.recognizer.specs.Memory.{lentBack, memoWord, memoWords}
+use Rattle.recognizer.specs.Answers.{checkFault, judgeFault, callsOf, verdictBy, verdictOf}
+use Rattle.recognizer.specs.Memory.{lentBack, memoWordBy, memoWord, memoWordsBy, memoWords}
 use Rattle.recognizer.proofs.Checking.{passed-fault, passed-encodes, passed-free}
 use Rattle.recognizer.proofs.JudgeFaults.{judged-readable}
 use Rattle.text.proofs.Lengths.{refusal-most}
@@ -85,7 +85,7 @@ module _ (words input : List ℕ) (table memo : ℕ) (e : judgeFault table memo 
   G = grammarOf words
 
   entry-low : (x : Call) → List·Memᴰ x (allCalls G input) → memoWord G input x < 100000
-  unfolding memoWord encode
+  unfolding memoWordBy encode
   entry-low x m = go (member sameCall (calls G (tableChoice G 1 input) input) x) (descend G (tableChoice G 1 input) input (x .nonterminal) (x .place)) refl
     where
       go : (b : Bool) (o : Ended) → descend G (tableChoice G 1 input) input (x .nonterminal) (x .place) ≡ o
@@ -102,7 +102,7 @@ module _ (words input : List ℕ) (table memo : ℕ) (e : judgeFault table memo 
           omega (arith, f .1, k .1)
 
   memo-each : Each (lentBack none (memoWords G input) blankMemo)
-  unfolding memoWords blankMemo
+  unfolding memoWordsBy blankMemo
   memo-each =
       let front = map (memoWord G input) (allCalls G input) in
       let behind = replicate maxMemoEntries uncalledCode in
@@ -117,7 +117,7 @@ module _ (words input : List ℕ) (table memo : ℕ) (e : judgeFault table memo 
       (λ i. each-at (lentBack none (memoWords G input) blankMemo) i uncalledCode (omega arith) memo-each)
 
 pub judged-short : (words input : List ℕ) → length (judgedText words input) ≤ judgementRoom
-unfolding judgedText judgementText verdictOf
+unfolding judgedText judgementText verdictBy
 judged-short words input = go (judgeFault maxTableWords maxMemoEntries words input) refl
   where
     text : Option Error → List ℕ

@@ -10,14 +10,15 @@ use Rattle.grammar.specs.Cards.{grammarR, grammarM, grammarE}
 use Rattle.grammar.specs.Syntax.{Body, Rule, Grammar}
 use Rattle.lookahead.specs.Elements.{total}
 use Rattle.semantics.specs.FirstFollow.{first, follow}
-use Rattle.semantics.specs.Claims.{clashes, column, tableOf}
+use Rattle.semantics.specs.Claims.{clashes, tableOf}
 use Rattle.semantics.specs.LeftRecursion.{lowestLeftRecursive}
 use Rattle.semantics.proofs.Computing.{tables-compute, left-recursion-computes}
 use Rattle.table.specs.declared.conflicts.Conflict.the-variants.{At}
 use Rattle.sets.specs.Lists.{listed}
 use Rattle.sets.specs.Sets.{stringOf, numberOf, firstNumber, followNumber}
-use Rattle.table.specs.Layout.{columnString, entryAt, setWord, rowWord, tableWords}
-use Rattle.table.specs.Conflicts.{firstConflictOf}
+use Rattle.table.specs.Columns.{columnString}
+use Rattle.table.specs.Layout.{entryAt, setWord, rowWord, tableWords}
+use Rattle.table.specs.Conflicts.{rowConflict, conflictFrom, firstClash}
 use Rattle.sets.specs.Analysis.{leftFault}
 
 abbrev numbers : Grammar → List ℕ × List ℕ
@@ -66,16 +67,16 @@ notABefore = record {
 abbrev notAWhole : Grammar
 notAWhole = record { nonterminals = 1; terminals = 1; rules = notA 0 ∷ [] }
 
-overruns : firstConflictOf (column 2) (clashes notABefore 1) ≡ At 1 0
-unfolding tables-compute clashes
+overruns : firstClash notABefore ≡ At 1 0
+unfolding tables-compute rowConflict conflictFrom firstClash columnString
 overruns = refl
 
 takes-all : (clashes notAWhole 1 ≡ []) × (tableWords notAWhole ≡ 16777217 ∷ 16777216 ∷ 0 ∷ 0 ∷ [])
 unfolding tables-compute listed total stringOf numberOf firstNumber followNumber first follow tableWords setWord rowWord entryAt columnString tableOf clashes
 takes-all = (refl, refl)
 
-claimed-twice : firstConflictOf (column 1) (clashes twiceA 1) ≡ At 0 0
-unfolding tables-compute clashes
+claimed-twice : firstClash twiceA ≡ At 0 0
+unfolding tables-compute rowConflict conflictFrom firstClash columnString
 claimed-twice = refl
 
 reaches-itself : leftFault (lowestLeftRecursive notItself) ≡ some (LeftRecursive 0)

@@ -26,7 +26,7 @@ use Rattle.semantics.specs.FirstFollow.{sameString, followSets}
 use Rattle.semantics.specs.Claims.{overruns}
 use Rattle.sets.specs.Sets.{stringOf, followNumber}
 use Rattle.sets.proofs.Strings.{string-nothing, string-terminal, string-in, number-over}
-use Rattle.table.specs.Layout.{columnString, columnElement}
+use Rattle.table.specs.Columns.{columnString, columnElement}
 use Rattle.table.specs.Claims.{FamiliesGiven}
 use Rattle.table.specs.Overruns.{everyTerminal, beyondEnd, aloneIn, overrunSet, Overrunning}
 use Rattle.table.proofs.RuleClaims.{follow-lists}

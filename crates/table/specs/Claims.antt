@@ -20,7 +20,7 @@ use Rattle.semantics.specs.FiniteSets.{member}
 use Rattle.semantics.specs.FirstFollow.{sameString}
 use Rattle.semantics.specs.Claims.{claimed, overruns}
 use Rattle.sets.specs.declared.Finding.{Finding}
-use Rattle.sets.specs.Analysis.{setsFault, findingOf}
+use Rattle.sets.specs.Analysis.{setsFault, findingOf, setsIf}
 use Rattle.sets.specs.Lists.{listed}
 use Rattle.sets.specs.Naming.{Indexed}
 use Rattle.sets.specs.Sets.{numberOf, firstNumber, followNumber}
@@ -54,14 +54,17 @@ abbrev pub overrunsIf : Option Error → List ℕ → List ℕ
 overrunsIf none l = l
 overrunsIf (some e) l = replicate maxNonterminals 0
 
-abbrev pub claimsWith : Finding → List ℕ → List ℕ → List ℕ → Claims
-claimsWith f h s o = record { finding = f; heads = h; sets = s; overruns = o }
+abbrev pub claimsWith : Finding → List ℕ → List ℕ → List ℕ → List ℕ → List ℕ → Claims
+claimsWith f firsts follows heads sets told = record { finding = f; firsts = firsts; follows = follows; heads = heads; sets = sets; overruns = told }
 
--- what is found of an encoded grammar: the first fault among the errors 3 to 8 and 13, or its sizes, the head and the claim of each rule, and
--- the nonterminals that overrun
+-- what is found of an encoded grammar: the first fault among the errors 3 to 8 and 13, or its sizes, its sets, the head and the claim of
+-- each rule, and the nonterminals that overrun
 unfoldable pub claimsOf : List ℕ → Claims
 claimsOf words =
-    claimsWith (findingOf (setsFault words) (reading words)) (byRuleIf (setsFault words) (headsOf (grammarOf words)))
+    claimsWith (findingOf (setsFault words) (reading words))
+    (setsIf (setsFault words) (listed maxNonterminals (firstNumber (grammarOf words))))
+    (setsIf (setsFault words) (listed maxNonterminals (followNumber (grammarOf words))))
+    (byRuleIf (setsFault words) (headsOf (grammarOf words)))
     (byRuleIf (setsFault words) (claimNumbers (grammarOf words))) (overrunsIf (setsFault words) (overrunsOf (grammarOf words)))
 
 -- by heads and claims: rule q claims an element for A

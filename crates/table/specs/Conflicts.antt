@@ -1,25 +1,23 @@
--- The first entry that two rules claim or that is told of a nonterminal, by nonterminal, then column.
+-- The first clash, by nonterminal, then column: an entry that two rules claim or that is told of a nonterminal that overruns.
 use mathlib.Core.Path.{_≡_}
 use mathlib.Core.Bool.{Bool, _||_}
-use mathlib.Core.List.{List, [], _∷_}
-use Prim.Native.Nat.{ℕ, zero, suc}
+use mathlib.Core.List.{List}
+use mathlib.Core.Logic.{_⊎_}
+use Prim.Native.Nat.{ℕ, zero, suc, _≤_, _<_}
 use lib.ListN.{getD, set}
 use Rattle.booleans.specs.Choice.{choose}
+use Rattle.grammar.specs.Syntax.{Grammar}
 use Rattle.grammar.specs.declared.reading.Sizes.{Sizes}
 use Rattle.lookahead.specs.Elements.{has}
 use Rattle.lookahead.specs.Operations.{join, meet}
 use Rattle.semantics.specs.FiniteSets.{numbers}
-use Rattle.semantics.specs.FirstFollow.{Entry}
-use Rattle.semantics.specs.Claims.{several}
+use Rattle.semantics.specs.Families.{Clash}
+use Rattle.semantics.specs.FirstFollow.{First, Follow}
+use Rattle.semantics.specs.Claims.{several, clashing, column}
 use Rattle.table.specs.declared.conflicts.Conflict.{Conflict}
 use Rattle.table.specs.declared.conflicts.Conflict.the-variants.{Absent, At}
-use Rattle.table.specs.Layout.{columnElement}
+use Rattle.table.specs.Columns.{columnCount, columnElement, columnString, columns}
 use Rattle.table.specs.Claims.{claimant}
-
--- the first of a list of entries, where a string's column is known (document 01: the first such cell)
-abbrev pub firstConflictOf : (List ℕ → ℕ) → List Entry → Conflict
-firstConflictOf column [] = Absent
-firstConflictOf column (e ∷ es) = At (e .0) (column (e .1))
 
 -- the first of n columns of A, from one on, that passes a test
 unfoldable pub rowConflict : (ℕ → Bool) → ℕ → ℕ → ℕ → Conflict
@@ -35,7 +33,18 @@ unfoldable pub conflictFrom : (ℕ → ℕ → Bool) → ℕ → ℕ → ℕ →
 conflictFrom p columns A zero = Absent
 conflictFrom p columns A (suc n) = orLater (rowConflict (p A) A 0 columns) (conflictFrom p columns (suc A) n)
 
--- the columns whose elements are in a set, and the entries whose elements are in a family of sets
+-- the first entry that clashes (document 01: the first such cell)
+unfoldable pub firstClash : Grammar → Conflict
+firstClash G = conflictFrom (λ A c. clashing G 1 (A, columnString (G .terminals) c)) (columns G) 0 (G .nonterminals)
+
+-- what that means: a clash in column c of A, and none before it, by nonterminal, then column (document 01: the place of 9)
+pub record FirstClash (G : Grammar) (A c : ℕ) : Type 0 where
+  pub string : List ℕ
+  pub clash : Clash G 1 (First G 1) (Follow G 1) A string
+  pub stands : column (G .terminals) string ≡ c
+  pub first : (B : ℕ) (x : List ℕ) → Clash G 1 (First G 1) (Follow G 1) B x → (A < B) ⊎ ((A ≡ B) × (c ≤ column (G .terminals) x))
+
+-- As the code finds it: the columns whose elements are in a set, and the entries whose elements are in a family of sets
 abbrev pub inSet : (ℕ → ℕ) → ℕ → ℕ → Bool
 inSet element s c = has s (element c)
 
@@ -48,7 +57,7 @@ claimedTwice element heads sets told rules A c = several (claimant heads sets A 
 
 abbrev pub conflictOf : Sizes → List ℕ → List ℕ → List ℕ → Conflict
 conflictOf z heads sets told =
-    conflictFrom (claimedTwice (columnElement (z .terminals)) heads sets told (z .rules)) (suc (z .terminals)) 0 (z .nonterminals)
+    conflictFrom (claimedTwice (columnElement (z .terminals)) heads sets told (z .rules)) (columnCount (z .terminals)) 0 (z .nonterminals)
 
 -- a claim is joined to the sets claimed once and twice
 pub record Noted (once twice : List ℕ) (head claim : ℕ) (once′ twice′ : List ℕ) : Type 0 where

@@ -14,10 +14,12 @@ use sets::first::onto;
 use word::Word;
 use word::decode;
 
-// What is found of an encoded grammar: its sizes, or why it is refused; for each rule its head and the set that it claims for it;
-// and for each nonterminal the first terminal's set where it overruns. Zeros stand elsewhere, and where the grammar is refused.
+// What is found of an encoded grammar: its sizes, or why it is refused; its sets; for each rule its head and the set that it claims for
+// it; and for each nonterminal the first terminal's set where it overruns. Zeros stand elsewhere, and where the grammar is refused.
 pub struct Claims {
     pub finding: Finding,
+    pub firsts: [u64; SETS],
+    pub follows: [u64; SETS],
     pub heads: [u8; RULES],
     pub sets: [u64; RULES],
     pub overruns: [u64; SETS],
@@ -86,6 +88,8 @@ pub fn analyze(words: &[u32]) -> Claims
     match finding {
         Finding::Refused(_) => Claims {
             finding,
+            firsts: families.firsts,
+            follows: families.follows,
             heads,
             sets,
             overruns: [0u64; SETS],
@@ -101,6 +105,8 @@ pub fn analyze(words: &[u32]) -> Claims
             );
             Claims {
                 finding,
+                firsts: families.firsts,
+                follows: families.follows,
                 heads,
                 sets,
                 overruns: overrunning(words, &families.follows),

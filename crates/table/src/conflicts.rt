@@ -1,19 +1,20 @@
 // Conflicts: the first entry that two rules claim, read off what each rule claims, or that is told of a nonterminal that overruns.
 ghost use mathlib.Core.Path.{_≡_};
-ghost use Prim.Native.Nat.{suc, _≤_, _<_};
+ghost use Prim.Native.Nat.{_≤_, _<_};
 ghost use lib.ListN.{length};
 ghost use Rattle.grammar.specs.Limits.{maxNonterminals, maxTerminals};
-ghost use Rattle.table.specs.Layout.{columnElement};
+ghost use Rattle.table.specs.Columns.{columnCount, columnElement};
 ghost use Rattle.table.specs.Claims.{Headed};
 ghost use Rattle.table.specs.Conflicts.{rowConflict, conflictFrom, inSet, inSets, conflictOf, Noted, Twice};
-use super::layout::element;
+use super::columns::count;
+use super::columns::element;
 use grammar::limits::RULES;
 use grammar::reading::Sizes;
 use lookahead::LookaheadSet;
 use sets::family::SETS;
 
 // By nonterminal, then by column.
-pub(crate) enum Conflict {
+pub enum Conflict {
     Absent,
     At { nonterminal: u8, column: u8 },
 }
@@ -53,14 +54,15 @@ fn claimed_twice(
 // The first column of a nonterminal whose element is in a set.
 fn first_column(nonterminal: u8, set: LookaheadSet, terminals: u32) -> Conflict
     requires { ⌜ terminals ≤ maxTerminals ⌝ }
-    ensures { λ r. ⌜ r ≡ rowConflict (inSet (columnElement terminals) (set .bits)) nonterminal 0 (suc terminals) ⌝ }
+    ensures { λ r. ⌜ r ≡ rowConflict (inSet (columnElement terminals) (set .bits)) nonterminal 0 (columnCount terminals) ⌝ }
 {
     if set.is_empty() {
         return Conflict::Absent;
     }
+    let columns = count(terminals);
     let mut column = 0;
-    while column <= terminals {
-        if set.contains(element(terminals, column)) {
+    while column < columns {
+        if set.contains(element(terminals, column as u32)) {
             return Conflict::At {
                 nonterminal,
                 column: column as u8,
@@ -74,7 +76,7 @@ fn first_column(nonterminal: u8, set: LookaheadSet, terminals: u32) -> Conflict
 // The first entry whose element is in the set of its nonterminal.
 fn first_entry(sets: &[u64; SETS], sizes: Sizes) -> Conflict
     requires { ⌜ (sizes .nonterminals ≤ maxNonterminals) × (sizes .terminals ≤ maxTerminals) ⌝ }
-    ensures { λ r. ⌜ r ≡ conflictFrom (inSets (columnElement (sizes .terminals)) (now (sets .entry))) (suc (sizes .terminals)) 0 (sizes .nonterminals) ⌝ }
+    ensures { λ r. ⌜ r ≡ conflictFrom (inSets (columnElement (sizes .terminals)) (now (sets .entry))) (columnCount (sizes .terminals)) 0 (sizes .nonterminals) ⌝ }
 {
     let nonterminals = sizes.nonterminals;
     let terminals = sizes.terminals;

@@ -5,38 +5,27 @@ use Prim.Native.Nat.{ℕ, suc, _+_, _*_, _/_, _%_, _≤_, _<_}
 use native.Mathlib.Decide.{decLt, ℕ-discrete}
 use native.Mathlib.Nat.{mul-le-mul}
 use native.Mathlib.Omega.{arith}
-use lib.Dec.{ltb}
 use lib.ListN.{length, getD, set, replicate, length-set, length-replicate}
 use lib.Seq.{getD-set-same, getD-set-other}
-use borrow.Author.Tests.{lt-ltb, le-ltb}
 use Rattle.grammar.specs.Limits.{maxPlaces, maxMemoEntries}
 use Rattle.grammar.specs.declared.reading.Sizes.{Sizes}
 use Rattle.event.specs.Events.{terminalOf, inputOf}
 use Rattle.event.proofs.Inputs.{input-length, input-at}
-use Rattle.event.proofs.Known.{token-below}
+use Rattle.recognizer.specs.Preparing.{columnAt}
+use Rattle.recognizer.proofs.Columns.{column-token, column-end, column-right}
 use Rattle.tree.specs.ParseTrees.{vertex}
 use Rattle.tree.specs.Writing.{vertexWord}
-use Rattle.tree_writer.specs.Labels.{ruleOf, columnAt, labelWord, LabelsGiven, IndexGiven, Labels, LabelledBelow, Labelled}
+use Rattle.tree_writer.specs.Labels.{ruleOf, labelWord, LabelsGiven, IndexGiven, Labels, LabelledBelow, Labelled}
 
 -- the column of an event's terminal, and that of the end
 module _ (events : List ℕ) (n place : ℕ) where
-  pub column-token : place < length events → terminalOf (getD events place 0) ≡ columnAt n (inputOf events) place
-  unfolding columnAt
-  column-token h = rw (lt-ltb place (length (inputOf events)) (omega (arith, input-length events))) (sym (input-at events place))
+  pub event-column : place < length events → terminalOf (getD events place 0) ≡ columnAt n (inputOf events) place
+  event-column h = sym (column-token n (inputOf events) place (omega (arith, input-length events)) ∙ input-at events place)
 
-  pub column-end : length events ≤ place → n ≡ columnAt n (inputOf events) place
-  unfolding columnAt
-  column-end h = rw (le-ltb place (length (inputOf events)) (omega (arith, input-length events))) refl
+  pub behind-column : length events ≤ place → n ≡ columnAt n (inputOf events) place
+  behind-column h = sym (column-end n (inputOf events) place (omega (arith, input-length events)))
 
 module _ (events : List ℕ) {z : Sizes} {table memo : List ℕ} where
-  column-low : LabelsGiven z (inputOf events) table memo → (i : ℕ) → columnAt (z .terminals) (inputOf events) i ≤ z .terminals
-  unfolding columnAt
-  column-low g i = go (decLt i (length (inputOf events)))
-    where
-      go : Dec (i < length (inputOf events)) → columnAt (z .terminals) (inputOf events) i ≤ z .terminals
-      go (yes l) = rw (lt-ltb i (length (inputOf events)) l) (omega (arith, token-below (z .terminals) (inputOf events) (g .tokens) i l))
-      go (no l) = rw (le-ltb i (length (inputOf events)) (omega (arith, l))) (omega arith)
-
   -- what is read lies within the lent memories
   module _ {at : ℕ} (g : IndexGiven z (inputOf events) table memo at) where
     pub named : at / maxPlaces < z .nonterminals
@@ -49,7 +38,7 @@ module _ (events : List ℕ) {z : Sizes} {table memo : List ℕ} where
         omega (arith, g .given .fewNonterminals)
 
     pub column-few : {c : ℕ} → c ≡ columnAt (z .terminals) (inputOf events) (at % maxPlaces) → c ≤ 24
-    column-few e = omega (arith, column-low (g .given) (at % maxPlaces), g .given .fewTerminals)
+    column-few e = omega (arith, column-right (z .terminals) (inputOf events) (at % maxPlaces) (g .given .tokens) .low, g .given .fewTerminals)
 
     pub entry-low : at % maxPlaces ≤ length events → at / maxPlaces * (length events + 1) + at % maxPlaces < maxMemoEntries
     entry-low h =

@@ -44,12 +44,12 @@ use Rattle.semantics.specs.Predictive.{Predictive}
 use Rattle.semantics.proofs.Called.{called-range}
 use Rattle.semantics.proofs.Range.{index-range}
 use Rattle.semantics.proofs.Theorems.{theorems}
-use Rattle.table.specs.Layout.{tableWords, columns}
-use Rattle.table.specs.Entries.{filled}
+use Rattle.table.specs.Columns.{columns}
+use Rattle.table.specs.Layout.{tableWords}
+use Rattle.table.specs.Layout.{filled}
 use Rattle.table.proofs.Words.{filled-entries, table-length}
-use Rattle.recognizer.specs.Answers.{judgeFault, callsOf, verdictOf, verdictNumbers}
+use Rattle.recognizer.specs.Answers.{judgeFault, callsOf, verdictBy, verdictOf, verdictNumbers}
 use Rattle.recognizer.specs.Memory.{lentBack, memoWords}
-use Rattle.recognizer.specs.Preparing.{Entries}
 use Rattle.recognizer.specs.Properties.{Judges, PassedGrammar}
 use Rattle.recognizer.proofs.Checking.{passed-fault, passed-encodes, passed-read, no-clashes, not-left-recursive}
 use Rattle.recognizer.proofs.JudgeFaults.{judgeRows, judged-rows, judged-readable, table-short, memo-short}
@@ -61,7 +61,7 @@ use Rattle.tree.proofs.Lists.{map-elim}
 use Rattle.tree.proofs.Trees.{tree-right, vertex-within}
 use Rattle.tree.proofs.Words.{told as word-told}
 use Rattle.tree_writer.specs.Writer as writer
-use Rattle.tree_writer.specs.Writer.{choiceOf, wordsOf, TreeGiven, TreeDone}
+use Rattle.tree_writer.specs.Writer.{choiceOf, wordsOf, Entries, TreeGiven, TreeDone}
 use Rattle.tree_writer.specs.declared.Shown.{Shown}
 use Rattle.tree_writer.specs.Properties.{treeFault, writtenOr, TreeTold, Shows}
 
@@ -184,7 +184,7 @@ module _ (tree : List ℕ) {words input table memo : List ℕ} (long : maxTableW
 
   -- no word is written for an answer that is no acceptance
   pub shows-none : ((c : Calls) → a ≡ Accepted c → ⊥) → Shows words input table memo tree (record { answer = a; written = 0 }) table′ memo′ tree
-  unfolding verdictOf treeWords
+  unfolding verdictBy treeWords
   shows-none n =
       let t = other-tells fault (accepts G (choiceOf words input) input) (callsOf G input) (λ e. n (callsOf G input) (j .answer ∙ sym e)) in
       shows (count fault t) (back fault t) (omega arith) (λ q. absurd (n (callsOf G input) q))
@@ -199,7 +199,7 @@ module _ (tree : List ℕ) {words input table memo : List ℕ} (long : maxTableW
 
   module _ (c : Calls) (q : a ≡ Accepted c) where
     told : (fault ≡ none) × (accepts G (choiceOf words input) input ≡ true)
-    unfolding verdictOf
+    unfolding verdictBy
     told = accepted-tells fault (accepts G (choiceOf words input) input) (callsOf G input) c (sym q ∙ j .answer)
 
     passed : PassedGrammar words

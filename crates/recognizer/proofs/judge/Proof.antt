@@ -1,8 +1,8 @@
--- What judging answers, by the lengths of the memories and by what is found of the grammar.
+-- What judging answers, by the lengths of the memories and by what is found of the grammar and the input.
 use Rattle.event.specs.Events.{inputOf}
-use Rattle.recognizer.proofs.Checking.{found, found-fault}
-use Rattle.recognizer.proofs.JudgeFaults.{table-short, memo-short, grammar-fault}
-use Rattle.recognizer.proofs.Judged.{judge-refused}
+use Rattle.recognizer.proofs.Checking.{lend-given}
+use Rattle.recognizer.proofs.JudgeFaults.{table-short, memo-short}
+use Rattle.recognizer.proofs.Judged.{judge-refused, judge-found-refused, judge-found, passed-given, judge-done}
 use borrow.Author.Needs.{needs}
 use Rattle.recognizer.proofs.judge.Statement.{statement}
 use Rattle.recognizer.proofs.judge.Tie as tie
@@ -20,32 +20,44 @@ returns-2 c =
 analyze-requires : tie.Need-analyze-requires
 analyze-requires c κs = search needs
 
-enum-known-finding : tie.Need-enum-known-finding
-enum-known-finding c = search needs
+with-input-requires : tie.Need-with-input-requires
+with-input-requires c κs = search needs
 
-enum-known-finding-2 : tie.Need-enum-known-finding-2
-enum-known-finding-2 c = search needs
+enum-known-found : tie.Need-enum-known-found
+enum-known-found c = search needs
+
+enum-known-found-2 : tie.Need-enum-known-found-2
+enum-known-found-2 c = search needs
+
+lend-requires : tie.Need-lend-requires
+lend-requires c κs =
+    let passed = c .before .before .before .before in
+    let read = passed .before .before in
+    let room = read .before .before in
+    let long = room .before in
+    let given = long .before .before .before .before .before .args in
+    lend-given (given .words .now) (given .table .now) (long .if1 .left)
+    (judge-found (given .words .now) (inputOf (given .events .now)) (given .table .now) (given .memo .now) (long .if1 .left) (room .if2 .left)
+    (read .before .analyze .ensures) (read .with-input .ensures) (passed .found2 .given .1))
 
 judge-passed-requires : tie.Need-judge-passed-requires
 judge-passed-requires c κs =
-    let passed = c .before .before .before .before .before in
-    let analyzed = passed .before .before in
-    let room = analyzed .before in
+    let passed = c .before .before .before .before .before .before .before .before .before .before in
+    let read = passed .before .before in
+    let room = read .before .before in
     let long = room .before in
-    record {
-      found = found (long .before .before .before .before .before .args .words .now) (analyzed .analyze .ensures) (passed .finding2 .given .1);
-      long-table = long .if1 .left;
-      long-memo = room .if2 .left;
-    }
+    let given = long .before .before .before .before .before .args in
+    passed-given (given .words .now) (inputOf (given .events .now)) (given .table .now) (given .memo .now) (long .if1 .left) (room .if2 .left)
+    (read .before .analyze .ensures) (read .with-input .ensures) (passed .found2 .given .1)
 
 returns-3 : tie.Need-returns-3
 returns-3 c =
-    let analyzed = c .before .before .before in
-    let room = analyzed .before in
+    let read = c .before .before .before in
+    let room = read .before .before in
     let long = room .before in
     let given = long .before .before .before .before .before .args in
-    judge-refused (grammar-fault (given .words .now) (inputOf (given .events .now)) (given .table .now) (given .memo .now) (long .if1 .left) (room .if2 .left)
-    (found-fault (given .words .now) (analyzed .analyze .ensures) (c .before .finding .given .1)))
+    judge-found-refused (given .words .now) (inputOf (given .events .now)) (given .table .now) (given .memo .now) (long .if1 .left) (room .if2 .left)
+    (read .before .analyze .ensures) (read .with-input .ensures) (c .before .found .given .1)
 
 same-length : tie.Need-same-length
 same-length c = search needs
@@ -54,7 +66,16 @@ same-length-2 : tie.Need-same-length-2
 same-length-2 c = search needs
 
 returns-4 : tie.Need-returns-4
-returns-4 c = c .before .before .before .before .judge-passed .ensures
+returns-4 c =
+    let judged = c .before .before in
+    let lent = judged .before .before .before .before .before .before in
+    let passed = lent .before .before .before .before .before in
+    let read = passed .before .before in
+    let room = read .before .before in
+    let long = room .before in
+    let given = long .before .before .before .before .before .args in
+    judge-done (given .words .now) (inputOf (given .events .now)) (given .table .now) (given .memo .now) (long .if1 .left) (room .if2 .left)
+    (read .before .analyze .ensures) (read .with-input .ensures) (passed .found2 .given .1) (lent .lend .ensures) (judged .judge-passed .ensures)
 
 pub judge-spec : {M : Type 1} → statement M
 judge-spec =
@@ -63,8 +84,10 @@ judge-spec =
     returns
     returns-2
     analyze-requires
-    enum-known-finding
-    enum-known-finding-2
+    with-input-requires
+    enum-known-found
+    enum-known-found-2
+    lend-requires
     judge-passed-requires
     returns-3
     same-length

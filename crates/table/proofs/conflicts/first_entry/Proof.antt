@@ -1,8 +1,8 @@
 -- The loop keeps the conflict of all rows equal to that of those it has not passed.
 use mathlib.Core.Path.{_≡_, sym, _∙_}
-use Prim.Native.Nat.{suc, _-_, _≤_}
+use Prim.Native.Nat.{_-_, _≤_}
 use native.Mathlib.Omega.{arith}
-use Rattle.table.specs.Layout.{columnElement}
+use Rattle.table.specs.Columns.{columnCount, columnElement}
 use Rattle.table.specs.Conflicts.{conflictFrom, inSets}
 use Rattle.table.proofs.ConflictScan.{rows-all, row-here, row-later, rows-none}
 use Rattle.table.proofs.conflicts.first_entry.Statement.{statement}
@@ -11,8 +11,8 @@ use Rattle.table.proofs.conflicts.first_entry.Tie as tie
 abbrev Inv-loop : tie.InvT-loop
 Inv-loop sets nonterminals terminals nonterminal₀ nonterminal =
     (nonterminal ≤ nonterminals)
-    × (conflictFrom (inSets (columnElement terminals) sets) (suc terminals) nonterminal (nonterminals - nonterminal)
-    ≡ conflictFrom (inSets (columnElement terminals) sets) (suc terminals) 0 nonterminals)
+    × (conflictFrom (inSets (columnElement terminals) sets) (columnCount terminals) nonterminal (nonterminals - nonterminal)
+    ≡ conflictFrom (inSets (columnElement terminals) sets) (columnCount terminals) 0 nonterminals)
 
 abbrev μ-loop : tie.MeasureT-loop
 μ-loop sets nonterminals terminals nonterminal₀ nonterminal = nonterminals - nonterminal

@@ -1,8 +1,8 @@
 -- By whether the column is the last.
 use borrow.Author.Tests.{eq-eqb, ne-eqb}
-use Rattle.table.specs.Layout.{columnElement}
-use Rattle.table.proofs.layout.element.Statement.{statement}
-use Rattle.table.proofs.layout.element.Tie as tie
+use Rattle.table.specs.Columns.{columnElement}
+use Rattle.table.proofs.columns.element.Statement.{statement}
+use Rattle.table.proofs.columns.element.Tie as tie
 
 returns : tie.Need-returns
 unfolding columnElement
