@@ -9,19 +9,25 @@ use lib.Dec.{ltb, ltb→lt}
 use lib.ListN.{length}
 use borrow.Author.Tests.{ltb-false}
 use Rattle.answer.specs.declared.Error.{Error}
-use Rattle.answer.specs.declared.Error.the-variants.{TableTooShort, MemoTooShort, LeftRecursive, Unproductive, Conflict, InputTooLong, UnknownToken, SpansTooShort}
+use Rattle.answer.specs.declared.Error.the-variants.{TableTooShort, MemoTooShort, LeftRecursive, Unproductive, Conflict, WideConflict, InputTooLong, UnknownToken, SpansTooShort, WideTableTooShort}
 use Rattle.answer.specs.Numbers.{coded}
 use Rattle.answer.specs.Faults.{faultIf}
 use Rattle.answer.proofs.Faults.{none-some, fault-none, EachFault, first-each}
 use Rattle.booleans.specs.Choice.{choose}
-use Rattle.grammar.specs.Limits.{maxWords, maxTokens, maxTableWords, maxMemoEntries, maxNonterminals, maxTerminals, maxTabularTokens, maxSpanWords}
+use Rattle.grammar.specs.Limits.{maxWords, maxTokens, maxMemoEntries, maxNonterminals, maxTabularTokens, maxSpanWords}
 use Rattle.grammar.specs.Syntax.{Grammar}
 use Rattle.grammar.specs.Encoding.{grammarOf}
+use Rattle.lookahead.specs.declared.Lookahead.{Lookahead}
+use Rattle.lookahead.specs.declared.Lookahead.the-variants.{One, Two}
+use Rattle.lookahead.specs.Lookaheads.{tokens, alphabet}
 use Rattle.grammar.specs.Reading.{reading}
+use Rattle.grammar.specs.declared.reading.Sizes.{Sizes}
+use Rattle.admission.specs.Admission.{Fits, admission}
+use Rattle.admission.proofs.Admitted.{admitted}
+use Rattle.admission.proofs.Positions.{admission-low}
 use Rattle.grammar.specs.declared.reading.Outcome.{Outcome}
 use Rattle.grammar.specs.declared.reading.Outcome.the-variants.{Read, Faulty}
 use Rattle.grammar.proofs.WellRead.{well-read}
-use Rattle.lookahead.specs.declared.Lookahead.the-variants.{One}
 use Rattle.semantics.specs.LeftRecursion.{leftRecursive, lowestLeftRecursive}
 use Rattle.semantics.specs.Productive.{unproductive, lowestUnproductive}
 use Rattle.booleans.proofs.Quantified.{lowest-some}
@@ -33,10 +39,10 @@ use Rattle.table.specs.Conflicts.{firstClash}
 use Rattle.table.proofs.FirstClash.{clash-at}
 use Rattle.event.specs.declared.Unknown.the-variants.{At}
 use Rattle.event.specs.Unknown.{unknownFrom, unknownFault}
-use Rattle.recognizer.specs.Answers.{checkFault, judgeFault}
+use Rattle.recognizer.specs.Answers.{tableFault, checkFaultBy, judgeFaultBy}
 use Rattle.tabular.specs.Answers.{tabularFault}
 use Rattle.recognizer.proofs.Checking.{read-some}
-use Rattle.grammar.proofs.FaultPositions.{LowOutcome, reading-low}
+use Rattle.grammar.proofs.FaultPositions.{LowOutcome}
 
 -- what tells an error tells it at most at a position
 abbrev pub Low : ℕ → Error → Type 0
@@ -53,20 +59,23 @@ module _ (n : ℕ) where
   some-low x h e q = let z : e ≡ x = cc in rw z h
 
 -- left recursion and conflicts: a nonterminal, and an entry of the table
-module _ (G : Grammar) (few : G .nonterminals ≤ maxNonterminals) (small : G .terminals ≤ maxTerminals) where
+module _ (k : Lookahead) (G : Grammar) (few : G .nonterminals ≤ maxNonterminals) (small : G .terminals ≤ alphabet k) where
   left-low : (o : Option ℕ) → lowestLeftRecursive G ≡ o → LowFault maxWords (leftFault o)
   unfolding lowestLeftRecursive
   left-low none e = none-low maxWords
   left-low (some A) e = some-low maxWords (LeftRecursive A) (omega (arith, lowest-some (G .nonterminals) (leftRecursive G) A .0 e .0))
 
-  unproductive-low : (o : Option ℕ) → lowestUnproductive G 1 ≡ o → LowFault maxWords (unproductiveFault o)
+  unproductive-low : (o : Option ℕ) → lowestUnproductive G (tokens k) ≡ o → LowFault maxWords (unproductiveFault o)
   unfolding lowestUnproductive
   unproductive-low none e = none-low maxWords
-  unproductive-low (some A) e = some-low maxWords (Unproductive A) (omega (arith, lowest-some (G .nonterminals) (unproductive G 1) A .0 e .0))
+  unproductive-low (some A) e = some-low maxWords (Unproductive A) (omega (arith, lowest-some (G .nonterminals) (unproductive G (tokens k)) A .0 e .0))
 
-  clash-low : (r : Clash) → firstClash G ≡ r → LowFault maxWords (clashFault r)
-  clash-low conflict.Absent q = none-low maxWords
-  clash-low (conflict.At A c) q = let k = clash-at G q in some-low maxWords (Conflict A c) (omega (arith, k .0, k .1))
+-- a row of one token has at most 25 columns and 32 places, one of two tokens 57 and 64
+clash-low : (k : Lookahead) (G : Grammar) → G .nonterminals ≤ maxNonterminals → G .terminals ≤ alphabet k → (r : Clash) → firstClash k G ≡ r
+    → LowFault maxWords (clashFault k r)
+clash-low k G few small conflict.Absent q = none-low maxWords
+clash-low One G few small (conflict.At A c) q = let h = clash-at One G q in some-low maxWords (Conflict A c) (omega (arith, h .0, h .1))
+clash-low Two G few small (conflict.At A c) q = let h = clash-at Two G q in some-low maxWords (WideConflict A c) (omega (arith, h .0, h .1))
 
 when-low : (n : ℕ) (b : Bool) (x : Error) → coded x .position ≤ n → LowFault n (faultIf b x)
 when-low n true x h = some-low n x h
@@ -76,26 +85,36 @@ reading-row : (o : Outcome) → LowOutcome maxWords o → LowFault maxWords (rea
 reading-row (Read z) l = none-low maxWords
 reading-row (Faulty e) l = some-low maxWords e (l .low e refl)
 
+few-terminals : (k : Lookahead) (words : List ℕ) (z : Sizes) → reading words ≡ Read z → Fits k (grammarOf words) → grammarOf words .terminals ≤ alphabet k
+few-terminals One words z e f = let r = well-read words z e in omega (arith, r .terminals, r .fewTerminals)
+few-terminals Two words z e f = f .0
+
 -- the rows of a grammar's faults up to left recursion, and those behind them
-sets-rows : (words : List ℕ) (l : List (Option Error))
-    → ((few : grammarOf words .nonterminals ≤ maxNonterminals) (small : grammarOf words .terminals ≤ maxTerminals) → EachFault (Low maxWords) l)
-    → EachFault (Low maxWords) (setsFaults One words ++ l)
-sets-rows words l h = (
-  reading-row (reading words) (reading-low words),
+sets-rows : (k : Lookahead) (words : List ℕ) (l : List (Option Error))
+    → ((few : grammarOf words .nonterminals ≤ maxNonterminals) (small : grammarOf words .terminals ≤ alphabet k) → EachFault (Low maxWords) l)
+    → EachFault (Low maxWords) (setsFaults k words ++ l)
+sets-rows k words l h = (
+  reading-row (admission k words) (admission-low k words),
   λ q.
-      let k = read-some (reading words) q in
-      let r = well-read words (k .0) (k .1) in
+      let y = read-some (admission k words) q in
+      let a = admitted k words (y .0) .0 (y .1) in
+      let r = well-read words (y .0) (a .0) in
       let few : grammarOf words .nonterminals ≤ maxNonterminals = omega (arith, r .nonterminals, r .fewNonterminals) in
-      let small : grammarOf words .terminals ≤ maxTerminals = omega (arith, r .terminals, r .fewTerminals) in
+      let small : grammarOf words .terminals ≤ alphabet k = few-terminals k words (y .0) (a .0) (a .1) in
       let G = grammarOf words in
-      (left-low G few small _ refl, λ _. (unproductive-low G few small _ refl, λ _. h few small)),
+      (left-low k G few small _ refl, λ _. (unproductive-low k G few small _ refl, λ _. h few small)),
 )
 
 -- all rows of a grammar's faults, and those behind them
-grammar-rows : (words : List ℕ) (l : List (Option Error)) → EachFault (Low maxWords) l → EachFault (Low maxWords) (grammarFaults words ++ l)
-grammar-rows words l h =
-    sets-rows words (clashFault (firstClash (grammarOf words)) ∷ l)
-    (λ few small. (clash-low (grammarOf words) few small _ refl, λ _. h))
+grammar-rows : (k : Lookahead) (words : List ℕ) (l : List (Option Error)) → EachFault (Low maxWords) l → EachFault (Low maxWords) (grammarFaults k words ++ l)
+grammar-rows k words l h =
+    sets-rows k words (clashFault k (firstClash k (grammarOf words)) ∷ l)
+    (λ few small. (clash-low k (grammarOf words) few small _ refl, λ _. h))
+
+-- the row of the table's length
+table-low : (k : Lookahead) (table : ℕ) → LowFault maxWords (tableFault k table)
+table-low One table = when-low maxWords _ TableTooShort (omega arith)
+table-low Two table = when-low maxWords _ WideTableTooShort (omega arith)
 
 unknown-low : (n t at : ℕ) (w : List ℕ) → at + length w ≤ n → LowFault n (unknownFault (unknownFrom t at w))
 unfolding unknownFrom
@@ -117,22 +136,20 @@ input-rows tokens t input few = (
   ),
 )
 
-pub check-low : (table : ℕ) (words : List ℕ) (e : Error) → checkFault table words ≡ some e → Low maxWords e
-unfolding checkFault
-check-low table words =
-    first-each (Low maxWords) (faultIf (ltb table maxTableWords) TableTooShort ∷ grammarFaults words)
-    (when-low maxWords (ltb table maxTableWords) TableTooShort (omega arith), λ _. grammar-rows words [] tt)
+pub check-low : (k : Lookahead) (table : ℕ) (words : List ℕ) (e : Error) → checkFaultBy k table words ≡ some e → Low maxWords e
+unfolding checkFaultBy
+check-low k table words = first-each (Low maxWords) (tableFault k table ∷ grammarFaults k words) (table-low k table, λ _. grammar-rows k words [] tt)
 
-pub judge-low : (table memo : ℕ) (words input : List ℕ) (e : Error) → judgeFault table memo words input ≡ some e → Low maxWords e
-unfolding judgeFault
-judge-low table memo words input =
+pub judge-low : (k : Lookahead) (table memo : ℕ) (words input : List ℕ) (e : Error) → judgeFaultBy k table memo words input ≡ some e → Low maxWords e
+unfolding judgeFaultBy
+judge-low k table memo words input =
     let long = faultIf (ltb maxTokens (length input)) InputTooLong in
     let unknown = unknownFault (unknownFrom (grammarOf words .terminals) 0 input) in
-    first-each (Low maxWords) (faultIf (ltb table maxTableWords) TableTooShort ∷ faultIf (ltb memo maxMemoEntries) MemoTooShort ∷ grammarFaults words ++ long ∷ unknown ∷ []) (
-      when-low maxWords (ltb table maxTableWords) TableTooShort (omega arith),
+    first-each (Low maxWords) (tableFault k table ∷ faultIf (ltb memo maxMemoEntries) MemoTooShort ∷ grammarFaults k words ++ long ∷ unknown ∷ []) (
+      table-low k table,
       λ _. (
         when-low maxWords (ltb memo maxMemoEntries) MemoTooShort (omega arith),
-        λ _. grammar-rows words (long ∷ unknown ∷ []) (input-rows maxTokens (grammarOf words .terminals) input (omega arith)),
+        λ _. grammar-rows k words (long ∷ unknown ∷ []) (input-rows maxTokens (grammarOf words .terminals) input (omega arith)),
       ),
     )
 
@@ -143,5 +160,5 @@ tabular-low spans words input =
     let unknown = unknownFault (unknownFrom (grammarOf words .terminals) 0 input) in
     first-each (Low maxWords) (faultIf (ltb spans maxSpanWords) SpansTooShort ∷ setsFaults One words ++ long ∷ unknown ∷ []) (
       when-low maxWords (ltb spans maxSpanWords) SpansTooShort (omega arith),
-      λ _. sets-rows words (long ∷ unknown ∷ []) (λ _ _. input-rows maxTabularTokens (grammarOf words .terminals) input (omega arith)),
+      λ _. sets-rows One words (long ∷ unknown ∷ []) (λ _ _. input-rows maxTabularTokens (grammarOf words .terminals) input (omega arith)),
     )
