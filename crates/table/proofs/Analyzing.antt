@@ -1,6 +1,7 @@
 -- What is found of an encoded grammar, by its families, by the heads and the claims of its rules, by the nonterminals that overrun, and by the first clash.
 use mathlib.Core.Path.{_≡_, refl, sym, ap, _∙_}
 use mathlib.Core.List.{List, [], _∷_}
+use mathlib.Core.Logic.{_↔_}
 use mathlib.Core.Option.{Option, none, some}
 use Prim.Native.Nat.{ℕ, suc, _≤_, _<_, _*_, _+_}
 use native.Mathlib.Nat.{mul-add, mul-le-mul, mul-le-mul-right}
@@ -8,12 +9,13 @@ use native.Mathlib.Omega.{arith}
 use lib.ListN.{length, getD, replicate}
 use Rattle.answer.specs.declared.Error.{Error}
 use Rattle.answer.specs.Faults.{firstFault}
-use Rattle.answer.proofs.Faults.{none-some, first-nested}
+use Rattle.answer.proofs.Faults.{none-some, each-none, first-nested}
 use Rattle.grammar.specs.Codes.{noEntry}
 use Rattle.grammar.specs.Encoding.{parse, grammarOf}
 use Rattle.grammar.specs.Limits.{maxNonterminals, maxRules, maxColumns}
 use Rattle.grammar.specs.Syntax.{Grammar}
 use Rattle.grammar.specs.declared.reading.Sizes.{Sizes}
+use Rattle.grammar.specs.declared.reading.Outcome.{Outcome}
 use Rattle.grammar.specs.declared.reading.Outcome.the-variants.{Read, Faulty}
 use Rattle.grammar.specs.WellRead.{WellRead}
 use Rattle.grammar.proofs.WellRead.{well-read}
@@ -22,12 +24,12 @@ use Rattle.lookahead.specs.declared.Lookahead.the-variants.{One, Two}
 use Rattle.lookahead.specs.Lookaheads.{tokens, alphabet}
 use Rattle.admission.specs.Admission.{admission}
 use Rattle.semantics.specs.FiniteSets.{numbers}
-use Rattle.semantics.specs.Claims.{overruns}
+use Rattle.semantics.specs.Claims.{overruns, clashes}
 use Rattle.semantics.proofs.Outcomes.{nth-mem}
 use Rattle.sets.specs.declared.Finding.{Finding}
 use Rattle.sets.specs.declared.Finding.the-variants.{Passed, Refused}
 use Rattle.sets.specs.declared.Families.{Families}
-use Rattle.sets.specs.Analysis.{setsFaults, setsFault, setsIf, familiesOf}
+use Rattle.sets.specs.Analysis.{readingFault, setsFaults, setsFault, setsIf, familiesOf}
 use Rattle.sets.specs.Lists.{listed}
 use Rattle.sets.specs.Sets.{firstNumber, followNumber}
 use Rattle.sets.proofs.Lists.{listed-is, listed-at, listed-long}
@@ -48,6 +50,7 @@ use Rattle.table.proofs.Claimants.{heads-own}
 use Rattle.sets.proofs.FewTerminals.{admitted-read, few-terminals}
 use Rattle.table.proofs.OverrunSets.{overruns-told}
 use Rattle.table.proofs.ConflictScan.{clash-found}
+use Rattle.table.proofs.FirstClash.{clash-absent}
 use Rattle.table.proofs.EntriesFilled.{entries-filled}
 use Rattle.table.proofs.ColumnStrings.{column-count}
 use Rattle.table.proofs.WordsLaid.{word-is, words-table, table-small}
@@ -64,6 +67,28 @@ sets-first k words e f = rw f
 
 fault-first : (k : Lookahead) (words : List ℕ) (e : Error) → admission k words ≡ Faulty e → fault k words ≡ some e
 fault-first k words e f = rw (fault-sets k words, sets-first k words e f)
+
+-- a grammar clear of these is admitted, and then it has a fault just where an entry clashes
+none-faulty : (o : Outcome) → readingFault o ≡ none → (z : Sizes) × (o ≡ Read z)
+none-faulty (Read z) e = (z, refl)
+none-faulty (Faulty x) e = absurd (none-some (sym e))
+
+pub sets-admitted : (k : Lookahead) (words : List ℕ) → setsFault k words ≡ none → (z : Sizes) × (admission k words ≡ Read z)
+unfolding setsFault
+sets-admitted k words e = none-faulty (admission k words) (each-none (setsFaults k words) e .0)
+
+clash-alone : (k : Lookahead) (r : Conflict) → (firstFault (none ∷ clashFault k r ∷ []) ≡ none) ↔ (r ≡ conflict.Absent)
+clash-alone k conflict.Absent = (λ e. refl, λ e. refl)
+clash-alone k (conflict.At A c) = (λ e. absurd (none-some (sym e)), λ e. let z : _≡_ {A = ℕ} 0 1 = cc in absurd (omega arith))
+
+pub fault-clashless : (k : Lookahead) (words : List ℕ) → setsFault k words ≡ none → (fault k words ≡ none) ↔ (clashes (grammarOf words) (tokens k) ≡ [])
+fault-clashless k words e =
+    let G = grammarOf words in
+    let few = few-terminals k words (sets-admitted k words e .1) in
+    let a = clash-absent k G few in
+    let c = clash-alone k (firstClash k G) in
+    let d : fault k words ≡ firstFault (none ∷ clashFault k (firstClash k G) ∷ []) = rw (fault-sets k words, e) in
+    (λ f. a .0 (c .0 (sym d ∙ f)), λ f. d ∙ c .1 (a .1 f))
 
 -- the families that are found: a grammar to go on with, or a refusal
 pub given : {k : Lookahead} {words : List ℕ} {z : Sizes} {firsts follows : List ℕ} → FoundFamilies k words z firsts follows → FamiliesGiven k words z firsts follows
