@@ -47,9 +47,9 @@ pub fn judge(words: &[u32], events: &[u8], table: &mut [u32], memo: &mut [u16]) 
         return Answer::Refused(Error::MemoTooShort);
     }
     let analysis = analyze(words);
-    let found = with_input(analysis.finding, events);
-    match found {
-        Finding::Refused(error) => Answer::Refused(error),
+    let finding = with_input(analysis.finding, events);
+    match finding {
+        Finding::Refused(found) => Answer::Refused(found),
         Finding::Passed(sizes) => {
             lend(table, &analysis.table, sizes);
             judge_passed(words, sizes, &analysis.entries, events, memo)

@@ -23,11 +23,11 @@ analyze-requires c κs = search needs
 with-input-requires : tie.Need-with-input-requires
 with-input-requires c κs = search needs
 
-enum-known-found : tie.Need-enum-known-found
-enum-known-found c = search needs
+enum-known-finding : tie.Need-enum-known-finding
+enum-known-finding c = search needs
 
-enum-known-found-2 : tie.Need-enum-known-found-2
-enum-known-found-2 c = search needs
+enum-known-finding-2 : tie.Need-enum-known-finding-2
+enum-known-finding-2 c = search needs
 
 lend-requires : tie.Need-lend-requires
 lend-requires c κs =
@@ -38,7 +38,7 @@ lend-requires c κs =
     let given = long .before .before .before .before .before .args in
     lend-given (given .words .now) (given .table .now) (long .if1 .left)
     (judge-found (given .words .now) (inputOf (given .events .now)) (given .table .now) (given .memo .now) (long .if1 .left) (room .if2 .left)
-    (read .before .analyze .ensures) (read .with-input .ensures) (passed .found2 .given .1))
+    (read .before .analyze .ensures) (read .with-input .ensures) (passed .finding2 .given .1))
 
 judge-passed-requires : tie.Need-judge-passed-requires
 judge-passed-requires c κs =
@@ -48,7 +48,7 @@ judge-passed-requires c κs =
     let long = room .before in
     let given = long .before .before .before .before .before .args in
     passed-given (given .words .now) (inputOf (given .events .now)) (given .table .now) (given .memo .now) (long .if1 .left) (room .if2 .left)
-    (read .before .analyze .ensures) (read .with-input .ensures) (passed .found2 .given .1)
+    (read .before .analyze .ensures) (read .with-input .ensures) (passed .finding2 .given .1)
 
 returns-3 : tie.Need-returns-3
 returns-3 c =
@@ -57,7 +57,7 @@ returns-3 c =
     let long = room .before in
     let given = long .before .before .before .before .before .args in
     judge-found-refused (given .words .now) (inputOf (given .events .now)) (given .table .now) (given .memo .now) (long .if1 .left) (room .if2 .left)
-    (read .before .analyze .ensures) (read .with-input .ensures) (c .before .found .given .1)
+    (read .before .analyze .ensures) (read .with-input .ensures) (c .before .finding .given .1)
 
 same-length : tie.Need-same-length
 same-length c = search needs
@@ -75,7 +75,7 @@ returns-4 c =
     let long = room .before in
     let given = long .before .before .before .before .before .args in
     judge-done (given .words .now) (inputOf (given .events .now)) (given .table .now) (given .memo .now) (long .if1 .left) (room .if2 .left)
-    (read .before .analyze .ensures) (read .with-input .ensures) (passed .found2 .given .1) (lent .lend .ensures) (judged .judge-passed .ensures)
+    (read .before .analyze .ensures) (read .with-input .ensures) (passed .finding2 .given .1) (lent .lend .ensures) (judged .judge-passed .ensures)
 
 pub judge-spec : {M : Type 1} → statement M
 judge-spec =
@@ -85,8 +85,8 @@ judge-spec =
     returns-2
     analyze-requires
     with-input-requires
-    enum-known-found
-    enum-known-found-2
+    enum-known-finding
+    enum-known-finding-2
     lend-requires
     judge-passed-requires
     returns-3
