@@ -1,0 +1,2 @@
+pub mod WithoutPositives
+pub mod Admitted
