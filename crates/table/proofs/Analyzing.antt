@@ -2,23 +2,25 @@
 use mathlib.Core.Path.{_≡_, refl, sym, ap, _∙_}
 use mathlib.Core.List.{List, [], _∷_}
 use mathlib.Core.Option.{Option, none, some}
-use Prim.Native.Nat.{ℕ, _≤_, _<_, _^_, _*_, _+_}
-use native.Mathlib.Nat.{mul-add, mul-le-mul}
+use Prim.Native.Nat.{ℕ, suc, _≤_, _<_, _*_, _+_}
+use native.Mathlib.Nat.{mul-add, mul-le-mul, mul-le-mul-right}
 use native.Mathlib.Omega.{arith}
 use lib.ListN.{length, getD, replicate}
 use Rattle.answer.specs.declared.Error.{Error}
-use Rattle.answer.specs.declared.Error.the-variants as error
 use Rattle.answer.specs.Faults.{firstFault}
 use Rattle.answer.proofs.Faults.{none-some, first-nested}
 use Rattle.grammar.specs.Codes.{noEntry}
 use Rattle.grammar.specs.Encoding.{parse, grammarOf}
-use Rattle.grammar.specs.Limits.{maxNonterminals, maxTerminals, maxRules, maxColumns, maxTableWords}
-use Rattle.grammar.specs.Reading.{reading}
+use Rattle.grammar.specs.Limits.{maxNonterminals, maxRules, maxColumns}
 use Rattle.grammar.specs.Syntax.{Grammar}
 use Rattle.grammar.specs.declared.reading.Sizes.{Sizes}
-use Rattle.grammar.specs.declared.reading.Outcome.the-variants.{Read}
+use Rattle.grammar.specs.declared.reading.Outcome.the-variants.{Read, Faulty}
 use Rattle.grammar.specs.WellRead.{WellRead}
 use Rattle.grammar.proofs.WellRead.{well-read}
+use Rattle.lookahead.specs.declared.Lookahead.{Lookahead}
+use Rattle.lookahead.specs.declared.Lookahead.the-variants.{One, Two}
+use Rattle.lookahead.specs.Lookaheads.{tokens, alphabet}
+use Rattle.admission.specs.Admission.{admission}
 use Rattle.semantics.specs.FiniteSets.{numbers}
 use Rattle.semantics.specs.Claims.{overruns}
 use Rattle.semantics.proofs.Outcomes.{nth-mem}
@@ -39,162 +41,179 @@ use Rattle.table.specs.Claims.{headsOf, claimNumbers, byRule, byRuleIf, 
 use Rattle.table.specs.Overruns.{overrunSet, WordsIndexed, Overrunning}
 use Rattle.table.specs.Conflicts.{firstClash, conflictOf}
 use Rattle.table.specs.Columns.{columnCount, columns}
-use Rattle.table.specs.Layout.{tableWords, filled, wordCount, wordsOf, WordsGiven}
+use Rattle.table.specs.Layout.{tableRoom, wordsOf, WordsGiven, FitWords}
 use Rattle.table.specs.Entries.{rowsOf, RowsGiven, FilledRows, noRules, entriesOf}
-use Rattle.table.specs.Analysis.{clashFault, fault, entriesIf, foundWith, foundOf, analysis, analyzed}
+use Rattle.table.specs.Analysis.{conflictError, clashFault, fault, entriesIf, foundWith, foundOf, analysis, analyzed}
 use Rattle.table.proofs.Claimants.{heads-own}
+use Rattle.sets.proofs.FewTerminals.{admitted-read, few-terminals}
 use Rattle.table.proofs.OverrunSets.{overruns-told}
 use Rattle.table.proofs.ConflictScan.{clash-found}
 use Rattle.table.proofs.EntriesFilled.{entries-filled}
-use Rattle.table.proofs.WordsLaid.{word-fits, words-table}
+use Rattle.table.proofs.ColumnStrings.{column-count}
+use Rattle.table.proofs.WordsLaid.{word-is, words-table, table-small}
 
 -- the faults found with the sets come first
-pub fault-sets : (words : List ℕ) → fault words ≡ firstFault (setsFault words ∷ clashFault (firstClash (grammarOf words)) ∷ [])
+pub fault-sets : (k : Lookahead) (words : List ℕ) → fault k words ≡ firstFault (setsFault k words ∷ clashFault k (firstClash k (grammarOf words)) ∷ [])
 unfolding fault setsFault
-fault-sets words = first-nested [] (setsFaults words) (clashFault (firstClash (grammarOf words)) ∷ [])
+fault-sets k words = first-nested [] (setsFaults k words) (clashFault k (firstClash k (grammarOf words)) ∷ [])
+
+-- a faulty admission is the first fault
+sets-first : (k : Lookahead) (words : List ℕ) (e : Error) → admission k words ≡ Faulty e → setsFault k words ≡ some e
+unfolding setsFault
+sets-first k words e f = rw f
+
+fault-first : (k : Lookahead) (words : List ℕ) (e : Error) → admission k words ≡ Faulty e → fault k words ≡ some e
+fault-first k words e f = rw (fault-sets k words, sets-first k words e f)
 
 -- the families that are found: a grammar to go on with, or a refusal
-pub given : {words : List ℕ} {z : Sizes} {firsts follows : List ℕ} → FoundFamilies words z firsts follows → FamiliesGiven words z firsts follows
+pub given : {k : Lookahead} {words : List ℕ} {z : Sizes} {firsts follows : List ℕ} → FoundFamilies k words z firsts follows → FamiliesGiven k words z firsts follows
 given f = record { read = f .read; first = f .first; follow = f .follow }
 
-pub refused-claims : (words : List ℕ) {r : Families} {x : Error} → r ≡ familiesOf words → r .finding ≡ Refused x
-    → claimsWith (r .finding) (r .firsts) (r .follows) (replicate maxRules 0) (replicate maxRules 0) (replicate maxNonterminals 0) ≡ claimsOf words
+pub refused-claims : (k : Lookahead) (words : List ℕ) {r : Families} {x : Error} → r ≡ familiesOf k words → r .finding ≡ Refused x
+    → claimsWith (r .finding) (r .firsts) (r .follows) (replicate maxRules 0) (replicate maxRules 0) (replicate maxNonterminals 0) ≡ claimsOf k words
 unfolding claimsOf familiesOf
-refused-claims words {r} e q = rw (e, families-refused words e q)
+refused-claims k words {r} e q = rw (e, families-refused k words e q)
 
-pub words-indexed : {words : List ℕ} {z : Sizes} {firsts follows : List ℕ} → FoundFamilies words z firsts follows → WordsIndexed words
-words-indexed {words} f i h = word-indexed words (f .read) h refl
+pub words-indexed : {k : Lookahead} {words : List ℕ} {z : Sizes} {firsts follows : List ℕ} → FoundFamilies k words z firsts follows → WordsIndexed words
+words-indexed {k} {words} f i h = word-indexed words (admitted-read k words (f .read)) h refl
 
-pub all-claims : {words : List ℕ} {z : Sizes} {firsts follows heads sets told : List ℕ} → FoundFamilies words z firsts follows
-    → AllKept (grammarOf words) heads sets → Overrunning (parse words .rules) follows told
-    → claimsWith (Passed z) firsts follows heads sets told ≡ claimsOf words
+pub all-claims : {k : Lookahead} {words : List ℕ} {z : Sizes} {firsts follows heads sets told : List ℕ} → FoundFamilies k words z firsts follows
+    → AllKept k (grammarOf words) heads sets → Overrunning k (parse words .rules) follows told
+    → claimsWith (Passed z) firsts follows heads sets told ≡ claimsOf k words
 unfolding claimsOf
-all-claims {words} {z} {firsts} {follows} {heads} {sets} {told} f k o =
-    rw (f .read, f .faultless, f .first, f .follow, k .own, k .claims, listed-is maxNonterminals _ told (o .long) (overruns-told (given f) o))
+all-claims {k} {words} {z} {firsts} {follows} {heads} {sets} {told} f p o =
+    rw (f .read, f .faultless, f .first, f .follow, p .own, p .claims, listed-is maxNonterminals _ told (o .long) (overruns-told (given f) o))
 
 -- what claims that are found tell
-pub record Claimed (words : List ℕ) (z : Sizes) (r : Claims) : Type 0 where
-  pub read : reading words ≡ Read z
-  pub faultless : setsFault words ≡ none
-  pub first : r .firsts ≡ listed maxNonterminals (firstNumber (grammarOf words))
-  pub follow : r .follows ≡ listed maxNonterminals (followNumber (grammarOf words))
+pub record Claimed (k : Lookahead) (words : List ℕ) (z : Sizes) (r : Claims) : Type 0 where
+  pub read : admission k words ≡ Read z
+  pub faultless : setsFault k words ≡ none
+  pub first : r .firsts ≡ listed maxNonterminals (firstNumber k (grammarOf words))
+  pub follow : r .follows ≡ listed maxNonterminals (followNumber k (grammarOf words))
   pub own : r .heads ≡ byRule (headsOf (grammarOf words))
-  pub claims : r .sets ≡ byRule (claimNumbers (grammarOf words))
-  pub told : r .overruns ≡ overrunsOf (grammarOf words)
+  pub claims : r .sets ≡ byRule (claimNumbers k (grammarOf words))
+  pub told : r .overruns ≡ overrunsOf k (grammarOf words)
 
-module _ (words : List ℕ) {r : Claims} (e : r ≡ claimsOf words) where
-  pub claims-told : {z : Sizes} → r .finding ≡ Passed z → Claimed words z r
+module _ (k : Lookahead) (words : List ℕ) {r : Claims} (e : r ≡ claimsOf k words) where
+  pub claims-told : {z : Sizes} → r .finding ≡ Passed z → Claimed k words z r
   unfolding claimsOf
   claims-told q =
-      let k = told-passed (setsFault words) (reading words) (sym (ap (λ x. x .finding) e) ∙ q) in
+      let p = told-passed (setsFault k words) (admission k words) (sym (ap (λ x. x .finding) e) ∙ q) in
       let G = grammarOf words in
       record {
-        read = k .1;
-        faultless = k .0;
-        first = ap (λ x. x .firsts) e ∙ ap (λ f. setsIf f (listed maxNonterminals (firstNumber G))) (k .0);
-        follow = ap (λ x. x .follows) e ∙ ap (λ f. setsIf f (listed maxNonterminals (followNumber G))) (k .0);
-        own = ap (λ x. x .heads) e ∙ ap (λ f. byRuleIf f (headsOf G)) (k .0);
-        claims = ap (λ x. x .sets) e ∙ ap (λ f. byRuleIf f (claimNumbers G)) (k .0);
-        told = ap (λ x. x .overruns) e ∙ ap (λ f. overrunsIf f (overrunsOf G)) (k .0);
+        read = p .1;
+        faultless = p .0;
+        first = ap (λ x. x .firsts) e ∙ ap (λ f. setsIf f (listed maxNonterminals (firstNumber k G))) (p .0);
+        follow = ap (λ x. x .follows) e ∙ ap (λ f. setsIf f (listed maxNonterminals (followNumber k G))) (p .0);
+        own = ap (λ x. x .heads) e ∙ ap (λ f. byRuleIf f (headsOf G)) (p .0);
+        claims = ap (λ x. x .sets) e ∙ ap (λ f. byRuleIf f (claimNumbers k G)) (p .0);
+        told = ap (λ x. x .overruns) e ∙ ap (λ f. overrunsIf f (overrunsOf k G)) (p .0);
       }
 
   -- a refusal goes on
-  pub found-refused : {x : Error} → r .finding ≡ Refused x → foundWith (r .finding) (r .firsts) (r .follows) noRules ≡ foundOf words
-  unfolding claimsOf foundOf setsFault
+  pub found-refused : {x : Error} → r .finding ≡ Refused x → foundWith (r .finding) (r .firsts) (r .follows) noRules ≡ foundOf k words
+  unfolding claimsOf foundOf
   found-refused {x} q =
-      let f : setsFault words ≡ some x = told-refused (setsFault words) (reading words) (λ y f. rw f) (sym (ap (λ x. x .finding) e) ∙ q) in
-      rw (e, fault-sets words, f)
+      let f : setsFault k words ≡ some x = told-refused (setsFault k words) (admission k words) (sets-first k words) (sym (ap (λ x. x .finding) e) ∙ q) in
+      rw (e, fault-sets k words, f)
 
-module _ {words : List ℕ} {z : Sizes} {r : Claims} (f : Claimed words z r) where
+module _ {k : Lookahead} {words : List ℕ} {z : Sizes} {r : Claims} (f : Claimed k words z r) where
   known : WellRead words z
-  known = well-read words z (f .read)
+  known = well-read words z (admitted-read k words (f .read))
 
   pub headed : Headed (r .heads) (z .rules) (z .nonterminals)
   headed = record {
     few = known .fewRules;
     own = λ q b.
         let s = known .begins q b in
-        let h = heads-own (grammarOf words) (f .own) (f .claims) q _ s in
+        let h = heads-own k (grammarOf words) (f .own) (f .claims) q _ s in
         omega (arith, known .nonterminals, known .formed .scoped .heads _ (nth-mem (grammarOf words .rules) q _ s));
     allowed = known .fewNonterminals;
   }
 
-  pub few-terminals : z .terminals ≤ maxTerminals
-  few-terminals = known .fewTerminals
+  grammar-few : grammarOf words .terminals ≤ alphabet k
+  grammar-few = few-terminals k words (f .read)
+
+  pub sizes-few : z .terminals ≤ alphabet k
+  sizes-few = rw (known .terminals) grammar-few
 
   pub overruns-long : length (r .overruns) ≡ maxNonterminals
   overruns-long = ap length (f .told) ∙ listed-long maxNonterminals _
 
-  each-told : (A : ℕ) → A < grammarOf words .nonterminals → getD (r .overruns) A 0 ≡ overrunSet (overruns (grammarOf words) 1 A)
+  each-told : (A : ℕ) → A < grammarOf words .nonterminals → getD (r .overruns) A 0 ≡ overrunSet k (overruns (grammarOf words) (tokens k) A)
   each-told A h =
       ap (λ l. getD l A 0) (f .told)
-      ∙ listed-at maxNonterminals (λ A. overrunSet (overruns (grammarOf words) 1 A)) A (omega (arith, known .nonterminals, known .fewNonterminals))
+      ∙ listed-at maxNonterminals (λ A. overrunSet k (overruns (grammarOf words) (tokens k) A)) A (omega (arith, known .nonterminals, known .fewNonterminals))
 
-  module _ {v : Conflict} (d : v ≡ conflictOf z (r .heads) (r .sets) (r .overruns)) where
-    clash : v ≡ firstClash (grammarOf words)
+  module _ {v : Conflict} (d : v ≡ conflictOf k z (r .heads) (r .sets) (r .overruns)) where
+    clash : v ≡ firstClash k (grammarOf words)
     clash =
         (rw (known .nonterminals, known .terminals, known .rules) at d)
-        ∙ clash-found (grammarOf words) (omega (arith, known .terminals, known .fewTerminals)) (r .overruns) (f .own) (f .claims) each-told
+        ∙ clash-found k (grammarOf words) grammar-few (r .overruns) (f .own) (f .claims) each-told
 
     -- a clash refuses the grammar
-    pub found-clash : {A c : ℕ} → v ≡ conflict.At A c → foundWith (Refused (error.Conflict A c)) (r .firsts) (r .follows) noRules ≡ foundOf words
+    pub found-clash : {A c : ℕ} {x : Error} → v ≡ conflict.At A c → x ≡ conflictError k A c → foundWith (Refused x) (r .firsts) (r .follows) noRules ≡ foundOf k words
     unfolding foundOf
-    found-clash t = rw (fault-sets words, f .read, f .faultless, ← clash, t, f .first, f .follow)
+    found-clash t d = rw (d, fault-sets k words, f .read, f .faultless, ← clash, t, f .first, f .follow)
 
     -- else its entries are found
     pub found-passed : {entries : List ℕ} → v ≡ conflict.Absent
-        → FilledRows (rowsOf (z .nonterminals) (z .terminals)) (r .heads) (r .sets) 0 (numbers (z .rules)) noRules entries
-        → foundWith (Passed z) (r .firsts) (r .follows) entries ≡ foundOf words
+        → FilledRows (rowsOf k (z .nonterminals) (z .terminals)) (r .heads) (r .sets) 0 (numbers (z .rules)) noRules entries
+        → foundWith (Passed z) (r .firsts) (r .follows) entries ≡ foundOf k words
     unfolding foundOf
     found-passed t w =
         let G = grammarOf words in
         let n : G .nonterminals ≤ maxNonterminals = omega (arith, known .fewNonterminals, known .nonterminals) in
-        let m : G .terminals ≤ maxTerminals = omega (arith, known .fewTerminals, known .terminals) in
-        let l = entries-filled G n m (f .own) (f .claims) (rw (known .nonterminals, known .terminals, known .rules) at w) in
-        rw (fault-sets words, f .read, f .faultless, ← clash, t, f .first, f .follow, l)
+        let l = entries-filled k G n grammar-few (f .own) (f .claims) (rw (known .nonterminals, known .terminals, known .rules) at w) in
+        rw (fault-sets k words, f .read, f .faultless, ← clash, t, f .first, f .follow, l)
 
 -- what entries that are found tell
-pub record FoundEntries (words : List ℕ) (z : Sizes) (r : Found) : Type 0 where
-  pub read : reading words ≡ Read z
-  pub faultless : fault words ≡ none
-  pub first : r .firsts ≡ listed maxNonterminals (firstNumber (grammarOf words))
-  pub follow : r .follows ≡ listed maxNonterminals (followNumber (grammarOf words))
-  pub entries : r .entries ≡ entriesOf (grammarOf words)
+pub record FoundEntries (k : Lookahead) (words : List ℕ) (z : Sizes) (r : Found) : Type 0 where
+  pub read : admission k words ≡ Read z
+  pub faultless : fault k words ≡ none
+  pub first : r .firsts ≡ listed maxNonterminals (firstNumber k (grammarOf words))
+  pub follow : r .follows ≡ listed maxNonterminals (followNumber k (grammarOf words))
+  pub entries : r .entries ≡ entriesOf k (grammarOf words)
 
-none-sets : (words : List ℕ) → fault words ≡ none → setsFault words ≡ none
-none-sets words e = go (setsFault words) refl
+none-sets : (k : Lookahead) (words : List ℕ) → fault k words ≡ none → setsFault k words ≡ none
+none-sets k words e = go (setsFault k words) refl
   where
-    go : (o : Option Error) → setsFault words ≡ o → setsFault words ≡ none
+    go : (o : Option Error) → setsFault k words ≡ o → setsFault k words ≡ none
     go none s = s
-    go (some x) s = absurd (none-some (sym e ∙ fault-sets words ∙ ap (λ o. firstFault (o ∷ clashFault (firstClash (grammarOf words)) ∷ [])) s))
+    go (some x) s = absurd (none-some (sym e ∙ fault-sets k words ∙ ap (λ o. firstFault (o ∷ clashFault k (firstClash k (grammarOf words)) ∷ [])) s))
 
-module _ (words : List ℕ) {r : Found} (e : r ≡ foundOf words) where
-  pub analyzed-refused : {x : Error} → r .finding ≡ Refused x → analysis (r .finding) (r .entries) (replicate maxTableWords noEntry) ≡ analyzed words
-  unfolding foundOf analyzed fault
+module _ (k : Lookahead) (words : List ℕ) {r : Found} (e : r ≡ foundOf k words) where
+  pub analyzed-refused : {x : Error} → r .finding ≡ Refused x → analysis k (r .finding) (r .entries) (replicate (tableRoom k) noEntry) ≡ analyzed k words
+  unfolding foundOf analyzed
   analyzed-refused {x} q =
-      let f : fault words ≡ some x = told-refused (fault words) (reading words) (λ y f. rw f) (sym (ap (λ x. x .finding) e) ∙ q) in
+      let f : fault k words ≡ some x = told-refused (fault k words) (admission k words) (fault-first k words) (sym (ap (λ x. x .finding) e) ∙ q) in
       rw (e, f)
 
-  pub entries-told : {z : Sizes} → r .finding ≡ Passed z → FoundEntries words z r
+  pub entries-told : {z : Sizes} → r .finding ≡ Passed z → FoundEntries k words z r
   unfolding foundOf
   entries-told q =
-      let k = told-passed (fault words) (reading words) (sym (ap (λ x. x .finding) e) ∙ q) in
-      let s = none-sets words (k .0) in
+      let p = told-passed (fault k words) (admission k words) (sym (ap (λ x. x .finding) e) ∙ q) in
+      let s = none-sets k words (p .0) in
       let G = grammarOf words in
       record {
-        read = k .1;
-        faultless = k .0;
-        first = ap (λ x. x .firsts) e ∙ ap (λ f. setsIf f (listed maxNonterminals (firstNumber G))) s;
-        follow = ap (λ x. x .follows) e ∙ ap (λ f. setsIf f (listed maxNonterminals (followNumber G))) s;
-        entries = ap (λ x. x .entries) e ∙ ap (λ f. entriesIf f (entriesOf G)) (k .0);
+        read = p .1;
+        faultless = p .0;
+        first = ap (λ x. x .firsts) e ∙ ap (λ f. setsIf f (listed maxNonterminals (firstNumber k G))) s;
+        follow = ap (λ x. x .follows) e ∙ ap (λ f. setsIf f (listed maxNonterminals (followNumber k G))) s;
+        entries = ap (λ x. x .entries) e ∙ ap (λ f. entriesIf f (entriesOf k G)) (p .0);
       }
 
-module _ {words : List ℕ} {z : Sizes} {r : Found} (f : FoundEntries words z r) where
+-- there is room for a row of any admitted grammar
+room-for : (k : Lookahead) (t : ℕ) → t ≤ alphabet k → maxNonterminals * (2 + columnCount k t) ≤ tableRoom k
+room-for One t h = let l : 2 + suc t ≤ 2 + maxColumns = omega arith in mul-le-mul {n₁ = maxNonterminals} {n₂ = maxNonterminals} (omega arith) l
+room-for Two t h = omega arith
+
+module _ {k : Lookahead} {words : List ℕ} {z : Sizes} {r : Found} (f : FoundEntries k words z r) where
   abbrev G : Grammar
   G = grammarOf words
 
   read-well : WellRead words z
-  read-well = well-read words z (f .read)
+  read-well = well-read words z (admitted-read k words (f .read))
 
   few : G .nonterminals ≤ maxNonterminals
   few = omega (arith, read-well .fewNonterminals, read-well .nonterminals)
@@ -202,21 +221,30 @@ module _ {words : List ℕ} {z : Sizes} {r : Found} (f : FoundEntries words z r)
   few-rules : length (G .rules) ≤ maxRules
   few-rules = omega (arith, read-well .fewRules, read-well .rules)
 
-  below : (i : ℕ) → i < wordCount z → i < 2 * G .nonterminals + G .nonterminals * columns G
-  below i h =
-      let l : i < G .nonterminals * (2 + columns G) = rw (read-well .nonterminals, read-well .terminals) at h in
-      omega (arith, mul-add (G .nonterminals) 2 (columns G))
+  alphabet-few : z .terminals ≤ alphabet k
+  alphabet-few = rw (read-well .terminals) (few-terminals k words (f .read))
 
-  pub words-given : WordsGiven z (r .firsts) (r .follows) (r .entries)
+  pub words-given : WordsGiven k z
   words-given = record {
     few = read-well .fewNonterminals;
-    room = let l : 2 + columnCount (z .terminals) ≤ 2 + maxColumns = omega (arith, read-well .fewTerminals) in mul-le-mul (read-well .fewNonterminals) l;
-    fits = λ i h.
-        rw (read-well .nonterminals) (word-fits G few few-rules (f .first) (f .follow) (f .entries) i (below i h));
+    room = omega (arith, mul-le-mul-right (2 + columnCount k (z .terminals)) (read-well .fewNonterminals), room-for k (z .terminals) alphabet-few);
+    row = column-count k (z .terminals) alphabet-few;
   }
 
-  pub analyzed-passed : {table : List ℕ} → table ≡ wordsOf z (r .firsts) (r .follows) (r .entries) → analysis (Passed z) (r .entries) table ≡ analyzed words
+  pub analyzed-passed : {table : List ℕ} → table ≡ wordsOf k z (r .firsts) (r .follows) (r .entries)
+      → analysis k (Passed z) (r .entries) table ≡ analyzed k words
   unfolding analyzed
   analyzed-passed t =
-      let l = words-table G few few-rules (f .first) (f .follow) (f .entries) z (read-well .nonterminals) (read-well .terminals) in
+      let l = words-table k G few-rules few (f .first) (f .follow) (f .entries) z (read-well .nonterminals) (read-well .terminals) in
       rw (f .read, f .faultless, t, l, f .entries)
+
+-- with one token of lookahead each word fits one of 32 bits
+pub words-fit : {words : List ℕ} {z : Sizes} {r : Found} → FoundEntries One words z r → FitWords z (r .firsts) (r .follows) (r .entries)
+words-fit {words} {z} f i h =
+    let G = grammarOf words in
+    let w = well-read words z (f .read) in
+    let n : G .nonterminals ≤ maxNonterminals = omega (arith, w .fewNonterminals, w .nonterminals) in
+    let m : length (G .rules) ≤ maxRules = omega (arith, w .fewRules, w .rules) in
+    let l : i < G .nonterminals * (2 + columns One G) = rw (w .nonterminals, w .terminals) at h in
+    let b : i < 2 * G .nonterminals + G .nonterminals * columns One G = omega (arith, mul-add (G .nonterminals) 2 (columns One G)) in
+    rw (w .nonterminals) (rw (word-is One G m n (f .first) (f .follow) (f .entries) i b) (table-small G m i b))

@@ -9,7 +9,8 @@ use denote.Enum.Declared.{tagOf}
 use types.Run.{OneOf, miss}
 use lib.ListN.{length, getD}
 use Rattle.grammar.specs.Syntax.{Grammar}
-use Rattle.lookahead.specs.Elements.{nothing}
+use Rattle.lookahead.specs.declared.Lookahead.{Lookahead}
+use Rattle.lookahead.specs.Lookaheads.{tokens, alphabet}
 use Rattle.lookahead.specs.Operations.{isEmpty}
 use Rattle.lookahead.proofs.Emptiness.{empty-none}
 use Rattle.semantics.specs.Claims.{several, claims, overruns, clashing}
@@ -95,19 +96,20 @@ rows-same p q columns rows h A (suc n) l =
     rw (row-same (p A) (q A) A 0 columns (λ c b. h A c (omega arith) (omega arith)), rows-same p q columns rows h (suc A) n (omega arith))
 
 -- with the heads and the claims of a grammar's rules, and what is told of its nonterminals that overrun
-pub clash-found : (G : Grammar) → G .terminals ≤ nothing → {heads sets : List ℕ} (told : List ℕ) → heads ≡ byRule (headsOf G) → sets ≡ byRule (claimNumbers G)
-    → ((A : ℕ) → A < G .nonterminals → getD told A 0 ≡ overrunSet (overruns G 1 A))
-    → conflictFrom (claimedTwice (columnElement (G .terminals)) heads sets told (length (G .rules))) (columns G) 0 (G .nonterminals) ≡ firstClash G
+pub clash-found : (k : Lookahead) (G : Grammar) → G .terminals ≤ alphabet k → {heads sets : List ℕ} (told : List ℕ)
+    → heads ≡ byRule (headsOf G) → sets ≡ byRule (claimNumbers k G)
+    → ((A : ℕ) → A < G .nonterminals → getD told A 0 ≡ overrunSet k (overruns G (tokens k) A))
+    → conflictFrom (claimedTwice (columnElement k (G .terminals)) heads sets told (length (G .rules))) (columns k G) 0 (G .nonterminals) ≡ firstClash k G
 unfolding firstClash
-clash-found G few {heads} {sets} told h s o = rows-same _ _ (columns G) (G .nonterminals) same 0 (G .nonterminals) (omega arith)
+clash-found k G few {heads} {sets} told h s o = rows-same _ _ (columns k G) (G .nonterminals) same 0 (G .nonterminals) (omega arith)
   where
     t : ℕ
     t = G .terminals
 
-    same : (A c : ℕ) → A < G .nonterminals → c < columns G
-        → claimedTwice (columnElement t) heads sets told (length (G .rules)) A c ≡ clashing G 1 (A, columnString t c)
+    same : (A c : ℕ) → A < G .nonterminals → c < columns k G
+        → claimedTwice (columnElement k t) heads sets told (length (G .rules)) A c ≡ clashing G (tokens k) (A, columnString k t c)
     same A c a b =
         ap₂ _||_
-        (several-claims (rules-told G h s (columnElement t c) (element-small t c few b)) A
-        ∙ ap (λ x. several (claims G 1 (A, x)) (G .rules)) (column-string t c few b))
-        (rw (o A a) (overrun-column (overruns G 1 A) t c few b))
+        (several-claims (rules-told k G h s (columnElement k t c) (element-small k t c few b)) A
+        ∙ ap (λ x. several (claims G (tokens k) (A, x)) (G .rules)) (column-string k t c few b))
+        (rw (o A a) (overrun-column k (overruns G (tokens k) A) t c few b))

@@ -15,14 +15,16 @@ use Rattle.semantics.specs.LeftRecursion.{lowestLeftRecursive}
 use Rattle.semantics.proofs.Computing.{tables-compute, left-recursion-computes}
 use Rattle.table.specs.declared.conflicts.Conflict.the-variants.{At}
 use Rattle.sets.specs.Lists.{listed}
-use Rattle.sets.specs.Sets.{stringOf, numberOf, firstNumber, followNumber}
+use Rattle.lookahead.specs.declared.Lookahead.the-variants.{One, Two}
+use Rattle.lookahead.specs.Lookaheads.{stringOf}
+use Rattle.sets.specs.Sets.{numberOf, firstNumber, followNumber}
 use Rattle.table.specs.Columns.{columnString}
 use Rattle.table.specs.Layout.{entryAt, setWord, rowWord, tableWords}
 use Rattle.table.specs.Conflicts.{rowConflict, conflictFrom, firstClash}
 use Rattle.sets.specs.Analysis.{leftFault}
 
 abbrev numbers : Grammar → List ℕ × List ℕ
-numbers G = (listed (G .nonterminals) (firstNumber G), listed (G .nonterminals) (followNumber G))
+numbers G = (listed (G .nonterminals) (firstNumber One G), listed (G .nonterminals) (followNumber One G))
 
 sheets : _≡_ {A = List (List ℕ × List ℕ)} (numbers grammarR ∷ numbers grammarM ∷ numbers grammarE ∷ []) (
     (16777217 ∷ [], 16777216 ∷ [])
@@ -33,7 +35,7 @@ unfolding tables-compute listed total stringOf numberOf firstNumber followNumber
 sheets = refl
 
 -- the words of their tables: the sets, and the rows
-tables : _≡_ {A = List (List ℕ)} (tableWords grammarR ∷ tableWords grammarM ∷ tableWords grammarE ∷ []) (
+tables : _≡_ {A = List (List ℕ)} (tableWords One grammarR ∷ tableWords One grammarM ∷ tableWords One grammarE ∷ []) (
     (16777217 ∷ 16777216 ∷ 0 ∷ 1 ∷ [])
     ∷ (16777219 ∷ 16777216 ∷ 16777217 ∷ 16777218 ∷ 16777217 ∷ 16777222 ∷ 16777220 ∷ 16777216 ∷ 16777218 ∷ 16777220
     ∷ 0 ∷ 0 ∷ noEntry ∷ 0 ∷ 1 ∷ 2 ∷ noEntry ∷ 2 ∷ 3 ∷ 4 ∷ 4 ∷ 4 ∷ noEntry ∷ noEntry ∷ 5 ∷ 6 ∷ noEntry ∷ 7 ∷ 8 ∷ 8 ∷ [])
@@ -67,15 +69,15 @@ notABefore = record {
 abbrev notAWhole : Grammar
 notAWhole = record { nonterminals = 1; terminals = 1; rules = notA 0 ∷ [] }
 
-overruns : firstClash notABefore ≡ At 1 0
+overruns : firstClash One notABefore ≡ At 1 0
 unfolding tables-compute rowConflict conflictFrom firstClash columnString
 overruns = refl
 
-takes-all : (clashes notAWhole 1 ≡ []) × (tableWords notAWhole ≡ 16777217 ∷ 16777216 ∷ 0 ∷ 0 ∷ [])
+takes-all : (clashes notAWhole 1 ≡ []) × (tableWords One notAWhole ≡ 16777217 ∷ 16777216 ∷ 0 ∷ 0 ∷ [])
 unfolding tables-compute listed total stringOf numberOf firstNumber followNumber first follow tableWords setWord rowWord entryAt columnString tableOf clashes
 takes-all = (refl, refl)
 
-claimed-twice : firstClash twiceA ≡ At 0 0
+claimed-twice : firstClash One twiceA ≡ At 0 0
 unfolding tables-compute rowConflict conflictFrom firstClash columnString
 claimed-twice = refl
 

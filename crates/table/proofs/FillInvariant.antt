@@ -12,12 +12,14 @@ use lib.ListN.{getD}
 use Rattle.booleans.specs.Choice.{choose}
 use Rattle.grammar.specs.Limits.{maxNonterminals, maxWideColumns, maxEntries}
 use Rattle.grammar.specs.declared.reading.Sizes.{Sizes}
+use Rattle.lookahead.specs.declared.Lookahead.{Lookahead}
 use Rattle.lookahead.specs.Elements.{has}
 use Rattle.semantics.specs.FiniteSets.{numbersFrom, numbers}
 use Rattle.semantics.specs.Claims.{position}
 use Rattle.table.specs.Columns.{columnCount}
 use Rattle.table.specs.Claims.{claimant}
 use Rattle.table.specs.Entries.{Rows, indexOf, entryOver, FilledRow, FilledRows, RowsGiven}
+use Rattle.table.proofs.ColumnStrings.{column-count}
 use Rattle.table.proofs.Claimants.{claimant-own, claimant-other, numbers-before}
 
 -- a list whose first member passes, or does not
@@ -85,11 +87,11 @@ module _ {R : Rows} {heads sets : List ℕ} (q : ℕ) {rules before table table�
           ∙ position-later (claimant heads sets A (R .element c)) q rules q (getD before (indexOf R A c) 0) (claimant-other heads sets A (R .element c) q ne)
 
 -- a rule's row is in the array
-pub row-room : {z : Sizes} {heads : List ℕ} → RowsGiven z heads → (q : ℕ) → q < z .rules
-    → getD heads q 0 * columnCount (z .terminals) + columnCount (z .terminals) ≤ maxEntries
-row-room {z} {heads} g q h =
-    let n = columnCount (z .terminals) in
-    let l : n ≤ maxWideColumns = omega (arith, g .fewTerminals) in
+pub row-room : {k : Lookahead} {z : Sizes} {heads : List ℕ} → RowsGiven k z heads → (q : ℕ) → q < z .rules
+    → getD heads q 0 * columnCount k (z .terminals) + columnCount k (z .terminals) ≤ maxEntries
+row-room {k} {z} {heads} g q h =
+    let n = columnCount k (z .terminals) in
+    let l : n ≤ maxWideColumns = column-count k (z .terminals) (g .fewTerminals) in
     let own = g .headed .own q h in
     let below : suc (getD heads q 0) ≤ maxNonterminals = omega (arith, g .headed .allowed) in
     omega (arith, suc-mul (getD heads q 0) n, mul-le-mul below l)

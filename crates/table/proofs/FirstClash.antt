@@ -9,17 +9,17 @@ use native.Mathlib.Omega.{arith}
 use lib.Dec.{T}
 use Rattle.booleans.specs.Choice.{choose}
 use Rattle.grammar.specs.Syntax.{Grammar}
-use Rattle.lookahead.specs.Elements.{nothing}
-use Rattle.semantics.specs.Families.{Clash}
-use Rattle.semantics.specs.FirstFollow.{Entry, entries, First, Follow}
-use Rattle.semantics.specs.Strings.{Lookahead}
-use Rattle.semantics.specs.Claims.{clashing, clashes, column}
+use Rattle.lookahead.specs.declared.Lookahead.{Lookahead}
+use Rattle.lookahead.specs.Lookaheads.{tokens, alphabet}
+use Rattle.semantics.specs.FirstFollow.{Entry, entries}
+use Rattle.semantics.specs.Strings.{Lookahead as Looked}
+use Rattle.semantics.specs.Claims.{clashing, clashes}
 use Rattle.semantics.proofs.Claims.{clashing-elim, clashes-make}
 use Rattle.semantics.proofs.FiniteSets.{keep-elim}
 use Rattle.semantics.proofs.LookaheadSets.{entries-elim}
 use Rattle.table.specs.declared.conflicts.Conflict.{Conflict}
 use Rattle.table.specs.declared.conflicts.Conflict.the-variants.{Absent, At}
-use Rattle.table.specs.Columns.{columnString, columns}
+use Rattle.table.specs.Columns.{columnString, columnOf, columns}
 use Rattle.table.specs.Conflicts.{rowConflict, orLater, conflictFrom, firstClash, FirstClash}
 use Rattle.table.proofs.ColumnStrings.{column-back, column-in, string-column}
 
@@ -92,73 +92,73 @@ same-place (inl h) (inr k) = absurd (omega (arith, k .0))
 same-place (inr h) (inl k) = absurd (omega (arith, h .0))
 same-place (inr h) (inr k) = (h .0, omega (arith, h .1, k .1))
 
-module _ (G : Grammar) where
+module _ (k : Lookahead) (G : Grammar) where
   abbrev t : ℕ
   t = G .terminals
 
-  abbrev ClashAt : ℕ → List ℕ → Type 0
-  ClashAt = Clash G 1 (First G 1) (Follow G 1)
+  abbrev n : ℕ
+  n = tokens k
 
-  scan : Scanned (λ A c. clashing G 1 (A, columnString t c)) (columns G) 0 (G .nonterminals) (firstClash G)
+  scan : Scanned (λ A c. clashing G n (A, columnString k t c)) (columns k G) 0 (G .nonterminals) (firstClash k G)
   unfolding firstClash
-  scan = scanned _ (columns G) 0 (G .nonterminals)
+  scan = scanned _ (columns k G) 0 (G .nonterminals)
 
   -- a clash is one of an entry, in its string's column
-  clash-entry : (e : Entry) → List·Memᴰ e (clashes G 1) → (e .0 < G .nonterminals) × Lookahead 1 t (e .1) × T (clashing G 1 e)
+  clash-entry : (e : Entry) → List·Memᴰ e (clashes G n) → (e .0 < G .nonterminals) × Looked n t (e .1) × T (clashing G n e)
   unfolding clashes
   clash-entry e m =
-      let k = keep-elim (clashing G 1) (entries G 1) e m in
-      let l = entries-elim G 1 e (k .0) in
-      (l .0, l .1, k .1)
-
-  in-column : (B : ℕ) (x : List ℕ) → Lookahead 1 t x → T (clashing G 1 (B, x)) → T (clashing G 1 (B, columnString t (column t x)))
-  in-column B x l k = subst (λ y. T (clashing G 1 (B, y))) (sym (string-column t x l)) k
+      let h = keep-elim (clashing G n) (entries G n) e m in
+      let l = entries-elim G n e (h .0) in
+      (l .0, l .1, h .1)
 
   -- where the first clash stands
-  pub clash-at : {A c : ℕ} → firstClash G ≡ At A c → (A < G .nonterminals) × (c < columns G)
+  pub clash-at : {A c : ℕ} → firstClash k G ≡ At A c → (A < G .nonterminals) × (c < columns k G)
   clash-at e = let s = rw e at scan in (omega (arith, s .1), s .2)
 
-  module _ (few : t ≤ nothing) where
-    pub clash-first : {A c : ℕ} → firstClash G ≡ At A c → FirstClash G A c
+  module _ (few : t ≤ alphabet k) where
+    in-column : (B : ℕ) (x : List ℕ) → Looked n t x → T (clashing G n (B, x)) → T (clashing G n (B, columnString k t (columnOf k t x)))
+    in-column B x l h = subst (λ y. T (clashing G n (B, y))) (sym (string-column k t x few l)) h
+
+    pub clash-first : {A c : ℕ} → firstClash k G ≡ At A c → FirstClash k G A c
     clash-first {A} {c} e =
         let s = rw e at scan in
         record {
-          string = columnString t c;
-          clash = clashing-elim G 1 A (columnString t c) (s .3);
-          stands = column-back t c few (s .2);
-          first = λ B x k.
-              let d = clash-entry (B, x) (clashes-make G 1 B x k) in
-              s .4 B (column t x) (omega arith) (omega (arith, d .0)) (column-in t x (d .1)) (in-column B x (d .1) (d .2));
+          string = columnString k t c;
+          clash = clashing-elim G n A (columnString k t c) (s .3);
+          stands = column-back k t c;
+          first = λ B x h.
+              let d = clash-entry (B, x) (clashes-make G n B x h) in
+              s .4 B (columnOf k t x) (omega arith) (omega (arith, d .0)) (column-in k t x few (d .1)) (in-column B x (d .1) (d .2));
         }
 
-    pub first-clash : {A c : ℕ} → FirstClash G A c → firstClash G ≡ At A c
-    first-clash {A} {c} f = go (firstClash G) refl
+    pub first-clash : {A c : ℕ} → FirstClash k G A c → firstClash k G ≡ At A c
+    first-clash {A} {c} f = go (firstClash k G) refl
       where
-        go : (r : Conflict) → firstClash G ≡ r → firstClash G ≡ At A c
+        go : (r : Conflict) → firstClash k G ≡ r → firstClash k G ≡ At A c
         go Absent e =
-            let d = clash-entry (A, f .string) (clashes-make G 1 A (f .string) (f .clash)) in
+            let d = clash-entry (A, f .string) (clashes-make G n A (f .string) (f .clash)) in
             let s = rw e at scan in
-            absurd (s A (column t (f .string)) (omega arith) (omega (arith, d .0)) (column-in t (f .string) (d .1)) (in-column A (f .string) (d .1) (d .2)))
+            absurd (s A (columnOf k t (f .string)) (omega arith) (omega (arith, d .0)) (column-in k t (f .string) few (d .1)) (in-column A (f .string) (d .1) (d .2)))
         go (At B d) e =
             let g = clash-first e in
-            let p : NotBefore A c B d = subst (λ n. NotBefore A c B n) (g .stands) (f .first B (g .string) (g .clash)) in
-            let q : NotBefore B d A c = subst (λ n. NotBefore B d A n) (f .stands) (g .first A (f .string) (f .clash)) in
+            let p : NotBefore A c B d = subst (λ m. NotBefore A c B m) (g .stands) (f .first B (g .string) (g .clash)) in
+            let q : NotBefore B d A c = subst (λ m. NotBefore B d A m) (f .stands) (g .first A (f .string) (f .clash)) in
             let s = same-place q p in
             e ∙ ap₂ At (s .0) (s .1)
 
-  -- none is found just where there is none
-  pub clash-absent : (firstClash G ≡ Absent) ↔ (clashes G 1 ≡ [])
-  clash-absent = (λ e. none (clashes G 1) refl e, λ e. absent (firstClash G) refl e)
-    where
-      none : (l : List Entry) → clashes G 1 ≡ l → firstClash G ≡ Absent → clashes G 1 ≡ []
-      none [] e a = e
-      none (x ∷ l) e a =
-          let d = clash-entry x (rw e (List·Memᴰ·head refl)) in
-          let s = rw a at scan in
-          absurd (s (x .0) (column t (x .1)) (omega arith) (omega (arith, d .0)) (column-in t (x .1) (d .1)) (in-column (x .0) (x .1) (d .1) (d .2)))
+    -- none is found just where there is none
+    pub clash-absent : (firstClash k G ≡ Absent) ↔ (clashes G n ≡ [])
+    clash-absent = (λ e. none (clashes G n) refl e, λ e. absent (firstClash k G) refl e)
+      where
+        none : (l : List Entry) → clashes G n ≡ l → firstClash k G ≡ Absent → clashes G n ≡ []
+        none [] e a = e
+        none (x ∷ l) e a =
+            let d = clash-entry x (rw e (List·Memᴰ·head refl)) in
+            let s = rw a at scan in
+            absurd (s (x .0) (columnOf k t (x .1)) (omega arith) (omega (arith, d .0)) (column-in k t (x .1) few (d .1)) (in-column (x .0) (x .1) (d .1) (d .2)))
 
-      absent : (r : Conflict) → firstClash G ≡ r → clashes G 1 ≡ [] → firstClash G ≡ Absent
-      absent Absent e n = e
-      absent (At A c) e n =
-          let s = rw e at scan in
-          absurd (List·Memᴰ·not-nil (rw n at (clashes-make G 1 A (columnString t c) (clashing-elim G 1 A (columnString t c) (s .3)))))
+        absent : (r : Conflict) → firstClash k G ≡ r → clashes G n ≡ [] → firstClash k G ≡ Absent
+        absent Absent e z = e
+        absent (At A c) e z =
+            let s = rw e at scan in
+            absurd (List·Memᴰ·not-nil (rw z at (clashes-make G n A (columnString k t c) (clashing-elim G n A (columnString k t c) (s .3)))))

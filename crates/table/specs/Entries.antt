@@ -7,9 +7,11 @@ use Prim.Native.Nat.{ℕ, _+_, _*_, _/_, _%_, _≤_, _<_}
 use lib.ListN.{length, getD, replicate}
 use Rattle.booleans.specs.Choice.{choose}
 use Rattle.grammar.specs.Codes.{noRule}
-use Rattle.grammar.specs.Limits.{maxTerminals, maxEntries}
+use Rattle.grammar.specs.Limits.{maxEntries}
 use Rattle.grammar.specs.Syntax.{Grammar}
 use Rattle.grammar.specs.declared.reading.Sizes.{Sizes}
+use Rattle.lookahead.specs.declared.Lookahead.{Lookahead}
+use Rattle.lookahead.specs.Lookaheads.{tokens, alphabet}
 use Rattle.lookahead.specs.Elements.{has}
 use Rattle.semantics.specs.FiniteSets.{numbers}
 use Rattle.semantics.specs.Claims.{position, tableOf}
@@ -23,12 +25,12 @@ abbrev pub ruleByte : Option ℕ → ℕ
 ruleByte none = noRule
 ruleByte (some q) = q
 
-unfoldable pub byteAt : Grammar → ℕ → ℕ → ℕ
-byteAt G A c = ruleByte (tableOf G 1 A (columnString (G .terminals) c))
+unfoldable pub byteAt : Lookahead → Grammar → ℕ → ℕ → ℕ
+byteAt k G A c = ruleByte (tableOf G (tokens k) A (columnString k (G .terminals) c))
 
 -- all of the array: the entry of a nonterminal A in column c at A × columns + c
-unfoldable pub entriesOf : Grammar → List ℕ
-entriesOf G = padded maxEntries noRule (listed (G .nonterminals * columns G) (λ i. byteAt G (i / columns G) (i % columns G)))
+unfoldable pub entriesOf : Lookahead → Grammar → List ℕ
+entriesOf k G = padded maxEntries noRule (listed (G .nonterminals * columns k G) (λ i. byteAt k G (i / columns k G) (i % columns k G)))
 
 abbrev pub noRules : List ℕ
 noRules = replicate maxEntries noRule
@@ -50,8 +52,8 @@ pub record Rows : Type 0 where
   pub columns : ℕ
   pub element : ℕ → ℕ
 
-abbrev pub rowsOf : (nonterminals terminals : ℕ) → Rows
-rowsOf n t = record { rows = n; columns = columnCount t; element = columnElement t }
+abbrev pub rowsOf : Lookahead → (nonterminals terminals : ℕ) → Rows
+rowsOf k n t = record { rows = n; columns = columnCount k t; element = columnElement k t }
 
 -- where an entry stands
 abbrev pub indexOf : Rows → ℕ → ℕ → ℕ
@@ -65,6 +67,6 @@ pub record FilledRows (R : Rows) (heads sets : List ℕ) (first : ℕ) (rules : 
   pub behind : (i : ℕ) → R .rows * R .columns ≤ i → getD after i 0 ≡ getD before i 0
 
 -- what filling the rows needs
-pub record RowsGiven (z : Sizes) (heads : List ℕ) : Type 0 where
+pub record RowsGiven (k : Lookahead) (z : Sizes) (heads : List ℕ) : Type 0 where
   pub headed : Headed heads (z .rules) (z .nonterminals)
-  pub fewTerminals : z .terminals ≤ maxTerminals
+  pub fewTerminals : z .terminals ≤ alphabet k

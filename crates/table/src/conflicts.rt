@@ -2,7 +2,8 @@
 ghost use mathlib.Core.Path.{_≡_};
 ghost use Prim.Native.Nat.{_≤_, _<_};
 ghost use lib.ListN.{length};
-ghost use Rattle.grammar.specs.Limits.{maxNonterminals, maxTerminals};
+ghost use Rattle.grammar.specs.Limits.{maxNonterminals};
+ghost use Rattle.lookahead.specs.Lookaheads.{alphabet};
 ghost use Rattle.table.specs.Columns.{columnCount, columnElement};
 ghost use Rattle.table.specs.Claims.{Headed};
 ghost use Rattle.table.specs.Conflicts.{rowConflict, conflictFrom, inSet, inSets, conflictOf, Noted, Twice};
@@ -10,6 +11,7 @@ use super::columns::count;
 use super::columns::element;
 use grammar::limits::RULES;
 use grammar::reading::Sizes;
+use lookahead::Lookahead;
 use lookahead::LookaheadSet;
 use sets::family::SETS;
 
@@ -52,17 +54,22 @@ fn claimed_twice(
 }
 
 // The first column of a nonterminal whose element is in a set.
-fn first_column(nonterminal: u8, set: LookaheadSet, terminals: u32) -> Conflict
-    requires { ⌜ terminals ≤ maxTerminals ⌝ }
-    ensures { λ r. ⌜ r ≡ rowConflict (inSet (columnElement terminals) (set .bits)) nonterminal 0 (columnCount terminals) ⌝ }
+fn first_column(
+    nonterminal: u8,
+    set: LookaheadSet,
+    terminals: u32,
+    lookahead: Lookahead,
+) -> Conflict
+    requires { ⌜ terminals ≤ alphabet lookahead ⌝ }
+    ensures { λ r. ⌜ r ≡ rowConflict (inSet (columnElement lookahead terminals) (set .bits)) nonterminal 0 (columnCount lookahead terminals) ⌝ }
 {
     if set.is_empty() {
         return Conflict::Absent;
     }
-    let columns = count(terminals);
+    let columns = count(lookahead, terminals);
     let mut column = 0;
     while column < columns {
-        if set.contains(element(terminals, column as u32)) {
+        if set.contains(element(lookahead, terminals, column as u32)) {
             return Conflict::At {
                 nonterminal,
                 column: column as u8,
@@ -74,9 +81,9 @@ fn first_column(nonterminal: u8, set: LookaheadSet, terminals: u32) -> Conflict
 }
 
 // The first entry whose element is in the set of its nonterminal.
-fn first_entry(sets: &[u64; SETS], sizes: Sizes) -> Conflict
-    requires { ⌜ (sizes .nonterminals ≤ maxNonterminals) × (sizes .terminals ≤ maxTerminals) ⌝ }
-    ensures { λ r. ⌜ r ≡ conflictFrom (inSets (columnElement (sizes .terminals)) (now (sets .entry))) (columnCount (sizes .terminals)) 0 (sizes .nonterminals) ⌝ }
+fn first_entry(sets: &[u64; SETS], sizes: Sizes, lookahead: Lookahead) -> Conflict
+    requires { ⌜ (sizes .nonterminals ≤ maxNonterminals) × (sizes .terminals ≤ alphabet lookahead) ⌝ }
+    ensures { λ r. ⌜ r ≡ conflictFrom (inSets (columnElement lookahead (sizes .terminals)) (now (sets .entry))) (columnCount lookahead (sizes .terminals)) 0 (sizes .nonterminals) ⌝ }
 {
     let nonterminals = sizes.nonterminals;
     let terminals = sizes.terminals;
@@ -85,7 +92,7 @@ fn first_entry(sets: &[u64; SETS], sizes: Sizes) -> Conflict
         let set = LookaheadSet {
             bits: sets[nonterminal as usize],
         };
-        let conflict = first_column(nonterminal as u8, set, terminals);
+        let conflict = first_column(nonterminal as u8, set, terminals, lookahead);
         let Conflict::Absent = conflict else {
             return conflict;
         };
@@ -100,10 +107,11 @@ pub(crate) fn first_conflict<'a>(
     sets: &'a [u64; RULES],
     overruns: [u64; SETS],
     sizes: Sizes,
+    lookahead: Lookahead,
 ) -> Conflict
-    requires { ⌜ Headed (now heads) (sizes .rules) (sizes .nonterminals) × (sizes .terminals ≤ maxTerminals) × (length overruns ≡ maxNonterminals) ⌝ }
-    ensures { λ r. ⌜ r ≡ conflictOf sizes (now (heads .entry)) (now (sets .entry)) overruns ⌝ }
+    requires { ⌜ Headed (now heads) (sizes .rules) (sizes .nonterminals) × (sizes .terminals ≤ alphabet lookahead) × (length overruns ≡ maxNonterminals) ⌝ }
+    ensures { λ r. ⌜ r ≡ conflictOf lookahead sizes (now (heads .entry)) (now (sets .entry)) overruns ⌝ }
 {
     let twice = claimed_twice(heads, sets, overruns, sizes);
-    first_entry(&twice, sizes)
+    first_entry(&twice, sizes, lookahead)
 }

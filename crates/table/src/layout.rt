@@ -2,14 +2,16 @@
 ghost use mathlib.Core.Path.{_≡_};
 ghost use Prim.Native.Nat.{_+_, _*_, _≤_, _<_};
 ghost use Rattle.grammar.specs.Limits.{maxNonterminals, maxEntries};
-ghost use Rattle.table.specs.Columns.{columnCount};
-ghost use Rattle.table.specs.Layout.{entryCode, wordAt, WordsGiven, wordsOf};
+ghost use Rattle.table.specs.Layout.{entryCode, wordAt, wordCount, wordsOf, WordsGiven, FitWords};
+ghost use Rattle.lookahead.specs.declared.Lookahead.the-variants.{One, Two};
 use super::columns::count;
 use grammar::codes::NO_ENTRY;
 use grammar::codes::NO_RULE;
 use grammar::limits::ENTRIES;
 use grammar::limits::TABLE_WORDS;
+use grammar::limits::WIDE_TABLE_WORDS;
 use grammar::reading::Sizes;
+use lookahead::Lookahead;
 use sets::family::SETS;
 
 // An entry as a word.
@@ -45,22 +47,51 @@ fn word(
     }
 }
 
-// All words, and behind them no entries.
+// How many words there are.
+fn word_count(sizes: Sizes, lookahead: Lookahead) -> usize
+    requires { ⌜ WordsGiven lookahead sizes ⌝ }
+    ensures { λ r. ⌜ r ≡ wordCount lookahead sizes ⌝ }
+{
+    sizes.nonterminals as usize * (2 + count(lookahead, sizes.terminals))
+}
+
+// All words with one token of lookahead, and behind them no entries.
 pub(crate) fn words<'a>(
     sizes: Sizes,
     firsts: &'a [u64; SETS],
     follows: &'a [u64; SETS],
     entries: &'a [u8; ENTRIES],
 ) -> [u32; TABLE_WORDS]
-    requires { ⌜ WordsGiven sizes (now firsts) (now follows) (now entries) ⌝ }
-    ensures { λ r. ⌜ r ≡ wordsOf sizes (now (firsts .entry)) (now (follows .entry)) (now (entries .entry)) ⌝ }
+    requires { ⌜ WordsGiven One sizes × FitWords sizes (now firsts) (now follows) (now entries) ⌝ }
+    ensures { λ r. ⌜ r ≡ wordsOf One sizes (now (firsts .entry)) (now (follows .entry)) (now (entries .entry)) ⌝ }
 {
     let nonterminals = sizes.nonterminals as usize;
-    let count = nonterminals * (2 + count(sizes.terminals));
+    let count = word_count(sizes, Lookahead::One);
     let mut table = [NO_ENTRY; TABLE_WORDS];
     let mut at = 0;
     while at < count {
         table[at] = word(nonterminals, firsts, follows, entries, at) as u32;
+        at = at + 1;
+    }
+    table
+}
+
+// The same with two tokens.
+pub(crate) fn wide_words<'a>(
+    sizes: Sizes,
+    firsts: &'a [u64; SETS],
+    follows: &'a [u64; SETS],
+    entries: &'a [u8; ENTRIES],
+) -> [u64; WIDE_TABLE_WORDS]
+    requires { ⌜ WordsGiven Two sizes ⌝ }
+    ensures { λ r. ⌜ r ≡ wordsOf Two sizes (now (firsts .entry)) (now (follows .entry)) (now (entries .entry)) ⌝ }
+{
+    let nonterminals = sizes.nonterminals as usize;
+    let count = word_count(sizes, Lookahead::Two);
+    let mut table = [NO_ENTRY as u64; WIDE_TABLE_WORDS];
+    let mut at = 0;
+    while at < count {
+        table[at] = word(nonterminals, firsts, follows, entries, at);
         at = at + 1;
     }
     table

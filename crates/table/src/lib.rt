@@ -1,6 +1,7 @@
-// The LL(1) table of an encoded grammar.
+// The LL(1) and the LL(2) table of an encoded grammar.
 ghost use mathlib.Core.Path.{_≡_};
-ghost use Rattle.table.specs.Analysis.{foundOf, analyzed};
+ghost use Rattle.table.specs.Analysis.{conflictError, foundOf, analyzed};
+ghost use Rattle.lookahead.specs.declared.Lookahead.the-variants.{One, Two};
 use answer::Error;
 use conflicts::Conflict;
 use conflicts::first_conflict;
@@ -8,6 +9,8 @@ use grammar::codes::NO_ENTRY;
 use grammar::codes::NO_RULE;
 use grammar::limits::ENTRIES;
 use grammar::limits::TABLE_WORDS;
+use grammar::limits::WIDE_TABLE_WORDS;
+use lookahead::Lookahead;
 use sets::Finding;
 use sets::family::SETS;
 
@@ -18,12 +21,19 @@ mod layout;
 mod overruns;
 mod rows;
 
-// What is found of an encoded grammar: its sizes, or why it is refused; its entries, by nonterminal, then column; and the words of its
+// What is found of an encoded grammar with one token of lookahead: its sizes, or why it is refused; its entries, by nonterminal, then column; and the words of its
 // table. Where it is refused there is no rule in the entries and no entry in the words.
 pub struct Analysis {
     pub finding: Finding,
     pub entries: [u8; ENTRIES],
     pub table: [u32; TABLE_WORDS],
+}
+
+// The same with two tokens.
+pub struct WideAnalysis {
+    pub finding: Finding,
+    pub entries: [u8; ENTRIES],
+    pub table: [u64; WIDE_TABLE_WORDS],
 }
 
 // The same before the words are laid out, with the grammar's sets.
@@ -34,11 +44,26 @@ struct Found {
     entries: [u8; ENTRIES],
 }
 
-// The grammar's entries, unless it is refused or an entry clashes.
-fn find(words: &[u32]) -> Found
-    ensures { λ r. ⌜ r ≡ foundOf (now (words .entry)) ⌝ }
+fn conflict_error(nonterminal: u8, column: u8, lookahead: Lookahead) -> Error
+    ensures { λ r. ⌜ r ≡ conflictError lookahead nonterminal column ⌝ }
 {
-    let claims = claims::analyze(words);
+    match lookahead {
+        Lookahead::One => Error::Conflict {
+            nonterminal,
+            column,
+        },
+        Lookahead::Two => Error::WideConflict {
+            nonterminal,
+            column,
+        },
+    }
+}
+
+// The grammar's entries, unless it is refused or an entry clashes.
+fn find(words: &[u32], lookahead: Lookahead) -> Found
+    ensures { λ r. ⌜ r ≡ foundOf lookahead (now (words .entry)) ⌝ }
+{
+    let claims = claims::analyze(words, lookahead);
     let finding = claims.finding;
     let firsts = claims.firsts;
     let follows = claims.follows;
@@ -51,16 +76,19 @@ fn find(words: &[u32]) -> Found
             entries: none,
         },
         Finding::Passed(sizes) => {
-            let conflict = first_conflict(&claims.heads, &claims.sets, claims.overruns, sizes);
+            let conflict = first_conflict(
+                &claims.heads,
+                &claims.sets,
+                claims.overruns,
+                sizes,
+                lookahead,
+            );
             match conflict {
                 Conflict::At {
                     nonterminal,
                     column,
                 } => Found {
-                    finding: Finding::Refused(Error::Conflict {
-                        nonterminal,
-                        column,
-                    }),
+                    finding: Finding::Refused(conflict_error(nonterminal, column, lookahead)),
                     firsts,
                     follows,
                     entries: none,
@@ -69,7 +97,7 @@ fn find(words: &[u32]) -> Found
                     finding,
                     firsts,
                     follows,
-                    entries: rows::rows(sizes, &claims.heads, &claims.sets),
+                    entries: rows::rows(sizes, &claims.heads, &claims.sets, lookahead),
                 },
             }
         }
@@ -77,9 +105,9 @@ fn find(words: &[u32]) -> Found
 }
 
 pub fn analyze(words: &[u32]) -> Analysis
-    ensures { λ r. ⌜ r ≡ analyzed (now (words .entry)) ⌝ }
+    ensures { λ r. ⌜ r ≡ analyzed One (now (words .entry)) ⌝ }
 {
-    let found = find(words);
+    let found = find(words, Lookahead::One);
     let finding = found.finding;
     let entries = found.entries;
     match finding {
@@ -91,6 +119,29 @@ pub fn analyze(words: &[u32]) -> Analysis
         Finding::Passed(sizes) => {
             let table = layout::words(sizes, &found.firsts, &found.follows, &entries);
             Analysis {
+                finding,
+                entries,
+                table,
+            }
+        }
+    }
+}
+
+pub fn analyze_wide(words: &[u32]) -> WideAnalysis
+    ensures { λ r. ⌜ r ≡ analyzed Two (now (words .entry)) ⌝ }
+{
+    let found = find(words, Lookahead::Two);
+    let finding = found.finding;
+    let entries = found.entries;
+    match finding {
+        Finding::Refused(_) => WideAnalysis {
+            finding,
+            entries,
+            table: [NO_ENTRY as u64; WIDE_TABLE_WORDS],
+        },
+        Finding::Passed(sizes) => {
+            let table = layout::wide_words(sizes, &found.firsts, &found.follows, &entries);
+            WideAnalysis {
                 finding,
                 entries,
                 table,

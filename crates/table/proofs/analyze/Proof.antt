@@ -1,6 +1,7 @@
 -- An encoded grammar: by whether its entries are found.
 use borrow.Author.Needs.{needs}
-use Rattle.table.proofs.Analyzing.{entries-told, words-given, analyzed-refused, analyzed-passed}
+use Rattle.lookahead.specs.declared.Lookahead.the-variants.{One}
+use Rattle.table.proofs.Analyzing.{entries-told, words-given, words-fit, analyzed-refused, analyzed-passed}
 use Rattle.table.proofs.analyze.Statement.{statement}
 use Rattle.table.proofs.analyze.Tie as tie
 
@@ -16,15 +17,16 @@ enum-known-finding c = search needs
 words-requires : tie.Need-words-requires
 words-requires c κs =
     let at-finding = c .before .before .before .before .before in
-    words-given (entries-told _ (at-finding .before .before .before .find .ensures) (at-finding .finding .given .1))
+    let found = entries-told One _ (at-finding .before .before .before .find .ensures) (at-finding .finding .given .1) in
+    (words-given found, words-fit found)
 
 returns : tie.Need-returns
-returns c = analyzed-refused _ (c .before .before .before .find .ensures) (c .enum-told .given .1)
+returns c = analyzed-refused One _ (c .before .before .before .find .ensures) (c .enum-told .given .1)
 
 returns-2 : tie.Need-returns-2
 returns-2 c =
     let at-finding = c .before .before .before .before .before .before in
-    analyzed-passed (entries-told _ (at-finding .before .before .before .find .ensures) (at-finding .finding .given .1)) (c .words .ensures)
+    analyzed-passed (entries-told _ _ (at-finding .before .before .before .find .ensures) (at-finding .finding .given .1)) (c .words .ensures)
 
 pub analyze-spec : {M : Type 1} → statement M
 analyze-spec = tie.close (tie.spec find-requires enum-told enum-known-finding words-requires returns returns-2)

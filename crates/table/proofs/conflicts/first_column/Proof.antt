@@ -4,19 +4,20 @@ use Prim.Native.Nat.{_-_, _≤_}
 use native.Mathlib.Omega.{arith}
 use Rattle.table.specs.Columns.{columnCount, columnElement}
 use Rattle.table.specs.Conflicts.{rowConflict, inSet}
+use Rattle.table.proofs.ColumnStrings.{column-count}
 use Rattle.table.proofs.ConflictScan.{column-empty, column-all, column-here, column-later, column-none}
 use Rattle.table.proofs.conflicts.first_column.Statement.{statement}
 use Rattle.table.proofs.conflicts.first_column.Tie as tie
 
 abbrev Inv-loop : tie.InvT-loop
-Inv-loop nonterminal set terminals columns column₀ column =
-    (columns ≡ columnCount terminals)
+Inv-loop nonterminal set terminals lookahead columns column₀ column =
+    (columns ≡ columnCount lookahead terminals)
     × (column ≤ columns)
-    × (rowConflict (inSet (columnElement terminals) (set .bits)) nonterminal column (columns - column)
-    ≡ rowConflict (inSet (columnElement terminals) (set .bits)) nonterminal 0 (columnCount terminals))
+    × (rowConflict (inSet (columnElement lookahead terminals) (set .bits)) nonterminal column (columns - column)
+    ≡ rowConflict (inSet (columnElement lookahead terminals) (set .bits)) nonterminal 0 (columnCount lookahead terminals))
 
 abbrev μ-loop : tie.MeasureT-loop
-μ-loop nonterminal set terminals columns column₀ column = columns - column
+μ-loop nonterminal set terminals lookahead columns column₀ column = columns - column
 
 is-empty-requires : tie.Need-is-empty-requires Inv-loop μ-loop
 is-empty-requires c κs = tt
@@ -31,7 +32,9 @@ loop-holds : tie.Need-loop-holds Inv-loop μ-loop
 loop-holds c = (c .count .ensures, omega arith, rw (c .count .ensures) (column-all _ _ _))
 
 cast-element : tie.Need-cast-element Inv-loop μ-loop
-cast-element c = omega (arith, c .before .loop .inv .0, c .before .before .before .before .before .pre)
+cast-element c =
+    let start = c .before .before .before .before .before in
+    omega (arith, c .before .loop .inv .0, column-count (start .args .lookahead) (start .args .terminals) (start .pre))
 
 element-requires : tie.Need-element-requires Inv-loop μ-loop
 element-requires c κs = tt
@@ -39,8 +42,11 @@ element-requires c κs = tt
 contains-requires : tie.Need-contains-requires Inv-loop μ-loop
 contains-requires c κs = tt
 
-cast-t11 : tie.Need-cast-t11 Inv-loop μ-loop
-cast-t11 c = let loop = c .before .before .before .before in omega (arith, loop .loop .inv .0, loop .before .before .before .before .pre)
+cast-t12 : tie.Need-cast-t12 Inv-loop μ-loop
+cast-t12 c =
+    let loop = c .before .before .before .before in
+    let start = loop .before .before .before .before in
+    omega (arith, loop .loop .inv .0, column-count (start .args .lookahead) (start .args .terminals) (start .pre))
 
 returns-2 : tie.Need-returns-2 Inv-loop μ-loop
 returns-2 c =
@@ -76,7 +82,7 @@ first-column-spec =
     cast-element
     element-requires
     contains-requires
-    cast-t11
+    cast-t12
     returns-2
     add-column
     loop-less

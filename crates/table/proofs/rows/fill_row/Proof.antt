@@ -4,16 +4,17 @@ use Prim.Native.Nat.{_-_, _≤_}
 use native.Mathlib.Omega.{arith}
 use Rattle.table.specs.Columns.{columnCount, columnElement}
 use Rattle.table.specs.Entries.{FilledRow}
+use Rattle.table.proofs.ColumnStrings.{column-count}
 use Rattle.table.proofs.FillSteps.{row-none, row-more}
 use Rattle.table.proofs.rows.fill_row.Statement.{statement}
 use Rattle.table.proofs.rows.fill_row.Tie as tie
 
 abbrev Inv-loop : tie.InvT-loop
-Inv-loop entries₀ row terminals claim rule columns column₀ entries column =
-    (columns ≡ columnCount terminals) × (column ≤ columns) × FilledRow entries₀ row (columnElement terminals) column (claim .bits) rule entries
+Inv-loop entries₀ row terminals claim rule lookahead columns column₀ entries column =
+    (columns ≡ columnCount lookahead terminals) × (column ≤ columns) × FilledRow entries₀ row (columnElement lookahead terminals) column (claim .bits) rule entries
 
 abbrev μ-loop : tie.MeasureT-loop
-μ-loop entries₀ row terminals claim rule columns column₀ entries column = columns - column
+μ-loop entries₀ row terminals claim rule lookahead columns column₀ entries column = columns - column
 
 count-requires : tie.Need-count-requires Inv-loop μ-loop
 count-requires c κs = tt
@@ -25,7 +26,9 @@ add-at : tie.Need-add-at Inv-loop μ-loop
 add-at c = let given = c .before .before .before .pre in omega (arith, c .before .loop .inv .0, given .2)
 
 cast-element : tie.Need-cast-element Inv-loop μ-loop
-cast-element c = let given = c .before .before .before .pre in omega (arith, c .before .loop .inv .0, given .1)
+cast-element c =
+    let start = c .before .before .before in
+    omega (arith, c .before .loop .inv .0, column-count (start .args .lookahead) (start .args .terminals) (start .pre .1))
 
 element-requires : tie.Need-element-requires Inv-loop μ-loop
 element-requires c κs = tt
@@ -61,7 +64,7 @@ loop-again c =
 returns : tie.Need-returns Inv-loop μ-loop
 returns c =
     let loop = c .before in
-    let e : loop .loop .column ≡ columnCount (loop .before .before .args .terminals) = omega (arith, loop .loop .inv .0) in
+    let e : loop .loop .column ≡ columnCount (loop .before .before .args .lookahead) (loop .before .before .args .terminals) = omega (arith, loop .loop .inv .0) in
     rw e at (loop .loop .inv .2)
 
 pub fill-row-spec : {M : Type 1} → statement M

@@ -14,13 +14,13 @@ use Rattle.table.proofs.rows.rows.Statement.{statement}
 use Rattle.table.proofs.rows.rows.Tie as tie
 
 abbrev Inv-loop : tie.InvT-loop
-Inv-loop heads sets terminals columns entries₀ rule₀ entries rule =
-    (columns ≡ columnCount terminals)
+Inv-loop heads sets lookahead terminals columns entries₀ rule₀ entries rule =
+    (columns ≡ columnCount lookahead terminals)
     × (rule ≤ rule₀)
-    × ((n : ℕ) → Headed heads rule₀ n → FilledRows (rowsOf n terminals) heads sets rule (numbersFrom rule (rule₀ - rule)) noRules entries)
+    × ((n : ℕ) → Headed heads rule₀ n → FilledRows (rowsOf lookahead n terminals) heads sets rule (numbersFrom rule (rule₀ - rule)) noRules entries)
 
 abbrev μ-loop : tie.MeasureT-loop
-μ-loop heads sets terminals columns entries₀ rule₀ entries rule = rule
+μ-loop heads sets lookahead terminals columns entries₀ rule₀ entries rule = rule
 
 count-requires : tie.Need-count-requires Inv-loop μ-loop
 count-requires c κs = tt
@@ -46,11 +46,11 @@ mul-row c =
     let given = loop .before .before .pre in
     rw (loop .loop .inv .0) (omega (arith, row-room given (loop .loop .rule - 1) (omega arith)))
 
-mul-t14 : tie.Need-mul-t14 Inv-loop μ-loop
-mul-t14 c = omega (arith, c .before .before .before .before .pre .headed .few)
+mul-t15 : tie.Need-mul-t15 Inv-loop μ-loop
+mul-t15 c = omega (arith, c .before .before .before .before .pre .headed .few)
 
-element-copy-out-t17 : tie.Need-element-copy-out-t17 Inv-loop μ-loop
-element-copy-out-t17 c = omega (arith, c .before .before .before .before .pre .headed .few)
+element-copy-out-t18 : tie.Need-element-copy-out-t18 Inv-loop μ-loop
+element-copy-out-t18 c = omega (arith, c .before .before .before .before .pre .headed .few)
 
 cast-fill-row : tie.Need-cast-fill-row Inv-loop μ-loop
 cast-fill-row c = omega (arith, c .before .before .before .before .before .before .pre .headed .few)
@@ -92,8 +92,8 @@ rows-spec =
     element-copy-out-row
     cast-row
     mul-row
-    mul-t14
-    element-copy-out-t17
+    mul-t15
+    element-copy-out-t18
     cast-fill-row
     fill-row-requires
     loop-less
