@@ -7,7 +7,7 @@ use Prim.Native.Nat.{ℕ, _<_}
 use native.Mathlib.Omega.{arith}
 use lib.ListN.{length}
 use Rattle.answer.proofs.Apart.{answer-number}
-use Rattle.answer.specs.Numbers.{accepted, rejected}
+use Rattle.answer.specs.Numbers.{accepted, rejected, numbers}
 use Rattle.answer.specs.declared.Calls.{Calls}
 use Rattle.answer.specs.declared.Answer.{Answer}
 use Rattle.answer.specs.declared.Answer.the-variants.{Accepted, Rejected}
@@ -16,13 +16,13 @@ use Rattle.grammar.specs.Encoding.{grammarOf}
 use Rattle.lookahead.specs.declared.Lookahead.{Lookahead}
 use Rattle.lookahead.specs.Lookaheads.{tokens}
 use Rattle.lookahead.proofs.Strings.{some-token}
-use Rattle.semantics.specs.Valuations.{Valuation, Solves}
+use Rattle.semantics.specs.Valuations.{Valuation, Solves, solution}
 use Rattle.semantics.specs.Choices.{tableChoice}
 use Rattle.semantics.specs.Memo.{Recorded}
 use Rattle.semantics.specs.Predictive.{Predictive}
 use Rattle.semantics.proofs.Theorems.{theorems}
 use Rattle.recognizer.specs.Answers.{callsBy, verdictBy}
-use Rattle.recognizer.specs.Properties.{PassedBy, Readable, RecognizesBy}
+use Rattle.recognizer.specs.Properties.{PassedBy, Readable, RecognizesBy, SameVerdict}
 use Rattle.recognizer.proofs.Deciding.{words-recorded}
 use Rattle.recognizer.proofs.Checking.{passed-encodes, passed-free, no-clashes, not-left-recursive}
 
@@ -57,3 +57,15 @@ meaning k words input r p h e =
       calls = theorems .calls-counted G (m .formed .scoped) free some-nonterminal choice own input;
       memo = subst (λ l. Recorded G choice input l) (words-recorded n G input (m .formed .scoped) free some-nonterminal recorded) recorded;
     }
+
+-- two verdicts by it agree
+pub same-verdict : SameVerdict
+same-verdict k l words input r s a b =
+    let v = solution (grammarOf words) input in
+    go (v 0 0 (length input)) (a .accepted v (a .one-solution .solves) .1) (b .accepted v (a .one-solution .solves) .1)
+    (a .rejected v (a .one-solution .solves) .1) (b .rejected v (a .one-solution .solves) .1)
+  where
+    go : (x : Bool) {c d e f : Calls} → (x ≡ true → r ≡ Accepted c) → (x ≡ true → s ≡ Accepted d) → (x ≡ false → r ≡ Rejected e) → (x ≡ false → s ≡ Rejected f)
+        → numbers r .verdict ≡ numbers s .verdict
+    go true m n o p = rw (m refl, n refl)
+    go false m n o p = rw (o refl, p refl)

@@ -7,7 +7,6 @@ use lib.ListN.{length, take, drop}
 use Rattle.answer.specs.declared.Error.{Error}
 use Rattle.booleans.specs.Choice.{choose}
 use Rattle.grammar.specs.Codes.{uncalledCode}
-use Rattle.grammar.specs.Limits.{maxNonterminals, maxWideColumns}
 use Rattle.grammar.specs.Syntax.{Grammar}
 use Rattle.grammar.specs.declared.reading.Sizes.{Sizes}
 use Rattle.lookahead.specs.declared.Lookahead.{Lookahead}
@@ -17,8 +16,7 @@ use Rattle.semantics.specs.Descent.{descend}
 use Rattle.semantics.specs.ComesTo.{Call}
 use Rattle.semantics.specs.Calls.{sameCall, allCalls, calls}
 use Rattle.semantics.specs.Memo.{encode}
-use Rattle.table.specs.Columns.{columnCount}
-use Rattle.table.specs.Layout.{tableRoom, wordCount}
+use Rattle.table.specs.Layout.{tableRoom, wordCount, WordsGiven}
 
 -- by whether a call is refused: what was there, or new words in front of what was there
 abbrev pub lentBack : Option Error → List ℕ → List ℕ → List ℕ
@@ -40,15 +38,9 @@ memoWord = memoWordBy 1
 abbrev pub memoWords : Grammar → List ℕ → List ℕ
 memoWords = memoWordsBy 1
 
--- a table of such sizes has room in the memory that is lent for it
-pub record SizesGiven (k : Lookahead) (z : Sizes) : Type 0 where
-  pub fewNonterminals : z .nonterminals ≤ maxNonterminals
-  pub fewColumns : columnCount k (z .terminals) ≤ maxWideColumns
-  pub few : wordCount k z ≤ tableRoom k
-
--- where its words are copied from, and where to
+-- the words of a table of such sizes are copied
 pub record LendGiven (k : Lookahead) (table found : List ℕ) (z : Sizes) : Type 0 where
-  pub sizes : SizesGiven k z
+  pub given : WordsGiven k z
   pub long : tableRoom k ≤ length table
   pub whole : length found ≡ tableRoom k
 

@@ -1,8 +1,8 @@
 // Lending the table back: its words are copied into the caller's memory.
 ghost use mathlib.Core.Path.{_≡_};
 ghost use Rattle.lookahead.specs.declared.Lookahead.the-variants.{One, Two};
-ghost use Rattle.table.specs.Layout.{wordCount};
-ghost use Rattle.recognizer.specs.Memory.{SizesGiven, LendGiven, Lent};
+ghost use Rattle.table.specs.Layout.{wordCount, WordsGiven};
+ghost use Rattle.recognizer.specs.Memory.{LendGiven, Lent};
 use grammar::limits::TABLE_WORDS;
 use grammar::limits::WIDE_TABLE_WORDS;
 use grammar::reading::Sizes;
@@ -11,7 +11,7 @@ use table::columns::count;
 
 // How many words a table has: two sets for each nonterminal, and a row of entries.
 fn word_count(sizes: Sizes, lookahead: Lookahead) -> usize
-    requires { ⌜ SizesGiven lookahead sizes ⌝ }
+    requires { ⌜ WordsGiven lookahead sizes ⌝ }
     ensures { λ r. ⌜ r ≡ wordCount lookahead sizes ⌝ }
 {
     sizes.nonterminals as usize * (2 + count(lookahead, sizes.terminals))
