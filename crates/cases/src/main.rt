@@ -9,7 +9,7 @@ use grammar::limits::WIDE_TABLE_WORDS;
 use grammar::limits::WORDS;
 use judgement_text::put_judgement;
 use libc::STDOUT_FILENO;
-use recognizer::judge_wide;
+use recognizer::wide::judge_wide;
 use report::FILE_BYTES;
 use report::INPUT_BYTES;
 use report::SHEET_ROOM;

@@ -28,8 +28,8 @@ use Rattle.lookahead.specs.declared.Lookahead.{Lookahead}
 use Rattle.lookahead.specs.Lookaheads.{tokens}
 use Rattle.recognizer.specs.Answers.{checkFaultBy, judgeFaultBy, callsBy, verdictBy, verdictOf}
 use Rattle.recognizer.specs.Properties.{ChecksBy, JudgesBy}
-use Rattle.recognizer.proofs.Checking.{passed-fault, passed-encodes, passed-free}
-use Rattle.recognizer.proofs.JudgeFaults.{judged-readable}
+use Rattle.recognizer.proofs.Checking.{passed-fault-for, passed-encodes, passed-free}
+use Rattle.recognizer.proofs.JudgeFaults.{judged-readable-by}
 use Rattle.usage.specs.declared.Usage.{Usage}
 use Rattle.clients.specs.declared.Served.{Served}
 use Rattle.clients.specs.declared.totals.Totals.{Totals}
@@ -88,10 +88,10 @@ calls-fit : (k : Lookahead) (words input : List ℕ) (table memo : ℕ) → judg
     → (callsBy (tokens k) (grammarOf words) input .count < 65536) × (callsBy (tokens k) (grammarOf words) input .farthest < 65536)
 calls-fit k words input table memo e =
     let G = grammarOf words in
-    let h = judged-readable k words input table memo e in
-    let p = passed-fault k words (h .0) in
-    let r = passed-encodes k words p in
-    let free = passed-free k words p in
+    let h = judged-readable-by k words input table memo e in
+    let p = passed-fault-for k words (h .0) in
+    let r = passed-encodes words p in
+    let free = passed-free words p in
     let some-nonterminal : 0 < G .nonterminals = r .limited .someNonterminal in
     let own = theorems .own-rules G (tokens k) input in
     let c = theorems .calls-counted G (r .formed .scoped) free some-nonterminal (tableChoice G (tokens k) input) own input in

@@ -20,10 +20,7 @@ use Rattle.grammar.specs.Encoding.{grammarOf}
 use Rattle.lookahead.specs.declared.Lookahead.{Lookahead}
 use Rattle.lookahead.specs.declared.Lookahead.the-variants.{One, Two}
 use Rattle.lookahead.specs.Lookaheads.{tokens, alphabet}
-use Rattle.grammar.specs.Reading.{reading}
-use Rattle.grammar.specs.declared.reading.Sizes.{Sizes}
-use Rattle.admission.specs.Admission.{Fits, admission}
-use Rattle.admission.proofs.Admitted.{admitted}
+use Rattle.admission.specs.Admission.{admission}
 use Rattle.admission.proofs.Positions.{admission-low}
 use Rattle.grammar.specs.declared.reading.Outcome.{Outcome}
 use Rattle.grammar.specs.declared.reading.Outcome.the-variants.{Read, Faulty}
@@ -32,6 +29,7 @@ use Rattle.semantics.specs.LeftRecursion.{leftRecursive, lowestLeftRecursive}
 use Rattle.semantics.specs.Productive.{unproductive, lowestUnproductive}
 use Rattle.booleans.proofs.Quantified.{lowest-some}
 use Rattle.sets.specs.Analysis.{readingFault, leftFault, unproductiveFault, setsFaults}
+use Rattle.sets.proofs.FewTerminals.{admitted-read, few-terminals}
 use Rattle.table.specs.declared.conflicts.Conflict.{Conflict as Clash}
 use Rattle.table.specs.declared.conflicts.Conflict.the-variants as conflict
 use Rattle.table.specs.Analysis.{clashFault, grammarFaults}
@@ -39,7 +37,8 @@ use Rattle.table.specs.Conflicts.{firstClash}
 use Rattle.table.proofs.FirstClash.{clash-at}
 use Rattle.event.specs.declared.Unknown.the-variants.{At}
 use Rattle.event.specs.Unknown.{unknownFrom, unknownFault}
-use Rattle.recognizer.specs.Answers.{tableFault, checkFaultBy, judgeFaultBy}
+use Rattle.table.specs.Layout.{tableRoom}
+use Rattle.recognizer.specs.Answers.{tableTooShort, checkFaultBy, judgeFaultBy}
 use Rattle.tabular.specs.Answers.{tabularFault}
 use Rattle.recognizer.proofs.Checking.{read-some}
 use Rattle.grammar.proofs.FaultPositions.{LowOutcome}
@@ -85,10 +84,6 @@ reading-row : (o : Outcome) → LowOutcome maxWords o → LowFault maxWords (rea
 reading-row (Read z) l = none-low maxWords
 reading-row (Faulty e) l = some-low maxWords e (l .low e refl)
 
-few-terminals : (k : Lookahead) (words : List ℕ) (z : Sizes) → reading words ≡ Read z → Fits k (grammarOf words) → grammarOf words .terminals ≤ alphabet k
-few-terminals One words z e f = let r = well-read words z e in omega (arith, r .terminals, r .fewTerminals)
-few-terminals Two words z e f = f .0
-
 -- the rows of a grammar's faults up to left recursion, and those behind them
 sets-rows : (k : Lookahead) (words : List ℕ) (l : List (Option Error))
     → ((few : grammarOf words .nonterminals ≤ maxNonterminals) (small : grammarOf words .terminals ≤ alphabet k) → EachFault (Low maxWords) l)
@@ -97,10 +92,9 @@ sets-rows k words l h = (
   reading-row (admission k words) (admission-low k words),
   λ q.
       let y = read-some (admission k words) q in
-      let a = admitted k words (y .0) .0 (y .1) in
-      let r = well-read words (y .0) (a .0) in
+      let r = well-read words (y .0) (admitted-read k words (y .1)) in
       let few : grammarOf words .nonterminals ≤ maxNonterminals = omega (arith, r .nonterminals, r .fewNonterminals) in
-      let small : grammarOf words .terminals ≤ alphabet k = few-terminals k words (y .0) (a .0) (a .1) in
+      let small : grammarOf words .terminals ≤ alphabet k = few-terminals k words (y .1) in
       let G = grammarOf words in
       (left-low k G few small _ refl, λ _. (unproductive-low k G few small _ refl, λ _. h few small)),
 )
@@ -112,6 +106,9 @@ grammar-rows k words l h =
     (λ few small. (clash-low k (grammarOf words) few small _ refl, λ _. h))
 
 -- the row of the table's length
+abbrev tableFault : Lookahead → ℕ → Option Error
+tableFault k table = faultIf (ltb table (tableRoom k)) (tableTooShort k)
+
 table-low : (k : Lookahead) (table : ℕ) → LowFault maxWords (tableFault k table)
 table-low One table = when-low maxWords _ TableTooShort (omega arith)
 table-low Two table = when-low maxWords _ WideTableTooShort (omega arith)

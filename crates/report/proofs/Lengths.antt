@@ -24,6 +24,7 @@ use Rattle.semantics.specs.ComesTo.{Call}
 use Rattle.semantics.specs.Calls.{sameCall, allCalls, calls}
 use Rattle.semantics.specs.Memo.{encode}
 use Rattle.semantics.proofs.Range.{all-range}
+use Rattle.lookahead.specs.declared.Lookahead.the-variants.{One}
 use Rattle.semantics.proofs.Theorems.{theorems}
 use Rattle.table.specs.Layout.{tableWords}
 use Rattle.answer.specs.Faults.{refusedOr}
@@ -45,7 +46,7 @@ unfolding checkedText checkText sheetText
 checked-short words = go (checkFault maxTableWords words) (reading words) refl
   where
     table : Option Error → List ℕ
-    table f = lentBack f (tableWords (grammarOf words)) blankTable
+    table f = lentBack f (tableWords One (grammarOf words)) blankTable
 
     go : (f : Option Error) (o : Outcome) → reading words ≡ o → length (checkText (refusedOr f Passed) o (table f)) ≤ sheetRoom
     go (some e) o r = omega (arith, refusal-most e)

@@ -52,7 +52,7 @@ blankTable = replicate maxTableWords noEntry
 
 -- the same after checking words
 abbrev pub checkedTable : List ℕ → List ℕ
-checkedTable words = lentBack (checkFault maxTableWords words) (tableWords (grammarOf words)) blankTable
+checkedTable words = lentBack (checkFault maxTableWords words) (tableWords One (grammarOf words)) blankTable
 
 -- what is printed of words that are checked, by the answer and the table that checking gives
 unfoldable pub checkedText : List ℕ → List ℕ

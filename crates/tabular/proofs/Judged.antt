@@ -89,7 +89,7 @@ faultless-free words z r e =
 
 -- the fault of a grammar that has been read, as where no entry clashes
 fault-encoded : (words : List ℕ) (G : Grammar) → length words ≤ maxWords → Encodes words G
-    → setsFault One words ≡ grammarFault (lowestLeftRecursive G) (lowestUnproductive G 1) Absent
+    → setsFault One words ≡ grammarFault One (lowestLeftRecursive G) (lowestUnproductive G 1) Absent
 unfolding setsFault
 fault-encoded words G short e =
     rw (encodes-read words G short e, encodes-grammar words G e) (alone (leftFault (lowestLeftRecursive G)) (unproductiveFault (lowestUnproductive G 1)))
@@ -197,7 +197,7 @@ judges {words} {input} {before} {after} {r} a m = record {
   recursive = λ room short G e A.
       let t = tells room short G e in
       let decided = theorems .left-recursion-decided G (e .formed .scoped) .lowest A in
-      let left = left-told (lowestLeftRecursive G) (lowestUnproductive G 1) Absent A in (
+      let left = left-told One (lowestLeftRecursive G) (lowestUnproductive G 1) Absent A in (
         λ q. let k = decided .0 (left .0 (t .recursive A .0 q)) in record { reaches = k .0; lowest = k .1 },
         λ k. t .recursive A .1 (left .1 (decided .1 (k .reaches, k .lowest))),
       );
@@ -205,7 +205,7 @@ judges {words} {input} {before} {after} {r} a m = record {
       let t = tells room short G e in
       let free = theorems .left-recursion-decided G (e .formed .scoped) .absent in
       let decided = theorems .productive-decided G 1 .lowest A in
-      let empty = unproductive-told (lowestLeftRecursive G) (lowestUnproductive G 1) Absent A in (
+      let empty = unproductive-told One (lowestLeftRecursive G) (lowestUnproductive G 1) Absent A in (
         λ q.
             let k = empty .0 (t .unproductive A .0 q) in
             let l = decided .0 (k .1) in
@@ -222,9 +222,9 @@ judges {words} {input} {before} {after} {r} a m = record {
   where
     -- where the lent words are enough, the answer tells the grammar's fault
     tells : maxSpanWords ≤ length before → length words ≤ maxWords → (G : Grammar) → Encodes words G
-        → Tells (grammarFault (lowestLeftRecursive G) (lowestUnproductive G 1) Absent) r
+        → Tells One (grammarFault One (lowestLeftRecursive G) (lowestUnproductive G 1) Absent) r
     tells room short G e =
-        judge-tells _ (ltb maxTabularTokens (length input)) (unknownFrom (grammarOf words .terminals) 0 input)
+        judge-tells One _ (ltb maxTabularTokens (length input)) (unknownFrom (grammarOf words .terminals) 0 input)
         (solution (grammarOf words) input 0 0 (length input)) noCalls
         (a ∙ ap (λ y. refusedOr y (tabularVerdict (grammarOf words) input)) (fault-long words input before room (fault-encoded words G short e)))
 

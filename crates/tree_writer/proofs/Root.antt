@@ -28,6 +28,7 @@ use Rattle.semantics.specs.Memo.{encode}
 use Rattle.semantics.proofs.Outcomes.{nth-below}
 use Rattle.semantics.proofs.Rank.{level-top}
 use Rattle.semantics.proofs.Theorems.{theorems}
+use Rattle.lookahead.specs.declared.Lookahead.the-variants.{One}
 use Rattle.table.specs.Layout.{entryWord, entryAt}
 use Rattle.recognizer.specs.Preparing.{columnAt}
 use Rattle.recognizer.proofs.Columns.{column-right}
@@ -87,11 +88,11 @@ module _ {words input table memo tree : List ℕ} (g : TreeGiven words input tab
       let f = s .2 .1 in
       let c = chosen G 1 input (g .accepted .predictive) (g .accepted .tokens) meaning solves (x .nonterminal) (x .place) (s .2 .0) f in
       let placed : x .place ≤ length input = omega (arith, f .onward, f .within) in
-      let col = column-right (G .terminals) input (x .place) (g .accepted .tokens) in
-      let e = g .entries (x .nonterminal) (columnAt (G .terminals) input (x .place)) (f .named) (omega (arith, col .low)) in
-      let q : entryAt G (x .nonterminal) (columnAt (G .terminals) input (x .place)) ≡ c .number =
+      let col = column-right One (G .terminals) input (x .place) (omega (arith, k .terminals, k .fewTerminals)) (g .accepted .tokens) in
+      let e = g .entries (x .nonterminal) (columnAt One (G .terminals) input (x .place)) (f .named) (omega (arith, col .low)) in
+      let q : entryAt One G (x .nonterminal) (columnAt One (G .terminals) input (x .place)) ≡ c .number =
       ap (λ (l : List ℕ). entryWord (tableOf G 1 (x .nonterminal) l)) (col .string) ∙ ap entryWord (c .looked) in
-      let rule : getD table (2 * z .nonterminals + x .nonterminal * (z .terminals + 1) + columnAt (z .terminals) input (x .place)) 0 ≡ c .number =
+      let rule : getD table (2 * z .nonterminals + x .nonterminal * (z .terminals + 1) + columnAt One (z .terminals) input (x .place)) 0 ≡ c .number =
       rw (k .nonterminals, k .terminals, add-one (G .terminals)) (e ∙ q) in
       let end : getD memo (x .nonterminal * (length input + 1) + x .place) 0 ≡ s .2 .0 =
       rw (add-one (length input)) (g .recorded x (s .1) ∙ ap encode (f .ends)) in

@@ -7,6 +7,7 @@ use Rattle.grammar.specs.Limits.{maxNonterminals, maxTerminals, maxTokens, maxP
 use Rattle.grammar.specs.declared.reading.Sizes.{Sizes}
 use Rattle.semantics.specs.ComesTo.{Call}
 use Rattle.semantics.specs.Strings.{Over}
+use Rattle.lookahead.specs.declared.Lookahead.the-variants.{One}
 use Rattle.recognizer.specs.Preparing.{columnAt}
 use Rattle.tree.specs.ParseTrees.{vertex}
 use Rattle.tree.specs.Writing.{vertexWord}
@@ -30,7 +31,7 @@ pub record FieldsGiven (rule start end : ℕ) : Type 0 where
 -- the word for a call, from the entries of the lent table and of the lent memo table
 unfoldable pub labelWord : Sizes → (input table memo : List ℕ) (A i : ℕ) → ℕ
 labelWord z input table memo A i = vertexWord
-    (vertex (ruleOf (getD table (2 * z .nonterminals + A * (z .terminals + 1) + columnAt (z .terminals) input i) 0)) i (getD memo (A * (length input + 1) + i) 0 % 512))
+    (vertex (ruleOf (getD table (2 * z .nonterminals + A * (z .terminals + 1) + columnAt One (z .terminals) input i) 0)) i (getD memo (A * (length input + 1) + i) 0 % 512))
 
 pub record LabelsGiven (z : Sizes) (input table memo : List ℕ) : Type 0 where
   pub fewNonterminals : z .nonterminals ≤ maxNonterminals

@@ -21,6 +21,7 @@ use Rattle.semantics.specs.ComesTo.{Call, callAt, InRange, measure}
 use Rattle.semantics.specs.Calls.{Called, Distinct, sameCall}
 use Rattle.semantics.specs.Memo.{encode, indexOf}
 use Rattle.semantics.specs.Predictive.{Predictive}
+use Rattle.lookahead.specs.declared.Lookahead.the-variants.{One}
 use Rattle.table.specs.Columns.{columns}
 use Rattle.table.specs.Layout.{entryAt}
 use Rattle.tree.specs.Writing.{vertexAt, below, visit, vertexWord, treeWords, InTree}
@@ -84,7 +85,7 @@ falling words labels A start = level (grammarOf words) (endOf (getD labels 0 0) 
 
 -- the table holds the entries of the grammar
 abbrev pub Entries : Grammar → List ℕ → Type 0
-Entries G table = (A c : ℕ) → A < G .nonterminals → c < columns G → getD table (2 * G .nonterminals + A * columns G + c) 0 ≡ entryAt G A c
+Entries G table = (A c : ℕ) → A < G .nonterminals → c < columns One G → getD table (2 * G .nonterminals + A * columns One G + c) 0 ≡ entryAt One G A c
 
 -- what judging leaves of an accepted input: the entries of its table, and the outcomes of its calls
 pub record TreeGiven (words input table memo tree : List ℕ) : Type 0 where
