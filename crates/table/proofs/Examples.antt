@@ -1,9 +1,11 @@
--- The first and follow sets of document 01's grammars R, M and E, as numbers, and the words of their tables, by computation.
-use mathlib.Core.List.{List, [], _∷_}
+-- The first and follow sets of document 01's grammars R, M and E, as numbers, the words of their tables, and clashes, by computation.
+use mathlib.Core.List.{List, [], _∷_, _++_}
 use mathlib.Core.Path.{_≡_, refl}
 use mathlib.Core.Option.{some}
 use Prim.Native.Nat.{ℕ}
+use lib.ListN.{replicate}
 use Rattle.answer.specs.declared.Error.the-variants.{LeftRecursive}
+use Rattle.word.specs.declared.Symbol.{Symbol}
 use Rattle.word.specs.declared.Symbol.the-variants.{Terminal, Nonterminal}
 use Rattle.grammar.specs.Codes.{noEntry}
 use Rattle.grammar.specs.Cards.{grammarR, grammarM, grammarE}
@@ -13,7 +15,7 @@ use Rattle.semantics.specs.FirstFollow.{first, follow}
 use Rattle.semantics.specs.Claims.{clashes, tableOf}
 use Rattle.semantics.specs.LeftRecursion.{lowestLeftRecursive}
 use Rattle.semantics.proofs.Computing.{tables-compute, left-recursion-computes}
-use Rattle.table.specs.declared.conflicts.Conflict.the-variants.{At}
+use Rattle.table.specs.declared.conflicts.Conflict.the-variants.{Absent, At}
 use Rattle.sets.specs.Lists.{listed}
 use Rattle.lookahead.specs.declared.Lookahead.the-variants.{One, Two}
 use Rattle.lookahead.specs.Lookaheads.{stringOf}
@@ -80,6 +82,35 @@ takes-all = (refl, refl)
 claimed-twice : firstClash One twiceA ≡ At 0 0
 unfolding tables-compute rowConflict conflictFrom firstClash columnString
 claimed-twice = refl
+
+-- with two tokens of lookahead: rules that differ in their second terminal alone, which one token refuses
+abbrev ruleOf : List Symbol → Rule
+ruleOf b = record { head = 0; positives = b ∷ []; negatives = [] }
+
+abbrev secondTells : Grammar
+secondTells = record { nonterminals = 1; terminals = 3; rules = ruleOf (Terminal 0 ∷ Terminal 1 ∷ []) ∷ ruleOf (Terminal 0 ∷ Terminal 2 ∷ []) ∷ [] }
+
+one-refuses : firstClash One secondTells ≡ At 0 0
+unfolding tables-compute rowConflict conflictFrom firstClash columnString
+one-refuses = refl
+
+two-takes : (firstClash Two secondTells ≡ Absent)
+    × (tableWords Two secondTells ≡ 1536 ∷ 1 ∷ (replicate 9 noEntry ++ 0 ∷ 1 ∷ replicate 46 noEntry))
+unfolding tables-compute rowConflict conflictFrom firstClash listed total stringOf numberOf firstNumber followNumber first follow tableWords setWord rowWord entryAt columnString tableOf
+two-takes = (refl, refl)
+
+-- and the first clash is that of terminal 0 at the end, before that of terminals 0 and 1, though strings are listed the other way round
+abbrev twiceOrMore : Grammar
+twiceOrMore = record {
+  nonterminals = 2;
+  terminals = 2;
+  rules = ruleOf (Terminal 0 ∷ Nonterminal 1 ∷ []) ∷ ruleOf (Terminal 0 ∷ Nonterminal 1 ∷ [])
+      ∷ record { head = 1; positives = [] ∷ []; negatives = [] } ∷ record { head = 1; positives = (Terminal 1 ∷ []) ∷ []; negatives = [] } ∷ [];
+}
+
+by-column : (firstClash Two twiceOrMore ≡ At 0 1) × (clashes twiceOrMore 2 ≡ (0, 0 ∷ 1 ∷ []) ∷ (0, 0 ∷ []) ∷ [])
+unfolding tables-compute rowConflict conflictFrom firstClash stringOf columnString clashes
+by-column = (refl, refl)
 
 reaches-itself : leftFault (lowestLeftRecursive notItself) ≡ some (LeftRecursive 0)
 unfolding left-recursion-computes lowestLeftRecursive
