@@ -165,8 +165,12 @@ module _ {k : Lookahead} (words : List ℕ) (p : PassedBy k words) where
   unfolding fault
   fault-passed =
       let few = fits-few k (grammarOf words) passed-encodes passed-fits in
-      rw (encodes-taken k words (grammarOf words) (p .short) passed-encodes passed-fits, not-left-recursive, all-productive,
-        clash-absent k (grammarOf words) few .1 no-clashes)
+      rw (
+        encodes-taken k words (grammarOf words) (p .short) passed-encodes passed-fits,
+        not-left-recursive,
+        all-productive,
+        clash-absent k (grammarOf words) few .1 no-clashes,
+      )
 
 -- with a table that is long enough only the grammar's faults are left
 pub check-fault-long : (k : Lookahead) (n : ℕ) (words : List ℕ) → tableRoom k ≤ n → checkFaultBy k n words ≡ fault k words

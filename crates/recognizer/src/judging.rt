@@ -78,5 +78,12 @@ pub(crate) fn judge_passed(
     ensures { λ r. ⌜ JudgedPassed lookahead (now (words .entry)) (inputOf (now (events .entry))) (now (memo .entry)) r (now (memo .exit)) ⌝ }
 {
     let needed = sizes.nonterminals as usize * (events.len() + 1);
-    descend(words, sizes, lookahead, entries, events, &mut memo[..needed])
+    descend(
+        words,
+        sizes,
+        lookahead,
+        entries,
+        events,
+        &mut memo[..needed],
+    )
 }
