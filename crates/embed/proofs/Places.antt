@@ -21,6 +21,7 @@ use Rattle.grammar.specs.Reading.{reading}
 use Rattle.grammar.specs.declared.reading.Outcome.{Outcome}
 use Rattle.grammar.specs.declared.reading.Outcome.the-variants.{Read, Faulty}
 use Rattle.grammar.proofs.WellRead.{well-read}
+use Rattle.lookahead.specs.declared.Lookahead.the-variants.{One}
 use Rattle.semantics.specs.LeftRecursion.{leftRecursive, lowestLeftRecursive}
 use Rattle.semantics.specs.Productive.{unproductive, lowestUnproductive}
 use Rattle.booleans.proofs.Quantified.{lowest-some}
@@ -78,7 +79,7 @@ reading-row (Faulty e) l = some-low maxWords e (l .low e refl)
 -- the rows of a grammar's faults up to left recursion, and those behind them
 sets-rows : (words : List ℕ) (l : List (Option Error))
     → ((few : grammarOf words .nonterminals ≤ maxNonterminals) (small : grammarOf words .terminals ≤ maxTerminals) → EachFault (Low maxWords) l)
-    → EachFault (Low maxWords) (setsFaults words ++ l)
+    → EachFault (Low maxWords) (setsFaults One words ++ l)
 sets-rows words l h = (
   reading-row (reading words) (reading-low words),
   λ q.
@@ -140,7 +141,7 @@ unfolding tabularFault
 tabular-low spans words input =
     let long = faultIf (ltb maxTabularTokens (length input)) InputTooLong in
     let unknown = unknownFault (unknownFrom (grammarOf words .terminals) 0 input) in
-    first-each (Low maxWords) (faultIf (ltb spans maxSpanWords) SpansTooShort ∷ setsFaults words ++ long ∷ unknown ∷ []) (
+    first-each (Low maxWords) (faultIf (ltb spans maxSpanWords) SpansTooShort ∷ setsFaults One words ++ long ∷ unknown ∷ []) (
       when-low maxWords (ltb spans maxSpanWords) SpansTooShort (omega arith),
       λ _. sets-rows words (long ∷ unknown ∷ []) (λ _ _. input-rows maxTabularTokens (grammarOf words .terminals) input (omega arith)),
     )

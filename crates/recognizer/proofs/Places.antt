@@ -17,7 +17,8 @@ use Rattle.answer.specs.Faults.{faultIf, firstFault, refusedOr}
 use Rattle.booleans.specs.Choice.{choose}
 use Rattle.grammar.specs.Syntax.{Grammar, WellScoped}
 use Rattle.grammar.specs.Limits.{maxWords}
-use Rattle.lookahead.specs.Elements.{nothing}
+use Rattle.lookahead.specs.declared.Lookahead.the-variants.{One}
+use Rattle.lookahead.specs.Lookaheads.{nothing}
 use Rattle.encoding.specs.Encode.{Encodes}
 use Rattle.encoding.proofs.Decoding.{encodes-grammar}
 use Rattle.encoding.proofs.ReadingEncodes.{encodes-read}
@@ -100,7 +101,7 @@ clash-told none none (conflict.At B d) A c e =
 clash-told none (some B) r A c e = absurd (omega (arith, fault-number e))
 clash-told (some B) u r A c e = absurd (omega (arith, fault-number e))
 
-module _ (G : Grammar) (scoped : WellScoped G) (few : G .terminals ≤ nothing) where
+module _ (G : Grammar) (scoped : WellScoped G) (few : G .terminals ≤ nothing One) where
   abbrev told : Option Error
   told = grammarFault (lowestLeftRecursive G) (lowestUnproductive G 1) (firstClash G)
 

@@ -36,6 +36,7 @@ use Rattle.encoding.specs.Encode.{Encodes}
 use Rattle.encoding.proofs.Decoding.{encodes-grammar}
 use Rattle.encoding.proofs.Faithful.{faithful}
 use Rattle.encoding.proofs.ReadingEncodes.{encodes-read, read-encodes}
+use Rattle.lookahead.specs.declared.Lookahead.the-variants.{One}
 use Rattle.lookahead.specs.Elements.{has}
 use Rattle.lookahead.proofs.Weights.{has-total}
 use Rattle.semantics.specs.Valuations.{Valuation, Solves, solution}
@@ -70,7 +71,7 @@ module _ (words : List ℕ) (p : FreeGrammar words) where
   free-free : NoLeftRecursion (grammarOf words)
   free-free = rw (← same-grammar) (p .free)
 
-  free-faultless : setsFault words ≡ none
+  free-faultless : setsFault One words ≡ none
   unfolding setsFault
   free-faultless =
       rw (
@@ -80,15 +81,15 @@ module _ (words : List ℕ) (p : FreeGrammar words) where
       )
 
 -- without a fault there is no left recursion
-faultless-free : (words : List ℕ) (z : Sizes) → reading words ≡ Read z → setsFault words ≡ none → NoLeftRecursion (grammarOf words)
+faultless-free : (words : List ℕ) (z : Sizes) → reading words ≡ Read z → setsFault One words ≡ none → NoLeftRecursion (grammarOf words)
 unfolding setsFault
 faultless-free words z r e =
     theorems .left-recursion-decided (grammarOf words) (read-encodes words z r .1 .formed .scoped) .absent .0
-    (none-left (lowestLeftRecursive (grammarOf words)) (each-none (setsFaults words) e .1 .0))
+    (none-left (lowestLeftRecursive (grammarOf words)) (each-none (setsFaults One words) e .1 .0))
 
 -- the fault of a grammar that has been read, as where no entry clashes
 fault-encoded : (words : List ℕ) (G : Grammar) → length words ≤ maxWords → Encodes words G
-    → setsFault words ≡ grammarFault (lowestLeftRecursive G) (lowestUnproductive G 1) Absent
+    → setsFault One words ≡ grammarFault (lowestLeftRecursive G) (lowestUnproductive G 1) Absent
 unfolding setsFault
 fault-encoded words G short e =
     rw (encodes-read words G short e, encodes-grammar words G e) (alone (leftFault (lowestLeftRecursive G)) (unproductiveFault (lowestUnproductive G 1)))
@@ -235,12 +236,12 @@ judge-refused {words} {input} {before} f =
 pub judge-short : (words input before : List ℕ) → length before < maxSpanWords → TabularJudges words input before (Refused SpansTooShort) before
 judge-short words input before h = judge-refused (spans-short words input before h)
 
-pub judge-faulty : (words input before : List ℕ) {x : Error} → maxSpanWords ≤ length before → setsFault words ≡ some x
+pub judge-faulty : (words input before : List ℕ) {x : Error} → maxSpanWords ≤ length before → setsFault One words ≡ some x
     → TabularJudges words input before (Refused x) before
 judge-faulty words input before room f = judge-refused (fault-long words input before room f)
 
 -- what is left-reached is found with the sets
-pub found-reaches : (words : List ℕ) {r : Families} → r ≡ familiesOf words → setsFault words ≡ none
+pub found-reaches : (words : List ℕ) {r : Families} → r ≡ familiesOf One words → setsFault One words ≡ none
     → r .reaches ≡ listed maxNonterminals (reachNumber (grammarOf words))
 unfolding familiesOf
 found-reaches words e k = ap (λ x. x .reaches) e ∙ ap (λ f. setsIf f (listed maxNonterminals (reachNumber (grammarOf words)))) k
