@@ -1,49 +1,63 @@
--- The column of the lookahead string at a place: it is that of the token there, or of the end, and its string is the one that is looked at.
-use mathlib.Core.Path.{_≡_, refl, ap, _∙_}
+-- The column of the lookahead string at a place: by how many tokens are left there; and its string is the one that is looked at.
+use mathlib.Core.Path.{_≡_, ap, _∙_}
 use mathlib.Core.List.{List, [], _∷_}
-use Prim.Native.Nat.{ℕ, _≤_, _<_}
+use Prim.Native.Nat.{ℕ, suc, _+_, _*_, _≤_, _<_}
+use native.Mathlib.Numerals.{add-one}
 use native.Mathlib.Omega.{arith}
-use native.Mathlib.Decide.{decLt}
-use lib.ListN.{length, getD, drop-of-length-le}
-use lib.Seq.{drop-cons}
-use borrow.Author.Tests.{eq-eqb, ne-eqb}
-use Rattle.event.proofs.Known.{token-below}
-use Rattle.semantics.specs.Strings.{look, Over}
-use Rattle.semantics.specs.Claims.{column}
-use Rattle.table.specs.Columns.{columnString}
+use lib.ListN.{length, getD, take, drop, drop-of-length-le}
+use lib.Seq.{drop-cons, take-nil}
+use Rattle.lookahead.specs.declared.Lookahead.{Lookahead}
+use Rattle.lookahead.specs.declared.Lookahead.the-variants.{One, Two}
+use Rattle.lookahead.specs.Lookaheads.{tokens, alphabet}
+use Rattle.semantics.specs.Strings.{look, Over, Lookahead as Looked}
+use Rattle.semantics.proofs.Strings.{all-take, all-drop, take-short}
+use Rattle.table.specs.Columns.{columnCount, columnString, columnOf}
+use Rattle.table.proofs.ColumnStrings.{column-in, string-column}
 use Rattle.recognizer.specs.Preparing.{columnAt}
 
 module _ (n : ℕ) (w : List ℕ) (i : ℕ) where
-  look-token : i < length w → look 1 w i ≡ getD w i 0 ∷ []
+  -- behind the last token nothing is left
+  none-left : (k : ℕ) → length w ≤ i → look k w i ≡ []
   unfolding look
-  look-token h = rw (drop-cons w i 0 h)
+  none-left k h = ap (take k) (drop-of-length-le w h) ∙ take-nil k
 
-  look-end : length w ≤ i → look 1 w i ≡ []
+  one-left : i < length w → look 1 w i ≡ getD w i 0 ∷ []
   unfolding look
-  look-end h = rw (drop-of-length-le w h)
+  one-left h = rw (drop-cons w i 0 h)
 
-  pub column-token : i < length w → columnAt n w i ≡ getD w i 0
+  -- one token
+  pub one-token : i < length w → columnAt One n w i ≡ getD w i 0
   unfolding columnAt
-  column-token h = ap (column n) (look-token h)
+  one-token h = ap (columnOf One n) (one-left h)
 
-  pub column-end : length w ≤ i → columnAt n w i ≡ n
+  pub one-end : length w ≤ i → columnAt One n w i ≡ n
   unfolding columnAt
-  column-end h = ap (column n) (look-end h)
+  one-end h = ap (columnOf One n) (none-left 1 h)
 
-  pub record Column : Type 0 where
-    pub low : columnAt n w i ≤ n
-    pub string : columnString n (columnAt n w i) ≡ look 1 w i
+  -- two tokens
+  pub two-pair : i + 1 < length w → columnAt Two n w i ≡ 8 + 7 * getD w i 0 + getD w (i + 1) 0
+  unfolding columnAt look
+  two-pair h = rw (drop-cons w i 0 (omega arith), drop-cons w (suc i) 0 (omega arith), add-one i)
 
-  pub column-right : Over n w → Column
-  unfolding columnString
-  column-right over = go (decLt i (length w))
-    where
-      go : Dec (i < length w) → Column
-      go (yes h) =
-          let t = token-below n w over i h in
-          let c = column-token h in
-          record { low = omega (arith, c); string = rw (c, ne-eqb (getD w i 0) n (λ e. absurd (omega arith)), look-token h) }
-      go (no h) =
-          let g : length w ≤ i = omega arith in
-          let c = column-end g in
-          record { low = omega (arith, c); string = rw (c, eq-eqb n n refl, look-end g) }
+  pub two-last : i < length w → length w ≤ i + 1 → columnAt Two n w i ≡ 1 + getD w i 0
+  unfolding columnAt look
+  two-last h l = let past : length w ≤ suc i = omega arith in rw (drop-cons w i 0 h, drop-of-length-le w past)
+
+  pub two-end : length w ≤ i → columnAt Two n w i ≡ 0
+  unfolding columnAt
+  two-end h = ap (columnOf Two n) (none-left 2 h)
+
+-- what is looked at are terminals
+looked : (k n : ℕ) (w : List ℕ) (i : ℕ) → Over n w → Looked k n (look k w i)
+unfolding look
+looked k n w i over = (take-short k (drop i w), all-take _ k (drop i w) (all-drop _ i w over))
+
+pub record Column (k : Lookahead) (n : ℕ) (w : List ℕ) (i : ℕ) : Type 0 where
+  pub low : columnAt k n w i < columnCount k n
+  pub string : columnString k n (columnAt k n w i) ≡ look (tokens k) w i
+
+pub column-right : (k : Lookahead) (n : ℕ) (w : List ℕ) (i : ℕ) → n ≤ alphabet k → Over n w → Column k n w i
+unfolding columnAt
+column-right k n w i few over =
+    let l = looked (tokens k) n w i over in
+    record { low = column-in k n (look (tokens k) w i) few l; string = string-column k n (look (tokens k) w i) few l }

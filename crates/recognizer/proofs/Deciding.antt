@@ -35,12 +35,15 @@ use Rattle.semantics.proofs.Memo.{memo-recorded-within}
 use Rattle.semantics.proofs.Theorems.{theorems}
 use Rattle.rule.specs.declared.Outcome as code
 use Rattle.rule.specs.Rule.{meant}
+use Rattle.lookahead.specs.declared.Lookahead.{Lookahead}
+use Rattle.lookahead.specs.Lookaheads.{tokens}
+use Rattle.sets.proofs.FewTerminals.{admitted-read, few-terminals}
 use Rattle.table.specs.Columns.{columnCount}
 use Rattle.recognizer.specs.Arrays.{held, rowAt}
 use Rattle.recognizer.specs.Descent.{MemoSound, CallGiven, CallDone, CallRequires, CallEnsures}
 use Rattle.recognizer.specs.Tally.{tallyOf, recordedCalls}
 use Rattle.recognizer.specs.Memory.{memoWordBy, memoWordsBy}
-use Rattle.recognizer.specs.Answers.{callsOf, verdictBy}
+use Rattle.recognizer.specs.Answers.{callsBy, verdictBy}
 use Rattle.recognizer.specs.Judging.{DescendGiven, Descended}
 use Rattle.recognizer.specs.Preparing.{TokensGiven, TokensHold, ChoicesGiven, Filled}
 use Rattle.event.specs.Events.{inputOf}
@@ -91,9 +94,9 @@ module _ (k : ℕ) (G : Grammar) (w : List ℕ) (scoped : WellScoped G) (free : 
           ∙ getD-any (map (memoWordBy k G w) (allCalls G w)) i (memoWordBy k G w x) uncalledCode short
 
 -- the start's call has been made in a blank memo table
-module _ {words : List ℕ} {z : Sizes} {entries memo : List ℕ} (events : List ℕ) (g : DescendGiven words z entries (inputOf events) memo) where
+module _ {k : Lookahead} {words : List ℕ} {z : Sizes} {entries memo : List ℕ} (events : List ℕ) (g : DescendGiven k words z entries (inputOf events) memo) where
   r : WellRead words z
-  r = well-read words z (g .ready .read)
+  r = well-read words z (admitted-read k words (g .ready .taken))
 
   abbrev G : Grammar
   G = grammarOf words
@@ -104,23 +107,26 @@ module _ {words : List ℕ} {z : Sizes} {entries memo : List ℕ} (events : List
   long : length events ≡ length input
   long = sym (input-length events)
 
+  abbrev n : ℕ
+  n = tokens k
+
   -- the choice that the descent goes by
   abbrev choice : Choice
-  choice = tableChoice G 1 input
+  choice = tableChoice G n input
 
   some-nonterminal : 0 < G .nonterminals
   some-nonterminal = omega (arith, r .nonterminals, r .someNonterminal)
 
-  pub rows-given : {columns : ℕ} → columns ≡ columnCount (z .terminals) → ChoicesGiven words (z .nonterminals) columns entries (length events + 1)
+  pub rows-given : {columns : ℕ} → columns ≡ columnCount k (z .terminals) → ChoicesGiven words (z .nonterminals) columns entries (length events + 1)
   rows-given m = rw m (choices-given (g .ready) long)
 
-  pub tokens-given : TokensGiven input (z .terminals)
-  tokens-given = record { short = g .ready .short; few = r .fewTerminals; known = rw (r .terminals) (g .ready .tokens) }
+  pub tokens-given : TokensGiven k input (z .terminals)
+  tokens-given = record { short = g .ready .short; few = rw (r .terminals) (few-terminals k words (g .ready .taken)); known = rw (r .terminals) (g .ready .tokens) }
 
   -- with the arrays that are made before it
-  module _ {columns : ℕ} {choices tokens blanked : List ℕ} (m : columns ≡ columnCount (z .terminals))
-      (f : Filled words (z .nonterminals) columns entries (length events + 1) choices) (t : TokensHold (z .terminals) input tokens) (b : blanked ≡ replicate (length memo) uncalledCode) where
-    tokens-hold : TokensHold (G .terminals) input tokens
+  module _ {columns : ℕ} {choices tokens blanked : List ℕ} (m : columns ≡ columnCount k (z .terminals))
+      (f : Filled words (z .nonterminals) columns entries (length events + 1) choices) (t : TokensHold k (z .terminals) input tokens) (b : blanked ≡ replicate (length memo) uncalledCode) where
+    tokens-hold : TokensHold k (G .terminals) input tokens
     tokens-hold = rw (← r .terminals) t
 
     begun : CallGiven choice words choices tokens input blanked 0 0
@@ -128,12 +134,12 @@ module _ {words : List ℕ} {z : Sizes} {entries memo : List ℕ} (events : List
     begun = rw (b, g .size) (record {
       given = record {
         sizes = z;
-        read = g .ready .read;
+        read = admitted-read k words (g .ready .taken);
         free = g .ready .free;
-        own = theorems .own-rules G 1 input;
+        own = theorems .own-rules G n input;
         rows = λ A a. f .rows A (omega (arith, r .nonterminals)) ∙ ap (λ n. A * n) (omega (arith, long));
         ends = λ A a. f .ends A (omega (arith, r .nonterminals)) ∙ omega (arith, long);
-        columns = λ i h. omega (arith, t .columns i h, column-few (z .terminals) input tokens-given i);
+        columns = λ i h. omega (arith, t .columns i h, column-few k (z .terminals) input tokens-given i);
         firsts = choices-hold (g .ready) {places = length events + 1} (rw (← m) f) tokens-hold;
         terminals = t .terminals;
         end = t .end;
@@ -159,24 +165,24 @@ module _ {words : List ℕ} {z : Sizes} {entries memo : List ℕ} (events : List
 
       done : (meant o ≡ descend G choice input 0 0) × Recorded G choice input memo′
       done =
-          let n = suc (level words input 0 0) in
-          let l : level words input 0 0 < n = omega arith in
-          let m : memoCall G choice input n 0 0 (blank G input) ≡ memoized (meant o) memo′ =
-          ap (λ x. memoCall G choice input n 0 0 x) (sym (b ∙ ap (λ k. replicate k uncalledCode) (g .size))) ∙ d .model n l in
-          let k = memo-recorded-within G choice input (r .formed .scoped) (g .ready .free) (theorems .own-rules G 1 input) fits some-nonterminal n l in
-          (sym (ap (λ x. x .outcome) m) ∙ k .0, subst (λ x. Recorded G choice input x) (ap (λ x. x .memo) m) (k .1))
+          let deep = suc (level words input 0 0) in
+          let l : level words input 0 0 < deep = omega arith in
+          let m : memoCall G choice input deep 0 0 (blank G input) ≡ memoized (meant o) memo′ =
+          ap (λ x. memoCall G choice input deep 0 0 x) (sym (b ∙ ap (λ l. replicate l uncalledCode) (g .size))) ∙ d .model deep l in
+          let e = memo-recorded-within G choice input (r .formed .scoped) (g .ready .free) (theorems .own-rules G n input) fits some-nonterminal deep l in
+          (sym (ap (λ x. x .outcome) m) ∙ e .0, subst (λ x. Recorded G choice input x) (ap (λ x. x .memo) m) (e .1))
 
       pub memo-long : length memo′ ≡ z .nonterminals * (length events + 1)
       memo-long = d .sound .size ∙ rw (r .nonterminals, long, add-one (length input))
 
       pub descended : {c : Calls} {ended : Bool} {a : Answer} → c ≡ tallyOf (recordedCalls memo′ (z .nonterminals) (length events))
           → ended ≡ endsAt (meant o) (length events)
-          → a ≡ choose ended (Accepted c) (Rejected c) → Descended words input a memo′
+          → a ≡ choose ended (Accepted c) (Rejected c) → Descended k words input a memo′
       unfolding verdictBy accepts
       descended {c} {ended} {a} tallied told e =
-          let k = done in
-          let counted : c ≡ callsOf G input = tally-recorded (k .1) (r .nonterminals) (tallied ∙ ap (λ n. tallyOf (recordedCalls memo′ (z .nonterminals) n)) long) in
+          let d = done in
+          let counted : c ≡ callsBy n G input = tally-recorded (d .1) (r .nonterminals) (tallied ∙ ap (λ n. tallyOf (recordedCalls memo′ (z .nonterminals) n)) long) in
           record {
-            answer = e ∙ rw (told, long, k .0, counted);
-            entries = words-recorded 1 G input (r .formed .scoped) (g .ready .free) some-nonterminal (k .1);
+            answer = e ∙ rw (told, long, d .0, counted);
+            entries = words-recorded n G input (r .formed .scoped) (g .ready .free) some-nonterminal (d .1);
           }

@@ -18,6 +18,9 @@ use Rattle.grammar.specs.Encoding.{grammarOf}
 use Rattle.booleans.specs.Quantifiers.{allOf}
 use Rattle.semantics.specs.Strings.{Over}
 use Rattle.booleans.proofs.Booleans.{T-true, and-l, and-r}
+use Rattle.lookahead.specs.declared.Lookahead.{Lookahead}
+use Rattle.lookahead.specs.declared.Lookahead.the-variants.{One}
+use Rattle.table.specs.Layout.{tableRoom}
 use Rattle.table.specs.Analysis.{grammarFaults, fault}
 use Rattle.event.specs.Events.{inputOf}
 use Rattle.event.proofs.Inputs.{input-length}
@@ -28,20 +31,20 @@ use Rattle.event.specs.Unknown.{unknownFrom, unknownFault}
 use Rattle.grammar.specs.declared.reading.Sizes.{Sizes}
 use Rattle.sets.specs.declared.Finding.{Finding}
 use Rattle.sets.specs.declared.Finding.the-variants as finding
-use Rattle.recognizer.specs.Answers.{checkFault, judgeFault, inputFaults, passedUnless, withInput}
+use Rattle.recognizer.specs.Answers.{tableTooShort, checkFaultBy, judgeFaultBy, judgeFault, inputFaults, passedUnless, withInput}
 
 -- the rows of judging, with the grammar's faults as one
-abbrev pub judgeRows : ℕ → ℕ → List ℕ → List ℕ → List (Option Error)
-judgeRows table memo words input =
-    faultIf (ltb table maxTableWords) TableTooShort
+abbrev pub judgeRowsBy : Lookahead → ℕ → ℕ → List ℕ → List ℕ → List (Option Error)
+judgeRowsBy k table memo words input =
+    faultIf (ltb table (tableRoom k)) (tableTooShort k)
     ∷ faultIf (ltb memo maxMemoEntries) MemoTooShort
-    ∷ fault words
+    ∷ fault k words
     ∷ inputFaults (grammarOf words .terminals) input
 
-pub judged-rows : (table memo : ℕ) (words input : List ℕ) → judgeFault table memo words input ≡ firstFault (judgeRows table memo words input)
-unfolding judgeFault fault
-judged-rows table memo words input =
-    first-nested (faultIf (ltb table maxTableWords) TableTooShort ∷ faultIf (ltb memo maxMemoEntries) MemoTooShort ∷ []) (grammarFaults words)
+pub judged-rows-by : (k : Lookahead) (table memo : ℕ) (words input : List ℕ) → judgeFaultBy k table memo words input ≡ firstFault (judgeRowsBy k table memo words input)
+unfolding judgeFaultBy fault
+judged-rows-by k table memo words input =
+    first-nested (faultIf (ltb table (tableRoom k)) (tableTooShort k) ∷ faultIf (ltb memo maxMemoEntries) MemoTooShort ∷ []) (grammarFaults k words)
     (inputFaults (grammarOf words .terminals) input)
 
 -- an input that is short and known has no fault, and no other input
@@ -58,42 +61,60 @@ faultless-readable n input e =
     none-unknown (At i) q = absurd (none-some (sym q))
 
 -- the first fault, by what holds
-module _ (words input table memo : List ℕ) where
+module _ (k : Lookahead) (words input table memo : List ℕ) where
   abbrev judged : Option Error
-  judged = judgeFault (length table) (length memo) words input
+  judged = judgeFaultBy k (length table) (length memo) words input
 
-  pub table-short : length table < maxTableWords → judged ≡ some TableTooShort
-  unfolding judgeFault
-  table-short h = rw (lt-ltb (length table) maxTableWords h)
+  pub table-short-by : length table < tableRoom k → judged ≡ some (tableTooShort k)
+  unfolding judgeFaultBy
+  table-short-by h = rw (lt-ltb (length table) (tableRoom k) h)
 
-  module _ (long : maxTableWords ≤ length table) where
-    pub memo-short : length memo < maxMemoEntries → judged ≡ some MemoTooShort
-    unfolding judgeFault
-    memo-short h = rw (le-ltb (length table) maxTableWords long, lt-ltb (length memo) maxMemoEntries h)
+  module _ (long : tableRoom k ≤ length table) where
+    pub memo-short-by : length memo < maxMemoEntries → judged ≡ some MemoTooShort
+    unfolding judgeFaultBy
+    memo-short-by h = rw (le-ltb (length table) (tableRoom k) long, lt-ltb (length memo) maxMemoEntries h)
 
     module _ (room : maxMemoEntries ≤ length memo) where
-      pub judge-fault-long : {f : Option Error} → fault words ≡ f → judged ≡ firstFault (f ∷ inputFaults (grammarOf words .terminals) input)
+      pub judge-fault-long : {f : Option Error} → fault k words ≡ f → judged ≡ firstFault (f ∷ inputFaults (grammarOf words .terminals) input)
       judge-fault-long e =
-          rw (judged-rows (length table) (length memo) words input, le-ltb (length table) maxTableWords long, le-ltb (length memo) maxMemoEntries room, e)
+          rw (judged-rows-by k (length table) (length memo) words input, le-ltb (length table) (tableRoom k) long, le-ltb (length memo) maxMemoEntries room, e)
 
-      pub grammar-fault : {x : Error} → fault words ≡ some x → judged ≡ some x
+      pub grammar-fault : {x : Error} → fault k words ≡ some x → judged ≡ some x
       grammar-fault e = judge-fault-long e
 
-      pub input-fault : {f : Option Error} → fault words ≡ none → firstFault (inputFaults (grammarOf words .terminals) input) ≡ f → judged ≡ f
+      pub input-fault : {f : Option Error} → fault k words ≡ none → firstFault (inputFaults (grammarOf words .terminals) input) ≡ f → judged ≡ f
       input-fault passed e = judge-fault-long passed ∙ e
 
-module _ (words input : List ℕ) (table memo : ℕ) (e : judgeFault table memo words input ≡ none) where
-  each : Faultless (judgeRows table memo words input)
-  each = each-none (judgeRows table memo words input) (sym (judged-rows table memo words input) ∙ e)
+module _ (k : Lookahead) (words input : List ℕ) (table memo : ℕ) (e : judgeFaultBy k table memo words input ≡ none) where
+  each : Faultless (judgeRowsBy k table memo words input)
+  each = each-none (judgeRowsBy k table memo words input) (sym (judged-rows-by k table memo words input) ∙ e)
 
   -- what is judged is checked
-  pub judged-checked : checkFault table words ≡ none
-  unfolding checkFault fault
+  pub judged-checked : checkFaultBy k table words ≡ none
+  unfolding checkFaultBy fault
   judged-checked = rw (each .0) (each .1 .1 .0)
 
   -- and is read and not too long
-  pub judged-readable : (fault words ≡ none) × (length input ≤ maxTokens)
-  judged-readable = (each .1 .1 .0, ltb-false maxTokens (length input) (fault-none (ltb maxTokens (length input)) InputTooLong (each .1 .1 .1 .0)))
+  pub judged-readable-by : (fault k words ≡ none) × (length input ≤ maxTokens)
+  judged-readable-by = (each .1 .1 .0, ltb-false maxTokens (length input) (fault-none (ltb maxTokens (length input)) InputTooLong (each .1 .1 .1 .0)))
+
+-- the same with one token
+abbrev pub judgeRows : ℕ → ℕ → List ℕ → List ℕ → List (Option Error)
+judgeRows = judgeRowsBy One
+
+pub judged-rows : (table memo : ℕ) (words input : List ℕ) → judgeFault table memo words input ≡ firstFault (judgeRows table memo words input)
+judged-rows = judged-rows-by One
+
+pub table-short : (words input table memo : List ℕ) → length table < maxTableWords → judgeFault (length table) (length memo) words input ≡ some TableTooShort
+table-short = table-short-by One
+
+pub memo-short : (words input table memo : List ℕ) → maxTableWords ≤ length table → length memo < maxMemoEntries
+    → judgeFault (length table) (length memo) words input ≡ some MemoTooShort
+memo-short = memo-short-by One
+
+pub judged-readable : (words input : List ℕ) (table memo : ℕ) → judgeFault table memo words input ≡ none
+    → (fault One words ≡ none) × (length input ≤ maxTokens)
+judged-readable = judged-readable-by One
 
 -- what is found of a grammar and an input, by what is found of the grammar
 pub record PassedWith (f : Finding) (input : List ℕ) (z : Sizes) : Type 0 where

@@ -10,10 +10,10 @@ use Rattle.table.specs.Analysis.{fault}
 use Rattle.table.specs.Columns.{columnString}
 use Rattle.table.specs.Conflicts.{rowConflict, conflictFrom, firstClash}
 use Rattle.event.specs.Unknown.{unknownFrom}
-use Rattle.recognizer.specs.Answers.{judgeFault, verdictBy}
+use Rattle.recognizer.specs.Answers.{judgeFaultBy, verdictBy}
 use Rattle.recognizer.specs.Rows.{starred, judged}
 
 pub starred-rows : map (λ r. judged (r .words) (r .input)) starred ≡ map (λ r. r .told) starred
-unfolding judged judgeFault verdictBy unknownFrom fault firstClash conflictFrom rowConflict columnString reading opened headed within scan finished onStep stepped counted
+unfolding judged judgeFaultBy verdictBy unknownFrom fault firstClash conflictFrom rowConflict columnString reading opened headed within scan finished onStep stepped counted
     grammarOf parse onWord decoded ofKind heading bare lowestUnproductive unproductive left-recursion-computes tables-compute descent-computes calls-compute
 starred-rows = refl

@@ -1,4 +1,4 @@
--- What a call answers: the first refusal that holds, in document 01's order, or else a verdict.
+-- What a call answers: the first refusal that holds, in the papers' order, or else a verdict.
 use mathlib.Core.Bool.{Bool, true, false}
 use mathlib.Core.List.{List, [], _∷_, _++_}
 use mathlib.Core.Option.{Option, none, some}
@@ -6,7 +6,7 @@ use Prim.Native.Nat.{ℕ, suc}
 use lib.Dec.{ltb}
 use lib.ListN.{length}
 use Rattle.answer.specs.declared.Error.{Error}
-use Rattle.answer.specs.declared.Error.the-variants.{TableTooShort, MemoTooShort, InputTooLong, UnknownToken}
+use Rattle.answer.specs.declared.Error.the-variants.{TableTooShort, MemoTooShort, WideTableTooShort, InputTooLong}
 use Rattle.answer.specs.declared.Calls.{Calls}
 use Rattle.answer.specs.declared.Answer.{Answer}
 use Rattle.answer.specs.declared.Answer.the-variants.{Rejected, Accepted}
@@ -14,7 +14,7 @@ use Rattle.answer.specs.Numbers.{passed, rejected, accepted, Numbers, answered}
 use Rattle.answer.specs.Faults.{faultIf, firstFault}
 use Rattle.event.specs.Unknown.{unknownFrom, unknownFault}
 use Rattle.booleans.specs.Choice.{choose}
-use Rattle.grammar.specs.Limits.{maxTokens, maxTableWords, maxMemoEntries}
+use Rattle.grammar.specs.Limits.{maxTokens, maxMemoEntries}
 use Rattle.grammar.specs.Syntax.{Grammar}
 use Rattle.grammar.specs.Encoding.{grammarOf}
 use Rattle.semantics.specs.Choices.{tableChoice}
@@ -23,11 +23,19 @@ use Rattle.semantics.specs.Calls.{callCount, farthest}
 use Rattle.grammar.specs.declared.reading.Sizes.{Sizes}
 use Rattle.sets.specs.declared.Finding.{Finding}
 use Rattle.sets.specs.declared.Finding.the-variants as finding
+use Rattle.lookahead.specs.declared.Lookahead.{Lookahead}
+use Rattle.lookahead.specs.declared.Lookahead.the-variants.{One, Two}
+use Rattle.table.specs.Layout.{tableRoom}
 use Rattle.table.specs.Analysis.{grammarFaults}
 
--- why checking is refused, in document 01's order: the table's length, then the grammar's faults
-unfoldable pub checkFault : ℕ → List ℕ → Option Error
-checkFault table words = firstFault (faultIf (ltb table maxTableWords) TableTooShort ∷ grammarFaults words)
+-- the lent table is too short: 17 stands in the place of 1
+abbrev pub tableTooShort : Lookahead → Error
+tableTooShort One = TableTooShort
+tableTooShort Two = WideTableTooShort
+
+-- why checking with a lookahead is refused, in the papers' order: the table's length, then the grammar's faults
+unfoldable pub checkFaultBy : Lookahead → ℕ → List ℕ → Option Error
+checkFaultBy k table words = firstFault (faultIf (ltb table (tableRoom k)) (tableTooShort k) ∷ grammarFaults k words)
 
 -- the faults of an input for a grammar of n terminals: its length, then its tokens
 abbrev pub inputFaults : ℕ → List ℕ → List (Option Error)
@@ -37,12 +45,12 @@ inputFaults n input =
     ∷ []
 
 -- why judging is refused
-unfoldable pub judgeFault : ℕ → ℕ → List ℕ → List ℕ → Option Error
-judgeFault table memo words input =
+unfoldable pub judgeFaultBy : Lookahead → ℕ → ℕ → List ℕ → List ℕ → Option Error
+judgeFaultBy k table memo words input =
     firstFault
-    (faultIf (ltb table maxTableWords) TableTooShort
+    (faultIf (ltb table (tableRoom k)) (tableTooShort k)
     ∷ faultIf (ltb memo maxMemoEntries) MemoTooShort
-    ∷ grammarFaults words
+    ∷ grammarFaults k words
     ++ inputFaults (grammarOf words .terminals) input)
 
 -- what is found of a grammar, and then of an input
@@ -72,6 +80,12 @@ verdictNumbersBy k G w =
     answered (choose (accepts G (tableChoice G k w) w) accepted rejected) 0 0 (callCount G (tableChoice G k w) w) (farthest G (tableChoice G k w) w)
 
 -- the same with one token (document 01)
+abbrev pub checkFault : ℕ → List ℕ → Option Error
+checkFault = checkFaultBy One
+
+abbrev pub judgeFault : ℕ → ℕ → List ℕ → List ℕ → Option Error
+judgeFault = judgeFaultBy One
+
 abbrev pub callsOf : Grammar → List ℕ → Calls
 callsOf = callsBy 1
 

@@ -7,25 +7,27 @@ use lib.Dec.{eqb}
 use lib.ListN.{length, getD}
 use Rattle.booleans.specs.Choice.{choose}
 use Rattle.grammar.specs.Codes.{noRule}
-use Rattle.grammar.specs.Limits.{maxWords, maxNonterminals, maxTerminals, maxRules, maxWideColumns, maxTokens, maxPlaces}
+use Rattle.grammar.specs.Limits.{maxWords, maxNonterminals, maxRules, maxWideColumns, maxTokens, maxPlaces}
 use Rattle.grammar.specs.Starts.{ruleStarts}
 use Rattle.semantics.specs.Strings.{look, Over}
-use Rattle.semantics.specs.Claims.{column}
+use Rattle.lookahead.specs.declared.Lookahead.{Lookahead}
+use Rattle.lookahead.specs.Lookaheads.{tokens, alphabet}
+use Rattle.table.specs.Columns.{columnOf}
 use Rattle.recognizer.specs.Arrays.{endMark, columnWeight, choiceColumns, choiceWords, held, rowAt, endAt}
 
--- the column of the lookahead string at a place, in a row of n terminals
-unfoldable pub columnAt : ℕ → List ℕ → ℕ → ℕ
-columnAt n w i = column n (look 1 w i)
+-- the column of the lookahead string at a place, for n terminals
+unfoldable pub columnAt : Lookahead → ℕ → List ℕ → ℕ → ℕ
+columnAt k n w i = columnOf k n (look (tokens k) w i)
 
-pub record TokensGiven (w : List ℕ) (n : ℕ) : Type 0 where
+pub record TokensGiven (k : Lookahead) (w : List ℕ) (n : ℕ) : Type 0 where
   pub short : length w ≤ maxTokens
-  pub few : n ≤ maxTerminals
+  pub few : n ≤ alphabet k
   pub known : Over n w
 
 -- the words of the tokens hold the input, and for each place the column of its lookahead string
-pub record TokensHold (n : ℕ) (w tokens : List ℕ) : Type 0 where
+pub record TokensHold (k : Lookahead) (n : ℕ) (w tokens : List ℕ) : Type 0 where
   pub input : held tokens ≡ w
-  pub columns : (i : ℕ) → i ≤ length w → getD tokens i 0 / columnWeight ≡ columnAt n w i
+  pub columns : (i : ℕ) → i ≤ length w → getD tokens i 0 / columnWeight ≡ columnAt k n w i
   pub terminals : (i : ℕ) → i < length w → getD tokens i 0 % columnWeight ≡ getD w i 0
   pub end : getD tokens (length w) 0 % columnWeight ≡ endMark
 

@@ -15,6 +15,7 @@ use event::first_unknown;
 use grammar::limits::ENTRIES;
 use grammar::limits::TOKENS;
 use grammar::reading::Sizes;
+use lookahead::Lookahead;
 use rule::ends_at;
 use sets::Finding;
 use table::columns::count;
@@ -42,18 +43,19 @@ pub(crate) fn with_input(finding: Finding, events: &[u8]) -> Finding
 fn descend(
     words: &[u32],
     sizes: Sizes,
+    lookahead: Lookahead,
     entries: &[u8; ENTRIES],
     events: &[u8],
     memo: &mut [u16],
 ) -> Answer
-    requires { ⌜ DescendGiven (now words) sizes (now entries) (inputOf (now events)) (now memo) ⌝ }
-    ensures { λ r. ⌜ Descended (now (words .entry)) (inputOf (now (events .entry))) r (now (memo .exit)) ⌝ }
+    requires { ⌜ DescendGiven lookahead (now words) sizes (now entries) (inputOf (now events)) (now memo) ⌝ }
+    ensures { λ r. ⌜ Descended lookahead (now (words .entry)) (inputOf (now (events .entry))) r (now (memo .exit)) ⌝ }
 {
     clear(memo);
     let nonterminals = sizes.nonterminals as usize;
-    let columns = count(sizes.terminals);
+    let columns = count(lookahead, sizes.terminals);
     let choices = choices_of(words, nonterminals, columns, entries, events.len() + 1);
-    let tokens = tokens_of(events, sizes.terminals);
+    let tokens = tokens_of(events, lookahead, sizes.terminals);
     let outcome = call(0, words, &choices, &tokens, memo, 0);
     let calls = tally(memo, nonterminals, events.len());
     if ends_at(outcome, events.len() as u16) {
@@ -67,13 +69,21 @@ fn descend(
 pub(crate) fn judge_passed(
     words: &[u32],
     sizes: Sizes,
+    lookahead: Lookahead,
     entries: &[u8; ENTRIES],
     events: &[u8],
     memo: &mut [u16],
 ) -> Answer
-    requires { ⌜ PassedGiven (now words) sizes (now entries) (inputOf (now events)) (now memo) ⌝ }
-    ensures { λ r. ⌜ JudgedPassed (now (words .entry)) (inputOf (now (events .entry))) (now (memo .entry)) r (now (memo .exit)) ⌝ }
+    requires { ⌜ PassedGiven lookahead (now words) sizes (now entries) (inputOf (now events)) (now memo) ⌝ }
+    ensures { λ r. ⌜ JudgedPassed lookahead (now (words .entry)) (inputOf (now (events .entry))) (now (memo .entry)) r (now (memo .exit)) ⌝ }
 {
     let needed = sizes.nonterminals as usize * (events.len() + 1);
-    descend(words, sizes, entries, events, &mut memo[..needed])
+    descend(
+        words,
+        sizes,
+        lookahead,
+        entries,
+        events,
+        &mut memo[..needed],
+    )
 }

@@ -1,6 +1,7 @@
 // What the descent reads beside the words, made before it starts: a choice of rules by the columns of the table, and the tokens.
 ghost use mathlib.Core.Path.{_≡_};
 ghost use Rattle.event.specs.Events.{inputOf};
+ghost use Rattle.lookahead.specs.declared.Lookahead.the-variants.{One, Two};
 ghost use Rattle.recognizer.specs.Preparing.{columnAt, firstWord, TokensGiven, TokensHold, FirstGiven, ChoicesGiven, RowGiven, RowFilled, Filled};
 use super::arrays::CHOICE_COLUMNS;
 use super::arrays::CHOICES;
@@ -13,11 +14,18 @@ use grammar::codes::NO_RULE;
 use grammar::limits::ENTRIES;
 use grammar::limits::PLACES;
 use grammar::limits::RULES;
+use grammar::limits::WIDE_TERMINALS;
 use grammar::reading::rule_starts;
+use lookahead::Lookahead;
 
-// The column of the lookahead string at a place.
-fn column_at(events: &[u8], terminals: u32, place: usize) -> u32
-    ensures { λ r. ⌜ r ≡ columnAt terminals (inputOf (now (events .entry))) place ⌝ }
+// With two tokens of lookahead, the column of terminal 0 where it is the last token, and of terminal 0 twice.
+const LAST: u32 = 1;
+
+const PAIR: u32 = LAST + WIDE_TERMINALS;
+
+// The column of the token at a place, or of the end.
+fn column_of_one(events: &[u8], terminals: u32, place: usize) -> u32
+    ensures { λ r. ⌜ r ≡ columnAt One terminals (inputOf (now (events .entry))) place ⌝ }
 {
     if events.len() <= place {
         return terminals;
@@ -26,16 +34,42 @@ fn column_at(events: &[u8], terminals: u32, place: usize) -> u32
     terminal_of(event) as u32
 }
 
-// The terminal of each event, and the column of the lookahead string there; behind the events, the end.
-pub(crate) fn tokens_of(events: &[u8], terminals: u32) -> [u16; PLACES]
-    requires { ⌜ TokensGiven (inputOf (now events)) terminals ⌝ }
-    ensures { λ r. ⌜ TokensHold terminals (inputOf (now (events .entry))) r ⌝ }
+// The column of the two tokens from a place on, of the last token, or of the end.
+fn column_of_two(events: &[u8], terminals: u32, place: usize) -> u32
+    ensures { λ r. ⌜ r ≡ columnAt Two terminals (inputOf (now (events .entry))) place ⌝ }
 {
-    let end = column_at(events, terminals, events.len()) * COLUMN_WEIGHT + END_MARK;
+    if events.len() <= place {
+        return 0;
+    }
+    let event = events[place];
+    let first = terminal_of(event) as u32;
+    if events.len() <= place + 1 {
+        return LAST + first;
+    }
+    let next = events[place + 1];
+    PAIR + WIDE_TERMINALS * first + terminal_of(next) as u32
+}
+
+// The column of the lookahead string at a place.
+fn column_at(events: &[u8], lookahead: Lookahead, terminals: u32, place: usize) -> u32
+    ensures { λ r. ⌜ r ≡ columnAt lookahead terminals (inputOf (now (events .entry))) place ⌝ }
+{
+    match lookahead {
+        Lookahead::One => column_of_one(events, terminals, place),
+        Lookahead::Two => column_of_two(events, terminals, place),
+    }
+}
+
+// The terminal of each event, and the column of the lookahead string there; behind the events, the end.
+pub(crate) fn tokens_of(events: &[u8], lookahead: Lookahead, terminals: u32) -> [u16; PLACES]
+    requires { ⌜ TokensGiven lookahead (inputOf (now events)) terminals ⌝ }
+    ensures { λ r. ⌜ TokensHold lookahead terminals (inputOf (now (events .entry))) r ⌝ }
+{
+    let end = column_at(events, lookahead, terminals, events.len()) * COLUMN_WEIGHT + END_MARK;
     let mut tokens = [end as u16; PLACES];
     let mut place = 0;
     while place < events.len() {
-        let column = column_at(events, terminals, place);
+        let column = column_at(events, lookahead, terminals, place);
         let event = events[place];
         let terminal = terminal_of(event);
         tokens[place] = (column * COLUMN_WEIGHT + terminal as u32) as u16;

@@ -233,6 +233,16 @@ room-for : (k : Lookahead) (t : ℕ) → t ≤ alphabet k → maxNonterminals * 
 room-for One t h = let l : 2 + suc t ≤ 2 + maxColumns = omega arith in mul-le-mul {n₁ = maxNonterminals} {n₂ = maxNonterminals} (omega arith) l
 room-for Two t h = omega arith
 
+pub admitted-words : (k : Lookahead) (words : List ℕ) {z : Sizes} → admission k words ≡ Read z → WordsGiven k z
+admitted-words k words {z} e =
+    let r = well-read words z (admitted-read k words e) in
+    let t : z .terminals ≤ alphabet k = rw (r .terminals) (few-terminals k words e) in
+    record {
+      few = r .fewNonterminals;
+      room = omega (arith, mul-le-mul-right (2 + columnCount k (z .terminals)) (r .fewNonterminals), room-for k (z .terminals) t);
+      row = column-count k (z .terminals) t;
+    }
+
 module _ {k : Lookahead} {words : List ℕ} {z : Sizes} {r : Found} (f : FoundEntries k words z r) where
   abbrev G : Grammar
   G = grammarOf words
@@ -246,15 +256,8 @@ module _ {k : Lookahead} {words : List ℕ} {z : Sizes} {r : Found} (f : FoundEn
   few-rules : length (G .rules) ≤ maxRules
   few-rules = omega (arith, read-well .fewRules, read-well .rules)
 
-  alphabet-few : z .terminals ≤ alphabet k
-  alphabet-few = rw (read-well .terminals) (few-terminals k words (f .read))
-
   pub words-given : WordsGiven k z
-  words-given = record {
-    few = read-well .fewNonterminals;
-    room = omega (arith, mul-le-mul-right (2 + columnCount k (z .terminals)) (read-well .fewNonterminals), room-for k (z .terminals) alphabet-few);
-    row = column-count k (z .terminals) alphabet-few;
-  }
+  words-given = admitted-words k words (f .read)
 
   pub analyzed-passed : {table : List ℕ} → table ≡ wordsOf k z (r .firsts) (r .follows) (r .entries)
       → analysis k (Passed z) (r .entries) table ≡ analyzed k words
