@@ -4,8 +4,6 @@ use Rattle.recognizer.specs.Arrays.{firstAt}
 use borrow.Author.Needs.{needs}
 use Rattle.recognizer.proofs.descent.chosen.Statement.{statement}
 use Rattle.recognizer.proofs.descent.chosen.Tie as tie
-use Rattle.recognizer.proofs.descent.chosen.Reads as reads
-use Rattle.recognizer.proofs.descent.chosen.Lts as lts
 
 mul-column : tie.Need-mul-column
 mul-column c = search needs

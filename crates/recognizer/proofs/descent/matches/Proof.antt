@@ -4,8 +4,6 @@ use Rattle.recognizer.specs.Arrays.{matchesAt}
 use borrow.Author.Needs.{needs}
 use Rattle.recognizer.proofs.descent.matches.Statement.{statement}
 use Rattle.recognizer.proofs.descent.matches.Tie as tie
-use Rattle.recognizer.proofs.descent.matches.Reads as reads
-use Rattle.recognizer.proofs.descent.matches.Lts as lts
 
 mul-result : tie.Need-mul-result
 mul-result c = search needs

@@ -9,37 +9,27 @@ use Rattle.recognizer.proofs.Columns.{two-pair, two-last, two-end}
 use borrow.Author.Needs.{needs}
 use Rattle.recognizer.proofs.preparing.column_of_two.Statement.{statement}
 use Rattle.recognizer.proofs.preparing.column_of_two.Tie as tie
-use Rattle.recognizer.proofs.preparing.column_of_two.Reads as reads
-use Rattle.recognizer.proofs.preparing.column_of_two.Lts as lts
-use Rattle.event.proofs.terminal_of.Reads as terminal-of-reads
 
--- src/preparing.rt:42:9
 returns : tie.Need-returns
 returns c =
     let start = c .before .before in
     sym (two-end (start .args .terminals) (inputOf (start .args .events .now)) (start .args .place) (omega (arith, c .if1 .taken, input-length (start .args .events .now))))
 
--- src/preparing.rt:44:17
 shared-slice-read-event : tie.Need-shared-slice-read-event
 shared-slice-read-event c = search needs
 
--- src/preparing.rt:45:17
 terminal-of-requires : tie.Need-terminal-of-requires
 terminal-of-requires c κs = search needs
 
--- src/preparing.rt:45:17
 cast-first : tie.Need-cast-first
 cast-first c = search needs
 
--- src/preparing.rt:46:24
 add-if2 : tie.Need-add-if2
 add-if2 c = search needs
 
--- src/preparing.rt:47:16
 add-result : tie.Need-add-result
 add-result c = search needs
 
--- src/preparing.rt:47:9
 returns-2 : tie.Need-returns-2
 returns-2 c =
     let read = c .before in
@@ -51,35 +41,27 @@ returns-2 c =
     ap (λ x. 1 + x) first
     ∙ sym (two-last (start .args .terminals) (inputOf events) place (omega (arith, read .before .before .if1 .left)) (omega (arith, c .if2 .taken)))
 
--- src/preparing.rt:49:23
 add-next : tie.Need-add-next
 add-next c = search needs
 
--- src/preparing.rt:49:16
 shared-slice-read-next : tie.Need-shared-slice-read-next
 shared-slice-read-next c = search needs
 
--- src/preparing.rt:50:12
 mul-result : tie.Need-mul-result
 mul-result c = search needs
 
--- src/preparing.rt:50:5
 add-result-2 : tie.Need-add-result-2
 add-result-2 c = search needs
 
--- src/preparing.rt:50:37
 terminal-of-requires-2 : tie.Need-terminal-of-requires-2
 terminal-of-requires-2 c κs = search needs
 
--- src/preparing.rt:50:37
 cast-result : tie.Need-cast-result
 cast-result c = search needs
 
--- src/preparing.rt:50:5
 add-result-3 : tie.Need-add-result-3
 add-result-3 c = search needs
 
--- src/preparing.rt:38:1
 returns-3 : tie.Need-returns-3
 returns-3 c =
     let going = c .before .before in
