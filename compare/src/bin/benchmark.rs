@@ -213,7 +213,7 @@ fn time_kept(what: &str, draft: &Draft, input: &[u8]) {
         },
     ]);
     print_row(&format!("grow to {} events", input.len()), "passed", &times);
-    let (mut proved, mut twin) = (Memory::new(), Memory::new());
+    let (mut proved, mut twin) = (ONE.memory(), ONE.memory());
     let outcome = log.judge(&words, &mut twin.table, &mut twin.memo);
     let answer = stored.judge(&words, &mut proved.table, &mut proved.memo);
     assert!(answer == linked::packed(outcome) && twin.memo == proved.memo, "{what}: the answers differ");
