@@ -9,6 +9,7 @@ use Rattle.answer.specs.declared.Answer.{Answer}
 use Rattle.grammar.specs.Limits.{maxTokens}
 use Rattle.event.specs.Events.{inputOf}
 use Rattle.event.proofs.Inputs.{input-length}
+use Rattle.lookahead.specs.declared.Lookahead.the-variants.{One}
 use Rattle.recognizer.specs.Properties.{Judges}
 use Rattle.recognizer.proofs.Directions.{directions-ignored}
 use Rattle.kept_input.specs.declared.KeptInput.{KeptInput}
@@ -28,6 +29,6 @@ judges-kept {words} {table} {memo} {table′} {memo′} {r} kept whole n e j =
       judges = judged;
       short = omega (arith, input-length (held kept .events), events-length);
       afresh = λ history h a table″ memo″ k.
-          directions-ignored words (held kept .events) (ran history empty .events) table memo r a table′ table″ memo′ memo″
+          directions-ignored One words (held kept .events) (ran history empty .events) table memo r a table′ table″ memo′ memo″
           (ap (λ (s : Kept). inputOf (s .events)) h) judged k;
     }
