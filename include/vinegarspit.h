@@ -16,7 +16,8 @@
 extern "C" {
 #endif
 
-/* How much memory is to be lent, the longest grammar, the longest log, of judging and of judging plainly, and how many clients there are. */
+/* How much memory is to be lent, the longest grammar, the longest log, of judging and of judging plainly, and how many clients there are.
+ * TABLE2 is the table for two events of lookahead, and how many letters it is for. */
 enum {
     VINEGARSPIT_TABLE_WORDS = 864,
     VINEGARSPIT_MEMO_ENTRIES = 16032,
@@ -24,7 +25,9 @@ enum {
     VINEGARSPIT_LOG_EVENTS = 500,
     VINEGARSPIT_SPAN_WORDS = 1225,
     VINEGARSPIT_PLAIN_LOG_EVENTS = 48,
-    VINEGARSPIT_CLIENTS = 8
+    VINEGARSPIT_CLIENTS = 8,
+    VINEGARSPIT_TABLE2_WORDS = 1888,
+    VINEGARSPIT_TABLE2_LETTERS = 7
 };
 
 /* What an answer tells. */
@@ -125,6 +128,35 @@ uint64_t vinegarspit_judge_plain(const uint32_t *card, size_t card_len, const ui
 uint64_t vinegarspit_tree(const uint32_t *card, size_t card_len, const uint8_t *log, size_t log_len,
                           uint32_t *table, size_t table_len, uint16_t *memo, size_t memo_len,
                           uint32_t *tree, size_t tree_len, uint32_t *written);
+
+/* Checks a grammar as vinegarspit_check does, with two events of lookahead, so that it also passes grammars on which one event is too few. It takes
+ * at most 7 letters, and no rule of must-nots alone. Answers PASSED or REFUSED.
+ *
+ * PASSED: the table is of 64-bit words. For each name, table2[2 * name] is its first set and table2[2 * name + 1] its follow set; from 2 * names
+ * on stand the rows, of 57 columns each, however few letters there are: column 0 is the end of the log, 1 + l a last letter l, and
+ * 8 + 7 * l + r letter l and then r. A set weighs 2^column for each of its members, and an entry is a rule's number or NO_RULE. Later words keep
+ * their contents.
+ *
+ * REFUSED: nothing is written. The first of these that holds, with its number and its place:
+ *   17  table2_len is under 1,888                                    0
+ *       3 and 4, as by a check
+ *   18  over 7 letters                                               0
+ *       5 to 7, as by a check; 5 is also a rule of must-nots alone   the index of its first must-not's word
+ *       8, as by a check
+ *       13, as by a check, by these first sets, which are wider
+ *       9, two rules claim an entry of this table                    name * 64 + column of the first, by name, then this column
+ *
+ * A grammar that passes a check is never refused with 9 here. */
+uint64_t vinegarspit_check2(const uint32_t *card, size_t card_len, uint64_t *table2, size_t table2_len);
+
+/* Judges a log as vinegarspit_judge does, with two events of lookahead: ACCEPTED exactly when the whole log belongs to name 0 by the one meaning
+ * that the grammar has. Where vinegarspit_judge gives a verdict too, it is the same. The table is as after vinegarspit_check2; count, far and memo are
+ * told as by judging, of this descent.
+ *
+ * REFUSED as by vinegarspit_check2, and besides with 2, next after 17, and with 10 and 11, after all others, as by judging. Its stack is that of
+ * judging. */
+uint64_t vinegarspit_judge2(const uint32_t *card, size_t card_len, const uint8_t *log, size_t log_len,
+                            uint64_t *table2, size_t table2_len, uint16_t *memo, size_t memo_len);
 
 /* The parts of an answer. */
 static inline unsigned vinegarspit_verdict(uint64_t answer) { return (unsigned)(answer & 255); }

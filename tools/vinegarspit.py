@@ -10,7 +10,7 @@
     usage_totals(day, sums)                  # sums: array('Q', [1, 0, 1, 2])
 
 A card is a row of words and a log a row of bytes. Lent memory, or a record, is an array that the call writes into: array('I') for
-words of 32 bits, 'H' for entries of 16. What the header states stands there alone: its limits and codes are attributes here
+words of 32 bits, 'Q' for those of 64, 'H' for entries of 16. What the header states stands there alone: its limits and codes are attributes here
 (TABLE_WORDS, NO_RULE, ...), and the types of arguments and the parts of an answer are read from it. The library is made by
 tools/build_library when it is first called. The deepest cards need 4 MiB of stack, which the main thread has."""
 import ctypes, functools, os, re, subprocess
@@ -170,6 +170,16 @@ def tree(card, log, table, memo, tree, written):
     return call('tree', card, log, table, memo, tree, written)
 
 
+def check2(card, table2):
+    """Checks a card with two events of lookahead and fills the table for that."""
+    return call('check2', card, table2)
+
+
+def judge2(card, log, table2, memo):
+    """Judges a log by a card with two events of lookahead and fills the table for that and the memo table."""
+    return call('judge2', card, log, table2, memo)
+
+
 class Vertex(NamedTuple):
     rule: int
     start: int
@@ -185,6 +195,10 @@ def vertex(word):
 
 def table(fill=0):
     return array('I', [fill]) * constants()['TABLE_WORDS']
+
+
+def table2(fill=0):
+    return array('Q', [fill]) * constants()['TABLE2_WORDS']
 
 
 def memo(fill=0):
@@ -212,6 +226,12 @@ def spans(fill=0):
 def usage_of(usage, client):
     """A client's counters in the record."""
     return usage[4 * client:4 * client + 4]
+
+
+def called_pairs(memo, names, length):
+    """Name, place and end of each called pair in a memo table for a log of so many events; the end is none where the call failed."""
+    entries = ((divmod(at, length + 1), end) for at, end in enumerate(memo[:names * (length + 1)]) if end != constants()['NOT_CALLED'])
+    return [(name, place, None if end == constants()['FAILED'] else end) for (name, place), end in entries]
 
 
 def span_words(spans, length):

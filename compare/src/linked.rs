@@ -50,6 +50,17 @@ extern "C" {
         tree_len: usize,
         written: *mut u32,
     ) -> u64;
+    fn vinegarspit_check2(card: *const u32, card_len: usize, table2: *mut u64, table2_len: usize) -> u64;
+    fn vinegarspit_judge2(
+        card: *const u32,
+        card_len: usize,
+        log: *const u8,
+        log_len: usize,
+        table2: *mut u64,
+        table2_len: usize,
+        memo: *mut u16,
+        memo_len: usize,
+    ) -> u64;
 }
 
 pub fn check(words: &[u32], table: &mut [u32]) -> u64 {
@@ -133,6 +144,29 @@ pub fn tree(words: &[u32], input: &[u8], table: &mut [u32], memo: &mut [u16], tr
         )
     };
     (answer, written)
+}
+
+/// As `check`, with two letters of lookahead.
+pub fn check2(words: &[u32], table: &mut [u64]) -> u64 {
+    // Sound: as above.
+    unsafe { vinegarspit_check2(words.as_ptr(), words.len(), table.as_mut_ptr(), table.len()) }
+}
+
+/// As `judge`, with two letters of lookahead.
+pub fn judge2(words: &[u32], input: &[u8], table: &mut [u64], memo: &mut [u16]) -> u64 {
+    // Sound: as above.
+    unsafe {
+        vinegarspit_judge2(
+            words.as_ptr(),
+            words.len(),
+            input.as_ptr(),
+            input.len(),
+            table.as_mut_ptr(),
+            table.len(),
+            memo.as_mut_ptr(),
+            memo.len(),
+        )
+    }
 }
 
 /// The answer that the library packs an outcome into.

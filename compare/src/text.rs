@@ -3,6 +3,9 @@
 use crate::twin::{self, Allowance, Gaps, Grammar, Outcome, Usage, Usages, Verdict, MAX_TOKENS, MAX_WORDS, MEMO_ENTRIES, NO_RULE, NOT_CALLED, FAILED, TABLE_WORDS};
 use std::fmt::Write;
 
+/// The columns of a row with two letters of lookahead.
+const WIDE_COLUMNS: usize = 57;
+
 /// The words of a file, low byte first; none if it is not made of 4-byte words, or of more than so many.
 fn words_of(file: &[u8], most: usize) -> Option<Vec<u32>> {
     if file.len() % 4 != 0 || file.len() / 4 > most {
@@ -63,10 +66,14 @@ pub fn judgement(card: &[u8], log: &[u8]) -> String {
         Verdict::Rejected => "rejected",
         _ => return refused(outcome),
     };
-    let mut text = format!("{verdict} {} {}\n", outcome.count, outcome.farthest);
     let places = log.len() + 1;
-    let names = (words[0] & 0xff) as usize;
-    for (entry, &end) in memo[..names * places].iter().enumerate() {
+    format!("{verdict} {} {}\n", outcome.count, outcome.farthest) + &calls_in(&memo[..names_of(&words) * places], places)
+}
+
+/// A line for each call that a memo table for so many places tells.
+fn calls_in(memo: &[u16], places: usize) -> String {
+    let mut text = String::new();
+    for (entry, &end) in memo.iter().enumerate() {
         let (name, place) = (entry / places, entry % places);
         let _ = match end {
             NOT_CALLED => Ok(()),
@@ -98,15 +105,67 @@ fn verdict(outcome: Outcome) -> &'static str {
     }
 }
 
+/// All that an answer tells.
+pub fn answered(outcome: Outcome) -> String {
+    format!("{} {} {} {} {}", verdict(outcome), outcome.code, outcome.position, outcome.count, outcome.farthest)
+}
+
 /// What the plain judge answers, all of it, and the words that it writes for the spans, where so many are lent.
 pub fn plain(card: &[u8], log: &[u8], lent: usize) -> String {
     let words = words_of(card, usize::MAX).expect("words");
     let fill = u32::from_le_bytes([FILL; 4]);
     let mut spans = vec![fill; lent];
     let outcome = twin::judge_plain(&words, log, &mut spans);
-    let told = format!("{} {} {} {} {}", verdict(outcome), outcome.code, outcome.position, outcome.count, outcome.farthest);
     let written = changed("", &spans, fill);
-    told + " | " + if written.is_empty() { "-" } else { &written["/ ".len()..] }
+    answered(outcome) + " | " + if written.is_empty() { "-" } else { &written["/ ".len()..] }
+}
+
+/// The nonterminals that the heading of a grammar's words tells.
+fn names_of(words: &[u32]) -> usize {
+    (words[0] & 0xff) as usize
+}
+
+/// What a table for two letters of lookahead holds: for each nonterminal both sets, and column and rule of each entry that has one. Words behind
+/// it have to be as they were.
+fn wide_table(words: &[u32], table: &[u64], fill: u64) -> String {
+    let names = names_of(words);
+    let (sets, rest) = table.split_at(2 * names);
+    let (rows, behind) = rest.split_at(names * WIDE_COLUMNS);
+    let rows = rows.chunks_exact(WIDE_COLUMNS).zip(sets.chunks_exact(2)).map(|(row, sets)| {
+        let claimed = row.iter().enumerate().filter(|(_, &entry)| entry != NO_RULE.into());
+        claimed.fold(format!("{} {}", sets[0], sets[1]), |text, (column, entry)| format!("{text} {column}:{entry}"))
+    });
+    rows.collect::<Vec<_>>().join("/") + if behind.iter().any(|&word| word != fill) { " and words behind it" } else { "" }
+}
+
+/// What a check with two letters of lookahead answers, all of it, and what it leaves in so many lent words.
+pub fn check2(card: &[u8], lent: usize) -> String {
+    let words = words_of(card, usize::MAX).expect("words");
+    let fill = u64::from_le_bytes([FILL; 8]);
+    let mut table = vec![fill; lent];
+    let outcome = twin::check2(&words, &mut table);
+    let told = match outcome.verdict {
+        Verdict::Refused => changed("table", &table, fill) + "-",
+        _ => wide_table(&words, &table, fill),
+    };
+    answered(outcome) + " | " + &told
+}
+
+/// What judging with two letters of lookahead answers, all of it, and the called pairs; the table has to be that of a check, and entries behind
+/// those of the log as they were.
+pub fn judge2(card: &[u8], log: &[u8], lent: [usize; 2]) -> String {
+    let words = words_of(card, usize::MAX).expect("words");
+    let (word, entry) = (u64::from_le_bytes([FILL; 8]), u16::from_le_bytes([FILL; 2]));
+    let (mut table, mut memo) = (vec![word; lent[0]], vec![entry; lent[1]]);
+    let outcome = twin::judge2(&words, log, &mut table, &mut memo);
+    if outcome.verdict == Verdict::Refused {
+        return answered(outcome) + " | " + &changed("table", &table, word) + &changed("memo", &memo, entry) + "-";
+    }
+    let mut checked = vec![word; lent[0]];
+    twin::check2(&words, &mut checked);
+    let (pairs, behind) = memo.split_at(names_of(&words) * (log.len() + 1));
+    let other = checked != table || behind.iter().any(|&rest| rest != entry);
+    answered(outcome) + " | " + calls_in(pairs, log.len() + 1).trim_end().replace('\n', "/").as_str() + if other { " and other memory" } else { "" }
 }
 
 /// A record as rows of usage.txt write it.

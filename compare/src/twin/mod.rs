@@ -6,15 +6,17 @@ mod descent;
 mod limits;
 mod lookahead;
 mod one;
+mod passed;
 mod plain;
 mod sets;
 mod table;
 mod tree;
+mod two;
 mod usage;
 mod words;
 
 pub use answers::{Outcome, Refusal, Verdict};
-pub use calls::{check, judge, judge_plain};
+pub use calls::{check, check2, judge, judge2, judge_plain};
 pub use limits::*;
 pub use one::Gaps;
 pub use tree::judge_tree;

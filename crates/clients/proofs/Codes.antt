@@ -24,18 +24,20 @@ use Rattle.grammar.specs.declared.reading.Outcome.{Outcome}
 use Rattle.grammar.specs.declared.reading.Outcome.the-variants.{Read, Faulty}
 use Rattle.encoding.specs.Diagnosis.{Diagnosis, WordFault, long, heading, behind, encoding, unexpected, outOfRange, tooMany}
 use Rattle.encoding.proofs.Faithful.{reading-diagnosed}
+use Rattle.lookahead.specs.declared.Lookahead.the-variants.{One}
 use Rattle.semantics.specs.Choices.{tableChoice}
 use Rattle.semantics.specs.Descent.{accepts}
-use Rattle.semantics.specs.FirstFollow.{Entry}
 use Rattle.semantics.specs.LeftRecursion.{lowestLeftRecursive}
 use Rattle.semantics.specs.Productive.{lowestUnproductive}
-use Rattle.semantics.specs.Claims.{clashes}
 use Rattle.sets.specs.Analysis.{readingFault, leftFault, unproductiveFault}
+use Rattle.table.specs.declared.conflicts.Conflict.{Conflict as Clash}
+use Rattle.table.specs.declared.conflicts.Conflict.the-variants as conflict
 use Rattle.table.specs.Analysis.{clashFault, grammarFaults}
+use Rattle.table.specs.Conflicts.{firstClash}
 use Rattle.event.specs.declared.Unknown.{Unknown}
 use Rattle.event.specs.declared.Unknown.the-variants.{Absent, At}
 use Rattle.event.specs.Unknown.{unknownFrom, unknownFault}
-use Rattle.recognizer.specs.Answers.{judgeFault, callsOf, verdictOf}
+use Rattle.recognizer.specs.Answers.{judgeFaultBy, judgeFault, callsOf, verdictBy}
 use Rattle.recognizer.specs.Properties.{Judges}
 
 abbrev LowCode : Error → Type 0
@@ -78,9 +80,9 @@ unproductive-low : (o : Option ℕ) → LowFault (unproductiveFault o)
 unproductive-low none = none-low
 unproductive-low (some A) = some-low (Unproductive A) (omega arith)
 
-clash-low : (t : ℕ) (l : List Entry) → LowFault (clashFault t l)
-clash-low t [] = none-low
-clash-low t (e ∷ l) = some-low _ (omega arith)
+clash-low : (r : Clash) → LowFault (clashFault One r)
+clash-low conflict.Absent = none-low
+clash-low (conflict.At A c) = some-low (Conflict A c) (omega arith)
 
 -- 11
 unknown-low : (u : Unknown) → LowFault (unknownFault u)
@@ -88,12 +90,12 @@ unknown-low Absent = none-low
 unknown-low (At i) = some-low (UnknownToken i) (omega arith)
 
 judge-low : (table memo : ℕ) (words input : List ℕ) → LowFault (judgeFault table memo words input)
-unfolding judgeFault
+unfolding judgeFaultBy
 judge-low table memo words input =
     let G = grammarOf words in
     let lengthy = faultIf (ltb maxTokens (length input)) InputTooLong in
     let unknown = unknownFault (unknownFrom (G .terminals) 0 input) in
-    first-each LowCode (faultIf (ltb table maxTableWords) TableTooShort ∷ faultIf (ltb memo maxMemoEntries) MemoTooShort ∷ grammarFaults words ++ lengthy ∷ unknown ∷ []) (
+    first-each LowCode (faultIf (ltb table maxTableWords) TableTooShort ∷ faultIf (ltb memo maxMemoEntries) MemoTooShort ∷ grammarFaults One words ++ lengthy ∷ unknown ∷ []) (
       when-low (ltb table maxTableWords) TableTooShort (omega arith),
       λ _. (
         when-low (ltb memo maxMemoEntries) MemoTooShort (omega arith),
@@ -104,7 +106,7 @@ judge-low table memo words input =
             λ _. (
               unproductive-low (lowestUnproductive G 1),
               λ _. (
-                clash-low (G .terminals) (clashes G 1),
+                clash-low (firstClash One G),
                 λ _. (when-low (ltb maxTokens (length input)) InputTooLong (omega arith), λ _. (unknown-low (unknownFrom (G .terminals) 0 input), λ _. tt)),
               ),
             ),
@@ -115,7 +117,7 @@ judge-low table memo words input =
 
 pub never-judged : (x : Error) → 13 < coded x .code → {words input table memo table′ memo′ : List ℕ} {a : Answer}
     → Judges words input table memo a table′ memo′ → a ≡ Refused x → ⊥
-unfolding verdictOf
+unfolding verdictBy
 never-judged x high {words} {input} {table} {memo} j e =
     go (judgeFault (length table) (length memo) words input) (judge-low (length table) (length memo) words input) (accepts (grammarOf words) (tableChoice (grammarOf words) 1 input) input)
     (callsOf (grammarOf words) input) (sym (j .answer) ∙ e)

@@ -16,6 +16,7 @@ use Rattle.answer.specs.declared.Answer.the-variants.{Refused}
 use Rattle.answer.specs.Faults.{firstFault, refusedOr, toldOr}
 use Rattle.answer.proofs.Apart.{answer-number}
 use Rattle.grammar.specs.Encoding.{grammarOf}
+use Rattle.lookahead.specs.declared.Lookahead.the-variants.{One}
 use Rattle.table.specs.Layout.{tableWords}
 use Rattle.recognizer.specs.Answers.{judgeFault, verdictOf, verdictNumbers}
 use Rattle.recognizer.specs.Memory.{lentBack, memoWords}
@@ -61,7 +62,7 @@ answers-refused : {x : Error} {f : Option Error} (words input table memo : List 
 answers-refused words input table memo us e = record {
   answer = sym (ap (λ g. refusedOr g (verdictOf (grammarOf words) input)) e);
   told = sym (ap (λ g. toldOr g (verdictNumbers (grammarOf words) input)) e);
-  lent-table = sym (ap (λ g. lentBack g (tableWords (grammarOf words)) table) e);
+  lent-table = sym (ap (λ g. lentBack g (tableWords One (grammarOf words)) table) e);
   lent-memo = sym (ap (λ g. lentBack g (memoWords (grammarOf words) input) memo) e);
 }
 
@@ -72,7 +73,7 @@ answers-judged : {f : Option Error} {words input table memo table′ memo′ : L
 answers-judged {words = words} {input} {table} {memo} us e j = record {
   answer = j .answer ∙ sym (ap (λ g. refusedOr g (verdictOf (grammarOf words) input)) e);
   told = j .told ∙ sym (ap (λ g. toldOr g (verdictNumbers (grammarOf words) input)) e);
-  lent-table = j .lent-table ∙ sym (ap (λ g. lentBack g (tableWords (grammarOf words)) table) e);
+  lent-table = j .lent-table ∙ sym (ap (λ g. lentBack g (tableWords One (grammarOf words)) table) e);
   lent-memo = j .lent-memo ∙ sym (ap (λ g. lentBack g (memoWords (grammarOf words) input) memo) e);
 }
 

@@ -13,6 +13,7 @@ use Rattle.answer.specs.declared.Answer.the-variants.{Refused}
 use Rattle.answer.specs.Faults.{faultIf, firstFault, refusedOr, toldOr}
 use Rattle.answer.specs.Numbers.{numbers}
 use Rattle.grammar.specs.Encoding.{grammarOf}
+use Rattle.lookahead.specs.declared.Lookahead.the-variants.{One}
 use Rattle.table.specs.Layout.{tableWords}
 use Rattle.recognizer.specs.Answers.{judgeFault, verdictOf, verdictNumbers}
 use Rattle.recognizer.specs.Memory.{lentBack, memoWords}
@@ -37,7 +38,7 @@ clientFault client share limit called table memo words input =
 pub record Answers (f : Option Error) (words input table memo : List ℕ) (r : Served) (table′ memo′ : List ℕ) : Type 0 where
   pub answer : r .answer ≡ refusedOr f (verdictOf (grammarOf words) input)
   pub told : numbers (r .answer) ≡ toldOr f (verdictNumbers (grammarOf words) input)
-  pub lent-table : table′ ≡ lentBack f (tableWords (grammarOf words)) table
+  pub lent-table : table′ ≡ lentBack f (tableWords One (grammarOf words)) table
   pub lent-memo : memo′ ≡ lentBack f (memoWords (grammarOf words) input) memo
 
 pub record JudgesFor (client share limit : ℕ) (words input table memo : List ℕ) (us : List Usage) (r : Served) (table′ memo′ : List ℕ) : Type 0 where

@@ -5,7 +5,9 @@ use mathlib.Core.List.{List}
 use Prim.Native.Nat.{ℕ}
 use Rattle.answer.specs.declared.Answer.{Answer}
 use Rattle.answer.specs.Numbers.{numbers}
-use Rattle.recognizer.specs.Properties.{Checks, Judges}
+use Rattle.lookahead.specs.declared.Lookahead.{Lookahead}
+use Rattle.lookahead.specs.declared.Lookahead.the-variants.{One}
+use Rattle.recognizer.specs.Properties.{ChecksBy, JudgesBy}
 use Rattle.clients.specs.declared.Served.{Served}
 use Rattle.clients.specs.declared.totals.Totals.{Totals}
 use Rattle.clients.specs.Sums.{Totalled}
@@ -16,17 +18,24 @@ use Rattle.tree_writer.specs.Properties.{Shows}
 use Rattle.embed.specs.Packing.{packed, Unpacks}
 use Rattle.embed.specs.Records.{usagesIn, totalsRow}
 
-pub record CheckExported (words before : List ℕ) (r : ℕ) (after : List ℕ) : Type 0 where
+pub record CheckExportedBy (k : Lookahead) (words before : List ℕ) (r : ℕ) (after : List ℕ) : Type 0 where
   pub answer : Answer
-  pub checks : Checks words before answer after
+  pub checks : ChecksBy k words before answer after
   pub packs : r ≡ packed (numbers answer)
   pub unpacks : Unpacks r (numbers answer)
 
-pub record JudgeExported (words input table memo : List ℕ) (r : ℕ) (table′ memo′ : List ℕ) : Type 0 where
+pub record JudgeExportedBy (k : Lookahead) (words input table memo : List ℕ) (r : ℕ) (table′ memo′ : List ℕ) : Type 0 where
   pub answer : Answer
-  pub judges : Judges words input table memo answer table′ memo′
+  pub judges : JudgesBy k words input table memo answer table′ memo′
   pub packs : r ≡ packed (numbers answer)
   pub unpacks : Unpacks r (numbers answer)
+
+-- the same with one token of lookahead (document 01)
+abbrev pub CheckExported : (words before : List ℕ) (r : ℕ) (after : List ℕ) → Type 0
+CheckExported = CheckExportedBy One
+
+abbrev pub JudgeExported : (words input table memo : List ℕ) (r : ℕ) (table′ memo′ : List ℕ) → Type 0
+JudgeExported = JudgeExportedBy One
 
 -- the clients' records are read from a row of the caller's and written back into it, so that the next call reads what this one handed back
 pub record ServedExported (client share limit : ℕ) (words input table memo row : List ℕ) (r : ℕ) (table′ memo′ row′ : List ℕ) : Type 0 where

@@ -13,6 +13,7 @@ use tabular::judge as judge_plain;
 
 mod served;
 mod shown;
+mod wide;
 
 // The five fields side by side.
 fn join(verdict: u64, code: u64, position: u64, count: u64, farthest: u64) -> u64

@@ -1,11 +1,12 @@
 -- What checking answers, by the table's length and by what is found of the grammar.
-use Rattle.recognizer.proofs.Checking.{check-short, found, found-fault, lend-given, check-refused, check-passed}
+use Rattle.lookahead.specs.declared.Lookahead.the-variants.{One}
+use Rattle.recognizer.proofs.Checking.{check-short, told-one, found, found-fault, lend-given, check-refused, check-passed}
 use borrow.Author.Needs.{needs}
 use Rattle.recognizer.proofs.check.Statement.{statement}
 use Rattle.recognizer.proofs.check.Tie as tie
 
 returns : tie.Need-returns
-returns c = check-short (c .if1 .taken)
+returns c = check-short One (c .if1 .taken)
 
 analyze-requires : tie.Need-analyze-requires
 analyze-requires c κs = search needs
@@ -23,7 +24,7 @@ lend-requires c κs =
     let at-if1 = at-analyze .before in
     let given = at-if1 .before .before .before .args in
     lend-given (given .words .now) (given .table .now) (at-if1 .if1 .left)
-    (found (given .words .now) (at-analyze .analyze .ensures) (at-finding2 .finding2 .given .1))
+    (found (told-one (given .words .now) (at-analyze .analyze .ensures)) (at-finding2 .finding2 .given .1))
 
 returns-2 : tie.Need-returns-2
 returns-2 c =
@@ -31,7 +32,7 @@ returns-2 c =
     let at-if1 = at-analyze .before in
     let given = at-if1 .before .before .before .args in
     check-refused (given .words .now) (given .table .now) (at-if1 .if1 .left)
-    (found-fault (given .words .now) (at-analyze .analyze .ensures) (c .before .finding .given .1))
+    (found-fault (told-one (given .words .now) (at-analyze .analyze .ensures)) (c .before .finding .given .1))
 
 same-length : tie.Need-same-length
 same-length c = search needs
@@ -44,7 +45,7 @@ returns-3 c =
     let at-if1 = at-analyze .before in
     let given = at-if1 .before .before .before .args in
     check-passed (given .words .now) (given .table .now) (at-if1 .if1 .left)
-    (found (given .words .now) (at-analyze .analyze .ensures) (at-finding2 .finding2 .given .1)) (at-lend .lend .ensures)
+    (found (told-one (given .words .now) (at-analyze .analyze .ensures)) (at-finding2 .finding2 .given .1)) (at-lend .lend .ensures)
 
 pub check-spec : {M : Type 1} → statement M
 check-spec =

@@ -6,9 +6,6 @@ use Rattle.recognizer.specs.Descent.{Skipped}
 use Rattle.recognizer.proofs.Bodies.{skipped-none, skipped-symbol, no-symbol, body-ends}
 use Rattle.recognizer.proofs.descent.body_end.Statement.{statement}
 use Rattle.recognizer.proofs.descent.body_end.Tie as tie
-use Rattle.recognizer.proofs.descent.body_end.Reads as reads
-use Rattle.recognizer.proofs.descent.body_end.Lts as lts
-use Rattle.word.proofs.decode.Reads as decode-reads
 
 abbrev Inv-loop : tie.InvT-loop
 Inv-loop words from at₀ at = Skipped words from at

@@ -2,8 +2,6 @@ use Rattle.semantics.specs.Memo.{encode}
 use borrow.Author.Needs.{needs}
 use Rattle.recognizer.proofs.descent.code.Statement.{statement}
 use Rattle.recognizer.proofs.descent.code.Tie as tie
-use Rattle.recognizer.proofs.descent.code.Reads as reads
-use Rattle.recognizer.proofs.descent.code.Lts as lts
 
 enum-told : tie.Need-enum-told
 enum-told c = search needs

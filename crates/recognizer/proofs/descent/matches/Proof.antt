@@ -4,8 +4,6 @@ use Rattle.recognizer.specs.Arrays.{matchesAt}
 use borrow.Author.Needs.{needs}
 use Rattle.recognizer.proofs.descent.matches.Statement.{statement}
 use Rattle.recognizer.proofs.descent.matches.Tie as tie
-use Rattle.recognizer.proofs.descent.matches.Reads as reads
-use Rattle.recognizer.proofs.descent.matches.Lts as lts
 
 mul-result : tie.Need-mul-result
 mul-result c = search needs
@@ -14,7 +12,7 @@ element-copy-out-result : tie.Need-element-copy-out-result
 element-copy-out-result c = search needs
 
 cast-result : tie.Need-cast-result
-cast-result c = omega (arith, c .before .pre .element)
+cast-result c = omega (arith, c .before .pre .column)
 
 returns : tie.Need-returns
 unfolding matchesAt

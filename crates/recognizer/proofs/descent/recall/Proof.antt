@@ -3,8 +3,6 @@ use Rattle.semantics.specs.Memo.{decode}
 use Rattle.booleans.specs.Choice.{choose}
 use Rattle.recognizer.proofs.descent.recall.Statement.{statement}
 use Rattle.recognizer.proofs.descent.recall.Tie as tie
-use Rattle.recognizer.proofs.descent.recall.Reads as reads
-use Rattle.recognizer.proofs.descent.recall.Lts as lts
 
 returns : tie.Need-returns
 unfolding decode

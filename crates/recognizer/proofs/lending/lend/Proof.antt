@@ -4,41 +4,23 @@ use Prim.Native.Nat.{_-_, _≤_}
 use native.Mathlib.Omega.{arith}
 use lib.ListN.{length, length-set}
 use Rattle.grammar.specs.Limits.{maxTableWords}
-use Rattle.recognizer.specs.Memory.{wordCount}
-use Rattle.recognizer.proofs.Front.{front, front-more, count-low}
+use Rattle.lookahead.specs.declared.Lookahead.the-variants.{One}
+use Rattle.table.specs.Layout.{wordCount}
+use Rattle.recognizer.proofs.Front.{front, front-more}
 use Rattle.recognizer.proofs.lending.lend.Statement.{statement}
 use Rattle.recognizer.proofs.lending.lend.Tie as tie
 
 abbrev Inv-loop : tie.InvT-loop
-Inv-loop table₀ entries count i₀ table i = (count ≤ maxTableWords) × (i ≤ count) × (length table ≡ length table₀) × (table ≡ front entries i table₀)
+Inv-loop table₀ found count i₀ table i = (count ≤ maxTableWords) × (i ≤ count) × (length table ≡ length table₀) × (table ≡ front found i table₀)
 
 abbrev μ-loop : tie.MeasureT-loop
-μ-loop table₀ entries count i₀ table i = count - i
+μ-loop table₀ found count i₀ table i = count - i
 
-cast-count : tie.Need-cast-count Inv-loop μ-loop
-cast-count c = omega (arith, c .before .pre .fewNonterminals)
-
-cast-count-2 : tie.Need-cast-count-2 Inv-loop μ-loop
-cast-count-2 c = omega (arith, c .before .before .pre .fewTerminals)
-
-add-count : tie.Need-add-count Inv-loop μ-loop
-add-count c = omega (arith, c .before .before .pre .fewTerminals)
-
-mul-count : tie.Need-mul-count Inv-loop μ-loop
-mul-count c =
-    omega (
-      arith,
-      count-low (c .before .before .args .table .now) (c .before .before .args .entries .now) (c .before .before .args .sizes)
-          (c .before .before .pre),
-    )
+word-count-requires : tie.Need-word-count-requires Inv-loop μ-loop
+word-count-requires c κs = c .before .pre .given
 
 loop-holds : tie.Need-loop-holds Inv-loop μ-loop
-loop-holds c = (
-  count-low (c .before .before .args .table .now) (c .before .before .args .entries .now) (c .before .before .args .sizes) (c .before .before .pre),
-  omega arith,
-  refl,
-  refl,
-)
+loop-holds c = (omega (arith, c .word-count .ensures, c .before .before .pre .given .room), omega arith, refl, refl)
 
 mul-table : tie.Need-mul-table Inv-loop μ-loop
 mul-table c = omega arith
@@ -65,7 +47,7 @@ loop-again c =
       omega arith,
       omega arith,
       simp length-set (at-loop .loop .inv .2),
-      front-more (start .args .entries .now) (start .args .table .now)
+      front-more (start .args .found .now) (start .args .table .now)
           (at-loop .loop .table) (at-loop .loop .i) (at-loop .loop .inv .3) (omega (arith, start .pre .whole)) (omega (arith, start .pre .long)),
     )
 
@@ -75,8 +57,8 @@ same-length c = c .before .loop .inv .2
 returns : tie.Need-returns Inv-loop μ-loop
 returns c =
     let at-loop = c .before in
-    let start = at-loop .before .before .before in
-    let e : at-loop .loop .i ≡ wordCount (start .args .sizes) = omega arith in
+    let counted = at-loop .before in
+    let e : at-loop .loop .i ≡ wordCount One (counted .before .before .args .sizes) = omega (arith, counted .word-count .ensures) in
     record { words = at-loop .loop .inv .3 ∙ rw e }
 
 pub lend-spec : {M : Type 1} → statement M
@@ -85,10 +67,7 @@ lend-spec =
     (tie.spec
     Inv-loop
     μ-loop
-    cast-count
-    cast-count-2
-    add-count
-    mul-count
+    word-count-requires
     loop-holds
     mul-table
     element-copy-out-table

@@ -1,88 +1,100 @@
 -- The loop keeps: the words of the events passed are written, over words of the end.
 use mathlib.Core.Path.{_≡_, sym, ap, _∙_}
-use Prim.Native.Nat.{ℕ, _+_, _-_, _*_, _≤_}
+use Prim.Native.Nat.{_+_, _-_, _*_, _≤_}
 use native.Mathlib.Omega.{arith}
-use mathlib.Core.List.{List}
-use lib.ListN.{length, getD, set}
+use lib.ListN.{length, getD}
 use Rattle.event.specs.Events.{inputOf}
 use Rattle.event.proofs.Inputs.{input-length, input-at}
-use Rattle.recognizer.specs.Arrays.{endMark, elementWeight}
-use Rattle.recognizer.proofs.Tokens.{partly, partly-none, partly-more, partly-all}
-use borrow.Author.Needs.{needs}
+use Rattle.recognizer.specs.Arrays.{endMark, columnWeight}
+use Rattle.recognizer.specs.Preparing.{columnAt}
+use Rattle.recognizer.proofs.Tokens.{Written, written-none, written-more, written-all, column-few}
 use Rattle.recognizer.proofs.preparing.tokens_of.Statement.{statement}
 use Rattle.recognizer.proofs.preparing.tokens_of.Tie as tie
 
 abbrev Inv-loop : tie.InvT-loop
-Inv-loop events terminals end tokens₀ at₀ tokens at = (at ≤ length events) × (tokens ≡ partly (inputOf events) end at)
+Inv-loop events lookahead terminals end tokens₀ place₀ tokens place = (place ≤ length events) × Written lookahead terminals (inputOf events) place tokens
 
 abbrev μ-loop : tie.MeasureT-loop
-μ-loop events terminals end tokens₀ at₀ tokens at = length events - at
+μ-loop events lookahead terminals end tokens₀ place₀ tokens place = length events - place
+
+column-at-requires : tie.Need-column-at-requires Inv-loop μ-loop
+column-at-requires c κs = tt
 
 mul-end : tie.Need-mul-end Inv-loop μ-loop
-mul-end c = omega (arith, c .before .pre .few)
+mul-end c = let start = c .before .before in omega (arith, c .column-at .ensures, column-few (start .args .lookahead) (start .args .terminals) (inputOf (start .args .events .now)) (start .pre) (length (start .args .events .now)))
 
 add-end : tie.Need-add-end Inv-loop μ-loop
-add-end c = omega (arith, c .before .pre .few)
-
-cast-end : tie.Need-cast-end Inv-loop μ-loop
-cast-end c = omega (arith, c .before .pre .few)
-
-loop-holds : tie.Need-loop-holds Inv-loop μ-loop
-loop-holds c = (omega arith, partly-none (inputOf (c .before .args .events .now)) (c .before .args .terminals * elementWeight + endMark))
-
-shared-slice-read-event : tie.Need-shared-slice-read-event Inv-loop μ-loop
-shared-slice-read-event c = omega arith
-
-terminal-of-requires : tie.Need-terminal-of-requires Inv-loop μ-loop
-terminal-of-requires c κs = search needs
+add-end c = let start = c .before .before in omega (arith, c .column-at .ensures, column-few (start .args .lookahead) (start .args .terminals) (inputOf (start .args .events .now)) (start .pre) (length (start .args .events .now)))
 
 cast-tokens : tie.Need-cast-tokens Inv-loop μ-loop
-cast-tokens c = omega (arith, c .terminal-of .ensures)
+cast-tokens c = let start = c .before .before in omega (arith, c .column-at .ensures, column-few (start .args .lookahead) (start .args .terminals) (inputOf (start .args .events .now)) (start .pre) (length (start .args .events .now)))
+
+loop-holds : tie.Need-loop-holds Inv-loop μ-loop
+loop-holds c =
+    let start = c .before .before in
+    let w = inputOf (start .args .events .now) in
+    (omega arith, written-none (start .args .lookahead) (start .args .terminals) w (ap (λ x. x * columnWeight + endMark) (c .column-at .ensures ∙ ap (columnAt (start .args .lookahead) (start .args .terminals) w) (sym (input-length (start .args .events .now))))))
+
+column-at-requires-2 : tie.Need-column-at-requires-2 Inv-loop μ-loop
+column-at-requires-2 c κs = tt
+
+shared-slice-read-event : tie.Need-shared-slice-read-event Inv-loop μ-loop
+shared-slice-read-event c = omega (arith, c .before .before .loop-test .taken)
+
+terminal-of-requires : tie.Need-terminal-of-requires Inv-loop μ-loop
+terminal-of-requires c κs = tt
 
 mul-tokens : tie.Need-mul-tokens Inv-loop μ-loop
-mul-tokens c = omega (arith, c .terminal-of .ensures)
+mul-tokens c =
+    let start = c .before .before .before .before .before .before .before in
+    omega (arith, c .before .before .column-at2 .ensures, c .terminal-of .ensures, column-few (start .args .lookahead) (start .args .terminals) (inputOf (start .args .events .now)) (start .pre) (c .before .before .before .before .loop .place))
 
 cast-tokens-2 : tie.Need-cast-tokens-2 Inv-loop μ-loop
-cast-tokens-2 c = omega (arith, c .terminal-of .ensures, c .before .shared-slice-known2 .given (c .before .before .before .loop .at))
+cast-tokens-2 c =
+    let start = c .before .before .before .before .before .before .before in
+    omega (arith, c .before .before .column-at2 .ensures, c .terminal-of .ensures, column-few (start .args .lookahead) (start .args .terminals) (inputOf (start .args .events .now)) (start .pre) (c .before .before .before .before .loop .place))
 
 add-tokens : tie.Need-add-tokens Inv-loop μ-loop
-add-tokens c = omega (arith, c .terminal-of .ensures, c .before .shared-slice-known2 .given (c .before .before .before .loop .at))
+add-tokens c =
+    let start = c .before .before .before .before .before .before .before in
+    omega (arith, c .before .before .column-at2 .ensures, c .terminal-of .ensures, column-few (start .args .lookahead) (start .args .terminals) (inputOf (start .args .events .now)) (start .pre) (c .before .before .before .before .loop .place))
+
+cast-tokens-3 : tie.Need-cast-tokens-3 Inv-loop μ-loop
+cast-tokens-3 c =
+    let start = c .before .before .before .before .before .before .before in
+    omega (arith, c .before .before .column-at2 .ensures, c .terminal-of .ensures, column-few (start .args .lookahead) (start .args .terminals) (inputOf (start .args .events .now)) (start .pre) (c .before .before .before .before .loop .place))
 
 mul-tokens-2 : tie.Need-mul-tokens-2 Inv-loop μ-loop
-mul-tokens-2 c = omega (arith, c .before .before .before .before .before .pre .short)
+mul-tokens-2 c = omega (arith, c .before .before .before .loop-test .taken, c .before .before .before .before .before .before .before .pre .short, input-length (c .before .before .before .before .before .before .before .args .events .now))
 
 array-write-tokens : tie.Need-array-write-tokens Inv-loop μ-loop
-array-write-tokens c = omega (arith, c .before .before .before .before .before .pre .short)
+array-write-tokens c = omega (arith, c .before .before .before .loop-test .taken, c .before .before .before .before .before .before .before .pre .short, input-length (c .before .before .before .before .before .before .before .args .events .now))
 
-add-at : tie.Need-add-at Inv-loop μ-loop
-add-at c = omega arith
+add-place : tie.Need-add-place Inv-loop μ-loop
+add-place c = omega (arith, c .before .before .before .loop-test .taken, c .before .before .before .before .before .before .before .pre .short, input-length (c .before .before .before .before .before .before .before .args .events .now))
 
 loop-less : tie.Need-loop-less Inv-loop μ-loop
-loop-less c = omega arith
+loop-less c = omega (arith, c .before .before .before .loop-test .taken)
 
 loop-again : tie.Need-loop-again Inv-loop μ-loop
 loop-again c =
-    let turn = c .before .before in
+    let turn = c .before .before .before in
     let at-loop = turn .before in
-    let start = at-loop .before .before in
-    let input = inputOf (start .args .events .now) in
-    let at = at-loop .loop .at in
-    let token : c .terminal-of .result * elementWeight + c .terminal-of .result ≡ getD input at 0 * (elementWeight + 1) =
-    omega (arith, c .terminal-of .ensures, input-at (start .args .events .now) at) in
-    let long = input-length (start .args .events .now) in (
-      omega arith,
-      ap {B = List ℕ} (set (at-loop .loop .tokens) at) token
-          ∙ ap (λ (l : List ℕ). set l at (getD input at 0 * (elementWeight + 1))) (at-loop .loop .inv .1)
-          ∙ partly-more input (start .args .terminals * elementWeight + endMark) at (omega (arith, turn .loop-test .taken)) (omega (arith, start .pre .short)),
+    let start = at-loop .before .before .before in
+    let events = start .args .events .now in
+    let place = at-loop .loop .place in
+    let column = c .before .before .column-at2 .ensures in
+    let terminal : c .terminal-of .result ≡ getD (inputOf events) place 0 = c .terminal-of .ensures ∙ sym (input-at events place) in (
+      omega (arith, turn .loop-test .taken),
+      written-more (start .args .lookahead) (start .args .terminals) (inputOf events) (at-loop .loop .inv .1) (omega (arith, turn .loop-test .taken, start .pre .short, input-length events)) (omega (arith, column, terminal)),
     )
 
 returns : tie.Need-returns Inv-loop μ-loop
 returns c =
     let at-loop = c .before in
-    let start = at-loop .before .before in
-    at-loop .loop .inv .1
-    ∙ partly-all (start .args .terminals) (inputOf (start .args .events .now)) (at-loop .loop .at)
-    (omega (arith, at-loop .loop .inv .0, input-length (start .args .events .now)))
+    let start = at-loop .before .before .before in
+    let events = start .args .events .now in
+    written-all (start .args .lookahead) (start .args .terminals) (inputOf events) (start .pre) (omega (arith, c .loop-test .left, at-loop .loop .inv .0, input-length events)) (at-loop .loop .inv .1)
 
 pub tokens-of-spec : {M : Type 1} → statement M
 tokens-of-spec =
@@ -90,19 +102,21 @@ tokens-of-spec =
     (tie.spec
     Inv-loop
     μ-loop
+    column-at-requires
     mul-end
     add-end
-    cast-end
+    cast-tokens
     loop-holds
+    column-at-requires-2
     shared-slice-read-event
     terminal-of-requires
-    cast-tokens
     mul-tokens
     cast-tokens-2
     add-tokens
+    cast-tokens-3
     mul-tokens-2
     array-write-tokens
-    add-at
+    add-place
     loop-less
     loop-again
     returns)
