@@ -30,6 +30,13 @@ enum {
     VINEGARSPIT_TABLE2_LETTERS = 7
 };
 
+/* A log that is kept: how many marks it has, and how many numbers its state is; and a mark that is not set. */
+enum {
+    VINEGARSPIT_LOG_MARKS = 8,
+    VINEGARSPIT_LOG_STATE = 9
+};
+#define VINEGARSPIT_NOT_SET UINT16_C(65535)
+
 /* What an answer tells. */
 enum {
     VINEGARSPIT_REFUSED = 0,
@@ -157,6 +164,28 @@ uint64_t vinegarspit_check2(const uint32_t *card, size_t card_len, uint64_t *tab
  * judging. */
 uint64_t vinegarspit_judge2(const uint32_t *card, size_t card_len, const uint8_t *log, size_t log_len,
                             uint64_t *table2, size_t table2_len, uint16_t *memo, size_t memo_len);
+
+/* A log that is kept between calls and grows event by event, with marks to return to. It stands in memory of the caller's: its events, as they came,
+ * in events, and in state[0] its length, in state[1 + m] the length that mark m notes, or NOT_SET. The empty log without marks has state[0] 0 and
+ * NOT_SET in all others; its events may be any.
+ *
+ * Any values may be passed: a length over 500 reads as 500, a mark beyond the length as not set. A call that passes writes the state as it was
+ * read and changed. Events behind the log are kept as they are.
+ *
+ * log_add adds an event, log_mark has a mark note the length, which moves one that is set, and log_return cuts the log where a mark was set:
+ * marks beyond that length are cleared, those at it stay, and what was cleared stays so until it is marked again. Each answers PASSED or REFUSED.
+ *
+ * REFUSED: nothing is written. The first of these that holds in its own call:
+ *   21  log_add: the log is full, with 500 events                    0
+ *   19  log_mark and log_return: mark is over 7                      0
+ *   20  log_return: the mark is not set                              0 */
+uint64_t vinegarspit_log_add(uint8_t events[VINEGARSPIT_LOG_EVENTS], uint16_t state[VINEGARSPIT_LOG_STATE], uint8_t event);
+uint64_t vinegarspit_log_mark(uint16_t state[VINEGARSPIT_LOG_STATE], uint32_t mark);
+uint64_t vinegarspit_log_return(uint16_t state[VINEGARSPIT_LOG_STATE], uint32_t mark);
+
+/* Judges a kept log: answer, table and memo are those of vinegarspit_judge on the events that it has. It is never refused with 10. */
+uint64_t vinegarspit_log_judge(const uint32_t *card, size_t card_len, const uint8_t events[VINEGARSPIT_LOG_EVENTS],
+                               const uint16_t state[VINEGARSPIT_LOG_STATE], uint32_t *table, size_t table_len, uint16_t *memo, size_t memo_len);
 
 /* The parts of an answer. */
 static inline unsigned vinegarspit_verdict(uint64_t answer) { return (unsigned)(answer & 255); }

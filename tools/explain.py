@@ -32,6 +32,10 @@ class Card(NamedTuple):
         return f'{self.where(begins)}: {self.grammar.nonterminals[rule.head]} -> {shortened(rule_text(self.grammar, rule))}'
 
 
+def counted(number, what):
+    return f'{number} {what}' + ('' if number == 1 else 's')
+
+
 def shortened(text):
     return text if len(text) <= LONGEST else text[:LONGEST] + ' ...'
 

@@ -35,8 +35,11 @@ class Parameter(NamedTuple):
 
 @functools.cache
 def header():
+    """The header without its comments, and with the lengths of rows as numbers."""
     with open(os.path.join(ROOT, 'include', 'vinegarspit.h')) as file:
-        return re.sub(r'/\*.*?\*/', '', file.read(), flags=re.DOTALL)
+        text = re.sub(r'/\*.*?\*/', '', file.read(), flags=re.DOTALL)
+    lengths = dict(re.findall(r'\b(VINEGARSPIT_\w+) = (\d+)', text))
+    return re.sub(r'\[(VINEGARSPIT_\w+)\]', lambda found: f'[{lengths[found[1]]}]', text)
 
 
 @functools.cache
@@ -180,6 +183,26 @@ def judge2(card, log, table2, memo):
     return call('judge2', card, log, table2, memo)
 
 
+def log_add(events, state, event):
+    """Adds an event to a kept log."""
+    return call('log_add', events, state, event)
+
+
+def log_mark(state, mark):
+    """Has a mark of a kept log note its length."""
+    return call('log_mark', state, mark)
+
+
+def log_return(state, mark):
+    """Cuts a kept log where a mark was set."""
+    return call('log_return', state, mark)
+
+
+def log_judge(card, events, state, table, memo):
+    """Judges a kept log by a card and fills the table and the memo table."""
+    return call('log_judge', card, events, state, table, memo)
+
+
 class Vertex(NamedTuple):
     rule: int
     start: int
@@ -219,6 +242,16 @@ def totals():
 
 def spans(fill=0):
     return array('I', [fill]) * constants()['SPAN_WORDS']
+
+
+# A kept log: memory for its events, and the state of an empty one without marks
+
+def log_events(fill=0):
+    return array('B', [fill]) * constants()['LOG_EVENTS']
+
+
+def log_state():
+    return array('H', [0] + [constants()['NOT_SET']] * constants()['LOG_MARKS'])
 
 
 # What lent memory and a record hold

@@ -1,6 +1,6 @@
 //! The proved library's calls, as the static library exports them, behind safe functions.
 
-use compare::twin::{Allowance, Outcome, Usage, Usages, Verdict, CLIENTS};
+use compare::twin::{Allowance, Outcome, Usage, Usages, Verdict, CLIENTS, MARKS, MAX_TOKENS};
 
 extern "C" {
     fn vinegarspit_check(card: *const u32, card_len: usize, table: *mut u32, table_len: usize) -> u64;
@@ -58,6 +58,19 @@ extern "C" {
         log_len: usize,
         table2: *mut u64,
         table2_len: usize,
+        memo: *mut u16,
+        memo_len: usize,
+    ) -> u64;
+    fn vinegarspit_log_add(events: *mut u8, state: *mut u16, event: u8) -> u64;
+    fn vinegarspit_log_mark(state: *mut u16, mark: u32) -> u64;
+    fn vinegarspit_log_return(state: *mut u16, mark: u32) -> u64;
+    fn vinegarspit_log_judge(
+        card: *const u32,
+        card_len: usize,
+        events: *const u8,
+        state: *const u16,
+        table: *mut u32,
+        table_len: usize,
         memo: *mut u16,
         memo_len: usize,
     ) -> u64;
@@ -166,6 +179,46 @@ pub fn judge2(words: &[u32], input: &[u8], table: &mut [u64], memo: &mut [u16]) 
             memo.as_mut_ptr(),
             memo.len(),
         )
+    }
+}
+
+/// A kept log as it is stored for the library.
+#[derive(Clone, Debug, PartialEq, Eq)]
+pub struct Stored {
+    pub events: [u8; MAX_TOKENS],
+    pub state: [u16; MARKS + 1],
+}
+
+impl Stored {
+    pub fn add(&mut self, event: u8) -> u64 {
+        // Sound: as above, and the library writes into these two arrays alone.
+        unsafe { vinegarspit_log_add(self.events.as_mut_ptr(), self.state.as_mut_ptr(), event) }
+    }
+
+    pub fn mark(&mut self, mark: u32) -> u64 {
+        // Sound: as above.
+        unsafe { vinegarspit_log_mark(self.state.as_mut_ptr(), mark) }
+    }
+
+    pub fn return_to(&mut self, mark: u32) -> u64 {
+        // Sound: as above.
+        unsafe { vinegarspit_log_return(self.state.as_mut_ptr(), mark) }
+    }
+
+    pub fn judge(&self, words: &[u32], table: &mut [u32], memo: &mut [u16]) -> u64 {
+        // Sound: as above.
+        unsafe {
+            vinegarspit_log_judge(
+                words.as_ptr(),
+                words.len(),
+                self.events.as_ptr(),
+                self.state.as_ptr(),
+                table.as_mut_ptr(),
+                table.len(),
+                memo.as_mut_ptr(),
+                memo.len(),
+            )
+        }
     }
 }
 

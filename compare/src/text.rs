@@ -1,6 +1,6 @@
 //! The texts that the three programs print, and those that record calls, made from the twin's answers.
 
-use crate::twin::{self, Allowance, Gaps, Grammar, Outcome, Usage, Usages, Verdict, MAX_TOKENS, MAX_WORDS, MEMO_ENTRIES, NO_RULE, NOT_CALLED, FAILED, TABLE_WORDS};
+use crate::twin::{self, Allowance, Gaps, Grammar, Log, Outcome, Usage, Usages, Verdict, MAX_TOKENS, MAX_WORDS, MEMO_ENTRIES, NO_RULE, NOT_CALLED, FAILED, TABLE_WORDS};
 use std::fmt::Write;
 
 /// The columns of a row with two letters of lookahead.
@@ -226,4 +226,33 @@ pub fn call(name: &str, numbers: &[usize], card: &[u8], log: &[u8]) -> String {
     };
     let answer = verdict(outcome).to_string() + &numbers;
     answer + &changed("table", &table, word) + &changed("memo", &memo, entry) + &record
+}
+
+/// What is told of a step of a kept log: aXX adds an event, aXX*5 five times, m3 marks, r3 returns, j judges.
+pub fn kept_step(words: &[u32], log: &mut Log, step: &str) -> String {
+    let (kind, of) = step.split_at(1);
+    if kind == "j" {
+        let outcome = log.judge(words, &mut vec![0; TABLE_WORDS], &mut vec![0; MEMO_ENTRIES]);
+        let numbers = match outcome.verdict {
+            Verdict::Refused => (outcome.code.into(), outcome.position),
+            _ => (outcome.count, outcome.farthest),
+        };
+        return format!("{}:{}:{}", verdict(outcome), numbers.0, numbers.1);
+    }
+    let (of, times) = of.split_once('*').map_or((of, 1), |(of, times)| (of, times.parse().expect("a number")));
+    let mut runs: Vec<(u8, usize)> = Vec::new();
+    for _ in 0..times {
+        let told = match kind {
+            "a" => log.add(u8::from_str_radix(of, 16).expect("an event")),
+            "m" => log.mark(of.parse().expect("a mark")),
+            _ => log.return_to(of.parse().expect("a mark")),
+        };
+        let code = told.map_or_else(|refusal| refusal.0, |()| 0);
+        match runs.last_mut() {
+            Some(run) if run.0 == code => run.1 += 1,
+            _ => runs.push((code, 1)),
+        }
+    }
+    let told = runs.iter().map(|&(code, length)| if length == 1 { code.to_string() } else { format!("{code}*{length}") });
+    told.collect::<Vec<_>>().join(",")
 }

@@ -4,7 +4,10 @@
 mod linked;
 
 use compare::cards::{self, Draft};
-use compare::twin::{self, Allowance, Outcome, Usages, MAX_PLAIN_TOKENS, MAX_TOKENS, MEMO_ENTRIES, SPAN_WORDS, TABLE_WORDS, TABLE_WORDS_OF_TWO};
+use compare::twin::{
+    self, Allowance, Log, Outcome, Usages, MARKS, MAX_PLAIN_TOKENS, MAX_TOKENS, MEMO_ENTRIES, NOT_SET, SPAN_WORDS, TABLE_WORDS, TABLE_WORDS_OF_TWO,
+};
+use linked::Stored;
 use std::{hint::black_box, time::Instant};
 
 /// How many batches of each kind are timed; an odd number, so that one of them is the median.
@@ -191,6 +194,36 @@ fn time_plain(what: &str, draft: &Draft, input: &[u8]) {
     print_row(&format!("plain {what}, {} tokens", input.len()), &format!("{:?}", outcome.verdict).to_lowercase(), &times);
 }
 
+/// A kept log that is returned to its beginning and grows again to so many events, one call each; and its judgement.
+fn time_kept(what: &str, draft: &Draft, input: &[u8]) {
+    let words = draft.words();
+    let mut stored = Stored { events: [0; MAX_TOKENS], state: [NOT_SET; MARKS + 1] };
+    let mut log = Log::default();
+    stored.state[0] = 0;
+    stored.mark(0);
+    log.mark(0).expect("a mark");
+    let times = medians(&mut [
+        &mut || {
+            stored.return_to(0);
+            input.iter().map(|&event| stored.add(black_box(event))).sum()
+        },
+        &mut || {
+            log.return_to(0).expect("a mark");
+            input.iter().map(|&event| u64::from(log.add(black_box(event)).is_ok())).sum()
+        },
+    ]);
+    print_row(&format!("grow to {} events", input.len()), "passed", &times);
+    let (mut proved, mut twin) = (ONE.memory(), ONE.memory());
+    let outcome = log.judge(&words, &mut twin.table, &mut twin.memo);
+    let answer = stored.judge(&words, &mut proved.table, &mut proved.memo);
+    assert!(answer == linked::packed(outcome) && twin.memo == proved.memo, "{what}: the answers differ");
+    let times = medians(&mut [
+        &mut || stored.judge(black_box(&words), &mut proved.table, &mut proved.memo),
+        &mut || linked::packed(log.judge(black_box(&words), &mut twin.table, &mut twin.memo)),
+    ]);
+    print_row(&format!("kept {what}, {} tokens", input.len()), &format!("{:?}", outcome.verdict).to_lowercase(), &times);
+}
+
 /// As `time_judge`, with the parse tree.
 fn time_tree(what: &str, draft: &Draft, input: &[u8]) {
     let words = draft.words();
@@ -234,6 +267,7 @@ fn main() {
     time_judge_for("card M", &cards::card_m(), &axles(10, 20));
     time_totals();
     time_tree("card M", &cards::card_m(), &axles(10, 20));
+    time_kept("card M", &cards::card_m(), &axles(10, 20));
     time_tree("chain of 32", &cards::chain(32, 1), &[0; MAX_TOKENS]);
     for tokens in [0, 50, MAX_TOKENS] {
         time_judge(&ONE, "chain of 32", &cards::chain(32, 1), &vec![0; tokens], false);

@@ -2,6 +2,8 @@
 
 #[path = "../histories.rs"]
 mod histories;
+#[path = "../kept_logs.rs"]
+mod kept_logs;
 #[path = "../linked.rs"]
 mod linked;
 
@@ -658,6 +660,14 @@ fn run(seed: u64, count: u64) -> bool {
     let recorded_tally = std::mem::take(&mut pair.tally);
 
     let start = Instant::now();
+    println!("kept: seed {seed}, random histories of a kept log, each judgement also afresh");
+    let kept = kept_logs::random_histories(&mut pair, seed, count / CASES_A_HISTORY);
+    kept.print();
+    let complete = complete && kept.complete();
+    println!("  {} cases, {} differ, {:.1} s", pair.tally.cases, pair.tally.differ, start.elapsed().as_secs_f64());
+    let kept_tally = std::mem::take(&mut pair.tally);
+
+    let start = Instant::now();
     println!("small: every grammar over few words, and every input up to {MOST_TOKENS} tokens for each that passes");
     for (nonterminals, terminals, most_words) in SMALL {
         pair.refill(&mut random);
@@ -669,7 +679,7 @@ fn run(seed: u64, count: u64) -> bool {
     pair.tally.print_wide();
     println!("  {} cases, {} differ, {:.1} s", pair.tally.cases, pair.tally.differ, start.elapsed().as_secs_f64());
 
-    let tallies = [&stated_tally, &random_tally, &recorded_tally, &pair.tally];
+    let tallies = [&stated_tally, &random_tally, &recorded_tally, &kept_tally, &pair.tally];
     let differ: u64 = tallies.iter().map(|tally| tally.differ).sum();
     let cases: u64 = tallies.iter().map(|tally| tally.cases).sum();
     println!("{cases} cases, {differ} differ");

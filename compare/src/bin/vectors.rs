@@ -31,6 +31,20 @@ fn recorded_tree(card: &str, log: &str, rooms: &str, verdict: &str) -> String {
     if told.is_empty() { "-".into() } else { told.join(" ") }
 }
 
+/// What is told of a history of a kept log, the log that it leaves and its marks.
+fn recorded_history(card: &str, history: &str) -> String {
+    let words: Vec<u32> = bytes_of(card).chunks_exact(4).map(|bytes| u32::from_le_bytes(bytes.try_into().expect("four bytes"))).collect();
+    let mut log = twin::Log::default();
+    let answers: Vec<String> = history.split(' ').map(|step| text::kept_step(&words, &mut log, step)).collect();
+    let left = match log.events.len() {
+        0 => "-".into(),
+        length @ 100.. => length.to_string(),
+        _ => log.events.iter().map(|event| format!("{event:02x}")).collect::<String>(),
+    };
+    let marks = log.marks.map(|mark| mark.map_or("-".into(), |length| length.to_string()));
+    format!("{} | {left} | {}", answers.join(" "), marks.join(" "))
+}
+
 /// The files of rows, by name; those of request P1 begin with p01_, and so on.
 fn files() -> Vec<PathBuf> {
     let folder = Path::new(env!("CARGO_MANIFEST_DIR")).join("../tests/vectors");
@@ -54,7 +68,7 @@ fn main() -> ExitCode {
             let fields: Vec<&str> = row.split('|').map(str::trim).collect();
             let told = match kind {
                 "plain" | "check2" | "judge2" => 2,
-                "usage" => 3,
+                "usage" | "kept" => 3,
                 _ => 1,
             };
             let (given, expected) = fields.split_at(fields.len().saturating_sub(told));
@@ -70,6 +84,7 @@ fn main() -> ExitCode {
                 ("judge2", [card, log, lent]) => text::judge2(&bytes_of(card), &bytes_of(log), sizes(lent).try_into().expect("two sizes")),
                 ("usage", [_, before, allowance, card, log, rooms]) => text::usage(&mut record, before, allowance, &bytes_of(card), &bytes_of(log), rooms),
                 ("tree", [card, log, rooms, verdict]) => recorded_tree(card, log, rooms, verdict),
+                ("kept", [card, history]) => recorded_history(card, history),
                 _ => panic!("{name}.txt:{}: not a row", number + 1),
             };
             let printed = printed.trim_end().replace('\n', "/");

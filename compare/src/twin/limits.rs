@@ -28,3 +28,7 @@ pub const NOT_CALLED: u16 = 65_535;
 
 /// How many clients one judge has (document 02: boxes).
 pub const CLIENTS: usize = 8;
+/// The marks of a kept log.
+pub const MARKS: usize = 8;
+/// What a mark that is not set is stored as.
+pub const NOT_SET: u16 = 65_535;

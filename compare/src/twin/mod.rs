@@ -3,6 +3,7 @@
 mod answers;
 mod calls;
 mod descent;
+mod kept;
 mod limits;
 mod lookahead;
 mod one;
@@ -17,6 +18,7 @@ mod words;
 
 pub use answers::{Outcome, Refusal, Verdict};
 pub use calls::{check, check2, judge, judge2, judge_plain};
+pub use kept::Log;
 pub use limits::*;
 pub use one::Gaps;
 pub use tree::judge_tree;

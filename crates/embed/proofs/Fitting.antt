@@ -72,15 +72,18 @@ code-low CheckpointNotSet = omega arith
 code-low InputFull = omega arith
 code-low TooManyInputs = omega arith
 
-refused-fits : (e : Error) → coded e .position ≤ maxWords → NumbersFit (numbers (Refused e))
+pub refused-fits : (e : Error) → coded e .position ≤ maxWords → NumbersFit (numbers (Refused e))
 refused-fits e h = record { verdict = omega arith; code = code-low e; position = omega arith; count = omega arith; farthest = omega arith }
+
+pub passed-fits : NumbersFit (numbers Passed)
+passed-fits = record { verdict = omega arith; code = omega arith; position = omega arith; count = omega arith; farthest = omega arith }
 
 -- a check
 pub check-fits : {k : Lookahead} {words before after : List ℕ} {a : Answer} → ChecksBy k words before a after → NumbersFit (numbers a)
 check-fits {k} {words} {before} {after} {a} c = rw (c .answer) (go (checkFaultBy k (length before) words) (check-low k (length before) words))
   where
     go : (f : Option Error) → ((e : Error) → f ≡ some e → Low maxWords e) → NumbersFit (numbers (refusedOr f Passed))
-    go none l = record { verdict = omega arith; code = omega arith; position = omega arith; count = omega arith; farthest = omega arith }
+    go none l = passed-fits
     go (some e) l = refused-fits e (l e refl)
 
 -- the calls of a descent are few, and none is far
@@ -184,7 +187,7 @@ module _ {a : Answer} where
   accepted-packed q r = r ∙ rw q
 
 -- the fields of a joined number
-unpacks : {r : ℕ} (n : Numbers) → NumbersFit n → r ≡ packed n → Unpacks r n
+pub unpacks : {r : ℕ} (n : Numbers) → NumbersFit n → r ≡ packed n → Unpacks r n
 unfolding packed
 unpacks {r} n f e = record {
   verdict = omega (arith, e, f .verdict, f .code, f .position, f .count, f .farthest);

@@ -1,3 +1,4 @@
 pub mod Places
 pub mod Fitting
 pub mod RecordRows
+pub mod Keeping

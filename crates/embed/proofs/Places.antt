@@ -47,14 +47,14 @@ use Rattle.grammar.proofs.FaultPositions.{LowOutcome}
 abbrev pub Low : ℕ → Error → Type 0
 Low n e = coded e .position ≤ n
 
-abbrev LowFault : ℕ → Option Error → Type 0
+abbrev pub LowFault : ℕ → Option Error → Type 0
 LowFault n f = (e : Error) → f ≡ some e → Low n e
 
 module _ (n : ℕ) where
-  none-low : LowFault n none
+  pub none-low : LowFault n none
   none-low e q = absurd (none-some q)
 
-  some-low : (x : Error) → coded x .position ≤ n → LowFault n (some x)
+  pub some-low : (x : Error) → coded x .position ≤ n → LowFault n (some x)
   some-low x h e q = let z : e ≡ x = cc in rw z h
 
 -- left recursion and conflicts: a nonterminal, and an entry of the table
@@ -76,7 +76,7 @@ clash-low k G few small conflict.Absent q = none-low maxWords
 clash-low One G few small (conflict.At A c) q = let h = clash-at One G q in some-low maxWords (Conflict A c) (omega (arith, h .0, h .1))
 clash-low Two G few small (conflict.At A c) q = let h = clash-at Two G q in some-low maxWords (WideConflict A c) (omega (arith, h .0, h .1))
 
-when-low : (n : ℕ) (b : Bool) (x : Error) → coded x .position ≤ n → LowFault n (faultIf b x)
+pub when-low : (n : ℕ) (b : Bool) (x : Error) → coded x .position ≤ n → LowFault n (faultIf b x)
 when-low n true x h = some-low n x h
 when-low n false x h = none-low n
 

@@ -1,3 +1,4 @@
 pub mod Packing
 pub mod Records
 pub mod Exports
+pub mod Kept

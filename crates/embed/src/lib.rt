@@ -11,6 +11,7 @@ use recognizer::check;
 use recognizer::judge;
 use tabular::judge as judge_plain;
 
+mod kept;
 mod served;
 mod shown;
 mod wide;

@@ -1,0 +1,27 @@
+-- The answer fits, and events and state are written back.
+use mathlib.Core.Path.{refl}
+use Rattle.embed.proofs.Keeping.{step-fits, step-exported}
+use borrow.Author.Needs.{needs}
+use Rattle.embed.proofs.kept.vinegarspit_log_add.Statement.{statement}
+use Rattle.embed.proofs.kept.vinegarspit_log_add.Tie as tie
+
+progress-in-requires : tie.Need-progress-in-requires
+progress-in-requires c κs = search needs
+
+add-requires : tie.Need-add-requires
+add-requires c κs = search needs
+
+state-of-requires : tie.Need-state-of-requires
+state-of-requires c κs = search needs
+
+pack-requires : tie.Need-pack-requires
+pack-requires c κs = step-fits (c .before .before .before .before .add .ensures)
+
+returns : tie.Need-returns
+returns c =
+    let at-add = c .before .before .before .before .before in
+    step-exported (at-add .before .before .progress-in .ensures) (at-add .add .ensures) (c .pack .ensures) refl (c .before .state-of .ensures)
+
+pub vinegarspit-log-add-spec : {M : Type 1} → statement M
+vinegarspit-log-add-spec =
+    tie.close (tie.spec progress-in-requires add-requires state-of-requires pack-requires returns)

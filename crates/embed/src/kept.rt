@@ -1,0 +1,122 @@
+// A kept input in memory of the caller's: its events, and nine numbers that are its length and its eight checkpoints.
+ghost use mathlib.Core.Path.{_≡_};
+ghost use Rattle.kept_input.specs.Histories.{Mark, Return};
+ghost use Rattle.embed.specs.Kept.{stateOf, StateRead, AddExported, MoveExported, KeptExported};
+use super::pack;
+use grammar::limits::TOKENS;
+use kept_input::CHECKPOINTS;
+use kept_input::KeptInput;
+use kept_input::Progress;
+use kept_input::judge_kept;
+
+const STATE: usize = CHECKPOINTS + 1;
+
+fn progress_in(state: [u16; STATE]) -> Progress
+    ensures { λ r. ⌜ StateRead state r ⌝ }
+{
+    Progress {
+        length: state[0],
+        checkpoints: [
+            state[1],
+            state[2],
+            state[3],
+            state[4],
+            state[5],
+            state[6],
+            state[7],
+            state[8],
+        ],
+    }
+}
+
+fn state_of(progress: Progress) -> [u16; STATE]
+    ensures { λ r. ⌜ r ≡ stateOf progress ⌝ }
+{
+    let set = progress.checkpoints;
+    [
+        progress.length,
+        set[0],
+        set[1],
+        set[2],
+        set[3],
+        set[4],
+        set[5],
+        set[6],
+        set[7],
+    ]
+}
+
+#[no_mangle]
+pub extern "C" fn vinegarspit_log_add(
+    events: &mut [u8; TOKENS],
+    state: &mut [u16; STATE],
+    event: u8,
+) -> u64
+    ensures { λ r. ⌜ AddExported event (now (events .entry)) (now (state .entry)) r (now (events .exit)) (now (state .exit)) ⌝ }
+{
+    let old = *state;
+    let progress = progress_in(old);
+    let old_events = *events;
+    let before = KeptInput {
+        events: old_events,
+        progress,
+    };
+    let changed = before.add(event);
+    let answer = changed.answer;
+    let kept = changed.kept;
+    let new_events = kept.events;
+    let next = kept.progress;
+    let new = state_of(next);
+    *events = new_events;
+    *state = new;
+    pack(answer)
+}
+
+#[no_mangle]
+pub extern "C" fn vinegarspit_log_mark(state: &mut [u16; STATE], mark: u32) -> u64
+    ensures { λ r. ⌜ MoveExported (Mark mark) (now (state .entry)) r (now (state .exit)) ⌝ }
+{
+    let old = *state;
+    let progress = progress_in(old);
+    let moved = progress.mark(mark);
+    let answer = moved.answer;
+    let next = moved.progress;
+    let new = state_of(next);
+    *state = new;
+    pack(answer)
+}
+
+#[no_mangle]
+pub extern "C" fn vinegarspit_log_return(state: &mut [u16; STATE], mark: u32) -> u64
+    ensures { λ r. ⌜ MoveExported (Return mark) (now (state .entry)) r (now (state .exit)) ⌝ }
+{
+    let old = *state;
+    let progress = progress_in(old);
+    let moved = progress.return_to(mark);
+    let answer = moved.answer;
+    let next = moved.progress;
+    let new = state_of(next);
+    *state = new;
+    pack(answer)
+}
+
+#[no_mangle]
+pub extern "C" fn vinegarspit_log_judge(
+    card: &[u32],
+    events: &[u8; TOKENS],
+    state: &[u16; STATE],
+    table: &mut [u32],
+    memo: &mut [u16],
+) -> u64
+    ensures { λ r. ⌜ KeptExported (now (card .entry)) (now (events .entry)) (now (state .entry)) (now (table .entry)) (now (memo .entry)) r (now (table .exit)) (now (memo .exit)) ⌝ }
+{
+    let stored = *state;
+    let progress = progress_in(stored);
+    let stored_events = *events;
+    let kept = KeptInput {
+        events: stored_events,
+        progress,
+    };
+    let answer = judge_kept(card, kept, table, memo);
+    pack(answer)
+}

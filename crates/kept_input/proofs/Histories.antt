@@ -1,0 +1,27 @@
+-- Any history of steps leaves what the steps alone define, and a judgement of it is that of these events.
+use mathlib.Core.Path.{_≡_, refl, ap, _∙_}
+use mathlib.Core.List.{List}
+use Prim.Native.Nat.{ℕ}
+use Rattle.answer.specs.declared.Answer.{Answer}
+use Rattle.event.specs.Events.{inputOf}
+use Rattle.recognizer.specs.Properties.{Judges}
+use Rattle.kept_input.specs.declared.KeptInput.{KeptInput}
+use Rattle.kept_input.specs.Histories.{empty, Step, ran}
+use Rattle.kept_input.specs.Stored.{held}
+use Rattle.kept_input.specs.Properties.{JudgesKept}
+use Rattle.kept_input.specs.Runs.{Run, idle, next, HistoriesKept}
+use Rattle.kept_input.proofs.Soundness.{empty-sound, ran-sound}
+
+run-holds : {first last : KeptInput} {l : List Step} → Run first l last → held last ≡ ran l (held first)
+unfolding ran
+run-holds idle = refl
+run-holds (next {l = l} r s rest) = run-holds rest ∙ ap (ran l) (s .holds)
+
+run-judged : {first last : KeptInput} {l : List Step} → held first ≡ empty → Run first l last
+    → {words table memo table′ memo′ table″ memo″ : List ℕ} {r a : Answer} → JudgesKept words last table memo r table′ memo′
+    → Judges words (inputOf (ran l empty .events)) table memo a table″ memo″
+    → (r ≡ a) × (table′ ≡ table″) × (memo′ ≡ memo″)
+run-judged {l = l} e run j h = j .afresh l (run-holds run ∙ ap (ran l) e) _ _ _ h
+
+pub histories-kept : HistoriesKept
+histories-kept = record { holds = run-holds; judged = run-judged; sound = λ l. ran-sound l empty empty-sound }

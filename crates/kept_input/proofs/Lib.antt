@@ -1,0 +1,8 @@
+pub mod Lists
+pub mod Storing
+pub mod Soundness
+pub mod Stepping
+pub mod Judging
+pub mod Sentences
+pub mod Histories
+pub mod Examples

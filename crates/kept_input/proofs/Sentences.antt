@@ -1,0 +1,128 @@
+-- What document 02 says of the steps, sentence by sentence.
+use mathlib.Core.Path.{_≡_, refl, sym, ap, _∙_}
+use mathlib.Core.Bool.{false}
+use mathlib.Core.List.{List, [], _∷_, _++_, List·Memᴰ, List·Memᴰ·head, List·Memᴰ·tail}
+use mathlib.Core.Option.{Option, none, some}
+use Prim.Native.Nat.{ℕ, _≤_, _<_}
+use native.Mathlib.Decide.{decLt}
+use native.Mathlib.Omega.{arith}
+use lib.Dec.{eqb}
+use lib.ListN.{length, take}
+use borrow.Author.Tests.{le-leb, lt-leb, eq-eqb, ne-eqb}
+use Rattle.answer.specs.declared.Error.{Error}
+use Rattle.answer.specs.declared.Error.the-variants.{UnknownCheckpoint, CheckpointNotSet, InputFull}
+use Rattle.grammar.specs.Limits.{maxTokens}
+use Rattle.kept_input.specs.Histories.{checkpointCount, Kept, Step, Add, Mark, Return, stepFault, within, cutAt, done, unlessRefused, after, ran}
+use Rattle.kept_input.specs.Runs.{Sentences}
+use Rattle.kept_input.proofs.Soundness.{within-none}
+
+refused : (t : Step) (s : Kept) (e : Error) → stepFault t s ≡ some e → after t s ≡ s
+unfolding after
+refused t s e q = rw q
+
+passes : (t : Step) (s : Kept) → stepFault t s ≡ none → after t s ≡ done t s
+unfolding after
+passes t s q = rw q
+
+module _ (s : Kept) where
+  full : (event : ℕ) → maxTokens ≤ length (s .events) → stepFault (Add event) s ≡ some InputFull
+  unfolding stepFault
+  full event h = rw (le-leb maxTokens (length (s .events)) h)
+
+  no-mark : (m : ℕ) → checkpointCount ≤ m → stepFault (Mark m) s ≡ some UnknownCheckpoint
+  unfolding stepFault
+  no-mark m h = rw (le-leb checkpointCount m h)
+
+  no-return : (m : ℕ) → checkpointCount ≤ m → stepFault (Return m) s ≡ some UnknownCheckpoint
+  unfolding stepFault
+  no-return m h = rw (le-leb checkpointCount m h)
+
+  not-set : (m : ℕ) → m < checkpointCount → s .checkpoints m ≡ none → stepFault (Return m) s ≡ some CheckpointNotSet
+  unfolding stepFault
+  not-set m h e = rw (lt-leb checkpointCount m h, e)
+
+  grows : (event : ℕ) → length (s .events) < maxTokens → after (Add event) s ≡ record { events = s .events ++ event ∷ []; checkpoints = s .checkpoints }
+  unfolding stepFault done
+  grows event h = passes (Add event) s (rw (lt-leb maxTokens (length (s .events)) h))
+
+  known : (m : ℕ) → m < checkpointCount → after (Mark m) s ≡ done (Mark m) s
+  unfolding stepFault
+  known m h = passes (Mark m) s (rw (lt-leb checkpointCount m h))
+
+  marks : (m : ℕ) → m < checkpointCount → after (Mark m) s .checkpoints m ≡ some (length (s .events))
+  unfolding done
+  marks m h = rw (known m h, eq-eqb m m refl)
+
+  others : (m k : ℕ) → (k ≡ m → ⊥) → after (Mark m) s .checkpoints k ≡ s .checkpoints k
+  unfolding done
+  others m k ne = go (decLt m checkpointCount)
+    where
+      go : Dec (m < checkpointCount) → after (Mark m) s .checkpoints k ≡ s .checkpoints k
+      go (yes h) = rw (known m h, ne-eqb k m ne)
+      go (no h) = rw (refused (Mark m) s UnknownCheckpoint (no-mark m (omega (arith, h))))
+
+  unread : (m : ℕ) → after (Mark m) s .events ≡ s .events
+  unfolding done
+  unread m = go (decLt m checkpointCount)
+    where
+      go : Dec (m < checkpointCount) → after (Mark m) s .events ≡ s .events
+      go (yes h) = rw (known m h)
+      go (no h) = rw (refused (Mark m) s UnknownCheckpoint (no-mark m (omega (arith, h))))
+
+  module _ (m n : ℕ) (h : m < checkpointCount) (e : s .checkpoints m ≡ some n) where
+    returned : after (Return m) s ≡ cutAt (some n) s
+    unfolding stepFault done
+    returned = passes (Return m) s (rw (lt-leb checkpointCount m h, e)) ∙ ap (λ (o : Option ℕ). cutAt o s) e
+
+    cuts : after (Return m) s .events ≡ take n (s .events)
+    cuts = ap (λ (k : Kept). k .events) returned
+
+    kept-within : (k : ℕ) → after (Return m) s .checkpoints k ≡ within n (s .checkpoints k)
+    kept-within k = ap (λ (r : Kept). r .checkpoints k) returned
+
+    stay : (k j : ℕ) → s .checkpoints k ≡ some j → j ≤ n → after (Return m) s .checkpoints k ≡ some j
+    stay k j q l = kept-within k ∙ rw (q, le-leb j n l)
+
+    clears : (k j : ℕ) → s .checkpoints k ≡ some j → n < j → after (Return m) s .checkpoints k ≡ none
+    clears k j q l = kept-within k ∙ rw (q, lt-leb j n l)
+
+-- what is not set stays so but for its marking
+done-unset : (t : Step) (s : Kept) (k : ℕ) → (t ≡ Mark k → ⊥) → s .checkpoints k ≡ none → done t s .checkpoints k ≡ none
+unfolding done
+done-unset (Add event) s k ne e = e
+done-unset (Mark m) s k ne e = let z : eqb k m ≡ false = ne-eqb k m (λ q. ne (ap Mark (sym q))) in rw z e
+done-unset (Return m) s k ne e = go (s .checkpoints m)
+  where
+    go : (o : Option ℕ) → cutAt o s .checkpoints k ≡ none
+    go none = e
+    go (some n) = within-none n (s .checkpoints k) e
+
+after-unset : (t : Step) (s : Kept) (k : ℕ) → (t ≡ Mark k → ⊥) → s .checkpoints k ≡ none → after t s .checkpoints k ≡ none
+unfolding after
+after-unset t s k ne e = go (stepFault t s)
+  where
+    go : (f : Option Error) → unlessRefused f (done t s) s .checkpoints k ≡ none
+    go none = done-unset t s k ne e
+    go (some x) = e
+
+unset : (s : Kept) (k : ℕ) (l : List Step) → (List·Memᴰ (Mark k) l → ⊥) → s .checkpoints k ≡ none → ran l s .checkpoints k ≡ none
+unfolding ran
+unset s k [] ne e = e
+unset s k (t ∷ l) ne e = unset (after t s) k l (λ m. ne (List·Memᴰ·tail m)) (after-unset t s k (λ q. ne (List·Memᴰ·head (sym q))) e)
+
+pub sentences : Sentences
+sentences = record {
+  grows = grows;
+  marks = marks;
+  others = others;
+  unread = unread;
+  cuts = cuts;
+  stay = λ s m n k j h e. stay s m n h e k j;
+  clears = λ s m n k j h e. clears s m n h e k j;
+  unset = unset;
+  full = full;
+  no-mark = no-mark;
+  no-return = no-return;
+  not-set = not-set;
+  refused = refused;
+}

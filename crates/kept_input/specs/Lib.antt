@@ -1,0 +1,5 @@
+pub mod Histories
+pub mod Stored
+pub mod Properties
+pub mod Runs
+pub mod Examples

@@ -1,0 +1,63 @@
+-- Any history of steps, each of the value that the one before it handed back, and what is promised of it; and document 02's sentences of the steps.
+use mathlib.Core.Path.{_≡_}
+use mathlib.Core.List.{List, [], _∷_, _++_, List·Memᴰ}
+use mathlib.Core.Option.{none, some}
+use Prim.Native.Nat.{ℕ, _≤_, _<_}
+use lib.ListN.{length, take}
+use Rattle.answer.specs.declared.Answer.{Answer}
+use Rattle.answer.specs.declared.Error.{Error}
+use Rattle.answer.specs.declared.Error.the-variants.{UnknownCheckpoint, CheckpointNotSet, InputFull}
+use Rattle.grammar.specs.Limits.{maxTokens}
+use Rattle.event.specs.Events.{inputOf}
+use Rattle.recognizer.specs.Properties.{Judges}
+use Rattle.kept_input.specs.declared.KeptInput.{KeptInput}
+use Rattle.kept_input.specs.declared.Changed.{Changed}
+use Rattle.kept_input.specs.Histories.{checkpointCount, Kept, empty, Step, Add, Mark, Return, stepFault, after, ran}
+use Rattle.kept_input.specs.Stored.{held}
+use Rattle.kept_input.specs.Properties.{Steps, JudgesKept}
+
+-- by these steps from a value to a value
+pub data Run : KeptInput → List Step → KeptInput → Type 0 where
+  idle : {k : KeptInput} → Run k [] k
+  next : {k last : KeptInput} {t : Step} {l : List Step} (r : Changed) → Steps t k r → Run (r .kept) l last → Run k (t ∷ l) last
+
+-- events and checkpoints fit together: what a history from an empty input leaves
+pub record Sound (s : Kept) : Type 0 where
+  pub short : length (s .events) ≤ maxTokens
+  pub inside : (m n : ℕ) → s .checkpoints m ≡ some n → n ≤ length (s .events)
+  pub eight : (m : ℕ) → checkpointCount ≤ m → s .checkpoints m ≡ none
+
+-- of any history
+pub record HistoriesKept : Type 0 where
+  -- the last value holds what the steps make of what the first one held
+  pub holds : {first last : KeptInput} {l : List Step} → Run first l last → held last ≡ ran l (held first)
+  -- from an empty input without checkpoints a judgement is that of the events which the history leaves, taken afresh with the same grammar and memory
+  pub judged : {first last : KeptInput} {l : List Step} → held first ≡ empty → Run first l last
+      → {words table memo table′ memo′ table″ memo″ : List ℕ} {r a : Answer} → JudgesKept words last table memo r table′ memo′
+      → Judges words (inputOf (ran l empty .events)) table memo a table″ memo″
+      → (r ≡ a) × (table′ ≡ table″) × (memo′ ≡ memo″)
+  pub sound : (l : List Step) → Sound (ran l empty)
+
+-- what the steps do, one sentence each
+pub record Sentences : Type 0 where
+  -- the input grows by the event, and checkpoints stay
+  pub grows : (s : Kept) (event : ℕ) → length (s .events) < maxTokens
+      → after (Add event) s ≡ record { events = s .events ++ event ∷ []; checkpoints = s .checkpoints }
+  -- marking notes the length, wherever the checkpoint was; nothing else changes
+  pub marks : (s : Kept) (m : ℕ) → m < checkpointCount → after (Mark m) s .checkpoints m ≡ some (length (s .events))
+  pub others : (s : Kept) (m k : ℕ) → (k ≡ m → ⊥) → after (Mark m) s .checkpoints k ≡ s .checkpoints k
+  pub unread : (s : Kept) (m : ℕ) → after (Mark m) s .events ≡ s .events
+  -- returning cuts the input there; checkpoints up to that length stay, those at it too, and those beyond it are cleared
+  pub cuts : (s : Kept) (m n : ℕ) → m < checkpointCount → s .checkpoints m ≡ some n → after (Return m) s .events ≡ take n (s .events)
+  pub stay : (s : Kept) (m n k j : ℕ) → m < checkpointCount → s .checkpoints m ≡ some n → s .checkpoints k ≡ some j → j ≤ n
+      → after (Return m) s .checkpoints k ≡ some j
+  pub clears : (s : Kept) (m n k j : ℕ) → m < checkpointCount → s .checkpoints m ≡ some n → s .checkpoints k ≡ some j → n < j
+      → after (Return m) s .checkpoints k ≡ none
+  -- a checkpoint that is not set stays so until it is marked, however the input is cut and grows
+  pub unset : (s : Kept) (k : ℕ) (l : List Step) → (List·Memᴰ (Mark k) l → ⊥) → s .checkpoints k ≡ none → ran l s .checkpoints k ≡ none
+  -- the refusals: 21; 19; 20, behind 19; and a refused step changes nothing
+  pub full : (s : Kept) (event : ℕ) → maxTokens ≤ length (s .events) → stepFault (Add event) s ≡ some InputFull
+  pub no-mark : (s : Kept) (m : ℕ) → checkpointCount ≤ m → stepFault (Mark m) s ≡ some UnknownCheckpoint
+  pub no-return : (s : Kept) (m : ℕ) → checkpointCount ≤ m → stepFault (Return m) s ≡ some UnknownCheckpoint
+  pub not-set : (s : Kept) (m : ℕ) → m < checkpointCount → s .checkpoints m ≡ none → stepFault (Return m) s ≡ some CheckpointNotSet
+  pub refused : (t : Step) (s : Kept) (e : Error) → stepFault t s ≡ some e → after t s ≡ s

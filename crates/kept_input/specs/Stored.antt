@@ -1,0 +1,55 @@
+-- A kept input as it is stored, and what any stored value is read as.
+use mathlib.Core.List.{List, [], _∷_, _++_, map}
+use mathlib.Core.Option.{Option, none, some}
+use Prim.Native.Nat.{ℕ, zero, suc, min}
+use lib.Dec.{leb}
+use lib.ListN.{length, getD, take, drop}
+use Rattle.booleans.specs.Choice.{choose}
+use Rattle.grammar.specs.Limits.{maxTokens}
+use Rattle.kept_input.specs.Histories.{checkpointCount, Kept}
+use Rattle.kept_input.specs.declared.Progress.{Progress}
+use Rattle.kept_input.specs.declared.KeptInput.{KeptInput}
+
+-- what a checkpoint that is not set is stored as
+abbrev pub unsetCode : ℕ
+unsetCode = 65535
+
+abbrev pub keptInput : List ℕ → Progress → KeptInput
+keptInput events p = record { events = events; progress = p }
+
+-- any value is read: a length over the limit as the limit, and a checkpoint beyond the length as not set. The papers leave free what such a value
+-- means; no history from an empty input makes one
+abbrev pub readLength : Progress → ℕ
+readLength p = min (p .length) maxTokens
+
+abbrev pub readCheckpoint : ℕ → ℕ → Option ℕ
+readCheckpoint n x = choose (leb x n) (some x) none
+
+unfoldable pub held : KeptInput → Kept
+held k = record {
+  events = take (readLength (k .progress)) (k .events);
+  checkpoints = λ m. readCheckpoint (readLength (k .progress)) (getD (k .progress .checkpoints) m unsetCode);
+}
+
+-- a function's values at 0, 1 and so on, as many as are asked for
+unfoldable pub valuesOf : (ℕ → ℕ) → ℕ → List ℕ
+valuesOf f zero = []
+valuesOf f (suc n) = f 0 ∷ valuesOf (λ m. f (suc m)) n
+
+abbrev pub codeOf : Option ℕ → ℕ
+codeOf none = unsetCode
+codeOf (some n) = n
+
+-- how it is stored: its length and its checkpoints, and its events in front of those that stood there
+unfoldable pub progressOf : Kept → Progress
+progressOf s = record { length = length (s .events); checkpoints = valuesOf (λ m. codeOf (s .checkpoints m)) checkpointCount }
+
+unfoldable pub stored : List ℕ → Kept → KeptInput
+stored old s = keptInput (s .events ++ drop (length (s .events)) old) (progressOf s)
+
+-- a stored value as it is read, stored again
+abbrev pub clearedBeyond : ℕ → ℕ → ℕ
+clearedBeyond n x = choose (leb x n) x unsetCode
+
+abbrev pub readProgress : Progress → Progress
+readProgress p = record { length = readLength p; checkpoints = map (clearedBeyond (readLength p)) (p .checkpoints) }

@@ -1,0 +1,226 @@
+// An input that is kept between calls and grows event by event, with checkpoints to return to.
+ghost use mathlib.Core.Path.{_≡_};
+ghost use mathlib.Core.List.{map};
+ghost use Prim.Native.Nat.{min};
+ghost use Rattle.grammar.specs.Limits.{maxTokens};
+ghost use Rattle.kept_input.specs.Histories.{empty, Add, Mark, Return};
+ghost use Rattle.kept_input.specs.Stored.{clearedBeyond, readProgress, progressOf};
+ghost use Rattle.kept_input.specs.Properties.{Begins, Steps, Moves, JudgesKept};
+use answer::Answer;
+use answer::Error;
+use grammar::limits::TOKENS;
+use recognizer::judge;
+
+pub const CHECKPOINTS: usize = 8;
+
+const LIMIT: u16 = TOKENS as u16;
+
+// What a checkpoint that is not set holds: no input is that long.
+const UNSET: u16 = 65535;
+
+// How long a kept input is, and the length that each checkpoint notes. Any value may be handed in: a length over the limit reads as the limit,
+// a checkpoint beyond the length as not set.
+pub struct Progress {
+    pub length: u16,
+    pub checkpoints: [u16; CHECKPOINTS],
+}
+
+// The input is the first events, as they came, as many as the length says.
+pub struct KeptInput {
+    pub events: [u8; TOKENS],
+    pub progress: Progress,
+}
+
+pub struct Moved {
+    pub answer: Answer,
+    pub progress: Progress,
+}
+
+pub struct Changed {
+    pub answer: Answer,
+    pub kept: KeptInput,
+}
+
+fn bounded(length: u16) -> u16
+    ensures { λ r. ⌜ r ≡ min length maxTokens ⌝ }
+{
+    if length <= LIMIT { length } else { LIMIT }
+}
+
+fn cleared(checkpoint: u16, length: u16) -> u16
+    ensures { λ r. ⌜ r ≡ clearedBeyond length checkpoint ⌝ }
+{
+    if checkpoint <= length {
+        checkpoint
+    } else {
+        UNSET
+    }
+}
+
+// Those beyond a length are cleared.
+fn all_cleared(checkpoints: [u16; CHECKPOINTS], length: u16) -> [u16; CHECKPOINTS]
+    ensures { λ r. ⌜ r ≡ map (clearedBeyond length) checkpoints ⌝ }
+{
+    let mut within = checkpoints;
+    let mut at = 0;
+    while at < CHECKPOINTS {
+        within[at] = cleared(within[at], length);
+        at = at + 1;
+    }
+    within
+}
+
+impl Progress {
+    pub fn new() -> Progress
+        ensures { λ r. ⌜ r ≡ progressOf empty ⌝ }
+    {
+        Progress {
+            length: 0,
+            checkpoints: [UNSET; CHECKPOINTS],
+        }
+    }
+
+    // Whatever is handed in, as it is read.
+    fn read(self) -> Progress
+        ensures { λ r. ⌜ r ≡ readProgress self ⌝ }
+    {
+        let length = bounded(self.length);
+        let old = self.checkpoints;
+        let checkpoints = all_cleared(old, length);
+        Progress {
+            length,
+            checkpoints,
+        }
+    }
+
+    // Notes the length.
+    pub fn mark(self, checkpoint: u32) -> Moved
+        ensures { λ r. ⌜ Moves (Mark checkpoint) self r ⌝ }
+    {
+        let at = checkpoint as usize;
+        if CHECKPOINTS <= at {
+            return Moved {
+                answer: Answer::Refused(Error::UnknownCheckpoint),
+                progress: self,
+            };
+        }
+        let now = self.read();
+        let length = now.length;
+        let mut checkpoints = now.checkpoints;
+        checkpoints[at] = length;
+        Moved {
+            answer: Answer::Passed,
+            progress: Progress {
+                length,
+                checkpoints,
+            },
+        }
+    }
+
+    // Cuts the input where the checkpoint was set.
+    pub fn return_to(self, checkpoint: u32) -> Moved
+        ensures { λ r. ⌜ Moves (Return checkpoint) self r ⌝ }
+    {
+        let at = checkpoint as usize;
+        if CHECKPOINTS <= at {
+            return Moved {
+                answer: Answer::Refused(Error::UnknownCheckpoint),
+                progress: self,
+            };
+        }
+        let now = self.read();
+        let set = now.checkpoints;
+        let length = set[at];
+        if now.length < length {
+            return Moved {
+                answer: Answer::Refused(Error::CheckpointNotSet),
+                progress: self,
+            };
+        }
+        let checkpoints = all_cleared(set, length);
+        Moved {
+            answer: Answer::Passed,
+            progress: Progress {
+                length,
+                checkpoints,
+            },
+        }
+    }
+}
+
+impl KeptInput {
+    pub fn new() -> KeptInput
+        ensures { λ r. ⌜ Begins r ⌝ }
+    {
+        KeptInput {
+            events: [0u8; TOKENS],
+            progress: Progress::new(),
+        }
+    }
+
+    pub fn add(self, event: u8) -> Changed
+        ensures { λ r. ⌜ Steps (Add event) self r ⌝ }
+    {
+        let old = self.progress;
+        let now = old.read();
+        let length = now.length;
+        if LIMIT <= length {
+            return Changed {
+                answer: Answer::Refused(Error::InputFull),
+                kept: self,
+            };
+        }
+        let mut events = self.events;
+        events[length as usize] = event;
+        let longer = length + 1;
+        let checkpoints = now.checkpoints;
+        Changed {
+            answer: Answer::Passed,
+            kept: KeptInput {
+                events,
+                progress: Progress {
+                    length: longer,
+                    checkpoints,
+                },
+            },
+        }
+    }
+
+    pub fn mark(self, checkpoint: u32) -> Changed
+        ensures { λ r. ⌜ Steps (Mark checkpoint) self r ⌝ }
+    {
+        let old = self.progress;
+        let moved = old.mark(checkpoint);
+        let answer = moved.answer;
+        let progress = moved.progress;
+        let events = self.events;
+        Changed {
+            answer,
+            kept: KeptInput { events, progress },
+        }
+    }
+
+    pub fn return_to(self, checkpoint: u32) -> Changed
+        ensures { λ r. ⌜ Steps (Return checkpoint) self r ⌝ }
+    {
+        let old = self.progress;
+        let moved = old.return_to(checkpoint);
+        let answer = moved.answer;
+        let progress = moved.progress;
+        let events = self.events;
+        Changed {
+            answer,
+            kept: KeptInput { events, progress },
+        }
+    }
+}
+
+// Judges the input as it stands.
+pub fn judge_kept(words: &[u32], kept: KeptInput, table: &mut [u32], memo: &mut [u16]) -> Answer
+    ensures { λ r. ⌜ JudgesKept (now (words .entry)) kept (now (table .entry)) (now (memo .entry)) r (now (table .exit)) (now (memo .exit)) ⌝ }
+{
+    let progress = kept.progress;
+    let length = bounded(progress.length) as usize;
+    let events = kept.events;
+    judge(words, &events[..length], table, memo)
+}
