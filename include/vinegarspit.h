@@ -20,9 +20,9 @@ extern "C" {
  * TABLE2 is the table for two events of lookahead, and how many letters it is for. */
 enum {
     VINEGARSPIT_TABLE_WORDS = 864,
-    VINEGARSPIT_MEMO_ENTRIES = 16032,
+    VINEGARSPIT_MEMO_ENTRIES = 13216,
     VINEGARSPIT_CARD_WORDS = 2048,
-    VINEGARSPIT_LOG_EVENTS = 500,
+    VINEGARSPIT_LOG_EVENTS = 412,
     VINEGARSPIT_SPAN_WORDS = 1225,
     VINEGARSPIT_PLAIN_LOG_EVENTS = 48,
     VINEGARSPIT_CLIENTS = 8,
@@ -76,11 +76,11 @@ uint64_t vinegarspit_check(const uint32_t *card, size_t card_len, uint32_t *tabl
  * memo[name * (log_len + 1) + place] is where the call ended, FAILED or NOT_CALLED; later entries keep their contents.
  *
  * REFUSED as by a check, and besides with 2, next after 1, and with 10 and 11, after all others:
- *    2  memo_len is under 16,032                                     0
- *   10  log_len is over 500                                          0
+ *    2  memo_len is under 13,216                                     0
+ *   10  log_len is over 412                                          0
  *   11  an event whose letter is not below the number of letters     the first such index
  *
- * The deepest grammars nest 16,032 calls: have 4 MiB of stack, or see README.md. */
+ * The deepest grammars nest 13,216 calls: have 4 MiB of stack, or see README.md. */
 uint64_t vinegarspit_judge(const uint32_t *card, size_t card_len, const uint8_t *log, size_t log_len,
                            uint32_t *table, size_t table_len, uint16_t *memo, size_t memo_len);
 
@@ -129,9 +129,9 @@ uint64_t vinegarspit_judge_plain(const uint32_t *card, size_t card_len, const ui
  * number of words; later words keep their contents. A rejected log writes none.
  *
  * Answer, table and memo are those of vinegarspit_judge. REFUSED as by it, and besides, behind 2: *written is 0, and nothing else is written.
- *   14  tree_len is under 16,032                                     0
+ *   14  tree_len is under 13,216                                     0
  *
- * The deepest trees nest 16,032 vertices, within the stack that judging them takes. */
+ * The deepest trees nest 13,216 vertices, within the stack that judging them takes. */
 uint64_t vinegarspit_tree(const uint32_t *card, size_t card_len, const uint8_t *log, size_t log_len,
                           uint32_t *table, size_t table_len, uint16_t *memo, size_t memo_len,
                           uint32_t *tree, size_t tree_len, uint32_t *written);
@@ -169,14 +169,14 @@ uint64_t vinegarspit_judge2(const uint32_t *card, size_t card_len, const uint8_t
  * in events, and in state[0] its length, in state[1 + m] the length that mark m notes, or NOT_SET. The empty log without marks has state[0] 0 and
  * NOT_SET in all others; its events may be any.
  *
- * Any values may be passed: a length over 500 reads as 500, a mark beyond the length as not set. A call that passes writes the state as it was
+ * Any values may be passed: a length over 412 reads as 412, a mark beyond the length as not set. A call that passes writes the state as it was
  * read and changed. Events behind the log are kept as they are.
  *
  * log_add adds an event, log_mark has a mark note the length, which moves one that is set, and log_return cuts the log where a mark was set:
  * marks beyond that length are cleared, those at it stay, and what was cleared stays so until it is marked again. Each answers PASSED or REFUSED.
  *
  * REFUSED: nothing is written. The first of these that holds in its own call:
- *   21  log_add: the log is full, with 500 events                    0
+ *   21  log_add: the log is full, with 412 events                    0
  *   19  log_mark and log_return: mark is over 7                      0
  *   20  log_return: the mark is not set                              0 */
 uint64_t vinegarspit_log_add(uint8_t events[VINEGARSPIT_LOG_EVENTS], uint16_t state[VINEGARSPIT_LOG_STATE], uint8_t event);

@@ -2,7 +2,7 @@
 
 use super::{linked, Lengths, Pair};
 use compare::cards::{self, Random};
-use compare::twin::{self, Allowance, Outcome, Usage, Usages, Verdict, CLIENTS, MAX_TOKENS};
+use compare::twin::{self, Allowance, Outcome, Usage, Usages, Verdict, CLIENTS, MAX_TOKENS, MEMO_ENTRIES};
 use std::cmp::Ordering;
 
 /// Where a counter stops.
@@ -195,7 +195,7 @@ fn history(pair: &mut Pair, random: &mut Random, seen: &mut Seen) {
 /// and the four counters after it.
 pub fn stated_histories(pair: &mut Pair) {
     let (m, deepest) = (cards::card_m().words(), cards::chain(32, 24).words());
-    let (last, any) = (u32::MAX, [u32::MAX, u32::MAX]);
+    let (last, any, most) = (u32::MAX, [u32::MAX, u32::MAX], MEMO_ENTRIES as u32);
     let rows: [(u32, [u32; 2], &[u32], Vec<u8>, [u32; 4], u8, [u32; 4]); 14] = [
         (0, any, &m, vec![0], [0, 0, 0, 0], 0, [1, 0, 1, 6]),
         (3, any, &m, vec![0, 1, 2], [1, 0, 1, 6], 0, [2, 0, 1, 15]),
@@ -207,8 +207,8 @@ pub fn stated_histories(pair: &mut Pair) {
         (5, [6, 6], &m, vec![0], [1, 0, 1, 6], 16, [2, 1, 1, 6]),
         (5, [7, 6], &m, vec![0], [1, 0, 1, 6], 0, [2, 0, 2, 12]),
         (5, [6, 7], &m, vec![0], [1, 0, 1, 6], 0, [2, 0, 2, 12]),
-        (0, any, &deepest, vec![0; MAX_TOKENS], [last - 1, 5, last - 2, last - 16_033], 0, [last, 5, last - 1, last - 1]),
-        (0, any, &deepest, vec![0; MAX_TOKENS], [last, 5, last - 1, last - 16_032], 0, [last, 5, last, last]),
+        (0, any, &deepest, vec![0; MAX_TOKENS], [last - 1, 5, last - 2, last - 1 - most], 0, [last, 5, last - 1, last - 1]),
+        (0, any, &deepest, vec![0; MAX_TOKENS], [last, 5, last - 1, last - most], 0, [last, 5, last, last]),
         (0, any, &deepest, vec![0; MAX_TOKENS + 1], [last, last, last, last - 1], 10, [last, last, last, last - 1]),
         (0, any, &deepest, vec![0; MAX_TOKENS + 1], [last, last, last, last], 16, [last, last, last, last]),
     ];

@@ -244,6 +244,12 @@ fn axles(before: usize, nested: usize) -> Vec<u8> {
     [vec![0; before], vec![1; nested], vec![2; nested]].concat()
 }
 
+/// As long as an input may be, and nearly four of five of its tokens nested.
+fn most_axles() -> Vec<u8> {
+    let nested = 2 * MAX_TOKENS / 5;
+    axles(MAX_TOKENS - 2 * nested, nested)
+}
+
 fn main() {
     println!("nanoseconds for each call, medians of {ROUNDS} batches that take turns; judging includes checking the grammar");
     println!("buffers: lent once, not cleared between calls; each call finds in them what the one before left");
@@ -261,8 +267,8 @@ fn main() {
     time_check(&ONE, "largest", &cards::largest());
     time_check(&ONE, "long chain", &cards::long_chain());
     time_check(&ONE, "slowest found", &cards::slowest(1));
-    for (before, nested) in [(0, 0), (10, 20), (100, 200)] {
-        time_judge(&ONE, "card M", &cards::card_m(), &axles(before, nested), peg::MADE);
+    for input in [axles(0, 0), axles(10, 20), most_axles()] {
+        time_judge(&ONE, "card M", &cards::card_m(), &input, peg::MADE);
     }
     time_judge_for("card M", &cards::card_m(), &axles(10, 20));
     time_totals();

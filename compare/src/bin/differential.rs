@@ -369,7 +369,7 @@ fn stated_cases(pair: &mut Pair) {
         (m, vec![2], Rejected, 1, 0),
         (e.clone(), vec![0, 1], Accepted, 3, 0),
         (e, vec![1, 0], Rejected, 4, 1),
-        (deepest.words(), vec![0; MAX_TOKENS], Accepted, 16_032, 500),
+        (deepest.words(), vec![0; MAX_TOKENS], Accepted, MEMO_ENTRIES as u16, MAX_TOKENS as u16),
         (deepest.words(), vec![0; MAX_TOKENS + 1], Refused, 10, 0),
         (deepest.words(), vec![0, 23, 24], Refused, 11, 2),
         (deepest.words(), vec![WESTWARD, WESTWARD + 23, WESTWARD + 24, 24], Refused, 11, 2),
@@ -405,7 +405,7 @@ fn stated_cases(pair: &mut Pair) {
         // the last of the chain has what begins with a letter and goes on as the start, and each before it what the next has not: so the
         // start has the inputs of an odd length
         (deepest_forbidding.clone(), vec![], Rejected, 32, 0),
-        (deepest_forbidding, vec![0; MAX_TOKENS], Rejected, 16_032, 500),
+        (deepest_forbidding, vec![0; MAX_TOKENS], Rejected, MEMO_ENTRIES as u16, MAX_TOKENS as u16),
         (two(1, vec![rule(0, &[], &[])]), vec![], Refused, 5, 2),
         (two(2, vec![rule(0, &[], &[&[x]]), rule(1, &[], &[&[Symbol::Nonterminal(0)]])]), vec![], Refused, 8, 0),
     ];
@@ -470,6 +470,7 @@ fn stated_wide_cases(pair: &mut Pair) {
     let least = Lengths::LEAST;
     let (short, no_memo) = (Lengths { table2: TABLE_WORDS_OF_TWO - 1, ..least }, Lengths { memo: MEMO_ENTRIES - 1, ..least });
     let neither = Lengths { table2: TABLE_WORDS_OF_TWO - 1, ..no_memo };
+    let longest = (Accepted, MEMO_ENTRIES as u16, MAX_TOKENS as u16);
     let rows: Vec<(Vec<u32>, Vec<u8>, Lengths, Stated, Stated)> = vec![
         (ladder.clone(), vec![], least, (Accepted, 3, 0), (Refused, 9, 64)),
         (ladder.clone(), vec![0, 2, 0, 1, 3, 0, 2], least, (Accepted, 14, 7), (Refused, 9, 64)),
@@ -478,7 +479,7 @@ fn stated_wide_cases(pair: &mut Pair) {
         (ladder.clone(), vec![], short, (Refused, 17, 0), (Refused, 9, 64)),
         (ladder.clone(), vec![], no_memo, (Refused, 2, 0), (Refused, 2, 0)),
         (vec![], vec![], neither, (Refused, 17, 0), (Refused, 2, 0)),
-        (deepest.clone(), vec![0; MAX_TOKENS], least, (Accepted, 16_032, 500), (Accepted, 16_032, 500)),
+        (deepest.clone(), vec![0; MAX_TOKENS], least, longest, longest),
         (deepest, vec![0; MAX_TOKENS + 1], least, (Refused, 10, 0), (Refused, 10, 0)),
         (letters(8), vec![], least, (Refused, 18, 0), (Accepted, 32, 0)),
         (letters(24), vec![], least, (Refused, 18, 0), (Accepted, 32, 0)),

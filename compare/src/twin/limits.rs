@@ -4,7 +4,7 @@ pub const MAX_WORDS: usize = 2_048;
 pub const MAX_NONTERMINALS: usize = 32;
 pub const MAX_TERMINALS: usize = 24;
 pub const MAX_RULES: usize = 128;
-pub const MAX_TOKENS: usize = 500;
+pub const MAX_TOKENS: usize = 412;
 /// The longest input of the plain judge.
 pub const MAX_PLAIN_TOKENS: usize = 48;
 
@@ -14,7 +14,7 @@ pub const TABLE_WORDS: usize = 864;
 pub const MAX_TERMINALS_OF_TWO: usize = 7;
 pub const TABLE_WORDS_OF_TWO: usize = 1_888;
 /// The least number of entries of a lent memo table (document 01: notebook).
-pub const MEMO_ENTRIES: usize = 16_032;
+pub const MEMO_ENTRIES: usize = 13_216;
 
 /// The least number of lent words for the spans of an input (document 02: stretch memory).
 pub const SPAN_WORDS: usize = 1_225;

@@ -13,6 +13,8 @@ use recognizer::wide::judge_wide;
 use report::FILE_BYTES;
 use report::INPUT_BYTES;
 use report::SHEET_ROOM;
+use text::put::put_bytes;
+use text::put::put_number;
 use text::words::Loaded;
 use text::words::load;
 use tree_writer::judge_tree;
@@ -120,6 +122,14 @@ fn deepest(path: &[u8]) {
     judged(path, &log[..TOKENS]);
 }
 
+// How many vertices a tree has.
+fn vertices(count: usize) {
+    let mut text = [0u8; LINE];
+    let next = put_number(&mut text, 0, count);
+    put_bytes(&mut text, next, b" vertices\n");
+    write_line(&text);
+}
+
 // The verdict on an input, by a grammar, with two tokens of lookahead.
 fn judged_by_two(path: &[u8], log: &[u8], table: &mut [u64]) {
     let mut card = [0u8; FILE_BYTES];
@@ -181,9 +191,7 @@ fn deepest_tree(path: &[u8]) {
     let mut tree = [0u32; MEMO_ENTRIES];
     let log = [0u8; TOKENS];
     let shown = judge_tree(&words[..count], &log, &mut table, &mut memo, &mut tree);
-    if shown.written == MEMO_ENTRIES {
-        io::write_all(STDOUT_FILENO, b"16032 vertices\n");
-    }
+    vertices(shown.written);
 }
 
 fn main() {

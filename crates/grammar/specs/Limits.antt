@@ -17,7 +17,7 @@ maxRules = 128
 
 -- how long an input may be
 abbrev pub maxTokens : ℕ
-maxTokens = 500
+maxTokens = 412
 
 -- a row of the table has a column for each terminal and one for the end
 abbrev pub maxColumns : ℕ

@@ -10,7 +10,7 @@ pub const TERMINALS: u32 = 24;
 
 pub const RULES: usize = 128;
 
-pub const TOKENS: usize = 500;
+pub const TOKENS: usize = 412;
 
 // A row of the table has a column for each terminal and one for the end.
 pub const COLUMNS: usize = TERMINALS as usize + 1;

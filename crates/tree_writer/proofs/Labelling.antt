@@ -43,7 +43,7 @@ module _ (events : List ℕ) {z : Sizes} {table memo : List ℕ} where
 
     pub entry-low : at % maxPlaces ≤ length events → at / maxPlaces * (length events + 1) + at % maxPlaces < maxMemoEntries
     entry-low h =
-        let m = mul-le-mul {n₁ = at / maxPlaces} {m₁ = length events + 1} {n₂ = 31} {m₂ = 501}
+        let m = mul-le-mul {n₁ = at / maxPlaces} {m₁ = length events + 1} {n₂ = 31} {m₂ = maxPlaces}
         (omega (arith, named, g .given .fewNonterminals)) (omega (arith, g .given .short, input-length events)) in
         omega (arith, g .given .short, input-length events)
 

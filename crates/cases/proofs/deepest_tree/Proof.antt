@@ -53,17 +53,11 @@ slice-aggregate-judge-tree-5 c = search needs
 judge-tree-requires : tie.Need-judge-tree-requires
 judge-tree-requires c κs = search needs
 
-slice-aggregate-write-all : tie.Need-slice-aggregate-write-all
-slice-aggregate-write-all c = search needs
-
-write-all-requires : tie.Need-write-all-requires
-write-all-requires c κs = search needs
+vertices-requires : tie.Need-vertices-requires
+vertices-requires c κs = search needs
 
 returns-2 : tie.Need-returns-2
 returns-2 c = search needs
-
-returns-3 : tie.Need-returns-3
-returns-3 c = search needs
 
 pub deepest-tree-spec : {M : Type 1} → statement M
 deepest-tree-spec =
@@ -84,7 +78,5 @@ deepest-tree-spec =
     slice-aggregate-judge-tree-4
     slice-aggregate-judge-tree-5
     judge-tree-requires
-    slice-aggregate-write-all
-    write-all-requires
-    returns-2
-    returns-3)
+    vertices-requires
+    returns-2)
