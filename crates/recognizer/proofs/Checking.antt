@@ -34,6 +34,7 @@ use Rattle.semantics.specs.LeftRecursion.{NoLeftRecursion, lowestLeftRecursive}
 use Rattle.semantics.specs.FirstFollow.{Entry}
 use Rattle.semantics.specs.Productive.{lowestUnproductive}
 use Rattle.semantics.specs.Claims.{clashes}
+use Rattle.semantics.specs.Predictive.{Predictive}
 use Rattle.semantics.specs.Theorems.{LeastSets}
 use Rattle.semantics.proofs.Theorems.{theorems}
 use Rattle.sets.specs.declared.Finding.the-variants as finding
@@ -119,6 +120,10 @@ module _ (words : List ℕ) (p : PassedGrammar words) where
 
   pub not-left-recursive : lowestLeftRecursive (grammarOf words) ≡ none
   not-left-recursive = theorems .left-recursion-decided (grammarOf words) (passed-encodes .formed .scoped) .absent .1 passed-free
+
+  pub passed-predictive : Predictive (grammarOf words) 1
+  passed-predictive =
+      theorems .passed (grammarOf words) 1 (omega arith) (passed-encodes .formed) (passed-encodes .limited .someNonterminal) .0 (not-left-recursive, no-clashes)
 
   pub all-productive : lowestUnproductive (grammarOf words) 1 ≡ none
   all-productive = theorems .productive-decided (grammarOf words) 1 .absent .1 (rw (← same-grammar) (p .productive))

@@ -1,8 +1,8 @@
 -- What judging answers and leaves in the lent memories, by the first fault.
-use mathlib.Core.Path.{_≡_, refl, sym, ap, _∙_}
+use mathlib.Core.Path.{_≡_, refl, sym, ap, subst, _∙_}
 use mathlib.Core.Bool.{Bool, true, false}
 use mathlib.Core.List.{List, _++_}
-use mathlib.Core.Option.{some}
+use mathlib.Core.Option.{none, some}
 use Prim.Native.Nat.{ℕ, _+_, _*_, _≤_, _<_}
 use native.Mathlib.Nat.{mul-le-mul}
 use native.Mathlib.Numerals.{add-one}
@@ -18,7 +18,7 @@ use Rattle.answer.proofs.Faults.{numbers-told}
 use Rattle.answer.specs.declared.Answer.{Answer}
 use Rattle.answer.specs.declared.Answer.the-variants.{Refused, Accepted, Rejected}
 use Rattle.booleans.specs.Choice.{choose}
-use Rattle.grammar.specs.Limits.{maxMemoEntries, maxTokens, maxNonterminals, maxPlaces}
+use Rattle.grammar.specs.Limits.{maxTableWords, maxMemoEntries, maxTokens, maxNonterminals, maxPlaces}
 use Rattle.grammar.specs.Syntax.{Grammar}
 use Rattle.grammar.specs.Encoding.{grammarOf}
 use Rattle.grammar.specs.WellRead.{WellRead}
@@ -30,6 +30,8 @@ use Rattle.semantics.specs.Choices.{tableChoice}
 use Rattle.semantics.specs.Descent.{accepts}
 use Rattle.semantics.specs.Calls.{allCalls, callCount, farthest}
 use Rattle.semantics.proofs.Range.{all-length}
+use Rattle.following.specs.Theorems.{EntriesTell}
+use Rattle.following.proofs.Theorems.{theorems as following}
 use Rattle.table.specs.Layout.{tableWords}
 use Rattle.table.proofs.Words.{filled-entries}
 use Rattle.event.specs.declared.Unknown.{Unknown}
@@ -41,8 +43,8 @@ use Rattle.event.proofs.Inputs.{input-length}
 use Rattle.event.proofs.Known.{known-absent, absent-known}
 use Rattle.recognizer.specs.Answers.{judgeFault, callsOf, verdictOf, verdictNumbers}
 use Rattle.recognizer.specs.Judging.{PassedGiven, DescendGiven, Descended}
-use Rattle.recognizer.specs.Properties.{Judges}
-use Rattle.recognizer.proofs.Checking.{passed-fault, passed-free, fault-passed, lent-table, least}
+use Rattle.recognizer.specs.Properties.{PassedGrammar, Readable, Recognizes, Judges}
+use Rattle.recognizer.proofs.Checking.{passed-fault, passed-free, passed-predictive, fault-passed, lent-table, least}
 use Rattle.recognizer.proofs.Places.{judge-tells, fault-encoded, places}
 use Rattle.recognizer.proofs.JudgeFaults.{judge-fault-long, too-long, unknown-token, no-fault, judged-checked}
 use Rattle.recognizer.proofs.Meaning.{meaning}
@@ -56,6 +58,24 @@ verdict-told G w = go (accepts G (tableChoice G 1 w) w)
         ≡ answered (choose b accepted rejected) 0 0 (callCount G (tableChoice G 1 w) w) (farthest G (tableChoice G 1 w) w)
     go true = refl
     go false = refl
+
+-- a passed grammar and a readable input: what is answered has its meaning, and the memo table lent back begins with the entries that the descent records
+module _ (words input table memo : List ℕ) (long : maxTableWords ≤ length table) (room : maxMemoEntries ≤ length memo)
+    (p : PassedGrammar words) (h : Readable words input) where
+  judged-passed : judgeFault (length table) (length memo) words input ≡ none
+  judged-passed = no-fault words input table memo long room (fault-passed words p) (h .short) (known-absent (grammarOf words .terminals) 0 input (h .tokens))
+
+  recognizes : (r : Answer) → r ≡ refusedOr (judgeFault (length table) (length memo) words input) (verdictOf (grammarOf words) input)
+      → Recognizes words input r
+  recognizes r a = meaning words input r p h (a ∙ ap (λ y. refusedOr y (verdictOf (grammarOf words) input)) judged-passed)
+
+  entries : (memo′ : List ℕ) → memo′ ≡ lentBack (judgeFault (length table) (length memo) words input) (memoWords (grammarOf words) input) memo
+      → EntriesTell (grammarOf words) 1 input memo′
+  entries memo′ m =
+      let recorded = meaning words input (verdictOf (grammarOf words) input) p h refl .memo in
+      subst (EntriesTell (grammarOf words) 1 input) (sym (m ∙ ap (λ y. lentBack y (memoWords (grammarOf words) input) memo) judged-passed))
+      (following .entries (grammarOf words) 1 (passed-predictive words p) input (h .tokens) (omega (arith, h .short)) (memoWords (grammarOf words) input)
+      recorded (drop (length (memoWords (grammarOf words) input)) memo))
 
 -- the promise from the answer and the memories
 judges : {words input table memo table′ memo′ : List ℕ} {r : Answer}
@@ -79,9 +99,8 @@ judges {words} {input} {table} {memo} {table′} {memo′} {r} a t m = record {
       (a ∙ ap (λ f. refusedOr f (verdictOf H input)) (judge-fault-long words input table memo long room (fault-encoded words G few e))));
   as-checked = λ e c checked k.
       t ∙ ap (λ y. lentBack y (tableWords (grammarOf words)) table) (e ∙ sym (judged-checked words input (length table) (length memo) e)) ∙ sym (k .table);
-  recognizes = λ long room p h.
-      let f = no-fault words input table memo long room (fault-passed words p) (h .short) (known-absent (grammarOf words .terminals) 0 input (h .tokens)) in
-      meaning words input r p h (a ∙ ap (λ y. refusedOr y (verdictOf (grammarOf words) input)) f);
+  recognizes = λ long room p h. recognizes words input table memo long room p h r a;
+  entries = λ long room p h. entries words input table memo long room p h memo′ m;
 }
 
 pub judge-refused : {words input table memo : List ℕ} {x : Error} → judgeFault (length table) (length memo) words input ≡ some x

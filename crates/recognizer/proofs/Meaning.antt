@@ -16,12 +16,11 @@ use Rattle.grammar.specs.Encoding.{grammarOf}
 use Rattle.semantics.specs.Valuations.{Valuation, Solves}
 use Rattle.semantics.specs.Choices.{tableChoice}
 use Rattle.semantics.specs.Memo.{Recorded}
-use Rattle.semantics.specs.Predictive.{Predictive}
 use Rattle.semantics.proofs.Theorems.{theorems}
 use Rattle.recognizer.specs.Answers.{callsOf, verdictOf}
 use Rattle.recognizer.specs.Properties.{PassedGrammar, Readable, Recognizes}
 use Rattle.recognizer.proofs.Deciding.{words-recorded}
-use Rattle.recognizer.proofs.Checking.{passed-encodes, passed-free, no-clashes, not-left-recursive}
+use Rattle.recognizer.proofs.Checking.{passed-encodes, passed-free, passed-predictive}
 
 -- a verdict by a test tells the test
 pub verdict-tells : {r : Answer} (b : Bool) (c : Calls) → r ≡ choose b (Accepted c) (Rejected c)
@@ -38,10 +37,9 @@ meaning words input r p h e =
     let k = passed-encodes words p in
     let free = passed-free words p in
     let some-nonterminal : 0 < G .nonterminals = k .limited .someNonterminal in
-    let predictive : Predictive G 1 = theorems .passed G 1 (omega arith) (k .formed) some-nonterminal .0 (not-left-recursive words p, no-clashes words p) in
     let tells : (v : Valuation) → Solves G input v → ((r ≡ Accepted (callsOf G input)) ↔ (v 0 0 (length input) ≡ true)) × ((r ≡ Rejected (callsOf G input)) ↔ (v 0 0 (length input) ≡ false)) =
     λ v s. verdict-tells {r = r} (v 0 0 (length input)) (callsOf G input)
-    (e ∙ ap (λ b. choose b (Accepted (callsOf G input)) (Rejected (callsOf G input))) (theorems .verdict G 1 predictive input (h .tokens) v s)) in
+    (e ∙ ap (λ b. choose b (Accepted (callsOf G input)) (Rejected (callsOf G input))) (theorems .verdict G 1 (passed-predictive words p) input (h .tokens) v s)) in
     let own = theorems .own-rules G 1 input in
     let recorded = theorems .memo-right G (k .formed .scoped) free some-nonterminal (tableChoice G 1 input) own input (omega (arith, h .short)) .recorded in
     record {

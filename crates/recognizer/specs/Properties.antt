@@ -29,6 +29,7 @@ use Rattle.semantics.specs.Claims.{clashes, column, tableOf}
 use Rattle.semantics.specs.Choices.{tableChoice}
 use Rattle.semantics.specs.Memo.{Recorded}
 use Rattle.semantics.specs.Theorems.{OneSolution, DescentEnds, CallsCounted}
+use Rattle.following.specs.Theorems.{EntriesTell}
 use Rattle.table.specs.Layout.{tableWords}
 use Rattle.recognizer.specs.Memory.{lentBack, memoWords}
 use Rattle.recognizer.specs.Answers.{checkFault, judgeFault, callsOf, verdictOf, passedNumbers, verdictNumbers}
@@ -128,6 +129,9 @@ pub record Judges (words input table memo : List ℕ) (r : Answer) (table′ mem
       → table′ ≡ checked
   -- where the memories are long enough, each passed grammar and readable input is judged by its one meaning, whatever the memories held
   pub recognizes : maxTableWords ≤ length table → maxMemoEntries ≤ length memo → PassedGrammar words → Readable words input → Recognizes words input r
+  -- and the entries of the memo table that is lent back tell which spans belong to a nonterminal, wherever what comes next may follow it
+  pub entries : maxTableWords ≤ length table → maxMemoEntries ≤ length memo → PassedGrammar words → Readable words input
+      → EntriesTell (grammarOf words) 1 input memo′
 
 -- what is judged of events is the input that they are (`inputOf`), so two calls alike but for the directions in their events get the same answer and
 -- leave the same table and the same memo table
