@@ -16,14 +16,18 @@
 extern "C" {
 #endif
 
-/* How much memory is to be lent, the longest grammar, and the longest log: of judging, and of judging plainly. */
+/* How much memory is to be lent, the longest grammar, the longest log, of judging and of judging plainly, and how many clients there are.
+ * TABLE2 is the table for two events of lookahead, and how many letters it is for. */
 enum {
     VINEGARSPIT_TABLE_WORDS = 864,
     VINEGARSPIT_MEMO_ENTRIES = 16032,
     VINEGARSPIT_CARD_WORDS = 2048,
     VINEGARSPIT_LOG_EVENTS = 500,
     VINEGARSPIT_SPAN_WORDS = 1225,
-    VINEGARSPIT_PLAIN_LOG_EVENTS = 48
+    VINEGARSPIT_PLAIN_LOG_EVENTS = 48,
+    VINEGARSPIT_CLIENTS = 8,
+    VINEGARSPIT_TABLE2_WORDS = 1888,
+    VINEGARSPIT_TABLE2_LETTERS = 7
 };
 
 /* What an answer tells. */
@@ -73,14 +77,25 @@ uint64_t vinegarspit_check(const uint32_t *card, size_t card_len, uint32_t *tabl
 uint64_t vinegarspit_judge(const uint32_t *card, size_t card_len, const uint8_t *log, size_t log_len,
                            uint32_t *table, size_t table_len, uint16_t *memo, size_t memo_len);
 
-/* Judges an input as vinegarspit_judge does, and counts the answer in a record that goes from call to call: usage[0] calls, usage[1]
- * refusals, usage[2] acceptances, usage[3] the counts of all (called pairs). Each stops at 4,294,967,295, and all 0 is the empty record.
+/* Judges a log for one of eight clients, each of which has a share, where all together have a limit: as vinegarspit_judge does, and counts the
+ * answer in a record that goes from call to call. Client c's counters stand at usage[4 * c] to usage[4 * c + 3]: calls, refusals, acceptances,
+ * and the counts of all (called pairs). Each stops at 4,294,967,295, and all 0 is the empty record.
  *
- * Answer, table and memo are those of vinegarspit_judge. The record is no lent memory: a refusal, too, is counted, as a call and as a refusal.
- * From the empty record each counter is the exact sum over all answers so far, cut at that number; whatever the record holds is taken as it
- * is. */
-uint64_t vinegarspit_judge_recorded(const uint32_t *card, size_t card_len, const uint8_t *log, size_t log_len,
-                                    uint32_t *table, size_t table_len, uint16_t *memo, size_t memo_len, uint32_t usage[4]);
+ * REFUSED, before all else that judging refuses, with table and memo unchanged:
+ *   15  client is over 7; in no counter                              0
+ *   16  the client's own called pairs are at least share, and those  0
+ *       of all clients together at least limit, before this call
+ * So a client under its share is never turned away by 16, and the call by which it reaches it is finished. Share and limit are any numbers.
+ *
+ * Else answer, table and memo are those of vinegarspit_judge. The record is no lent memory: a refusal, 16 too, is counted, as a call and as a
+ * refusal of this client. From the empty record each of a client's counters is the exact sum over its own answers so far, cut at that number;
+ * whatever the record holds is taken as it is. That counters stop turns no call away and lets none through. */
+uint64_t vinegarspit_judge_for(uint32_t client, uint32_t share, uint32_t limit,
+                               const uint32_t *card, size_t card_len, const uint8_t *log, size_t log_len,
+                               uint32_t *table, size_t table_len, uint16_t *memo, size_t memo_len, uint32_t usage[32]);
+
+/* The sums of all clients' counters, in the same order; none can pass 64 bits. */
+void vinegarspit_usage_totals(const uint32_t usage[32], uint64_t totals[4]);
 
 /* Judges a log plainly: without table and memo table, by finding for every stretch of the log, from short to long, the names that it belongs to. It
  * takes every grammar that a check passes or refuses with 9, and logs of at most 48 events. Answers ACCEPTED or REJECTED,
@@ -113,6 +128,35 @@ uint64_t vinegarspit_judge_plain(const uint32_t *card, size_t card_len, const ui
 uint64_t vinegarspit_tree(const uint32_t *card, size_t card_len, const uint8_t *log, size_t log_len,
                           uint32_t *table, size_t table_len, uint16_t *memo, size_t memo_len,
                           uint32_t *tree, size_t tree_len, uint32_t *written);
+
+/* Checks a grammar as vinegarspit_check does, with two events of lookahead, so that it also passes grammars on which one event is too few. It takes
+ * at most 7 letters, and no rule of must-nots alone. Answers PASSED or REFUSED.
+ *
+ * PASSED: the table is of 64-bit words. For each name, table2[2 * name] is its first set and table2[2 * name + 1] its follow set; from 2 * names
+ * on stand the rows, of 57 columns each, however few letters there are: column 0 is the end of the log, 1 + l a last letter l, and
+ * 8 + 7 * l + r letter l and then r. A set weighs 2^column for each of its members, and an entry is a rule's number or NO_RULE. Later words keep
+ * their contents.
+ *
+ * REFUSED: nothing is written. The first of these that holds, with its number and its place:
+ *   17  table2_len is under 1,888                                    0
+ *       3 and 4, as by a check
+ *   18  over 7 letters                                               0
+ *       5 to 7, as by a check; 5 is also a rule of must-nots alone   the index of its first must-not's word
+ *       8, as by a check
+ *       13, as by a check, by these first sets, which are wider
+ *       9, two rules claim an entry of this table                    name * 64 + column of the first, by name, then this column
+ *
+ * A grammar that passes a check is never refused with 9 here. */
+uint64_t vinegarspit_check2(const uint32_t *card, size_t card_len, uint64_t *table2, size_t table2_len);
+
+/* Judges a log as vinegarspit_judge does, with two events of lookahead: ACCEPTED exactly when the whole log belongs to name 0 by the one meaning
+ * that the grammar has. Where vinegarspit_judge gives a verdict too, it is the same. The table is as after vinegarspit_check2; count, far and memo are
+ * told as by judging, of this descent.
+ *
+ * REFUSED as by vinegarspit_check2, and besides with 2, next after 17, and with 10 and 11, after all others, as by judging. Its stack is that of
+ * judging. */
+uint64_t vinegarspit_judge2(const uint32_t *card, size_t card_len, const uint8_t *log, size_t log_len,
+                            uint64_t *table2, size_t table2_len, uint16_t *memo, size_t memo_len);
 
 /* The parts of an answer. */
 static inline unsigned vinegarspit_verdict(uint64_t answer) { return (unsigned)(answer & 255); }

@@ -3,7 +3,8 @@
 Nothing here decides: the programs refuse, with a number and a place, and what they found is looked up again in the grammar."""
 from typing import NamedTuple, Optional
 from itertools import product
-from notation import MAX_WORDS, MAX_INPUT, NONTERMINAL, RULE, Grammar, Damaged, body_text, rule_text, scan, unknown_event
+from notation import (MAX_WORDS, MAX_INPUT, MAX_WIDE_TERMINALS, NEGATIVE, NONTERMINAL, RULE, Grammar, Damaged, body_text, rule_text, scan,
+                      unknown_event)
 
 
 LONGEST = 100    # how much of a rule or a body is shown
@@ -175,16 +176,39 @@ def claims(grammar, k=1):
     return [strung(rule_first(grammar, rule, first, k), follow[rule.head], k) for rule in grammar.rules]
 
 
-def claimants(grammar, name, string):
+def claimants(grammar, name, string, k=1):
     """The rules of a name that claim the entry for a row of letters."""
-    return [number for number, claimed in enumerate(claims(grammar)) if grammar.rules[number].head == name and string in claimed]
+    return [number for number, claimed in enumerate(claims(grammar, k)) if grammar.rules[number].head == name and string in claimed]
+
+
+# Columns. With one event of lookahead the letters in order, then the end; with two the end, then each last letter, then each two letters.
+
+WIDTH = {1: 32, 2: 64}    # what a name weighs in the place of a clash
+
+
+def string_of(grammar, column, k=1):
+    """The row of letters that a column stands for."""
+    letters, few = len(grammar.terminals), MAX_WIDE_TERMINALS
+    if k == 1:
+        return () if column == letters else (column,)
+    return () if column == 0 else (column - 1,) if column <= few else divmod(column - few - 1, few)
+
+
+def column_of(grammar, string, k=1):
+    """The column of a row of letters."""
+    if k == 1:
+        return string[0] if string else len(grammar.terminals)
+    number = 0
+    for letter in string:
+        number = MAX_WIDE_TERMINALS * number + 1 + letter
+    return number
 
 
 # Names whose first set is empty: nothing can begin them, so no log belongs to them.
 
-def never_begun(grammar):
+def never_begun(grammar, k=1):
     """The names whose first set is empty, lowest first."""
-    return [name for name, rows in enumerate(first_and_follow(grammar)[0]) if not rows]
+    return [name for name, rows in enumerate(first_and_follow(grammar, k)[0]) if not rows]
 
 
 def rules_of(grammar, name):
@@ -203,10 +227,10 @@ def own_reason(grammar, name, never):
     return not rules or any(not needed(grammar, number, never) for number in rules)
 
 
-def way_to_never(grammar, name):
+def way_to_never(grammar, name, k=1):
     """Steps by musts from a name that nothing can begin, to such names: a shortest row to one that has a reason of its own, or, where none can be
     come to, up to one that was met before."""
-    never, found = never_begun(grammar), [[] for _ in grammar.nonterminals]
+    never, found = never_begun(grammar, k), [[] for _ in grammar.nonterminals]
     for step in steps(grammar):
         if step.to in never and not step.negative:
             found[step.name].append(step)
@@ -220,10 +244,11 @@ def way_to_never(grammar, name):
     return way
 
 
-def why_never(card, number, never):
+def why_never(card, number, never, k):
     """A rule that nothing can begin, and why."""
     names = [card.grammar.nonterminals[name] for name in needed(card.grammar, number, never)]
-    return f'{card.rule(number)}: ' + (f'nothing can begin {" or ".join(names)}' if names else 'its musts have no beginning in common')
+    apart = {1: 'its musts have no beginning in common', 2: 'its musts have no beginning of two events in common'}[k]
+    return f'{card.rule(number)}: ' + (f'nothing can begin {" or ".join(names)}' if names else apart)
 
 
 # Rules of must-nots alone. Such a rule takes all up to the end of the log, so no letter may follow its name.
@@ -271,18 +296,28 @@ def damage(card):
         return fault
 
 
-def meant(card, name, column, rules):
+def ahead(grammar, string, k):
+    """Where a row of letters comes next."""
+    letters = [grammar.terminals[letter] for letter in string]
+    if not letters:
+        return 'at the end of the log'
+    if len(letters) == 2:
+        return f'where the next two events are {letters[0]} and {letters[1]}'
+    return f'where the next event is {letters[0]}' + (', the last of the log' if k == 2 else '')
+
+
+def meant(card, name, column, rules, k=1):
     """How many rules claim an entry, and which."""
     grammar = card.grammar
     count = {0: 'no rule', 2: 'two rules'}.get(len(rules), f'{len(rules)} rules')
-    there = 'at the end of the log' if column == len(grammar.terminals) else f'where the next event is {grammar.terminals[column]}'
+    there = ahead(grammar, string_of(grammar, column, k), k)
     return [f'{count} of {grammar.nonterminals[name]} may be meant {there}'] + [card.rule(rule) for rule in rules]
 
 
-def several_meant(card, name, column):
+def several_meant(card, name, column, k):
     """The rules that claim an entry, if there are two or more."""
-    rules = claimants(card.grammar, name, () if column == len(card.grammar.terminals) else (column,))
-    return meant(card, name, column, rules) if len(rules) > 1 else []
+    rules = claimants(card.grammar, name, string_of(card.grammar, column, k), k)
+    return meant(card, name, column, rules, k) if len(rules) > 1 else []
 
 
 def gap_told(card, line):
@@ -307,33 +342,48 @@ def no_end_settled(card, name):
             + [behind_text(card, step, letters[0], False) for step in way] + [behind_text(card, last, letters[0], True)])
 
 
-def nothing_begins(card, name):
+def nothing_begins(card, name, k):
     """Why a name's first set is empty: each of its rules, and one row of names that lead to one with a reason of its own."""
-    grammar, never = card.grammar, never_begun(card.grammar)
+    grammar, never = card.grammar, never_begun(card.grammar, k)
     rules, called = rules_of(grammar, name), grammar.nonterminals[name]
     if not rules:
         return [f'{called} has no rule, so no log belongs to it']
-    told = [why_never(card, number, never) for number in rules]
-    way = way_to_never(grammar, name)
+    told = [why_never(card, number, never, k) for number in rules]
+    way = way_to_never(grammar, name, k)
     for step in way[1:]:
-        told.append(why_never(card, card.rule_at(step.word), never))
+        told.append(why_never(card, card.rule_at(step.word), never, k))
     last = way[-1].to if way else name
     if not rules_of(grammar, last):
         told.append(f'{grammar.nonterminals[last]} has no rule')
     elif last != name:
-        told += [why_never(card, number, never) for number in rules_of(grammar, last) if not needed(grammar, number, never)][:1]
+        told += [why_never(card, number, never, k) for number in rules_of(grammar, last) if not needed(grammar, number, never)][:1]
     return [f'nothing can begin {called}, so no log belongs to it'] + told
 
 
-def refusal(card, number, place, log=(), longest=MAX_INPUT):
-    """The lines that tell a refusal; the log is a row of letters as they were written, and of so many events at most."""
-    grammar = card.grammar
+def forbids_alone(card, place):
+    """Whether a word begins the first must-not of a rule that has no must."""
+    return 0 < place < len(card.words) and [word >> 28 for word in card.words[place - 1:place + 1]] == [RULE, NEGATIVE]
+
+
+def words_refused(card, number, place, k):
+    """Why the words are refused, with 3 to 7 or 18."""
     if number == 3 and len(card.words) <= MAX_WORDS:
-        return ['the file is no row of 4-byte words']
-    if number in (3, 4, 5, 6, 7):
-        fault = damage(card)
-        reason = fault.reason if fault and (fault.code, fault.position) == (number, place) else 'a damaged card'
-        return [(f'{card.where(place)}: ' if number > 4 else '') + reason]
+        return 'the file is no row of 4-byte words'
+    if number == 18:
+        return f'{card.words[0] >> 8 & 255} letters, and with two events of lookahead the limit is {MAX_WIDE_TERMINALS}'
+    fault = damage(card)
+    if fault and (fault.code, fault.position) == (number, place):
+        reason = fault.reason
+    else:
+        reason = 'a rule of must-nots alone, which is not taken with two events of lookahead' if k == 2 and forbids_alone(card, place) else 'a damaged card'
+    return (f'{card.where(place)}: ' if number > 4 else '') + reason
+
+
+def refusal(card, number, place, log=(), longest=MAX_INPUT, k=1):
+    """The lines that tell a refusal with k events of lookahead; the log is a row of letters as they were written, and of so many events at most."""
+    grammar = card.grammar
+    if number in (3, 4, 5, 6, 7, 18):
+        return [words_refused(card, number, place, k)]
     if number == 10:
         return [f'the log has {len(log)} events, and the limit is {longest}']
     if grammar is None or number not in (8, 9, 11, 13):
@@ -343,9 +393,9 @@ def refusal(card, number, place, log=(), longest=MAX_INPUT):
         return [f'left-recursive: {name} comes to {name} again before any event is read'] + [
             step_text(card, step) for step in way_back(grammar, place) or ()]
     if number == 13:
-        return nothing_begins(card, place)
+        return nothing_begins(card, place, k)
     if number == 9:
-        name, column = divmod(place, 32)
-        reasons = (no_end_settled(card, name) if column == 0 else []) + several_meant(card, name, column)
+        name, column = divmod(place, WIDTH[k])
+        reasons = (no_end_settled(card, name) if (column, k) == (0, 1) else []) + several_meant(card, name, column, k)
         return reasons or ['two rules claim an entry of the table']
     return [unknown_event(grammar, place, log[place])]

@@ -1,15 +1,16 @@
 """The proved library for scripts: a function for each call that include/vinegarspit.h declares.
 
-    from vinegarspit import judge, judge_recorded, table, memo, usage
+    from vinegarspit import judge, judge_for, usage_totals, table, memo, usage, totals
     lent = table(), memo()
     answer = judge(words, b'\\0', *lent)     # for card R: Answer(verdict='accepted', number=0, place=0, count=2, far=1)
     lent[1][:2]                              # array('H', [1, 1])
-    day = usage()
-    judge_recorded(words, b'\\0', *lent, day)
-    day                                      # array('I', [1, 0, 1, 2]): calls, refusals, acceptances, called pairs
+    day, sums = usage(), totals()
+    judge_for(3, 10, 100, words, b'\\0', *lent, day)    # for client 3, with a share of 10 called pairs and a limit of 100 for all
+    day[12:16]                               # array('I', [1, 0, 1, 2]): its calls, refusals, acceptances, called pairs
+    usage_totals(day, sums)                  # sums: array('Q', [1, 0, 1, 2])
 
 A card is a row of words and a log a row of bytes. Lent memory, or a record, is an array that the call writes into: array('I') for
-words of 32 bits, 'H' for entries of 16. What the header states stands there alone: its limits and codes are attributes here
+words of 32 bits, 'Q' for those of 64, 'H' for entries of 16. What the header states stands there alone: its limits and codes are attributes here
 (TABLE_WORDS, NO_RULE, ...), and the types of arguments and the parts of an answer are read from it. The library is made by
 tools/build_library when it is first called. The deepest cards need 4 MiB of stack, which the main thread has."""
 import ctypes, functools, os, re, subprocess
@@ -49,13 +50,19 @@ def constants():
 def calls():
     """The parameters of each call; the length of a row goes with it."""
     found = {}
-    for name, text in re.findall(r'\buint64_t vinegarspit_(\w+)\(([^)]*)\);', header()):
+    for name, text in re.findall(r'\b(?:uint64_t|void) vinegarspit_(\w+)\(([^)]*)\);', header()):
         parameters = [re.fullmatch(r'\s*(const )?(\w+) (\*?)(\w+)(?:\[(\d+)\])?\s*', part).groups() for part in text.split(',')]
         names = [each for *_, each, _ in parameters]
         found[name] = [Parameter(each, kind, bool(star or length), bool(star or length) and not const,
-                                 int(length or (star and each + '_len' not in names)))
+                                 int(length or bool(star) and each + '_len' not in names))
                        for const, kind, star, each, length in parameters if not each.endswith('_len')]
     return found
+
+
+@functools.cache
+def answering():
+    """The calls that give an answer; the others only write."""
+    return set(re.findall(r'\buint64_t vinegarspit_(\w+)\([^)]*\);', header()))
 
 
 @functools.cache
@@ -127,8 +134,9 @@ def call(name, *arguments):
         else:
             passed.append(TYPES[parameter.type][1](argument))
     function = getattr(library(), 'vinegarspit_' + name)
-    function.restype = ctypes.c_uint64
-    return unpacked(function(*passed))
+    function.restype = ctypes.c_uint64 if name in answering() else None
+    answer = function(*passed)
+    return unpacked(answer) if name in answering() else None
 
 
 def check(card, table):
@@ -141,9 +149,15 @@ def judge(card, log, table, memo):
     return call('judge', card, log, table, memo)
 
 
-def judge_recorded(card, log, table, memo, usage):
-    """Judges a log, and counts the answer in the record: an array of calls, refusals, acceptances and called pairs."""
-    return call('judge_recorded', card, log, table, memo, usage)
+def judge_for(client, share, limit, card, log, table, memo, usage):
+    """Judges a log for a client, unless share and limit are reached, and counts the answer in the record: an array with calls, refusals,
+    acceptances and called pairs of each client."""
+    return call('judge_for', client, share, limit, card, log, table, memo, usage)
+
+
+def usage_totals(usage, totals):
+    """Adds up the clients' counters in the record."""
+    return call('usage_totals', usage, totals)
 
 
 def judge_plain(card, log, spans):
@@ -154,6 +168,16 @@ def judge_plain(card, log, spans):
 def tree(card, log, table, memo, tree, written):
     """Judges a log, and writes the parse tree of an accepted one into tree and the number of its words into written[0]."""
     return call('tree', card, log, table, memo, tree, written)
+
+
+def check2(card, table2):
+    """Checks a card with two events of lookahead and fills the table for that."""
+    return call('check2', card, table2)
+
+
+def judge2(card, log, table2, memo):
+    """Judges a log by a card with two events of lookahead and fills the table for that and the memo table."""
+    return call('judge2', card, log, table2, memo)
 
 
 class Vertex(NamedTuple):
@@ -167,10 +191,14 @@ def vertex(word):
     return Vertex(word & 127, word >> 7 & 511, word >> 16 & 511)
 
 
-# Memory to lend, as much as each call asks for, and the empty record
+# Memory to lend, as much as each call asks for, the empty record, and room for totals
 
 def table(fill=0):
     return array('I', [fill]) * constants()['TABLE_WORDS']
+
+
+def table2(fill=0):
+    return array('Q', [fill]) * constants()['TABLE2_WORDS']
 
 
 def memo(fill=0):
@@ -182,14 +210,29 @@ def tree_words(fill=0):
 
 
 def usage():
-    return array('I', [0]) * next(parameter.length for parameter in calls()['judge_recorded'] if parameter.name == 'usage')
+    return array('I', [0]) * next(parameter.length for parameter in calls()['judge_for'] if parameter.name == 'usage')
+
+
+def totals():
+    return array('Q', [0]) * next(parameter.length for parameter in calls()['usage_totals'] if parameter.name == 'totals')
 
 
 def spans(fill=0):
     return array('I', [fill]) * constants()['SPAN_WORDS']
 
 
-# What lent memory holds
+# What lent memory and a record hold
+
+def usage_of(usage, client):
+    """A client's counters in the record."""
+    return usage[4 * client:4 * client + 4]
+
+
+def called_pairs(memo, names, length):
+    """Name, place and end of each called pair in a memo table for a log of so many events; the end is none where the call failed."""
+    entries = ((divmod(at, length + 1), end) for at, end in enumerate(memo[:names * (length + 1)]) if end != constants()['NOT_CALLED'])
+    return [(name, place, None if end == constants()['FAILED'] else end) for (name, place), end in entries]
+
 
 def span_words(spans, length):
     """The words of the stretches of a log of so many events, by their start and their end."""

@@ -1,6 +1,6 @@
 //! Encoded grammars and inputs for tests: those of document 01, random ones, damaged ones.
 
-use crate::twin::{Grammar, Symbol, MAX_NONTERMINALS, MAX_RULES, MAX_TERMINALS, MAX_TOKENS, MAX_WORDS};
+use crate::twin::{Grammar, Symbol, MAX_NONTERMINALS, MAX_RULES, MAX_TERMINALS, MAX_TERMINALS_OF_TWO, MAX_TOKENS, MAX_WORDS};
 use Symbol::{Nonterminal, Terminal};
 
 /// So many words or tokens more would not be noticed by a length of 16 bits.
@@ -49,6 +49,10 @@ impl Random {
                 *word = (bits >> (32 * i)) as u32;
             }
         }
+    }
+
+    pub fn fill_wide_words(&mut self, words: &mut [u64]) {
+        words.iter_mut().for_each(|word| *word = self.next());
     }
 
     pub fn fill_entries(&mut self, entries: &mut [u16]) {
@@ -144,6 +148,25 @@ pub fn card_e() -> Draft {
     Draft { nonterminals: 4, terminals: 2, rules }
 }
 
+/// The yard ladder of examples/ladder.card, names Day Cuts Cut Far Full Others, letters l m a b c: it takes two letters of lookahead.
+pub fn ladder() -> Draft {
+    let [cuts, cut, far, full, others] = [1, 2, 3, 4, 5].map(Nonterminal);
+    let [l, m, a, b, c] = [0, 1, 2, 3, 4].map(Terminal);
+    let rules = vec![
+        rule(0, &[&[cuts]], &[&[full]]),
+        rule(1, &[&[cut, cuts]], &[]),
+        rule(1, &[&[]], &[]),
+        rule(2, &[&[l, a]], &[]),
+        rule(2, &[&[l, far]], &[]),
+        rule(3, &[&[m, b]], &[]),
+        rule(3, &[&[m, c]], &[]),
+        rule(4, &[&[others, l, a, others, l, a, others, l, a, cuts]], &[]),
+        rule(5, &[&[l, far, others]], &[]),
+        rule(5, &[&[]], &[]),
+    ];
+    Draft { nonterminals: 6, terminals: 5, rules }
+}
+
 /// A chain of nonterminals, each calling the next, the last reading a token and calling the first again, or empty: the
 /// deepest descent there is.
 pub fn chain(nonterminals: usize, terminals: usize) -> Draft {
@@ -224,22 +247,24 @@ pub fn long_chain() -> Draft {
     draft.reversed()
 }
 
-/// The slowest to check that was found. A chain of 17 nonterminals written last rule first, the last of which has a rule for each of 16
-/// terminals. Its rule of terminal j counts only once nonterminal 16 + j has a first set, and that takes terminal j - 1 to have come all the
-/// way to the start: so each terminal in turn goes up the chain, one nonterminal a pass.
-pub fn slowest() -> Draft {
+/// The slowest to check that was found, with so many terminals of lookahead. A chain of 17 nonterminals written last rule first, the last of
+/// which has a rule for each of 16 leads: terminals, or pairs of them. Its rule of lead j counts only once nonterminal 16 + j has a first set,
+/// and that takes lead j - 1 to have come all the way to the start: so each lead in turn goes up the chain, one nonterminal a pass.
+pub fn slowest(leads: usize) -> Draft {
     let gates = MAX_NONTERMINALS / 2 - 1;
     let links = MAX_NONTERMINALS - gates;
-    let (last, gate) = (Nonterminal(links as u8 - 1), |j: usize| (links + j - 1) as u8);
+    let terminals = if leads == 1 { gates + 1 } else { MAX_TERMINALS_OF_TWO };
+    let (last, gate) = (Nonterminal(links as u8 - 1), |j: usize| links + j - 1);
+    let lead = |j: usize| lead_of(j, leads, terminals);
     let mut rules: Vec<Rule> = (1..links).map(|b| rule(b - 1, &[&[Nonterminal(b as u8)]], &[])).collect();
-    rules.push(rule(links - 1, &[&[Terminal(0)]], &[]));
+    rules.push(rule(links - 1, &[&lead(0)], &[]));
     for j in 1..=gates {
-        rules.push(rule(links - 1, &[&[Terminal(j as u8), Nonterminal(gate(j))]], &[]));
+        rules.push(rule(links - 1, &[&[lead(j), vec![Nonterminal(gate(j) as u8)]].concat()], &[]));
     }
     for j in 1..=gates {
-        rules.push(rule(gate(j) as usize, &[&[Nonterminal(0)], &[Terminal(j as u8 - 1)]], &[]));
+        rules.push(rule(gate(j), &[&[Nonterminal(0)], &lead(j - 1)], &[]));
     }
-    padded(Draft { nonterminals: MAX_NONTERMINALS, terminals: gates + 1, rules }, links - 1, last, MAX_WORDS).reversed()
+    padded(Draft { nonterminals: MAX_NONTERMINALS, terminals, rules }, links - 1, last, MAX_WORDS).reversed()
 }
 
 /// As slow to judge plainly as any that was found, on rows of terminal 0: 128 rules, and 2,048 words, nearly all of them a nonterminal that has
@@ -299,11 +324,20 @@ fn guarded(random: &mut Random, above: usize, lead: u8, nonterminals: usize, ter
     made
 }
 
-/// Rules of the forms that a predictive parser takes: of each nonterminal, rules led by different terminals, perhaps an empty
-/// one, or a single rule that begins with a higher nonterminal.
-fn predictive(random: &mut Random) -> Draft {
+/// The terminals that lead a rule of this number: one, or a pair, of which neighbours mostly begin alike.
+fn lead_of(number: usize, leads: usize, terminals: usize) -> Body {
+    if leads == 1 {
+        return vec![Terminal((number % terminals) as u8)];
+    }
+    let number = number % (terminals * terminals);
+    vec![Terminal((number / terminals) as u8), Terminal((number % terminals) as u8)]
+}
+
+/// Rules of the forms that a predictive parser takes: of each nonterminal, rules led by different terminals, or by so many different rows of
+/// them, perhaps an empty one, or a single rule that begins with a higher nonterminal.
+fn predictive(random: &mut Random, leads: usize) -> Draft {
     let nonterminals = small_or_large(random, 5, MAX_NONTERMINALS);
-    let terminals = small_or_large(random, 4, MAX_TERMINALS);
+    let terminals = if leads == 1 { small_or_large(random, 4, MAX_TERMINALS) } else { random.between(1, MAX_TERMINALS_OF_TWO) };
     let mut rules = Vec::new();
     for b in 0..nonterminals {
         let higher = b + 1 < nonterminals;
@@ -324,14 +358,16 @@ fn predictive(random: &mut Random) -> Draft {
             rules.push(Rule { nonterminal: b, positives, negatives });
             continue;
         }
-        let shift = random.below(terminals);
+        let shift = random.below(terminals.pow(leads as u32));
         let least = usize::from(random.chance(90));
-        for i in 0..random.between(least, terminals.min(4)) {
+        for i in 0..random.between(least, terminals.pow(leads as u32).min(4)) {
             if rules.len() + 2 >= MAX_RULES {
                 break;
             }
-            let lead = ((shift + i) % terminals) as u8;
-            let mut first = vec![Terminal(lead)];
+            let mut first = lead_of(shift + i, leads, terminals);
+            let lead = match first[0] {
+                Terminal(a) | Nonterminal(a) => a,
+            };
             if random.chance(20) {
                 first.extend([Nonterminal(b as u8), Terminal(random.below(terminals) as u8)]);
             } else {
@@ -339,7 +375,8 @@ fn predictive(random: &mut Random) -> Draft {
             }
             let mut positives = vec![first.clone()];
             if random.chance(20) {
-                positives.push(if random.chance(50) { first.clone() } else { vec![Terminal(lead), symbol(random, nonterminals, terminals)] });
+                let other = || lead_of(shift + i, leads, terminals);
+                positives.push(if random.chance(50) { first.clone() } else { [other(), vec![symbol(random, nonterminals, terminals)]].concat() });
             }
             let negatives = (0..random.below(8) / 5).map(|_| guarded(random, b, lead, nonterminals, terminals)).collect();
             rules.push(Rule { nonterminal: b, positives, negatives });
@@ -357,17 +394,25 @@ fn predictive(random: &mut Random) -> Draft {
     Draft { nonterminals, terminals, rules }
 }
 
+/// Whether the first set of a nonterminal is empty, with so many terminals of lookahead.
+fn unproductive(draft: &Draft, nonterminal: usize, leads: usize) -> bool {
+    let Ok(grammar) = Grammar::read(&draft.words()) else { return false };
+    match leads {
+        1 => grammar.sets::<1, MAX_TERMINALS>().first[nonterminal].bits() == 0,
+        _ => grammar.sets::<2, MAX_TERMINALS_OF_TWO>().first[nonterminal].bits() == 0,
+    }
+}
+
 /// The same grammar with a first set for each nonterminal that had an empty one: where it has a rule, the bodies of the first are cut to the
-/// symbol that they begin with, so that nothing more is claimed; else it gets a rule of one terminal. Higher ones come first, since rules of
+/// symbols that they begin with, so that nothing more is claimed; else it gets a rule of one terminal. Higher ones come first, since rules of
 /// the form above begin with those.
-fn begun(random: &mut Random, mut draft: Draft) -> Draft {
+fn begun(random: &mut Random, mut draft: Draft, leads: usize) -> Draft {
     for b in (0..draft.nonterminals).rev() {
-        let unproductive = Grammar::read(&draft.words()).is_ok_and(|grammar| grammar.sets::<1, MAX_TERMINALS>().first[b].bits() == 0);
-        if !unproductive {
+        if !unproductive(&draft, b, leads) {
             continue;
         }
         match draft.rules.iter_mut().find(|rule| rule.nonterminal == b) {
-            Some(first) => first.positives.iter_mut().for_each(|body| body.truncate(1)),
+            Some(first) => first.positives.iter_mut().for_each(|body| body.truncate(leads)),
             None => draft.rules.push(rule(b, &[&[Terminal(random.below(draft.terminals) as u8)]], &[])),
         }
     }
@@ -387,7 +432,7 @@ fn shifted(mut body: Body, by: usize) -> Body {
 /// Nonterminals in front of a predictive grammar that stand only at the ends of one another's bodies, so that only the end may follow them.
 /// Each has a rule of negative conjuncts alone, or rules that are led by different terminals.
 fn forbidding(random: &mut Random) -> Draft {
-    let mut draft = predictive(random);
+    let mut draft = predictive(random, 1);
     let front = random.between(1, 4).min(MAX_NONTERMINALS - draft.nonterminals);
     let (behind, terminals) = (draft.nonterminals, draft.terminals);
     for rule in &mut draft.rules {
@@ -462,11 +507,11 @@ fn near_limits(random: &mut Random) -> Draft {
         2 => forbidding_chain(MAX_NONTERMINALS, random.between(20, MAX_TERMINALS)),
         3 => negatives(random.between(3, 25)),
         4 => forbidding(random),
-        _ => predictive(random),
+        _ => predictive(random, 1),
     };
     match random.below(5) {
         0 => draft.nonterminals = [0, 31, 32, 33, 255][random.below(5)],
-        1 => draft.terminals = [0, 23, 24, 25, 255][random.below(5)],
+        1 => draft.terminals = [0, 7, 8, 23, 24, 25, 255][random.below(7)],
         2 => {
             let wanted = random.between(MAX_RULES - 1, MAX_RULES + 2);
             while draft.rules.len() < wanted {
@@ -573,20 +618,23 @@ fn edit(random: &mut Random, draft: &mut Draft) {
 
 /// A random encoded grammar: often one that passes, at times damaged.
 pub fn words(random: &mut Random) -> Vec<u32> {
-    let mut draft = match random.below(100) {
+    let kind = random.below(100);
+    let leads = if (40..=51).contains(&kind) { 2 } else { 1 };
+    let mut draft = match kind {
         0..=5 => return noise(random),
         6..=19 => any_grammar(random),
-        20..=51 => predictive(random),
+        20..=51 => predictive(random, leads),
         52..=67 => forbidding(random),
         68..=75 => card_m(),
         76..=79 => card_e(),
-        80..=82 => card_r(),
+        80..=81 => card_r(),
+        82 => ladder(),
         83..=85 => negatives(random.between(3, 25)),
         86..=91 => random_chain(random),
         _ => near_limits(random),
     };
     if random.chance(90) {
-        draft = begun(random, draft);
+        draft = begun(random, draft, leads);
     }
     for _ in 0..[0, 0, 0, 0, 1, 2, 3][random.below(7)] {
         edit(random, &mut draft);

@@ -1,6 +1,6 @@
 //! The proved library's calls, as the static library exports them, behind safe functions.
 
-use compare::twin::{Outcome, Usage, Verdict};
+use compare::twin::{Allowance, Outcome, Usage, Usages, Verdict, CLIENTS};
 
 extern "C" {
     fn vinegarspit_check(card: *const u32, card_len: usize, table: *mut u32, table_len: usize) -> u64;
@@ -14,7 +14,10 @@ extern "C" {
         memo: *mut u16,
         memo_len: usize,
     ) -> u64;
-    fn vinegarspit_judge_recorded(
+    fn vinegarspit_judge_for(
+        client: u32,
+        share: u32,
+        limit: u32,
         card: *const u32,
         card_len: usize,
         log: *const u8,
@@ -25,6 +28,7 @@ extern "C" {
         memo_len: usize,
         usage: *mut u32,
     ) -> u64;
+    fn vinegarspit_usage_totals(usage: *const u32, totals: *mut u64);
     fn vinegarspit_judge_plain(
         card: *const u32,
         card_len: usize,
@@ -45,6 +49,17 @@ extern "C" {
         tree: *mut u32,
         tree_len: usize,
         written: *mut u32,
+    ) -> u64;
+    fn vinegarspit_check2(card: *const u32, card_len: usize, table2: *mut u64, table2_len: usize) -> u64;
+    fn vinegarspit_judge2(
+        card: *const u32,
+        card_len: usize,
+        log: *const u8,
+        log_len: usize,
+        table2: *mut u64,
+        table2_len: usize,
+        memo: *mut u16,
+        memo_len: usize,
     ) -> u64;
 }
 
@@ -69,12 +84,20 @@ pub fn judge(words: &[u32], input: &[u8], table: &mut [u32], memo: &mut [u16]) -
     }
 }
 
-/// The answer, and the record with it counted.
-pub fn judge_recorded(words: &[u32], input: &[u8], table: &mut [u32], memo: &mut [u16], usage: Usage) -> (u64, Usage) {
-    let mut counters = [usage.calls, usage.refusals, usage.acceptances, usage.called];
-    // Sound: as above, and the library writes four counters.
+/// The four counters of each client, one client after the other.
+fn row_of(usages: &Usages) -> [u32; 4 * CLIENTS] {
+    std::array::from_fn(|at| usages[at / 4].counters()[at % 4])
+}
+
+/// The answer, and the clients' records with it counted.
+pub fn judge_for(allowance: Allowance, words: &[u32], input: &[u8], table: &mut [u32], memo: &mut [u16], usages: &Usages) -> (u64, Usages) {
+    let mut row = row_of(usages);
+    // Sound: as above, and the library writes four counters for each client.
     let answer = unsafe {
-        vinegarspit_judge_recorded(
+        vinegarspit_judge_for(
+            allowance.client,
+            allowance.share,
+            allowance.limit,
             words.as_ptr(),
             words.len(),
             input.as_ptr(),
@@ -83,11 +106,17 @@ pub fn judge_recorded(words: &[u32], input: &[u8], table: &mut [u32], memo: &mut
             table.len(),
             memo.as_mut_ptr(),
             memo.len(),
-            counters.as_mut_ptr(),
+            row.as_mut_ptr(),
         )
     };
-    let [calls, refusals, acceptances, called] = counters;
-    (answer, Usage { calls, refusals, acceptances, called })
+    (answer, std::array::from_fn(|client| Usage::of(std::array::from_fn(|at| row[4 * client + at]))))
+}
+
+pub fn totals(usages: &Usages) -> [u64; 4] {
+    let mut totals = [0; 4];
+    // Sound: the library reads four counters for each client and writes four numbers.
+    unsafe { vinegarspit_usage_totals(row_of(usages).as_ptr(), totals.as_mut_ptr()) };
+    totals
 }
 
 pub fn judge_plain(words: &[u32], input: &[u8], spans: &mut [u32]) -> u64 {
@@ -115,6 +144,29 @@ pub fn tree(words: &[u32], input: &[u8], table: &mut [u32], memo: &mut [u16], tr
         )
     };
     (answer, written)
+}
+
+/// As `check`, with two letters of lookahead.
+pub fn check2(words: &[u32], table: &mut [u64]) -> u64 {
+    // Sound: as above.
+    unsafe { vinegarspit_check2(words.as_ptr(), words.len(), table.as_mut_ptr(), table.len()) }
+}
+
+/// As `judge`, with two letters of lookahead.
+pub fn judge2(words: &[u32], input: &[u8], table: &mut [u64], memo: &mut [u16]) -> u64 {
+    // Sound: as above.
+    unsafe {
+        vinegarspit_judge2(
+            words.as_ptr(),
+            words.len(),
+            input.as_ptr(),
+            input.len(),
+            table.as_mut_ptr(),
+            table.len(),
+            memo.as_mut_ptr(),
+            memo.len(),
+        )
+    }
 }
 
 /// The answer that the library packs an outcome into.

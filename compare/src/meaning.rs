@@ -1,7 +1,7 @@
 //! What a grammar means, computed from document 01's definition alone, to try the twin's verdicts by.
 
 use crate::cards::{self, Random, WESTWARD};
-use crate::twin::{self, Grammar, Symbol, Verdict, MEMO_ENTRIES, SPAN_WORDS, TABLE_WORDS};
+use crate::twin::{self, Grammar, Outcome, Symbol, Verdict, MEMO_ENTRIES, SPAN_WORDS, TABLE_WORDS, TABLE_WORDS_OF_TWO};
 
 /// For each nonterminal and span of an input, whether the span belongs to the nonterminal.
 #[derive(Clone, PartialEq)]
@@ -60,27 +60,49 @@ fn solution(grammar: &Grammar, input: &[u8]) -> Valuation {
     }
 }
 
+/// How many verdicts of each kind there were, each that of the meaning: without and with a rule of negative conjuncts alone, or without and with
+/// a clash under one letter of lookahead.
+#[derive(Default)]
+struct Tried {
+    accepted: [usize; 2],
+    rejected: [usize; 2],
+}
+
+impl Tried {
+    fn add(&mut self, outcome: Outcome, grammar: &Grammar, input: &[u8], kind: bool) {
+        if outcome.verdict == Verdict::Refused || input.len() > 8 || grammar.nonterminals > 8 {
+            return;
+        }
+        let letters: Vec<u8> = input.iter().map(|event| event & !WESTWARD).collect();
+        let solution = solution(grammar, &letters);
+        let belongs = solution.belongs[solution.index(0, 0, input.len())];
+        assert_eq!(outcome.verdict == Verdict::Accepted, belongs, "{input:?} {:?}", grammar.rules);
+        (if belongs { &mut self.accepted } else { &mut self.rejected })[usize::from(kind)] += 1;
+    }
+
+    fn each_often(&self) -> bool {
+        self.accepted.iter().chain(&self.rejected).all(|&times| times > 500)
+    }
+}
+
 #[test]
 fn verdicts_are_by_the_meaning() {
     let (mut table, mut memo) = (vec![0; TABLE_WORDS], vec![0; MEMO_ENTRIES]);
-    let (mut accepted, mut rejected) = ([0; 2], [0; 2]);
+    let mut wide_table = vec![0; TABLE_WORDS_OF_TWO];
+    let (mut one, mut two) = (Tried::default(), Tried::default());
     for seed in 0..60_000 {
         let mut random = Random::new(seed);
         let words = cards::words(&mut random);
         let input = cards::input(&mut random, &words);
         let Ok(grammar) = Grammar::read(&words) else { continue };
+        let forbidding = grammar.rules.iter().any(|rule| grammar.only_forbids(rule));
         let outcome = twin::judge(&words, &input, &mut table, &mut memo);
-        if outcome.verdict == Verdict::Refused || input.len() > 8 || grammar.nonterminals > 8 {
-            continue;
-        }
-        let solution = solution(&grammar, &input);
-        let belongs = solution.belongs[solution.index(0, 0, input.len())];
-        assert_eq!(outcome.verdict == Verdict::Accepted, belongs, "{words:x?} {input:?}");
-        let kind = usize::from(grammar.rules.iter().any(|rule| grammar.only_forbids(rule)));
-        (if belongs { &mut accepted } else { &mut rejected })[kind] += 1;
+        one.add(outcome, &grammar, &input, forbidding);
+        let wide = twin::judge2(&words, &input, &mut wide_table, &mut memo);
+        two.add(wide, &grammar, &input, outcome.code == 9);
     }
-    // without and with a rule of negative conjuncts alone
-    assert!(accepted.iter().chain(&rejected).all(|&times| times > 500), "{accepted:?} {rejected:?}");
+    assert!(one.each_often(), "{:?} {:?}", one.accepted, one.rejected);
+    assert!(two.each_often(), "{:?} {:?}", two.accepted, two.rejected);
 }
 
 #[test]

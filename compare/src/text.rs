@@ -1,7 +1,10 @@
 //! The texts that the three programs print, and those that record calls, made from the twin's answers.
 
-use crate::twin::{self, Gaps, Grammar, Outcome, Usage, Verdict, MAX_TOKENS, MAX_WORDS, MEMO_ENTRIES, NO_RULE, NOT_CALLED, FAILED, TABLE_WORDS};
+use crate::twin::{self, Allowance, Gaps, Grammar, Outcome, Usage, Usages, Verdict, MAX_TOKENS, MAX_WORDS, MEMO_ENTRIES, NO_RULE, NOT_CALLED, FAILED, TABLE_WORDS};
 use std::fmt::Write;
+
+/// The columns of a row with two letters of lookahead.
+const WIDE_COLUMNS: usize = 57;
 
 /// The words of a file, low byte first; none if it is not made of 4-byte words, or of more than so many.
 fn words_of(file: &[u8], most: usize) -> Option<Vec<u32>> {
@@ -63,10 +66,14 @@ pub fn judgement(card: &[u8], log: &[u8]) -> String {
         Verdict::Rejected => "rejected",
         _ => return refused(outcome),
     };
-    let mut text = format!("{verdict} {} {}\n", outcome.count, outcome.farthest);
     let places = log.len() + 1;
-    let names = (words[0] & 0xff) as usize;
-    for (entry, &end) in memo[..names * places].iter().enumerate() {
+    format!("{verdict} {} {}\n", outcome.count, outcome.farthest) + &calls_in(&memo[..names_of(&words) * places], places)
+}
+
+/// A line for each call that a memo table for so many places tells.
+fn calls_in(memo: &[u16], places: usize) -> String {
+    let mut text = String::new();
+    for (entry, &end) in memo.iter().enumerate() {
         let (name, place) = (entry / places, entry % places);
         let _ = match end {
             NOT_CALLED => Ok(()),
@@ -98,33 +105,116 @@ fn verdict(outcome: Outcome) -> &'static str {
     }
 }
 
+/// All that an answer tells.
+pub fn answered(outcome: Outcome) -> String {
+    format!("{} {} {} {} {}", verdict(outcome), outcome.code, outcome.position, outcome.count, outcome.farthest)
+}
+
 /// What the plain judge answers, all of it, and the words that it writes for the spans, where so many are lent.
 pub fn plain(card: &[u8], log: &[u8], lent: usize) -> String {
     let words = words_of(card, usize::MAX).expect("words");
     let fill = u32::from_le_bytes([FILL; 4]);
     let mut spans = vec![fill; lent];
     let outcome = twin::judge_plain(&words, log, &mut spans);
-    let told = format!("{} {} {} {} {}", verdict(outcome), outcome.code, outcome.position, outcome.count, outcome.farthest);
     let written = changed("", &spans, fill);
-    told + " | " + if written.is_empty() { "-" } else { &written["/ ".len()..] }
+    answered(outcome) + " | " + if written.is_empty() { "-" } else { &written["/ ".len()..] }
 }
 
-/// What a recorded call answers, and what it leaves in the memory that is lent to it and in the record; the numbers are the sizes of the
-/// memories, and behind them the record.
+/// The nonterminals that the heading of a grammar's words tells.
+fn names_of(words: &[u32]) -> usize {
+    (words[0] & 0xff) as usize
+}
+
+/// What a table for two letters of lookahead holds: for each nonterminal both sets, and column and rule of each entry that has one. Words behind
+/// it have to be as they were.
+fn wide_table(words: &[u32], table: &[u64], fill: u64) -> String {
+    let names = names_of(words);
+    let (sets, rest) = table.split_at(2 * names);
+    let (rows, behind) = rest.split_at(names * WIDE_COLUMNS);
+    let rows = rows.chunks_exact(WIDE_COLUMNS).zip(sets.chunks_exact(2)).map(|(row, sets)| {
+        let claimed = row.iter().enumerate().filter(|(_, &entry)| entry != NO_RULE.into());
+        claimed.fold(format!("{} {}", sets[0], sets[1]), |text, (column, entry)| format!("{text} {column}:{entry}"))
+    });
+    rows.collect::<Vec<_>>().join("/") + if behind.iter().any(|&word| word != fill) { " and words behind it" } else { "" }
+}
+
+/// What a check with two letters of lookahead answers, all of it, and what it leaves in so many lent words.
+pub fn check2(card: &[u8], lent: usize) -> String {
+    let words = words_of(card, usize::MAX).expect("words");
+    let fill = u64::from_le_bytes([FILL; 8]);
+    let mut table = vec![fill; lent];
+    let outcome = twin::check2(&words, &mut table);
+    let told = match outcome.verdict {
+        Verdict::Refused => changed("table", &table, fill) + "-",
+        _ => wide_table(&words, &table, fill),
+    };
+    answered(outcome) + " | " + &told
+}
+
+/// What judging with two letters of lookahead answers, all of it, and the called pairs; the table has to be that of a check, and entries behind
+/// those of the log as they were.
+pub fn judge2(card: &[u8], log: &[u8], lent: [usize; 2]) -> String {
+    let words = words_of(card, usize::MAX).expect("words");
+    let (word, entry) = (u64::from_le_bytes([FILL; 8]), u16::from_le_bytes([FILL; 2]));
+    let (mut table, mut memo) = (vec![word; lent[0]], vec![entry; lent[1]]);
+    let outcome = twin::judge2(&words, log, &mut table, &mut memo);
+    if outcome.verdict == Verdict::Refused {
+        return answered(outcome) + " | " + &changed("table", &table, word) + &changed("memo", &memo, entry) + "-";
+    }
+    let mut checked = vec![word; lent[0]];
+    twin::check2(&words, &mut checked);
+    let (pairs, behind) = memo.split_at(names_of(&words) * (log.len() + 1));
+    let other = checked != table || behind.iter().any(|&rest| rest != entry);
+    answered(outcome) + " | " + calls_in(pairs, log.len() + 1).trim_end().replace('\n', "/").as_str() + if other { " and other memory" } else { "" }
+}
+
+/// A record as rows of usage.txt write it.
+fn record_of(text: &str) -> Usages {
+    let mut usages = Usages::default();
+    for part in text.split(' ').filter(|_| text != "empty") {
+        let (client, counters) = part.split_once('=').expect("a client and its counters");
+        let counters: Vec<u32> = counters.split(',').map(|counter| counter.parse().expect("a counter")).collect();
+        usages[client.parse::<usize>().expect("a client")] = Usage::of(counters.try_into().expect("four counters"));
+    }
+    usages
+}
+
+fn record_text(usages: &Usages) -> String {
+    let told = usages.iter().enumerate().filter(|(_, &usage)| usage != Usage::default());
+    let told: Vec<String> = told.map(|(client, usage)| format!("{client}={}", usage.counters().map(|counter| counter.to_string()).join(","))).collect();
+    if told.is_empty() { "empty".into() } else { told.join(" ") }
+}
+
+/// What is told of a call for a client in a history, with the record that it leaves, which goes to the next row.
+pub fn usage(kept: &mut Usages, before: &str, allowance: &str, card: &[u8], log: &[u8], rooms: &str) -> String {
+    let numbers = |text: &str| text.split(' ').map(|number| number.parse().expect("a number")).collect::<Vec<u32>>();
+    let (words, lent, called) = (words_of(card, usize::MAX).expect("words"), numbers(rooms), numbers(allowance));
+    let (mut table, mut memo) = (vec![0; lent[0] as usize], vec![0; lent[1] as usize]);
+    let usages = if before == "-" { *kept } else { record_of(before) };
+    let allowance = Allowance { client: called[0], share: called[1], limit: called[2] };
+    let (outcome, next) = twin::judge_for(allowance, &words, log, &mut table, &mut memo, &usages);
+    *kept = next;
+    let told = format!("{} {} {} {} {}", verdict(outcome), outcome.code, outcome.position, outcome.count, outcome.farthest);
+    format!("{told} | {} | {}", record_text(&next), twin::totals(&next).map(|sum| sum.to_string()).join(" "))
+}
+
+/// What a recorded call answers, and what it leaves in the memory that is lent to it and in the record; the numbers are, in the order of the
+/// call's parameters, client, share and limit, the sizes of the memories, and the record.
 pub fn call(name: &str, numbers: &[usize], card: &[u8], log: &[u8]) -> String {
     let words = words_of(card, usize::MAX).expect("words");
     let (word, entry) = (u32::from_le_bytes([FILL; 4]), u16::from_le_bytes([FILL; 2]));
+    let (allowance, numbers) = numbers.split_at(if name == "judge_for" { 3 } else { 0 });
     let given = |at: usize| numbers.get(at).copied().unwrap_or(0);
     let (mut table, mut memo) = (vec![word; given(0)], vec![entry; given(1)]);
     let mut record = String::new();
     let outcome = match name {
         "check" => twin::check(&words, &mut table),
         "judge" => twin::judge(&words, log, &mut table, &mut memo),
-        "judge_recorded" => {
-            let [calls, refusals, acceptances, called] = [2, 3, 4, 5].map(|at| given(at) as u32);
-            let usage = Usage { calls, refusals, acceptances, called };
-            let (outcome, next) = twin::judge_recorded(&words, log, &mut table, &mut memo, usage);
-            record = format!("/usage {} {} {} {}", next.calls, next.refusals, next.acceptances, next.called);
+        "judge_for" => {
+            let [client, share, limit] = [0, 1, 2].map(|at| allowance[at] as u32);
+            let usages: Usages = std::array::from_fn(|client| Usage::of(std::array::from_fn(|at| given(2 + 4 * client + at) as u32)));
+            let (outcome, next) = twin::judge_for(Allowance { client, share, limit }, &words, log, &mut table, &mut memo, &usages);
+            record = next.iter().flat_map(|usage| usage.counters()).fold("/usage".into(), |text, counter| format!("{text} {counter}"));
             outcome
         }
         _ => panic!("no call {name}"),

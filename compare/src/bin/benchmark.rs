@@ -4,7 +4,7 @@
 mod linked;
 
 use compare::cards::{self, Draft};
-use compare::twin::{self, Usage, MAX_PLAIN_TOKENS, MEMO_ENTRIES, SPAN_WORDS, TABLE_WORDS};
+use compare::twin::{self, Allowance, Outcome, Usages, MAX_PLAIN_TOKENS, MAX_TOKENS, MEMO_ENTRIES, SPAN_WORDS, TABLE_WORDS, TABLE_WORDS_OF_TWO};
 use std::{hint::black_box, time::Instant};
 
 /// How many batches of each kind are timed; an odd number, so that one of them is the median.
@@ -35,14 +35,42 @@ mod peg {
     }
 }
 
-struct Memory {
-    table: Vec<u32>,
+struct Memory<Word> {
+    table: Vec<Word>,
     memo: Vec<u16>,
 }
 
-impl Memory {
-    fn new() -> Memory {
-        Memory { table: vec![0; TABLE_WORDS], memo: vec![0; MEMO_ENTRIES] }
+/// The calls of one lookahead, by the library and by the twin.
+struct Lookahead<Word> {
+    name: &'static str,
+    table_words: usize,
+    check: fn(&[u32], &mut [Word]) -> u64,
+    check_by_twin: fn(&[u32], &mut [Word]) -> Outcome,
+    judge: fn(&[u32], &[u8], &mut [Word], &mut [u16]) -> u64,
+    judge_by_twin: fn(&[u32], &[u8], &mut [Word], &mut [u16]) -> Outcome,
+}
+
+const ONE: Lookahead<u32> = Lookahead {
+    name: "",
+    table_words: TABLE_WORDS,
+    check: linked::check,
+    check_by_twin: twin::check,
+    judge: linked::judge,
+    judge_by_twin: twin::judge,
+};
+
+const TWO: Lookahead<u64> = Lookahead {
+    name: "2",
+    table_words: TABLE_WORDS_OF_TWO,
+    check: linked::check2,
+    check_by_twin: twin::check2,
+    judge: linked::judge2,
+    judge_by_twin: twin::judge2,
+};
+
+impl<Word: Clone + From<u32>> Lookahead<Word> {
+    fn memory(&self) -> Memory<Word> {
+        Memory { table: vec![0.into(); self.table_words], memo: vec![0; MEMO_ENTRIES] }
     }
 }
 
@@ -81,32 +109,32 @@ fn medians(calls: &mut [&mut dyn FnMut() -> u64]) -> Vec<f64> {
 
 fn print_row(what: &str, answer: &str, times: &[f64]) {
     let peg = times.get(2).map_or("-".into(), |time| format!("{time:.0}"));
-    println!("{what:<34} {answer:<9} {:>10.0} {:>10.0} {:>8.2} {peg:>10}", times[0], times[1], times[0] / times[1]);
+    println!("{what:<36} {answer:<9} {:>10.0} {:>10.0} {:>8.2} {peg:>10}", times[0], times[1], times[0] / times[1]);
 }
 
-fn time_check(what: &str, draft: &Draft) {
+fn time_check<Word: Clone + From<u32> + PartialEq>(by: &Lookahead<Word>, what: &str, draft: &Draft) {
     let words = draft.words();
-    let (mut proved, mut twin) = (Memory::new(), Memory::new());
-    let outcome = twin::check(&words, &mut twin.table);
-    let answer = linked::check(&words, &mut proved.table);
+    let (mut proved, mut twin) = (by.memory(), by.memory());
+    let outcome = (by.check_by_twin)(&words, &mut twin.table);
+    let answer = (by.check)(&words, &mut proved.table);
     assert!(answer == linked::packed(outcome) && twin.table == proved.table, "{what}: the answers differ");
     let times = medians(&mut [
-        &mut || linked::check(black_box(&words), &mut proved.table),
-        &mut || linked::packed(twin::check(black_box(&words), &mut twin.table)),
+        &mut || (by.check)(black_box(&words), &mut proved.table),
+        &mut || linked::packed((by.check_by_twin)(black_box(&words), &mut twin.table)),
     ]);
-    print_row(&format!("check {what}, {} words", words.len()), &format!("{:?}", outcome.verdict).to_lowercase(), &times);
+    print_row(&format!("check{} {what}, {} words", by.name, words.len()), &format!("{:?}", outcome.verdict).to_lowercase(), &times);
 }
 
-fn time_judge(what: &str, draft: &Draft, input: &[u8], with_peg: bool) {
+fn time_judge<Word: Clone + From<u32> + PartialEq>(by: &Lookahead<Word>, what: &str, draft: &Draft, input: &[u8], with_peg: bool) {
     let words = draft.words();
-    let (mut proved, mut twin) = (Memory::new(), Memory::new());
-    let outcome = twin::judge(&words, input, &mut twin.table, &mut twin.memo);
-    let answer = linked::judge(&words, input, &mut proved.table, &mut proved.memo);
+    let (mut proved, mut twin) = (by.memory(), by.memory());
+    let outcome = (by.judge_by_twin)(&words, input, &mut twin.table, &mut twin.memo);
+    let answer = (by.judge)(&words, input, &mut proved.table, &mut proved.memo);
     let agree = answer == linked::packed(outcome) && twin.table == proved.table && twin.memo == proved.memo;
     assert!(agree, "{what}: the answers differ");
     let letters: Vec<u8> = input.iter().map(|token| b'a' + token).collect();
-    let mut by_library = || linked::judge(black_box(&words), black_box(input), &mut proved.table, &mut proved.memo);
-    let mut by_twin = || linked::packed(twin::judge(black_box(&words), black_box(input), &mut twin.table, &mut twin.memo));
+    let mut by_library = || (by.judge)(black_box(&words), black_box(input), &mut proved.table, &mut proved.memo);
+    let mut by_twin = || linked::packed((by.judge_by_twin)(black_box(&words), black_box(input), &mut twin.table, &mut twin.memo));
     let mut by_peg = || peg::accepts(black_box(&letters)) as u64;
     let mut calls: Vec<&mut dyn FnMut() -> u64> = vec![&mut by_library, &mut by_twin];
     if with_peg {
@@ -114,32 +142,40 @@ fn time_judge(what: &str, draft: &Draft, input: &[u8], with_peg: bool) {
         calls.push(&mut by_peg);
     }
     let times = medians(&mut calls);
-    print_row(&format!("judge {what}, {} tokens", input.len()), &format!("{:?}", outcome.verdict).to_lowercase(), &times);
+    print_row(&format!("judge{} {what}, {} tokens", by.name, input.len()), &format!("{:?}", outcome.verdict).to_lowercase(), &times);
 }
 
-/// As `time_judge`, with a record that goes from call to call.
-fn time_judge_recorded(what: &str, draft: &Draft, input: &[u8]) {
+/// As `time_judge`, for a client, with a record that goes from call to call; share and limit are not reached in the meantime.
+fn time_judge_for(what: &str, draft: &Draft, input: &[u8]) {
     let words = draft.words();
-    let (mut proved, mut twin) = (Memory::new(), Memory::new());
-    let empty = Usage::default();
-    let (outcome, record) = twin::judge_recorded(&words, input, &mut twin.table, &mut twin.memo, empty);
-    let answer = linked::judge_recorded(&words, input, &mut proved.table, &mut proved.memo, empty);
+    let (mut proved, mut twin) = (ONE.memory(), ONE.memory());
+    let (empty, allowance) = (Usages::default(), Allowance { client: 3, share: u32::MAX, limit: u32::MAX });
+    let (outcome, record) = twin::judge_for(allowance, &words, input, &mut twin.table, &mut twin.memo, &empty);
+    let answer = linked::judge_for(allowance, &words, input, &mut proved.table, &mut proved.memo, &empty);
     let agree = answer == (linked::packed(outcome), record) && twin.table == proved.table && twin.memo == proved.memo;
     assert!(agree, "{what}: the answers differ");
     let (mut kept, mut kept_by_twin) = (empty, empty);
     let times = medians(&mut [
         &mut || {
-            let (answer, next) = linked::judge_recorded(black_box(&words), black_box(input), &mut proved.table, &mut proved.memo, kept);
+            let (answer, next) = linked::judge_for(allowance, black_box(&words), black_box(input), &mut proved.table, &mut proved.memo, &kept);
             kept = next;
             answer
         },
         &mut || {
-            let (outcome, next) = twin::judge_recorded(black_box(&words), black_box(input), &mut twin.table, &mut twin.memo, kept_by_twin);
+            let (outcome, next) = twin::judge_for(allowance, black_box(&words), black_box(input), &mut twin.table, &mut twin.memo, &kept_by_twin);
             kept_by_twin = next;
             linked::packed(outcome)
         },
     ]);
-    print_row(&format!("recorded {what}, {} tokens", input.len()), &format!("{:?}", outcome.verdict).to_lowercase(), &times);
+    print_row(&format!("client {what}, {} tokens", input.len()), &format!("{:?}", outcome.verdict).to_lowercase(), &times);
+}
+
+/// The totals of a record.
+fn time_totals() {
+    let usages = Usages::default();
+    assert!(linked::totals(&usages) == twin::totals(&usages), "the totals differ");
+    let times = medians(&mut [&mut || linked::totals(black_box(&usages))[3], &mut || twin::totals(black_box(&usages))[3]]);
+    print_row("totals of eight clients", "", &times);
 }
 
 fn time_plain(what: &str, draft: &Draft, input: &[u8]) {
@@ -158,7 +194,7 @@ fn time_plain(what: &str, draft: &Draft, input: &[u8]) {
 /// As `time_judge`, with the parse tree.
 fn time_tree(what: &str, draft: &Draft, input: &[u8]) {
     let words = draft.words();
-    let (mut proved, mut twin) = (Memory::new(), Memory::new());
+    let (mut proved, mut twin) = (ONE.memory(), ONE.memory());
     let (mut tree, mut tree_by_twin) = (vec![0; MEMO_ENTRIES], vec![0; MEMO_ENTRIES]);
     let (outcome, written) = twin::judge_tree(&words, input, &mut twin.table, &mut twin.memo, &mut tree_by_twin);
     let answer = linked::tree(&words, input, &mut proved.table, &mut proved.memo, &mut tree);
@@ -183,30 +219,38 @@ fn main() {
     } else {
         println!("peg: not installed, so not timed");
     }
-    println!("{:<34} {:<9} {:>10} {:>10} {:>8} {:>10}", "", "", "proved", "twin", "ratio", "peg");
-    time_check("card R", &cards::card_r());
-    time_check("card M", &cards::card_m());
-    time_check("chain of 32", &cards::chain(32, 1));
-    time_check("chain, last first", &cards::chain(32, 1).reversed());
-    time_check("23 negatives", &cards::negatives(25));
-    time_check("largest", &cards::largest());
-    time_check("long chain", &cards::long_chain());
-    time_check("slowest found", &cards::slowest());
+    println!("{:<36} {:<9} {:>10} {:>10} {:>8} {:>10}", "", "", "proved", "twin", "ratio", "peg");
+    time_check(&ONE, "card R", &cards::card_r());
+    time_check(&ONE, "card M", &cards::card_m());
+    time_check(&ONE, "chain of 32", &cards::chain(32, 1));
+    time_check(&ONE, "chain, last first", &cards::chain(32, 1).reversed());
+    time_check(&ONE, "23 negatives", &cards::negatives(25));
+    time_check(&ONE, "largest", &cards::largest());
+    time_check(&ONE, "long chain", &cards::long_chain());
+    time_check(&ONE, "slowest found", &cards::slowest(1));
     for (before, nested) in [(0, 0), (10, 20), (100, 200)] {
-        time_judge("card M", &cards::card_m(), &axles(before, nested), peg::MADE);
+        time_judge(&ONE, "card M", &cards::card_m(), &axles(before, nested), peg::MADE);
     }
-    time_judge_recorded("card M", &cards::card_m(), &axles(10, 20));
+    time_judge_for("card M", &cards::card_m(), &axles(10, 20));
+    time_totals();
     time_tree("card M", &cards::card_m(), &axles(10, 20));
-    time_tree("chain of 32", &cards::chain(32, 1), &[0; 500]);
-    for tokens in [0, 50, 500] {
-        time_judge("chain of 32", &cards::chain(32, 1), &vec![0; tokens], false);
+    time_tree("chain of 32", &cards::chain(32, 1), &[0; MAX_TOKENS]);
+    for tokens in [0, 50, MAX_TOKENS] {
+        time_judge(&ONE, "chain of 32", &cards::chain(32, 1), &vec![0; tokens], false);
     }
-    for tokens in [0, 50, 500] {
-        time_judge("23 negatives", &cards::negatives(25), &vec![0; tokens], false);
+    for tokens in [0, 50, MAX_TOKENS] {
+        time_judge(&ONE, "23 negatives", &cards::negatives(25), &vec![0; tokens], false);
     }
     let longest = [0; MAX_PLAIN_TOKENS];
     time_plain("card M", &cards::card_m(), &axles(14, 17));
     time_plain("chain of 32", &cards::chain(32, 1), &longest);
     time_plain("23 negatives", &cards::negatives(25), &longest);
     time_plain("slowest found", &cards::slowest_plain(), &longest);
+    time_check(&TWO, "card M", &cards::card_m());
+    time_check(&TWO, "ladder", &cards::ladder());
+    time_check(&TWO, "chain, last first", &cards::chain(32, 7).reversed());
+    time_check(&TWO, "slowest found", &cards::slowest(2));
+    time_judge(&TWO, "card M", &cards::card_m(), &axles(10, 20), false);
+    time_judge(&TWO, "ladder", &cards::ladder(), &[0, 1, 3].repeat(16), false);
+    time_judge(&TWO, "chain of 32", &cards::chain(32, 7), &[0; MAX_TOKENS], false);
 }

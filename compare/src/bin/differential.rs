@@ -6,7 +6,7 @@ mod histories;
 mod linked;
 
 use compare::cards::{self, rule, Draft, Random, WESTWARD};
-use compare::twin::{self, Gaps, Grammar, Outcome, Symbol, Verdict, MAX_PLAIN_TOKENS, MAX_TOKENS, MEMO_ENTRIES, SPAN_WORDS, TABLE_WORDS};
+use compare::twin::{self, Gaps, Grammar, Outcome, Symbol, Verdict, MAX_PLAIN_TOKENS, MAX_TOKENS, MEMO_ENTRIES, SPAN_WORDS, TABLE_WORDS, TABLE_WORDS_OF_TWO};
 use std::{fmt::Debug, process::ExitCode, thread, time::Instant};
 
 /// How many words or entries lie before and behind what is lent, and must not change.
@@ -27,6 +27,8 @@ const REFUSALS: [usize; 12] = [1, 2, 3, 4, 5, 6, 7, 8, 13, 9, 10, 11];
 const PLAIN_REFUSAL: usize = 12;
 /// And that of judging with a tree alone.
 const TREE_REFUSAL: usize = 14;
+/// The refusals with two letters of lookahead, in their order.
+const WIDE_REFUSALS: [usize; 13] = [17, 2, 3, 4, 18, 5, 6, 7, 8, 13, 9, 10, 11];
 const DEFAULT_SEED: u64 = 1;
 const DEFAULT_COUNT: u64 = 150_000;
 /// How many random cases there are for each random history.
@@ -39,12 +41,14 @@ struct Memory {
     memo: Vec<u16>,
     spans: Vec<u32>,
     tree: Vec<u32>,
+    table2: Vec<u64>,
 }
 
 impl Memory {
     fn random(random: &mut Random) -> Memory {
         let (table, memo) = (vec![0; TABLE_WORDS + 200], vec![0; MEMO_ENTRIES + 200]);
-        let mut memory = Memory { table, memo, spans: vec![0; SPAN_WORDS + 200], tree: vec![0; MEMO_ENTRIES + 200] };
+        let (spans, tree) = (vec![0; SPAN_WORDS + 200], vec![0; MEMO_ENTRIES + 200]);
+        let mut memory = Memory { table, memo, spans, tree, table2: vec![0; TABLE_WORDS_OF_TWO + 200] };
         memory.refill(random);
         memory
     }
@@ -54,10 +58,16 @@ impl Memory {
         random.fill_entries(&mut self.memo);
         random.fill_words(&mut self.spans);
         random.fill_words(&mut self.tree);
+        random.fill_wide_words(&mut self.table2);
     }
 
     fn lend(&mut self, lengths: Lengths) -> (&mut [u32], &mut [u16]) {
         (&mut self.table[GUARD..GUARD + lengths.table], &mut self.memo[GUARD..GUARD + lengths.memo])
+    }
+
+    /// With a table for two letters of lookahead.
+    fn lend_wide(&mut self, lengths: Lengths) -> (&mut [u64], &mut [u16]) {
+        (&mut self.table2[GUARD..GUARD + lengths.table2], &mut self.memo[GUARD..GUARD + lengths.memo])
     }
 
     fn lend_spans(&mut self, lengths: Lengths) -> &mut [u32] {
@@ -76,13 +86,19 @@ struct Lengths {
     table: usize,
     memo: usize,
     spans: usize,
+    table2: usize,
 }
 
 impl Lengths {
-    const LEAST: Lengths = Lengths { table: TABLE_WORDS, memo: MEMO_ENTRIES, spans: SPAN_WORDS };
+    const LEAST: Lengths = Lengths { table: TABLE_WORDS, memo: MEMO_ENTRIES, spans: SPAN_WORDS, table2: TABLE_WORDS_OF_TWO };
 
     fn random(random: &mut Random) -> Lengths {
-        Lengths { table: length(random, TABLE_WORDS), memo: length(random, MEMO_ENTRIES), spans: length(random, SPAN_WORDS) }
+        Lengths {
+            table: length(random, TABLE_WORDS),
+            memo: length(random, MEMO_ENTRIES),
+            spans: length(random, SPAN_WORDS),
+            table2: length(random, TABLE_WORDS_OF_TWO),
+        }
     }
 }
 
@@ -96,17 +112,56 @@ fn length(random: &mut Random, enough: usize) -> usize {
     }
 }
 
+/// How often each outcome was seen.
+#[derive(Default)]
+struct Outcomes {
+    refused: [u64; CODES],
+    passed: u64,
+    rejected: u64,
+    accepted: u64,
+}
+
+impl Outcomes {
+    fn add(&mut self, outcome: Outcome) {
+        match outcome.verdict {
+            Verdict::Refused => self.refused[outcome.code as usize] += 1,
+            Verdict::Passed => self.passed += 1,
+            Verdict::Rejected => self.rejected += 1,
+            Verdict::Accepted => self.accepted += 1,
+        }
+    }
+
+    fn verdicts(&self) -> u64 {
+        self.rejected + self.accepted
+    }
+
+    fn print(&self, codes: &[usize]) {
+        for &code in codes {
+            println!("  refused {code:<2} {:>9}", self.refused[code]);
+        }
+        println!("  passed     {:>9}", self.passed);
+        println!("  rejected   {:>9}", self.rejected);
+        println!("  accepted   {:>9}", self.accepted);
+    }
+
+    /// Whether these refusals and both verdicts were seen.
+    fn judged(&self, codes: &[usize]) -> bool {
+        codes.iter().map(|&code| self.refused[code]).chain([self.rejected, self.accepted]).all(|times| times > 0)
+    }
+}
+
 /// How often each outcome was seen, and how many cases there were and differed.
 #[derive(Default)]
 struct Tally {
     cases: u64,
     differ: u64,
-    refused: [u64; CODES],
+    outcomes: Outcomes,
+    /// Those with two letters of lookahead, which are counted above too.
+    wide: Outcomes,
+    /// Verdicts with two letters of lookahead by a grammar that passes with one, and by one that clashes with one.
+    wide_verdicts: [u64; 2],
     /// Words of trees.
     vertices: u64,
-    passed: u64,
-    rejected: u64,
-    accepted: u64,
     /// Verdicts by a grammar in which a rule has negative conjuncts alone.
     forbidding: u64,
     /// Verdicts on events of which some are westward.
@@ -122,25 +177,11 @@ impl Tally {
         self.cases += 1;
         self.calls += outcome.count as u64;
         self.most_calls = self.most_calls.max(outcome.count);
-        match outcome.verdict {
-            Verdict::Refused => self.refused[outcome.code as usize] += 1,
-            Verdict::Passed => self.passed += 1,
-            Verdict::Rejected => self.rejected += 1,
-            Verdict::Accepted => self.accepted += 1,
-        }
-    }
-
-    fn verdicts(&self) -> u64 {
-        self.rejected + self.accepted
+        self.outcomes.add(outcome);
     }
 
     fn print(&self) {
-        for code in REFUSALS {
-            println!("  refused {code:<2} {:>9}", self.refused[code]);
-        }
-        println!("  passed     {:>9}", self.passed);
-        println!("  rejected   {:>9}", self.rejected);
-        println!("  accepted   {:>9}", self.accepted);
+        self.outcomes.print(&REFUSALS);
         println!("  verdicts by a grammar with a rule of negatives alone {}", self.forbidding);
         println!("  verdicts on events with directions {}", self.westward);
         println!("  plain verdicts by grammars that pass {}, by clashing ones {}", self.plain[0], self.plain[1]);
@@ -148,15 +189,22 @@ impl Tally {
         println!("  calls of nonterminals {}, in one descent at most {}", self.calls, self.most_calls);
     }
 
+    fn print_wide(&self) {
+        println!("  of these, with two letters of lookahead:");
+        self.wide.print(&WIDE_REFUSALS);
+        println!("  verdicts by grammars that pass with one letter {}, by clashing ones {}", self.wide_verdicts[0], self.wide_verdicts[1]);
+    }
+
     /// Whether every outcome of judging was seen.
     fn judged(&self) -> bool {
-        REFUSALS.iter().map(|&code| self.refused[code]).chain([self.rejected, self.accepted]).all(|times| times > 0)
+        self.outcomes.judged(&REFUSALS)
     }
 
     /// Whether every outcome that the papers know was seen.
     fn complete(&self) -> bool {
-        let others = [self.passed, self.forbidding, self.westward, self.refused[PLAIN_REFUSAL], self.refused[TREE_REFUSAL]];
-        self.judged() && others.iter().chain(&self.plain).all(|&times| times > 0)
+        let refused = self.outcomes.refused;
+        let others = [self.outcomes.passed, self.forbidding, self.westward, refused[PLAIN_REFUSAL], refused[TREE_REFUSAL], self.wide.passed];
+        self.judged() && self.wide.judged(&WIDE_REFUSALS) && others.iter().chain(&self.plain).chain(&self.wide_verdicts).all(|&times| times > 0)
     }
 }
 
@@ -215,6 +263,33 @@ impl Pair {
         self.settle("tree", agree, expected, answer, words, input, lengths)
     }
 
+    fn check2(&mut self, words: &[u32], lengths: Lengths) -> Outcome {
+        let expected = twin::check2(words, self.twin.lend_wide(lengths).0);
+        let answer = linked::check2(words, self.proved.lend_wide(lengths).0);
+        let agree = answer == linked::packed(expected) && self.twin.table2 == self.proved.table2;
+        self.tally.wide.add(expected);
+        self.settle("check2", agree, expected, answer, words, &[], lengths)
+    }
+
+    /// Judges with two letters of lookahead, after one gave the other outcome: what passes with one letter never clashes with two, and where
+    /// both give a verdict it is the same.
+    fn judge2(&mut self, words: &[u32], input: &[u8], lengths: Lengths, with_one: Outcome) -> Outcome {
+        let (table, memo) = self.twin.lend_wide(lengths);
+        let expected = twin::judge2(words, input, table, memo);
+        let (table, memo) = self.proved.lend_wide(lengths);
+        let answer = linked::judge2(words, input, table, memo);
+        let (refused, refused_with_one) = (expected.verdict == Verdict::Refused, with_one.verdict == Verdict::Refused);
+        let lawful = refused_with_one || if refused { expected.code != 9 } else { expected.verdict == with_one.verdict };
+        let agree = answer == linked::packed(expected)
+            && self.twin.table2 == self.proved.table2
+            && self.twin.memo == self.proved.memo
+            && lawful;
+        self.tally.wide.add(expected);
+        self.tally.wide_verdicts[0] += u64::from(!refused && !refused_with_one);
+        self.tally.wide_verdicts[1] += u64::from(!refused && with_one.code == 9);
+        self.settle("judge2", agree, expected, answer, words, input, lengths)
+    }
+
     fn settle(&mut self, call: &str, agree: bool, expected: Outcome, answer: u64, words: &[u32], input: &[u8], lengths: Lengths) -> Outcome {
         self.tally.add(expected);
         if !agree {
@@ -229,6 +304,7 @@ impl Pair {
                 print_first_difference("memo", &self.twin.memo, &self.proved.memo);
                 print_first_difference("spans", &self.twin.spans, &self.proved.spans);
                 print_first_difference("tree", &self.twin.tree, &self.proved.tree);
+                print_first_difference("table2", &self.twin.table2, &self.proved.table2);
             }
             self.proved = self.twin.clone();
         }
@@ -245,6 +321,16 @@ fn print_first_difference<T: PartialEq + Debug>(name: &str, twin: &[T], proved: 
     if let Some(at) = (0..twin.len()).find(|&at| twin[at] != proved[at]) {
         let place = at as isize - GUARD as isize;
         println!("  {name}[{place}]: the twin has {:?}, the library {:?}", twin[at], proved[at]);
+    }
+}
+
+/// A verdict with the code and position of a refusal, else with the count and the farthest place.
+type Stated = (Verdict, u16, u16);
+
+fn told(outcome: Outcome) -> Stated {
+    match outcome.verdict {
+        Verdict::Refused => (outcome.verdict, outcome.code as u16, outcome.position),
+        _ => (outcome.verdict, outcome.count, outcome.farthest),
     }
 }
 
@@ -325,11 +411,7 @@ fn stated_cases(pair: &mut Pair) {
         pair.check(&words, Lengths::LEAST);
         let outcome = pair.judge(&words, &input, Lengths::LEAST);
         pair.tree(&words, &input, Lengths::LEAST, MEMO_ENTRIES);
-        let told = match verdict {
-            Refused => (outcome.code as u16, outcome.position),
-            _ => (outcome.count, outcome.farthest),
-        };
-        if (outcome.verdict, told) != (verdict, (first, second)) {
+        if told(outcome) != (verdict, first, second) {
             pair.tally.differ += 1;
             println!("the papers state {verdict:?} {first} {second}, the twin answers {outcome:?}");
         }
@@ -369,6 +451,61 @@ fn stated_plain_cases(pair: &mut Pair) {
     }
 }
 
+/// Rows for the sentences of request P10, and what the papers give with two letters of lookahead, and with one.
+fn stated_wide_cases(pair: &mut Pair) {
+    use Verdict::{Accepted, Refused, Rejected};
+    let [a, b, c] = [0, 1, 2].map(Symbol::Terminal);
+    let [x, y] = [1, 2].map(Symbol::Nonterminal);
+    let three = |nonterminals, rules| Draft { nonterminals, terminals: 3, rules }.words();
+    let ladder = cards::ladder().words();
+    let deepest = cards::chain(32, 7).words();
+    let letters = |terminals| Draft { terminals, ..cards::chain(32, 7) }.words();
+    let twice = |body: &[Symbol]| three(2, vec![rule(0, &[&[a, x]], &[]), rule(1, &[body], &[]), rule(1, &[body], &[])]);
+    let each = |nonterminal| [rule(nonterminal, &[&[b]], &[]), rule(nonterminal, &[&[]], &[])];
+    let alike = three(3, [vec![rule(0, &[&[x]], &[]), rule(0, &[&[y]], &[])], each(1).to_vec(), each(2).to_vec()].concat());
+    let begun_alike = three(1, vec![rule(0, &[&[a, b], &[a, c]], &[])]);
+    let forbids = three(1, vec![rule(0, &[], &[&[a]])]);
+    let least = Lengths::LEAST;
+    let (short, no_memo) = (Lengths { table2: TABLE_WORDS_OF_TWO - 1, ..least }, Lengths { memo: MEMO_ENTRIES - 1, ..least });
+    let neither = Lengths { table2: TABLE_WORDS_OF_TWO - 1, ..no_memo };
+    let rows: Vec<(Vec<u32>, Vec<u8>, Lengths, Stated, Stated)> = vec![
+        (ladder.clone(), vec![], least, (Accepted, 3, 0), (Refused, 9, 64)),
+        (ladder.clone(), vec![0, 2, 0, 1, 3, 0, 2], least, (Accepted, 14, 7), (Refused, 9, 64)),
+        (ladder.clone(), vec![0, 2, 0, 2, WESTWARD, 2], least, (Rejected, 12, 6), (Refused, 9, 64)),
+        (ladder.clone(), vec![0, 5, 5], least, (Refused, 11, 1), (Refused, 9, 64)),
+        (ladder.clone(), vec![], short, (Refused, 17, 0), (Refused, 9, 64)),
+        (ladder.clone(), vec![], no_memo, (Refused, 2, 0), (Refused, 2, 0)),
+        (vec![], vec![], neither, (Refused, 17, 0), (Refused, 2, 0)),
+        (deepest.clone(), vec![0; MAX_TOKENS], least, (Accepted, 16_032, 500), (Accepted, 16_032, 500)),
+        (deepest, vec![0; MAX_TOKENS + 1], least, (Refused, 10, 0), (Refused, 10, 0)),
+        (letters(8), vec![], least, (Refused, 18, 0), (Accepted, 32, 0)),
+        (letters(24), vec![], least, (Refused, 18, 0), (Accepted, 32, 0)),
+        (letters(25), vec![], least, (Refused, 4, 0), (Refused, 4, 0)),
+        // 18 comes before a faulty word, and behind a faulty heading
+        (vec![1 << 28 | 8 << 8 | 1, 0], vec![], least, (Refused, 18, 0), (Refused, 5, 1)),
+        (vec![1 << 28 | 1 << 16 | 8 << 8 | 1, 0], vec![], least, (Refused, 4, 0), (Refused, 4, 0)),
+        (forbids, vec![], least, (Refused, 5, 2), (Accepted, 1, 0)),
+        // the columns: b alone and the end, two pairs of letters, a last letter, the end alone
+        (alike, vec![], least, (Refused, 9, 0), (Refused, 9, 1)),
+        (twice(&[a, c]), vec![], least, (Refused, 9, 64 + 10), (Refused, 9, 32)),
+        (twice(&[c, a]), vec![], least, (Refused, 9, 64 + 22), (Refused, 9, 34)),
+        (twice(&[b]), vec![], least, (Refused, 9, 64 + 2), (Refused, 9, 33)),
+        (twice(&[]), vec![], least, (Refused, 9, 64), (Refused, 9, 35)),
+        (begun_alike, vec![0, 1], least, (Refused, 13, 0), (Rejected, 1, 0)),
+    ];
+    for (words, input, lengths, stated, stated_with_one) in rows {
+        pair.check2(&words, lengths);
+        let with_one = pair.judge(&words, &input, lengths);
+        let outcome = pair.judge2(&words, &input, lengths, with_one);
+        for (outcome, stated) in [(outcome, stated), (with_one, stated_with_one)] {
+            if told(outcome) != stated {
+                pair.tally.differ += 1;
+                println!("the papers state {stated:?}, the twin answers {outcome:?}");
+            }
+        }
+    }
+}
+
 /// Whether these words are those of a grammar in which a rule has negative conjuncts alone.
 fn only_forbids(words: &[u32]) -> bool {
     Grammar::read(words).is_ok_and(|grammar| grammar.rules.iter().any(|rule| grammar.only_forbids(rule)))
@@ -391,6 +528,8 @@ fn random_cases(pair: &mut Pair, seed: u64, count: u64) {
         }
         let outcome = pair.judge(&words, &events, lengths);
         pair.tree(&words, &events, lengths, tree);
+        pair.check2(&words, lengths);
+        pair.judge2(&words, &events, lengths, outcome);
         pair.tally.westward += u64::from(outcome.verdict != Verdict::Refused && events.iter().any(|event| event & WESTWARD != 0));
         pair.tally.forbidding += u64::from(outcome.verdict != Verdict::Refused && only_forbids(&words));
         if pair.tally.differ > differ {
@@ -418,15 +557,19 @@ impl SmallCases {
 
     fn grammars(&self, pair: &mut Pair, words: &mut Vec<u32>) {
         let outcome = pair.check(words, Lengths::LEAST);
+        let wide = pair.check2(words, Lengths::LEAST);
         let faulty = matches!(outcome.code, 3..=7) && (outcome.position as usize) < words.len();
         if outcome.code == 9 {
             self.plain_inputs(pair, words, &mut Vec::new());
         }
+        if outcome.code == 9 && wide.verdict == Verdict::Passed {
+            self.wide_inputs(pair, words, &mut Vec::new(), outcome);
+        }
         if outcome.verdict == Verdict::Passed {
-            let before = pair.tally.verdicts();
+            let before = pair.tally.outcomes.verdicts();
             self.inputs(pair, words, &mut Vec::new());
             if only_forbids(words) {
-                pair.tally.forbidding += pair.tally.verdicts() - before;
+                pair.tally.forbidding += pair.tally.outcomes.verdicts() - before;
             }
         }
         if faulty || words.len() == self.most_words {
@@ -452,8 +595,22 @@ impl SmallCases {
         }
     }
 
+    /// A grammar that clashes with one letter of lookahead, and passes with two.
+    fn wide_inputs(&self, pair: &mut Pair, words: &[u32], input: &mut Vec<u8>, with_one: Outcome) {
+        let outcome = pair.judge2(words, input, Lengths::LEAST, with_one);
+        if outcome.code == 11 || input.len() == self.most_tokens {
+            return;
+        }
+        for token in 0..self.tokens {
+            input.push(token);
+            self.wide_inputs(pair, words, input, with_one);
+            input.pop();
+        }
+    }
+
     fn inputs(&self, pair: &mut Pair, words: &[u32], input: &mut Vec<u8>) {
         let outcome = pair.judge(words, input, Lengths::LEAST);
+        pair.judge2(words, input, Lengths::LEAST, outcome);
         if input.len() <= MOST_PLAIN {
             pair.judge_plain(words, input, Lengths::LEAST);
         }
@@ -474,23 +631,25 @@ fn run(seed: u64, count: u64) -> bool {
     let memory = Memory::random(&mut random);
     let mut pair = Pair { twin: memory.clone(), proved: memory, tally: Tally::default() };
 
-    println!("stated: the judged inputs and limits of document 01, and rows of the requests P1, P2 and P5 to P8");
+    println!("stated: the judged inputs and limits of document 01, and rows of the requests P1, P2 and P5 to P10");
     stated_cases(&mut pair);
     histories::stated_histories(&mut pair);
     stated_plain_cases(&mut pair);
+    stated_wide_cases(&mut pair);
     println!("  {} cases, {} differ", pair.tally.cases, pair.tally.differ);
     let stated_tally = std::mem::take(&mut pair.tally);
 
     let start = Instant::now();
-    println!("random: seed {seed}, {count} grammars and inputs, each checked, judged and judged with a tree");
+    println!("random: seed {seed}, {count} grammars and inputs, each checked, judged, judged with a tree, and with two letters of lookahead");
     random_cases(&mut pair, seed, count);
     pair.tally.print();
+    pair.tally.print_wide();
     let complete = pair.tally.complete();
     println!("  {} cases, {} differ, {:.1} s", pair.tally.cases, pair.tally.differ, start.elapsed().as_secs_f64());
     let random_tally = std::mem::take(&mut pair.tally);
 
     let start = Instant::now();
-    println!("recorded: seed {seed}, random histories of judgements, each with the record that the one before handed back");
+    println!("recorded: seed {seed}, random histories of judgements for clients, each with the record that the one before handed back");
     let seen = histories::random_histories(&mut pair, seed, count / CASES_A_HISTORY);
     pair.tally.print();
     seen.print();
@@ -507,6 +666,7 @@ fn run(seed: u64, count: u64) -> bool {
         small.grammars(&mut pair, &mut vec![1 << 28 | terminals << 8 | nonterminals]);
     }
     pair.tally.print();
+    pair.tally.print_wide();
     println!("  {} cases, {} differ, {:.1} s", pair.tally.cases, pair.tally.differ, start.elapsed().as_secs_f64());
 
     let tallies = [&stated_tally, &random_tally, &recorded_tally, &pair.tally];

@@ -8,20 +8,22 @@ fn bytes_of(field: &str) -> Vec<u8> {
     (0..digits.len() / 2).map(|i| u8::from_str_radix(&digits[2 * i..2 * i + 2], 16).expect("hex digits")).collect()
 }
 
+fn sizes(field: &str) -> Vec<usize> {
+    field.split(' ').map(|size| size.parse().expect("a size")).collect()
+}
+
 fn recorded_call(call: &str, card: &str, log: &str) -> String {
-    let (name, sizes) = call.split_once(' ').expect("a call and sizes");
-    let sizes: Vec<usize> = sizes.split(' ').map(|size| size.parse().expect("a size")).collect();
-    text::call(name, &sizes, &bytes_of(card), &bytes_of(log))
+    let (name, numbers) = call.split_once(' ').expect("a call and sizes");
+    text::call(name, &sizes(numbers), &bytes_of(card), &bytes_of(log))
 }
 
 /// The words of the tree, or the answer where it is another one.
 fn recorded_tree(card: &str, log: &str, rooms: &str, verdict: &str) -> String {
-    let rooms: Vec<usize> = rooms.split(' ').map(|room| room.parse().expect("a number")).collect();
+    let rooms = sizes(rooms);
     let words: Vec<u32> = bytes_of(card).chunks_exact(4).map(|bytes| u32::from_le_bytes(bytes.try_into().expect("four bytes"))).collect();
     let (mut table, mut memo, mut tree) = (vec![0; rooms[0]], vec![0; rooms[1]], vec![0; rooms[2]]);
     let (outcome, written) = twin::judge_tree(&words, &bytes_of(log), &mut table, &mut memo, &mut tree);
-    let numbers = [outcome.code as u16, outcome.position, outcome.count, outcome.farthest].map(|number| number.to_string()).join(" ");
-    let answer = format!("{:?} {numbers}", outcome.verdict).to_lowercase();
+    let answer = text::answered(outcome);
     if answer != verdict {
         return answer;
     }
@@ -44,12 +46,17 @@ fn main() -> ExitCode {
         let kind = name.rsplit('_').next().expect("a part");
         let rows = fs::read_to_string(&path).expect("the recorded rows");
         let (mut run, mut wrong) = (0, 0);
+        let mut record = twin::Usages::default();
         for (number, row) in rows.lines().enumerate() {
             if row.trim().is_empty() || row.starts_with('#') {
                 continue;
             }
             let fields: Vec<&str> = row.split('|').map(str::trim).collect();
-            let told = if kind == "plain" { 2 } else { 1 };
+            let told = match kind {
+                "plain" | "check2" | "judge2" => 2,
+                "usage" => 3,
+                _ => 1,
+            };
             let (given, expected) = fields.split_at(fields.len().saturating_sub(told));
             let expected = expected.join(" | ");
             let printed = match (kind, given) {
@@ -59,6 +66,9 @@ fn main() -> ExitCode {
                 ("calls", [call, card]) => recorded_call(call, card, "-"),
                 ("calls", [call, card, log]) => recorded_call(call, card, log),
                 ("plain", [card, log, lent]) => text::plain(&bytes_of(card), &bytes_of(log), lent.parse().expect("a size")),
+                ("check2", [card, lent]) => text::check2(&bytes_of(card), sizes(lent)[0]),
+                ("judge2", [card, log, lent]) => text::judge2(&bytes_of(card), &bytes_of(log), sizes(lent).try_into().expect("two sizes")),
+                ("usage", [_, before, allowance, card, log, rooms]) => text::usage(&mut record, before, allowance, &bytes_of(card), &bytes_of(log), rooms),
                 ("tree", [card, log, rooms, verdict]) => recorded_tree(card, log, rooms, verdict),
                 _ => panic!("{name}.txt:{}: not a row", number + 1),
             };

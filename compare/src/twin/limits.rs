@@ -10,6 +10,9 @@ pub const MAX_PLAIN_TOKENS: usize = 48;
 
 /// The least number of words of a lent table (document 01: plate).
 pub const TABLE_WORDS: usize = 864;
+/// The most letters with two of them to look at, and the least number of words of a lent table for that.
+pub const MAX_TERMINALS_OF_TWO: usize = 7;
+pub const TABLE_WORDS_OF_TWO: usize = 1_888;
 /// The least number of entries of a lent memo table (document 01: notebook).
 pub const MEMO_ENTRIES: usize = 16_032;
 
@@ -22,3 +25,6 @@ pub const NO_RULE: u32 = 4_294_967_295;
 pub const FAILED: u16 = 65_534;
 /// A memo entry of a pair that was not called.
 pub const NOT_CALLED: u16 = 65_535;
+
+/// How many clients one judge has (document 02: boxes).
+pub const CLIENTS: usize = 8;

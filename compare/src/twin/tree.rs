@@ -4,14 +4,15 @@ use super::answers::{Outcome, Refusal, Verdict};
 use super::calls::{enough, judge, letters};
 use super::limits::{MEMO_ENTRIES, TABLE_WORDS};
 use super::lookahead::string;
-use super::one::{Passed, K, LETTERS};
+use super::one::{One, K, LETTERS};
+use super::passed::Passed;
 use super::words::Symbol;
 
 /// What the top four bits of a vertex are.
 const KIND: u32 = 8 << 28;
 
 struct Tree<'a> {
-    passed: &'a Passed,
+    passed: &'a Passed<K, LETTERS>,
     input: &'a [u8],
     memo: &'a [u16],
     /// Which pairs of a nonterminal and a place have been met.
@@ -51,7 +52,7 @@ fn try_judge_tree(words: &[u32], events: &[u8], table: &mut [u32], memo: &mut [u
     if outcome.verdict != Verdict::Accepted {
         return Ok((outcome, 0));
     }
-    let passed = Passed::check(words)?;
+    let passed = Passed::check::<One>(words)?;
     let input = letters(events);
     let met = vec![false; passed.grammar.nonterminals * (input.len() + 1)];
     let mut found = Tree { passed: &passed, input: &input, memo, met, words: Vec::new() };

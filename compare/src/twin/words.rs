@@ -1,4 +1,4 @@
-//! Reading a grammar from its words (codes 3 to 7).
+//! Reading a grammar from its words (codes 3 to 7, and 18).
 
 use super::answers::Refusal;
 use super::limits::{MAX_NONTERMINALS, MAX_RULES, MAX_TERMINALS, MAX_WORDS};
@@ -45,9 +45,20 @@ enum State {
     Ended,
 }
 
+/// Which grammars are read: those of at most so many letters (more is 18), and rules of negative conjuncts alone too, or not (5).
+#[derive(Clone, Copy)]
+pub struct Reading {
+    pub letters: usize,
+    pub forbidding: bool,
+}
+
 impl Grammar {
     /// The grammar of these words, or the first fault in them (codes 3 to 7).
     pub fn read(words: &[u32]) -> Result<Grammar, Refusal> {
+        Grammar::read_as(words, Reading { letters: MAX_TERMINALS, forbidding: true })
+    }
+
+    pub fn read_as(words: &[u32], reading: Reading) -> Result<Grammar, Refusal> {
         if words.len() > MAX_WORDS {
             return Err(Refusal(3, 0));
         }
@@ -62,6 +73,9 @@ impl Grammar {
         {
             return Err(Refusal(4, 0));
         }
+        if terminals > reading.letters {
+            return Err(Refusal(18, 0));
+        }
         let mut grammar = Grammar {
             nonterminals,
             terminals,
@@ -72,7 +86,7 @@ impl Grammar {
         let mut state = State::BeforeRules;
         for (index, &word) in rest.iter().enumerate() {
             let position = index + 1;
-            state = grammar.read_word(state, word).map_err(|code| Refusal(code, position))?;
+            state = grammar.read_word(reading, state, word).map_err(|code| Refusal(code, position))?;
         }
         if state != State::Ended {
             return Err(Refusal(5, words.len()));
@@ -80,17 +94,8 @@ impl Grammar {
         Ok(grammar)
     }
 
-    /// The grammar of these words, or why it has no meaning (codes 3 to 8).
-    pub fn read_free(words: &[u32]) -> Result<Grammar, Refusal> {
-        let grammar = Grammar::read(words)?;
-        match grammar.left_recursive() {
-            Some(nonterminal) => Err(Refusal(8, nonterminal)),
-            None => Ok(grammar),
-        }
-    }
-
     /// Takes in one word after the heading, and gives the state after it or the code of what is wrong with it.
-    fn read_word(&mut self, state: State, word: u32) -> Result<State, u8> {
+    fn read_word(&mut self, reading: Reading, state: State, word: u32) -> Result<State, u8> {
         use State::*;
         let payload = word & 0x0fff_ffff;
         let in_body = state == InPositive || state == InNegative;
@@ -110,7 +115,7 @@ impl Grammar {
                 self.begin_conjunct(false);
                 Ok(InPositive)
             }
-            4 if payload == 0 && (state == RuleBegun || in_body) => {
+            4 if payload == 0 && (state == RuleBegun && reading.forbidding || in_body) => {
                 self.begin_conjunct(true);
                 Ok(InNegative)
             }

@@ -1,7 +1,7 @@
 -- The numbers that documents 01 and 02 give to each answer: one row for each case.
 use Prim.Native.Nat.{ℕ, _+_, _*_}
 use Rattle.answer.specs.declared.Error.{Error}
-use Rattle.answer.specs.declared.Error.the-variants.{TableTooShort, MemoTooShort, Length, Heading, UnexpectedWord, OutOfRange, TooManyRules, LeftRecursive, Unproductive, Conflict, InputTooLong, UnknownToken}
+use Rattle.answer.specs.declared.Error.the-variants.{TableTooShort, MemoTooShort, Length, Heading, UnexpectedWord, OutOfRange, TooManyRules, LeftRecursive, Unproductive, Conflict, WideConflict, InputTooLong, UnknownToken}
 use Rattle.answer.specs.declared.Error.the-variants.{SpansTooShort, TreeTooShort, WideTableTooShort, BufferTooShort, UnknownClient, QuotaReached, TooManyTerminals, UnknownCheckpoint, CheckpointNotSet, InputFull, TooManyInputs}
 use Rattle.answer.specs.declared.Answer.{Answer}
 use Rattle.answer.specs.declared.Answer.the-variants.{Refused, Passed, Rejected, Accepted}
@@ -25,6 +25,7 @@ coded (TooManyRules at) = row 7 at
 coded (LeftRecursive nonterminal) = row 8 nonterminal
 coded (Unproductive nonterminal) = row 13 nonterminal
 coded (Conflict nonterminal column) = row 9 (nonterminal * 32 + column)
+coded (WideConflict nonterminal column) = row 9 (nonterminal * 64 + column)
 coded InputTooLong = row 10 0
 coded (UnknownToken at) = row 11 at
 coded SpansTooShort = row 12 0

@@ -19,6 +19,8 @@ pub enum Error {
     LeftRecursive(u8),
     Unproductive(u8),
     Conflict { nonterminal: u8, column: u8 },
+    // the same with two tokens of lookahead: a row has more columns
+    WideConflict { nonterminal: u8, column: u8 },
     // the input: its length, or a token of it, by index
     InputTooLong,
     UnknownToken(usize),
@@ -70,6 +72,10 @@ pub fn code(error: Error) -> u32
             nonterminal: _,
             column: _,
         } => 9,
+        Error::WideConflict {
+            nonterminal: _,
+            column: _,
+        } => 9,
         Error::InputTooLong => 10,
         Error::UnknownToken(_) => 11,
         Error::SpansTooShort => 12,
@@ -103,6 +109,10 @@ pub fn position(error: Error) -> usize
             nonterminal,
             column,
         } => nonterminal as usize * 32 + column as usize,
+        Error::WideConflict {
+            nonterminal,
+            column,
+        } => nonterminal as usize * 64 + column as usize,
         Error::InputTooLong => 0,
         Error::UnknownToken(at) => at,
         Error::SpansTooShort => 0,

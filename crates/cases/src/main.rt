@@ -1,12 +1,15 @@
-// Document 01's limit cases and those of requests P1, P7 and P8. Each grammar is a file; behind its name stands what the program sheet prints of it, or, for
+// Document 01's limit cases and those of requests P1, P7, P8 and P10. Each grammar is a file; behind its name stands what the program sheet prints of it, or, for
 // each input, the first line of what the program judge prints.
 ghost use Rattle.io.specs.Counts.{Counts};
 use grammar::limits::MEMO_ENTRIES;
 use grammar::limits::PLACES;
 use grammar::limits::TABLE_WORDS;
 use grammar::limits::TOKENS;
+use grammar::limits::WIDE_TABLE_WORDS;
 use grammar::limits::WORDS;
+use judgement_text::put_judgement;
 use libc::STDOUT_FILENO;
+use recognizer::wide::judge_wide;
 use report::FILE_BYTES;
 use report::INPUT_BYTES;
 use report::SHEET_ROOM;
@@ -117,6 +120,52 @@ fn deepest(path: &[u8]) {
     judged(path, &log[..TOKENS]);
 }
 
+// The verdict on an input, by a grammar, with two tokens of lookahead.
+fn judged_by_two(path: &[u8], log: &[u8], table: &mut [u64]) {
+    let mut card = [0u8; FILE_BYTES];
+    let n = read(path, &mut card);
+    let mut words = [0u32; WORDS];
+    let loaded = load(&card[..n], &mut words);
+    let Loaded::Words(count) = loaded else {
+        return;
+    };
+    let mut memo = [0u16; MEMO_ENTRIES];
+    let answer = judge_wide(&words[..count], log, table, &mut memo);
+    let mut text = [0u8; LINE];
+    put_judgement(&mut text, answer, 0, 0, &memo);
+    write_line(&text);
+}
+
+fn by_two(path: &[u8], log: &[u8]) {
+    name(path);
+    let mut table = [0u64; WIDE_TABLE_WORDS];
+    judged_by_two(path, log, &mut table);
+}
+
+// One word too few for the table.
+fn by_two_in_too_little(path: &[u8], log: &[u8]) {
+    name(path);
+    let mut table = [0u64; WIDE_TABLE_WORDS - 1];
+    judged_by_two(path, log, &mut table);
+}
+
+// Two tokens of lookahead: seven terminals and eight; a rule of negatives alone; a clash at a last token; a grammar that one token refuses; a
+// table that is too short; and the most nested calls.
+fn limits_of_two() {
+    let last = [6u8];
+    by_two(b"letters_7", &last);
+    by_two(b"letters_8", &last);
+    let cuts = [0u8, 2, 0, 1, 3, 0, 2];
+    by_two(b"must_nots_alone", &cuts);
+    by_two(b"claimed_twice", &cuts);
+    by_two(b"ladder", &cuts);
+    by_two_in_too_little(b"ladder", &cuts);
+    let log = [0u8; TOKENS];
+    by_two(b"chain", &log);
+    by_two(b"chain_of_two_musts", &log);
+    by_two(b"chain_of_must_nots", &log);
+}
+
 // The deepest tree that there can be: a vertex for each nonterminal and place.
 fn deepest_tree(path: &[u8]) {
     name(path);
@@ -150,4 +199,5 @@ fn main() {
     deepest(b"chain_of_must_nots_alone");
     deepest_tree(b"chain");
     deepest_tree(b"chain_of_two_musts");
+    limits_of_two();
 }

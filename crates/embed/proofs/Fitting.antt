@@ -4,12 +4,12 @@ use mathlib.Core.Bool.{Bool, true, false}
 use mathlib.Core.List.{List}
 use mathlib.Core.Option.{Option, none, some}
 use Prim.Native.Nat.{ℕ, suc, _≤_, _<_}
-use native.Mathlib.Decide.{decLt}
+use native.Mathlib.Decide.{decLt, decLe}
 use native.Mathlib.Nat.{mul-le-mul}
 use native.Mathlib.Omega.{arith}
 use lib.ListN.{length}
 use Rattle.answer.specs.declared.Error.{Error}
-use Rattle.answer.specs.declared.Error.the-variants.{TableTooShort, MemoTooShort, Length, Heading, UnexpectedWord, OutOfRange, TooManyRules, LeftRecursive, Unproductive, Conflict, InputTooLong, UnknownToken}
+use Rattle.answer.specs.declared.Error.the-variants.{TableTooShort, MemoTooShort, Length, Heading, UnexpectedWord, OutOfRange, TooManyRules, LeftRecursive, Unproductive, Conflict, WideConflict, InputTooLong, UnknownToken}
 use Rattle.answer.specs.declared.Error.the-variants.{SpansTooShort, TreeTooShort, WideTableTooShort, BufferTooShort, UnknownClient, QuotaReached, TooManyTerminals, UnknownCheckpoint, CheckpointNotSet, InputFull, TooManyInputs}
 use Rattle.answer.specs.declared.Calls.{Calls}
 use Rattle.answer.specs.declared.Answer.{Answer}
@@ -24,21 +24,26 @@ use Rattle.semantics.specs.Valuations.{solution}
 use Rattle.semantics.proofs.Called.{called-range}
 use Rattle.semantics.proofs.Theorems.{theorems}
 use Rattle.answer.specs.Faults.{refusedOr}
-use Rattle.recognizer.specs.Answers.{checkFault, judgeFault, callsOf, verdictOf}
-use Rattle.recognizer.specs.Properties.{Checks, Judges}
-use Rattle.recognizer.proofs.Checking.{passed-fault, passed-encodes, passed-free}
-use Rattle.recognizer.proofs.JudgeFaults.{judged-readable}
+use Rattle.lookahead.specs.declared.Lookahead.{Lookahead}
+use Rattle.lookahead.specs.Lookaheads.{tokens}
+use Rattle.recognizer.specs.Answers.{checkFaultBy, judgeFaultBy, callsBy, verdictBy, verdictOf}
+use Rattle.recognizer.specs.Properties.{ChecksBy, JudgesBy}
+use Rattle.recognizer.proofs.Checking.{passed-fault-for, passed-encodes, passed-free}
+use Rattle.recognizer.proofs.JudgeFaults.{judged-readable-by}
 use Rattle.usage.specs.declared.Usage.{Usage}
-use Rattle.recording.specs.declared.Recorded.{Recorded}
-use Rattle.recording.specs.Properties.{Records}
+use Rattle.clients.specs.declared.Served.{Served}
+use Rattle.clients.specs.declared.totals.Totals.{Totals}
+use Rattle.clients.specs.Usages.{clients, calledBy, sumBelow}
+use Rattle.clients.specs.Sums.{Totalled}
+use Rattle.clients.specs.Properties.{JudgesFor}
 use Rattle.tree_writer.specs.declared.Shown.{Shown}
 use Rattle.tree_writer.specs.Properties.{Shows}
 use Rattle.tree_writer.proofs.Showing.{short-refused}
 use Rattle.embed.specs.Packing.{Fit, NumbersFit, joined, packed, Unpacks}
 use Rattle.tabular.specs.Answers.{tabularFault, noCalls, told, tabularVerdict}
 use Rattle.tabular.specs.Properties.{TabularJudges}
-use Rattle.embed.specs.Records.{countersOf, usageIn}
-use Rattle.embed.specs.Exports.{CheckExported, JudgeExported, RecordedExported, TreeExported, TabularExported}
+use Rattle.embed.specs.Records.{usagesIn, totalsRow}
+use Rattle.embed.specs.Exports.{CheckExportedBy, JudgeExportedBy, ServedExported, TotalsExported, TreeExported, TabularExported}
 use Rattle.embed.proofs.Places.{Low, check-low, judge-low, tabular-low}
 
 code-low : (e : Error) → coded e .code < 256
@@ -52,6 +57,7 @@ code-low (TooManyRules at) = omega arith
 code-low (LeftRecursive A) = omega arith
 code-low (Unproductive A) = omega arith
 code-low (Conflict A c) = omega arith
+code-low (WideConflict A c) = omega arith
 code-low InputTooLong = omega arith
 code-low (UnknownToken at) = omega arith
 code-low SpansTooShort = omega arith
@@ -70,29 +76,29 @@ refused-fits : (e : Error) → coded e .position ≤ maxWords → NumbersFit (nu
 refused-fits e h = record { verdict = omega arith; code = code-low e; position = omega arith; count = omega arith; farthest = omega arith }
 
 -- a check
-pub check-fits : {words before after : List ℕ} {a : Answer} → Checks words before a after → NumbersFit (numbers a)
-check-fits {words} {before} {after} {a} c = rw (c .answer) (go (checkFault (length before) words) (check-low (length before) words))
+pub check-fits : {k : Lookahead} {words before after : List ℕ} {a : Answer} → ChecksBy k words before a after → NumbersFit (numbers a)
+check-fits {k} {words} {before} {after} {a} c = rw (c .answer) (go (checkFaultBy k (length before) words) (check-low k (length before) words))
   where
     go : (f : Option Error) → ((e : Error) → f ≡ some e → Low maxWords e) → NumbersFit (numbers (refusedOr f Passed))
     go none l = record { verdict = omega arith; code = omega arith; position = omega arith; count = omega arith; farthest = omega arith }
     go (some e) l = refused-fits e (l e refl)
 
 -- the calls of a descent are few, and none is far
-calls-fit : (words input : List ℕ) (table memo : ℕ) → judgeFault table memo words input ≡ none
-    → (callsOf (grammarOf words) input .count < 65536) × (callsOf (grammarOf words) input .farthest < 65536)
-calls-fit words input table memo e =
+calls-fit : (k : Lookahead) (words input : List ℕ) (table memo : ℕ) → judgeFaultBy k table memo words input ≡ none
+    → (callsBy (tokens k) (grammarOf words) input .count < 65536) × (callsBy (tokens k) (grammarOf words) input .farthest < 65536)
+calls-fit k words input table memo e =
     let G = grammarOf words in
-    let k = judged-readable words input table memo e in
-    let p = passed-fault words (k .0) in
+    let h = judged-readable-by k words input table memo e in
+    let p = passed-fault-for k words (h .0) in
     let r = passed-encodes words p in
     let free = passed-free words p in
     let some-nonterminal : 0 < G .nonterminals = r .limited .someNonterminal in
-    let own = theorems .own-rules G 1 input in
-    let c = theorems .calls-counted G (r .formed .scoped) free some-nonterminal (tableChoice G 1 input) own input in
-    let m = mul-le-mul {n₁ = G .nonterminals} {m₁ = suc (length input)} {n₂ = maxNonterminals} {m₂ = maxPlaces} (r .limited .fewNonterminals) (omega (arith, k .1)) in
+    let own = theorems .own-rules G (tokens k) input in
+    let c = theorems .calls-counted G (r .formed .scoped) free some-nonterminal (tableChoice G (tokens k) input) own input in
+    let m = mul-le-mul {n₁ = G .nonterminals} {m₁ = suc (length input)} {n₂ = maxNonterminals} {m₂ = maxPlaces} (r .limited .fewNonterminals) (omega (arith, h .1)) in
     let far = c .farthest-called in
-    let within = called-range G (tableChoice G 1 input) input (r .formed .scoped) free own some-nonterminal (far .0) (far .1) in
-    (omega (arith, c .bounded), omega (arith, far .2, within .1, k .1))
+    let within = called-range G (tableChoice G (tokens k) input) input (r .formed .scoped) free own some-nonterminal (far .0) (far .1) in
+    (omega (arith, c .bounded), omega (arith, far .2, within .1, h .1))
 
 -- a verdict with its calls
 verdict-fits : (b : Bool) (c : Calls) → (c .count < 65536) × (c .farthest < 65536) → NumbersFit (numbers (choose b (Accepted c) (Rejected c)))
@@ -100,15 +106,29 @@ verdict-fits true c h = record { verdict = omega arith; code = omega arith; posi
 verdict-fits false c h = record { verdict = omega arith; code = omega arith; position = omega arith; count = h .0; farthest = h .1 }
 
 -- a judgement
-pub judge-fits : {words input table memo table′ memo′ : List ℕ} {a : Answer} → Judges words input table memo a table′ memo′ → NumbersFit (numbers a)
-unfolding verdictOf
-judge-fits {words} {input} {table} {memo} {table′} {memo′} {a} j =
-    rw (j .answer) (go (judgeFault (length table) (length memo) words input) refl (judge-low (length table) (length memo) words input))
+pub judge-fits : {k : Lookahead} {words input table memo table′ memo′ : List ℕ} {a : Answer} → JudgesBy k words input table memo a table′ memo′
+    → NumbersFit (numbers a)
+unfolding verdictBy
+judge-fits {k} {words} {input} {table} {memo} {table′} {memo′} {a} j =
+    rw (j .answer) (go (judgeFaultBy k (length table) (length memo) words input) refl (judge-low k (length table) (length memo) words input))
   where
-    go : (f : Option Error) → judgeFault (length table) (length memo) words input ≡ f → ((x : Error) → f ≡ some x → Low maxWords x)
-        → NumbersFit (numbers (refusedOr f (choose (accepts (grammarOf words) (tableChoice (grammarOf words) 1 input) input) (Accepted (callsOf (grammarOf words) input)) (Rejected (callsOf (grammarOf words) input)))))
-    go none e l = verdict-fits (accepts (grammarOf words) (tableChoice (grammarOf words) 1 input) input) (callsOf (grammarOf words) input) (calls-fit words input (length table) (length memo) e)
+    go : (f : Option Error) → judgeFaultBy k (length table) (length memo) words input ≡ f → ((x : Error) → f ≡ some x → Low maxWords x)
+        → NumbersFit (numbers (refusedOr f (choose (accepts (grammarOf words) (tableChoice (grammarOf words) (tokens k) input) input) (Accepted (callsBy (tokens k) (grammarOf words) input)) (Rejected (callsBy (tokens k) (grammarOf words) input)))))
+    go none e l =
+        verdict-fits (accepts (grammarOf words) (tableChoice (grammarOf words) (tokens k) input) input) (callsBy (tokens k) (grammarOf words) input)
+        (calls-fit k words input (length table) (length memo) e)
     go (some x) e l = refused-fits x (l x refl)
+
+-- one for a client: turned away at place 0, or judged
+pub served-fits : {client share limit : ℕ} {words input table memo table′ memo′ : List ℕ} {us : List Usage} {x : Served}
+    → JudgesFor client share limit words input table memo us x table′ memo′ → NumbersFit (numbers (x .answer))
+served-fits {client} {share} {limit} {us = us} {x = x} j = go (decLt client clients) (decLe share (calledBy us client)) (decLe limit (sumBelow clients (calledBy us)))
+  where
+    go : Dec (client < clients) → Dec (share ≤ calledBy us client) → Dec (limit ≤ sumBelow clients (calledBy us)) → NumbersFit (numbers (x .answer))
+    go (no h) s l = rw (j .unknown .1 (omega (arith, h))) (refused-fits UnknownClient (omega arith))
+    go (yes h) (yes s) (yes l) = rw (j .turned-away .1 (h, s, l)) (refused-fits QuotaReached (omega arith))
+    go (yes h) (no s) l = judge-fits (j .let-through h (λ u. s (u .1)))
+    go (yes h) (yes s) (no l) = judge-fits (j .let-through h (λ u. l (u .2)))
 
 -- one by tabulation
 pub tabular-fits : {words input before after : List ℕ} {a : Answer} → TabularJudges words input before a after → NumbersFit (numbers a)
@@ -174,27 +194,30 @@ unpacks {r} n f e = record {
   farthest = omega (arith, e, f .verdict, f .code, f .position, f .count, f .farthest);
 }
 
-pub check-exported : {words before after : List ℕ} {a : Answer} {r : ℕ} → Checks words before a after → r ≡ packed (numbers a)
-    → CheckExported words before r after
+pub check-exported : {k : Lookahead} {words before after : List ℕ} {a : Answer} {r : ℕ} → ChecksBy k words before a after → r ≡ packed (numbers a)
+    → CheckExportedBy k words before r after
 check-exported {a = a} c e = record { answer = a; checks = c; packs = e; unpacks = unpacks (numbers a) (check-fits c) e }
 
-pub judge-exported : {words input table memo table′ memo′ : List ℕ} {a : Answer} {r : ℕ} → Judges words input table memo a table′ memo′
+pub judge-exported : {k : Lookahead} {words input table memo table′ memo′ : List ℕ} {a : Answer} {r : ℕ} → JudgesBy k words input table memo a table′ memo′
     → r ≡ packed (numbers a)
-    → JudgeExported words input table memo r table′ memo′
+    → JudgeExportedBy k words input table memo r table′ memo′
 judge-exported {a = a} j e = record { answer = a; judges = j; packs = e; unpacks = unpacks (numbers a) (judge-fits j) e }
 
-pub recorded-exported : {words input table memo table′ memo′ counters counters′ : List ℕ} {u : Usage} {x : Recorded} {r : ℕ} → u ≡ usageIn counters
-    → Records words input table memo u x table′ memo′
-    → counters′ ≡ countersOf (x .usage)
+pub served-exported : {client share limit : ℕ} {words input table memo table′ memo′ row row′ : List ℕ} {us : List Usage} {x : Served} {r : ℕ} → us ≡ usagesIn row
+    → JudgesFor client share limit words input table memo us x table′ memo′
+    → usagesIn row′ ≡ x .usages
     → r ≡ packed (numbers (x .answer))
-    → RecordedExported words input table memo counters r table′ memo′ counters′
-recorded-exported {x = x} h c w e = record {
-  recorded = x;
-  records = rw h at c;
+    → ServedExported client share limit words input table memo row r table′ memo′ row′
+served-exported {x = x} h j w e = record {
+  served = x;
+  judges = rw h at j;
   written = w;
   packs = e;
-  unpacks = unpacks (numbers (x .answer)) (judge-fits (c .judges)) e;
+  unpacks = unpacks (numbers (x .answer)) (served-fits j) e;
 }
+
+pub totals-exported : {row : List ℕ} {us : List Usage} {t : Totals} → us ≡ usagesIn row → Totalled us t → TotalsExported row (totalsRow t)
+totals-exported {t = t} h s = record { totals = t; sums = rw h at s; written = refl }
 
 pub tabular-exported : {words input before after : List ℕ} {a : Answer} {r : ℕ} → TabularJudges words input before a after → r ≡ packed (numbers a)
     → TabularExported words input before r after

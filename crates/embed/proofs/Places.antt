@@ -9,36 +9,39 @@ use lib.Dec.{ltb, ltb→lt}
 use lib.ListN.{length}
 use borrow.Author.Tests.{ltb-false}
 use Rattle.answer.specs.declared.Error.{Error}
-use Rattle.answer.specs.declared.Error.the-variants.{TableTooShort, MemoTooShort, LeftRecursive, Unproductive, Conflict, InputTooLong, UnknownToken, SpansTooShort}
+use Rattle.answer.specs.declared.Error.the-variants.{TableTooShort, MemoTooShort, LeftRecursive, Unproductive, Conflict, WideConflict, InputTooLong, UnknownToken, SpansTooShort, WideTableTooShort}
 use Rattle.answer.specs.Numbers.{coded}
 use Rattle.answer.specs.Faults.{faultIf}
 use Rattle.answer.proofs.Faults.{none-some, fault-none, EachFault, first-each}
 use Rattle.booleans.specs.Choice.{choose}
-use Rattle.grammar.specs.Limits.{maxWords, maxTokens, maxTableWords, maxMemoEntries, maxNonterminals, maxTerminals, maxTabularTokens, maxSpanWords}
+use Rattle.grammar.specs.Limits.{maxWords, maxTokens, maxMemoEntries, maxNonterminals, maxTabularTokens, maxSpanWords}
 use Rattle.grammar.specs.Syntax.{Grammar}
 use Rattle.grammar.specs.Encoding.{grammarOf}
-use Rattle.grammar.specs.Reading.{reading}
+use Rattle.lookahead.specs.declared.Lookahead.{Lookahead}
+use Rattle.lookahead.specs.declared.Lookahead.the-variants.{One, Two}
+use Rattle.lookahead.specs.Lookaheads.{tokens, alphabet}
+use Rattle.admission.specs.Admission.{admission}
+use Rattle.admission.proofs.Positions.{admission-low}
 use Rattle.grammar.specs.declared.reading.Outcome.{Outcome}
 use Rattle.grammar.specs.declared.reading.Outcome.the-variants.{Read, Faulty}
 use Rattle.grammar.proofs.WellRead.{well-read}
-use Rattle.booleans.specs.Quantifiers.{allOf}
-use Rattle.semantics.specs.Strings.{Over}
 use Rattle.semantics.specs.LeftRecursion.{leftRecursive, lowestLeftRecursive}
 use Rattle.semantics.specs.Productive.{unproductive, lowestUnproductive}
-use Rattle.semantics.specs.FirstFollow.{Entry, entries}
-use Rattle.semantics.specs.Claims.{clashes, column}
-use Rattle.booleans.proofs.Booleans.{and-l}
-use Rattle.semantics.proofs.FiniteSets.{keep-elim}
 use Rattle.booleans.proofs.Quantified.{lowest-some}
-use Rattle.semantics.proofs.LookaheadSets.{entries-elim}
 use Rattle.sets.specs.Analysis.{readingFault, leftFault, unproductiveFault, setsFaults}
+use Rattle.sets.proofs.FewTerminals.{admitted-read, few-terminals}
+use Rattle.table.specs.declared.conflicts.Conflict.{Conflict as Clash}
+use Rattle.table.specs.declared.conflicts.Conflict.the-variants as conflict
 use Rattle.table.specs.Analysis.{clashFault, grammarFaults}
+use Rattle.table.specs.Conflicts.{firstClash}
+use Rattle.table.proofs.FirstClash.{clash-at}
 use Rattle.event.specs.declared.Unknown.the-variants.{At}
 use Rattle.event.specs.Unknown.{unknownFrom, unknownFault}
-use Rattle.recognizer.specs.Answers.{checkFault, judgeFault}
+use Rattle.table.specs.Layout.{tableRoom}
+use Rattle.recognizer.specs.Answers.{tableTooShort, checkFaultBy, judgeFaultBy}
 use Rattle.tabular.specs.Answers.{tabularFault}
 use Rattle.recognizer.proofs.Checking.{read-some}
-use Rattle.grammar.proofs.FaultPositions.{LowOutcome, reading-low}
+use Rattle.grammar.proofs.FaultPositions.{LowOutcome}
 
 -- what tells an error tells it at most at a position
 abbrev pub Low : ℕ → Error → Type 0
@@ -55,29 +58,23 @@ module _ (n : ℕ) where
   some-low x h e q = let z : e ≡ x = cc in rw z h
 
 -- left recursion and conflicts: a nonterminal, and an entry of the table
-module _ (G : Grammar) (few : G .nonterminals ≤ maxNonterminals) (small : G .terminals ≤ maxTerminals) where
+module _ (k : Lookahead) (G : Grammar) (few : G .nonterminals ≤ maxNonterminals) (small : G .terminals ≤ alphabet k) where
   left-low : (o : Option ℕ) → lowestLeftRecursive G ≡ o → LowFault maxWords (leftFault o)
   unfolding lowestLeftRecursive
   left-low none e = none-low maxWords
   left-low (some A) e = some-low maxWords (LeftRecursive A) (omega (arith, lowest-some (G .nonterminals) (leftRecursive G) A .0 e .0))
 
-  unproductive-low : (o : Option ℕ) → lowestUnproductive G 1 ≡ o → LowFault maxWords (unproductiveFault o)
+  unproductive-low : (o : Option ℕ) → lowestUnproductive G (tokens k) ≡ o → LowFault maxWords (unproductiveFault o)
   unfolding lowestUnproductive
   unproductive-low none e = none-low maxWords
-  unproductive-low (some A) e = some-low maxWords (Unproductive A) (omega (arith, lowest-some (G .nonterminals) (unproductive G 1) A .0 e .0))
+  unproductive-low (some A) e = some-low maxWords (Unproductive A) (omega (arith, lowest-some (G .nonterminals) (unproductive G (tokens k)) A .0 e .0))
 
-  column-low : (x : List ℕ) → Over (G .terminals) x → column (G .terminals) x ≤ maxTerminals
-  unfolding allOf
-  column-low [] h = small
-  column-low (a ∷ x) h = omega (arith, ltb→lt a (G .terminals) (and-l (ltb a (G .terminals)) _ h))
-
-  clash-low : (l : List Entry) → clashes G 1 ≡ l → LowFault maxWords (clashFault (G .terminals) l)
-  unfolding clashes
-  clash-low [] q = none-low maxWords
-  clash-low (e ∷ es) q =
-      let m : List·Memᴰ e (clashes G 1) = rw q (List·Memᴰ·head refl) in
-      let k = entries-elim G 1 e (keep-elim _ (entries G 1) e m .0) in
-      some-low maxWords (Conflict (e .0) (column (G .terminals) (e .1))) (omega (arith, k .0, column-low (e .1) (k .1 .1)))
+-- a row of one token has at most 25 columns and 32 places, one of two tokens 57 and 64
+clash-low : (k : Lookahead) (G : Grammar) → G .nonterminals ≤ maxNonterminals → G .terminals ≤ alphabet k → (r : Clash) → firstClash k G ≡ r
+    → LowFault maxWords (clashFault k r)
+clash-low k G few small conflict.Absent q = none-low maxWords
+clash-low One G few small (conflict.At A c) q = let h = clash-at One G q in some-low maxWords (Conflict A c) (omega (arith, h .0, h .1))
+clash-low Two G few small (conflict.At A c) q = let h = clash-at Two G q in some-low maxWords (WideConflict A c) (omega (arith, h .0, h .1))
 
 when-low : (n : ℕ) (b : Bool) (x : Error) → coded x .position ≤ n → LowFault n (faultIf b x)
 when-low n true x h = some-low n x h
@@ -88,25 +85,33 @@ reading-row (Read z) l = none-low maxWords
 reading-row (Faulty e) l = some-low maxWords e (l .low e refl)
 
 -- the rows of a grammar's faults up to left recursion, and those behind them
-sets-rows : (words : List ℕ) (l : List (Option Error))
-    → ((few : grammarOf words .nonterminals ≤ maxNonterminals) (small : grammarOf words .terminals ≤ maxTerminals) → EachFault (Low maxWords) l)
-    → EachFault (Low maxWords) (setsFaults words ++ l)
-sets-rows words l h = (
-  reading-row (reading words) (reading-low words),
+sets-rows : (k : Lookahead) (words : List ℕ) (l : List (Option Error))
+    → ((few : grammarOf words .nonterminals ≤ maxNonterminals) (small : grammarOf words .terminals ≤ alphabet k) → EachFault (Low maxWords) l)
+    → EachFault (Low maxWords) (setsFaults k words ++ l)
+sets-rows k words l h = (
+  reading-row (admission k words) (admission-low k words),
   λ q.
-      let k = read-some (reading words) q in
-      let r = well-read words (k .0) (k .1) in
+      let y = read-some (admission k words) q in
+      let r = well-read words (y .0) (admitted-read k words (y .1)) in
       let few : grammarOf words .nonterminals ≤ maxNonterminals = omega (arith, r .nonterminals, r .fewNonterminals) in
-      let small : grammarOf words .terminals ≤ maxTerminals = omega (arith, r .terminals, r .fewTerminals) in
+      let small : grammarOf words .terminals ≤ alphabet k = few-terminals k words (y .1) in
       let G = grammarOf words in
-      (left-low G few small _ refl, λ _. (unproductive-low G few small _ refl, λ _. h few small)),
+      (left-low k G few small _ refl, λ _. (unproductive-low k G few small _ refl, λ _. h few small)),
 )
 
 -- all rows of a grammar's faults, and those behind them
-grammar-rows : (words : List ℕ) (l : List (Option Error)) → EachFault (Low maxWords) l → EachFault (Low maxWords) (grammarFaults words ++ l)
-grammar-rows words l h =
-    sets-rows words (clashFault (grammarOf words .terminals) (clashes (grammarOf words) 1) ∷ l)
-    (λ few small. (clash-low (grammarOf words) few small _ refl, λ _. h))
+grammar-rows : (k : Lookahead) (words : List ℕ) (l : List (Option Error)) → EachFault (Low maxWords) l → EachFault (Low maxWords) (grammarFaults k words ++ l)
+grammar-rows k words l h =
+    sets-rows k words (clashFault k (firstClash k (grammarOf words)) ∷ l)
+    (λ few small. (clash-low k (grammarOf words) few small _ refl, λ _. h))
+
+-- the row of the table's length
+abbrev tableFault : Lookahead → ℕ → Option Error
+tableFault k table = faultIf (ltb table (tableRoom k)) (tableTooShort k)
+
+table-low : (k : Lookahead) (table : ℕ) → LowFault maxWords (tableFault k table)
+table-low One table = when-low maxWords _ TableTooShort (omega arith)
+table-low Two table = when-low maxWords _ WideTableTooShort (omega arith)
 
 unknown-low : (n t at : ℕ) (w : List ℕ) → at + length w ≤ n → LowFault n (unknownFault (unknownFrom t at w))
 unfolding unknownFrom
@@ -128,22 +133,20 @@ input-rows tokens t input few = (
   ),
 )
 
-pub check-low : (table : ℕ) (words : List ℕ) (e : Error) → checkFault table words ≡ some e → Low maxWords e
-unfolding checkFault
-check-low table words =
-    first-each (Low maxWords) (faultIf (ltb table maxTableWords) TableTooShort ∷ grammarFaults words)
-    (when-low maxWords (ltb table maxTableWords) TableTooShort (omega arith), λ _. grammar-rows words [] tt)
+pub check-low : (k : Lookahead) (table : ℕ) (words : List ℕ) (e : Error) → checkFaultBy k table words ≡ some e → Low maxWords e
+unfolding checkFaultBy
+check-low k table words = first-each (Low maxWords) (tableFault k table ∷ grammarFaults k words) (table-low k table, λ _. grammar-rows k words [] tt)
 
-pub judge-low : (table memo : ℕ) (words input : List ℕ) (e : Error) → judgeFault table memo words input ≡ some e → Low maxWords e
-unfolding judgeFault
-judge-low table memo words input =
+pub judge-low : (k : Lookahead) (table memo : ℕ) (words input : List ℕ) (e : Error) → judgeFaultBy k table memo words input ≡ some e → Low maxWords e
+unfolding judgeFaultBy
+judge-low k table memo words input =
     let long = faultIf (ltb maxTokens (length input)) InputTooLong in
     let unknown = unknownFault (unknownFrom (grammarOf words .terminals) 0 input) in
-    first-each (Low maxWords) (faultIf (ltb table maxTableWords) TableTooShort ∷ faultIf (ltb memo maxMemoEntries) MemoTooShort ∷ grammarFaults words ++ long ∷ unknown ∷ []) (
-      when-low maxWords (ltb table maxTableWords) TableTooShort (omega arith),
+    first-each (Low maxWords) (tableFault k table ∷ faultIf (ltb memo maxMemoEntries) MemoTooShort ∷ grammarFaults k words ++ long ∷ unknown ∷ []) (
+      table-low k table,
       λ _. (
         when-low maxWords (ltb memo maxMemoEntries) MemoTooShort (omega arith),
-        λ _. grammar-rows words (long ∷ unknown ∷ []) (input-rows maxTokens (grammarOf words .terminals) input (omega arith)),
+        λ _. grammar-rows k words (long ∷ unknown ∷ []) (input-rows maxTokens (grammarOf words .terminals) input (omega arith)),
       ),
     )
 
@@ -152,7 +155,7 @@ unfolding tabularFault
 tabular-low spans words input =
     let long = faultIf (ltb maxTabularTokens (length input)) InputTooLong in
     let unknown = unknownFault (unknownFrom (grammarOf words .terminals) 0 input) in
-    first-each (Low maxWords) (faultIf (ltb spans maxSpanWords) SpansTooShort ∷ setsFaults words ++ long ∷ unknown ∷ []) (
+    first-each (Low maxWords) (faultIf (ltb spans maxSpanWords) SpansTooShort ∷ setsFaults One words ++ long ∷ unknown ∷ []) (
       when-low maxWords (ltb spans maxSpanWords) SpansTooShort (omega arith),
-      λ _. sets-rows words (long ∷ unknown ∷ []) (λ _ _. input-rows maxTabularTokens (grammarOf words .terminals) input (omega arith)),
+      λ _. sets-rows One words (long ∷ unknown ∷ []) (λ _ _. input-rows maxTabularTokens (grammarOf words .terminals) input (omega arith)),
     )

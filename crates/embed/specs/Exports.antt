@@ -5,34 +5,51 @@ use mathlib.Core.List.{List}
 use Prim.Native.Nat.{ℕ}
 use Rattle.answer.specs.declared.Answer.{Answer}
 use Rattle.answer.specs.Numbers.{numbers}
-use Rattle.recognizer.specs.Properties.{Checks, Judges}
-use Rattle.recording.specs.declared.Recorded.{Recorded}
-use Rattle.recording.specs.Properties.{Records}
+use Rattle.lookahead.specs.declared.Lookahead.{Lookahead}
+use Rattle.lookahead.specs.declared.Lookahead.the-variants.{One}
+use Rattle.recognizer.specs.Properties.{ChecksBy, JudgesBy}
+use Rattle.clients.specs.declared.Served.{Served}
+use Rattle.clients.specs.declared.totals.Totals.{Totals}
+use Rattle.clients.specs.Sums.{Totalled}
+use Rattle.clients.specs.Properties.{JudgesFor}
 use Rattle.tabular.specs.Properties.{TabularJudges}
 use Rattle.tree_writer.specs.declared.Shown.{Shown}
 use Rattle.tree_writer.specs.Properties.{Shows}
 use Rattle.embed.specs.Packing.{packed, Unpacks}
-use Rattle.embed.specs.Records.{countersOf, usageIn}
+use Rattle.embed.specs.Records.{usagesIn, totalsRow}
 
-pub record CheckExported (words before : List ℕ) (r : ℕ) (after : List ℕ) : Type 0 where
+pub record CheckExportedBy (k : Lookahead) (words before : List ℕ) (r : ℕ) (after : List ℕ) : Type 0 where
   pub answer : Answer
-  pub checks : Checks words before answer after
+  pub checks : ChecksBy k words before answer after
   pub packs : r ≡ packed (numbers answer)
   pub unpacks : Unpacks r (numbers answer)
 
-pub record JudgeExported (words input table memo : List ℕ) (r : ℕ) (table′ memo′ : List ℕ) : Type 0 where
+pub record JudgeExportedBy (k : Lookahead) (words input table memo : List ℕ) (r : ℕ) (table′ memo′ : List ℕ) : Type 0 where
   pub answer : Answer
-  pub judges : Judges words input table memo answer table′ memo′
+  pub judges : JudgesBy k words input table memo answer table′ memo′
   pub packs : r ≡ packed (numbers answer)
   pub unpacks : Unpacks r (numbers answer)
 
--- the record is read from four numbers of the caller's and written back into them
-pub record RecordedExported (words input table memo counters : List ℕ) (r : ℕ) (table′ memo′ counters′ : List ℕ) : Type 0 where
-  pub recorded : Recorded
-  pub records : Records words input table memo (usageIn counters) recorded table′ memo′
-  pub written : counters′ ≡ countersOf (recorded .usage)
-  pub packs : r ≡ packed (numbers (recorded .answer))
-  pub unpacks : Unpacks r (numbers (recorded .answer))
+-- the same with one token of lookahead (document 01)
+abbrev pub CheckExported : (words before : List ℕ) (r : ℕ) (after : List ℕ) → Type 0
+CheckExported = CheckExportedBy One
+
+abbrev pub JudgeExported : (words input table memo : List ℕ) (r : ℕ) (table′ memo′ : List ℕ) → Type 0
+JudgeExported = JudgeExportedBy One
+
+-- the clients' records are read from a row of the caller's and written back into it, so that the next call reads what this one handed back
+pub record ServedExported (client share limit : ℕ) (words input table memo row : List ℕ) (r : ℕ) (table′ memo′ row′ : List ℕ) : Type 0 where
+  pub served : Served
+  pub judges : JudgesFor client share limit words input table memo (usagesIn row) served table′ memo′
+  pub written : usagesIn row′ ≡ served .usages
+  pub packs : r ≡ packed (numbers (served .answer))
+  pub unpacks : Unpacks r (numbers (served .answer))
+
+-- the totals of a row's records, in a row of the caller's
+pub record TotalsExported (row totals′ : List ℕ) : Type 0 where
+  pub totals : Totals
+  pub sums : Totalled (usagesIn row) totals
+  pub written : totals′ ≡ totalsRow totals
 
 pub record TabularExported (words input before : List ℕ) (r : ℕ) (after : List ℕ) : Type 0 where
   pub answer : Answer

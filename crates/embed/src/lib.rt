@@ -11,8 +11,9 @@ use recognizer::check;
 use recognizer::judge;
 use tabular::judge as judge_plain;
 
-mod recorded;
+mod served;
 mod shown;
+mod wide;
 
 // The five fields side by side.
 fn join(verdict: u64, code: u64, position: u64, count: u64, farthest: u64) -> u64

@@ -13,14 +13,14 @@ use Rattle.booleans.specs.Quantifiers.{one, countBelow}
 use Rattle.booleans.proofs.Quantified.{count-cong, count-first}
 use Rattle.grammar.specs.declared.reading.Sizes.{Sizes}
 use Rattle.grammar.specs.Syntax.{Grammar}
-use Rattle.lookahead.specs.Elements.{nothing}
+use Rattle.lookahead.specs.declared.Lookahead.the-variants.{One}
 use Rattle.semantics.specs.Calls.{Distinct}
 use Rattle.semantics.specs.Claims.{overruns}
 use Rattle.semantics.specs.FiniteSets.{keep, numbersFrom, numbers, combine}
 use Rattle.semantics.specs.FirstFollow.{Entry, strings, entries}
 use Rattle.semantics.proofs.Distinct.{distinct-keep, distinct-numbers, distinct-combine, distinct-strings}
-use Rattle.table.specs.Layout.{columnString}
-use Rattle.table.proofs.Columns.{column-back, columns-strings}
+use Rattle.table.specs.Columns.{columnString}
+use Rattle.table.proofs.ColumnStrings.{column-back, columns-strings}
 use Rattle.text.specs.Ascii.{ascii}
 use Rattle.text.specs.Decimal.{labelled}
 use Rattle.text.specs.Writing.{upTo}
@@ -105,24 +105,24 @@ rules-are n p =
     go [] = refl
     go (q ∷ qs) = rw (ne-eqb (suc (length qs)) 0 (λ e. omega arith))
 
-module _ (G : Grammar) (few : G .terminals ≤ nothing) where
+module _ (G : Grammar) where
   -- the line of an entry, unless just one rule claims it
   abbrev listedText : Entry → List ℕ
   listedText e = choose (isListed (claimants G e)) (entryText G e) []
 
-  line-is : (A c : ℕ) → c < suc (G .terminals) → entryLine (length (G .rules)) (claimsAt G A c) A c ≡ listedText (A, columnString (G .terminals) c)
+  line-is : (A c : ℕ) → c < suc (G .terminals) → entryLine (length (G .rules)) (claimsAt G A c) A c ≡ listedText (A, columnString One (G .terminals) c)
   unfolding entryLine entryText claimants
   line-is A c h =
       let p = claimsAt G A c in
-      rw (column-back (G .terminals) c few h, count-kept (length (G .rules)) p, rules-are (length (G .rules)) p)
+      rw (column-back One (G .terminals) c, count-kept (length (G .rules)) p, rules-are (length (G .rules)) p)
 
   row-is : (A : ℕ) → upTo (suc (G .terminals)) (λ c. entryLine (length (G .rules)) (claimsAt G A c) A c)
       ≡ flatMap (λ x. listedText (A, x)) (strings 1 (G .terminals))
   row-is A =
       let t = G .terminals in
-      up-to-same (suc t) _ (λ c. listedText (A, columnString t c)) (λ c h. line-is A c h)
-      ∙ up-to-flat (λ c. listedText (A, columnString t c)) (suc t)
-      ∙ sym (flat-map (columnString t) (λ x. listedText (A, x)) (numbers (suc t)))
+      up-to-same (suc t) _ (λ c. listedText (A, columnString One t c)) (λ c h. line-is A c h)
+      ∙ up-to-flat (λ c. listedText (A, columnString One t c)) (suc t)
+      ∙ sym (flat-map (columnString One t) (λ x. listedText (A, x)) (numbers (suc t)))
       ∙ ap (flatMap (λ x. listedText (A, x))) (sym (columns-strings t))
 
   rows-are : upTo (G .nonterminals) (λ A. flatMap (λ x. listedText (A, x)) (strings 1 (G .terminals))) ≡ flatMap (entryText G) (listedEntries G)

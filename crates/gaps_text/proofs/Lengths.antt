@@ -19,13 +19,13 @@ use Rattle.grammar.specs.declared.reading.Sizes.{Sizes}
 use Rattle.grammar.specs.Reading.{reading}
 use Rattle.grammar.specs.Syntax.{Rule, Grammar}
 use Rattle.grammar.proofs.WellRead.{well-read}
-use Rattle.lookahead.specs.Elements.{nothing}
+use Rattle.lookahead.specs.declared.Lookahead.the-variants.{One}
 use Rattle.semantics.specs.Claims.{claims, overruns}
 use Rattle.sets.specs.declared.Finding.{Finding}
 use Rattle.sets.specs.declared.Finding.the-variants.{Passed, Refused}
 use Rattle.sets.specs.Analysis.{setsFault, findingOf}
 use Rattle.sets.proofs.Findings.{told-passed}
-use Rattle.table.specs.Layout.{columnString}
+use Rattle.table.specs.Columns.{columnString}
 use Rattle.text.specs.Ascii.{ascii}
 use Rattle.text.specs.Decimal.{decimal, labelled}
 use Rattle.text.specs.Writing.{upTo}
@@ -130,20 +130,19 @@ claims-own : (G : Grammar) (A c q : ℕ) → T (claimsAt G A c q) → headAt (ge
 unfolding claimsBy claims
 claims-own G A c q = go (getElem? (G .rules) q)
   where
-    go : (o : Option Rule) → T (onRule o (claims G 1 (A, columnString (G .terminals) c))) → headAt o ≡ A
+    go : (o : Option Rule) → T (onRule o (claims G 1 (A, columnString One (G .terminals) c))) → headAt o ≡ A
     go none u = absurd u
     go (some r) u = eqb→eq (r .head) A (and-l (eqb (r .head) A) _ u)
 
 pub gaps-most : (words : List ℕ) → length (gapsText words) ≤ gapsRoom
 unfolding gapsText
-gaps-most words = go (findingOf (setsFault words) (reading words)) refl
+gaps-most words = go (findingOf (setsFault One words) (reading words)) refl
   where
-    go : (f : Finding) → findingOf (setsFault words) (reading words) ≡ f
+    go : (f : Finding) → findingOf (setsFault One words) (reading words) ≡ f
         → length (foundText f (grammarOf words)) ≤ gapsRoom
     go (Refused e) q = omega (arith, refusal-most e)
     go (Passed z) q =
-        let r = well-read words z (told-passed (setsFault words) (reading words) q .1) in
+        let r = well-read words z (told-passed (setsFault One words) (reading words) q .1) in
         let G = grammarOf words in
-        let few : G .terminals ≤ nothing = omega (arith, r .fewTerminals, r .terminals) in
-        rw (← lines-are G few z (r .nonterminals) (r .terminals) (r .rules))
+        rw (← lines-are G z (r .nonterminals) (r .terminals) (r .rules))
         (lines-most z (claimsAt G) (overruns G 1) (λ q. headAt (getElem? (G .rules) q)) (claims-own G) (r .fewNonterminals) (r .fewRules) (r .fewTerminals))

@@ -9,8 +9,6 @@ use Prim.Native.Nat.{ℕ, _+_, _≤_}
 use native.Mathlib.Omega.{arith}
 use lib.Dec.{T}
 use lib.ListN.{length, getElem?}
-use Rattle.answer.specs.declared.Error.{Error}
-use Rattle.answer.specs.Faults.{firstFault}
 use Rattle.booleans.specs.Quantifiers.{anyOf, one, countBelow}
 use Rattle.booleans.proofs.Booleans.{T-none, or-cases}
 use Rattle.booleans.proofs.Quantified.{count-first}
@@ -23,9 +21,10 @@ use Rattle.semantics.proofs.Claims.{claims-make, claims-elim, overruns-make, ov
 use Rattle.semantics.proofs.FiniteSets.{keep-elim}
 use Rattle.semantics.proofs.LookaheadSets.{entries-elim}
 use Rattle.semantics.proofs.Positions.{several-elim}
+use Rattle.lookahead.specs.declared.Lookahead.the-variants.{One}
 use Rattle.sets.specs.Analysis.{setsFault}
-use Rattle.table.specs.Analysis.{clashFault, fault}
-use Rattle.table.proofs.Analyzing.{fault-sets}
+use Rattle.table.specs.Analysis.{fault}
+use Rattle.table.proofs.Analyzing.{fault-clashless}
 use Rattle.gaps_text.specs.Gaps.{onRule, claimsBy, claimants, NoneShown, LinesTell}
 use Rattle.gaps_text.proofs.Entries.{count-kept, entries-once, overruns-once}
 
@@ -111,21 +110,12 @@ module _ (G : Grammar) where
           let k = keep-elim (λ e. several (claims G 1 e) (G .rules) || (overruns G 1 (e .0) && sameString (0 ∷ []) (e .1))) (entries G 1) d m in
           absurd (unlike d (k .0) (or-cases (several (claims G 1 d) (G .rules)) _ (k .1)))
 
-none-clash : (t : ℕ) (l : List Entry) → clashFault t l ≡ none → l ≡ []
-none-clash t [] e = refl
-none-clash t (x ∷ l) e = let z : _≡_ {A = ℕ} 0 1 = cc in absurd (omega arith)
-
--- the last of the faults
-last : (x : Option Error) → firstFault (none ∷ x ∷ []) ≡ x
-last none = refl
-last (some e) = refl
-
 -- of a grammar clear of the errors 3 to 8: nothing of the kind is shown exactly when 9 is not given
-nine-told : (words : List ℕ) → setsFault words ≡ none → NoneShown (grammarOf words) ↔ (fault words ≡ none)
+nine-told : (words : List ℕ) → setsFault One words ≡ none → NoneShown (grammarOf words) ↔ (fault One words ≡ none)
 nine-told words f =
     let G = grammarOf words in
-    let d : fault words ≡ clashFault (G .terminals) (clashes G 1) = rw (fault-sets words, f) (last (clashFault (G .terminals) (clashes G 1))) in
-    (λ n. d ∙ ap (clashFault (G .terminals)) (none-clashless G n), λ e. clashless-none G (none-clash (G .terminals) (clashes G 1) (sym d ∙ e)))
+    let d = fault-clashless One words f in
+    (λ n. d .1 (none-clashless G n), λ e. clashless-none G (d .0 e))
 
 pub lines-tell : (words : List ℕ) → LinesTell words
 lines-tell words = record {

@@ -16,7 +16,8 @@ use Rattle.grammar.specs.Reading.{reading}
 use Rattle.grammar.specs.Syntax.{Rule, Grammar}
 use Rattle.grammar.specs.WellRead.{WellRead}
 use Rattle.grammar.proofs.WellRead.{well-read}
-use Rattle.lookahead.specs.Elements.{nothing}
+use Rattle.lookahead.specs.declared.Lookahead.the-variants.{One}
+use Rattle.lookahead.specs.Lookaheads.{alphabet}
 use Rattle.lookahead.specs.Operations.{isEmpty, terminal}
 use Rattle.semantics.specs.Claims.{claims, overruns}
 use Rattle.sets.specs.declared.Finding.the-variants.{Passed, Refused}
@@ -25,10 +26,10 @@ use Rattle.sets.proofs.Findings.{told-passed, told-refused}
 use Rattle.sets.proofs.Lists.{listed-at}
 use Rattle.table.specs.declared.claims.Claims.{Claims}
 use Rattle.table.specs.Claims.{headsOf, claimNumbers, byRule, byRuleIf, overrunsOf, overrunsIf, claimsOf}
-use Rattle.table.specs.Layout.{columnElement}
+use Rattle.table.specs.Columns.{columnElement}
 use Rattle.table.specs.Overruns.{overrunSet}
 use Rattle.table.proofs.Claimants.{claims-alike, told as rules-told}
-use Rattle.table.proofs.Columns.{column-string, element-small}
+use Rattle.table.proofs.ColumnStrings.{column-string, element-small}
 use Rattle.text.specs.Refusal.{refusalText}
 use Rattle.text.specs.Writing.{Put}
 use Rattle.gaps_text.specs.Gaps.{claimsBy, gapsText, GapsPut}
@@ -54,27 +55,27 @@ lines-same z p q o u h k =
     (up-to-same (z .nonterminals) _ _ (λ A l. ap (λ b. overrunLine b A) (k A l)))
 
 -- heads and claims tell which rules claim an entry
-claimant-same : (G : Grammar) {heads sets : List ℕ} → heads ≡ byRule (headsOf G) → sets ≡ byRule (claimNumbers G) → G .terminals ≤ nothing
+claimant-same : (G : Grammar) {heads sets : List ℕ} → heads ≡ byRule (headsOf G) → sets ≡ byRule (claimNumbers One G) → G .terminals ≤ alphabet One
     → (A c q : ℕ) (r : Rule) → c < suc (G .terminals) → getElem? (G .rules) q ≡ some r
     → claimantAt heads sets (G .terminals) A c q ≡ claimsAt G A c q
 unfolding claimsBy
 claimant-same G h s few A c q r b e =
     let t = G .terminals in
-    let k = claims-alike (rules-told G h s (columnElement t c) (element-small t c few b)) A q r e in
+    let k = claims-alike (rules-told One G h s (columnElement One t c) (element-small One t c few b)) A q r e in
     let n : 0 + q ≡ q = omega arith in
-    rw (e, ← column-string t c few b) (rw n at k)
+    rw (e, ← column-string One t c few b) (rw n at k)
 
 -- the set that is told of a nonterminal tells whether it overruns
-overrun-same : (b : Bool) → overrunsBy (overrunSet b) ≡ b
+overrun-same : (b : Bool) → overrunsBy (overrunSet One b) ≡ b
 unfolding isEmpty terminal
 overrun-same true = refl
 overrun-same false = refl
 
-module _ (words : List ℕ) {r : Claims} (e : r ≡ claimsOf words) where
+module _ (words : List ℕ) {r : Claims} (e : r ≡ claimsOf One words) where
   module _ {z : Sizes} (q : r .finding ≡ Passed z) where
-    told : (setsFault words ≡ none) × (reading words ≡ Read z)
+    told : (setsFault One words ≡ none) × (reading words ≡ Read z)
     unfolding claimsOf
-    told = told-passed (setsFault words) (reading words) (sym (ap (λ y. y .finding) e) ∙ q)
+    told = told-passed (setsFault One words) (reading words) (sym (ap (λ y. y .finding) e) ∙ q)
 
     read : WellRead words z
     read = well-read words z (told .1)
@@ -89,20 +90,20 @@ module _ (words : List ℕ) {r : Claims} (e : r ≡ claimsOf words) where
     gaps-put {l} {m} {n} p =
         let G = grammarOf words in
         let hs : r .heads ≡ byRule (headsOf G) = ap (λ y. y .heads) e ∙ ap (λ y. byRuleIf y (headsOf G)) (told .0) in
-        let cs : r .sets ≡ byRule (claimNumbers G) = ap (λ y. y .sets) e ∙ ap (λ y. byRuleIf y (claimNumbers G)) (told .0) in
-        let os : r .overruns ≡ overrunsOf G = ap (λ y. y .overruns) e ∙ ap (λ y. overrunsIf y (overrunsOf G)) (told .0) in
-        let few : G .terminals ≤ nothing = omega (arith, read .fewTerminals, read .terminals) in
+        let cs : r .sets ≡ byRule (claimNumbers One G) = ap (λ y. y .sets) e ∙ ap (λ y. byRuleIf y (claimNumbers One G)) (told .0) in
+        let os : r .overruns ≡ overrunsOf One G = ap (λ y. y .overruns) e ∙ ap (λ y. overrunsIf y (overrunsOf One G)) (told .0) in
+        let few : G .terminals ≤ alphabet One = omega (arith, read .fewTerminals, read .terminals) in
         let t : linesText z (claimantAt (r .heads) (r .sets) (z .terminals)) (overrunsIn (r .overruns)) ≡ linesText z (claimsAt G) (overruns G 1) =
         lines-same z _ (claimsAt G) _ (overruns G 1)
         (λ A c i k j. rw (read .terminals) (claimant-same G hs cs few A c i _ (omega (arith, read .terminals)) (read .begins i j)))
         (λ A k.
-        ap (λ l. overrunsIn l A) os ∙ ap overrunsBy (listed-at maxNonterminals (λ A. overrunSet (overruns G 1 A)) A (omega (arith, read .fewNonterminals)))
+        ap (λ l. overrunsIn l A) os ∙ ap overrunsBy (listed-at maxNonterminals (λ A. overrunSet One (overruns G 1 A)) A (omega (arith, read .fewNonterminals)))
         ∙ overrun-same (overruns G 1 A)) in
-        let u = lines-are G few z (read .nonterminals) (read .terminals) (read .rules) in
+        let u = lines-are G z (read .nonterminals) (read .terminals) (read .rules) in
         record { put = rw (told .0, told .1) (rw (t ∙ u) at p); tells = lines-tell words }
 
   pub refusal-put : {x : Error} → r .finding ≡ Refused x → {l m : List ℕ} {n : ℕ} → Put l 0 (refusalText x) m n → GapsPut words l m n
   unfolding gapsText claimsOf setsFault
   refusal-put {x} q p =
-      let f : setsFault words ≡ some x = told-refused (setsFault words) (reading words) (λ y f. rw f) (sym (ap (λ y. y .finding) e) ∙ q) in
+      let f : setsFault One words ≡ some x = told-refused (setsFault One words) (reading words) (λ y f. rw f) (sym (ap (λ y. y .finding) e) ∙ q) in
       record { put = rw f p; tells = lines-tell words }

@@ -11,6 +11,7 @@ use lib.ListN.{length, getElem?}
 use Rattle.grammar.specs.Encoding.{grammarOf}
 use Rattle.grammar.specs.Reading.{reading}
 use Rattle.grammar.specs.Syntax.{Rule, Grammar}
+use Rattle.lookahead.specs.declared.Lookahead.the-variants.{One}
 use Rattle.semantics.specs.Calls.{Distinct}
 use Rattle.semantics.specs.Claims.{claims, overruns, column}
 use Rattle.semantics.specs.Families.{Claims, Overrun}
@@ -70,7 +71,7 @@ foundText (Refused e) G = refusalText e
 
 -- what is printed of an encoded grammar; only the errors 3 to 8 and 13 are refusals
 unfoldable pub gapsText : List ℕ → List ℕ
-gapsText words = foundText (findingOf (setsFault words) (reading words)) (grammarOf words)
+gapsText words = foundText (findingOf (setsFault One words) (reading words)) (grammarOf words)
 
 -- no entry has two rules, and no nonterminal overruns
 pub record NoneShown (G : Grammar) : Type 0 where
@@ -85,7 +86,7 @@ pub record LinesTell (words : List ℕ) : Type 0 where
   pub claimed : (e : Entry) (q : ℕ) → T (claimsBy (grammarOf words) e q)
       ↔ Claims (grammarOf words) 1 (First (grammarOf words) 1) (Follow (grammarOf words) 1) q (e .0) (e .1)
   pub overrun : (A : ℕ) → T (overruns (grammarOf words) 1 A) ↔ Overrun (grammarOf words) (Follow (grammarOf words) 1) A
-  pub nine : setsFault words ≡ none → NoneShown (grammarOf words) ↔ (fault words ≡ none)
+  pub nine : setsFault One words ≡ none → NoneShown (grammarOf words) ↔ (fault One words ≡ none)
 
 pub record GapsPut (words before after : List ℕ) (n : ℕ) : Type 0 where
   pub put : Put before 0 (gapsText words) after n

@@ -8,9 +8,10 @@ use Rattle.booleans.specs.Choice.{choose}
 use Rattle.booleans.specs.Quantifiers.{countBelow}
 use Rattle.grammar.specs.declared.reading.Sizes.{Sizes}
 use Rattle.grammar.specs.Syntax.{Grammar}
+use Rattle.lookahead.specs.declared.Lookahead.the-variants.{One}
 use Rattle.lookahead.specs.Operations.{isEmpty}
 use Rattle.table.specs.Claims.{claimant}
-use Rattle.table.specs.Layout.{columnElement, columnString}
+use Rattle.table.specs.Columns.{columnElement, columnString}
 use Rattle.text.specs.Ascii.{ascii}
 use Rattle.text.specs.Decimal.{decimal, labelled}
 use Rattle.text.specs.Writing.{upTo}
@@ -46,10 +47,10 @@ linesText z p o = upTo (z .nonterminals) (rowText z p) ++ overrunsText (z .nonte
 
 -- rule q claims the entry of A in column c: by the grammar, and by heads and claims
 abbrev pub claimsAt : Grammar → ℕ → ℕ → ℕ → Bool
-claimsAt G A c = claimsBy G (A, columnString (G .terminals) c)
+claimsAt G A c = claimsBy G (A, columnString One (G .terminals) c)
 
 abbrev pub claimantAt : (heads sets : List ℕ) (terminals : ℕ) → ℕ → ℕ → ℕ → Bool
-claimantAt heads sets terminals A c = claimant heads sets A (columnElement terminals c)
+claimantAt heads sets terminals A c = claimant heads sets A (columnElement One terminals c)
 
 -- by the set that is told of a nonterminal: it overruns
 abbrev pub overrunsBy : ℕ → Bool

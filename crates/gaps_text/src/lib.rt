@@ -11,11 +11,12 @@ use grammar::limits::COLUMNS;
 use grammar::limits::NONTERMINALS;
 use grammar::limits::RULES;
 use grammar::reading::Sizes;
+use lookahead::Lookahead;
 use lookahead::LookaheadSet;
 use sets::Finding;
 use sets::family::SETS;
 use table::claims::analyze;
-use table::layout::element;
+use table::columns::element;
 use text::put::put_bytes;
 use text::put::put_labelled;
 use text::put::put_number;
@@ -148,7 +149,7 @@ fn put_entry(
     ensures { λ r. ⌜ Put (now (out .entry)) at (entryLine (sizes .rules) (claimantAt (now (heads .entry)) (now (sets .entry)) (sizes .terminals) nonterminal column) nonterminal column) (now (out .exit)) r ⌝ }
 {
     let rules = sizes.rules;
-    let element = element(sizes.terminals, column);
+    let element = element(Lookahead::One, sizes.terminals, column);
     let number = count_claimants(heads, sets, rules, nonterminal, element);
     if number == 1 {
         return at;
@@ -232,7 +233,7 @@ fn put_overruns(out: &mut [u8], at: usize, overruns: &[u64; SETS], nonterminals:
 pub fn put_gaps(out: &mut [u8], words: &[u32]) -> usize
     ensures { λ r. ⌜ GapsPut (now (words .entry)) (now (out .entry)) (now (out .exit)) r ⌝ }
 {
-    let claims = analyze(words);
+    let claims = analyze(words, Lookahead::One);
     let finding = claims.finding;
     match finding {
         Finding::Refused(error) => put_refusal(out, 0, error),

@@ -48,7 +48,7 @@ unfolding within
 within-limits n limit e = let h = both (ltb 0 n) (leb n limit) e in record { some = ltb-true 0 n (h .0); few = leb-true n limit (h .1) }
 
 -- a word that declares nonterminals begins no rule
-heading-begins-none : (w : Word) → 0 < declaredBy w .nonterminals → beginsRule w ≡ false
+pub heading-begins-none : (w : Word) → 0 < declaredBy w .nonterminals → beginsRule w ≡ false
 heading-begins-none (Heading n t) h = refl
 heading-begins-none (RuleWord A) h = absurd (omega arith)
 heading-begins-none Positive h = refl

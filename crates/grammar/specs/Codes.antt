@@ -1,9 +1,13 @@
--- The codes in lent memory that stand for no number.
+-- The codes in memory that stand for no number.
 use Prim.Native.Nat.{ℕ}
 
 -- an entry of the table that no rule claims (document 01: none)
 abbrev pub noEntry : ℕ
 noEntry = 4294967295
+
+-- the same where rules are bytes
+abbrev pub noRule : ℕ
+noRule = 255
 
 -- an entry of the memo table: the call failed
 abbrev pub failedCode : ℕ

@@ -23,6 +23,18 @@ maxTokens = 500
 abbrev pub maxColumns : ℕ
 maxColumns = maxTerminals + 1
 
+-- with two tokens of lookahead a grammar has fewer terminals
+abbrev pub maxWideTerminals : ℕ
+maxWideTerminals = 7
+
+-- and a row has a column for the end, one for each last terminal and one for each two terminals
+abbrev pub maxWideColumns : ℕ
+maxWideColumns = 1 + maxWideTerminals + maxWideTerminals * maxWideTerminals
+
+-- the entries of all rows, whichever the lookahead
+abbrev pub maxEntries : ℕ
+maxEntries = maxNonterminals * maxWideColumns
+
 -- an input has a place before each token and one at its end
 abbrev pub maxPlaces : ℕ
 maxPlaces = maxTokens + 1
@@ -30,6 +42,10 @@ maxPlaces = maxTokens + 1
 -- the lent table holds two sets for each nonterminal, and a row for each
 abbrev pub maxTableWords : ℕ
 maxTableWords = maxNonterminals * (2 + maxColumns)
+
+-- and with two tokens of lookahead
+abbrev pub maxWideTableWords : ℕ
+maxWideTableWords = maxNonterminals * (2 + maxWideColumns)
 
 -- the lent memo table holds an entry for each nonterminal and place
 abbrev pub maxMemoEntries : ℕ
@@ -55,8 +71,12 @@ limited = record {
   rules = maxRules;
   tokens = maxTokens;
   columns = maxColumns;
+  «wide_terminals» = maxWideTerminals;
+  «wide_columns» = maxWideColumns;
+  entries = maxEntries;
   places = maxPlaces;
   «table_words» = maxTableWords;
+  «wide_table_words» = maxWideTableWords;
   «memo_entries» = maxMemoEntries;
   «tabular_tokens» = maxTabularTokens;
   «tabular_places» = maxTabularPlaces;

@@ -15,11 +15,26 @@ pub const TOKENS: usize = 500;
 // A row of the table has a column for each terminal and one for the end.
 pub const COLUMNS: usize = TERMINALS as usize + 1;
 
+// With two tokens of lookahead a grammar has fewer terminals.
+pub const WIDE_TERMINALS: u32 = 7;
+
+// Then a row has a column for the end, one for each last terminal and one for each two terminals.
+pub const WIDE_COLUMNS: usize = 1
+    + (WIDE_TERMINALS as usize)
+    + (WIDE_TERMINALS as usize) * (WIDE_TERMINALS as usize);
+
+// The entries of all rows, whichever the lookahead.
+pub const ENTRIES: usize = (NONTERMINALS as usize) * WIDE_COLUMNS;
+
 // An input has a place before each token and one at its end.
 pub const PLACES: usize = TOKENS + 1;
 
 // Two sets for each nonterminal, then a row for each.
 pub const TABLE_WORDS: usize = (NONTERMINALS as usize) * (2 + COLUMNS);
+
+// The same with two tokens of lookahead.
+pub const WIDE_TABLE_WORDS: usize = (NONTERMINALS as usize) * (2 + WIDE_COLUMNS);
+
 // An entry for each nonterminal and place.
 pub const MEMO_ENTRIES: usize = (NONTERMINALS as usize) * PLACES;
 
@@ -39,8 +54,12 @@ pub struct Limits {
     pub rules: usize,
     pub tokens: usize,
     pub columns: usize,
+    pub wide_terminals: u32,
+    pub wide_columns: usize,
+    pub entries: usize,
     pub places: usize,
     pub table_words: usize,
+    pub wide_table_words: usize,
     pub memo_entries: usize,
     pub tabular_tokens: usize,
     pub tabular_places: usize,
@@ -58,8 +77,12 @@ pub fn all() -> Limits
         rules: RULES,
         tokens: TOKENS,
         columns: COLUMNS,
+        wide_terminals: WIDE_TERMINALS,
+        wide_columns: WIDE_COLUMNS,
+        entries: ENTRIES,
         places: PLACES,
         table_words: TABLE_WORDS,
+        wide_table_words: WIDE_TABLE_WORDS,
         memo_entries: MEMO_ENTRIES,
         tabular_tokens: TABULAR_TOKENS,
         tabular_places: TABULAR_PLACES,

@@ -110,7 +110,7 @@ fn in_range(word: Word, sizes: Sizes) -> bool
     }
 }
 
-fn begins_rule(word: Word) -> bool
+pub fn begins_rule(word: Word) -> bool
     ensures { λ r. ⌜ r ≡ beginsRule word ⌝ }
 {
     match word {
@@ -229,7 +229,7 @@ fn within(number: u32, limit: u32) -> bool
 }
 
 // What a heading declares; another word declares nothing.
-fn declared(word: Word) -> Sizes
+pub fn declared(word: Word) -> Sizes
     ensures { λ r. ⌜ r ≡ declaredBy word ⌝ }
 {
     let Word::Heading {

@@ -1,10 +1,9 @@
--- The operations keep to any number of digits: below a power of two they stay below it.
+-- Joins and meets keep to any number of digits: below a power of two they stay below it.
 use Prim.Native.Nat.{ℕ, _^_, _<_}
 use native.Mathlib.Omega.{arith}
 use lib.Bits.{or-lt}
-use Rattle.lookahead.specs.Operations.{join, meet, concatNumbers}
+use Rattle.lookahead.specs.Operations.{join, meet}
 use Rattle.lookahead.proofs.Order.{subset-le, meet-left}
-use Rattle.lookahead.proofs.Concat.{concat-join}
 
 module _ (k x y : ℕ) where
   pub join-bound : x < 2 ^ k → y < 2 ^ k → join x y < 2 ^ k
@@ -13,6 +12,3 @@ module _ (k x y : ℕ) where
 
   pub meet-bound : x < 2 ^ k → meet x y < 2 ^ k
   meet-bound h = omega (arith, subset-le (meet x y) x (meet-left x y))
-
-  pub concat-bound : x < 2 ^ k → y < 2 ^ k → concatNumbers x y < 2 ^ k
-  concat-bound h i = omega (arith, subset-le (concatNumbers x y) (join x y) (concat-join x y), join-bound h i)

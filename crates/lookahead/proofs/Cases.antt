@@ -1,68 +1,154 @@
--- The operations by cases, as the code goes: what each case gives is the operation's result.
-use mathlib.Core.Path.{_≡_, refl, sym, ap₂, _∙_}
-use mathlib.Core.Bool.{true, false, _&&_, _||_, or-true}
-use Prim.Native.Nat.{ℕ, suc, _-_, _*_, _%_, _^_, _≤_, _<_}
+-- The small operations by cases, as the code goes: what each case gives is the operation's result.
+use mathlib.Core.Path.{_≡_, refl, sym, ap, _∙_}
+use mathlib.Core.Bool.{Bool, true, false, _&&_, and-true, and-false}
+use mathlib.Core.List.{[], _∷_}
+use Prim.Native.Nat.{ℕ, suc, _+_, _-_, _*_, _/_, _%_, _^_, _≤_, _<_}
 use native.Mathlib.Omega.{arith}
 use native.Mathlib.Decide.{decLt, ℕ-discrete}
-use lib.Bits.{bitOr, or-zero-r}
-use lib.Dec.{eqb, ltb}
-use lib.Pow.{shl-exact}
-use borrow.Author.Tests.{eqb-true, eq-eqb, ne-eqb, lt-ltb, le-ltb}
-use Rattle.lookahead.specs.Elements.{nothing, weight, has, width}
-use Rattle.lookahead.specs.Operations.{empty, isEmpty, end, terminal, full, join, terminals, concatNumbers}
-use Rattle.lookahead.specs.Operations.{Empty, Terminal, Full, Concatenated}
-use Rattle.booleans.proofs.Booleans.{true-T}
-use Rattle.lookahead.proofs.Elements.{same-elements, has-or, has-weight}
-use Rattle.lookahead.proofs.Operations.{has-end, has-full, is-terminal, is-full, is-concat}
+use lib.Bits.{bitAnd, and-mask}
+use lib.Dec.{T, eqb, ltb, ltb→lt}
+use lib.Pow.{shl-exact, ones-lt}
+use borrow.Author.Tests.{eq-eqb, ne-eqb, lt-ltb, le-ltb}
+use Rattle.booleans.specs.Choice.{choose}
+use Rattle.booleans.specs.Quantifiers.{allOf}
+use Rattle.booleans.proofs.Booleans.{T-subst, true-T, T-true, both}
+use Rattle.lookahead.specs.declared.Lookahead.{Lookahead}
+use Rattle.lookahead.specs.declared.Lookahead.the-variants.{One, Two}
+use Rattle.lookahead.specs.Lookaheads.{tokens, alphabet, elements, nothing, elementOf, stringOf, after}
+use Rattle.lookahead.specs.Elements.{has, width}
+use Rattle.lookahead.specs.Operations.{empty, terminal, Empty, End, Terminal}
+use Rattle.lookahead.specs.Computing.{Has, single, Singles, isLong}
+use Rattle.lookahead.proofs.Elements.{has-above, has-shift}
 use Rattle.lookahead.proofs.Powers.{has-ones}
+use Rattle.lookahead.proofs.Digits.{shifted, has-mask, has-under, has-over, moved}
+use Rattle.lookahead.proofs.Operations.{is-end, is-terminal}
+use Rattle.lookahead.proofs.Strings.{two-single, two-pair, one-terminal, string-nothing}
 
--- a set with the element nothing is no smaller a number than its weight
-pub nothing-fits : (x : ℕ) → has x nothing ≡ true → end ≤ x
-nothing-fits x h = has-weight x nothing (true-T _ h)
+-- a set's number has a digit for each element, the terminals among them
+pub elements-fit : (k : Lookahead) → elements k < width
+elements-fit One = omega arith
+elements-fit Two = omega arith
 
--- concatenation by cases
-pub concat-empty : {x y : ℕ} → isEmpty y ≡ true → Concatenated x y y
-unfolding concatNumbers isEmpty
-concat-empty {x} {y} e = is-concat (eqb-true y empty e ∙ sym (rw e))
+pub singles-fit : (k : Lookahead) → single k + alphabet k < elements k + single k
+singles-fit One = omega arith
+singles-fit Two = omega arith
 
-pub concat-more : {x y : ℕ} → isEmpty y ≡ false → has x nothing ≡ true → Concatenated x y (join (x - end) y)
-unfolding concatNumbers terminals
-concat-more e h = is-concat (sym (rw (e, h)))
+pub nothing-fits : (k : Lookahead) → nothing k < width
+nothing-fits One = omega arith
+nothing-fits Two = omega arith
 
-pub concat-terminals : {x y : ℕ} → isEmpty y ≡ false → has x nothing ≡ false → Concatenated x y x
-unfolding concatNumbers terminals join
-concat-terminals {x} e h = is-concat (sym (rw (e, h) (or-zero-r x)))
+pub single-small : (k : Lookahead) → single k ≤ 1
+single-small One = omega arith
+single-small Two = omega arith
 
--- one, shifted to a terminal's place, is its weight
-pub shifted : (a : ℕ) → a < nothing → 1 * 2 ^ a % 2 ^ width ≡ weight a
-shifted a h = shl-exact 1 a width (omega arith) (omega arith) ∙ omega arith
+single-of : (k : Lookahead) (a : ℕ) → elementOf k (a ∷ []) ≡ single k + a
+single-of One a = omega arith
+single-of Two a = omega arith
 
--- a terminal by cases
-pub terminal-some : {a : ℕ} → a < nothing → Terminal a (1 * 2 ^ a % 2 ^ width)
+-- a power of two is a set of one element
+pub end-is : (k : Lookahead) {n : ℕ} → n ≡ nothing k → End k (1 * 2 ^ n % 2 ^ width)
+end-is k {n} e = is-end k (rw (← e) (shifted n (omega (arith, nothing-fits k))))
+
+pub terminal-some : (k : Lookahead) {a s : ℕ} → a < alphabet k → s ≡ single k → Terminal k a (1 * 2 ^ (s + a) % 2 ^ width)
 unfolding terminal
-terminal-some {a} h = is-terminal (shifted a h ∙ sym (rw (lt-ltb a nothing h)))
+terminal-some k {a} {s} h e =
+    is-terminal k (shifted (s + a) (omega (arith, singles-fit k, elements-fit k, single-small k)) ∙ ap (λ (n : ℕ). 2 ^ n) (ap (λ (n : ℕ). n + a) e ∙ sym (single-of k a))
+    ∙ sym (rw (lt-ltb a (alphabet k) h)))
 
-pub terminal-none : {a r : ℕ} → nothing ≤ a → Empty r → Terminal a r
+pub terminal-none : (k : Lookahead) {a r : ℕ} → alphabet k ≤ a → Empty r → Terminal k a r
 unfolding terminal
-terminal-none {a} h e = is-terminal (e .is ∙ sym (rw (le-ltb a nothing h)))
+terminal-none k {a} h e = is-terminal k (e .is ∙ sym (rw (le-ltb a (alphabet k) h)))
 
--- the digits of a full set: ones for m terminals, and one for nothing
-full-digits : (m t : ℕ) → m ≤ nothing → ((l : ℕ) → l < nothing → ltb l m ≡ ltb l t) → Full t (bitOr (2 ^ m - 1) end)
-full-digits m t h f =
-    is-full (same-elements (bitOr (2 ^ m - 1) end) (full t) (λ l. has-digits l ∙ same l (decLt l nothing) (ℕ-discrete l nothing) ∙ sym (has-full t l)))
+-- no more terminals than there may be
+pub few-fit : (k : Lookahead) (t : ℕ) {m n : ℕ} → m ≡ alphabet k → n ≡ choose (ltb t m) t m → n < width
+few-fit k t {m} {n} e f = go (decLt t m)
   where
-    has-digits : (l : ℕ) → has (bitOr (2 ^ m - 1) end) l ≡ (ltb l m || eqb l nothing)
-    has-digits l = has-or (2 ^ m - 1) end l ∙ ap₂ _||_ (has-ones m l) (has-end l)
+    go : Dec (t < m) → n < width
+    go (yes h) = let d : n ≡ t = f ∙ rw (lt-ltb t m h) in omega (arith, singles-fit k, elements-fit k)
+    go (no h) = let d : n ≡ m = f ∙ rw (le-ltb t m (omega arith)) in omega (arith, singles-fit k, elements-fit k)
 
-    same : (l : ℕ) → Dec (l < nothing) → Dec (l ≡ nothing) → (ltb l m || eqb l nothing) ≡ (ltb l (suc nothing) && (ltb l t || eqb l nothing))
-    same l (yes b) (yes e) = absurd (omega arith)
-    same l (yes b) (no ne) = rw (f l b, lt-ltb l (suc nothing) (omega arith))
-    same l (no b) (yes e) = rw (eq-eqb l nothing e, lt-ltb l (suc nothing) (omega arith), or-true (ltb l m), or-true (ltb l t))
-    same l (no b) (no ne) = rw (ne-eqb l nothing ne, le-ltb l (suc nothing) (omega arith), le-ltb l m (omega arith))
+-- ones for m terminals, moved up to the elements of single terminals
+pub singles-are : (k : Lookahead) {t m s : ℕ} → m ≡ choose (ltb t (alphabet k)) t (alphabet k) → s ≡ single k
+    → Singles k t ((1 * 2 ^ m % 2 ^ width - 1) * 2 ^ s % 2 ^ width)
+singles-are k {t} {m} {s} em es = record { member = λ l. (to l, from l) }
+  where
+    bounds : (m ≤ t) × (m ≤ alphabet k) × ((a : ℕ) → a < t → a < alphabet k → a < m)
+    bounds = go (decLt t (alphabet k))
+      where
+        go : Dec (t < alphabet k) → (m ≤ t) × (m ≤ alphabet k) × ((a : ℕ) → a < t → a < alphabet k → a < m)
+        go (yes h) = let e : m ≡ t = em ∙ rw (lt-ltb t (alphabet k) h) in (omega arith, omega arith, λ a i j. omega arith)
+        go (no h) = let e : m ≡ alphabet k = em ∙ rw (le-ltb t (alphabet k) (omega arith)) in (omega arith, omega arith, λ a i j. omega arith)
 
--- a full set by cases
-pub full-some : {t : ℕ} → t < nothing → Full t (bitOr (1 * 2 ^ t % 2 ^ width - 1) end)
-full-some {t} h = rw (shifted t h) (full-digits t t (omega arith) (λ l b. refl))
+    fits : m < width
+    fits = omega (arith, bounds .1, singles-fit k, elements-fit k)
 
-pub full-most : {t : ℕ} → nothing ≤ t → Full t (bitOr (2 ^ nothing - 1) end)
-full-most {t} h = full-digits nothing t (omega arith) (λ l b. lt-ltb l nothing b ∙ sym (lt-ltb l t (omega arith)))
+    exact : (1 * 2 ^ m % 2 ^ width - 1) * 2 ^ s % 2 ^ width ≡ (2 ^ m - 1) * 2 ^ s
+    exact =
+        ap (λ (n : ℕ). (n - 1) * 2 ^ s % 2 ^ width) (shifted m fits)
+        ∙ shl-exact m s width (ones-lt m) (omega (arith, bounds .1, singles-fit k, elements-fit k, single-small k))
+
+    to : (l : ℕ) → T (has ((1 * 2 ^ m % 2 ^ width - 1) * 2 ^ s % 2 ^ width) l) → (a : ℕ) × (a < t) × (a < alphabet k) × (l ≡ elementOf k (a ∷ []))
+    to l h =
+        let d = moved (2 ^ m - 1) s l (rw exact at h) in
+        let b : d .0 < m = ltb→lt (d .0) m (rw (has-ones m (d .0)) at (d .2)) in
+        (d .0, omega (arith, bounds .0), omega (arith, bounds .1), omega (arith, d .1, single-of k (d .0)))
+
+    from : (l : ℕ) → (a : ℕ) × (a < t) × (a < alphabet k) × (l ≡ elementOf k (a ∷ [])) → T (has ((1 * 2 ^ m % 2 ^ width - 1) * 2 ^ s % 2 ^ width) l)
+    from l i =
+        let e : l ≡ s + i .0 = omega (arith, i .3, single-of k (i .0)) in
+        rw (exact, e, has-over (2 ^ m - 1) s (i .0), has-ones m (i .0), lt-ltb (i .0) m (bounds .2 (i .0) (i .1) (i .2))) tt
+
+-- a mask of ones leaves the elements
+pub masked : (k : Lookahead) (s : ℕ) {e : ℕ} → e ≡ elements k → bitAnd s (1 * 2 ^ e % 2 ^ width - 1) ≡ s % 2 ^ elements k
+masked k s {e} d = ap (λ (n : ℕ). bitAnd s (n - 1)) (shifted e (omega (arith, elements-fit k))) ∙ and-mask s e ∙ rw d
+
+-- with one token terminals are long, with two tokens pairs
+pub one-long : (l : ℕ) → l < 24 → isLong One l ≡ true
+unfolding isLong
+one-long l h = rw (one-terminal l (λ e. omega arith)) refl
+
+one-short : isLong One 24 ≡ false
+unfolding isLong
+one-short = rw (string-nothing One) refl
+
+pub two-long : (l : ℕ) → 8 ≤ l → isLong Two l ≡ true
+unfolding isLong
+two-long l h = rw (two-pair l h) refl
+
+two-short : (l : ℕ) → l < 8 → isLong Two l ≡ false
+unfolding isLong
+two-short l h = go (decLt 0 l)
+  where
+    go : Dec (0 < l) → isLong Two l ≡ false
+    go (yes p) = rw (two-single l p h) refl
+    go (no p) = let e : l ≡ 0 = omega arith in rw (e, string-nothing Two) refl
+
+one-digits : (s : ℕ) → s < 2 ^ 25 → Has (bitAnd s (2 ^ 24 - 1)) (λ l. has s l && isLong One l)
+one-digits s b l = ap (λ (n : ℕ). has n l) (and-mask s 24) ∙ has-mask s 24 l ∙ go (decLt l 24) (ℕ-discrete l 24)
+  where
+    go : Dec (l < 24) → Dec (l ≡ 24) → (ltb l 24 && has s l) ≡ (has s l && isLong One l)
+    go (yes h) e = rw (lt-ltb l 24 h, one-long l h) (sym (and-true (has s l)))
+    go (no h) (yes e) = rw (le-ltb l 24 (omega arith), e, one-short) (sym (and-false (has s 24)))
+    go (no h) (no e) = rw (le-ltb l 24 (omega arith), has-above 25 s l b (omega arith))
+
+two-digits : (s : ℕ) → s < 2 ^ 57 → Has (s / 2 ^ 8 * 2 ^ 8 % 2 ^ width) (λ l. has s l && isLong Two l)
+two-digits s b l = ap (λ (n : ℕ). has n l) (shl-exact {a = s / 2 ^ 8} 49 8 width (omega arith) (omega arith)) ∙ go (decLt l 8)
+  where
+    go : Dec (l < 8) → has (s / 2 ^ 8 * 2 ^ 8) l ≡ (has s l && isLong Two l)
+    go (yes h) = rw (has-under (s / 2 ^ 8) 8 l h, two-short l h) (sym (and-false (has s l)))
+    go (no h) =
+        let e : l ≡ 8 + (l - 8) = omega arith in
+        rw (two-long l (omega arith)) (ap (has (s / 2 ^ 8 * 2 ^ 8)) e ∙ has-over (s / 2 ^ 8) 8 (l - 8) ∙ has-shift s 8 (l - 8) ∙ ap (has s) (sym e) ∙ sym (and-true (has s l)))
+
+pub long-one : {k : Lookahead} (s : ℕ) → k ≡ One → s < 2 ^ elements k → Has (bitAnd s (2 ^ 24 - 1)) (λ l. has s l && isLong k l)
+long-one s o h l = let b : s < 2 ^ 25 = rw o at h in rw o (one-digits s b l)
+
+pub long-two : {k : Lookahead} (s : ℕ) → k ≡ Two → s < 2 ^ elements k → Has (s / 2 ^ 8 * 2 ^ 8 % 2 ^ width) (λ l. has s l && isLong k l)
+long-two s o h l = let b : s < 2 ^ 57 = rw o at h in rw o (two-digits s b l)
+
+-- a set that is there only if a test is passed
+pub if-passed : (b : Bool) (y : ℕ) → b ≡ true → Has y (λ l. b && has y l)
+if-passed b y e l = sym (rw e refl)
+
+pub if-failed : (b : Bool) (p : ℕ → Bool) {r : ℕ} → b ≡ false → Empty r → Has r (λ l. b && p l)
+if-failed b p e n l = n .member l ∙ sym (rw e refl)

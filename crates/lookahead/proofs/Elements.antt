@@ -104,7 +104,7 @@ bounded k n l h t = go (decLt l k)
     go (yes b) = b
     go (no b) = absurd (rw (has-above k n l h (omega arith)) at t)
 
-has-shift : (n k l : ℕ) → has (n / 2 ^ k) l ≡ has n (k + l)
+pub has-shift : (n k l : ℕ) → has (n / 2 ^ k) l ≡ has n (k + l)
 unfolding has
 has-shift n k l = ap (λ (m : ℕ). eqb (m % 2) 1) (shr-shr n k l)
 

@@ -1,6 +1,8 @@
+pub mod Strings
 pub mod Elements
 pub mod Powers
 pub mod Weights
+pub mod Digits
 pub mod Operations
 pub mod Cases
 pub mod Emptiness
@@ -8,6 +10,9 @@ pub mod Order
 pub mod Pairs
 pub mod Concat
 pub mod Bounds
+pub mod Rows
+pub mod Parts
 pub mod Over
+pub mod FullSet
 pub mod Size
 pub mod Examples

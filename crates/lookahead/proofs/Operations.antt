@@ -1,79 +1,81 @@
 -- The elements of each operation's result.
-use mathlib.Core.Path.{_≡_, refl, sym, ap, ap₂, _∙_}
-use mathlib.Core.Bool.{Bool, true, false, not, _&&_, _||_, and-true}
-use Prim.Native.Nat.{ℕ, suc, _-_}
-use lib.Dec.{eqb, ltb}
-use borrow.Author.Tests.{eqb-true}
-use Rattle.lookahead.specs.Elements.{nothing, weight, has}
+use mathlib.Core.Path.{_≡_, refl, ap, _∙_}
+use mathlib.Core.Bool.{Bool, true, false, _&&_, _||_}
+use mathlib.Core.List.{[], _∷_}
+use Prim.Native.Nat.{ℕ, _<_}
+use lib.Dec.{T, eqb, ltb, eqb→eq, lt→ltb}
+use mir.Facts.{and-yes, yes-and}
 use Rattle.booleans.specs.Choice.{choose}
-use Rattle.lookahead.specs.Operations.{empty, isEmpty, end, terminal, full, join, meet, terminals, concatNumbers}
+use Rattle.booleans.specs.Quantifiers.{allOf, anyBelow}
+use Rattle.booleans.proofs.Booleans.{both}
+use Rattle.booleans.proofs.Quantified.{below-elim}
+use Rattle.lookahead.specs.declared.Lookahead.{Lookahead}
+use Rattle.lookahead.specs.Lookaheads.{alphabet, elements, nothing, elementOf, stringOf, after}
+use Rattle.lookahead.specs.Elements.{weight, has}
+use Rattle.lookahead.specs.Operations.{empty, end, terminal, full, join, meet, behind, inConcat, concatNumbers}
 use Rattle.lookahead.specs.Operations.{Empty, End, Terminal, Full, Joined, Met, Concatenated}
-use Rattle.lookahead.proofs.Elements as elements
+use Rattle.lookahead.proofs.Elements as of-numbers
 use Rattle.lookahead.proofs.Powers as powers
+use Rattle.lookahead.proofs.Strings.{after-below}
 use Rattle.lookahead.proofs.Weights.{has-total}
 
 -- the elements that the operations' definitions give
 pub has-empty : (l : ℕ) → has empty l ≡ false
-has-empty = elements.has-zero
+has-empty = of-numbers.has-zero
 
-pub has-end : (l : ℕ) → has end l ≡ eqb l nothing
-has-end = powers.has-pow nothing
+pub has-end : (k : Lookahead) (l : ℕ) → has (end k) l ≡ eqb l (nothing k)
+has-end k = powers.has-pow (nothing k)
 
 pub has-choose : (b : Bool) (x l : ℕ) → has (choose b x empty) l ≡ (b && has x l)
 has-choose true x l = refl
 has-choose false x l = has-empty l
 
-has-unless : (b : Bool) (x l : ℕ) → has (choose b empty x) l ≡ (not b && has x l)
-has-unless true x l = has-empty l
-has-unless false x l = refl
-
-pub has-terminal : (a l : ℕ) → has (terminal a) l ≡ (ltb a nothing && eqb l a)
+pub has-terminal : (k : Lookahead) (a l : ℕ) → has (terminal k a) l ≡ (ltb a (alphabet k) && eqb l (elementOf k (a ∷ [])))
 unfolding terminal
-has-terminal a l = has-choose (ltb a nothing) (weight a) l ∙ ap (λ (b : Bool). ltb a nothing && b) (powers.has-pow a l)
+has-terminal k a l =
+    has-choose (ltb a (alphabet k)) (weight (elementOf k (a ∷ []))) l
+    ∙ ap (λ (b : Bool). ltb a (alphabet k) && b) (powers.has-pow (elementOf k (a ∷ [])) l)
 
-pub has-full : (t l : ℕ) → has (full t) l ≡ (ltb l (suc nothing) && (ltb l t || eqb l nothing))
+pub has-full : (k : Lookahead) (t l : ℕ) → has (full k t) l ≡ (ltb l (elements k) && allOf (λ a. ltb a t) (stringOf k l))
 unfolding full
-has-full t l = has-total (suc nothing) (λ a. ltb a t || eqb a nothing) l
+has-full k t l = has-total (elements k) (λ l. allOf (λ a. ltb a t) (stringOf k l)) l
 
 pub has-join : (x y l : ℕ) → has (join x y) l ≡ (has x l || has y l)
 unfolding join
-has-join = elements.has-or
+has-join = of-numbers.has-or
 
 pub has-meet : (x y l : ℕ) → has (meet x y) l ≡ (has x l && has y l)
 unfolding meet
-has-meet = elements.has-and
+has-meet = of-numbers.has-and
 
-pub has-terminals : (x l : ℕ) → has (terminals x) l ≡ (has x l && not (eqb l nothing))
-unfolding terminals
-has-terminals x l = go (has x nothing) refl
-  where
-    other : (b : Bool) → eqb l nothing ≡ b → has x nothing ≡ false → has x l ≡ (has x l && not b)
-    other true e h = let f : has x l ≡ false = rw (eqb-true l nothing e) h in rw f
-    other false e h = sym (and-true (has x l))
+-- what is looked at in a pair is an element again
+concat-below : (k : Lookahead) (x y l : ℕ) → T (inConcat k x y l) → l < elements k
+unfolding inConcat behind
+concat-below k x y l t =
+    let a = below-elim (elements k) (λ a. has x a && behind k a y l) t in
+    let b = below-elim (elements k) (λ b. has y b && eqb (after k (a .0) b) l) (and-yes (has x (a .0)) (behind k (a .0) y l) (a .2) .1) in
+    let e : after k (a .0) (b .0) ≡ l = eqb→eq (after k (a .0) (b .0)) l (and-yes (has y (b .0)) (eqb (after k (a .0) (b .0)) l) (b .2) .1) in
+    rw e at (after-below k (a .0) (b .0) (a .1) (b .1))
 
-    go : (b : Bool) → has x nothing ≡ b → has (choose b (x - end) x) l ≡ (has x l && not (eqb l nothing))
-    go true h = powers.has-without nothing x l h
-    go false h = other (eqb l nothing) refl h
-
-pub has-concat : (x y l : ℕ) → has (concatNumbers x y) l ≡ (not (isEmpty y) && ((has x l && not (eqb l nothing)) || (has x nothing && has y l)))
+pub has-concat : (k : Lookahead) (x y l : ℕ) → has (concatNumbers k x y) l ≡ inConcat k x y l
 unfolding concatNumbers
-has-concat x y l =
-    has-unless (isEmpty y) (join (terminals x) (choose (has x nothing) y empty)) l
-    ∙ ap (λ (b : Bool). not (isEmpty y) && b)
-    (has-join (terminals x) (choose (has x nothing) y empty) l ∙ ap₂ _||_ (has-terminals x l) (has-choose (has x nothing) y l))
+has-concat k x y l =
+    has-total (elements k) (inConcat k x y) l
+    ∙ both (ltb l (elements k) && inConcat k x y l) (inConcat k x y l) (λ t. and-yes (ltb l (elements k)) (inConcat k x y l) t .1)
+    (λ t. yes-and (ltb l (elements k)) (inConcat k x y l) (lt→ltb l (elements k) (concat-below k x y l t)) t)
 
 -- a number that is an operation's result has the elements that the operation's record names
 pub is-empty : {r : ℕ} → r ≡ empty → Empty r
 is-empty e = record { is = e; member = λ l. rw e (has-empty l) }
 
-pub is-end : {r : ℕ} → r ≡ end → End r
-is-end e = record { is = e; member = λ l. rw e (has-end l) }
+pub is-end : (k : Lookahead) {r : ℕ} → r ≡ end k → End k r
+is-end k e = record { is = e; member = λ l. rw e (has-end k l) }
 
-pub is-terminal : {a r : ℕ} → r ≡ terminal a → Terminal a r
-is-terminal {a} e = record { is = e; member = λ l. rw e (has-terminal a l) }
+pub is-terminal : (k : Lookahead) {a r : ℕ} → r ≡ terminal k a → Terminal k a r
+is-terminal k {a} e = record { is = e; member = λ l. rw e (has-terminal k a l) }
 
-pub is-full : {t r : ℕ} → r ≡ full t → Full t r
-is-full {t} e = record { is = e; member = λ l. rw e (has-full t l) }
+pub is-full : (k : Lookahead) {t r : ℕ} → r ≡ full k t → Full k t r
+is-full k {t} e = record { is = e; member = λ l. rw e (has-full k t l) }
 
 pub is-join : {x y r : ℕ} → r ≡ join x y → Joined x y r
 is-join {x} {y} e = record { is = e; member = λ l. rw e (has-join x y l) }
@@ -81,5 +83,5 @@ is-join {x} {y} e = record { is = e; member = λ l. rw e (has-join x y l) }
 pub is-meet : {x y r : ℕ} → r ≡ meet x y → Met x y r
 is-meet {x} {y} e = record { is = e; member = λ l. rw e (has-meet x y l) }
 
-pub is-concat : {x y r : ℕ} → r ≡ concatNumbers x y → Concatenated x y r
-is-concat {x} {y} e = record { is = e; member = λ l. rw e (has-concat x y l) }
+pub is-concat : (k : Lookahead) {x y r : ℕ} → r ≡ concatNumbers k x y → Concatenated k x y r
+is-concat k {x} {y} e = record { is = e; member = λ l. rw e (has-concat k x y l) }

@@ -1,71 +1,77 @@
--- With t terminals, for any t: the operations on sets over these terminals and nothing give such sets again.
-use mathlib.Core.Path.{_≡_}
-use mathlib.Core.Bool.{_&&_, _||_, or-true}
-use mathlib.Core.Logic.{_⊎_, inl, inr}
-use Prim.Native.Nat.{ℕ, suc, _^_, _≤_, _<_}
+-- With t terminals, for any t: the operations on sets of strings over these terminals give such sets again.
+use mathlib.Core.Path.{_≡_, sym}
+use mathlib.Core.List.{[], _∷_}
+use mathlib.Core.Logic.{inl, inr}
+use Prim.Native.Nat.{ℕ, _^_, _≤_, _<_}
 use native.Mathlib.Omega.{arith}
-use native.Mathlib.Decide.{decLt}
-use lib.Dec.{T, ltb, eqb, eqb→eq, ltb→lt}
-use borrow.Author.Tests.{eq-eqb, lt-ltb}
-use mir.Facts.{and-yes, or-yes}
-use Rattle.lookahead.specs.Elements.{nothing, has, Subset, OverTerminals}
+use lib.Dec.{T, ltb, eqb, eqb→eq, ltb→lt, lt→ltb}
+use mir.Facts.{and-yes, yes-and, or-yes}
+use Rattle.booleans.specs.Quantifiers.{allOf}
+use Rattle.semantics.specs.Strings.{Over}
+use Rattle.semantics.proofs.LookaheadSets.{cut-lookahead}
+use Rattle.lookahead.specs.declared.Lookahead.{Lookahead}
+use Rattle.lookahead.specs.Lookaheads.{tokens, alphabet, elements, nothing, elementOf, stringOf, after}
+use Rattle.lookahead.specs.Elements.{has, Subset, OverTerminals}
 use Rattle.lookahead.specs.Operations.{empty, end, terminal, full, join, meet, concatNumbers}
-use Rattle.lookahead.proofs.Elements as elements
+use Rattle.lookahead.proofs.Elements as of-numbers
+use Rattle.lookahead.proofs.Strings.{string-nothing, string-terminal, single-looked, string-over, string-after, after-below, element-below, nothing-below, over-none}
 use Rattle.lookahead.proofs.Operations.{has-empty, has-end, has-terminal, has-full, has-join}
 use Rattle.lookahead.proofs.Order.{subset-refl, subset-antisym, meet-left, meet-greatest}
-use Rattle.lookahead.proofs.Concat.{concat-join}
+use Rattle.lookahead.proofs.Pairs.{concat-pair}
 
-module _ (t : ℕ) where
+module _ (k : Lookahead) (t : ℕ) where
   -- the sets to begin with
-  pub over-empty : OverTerminals t empty
+  pub over-empty : OverTerminals k t empty
   over-empty l s = absurd (rw (has-empty l) at s)
 
-  pub over-end : OverTerminals t end
-  over-end l s = inr (eqb→eq l nothing (rw (has-end l) at s))
+  pub over-end : OverTerminals k t (end k)
+  over-end l s =
+      let e : l ≡ nothing k = eqb→eq l (nothing k) (rw (has-end k l) at s) in
+      rw (e, string-nothing k) (nothing-below k, over-none t)
 
-  pub over-terminal : (a : ℕ) → a < t → OverTerminals t (terminal a)
-  over-terminal a h l s = let e : l ≡ a = eqb→eq l a (and-yes (ltb a nothing) (eqb l a) (rw (has-terminal a l) at s) .1) in inl (omega arith)
+  pub over-terminal : (a : ℕ) → a < t → OverTerminals k t (terminal k a)
+  over-terminal a h l s =
+      let b = and-yes (ltb a (alphabet k)) (eqb l (elementOf k (a ∷ []))) (rw (has-terminal k a l) at s) in
+      let i = ltb→lt a (alphabet k) (b .0) in
+      let e : l ≡ elementOf k (a ∷ []) = eqb→eq l (elementOf k (a ∷ [])) (b .1) in
+      rw (e, string-terminal k a i) (element-below k (a ∷ []) (single-looked k (alphabet k) a i), single-looked k t a h .1)
 
-  pub over-full : OverTerminals t (full t)
+  pub over-full : OverTerminals k t (full k t)
   over-full l s =
-      elim (or-yes (ltb l t) (eqb l nothing) (and-yes (ltb l (suc nothing)) (ltb l t || eqb l nothing) (rw (has-full t l) at s) .1)) [
-        | inl u ↦ inl (ltb→lt l t u)
-        | inr u ↦ inr (eqb→eq l nothing u)
-      ]
+      let b = and-yes (ltb l (elements k)) (allOf (λ a. ltb a t) (stringOf k l)) (rw (has-full k t l) at s) in
+      (ltb→lt l (elements k) (b .0), b .1)
 
   -- what is contained in a set over t terminals, and what the operations make of such sets
-  pub over-subset : (x y : ℕ) → Subset x y → OverTerminals t y → OverTerminals t x
+  pub over-subset : (x y : ℕ) → Subset x y → OverTerminals k t y → OverTerminals k t x
   over-subset x y f o l s = o l (f l s)
 
-  pub over-join : (x y : ℕ) → OverTerminals t x → OverTerminals t y → OverTerminals t (join x y)
+  pub over-join : (x y : ℕ) → OverTerminals k t x → OverTerminals k t y → OverTerminals k t (join x y)
   over-join x y o p l s = elim (or-yes (has x l) (has y l) (rw (has-join x y l) at s)) [ inl u ↦ o l u | inr u ↦ p l u ]
 
-  pub over-meet : (x y : ℕ) → OverTerminals t x → OverTerminals t (meet x y)
+  pub over-meet : (x y : ℕ) → OverTerminals k t x → OverTerminals k t (meet x y)
   over-meet x y = over-subset (meet x y) x (meet-left x y)
 
-  pub over-concat : (x y : ℕ) → OverTerminals t x → OverTerminals t y → OverTerminals t (concatNumbers x y)
-  over-concat x y o p = over-subset (concatNumbers x y) (join x y) (concat-join x y) (over-join x y o p)
+  pub over-concat : (x y : ℕ) → OverTerminals k t x → OverTerminals k t y → OverTerminals k t (concatNumbers k x y)
+  over-concat x y o p l s =
+      let q = concat-pair k x y l s in
+      let a = o (q .a) (q .a-in) in
+      let b = p (q .b) (q .b-in) in
+      let c = cut-lookahead (tokens k) t (stringOf k (q .a)) (stringOf k (q .b)) (a .1) (b .1) in
+      rw (← q .is-after) (after-below k (q .a) (q .b) (a .0) (b .0), rw (string-after k (q .a) (q .b) (a .0) (b .0)) at (c .1))
 
-  -- where t terminals are allowed, such a set has no digits above that of nothing
-  pub over-bound : (x : ℕ) → t ≤ nothing → OverTerminals t x → x < 2 ^ suc nothing
-  over-bound x h o = elements.bound (suc nothing) x (λ l s. elim (o l s) [ inl b ↦ omega arith | inr e ↦ omega arith ])
+  -- such a set has no digits above those of elements
+  pub over-bound : (x : ℕ) → OverTerminals k t x → x < 2 ^ elements k
+  over-bound x o = of-numbers.bound (elements k) x (λ l s. o l s .0)
 
   -- the full set contains every set over t terminals, and to meet it changes none
-  pub full-greatest : (x : ℕ) → t ≤ nothing → OverTerminals t x → Subset x (full t)
-  full-greatest x h o l s = rw (has-full t l) (inside (o l s))
-    where
-      inside : (l < t) ⊎ (l ≡ nothing) → T (ltb l (suc nothing) && (ltb l t || eqb l nothing))
-      inside (inl b) = rw (lt-ltb l (suc nothing) (omega arith), lt-ltb l t b) tt
-      inside (inr e) = rw (lt-ltb l (suc nothing) (omega arith), eq-eqb l nothing e, or-true (ltb l t)) tt
+  pub full-greatest : (x : ℕ) → OverTerminals k t x → Subset x (full k t)
+  full-greatest x o l s =
+      rw (has-full k t l) (yes-and (ltb l (elements k)) (allOf (λ a. ltb a t) (stringOf k l)) (lt→ltb l (elements k) (o l s .0)) (o l s .1))
 
-  pub meet-full : (x : ℕ) → t ≤ nothing → OverTerminals t x → meet x (full t) ≡ x
-  meet-full x h o =
-      subset-antisym (meet x (full t)) x (meet-left x (full t)) (meet-greatest x (full t) x (subset-refl x) (full-greatest x h o))
+  pub meet-full : (x : ℕ) → OverTerminals k t x → meet x (full k t) ≡ x
+  meet-full x o =
+      subset-antisym (meet x (full k t)) x (meet-left x (full k t)) (meet-greatest x (full k t) x (subset-refl x) (full-greatest x o))
 
 -- and a number without such digits is a set over all the terminals
-pub bound-over : (x : ℕ) → x < 2 ^ suc nothing → OverTerminals nothing x
-bound-over x h l s = let b = elements.bounded (suc nothing) x l h s in go (decLt l nothing) b
-  where
-    go : Dec (l < nothing) → l < suc nothing → (l < nothing) ⊎ (l ≡ nothing)
-    go (yes u) b = inl u
-    go (no u) b = inr (omega arith)
+pub bound-over : (k : Lookahead) (x : ℕ) → x < 2 ^ elements k → OverTerminals k (alphabet k) x
+bound-over k x h l s = let b = of-numbers.bounded (elements k) x l h s in (b, string-over k l b)

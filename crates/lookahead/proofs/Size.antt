@@ -1,16 +1,14 @@
--- A set's size is the count of ones in its number, and the number of its elements, however many terminals there are.
-use mathlib.Core.Path.{_≡_, refl, sym, ap, _∙_}
+-- A set's size is the count of ones in its number, and the number of its elements.
+use mathlib.Core.Path.{_≡_, refl, sym, _∙_}
 use mathlib.Core.Bool.{Bool, false}
-use mathlib.Core.Logic.{_⊎_, inl, inr}
 use Prim.Native.Nat.{ℕ, zero, suc, _+_, _/_, _^_, _≤_, _<_}
 use native.Mathlib.Nat.{pow-suc}
 use native.Mathlib.Omega.{arith}
 use native.Mathlib.Decide.{le-ind}
 use lib.Count.{ones, ones-step}
 use Rattle.booleans.specs.Quantifiers.{one, countBelow}
-use Rattle.lookahead.specs.Elements.{nothing, has, OverTerminals, width, size}
-use Rattle.booleans.proofs.Booleans.{T-none}
-use Rattle.lookahead.proofs.Elements as elements
+use Rattle.lookahead.specs.Elements.{has, width, size}
+use Rattle.lookahead.proofs.Elements as of-numbers
 
 pub count-cong : (k : ℕ) (p q : ℕ → Bool) → ((l : ℕ) → l < k → p l ≡ q l) → countBelow k p ≡ countBelow k q
 unfolding countBelow
@@ -29,7 +27,7 @@ ones-count zero n h = let e : n ≡ 0 = omega arith in rw e
 ones-count (suc k) n h =
     let p = pow-suc 2 k in
     ones-step n
-    ∙ rw (elements.lowest n, ones-count k (n / 2) (omega arith), count-cong k (has (n / 2)) (λ l. has n (suc l)) (λ l b. sym (elements.has-suc n l)))
+    ∙ rw (of-numbers.lowest n, ones-count k (n / 2) (omega arith), count-cong k (has (n / 2)) (λ l. has n (suc l)) (λ l b. sym (of-numbers.has-suc n l)))
     (sym (count-first k (has n)))
 
 -- the language's count of ones is the size
@@ -44,17 +42,7 @@ count-stop p k =
     le-ind (λ (m : ℕ). ((l : ℕ) → k ≤ l → l < m → p l ≡ false) → countBelow m p ≡ countBelow k p) (λ f. refl)
     (λ m h e f. let z : p m ≡ false = f m h (omega arith) in rw z (omega (arith, e (λ l b d. f l b (omega arith)))))
 
-count-suc : (k : ℕ) (p : ℕ → Bool) → countBelow (suc k) p ≡ one (p k) + countBelow k p
-unfolding countBelow
-count-suc k p = refl
-
--- with t terminals, the size is how many of them are in the set, and one more where nothing is
-pub size-over : (t x : ℕ) → t ≤ nothing → OverTerminals t x → size x ≡ one (has x nothing) + countBelow t (has x)
+-- a set without digits from k on has no elements there
+pub size-below : (k x : ℕ) → k ≤ width → x < 2 ^ k → size x ≡ countBelow k (has x)
 unfolding size
-size-over t x h o =
-    count-stop (has x) (suc nothing) width (omega arith) (λ l b d. absent l (omega arith) (inr b))
-    ∙ count-suc nothing (has x)
-    ∙ ap (λ (n : ℕ). one (has x nothing) + n) (count-stop (has x) t nothing h (λ l b d. absent l b (inl d)))
-  where
-    absent : (l : ℕ) → t ≤ l → (l < nothing) ⊎ (nothing < l) → has x l ≡ false
-    absent l b d = T-none (has x l) (λ s. elim (o l s) [ inl u ↦ omega arith | inr e ↦ elim d [ inl u ↦ omega arith | inr u ↦ omega arith ] ])
+size-below k x h b = count-stop (has x) k width h (λ l c d. of-numbers.has-above k x l b c)

@@ -1,14 +1,11 @@
 -- A lookahead set (document 01: event set) is a number, the sum of its elements' weights.
-use mathlib.Core.Path.{_≡_}
 use mathlib.Core.Bool.{Bool}
-use mathlib.Core.Logic.{_⊎_}
 use Prim.Native.Nat.{ℕ, zero, suc, _+_, _*_, _/_, _%_, _^_, _<_}
 use lib.Dec.{T, eqb}
 use Rattle.booleans.specs.Quantifiers.{one, countBelow}
-
--- the element for the end of the input and the empty string (document 01: "nothing"); the numbers below it are the terminals
-abbrev pub nothing : ℕ
-nothing = 24
+use Rattle.semantics.specs.Strings.{Over}
+use Rattle.lookahead.specs.declared.Lookahead.{Lookahead}
+use Rattle.lookahead.specs.Lookaheads.{elements, stringOf}
 
 abbrev pub weight : ℕ → ℕ
 weight l = 2 ^ l
@@ -21,9 +18,9 @@ has s l = eqb (s / weight l % 2) 1
 abbrev pub Subset : ℕ → ℕ → Type 0
 Subset x y = (l : ℕ) → T (has x l) → T (has y l)
 
--- s has no elements but nothing and the first t terminals: a set over a grammar with t terminals
-abbrev pub OverTerminals : ℕ → ℕ → Type 0
-OverTerminals t s = (l : ℕ) → T (has s l) → (l < t) ⊎ (l ≡ nothing)
+-- the elements of s stand for strings over the first t terminals: a set over a grammar with t terminals
+abbrev pub OverTerminals : Lookahead → ℕ → ℕ → Type 0
+OverTerminals k t s = (l : ℕ) → T (has s l) → (l < elements k) × Over t (stringOf k l)
 
 -- the weights of the numbers below k that pass the test, added up
 unfoldable pub total : ℕ → (ℕ → Bool) → ℕ

@@ -1,2 +1,4 @@
+pub mod Lookaheads
 pub mod Elements
 pub mod Operations
+pub mod Computing

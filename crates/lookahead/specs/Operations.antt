@@ -1,11 +1,15 @@
 -- The operations on lookahead sets, each with the number that it gives and the elements that this number has.
 use mathlib.Core.Path.{_≡_}
-use mathlib.Core.Bool.{Bool, true, false, not, _&&_, _||_}
-use Prim.Native.Nat.{ℕ, suc, _-_}
+use mathlib.Core.Bool.{Bool, false, _&&_, _||_}
+use mathlib.Core.List.{[], _∷_}
+use Prim.Native.Nat.{ℕ}
 use lib.Bits.{bitAnd, bitOr}
 use lib.Dec.{eqb, ltb}
 use Rattle.booleans.specs.Choice.{choose}
-use Rattle.lookahead.specs.Elements.{nothing, weight, has, total}
+use Rattle.booleans.specs.Quantifiers.{allOf, anyBelow}
+use Rattle.lookahead.specs.declared.Lookahead.{Lookahead}
+use Rattle.lookahead.specs.Lookaheads.{alphabet, elements, nothing, elementOf, stringOf, after}
+use Rattle.lookahead.specs.Elements.{weight, has, total}
 
 abbrev pub empty : ℕ
 empty = 0
@@ -18,28 +22,28 @@ pub record Empty (r : ℕ) : Type 0 where
   pub member : (l : ℕ) → has r l ≡ false
 
 -- the set of nothing alone
-abbrev pub end : ℕ
-end = weight nothing
+abbrev pub end : Lookahead → ℕ
+end k = weight (nothing k)
 
-pub record End (r : ℕ) : Type 0 where
-  pub is : r ≡ end
-  pub member : (l : ℕ) → has r l ≡ eqb l nothing
+pub record End (k : Lookahead) (r : ℕ) : Type 0 where
+  pub is : r ≡ end k
+  pub member : (l : ℕ) → has r l ≡ eqb l (nothing k)
 
 -- the set of a terminal alone, empty where the number is no terminal's
-unfoldable pub terminal : ℕ → ℕ
-terminal a = choose (ltb a nothing) (weight a) empty
+unfoldable pub terminal : Lookahead → ℕ → ℕ
+terminal k a = choose (ltb a (alphabet k)) (weight (elementOf k (a ∷ []))) empty
 
-pub record Terminal (a r : ℕ) : Type 0 where
-  pub is : r ≡ terminal a
-  pub member : (l : ℕ) → has r l ≡ (ltb a nothing && eqb l a)
+pub record Terminal (k : Lookahead) (a r : ℕ) : Type 0 where
+  pub is : r ≡ terminal k a
+  pub member : (l : ℕ) → has r l ≡ (ltb a (alphabet k) && eqb l (elementOf k (a ∷ [])))
 
--- every terminal below t, and nothing
-unfoldable pub full : ℕ → ℕ
-full t = total (suc nothing) (λ l. ltb l t || eqb l nothing)
+-- every string of terminals below t
+unfoldable pub full : Lookahead → ℕ → ℕ
+full k t = total (elements k) (λ l. allOf (λ a. ltb a t) (stringOf k l))
 
-pub record Full (t r : ℕ) : Type 0 where
-  pub is : r ≡ full t
-  pub member : (l : ℕ) → has r l ≡ (ltb l (suc nothing) && (ltb l t || eqb l nothing))
+pub record Full (k : Lookahead) (t r : ℕ) : Type 0 where
+  pub is : r ≡ full k t
+  pub member : (l : ℕ) → has r l ≡ (ltb l (elements k) && allOf (λ a. ltb a t) (stringOf k l))
 
 -- (document 01: joined)
 unfoldable pub join : ℕ → ℕ → ℕ
@@ -57,14 +61,18 @@ pub record Met (x y r : ℕ) : Type 0 where
   pub is : r ≡ meet x y
   pub member : (l : ℕ) → has r l ≡ (has x l && has y l)
 
--- the elements but nothing
-unfoldable pub terminals : ℕ → ℕ
-terminals x = choose (has x nothing) (x - end) x
+-- l is looked at where a is followed by some element of y
+unfoldable pub behind : Lookahead → ℕ → ℕ → ℕ → Bool
+behind k a y l = anyBelow (elements k) (λ b. has y b && eqb (after k a b) l)
 
--- x followed by y: the terminals of x, and y as well if x has nothing; but empty if y is (document 01: strung together)
-unfoldable pub concatNumbers : ℕ → ℕ → ℕ
-concatNumbers x y = choose (isEmpty y) empty (join (terminals x) (choose (has x nothing) y empty))
+-- and where some element of x is
+unfoldable pub inConcat : Lookahead → ℕ → ℕ → ℕ → Bool
+inConcat k x y l = anyBelow (elements k) (λ a. has x a && behind k a y l)
 
-pub record Concatenated (x y r : ℕ) : Type 0 where
-  pub is : r ≡ concatNumbers x y
-  pub member : (l : ℕ) → has r l ≡ (not (isEmpty y) && ((has x l && not (eqb l nothing)) || (has x nothing && has y l)))
+-- x followed by y: what is looked at in each pair of an element of x and one of y, and so nothing where either is empty (document 01: strung together)
+unfoldable pub concatNumbers : Lookahead → ℕ → ℕ → ℕ
+concatNumbers k x y = total (elements k) (inConcat k x y)
+
+pub record Concatenated (k : Lookahead) (x y r : ℕ) : Type 0 where
+  pub is : r ≡ concatNumbers k x y
+  pub member : (l : ℕ) → has r l ≡ inConcat k x y l

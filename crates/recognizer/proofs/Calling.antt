@@ -105,7 +105,7 @@ module _ {choice : Choice} {words choices tokens input memo₀ : List ℕ} {A pl
       own = g .given .own;
       rows = g .given .rows;
       ends = g .given .ends;
-      elements = g .given .elements;
+      columns = g .given .columns;
       firsts = g .given .firsts;
       terminals = g .given .terminals;
       end = g .given .end;

@@ -2,54 +2,65 @@
 use mathlib.Core.Path.{_≡_, refl, sym, ap, _∙_}
 use mathlib.Core.List.{List, [], _∷_, _++_, List·Memᴰ·head, List·Memᴰ·not-nil}
 use mathlib.Core.Option.{Option, none, some}
-use Prim.Native.Nat.{ℕ, _+_, _-_, _*_, _≤_, _<_}
-use native.Mathlib.Nat.{mul-le-mul}
+use Prim.Native.Nat.{ℕ, _-_, _≤_, _<_}
 use native.Mathlib.Omega.{arith}
 use lib.Dec.{T}
-use lib.ListN.{length, take, drop, replicate, length-append, length-replicate}
+use lib.ListN.{length, take, drop, replicate}
 use lib.Seq.{take-at}
 use borrow.Author.Tests.{lt-ltb, le-ltb}
 use Rattle.answer.proofs.Apart.{fault-number, refused-ne-passed}
 use Rattle.answer.specs.declared.Error.{Error}
-use Rattle.answer.specs.declared.Error.the-variants.{TableTooShort}
 use Rattle.answer.specs.Numbers.{numbers}
 use Rattle.answer.specs.Faults.{refusedOr}
 use Rattle.answer.proofs.Faults.{none-some, each-none, numbers-told}
 use Rattle.answer.specs.declared.Answer.{Answer}
 use Rattle.answer.specs.declared.Answer.the-variants.{Refused, Passed}
 use Rattle.grammar.specs.Codes.{noEntry}
-use Rattle.grammar.specs.Limits.{maxNonterminals, maxColumns, maxTableWords}
 use Rattle.grammar.specs.Syntax.{Grammar}
 use Rattle.grammar.specs.Encoding.{grammarOf}
 use Rattle.grammar.specs.Reading.{reading}
 use Rattle.grammar.specs.declared.reading.Sizes.{Sizes}
 use Rattle.grammar.specs.declared.reading.Outcome.{Outcome}
 use Rattle.grammar.specs.declared.reading.Outcome.the-variants.{Read, Faulty}
+use Rattle.grammar.specs.WellRead.{WellRead}
 use Rattle.grammar.proofs.WellRead.{well-read}
 use Rattle.encoding.specs.Encode.{sizesOf, Encodes}
 use Rattle.encoding.proofs.Decoding.{encodes-grammar}
 use Rattle.encoding.proofs.ReadingEncodes.{read-encodes, encodes-read}
 use Rattle.encoding.proofs.Faithful.{faithful}
+use Rattle.lookahead.specs.declared.Lookahead.{Lookahead}
+use Rattle.lookahead.specs.declared.Lookahead.the-variants.{One, Two}
+use Rattle.lookahead.specs.Lookaheads.{tokens, alphabet}
+use Rattle.admission.specs.Admission.{Fits, admission}
+use Rattle.admission.proofs.Admitted.{admitted}
 use Rattle.semantics.specs.LeftRecursion.{NoLeftRecursion, lowestLeftRecursive}
 use Rattle.semantics.specs.FirstFollow.{Entry}
 use Rattle.semantics.specs.Productive.{lowestUnproductive}
 use Rattle.semantics.specs.Claims.{clashes}
-use Rattle.semantics.specs.Predictive.{Predictive}
 use Rattle.semantics.specs.Theorems.{LeastSets}
 use Rattle.semantics.proofs.Theorems.{theorems}
+use Rattle.sets.specs.declared.Finding.{Finding}
 use Rattle.sets.specs.declared.Finding.the-variants as finding
+use Rattle.sets.proofs.FewTerminals.{admitted-read, few-terminals}
 use Rattle.table.specs.declared.Analysis.{Analysis}
-use Rattle.table.specs.Layout.{tableWords}
-use Rattle.table.specs.Entries.{filled}
-use Rattle.sets.specs.Analysis.{readingFault, leftFault, unproductiveFault}
+use Rattle.table.specs.declared.WideAnalysis.{WideAnalysis}
+use Rattle.table.specs.Layout.{tableWords, tableRoom, filled, wordCount, WordsGiven}
+use Rattle.table.specs.Entries.{entriesOf}
+use Rattle.sets.specs.Analysis.{readingFault, leftFault, unproductiveFault, findingOf}
 use Rattle.sets.proofs.Findings.{told-passed, told-refused}
-use Rattle.table.specs.Analysis.{clashFault, grammarFaults, fault, tableIf, analyzed}
+use Rattle.table.specs.Analysis.{clashFault, grammarFaults, fault, entriesIf, tableIf, analyzed}
+use Rattle.table.specs.Conflicts.{firstClash}
+use Rattle.table.specs.declared.conflicts.Conflict.{Conflict}
+use Rattle.table.specs.declared.conflicts.Conflict.the-variants.{Absent, At}
+use Rattle.table.proofs.FirstClash.{clash-absent}
+use Rattle.table.proofs.Padded.{padded-long}
 use Rattle.table.proofs.Words.{table-long}
-use Rattle.recognizer.specs.Memory.{lentBack, wordCount, LendGiven, Lent}
-use Rattle.recognizer.specs.Answers.{checkFault}
+use Rattle.table.proofs.Analyzing.{admitted-words}
+use Rattle.recognizer.specs.Memory.{lentBack, LendGiven, Lent}
+use Rattle.recognizer.specs.Answers.{tableTooShort, checkFaultBy}
 use Rattle.recognizer.specs.Judging.{TableFound}
-use Rattle.recognizer.specs.Properties.{PassedGrammar, LeastFamilies, Checks}
-use Rattle.recognizer.proofs.Places.{check-tells, fault-encoded, places}
+use Rattle.recognizer.specs.Properties.{PassedBy, PassedGrammar, LeastFamiliesBy, ChecksBy}
+use Rattle.recognizer.proofs.Places.{check-tells, encodes-taken, fault-encoded, places}
 
 pub none-left : (o : Option ℕ) → leftFault o ≡ none → o ≡ none
 none-left none e = refl
@@ -59,21 +70,24 @@ none-unproductive : (o : Option ℕ) → unproductiveFault o ≡ none → o ≡ 
 none-unproductive none e = refl
 none-unproductive (some A) e = absurd (omega (arith, fault-number e))
 
-none-clash : (t : ℕ) (l : List Entry) → clashFault t l ≡ none → l ≡ []
-none-clash t [] e = refl
-none-clash t (x ∷ l) e = absurd (omega (arith, fault-number e))
+none-clash : (k : Lookahead) (r : Conflict) → clashFault k r ≡ none → r ≡ Absent
+none-clash k Absent e = refl
+none-clash k (At A c) e = absurd (none-some (sym e))
 
 pub read-some : (o : Outcome) → readingFault o ≡ none → (z : Sizes) × (o ≡ Read z)
 read-some (Read z) e = (z, refl)
 read-some (Faulty x) e = absurd (none-some (sym e))
 
 -- the theorems of the semantics about an encoded grammar
-pub least : {words : List ℕ} (G : Grammar) → Encodes words G → LeastSets G 1
-least G e = theorems .least-sets G (e .formed .scoped) (e .formed .terminals) (e .limited .someNonterminal) 1
+pub least-for : (n : ℕ) {words : List ℕ} (G : Grammar) → Encodes words G → LeastSets G n
+least-for n G e = theorems .least-sets G (e .formed .scoped) (e .formed .terminals) (e .limited .someNonterminal) n
 
-families : {words : List ℕ} (G : Grammar) → Encodes words G → LeastFamilies G
-families G e =
-    let l = least G e in
+pub least : {words : List ℕ} (G : Grammar) → Encodes words G → LeastSets G 1
+least = least-for 1
+
+families : (n : ℕ) {words : List ℕ} (G : Grammar) → Encodes words G → LeastFamiliesBy n G
+families n G e =
+    let l = least-for n G e in
     record {
       first-closed = l .first .closed;
       first-least = λ F c A x h. l .first .smallest (λ B y. T (F B y)) c A x h;
@@ -83,134 +97,181 @@ families G e =
       unclaimed = l .unclaimed;
     }
 
--- a grammar passes exactly when it has no fault
-pub passed-fault : (words : List ℕ) → fault words ≡ none → PassedGrammar words
+-- a grammar that fits has no more terminals than its lookahead allows
+pub fits-few : (k : Lookahead) {words : List ℕ} (G : Grammar) → Encodes words G → Fits k G → G .terminals ≤ alphabet k
+fits-few One G e f = e .limited .fewTerminals
+fits-few Two G e f = f .0
+
+-- a grammar without a fault passes
+pub passed-fault-for : (k : Lookahead) (words : List ℕ) → fault k words ≡ none → PassedBy k words
 unfolding fault
-passed-fault words e =
-    let f = each-none (grammarFaults words) e in
-    let z = read-some (reading words) (f .0) in
-    let none-clashes : clashes (grammarOf words) 1 ≡ [] = none-clash _ (clashes (grammarOf words) 1) (f .1 .1 .1 .0) in
-    let r = read-encodes words (z .0) (z .1) in
+passed-fault-for k words e =
+    let G = grammarOf words in
+    let n = tokens k in
+    let f = each-none (grammarFaults k words) e in
+    let z = read-some (admission k words) (f .0) in
+    let t = admitted k words (z .0) .0 (z .1) in
+    let r = read-encodes words (z .0) (t .0) in
+    let none-clashes : clashes G n ≡ [] =
+    clash-absent k G (few-terminals k words (z .1)) .0 (none-clash k (firstClash k G) (f .1 .1 .1 .0)) in
     record {
       short = r .0;
-      grammar = grammarOf words;
+      grammar = G;
       encodes = r .1;
-      free = theorems .left-recursion-decided (grammarOf words) (r .1 .formed .scoped) .absent .0 (none-left (lowestLeftRecursive (grammarOf words)) (f .1 .0));
-      productive = theorems .productive-decided (grammarOf words) 1 .absent .0 (none-unproductive (lowestUnproductive (grammarOf words) 1) (f .1 .1 .0));
-      clashless = λ A x c. List·Memᴰ·not-nil (rw none-clashes at (least (grammarOf words) (r .1) .clash A x .1 c));
+      fits = t .1;
+      free = theorems .left-recursion-decided G (r .1 .formed .scoped) .absent .0 (none-left (lowestLeftRecursive G) (f .1 .0));
+      productive = theorems .productive-decided G n .absent .0 (none-unproductive (lowestUnproductive G n) (f .1 .1 .0));
+      clashless = λ A x c. List·Memᴰ·not-nil (rw none-clashes at (least-for n G (r .1) .clash A x .1 c));
     }
 
+pub passed-fault : (words : List ℕ) → fault One words ≡ none → PassedGrammar words
+passed-fault = passed-fault-for One
+
 -- a grammar that passes is the one that is read, so its promises are about that
-module _ (words : List ℕ) (p : PassedGrammar words) where
+module _ {k : Lookahead} (words : List ℕ) (p : PassedBy k words) where
+  abbrev n : ℕ
+  n = tokens k
+
   same-grammar : p .grammar ≡ grammarOf words
   same-grammar = sym (encodes-grammar words (p .grammar) (p .encodes))
 
   pub passed-encodes : Encodes words (grammarOf words)
   passed-encodes = rw (← same-grammar) (p .encodes)
 
+  passed-fits : Fits k (grammarOf words)
+  passed-fits = rw (← same-grammar) (p .fits)
+
   pub passed-free : NoLeftRecursion (grammarOf words)
   passed-free = rw (← same-grammar) (p .free)
 
-  pub no-clashes : clashes (grammarOf words) 1 ≡ []
-  no-clashes = rw (← same-grammar) (go (clashes (p .grammar) 1) refl)
+  pub no-clashes : clashes (grammarOf words) n ≡ []
+  no-clashes = rw (← same-grammar) (go (clashes (p .grammar) n) refl)
     where
-      go : (l : List Entry) → clashes (p .grammar) 1 ≡ l → clashes (p .grammar) 1 ≡ []
+      go : (l : List Entry) → clashes (p .grammar) n ≡ l → clashes (p .grammar) n ≡ []
       go [] e = e
-      go (x ∷ l) e = absurd (p .clashless (x .0) (x .1) (least (p .grammar) (p .encodes) .clash (x .0) (x .1) .0 (rw e (List·Memᴰ·head refl))))
+      go (x ∷ l) e = absurd (p .clashless (x .0) (x .1) (least-for n (p .grammar) (p .encodes) .clash (x .0) (x .1) .0 (rw e (List·Memᴰ·head refl))))
 
   pub not-left-recursive : lowestLeftRecursive (grammarOf words) ≡ none
   not-left-recursive = theorems .left-recursion-decided (grammarOf words) (passed-encodes .formed .scoped) .absent .1 passed-free
 
-  pub passed-predictive : Predictive (grammarOf words) 1
-  passed-predictive =
-      theorems .passed (grammarOf words) 1 (omega arith) (passed-encodes .formed) (passed-encodes .limited .someNonterminal) .0 (not-left-recursive, no-clashes)
-
-  pub all-productive : lowestUnproductive (grammarOf words) 1 ≡ none
-  all-productive = theorems .productive-decided (grammarOf words) 1 .absent .1 (rw (← same-grammar) (p .productive))
+  pub all-productive : lowestUnproductive (grammarOf words) n ≡ none
+  all-productive = theorems .productive-decided (grammarOf words) n .absent .1 (rw (← same-grammar) (p .productive))
 
   pub passed-read : reading words ≡ Read (sizesOf (grammarOf words))
   passed-read = encodes-read words (grammarOf words) (p .short) passed-encodes
 
-  pub fault-passed : fault words ≡ none
+  -- and has no fault
+  pub fault-passed : fault k words ≡ none
   unfolding fault
-  fault-passed = rw (passed-read, not-left-recursive, all-productive, no-clashes)
+  fault-passed =
+      let few = fits-few k (grammarOf words) passed-encodes passed-fits in
+      rw (
+        encodes-taken k words (grammarOf words) (p .short) passed-encodes passed-fits,
+        not-left-recursive,
+        all-productive,
+        clash-absent k (grammarOf words) few .1 no-clashes,
+      )
 
 -- with a table that is long enough only the grammar's faults are left
-pub check-fault-long : (n : ℕ) (words : List ℕ) → maxTableWords ≤ n → checkFault n words ≡ fault words
-unfolding checkFault fault
-check-fault-long n words h = rw (le-ltb n maxTableWords h)
+pub check-fault-long : (k : Lookahead) (n : ℕ) (words : List ℕ) → tableRoom k ≤ n → checkFaultBy k n words ≡ fault k words
+unfolding checkFaultBy fault
+check-fault-long k n words h = rw (le-ltb n (tableRoom k) h)
 
 refused-passed : (f : Option Error) → refusedOr f Passed ≡ Passed → f ≡ none
 refused-passed none e = refl
 refused-passed (some x) e = absurd (refused-ne-passed e)
 
--- the promise from the answer and the table
-checks : {words before after : List ℕ} {r : Answer} → r ≡ refusedOr (checkFault (length before) words) Passed
-    → after ≡ lentBack (checkFault (length before) words) (tableWords (grammarOf words)) before → Checks words before r after
-checks {words} {before} {after} {r} a t = record {
-  faithful = faithful words;
-  answer = a;
-  told = ap numbers a ∙ numbers-told (checkFault (length before) words) Passed;
-  table = t;
-  passed = λ long.
-      let f = check-fault-long (length before) words long in (
-        λ p. passed-fault words (sym f ∙ refused-passed (checkFault (length before) words) (sym a ∙ p)),
-        λ p. a ∙ rw (f, fault-passed words p),
-      );
-  places = λ long short G e.
-      places G (e .formed .scoped) (least G e)
-      (check-tells _ (a ∙ ap (λ f. refusedOr f Passed) (check-fault-long (length before) words long ∙ fault-encoded words G short e)));
-  least = families;
-}
+module _ (k : Lookahead) where
+  -- the promise from the answer and the table
+  checks : {words before after : List ℕ} {r : Answer} → r ≡ refusedOr (checkFaultBy k (length before) words) Passed
+      → after ≡ lentBack (checkFaultBy k (length before) words) (tableWords k (grammarOf words)) before → ChecksBy k words before r after
+  checks {words} {before} {after} {r} a t = record {
+    faithful = faithful words;
+    admits = admitted k words;
+    answer = a;
+    told = ap numbers a ∙ numbers-told (checkFaultBy k (length before) words) Passed;
+    table = t;
+    passed = λ long.
+        let f = check-fault-long k (length before) words long in (
+          λ p. passed-fault-for k words (sym f ∙ refused-passed (checkFaultBy k (length before) words) (sym a ∙ p)),
+          λ p. a ∙ rw (f, fault-passed words p),
+        );
+    places = λ long short G e fits.
+        places k G (e .formed .scoped) (fits-few k G e fits)
+        (check-tells k _ (a ∙ ap (λ f. refusedOr f Passed) (check-fault-long k (length before) words long ∙ fault-encoded k words G short e fits)));
+    least = families (tokens k);
+  }
 
-pub check-short : {words before : List ℕ} → length before < maxTableWords → Checks words before (Refused TableTooShort) before
-unfolding checkFault
-check-short {words} {before} h = checks (rw (lt-ltb (length before) maxTableWords h)) (rw (lt-ltb (length before) maxTableWords h))
+  pub check-short : {words before : List ℕ} → length before < tableRoom k → ChecksBy k words before (Refused (tableTooShort k)) before
+  unfolding checkFaultBy
+  check-short {words} {before} h = checks (rw (lt-ltb (length before) (tableRoom k) h)) (rw (lt-ltb (length before) (tableRoom k) h))
 
--- an analysis that finds no fault tells the sizes and the whole table
-pub found : (words : List ℕ) {a : Analysis} {z : Sizes} → a ≡ analyzed words → a .finding ≡ finding.Passed z → TableFound words z (a .table)
+-- what an analysis tells of an encoded grammar
+pub record Told (k : Lookahead) (words : List ℕ) (f : Finding) (entries table : List ℕ) : Type 0 where
+  pub finding : f ≡ findingOf (fault k words) (admission k words)
+  pub entered : entries ≡ entriesIf (fault k words) (entriesOf k (grammarOf words))
+  pub laid : table ≡ tableIf k (fault k words) (filled k (tableWords k (grammarOf words)))
+
+pub told-one : (words : List ℕ) {a : Analysis} → a ≡ analyzed One words → Told One words (a .finding) (a .entries) (a .table)
 unfolding analyzed
-found words {a} {z} e q =
-    let k = told-passed (fault words) (reading words) (sym (ap (λ y. y .finding) e) ∙ q) in
-    record { read = k .1; faultless = k .0; table = ap (λ y. y .table) e ∙ ap (λ y. tableIf y (filled (tableWords (grammarOf words)))) (k .0) }
+told-one words e = record { finding = ap (λ y. y .finding) e; entered = ap (λ y. y .entries) e; laid = ap (λ y. y .table) e }
 
-pub found-fault : (words : List ℕ) {a : Analysis} {x : Error} → a ≡ analyzed words → a .finding ≡ finding.Refused x → fault words ≡ some x
-unfolding analyzed fault
-found-fault words e q = told-refused (fault words) (reading words) (λ y f. rw f) (sym (ap (λ y. y .finding) e) ∙ q)
+pub told-two : (words : List ℕ) {a : WideAnalysis} → a ≡ analyzed Two words → Told Two words (a .finding) (a .entries) (a .table)
+unfolding analyzed
+told-two words e = record { finding = ap (λ y. y .finding) e; entered = ap (λ y. y .entries) e; laid = ap (λ y. y .table) e }
 
--- the table of a grammar that passes, lent back
-module _ (words before : List ℕ) (long : maxTableWords ≤ length before) {z : Sizes} {entries : List ℕ} (f : TableFound words z entries) where
-  words-count : length (tableWords (grammarOf words)) ≡ wordCount z
-  words-count = let r = well-read words z (f .read) in table-long (grammarOf words) ∙ rw (r .nonterminals, r .terminals)
-
-  pub lend-given : LendGiven before entries z
-  unfolding filled
-  lend-given =
-      let r = well-read words z (f .read) in
-      let m = mul-le-mul {n₁ = z .nonterminals} {m₁ = z .terminals + 3} {n₂ = maxNonterminals} {m₂ = 2 + maxColumns} (r .fewNonterminals) (omega (arith, r .fewTerminals)) in
+module _ {k : Lookahead} {words : List ℕ} {f : Finding} {entries laid : List ℕ} (t : Told k words f entries laid) where
+  -- one that finds no fault tells the sizes, the entries and the whole table
+  pub found : {z : Sizes} → f ≡ finding.Passed z → TableFound k words z entries laid
+  found q =
+      let m = told-passed (fault k words) (admission k words) (sym (t .finding) ∙ q) in
       record {
-        long = long;
-        whole = ap length (f .table) ∙ length-append (tableWords (grammarOf words)) _ ∙ rw length-replicate (omega (arith, words-count));
-        fewNonterminals = r .fewNonterminals;
-        fewTerminals = r .fewTerminals;
+        taken = m .1;
+        faultless = m .0;
+        entered = t .entered ∙ ap (λ y. entriesIf y (entriesOf k (grammarOf words))) (m .0);
+        laid = t .laid ∙ ap (λ y. tableIf k y (filled k (tableWords k (grammarOf words)))) (m .0);
       }
 
-  pub lent-table : {after : List ℕ} → Lent before entries z after
-      → after ≡ tableWords (grammarOf words) ++ drop (length (tableWords (grammarOf words))) before
+  pub found-fault : {x : Error} → f ≡ finding.Refused x → fault k words ≡ some x
+  unfolding fault
+  found-fault q = told-refused (fault k words) (admission k words) (λ y e. rw e) (sym (t .finding) ∙ q)
+
+-- the table of a grammar that passes, lent back
+module _ {k : Lookahead} (words before : List ℕ) (long : tableRoom k ≤ length before) {z : Sizes} {entries laid : List ℕ}
+    (f : TableFound k words z entries laid) where
+  r : WellRead words z
+  r = well-read words z (admitted-read k words (f .taken))
+
+  words-count : length (tableWords k (grammarOf words)) ≡ wordCount k z
+  words-count = table-long k (grammarOf words) ∙ rw (r .nonterminals, r .terminals)
+
+  given : WordsGiven k z
+  given = admitted-words k words (f .taken)
+
+  pub lend-given : LendGiven k before laid z
+  unfolding filled
+  lend-given = record {
+    given = given;
+    long = long;
+    whole = ap length (f .laid) ∙ padded-long (tableRoom k) noEntry (tableWords k (grammarOf words)) (omega (arith, words-count, given .room));
+  }
+
+  pub lent-table : {after : List ℕ} → Lent k before laid z after
+      → after ≡ tableWords k (grammarOf words) ++ drop (length (tableWords k (grammarOf words))) before
   unfolding filled
   lent-table l =
-      let w : take (wordCount z) entries ≡ tableWords (grammarOf words) =
-      ap (take (wordCount z)) (f .table)
-      ∙ take-at (tableWords (grammarOf words)) (replicate (maxTableWords - length (tableWords (grammarOf words))) noEntry) (wordCount z) words-count in
-      l .words ∙ ap (λ y. y ++ drop (wordCount z) before) w ∙ ap (λ y. tableWords (grammarOf words) ++ drop y before) (sym words-count)
+      let w : take (wordCount k z) laid ≡ tableWords k (grammarOf words) =
+      ap (take (wordCount k z)) (f .laid)
+      ∙ take-at (tableWords k (grammarOf words)) (replicate (tableRoom k - length (tableWords k (grammarOf words))) noEntry) (wordCount k z) words-count in
+      l .words ∙ ap (λ y. y ++ drop (wordCount k z) before) w ∙ ap (λ y. tableWords k (grammarOf words) ++ drop y before) (sym words-count)
 
-  pub check-passed : {after : List ℕ} → Lent before entries z after → Checks words before Passed after
+  pub check-passed : {after : List ℕ} → Lent k before laid z after → ChecksBy k words before Passed after
   check-passed l =
-      let c : checkFault (length before) words ≡ none = check-fault-long (length before) words long ∙ f .faultless in
-      checks (sym (ap (λ y. refusedOr y Passed) c)) (lent-table l ∙ sym (ap (λ y. lentBack y (tableWords (grammarOf words)) before) c))
+      let c : checkFaultBy k (length before) words ≡ none = check-fault-long k (length before) words long ∙ f .faultless in
+      checks k (sym (ap (λ y. refusedOr y Passed) c)) (lent-table l ∙ sym (ap (λ y. lentBack y (tableWords k (grammarOf words)) before) c))
 
-pub check-refused : (words before : List ℕ) → maxTableWords ≤ length before → {x : Error} → fault words ≡ some x
-    → Checks words before (Refused x) before
-check-refused words before long {x} f =
-    let c : checkFault (length before) words ≡ some x = check-fault-long (length before) words long ∙ f in
-    checks (sym (ap (λ y. refusedOr y Passed) c)) (sym (ap (λ y. lentBack y (tableWords (grammarOf words)) before) c))
+pub check-refused : {k : Lookahead} (words before : List ℕ) → tableRoom k ≤ length before → {x : Error} → fault k words ≡ some x
+    → ChecksBy k words before (Refused x) before
+check-refused {k} words before long {x} f =
+    let c : checkFaultBy k (length before) words ≡ some x = check-fault-long k (length before) words long ∙ f in
+    checks k (sym (ap (λ y. refusedOr y Passed) c)) (sym (ap (λ y. lentBack y (tableWords k (grammarOf words)) before) c))

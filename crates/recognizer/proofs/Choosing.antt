@@ -16,7 +16,7 @@ use Rattle.semantics.proofs.Outcomes.{nth-below}
 
 pub token-given : {choice : Choice} {words choices tokens input memo : List ℕ} → ArraysGiven choice words choices tokens input memo
     → {place : ℕ} → place ≤ length input → TokenGiven tokens place
-token-given g {place} h = record { placed = omega (arith, g .short); element = g .elements place h }
+token-given g {place} h = record { placed = omega (arith, g .short); column = g .columns place h }
 
 module _ {choice : Choice} {words choices tokens input memo : List ℕ} {A place : ℕ} (g : CallGiven choice words choices tokens input memo A place) where
   r : WellRead words (g .given .sizes)

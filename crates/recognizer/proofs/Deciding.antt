@@ -34,20 +34,22 @@ use Rattle.semantics.proofs.Range.{calls-equality, all-length, all-ordered, ind
 use Rattle.semantics.proofs.Memo.{memo-recorded-within}
 use Rattle.semantics.proofs.Theorems.{theorems}
 use Rattle.rule.specs.declared.Outcome as code
-use Rattle.grammar.specs.Limits.{maxTerminals}
 use Rattle.rule.specs.Rule.{meant}
+use Rattle.lookahead.specs.declared.Lookahead.{Lookahead}
+use Rattle.lookahead.specs.Lookaheads.{tokens}
+use Rattle.sets.proofs.FewTerminals.{admitted-read, few-terminals}
+use Rattle.table.specs.Columns.{columnCount}
 use Rattle.recognizer.specs.Arrays.{held, rowAt}
 use Rattle.recognizer.specs.Descent.{MemoSound, CallGiven, CallDone, CallRequires, CallEnsures}
 use Rattle.recognizer.specs.Tally.{tallyOf, recordedCalls}
-use Rattle.recognizer.specs.Memory.{memoWord, memoWords}
-use Rattle.recognizer.specs.Answers.{callsOf, verdictOf}
+use Rattle.recognizer.specs.Memory.{memoWordBy, memoWordsBy}
+use Rattle.recognizer.specs.Answers.{callsBy, verdictBy}
 use Rattle.recognizer.specs.Judging.{DescendGiven, Descended}
-use Rattle.recognizer.specs.Preparing.{tokenWords, TokensGiven, ChoicesGiven, Filled}
+use Rattle.recognizer.specs.Preparing.{TokensGiven, TokensHold, ChoicesGiven, Filled}
 use Rattle.event.specs.Events.{inputOf}
 use Rattle.event.proofs.Inputs.{input-length}
-use Rattle.event.proofs.Known.{token-below}
-use Rattle.recognizer.proofs.Tokens.{word-at, end-at, held-words}
-use Rattle.recognizer.proofs.OneToken.{column, choices-hold}
+use Rattle.recognizer.proofs.Tokens.{column-few}
+use Rattle.recognizer.proofs.TableChoices.{choices-given, choices-hold}
 use Rattle.recognizer.proofs.Running.{level}
 use Rattle.recognizer.proofs.Storing.{getD-any}
 use Rattle.recognizer.proofs.Tallying.{tally-recorded}
@@ -60,25 +62,25 @@ blank-sound choice words input = record {
 }
 
 -- the entries of the calls in order are what the memo table records
-module _ (G : Grammar) (w : List ℕ) (scoped : WellScoped G) (free : NoLeftRecursion G) (nonempty : 0 < G .nonterminals) {m : List ℕ} (r : Recorded G (tableChoice G 1 w) w m) where
-  listing : Listing G (tableChoice G 1 w) w (calls G (tableChoice G 1 w) w)
-  listing = theorems .calls-counted G scoped free nonempty (tableChoice G 1 w) (theorems .own-rules G 1 w) w .listing
+module _ (k : ℕ) (G : Grammar) (w : List ℕ) (scoped : WellScoped G) (free : NoLeftRecursion G) (nonempty : 0 < G .nonterminals) {m : List ℕ} (r : Recorded G (tableChoice G k w) w m) where
+  listing : Listing G (tableChoice G k w) w (calls G (tableChoice G k w) w)
+  listing = theorems .calls-counted G scoped free nonempty (tableChoice G k w) (theorems .own-rules G k w) w .listing
 
-  word-is : (x : Call) → InRange G w x → entry w m x ≡ memoWord G w x
-  unfolding memoWord
-  word-is x h = go (member sameCall (calls G (tableChoice G 1 w) w) x) refl
+  word-is : (x : Call) → InRange G w x → entry w m x ≡ memoWordBy k G w x
+  unfolding memoWordBy
+  word-is x h = go (member sameCall (calls G (tableChoice G k w) w) x) refl
     where
-      go : (b : Bool) → member sameCall (calls G (tableChoice G 1 w) w) x ≡ b
-          → entry w m x ≡ choose b (encode (descend G (tableChoice G 1 w) w (x .nonterminal) (x .place))) uncalledCode
-      go true e = r .called x (listing .sound x (member-mem sameCall calls-equality (calls G (tableChoice G 1 w) w) x (rw e tt)))
-      go false e = r .uncalled x h (λ c. rw e at (mem-member sameCall calls-equality (calls G (tableChoice G 1 w) w) x (listing .full x c)))
+      go : (b : Bool) → member sameCall (calls G (tableChoice G k w) w) x ≡ b
+          → entry w m x ≡ choose b (encode (descend G (tableChoice G k w) w (x .nonterminal) (x .place))) uncalledCode
+      go true e = r .called x (listing .sound x (member-mem sameCall calls-equality (calls G (tableChoice G k w) w) x (rw e tt)))
+      go false e = r .uncalled x h (λ c. rw e at (mem-member sameCall calls-equality (calls G (tableChoice G k w) w) x (listing .full x c)))
 
-  pub words-recorded : m ≡ memoWords G w
-  unfolding memoWords
+  pub words-recorded : m ≡ memoWordsBy k G w
+  unfolding memoWordsBy
   words-recorded =
-      ext-getD uncalledCode m (map (memoWord G w) (allCalls G w)) (r .size ∙ sym (length-map (allCalls G w) (memoWord G w) ∙ all-length G w)) same
+      ext-getD uncalledCode m (map (memoWordBy k G w) (allCalls G w)) (r .size ∙ sym (length-map (allCalls G w) (memoWordBy k G w) ∙ all-length G w)) same
     where
-      same : (i : ℕ) → i < length m → getD m i uncalledCode ≡ getD (map (memoWord G w) (allCalls G w)) i uncalledCode
+      same : (i : ℕ) → i < length m → getD m i uncalledCode ≡ getD (map (memoWordBy k G w) (allCalls G w)) i uncalledCode
       same i h =
           let n = suc (length w) in
           let x = callAt (i / n) (i % n) in
@@ -87,14 +89,14 @@ module _ (G : Grammar) (w : List ℕ) (scoped : WellScoped G) (free : NoLeftRecu
           let low : i < G .nonterminals * n = omega (arith, r .size) in
           let inside : InRange G w x = (div-lt-iff-lt-mul z .1 low, omega (arith, mod-lt i z)) in
           let here : getD (allCalls G w) i x ≡ x = ap (λ j. getD (allCalls G w) j x) (sym d) ∙ all-ordered G w x x inside in
-          let k : i < length (map (memoWord G w) (allCalls G w)) = omega (arith, length-map (allCalls G w) (memoWord G w), all-length G w, r .size) in
-          ap (λ j. getD m j uncalledCode) (sym d) ∙ word-is x inside ∙ ap (memoWord G w) (sym here) ∙ sym (List·getD-map (memoWord G w) (allCalls G w) i x)
-          ∙ getD-any (map (memoWord G w) (allCalls G w)) i (memoWord G w x) uncalledCode k
+          let short : i < length (map (memoWordBy k G w) (allCalls G w)) = omega (arith, length-map (allCalls G w) (memoWordBy k G w), all-length G w, r .size) in
+          ap (λ j. getD m j uncalledCode) (sym d) ∙ word-is x inside ∙ ap (memoWordBy k G w) (sym here) ∙ sym (List·getD-map (memoWordBy k G w) (allCalls G w) i x)
+          ∙ getD-any (map (memoWordBy k G w) (allCalls G w)) i (memoWordBy k G w x) uncalledCode short
 
 -- the start's call has been made in a blank memo table
-module _ {words : List ℕ} {z : Sizes} {entries memo : List ℕ} (events : List ℕ) (g : DescendGiven words z entries (inputOf events) memo) where
+module _ {k : Lookahead} {words : List ℕ} {z : Sizes} {entries memo : List ℕ} (events : List ℕ) (g : DescendGiven k words z entries (inputOf events) memo) where
   r : WellRead words z
-  r = well-read words z (g .read)
+  r = well-read words z (admitted-read k words (g .ready .taken))
 
   abbrev G : Grammar
   G = grammarOf words
@@ -106,84 +108,78 @@ module _ {words : List ℕ} {z : Sizes} {entries memo : List ℕ} (events : List
   long = sym (input-length events)
 
   -- the choice that the descent goes by
-  abbrev one-token : Choice
-  one-token = tableChoice G 1 input
+  abbrev choice : Choice
+  choice = tableChoice G (tokens k) input
 
   some-nonterminal : 0 < G .nonterminals
   some-nonterminal = omega (arith, r .nonterminals, r .someNonterminal)
 
-  pub choices-given : ChoicesGiven words z entries (length events + 1)
-  choices-given = record { read = g .read; table = g .table; some-place = omega arith; few = omega (arith, g .short, long) }
+  pub rows-given : {columns : ℕ} → columns ≡ columnCount k (z .terminals) → ChoicesGiven words (z .nonterminals) columns entries (length events + 1)
+  rows-given m = rw m (choices-given (g .ready) long)
 
-  pub tokens-given : TokensGiven events (z .terminals)
-  tokens-given = record { short = omega (arith, g .short, long); few = r .fewTerminals }
+  pub tokens-given : TokensGiven k input (z .terminals)
+  tokens-given = record { short = g .ready .short; few = rw (r .terminals) (few-terminals k words (g .ready .taken)); known = rw (r .terminals) (g .ready .tokens) }
 
   -- with the arrays that are made before it
-  module _ {choices tokens blanked : List ℕ} (f : Filled words entries z (length events + 1) choices) (t : tokens ≡ tokenWords (z .terminals) input)
-      (b : blanked ≡ replicate (length memo) uncalledCode) where
-    words-are : tokens ≡ tokenWords (G .terminals) input
-    words-are = t ∙ ap (λ n. tokenWords n input) (r .terminals)
+  module _ {columns : ℕ} {choices tokens blanked : List ℕ} (m : columns ≡ columnCount k (z .terminals))
+      (f : Filled words (z .nonterminals) columns entries (length events + 1) choices) (t : TokensHold k (z .terminals) input tokens) (b : blanked ≡ replicate (length memo) uncalledCode) where
+    tokens-hold : TokensHold k (G .terminals) input tokens
+    tokens-hold = rw (← r .terminals) t
 
-    few : G .terminals ≤ maxTerminals
-    few = omega (arith, r .terminals, r .fewTerminals)
-
-    input-is : held tokens ≡ input
-    input-is = ap held words-are ∙ held-words (G .terminals) input few (g .short) (g .tokens)
-
-    begun : CallGiven one-token words choices tokens input blanked 0 0
+    begun : CallGiven choice words choices tokens input blanked 0 0
     unfolding rowAt
-    begun = rw (words-are, b, g .size) (record {
+    begun = rw (b, g .size) (record {
       given = record {
         sizes = z;
-        read = g .read;
-        free = g .free;
-        own = theorems .own-rules G 1 input;
+        read = admitted-read k words (g .ready .taken);
+        free = g .ready .free;
+        own = theorems .own-rules G (tokens k) input;
         rows = λ A a. f .rows A (omega (arith, r .nonterminals)) ∙ ap (λ n. A * n) (omega (arith, long));
         ends = λ A a. f .ends A (omega (arith, r .nonterminals)) ∙ omega (arith, long);
-        elements = λ i h. let k = column (G .terminals) input (g .tokens) (g .short) (omega (arith, few)) i h in omega (arith, k .element, k .low, few);
-        firsts = choices-hold choices-given input f (g .tokens) (g .short);
-        terminals = λ i h. let e = word-at (G .terminals) input i h in let l = token-below (G .terminals) input (g .tokens) i h in omega (arith, e, few);
-        end = let e = end-at (G .terminals) input (g .short) in omega arith;
-        short = g .short;
-        sound = blank-sound one-token words input;
+        columns = λ i h. omega (arith, t .columns i h, column-few k (z .terminals) input tokens-given i);
+        firsts = choices-hold (g .ready) {places = length events + 1} (rw (← m) f) tokens-hold;
+        terminals = t .terminals;
+        end = t .end;
+        short = g .ready .short;
+        sound = blank-sound choice words input;
       };
       named = some-nonterminal;
       placed = omega arith;
     })
 
-    begun-held : CallGiven one-token words choices tokens (held tokens) blanked 0 0
-    begun-held = rw input-is begun
+    begun-held : CallGiven choice words choices tokens (held tokens) blanked 0 0
+    begun-held = rw (t .input) begun
 
     pub start-given : CallRequires words choices tokens blanked 0 0
-    start-given = (one-token, begun-held)
+    start-given = (choice, begun-held)
 
     module _ {o : code.Outcome} {memo′ : List ℕ} (ensured : CallEnsures words choices tokens blanked 0 0 o memo′) where
-      d : CallDone one-token words input blanked 0 0 o memo′
-      d = rw input-is at (ensured one-token begun-held)
+      d : CallDone choice words input blanked 0 0 o memo′
+      d = rw (t .input) at (ensured choice begun-held)
 
       fits : EndsFit input
-      fits = omega (arith, g .short)
+      fits = omega (arith, g .ready .short)
 
-      done : (meant o ≡ descend G one-token input 0 0) × Recorded G one-token input memo′
+      done : (meant o ≡ descend G choice input 0 0) × Recorded G choice input memo′
       done =
           let n = suc (level words input 0 0) in
           let l : level words input 0 0 < n = omega arith in
-          let m : memoCall G one-token input n 0 0 (blank G input) ≡ memoized (meant o) memo′ =
-          ap (λ x. memoCall G one-token input n 0 0 x) (sym (b ∙ ap (λ k. replicate k uncalledCode) (g .size))) ∙ d .model n l in
-          let k = memo-recorded-within G one-token input (r .formed .scoped) (g .free) (theorems .own-rules G 1 input) fits some-nonterminal n l in
-          (sym (ap (λ x. x .outcome) m) ∙ k .0, subst (λ x. Recorded G one-token input x) (ap (λ x. x .memo) m) (k .1))
+          let m : memoCall G choice input n 0 0 (blank G input) ≡ memoized (meant o) memo′ =
+          ap (λ x. memoCall G choice input n 0 0 x) (sym (b ∙ ap (λ l. replicate l uncalledCode) (g .size))) ∙ d .model n l in
+          let e = memo-recorded-within G choice input (r .formed .scoped) (g .ready .free) (theorems .own-rules G (tokens k) input) fits some-nonterminal n l in
+          (sym (ap (λ x. x .outcome) m) ∙ e .0, subst (λ x. Recorded G choice input x) (ap (λ x. x .memo) m) (e .1))
 
       pub memo-long : length memo′ ≡ z .nonterminals * (length events + 1)
       memo-long = d .sound .size ∙ rw (r .nonterminals, long, add-one (length input))
 
-      pub descended : {c : Calls} {t : Bool} {a : Answer} → c ≡ tallyOf (recordedCalls memo′ (z .nonterminals) (length events))
-          → t ≡ endsAt (meant o) (length events)
-          → a ≡ choose t (Accepted c) (Rejected c) → Descended words input a memo′
-      unfolding verdictOf accepts
-      descended {c} {t} {a} tallied told e =
-          let k = done in
-          let counted : c ≡ callsOf G input = tally-recorded (k .1) (r .nonterminals) (tallied ∙ ap (λ n. tallyOf (recordedCalls memo′ (z .nonterminals) n)) long) in
+      pub descended : {c : Calls} {ended : Bool} {a : Answer} → c ≡ tallyOf (recordedCalls memo′ (z .nonterminals) (length events))
+          → ended ≡ endsAt (meant o) (length events)
+          → a ≡ choose ended (Accepted c) (Rejected c) → Descended k words input a memo′
+      unfolding verdictBy accepts
+      descended {c} {ended} {a} tallied told e =
+          let d = done in
+          let counted : c ≡ callsBy (tokens k) G input = tally-recorded (d .1) (r .nonterminals) (tallied ∙ ap (λ n. tallyOf (recordedCalls memo′ (z .nonterminals) n)) long) in
           record {
-            answer = e ∙ rw (told, long, k .0, counted);
-            entries = words-recorded G input (r .formed .scoped) (g .free) some-nonterminal (k .1);
+            answer = e ∙ rw (told, long, d .0, counted);
+            entries = words-recorded (tokens k) G input (r .formed .scoped) (g .ready .free) some-nonterminal (d .1);
           }

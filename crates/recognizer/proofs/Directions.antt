@@ -7,14 +7,17 @@ use Rattle.answer.specs.Faults.{refusedOr}
 use Rattle.answer.specs.declared.Answer.{Answer}
 use Rattle.event.specs.Events.{inputOf}
 use Rattle.grammar.specs.Encoding.{grammarOf}
+use Rattle.lookahead.specs.declared.Lookahead.{Lookahead}
+use Rattle.lookahead.specs.Lookaheads.{tokens}
 use Rattle.table.specs.Layout.{tableWords}
-use Rattle.recognizer.specs.Answers.{judgeFault, verdictOf}
-use Rattle.recognizer.specs.Memory.{lentBack, memoWords}
-use Rattle.recognizer.specs.Properties.{Judges, DirectionsIgnored}
+use Rattle.recognizer.specs.Answers.{judgeFaultBy, verdictBy}
+use Rattle.recognizer.specs.Memory.{lentBack, memoWordsBy}
+use Rattle.recognizer.specs.Properties.{DirectionsIgnored}
 
-pub directions-ignored : DirectionsIgnored
-directions-ignored words events turned table memo r s table′ table″ memo′ memo″ e j k = (
-  j .answer ∙ ap (λ w. refusedOr (judgeFault (length table) (length memo) words w) (verdictOf (grammarOf words) w)) e ∙ sym (k .answer),
-  j .lent-table ∙ ap (λ w. lentBack (judgeFault (length table) (length memo) words w) (tableWords (grammarOf words)) table) e ∙ sym (k .lent-table),
-  j .lent-memo ∙ ap (λ w. lentBack (judgeFault (length table) (length memo) words w) (memoWords (grammarOf words) w) memo) e ∙ sym (k .lent-memo),
+pub directions-ignored : (k : Lookahead) → DirectionsIgnored k
+directions-ignored k words events turned table memo r s table′ table″ memo′ memo″ e i j = (
+  i .answer ∙ ap (λ w. refusedOr (judgeFaultBy k (length table) (length memo) words w) (verdictBy (tokens k) (grammarOf words) w)) e ∙ sym (j .answer),
+  i .lent-table ∙ ap (λ w. lentBack (judgeFaultBy k (length table) (length memo) words w) (tableWords k (grammarOf words)) table) e ∙ sym (j .lent-table),
+  i .lent-memo ∙ ap (λ w. lentBack (judgeFaultBy k (length table) (length memo) words w) (memoWordsBy (tokens k) (grammarOf words) w) memo) e
+      ∙ sym (j .lent-memo),
 )

@@ -4,9 +4,10 @@ pub mod Calling
 pub mod Storing
 pub mod Starting
 pub mod Choosing
+pub mod Columns
 pub mod Tokens
 pub mod ChoiceRows
-pub mod OneToken
+pub mod TableChoices
 pub mod JoinedLists
 pub mod Tallying
 pub mod Front

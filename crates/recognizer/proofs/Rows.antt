@@ -7,11 +7,13 @@ use Rattle.grammar.specs.Reading.{counted, stepped, onStep, finished, scan, wit
 use Rattle.semantics.proofs.Computing.{left-recursion-computes, tables-compute, descent-computes, calls-compute}
 use Rattle.semantics.specs.Productive.{unproductive, lowestUnproductive}
 use Rattle.table.specs.Analysis.{fault}
+use Rattle.table.specs.Columns.{columnString}
+use Rattle.table.specs.Conflicts.{rowConflict, conflictFrom, firstClash}
 use Rattle.event.specs.Unknown.{unknownFrom}
-use Rattle.recognizer.specs.Answers.{judgeFault, verdictOf}
+use Rattle.recognizer.specs.Answers.{judgeFaultBy, verdictBy}
 use Rattle.recognizer.specs.Rows.{starred, judged}
 
 pub starred-rows : map (λ r. judged (r .words) (r .input)) starred ≡ map (λ r. r .told) starred
-unfolding judged judgeFault verdictOf unknownFrom fault reading opened headed within scan finished onStep stepped counted
+unfolding judged judgeFaultBy verdictBy unknownFrom fault firstClash conflictFrom rowConflict columnString reading opened headed within scan finished onStep stepped counted
     grammarOf parse onWord decoded ofKind heading bare lowestUnproductive unproductive left-recursion-computes tables-compute descent-computes calls-compute
 starred-rows = refl

@@ -38,7 +38,7 @@ use Rattle.rule.specs.Rule.{meant}
 use Rattle.sets.proofs.Words.{parse-over}
 use Rattle.grammar.specs.Limits.{maxNonterminals}
 use Rattle.recognizer.specs.declared.descent.Run.{Run}
-use Rattle.recognizer.specs.Arrays.{endMark, elementWeight, matchesAt}
+use Rattle.recognizer.specs.Arrays.{endMark, columnWeight, matchesAt}
 use Rattle.recognizer.specs.Descent.{Skipped, MemoSound, CallGiven, RunGiven, CallDone, RunDone}
 use Rattle.recognizer.proofs.Bodies.{parse-here, symbol-reads, skipped-none, skipped-symbol}
 
@@ -104,7 +104,7 @@ module _ {choice : Choice} {words choices tokens input memo₀ : List ℕ} {A fr
   unfolding matchesAt
   token-is place a h l = go (decLt place (length input))
     where
-      go : Dec (place < length input) → eqb (getD tokens place 0 % elementWeight) a ≡ (ltb place (length input) && eqb (getD input place 0) a)
+      go : Dec (place < length input) → eqb (getD tokens place 0 % columnWeight) a ≡ (ltb place (length input) && eqb (getD input place 0) a)
       go (yes k) = rw (lt-ltb place (length input) k, g .call .given .terminals place k)
       go (no k) =
           let e : place ≡ length input = omega arith in
@@ -223,7 +223,7 @@ module _ {choice : Choice} {words choices tokens input memo₀ : List ℕ} {A fr
         own = g .call .given .own;
         rows = g .call .given .rows;
         ends = g .call .given .ends;
-        elements = g .call .given .elements;
+        columns = g .call .given .columns;
         firsts = g .call .given .firsts;
         terminals = g .call .given .terminals;
         end = g .call .given .end;

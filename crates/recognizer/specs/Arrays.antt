@@ -8,7 +8,7 @@ use Rattle.booleans.specs.Choice.{choose}
 use Rattle.grammar.specs.Limits.{maxNonterminals}
 use Rattle.recognizer.specs.declared.arrays.Arrays.{Arrays}
 
--- the columns of a row of choices, one for each element of lookahead; the last two tell the input's length, and where the row of the memo
+-- the columns of a row of choices, one for each column of the table; the last two tell the input's length, and where the row of the memo
 -- table begins
 abbrev pub choiceColumns : ℕ
 choiceColumns = 64
@@ -23,12 +23,12 @@ endColumn = rowColumn - 1
 abbrev pub choiceWords : ℕ
 choiceWords = maxNonterminals * choiceColumns
 
--- in the word of a token: the terminal at the end of the input, which no grammar has, and the weight of the element of lookahead
+-- in the word of a token: the terminal at the end of the input, which no grammar has, and the weight of the column of the lookahead string
 abbrev pub endMark : ℕ
 endMark = 255
 
-abbrev pub elementWeight : ℕ
-elementWeight = endMark + 1
+abbrev pub columnWeight : ℕ
+columnWeight = endMark + 1
 
 abbrev pub arrays : Arrays
 arrays = record {
@@ -37,16 +37,16 @@ arrays = record {
   «end_column» = endColumn;
   choices = choiceWords;
   «end_mark» = endMark;
-  element = elementWeight;
+  «column_weight» = columnWeight;
 }
 
 -- the input that words of tokens hold: their terminals up to the end
 unfoldable pub held : List ℕ → List ℕ
 held [] = []
-held (t ∷ ts) = choose (eqb (t % elementWeight) endMark) [] (t % elementWeight ∷ held ts)
+held (t ∷ ts) = choose (eqb (t % columnWeight) endMark) [] (t % columnWeight ∷ held ts)
 
 unfoldable pub matchesAt : List ℕ → ℕ → ℕ → Bool
-matchesAt tokens place a = eqb (getD tokens place 0 % elementWeight) a
+matchesAt tokens place a = eqb (getD tokens place 0 % columnWeight) a
 
 -- where the row of a nonterminal begins in the memo table
 unfoldable pub rowAt : List ℕ → ℕ → ℕ
@@ -56,6 +56,6 @@ rowAt choices A = getD choices (A * choiceColumns + rowColumn) 0
 unfoldable pub endAt : List ℕ → ℕ → ℕ
 endAt choices A = getD choices (A * choiceColumns + endColumn) 0
 
--- where the first conjunct stands of the rule for a nonterminal and the element of lookahead at a place, or 0
+-- where the first conjunct stands of the rule for a nonterminal and the lookahead string at a place, or 0
 unfoldable pub firstAt : (choices tokens : List ℕ) (A place : ℕ) → ℕ
-firstAt choices tokens A place = getD choices (A * choiceColumns + getD tokens place 0 / elementWeight) 0
+firstAt choices tokens A place = getD choices (A * choiceColumns + getD tokens place 0 / columnWeight) 0

@@ -30,7 +30,7 @@ use Rattle.semantics.specs.MemoDescent.{memoized, memoRun, memoCall}
 use Rattle.rule.specs.declared.Outcome as code
 use Rattle.rule.specs.Rule.{meant}
 use Rattle.recognizer.specs.declared.descent.Run.{Run}
-use Rattle.recognizer.specs.Arrays.{rowColumn, endMark, elementWeight, held, rowAt, endAt, firstAt}
+use Rattle.recognizer.specs.Arrays.{rowColumn, endMark, columnWeight, held, rowAt, endAt, firstAt}
 
 -- where the first conjunct stands of a rule by its number, or 0
 abbrev pub firstConjunct : List ℕ → Option ℕ → ℕ
@@ -39,7 +39,7 @@ firstConjunct words (some q) = getD (ruleStarts words) q 0 + 1
 
 pub record TokenGiven (tokens : List ℕ) (place : ℕ) : Type 0 where
   pub placed : place ≤ maxTokens
-  pub element : getD tokens place 0 / elementWeight < rowColumn
+  pub column : getD tokens place 0 / columnWeight < rowColumn
 
 pub record EntryGiven (choices : List ℕ) (A : ℕ) : Type 0 where
   pub named : A < maxNonterminals
@@ -80,10 +80,10 @@ pub record ArraysGiven (choice : Choice) (words choices tokens input memo : List
   pub own : OwnRules (grammarOf words) choice
   pub rows : (A : ℕ) → A < grammarOf words .nonterminals → rowAt choices A ≡ A * suc (length input)
   pub ends : (A : ℕ) → A < grammarOf words .nonterminals → endAt choices A ≡ length input
-  pub elements : (i : ℕ) → i ≤ length input → getD tokens i 0 / elementWeight < rowColumn
+  pub columns : (i : ℕ) → i ≤ length input → getD tokens i 0 / columnWeight < rowColumn
   pub firsts : (A i : ℕ) → A < grammarOf words .nonterminals → i ≤ length input → firstAt choices tokens A i ≡ firstConjunct words (choice A i)
-  pub terminals : (i : ℕ) → i < length input → getD tokens i 0 % elementWeight ≡ getD input i 0
-  pub end : getD tokens (length input) 0 % elementWeight ≡ endMark
+  pub terminals : (i : ℕ) → i < length input → getD tokens i 0 % columnWeight ≡ getD input i 0
+  pub end : getD tokens (length input) 0 % columnWeight ≡ endMark
   pub short : length input ≤ maxTokens
   pub sound : MemoSound choice words input memo
 

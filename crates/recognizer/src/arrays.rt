@@ -3,7 +3,7 @@ ghost use mathlib.Core.Path.{_≡_};
 ghost use Rattle.recognizer.specs.Arrays.{arrays};
 use grammar::limits::NONTERMINALS;
 
-// A row of choices for each nonterminal: where the first conjunct stands of the rule to run for each element of lookahead, 0 for
+// A row of choices for each nonterminal: where the first conjunct stands of the rule to run for each column of the table, 0 for
 // none; in the last columns the input's length, and where the row of the memo table begins.
 pub(crate) const CHOICE_COLUMNS: usize = 64;
 
@@ -13,10 +13,10 @@ pub(crate) const END_COLUMN: usize = ROW_COLUMN - 1;
 
 pub(crate) const CHOICES: usize = (NONTERMINALS as usize) * CHOICE_COLUMNS;
 
-// A word for each place: its terminal, or the mark of the end, and the weight times its element of lookahead.
+// A word for each place: its terminal, or the mark of the end, and the weight times the column of its lookahead string.
 pub(crate) const END_MARK: u32 = 255;
 
-pub(crate) const ELEMENT: u32 = END_MARK + 1;
+pub(crate) const COLUMN_WEIGHT: u32 = END_MARK + 1;
 
 pub struct Arrays {
     pub choice_columns: usize,
@@ -24,7 +24,7 @@ pub struct Arrays {
     pub end_column: usize,
     pub choices: usize,
     pub end_mark: u32,
-    pub element: u32,
+    pub column_weight: u32,
 }
 
 // The constants in one value, so that what the specifications say of them is proved of these.
@@ -37,6 +37,6 @@ pub fn all() -> Arrays
         end_column: END_COLUMN,
         choices: CHOICES,
         end_mark: END_MARK,
-        element: ELEMENT,
+        column_weight: COLUMN_WEIGHT,
     }
 }

@@ -8,7 +8,7 @@ ghost use Rattle.recognizer.specs.Arrays.{rowAt, endAt, firstAt, matches
 ghost use Rattle.recognizer.specs.Descent.{BodyEnd, TokenGiven, EntryGiven, EndGiven, ChosenGiven, CallRequires, CallEnsures, RunRequires, RunEnsures};
 use super::arrays::CHOICE_COLUMNS;
 use super::arrays::CHOICES;
-use super::arrays::ELEMENT;
+use super::arrays::COLUMN_WEIGHT;
 use super::arrays::END_COLUMN;
 use super::arrays::ROW_COLUMN;
 use grammar::codes::FAILED;
@@ -32,8 +32,8 @@ pub struct Run {
     pub at: usize,
 }
 
-// What an element of lookahead weighs in a token's word.
-const WEIGHT: usize = ELEMENT as usize;
+// What the column of a lookahead string weighs in a token's word.
+const WEIGHT: usize = COLUMN_WEIGHT as usize;
 
 // Where the body at an index ends.
 fn body_end(words: &[u32], from: usize) -> usize
@@ -56,7 +56,7 @@ fn matches(tokens: &[u16; PLACES], place: u16, terminal: u32) -> bool
     requires { ⌜ TokenGiven (now tokens) place ⌝ }
     ensures { λ r. ⌜ r ≡ matchesAt (now (tokens .entry)) place terminal ⌝ }
 {
-    tokens[place as usize] as u32 % ELEMENT == terminal
+    tokens[place as usize] as u32 % COLUMN_WEIGHT == terminal
 }
 
 // The index of a call's entry in the memo table.
@@ -72,8 +72,8 @@ fn chosen(choices: &[u16; CHOICES], tokens: &[u16; PLACES], nonterminal: usize, 
     requires { ⌜ ChosenGiven (now choices) (now tokens) nonterminal place ⌝ }
     ensures { λ r. ⌜ r ≡ firstAt (now (choices .entry)) (now (tokens .entry)) nonterminal place ⌝ }
 {
-    let element = tokens[place as usize] as usize / WEIGHT;
-    choices[nonterminal * CHOICE_COLUMNS + element] as usize
+    let column = tokens[place as usize] as usize / WEIGHT;
+    choices[nonterminal * CHOICE_COLUMNS + column] as usize
 }
 
 // Where the bodies of a rule agree to end before the first has run, by what its first conjunct is.

@@ -1,9 +1,9 @@
 // Judging an input by a grammar that has passed.
+ghost use mathlib.Core.Path.{_≡_};
 ghost use Rattle.event.specs.Events.{inputOf};
-ghost use Rattle.recognizer.specs.Judging.{PassedGiven, DescendGiven, Descended};
-ghost use Rattle.recognizer.specs.Properties.{Judges};
+ghost use Rattle.recognizer.specs.Answers.{withInput};
+ghost use Rattle.recognizer.specs.Judging.{PassedGiven, DescendGiven, Descended, JudgedPassed};
 use super::descent::call;
-use super::lending::lend;
 use super::preparing::choices_of;
 use super::preparing::tokens_of;
 use super::tally::clear;
@@ -12,27 +12,52 @@ use answer::Answer;
 use answer::Error;
 use event::Unknown;
 use event::first_unknown;
-use grammar::limits::TABLE_WORDS;
+use grammar::limits::ENTRIES;
 use grammar::limits::TOKENS;
 use grammar::reading::Sizes;
+use lookahead::Lookahead;
 use rule::ends_at;
+use sets::Finding;
+use table::columns::count;
+
+// What is found of a grammar and then of an input: its length, and its tokens.
+pub(crate) fn with_input(finding: Finding, events: &[u8]) -> Finding
+    ensures { λ r. ⌜ r ≡ withInput finding (inputOf (now (events .entry))) ⌝ }
+{
+    match finding {
+        Finding::Refused(_) => finding,
+        Finding::Passed(sizes) => {
+            if TOKENS < events.len() {
+                return Finding::Refused(Error::InputTooLong);
+            }
+            let unknown = first_unknown(events, sizes.terminals);
+            match unknown {
+                Unknown::At(at) => Finding::Refused(Error::UnknownToken(at)),
+                Unknown::Absent => finding,
+            }
+        }
+    }
+}
 
 // Runs the descent in a memo table of just the entries that it needs.
 fn descend(
     words: &[u32],
     sizes: Sizes,
-    entries: &[u32; TABLE_WORDS],
+    lookahead: Lookahead,
+    entries: &[u8; ENTRIES],
     events: &[u8],
     memo: &mut [u16],
 ) -> Answer
-    requires { ⌜ DescendGiven (now words) sizes (now entries) (inputOf (now events)) (now memo) ⌝ }
-    ensures { λ r. ⌜ Descended (now (words .entry)) (inputOf (now (events .entry))) r (now (memo .exit)) ⌝ }
+    requires { ⌜ DescendGiven lookahead (now words) sizes (now entries) (inputOf (now events)) (now memo) ⌝ }
+    ensures { λ r. ⌜ Descended lookahead (now (words .entry)) (inputOf (now (events .entry))) r (now (memo .exit)) ⌝ }
 {
     clear(memo);
-    let choices = choices_of(words, sizes, entries, events.len() + 1);
-    let tokens = tokens_of(events, sizes.terminals);
+    let nonterminals = sizes.nonterminals as usize;
+    let columns = count(lookahead, sizes.terminals);
+    let choices = choices_of(words, nonterminals, columns, entries, events.len() + 1);
+    let tokens = tokens_of(events, lookahead, sizes.terminals);
     let outcome = call(0, words, &choices, &tokens, memo, 0);
-    let calls = tally(memo, sizes.nonterminals as usize, events.len());
+    let calls = tally(memo, nonterminals, events.len());
     if ends_at(outcome, events.len() as u16) {
         Answer::Accepted(calls)
     } else {
@@ -40,28 +65,25 @@ fn descend(
     }
 }
 
-// A grammar that has passed: the input's length, its tokens, and then the descent.
+// A grammar that has passed and an input of its terminals.
 pub(crate) fn judge_passed(
     words: &[u32],
     sizes: Sizes,
-    entries: &[u32; TABLE_WORDS],
+    lookahead: Lookahead,
+    entries: &[u8; ENTRIES],
     events: &[u8],
-    table: &mut [u32],
     memo: &mut [u16],
 ) -> Answer
-    requires { ⌜ PassedGiven (now words) sizes (now entries) (now table) (now memo) ⌝ }
-    ensures { λ r. ⌜ Judges (now (words .entry)) (inputOf (now (events .entry))) (now (table .entry)) (now (memo .entry)) r (now (table .exit)) (now (memo .exit)) ⌝ }
+    requires { ⌜ PassedGiven lookahead (now words) sizes (now entries) (inputOf (now events)) (now memo) ⌝ }
+    ensures { λ r. ⌜ JudgedPassed lookahead (now (words .entry)) (inputOf (now (events .entry))) (now (memo .entry)) r (now (memo .exit)) ⌝ }
 {
-    if TOKENS < events.len() {
-        return Answer::Refused(Error::InputTooLong);
-    }
-    let unknown = first_unknown(events, sizes.terminals);
-    match unknown {
-        Unknown::At(at) => Answer::Refused(Error::UnknownToken(at)),
-        Unknown::Absent => {
-            lend(table, entries, sizes);
-            let needed = sizes.nonterminals as usize * (events.len() + 1);
-            descend(words, sizes, entries, events, &mut memo[..needed])
-        }
-    }
+    let needed = sizes.nonterminals as usize * (events.len() + 1);
+    descend(
+        words,
+        sizes,
+        lookahead,
+        entries,
+        events,
+        &mut memo[..needed],
+    )
 }

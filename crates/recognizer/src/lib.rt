@@ -1,4 +1,4 @@
-// Recognizing an input by memoized recursive descent, in memory that the caller lends.
+// Recognizing an input by memoized recursive descent, in memory that the caller lends; here with one token of lookahead.
 ghost use Rattle.event.specs.Events.{inputOf};
 ghost use Rattle.recognizer.specs.Properties.{Checks, Judges};
 use answer::Answer;
@@ -6,7 +6,9 @@ use answer::Error;
 use grammar::limits::MEMO_ENTRIES;
 use grammar::limits::TABLE_WORDS;
 use judging::judge_passed;
+use judging::with_input;
 use lending::lend;
+use lookahead::Lookahead;
 use sets::Finding;
 use table::analyze;
 
@@ -16,6 +18,7 @@ mod judging;
 mod lending;
 mod preparing;
 mod tally;
+pub mod wide;
 
 // Checks an encoded grammar, and fills the lent table with its sets and its entries.
 pub fn check(words: &[u32], table: &mut [u32]) -> Answer
@@ -46,9 +49,19 @@ pub fn judge(words: &[u32], events: &[u8], table: &mut [u32], memo: &mut [u16]) 
         return Answer::Refused(Error::MemoTooShort);
     }
     let analysis = analyze(words);
-    let finding = analysis.finding;
+    let finding = with_input(analysis.finding, events);
     match finding {
         Finding::Refused(found) => Answer::Refused(found),
-        Finding::Passed(sizes) => judge_passed(words, sizes, &analysis.table, events, table, memo),
+        Finding::Passed(sizes) => {
+            lend(table, &analysis.table, sizes);
+            judge_passed(
+                words,
+                sizes,
+                Lookahead::One,
+                &analysis.entries,
+                events,
+                memo,
+            )
+        }
     }
 }

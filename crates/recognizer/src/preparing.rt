@@ -1,47 +1,89 @@
-// What the descent reads beside the words, made before it starts: a choice of rules by one token of lookahead, and the tokens.
+// What the descent reads beside the words, made before it starts: a choice of rules by the columns of the table, and the tokens.
 ghost use mathlib.Core.Path.{_≡_};
 ghost use Rattle.event.specs.Events.{inputOf};
-ghost use Rattle.recognizer.specs.Preparing.{firstWord, tokenWords, FirstGiven, TokensGiven, ChoicesGiven, RowGiven, RowFilled, Filled};
+ghost use Rattle.lookahead.specs.declared.Lookahead.the-variants.{One, Two};
+ghost use Rattle.recognizer.specs.Preparing.{columnAt, firstWord, TokensGiven, TokensHold, FirstGiven, ChoicesGiven, RowGiven, RowFilled, Filled};
 use super::arrays::CHOICE_COLUMNS;
 use super::arrays::CHOICES;
-use super::arrays::ELEMENT;
+use super::arrays::COLUMN_WEIGHT;
 use super::arrays::END_COLUMN;
 use super::arrays::END_MARK;
 use super::arrays::ROW_COLUMN;
 use event::terminal_of;
-use grammar::codes::NO_ENTRY;
+use grammar::codes::NO_RULE;
+use grammar::limits::ENTRIES;
 use grammar::limits::PLACES;
 use grammar::limits::RULES;
-use grammar::limits::TABLE_WORDS;
-use grammar::reading::Sizes;
+use grammar::limits::WIDE_TERMINALS;
 use grammar::reading::rule_starts;
+use lookahead::Lookahead;
 
-// The weight of the element of lookahead in a word of a token.
-const WEIGHT: u16 = ELEMENT as u16;
+// With two tokens of lookahead, the column of terminal 0 where it is the last token, and of terminal 0 twice.
+const LAST: u32 = 1;
 
-// The terminal that each event is; its element of lookahead is its column of the table.
-pub(crate) fn tokens_of(events: &[u8], terminals: u32) -> [u16; PLACES]
-    requires { ⌜ TokensGiven (now events) terminals ⌝ }
-    ensures { λ r. ⌜ r ≡ tokenWords terminals (inputOf (now (events .entry))) ⌝ }
+const PAIR: u32 = LAST + WIDE_TERMINALS;
+
+// The column of the token at a place, or of the end.
+fn column_of_one(events: &[u8], terminals: u32, place: usize) -> u32
+    ensures { λ r. ⌜ r ≡ columnAt One terminals (inputOf (now (events .entry))) place ⌝ }
 {
-    let end = (terminals * ELEMENT + END_MARK) as u16;
-    let mut tokens = [end; PLACES];
-    let mut at = 0;
-    while at < events.len() {
-        let event = events[at];
+    if events.len() <= place {
+        return terminals;
+    }
+    let event = events[place];
+    terminal_of(event) as u32
+}
+
+// The column of the two tokens from a place on, of the last token, or of the end.
+fn column_of_two(events: &[u8], terminals: u32, place: usize) -> u32
+    ensures { λ r. ⌜ r ≡ columnAt Two terminals (inputOf (now (events .entry))) place ⌝ }
+{
+    if events.len() <= place {
+        return 0;
+    }
+    let event = events[place];
+    let first = terminal_of(event) as u32;
+    if events.len() <= place + 1 {
+        return LAST + first;
+    }
+    let next = events[place + 1];
+    PAIR + WIDE_TERMINALS * first + terminal_of(next) as u32
+}
+
+// The column of the lookahead string at a place.
+fn column_at(events: &[u8], lookahead: Lookahead, terminals: u32, place: usize) -> u32
+    ensures { λ r. ⌜ r ≡ columnAt lookahead terminals (inputOf (now (events .entry))) place ⌝ }
+{
+    match lookahead {
+        Lookahead::One => column_of_one(events, terminals, place),
+        Lookahead::Two => column_of_two(events, terminals, place),
+    }
+}
+
+// The terminal of each event, and the column of the lookahead string there; behind the events, the end.
+pub(crate) fn tokens_of(events: &[u8], lookahead: Lookahead, terminals: u32) -> [u16; PLACES]
+    requires { ⌜ TokensGiven lookahead (inputOf (now events)) terminals ⌝ }
+    ensures { λ r. ⌜ TokensHold lookahead terminals (inputOf (now (events .entry))) r ⌝ }
+{
+    let end = column_at(events, lookahead, terminals, events.len()) * COLUMN_WEIGHT + END_MARK;
+    let mut tokens = [end as u16; PLACES];
+    let mut place = 0;
+    while place < events.len() {
+        let column = column_at(events, lookahead, terminals, place);
+        let event = events[place];
         let terminal = terminal_of(event);
-        tokens[at] = terminal as u16 * WEIGHT + terminal as u16;
-        at = at + 1;
+        tokens[place] = (column * COLUMN_WEIGHT + terminal as u32) as u16;
+        place = place + 1;
     }
     tokens
 }
 
-// Where the first conjunct of a rule stands, or 0 for no entry.
-fn first_conjunct(starts: &[usize; RULES], rule: u32) -> u16
+// Where the first conjunct of a rule stands, or 0 for no rule.
+fn first_conjunct(starts: &[usize; RULES], rule: u8) -> u16
     requires { ⌜ FirstGiven (now starts) rule ⌝ }
     ensures { λ r. ⌜ r ≡ firstWord (now (starts .entry)) rule ⌝ }
 {
-    if rule == NO_ENTRY {
+    if rule == NO_RULE {
         0
     } else {
         (starts[rule as usize] + 1) as u16
@@ -52,16 +94,15 @@ fn first_conjunct(starts: &[usize; RULES], rule: u32) -> u16
 fn fill_row(
     choices: &mut [u16; CHOICES],
     starts: &[usize; RULES],
-    entries: &[u32; TABLE_WORDS],
-    sizes: Sizes,
+    entries: &[u8; ENTRIES],
+    columns: usize,
     nonterminal: usize,
     places: usize,
 )
-    requires { ⌜ RowGiven (now starts) (now entries) sizes nonterminal places (now choices) ⌝ }
-    ensures { λ _. ⌜ RowFilled (now (starts .entry)) (now (entries .entry)) sizes nonterminal places (now (choices .entry)) (now (choices .exit)) ⌝ }
+    requires { ⌜ RowGiven (now starts) (now entries) columns nonterminal places (now choices) ⌝ }
+    ensures { λ _. ⌜ RowFilled (now (starts .entry)) (now (entries .entry)) columns nonterminal places (now (choices .entry)) (now (choices .exit)) ⌝ }
 {
-    let columns = sizes.terminals as usize + 1;
-    let from = 2 * sizes.nonterminals as usize + nonterminal * columns;
+    let from = nonterminal * columns;
     let to = nonterminal * CHOICE_COLUMNS;
     let mut column = 0;
     while column < columns {
@@ -74,18 +115,19 @@ fn fill_row(
 
 pub(crate) fn choices_of(
     words: &[u32],
-    sizes: Sizes,
-    entries: &[u32; TABLE_WORDS],
+    nonterminals: usize,
+    columns: usize,
+    entries: &[u8; ENTRIES],
     places: usize,
 ) -> [u16; CHOICES]
-    requires { ⌜ ChoicesGiven (now words) sizes (now entries) places ⌝ }
-    ensures { λ r. ⌜ Filled (now (words .entry)) (now (entries .entry)) sizes places r ⌝ }
+    requires { ⌜ ChoicesGiven (now words) nonterminals columns (now entries) places ⌝ }
+    ensures { λ r. ⌜ Filled (now (words .entry)) nonterminals columns (now (entries .entry)) places r ⌝ }
 {
     let starts = rule_starts(words);
     let mut choices = [0u16; CHOICES];
     let mut nonterminal = 0;
-    while nonterminal < sizes.nonterminals as usize {
-        fill_row(&mut choices, &starts, entries, sizes, nonterminal, places);
+    while nonterminal < nonterminals {
+        fill_row(&mut choices, &starts, entries, columns, nonterminal, places);
         nonterminal = nonterminal + 1;
     }
     choices

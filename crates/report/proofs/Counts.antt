@@ -8,13 +8,16 @@ use Rattle.grammar.specs.Codes.{noEntry}
 use Rattle.grammar.specs.Limits.{maxTableWords}
 use Rattle.grammar.specs.Syntax.{Grammar}
 use Rattle.grammar.specs.Encoding.{grammarOf}
-use Rattle.lookahead.specs.Elements.{nothing, size}
+use Rattle.lookahead.specs.declared.Lookahead.the-variants.{One}
+use Rattle.lookahead.specs.Lookaheads.{nothing}
+use Rattle.lookahead.specs.Elements.{size}
 use Rattle.semantics.specs.FirstFollow.{first, follow, First, Follow}
 use Rattle.sets.specs.Lists.{listed}
 use Rattle.sets.specs.Sets.{firstNumber, followNumber, Members}
 use Rattle.sets.proofs.Lists.{listed-long, listed-at}
 use Rattle.sets.proofs.Members.{members}
-use Rattle.table.specs.Layout.{columns, setWord, rowWord, tableWords}
+use Rattle.table.specs.Columns.{columns}
+use Rattle.table.specs.Layout.{setWord, rowWord, tableWords}
 use Rattle.recognizer.specs.Properties.{PassedGrammar}
 use Rattle.recognizer.proofs.Checking.{passed-encodes, fault-passed, check-fault-long, least}
 use Rattle.recognizer.proofs.Storing.{getD-any}
@@ -24,22 +27,22 @@ use Rattle.sheet_text.specs.Sheet.{wordAt}
 use Rattle.report.specs.Report.{Printed, blankTable, checkedTable, sheetOf, SetsTold, SheetPrinted}
 
 -- a word of the sets in the table of a grammar
-set-at : (G : Grammar) (i : ℕ) (behind : List ℕ) → i < 2 * G .nonterminals → wordAt (tableWords G ++ behind) i ≡ setWord G i
+set-at : (G : Grammar) (i : ℕ) (behind : List ℕ) → i < 2 * G .nonterminals → wordAt (tableWords One G ++ behind) i ≡ setWord One G i
 unfolding tableWords
 set-at G i behind h =
-    let sets = listed (2 * G .nonterminals) (setWord G) in
-    let rows = listed (G .nonterminals * columns G) (rowWord G) in
-    let n = listed-long (2 * G .nonterminals) (setWord G) in
+    let sets = listed (2 * G .nonterminals) (setWord One G) in
+    let rows = listed (G .nonterminals * columns One G) (rowWord One G) in
+    let n = listed-long (2 * G .nonterminals) (setWord One G) in
     List·getD-append (sets ++ rows) behind noEntry i (omega (arith, length-append sets rows))
     ∙ List·getD-append sets rows noEntry i (omega arith)
     ∙ getD-any sets i noEntry 0 (omega arith)
-    ∙ listed-at (2 * G .nonterminals) (setWord G) i h
+    ∙ listed-at (2 * G .nonterminals) (setWord One G) i h
 
-first-word : (G : Grammar) (A : ℕ) → setWord G (2 * A) ≡ firstNumber G A
+first-word : (G : Grammar) (A : ℕ) → setWord One G (2 * A) ≡ firstNumber One G A
 unfolding setWord
 first-word G A = let even : 2 * A % 2 ≡ 0 = omega arith in let half : 2 * A / 2 ≡ A = omega arith in rw (even, half)
 
-follow-word : (G : Grammar) (A : ℕ) → setWord G (2 * A + 1) ≡ followNumber G A
+follow-word : (G : Grammar) (A : ℕ) → setWord One G (2 * A + 1) ≡ followNumber One G A
 unfolding setWord
 follow-word G A = let odd : (2 * A + 1) % 2 ≡ 1 = omega arith in let half : (2 * A + 1) / 2 ≡ A = omega arith in rw (odd, half)
 
@@ -47,28 +50,28 @@ module _ (words : List ℕ) (p : PassedGrammar words) where
   abbrev G : Grammar
   G = grammarOf words
 
-  lent : checkedTable words ≡ tableWords G ++ drop (length (tableWords G)) blankTable
-  lent = rw (check-fault-long maxTableWords words (omega arith), fault-passed words p)
+  lent : checkedTable words ≡ tableWords One G ++ drop (length (tableWords One G)) blankTable
+  lent = rw (check-fault-long One maxTableWords words (omega arith), fault-passed words p)
 
   -- the sizes of the two numbers
   module _ (A : ℕ) where
-    few : G .terminals ≤ nothing
+    few : G .terminals ≤ nothing One
     few = passed-encodes words p .limited .fewTerminals
 
-    first-size : Members (First G 1 A) (size (firstNumber G A))
+    first-size : Members (First G 1 A) (size (firstNumber One G A))
     unfolding firstNumber
-    first-size = members (G .terminals) few (λ x. first G 1 (A, x)) (λ x t. least G (passed-encodes words p) .first-lookahead A x t .1)
+    first-size = members One (G .terminals) few (λ x. first G 1 (A, x)) (λ x t. least G (passed-encodes words p) .first-lookahead A x t .1)
 
-    follow-size : Members (Follow G 1 A) (size (followNumber G A))
+    follow-size : Members (Follow G 1 A) (size (followNumber One G A))
     unfolding followNumber
-    follow-size = members (G .terminals) few (λ x. follow G 1 (A, x)) (λ x t. least G (passed-encodes words p) .follow-lookahead A x t .1)
+    follow-size = members One (G .terminals) few (λ x. follow G 1 (A, x)) (λ x t. least G (passed-encodes words p) .follow-lookahead A x t .1)
 
     sets-told : A < G .nonterminals → SetsTold words A
     sets-told h =
-        let behind = drop (length (tableWords G)) blankTable in
-        let one : wordAt (checkedTable words) (2 * A) ≡ firstNumber G A =
+        let behind = drop (length (tableWords One G)) blankTable in
+        let one : wordAt (checkedTable words) (2 * A) ≡ firstNumber One G A =
         ap (λ t. wordAt t (2 * A)) lent ∙ set-at G (2 * A) behind (omega arith) ∙ first-word G A in
-        let two : wordAt (checkedTable words) (2 * A + 1) ≡ followNumber G A =
+        let two : wordAt (checkedTable words) (2 * A + 1) ≡ followNumber One G A =
         ap (λ t. wordAt t (2 * A + 1)) lent ∙ set-at G (2 * A + 1) behind (omega arith) ∙ follow-word G A in
         record {
           first = one;

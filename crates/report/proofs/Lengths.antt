@@ -24,11 +24,12 @@ use Rattle.semantics.specs.ComesTo.{Call}
 use Rattle.semantics.specs.Calls.{sameCall, allCalls, calls}
 use Rattle.semantics.specs.Memo.{encode}
 use Rattle.semantics.proofs.Range.{all-range}
+use Rattle.lookahead.specs.declared.Lookahead.the-variants.{One}
 use Rattle.semantics.proofs.Theorems.{theorems}
 use Rattle.table.specs.Layout.{tableWords}
 use Rattle.answer.specs.Faults.{refusedOr}
-use Rattle.recognizer.specs.Answers.{checkFault, judgeFault, callsOf, verdictOf}
-use Rattle.recognizer.specs.Memory.{lentBack, memoWord, memoWords}
+use Rattle.recognizer.specs.Answers.{checkFault, judgeFault, callsOf, verdictBy, verdictOf}
+use Rattle.recognizer.specs.Memory.{lentBack, memoWordBy, memoWord, memoWordsBy, memoWords}
 use Rattle.recognizer.proofs.Checking.{passed-fault, passed-encodes, passed-free}
 use Rattle.recognizer.proofs.JudgeFaults.{judged-readable}
 use Rattle.text.proofs.Lengths.{refusal-most}
@@ -45,7 +46,7 @@ unfolding checkedText checkText sheetText
 checked-short words = go (checkFault maxTableWords words) (reading words) refl
   where
     table : Option Error → List ℕ
-    table f = lentBack f (tableWords (grammarOf words)) blankTable
+    table f = lentBack f (tableWords One (grammarOf words)) blankTable
 
     go : (f : Option Error) (o : Outcome) → reading words ≡ o → length (checkText (refusedOr f Passed) o (table f)) ≤ sheetRoom
     go (some e) o r = omega (arith, refusal-most e)
@@ -85,7 +86,7 @@ module _ (words input : List ℕ) (table memo : ℕ) (e : judgeFault table memo 
   G = grammarOf words
 
   entry-low : (x : Call) → List·Memᴰ x (allCalls G input) → memoWord G input x < 100000
-  unfolding memoWord encode
+  unfolding memoWordBy encode
   entry-low x m = go (member sameCall (calls G (tableChoice G 1 input) input) x) (descend G (tableChoice G 1 input) input (x .nonterminal) (x .place)) refl
     where
       go : (b : Bool) (o : Ended) → descend G (tableChoice G 1 input) input (x .nonterminal) (x .place) ≡ o
@@ -102,7 +103,7 @@ module _ (words input : List ℕ) (table memo : ℕ) (e : judgeFault table memo 
           omega (arith, f .1, k .1)
 
   memo-each : Each (lentBack none (memoWords G input) blankMemo)
-  unfolding memoWords blankMemo
+  unfolding memoWordsBy blankMemo
   memo-each =
       let front = map (memoWord G input) (allCalls G input) in
       let behind = replicate maxMemoEntries uncalledCode in
@@ -117,7 +118,7 @@ module _ (words input : List ℕ) (table memo : ℕ) (e : judgeFault table memo 
       (λ i. each-at (lentBack none (memoWords G input) blankMemo) i uncalledCode (omega arith) memo-each)
 
 pub judged-short : (words input : List ℕ) → length (judgedText words input) ≤ judgementRoom
-unfolding judgedText judgementText verdictOf
+unfolding judgedText judgementText verdictBy
 judged-short words input = go (judgeFault maxTableWords maxMemoEntries words input) refl
   where
     text : Option Error → List ℕ

@@ -14,6 +14,7 @@ use Rattle.grammar.specs.declared.reading.Outcome.the-variants.{Read, Faulty}
 use Rattle.grammar.specs.Limits.{maxWords, maxTokens, maxMemoEntries, maxTableWords}
 use Rattle.grammar.specs.Encoding.{grammarOf}
 use Rattle.grammar.specs.Reading.{reading}
+use Rattle.lookahead.specs.declared.Lookahead.the-variants.{One}
 use Rattle.lookahead.specs.Elements.{size}
 use Rattle.semantics.specs.FirstFollow.{First, Follow}
 use Rattle.sets.specs.Sets.{firstNumber, followNumber, Members}
@@ -51,7 +52,7 @@ blankTable = replicate maxTableWords noEntry
 
 -- the same after checking words
 abbrev pub checkedTable : List ℕ → List ℕ
-checkedTable words = lentBack (checkFault maxTableWords words) (tableWords (grammarOf words)) blankTable
+checkedTable words = lentBack (checkFault maxTableWords words) (tableWords One (grammarOf words)) blankTable
 
 -- what is printed of words that are checked, by the answer and the table that checking gives
 unfoldable pub checkedText : List ℕ → List ℕ
@@ -59,9 +60,9 @@ checkedText words = checkText (refusedOr (checkFault maxTableWords words) Passed
 
 -- the sets of a nonterminal in the sheet of a passed grammar: FIRST and FOLLOW as numbers, and the size that is printed is how many strings they have
 pub record SetsTold (words : List ℕ) (A : ℕ) : Type 0 where
-  pub first : wordAt (checkedTable words) (2 * A) ≡ firstNumber (grammarOf words) A
+  pub first : wordAt (checkedTable words) (2 * A) ≡ firstNumber One (grammarOf words) A
   pub first-members : Members (First (grammarOf words) 1 A) (size (wordAt (checkedTable words) (2 * A)))
-  pub follow : wordAt (checkedTable words) (2 * A + 1) ≡ followNumber (grammarOf words) A
+  pub follow : wordAt (checkedTable words) (2 * A + 1) ≡ followNumber One (grammarOf words) A
   pub follow-members : Members (Follow (grammarOf words) 1 A) (size (wordAt (checkedTable words) (2 * A + 1)))
 
 -- (document 01: the first program) the sheet of a file's words; bytes that are no words have a refused length

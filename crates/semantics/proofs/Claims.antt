@@ -13,7 +13,7 @@ use Rattle.grammar.specs.Syntax.{Body, Rule, Grammar}
 use Rattle.booleans.specs.Quantifiers.{anyOf, allOf}
 use Rattle.semantics.specs.Families.{Claims, Overlap, Overrun, Clash, TableRight, EveryEnds}
 use Rattle.semantics.specs.FirstFollow.{strings, sameString, Entry, entries, firstSets, firstRule, First, followSets, Follow}
-use Rattle.semantics.specs.Claims.{several, meeting, claimed, claims, overruns, clashes, tableOf, without, everyEnds}
+use Rattle.semantics.specs.Claims.{several, meeting, claimed, claims, overruns, clashing, clashes, tableOf, without, everyEnds}
 use Rattle.booleans.proofs.Booleans.{and-l, and-r, and-make, or-cases, or-l, or-r}
 use Rattle.booleans.proofs.Quantified.{any-elim, any-make, all-elim, all-make}
 use Rattle.semantics.proofs.FiniteSets.{member-mem, mem-member, keep-make, keep-elim}
@@ -114,9 +114,8 @@ module _ (G : Grammar) (k : ℕ) where
           entries-make G k A (0 ∷ []) (l .0) (omega (arith, l .1 .0), and-make (ltb 0 (G .terminals)) true (lt→ltb 0 (G .terminals) letters) tt)
 
   -- the clashes are the entries that two different rules claim, and those of the nonterminals that overrun
-  pub clashes-elim : (A : ℕ) (x : List ℕ) → List·Memᴰ (A, x) (clashes G k) → ClashAt A x
-  unfolding clashes
-  clashes-elim A x m = go (or-cases (several (claims G k (A, x)) (G .rules)) _ (keep-elim _ (entries G k) (A, x) m .1))
+  pub clashing-elim : (A : ℕ) (x : List ℕ) → T (clashing G k (A, x)) → ClashAt A x
+  clashing-elim A x m = go (or-cases (several (claims G k (A, x)) (G .rules)) _ m)
     where
       go : T (several (claims G k (A, x)) (G .rules)) ⊎ T (overruns G k A && sameString (0 ∷ []) x) → ClashAt A x
       go (inl t) =
@@ -124,6 +123,10 @@ module _ (G : Grammar) (k : ℕ) where
           inl (record { one = r .0; other = r .1; different = r .2; claimsOne = claims-elim (r .0) A x (r .3); claimsOther = claims-elim (r .1) A x (r .4) })
       go (inr t) =
           inr (overruns-elim A (and-l (overruns G k A) _ t), sym (strings-equality .equal (0 ∷ []) x (and-r (overruns G k A) _ t)))
+
+  pub clashes-elim : (A : ℕ) (x : List ℕ) → List·Memᴰ (A, x) (clashes G k) → ClashAt A x
+  unfolding clashes
+  clashes-elim A x m = clashing-elim A x (keep-elim (clashing G k) (entries G k) (A, x) m .1)
 
   overlap-clash : (A : ℕ) (x : List ℕ) → Overlap G k (First G k) (Follow G k) A x → List·Memᴰ (A, x) (clashes G k)
   unfolding clashes

@@ -20,7 +20,7 @@ use Rattle.semantics.proofs.Nullable.{nullable-least, nullable-closed}
 use Rattle.semantics.proofs.LookaheadSets.{entry-kept}
 use Rattle.semantics.proofs.First.{In, firstStep-elim, first-closed}
 
-cut-none : (k : ℕ) (u y : List ℕ) → 0 < k → take k (u ++ y) ≡ [] → (u ≡ []) × (y ≡ [])
+pub cut-none : (k : ℕ) (u y : List ℕ) → 0 < k → take k (u ++ y) ≡ [] → (u ≡ []) × (y ≡ [])
 cut-none zero u y h e = absurd (omega arith)
 cut-none (suc k) [] [] h e = (refl, refl)
 cut-none (suc k) [] (a ∷ y) h e = absurd (omega (arith, ap length e))

@@ -63,7 +63,7 @@ all-take p zero l t = tt
 all-take p (suc n) [] t = tt
 all-take p (suc n) (x ∷ l) t = and-make (p x) (allOf p (take n l)) (and-l (p x) (allOf p l) t) (all-take p n l (and-r (p x) (allOf p l) t))
 
-all-drop : (p : ℕ → Bool) (n : ℕ) (l : List ℕ) → T (allOf p l) → T (allOf p (drop n l))
+pub all-drop : (p : ℕ → Bool) (n : ℕ) (l : List ℕ) → T (allOf p l) → T (allOf p (drop n l))
 unfolding allOf
 all-drop p zero l t = t
 all-drop p (suc n) [] t = tt

@@ -40,10 +40,13 @@ without (b ∷ l) = false
 unfoldable pub overruns : Grammar → ℕ → ℕ → Bool
 overruns G k A = anyOf (λ r. eqb (r .head) A && without (r .positives)) (G .rules) && anyOf (λ y. not (sameString [] y)) (followSets G k A)
 
--- the entries that two rules claim, and for such a nonterminal that of the first terminal, by nonterminal, then in the order of `strings`
--- (document 01, k = 1: by name, then column)
+-- two rules claim an entry, or it is that of the first terminal for such a nonterminal
+abbrev pub clashing : Grammar → ℕ → Entry → Bool
+clashing G k e = several (claims G k e) (G .rules) || (overruns G k (e .0) && sameString (0 ∷ []) (e .1))
+
+-- these entries, by nonterminal, then in the order of `strings` (document 01, k = 1: by name, then column)
 unfoldable pub clashes : Grammar → ℕ → List Entry
-clashes G k = keep (λ e. several (claims G k e) (G .rules) || (overruns G k (e .0) && sameString (0 ∷ []) (e .1))) (entries G k)
+clashes G k = keep (clashing G k) (entries G k)
 
 -- where an entry stands in its row of n terminals, for one token of lookahead: the terminals in order, then the end (document 01: the column)
 abbrev pub column : ℕ → List ℕ → ℕ

@@ -10,6 +10,7 @@ use borrow.Author.Tests.{lt-ltb, le-ltb}
 use Rattle.booleans.specs.Choice.{choose}
 use Rattle.word.specs.declared.Word.{Word}
 use Rattle.grammar.specs.Limits.{maxNonterminals}
+use Rattle.lookahead.specs.declared.Lookahead.{Lookahead}
 use Rattle.sets.specs.declared.first.Rest.{Rest}
 use Rattle.sets.specs.Least.{at, lookup}
 use Rattle.sets.specs.First.{withWord}
@@ -28,6 +29,7 @@ lookup-each l e n = go (decLt n maxNonterminals)
 pub lookup-at : (l : List ℕ) → length l ≡ maxNonterminals → lookup l ≡ at l
 lookup-at l e = λ i. λ n. lookup-each l e n i
 
-pub onto-at : (l : List ℕ) {t : ℕ} {w : Word} {rest r : Rest} → length l ≡ maxNonterminals → r ≡ withWord t (lookup l) w rest → Onto t (at l) w rest r
-onto-at l {t} {w} {rest} {r} e q =
-    record { onto = λ p h. q ∙ ap (λ F. withWord t F w rest) (lookup-at l e) ∙ ap (withWord t (at l) w) h ∙ with-word t (at l) w p }
+pub onto-at : (k : Lookahead) (l : List ℕ) {t : ℕ} {w : Word} {rest r : Rest} → length l ≡ maxNonterminals → r ≡ withWord k t (lookup l) w rest
+    → Onto k t (at l) w rest r
+onto-at k l {t} {w} {rest} {r} e q =
+    record { onto = λ p h. q ∙ ap (λ F. withWord k t F w rest) (lookup-at l e) ∙ ap (withWord k t (at l) w) h ∙ with-word k t (at l) w p }

@@ -13,12 +13,16 @@ use Rattle.grammar.specs.declared.reading.Sizes.{Sizes}
 use Rattle.grammar.specs.declared.reading.Outcome.the-variants.{Read}
 use Rattle.grammar.specs.Limits.{maxNonterminals}
 use Rattle.grammar.specs.Reading.{reading}
+use Rattle.admission.specs.Admission.{admission}
 use Rattle.grammar.specs.Syntax.{Body, Grammar, WellScoped, bodies}
 use Rattle.grammar.specs.Encoding.{parse, grammarOf}
 use Rattle.grammar.proofs.WellRead.{well-read}
 use Rattle.grammar.proofs.EachIndex.{read-whole}
-use Rattle.lookahead.specs.Elements.{nothing, weight, has}
+use Rattle.lookahead.specs.declared.Lookahead.{Lookahead}
+use Rattle.lookahead.specs.Lookaheads.{tokens, nothing, alphabet}
+use Rattle.lookahead.specs.Elements.{weight, has}
 use Rattle.lookahead.specs.Operations.{join}
+use Rattle.lookahead.proofs.Strings.{string-nothing, some-token, nothing-below}
 use Rattle.lookahead.proofs.Elements.{bound}
 use Rattle.lookahead.proofs.Operations.{has-empty, has-join}
 use Rattle.lookahead.proofs.Order.{subset-antisym, join-left, join-right}
@@ -36,7 +40,7 @@ use Rattle.sets.specs.Sets.{firstNumber, reachNumber}
 use Rattle.sets.specs.Least.{SetFamily, at, LeastNumbers}
 use Rattle.sets.specs.Left.{emptyIn, symbolLeft, bodyLeft, bodiesLeft, ReachClosed}
 use Rattle.sets.proofs.Lists.{listed-is, listed-at}
-use Rattle.sets.proofs.Strings.{string-nothing}
+use Rattle.sets.proofs.FewTerminals.{admitted-read, few-terminals}
 use Rattle.sets.proofs.Numbers.{number-string, string-number, array-at}
 
 -- B is C, or C reaches it by the family R
@@ -160,38 +164,41 @@ reach-bound G few A = bound maxNonterminals (reachNumber G A) (λ B t.
     let l = ltb→lt B (G .nonterminals) (and-l (ltb B (G .nonterminals)) (leftReaches G A B) (rw (has-total (G .nonterminals) (leftReaches G A) B) at t)) in
     omega arith)
 
--- the words of a grammar that has been read, with its first sets
-module _ (words : List ℕ) {firsts : List ℕ} {z : Sizes} (read : reading words ≡ Read z) (found : firsts ≡ listed maxNonterminals (firstNumber (grammarOf words))) where
+-- the words of a grammar that is admitted, with its first sets
+module _ (k : Lookahead) (words : List ℕ) {firsts : List ℕ} {z : Sizes} (taken : admission k words ≡ Read z)
+    (found : firsts ≡ listed maxNonterminals (firstNumber k (grammarOf words))) where
+  read : reading words ≡ Read z
+  read = admitted-read k words taken
+
   scoped : WellScoped (grammarOf words)
   scoped = well-read words z read .formed .scoped
 
   many : grammarOf words .nonterminals ≤ maxNonterminals
-  many = let k = well-read words z read in omega (arith, k .fewNonterminals, k .nonterminals)
-
-  few : grammarOf words .terminals ≤ nothing
-  few = let k = well-read words z read in omega (arith, k .fewTerminals, k .terminals)
+  many = let w = well-read words z read in omega (arith, w .fewNonterminals, w .nonterminals)
 
   -- nothing is in the first sets of the nullable nonterminals
-  nullable-in : (A : ℕ) → T (emptyIn (at firsts) A) ↔ T (nullable (grammarOf words) A)
+  nullable-in : (A : ℕ) → T (emptyIn k (at firsts) A) ↔ T (nullable (grammarOf words) A)
   unfolding firstNumber
   nullable-in A =
       let G = grammarOf words in
-      let n = first-none G 1 scoped (omega arith) A in
-      rw (found, array-at G few (first G 1) (first-lookahead G 1) many A) (
-        λ t. n .0 (number-string G few (first G 1) (first-lookahead G 1) A [] (nothing, t, sym string-nothing)),
-        λ t. string-number G few (first G 1) (first-lookahead G 1) A nothing (rw string-nothing (n .1 t)),
+      let few = few-terminals k words taken in
+      let within = first-lookahead G (tokens k) in
+      let n = first-none G (tokens k) scoped (some-token k) A in
+      rw (found, array-at k G few (first G (tokens k)) within many A) (
+        λ t. n .0 (number-string k G few (first G (tokens k)) within A [] (nothing k, nothing-below k, t, sym (string-nothing k))),
+        λ t. string-number k G few (first G (tokens k)) within A (nothing k) (rw (string-nothing k) (n .1 t)),
       )
 
-  pub reach-closed : ReachClosed (emptyIn (at firsts)) (parse words .rules) (reachNumber (grammarOf words))
+  pub reach-closed : ReachClosed (emptyIn k (at firsts)) (parse words .rules) (reachNumber (grammarOf words))
   reach-closed =
-      subst (λ rs. ReachClosed (emptyIn (at firsts)) rs (reachNumber (grammarOf words))) (read-whole words z read .rules)
-      (numbers-closed (grammarOf words) scoped (emptyIn (at firsts)) nullable-in)
+      subst (λ rs. ReachClosed (emptyIn k (at firsts)) rs (reachNumber (grammarOf words))) (read-whole words z read .rules)
+      (numbers-closed (grammarOf words) scoped (emptyIn k (at firsts)) nullable-in)
 
   pub reach-small : (A : ℕ) → reachNumber (grammarOf words) A ≤ 2 ^ maxNonterminals
   reach-small A = omega (arith, reach-bound (grammarOf words) many A)
 
-  pub reach-listed : (l : List ℕ) → length l ≡ maxNonterminals → LeastNumbers (ReachClosed (emptyIn (at firsts)) (parse words .rules)) l
+  pub reach-listed : (l : List ℕ) → length l ≡ maxNonterminals → LeastNumbers (ReachClosed (emptyIn k (at firsts)) (parse words .rules)) l
       → l ≡ listed maxNonterminals (reachNumber (grammarOf words))
   reach-listed l n least =
       listed-is maxNonterminals (reachNumber (grammarOf words)) l n
-      (reach-numbers (grammarOf words) scoped (emptyIn (at firsts)) nullable-in l (rw (← read-whole words z read .rules) at least))
+      (reach-numbers (grammarOf words) scoped (emptyIn k (at firsts)) nullable-in l (rw (← read-whole words z read .rules) at least))

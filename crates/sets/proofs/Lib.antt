@@ -8,6 +8,7 @@ pub mod Inner
 pub mod HeadPasses
 pub mod FirstPasses
 pub mod ArrayLookup
+pub mod FewTerminals
 pub mod Strings
 pub mod Numbers
 pub mod Members

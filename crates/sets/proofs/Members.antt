@@ -1,25 +1,27 @@
--- The size of a set's number is how many strings the set has, however many terminals there are.
+-- The size of a set's number is how many strings the set has.
 use mathlib.Core.Path.{_≡_, refl, sym, ap, _∙_}
 use mathlib.Core.Bool.{Bool, true, false}
-use mathlib.Core.List.{List, [], _∷_, _++_, map}
+use mathlib.Core.List.{List, [], _∷_, map, List·Memᴰ, Memᴰ·map, Memᴰ·of-map, Memᴰ·cast}
 use Prim.Native.Nat.{ℕ, zero, suc, _+_, _≤_, _<_}
 use native.Mathlib.Omega.{arith}
 use lib.Dec.{T}
-use lib.ListN.{length}
+use lib.ListN.{length, length-map}
 use borrow.Author.Tests.{lt-ltb}
+use Rattle.semantics.specs.Calls.{Distinct}
 use Rattle.semantics.specs.FiniteSets.{keep, numbersFrom, numbers}
-use Rattle.semantics.specs.Strings.{Lookahead}
-use Rattle.semantics.specs.FirstFollow.{strings}
-use Rattle.semantics.proofs.FiniteSets.{keep-make, keep-elim}
-use Rattle.semantics.proofs.Columns.{strings-columns}
-use Rattle.semantics.proofs.LookaheadSets.{strings-make}
-use Rattle.semantics.proofs.Distinct.{distinct-keep, distinct-strings}
+use Rattle.semantics.specs.Strings.{Lookahead as Looked}
+use Rattle.semantics.proofs.FiniteSets.{keep-make, keep-elim, numbers-make, numbers-elim}
+use Rattle.semantics.proofs.Distinct.{distinct-keep, distinct-numbers}
 use Rattle.booleans.specs.Quantifiers.{one, countBelow}
-use Rattle.lookahead.specs.Elements.{nothing, has, OverTerminals, size}
-use Rattle.lookahead.proofs.Size.{count-cong, count-first, size-over}
+use Rattle.lookahead.specs.declared.Lookahead.{Lookahead}
+use Rattle.lookahead.specs.Lookaheads.{tokens, alphabet, elements, elementOf, stringOf}
+use Rattle.lookahead.specs.Elements.{has, size, width}
+use Rattle.lookahead.proofs.Strings.{string-same}
+use Rattle.lookahead.proofs.Cases.{elements-fit}
+use Rattle.lookahead.proofs.Size.{count-cong, count-first, size-below}
 use Rattle.lookahead.proofs.Weights.{has-total}
-use Rattle.sets.specs.Sets.{stringOf, numberOf, Members}
-use Rattle.sets.proofs.Strings.{element-string, string-nothing, string-terminal, lookahead-string, number-has}
+use Rattle.sets.specs.Sets.{numberOf, Members}
+use Rattle.sets.proofs.Strings.{lookahead-string, number-below}
 
 -- how many members of a list pass
 module _ {X : Type 0} (p : X → Bool) where
@@ -31,16 +33,6 @@ module _ {X : Type 0} (p : X → Bool) where
       go true = omega arith
       go false = omega arith
 
-  kept-append : (l m : List X) → length (keep p (l ++ m)) ≡ length (keep p l) + length (keep p m)
-  unfolding keep
-  kept-append [] m = omega arith
-  kept-append (x ∷ l) m = omega (arith, kept-more x (l ++ m), kept-more x l, kept-append l m)
-
-kept-map : {X Y : Type 0} (p : Y → Bool) (f : X → Y) (l : List X) → length (keep p (map f l)) ≡ length (keep (λ x. p (f x)) l)
-unfolding keep
-kept-map p f [] = refl
-kept-map p f (x ∷ l) = omega (arith, kept-more p (f x) (map f l), kept-more (λ y. p (f y)) x l, kept-map p f l)
-
 kept-numbers : (p : ℕ → Bool) (a n : ℕ) → length (keep p (numbersFrom a n)) ≡ countBelow n (λ l. p (a + l))
 unfolding numbersFrom countBelow keep
 kept-numbers p a zero = refl
@@ -50,36 +42,32 @@ kept-numbers p a (suc n) =
     ∙ ap (λ b. one (p b) + countBelow n (λ l. p (a + suc l))) (omega arith)
     ∙ sym (count-first n (λ l. p (a + l)))
 
--- over t terminals, for any t
-module _ (t : ℕ) (few : t ≤ nothing) (p : List ℕ → Bool) (within : (x : List ℕ) → T (p x) → Lookahead 1 t x) where
-  has-string : (l : ℕ) → l < suc nothing → has (numberOf p) l ≡ p (stringOf l)
-  unfolding numberOf
-  has-string l h = has-total (suc nothing) (λ k. p (stringOf k)) l ∙ rw (lt-ltb l (suc nothing) h)
+distinct-map : {X Y : Type 0} (f : X → Y) → ((x y : X) → f x ≡ f y → x ≡ y) → (l : List X) → Distinct l → Distinct (map f l)
+distinct-map f same [] d = tt
+distinct-map f same (x ∷ l) d = (λ m. let n = Memᴰ·of-map f l m in d .0 (rw (same (n .0) x (n .2)) at (n .1)), distinct-map f same l (d .1))
 
-  over : OverTerminals t (numberOf p)
-  over l s = rw (element-string l) at (lookahead-string t (stringOf l) few (within (stringOf l) (number-has p l s)) .over)
+-- over t terminals, for any t that there may be
+module _ (k : Lookahead) (t : ℕ) (few : t ≤ alphabet k) (p : List ℕ → Bool) (within : (x : List ℕ) → T (p x) → Looked (tokens k) t x) where
+  abbrev passes : ℕ → Bool
+  passes l = p (stringOf k l)
 
-  size-strings : size (numberOf p) ≡ length (keep p (strings 1 t))
-  unfolding numbers keep
+  size-strings : size (numberOf k p) ≡ length (keep passes (numbers (elements k)))
+  unfolding numberOf numbers
   size-strings =
-      let ends : has (numberOf p) nothing ≡ p [] = has-string nothing (omega arith) ∙ ap p string-nothing in
-      let begins : countBelow t (has (numberOf p)) ≡ countBelow t (λ l. p ((0 + l) ∷ [])) =
-      count-cong t (has (numberOf p)) (λ l. p ((0 + l) ∷ [])) (λ l h. has-string l (omega arith) ∙ ap p (string-terminal l (omega arith) ∙ ap (λ a. a ∷ []) (omega arith))) in
-      size-over t (numberOf p) few over
-      ∙ rw (ends, begins)
-      (omega (
-        arith,
-        ap (λ l. length (keep p l)) (strings-columns t),
-        kept-append p (map (λ a. a ∷ []) (numbersFrom 0 t)) ([] ∷ []),
-        kept-map p (λ a. a ∷ []) (numbersFrom 0 t),
-        kept-numbers (λ a. p (a ∷ [])) 0 t,
-        kept-more p [] [],
-      ))
+      size-below (elements k) (numberOf k p) (omega (arith, elements-fit k)) (number-below k p)
+      ∙ count-cong (elements k) (has (numberOf k p)) (λ l. passes (0 + l))
+      (λ l h. has-total (elements k) passes l ∙ rw (lt-ltb l (elements k) h) (ap passes (omega arith)))
+      ∙ sym (kept-numbers passes 0 (elements k))
 
-  pub members : Members (λ x. T (p x)) (size (numberOf p))
+  pub members : Members (λ x. T (p x)) (size (numberOf k p))
   members = record {
-    list = keep p (strings 1 t);
-    once = distinct-keep p (strings 1 t) (distinct-strings 1 t);
-    just = λ x. (λ m. keep-elim p (strings 1 t) x m .1, λ h. keep-make p (strings 1 t) x (strings-make 1 t x (within x h)) h);
-    long = sym size-strings;
+    list = map (stringOf k) (keep passes (numbers (elements k)));
+    once = distinct-map (stringOf k) (string-same k) (keep passes (numbers (elements k))) (distinct-keep passes (numbers (elements k)) (distinct-numbers (elements k)));
+    just = λ x. (
+      λ m. let n = Memᴰ·of-map (stringOf k) (keep passes (numbers (elements k))) m in rw (n .2) at (keep-elim passes (numbers (elements k)) (n .0) (n .1) .1),
+      λ h.
+          let s = lookahead-string k t x few (within x h) in
+          Memᴰ·cast (s .is) (Memᴰ·map (stringOf k) (keep-make passes (numbers (elements k)) (elementOf k x) (numbers-make (elements k) (elementOf k x) (s .below)) (rw (s .is) at h))),
+    );
+    long = length-map (keep passes (numbers (elements k))) (stringOf k) ∙ sym size-strings;
   }

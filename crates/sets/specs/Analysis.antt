@@ -1,4 +1,4 @@
--- What is found of an encoded grammar before its table is made: the first fault among the errors 3 to 8 and 13, or its sizes and its sets.
+-- What is found of an encoded grammar before its table is made: the first fault among the errors 3 to 8, 13 and 18, or its sizes and its sets.
 use mathlib.Core.List.{List, [], _∷_}
 use mathlib.Core.Option.{Option, none, some}
 use Prim.Native.Nat.{ℕ}
@@ -8,9 +8,11 @@ use Rattle.answer.specs.declared.Error.the-variants.{LeftRecursive, Unproductiv
 use Rattle.answer.specs.Faults.{firstFault}
 use Rattle.grammar.specs.Limits.{maxNonterminals}
 use Rattle.grammar.specs.Encoding.{grammarOf}
-use Rattle.grammar.specs.Reading.{reading}
 use Rattle.grammar.specs.declared.reading.Outcome.{Outcome}
 use Rattle.grammar.specs.declared.reading.Outcome.the-variants.{Read, Faulty}
+use Rattle.lookahead.specs.declared.Lookahead.{Lookahead}
+use Rattle.lookahead.specs.Lookaheads.{tokens}
+use Rattle.admission.specs.Admission.{admission}
 use Rattle.semantics.specs.LeftRecursion.{lowestLeftRecursive}
 use Rattle.semantics.specs.Productive.{lowestUnproductive}
 use Rattle.sets.specs.declared.Finding.{Finding}
@@ -19,7 +21,7 @@ use Rattle.sets.specs.declared.Families.{Families}
 use Rattle.sets.specs.Lists.{listed}
 use Rattle.sets.specs.Sets.{firstNumber, followNumber, reachNumber}
 
--- 3 to 7
+-- 3 to 7 and 18
 abbrev pub readingFault : Outcome → Option Error
 readingFault (Read z) = none
 readingFault (Faulty e) = some e
@@ -34,12 +36,13 @@ abbrev pub unproductiveFault : Option ℕ → Option Error
 unproductiveFault none = none
 unproductiveFault (some A) = some (Unproductive A)
 
-abbrev pub setsFaults : List ℕ → List (Option Error)
-setsFaults words =
-    readingFault (reading words) ∷ leftFault (lowestLeftRecursive (grammarOf words)) ∷ unproductiveFault (lowestUnproductive (grammarOf words) 1) ∷ []
+abbrev pub setsFaults : Lookahead → List ℕ → List (Option Error)
+setsFaults k words =
+    readingFault (admission k words)
+    ∷ leftFault (lowestLeftRecursive (grammarOf words)) ∷ unproductiveFault (lowestUnproductive (grammarOf words) (tokens k)) ∷ []
 
-unfoldable pub setsFault : List ℕ → Option Error
-setsFault words = firstFault (setsFaults words)
+unfoldable pub setsFault : Lookahead → List ℕ → Option Error
+setsFault k words = firstFault (setsFaults k words)
 
 abbrev pub findingOf : Option Error → Outcome → Finding
 findingOf (some e) o = Refused e
@@ -57,9 +60,9 @@ families f firsts follows reaches = record { finding = f; firsts = firsts; follo
 abbrev pub refusedBy : Error → Families
 refusedBy e = families (Refused e) (replicate maxNonterminals 0) (replicate maxNonterminals 0) (replicate maxNonterminals 0)
 
-unfoldable pub familiesOf : List ℕ → Families
-familiesOf words =
-    families (findingOf (setsFault words) (reading words))
-    (setsIf (setsFault words) (listed maxNonterminals (firstNumber (grammarOf words))))
-    (setsIf (setsFault words) (listed maxNonterminals (followNumber (grammarOf words))))
-    (setsIf (setsFault words) (listed maxNonterminals (reachNumber (grammarOf words))))
+unfoldable pub familiesOf : Lookahead → List ℕ → Families
+familiesOf k words =
+    families (findingOf (setsFault k words) (admission k words))
+    (setsIf (setsFault k words) (listed maxNonterminals (firstNumber k (grammarOf words))))
+    (setsIf (setsFault k words) (listed maxNonterminals (followNumber k (grammarOf words))))
+    (setsIf (setsFault k words) (listed maxNonterminals (reachNumber (grammarOf words))))

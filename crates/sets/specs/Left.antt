@@ -8,15 +8,17 @@ use Rattle.word.specs.declared.Word.the-variants.{Heading, Rule as RuleWord, Po
 use Rattle.booleans.specs.Choice.{choose}
 use Rattle.grammar.specs.Syntax.{Body, Rule, bodies}
 use Rattle.grammar.specs.Encoding.{Parsed}
-use Rattle.lookahead.specs.Elements.{nothing, weight, has, Subset}
+use Rattle.lookahead.specs.declared.Lookahead.{Lookahead}
+use Rattle.lookahead.specs.Lookaheads.{nothing}
+use Rattle.lookahead.specs.Elements.{weight, has, Subset}
 use Rattle.lookahead.specs.Operations.{empty, join}
 use Rattle.semantics.specs.Rounds.{NumberSet}
 use Rattle.sets.specs.declared.left.Left.{Left}
 use Rattle.sets.specs.Least.{SetFamily}
 
 -- the nonterminals whose first sets have nothing: those that are nullable
-abbrev pub emptyIn : SetFamily → NumberSet
-emptyIn F A = has (F A) nothing
+abbrev pub emptyIn : Lookahead → SetFamily → NumberSet
+emptyIn k F A = has (F A) (nothing k)
 
 -- a symbol in front of what is at the left of a body: a nonterminal with all that it reaches and, if it is in the set s, what is behind
 unfoldable pub symbolLeft : NumberSet → SetFamily → GrammarSymbol → ℕ → ℕ

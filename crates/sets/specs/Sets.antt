@@ -1,32 +1,28 @@
--- With one token of lookahead a string is an element of a lookahead set, and a set of strings is a number.
+-- A lookahead string is an element of a lookahead set, and a set of strings is a number.
 use mathlib.Core.Path.{_≡_}
 use mathlib.Core.Bool.{Bool}
-use mathlib.Core.List.{List, [], _∷_, List·Memᴰ}
+use mathlib.Core.List.{List, List·Memᴰ}
 use mathlib.Core.Logic.{_↔_}
-use Prim.Native.Nat.{ℕ, suc}
-use lib.Dec.{eqb}
+use Prim.Native.Nat.{ℕ}
 use lib.ListN.{length}
-use Rattle.booleans.specs.Choice.{choose}
 use Rattle.grammar.specs.Syntax.{Grammar}
-use Rattle.lookahead.specs.Elements.{nothing, total}
+use Rattle.lookahead.specs.declared.Lookahead.{Lookahead}
+use Rattle.lookahead.specs.Lookaheads.{tokens, elements, stringOf}
+use Rattle.lookahead.specs.Elements.{total}
 use Rattle.semantics.specs.FirstFollow.{first, follow}
 use Rattle.semantics.specs.Calls.{Distinct}
 use Rattle.semantics.specs.LeftRecursion.{leftReaches}
 
--- the string of at most one terminal that an element stands for
-unfoldable pub stringOf : ℕ → List ℕ
-stringOf l = choose (eqb l nothing) [] (l ∷ [])
-
 -- the weights of a set's elements together
-unfoldable pub numberOf : (List ℕ → Bool) → ℕ
-numberOf p = total (suc nothing) (λ l. p (stringOf l))
+unfoldable pub numberOf : Lookahead → (List ℕ → Bool) → ℕ
+numberOf k p = total (elements k) (λ l. p (stringOf k l))
 
 -- (document 01: a first set and a follow set, as numbers)
-unfoldable pub firstNumber : Grammar → ℕ → ℕ
-firstNumber G A = numberOf (λ x. first G 1 (A, x))
+unfoldable pub firstNumber : Lookahead → Grammar → ℕ → ℕ
+firstNumber k G A = numberOf k (λ x. first G (tokens k) (A, x))
 
-unfoldable pub followNumber : Grammar → ℕ → ℕ
-followNumber G A = numberOf (λ x. follow G 1 (A, x))
+unfoldable pub followNumber : Lookahead → Grammar → ℕ → ℕ
+followNumber k G A = numberOf k (λ x. follow G (tokens k) (A, x))
 
 -- a set of strings has n members: they are listed, each once
 pub record Members (P : List ℕ → Type 0) (n : ℕ) : Type 0 where

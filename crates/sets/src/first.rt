@@ -4,8 +4,8 @@ ghost use lib.ListN.{length};
 ghost use Rattle.grammar.specs.declared.reading.Outcome.the-variants.{Read};
 ghost use Rattle.grammar.specs.Encoding.{parse, grammarOf};
 ghost use Rattle.grammar.specs.Limits.{maxNonterminals};
-ghost use Rattle.grammar.specs.Reading.{reading};
 ghost use Rattle.grammar.specs.Starts.{ruleStarts};
+ghost use Rattle.admission.specs.Admission.{admission};
 ghost use Rattle.sets.specs.First.{symbolFirst, ruleFirst, noRest, withWord, closedMeet, insideWord, FirstNumbersClosed};
 ghost use Rattle.sets.specs.Least.{at as family, lookup, Passes};
 ghost use Rattle.sets.specs.Lists.{listed};
@@ -20,6 +20,7 @@ use super::rules::head_of;
 use super::rules::turn;
 use grammar::limits::RULES;
 use grammar::reading::Sizes;
+use lookahead::Lookahead;
 use lookahead::LookaheadSet;
 use word::Symbol;
 use word::Word;
@@ -33,20 +34,24 @@ pub struct Rest {
 }
 
 // Where neither a body nor a rule is open.
-pub fn no_rest(terminals: u32) -> Rest
-    ensures { λ r. ⌜ r ≡ noRest terminals ⌝ }
+pub fn no_rest(terminals: u32, lookahead: Lookahead) -> Rest
+    ensures { λ r. ⌜ r ≡ noRest lookahead terminals ⌝ }
 {
     Rest {
-        body: LookaheadSet::end(),
-        meet: LookaheadSet::full(terminals),
+        body: LookaheadSet::end(lookahead),
+        meet: LookaheadSet::full(lookahead, terminals),
     }
 }
 
-pub(crate) fn symbol_first(symbol: Symbol, firsts: &[u64; SETS]) -> LookaheadSet
-    ensures { λ r. ⌜ r .bits ≡ symbolFirst (lookup (now (firsts .entry))) symbol ⌝ }
+pub(crate) fn symbol_first(
+    symbol: Symbol,
+    firsts: &[u64; SETS],
+    lookahead: Lookahead,
+) -> LookaheadSet
+    ensures { λ r. ⌜ r .bits ≡ symbolFirst lookahead (lookup (now (firsts .entry))) symbol ⌝ }
 {
     match symbol {
-        Symbol::Terminal(number) => LookaheadSet::terminal(number),
+        Symbol::Terminal(number) => LookaheadSet::terminal(lookahead, number),
         Symbol::Nonterminal(number) => LookaheadSet {
             bits: set_of(firsts, number),
         },
@@ -54,26 +59,32 @@ pub(crate) fn symbol_first(symbol: Symbol, firsts: &[u64; SETS]) -> LookaheadSet
 }
 
 // The rest with a word in front.
-pub fn onto(word: Word, rest: Rest, firsts: &[u64; SETS], terminals: u32) -> Rest
-    ensures { λ r. ⌜ r ≡ withWord terminals (lookup (now (firsts .entry))) word rest ⌝ }
+pub fn onto(
+    word: Word,
+    rest: Rest,
+    firsts: &[u64; SETS],
+    terminals: u32,
+    lookahead: Lookahead,
+) -> Rest
+    ensures { λ r. ⌜ r ≡ withWord lookahead terminals (lookup (now (firsts .entry))) word rest ⌝ }
 {
     let body = rest.body;
     let meet = rest.meet;
     match word {
         Word::Symbol(symbol) => Rest {
-            body: symbol_first(symbol, firsts).concat(body),
+            body: symbol_first(symbol, firsts, lookahead).concat(lookahead, body),
             meet,
         },
         Word::Positive => Rest {
-            body: LookaheadSet::end(),
+            body: LookaheadSet::end(lookahead),
             meet: body.meet(meet),
         },
         Word::Negative => Rest {
-            body: LookaheadSet::end(),
+            body: LookaheadSet::end(lookahead),
             meet,
         },
-        Word::Rule(_) => no_rest(terminals),
-        Word::End => no_rest(terminals),
+        Word::Rule(_) => no_rest(terminals, lookahead),
+        Word::End => no_rest(terminals, lookahead),
         Word::Heading {
             nonterminals: _,
             terminals: _,
@@ -93,20 +104,20 @@ fn closed(word: Word, body: LookaheadSet, meet: LookaheadSet) -> LookaheadSet
 }
 
 // The rest with a word inside a rule in front.
-fn inside(word: Word, rest: Rest, firsts: &[u64; SETS]) -> Rest
-    ensures { λ r. ⌜ r ≡ insideWord (lookup (now (firsts .entry))) word rest ⌝ }
+fn inside(word: Word, rest: Rest, firsts: &[u64; SETS], lookahead: Lookahead) -> Rest
+    ensures { λ r. ⌜ r ≡ insideWord lookahead (lookup (now (firsts .entry))) word rest ⌝ }
 {
     let body = rest.body;
     let meet = rest.meet;
     let Word::Symbol(symbol) = word else {
         return Rest {
-            body: LookaheadSet::end(),
+            body: LookaheadSet::end(lookahead),
             meet: closed(word, body, meet),
         };
     };
-    let first = symbol_first(symbol, firsts);
+    let first = symbol_first(symbol, firsts, lookahead);
     Rest {
-        body: first.concat(body),
+        body: first.concat(lookahead, body),
         meet,
     }
 }
@@ -118,16 +129,17 @@ fn rule_first(
     end: usize,
     firsts: &[u64; SETS],
     terminals: u32,
+    lookahead: Lookahead,
 ) -> LookaheadSet
     requires { ⌜ RuleWords (now words) start end × (length (now firsts) ≡ maxNonterminals) ⌝ }
-    ensures { λ r. ⌜ r .bits ≡ ruleFirst terminals (family (now (firsts .entry))) (ruleFrom (now (words .entry)) start .positives) ⌝ }
+    ensures { λ r. ⌜ r .bits ≡ ruleFirst lookahead terminals (family (now (firsts .entry))) (ruleFrom (now (words .entry)) start .positives) ⌝ }
 {
-    let mut rest = no_rest(terminals);
+    let mut rest = no_rest(terminals, lookahead);
     let mut at = end;
     while start + 1 < at {
         at = at - 1;
         let word = decode(words[at]);
-        rest = inside(word, rest, firsts);
+        rest = inside(word, rest, firsts, lookahead);
     }
     rest.meet
 }
@@ -139,9 +151,10 @@ fn first_pass(
     sizes: Sizes,
     firsts: &mut [u64; SETS],
     forward: bool,
+    lookahead: Lookahead,
 ) -> bool
     requires { ⌜ PassGiven (now words) (now starts) sizes (now firsts) ⌝ }
-    ensures { λ r. ⌜ Passes (FirstNumbersClosed (sizes .terminals) (parse (now (words .entry)) .rules)) (now (firsts .entry)) (now (firsts .exit)) r ⌝ }
+    ensures { λ r. ⌜ Passes (FirstNumbersClosed lookahead (sizes .terminals) (parse (now (words .entry)) .rules)) (now (firsts .entry)) (now (firsts .exit)) r ⌝ }
 {
     let terminals = sizes.terminals;
     let mut grown = false;
@@ -150,7 +163,7 @@ fn first_pass(
         let rule = turn(forward, sizes.rules, passed);
         let start = starts[rule];
         let end = end_of(words, starts, sizes, rule);
-        let meet = rule_first(words, start, end, firsts, terminals);
+        let meet = rule_first(words, start, end, firsts, terminals, lookahead);
         let head = head_of(decode(words[start]));
         grown = either(grown, add(firsts, head, meet));
         passed = passed + 1;
@@ -158,14 +171,19 @@ fn first_pass(
     grown
 }
 
-// The first sets of a grammar that has been read, one for each nonterminal.
-pub(crate) fn first_sets(words: &[u32], starts: &[usize; RULES], sizes: Sizes) -> [u64; SETS]
-    requires { ⌜ (reading (now words) ≡ Read sizes) × (now starts ≡ ruleStarts (now words)) ⌝ }
-    ensures { λ r. ⌜ r ≡ listed maxNonterminals (firstNumber (grammarOf (now (words .entry)))) ⌝ }
+// The first sets of a grammar that is admitted, one for each nonterminal.
+pub(crate) fn first_sets(
+    words: &[u32],
+    starts: &[usize; RULES],
+    sizes: Sizes,
+    lookahead: Lookahead,
+) -> [u64; SETS]
+    requires { ⌜ (admission lookahead (now words) ≡ Read sizes) × (now starts ≡ ruleStarts (now words)) ⌝ }
+    ensures { λ r. ⌜ r ≡ listed maxNonterminals (firstNumber lookahead (grammarOf (now (words .entry)))) ⌝ }
 {
     let mut firsts = [0u64; SETS];
     let mut forward = false;
-    while first_pass(words, starts, sizes, &mut firsts, forward) {
+    while first_pass(words, starts, sizes, &mut firsts, forward, lookahead) {
         forward = !forward;
     }
     firsts

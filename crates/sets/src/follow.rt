@@ -5,8 +5,8 @@ ghost use lib.ListN.{length, drop};
 ghost use Rattle.grammar.specs.declared.reading.Outcome.the-variants.{Read};
 ghost use Rattle.grammar.specs.Encoding.{parse, grammarOf};
 ghost use Rattle.grammar.specs.Limits.{maxNonterminals};
-ghost use Rattle.grammar.specs.Reading.{reading};
 ghost use Rattle.grammar.specs.Starts.{ruleStarts};
+ghost use Rattle.admission.specs.Admission.{admission};
 ghost use Rattle.sets.specs.Follow.{Asked, tailBefore, FollowRules, FollowNumbersClosed};
 ghost use Rattle.sets.specs.Least.{at as family, lookup, AddsTo, Passes};
 ghost use Rattle.sets.specs.Lists.{listed};
@@ -22,6 +22,7 @@ use super::rules::head_of;
 use super::rules::turn;
 use grammar::limits::RULES;
 use grammar::reading::Sizes;
+use lookahead::Lookahead;
 use lookahead::LookaheadSet;
 use word::Symbol;
 use word::Word;
@@ -47,13 +48,14 @@ fn tail_before(
     tail: LookaheadSet,
     follow: LookaheadSet,
     firsts: &[u64; SETS],
+    lookahead: Lookahead,
 ) -> LookaheadSet
-    ensures { λ r. ⌜ r .bits ≡ tailBefore (lookup (now (firsts .entry))) (follow .bits) word (tail .bits) ⌝ }
+    ensures { λ r. ⌜ r .bits ≡ tailBefore lookahead (lookup (now (firsts .entry))) (follow .bits) word (tail .bits) ⌝ }
 {
     let Word::Symbol(symbol) = word else {
         return follow;
     };
-    symbol_first(symbol, firsts).concat(tail)
+    symbol_first(symbol, firsts, lookahead).concat(lookahead, tail)
 }
 
 // Behind each nonterminal in a body of head comes what is left of the body, then what follows head; whether a set has grown.
@@ -64,21 +66,23 @@ fn follow_rule(
     head: u32,
     firsts: &[u64; SETS],
     follows: &mut [u64; SETS],
+    lookahead: Lookahead,
 ) -> bool
     requires { ⌜ RuleWords (now words) start end × (head < maxNonterminals) × (length (now firsts) ≡ maxNonterminals) × (length (now follows) ≡ maxNonterminals) ⌝ }
-    ensures { λ r. ⌜ Passes (Asked (family (now (firsts .entry))) head (parse (drop (suc start) (now (words .entry))))) (now (follows .entry)) (now (follows .exit)) r ⌝ }
+    ensures { λ r. ⌜ Passes (Asked lookahead (family (now (firsts .entry))) head (parse (drop (suc start) (now (words .entry))))) (now (follows .entry)) (now (follows .exit)) r ⌝ }
 {
     let follow = LookaheadSet {
         bits: follows[head as usize],
     };
+    let behind = LookaheadSet::end(lookahead).concat(lookahead, follow);
     let mut grown = false;
-    let mut tail = follow;
+    let mut tail = behind;
     let mut at = end;
     while start + 1 < at {
         at = at - 1;
         let word = decode(words[at]);
         grown = either(grown, add_behind(word, tail, follows));
-        tail = tail_before(word, tail, follow, firsts);
+        tail = tail_before(word, tail, behind, firsts, lookahead);
     }
     grown
 }
@@ -91,9 +95,10 @@ fn follow_rules(
     firsts: &[u64; SETS],
     follows: &mut [u64; SETS],
     forward: bool,
+    lookahead: Lookahead,
 ) -> bool
     requires { ⌜ PassGiven (now words) (now starts) sizes (now follows) × (length (now firsts) ≡ maxNonterminals) ⌝ }
-    ensures { λ r. ⌜ Passes (FollowRules (family (now (firsts .entry))) (parse (now (words .entry)) .rules)) (now (follows .entry)) (now (follows .exit)) r ⌝ }
+    ensures { λ r. ⌜ Passes (FollowRules lookahead (family (now (firsts .entry))) (parse (now (words .entry)) .rules)) (now (follows .entry)) (now (follows .exit)) r ⌝ }
 {
     let mut grown = false;
     let mut passed = 0;
@@ -102,7 +107,10 @@ fn follow_rules(
         let start = starts[rule];
         let end = end_of(words, starts, sizes, rule);
         let head = head_of(decode(words[start]));
-        grown = either(grown, follow_rule(words, start, end, head, firsts, follows));
+        grown = either(
+            grown,
+            follow_rule(words, start, end, head, firsts, follows, lookahead),
+        );
         passed = passed + 1;
     }
     grown
@@ -116,30 +124,40 @@ fn follow_pass(
     firsts: &[u64; SETS],
     follows: &mut [u64; SETS],
     forward: bool,
+    lookahead: Lookahead,
 ) -> bool
     requires { ⌜ PassGiven (now words) (now starts) sizes (now follows) × (length (now firsts) ≡ maxNonterminals) ⌝ }
-    ensures { λ r. ⌜ Passes (FollowNumbersClosed (family (now (firsts .entry))) (parse (now (words .entry)) .rules)) (now (follows .entry)) (now (follows .exit)) r ⌝ }
+    ensures { λ r. ⌜ Passes (FollowNumbersClosed lookahead (family (now (firsts .entry))) (parse (now (words .entry)) .rules)) (now (follows .entry)) (now (follows .exit)) r ⌝ }
 {
-    let began = add(follows, 0, LookaheadSet::end());
+    let began = add(follows, 0, LookaheadSet::end(lookahead));
     either(
         began,
-        follow_rules(words, starts, sizes, firsts, follows, forward),
+        follow_rules(words, starts, sizes, firsts, follows, forward, lookahead),
     )
 }
 
-// The follow sets of a grammar that has been read, one for each nonterminal.
+// The follow sets of a grammar that is admitted, one for each nonterminal.
 pub(crate) fn follow_sets(
     words: &[u32],
     starts: &[usize; RULES],
     sizes: Sizes,
     firsts: &[u64; SETS],
+    lookahead: Lookahead,
 ) -> [u64; SETS]
-    requires { ⌜ (reading (now words) ≡ Read sizes) × (now starts ≡ ruleStarts (now words)) × (now firsts ≡ listed maxNonterminals (firstNumber (grammarOf (now words)))) ⌝ }
-    ensures { λ r. ⌜ r ≡ listed maxNonterminals (followNumber (grammarOf (now (words .entry)))) ⌝ }
+    requires { ⌜ (admission lookahead (now words) ≡ Read sizes) × (now starts ≡ ruleStarts (now words)) × (now firsts ≡ listed maxNonterminals (firstNumber lookahead (grammarOf (now words)))) ⌝ }
+    ensures { λ r. ⌜ r ≡ listed maxNonterminals (followNumber lookahead (grammarOf (now (words .entry)))) ⌝ }
 {
     let mut follows = [0u64; SETS];
     let mut forward = true;
-    while follow_pass(words, starts, sizes, firsts, &mut follows, forward) {
+    while follow_pass(
+        words,
+        starts,
+        sizes,
+        firsts,
+        &mut follows,
+        forward,
+        lookahead,
+    ) {
         forward = !forward;
     }
     follows

@@ -4,9 +4,9 @@ ghost use mathlib.Core.Path.{_≡_};
 ghost use Rattle.grammar.specs.declared.reading.Outcome.the-variants.{Read};
 ghost use Rattle.grammar.specs.Encoding.{parse, grammarOf};
 ghost use Rattle.grammar.specs.Limits.{maxNonterminals};
-ghost use Rattle.grammar.specs.Reading.{reading};
 ghost use Rattle.grammar.specs.Starts.{ruleStarts};
 ghost use Rattle.grammar.specs.Syntax.{bodies};
+ghost use Rattle.admission.specs.Admission.{admission};
 ghost use Rattle.sets.specs.Least.{at as family, Passes};
 ghost use Rattle.sets.specs.Left.{emptyIn, symbolLeft, bodiesLeft, lefts, insideLeft, ReachClosed};
 ghost use Rattle.sets.specs.Lists.{listed};
@@ -22,8 +22,9 @@ use super::rules::head_of;
 use super::rules::turn;
 use grammar::limits::RULES;
 use grammar::reading::Sizes;
+use lookahead::Lookahead;
 use lookahead::LookaheadSet;
-use lookahead::NOTHING;
+use lookahead::nothing;
 use word::Symbol;
 use word::Word;
 use word::decode;
@@ -50,9 +51,10 @@ fn symbol_left(
     behind: Nonterminals,
     firsts: &[u64; SETS],
     reach: &[u32; SETS],
+    lookahead: Lookahead,
 ) -> Nonterminals
     requires { ⌜ IndexedSymbol symbol ⌝ }
-    ensures { λ r. ⌜ r .bits ≡ symbolLeft (emptyIn (family (now (firsts .entry)))) (family (now (reach .entry))) symbol (behind .bits) ⌝ }
+    ensures { λ r. ⌜ r .bits ≡ symbolLeft (emptyIn lookahead (family (now (firsts .entry)))) (family (now (reach .entry))) symbol (behind .bits) ⌝ }
 {
     let Symbol::Nonterminal(number) = symbol else {
         return Nonterminals::empty();
@@ -62,7 +64,7 @@ fn symbol_left(
     let reached = Nonterminals { bits: reach[at] };
     let own = alone.join(reached);
     let first = LookaheadSet { bits: firsts[at] };
-    if first.contains(NOTHING) {
+    if first.contains(nothing(lookahead)) {
         own.join(behind)
     } else {
         own
@@ -70,9 +72,15 @@ fn symbol_left(
 }
 
 // The same with a word inside a rule in front.
-fn inside_left(word: Word, left: Left, firsts: &[u64; SETS], reach: &[u32; SETS]) -> Left
+fn inside_left(
+    word: Word,
+    left: Left,
+    firsts: &[u64; SETS],
+    reach: &[u32; SETS],
+    lookahead: Lookahead,
+) -> Left
     requires { ⌜ Indexed word ⌝ }
-    ensures { λ r. ⌜ r ≡ insideLeft (emptyIn (family (now (firsts .entry)))) (family (now (reach .entry))) word left ⌝ }
+    ensures { λ r. ⌜ r ≡ insideLeft (emptyIn lookahead (family (now (firsts .entry)))) (family (now (reach .entry))) word left ⌝ }
 {
     let body = left.body;
     let rule = left.rule;
@@ -83,7 +91,7 @@ fn inside_left(word: Word, left: Left, firsts: &[u64; SETS], reach: &[u32; SETS]
         };
     };
     Left {
-        body: symbol_left(symbol, body, firsts, reach),
+        body: symbol_left(symbol, body, firsts, reach, lookahead),
         rule,
     }
 }
@@ -95,16 +103,17 @@ fn rule_left(
     end: usize,
     firsts: &[u64; SETS],
     reach: &[u32; SETS],
+    lookahead: Lookahead,
 ) -> Nonterminals
     requires { ⌜ RuleWords (now words) start end ⌝ }
-    ensures { λ r. ⌜ r .bits ≡ bodiesLeft (emptyIn (family (now (firsts .entry)))) (family (now (reach .entry))) (bodies (ruleFrom (now (words .entry)) start)) ⌝ }
+    ensures { λ r. ⌜ r .bits ≡ bodiesLeft (emptyIn lookahead (family (now (firsts .entry)))) (family (now (reach .entry))) (bodies (ruleFrom (now (words .entry)) start)) ⌝ }
 {
     let mut left = no_left();
     let mut at = end;
     while start + 1 < at {
         at = at - 1;
         let word = decode(words[at]);
-        left = inside_left(word, left, firsts, reach);
+        left = inside_left(word, left, firsts, reach, lookahead);
     }
     left.rule
 }
@@ -117,9 +126,10 @@ fn reach_pass(
     firsts: &[u64; SETS],
     reach: &mut [u32; SETS],
     forward: bool,
+    lookahead: Lookahead,
 ) -> bool
     requires { ⌜ PassGiven (now words) (now starts) sizes (now reach) ⌝ }
-    ensures { λ r. ⌜ Passes (ReachClosed (emptyIn (family (now (firsts .entry)))) (parse (now (words .entry)) .rules)) (now (reach .entry)) (now (reach .exit)) r ⌝ }
+    ensures { λ r. ⌜ Passes (ReachClosed (emptyIn lookahead (family (now (firsts .entry)))) (parse (now (words .entry)) .rules)) (now (reach .entry)) (now (reach .exit)) r ⌝ }
 {
     let mut grown = false;
     let mut passed = 0;
@@ -127,7 +137,7 @@ fn reach_pass(
         let rule = turn(forward, sizes.rules, passed);
         let start = starts[rule];
         let end = end_of(words, starts, sizes, rule);
-        let left = rule_left(words, start, end, firsts, reach);
+        let left = rule_left(words, start, end, firsts, reach, lookahead);
         let head = head_of(decode(words[start]));
         grown = either(grown, add_nonterminals(reach, head, left));
         passed = passed + 1;
@@ -135,19 +145,20 @@ fn reach_pass(
     grown
 }
 
-// What each nonterminal of a grammar that has been read left-reaches, by its first sets.
+// What each nonterminal of a grammar that is admitted left-reaches, by its first sets.
 pub(crate) fn reached(
     words: &[u32],
     starts: &[usize; RULES],
     sizes: Sizes,
     firsts: &[u64; SETS],
+    lookahead: Lookahead,
 ) -> [u32; SETS]
-    requires { ⌜ (reading (now words) ≡ Read sizes) × (now starts ≡ ruleStarts (now words)) × (now firsts ≡ listed maxNonterminals (firstNumber (grammarOf (now words)))) ⌝ }
+    requires { ⌜ (admission lookahead (now words) ≡ Read sizes) × (now starts ≡ ruleStarts (now words)) × (now firsts ≡ listed maxNonterminals (firstNumber lookahead (grammarOf (now words)))) ⌝ }
     ensures { λ r. ⌜ r ≡ listed maxNonterminals (reachNumber (grammarOf (now (words .entry)))) ⌝ }
 {
     let mut reach = [0u32; SETS];
     let mut forward = false;
-    while reach_pass(words, starts, sizes, firsts, &mut reach, forward) {
+    while reach_pass(words, starts, sizes, firsts, &mut reach, forward, lookahead) {
         forward = !forward;
     }
     reach

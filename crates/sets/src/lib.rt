@@ -1,8 +1,9 @@
-// First and follow sets of an encoded grammar, by which left recursion and unproductive nonterminals are found too.
+// First and follow sets of an encoded grammar for a lookahead, by which left recursion and unproductive nonterminals are found too.
 ghost use mathlib.Core.Path.{_≡_};
-ghost use Rattle.grammar.specs.Reading.{reading};
 ghost use Rattle.grammar.specs.declared.reading.Outcome.the-variants.{Read};
+ghost use Rattle.admission.specs.Admission.{admission};
 ghost use Rattle.sets.specs.Analysis.{refusedBy, familiesOf};
+use admission::admit;
 use answer::Error;
 use family::SETS;
 use first::first_sets;
@@ -12,9 +13,9 @@ use flaws::lowest_with;
 use follow::follow_sets;
 use grammar::reading::Outcome;
 use grammar::reading::Sizes;
-use grammar::reading::read;
 use grammar::reading::rule_starts;
 use left::reached;
+use lookahead::Lookahead;
 
 pub mod family;
 pub mod first;
@@ -49,15 +50,15 @@ fn refused(error: Error) -> Families
     }
 }
 
-// A grammar that has been read.
-fn analyze_grammar(words: &[u32], sizes: Sizes) -> Families
-    requires { ⌜ reading (now words) ≡ Read sizes ⌝ }
-    ensures { λ r. ⌜ r ≡ familiesOf (now (words .entry)) ⌝ }
+// A grammar that is admitted.
+fn analyze_grammar(words: &[u32], sizes: Sizes, lookahead: Lookahead) -> Families
+    requires { ⌜ admission lookahead (now words) ≡ Read sizes ⌝ }
+    ensures { λ r. ⌜ r ≡ familiesOf lookahead (now (words .entry)) ⌝ }
 {
     let nonterminals = sizes.nonterminals;
     let starts = rule_starts(words);
-    let firsts = first_sets(words, &starts, sizes);
-    let reaches = reached(words, &starts, sizes, &firsts);
+    let firsts = first_sets(words, &starts, sizes, lookahead);
+    let reaches = reached(words, &starts, sizes, &firsts, lookahead);
     let recursive = lowest_with(Flaw::LeftRecursive, &firsts, &reaches, nonterminals);
     let unproductive = lowest_with(Flaw::Unproductive, &firsts, &reaches, nonterminals);
     match recursive {
@@ -65,7 +66,7 @@ fn analyze_grammar(words: &[u32], sizes: Sizes) -> Families
         Lowest::Absent => match unproductive {
             Lowest::At(nonterminal) => refused(Error::Unproductive(nonterminal)),
             Lowest::Absent => {
-                let follows = follow_sets(words, &starts, sizes, &firsts);
+                let follows = follow_sets(words, &starts, sizes, &firsts, lookahead);
                 Families {
                     finding: Finding::Passed(sizes),
                     firsts,
@@ -77,12 +78,12 @@ fn analyze_grammar(words: &[u32], sizes: Sizes) -> Families
     }
 }
 
-pub fn analyze(words: &[u32]) -> Families
-    ensures { λ r. ⌜ r ≡ familiesOf (now (words .entry)) ⌝ }
+pub fn analyze(words: &[u32], lookahead: Lookahead) -> Families
+    ensures { λ r. ⌜ r ≡ familiesOf lookahead (now (words .entry)) ⌝ }
 {
-    let outcome = read(words);
+    let outcome = admit(words, lookahead);
     match outcome {
         Outcome::Faulty(error) => refused(error),
-        Outcome::Read(sizes) => analyze_grammar(words, sizes),
+        Outcome::Read(sizes) => analyze_grammar(words, sizes, lookahead),
     }
 }

@@ -14,12 +14,14 @@ use Rattle.grammar.specs.declared.reading.Sizes.{Sizes}
 use Rattle.grammar.specs.Limits.{maxNonterminals, maxRules}
 use Rattle.grammar.specs.Syntax.{Rule}
 use Rattle.grammar.specs.Encoding.{Parsed, ruleOf, onWord, parse, grammarOf}
-use Rattle.grammar.specs.Reading.{beginsRule}
+use Rattle.grammar.specs.Reading.{reading, beginsRule}
+use Rattle.grammar.specs.declared.reading.Outcome.the-variants.{Read}
 use Rattle.grammar.specs.WellRead.{WellRead}
 use Rattle.grammar.proofs.WellRead.{well-read}
 use Rattle.grammar.proofs.EachIndex.{read-whole}
+use Rattle.lookahead.specs.declared.Lookahead.{Lookahead}
+use Rattle.lookahead.specs.Lookaheads.{tokens, alphabet}
 use Rattle.lookahead.specs.Operations.{concatNumbers}
-use Rattle.lookahead.specs.Elements.{nothing}
 use Rattle.semantics.specs.FirstFollow.{first, follow}
 use Rattle.semantics.proofs.First.{first-lookahead}
 use Rattle.semantics.proofs.Follow.{follow-lookahead}
@@ -31,6 +33,7 @@ use Rattle.sets.specs.First.{bodyFirst, ruleFirst, restOf, noRest}
 use Rattle.sets.proofs.FirstPasses.{Onto}
 use Rattle.sets.proofs.NamedNonterminals.{before-indexed}
 use Rattle.sets.proofs.Numbers.{array-at}
+use Rattle.sets.proofs.FewTerminals.{admitted-read, few-terminals}
 use Rattle.sets.proofs.Words.{parse-before, parse-over}
 use Rattle.table.specs.Claims.{claimNumber, byRule, FamiliesGiven, Kept, kept, MayClaim, WordClaims, Empty, AllKept}
 use Rattle.table.proofs.RuleClaims.{claim-found}
@@ -43,9 +46,9 @@ module _ {w : Word} {behind A : ℕ} (m : MayClaim w behind) (e : w ≡ RuleWord
   pub some-rule : 0 < behind
   some-rule = m .numbered (rw e)
 
-  pub claim-kept : (follows : List ℕ) (meet : ℕ) (heads sets : List ℕ) {claim : ℕ} → claim ≡ concatNumbers meet (getD follows A 0)
-      → WordClaims (ruleHead w) follows meet (kept heads sets behind) (kept (set heads (behind - 1) A) (set sets (behind - 1) claim) (behind - 1))
-  claim-kept follows meet heads sets c = rw e (record { numbered = omega (arith, some-rule); head = refl; claims = ap (set sets (behind - 1)) c })
+  pub claim-kept : (k : Lookahead) (follows : List ℕ) (meet : ℕ) (heads sets : List ℕ) {claim : ℕ} → claim ≡ concatNumbers k meet (getD follows A 0)
+      → WordClaims k (ruleHead w) follows meet (kept heads sets behind) (kept (set heads (behind - 1) A) (set sets (behind - 1) claim) (behind - 1))
+  claim-kept k follows meet heads sets c = rw e (record { numbered = omega (arith, some-rule); head = refl; claims = ap (set sets (behind - 1)) c })
 
 -- the rules behind a word are among those from it on
 rules-more : (w : Word) (p : Parsed) → length (p .rules) ≤ length (onWord w p .rules)
@@ -114,36 +117,39 @@ unfolding byRule
 from-all {f} {rs} k = k .from ∙ ap (λ n. map f rs ++ replicate (maxRules - n) 0) (sym (length-map rs f))
 
 -- the invariant: the words from i on have been gone through
-pub record Claiming (words : List ℕ) (terminals all : ℕ) (firsts : List ℕ) (rest : Rest) (b : Kept) (i : ℕ) : Type 0 where
+pub record Claiming (k : Lookahead) (words : List ℕ) (terminals all : ℕ) (firsts : List ℕ) (rest : Rest) (b : Kept) (i : ℕ) : Type 0 where
   pub within : i ≤ length words
-  pub is : rest ≡ restOf terminals (family firsts) (parse (drop i words))
+  pub is : rest ≡ restOf k terminals (family firsts) (parse (drop i words))
   pub heads : From (λ r. r .head) (parse (drop i words) .rules) all (b .rule) (b .heads)
-  pub claims : From (claimNumber (grammarOf words)) (parse (drop i words) .rules) all (b .rule) (b .sets)
+  pub claims : From (claimNumber k (grammarOf words)) (parse (drop i words) .rules) all (b .rule) (b .sets)
   pub counted : all ≡ b .rule + length (parse (drop i words) .rules)
 
-module _ {words : List ℕ} {z : Sizes} {firsts follows : List ℕ} (g : FamiliesGiven words z firsts follows) where
+module _ {k : Lookahead} {words : List ℕ} {z : Sizes} {firsts follows : List ℕ} (g : FamiliesGiven k words z firsts follows) where
+  pub read : reading words ≡ Read z
+  read = admitted-read k words (g .read)
+
   known : WellRead words z
-  known = well-read words z (g .read)
+  known = well-read words z read
 
   many : grammarOf words .nonterminals ≤ maxNonterminals
   many = omega (arith, known .fewNonterminals, known .nonterminals)
 
-  pub few : grammarOf words .terminals ≤ nothing
-  few = omega (arith, known .fewTerminals, known .terminals)
+  pub few : grammarOf words .terminals ≤ alphabet k
+  few = few-terminals k words (g .read)
 
-  firsts-are : family firsts ≡ firstNumber (grammarOf words)
+  firsts-are : family firsts ≡ firstNumber k (grammarOf words)
   unfolding firstNumber
-  firsts-are = rw (g .first) (fun-ext (array-at (grammarOf words) few (first (grammarOf words) 1) (first-lookahead (grammarOf words) 1) many))
+  firsts-are = rw (g .first) (fun-ext (array-at k (grammarOf words) few (first (grammarOf words) (tokens k)) (first-lookahead (grammarOf words) (tokens k)) many))
 
-  pub follow-is : (A : ℕ) → getD follows A 0 ≡ followNumber (grammarOf words) A
+  pub follow-is : (A : ℕ) → getD follows A 0 ≡ followNumber k (grammarOf words) A
   unfolding followNumber
-  follow-is A = rw (g .follow) (array-at (grammarOf words) few (follow (grammarOf words) 1) (follow-lookahead (grammarOf words) 1) many A)
+  follow-is A = rw (g .follow) (array-at k (grammarOf words) few (follow (grammarOf words) (tokens k)) (follow-lookahead (grammarOf words) (tokens k)) many A)
 
   all-rules : length (grammarOf words .rules) ≡ length (parse words .rules)
-  all-rules = ap length (read-whole words z (g .read) .rules)
+  all-rules = ap length (read-whole words z read .rules)
 
-  pub claiming-start : {rest : Rest} {heads sets : List ℕ} → rest ≡ noRest (z .terminals) → Empty heads → Empty sets
-      → Claiming words (z .terminals) (z .rules) firsts rest (kept heads sets (z .rules)) (length words)
+  pub claiming-start : {rest : Rest} {heads sets : List ℕ} → rest ≡ noRest k (z .terminals) → Empty heads → Empty sets
+      → Claiming k words (z .terminals) (z .rules) firsts rest (kept heads sets (z .rules)) (length words)
   unfolding parse bodyFirst ruleFirst
   claiming-start e none-head none-claim =
       let none = parse-over words (length words) (omega arith) in
@@ -151,11 +157,11 @@ module _ {words : List ℕ} {z : Sizes} {firsts follows : List ℕ} (g : Familie
         within = omega arith;
         is = rw none e;
         heads = rw (none, none-head) (from-none (λ r. r .head) (z .rules) (known .fewRules));
-        claims = rw (none, none-claim) (from-none (claimNumber (grammarOf words)) (z .rules) (known .fewRules));
+        claims = rw (none, none-claim) (from-none (claimNumber k (grammarOf words)) (z .rules) (known .fewRules));
         counted = rw none (omega arith);
       }
 
-  module _ {rest : Rest} {b : Kept} {i : ℕ} (v : Claiming words (z .terminals) (z .rules) firsts rest b i) (h : 0 < i) {w : Word} (e : w ≡ decoded (getD words (i - 1) 0)) where
+  module _ {rest : Rest} {b : Kept} {i : ℕ} (v : Claiming k words (z .terminals) (z .rules) firsts rest b i) (h : 0 < i) {w : Word} (e : w ≡ decoded (getD words (i - 1) 0)) where
     abbrev p : Parsed
     p = parse (drop i words)
 
@@ -178,26 +184,26 @@ module _ {words : List ℕ} {z : Sizes} {firsts follows : List ℕ} (g : Familie
     -- what `claim` requires
     pub may-claim : MayClaim w (b .rule)
     may-claim = record {
-      indexed = before-indexed words (g .read) h (v .within) e;
+      indexed = before-indexed words read h (v .within) e;
       numbered = numbered w refl;
       fewRules = omega (arith, v .counted, known .fewRules);
     }
 
     -- the claim of the rule that begins here
-    claimed : (A : ℕ) → w ≡ RuleWord A → concatNumbers (rest .meet .bits) (getD follows A 0) ≡ claimNumber (grammarOf words) (ruleOf A p)
+    claimed : (A : ℕ) → w ≡ RuleWord A → concatNumbers k (rest .meet .bits) (getD follows A 0) ≡ claimNumber k (grammarOf words) (ruleOf A p)
     unfolding onWord
     claimed A d =
         let r = ruleOf A p in
         let m : List·Memᴰ r (parse (drop (i - 1) words) .rules) = rw (from-here, d) (List·Memᴰ·head refl) in
-        let n : List·Memᴰ r (grammarOf words .rules) = rw (read-whole words z (g .read) .rules) (rule-from (i - 1) words r m) in
-        rw (v .is, known .terminals, firsts-are, follow-is A) (claim-found (grammarOf words) (known .formed) few r n)
+        let n : List·Memᴰ r (grammarOf words .rules) = rw (read-whole words z read .rules) (rule-from (i - 1) words r m) in
+        rw (v .is, known .terminals, firsts-are, follow-is A) (claim-found k (grammarOf words) (known .formed) few r n)
 
-    pub claiming-turn : {next : Rest} (b′ : Kept) → Onto (z .terminals) (family firsts) w rest next
-        → WordClaims (ruleHead w) follows (rest .meet .bits) b b′ → Claiming words (z .terminals) (z .rules) firsts next b′ (i - 1)
+    pub claiming-turn : {next : Rest} (b′ : Kept) → Onto k (z .terminals) (family firsts) w rest next
+        → WordClaims k (ruleHead w) follows (rest .meet .bits) b b′ → Claiming k words (z .terminals) (z .rules) firsts next b′ (i - 1)
     unfolding onWord
     claiming-turn {next} b′ o c = go w refl c
       where
-        same : (w′ : Word) → w ≡ w′ → onWord w′ p .rules ≡ p .rules → b′ ≡ b → Claiming words (z .terminals) (z .rules) firsts next b′ (i - 1)
+        same : (w′ : Word) → w ≡ w′ → onWord w′ p .rules ≡ p .rules → b′ ≡ b → Claiming k words (z .terminals) (z .rules) firsts next b′ (i - 1)
         same w′ d k q =
             let r : parse (drop (i - 1) words) .rules ≡ p .rules = ap (λ x. x .rules) from-here ∙ ap (λ x. onWord x p .rules) d ∙ k in
             record {
@@ -208,8 +214,8 @@ module _ {words : List ℕ} {z : Sizes} {firsts follows : List ℕ} (g : Familie
               counted = rw (q, r) (v .counted);
             }
 
-        go : (w′ : Word) → w ≡ w′ → WordClaims (ruleHead w′) follows (rest .meet .bits) b b′
-            → Claiming words (z .terminals) (z .rules) firsts next b′ (i - 1)
+        go : (w′ : Word) → w ≡ w′ → WordClaims k (ruleHead w′) follows (rest .meet .bits) b b′
+            → Claiming k words (z .terminals) (z .rules) firsts next b′ (i - 1)
         go (RuleWord A) d n =
             let r : parse (drop (i - 1) words) .rules ≡ ruleOf A p ∷ p .rules = rw (from-here, d) in
             let low : b′ .rule < maxRules = omega (arith, n .numbered, v .counted, known .fewRules) in
@@ -228,13 +234,13 @@ module _ {words : List ℕ} {z : Sizes} {firsts follows : List ℕ} (g : Familie
         go Invalid d n = same Invalid d refl n
 
   -- all words have been gone through
-  pub claiming-end : {rest : Rest} {b : Kept} {i : ℕ} → Claiming words (z .terminals) (z .rules) firsts rest b i → i ≤ 0
-      → AllKept (grammarOf words) (b .heads) (b .sets)
+  pub claiming-end : {rest : Rest} {b : Kept} {i : ℕ} → Claiming k words (z .terminals) (z .rules) firsts rest b i → i ≤ 0
+      → AllKept k (grammarOf words) (b .heads) (b .sets)
   claiming-end {b = b} {i} v h =
       let e : i ≡ 0 = omega arith in
       let counted : z .rules ≡ b .rule + length (parse words .rules) = rw e at (v .counted) in
       let first : b .rule ≡ 0 = omega (arith, known .rules, all-rules) in
-      let rules = read-whole words z (g .read) .rules in
+      let rules = read-whole words z read .rules in
       record {
         own = from-all (rw (e, first, ← rules, known .rules) at (v .heads));
         claims = from-all (rw (e, first, ← rules, known .rules) at (v .claims));

@@ -10,12 +10,13 @@ use lib.Dec.{eqb}
 use lib.ListN.{length, getD, getElem?, replicate}
 use Rattle.grammar.specs.Limits.{maxRules}
 use Rattle.grammar.specs.Syntax.{Rule, Grammar}
-use Rattle.lookahead.specs.Elements.{nothing, has}
+use Rattle.lookahead.specs.declared.Lookahead.{Lookahead}
+use Rattle.lookahead.specs.Lookaheads.{tokens, elements, stringOf}
+use Rattle.lookahead.specs.Elements.{has}
 use Rattle.booleans.specs.Quantifiers.{anyOf}
 use Rattle.semantics.specs.FiniteSets.{member, numbersFrom, numbers}
 use Rattle.semantics.specs.FirstFollow.{sameString}
 use Rattle.semantics.specs.Claims.{several, position, claimed, claims, tableOf}
-use Rattle.sets.specs.Sets.{stringOf}
 use Rattle.table.specs.Claims.{claimNumber, headsOf, claimNumbers, byRule, claimant}
 use Rattle.table.proofs.RuleClaims.{claim-has}
 
@@ -71,7 +72,7 @@ module _ {X : Type 0} (p : ℕ → Bool) (f : X → Bool) where
       go true e = refl
       go false e = ap (λ (o : Option ℕ). elim o as (λ _. Option ℕ) [ none ↦ none | some n ↦ some (suc n) ]) e
 
--- for any lookahead: the heads are those of the rules, and the claims have an element just where the rules claim its string
+-- the heads are those of the rules, and the claims have an element just where the rules claim its string
 pub record Told (G : Grammar) (k : ℕ) (heads sets : List ℕ) (l : ℕ) (x : List ℕ) : Type 0 where
   pub own : (q : ℕ) (r : Rule) → getElem? (G .rules) q ≡ some r → getD heads q 0 ≡ r .head
   pub claims : (q : ℕ) (r : Rule) → getElem? (G .rules) q ≡ some r → has (getD sets q 0) l ≡ member sameString (claimed G k r) x
@@ -97,18 +98,19 @@ rule-at f [] z q r e = let n : _≡_ {A = ℕ} 0 1 = cc in absurd (omega arith)
 rule-at f (s ∷ rs) z zero r e = let d : s ≡ r = cc in ap f d
 rule-at f (s ∷ rs) z (suc q) r e = rule-at f rs z q r e
 
--- for one token of lookahead
-module _ (G : Grammar) {heads sets : List ℕ} (h : heads ≡ byRule (headsOf G)) (s : sets ≡ byRule (claimNumbers G)) where
+-- with the heads and the claims of a grammar's rules
+module _ (k : Lookahead) (G : Grammar) {heads sets : List ℕ} (h : heads ≡ byRule (headsOf G)) (s : sets ≡ byRule (claimNumbers k G)) where
   pub heads-own : (q : ℕ) (r : Rule) → getElem? (G .rules) q ≡ some r → getD heads q 0 ≡ r .head
   unfolding byRule
   heads-own q r e = rw h (rule-at (λ r. r .head) (G .rules) (replicate (maxRules - length (headsOf G)) 0) q r e)
 
-  module _ (l : ℕ) (small : l < suc nothing) where
-    sets-have : (q : ℕ) (r : Rule) → getElem? (G .rules) q ≡ some r → has (getD sets q 0) l ≡ member sameString (claimed G 1 r) (stringOf l)
+  module _ (l : ℕ) (small : l < elements k) where
+    sets-have : (q : ℕ) (r : Rule) → getElem? (G .rules) q ≡ some r → has (getD sets q 0) l ≡ member sameString (claimed G (tokens k) r) (stringOf k l)
     unfolding byRule
     sets-have q r e =
-        let n : getD sets q 0 ≡ claimNumber G r = rw s (rule-at (claimNumber G) (G .rules) (replicate (maxRules - length (claimNumbers G)) 0) q r e) in
-        ap (λ x. has x l) n ∙ claim-has G r l small
+        let n : getD sets q 0 ≡ claimNumber k G r =
+        rw s (rule-at (claimNumber k G) (G .rules) (replicate (maxRules - length (claimNumbers k G)) 0) q r e) in
+        ap (λ x. has x l) n ∙ claim-has k G r l small
 
-    pub told : Told G 1 heads sets l (stringOf l)
+    pub told : Told G (tokens k) heads sets l (stringOf k l)
     told = record { own = heads-own; claims = sets-have }

@@ -1,28 +1,26 @@
--- Entries are looked through by nonterminal, then column: the loops' turns, and the first that is found is the first of the clashes.
-use mathlib.Core.Path.{_≡_, refl, sym, ap, ap₂, _∙_}
-use mathlib.Core.Bool.{Bool, true, false, _&&_, _||_}
-use mathlib.Core.List.{List, [], _∷_, _++_, map}
+-- Entries are looked through by nonterminal, then column: the loops' turns, and what is found is the first clash.
+use mathlib.Core.Path.{_≡_, refl, ap, ap₂, _∙_}
+use mathlib.Core.Bool.{Bool, true, false, _||_}
+use mathlib.Core.List.{List, [], _∷_}
 use Prim.Native.Nat.{ℕ, zero, suc, _+_, _-_, _≤_, _<_}
 use native.Mathlib.Numerals.{add-one}
 use native.Mathlib.Omega.{arith}
 use denote.Enum.Declared.{tagOf}
 use types.Run.{OneOf, miss}
 use lib.ListN.{length, getD}
-use Rattle.booleans.specs.Choice.{choose}
 use Rattle.grammar.specs.Syntax.{Grammar}
-use Rattle.lookahead.specs.Elements.{nothing}
+use Rattle.lookahead.specs.declared.Lookahead.{Lookahead}
+use Rattle.lookahead.specs.Lookaheads.{tokens, alphabet}
 use Rattle.lookahead.specs.Operations.{isEmpty}
 use Rattle.lookahead.proofs.Emptiness.{empty-none}
-use Rattle.semantics.specs.FiniteSets.{keep, numbersFrom, numbers, combine}
-use Rattle.semantics.specs.FirstFollow.{strings, sameString, Entry, entries}
-use Rattle.semantics.specs.Claims.{several, claims, overruns, clashes, column}
+use Rattle.semantics.specs.Claims.{several, claims, overruns, clashing}
 use Rattle.table.specs.declared.conflicts.Conflict.{Conflict}
 use Rattle.table.specs.declared.conflicts.Conflict.the-variants.{Absent, At}
-use Rattle.table.specs.Layout.{columnString, columnElement}
+use Rattle.table.specs.Columns.{columnString, columnElement, columns}
 use Rattle.table.specs.Claims.{headsOf, claimNumbers, byRule}
 use Rattle.table.specs.Overruns.{overrunSet}
-use Rattle.table.specs.Conflicts.{firstConflictOf, rowConflict, orLater, conflictFrom, inSet, inSets, claimedTwice, Twice}
-use Rattle.table.proofs.Columns.{column-string, element-small, column-back, columns-strings}
+use Rattle.table.specs.Conflicts.{rowConflict, orLater, conflictFrom, firstClash, inSet, inSets, claimedTwice, Twice}
+use Rattle.table.proofs.ColumnStrings.{column-string, element-small}
 use Rattle.table.proofs.Claimants.{several-claims, told as rules-told}
 use Rattle.table.proofs.OverrunSets.{overrun-column}
 use Rattle.table.proofs.conflicts.Conflict.{the-type}
@@ -84,62 +82,34 @@ twice-claimed element columns n {heads} {sets} {told} {twice} {rules} t =
     let same : inSets element twice ≡ claimedTwice element heads sets told rules = λ i. λ A c. t .each A (element c) i in
     ap (λ p. conflictFrom p columns 0 n) same
 
--- for any lookahead: the strings of the columns in order, and a string's column
-module _ (columns : ℕ) (string : ℕ → List ℕ) (place : List ℕ → ℕ) (back : (c : ℕ) → c < columns → place (string c) ≡ c) (q : Entry → Bool) where
-  first-append : (xs ys : List Entry)
-      → firstConflictOf place (keep q (xs ++ ys)) ≡ orLater (firstConflictOf place (keep q xs)) (firstConflictOf place (keep q ys))
-  unfolding keep
-  first-append [] ys = refl
-  first-append (x ∷ xs) ys = go (q x) (first-append xs ys)
-    where
-      go : (b : Bool) → firstConflictOf place (keep q (xs ++ ys)) ≡ orLater (firstConflictOf place (keep q xs)) (firstConflictOf place (keep q ys))
-          → firstConflictOf place (elim b [ true ↦ x ∷ keep q (xs ++ ys) | false ↦ keep q (xs ++ ys) ])
-          ≡ orLater (firstConflictOf place (elim b [ true ↦ x ∷ keep q xs | false ↦ keep q xs ])) (firstConflictOf place (keep q ys))
-      go true h = refl
-      go false h = h
+-- tests that agree on the entries find the same
+row-same : (p q : ℕ → Bool) (A c n : ℕ) → ((d : ℕ) → d < c + n → p d ≡ q d) → rowConflict p A c n ≡ rowConflict q A c n
+unfolding rowConflict
+row-same p q A c zero h = refl
+row-same p q A c (suc n) h = rw (h c (omega arith), row-same p q A (suc c) n (λ d l. h d (omega arith)))
 
-  module _ (p : ℕ → ℕ → Bool) (rows : ℕ) (same : (A c : ℕ) → A < rows → c < columns → p A c ≡ q (A, string c)) where
-    row-first : (A c n : ℕ) → A < rows → c + n ≤ columns
-        → rowConflict (p A) A c n ≡ firstConflictOf place (keep q (map (λ x. (A, x)) (map string (numbersFrom c n))))
-    unfolding rowConflict keep numbersFrom
-    row-first A c zero a h = refl
-    row-first A c (suc n) a h = rw (same A c a (omega arith), row-first A (suc c) n a (omega arith)) (go (q (A, string c)))
-      where
-        go : (b : Bool) → choose b (At A c) (firstConflictOf place (keep q (map (λ x. (A, x)) (map string (numbersFrom (suc c) n)))))
-            ≡ firstConflictOf place (elim b [
-              | true ↦ (A, string c) ∷ keep q (map (λ x. (A, x)) (map string (numbersFrom (suc c) n)))
-              | false ↦ keep q (map (λ x. (A, x)) (map string (numbersFrom (suc c) n)))
-            ])
-        go true = ap (At A) (sym (back c (omega arith)))
-        go false = refl
+rows-same : (p q : ℕ → ℕ → Bool) (columns rows : ℕ) → ((A c : ℕ) → A < rows → c < columns → p A c ≡ q A c) → (A n : ℕ) → A + n ≤ rows
+    → conflictFrom p columns A n ≡ conflictFrom q columns A n
+unfolding conflictFrom
+rows-same p q columns rows h A zero l = refl
+rows-same p q columns rows h A (suc n) l =
+    rw (row-same (p A) (q A) A 0 columns (λ c b. h A c (omega arith) (omega arith)), rows-same p q columns rows h (suc A) n (omega arith))
 
-    pub rows-first : (A n : ℕ) → A + n ≤ rows
-        → conflictFrom p columns A n ≡ firstConflictOf place (keep q (combine (λ A x. (A, x)) (numbersFrom A n) (map string (numbersFrom 0 columns))))
-    unfolding conflictFrom combine numbersFrom keep
-    rows-first A zero h = refl
-    rows-first A (suc n) h =
-        rw (row-first A 0 columns (omega arith) (omega arith), rows-first (suc A) n (omega arith))
-        (sym (first-append (map (λ x. (A, x)) (map string (numbersFrom 0 columns))) (combine (λ A x. (A, x)) (numbersFrom (suc A) n) (map string (numbersFrom 0 columns)))))
-
--- for one token of lookahead, with the heads and the claims of a grammar's rules, and what is told of its nonterminals that overrun
-pub first-clash : (G : Grammar) → G .terminals ≤ nothing → {heads sets : List ℕ} (told : List ℕ) → heads ≡ byRule (headsOf G) → sets ≡ byRule (claimNumbers G)
-    → ((A : ℕ) → getD told A 0 ≡ overrunSet (overruns G 1 A))
-    → conflictFrom (claimedTwice (columnElement (G .terminals)) heads sets told (length (G .rules))) (suc (G .terminals)) 0 (G .nonterminals)
-    ≡ firstConflictOf (column (G .terminals)) (clashes G 1)
-unfolding clashes entries numbers
-first-clash G few {heads} {sets} told h s o =
-    rw (columns-strings t) (rows-first (suc t) (columnString t) (column t) (λ c b. column-back t c few b)
-    (λ e. several (claims G 1 e) (G .rules) || (overruns G 1 (e .0) && sameString (0 ∷ []) (e .1)))
-    (claimedTwice (columnElement t) heads sets told (length (G .rules))) (G .nonterminals) same 0 (G .nonterminals) (omega arith))
+-- with the heads and the claims of a grammar's rules, and what is told of its nonterminals that overrun
+pub clash-found : (k : Lookahead) (G : Grammar) → G .terminals ≤ alphabet k → {heads sets : List ℕ} (told : List ℕ)
+    → heads ≡ byRule (headsOf G) → sets ≡ byRule (claimNumbers k G)
+    → ((A : ℕ) → A < G .nonterminals → getD told A 0 ≡ overrunSet k (overruns G (tokens k) A))
+    → conflictFrom (claimedTwice (columnElement k (G .terminals)) heads sets told (length (G .rules))) (columns k G) 0 (G .nonterminals) ≡ firstClash k G
+unfolding firstClash
+clash-found k G few {heads} {sets} told h s o = rows-same _ _ (columns k G) (G .nonterminals) same 0 (G .nonterminals) (omega arith)
   where
     t : ℕ
     t = G .terminals
 
-    same : (A c : ℕ) → A < G .nonterminals → c < suc t
-        → claimedTwice (columnElement t) heads sets told (length (G .rules)) A c
-        ≡ (several (claims G 1 (A, columnString t c)) (G .rules) || (overruns G 1 A && sameString (0 ∷ []) (columnString t c)))
+    same : (A c : ℕ) → A < G .nonterminals → c < columns k G
+        → claimedTwice (columnElement k t) heads sets told (length (G .rules)) A c ≡ clashing G (tokens k) (A, columnString k t c)
     same A c a b =
         ap₂ _||_
-        (several-claims (rules-told G h s (columnElement t c) (element-small t c few b)) A
-        ∙ ap (λ x. several (claims G 1 (A, x)) (G .rules)) (column-string t c few b))
-        (rw (o A) (overrun-column (overruns G 1 A) t c few b))
+        (several-claims (rules-told k G h s (columnElement k t c) (element-small k t c few b)) A
+        ∙ ap (λ x. several (claims G (tokens k) (A, x)) (G .rules)) (column-string k t c few b))
+        (rw (o A a) (overrun-column k (overruns G (tokens k) A) t c few b))

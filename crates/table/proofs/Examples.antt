@@ -1,27 +1,32 @@
--- The first and follow sets of document 01's grammars R, M and E, as numbers, and the words of their tables, by computation.
-use mathlib.Core.List.{List, [], _∷_}
+-- The first and follow sets of document 01's grammars R, M and E, as numbers, the words of their tables, and clashes, by computation.
+use mathlib.Core.List.{List, [], _∷_, _++_}
 use mathlib.Core.Path.{_≡_, refl}
 use mathlib.Core.Option.{some}
 use Prim.Native.Nat.{ℕ}
+use lib.ListN.{replicate}
 use Rattle.answer.specs.declared.Error.the-variants.{LeftRecursive}
+use Rattle.word.specs.declared.Symbol.{Symbol}
 use Rattle.word.specs.declared.Symbol.the-variants.{Terminal, Nonterminal}
 use Rattle.grammar.specs.Codes.{noEntry}
 use Rattle.grammar.specs.Cards.{grammarR, grammarM, grammarE}
 use Rattle.grammar.specs.Syntax.{Body, Rule, Grammar}
 use Rattle.lookahead.specs.Elements.{total}
 use Rattle.semantics.specs.FirstFollow.{first, follow}
-use Rattle.semantics.specs.Claims.{clashes, column, tableOf}
+use Rattle.semantics.specs.Claims.{clashes, tableOf}
 use Rattle.semantics.specs.LeftRecursion.{lowestLeftRecursive}
 use Rattle.semantics.proofs.Computing.{tables-compute, left-recursion-computes}
-use Rattle.table.specs.declared.conflicts.Conflict.the-variants.{At}
+use Rattle.table.specs.declared.conflicts.Conflict.the-variants.{Absent, At}
 use Rattle.sets.specs.Lists.{listed}
-use Rattle.sets.specs.Sets.{stringOf, numberOf, firstNumber, followNumber}
-use Rattle.table.specs.Layout.{columnString, entryAt, setWord, rowWord, tableWords}
-use Rattle.table.specs.Conflicts.{firstConflictOf}
+use Rattle.lookahead.specs.declared.Lookahead.the-variants.{One, Two}
+use Rattle.lookahead.specs.Lookaheads.{stringOf}
+use Rattle.sets.specs.Sets.{numberOf, firstNumber, followNumber}
+use Rattle.table.specs.Columns.{columnString}
+use Rattle.table.specs.Layout.{entryAt, setWord, rowWord, tableWords}
+use Rattle.table.specs.Conflicts.{rowConflict, conflictFrom, firstClash}
 use Rattle.sets.specs.Analysis.{leftFault}
 
 abbrev numbers : Grammar → List ℕ × List ℕ
-numbers G = (listed (G .nonterminals) (firstNumber G), listed (G .nonterminals) (followNumber G))
+numbers G = (listed (G .nonterminals) (firstNumber One G), listed (G .nonterminals) (followNumber One G))
 
 sheets : _≡_ {A = List (List ℕ × List ℕ)} (numbers grammarR ∷ numbers grammarM ∷ numbers grammarE ∷ []) (
     (16777217 ∷ [], 16777216 ∷ [])
@@ -32,7 +37,7 @@ unfolding tables-compute listed total stringOf numberOf firstNumber followNumber
 sheets = refl
 
 -- the words of their tables: the sets, and the rows
-tables : _≡_ {A = List (List ℕ)} (tableWords grammarR ∷ tableWords grammarM ∷ tableWords grammarE ∷ []) (
+tables : _≡_ {A = List (List ℕ)} (tableWords One grammarR ∷ tableWords One grammarM ∷ tableWords One grammarE ∷ []) (
     (16777217 ∷ 16777216 ∷ 0 ∷ 1 ∷ [])
     ∷ (16777219 ∷ 16777216 ∷ 16777217 ∷ 16777218 ∷ 16777217 ∷ 16777222 ∷ 16777220 ∷ 16777216 ∷ 16777218 ∷ 16777220
     ∷ 0 ∷ 0 ∷ noEntry ∷ 0 ∷ 1 ∷ 2 ∷ noEntry ∷ 2 ∷ 3 ∷ 4 ∷ 4 ∷ 4 ∷ noEntry ∷ noEntry ∷ 5 ∷ 6 ∷ noEntry ∷ 7 ∷ 8 ∷ 8 ∷ [])
@@ -66,17 +71,46 @@ notABefore = record {
 abbrev notAWhole : Grammar
 notAWhole = record { nonterminals = 1; terminals = 1; rules = notA 0 ∷ [] }
 
-overruns : firstConflictOf (column 2) (clashes notABefore 1) ≡ At 1 0
-unfolding tables-compute clashes
+overruns : firstClash One notABefore ≡ At 1 0
+unfolding tables-compute rowConflict conflictFrom firstClash columnString
 overruns = refl
 
-takes-all : (clashes notAWhole 1 ≡ []) × (tableWords notAWhole ≡ 16777217 ∷ 16777216 ∷ 0 ∷ 0 ∷ [])
+takes-all : (clashes notAWhole 1 ≡ []) × (tableWords One notAWhole ≡ 16777217 ∷ 16777216 ∷ 0 ∷ 0 ∷ [])
 unfolding tables-compute listed total stringOf numberOf firstNumber followNumber first follow tableWords setWord rowWord entryAt columnString tableOf clashes
 takes-all = (refl, refl)
 
-claimed-twice : firstConflictOf (column 1) (clashes twiceA 1) ≡ At 0 0
-unfolding tables-compute clashes
+claimed-twice : firstClash One twiceA ≡ At 0 0
+unfolding tables-compute rowConflict conflictFrom firstClash columnString
 claimed-twice = refl
+
+-- with two tokens of lookahead: rules that differ in their second terminal alone, which one token refuses
+abbrev ruleOf : List Symbol → Rule
+ruleOf b = record { head = 0; positives = b ∷ []; negatives = [] }
+
+abbrev secondTells : Grammar
+secondTells = record { nonterminals = 1; terminals = 3; rules = ruleOf (Terminal 0 ∷ Terminal 1 ∷ []) ∷ ruleOf (Terminal 0 ∷ Terminal 2 ∷ []) ∷ [] }
+
+one-refuses : firstClash One secondTells ≡ At 0 0
+unfolding tables-compute rowConflict conflictFrom firstClash columnString
+one-refuses = refl
+
+two-takes : (firstClash Two secondTells ≡ Absent)
+    × (tableWords Two secondTells ≡ 1536 ∷ 1 ∷ (replicate 9 noEntry ++ 0 ∷ 1 ∷ replicate 46 noEntry))
+unfolding tables-compute rowConflict conflictFrom firstClash listed total stringOf numberOf firstNumber followNumber first follow tableWords setWord rowWord entryAt columnString tableOf
+two-takes = (refl, refl)
+
+-- and the first clash is that of terminal 0 at the end, before that of terminals 0 and 1, though strings are listed the other way round
+abbrev twiceOrMore : Grammar
+twiceOrMore = record {
+  nonterminals = 2;
+  terminals = 2;
+  rules = ruleOf (Terminal 0 ∷ Nonterminal 1 ∷ []) ∷ ruleOf (Terminal 0 ∷ Nonterminal 1 ∷ [])
+      ∷ record { head = 1; positives = [] ∷ []; negatives = [] } ∷ record { head = 1; positives = (Terminal 1 ∷ []) ∷ []; negatives = [] } ∷ [];
+}
+
+by-column : (firstClash Two twiceOrMore ≡ At 0 1) × (clashes twiceOrMore 2 ≡ (0, 0 ∷ 1 ∷ []) ∷ (0, 0 ∷ []) ∷ [])
+unfolding tables-compute rowConflict conflictFrom firstClash stringOf columnString clashes
+by-column = (refl, refl)
 
 reaches-itself : leftFault (lowestLeftRecursive notItself) ≡ some (LeftRecursive 0)
 unfolding left-recursion-computes lowestLeftRecursive

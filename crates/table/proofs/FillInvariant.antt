@@ -8,16 +8,18 @@ use Prim.Native.Nat.{ℕ, suc, _+_, _-_, _*_, _≤_, _<_}
 use native.Mathlib.Decide.{ℕ-discrete, decLt}
 use native.Mathlib.Nat.{suc-mul, mul-le-mul, mul-le-mul-right}
 use native.Mathlib.Omega.{arith}
-use lib.Arith.{digits-lt}
 use lib.ListN.{getD}
 use Rattle.booleans.specs.Choice.{choose}
-use Rattle.grammar.specs.Limits.{maxColumns, maxTableWords}
+use Rattle.grammar.specs.Limits.{maxNonterminals, maxWideColumns, maxEntries}
 use Rattle.grammar.specs.declared.reading.Sizes.{Sizes}
+use Rattle.lookahead.specs.declared.Lookahead.{Lookahead}
 use Rattle.lookahead.specs.Elements.{has}
 use Rattle.semantics.specs.FiniteSets.{numbersFrom, numbers}
 use Rattle.semantics.specs.Claims.{position}
+use Rattle.table.specs.Columns.{columnCount}
 use Rattle.table.specs.Claims.{claimant}
-use Rattle.table.specs.Entries.{Rows, wordOf, Beyond, entryOver, FilledRow, FilledRows, RowsGiven}
+use Rattle.table.specs.Entries.{Rows, indexOf, entryOver, FilledRow, FilledRows, RowsGiven}
+use Rattle.table.proofs.ColumnStrings.{column-count}
 use Rattle.table.proofs.Claimants.{claimant-own, claimant-other, numbers-before}
 
 -- a list whose first member passes, or does not
@@ -47,28 +49,26 @@ other-row A B c n h ne = go (decLt A B)
 -- before the last rule nothing is written
 rows-none : (R : Rows) (heads sets : List ℕ) (q : ℕ) (table : List ℕ) → FilledRows R heads sets q [] table table
 unfolding position
-rows-none R heads sets q table = record { long = refl; entries = λ A c _ _. refl; outside = λ i _. refl }
+rows-none R heads sets q table = record { long = refl; entries = λ A c _ _. refl; behind = λ i _. refl }
 
 -- one rule more
 module _ {R : Rows} {heads sets : List ℕ} (q : ℕ) {rules before table table′ : List ℕ} (f : FilledRows R heads sets (suc q) rules before table)
     (own : getD heads q 0 < R .rows)
-    (w : FilledRow table (R .base + getD heads q 0 * R .columns) (R .element) (R .columns) (getD sets q 0) q table′) where
+    (w : FilledRow table (getD heads q 0 * R .columns) (R .element) (R .columns) (getD sets q 0) q table′) where
   abbrev head : ℕ
   head = getD heads q 0
 
   own-row : (c : ℕ) → c < R .columns
-      → getD table′ (wordOf R head c) 0 ≡ entryOver q (getD before (wordOf R head c) 0) (position (claimant heads sets head (R .element c)) (q ∷ rules))
-  own-row c h =
-      let i : R .base + head * R .columns + c ≡ wordOf R head c = omega arith in
-      (rw (i, ← claimant-own heads sets (R .element c) q) at (w .inside c h)) ∙ go (p q) refl
+      → getD table′ (indexOf R head c) 0 ≡ entryOver q (getD before (indexOf R head c) 0) (position (claimant heads sets head (R .element c)) (q ∷ rules))
+  own-row c h = (rw (← claimant-own heads sets (R .element c) q) at (w .inside c h)) ∙ go (p q) refl
     where
       p : ℕ → Bool
       p = claimant heads sets head (R .element c)
 
       old : ℕ
-      old = getD before (wordOf R head c) 0
+      old = getD before (indexOf R head c) 0
 
-      go : (b : Bool) → p q ≡ b → choose b q (getD table (wordOf R head c) 0) ≡ entryOver q old (position p (q ∷ rules))
+      go : (b : Bool) → p q ≡ b → choose b q (getD table (indexOf R head c) 0) ≡ entryOver q old (position p (q ∷ rules))
       go true e = position-first p q rules q old e
       go false e = f .entries head c own h ∙ position-later p q rules q old e
 
@@ -76,33 +76,25 @@ module _ {R : Rows} {heads sets : List ℕ} (q : ℕ) {rules before table table�
   rows-rule = record {
     long = w .long ∙ f .long;
     entries = λ A c a h. at-row A c a h (ℕ-discrete A head);
-    outside = λ i o. w .outside i (beyond i o) ∙ f .outside i o;
+    behind = λ i o. w .outside i (inr (omega (arith, suc-mul head (R .columns), mul-le-mul-right (R .columns) own))) ∙ f .behind i o;
   }
     where
       at-row : (A c : ℕ) → A < R .rows → c < R .columns → Dec (A ≡ head)
-          → getD table′ (wordOf R A c) 0 ≡ entryOver q (getD before (wordOf R A c) 0) (position (claimant heads sets A (R .element c)) (q ∷ rules))
+          → getD table′ (indexOf R A c) 0 ≡ entryOver q (getD before (indexOf R A c) 0) (position (claimant heads sets A (R .element c)) (q ∷ rules))
       at-row A c a h (yes e) = rw e (own-row c h)
       at-row A c a h (no ne) =
-          w .outside (wordOf R A c) (apart (other-row A head c (R .columns) h ne)) ∙ f .entries A c a h
-          ∙ position-later (claimant heads sets A (R .element c)) q rules q (getD before (wordOf R A c) 0) (claimant-other heads sets A (R .element c) q ne)
-        where
-          apart : (A * R .columns + c < head * R .columns) ⊎ (head * R .columns + R .columns ≤ A * R .columns + c)
-              → (wordOf R A c < R .base + head * R .columns) ⊎ (R .base + head * R .columns + R .columns ≤ wordOf R A c)
-          apart (inl l) = inl (omega arith)
-          apart (inr l) = inr (omega arith)
+          w .outside (indexOf R A c) (other-row A head c (R .columns) h ne) ∙ f .entries A c a h
+          ∙ position-later (claimant heads sets A (R .element c)) q rules q (getD before (indexOf R A c) 0) (claimant-other heads sets A (R .element c) q ne)
 
-      beyond : (i : ℕ) → Beyond R i → (i < R .base + head * R .columns) ⊎ (R .base + head * R .columns + R .columns ≤ i)
-      beyond i (inl l) = inl (omega arith)
-      beyond i (inr l) = inr (omega (arith, suc-mul head (R .columns), mul-le-mul-right (R .columns) own))
-
--- a rule's row is in the memory
-pub row-room : {z : Sizes} {heads table : List ℕ} → RowsGiven z heads table → (q : ℕ) → q < z .rules
-    → 2 * z .nonterminals + getD heads q 0 * (z .terminals + 1) + z .terminals < maxTableWords
-row-room {z} g q h =
-    let l : z .terminals + 1 ≤ maxColumns = omega (arith, g .fewTerminals) in
-    let k : z .terminals < z .terminals + 1 = omega arith in
-    let n = g .headed .allowed in
-    omega (arith, digits-lt (g .headed .own q h) k, mul-le-mul n l)
+-- a rule's row is in the array
+pub row-room : {k : Lookahead} {z : Sizes} {heads : List ℕ} → RowsGiven k z heads → (q : ℕ) → q < z .rules
+    → getD heads q 0 * columnCount k (z .terminals) + columnCount k (z .terminals) ≤ maxEntries
+row-room {k} {z} {heads} g q h =
+    let n = columnCount k (z .terminals) in
+    let l : n ≤ maxWideColumns = column-count k (z .terminals) (g .fewTerminals) in
+    let own = g .headed .own q h in
+    let below : suc (getD heads q 0) ≤ maxNonterminals = omega (arith, g .headed .allowed) in
+    omega (arith, suc-mul (getD heads q 0) n, mul-le-mul below l)
 
 -- the same in the loop's numbers, of n rules
 module _ {R : Rows} {heads sets before : List ℕ} where
@@ -112,7 +104,7 @@ module _ {R : Rows} {heads sets before : List ℕ} where
 
   pub rows-turn : {table table′ : List ℕ} (q n : ℕ) → FilledRows R heads sets q (numbersFrom q (n - q)) before table → 0 < q → q ≤ n
       → getD heads (q - 1) 0 < R .rows
-      → FilledRow table (R .base + getD heads (q - 1) 0 * R .columns) (R .element) (R .columns) (getD sets (q - 1) 0) (q - 1) table′
+      → FilledRow table (getD heads (q - 1) 0 * R .columns) (R .element) (R .columns) (getD sets (q - 1) 0) (q - 1) table′
       → FilledRows R heads sets (q - 1) (numbersFrom (q - 1) (n - (q - 1))) before table′
   rows-turn {table} q n f h k own w =
       let e : q ≡ suc (q - 1) = omega arith in

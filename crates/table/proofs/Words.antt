@@ -1,51 +1,62 @@
--- The words of the table: how many they are, and where an entry stands in the memory that they fill.
-use mathlib.Core.Path.{_≡_, ap, _∙_}
-use mathlib.Core.List.{_++_}
-use Prim.Native.Nat.{ℕ, _+_, _-_, _*_, _<_}
+-- The words of the table: how many they are, which is which, and where an entry stands in the memory that they fill.
+use mathlib.Core.Path.{_≡_, sym, ap, _∙_}
+use mathlib.Core.List.{List, _++_}
+use Prim.Native.Nat.{ℕ, _+_, _*_, _<_}
 use native.Mathlib.Nat.{mul-add}
-use native.Mathlib.Numerals.{add-one}
 use native.Mathlib.Omega.{arith}
 use lib.Arith.{digits-lt, digits-div, digits-mod}
-use lib.ListN.{length, getD, replicate, length-append, List·getD-append}
+use lib.ListN.{length, getD, length-append, List·getD-append}
 use lib.Seq.{getD-append-add}
 use Rattle.grammar.specs.Codes.{noEntry}
-use Rattle.grammar.specs.Limits.{maxTableWords}
 use Rattle.grammar.specs.Syntax.{Grammar}
+use Rattle.lookahead.specs.declared.Lookahead.{Lookahead}
 use Rattle.sets.specs.Lists.{listed}
 use Rattle.sets.proofs.Lists.{listed-long, listed-at}
-use Rattle.table.specs.Layout.{columns, entryAt, setWord, rowWord, tableWords}
-use Rattle.table.specs.Entries.{filled}
+use Rattle.table.specs.Columns.{columns}
+use Rattle.table.specs.Layout.{entryAt, setWord, rowWord, tableWords, tableRoom, filled}
+use Rattle.table.proofs.Padded.{padded-in}
 
-pub table-length : (G : Grammar) → length (tableWords G) ≡ 2 * G .nonterminals + G .nonterminals * columns G
-unfolding tableWords
-table-length G =
-    let sum = length-append (listed (2 * G .nonterminals) (setWord G)) (listed (G .nonterminals * columns G) (rowWord G)) in
-    omega (arith, listed-long (2 * G .nonterminals) (setWord G), listed-long (G .nonterminals * columns G) (rowWord G))
+module _ (k : Lookahead) (G : Grammar) where
+  abbrev setCount : ℕ
+  setCount = 2 * G .nonterminals
 
--- the same as one product
-pub table-long : (G : Grammar) → length (tableWords G) ≡ G .nonterminals * (G .terminals + 3)
-table-long G =
-    let m = mul-add (G .nonterminals) (G .terminals) 3 in
-    let k = mul-add (G .nonterminals) (G .terminals) 1 in
-    let c : G .nonterminals * columns G ≡ G .nonterminals * (G .terminals + 1) = rw (add-one (G .terminals)) in
-    table-length G ∙ omega arith
+  abbrev rowCount : ℕ
+  rowCount = G .nonterminals * columns k G
 
--- the entries of a grammar in its filled table
-pub filled-entries : (G : Grammar) (A c : ℕ) → A < G .nonterminals → c < columns G
-    → getD (filled (tableWords G)) (2 * G .nonterminals + A * columns G + c) 0 ≡ entryAt G A c
-unfolding filled tableWords rowWord
-filled-entries G A c a h =
-    let sets = listed (2 * G .nonterminals) (setWord G) in
-    let rows = listed (G .nonterminals * columns G) (rowWord G) in
-    let behind = replicate (maxTableWords - length (sets ++ rows)) noEntry in
-    let i = A * columns G + c in
-    let low : i < G .nonterminals * columns G = digits-lt a h in
-    let n = listed-long (2 * G .nonterminals) (setWord G) in
-    let m = listed-long (G .nonterminals * columns G) (rowWord G) in
-    let long : length sets + i < length (sets ++ rows) = rw length-append (omega arith) in
-    let place : 2 * G .nonterminals + A * columns G + c ≡ length sets + i = omega arith in
-    ap (λ k. getD ((sets ++ rows) ++ behind) k 0) place
-    ∙ List·getD-append (sets ++ rows) behind 0 (length sets + i) long
-    ∙ getD-append-add sets rows i 0
-    ∙ listed-at (G .nonterminals * columns G) (rowWord G) i low
-    ∙ rw (digits-div A h, digits-mod A h)
+  pub table-length : length (tableWords k G) ≡ 2 * G .nonterminals + G .nonterminals * columns k G
+  unfolding tableWords
+  table-length =
+      let sum = length-append (listed setCount (setWord k G)) (listed rowCount (rowWord k G)) in
+      omega (arith, listed-long setCount (setWord k G), listed-long rowCount (rowWord k G))
+
+  -- the same as one product
+  pub table-long : length (tableWords k G) ≡ G .nonterminals * (2 + columns k G)
+  table-long = table-length ∙ omega (arith, mul-add (G .nonterminals) 2 (columns k G))
+
+  -- the sets, and the entries behind them
+  pub table-set : (i : ℕ) → i < 2 * G .nonterminals → getD (tableWords k G) i 0 ≡ setWord k G i
+  unfolding tableWords
+  table-set i h =
+      List·getD-append (listed setCount (setWord k G)) (listed rowCount (rowWord k G)) 0 i (omega (arith, listed-long setCount (setWord k G)))
+      ∙ listed-at setCount (setWord k G) i h
+
+  pub table-row : (i : ℕ) → i < G .nonterminals * columns k G → getD (tableWords k G) (2 * G .nonterminals + i) 0 ≡ rowWord k G i
+  unfolding tableWords
+  table-row i h =
+      let place : 2 * G .nonterminals + i ≡ length (listed setCount (setWord k G)) + i = omega (arith, listed-long setCount (setWord k G)) in
+      ap (λ j. getD (listed setCount (setWord k G) ++ listed rowCount (rowWord k G)) j 0) place
+      ∙ getD-append-add (listed setCount (setWord k G)) (listed rowCount (rowWord k G)) i 0
+      ∙ listed-at rowCount (rowWord k G) i h
+
+  -- the entries of a grammar in its filled table
+  pub filled-entries : (A c : ℕ) → A < G .nonterminals → c < columns k G
+      → getD (filled k (tableWords k G)) (2 * G .nonterminals + A * columns k G + c) 0 ≡ entryAt k G A c
+  unfolding filled rowWord
+  filled-entries A c a h =
+      let i = A * columns k G + c in
+      let low : i < G .nonterminals * columns k G = digits-lt a h in
+      let place : 2 * G .nonterminals + A * columns k G + c ≡ 2 * G .nonterminals + i = omega arith in
+      ap (λ j. getD (filled k (tableWords k G)) j 0) place
+      ∙ padded-in (tableRoom k) noEntry (tableWords k G) (2 * G .nonterminals + i) (omega (arith, table-length))
+      ∙ table-row i low
+      ∙ rw (digits-div A h, digits-mod A h)

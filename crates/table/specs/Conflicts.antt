@@ -1,25 +1,25 @@
--- The first entry that two rules claim or that is told of a nonterminal, by nonterminal, then column.
+-- The first clash, by nonterminal, then column: an entry that two rules claim or that is told of a nonterminal that overruns.
 use mathlib.Core.Path.{_≡_}
 use mathlib.Core.Bool.{Bool, _||_}
-use mathlib.Core.List.{List, [], _∷_}
-use Prim.Native.Nat.{ℕ, zero, suc}
+use mathlib.Core.List.{List}
+use mathlib.Core.Logic.{_⊎_}
+use Prim.Native.Nat.{ℕ, zero, suc, _≤_, _<_}
 use lib.ListN.{getD, set}
 use Rattle.booleans.specs.Choice.{choose}
+use Rattle.grammar.specs.Syntax.{Grammar}
 use Rattle.grammar.specs.declared.reading.Sizes.{Sizes}
+use Rattle.lookahead.specs.declared.Lookahead.{Lookahead}
+use Rattle.lookahead.specs.Lookaheads.{tokens}
 use Rattle.lookahead.specs.Elements.{has}
 use Rattle.lookahead.specs.Operations.{join, meet}
 use Rattle.semantics.specs.FiniteSets.{numbers}
-use Rattle.semantics.specs.FirstFollow.{Entry}
-use Rattle.semantics.specs.Claims.{several}
+use Rattle.semantics.specs.Families.{Clash}
+use Rattle.semantics.specs.FirstFollow.{First, Follow}
+use Rattle.semantics.specs.Claims.{several, clashing}
 use Rattle.table.specs.declared.conflicts.Conflict.{Conflict}
 use Rattle.table.specs.declared.conflicts.Conflict.the-variants.{Absent, At}
-use Rattle.table.specs.Layout.{columnElement}
+use Rattle.table.specs.Columns.{columnCount, columnElement, columnString, columnOf, columns}
 use Rattle.table.specs.Claims.{claimant}
-
--- the first of a list of entries, where a string's column is known (document 01: the first such cell)
-abbrev pub firstConflictOf : (List ℕ → ℕ) → List Entry → Conflict
-firstConflictOf column [] = Absent
-firstConflictOf column (e ∷ es) = At (e .0) (column (e .1))
 
 -- the first of n columns of A, from one on, that passes a test
 unfoldable pub rowConflict : (ℕ → Bool) → ℕ → ℕ → ℕ → Conflict
@@ -35,7 +35,21 @@ unfoldable pub conflictFrom : (ℕ → ℕ → Bool) → ℕ → ℕ → ℕ →
 conflictFrom p columns A zero = Absent
 conflictFrom p columns A (suc n) = orLater (rowConflict (p A) A 0 columns) (conflictFrom p columns (suc A) n)
 
--- the columns whose elements are in a set, and the entries whose elements are in a family of sets
+-- the first entry that clashes (document 01: the first such cell)
+unfoldable pub firstClash : Lookahead → Grammar → Conflict
+firstClash k G = conflictFrom (λ A c. clashing G (tokens k) (A, columnString k (G .terminals) c)) (columns k G) 0 (G .nonterminals)
+
+abbrev pub ClashAt : Lookahead → Grammar → ℕ → List ℕ → Type 0
+ClashAt k G = Clash G (tokens k) (First G (tokens k)) (Follow G (tokens k))
+
+-- what that means: a clash in column c of A, and none before it, by nonterminal, then column (documents 01 and 02: the place of 9)
+pub record FirstClash (k : Lookahead) (G : Grammar) (A c : ℕ) : Type 0 where
+  pub string : List ℕ
+  pub clash : ClashAt k G A string
+  pub stands : columnOf k (G .terminals) string ≡ c
+  pub first : (B : ℕ) (x : List ℕ) → ClashAt k G B x → (A < B) ⊎ ((A ≡ B) × (c ≤ columnOf k (G .terminals) x))
+
+-- As the code finds it: the columns whose elements are in a set, and the entries whose elements are in a family of sets
 abbrev pub inSet : (ℕ → ℕ) → ℕ → ℕ → Bool
 inSet element s c = has s (element c)
 
@@ -46,9 +60,9 @@ inSets element sets A = inSet element (getD sets A 0)
 abbrev pub claimedTwice : (ℕ → ℕ) → List ℕ → List ℕ → List ℕ → ℕ → ℕ → ℕ → Bool
 claimedTwice element heads sets told rules A c = several (claimant heads sets A (element c)) (numbers rules) || inSets element told A c
 
-abbrev pub conflictOf : Sizes → List ℕ → List ℕ → List ℕ → Conflict
-conflictOf z heads sets told =
-    conflictFrom (claimedTwice (columnElement (z .terminals)) heads sets told (z .rules)) (suc (z .terminals)) 0 (z .nonterminals)
+abbrev pub conflictOf : Lookahead → Sizes → List ℕ → List ℕ → List ℕ → Conflict
+conflictOf k z heads sets told =
+    conflictFrom (claimedTwice (columnElement k (z .terminals)) heads sets told (z .rules)) (columnCount k (z .terminals)) 0 (z .nonterminals)
 
 -- a claim is joined to the sets claimed once and twice
 pub record Noted (once twice : List ℕ) (head claim : ℕ) (once′ twice′ : List ℕ) : Type 0 where

@@ -1,6 +1,7 @@
+pub mod Columns
 pub mod Layout
 pub mod Overruns
 pub mod Claims
-pub mod Conflicts
 pub mod Entries
+pub mod Conflicts
 pub mod Analysis

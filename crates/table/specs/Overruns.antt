@@ -3,7 +3,7 @@ use mathlib.Core.Path.{_≡_}
 use mathlib.Core.Bool.{Bool, true, false, not, _&&_}
 use mathlib.Core.List.{List}
 use mathlib.Core.Option.{Option, none, some}
-use Prim.Native.Nat.{ℕ, _-_, _<_}
+use Prim.Native.Nat.{ℕ, _<_}
 use lib.Dec.{eqb}
 use lib.ListN.{length, getD, set}
 use Rattle.booleans.specs.Choice.{choose}
@@ -13,25 +13,22 @@ use Rattle.word.specs.declared.Word.the-variants.{Heading, Rule as RuleWord, Po
 use Rattle.word.specs.Words.{decoded}
 use Rattle.grammar.specs.Limits.{maxNonterminals}
 use Rattle.grammar.specs.Syntax.{Rule}
-use Rattle.lookahead.specs.Elements.{nothing, weight}
-use Rattle.lookahead.specs.Operations.{empty, isEmpty, terminal, meet}
+use Rattle.lookahead.specs.declared.Lookahead.{Lookahead}
+use Rattle.lookahead.specs.Operations.{empty, end, terminal, join}
 use Rattle.semantics.specs.Claims.{without}
 use Rattle.sets.specs.Naming.{Indexed}
 
-abbrev pub everyTerminal : ℕ
-everyTerminal = weight nothing - 1
-
 -- a set has more than nothing
-unfoldable pub beyondEnd : ℕ → Bool
-beyondEnd s = not (isEmpty (meet s everyTerminal))
+unfoldable pub beyondEnd : Lookahead → ℕ → Bool
+beyondEnd k s = not (eqb (join (end k) s) (end k))
 
 -- one of the rules is A's, and has no positives
 unfoldable pub aloneIn : ℕ → List Rule → Bool
 aloneIn A rs = anyOf (λ r. eqb (r .head) A && without (r .positives)) rs
 
 -- the set that is told of a nonterminal: the first terminal where it overruns, else empty
-abbrev pub overrunSet : Bool → ℕ
-overrunSet b = choose b (terminal 0) empty
+abbrev pub overrunSet : Lookahead → Bool → ℕ
+overrunSet k b = choose b (terminal k 0) empty
 
 -- whether the rule that is open has no positives from a word on
 abbrev pub aloneFrom : Word → Bool → Bool
@@ -44,16 +41,16 @@ aloneFrom (Heading n t) b = b
 aloneFrom Invalid b = b
 
 -- by the word in front: only where a rule begins is anything told, and that of its head
-abbrev pub WordOverruns : Option ℕ → Bool → List ℕ → List ℕ → List ℕ → Type 0
-WordOverruns none alone follows before after = after ≡ before
-WordOverruns (some A) alone follows before after =
-    after ≡ set before A (choose (alone && beyondEnd (getD follows A 0)) (terminal 0) (getD before A 0))
+abbrev pub WordOverruns : Lookahead → Option ℕ → Bool → List ℕ → List ℕ → List ℕ → Type 0
+WordOverruns k none alone follows before after = after ≡ before
+WordOverruns k (some A) alone follows before after =
+    after ≡ set before A (choose (alone && beyondEnd k (getD follows A 0)) (terminal k 0) (getD before A 0))
 
 -- an array of sets has one for what each word names
 abbrev pub WordsIndexed : List ℕ → Type 0
 WordsIndexed words = (i : ℕ) → i < length words → Indexed (decoded (getD words i 0))
 
 -- for each nonterminal the set that is told of it, by the rules
-pub record Overrunning (rules : List Rule) (follows overruns : List ℕ) : Type 0 where
+pub record Overrunning (k : Lookahead) (rules : List Rule) (follows overruns : List ℕ) : Type 0 where
   pub long : length overruns ≡ maxNonterminals
-  pub each : (A : ℕ) → getD overruns A 0 ≡ overrunSet (aloneIn A rules && beyondEnd (getD follows A 0))
+  pub each : (A : ℕ) → getD overruns A 0 ≡ overrunSet k (aloneIn A rules && beyondEnd k (getD follows A 0))

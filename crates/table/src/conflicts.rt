@@ -1,19 +1,22 @@
 // Conflicts: the first entry that two rules claim, read off what each rule claims, or that is told of a nonterminal that overruns.
 ghost use mathlib.Core.Path.{_≡_};
-ghost use Prim.Native.Nat.{suc, _≤_, _<_};
+ghost use Prim.Native.Nat.{_≤_, _<_};
 ghost use lib.ListN.{length};
-ghost use Rattle.grammar.specs.Limits.{maxNonterminals, maxTerminals};
-ghost use Rattle.table.specs.Layout.{columnElement};
+ghost use Rattle.grammar.specs.Limits.{maxNonterminals};
+ghost use Rattle.lookahead.specs.Lookaheads.{alphabet};
+ghost use Rattle.table.specs.Columns.{columnCount, columnElement};
 ghost use Rattle.table.specs.Claims.{Headed};
 ghost use Rattle.table.specs.Conflicts.{rowConflict, conflictFrom, inSet, inSets, conflictOf, Noted, Twice};
-use super::layout::element;
+use super::columns::count;
+use super::columns::element;
 use grammar::limits::RULES;
 use grammar::reading::Sizes;
+use lookahead::Lookahead;
 use lookahead::LookaheadSet;
 use sets::family::SETS;
 
 // By nonterminal, then by column.
-pub(crate) enum Conflict {
+pub enum Conflict {
     Absent,
     At { nonterminal: u8, column: u8 },
 }
@@ -51,16 +54,22 @@ fn claimed_twice(
 }
 
 // The first column of a nonterminal whose element is in a set.
-fn first_column(nonterminal: u8, set: LookaheadSet, terminals: u32) -> Conflict
-    requires { ⌜ terminals ≤ maxTerminals ⌝ }
-    ensures { λ r. ⌜ r ≡ rowConflict (inSet (columnElement terminals) (set .bits)) nonterminal 0 (suc terminals) ⌝ }
+fn first_column(
+    nonterminal: u8,
+    set: LookaheadSet,
+    terminals: u32,
+    lookahead: Lookahead,
+) -> Conflict
+    requires { ⌜ terminals ≤ alphabet lookahead ⌝ }
+    ensures { λ r. ⌜ r ≡ rowConflict (inSet (columnElement lookahead terminals) (set .bits)) nonterminal 0 (columnCount lookahead terminals) ⌝ }
 {
     if set.is_empty() {
         return Conflict::Absent;
     }
+    let columns = count(lookahead, terminals);
     let mut column = 0;
-    while column <= terminals {
-        if set.contains(element(terminals, column)) {
+    while column < columns {
+        if set.contains(element(lookahead, terminals, column as u32)) {
             return Conflict::At {
                 nonterminal,
                 column: column as u8,
@@ -72,9 +81,9 @@ fn first_column(nonterminal: u8, set: LookaheadSet, terminals: u32) -> Conflict
 }
 
 // The first entry whose element is in the set of its nonterminal.
-fn first_entry(sets: &[u64; SETS], sizes: Sizes) -> Conflict
-    requires { ⌜ (sizes .nonterminals ≤ maxNonterminals) × (sizes .terminals ≤ maxTerminals) ⌝ }
-    ensures { λ r. ⌜ r ≡ conflictFrom (inSets (columnElement (sizes .terminals)) (now (sets .entry))) (suc (sizes .terminals)) 0 (sizes .nonterminals) ⌝ }
+fn first_entry(sets: &[u64; SETS], sizes: Sizes, lookahead: Lookahead) -> Conflict
+    requires { ⌜ (sizes .nonterminals ≤ maxNonterminals) × (sizes .terminals ≤ alphabet lookahead) ⌝ }
+    ensures { λ r. ⌜ r ≡ conflictFrom (inSets (columnElement lookahead (sizes .terminals)) (now (sets .entry))) (columnCount lookahead (sizes .terminals)) 0 (sizes .nonterminals) ⌝ }
 {
     let nonterminals = sizes.nonterminals;
     let terminals = sizes.terminals;
@@ -83,7 +92,7 @@ fn first_entry(sets: &[u64; SETS], sizes: Sizes) -> Conflict
         let set = LookaheadSet {
             bits: sets[nonterminal as usize],
         };
-        let conflict = first_column(nonterminal as u8, set, terminals);
+        let conflict = first_column(nonterminal as u8, set, terminals, lookahead);
         let Conflict::Absent = conflict else {
             return conflict;
         };
@@ -98,10 +107,11 @@ pub(crate) fn first_conflict<'a>(
     sets: &'a [u64; RULES],
     overruns: [u64; SETS],
     sizes: Sizes,
+    lookahead: Lookahead,
 ) -> Conflict
-    requires { ⌜ Headed (now heads) (sizes .rules) (sizes .nonterminals) × (sizes .terminals ≤ maxTerminals) × (length overruns ≡ maxNonterminals) ⌝ }
-    ensures { λ r. ⌜ r ≡ conflictOf sizes (now (heads .entry)) (now (sets .entry)) overruns ⌝ }
+    requires { ⌜ Headed (now heads) (sizes .rules) (sizes .nonterminals) × (sizes .terminals ≤ alphabet lookahead) × (length overruns ≡ maxNonterminals) ⌝ }
+    ensures { λ r. ⌜ r ≡ conflictOf lookahead sizes (now (heads .entry)) (now (sets .entry)) overruns ⌝ }
 {
     let twice = claimed_twice(heads, sets, overruns, sizes);
-    first_entry(&twice, sizes)
+    first_entry(&twice, sizes, lookahead)
 }

@@ -6,35 +6,42 @@ ghost use Rattle.grammar.specs.Encoding.{parse};
 ghost use Rattle.lookahead.specs.Operations.{terminal};
 ghost use Rattle.sets.specs.Naming.{ruleHead, Indexed};
 ghost use Rattle.table.specs.Overruns.{beyondEnd, aloneFrom, WordOverruns, WordsIndexed, Overrunning};
+use lookahead::Lookahead;
 use lookahead::LookaheadSet;
-use lookahead::NOTHING;
 use sets::family::SETS;
 use word::Word;
 use word::decode;
 
-// Every terminal that there may be.
-const TERMINALS: u64 = (1 << NOTHING) - 1;
-
 // The first terminal where a rule has no positives and more than the end can follow it, else what was told before.
-fn told(alone: bool, follow: LookaheadSet, before: LookaheadSet) -> LookaheadSet
-    ensures { λ r. ⌜ r .bits ≡ choose (alone && beyondEnd (follow .bits)) (terminal 0) (before .bits) ⌝ }
+fn told(
+    alone: bool,
+    follow: LookaheadSet,
+    before: LookaheadSet,
+    lookahead: Lookahead,
+) -> LookaheadSet
+    ensures { λ r. ⌜ r .bits ≡ choose (alone && beyondEnd lookahead (follow .bits)) (terminal lookahead 0) (before .bits) ⌝ }
 {
-    let terminals = LookaheadSet { bits: TERMINALS };
-    let ends = follow.meet(terminals).is_empty();
-    if ends {
+    let end = LookaheadSet::end(lookahead);
+    if end.join(follow).bits == end.bits {
         return before;
     }
     if alone {
-        LookaheadSet::terminal(0)
+        LookaheadSet::terminal(lookahead, 0)
     } else {
         before
     }
 }
 
 // Where a rule begins, tells the first terminal of its head if that overruns.
-fn overrun(word: Word, alone: bool, follows: &[u64; SETS], overruns: &mut [u64; SETS])
+fn overrun(
+    word: Word,
+    alone: bool,
+    follows: &[u64; SETS],
+    overruns: &mut [u64; SETS],
+    lookahead: Lookahead,
+)
     requires { ⌜ Indexed word ⌝ }
-    ensures { λ _. ⌜ WordOverruns (ruleHead word) alone (now (follows .entry)) (now (overruns .entry)) (now (overruns .exit)) ⌝ }
+    ensures { λ _. ⌜ WordOverruns lookahead (ruleHead word) alone (now (follows .entry)) (now (overruns .entry)) (now (overruns .exit)) ⌝ }
 {
     let Word::Rule(head) = word else {
         return;
@@ -42,7 +49,7 @@ fn overrun(word: Word, alone: bool, follows: &[u64; SETS], overruns: &mut [u64; 
     let at = head as usize;
     let follow = LookaheadSet { bits: follows[at] };
     let before = LookaheadSet { bits: overruns[at] };
-    overruns[at] = told(alone, follow, before).bits;
+    overruns[at] = told(alone, follow, before, lookahead).bits;
 }
 
 // Whether no positive of the rule that is open stands from a word on, by whether one stands behind it.
@@ -64,9 +71,9 @@ fn alone_from(word: Word, alone: bool) -> bool
 }
 
 // Goes through the words from their end: a set for each nonterminal, with the first terminal where it overruns, else empty.
-pub(crate) fn overrunning(words: &[u32], follows: &[u64; SETS]) -> [u64; SETS]
+pub(crate) fn overrunning(words: &[u32], follows: &[u64; SETS], lookahead: Lookahead) -> [u64; SETS]
     requires { ⌜ WordsIndexed (now words) ⌝ }
-    ensures { λ r. ⌜ Overrunning (parse (now (words .entry)) .rules) (now (follows .entry)) r ⌝ }
+    ensures { λ r. ⌜ Overrunning lookahead (parse (now (words .entry)) .rules) (now (follows .entry)) r ⌝ }
 {
     let mut overruns = [0u64; SETS];
     let mut alone = true;
@@ -74,7 +81,7 @@ pub(crate) fn overrunning(words: &[u32], follows: &[u64; SETS]) -> [u64; SETS]
     while 0 < at {
         at = at - 1;
         let word = decode(words[at]);
-        overrun(word, alone, follows, &mut overruns);
+        overrun(word, alone, follows, &mut overruns, lookahead);
         alone = alone_from(word, alone);
     }
     overruns

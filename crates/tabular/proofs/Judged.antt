@@ -36,6 +36,7 @@ use Rattle.encoding.specs.Encode.{Encodes}
 use Rattle.encoding.proofs.Decoding.{encodes-grammar}
 use Rattle.encoding.proofs.Faithful.{faithful}
 use Rattle.encoding.proofs.ReadingEncodes.{encodes-read, read-encodes}
+use Rattle.lookahead.specs.declared.Lookahead.the-variants.{One}
 use Rattle.lookahead.specs.Elements.{has}
 use Rattle.lookahead.proofs.Weights.{has-total}
 use Rattle.semantics.specs.Valuations.{Valuation, Solves, solution}
@@ -50,6 +51,7 @@ use Rattle.recognizer.specs.Memory.{lentBack}
 use Rattle.recognizer.specs.Properties.{PassedGrammar, Judges}
 use Rattle.recognizer.proofs.Checking.{none-left}
 use Rattle.recognizer.proofs.Meaning.{verdict-tells}
+use Rattle.table.specs.declared.conflicts.Conflict.the-variants.{Absent}
 use Rattle.recognizer.proofs.Places.{Tells, judge-tells, grammarFault, left-told, unproductive-told}
 use Rattle.tabular.specs.Spans.{indexOf, spanWords, solutionWord}
 use Rattle.tabular.specs.Answers.{tabularFault, noCalls, told, tabularVerdict, tabularNumbers, tabularWords}
@@ -69,7 +71,7 @@ module _ (words : List ℕ) (p : FreeGrammar words) where
   free-free : NoLeftRecursion (grammarOf words)
   free-free = rw (← same-grammar) (p .free)
 
-  free-faultless : setsFault words ≡ none
+  free-faultless : setsFault One words ≡ none
   unfolding setsFault
   free-faultless =
       rw (
@@ -79,15 +81,15 @@ module _ (words : List ℕ) (p : FreeGrammar words) where
       )
 
 -- without a fault there is no left recursion
-faultless-free : (words : List ℕ) (z : Sizes) → reading words ≡ Read z → setsFault words ≡ none → NoLeftRecursion (grammarOf words)
+faultless-free : (words : List ℕ) (z : Sizes) → reading words ≡ Read z → setsFault One words ≡ none → NoLeftRecursion (grammarOf words)
 unfolding setsFault
 faultless-free words z r e =
     theorems .left-recursion-decided (grammarOf words) (read-encodes words z r .1 .formed .scoped) .absent .0
-    (none-left (lowestLeftRecursive (grammarOf words)) (each-none (setsFaults words) e .1 .0))
+    (none-left (lowestLeftRecursive (grammarOf words)) (each-none (setsFaults One words) e .1 .0))
 
 -- the fault of a grammar that has been read, as where no entry clashes
 fault-encoded : (words : List ℕ) (G : Grammar) → length words ≤ maxWords → Encodes words G
-    → setsFault words ≡ grammarFault (lowestLeftRecursive G) (lowestUnproductive G 1) 0 []
+    → setsFault One words ≡ grammarFault One (lowestLeftRecursive G) (lowestUnproductive G 1) Absent
 unfolding setsFault
 fault-encoded words G short e =
     rw (encodes-read words G short e, encodes-grammar words G e) (alone (leftFault (lowestLeftRecursive G)) (unproductiveFault (lowestUnproductive G 1)))
@@ -195,7 +197,7 @@ judges {words} {input} {before} {after} {r} a m = record {
   recursive = λ room short G e A.
       let t = tells room short G e in
       let decided = theorems .left-recursion-decided G (e .formed .scoped) .lowest A in
-      let left = left-told (lowestLeftRecursive G) (lowestUnproductive G 1) 0 [] A in (
+      let left = left-told One (lowestLeftRecursive G) (lowestUnproductive G 1) Absent A in (
         λ q. let k = decided .0 (left .0 (t .recursive A .0 q)) in record { reaches = k .0; lowest = k .1 },
         λ k. t .recursive A .1 (left .1 (decided .1 (k .reaches, k .lowest))),
       );
@@ -203,7 +205,7 @@ judges {words} {input} {before} {after} {r} a m = record {
       let t = tells room short G e in
       let free = theorems .left-recursion-decided G (e .formed .scoped) .absent in
       let decided = theorems .productive-decided G 1 .lowest A in
-      let empty = unproductive-told (lowestLeftRecursive G) (lowestUnproductive G 1) 0 [] A in (
+      let empty = unproductive-told One (lowestLeftRecursive G) (lowestUnproductive G 1) Absent A in (
         λ q.
             let k = empty .0 (t .unproductive A .0 q) in
             let l = decided .0 (k .1) in
@@ -220,9 +222,9 @@ judges {words} {input} {before} {after} {r} a m = record {
   where
     -- where the lent words are enough, the answer tells the grammar's fault
     tells : maxSpanWords ≤ length before → length words ≤ maxWords → (G : Grammar) → Encodes words G
-        → Tells (grammarFault (lowestLeftRecursive G) (lowestUnproductive G 1) 0 []) r
+        → Tells One (grammarFault One (lowestLeftRecursive G) (lowestUnproductive G 1) Absent) r
     tells room short G e =
-        judge-tells _ (ltb maxTabularTokens (length input)) (unknownFrom (grammarOf words .terminals) 0 input)
+        judge-tells One _ (ltb maxTabularTokens (length input)) (unknownFrom (grammarOf words .terminals) 0 input)
         (solution (grammarOf words) input 0 0 (length input)) noCalls
         (a ∙ ap (λ y. refusedOr y (tabularVerdict (grammarOf words) input)) (fault-long words input before room (fault-encoded words G short e)))
 
@@ -234,12 +236,12 @@ judge-refused {words} {input} {before} f =
 pub judge-short : (words input before : List ℕ) → length before < maxSpanWords → TabularJudges words input before (Refused SpansTooShort) before
 judge-short words input before h = judge-refused (spans-short words input before h)
 
-pub judge-faulty : (words input before : List ℕ) {x : Error} → maxSpanWords ≤ length before → setsFault words ≡ some x
+pub judge-faulty : (words input before : List ℕ) {x : Error} → maxSpanWords ≤ length before → setsFault One words ≡ some x
     → TabularJudges words input before (Refused x) before
 judge-faulty words input before room f = judge-refused (fault-long words input before room f)
 
 -- what is left-reached is found with the sets
-pub found-reaches : (words : List ℕ) {r : Families} → r ≡ familiesOf words → setsFault words ≡ none
+pub found-reaches : (words : List ℕ) {r : Families} → r ≡ familiesOf One words → setsFault One words ≡ none
     → r .reaches ≡ listed maxNonterminals (reachNumber (grammarOf words))
 unfolding familiesOf
 found-reaches words e k = ap (λ x. x .reaches) e ∙ ap (λ f. setsIf f (listed maxNonterminals (reachNumber (grammarOf words)))) k

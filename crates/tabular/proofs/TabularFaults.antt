@@ -22,6 +22,7 @@ use Rattle.grammar.specs.Reading.{reading}
 use Rattle.grammar.specs.declared.reading.Outcome.{Outcome}
 use Rattle.encoding.specs.Diagnosis.{WordFault, unexpected, outOfRange, tooMany, Diagnosis, long, heading, behind, encoding}
 use Rattle.encoding.proofs.Faithful.{reading-diagnosed}
+use Rattle.lookahead.specs.declared.Lookahead.the-variants.{One}
 use Rattle.semantics.specs.LeftRecursion.{lowestLeftRecursive}
 use Rattle.semantics.specs.Productive.{lowestUnproductive}
 use Rattle.sets.specs.Analysis.{readingFault, leftFault, unproductiveFault, setsFaults, setsFault}
@@ -37,15 +38,15 @@ module _ (words input before : List ℕ) where
   spans-short h = rw (lt-ltb (length before) maxSpanWords h)
 
   module _ (room : maxSpanWords ≤ length before) where
-    pub fault-long : {f : Option Error} → setsFault words ≡ f → judged
+    pub fault-long : {f : Option Error} → setsFault One words ≡ f → judged
         ≡ firstFault (f ∷ faultIf (ltb maxTabularTokens (length input)) InputTooLong ∷ unknownFault (unknownFrom (grammarOf words .terminals) 0 input) ∷ [])
     unfolding tabularFault setsFault
     fault-long e =
-        first-nested (faultIf (ltb (length before) maxSpanWords) SpansTooShort ∷ []) (setsFaults words)
+        first-nested (faultIf (ltb (length before) maxSpanWords) SpansTooShort ∷ []) (setsFaults One words)
         (faultIf (ltb maxTabularTokens (length input)) InputTooLong ∷ unknownFault (unknownFrom (grammarOf words .terminals) 0 input) ∷ [])
         ∙ rw (le-ltb (length before) maxSpanWords room, e)
 
-    module _ (passed : setsFault words ≡ none) where
+    module _ (passed : setsFault One words ≡ none) where
       pub too-long : maxTabularTokens < length input → judged ≡ some InputTooLong
       too-long h = fault-long passed ∙ rw (lt-ltb maxTabularTokens (length input) h)
 

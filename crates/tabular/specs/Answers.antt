@@ -16,6 +16,7 @@ use Rattle.booleans.specs.Choice.{choose}
 use Rattle.grammar.specs.Limits.{maxTabularTokens, maxSpanWords}
 use Rattle.grammar.specs.Syntax.{Grammar}
 use Rattle.grammar.specs.Encoding.{grammarOf}
+use Rattle.lookahead.specs.declared.Lookahead.the-variants.{One}
 use Rattle.semantics.specs.Valuations.{solution}
 use Rattle.sets.specs.Analysis.{setsFaults}
 use Rattle.event.specs.Unknown.{unknownFrom, unknownFault}
@@ -26,7 +27,7 @@ unfoldable pub tabularFault : ℕ → List ℕ → List ℕ → Option Error
 tabularFault spans words input =
     firstFault
     (faultIf (ltb spans maxSpanWords) SpansTooShort
-    ∷ setsFaults words
+    ∷ setsFaults One words
     ++ faultIf (ltb maxTabularTokens (length input)) InputTooLong
     ∷ unknownFault (unknownFrom (grammarOf words .terminals) 0 input)
     ∷ [])

@@ -10,6 +10,7 @@ use Rattle.grammar.specs.Encoding.{grammarOf}
 use Rattle.grammar.specs.Reading.{reading}
 use Rattle.grammar.specs.declared.reading.Sizes.{Sizes}
 use Rattle.grammar.specs.declared.reading.Outcome.the-variants.{Read}
+use Rattle.lookahead.specs.declared.Lookahead.the-variants.{One}
 use Rattle.semantics.specs.Valuations.{solution}
 use Rattle.sets.specs.Analysis.{setsFault}
 use Rattle.sets.specs.Lists.{listed}
@@ -29,6 +30,6 @@ pub record Tabulated (words w before : List ℕ) (r : Bool) (after : List ℕ) :
 -- a grammar that is read and not left-recursive, and enough words lent
 pub record PassedGiven (words : List ℕ) (z : Sizes) (reaches spans : List ℕ) : Type 0 where
   pub read : reading words ≡ Read z
-  pub faultless : setsFault words ≡ none
+  pub faultless : setsFault One words ≡ none
   pub reached : reaches ≡ listed maxNonterminals (reachNumber (grammarOf words))
   pub room : maxSpanWords ≤ length spans

@@ -14,6 +14,7 @@ use filling::fill;
 use grammar::limits::SPAN_WORDS;
 use grammar::limits::TABULAR_TOKENS;
 use grammar::reading::Sizes;
+use lookahead::Lookahead;
 use places::contains;
 use sets::Finding;
 use sets::analyze;
@@ -84,7 +85,7 @@ pub fn judge(words: &[u32], events: &[u8], spans: &mut [u32]) -> Answer
     if spans.len() < SPAN_WORDS {
         return Answer::Refused(Error::SpansTooShort);
     }
-    let families = analyze(words);
+    let families = analyze(words, Lookahead::One);
     let finding = families.finding;
     match finding {
         Finding::Refused(error) => Answer::Refused(error),

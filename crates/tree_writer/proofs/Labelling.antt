@@ -5,38 +5,28 @@ use Prim.Native.Nat.{ℕ, suc, _+_, _*_, _/_, _%_, _≤_, _<_}
 use native.Mathlib.Decide.{decLt, ℕ-discrete}
 use native.Mathlib.Nat.{mul-le-mul}
 use native.Mathlib.Omega.{arith}
-use lib.Dec.{ltb}
 use lib.ListN.{length, getD, set, replicate, length-set, length-replicate}
 use lib.Seq.{getD-set-same, getD-set-other}
-use borrow.Author.Tests.{lt-ltb, le-ltb}
 use Rattle.grammar.specs.Limits.{maxPlaces, maxMemoEntries}
 use Rattle.grammar.specs.declared.reading.Sizes.{Sizes}
 use Rattle.event.specs.Events.{terminalOf, inputOf}
 use Rattle.event.proofs.Inputs.{input-length, input-at}
-use Rattle.event.proofs.Known.{token-below}
+use Rattle.lookahead.specs.declared.Lookahead.the-variants.{One}
+use Rattle.recognizer.specs.Preparing.{columnAt}
+use Rattle.recognizer.proofs.Columns.{one-token, one-end, column-right}
 use Rattle.tree.specs.ParseTrees.{vertex}
 use Rattle.tree.specs.Writing.{vertexWord}
-use Rattle.tree_writer.specs.Labels.{ruleOf, columnAt, labelWord, LabelsGiven, IndexGiven, Labels, LabelledBelow, Labelled}
+use Rattle.tree_writer.specs.Labels.{ruleOf, labelWord, LabelsGiven, IndexGiven, Labels, LabelledBelow, Labelled}
 
 -- the column of an event's terminal, and that of the end
 module _ (events : List ℕ) (n place : ℕ) where
-  pub column-token : place < length events → terminalOf (getD events place 0) ≡ columnAt n (inputOf events) place
-  unfolding columnAt
-  column-token h = rw (lt-ltb place (length (inputOf events)) (omega (arith, input-length events))) (sym (input-at events place))
+  pub event-column : place < length events → terminalOf (getD events place 0) ≡ columnAt One n (inputOf events) place
+  event-column h = sym (one-token n (inputOf events) place (omega (arith, input-length events)) ∙ input-at events place)
 
-  pub column-end : length events ≤ place → n ≡ columnAt n (inputOf events) place
-  unfolding columnAt
-  column-end h = rw (le-ltb place (length (inputOf events)) (omega (arith, input-length events))) refl
+  pub behind-column : length events ≤ place → n ≡ columnAt One n (inputOf events) place
+  behind-column h = sym (one-end n (inputOf events) place (omega (arith, input-length events)))
 
 module _ (events : List ℕ) {z : Sizes} {table memo : List ℕ} where
-  column-low : LabelsGiven z (inputOf events) table memo → (i : ℕ) → columnAt (z .terminals) (inputOf events) i ≤ z .terminals
-  unfolding columnAt
-  column-low g i = go (decLt i (length (inputOf events)))
-    where
-      go : Dec (i < length (inputOf events)) → columnAt (z .terminals) (inputOf events) i ≤ z .terminals
-      go (yes l) = rw (lt-ltb i (length (inputOf events)) l) (omega (arith, token-below (z .terminals) (inputOf events) (g .tokens) i l))
-      go (no l) = rw (le-ltb i (length (inputOf events)) (omega (arith, l))) (omega arith)
-
   -- what is read lies within the lent memories
   module _ {at : ℕ} (g : IndexGiven z (inputOf events) table memo at) where
     pub named : at / maxPlaces < z .nonterminals
@@ -48,8 +38,8 @@ module _ (events : List ℕ) {z : Sizes} {table memo : List ℕ} where
         (omega (arith, named, g .given .fewNonterminals)) (omega (arith, g .given .fewTerminals)) in
         omega (arith, g .given .fewNonterminals)
 
-    pub column-few : {c : ℕ} → c ≡ columnAt (z .terminals) (inputOf events) (at % maxPlaces) → c ≤ 24
-    column-few e = omega (arith, column-low (g .given) (at % maxPlaces), g .given .fewTerminals)
+    pub column-few : {c : ℕ} → c ≡ columnAt One (z .terminals) (inputOf events) (at % maxPlaces) → c ≤ 24
+    column-few e = omega (arith, column-right One (z .terminals) (inputOf events) (at % maxPlaces) (g .given .fewTerminals) (g .given .tokens) .low, g .given .fewTerminals)
 
     pub entry-low : at % maxPlaces ≤ length events → at / maxPlaces * (length events + 1) + at % maxPlaces < maxMemoEntries
     entry-low h =
@@ -60,7 +50,7 @@ module _ (events : List ℕ) {z : Sizes} {table memo : List ℕ} where
     pub label-none : {r : ℕ} → length events < at % maxPlaces → Labels z (inputOf events) table memo at r
     label-none h = record { word = λ A i e a l. absurd (omega (arith, input-length events, g .given .short)) }
 
-    pub label-some : {c r : ℕ} → c ≡ columnAt (z .terminals) (inputOf events) (at % maxPlaces)
+    pub label-some : {c r : ℕ} → c ≡ columnAt One (z .terminals) (inputOf events) (at % maxPlaces)
         → r ≡ vertexWord (vertex (ruleOf (getD table (2 * z .nonterminals + at / maxPlaces * (z .terminals + 1) + c) 0)) (at % maxPlaces)
         (getD memo (at / maxPlaces * (length events + 1) + at % maxPlaces) 0 % 512))
         → Labels z (inputOf events) table memo at r

@@ -28,12 +28,14 @@ use Rattle.semantics.specs.Memo.{encode}
 use Rattle.semantics.proofs.Outcomes.{nth-below}
 use Rattle.semantics.proofs.Rank.{level-top}
 use Rattle.semantics.proofs.Theorems.{theorems}
+use Rattle.lookahead.specs.declared.Lookahead.the-variants.{One}
 use Rattle.table.specs.Layout.{entryWord, entryAt}
-use Rattle.recognizer.proofs.OneToken.{column}
+use Rattle.recognizer.specs.Preparing.{columnAt}
+use Rattle.recognizer.proofs.Columns.{column-right}
 use Rattle.tree.specs.Writing.{vertexAt, vertexWord, treeCalls, treeOf, treeWords, InTree, start}
 use Rattle.tree.proofs.Reading.{chosen}
 use Rattle.tree.proofs.Trees.{tree-sound}
-use Rattle.tree_writer.specs.Labels.{labelIndex, columnAt, labelWord, LabelsGiven, Labelled}
+use Rattle.tree_writer.specs.Labels.{labelIndex, labelWord, LabelsGiven, Labelled}
 use Rattle.tree_writer.specs.Writer.{choiceOf, wordAt, wordsOf, Holds, VertexGiven, VertexRequires, VertexEnsures, TreeGiven, TreeDone}
 
 map-twice : (f : Call → ℕ) {Z : Type 0} (g : Call → Z) (h : Z → ℕ) → ((x : Call) → h (g x) ≡ f x) → (l : List Call) → map h (map g l) ≡ map f l
@@ -79,18 +81,18 @@ module _ {words input table memo tree : List ℕ} (g : TreeGiven words input tab
   -- the word made for a call of the tree is that of its vertex
   label-right : {z : Sizes} → reading words ≡ Read z → (x : Call) → InTree G (choiceOf words input) input x
       → labelWord z input table memo (x .nonterminal) (x .place) ≡ wordAt words input x
-  unfolding labelWord columnAt wordAt vertexAt encode entryAt
+  unfolding labelWord wordAt vertexAt encode entryAt
   label-right {z} read x h =
       let k = well-read words z read in
       let s = tree-sound G 1 input (g .accepted .predictive) (g .accepted .tokens) meaning solves (g .accepted .accepted) x h in
       let f = s .2 .1 in
       let c = chosen G 1 input (g .accepted .predictive) (g .accepted .tokens) meaning solves (x .nonterminal) (x .place) (s .2 .0) f in
       let placed : x .place ≤ length input = omega (arith, f .onward, f .within) in
-      let col = column (G .terminals) input (g .accepted .tokens) (g .accepted .short) (omega (arith, k .terminals, k .fewTerminals)) (x .place) placed in
-      let e = g .entries (x .nonterminal) (columnAt (G .terminals) input (x .place)) (f .named) (omega (arith, col .low)) in
-      let q : entryAt G (x .nonterminal) (columnAt (G .terminals) input (x .place)) ≡ c .number =
+      let col = column-right One (G .terminals) input (x .place) (omega (arith, k .terminals, k .fewTerminals)) (g .accepted .tokens) in
+      let e = g .entries (x .nonterminal) (columnAt One (G .terminals) input (x .place)) (f .named) (omega (arith, col .low)) in
+      let q : entryAt One G (x .nonterminal) (columnAt One (G .terminals) input (x .place)) ≡ c .number =
       ap (λ (l : List ℕ). entryWord (tableOf G 1 (x .nonterminal) l)) (col .string) ∙ ap entryWord (c .looked) in
-      let rule : getD table (2 * z .nonterminals + x .nonterminal * (z .terminals + 1) + columnAt (z .terminals) input (x .place)) 0 ≡ c .number =
+      let rule : getD table (2 * z .nonterminals + x .nonterminal * (z .terminals + 1) + columnAt One (z .terminals) input (x .place)) 0 ≡ c .number =
       rw (k .nonterminals, k .terminals, add-one (G .terminals)) (e ∙ q) in
       let end : getD memo (x .nonterminal * (length input + 1) + x .place) 0 ≡ s .2 .0 =
       rw (add-one (length input)) (g .recorded x (s .1) ∙ ap encode (f .ends)) in

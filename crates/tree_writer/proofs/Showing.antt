@@ -44,12 +44,13 @@ use Rattle.semantics.specs.Predictive.{Predictive}
 use Rattle.semantics.proofs.Called.{called-range}
 use Rattle.semantics.proofs.Range.{index-range}
 use Rattle.semantics.proofs.Theorems.{theorems}
-use Rattle.table.specs.Layout.{tableWords, columns}
-use Rattle.table.specs.Entries.{filled}
+use Rattle.lookahead.specs.declared.Lookahead.the-variants.{One}
+use Rattle.table.specs.Columns.{columns}
+use Rattle.table.specs.Layout.{tableWords}
+use Rattle.table.specs.Layout.{filled}
 use Rattle.table.proofs.Words.{filled-entries, table-length}
-use Rattle.recognizer.specs.Answers.{judgeFault, callsOf, verdictOf, verdictNumbers}
+use Rattle.recognizer.specs.Answers.{judgeFault, callsOf, verdictBy, verdictOf, verdictNumbers}
 use Rattle.recognizer.specs.Memory.{lentBack, memoWords}
-use Rattle.recognizer.specs.Preparing.{Entries}
 use Rattle.recognizer.specs.Properties.{Judges, PassedGrammar}
 use Rattle.recognizer.proofs.Checking.{passed-fault, passed-encodes, passed-read, no-clashes, not-left-recursive}
 use Rattle.recognizer.proofs.JudgeFaults.{judgeRows, judged-rows, judged-readable, table-short, memo-short}
@@ -61,7 +62,7 @@ use Rattle.tree.proofs.Lists.{map-elim}
 use Rattle.tree.proofs.Trees.{tree-right, vertex-within}
 use Rattle.tree.proofs.Words.{told as word-told}
 use Rattle.tree_writer.specs.Writer as writer
-use Rattle.tree_writer.specs.Writer.{choiceOf, wordsOf, TreeGiven, TreeDone}
+use Rattle.tree_writer.specs.Writer.{choiceOf, wordsOf, Entries, TreeGiven, TreeDone}
 use Rattle.tree_writer.specs.declared.Shown.{Shown}
 use Rattle.tree_writer.specs.Properties.{treeFault, writtenOr, TreeTold, Shows}
 
@@ -134,7 +135,7 @@ module _ (words input table memo tree : List ℕ) where
   refused e k = record {
     answer = sym (ap (λ f. refusedOr f (verdictOf (grammarOf words) input)) e);
     numbered = sym (ap (λ f. toldOr f (verdictNumbers (grammarOf words) input)) e);
-    lent-table = sym (ap (λ f. lentBack f (tableWords (grammarOf words)) table) e);
+    lent-table = sym (ap (λ f. lentBack f (tableWords One (grammarOf words)) table) e);
     lent-memo = sym (ap (λ f. lentBack f (memoWords (grammarOf words) input) memo) e);
     lent-tree = sym (ap (λ f. lentBack f (wordsOf words input) tree) e);
     written = sym (ap (λ f. writtenOr f (length (wordsOf words input))) e);
@@ -173,7 +174,7 @@ module _ (tree : List ℕ) {words input table memo : List ℕ} (long : maxTableW
   shows w l f t = record {
     answer = j .answer ∙ sym (ap (λ f. refusedOr f (verdictOf G input)) same);
     numbered = j .told ∙ sym (ap (λ f. toldOr f (verdictNumbers G input)) same);
-    lent-table = j .lent-table ∙ sym (ap (λ f. lentBack f (tableWords G) table) same);
+    lent-table = j .lent-table ∙ sym (ap (λ f. lentBack f (tableWords One G) table) same);
     lent-memo = j .lent-memo ∙ sym (ap (λ f. lentBack f (memoWords G input) memo) same);
     lent-tree = l ∙ sym (ap (λ f. lentBack f (wordsOf words input) tree) same);
     written = w ∙ sym (ap (λ f. writtenOr f (length (wordsOf words input))) same);
@@ -184,7 +185,7 @@ module _ (tree : List ℕ) {words input table memo : List ℕ} (long : maxTableW
 
   -- no word is written for an answer that is no acceptance
   pub shows-none : ((c : Calls) → a ≡ Accepted c → ⊥) → Shows words input table memo tree (record { answer = a; written = 0 }) table′ memo′ tree
-  unfolding verdictOf treeWords
+  unfolding verdictBy treeWords
   shows-none n =
       let t = other-tells fault (accepts G (choiceOf words input) input) (callsOf G input) (λ e. n (callsOf G input) (j .answer ∙ sym e)) in
       shows (count fault t) (back fault t) (omega arith) (λ q. absurd (n (callsOf G input) q))
@@ -199,7 +200,7 @@ module _ (tree : List ℕ) {words input table memo : List ℕ} (long : maxTableW
 
   module _ (c : Calls) (q : a ≡ Accepted c) where
     told : (fault ≡ none) × (accepts G (choiceOf words input) input ≡ true)
-    unfolding verdictOf
+    unfolding verdictBy
     told = accepted-tells fault (accepts G (choiceOf words input) input) (callsOf G input) c (sym q ∙ j .answer)
 
     passed : PassedGrammar words
@@ -232,8 +233,8 @@ module _ (tree : List ℕ) {words input table memo : List ℕ} (long : maxTableW
       accepted = true-T _ (told .1);
     }
 
-    table-is : table′ ≡ tableWords G ++ drop (length (tableWords G)) table
-    table-is = j .lent-table ∙ ap (λ f. lentBack f (tableWords G) table) (told .0)
+    table-is : table′ ≡ tableWords One G ++ drop (length (tableWords One G)) table
+    table-is = j .lent-table ∙ ap (λ f. lentBack f (tableWords One G) table) (told .0)
 
     memo-is : memo′ ≡ memoWords G input ++ drop (length (memoWords G input)) memo
     memo-is = j .lent-memo ∙ ap (λ f. lentBack f (memoWords G input) memo) (told .0)
@@ -242,11 +243,11 @@ module _ (tree : List ℕ) {words input table memo : List ℕ} (long : maxTableW
     entries : Entries G table′
     unfolding filled
     entries A k named low =
-        let i : ℕ = 2 * G .nonterminals + A * columns G + k in
-        let within : A * columns G + k < G .nonterminals * columns G = digits-lt named low in
-        let b : i < length (tableWords G) = omega (arith, table-length G) in
-        ap (λ l. getD l i 0) table-is ∙ List·getD-append (tableWords G) (drop (length (tableWords G)) table) 0 i b
-        ∙ sym (List·getD-append (tableWords G) (replicate (maxTableWords - length (tableWords G)) noEntry) 0 i b) ∙ filled-entries G A k named low
+        let i : ℕ = 2 * G .nonterminals + A * columns One G + k in
+        let within : A * columns One G + k < G .nonterminals * columns One G = digits-lt named low in
+        let b : i < length (tableWords One G) = omega (arith, table-length One G) in
+        ap (λ l. getD l i 0) table-is ∙ List·getD-append (tableWords One G) (drop (length (tableWords One G)) table) 0 i b
+        ∙ sym (List·getD-append (tableWords One G) (replicate (maxTableWords - length (tableWords One G)) noEntry) 0 i b) ∙ filled-entries One G A k named low
 
     -- the lent memo table has the outcomes of the calls
     recorded : (x : Call) → Called G (choiceOf words input) input x
@@ -267,7 +268,7 @@ module _ (tree : List ℕ) {words input table memo : List ℕ} (long : maxTableW
       accepted = accepted;
       entries = entries;
       recorded = recorded;
-      long-table = omega (arith, long, ap length table-is, as-long (tableWords G) table);
+      long-table = omega (arith, long, ap length table-is, as-long (tableWords One G) table);
       long-memo = omega (arith, room, ap length memo-is, as-long (memoWords G input) memo);
       long-tree = high;
     }

@@ -2,13 +2,13 @@
 use mathlib.Core.Path.{_≡_}
 use mathlib.Core.List.{List}
 use Prim.Native.Nat.{ℕ, suc, _+_, _*_, _/_, _%_, _≤_, _<_}
-use lib.Dec.{ltb}
 use lib.ListN.{length, getD}
-use Rattle.booleans.specs.Choice.{choose}
 use Rattle.grammar.specs.Limits.{maxNonterminals, maxTerminals, maxTokens, maxPlaces, maxTableWords, maxMemoEntries}
 use Rattle.grammar.specs.declared.reading.Sizes.{Sizes}
 use Rattle.semantics.specs.ComesTo.{Call}
 use Rattle.semantics.specs.Strings.{Over}
+use Rattle.lookahead.specs.declared.Lookahead.the-variants.{One}
+use Rattle.recognizer.specs.Preparing.{columnAt}
 use Rattle.tree.specs.ParseTrees.{vertex}
 use Rattle.tree.specs.Writing.{vertexWord}
 
@@ -28,14 +28,10 @@ pub record FieldsGiven (rule start end : ℕ) : Type 0 where
   pub start-low : start < 512
   pub end-low : end < 512
 
--- the column of the token at a place, or of the end
-unfoldable pub columnAt : ℕ → List ℕ → ℕ → ℕ
-columnAt terminals input i = choose (ltb i (length input)) (getD input i 0) terminals
-
 -- the word for a call, from the entries of the lent table and of the lent memo table
 unfoldable pub labelWord : Sizes → (input table memo : List ℕ) (A i : ℕ) → ℕ
 labelWord z input table memo A i = vertexWord
-    (vertex (ruleOf (getD table (2 * z .nonterminals + A * (z .terminals + 1) + columnAt (z .terminals) input i) 0)) i (getD memo (A * (length input + 1) + i) 0 % 512))
+    (vertex (ruleOf (getD table (2 * z .nonterminals + A * (z .terminals + 1) + columnAt One (z .terminals) input i) 0)) i (getD memo (A * (length input + 1) + i) 0 % 512))
 
 pub record LabelsGiven (z : Sizes) (input table memo : List ℕ) : Type 0 where
   pub fewNonterminals : z .nonterminals ≤ maxNonterminals

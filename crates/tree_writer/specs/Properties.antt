@@ -14,6 +14,7 @@ use Rattle.grammar.specs.Limits.{maxTableWords, maxMemoEntries}
 use Rattle.grammar.specs.Encoding.{grammarOf}
 use Rattle.semantics.specs.Valuations.{Valuation, Solves}
 use Rattle.semantics.specs.Choices.{tableChoice}
+use Rattle.lookahead.specs.declared.Lookahead.the-variants.{One}
 use Rattle.table.specs.Layout.{tableWords}
 use Rattle.recognizer.specs.Answers.{judgeFault, callsOf, verdictOf, verdictNumbers}
 use Rattle.recognizer.specs.Memory.{lentBack, memoWords}
@@ -50,7 +51,7 @@ pub record Shows (words input table memo tree : List ℕ) (r : Shown) (table′ 
   pub answer : r .answer ≡ refusedOr (treeFault (length table) (length memo) (length tree) words input) (verdictOf (grammarOf words) input)
   pub numbered : numbers (r .answer) ≡ toldOr (treeFault (length table) (length memo) (length tree) words input) (verdictNumbers (grammarOf words) input)
   -- else all memories hold what is defined, and later words stay; the tree of a rejected log has no words
-  pub lent-table : table′ ≡ lentBack (treeFault (length table) (length memo) (length tree) words input) (tableWords (grammarOf words)) table
+  pub lent-table : table′ ≡ lentBack (treeFault (length table) (length memo) (length tree) words input) (tableWords One (grammarOf words)) table
   pub lent-memo : memo′ ≡ lentBack (treeFault (length table) (length memo) (length tree) words input) (memoWords (grammarOf words) input) memo
   pub lent-tree : tree′
       ≡ lentBack (treeFault (length table) (length memo) (length tree) words input) (treeWords (grammarOf words) (tableChoice (grammarOf words) 1 input) input) tree

@@ -6,6 +6,7 @@ use Prim.Native.Nat.{ℕ, suc, _+_, _*_, _-_, _≤_, _<_}
 use lib.Dec.{T}
 use lib.ListN.{length, getD, drop}
 use Rattle.grammar.specs.Limits.{maxTokens, maxMemoEntries, maxTableWords}
+use Rattle.grammar.specs.Syntax.{Grammar}
 use Rattle.grammar.specs.Encoding.{grammarOf}
 use Rattle.grammar.specs.Reading.{reading}
 use Rattle.grammar.specs.Starts.{ruleStarts}
@@ -20,7 +21,9 @@ use Rattle.semantics.specs.ComesTo.{Call, callAt, InRange, measure}
 use Rattle.semantics.specs.Calls.{Called, Distinct, sameCall}
 use Rattle.semantics.specs.Memo.{encode, indexOf}
 use Rattle.semantics.specs.Predictive.{Predictive}
-use Rattle.recognizer.specs.Preparing.{Entries}
+use Rattle.lookahead.specs.declared.Lookahead.the-variants.{One}
+use Rattle.table.specs.Columns.{columns}
+use Rattle.table.specs.Layout.{entryAt}
 use Rattle.tree.specs.Writing.{vertexAt, below, visit, vertexWord, treeWords, InTree}
 use Rattle.tree_writer.specs.Labels.{labelIndex, endOf}
 
@@ -79,6 +82,10 @@ VertexEnsures words starts labels tree marks A start written r tree′ marks′ 
 -- what falls from a call to those below it: the tokens left, for the input ends where the root does, then the rank
 abbrev pub falling : (words labels : List ℕ) (A start : ℕ) → ℕ
 falling words labels A start = level (grammarOf words) (endOf (getD labels 0 0) - start) A
+
+-- the table holds the entries of the grammar
+abbrev pub Entries : Grammar → List ℕ → Type 0
+Entries G table = (A c : ℕ) → A < G .nonterminals → c < columns One G → getD table (2 * G .nonterminals + A * columns One G + c) 0 ≡ entryAt One G A c
 
 -- what judging leaves of an accepted input: the entries of its table, and the outcomes of its calls
 pub record TreeGiven (words input table memo tree : List ℕ) : Type 0 where

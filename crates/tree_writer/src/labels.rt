@@ -3,7 +3,9 @@ ghost use mathlib.Core.Path.{_≡_};
 ghost use Rattle.event.specs.Events.{inputOf};
 ghost use Rattle.tree.specs.ParseTrees.{vertex};
 ghost use Rattle.tree.specs.Writing.{vertexWord};
-ghost use Rattle.tree_writer.specs.Labels.{ruleOf, endOf, FieldsGiven, columnAt, LabelsGiven, Labels, Labelled};
+ghost use Rattle.lookahead.specs.declared.Lookahead.the-variants.{One};
+ghost use Rattle.recognizer.specs.Preparing.{columnAt};
+ghost use Rattle.tree_writer.specs.Labels.{ruleOf, endOf, FieldsGiven, LabelsGiven, Labels, Labelled};
 ghost use Rattle.tree_writer.specs.Labels.{IndexGiven};
 use event::terminal_of;
 use grammar::limits::MEMO_ENTRIES;
@@ -41,7 +43,7 @@ pub(crate) fn end_of(word: u32) -> usize
 
 // The column of the table for the event at a place, or for the end.
 fn column_at(events: &[u8], terminals: u32, place: usize) -> usize
-    ensures { λ r. ⌜ r ≡ columnAt terminals (inputOf (now (events .entry))) place ⌝ }
+    ensures { λ r. ⌜ r ≡ columnAt One terminals (inputOf (now (events .entry))) place ⌝ }
 {
     if place < events.len() {
         let event = events[place];

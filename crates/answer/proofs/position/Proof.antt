@@ -51,11 +51,26 @@ cast-result-4 c = search needs
 add-result : tie.Need-add-result
 add-result c = search needs
 
+enum-known-error-7 : tie.Need-enum-known-error-7
+enum-known-error-7 c = search needs
+
+cast-result-5 : tie.Need-cast-result-5
+cast-result-5 c = search needs
+
+mul-result-2 : tie.Need-mul-result-2
+mul-result-2 c = search needs
+
+cast-result-6 : tie.Need-cast-result-6
+cast-result-6 c = search needs
+
+add-result-2 : tie.Need-add-result-2
+add-result-2 c = search needs
+
 enum-told-5 : tie.Need-enum-told-5
 enum-told-5 c = search needs
 
-enum-known-error-7 : tie.Need-enum-known-error-7
-enum-known-error-7 c = search needs
+enum-known-error-8 : tie.Need-enum-known-error-8
+enum-known-error-8 c = search needs
 
 enum-told-6 : tie.Need-enum-told-6
 enum-told-6 c = search needs
@@ -121,43 +136,46 @@ returns-10 : tie.Need-returns-10
 returns-10 c = rw (c .before .error6 .given .1)
 
 returns-11 : tie.Need-returns-11
-returns-11 c = rw (c .enum-told5 .given .1)
+returns-11 c = rw (c .before .error7 .given .1)
 
 returns-12 : tie.Need-returns-12
-returns-12 c = rw (c .before .error7 .given .1)
+returns-12 c = rw (c .enum-told5 .given .1)
 
 returns-13 : tie.Need-returns-13
-returns-13 c = rw (c .enum-told6 .given .1)
+returns-13 c = rw (c .before .error8 .given .1)
 
 returns-14 : tie.Need-returns-14
-returns-14 c = rw (c .enum-told7 .given .1)
+returns-14 c = rw (c .enum-told6 .given .1)
 
 returns-15 : tie.Need-returns-15
-returns-15 c = rw (c .enum-told8 .given .1)
+returns-15 c = rw (c .enum-told7 .given .1)
 
 returns-16 : tie.Need-returns-16
-returns-16 c = rw (c .enum-told9 .given .1)
+returns-16 c = rw (c .enum-told8 .given .1)
 
 returns-17 : tie.Need-returns-17
-returns-17 c = rw (c .enum-told10 .given .1)
+returns-17 c = rw (c .enum-told9 .given .1)
 
 returns-18 : tie.Need-returns-18
-returns-18 c = rw (c .enum-told11 .given .1)
+returns-18 c = rw (c .enum-told10 .given .1)
 
 returns-19 : tie.Need-returns-19
-returns-19 c = rw (c .enum-told12 .given .1)
+returns-19 c = rw (c .enum-told11 .given .1)
 
 returns-20 : tie.Need-returns-20
-returns-20 c = rw (c .enum-told13 .given .1)
+returns-20 c = rw (c .enum-told12 .given .1)
 
 returns-21 : tie.Need-returns-21
-returns-21 c = rw (c .enum-told14 .given .1)
+returns-21 c = rw (c .enum-told13 .given .1)
 
 returns-22 : tie.Need-returns-22
-returns-22 c = rw (c .enum-told15 .given .1)
+returns-22 c = rw (c .enum-told14 .given .1)
 
 returns-23 : tie.Need-returns-23
-returns-23 c = rw (c .enum-told16 .given .1)
+returns-23 c = rw (c .enum-told15 .given .1)
+
+returns-24 : tie.Need-returns-24
+returns-24 c = rw (c .enum-told16 .given .1)
 
 pub position-spec : {M : Type 1} → statement M
 position-spec =
@@ -179,8 +197,13 @@ position-spec =
     mul-result
     cast-result-4
     add-result
-    enum-told-5
     enum-known-error-7
+    cast-result-5
+    mul-result-2
+    cast-result-6
+    add-result-2
+    enum-told-5
+    enum-known-error-8
     enum-told-6
     enum-told-7
     enum-told-8
@@ -214,4 +237,5 @@ position-spec =
     returns-20
     returns-21
     returns-22
-    returns-23)
+    returns-23
+    returns-24)

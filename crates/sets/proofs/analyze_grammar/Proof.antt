@@ -1,6 +1,7 @@
 -- A grammar that has been read: by whether it is left-recursive, and by whether a first set is empty.
 use mathlib.Core.Path.{_∙_}
 use Rattle.grammar.proofs.WellRead.{well-read}
+use Rattle.sets.proofs.FewTerminals.{admitted-read}
 use Rattle.sets.proofs.Findings.{families-left, families-unproductive, families-found}
 use Rattle.sets.proofs.Flawed.{lowest-recursive, lowest-unproductive}
 use borrow.Author.Needs.{needs}
@@ -17,10 +18,14 @@ reached-requires : tie.Need-reached-requires
 reached-requires c κs = search needs
 
 lowest-with-requires : tie.Need-lowest-with-requires
-lowest-with-requires c κs = well-read _ _ (c .before .before .before .before .before .before .before .before .before .pre) .fewNonterminals
+lowest-with-requires c κs =
+    let start = c .before .before .before .before .before .before .before .before .before in
+    well-read (start .args .words .now) (start .args .sizes) (admitted-read (start .args .lookahead) (start .args .words .now) (start .pre)) .fewNonterminals
 
 lowest-with-requires-2 : tie.Need-lowest-with-requires-2
-lowest-with-requires-2 c κs = well-read _ _ (c .before .before .before .before .before .before .before .before .before .before .before .before .pre) .fewNonterminals
+lowest-with-requires-2 c κs =
+    let start = c .before .before .before .before .before .before .before .before .before .before .before .before in
+    well-read (start .args .words .now) (start .args .sizes) (admitted-read (start .args .lookahead) (start .args .words .now) (start .pre)) .fewNonterminals
 
 enum-known-recursive : tie.Need-enum-known-recursive
 enum-known-recursive c = search needs
@@ -52,9 +57,9 @@ returns c =
     let start = firsts .before .before .before .before in
     let first-sets = firsts .first-sets .ensures in
     let reaches = reached .reached .ensures in
-    let lowest-left = lowest-recursive (start .args .words .now) (start .pre) first-sets reaches (recursive .lowest-with .ensures) in
-    let lowest-empty = lowest-unproductive (start .args .words .now) (start .pre) first-sets reaches (unproductive .lowest-with2 .ensures) in
-    c .refused .ensures ∙ families-left (start .args .words .now) (start .pre) lowest-left lowest-empty (c .before .before .recursive .given .1)
+    let lowest-left = lowest-recursive (start .args .lookahead) (start .args .words .now) (start .pre) first-sets reaches (recursive .lowest-with .ensures) in
+    let lowest-empty = lowest-unproductive (start .args .lookahead) (start .args .words .now) (start .pre) first-sets reaches (unproductive .lowest-with2 .ensures) in
+    c .refused .ensures ∙ families-left (start .args .lookahead) (start .args .words .now) (start .pre) lowest-left lowest-empty (c .before .before .recursive .given .1)
 
 returns-2 : tie.Need-returns-2
 returns-2 c =
@@ -65,9 +70,9 @@ returns-2 c =
     let start = firsts .before .before .before .before in
     let first-sets = firsts .first-sets .ensures in
     let reaches = reached .reached .ensures in
-    let lowest-left = lowest-recursive (start .args .words .now) (start .pre) first-sets reaches (recursive .lowest-with .ensures) in
-    let lowest-empty = lowest-unproductive (start .args .words .now) (start .pre) first-sets reaches (unproductive .lowest-with2 .ensures) in
-    c .refused2 .ensures ∙ families-unproductive (start .args .words .now) (start .pre) lowest-left lowest-empty (c .before .before .before .before .enum-told .given .1)
+    let lowest-left = lowest-recursive (start .args .lookahead) (start .args .words .now) (start .pre) first-sets reaches (recursive .lowest-with .ensures) in
+    let lowest-empty = lowest-unproductive (start .args .lookahead) (start .args .words .now) (start .pre) first-sets reaches (unproductive .lowest-with2 .ensures) in
+    c .refused2 .ensures ∙ families-unproductive (start .args .lookahead) (start .args .words .now) (start .pre) lowest-left lowest-empty (c .before .before .before .before .enum-told .given .1)
     (c .before .before .unproductive .given .1)
 
 returns-3 : tie.Need-returns-3
@@ -79,9 +84,9 @@ returns-3 c =
     let start = firsts .before .before .before .before in
     let first-sets = firsts .first-sets .ensures in
     let reaches = reached .reached .ensures in
-    let lowest-left = lowest-recursive (start .args .words .now) (start .pre) first-sets reaches (recursive .lowest-with .ensures) in
-    let lowest-empty = lowest-unproductive (start .args .words .now) (start .pre) first-sets reaches (unproductive .lowest-with2 .ensures) in
-    families-found (start .args .words .now) (start .pre) lowest-left lowest-empty (c .before .before .before .before .before .enum-told .given .1) (c .before .before .before .enum-told2 .given .1) first-sets
+    let lowest-left = lowest-recursive (start .args .lookahead) (start .args .words .now) (start .pre) first-sets reaches (recursive .lowest-with .ensures) in
+    let lowest-empty = lowest-unproductive (start .args .lookahead) (start .args .words .now) (start .pre) first-sets reaches (unproductive .lowest-with2 .ensures) in
+    families-found (start .args .lookahead) (start .args .words .now) (start .pre) lowest-left lowest-empty (c .before .before .before .before .before .enum-told .given .1) (c .before .before .before .enum-told2 .given .1) first-sets
     (c .follow-sets .ensures) reaches
 
 pub analyze-grammar-spec : {M : Type 1} → statement M

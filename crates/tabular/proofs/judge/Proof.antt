@@ -1,6 +1,7 @@
 -- What judging answers, by the length of the lent words and by what is found of the grammar.
 use native.Mathlib.Omega.{arith}
 use Rattle.event.specs.Events.{inputOf}
+use Rattle.lookahead.specs.declared.Lookahead.the-variants.{One}
 use Rattle.sets.proofs.Findings.{families-told, families-refused}
 use Rattle.tabular.proofs.Judged.{judge-short, judge-faulty, found-reaches}
 use Rattle.tabular.proofs.judge.Statement.{statement}
@@ -19,10 +20,10 @@ enum-known-finding-2 : tie.Need-enum-known-finding-2
 enum-known-finding-2 c = c .match .keys2
 
 judge-passed-requires : tie.Need-judge-passed-requires
-judge-passed-requires c κs = let found = families-told (c .before .before .before .before .before .before .before .before .before .before .before .args .words .now) (c .before .before .before .before .before .before .analyze .ensures) (c .before .before .before .before .finding2 .given .1) in record { read = found .read; faultless = found .faultless; reached = found-reaches (c .before .before .before .before .before .before .before .before .before .before .before .args .words .now) (c .before .before .before .before .before .before .analyze .ensures) (found .faultless); room = omega (arith, c .before .before .before .before .before .before .before .if1 .left) }
+judge-passed-requires c κs = let found = families-told One (c .before .before .before .before .before .before .before .before .before .before .before .args .words .now) (c .before .before .before .before .before .before .analyze .ensures) (c .before .before .before .before .finding2 .given .1) in record { read = found .read; faultless = found .faultless; reached = found-reaches (c .before .before .before .before .before .before .before .before .before .before .before .args .words .now) (c .before .before .before .before .before .before .analyze .ensures) (found .faultless); room = omega (arith, c .before .before .before .before .before .before .before .if1 .left) }
 
 returns-2 : tie.Need-returns-2
-returns-2 c = judge-faulty (c .before .before .before .before .before .before .before .before .args .words .now) (inputOf (c .before .before .before .before .before .before .before .before .args .events .now)) (c .before .before .before .before .before .before .before .before .args .spans .now) (omega (arith, c .before .before .before .before .if1 .left)) (families-refused (c .before .before .before .before .before .before .before .before .args .words .now) (c .before .before .before .analyze .ensures) (c .before .finding .given .1))
+returns-2 c = judge-faulty (c .before .before .before .before .before .before .before .before .args .words .now) (inputOf (c .before .before .before .before .before .before .before .before .args .events .now)) (c .before .before .before .before .before .before .before .before .args .spans .now) (omega (arith, c .before .before .before .before .if1 .left)) (families-refused One (c .before .before .before .before .before .before .before .before .args .words .now) (c .before .before .before .analyze .ensures) (c .before .finding .given .1))
 
 same-length : tie.Need-same-length
 same-length c = c .before .spans .given

@@ -1,25 +1,31 @@
--- A power of two less one has the elements below the power's; the weight of nothing joins them.
-use native.Mathlib.Omega.{arith}
-use lib.Pow.{pow-pos}
+-- Nothing, the single terminals, and these followed by one another.
 use borrow.Author.Needs.{needs}
-use Rattle.lookahead.proofs.Cases as cases
+use Rattle.lookahead.proofs.FullSet as full-set
 use Rattle.lookahead.proofs.LookaheadSet.full.Statement.{statement}
 use Rattle.lookahead.proofs.LookaheadSet.full.Tie as tie
 
-shl-t5 : tie.Need-shl-t5
-shl-t5 c = search needs
+singles-requires : tie.Need-singles-requires
+singles-requires c κs = search needs
 
-sub-t6 : tie.Need-sub-t6
-sub-t6 c = omega (arith, cases.shifted (c .before .args .terminals) (c .if1 .taken), pow-pos (c .before .args .terminals))
+concat-requires : tie.Need-concat-requires
+concat-requires c κs = search needs
 
-sub-t8 : tie.Need-sub-t8
-sub-t8 c = search needs
+end-requires : tie.Need-end-requires
+end-requires c κs = search needs
+
+join-requires : tie.Need-join-requires
+join-requires c κs = search needs
+
+join-requires-2 : tie.Need-join-requires-2
+join-requires-2 c κs = search needs
 
 returns : tie.Need-returns
-returns c = cases.full-some (c .if1 .taken)
-
-returns-2 : tie.Need-returns-2
-returns-2 c = cases.full-most (omega arith)
+returns c =
+    let end = c .before .before in
+    let singles = end .before .before in
+    let args = singles .before .args in
+    full-set.full-is (args .lookahead) (args .terminals) (singles .singles .result .bits) (singles .singles .ensures) (end .end .ensures) (end .before .concat .ensures)
+    (c .before .join .ensures) (c .join2 .ensures)
 
 pub full-spec : {M : Type 1} → statement M
-full-spec = tie.close (tie.spec shl-t5 sub-t6 sub-t8 returns returns-2)
+full-spec = tie.close (tie.spec singles-requires concat-requires end-requires join-requires join-requires-2 returns)

@@ -7,14 +7,14 @@ use Rattle.recognizer.proofs.descent.chosen.Tie as tie
 use Rattle.recognizer.proofs.descent.chosen.Reads as reads
 use Rattle.recognizer.proofs.descent.chosen.Lts as lts
 
-mul-element : tie.Need-mul-element
-mul-element c = search needs
+mul-column : tie.Need-mul-column
+mul-column c = search needs
 
-element-copy-out-element : tie.Need-element-copy-out-element
-element-copy-out-element c = search needs
+element-copy-out-column : tie.Need-element-copy-out-column
+element-copy-out-column c = search needs
 
-cast-element : tie.Need-cast-element
-cast-element c = search needs
+cast-column : tie.Need-cast-column
+cast-column c = search needs
 
 mul-result : tie.Need-mul-result
 mul-result c = search needs
@@ -40,9 +40,9 @@ pub chosen-spec : {M : Type 1} → statement M
 chosen-spec =
     tie.close
     (tie.spec
-    mul-element
-    element-copy-out-element
-    cast-element
+    mul-column
+    element-copy-out-column
+    cast-column
     mul-result
     add-result
     mul-result-2

@@ -14,7 +14,7 @@ element-copy-out-result : tie.Need-element-copy-out-result
 element-copy-out-result c = search needs
 
 cast-result : tie.Need-cast-result
-cast-result c = omega (arith, c .before .pre .element)
+cast-result c = omega (arith, c .before .pre .column)
 
 returns : tie.Need-returns
 unfolding matchesAt

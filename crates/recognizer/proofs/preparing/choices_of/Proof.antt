@@ -1,44 +1,53 @@
+-- The loop keeps: the rows of the nonterminals passed are written.
 use Prim.Native.Nat.{ℕ, _-_}
 use native.Mathlib.Omega.{arith}
 use lib.ListN.{length-replicate}
 use Rattle.recognizer.specs.Arrays.{choiceWords}
-use Rattle.recognizer.proofs.ChoiceRows.{Rows, rows-none, rows-more, rows-all}
-use Rattle.recognizer.proofs.OneToken.{few-sizes, row-given}
+use Rattle.recognizer.proofs.ChoiceRows.{row-given, Rows, rows-none, rows-more, rows-all}
 use Rattle.recognizer.proofs.preparing.choices_of.Statement.{statement}
 use Rattle.recognizer.proofs.preparing.choices_of.Tie as tie
+use Rattle.recognizer.proofs.preparing.choices_of.Reads as reads
+use Rattle.recognizer.proofs.preparing.choices_of.Lts as lts
+use Rattle.grammar.proofs.reading.rule_starts.Reads as rule-starts-reads
+use Rattle.recognizer.proofs.preparing.fill_row.Reads as fill-row-reads
 
 abbrev Inv-loop : tie.InvT-loop
-Inv-loop words sizes entries places starts choices₀ nonterminal₀ choices nonterminal =
-    Rows words entries sizes places nonterminal choices
+Inv-loop words nonterminals columns entries places starts choices₀ nonterminal₀ choices nonterminal =
+    Rows words columns entries places nonterminal choices
 
 abbrev μ-loop : tie.MeasureT-loop
-μ-loop words sizes entries places starts choices₀ nonterminal₀ choices nonterminal = sizes .nonterminals - nonterminal
+μ-loop words nonterminals columns entries places starts choices₀ nonterminal₀ choices nonterminal =
+    nonterminals - nonterminal
 
+-- src/preparing.rt:92:18
 rule-starts-requires : tie.Need-rule-starts-requires Inv-loop μ-loop
 rule-starts-requires c κs = tt
 
+-- src/preparing.rt:95:5
 loop-holds : tie.Need-loop-holds Inv-loop μ-loop
 loop-holds c =
     let start = c .before .before in
-    rows-none (start .args .words .now) (start .args .entries .now) (start .args .sizes) (start .args .places) _ (length-replicate {A = ℕ} choiceWords 0)
+    rows-none (start .args .words .now) (start .args .columns) (start .args .entries .now) (start .args .places) _ (length-replicate {A = ℕ} choiceWords 0)
 
-cast-if1 : tie.Need-cast-if1 Inv-loop μ-loop
-cast-if1 c = omega (arith, few-sizes (c .before .before .before .before .pre) .0)
-
+-- src/preparing.rt:96:9
 fill-row-requires : tie.Need-fill-row-requires Inv-loop μ-loop
-fill-row-requires c κs = row-given (c .before .before .before .before .before .before .before .pre) (c .before .before .before .before .before .rule-starts .ensures) (c .before .before .if1 .taken) (c .before .before .before .before .loop .inv .long)
+fill-row-requires c κs = row-given (c .before .before .before .before .before .before .pre) (c .before .before .before .before .rule-starts .ensures) (c .before .before .loop-test .taken) (c .before .before .before .loop .inv .long)
 
+-- src/preparing.rt:97:23
 add-nonterminal : tie.Need-add-nonterminal Inv-loop μ-loop
-add-nonterminal c = omega (arith, few-sizes (c .before .before .before .before .before .before .before .before .pre) .0)
+add-nonterminal c = omega (arith, c .before .before .before .loop-test .taken, c .before .before .before .before .before .before .before .pre .fewNonterminals)
 
+-- src/preparing.rt:95:5
 loop-less : tie.Need-loop-less Inv-loop μ-loop
-loop-less c = omega arith
+loop-less c = omega (arith, c .before .before .before .loop-test .taken)
 
+-- src/preparing.rt:95:5
 loop-again : tie.Need-loop-again Inv-loop μ-loop
-loop-again c = rows-more (few-sizes (c .before .before .before .before .before .before .before .before .pre) .1) (c .before .before .before .before .before .before .rule-starts .ensures) (c .before .before .before .before .before .loop .inv) (c .fill-row .ensures)
+loop-again c = rows-more (c .before .before .before .before .before .before .before .pre .fewColumns) (c .before .before .before .before .before .rule-starts .ensures) (c .before .before .before .before .loop .inv) (c .fill-row .ensures)
 
+-- src/preparing.rt:82:1
 returns : tie.Need-returns Inv-loop μ-loop
-returns c = rows-all (c .if1 .left) (c .before .before .loop .inv)
+returns c = rows-all (c .loop-test .left) (c .before .loop .inv)
 
 pub choices-of-spec : {M : Type 1} → statement M
 choices-of-spec =
@@ -48,7 +57,6 @@ choices-of-spec =
     μ-loop
     rule-starts-requires
     loop-holds
-    cast-if1
     fill-row-requires
     add-nonterminal
     loop-less

@@ -1,106 +1,115 @@
+-- The loop keeps: the columns passed are written, and the rows before are as they were.
 use Prim.Native.Nat.{_-_}
 use native.Mathlib.Omega.{arith}
 use Rattle.recognizer.proofs.ChoiceRows.{placed, Writing, writing-none, writing-more, row-filled}
 use Rattle.recognizer.proofs.preparing.fill_row.Statement.{statement}
 use Rattle.recognizer.proofs.preparing.fill_row.Tie as tie
+use Rattle.recognizer.proofs.preparing.fill_row.Reads as reads
+use Rattle.recognizer.proofs.preparing.fill_row.Lts as lts
+use Rattle.recognizer.proofs.preparing.first_conjunct.Reads as first-conjunct-reads
 
 abbrev Inv-loop : tie.InvT-loop
-Inv-loop choices₀ starts entries nonterminal places columns from to column₀ choices column =
+Inv-loop choices₀ starts entries columns nonterminal places from to column₀ choices column =
     Writing starts entries from to column choices₀ choices
 
 abbrev μ-loop : tie.MeasureT-loop
-μ-loop choices₀ starts entries nonterminal places columns from to column₀ choices column = columns - column
+μ-loop choices₀ starts entries columns nonterminal places from to column₀ choices column = columns - column
 
-cast-columns : tie.Need-cast-columns Inv-loop μ-loop
-cast-columns c = let p = placed (c .before .pre) in omega (arith, p .from, p .to, p .row, c .before .pre .fewNonterminals, c .before .pre .fewTerminals)
-
-add-columns : tie.Need-add-columns Inv-loop μ-loop
-add-columns c = let p = placed (c .before .pre) in omega (arith, p .from, p .to, p .row, c .before .pre .fewNonterminals, c .before .pre .fewTerminals)
-
-cast-from : tie.Need-cast-from Inv-loop μ-loop
-cast-from c = let p = placed (c .before .before .pre) in omega (arith, p .from, p .to, p .row, c .before .before .pre .fewNonterminals, c .before .before .pre .fewTerminals)
-
+-- src/preparing.rt:71:16
 mul-from : tie.Need-mul-from Inv-loop μ-loop
-mul-from c = let p = placed (c .before .before .pre) in omega (arith, p .from, p .to, p .row, c .before .before .pre .fewNonterminals, c .before .before .pre .fewTerminals)
+mul-from c = let g = c .pre in let p = placed g in omega (arith, p .from, p .to, p .row, g .named, g .some-place, g .few, g .fewColumns)
 
-mul-from-2 : tie.Need-mul-from-2 Inv-loop μ-loop
-mul-from-2 c = let p = placed (c .before .before .pre) in omega (arith, p .from, p .to, p .row, c .before .before .pre .fewNonterminals, c .before .before .pre .fewTerminals)
-
-add-from : tie.Need-add-from Inv-loop μ-loop
-add-from c = let p = placed (c .before .before .pre) in omega (arith, p .from, p .to, p .row, c .before .before .pre .fewNonterminals, c .before .before .pre .fewTerminals)
-
+-- src/preparing.rt:72:14
 mul-to : tie.Need-mul-to Inv-loop μ-loop
-mul-to c = let p = placed (c .before .before .pre) in omega (arith, p .from, p .to, p .row, c .before .before .pre .fewNonterminals, c .before .before .pre .fewTerminals)
+mul-to c = let g = c .pre in let p = placed g in omega (arith, p .from, p .to, p .row, g .named, g .some-place, g .few, g .fewColumns)
 
+-- src/preparing.rt:74:5
 loop-holds : tie.Need-loop-holds Inv-loop μ-loop
 loop-holds c = writing-none _ _ _ _ _
 
+-- src/preparing.rt:75:63
 add-first-conjunct : tie.Need-add-first-conjunct Inv-loop μ-loop
-add-first-conjunct c = let p = placed (c .before .before .before .before .pre) in omega (arith, p .from, p .to, p .row, c .before .before .before .before .pre .fewNonterminals, c .before .before .before .before .pre .fewTerminals)
+add-first-conjunct c = let g = c .before .before .pre in let p = placed g in omega (arith, p .from, p .to, p .row, g .named, g .some-place, g .few, g .fewColumns)
 
-mul-first-conjunct : tie.Need-mul-first-conjunct Inv-loop μ-loop
-mul-first-conjunct c = let p = placed (c .before .before .before .before .pre) in omega (arith, p .from, p .to, p .row, c .before .before .before .before .pre .fewNonterminals, c .before .before .before .before .pre .fewTerminals)
-
+-- src/preparing.rt:75:55
 element-copy-out-first-conjunct : tie.Need-element-copy-out-first-conjunct Inv-loop μ-loop
-element-copy-out-first-conjunct c = let p = placed (c .before .before .before .before .pre) in omega (arith, p .from, p .to, p .row, c .before .before .before .before .pre .fewNonterminals, c .before .before .before .before .pre .fewTerminals)
+element-copy-out-first-conjunct c = let g = c .before .before .pre in let p = placed g in omega (arith, p .from, p .to, p .row, g .named, g .some-place, g .few, g .fewColumns)
 
+-- src/preparing.rt:75:32
 first-conjunct-requires : tie.Need-first-conjunct-requires Inv-loop μ-loop
-first-conjunct-requires c κs = c .before .before .before .before .before .pre .firsts _ (c .before .loop-test .taken)
+first-conjunct-requires c κs = c .before .before .before .pre .firsts _ (c .before .loop-test .taken)
 
+-- src/preparing.rt:75:17
 add-choices : tie.Need-add-choices Inv-loop μ-loop
-add-choices c = let p = placed (c .before .before .before .before .before .before .pre) in omega (arith, p .from, p .to, p .row, c .before .before .before .before .before .before .pre .fewNonterminals, c .before .before .before .before .before .before .pre .fewTerminals)
+add-choices c = let g = c .before .before .before .before .pre in let p = placed g in omega (arith, p .from, p .to, p .row, g .named, g .some-place, g .few, g .fewColumns)
 
+-- src/preparing.rt:75:9
 mul-choices : tie.Need-mul-choices Inv-loop μ-loop
-mul-choices c = let p = placed (c .before .before .before .before .before .before .pre) in omega (arith, p .from, p .to, p .row, c .before .before .before .before .before .before .pre .fewNonterminals, c .before .before .before .before .before .before .pre .fewTerminals)
+mul-choices c = let g = c .before .before .before .before .pre in let p = placed g in omega (arith, p .from, p .to, p .row, g .named, g .some-place, g .few, g .fewColumns)
 
+-- src/preparing.rt:75:9
 element-write-choices : tie.Need-element-write-choices Inv-loop μ-loop
-element-write-choices c = let p = placed (c .before .before .before .before .before .before .pre) in omega (arith, p .from, p .to, p .row, c .before .before .before .before .before .before .pre .fewNonterminals, c .before .before .before .before .before .before .pre .fewTerminals)
+element-write-choices c = let g = c .before .before .before .before .pre in let p = placed g in omega (arith, p .from, p .to, p .row, g .named, g .some-place, g .few, g .fewColumns)
 
+-- src/preparing.rt:76:18
 add-column : tie.Need-add-column Inv-loop μ-loop
-add-column c = omega (arith, c .before .before .before .before .before .before .pre .fewTerminals)
+add-column c = let g = c .before .before .before .before .pre in let p = placed g in omega (arith, p .from, p .to, p .row, g .named, g .some-place, g .few, g .fewColumns)
 
+-- src/preparing.rt:74:5
 loop-less : tie.Need-loop-less Inv-loop μ-loop
-loop-less c = omega arith
+loop-less c = omega (arith, c .before .before .loop-test .taken)
 
+-- src/preparing.rt:74:5
 loop-again : tie.Need-loop-again Inv-loop μ-loop
 loop-again c =
     let at-loop = c .before .before .before in
-    let start = at-loop .before .before .before in
+    let start = at-loop .before in
     let p = placed (start .pre) in
-    writing-more (at-loop .loop .inv) (omega (arith, at-loop .loop .inv .long, start .pre .long, p .to, start .pre .fewTerminals)) (c .first-conjunct .ensures)
+    writing-more (at-loop .loop .inv) (omega (arith, c .before .before .loop-test .taken, at-loop .loop .inv .long, start .pre .long, p .to, start .pre .fewColumns)) (c .first-conjunct .ensures)
 
+-- src/preparing.rt:78:33
 sub-choices : tie.Need-sub-choices Inv-loop μ-loop
-sub-choices c = let g = c .before .before .before .before .pre in let p = placed g in omega (arith, p .from, p .to, p .row, g .some-place, g .few, g .fewNonterminals, g .fewTerminals)
+sub-choices c = let g = c .before .before .pre in let p = placed g in omega (arith, p .from, p .to, p .row, g .named, g .some-place, g .few, g .fewColumns)
 
+-- src/preparing.rt:78:32
 cast-choices : tie.Need-cast-choices Inv-loop μ-loop
-cast-choices c = let g = c .before .before .before .before .pre in let p = placed g in omega (arith, p .from, p .to, p .row, g .some-place, g .few, g .fewNonterminals, g .fewTerminals)
+cast-choices c = let g = c .before .before .pre in let p = placed g in omega (arith, p .from, p .to, p .row, g .named, g .some-place, g .few, g .fewColumns)
 
+-- src/preparing.rt:78:13
 add-choices-2 : tie.Need-add-choices-2 Inv-loop μ-loop
-add-choices-2 c = let g = c .before .before .before .before .pre in let p = placed g in omega (arith, p .from, p .to, p .row, g .some-place, g .few, g .fewNonterminals, g .fewTerminals)
+add-choices-2 c = let g = c .before .before .pre in let p = placed g in omega (arith, p .from, p .to, p .row, g .named, g .some-place, g .few, g .fewColumns)
 
+-- src/preparing.rt:78:5
 mul-choices-2 : tie.Need-mul-choices-2 Inv-loop μ-loop
-mul-choices-2 c = let g = c .before .before .before .before .pre in let p = placed g in omega (arith, p .from, p .to, p .row, g .some-place, g .few, g .fewNonterminals, g .fewTerminals)
+mul-choices-2 c = let g = c .before .before .pre in let p = placed g in omega (arith, p .from, p .to, p .row, g .named, g .some-place, g .few, g .fewColumns)
 
+-- src/preparing.rt:78:5
 element-write-choices-2 : tie.Need-element-write-choices-2 Inv-loop μ-loop
-element-write-choices-2 c = let g = c .before .before .before .before .pre in let p = placed g in omega (arith, p .from, p .to, p .row, g .some-place, g .few, g .fewNonterminals, g .fewTerminals)
+element-write-choices-2 c = let g = c .before .before .pre in let p = placed g in omega (arith, p .from, p .to, p .row, g .named, g .some-place, g .few, g .fewColumns)
 
+-- src/preparing.rt:79:33
 mul-choices-3 : tie.Need-mul-choices-3 Inv-loop μ-loop
-mul-choices-3 c = let g = c .before .before .before .before .pre in let p = placed g in omega (arith, p .from, p .to, p .row, g .some-place, g .few, g .fewNonterminals, g .fewTerminals)
+mul-choices-3 c = let g = c .before .before .pre in let p = placed g in omega (arith, p .from, p .to, p .row, g .named, g .some-place, g .few, g .fewColumns)
 
+-- src/preparing.rt:79:32
 cast-choices-2 : tie.Need-cast-choices-2 Inv-loop μ-loop
-cast-choices-2 c = let g = c .before .before .before .before .pre in let p = placed g in omega (arith, p .from, p .to, p .row, g .some-place, g .few, g .fewNonterminals, g .fewTerminals)
+cast-choices-2 c = let g = c .before .before .pre in let p = placed g in omega (arith, p .from, p .to, p .row, g .named, g .some-place, g .few, g .fewColumns)
 
+-- src/preparing.rt:79:13
 add-choices-3 : tie.Need-add-choices-3 Inv-loop μ-loop
-add-choices-3 c = let g = c .before .before .before .before .pre in let p = placed g in omega (arith, p .from, p .to, p .row, g .some-place, g .few, g .fewNonterminals, g .fewTerminals)
+add-choices-3 c = let g = c .before .before .pre in let p = placed g in omega (arith, p .from, p .to, p .row, g .named, g .some-place, g .few, g .fewColumns)
 
+-- src/preparing.rt:79:5
 mul-choices-4 : tie.Need-mul-choices-4 Inv-loop μ-loop
-mul-choices-4 c = let g = c .before .before .before .before .pre in let p = placed g in omega (arith, p .from, p .to, p .row, g .some-place, g .few, g .fewNonterminals, g .fewTerminals)
+mul-choices-4 c = let g = c .before .before .pre in let p = placed g in omega (arith, p .from, p .to, p .row, g .named, g .some-place, g .few, g .fewColumns)
 
+-- src/preparing.rt:79:5
 element-write-choices-3 : tie.Need-element-write-choices-3 Inv-loop μ-loop
-element-write-choices-3 c = let g = c .before .before .before .before .pre in let p = placed g in omega (arith, p .from, p .to, p .row, g .some-place, g .few, g .fewNonterminals, g .fewTerminals)
+element-write-choices-3 c = let g = c .before .before .pre in let p = placed g in omega (arith, p .from, p .to, p .row, g .named, g .some-place, g .few, g .fewColumns)
 
+-- src/preparing.rt:60:1
 returns : tie.Need-returns Inv-loop μ-loop
-returns c = row-filled (c .before .before .before .before .pre) (c .before .loop .inv) (c .loop-test .left)
+returns c = row-filled (c .before .before .pre) (c .before .loop .inv) (c .loop-test .left)
 
 pub fill-row-spec : {M : Type 1} → statement M
 fill-row-spec =
@@ -108,16 +117,10 @@ fill-row-spec =
     (tie.spec
     Inv-loop
     μ-loop
-    cast-columns
-    add-columns
-    cast-from
     mul-from
-    mul-from-2
-    add-from
     mul-to
     loop-holds
     add-first-conjunct
-    mul-first-conjunct
     element-copy-out-first-conjunct
     first-conjunct-requires
     add-choices

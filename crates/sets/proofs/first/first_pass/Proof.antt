@@ -10,10 +10,10 @@ use Rattle.sets.proofs.first.first_pass.Statement.{statement}
 use Rattle.sets.proofs.first.first_pass.Tie as tie
 
 abbrev Inv-loop : tie.InvT-loop
-Inv-loop words starts sizes firsts₀ forward terminals grown₀ passed₀ firsts grown passed = Turns (Gives (ruleGives terminals) words) (sizes .rules) forward firsts₀ firsts grown passed
+Inv-loop words starts sizes firsts₀ forward lookahead terminals grown₀ passed₀ firsts grown passed = Turns (Gives (ruleGives lookahead terminals) words) (sizes .rules) forward firsts₀ firsts grown passed
 
 abbrev μ-loop : tie.MeasureT-loop
-μ-loop words starts sizes firsts₀ forward terminals grown₀ passed₀ firsts grown passed = sizes .rules - passed
+μ-loop words starts sizes firsts₀ forward lookahead terminals grown₀ passed₀ firsts grown passed = sizes .rules - passed
 
 loop-holds : tie.Need-loop-holds Inv-loop μ-loop
 loop-holds c = turns-start _ _ (c .before .args .forward) _
@@ -59,11 +59,11 @@ loop-less c = omega (arith, c .before .before .before .before .before .before .b
 
 loop-again : tie.Need-loop-again Inv-loop μ-loop
 loop-again c =
-    visit (c .before .before .before .before .before .before .before .before .before .before .before .before .before .before .before .pre) (ruleGives _) (rule-larger _) (c .before .before .before .before .before .before .before .before .before .before .before .before .before .before .before .args .forward) _ (c .before .before .before .before .before .before .before .before .before .before .before .before .before .loop .inv) (c .before .before .before .before .before .before .before .before .before .before .before .if1 .taken) (c .before .before .before .before .before .before .before .before .before .before .turn .ensures) (c .before .before .before .before .before .before .rule-first .ensures)
+    visit (c .before .before .before .before .before .before .before .before .before .before .before .before .before .before .before .pre) (ruleGives _ _) (rule-larger _ _) (c .before .before .before .before .before .before .before .before .before .before .before .before .before .before .before .args .forward) _ (c .before .before .before .before .before .before .before .before .before .before .before .before .before .loop .inv) (c .before .before .before .before .before .before .before .before .before .before .before .if1 .taken) (c .before .before .before .before .before .before .before .before .before .before .turn .ensures) (c .before .before .before .before .before .before .rule-first .ensures)
     (c .before .before .before .before .decode .ensures) (c .before .before .before .head-of .ensures) (c .before .add .ensures) (c .either .ensures)
 
 returns : tie.Need-returns Inv-loop μ-loop
-returns c = visits-end (c .before .before .before .before .pre) (ruleGives _) (rule-larger _) (c .before .before .before .before .args .forward) (c .before .before .loop .inv) (c .if1 .left)
+returns c = visits-end (c .before .before .before .before .pre) (ruleGives _ _) (rule-larger _ _) (c .before .before .before .before .args .forward) (c .before .before .loop .inv) (c .if1 .left)
 
 pub first-pass-spec : {M : Type 1} → statement M
 first-pass-spec =

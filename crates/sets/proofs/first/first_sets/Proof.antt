@@ -7,27 +7,28 @@ use Rattle.grammar.specs.Encoding.{parse}
 use Rattle.lookahead.specs.Operations.{full}
 use Rattle.sets.specs.First.{FirstNumbersClosed}
 use Rattle.sets.proofs.LeastByPasses.{Below, below-none, missing, below-pass, least-pass, missing-falls}
+use Rattle.sets.proofs.FewTerminals.{admitted-read}
 use Rattle.sets.proofs.FirstTie.{full-closed, first-listed}
 use Rattle.sets.proofs.first.first_sets.Statement.{statement}
 use Rattle.sets.proofs.first.first_sets.Tie as tie
 
 abbrev Inv-loop : tie.InvT-loop
-Inv-loop words starts sizes firsts₀ forward₀ firsts forward = (length firsts ≡ maxNonterminals) × Below (FirstNumbersClosed (sizes .terminals) (parse words .rules)) firsts
+Inv-loop words starts sizes lookahead firsts₀ forward₀ firsts forward = (length firsts ≡ maxNonterminals) × Below (FirstNumbersClosed lookahead (sizes .terminals) (parse words .rules)) firsts
 
 abbrev μ-loop : tie.MeasureT-loop
-μ-loop words starts sizes firsts₀ forward₀ firsts forward = missing (full (sizes .terminals)) firsts
+μ-loop words starts sizes lookahead firsts₀ forward₀ firsts forward = missing (full lookahead (sizes .terminals)) firsts
 
 loop-holds : tie.Need-loop-holds Inv-loop μ-loop
 loop-holds c = (refl, below-none _ maxNonterminals)
 
 first-pass-requires : tie.Need-first-pass-requires Inv-loop μ-loop
-first-pass-requires c κs = let start = c .before .before .before in record { read = start .pre .0; begins = start .pre .1; long = c .before .loop .inv .0 }
+first-pass-requires c κs = let start = c .before .before .before in record { read = admitted-read (start .args .lookahead) (start .args .words .now) (start .pre .0); begins = start .pre .1; long = c .before .loop .inv .0 }
 
 loop-less : tie.Need-loop-less Inv-loop μ-loop
 loop-less c =
     let start = c .before .before .before .before .before in
     missing-falls (c .before .first-pass .ensures) (c .before .before .before .loop .inv .1) _ _
-    (full-closed (start .args .sizes .terminals) (parse (start .args .words .now) .rules)) (λ n. omega arith) (c .if1 .taken)
+    (full-closed (start .args .lookahead) (start .args .sizes .terminals) (parse (start .args .words .now) .rules)) (λ n. omega arith) (c .if1 .taken)
 
 loop-again : tie.Need-loop-again Inv-loop μ-loop
 loop-again c =
@@ -40,7 +41,7 @@ returns c =
     let start = c .before .before .before .before .before in
     let inv = c .before .before .before .loop .inv in
     let pass = c .before .first-pass .ensures in
-    first-listed (start .args .words .now) (start .args .sizes) (start .pre .0) _ (pass .long ∙ inv .0) (least-pass pass (inv .1) (c .if1 .left))
+    first-listed (start .args .lookahead) (start .args .words .now) (start .args .sizes) (start .pre .0) _ (pass .long ∙ inv .0) (least-pass pass (inv .1) (c .if1 .left))
 
 pub first-sets-spec : {M : Type 1} → statement M
 first-sets-spec =

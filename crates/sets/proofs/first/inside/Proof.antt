@@ -15,7 +15,7 @@ closed-requires : tie.Need-closed-requires
 closed-requires c κs = search needs
 
 returns : tie.Need-returns
-returns c = rw (c .before .end .ensures .is, c .closed .ensures) (first-closed (lookup (c .before .before .before .before .before .args .firsts .now)) (c .before .before .before .before .before .args .word) (c .before .before .before .before .before .args .rest) (c .before .before .match .keys2))
+returns c = rw (c .before .end .ensures .is, c .closed .ensures) (first-closed (c .before .before .before .before .before .args .lookahead) (lookup (c .before .before .before .before .before .args .firsts .now)) (c .before .before .before .before .before .args .word) (c .before .before .before .before .before .args .rest) (c .before .before .match .keys2))
 
 symbol-first-requires : tie.Need-symbol-first-requires
 symbol-first-requires c κs = search needs

@@ -7,16 +7,16 @@ use Rattle.sets.proofs.first.rule_first.Statement.{statement}
 use Rattle.sets.proofs.first.rule_first.Tie as tie
 
 abbrev Inv-loop : tie.InvT-loop
-Inv-loop words start end firsts terminals rest₀ at₀ rest at = FirstWalk terminals (family firsts) words start end rest at
+Inv-loop words start end firsts terminals lookahead rest₀ at₀ rest at = FirstWalk lookahead terminals (family firsts) words start end rest at
 
 abbrev μ-loop : tie.MeasureT-loop
-μ-loop words start end firsts terminals rest₀ at₀ rest at = at
+μ-loop words start end firsts terminals lookahead rest₀ at₀ rest at = at
 
 no-rest-requires : tie.Need-no-rest-requires Inv-loop μ-loop
 no-rest-requires c κs = tt
 
 loop-holds : tie.Need-loop-holds Inv-loop μ-loop
-loop-holds c = walk-start (c .before .before .pre .0) _ _ (c .no-rest .ensures)
+loop-holds c = walk-start (c .before .before .pre .0) _ _ _ (c .no-rest .ensures)
 
 add-loop : tie.Need-add-loop Inv-loop μ-loop
 add-loop c = omega (arith, c .loop .inv .low)

@@ -24,7 +24,7 @@ either-requires c κs = search needs
 returns : tie.Need-returns
 returns c =
     let given = c .before .before .before .before .before .before .before .pre in
-    rw (c .either .ensures) (follow-passes _ _ (omega (arith, given .0 .long)) (rw (c .before .before .before .before .end .ensures .is) at (c .before .before .before .add .ensures)) (c .before .follow-rules .ensures))
+    rw (c .either .ensures) (follow-passes _ _ _ (omega (arith, given .0 .long)) (rw (c .before .before .before .before .end .ensures .is) at (c .before .before .before .add .ensures)) (c .before .follow-rules .ensures))
 
 pub follow-pass-spec : {M : Type 1} → statement M
 follow-pass-spec =

@@ -2,24 +2,32 @@
 use native.Mathlib.Omega.{arith}
 use Rattle.sets.specs.Least.{at as family}
 use Rattle.sets.proofs.ArrayLookup.{lookup-at}
-use Rattle.sets.proofs.FollowPasses.{FollowWalk, follow-start, word-here, follow-turn, follow-end}
+use Rattle.sets.proofs.FollowPasses.{FollowWalk, behind-body, follow-start, word-here, follow-turn, follow-end}
 use Rattle.sets.proofs.follow.follow_rule.Statement.{statement}
 use Rattle.sets.proofs.follow.follow_rule.Tie as tie
 
 abbrev Inv-loop : tie.InvT-loop
-Inv-loop words start end head firsts follows₀ follow grown₀ tail₀ at₀ follows grown tail at = FollowWalk (family firsts) head words follows₀ follows start end grown (tail .bits) at
+Inv-loop words start end head firsts follows₀ lookahead behind grown₀ tail₀ at₀ follows grown tail at = FollowWalk lookahead (family firsts) head words follows₀ follows start end grown (tail .bits) at
 
 abbrev μ-loop : tie.MeasureT-loop
-μ-loop words start end head firsts follows₀ follow grown₀ tail₀ at₀ follows grown tail at = at
+μ-loop words start end head firsts follows₀ lookahead behind grown₀ tail₀ at₀ follows grown tail at = at
 
-mul-t13 : tie.Need-mul-t13 Inv-loop μ-loop
-mul-t13 c = omega (arith, c .before .pre .1)
+mul-t15 : tie.Need-mul-t15 Inv-loop μ-loop
+mul-t15 c = omega (arith, c .before .pre .1)
 
-element-copy-out-t16 : tie.Need-element-copy-out-t16 Inv-loop μ-loop
-element-copy-out-t16 c = omega (arith, c .before .pre .1)
+element-copy-out-t18 : tie.Need-element-copy-out-t18 Inv-loop μ-loop
+element-copy-out-t18 c = omega (arith, c .before .pre .1)
+
+end-requires : tie.Need-end-requires Inv-loop μ-loop
+end-requires c κs = tt
+
+concat-requires : tie.Need-concat-requires Inv-loop μ-loop
+concat-requires c κs = tt
 
 loop-holds : tie.Need-loop-holds Inv-loop μ-loop
-loop-holds c = follow-start (c .before .before .pre .0) _ _ _
+loop-holds c =
+    let start = c .before .before .before .before in
+    follow-start (start .pre .0) (start .args .lookahead) _ _ _ (behind-body (start .args .lookahead) (c .before .end .ensures) (c .concat .ensures))
 
 add-loop : tie.Need-add-loop Inv-loop μ-loop
 add-loop c = omega (arith, c .loop .inv .low)
@@ -28,16 +36,16 @@ sub-at : tie.Need-sub-at Inv-loop μ-loop
 sub-at c = omega arith
 
 mul-decode : tie.Need-mul-decode Inv-loop μ-loop
-mul-decode c = omega (arith, c .before .loop .inv .high, c .before .before .before .before .pre .0 .within)
+mul-decode c = omega (arith, c .before .loop .inv .high, c .before .before .before .before .before .before .pre .0 .within)
 
 shared-slice-read-decode : tie.Need-shared-slice-read-decode Inv-loop μ-loop
-shared-slice-read-decode c = omega (arith, c .before .before .loop .inv .high, c .before .before .before .before .before .pre .0 .within)
+shared-slice-read-decode c = omega (arith, c .before .before .loop .inv .high, c .before .before .before .before .before .before .before .pre .0 .within)
 
 decode-requires : tie.Need-decode-requires Inv-loop μ-loop
 decode-requires c κs = tt
 
 add-behind-requires : tie.Need-add-behind-requires Inv-loop μ-loop
-add-behind-requires c κs = word-here (c .before .before .before .before .before .before .before .pre .0) _ (c .before .before .before .before .loop .inv) (c .before .before .before .loop-test .taken) (c .before .decode .ensures)
+add-behind-requires c κs = word-here (c .before .before .before .before .before .before .before .before .before .pre .0) _ (c .before .before .before .before .loop .inv) (c .before .before .before .loop-test .taken) (c .before .decode .ensures)
 
 either-requires : tie.Need-either-requires Inv-loop μ-loop
 either-requires c κs = tt
@@ -50,12 +58,14 @@ loop-less c = omega (arith, c .before .before .before .before .before .before .l
 
 loop-again : tie.Need-loop-again Inv-loop μ-loop
 loop-again c =
-    let start = c .before .before .before .before .before .before .before .before .before .before in
+    let behind = c .before .before .before .before .before .before .before .before in
+    let start = behind .before .before .before .before in
     follow-turn (start .pre .0) _ (c .before .before .before .before .before .before .before .loop .inv) (c .before .before .before .before .before .before .loop-test .taken) (c .before .before .before .before .decode .ensures) _ (start .pre .3)
-    (c .before .before .add-behind .ensures) (c .before .either .ensures) (rw (lookup-at (start .args .firsts .now) (start .pre .2)) at (c .tail-before .ensures))
+    (c .before .before .add-behind .ensures) (c .before .either .ensures) (behind-body (start .args .lookahead) (behind .before .end .ensures) (behind .concat .ensures))
+    (rw (lookup-at (start .args .firsts .now) (start .pre .2)) at (c .tail-before .ensures))
 
 returns : tie.Need-returns Inv-loop μ-loop
-returns c = follow-end (c .before .before .before .before .pre .0) (c .before .loop .inv) (c .loop-test .left)
+returns c = follow-end (c .before .before .before .before .before .before .pre .0) (c .before .loop .inv) (c .loop-test .left)
 
 pub follow-rule-spec : {M : Type 1} → statement M
 follow-rule-spec =
@@ -63,8 +73,10 @@ follow-rule-spec =
     (tie.spec
     Inv-loop
     μ-loop
-    mul-t13
-    element-copy-out-t16
+    mul-t15
+    element-copy-out-t18
+    end-requires
+    concat-requires
     loop-holds
     add-loop
     sub-at

@@ -11,10 +11,10 @@ use Rattle.sets.proofs.follow.follow_rules.Statement.{statement}
 use Rattle.sets.proofs.follow.follow_rules.Tie as tie
 
 abbrev Inv-loop : tie.InvT-loop
-Inv-loop words starts sizes firsts follows₀ forward grown₀ passed₀ follows grown passed = Turns (Asks (family firsts) words) (sizes .rules) forward follows₀ follows grown passed
+Inv-loop words starts sizes firsts follows₀ forward lookahead grown₀ passed₀ follows grown passed = Turns (Asks lookahead (family firsts) words) (sizes .rules) forward follows₀ follows grown passed
 
 abbrev μ-loop : tie.MeasureT-loop
-μ-loop words starts sizes firsts follows₀ forward grown₀ passed₀ follows grown passed = sizes .rules - passed
+μ-loop words starts sizes firsts follows₀ forward lookahead grown₀ passed₀ follows grown passed = sizes .rules - passed
 
 loop-holds : tie.Need-loop-holds Inv-loop μ-loop
 loop-holds c = turns-start _ _ (c .before .args .forward) _
@@ -63,11 +63,11 @@ loop-less c = omega (arith, c .before .before .before .before .before .before .b
 
 loop-again : tie.Need-loop-again Inv-loop μ-loop
 loop-again c =
-    follow-visit (c .before .before .before .before .before .before .before .before .before .before .before .before .before .pre .0) _ (c .before .before .before .before .before .before .before .before .before .before .before .before .before .args .forward) _ (c .before .before .before .before .before .before .before .before .before .before .before .loop .inv) (c .before .before .before .before .before .before .before .before .before .if1 .taken) (c .before .before .before .before .before .before .before .before .turn .ensures) (c .before .before .before .before .decode .ensures) (c .before .before .before .head-of .ensures)
+    follow-visit (c .before .before .before .before .before .before .before .before .before .before .before .before .before .pre .0) _ _ (c .before .before .before .before .before .before .before .before .before .before .before .before .before .args .forward) _ (c .before .before .before .before .before .before .before .before .before .before .before .loop .inv) (c .before .before .before .before .before .before .before .before .before .if1 .taken) (c .before .before .before .before .before .before .before .before .turn .ensures) (c .before .before .before .before .decode .ensures) (c .before .before .before .head-of .ensures)
     (c .before .follow-rule .ensures) (c .either .ensures)
 
 returns : tie.Need-returns Inv-loop μ-loop
-returns c = follows-end (c .before .before .before .before .pre .0) _ (c .before .before .before .before .args .forward) (c .before .before .loop .inv) (c .if1 .left)
+returns c = follows-end (c .before .before .before .before .pre .0) _ _ (c .before .before .before .before .args .forward) (c .before .before .loop .inv) (c .if1 .left)
 
 pub follow-rules-spec : {M : Type 1} → statement M
 follow-rules-spec =

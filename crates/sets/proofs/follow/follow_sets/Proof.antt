@@ -4,36 +4,37 @@ use native.Mathlib.Omega.{arith}
 use lib.ListN.{length}
 use Rattle.grammar.specs.Limits.{maxNonterminals}
 use Rattle.grammar.specs.Encoding.{parse}
-use Rattle.lookahead.specs.Elements.{nothing}
+use Rattle.lookahead.specs.Lookaheads.{alphabet}
 use Rattle.lookahead.specs.Operations.{full}
 use Rattle.sets.specs.Least.{at as family}
 use Rattle.sets.specs.Follow.{FollowNumbersClosed}
 use Rattle.sets.proofs.Lists.{listed-long}
 use Rattle.sets.proofs.LeastByPasses.{Below, below-none, missing, below-pass, least-pass, missing-falls}
-use Rattle.sets.proofs.FollowTie.{full-closed, firsts-over, follow-listed}
+use Rattle.sets.proofs.FewTerminals.{admitted-read}
+use Rattle.sets.proofs.FollowTie.{full-closed, follow-listed}
 use Rattle.sets.proofs.follow.follow_sets.Statement.{statement}
 use Rattle.sets.proofs.follow.follow_sets.Tie as tie
 
 abbrev Inv-loop : tie.InvT-loop
-Inv-loop words starts sizes firsts follows₀ forward₀ follows forward = (length follows ≡ maxNonterminals) × Below (FollowNumbersClosed (family firsts) (parse words .rules)) follows
+Inv-loop words starts sizes firsts lookahead follows₀ forward₀ follows forward = (length follows ≡ maxNonterminals) × Below (FollowNumbersClosed lookahead (family firsts) (parse words .rules)) follows
 
 abbrev μ-loop : tie.MeasureT-loop
-μ-loop words starts sizes firsts follows₀ forward₀ follows forward = missing (full nothing) follows
+μ-loop words starts sizes firsts lookahead follows₀ forward₀ follows forward = missing (full lookahead (alphabet lookahead)) follows
 
 loop-holds : tie.Need-loop-holds Inv-loop μ-loop
 loop-holds c = (refl, below-none _ maxNonterminals)
 
 follow-pass-requires : tie.Need-follow-pass-requires Inv-loop μ-loop
 follow-pass-requires c κs =
-    let given = c .before .before .before .pre in
-    (record { read = given .0; begins = given .1; long = c .before .loop .inv .0 }, ap length (given .2) ∙ listed-long maxNonterminals _)
+    let start = c .before .before .before in
+    let given = start .pre in
+    (record { read = admitted-read (start .args .lookahead) (start .args .words .now) (given .0); begins = given .1; long = c .before .loop .inv .0 }, ap length (given .2) ∙ listed-long maxNonterminals _)
 
 loop-less : tie.Need-loop-less Inv-loop μ-loop
 loop-less c =
     let start = c .before .before .before .before .before in
-    let over = firsts-over (start .args .words .now) (start .args .sizes) (start .pre .0) (start .args .firsts .now) (start .pre .2) in
     missing-falls (c .before .follow-pass .ensures) (c .before .before .before .loop .inv .1) _ _
-    (full-closed _ over (parse (start .args .words .now) .rules)) (λ n. omega arith) (c .if1 .taken)
+    (full-closed (start .args .lookahead) _ (parse (start .args .words .now) .rules)) (λ n. omega arith) (c .if1 .taken)
 
 loop-again : tie.Need-loop-again Inv-loop μ-loop
 loop-again c =
@@ -46,7 +47,7 @@ returns c =
     let start = c .before .before .before .before .before in
     let inv = c .before .before .before .loop .inv in
     let pass = c .before .follow-pass .ensures in
-    follow-listed (start .args .words .now) (start .args .sizes) (start .pre .0) (start .args .firsts .now) (start .pre .2) _
+    follow-listed (start .args .lookahead) (start .args .words .now) (start .args .sizes) (start .pre .0) (start .args .firsts .now) (start .pre .2) _
     (pass .long ∙ inv .0) (least-pass pass (inv .1) (c .if1 .left))
 
 pub follow-sets-spec : {M : Type 1} → statement M

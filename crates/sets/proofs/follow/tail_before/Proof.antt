@@ -8,7 +8,7 @@ enum-known-word : tie.Need-enum-known-word
 enum-known-word c = search needs
 
 returns : tie.Need-returns
-returns c = tail-closed _ _ (c .before .args .word) _ (c .match .keys2)
+returns c = tail-closed _ _ _ (c .before .args .word) _ (c .match .keys2)
 
 symbol-first-requires : tie.Need-symbol-first-requires
 symbol-first-requires c κs = search needs

@@ -11,10 +11,10 @@ use Rattle.sets.proofs.left.reach_pass.Statement.{statement}
 use Rattle.sets.proofs.left.reach_pass.Tie as tie
 
 abbrev Inv-loop : tie.InvT-loop
-Inv-loop words starts sizes firsts reach₀ forward grown₀ passed₀ reach grown passed = Turns (Gives (ruleLeft (emptyIn (family firsts))) words) (sizes .rules) forward reach₀ reach grown passed
+Inv-loop words starts sizes firsts reach₀ forward lookahead grown₀ passed₀ reach grown passed = Turns (Gives (ruleLeft (emptyIn lookahead (family firsts))) words) (sizes .rules) forward reach₀ reach grown passed
 
 abbrev μ-loop : tie.MeasureT-loop
-μ-loop words starts sizes firsts reach₀ forward grown₀ passed₀ reach grown passed = sizes .rules - passed
+μ-loop words starts sizes firsts reach₀ forward lookahead grown₀ passed₀ reach grown passed = sizes .rules - passed
 
 loop-holds : tie.Need-loop-holds Inv-loop μ-loop
 loop-holds c = turns-start _ _ (c .before .args .forward) _

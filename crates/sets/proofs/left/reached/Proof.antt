@@ -7,27 +7,28 @@ use Rattle.grammar.specs.Encoding.{parse}
 use Rattle.sets.specs.Least.{at as family}
 use Rattle.sets.specs.Left.{emptyIn, ReachClosed}
 use Rattle.sets.proofs.LeastByPasses.{Below, below-none, missing, below-pass, least-pass, missing-falls}
+use Rattle.sets.proofs.FewTerminals.{admitted-read}
 use Rattle.sets.proofs.LeftTie.{reach-closed, reach-small, reach-listed}
 use Rattle.sets.proofs.left.reached.Statement.{statement}
 use Rattle.sets.proofs.left.reached.Tie as tie
 
 abbrev Inv-loop : tie.InvT-loop
-Inv-loop words starts sizes firsts reach₀ forward₀ reach forward = (length reach ≡ maxNonterminals) × Below (ReachClosed (emptyIn (family firsts)) (parse words .rules)) reach
+Inv-loop words starts sizes firsts lookahead reach₀ forward₀ reach forward = (length reach ≡ maxNonterminals) × Below (ReachClosed (emptyIn lookahead (family firsts)) (parse words .rules)) reach
 
 abbrev μ-loop : tie.MeasureT-loop
-μ-loop words starts sizes firsts reach₀ forward₀ reach forward = missing (2 ^ maxNonterminals) reach
+μ-loop words starts sizes firsts lookahead reach₀ forward₀ reach forward = missing (2 ^ maxNonterminals) reach
 
 loop-holds : tie.Need-loop-holds Inv-loop μ-loop
 loop-holds c = (refl, below-none _ maxNonterminals)
 
 reach-pass-requires : tie.Need-reach-pass-requires Inv-loop μ-loop
-reach-pass-requires c κs = let start = c .before .before .before in record { read = start .pre .0; begins = start .pre .1; long = c .before .loop .inv .0 }
+reach-pass-requires c κs = let start = c .before .before .before in record { read = admitted-read (start .args .lookahead) (start .args .words .now) (start .pre .0); begins = start .pre .1; long = c .before .loop .inv .0 }
 
 loop-less : tie.Need-loop-less Inv-loop μ-loop
 loop-less c =
     let start = c .before .before .before .before .before in
-    missing-falls (c .before .reach-pass .ensures) (c .before .before .before .loop .inv .1) _ _ (reach-closed _ (start .pre .0) (start .pre .2))
-    (reach-small _ (start .pre .0) (start .pre .2)) (c .if1 .taken)
+    missing-falls (c .before .reach-pass .ensures) (c .before .before .before .loop .inv .1) _ _ (reach-closed _ _ (start .pre .0) (start .pre .2))
+    (reach-small _ _ (start .pre .0) (start .pre .2)) (c .if1 .taken)
 
 loop-again : tie.Need-loop-again Inv-loop μ-loop
 loop-again c =
@@ -40,7 +41,7 @@ returns c =
     let start = c .before .before .before .before .before in
     let inv = c .before .before .before .loop .inv in
     let pass = c .before .reach-pass .ensures in
-    reach-listed _ (start .pre .0) (start .pre .2) _ (pass .long ∙ inv .0) (least-pass pass (inv .1) (c .if1 .left))
+    reach-listed _ _ (start .pre .0) (start .pre .2) _ (pass .long ∙ inv .0) (least-pass pass (inv .1) (c .if1 .left))
 
 pub reached-spec : {M : Type 1} → statement M
 reached-spec =

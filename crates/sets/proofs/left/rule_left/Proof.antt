@@ -7,10 +7,10 @@ use Rattle.sets.proofs.left.rule_left.Statement.{statement}
 use Rattle.sets.proofs.left.rule_left.Tie as tie
 
 abbrev Inv-loop : tie.InvT-loop
-Inv-loop words start end firsts reach left₀ at₀ left at = LeftWalk (emptyIn (family firsts)) (family reach) words start end left at
+Inv-loop words start end firsts reach lookahead left₀ at₀ left at = LeftWalk (emptyIn lookahead (family firsts)) (family reach) words start end left at
 
 abbrev μ-loop : tie.MeasureT-loop
-μ-loop words start end firsts reach left₀ at₀ left at = at
+μ-loop words start end firsts reach lookahead left₀ at₀ left at = at
 
 no-left-requires : tie.Need-no-left-requires Inv-loop μ-loop
 no-left-requires c κs = tt

@@ -1,6 +1,7 @@
 -- By the kind of symbol, and by whether the nonterminal is nullable.
-use mathlib.Core.Path.{refl, sym, _∙_}
+use mathlib.Core.Path.{refl, sym, ap, _∙_}
 use native.Mathlib.Omega.{arith}
+use Rattle.lookahead.specs.Elements.{has}
 use Rattle.sets.proofs.LeftPasses.{left-terminal, left-on, left-stop}
 use borrow.Author.Needs.{needs}
 use Rattle.sets.proofs.left.symbol_left.Statement.{statement}
@@ -24,20 +25,23 @@ cast-at c = search needs
 alone-requires : tie.Need-alone-requires
 alone-requires c κs = search needs
 
-mul-t11 : tie.Need-mul-t11
-mul-t11 c = search needs
+mul-contains : tie.Need-mul-contains
+mul-contains c = search needs
 
-element-copy-out-t14 : tie.Need-element-copy-out-t14
-element-copy-out-t14 c = omega (arith, rw (c .before .before .symbol .given .1) at (c .before .before .before .before .pre))
+element-copy-out-contains : tie.Need-element-copy-out-contains
+element-copy-out-contains c = omega (arith, rw (c .before .before .symbol .given .1) at (c .before .before .before .before .pre))
 
 join-requires : tie.Need-join-requires
 join-requires c κs = search needs
 
-mul-t11-2 : tie.Need-mul-t11-2
-mul-t11-2 c = search needs
+mul-t12 : tie.Need-mul-t12
+mul-t12 c = search needs
 
-element-copy-out-t17 : tie.Need-element-copy-out-t17
-element-copy-out-t17 c = omega (arith, rw (c .before .before .before .before .symbol .given .1) at (c .before .before .before .before .before .before .pre))
+element-copy-out-t18 : tie.Need-element-copy-out-t18
+element-copy-out-t18 c = omega (arith, rw (c .before .before .before .before .symbol .given .1) at (c .before .before .before .before .before .before .pre))
+
+nothing-requires : tie.Need-nothing-requires
+nothing-requires c κs = search needs
 
 contains-requires : tie.Need-contains-requires
 contains-requires c κs = search needs
@@ -47,15 +51,21 @@ join-requires-2 c κs = search needs
 
 returns-2 : tie.Need-returns-2
 returns-2 c =
-    let found = c .before .before .before .before .before .before .before .before in
+    let contains = c .before .before in
+    let join = contains .before .before .before in
+    let found = join .before .before .before .before in
     let low = rw (found .symbol .given .1) at (found .before .before .pre) in
-    left-on _ _ _ (found .symbol .given .1) low (c .before .before .before .before .before .before .alone .ensures) refl (c .before .before .before .before .join .ensures) (sym (c .before .before .contains .ensures) ∙ c .before .if1 .taken) (c .join2 .ensures)
+    left-on _ _ _ (found .symbol .given .1) low (join .before .before .alone .ensures) refl (join .join .ensures)
+    (sym (contains .contains .ensures ∙ ap (has _) (contains .before .nothing .ensures)) ∙ c .before .if1 .taken) (c .join2 .ensures)
 
 returns-3 : tie.Need-returns-3
 returns-3 c =
-    let found = c .before .before .before .before .before .before .before in
+    let contains = c .before in
+    let join = contains .before .before .before in
+    let found = join .before .before .before .before in
     let low = rw (found .symbol .given .1) at (found .before .before .pre) in
-    left-stop _ _ _ (found .symbol .given .1) low (c .before .before .before .before .before .alone .ensures) refl (c .before .before .before .join .ensures) (sym (c .before .contains .ensures) ∙ c .if1 .left)
+    left-stop _ _ _ (found .symbol .given .1) low (join .before .before .alone .ensures) refl (join .join .ensures)
+    (sym (contains .contains .ensures ∙ ap (has _) (contains .before .nothing .ensures)) ∙ c .if1 .left)
 
 pub symbol-left-spec : {M : Type 1} → statement M
 symbol-left-spec =
@@ -67,11 +77,12 @@ symbol-left-spec =
     returns
     cast-at
     alone-requires
-    mul-t11
-    element-copy-out-t14
+    mul-contains
+    element-copy-out-contains
     join-requires
-    mul-t11-2
-    element-copy-out-t17
+    mul-t12
+    element-copy-out-t18
+    nothing-requires
     contains-requires
     join-requires-2
     returns-2

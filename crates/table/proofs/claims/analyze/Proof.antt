@@ -1,7 +1,7 @@
 -- An encoded grammar: by whether its families are found.
 use mathlib.Core.Path.{refl}
 use borrow.Author.Needs.{needs}
-use Rattle.sets.proofs.Findings.{families-told, families-refused}
+use Rattle.sets.proofs.Findings.{families-told}
 use Rattle.table.proofs.Analyzing.{given, refused-claims, words-indexed, all-claims}
 use Rattle.table.proofs.claims.analyze.Statement.{statement}
 use Rattle.table.proofs.claims.analyze.Tie as tie
@@ -19,24 +19,24 @@ keep-claims-requires : tie.Need-keep-claims-requires
 keep-claims-requires c κs =
     let at-finding = c .before .before .before .before .before .before in
     let at-analyze = at-finding .before .before in
-    let found = families-told _ (at-analyze .analyze .ensures) (at-finding .finding .given .1) in
+    let found = families-told _ _ (at-analyze .analyze .ensures) (at-finding .finding .given .1) in
     (given found, refl, refl)
 
 overrunning-requires : tie.Need-overrunning-requires
 overrunning-requires c κs =
-    let at-finding = c .before .before .before .before .before .before .before .before .before in
+    let at-finding = c .before .before .before .before .before .before .before .before .before .before .before in
     let at-analyze = at-finding .before .before in
-    words-indexed (families-told _ (at-analyze .analyze .ensures) (at-finding .finding .given .1))
+    words-indexed (families-told _ _ (at-analyze .analyze .ensures) (at-finding .finding .given .1))
 
 returns : tie.Need-returns
-returns c = let told = c .enum-told .given .1 in refused-claims _ (families-refused _ (c .before .before .analyze .ensures) told) told
+returns c = refused-claims _ _ (c .before .before .before .before .analyze .ensures) (c .before .before .enum-told .given .1)
 
 returns-2 : tie.Need-returns-2
 returns-2 c =
-    let at-finding = c .before .before .before .before .before .before .before .before .before .before in
+    let at-finding = c .before .before .before .before .before .before .before .before .before .before .before .before in
     let at-analyze = at-finding .before .before in
-    let found = families-told _ (at-analyze .analyze .ensures) (at-finding .finding .given .1) in
-    all-claims found (c .before .before .before .keep-claims .ensures) (c .overrunning .ensures)
+    let found = families-told _ _ (at-analyze .analyze .ensures) (at-finding .finding .given .1) in
+    all-claims found (c .before .before .before .before .before .keep-claims .ensures) (c .overrunning .ensures)
 
 pub analyze-spec : {M : Type 1} → statement M
 analyze-spec =

@@ -13,14 +13,14 @@ enum-known-word c = search needs
 returns : tie.Need-returns
 returns c = rw (no-head (c .before .args .word) (c .match .keys2)) refl
 
-cast-t10 : tie.Need-cast-t10
-cast-t10 c = search needs
+cast-t11 : tie.Need-cast-t11
+cast-t11 c = search needs
 
-mul-t11 : tie.Need-mul-t11
-mul-t11 c = search needs
+mul-t12 : tie.Need-mul-t12
+mul-t12 c = search needs
 
-element-copy-out-t14 : tie.Need-element-copy-out-t14
-element-copy-out-t14 c = omega (arith, own (c .before .before .before .pre) (c .before .word .given .1))
+element-copy-out-t15 : tie.Need-element-copy-out-t15
+element-copy-out-t15 c = omega (arith, own (c .before .before .before .pre) (c .before .word .given .1))
 
 sub-rule : tie.Need-sub-rule
 sub-rule c = omega (arith, some-rule (c .before .before .before .before .pre) (c .before .before .word .given .1))
@@ -43,7 +43,7 @@ element-write-sets c = search needs
 returns-2 : tie.Need-returns-2
 returns-2 c =
     let start = c .before .before .before .before .before in
-    claim-kept (start .pre) (c .before .before .before .word .given .1) (start .args .follows .now) (start .args .meet .bits) (start .args .heads .now)
+    claim-kept (start .pre) (c .before .before .before .word .given .1) (start .args .lookahead) (start .args .follows .now) (start .args .meet .bits) (start .args .heads .now)
     (start .args .sets .now) (c .concat .ensures .is)
 
 pub claim-spec : {M : Type 1} → statement M
@@ -52,9 +52,9 @@ claim-spec =
     (tie.spec
     enum-known-word
     returns
-    cast-t10
-    mul-t11
-    element-copy-out-t14
+    cast-t11
+    mul-t12
+    element-copy-out-t15
     sub-rule
     cast-heads
     element-write-heads

@@ -10,11 +10,11 @@ use Rattle.table.proofs.claims.keep_claims.Statement.{statement}
 use Rattle.table.proofs.claims.keep_claims.Tie as tie
 
 abbrev Inv-loop : tie.InvT-loop
-Inv-loop words firsts follows heads₀ sets₀ terminals rest₀ rule₀ at₀ heads sets rest rule at =
-    Claiming words terminals rule₀ firsts rest (kept heads sets rule) at
+Inv-loop words firsts follows heads₀ sets₀ lookahead terminals rest₀ rule₀ at₀ heads sets rest rule at =
+    Claiming lookahead words terminals rule₀ firsts rest (kept heads sets rule) at
 
 abbrev μ-loop : tie.MeasureT-loop
-μ-loop words firsts follows heads₀ sets₀ terminals rest₀ rule₀ at₀ heads sets rest rule at = at
+μ-loop words firsts follows heads₀ sets₀ lookahead terminals rest₀ rule₀ at₀ heads sets rest rule at = at
 
 no-rest-requires : tie.Need-no-rest-requires Inv-loop μ-loop
 no-rest-requires c κs = tt
@@ -54,7 +54,7 @@ loop-again c =
     let turn = at-decode .before .before in
     let loop = turn .before in
     let given = loop .before .before .before .pre .0 in
-    let turned = onto-at _ (ap length (given .first) ∙ listed-long 32 _) (at-onto .onto .ensures) in
+    let turned = onto-at _ _ (ap length (given .first) ∙ listed-long 32 _) (at-onto .onto .ensures) in
     claiming-turn given (loop .loop .inv) (turn .loop-test .taken) (at-decode .decode .ensures) _ turned (c .claim .ensures)
 
 returns : tie.Need-returns Inv-loop μ-loop

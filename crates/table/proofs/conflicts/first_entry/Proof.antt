@@ -1,33 +1,33 @@
 -- The loop keeps the conflict of all rows equal to that of those it has not passed.
 use mathlib.Core.Path.{_≡_, sym, _∙_}
-use Prim.Native.Nat.{suc, _-_, _≤_}
+use Prim.Native.Nat.{_-_, _≤_}
 use native.Mathlib.Omega.{arith}
-use Rattle.table.specs.Layout.{columnElement}
+use Rattle.table.specs.Columns.{columnCount, columnElement}
 use Rattle.table.specs.Conflicts.{conflictFrom, inSets}
 use Rattle.table.proofs.ConflictScan.{rows-all, row-here, row-later, rows-none}
 use Rattle.table.proofs.conflicts.first_entry.Statement.{statement}
 use Rattle.table.proofs.conflicts.first_entry.Tie as tie
 
 abbrev Inv-loop : tie.InvT-loop
-Inv-loop sets nonterminals terminals nonterminal₀ nonterminal =
+Inv-loop sets lookahead nonterminals terminals nonterminal₀ nonterminal =
     (nonterminal ≤ nonterminals)
-    × (conflictFrom (inSets (columnElement terminals) sets) (suc terminals) nonterminal (nonterminals - nonterminal)
-    ≡ conflictFrom (inSets (columnElement terminals) sets) (suc terminals) 0 nonterminals)
+    × (conflictFrom (inSets (columnElement lookahead terminals) sets) (columnCount lookahead terminals) nonterminal (nonterminals - nonterminal)
+    ≡ conflictFrom (inSets (columnElement lookahead terminals) sets) (columnCount lookahead terminals) 0 nonterminals)
 
 abbrev μ-loop : tie.MeasureT-loop
-μ-loop sets nonterminals terminals nonterminal₀ nonterminal = nonterminals - nonterminal
+μ-loop sets lookahead nonterminals terminals nonterminal₀ nonterminal = nonterminals - nonterminal
 
 loop-holds : tie.Need-loop-holds Inv-loop μ-loop
 loop-holds c = (omega arith, rows-all _ _ _)
 
-cast-t9 : tie.Need-cast-t9 Inv-loop μ-loop
-cast-t9 c = omega arith
+cast-t10 : tie.Need-cast-t10 Inv-loop μ-loop
+cast-t10 c = omega arith
 
-mul-t10 : tie.Need-mul-t10 Inv-loop μ-loop
-mul-t10 c = omega arith
+mul-t11 : tie.Need-mul-t11 Inv-loop μ-loop
+mul-t11 c = omega arith
 
-element-copy-out-t13 : tie.Need-element-copy-out-t13 Inv-loop μ-loop
-element-copy-out-t13 c = omega arith
+element-copy-out-t14 : tie.Need-element-copy-out-t14 Inv-loop μ-loop
+element-copy-out-t14 c = omega arith
 
 cast-first-column : tie.Need-cast-first-column Inv-loop μ-loop
 cast-first-column c = omega arith
@@ -67,9 +67,9 @@ first-entry-spec =
     Inv-loop
     μ-loop
     loop-holds
-    cast-t9
-    mul-t10
-    element-copy-out-t13
+    cast-t10
+    mul-t11
+    element-copy-out-t14
     cast-first-column
     first-column-requires
     enum-told

@@ -16,17 +16,17 @@ returns c = rw (no-head (c .before .args .word) (c .match .keys2)) refl
 cast-at : tie.Need-cast-at
 cast-at c = search needs
 
-mul-t9 : tie.Need-mul-t9
-mul-t9 c = search needs
+mul-t10 : tie.Need-mul-t10
+mul-t10 c = search needs
 
-element-copy-out-t12 : tie.Need-element-copy-out-t12
-element-copy-out-t12 c = omega (arith, head-own (c .before .word .given .1) (c .before .before .before .pre))
+element-copy-out-t13 : tie.Need-element-copy-out-t13
+element-copy-out-t13 c = omega (arith, head-own (c .before .word .given .1) (c .before .before .before .pre))
 
-mul-t9-2 : tie.Need-mul-t9-2
-mul-t9-2 c = search needs
+mul-t10-2 : tie.Need-mul-t10-2
+mul-t10-2 c = search needs
 
-element-copy-out-t12-2 : tie.Need-element-copy-out-t12-2
-element-copy-out-t12-2 c = omega (arith, head-own (c .before .before .word .given .1) (c .before .before .before .before .pre))
+element-copy-out-t13-2 : tie.Need-element-copy-out-t13-2
+element-copy-out-t13-2 c = omega (arith, head-own (c .before .before .word .given .1) (c .before .before .before .before .pre))
 
 told-requires : tie.Need-told-requires
 told-requires c κs = search needs
@@ -43,7 +43,7 @@ returns-2 : tie.Need-returns-2
 returns-2 c =
     let at-word = c .before .before .before .before in
     let start = at-word .before .before in
-    head-told (at-word .word .given .1) (start .args .alone) (start .args .follows .now) (start .args .overruns .now) (c .told .ensures)
+    head-told (at-word .word .given .1) (start .args .lookahead) (start .args .alone) (start .args .follows .now) (start .args .overruns .now) (c .told .ensures)
 
 pub overrun-spec : {M : Type 1} → statement M
 overrun-spec =
@@ -52,10 +52,10 @@ overrun-spec =
     enum-known-word
     returns
     cast-at
-    mul-t9
-    element-copy-out-t12
-    mul-t9-2
-    element-copy-out-t12-2
+    mul-t10
+    element-copy-out-t13
+    mul-t10-2
+    element-copy-out-t13-2
     told-requires
     mul-overruns
     element-write-overruns

@@ -6,13 +6,13 @@ use Rattle.table.proofs.overruns.overrunning.Statement.{statement}
 use Rattle.table.proofs.overruns.overrunning.Tie as tie
 
 abbrev Inv-loop : tie.InvT-loop
-Inv-loop words follows overruns₀ alone₀ at₀ overruns alone at = Telling words follows overruns alone at
+Inv-loop words follows lookahead overruns₀ alone₀ at₀ overruns alone at = Telling lookahead words follows overruns alone at
 
 abbrev μ-loop : tie.MeasureT-loop
-μ-loop words follows overruns₀ alone₀ at₀ overruns alone at = at
+μ-loop words follows lookahead overruns₀ alone₀ at₀ overruns alone at = at
 
 loop-holds : tie.Need-loop-holds Inv-loop μ-loop
-loop-holds c = telling-start _ _
+loop-holds c = telling-start _ _ _
 
 sub-at : tie.Need-sub-at Inv-loop μ-loop
 sub-at c = omega arith

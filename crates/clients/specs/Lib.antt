@@ -1,0 +1,5 @@
+pub mod Usages
+pub mod Sums
+pub mod Histories
+pub mod Properties
+pub mod Runs

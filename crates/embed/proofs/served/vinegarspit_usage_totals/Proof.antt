@@ -1,0 +1,18 @@
+-- The row is read, and the sums are written.
+use mathlib.Core.Path.{refl}
+use Rattle.embed.proofs.Fitting.{totals-exported}
+use borrow.Author.Needs.{needs}
+use Rattle.embed.proofs.served.vinegarspit_usage_totals.Statement.{statement}
+use Rattle.embed.proofs.served.vinegarspit_usage_totals.Tie as tie
+
+usages-in-requires : tie.Need-usages-in-requires
+usages-in-requires c κs = search needs
+
+total-requires : tie.Need-total-requires
+total-requires c κs = search needs
+
+returns : tie.Need-returns
+returns c = totals-exported (c .before .usages-in .ensures) (c .total .ensures)
+
+pub vinegarspit-usage-totals-spec : {M : Type 1} → statement M
+vinegarspit-usage-totals-spec = tie.close (tie.spec usages-in-requires total-requires returns)

@@ -1,0 +1,20 @@
+-- The answer of a check with two tokens of lookahead fits, and packed it is what is told.
+use Rattle.embed.proofs.Fitting.{check-fits, check-exported}
+use borrow.Author.Needs.{needs}
+use Rattle.embed.proofs.wide.vinegarspit_check2.Statement.{statement}
+use Rattle.embed.proofs.wide.vinegarspit_check2.Tie as tie
+
+check-wide-requires : tie.Need-check-wide-requires
+check-wide-requires c κs = search needs
+
+pack-requires : tie.Need-pack-requires
+pack-requires c κs = check-fits (c .before .before .check-wide .ensures)
+
+same-length : tie.Need-same-length
+same-length c = search needs
+
+returns : tie.Need-returns
+returns c = check-exported (c .before .before .before .check-wide .ensures) (c .pack .ensures)
+
+pub vinegarspit-check2-spec : {M : Type 1} → statement M
+vinegarspit-check2-spec = tie.close (tie.spec check-wide-requires pack-requires same-length returns)

@@ -1,0 +1,24 @@
+-- The answer of the judge with two tokens of lookahead fits, and packed it is what is told.
+use Rattle.embed.proofs.Fitting.{judge-fits, judge-exported}
+use borrow.Author.Needs.{needs}
+use Rattle.embed.proofs.wide.vinegarspit_judge2.Statement.{statement}
+use Rattle.embed.proofs.wide.vinegarspit_judge2.Tie as tie
+
+judge-wide-requires : tie.Need-judge-wide-requires
+judge-wide-requires c κs = search needs
+
+pack-requires : tie.Need-pack-requires
+pack-requires c κs = judge-fits (c .before .before .before .before .judge-wide .ensures)
+
+same-length : tie.Need-same-length
+same-length c = search needs
+
+same-length-2 : tie.Need-same-length-2
+same-length-2 c = search needs
+
+returns : tie.Need-returns
+returns c = judge-exported (c .before .before .before .before .before .judge-wide .ensures) (c .pack .ensures)
+
+pub vinegarspit-judge2-spec : {M : Type 1} → statement M
+vinegarspit-judge2-spec =
+    tie.close (tie.spec judge-wide-requires pack-requires same-length same-length-2 returns)

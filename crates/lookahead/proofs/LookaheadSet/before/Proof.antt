@@ -1,0 +1,30 @@
+-- Where nothing is in the first set, the second; else the empty set.
+use mathlib.Core.Path.{sym, ap, _∙_}
+use borrow.Author.Needs.{needs}
+use Rattle.lookahead.specs.Lookaheads.{nothing}
+use Rattle.lookahead.specs.Elements.{has}
+use Rattle.lookahead.proofs.Cases as cases
+use Rattle.lookahead.proofs.LookaheadSet.before.Statement.{statement}
+use Rattle.lookahead.proofs.LookaheadSet.before.Tie as tie
+
+nothing-requires : tie.Need-nothing-requires
+nothing-requires c κs = search needs
+
+contains-requires : tie.Need-contains-requires
+contains-requires c κs = search needs
+
+empty-requires : tie.Need-empty-requires
+empty-requires c κs = search needs
+
+returns : tie.Need-returns
+returns c =
+    let args = c .before .before .before .args in
+    cases.if-passed (has (args .self .bits) (nothing (args .lookahead))) (args .other .bits) (cc)
+
+returns-2 : tie.Need-returns-2
+returns-2 c =
+    let args = c .before .before .before .before .args in
+    cases.if-failed (has (args .self .bits) (nothing (args .lookahead))) (has (args .other .bits)) (cc) (c .empty .ensures)
+
+pub before-spec : {M : Type 1} → statement M
+before-spec = tie.close (tie.spec nothing-requires contains-requires empty-requires returns returns-2)

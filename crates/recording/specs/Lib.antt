@@ -1,2 +1,0 @@
-pub mod Properties
-pub mod Runs

@@ -1,0 +1,66 @@
+-- An encoded grammar: by whether its claims are found, and whether an entry clashes.
+use borrow.Author.Needs.{needs}
+use Rattle.table.proofs.Analyzing.{claims-told, headed, sizes-few, overruns-long, found-refused, found-clash, found-passed}
+use Rattle.table.proofs.find.Statement.{statement}
+use Rattle.table.proofs.find.Tie as tie
+
+analyze-requires : tie.Need-analyze-requires
+analyze-requires c κs = search needs
+
+enum-told : tie.Need-enum-told
+enum-told c = search needs
+
+enum-known-finding : tie.Need-enum-known-finding
+enum-known-finding c = search needs
+
+first-conflict-requires : tie.Need-first-conflict-requires
+first-conflict-requires c κs =
+    let at-finding = c .before .before .before .before .before in
+    let found = claims-told _ _ (at-finding .before .before .before .before .analyze .ensures) (at-finding .finding .given .1) in
+    (headed found, sizes-few found, overruns-long found)
+
+enum-known-conflict : tie.Need-enum-known-conflict
+enum-known-conflict c = search needs
+
+conflict-error-requires : tie.Need-conflict-error-requires
+conflict-error-requires c κs = search needs
+
+enum-told-2 : tie.Need-enum-told-2
+enum-told-2 c = search needs
+
+rows-requires : tie.Need-rows-requires
+rows-requires c κs =
+    let at-finding = c .before .before .before .before .before .before .before .before .before .before .before in
+    let found = claims-told _ _ (at-finding .before .before .before .before .analyze .ensures) (at-finding .finding .given .1) in
+    record { headed = headed found; fewTerminals = sizes-few found }
+
+returns : tie.Need-returns
+returns c = found-refused _ _ (c .before .before .before .before .analyze .ensures) (c .enum-told .given .1)
+
+returns-2 : tie.Need-returns-2
+returns-2 c =
+    let at-finding = c .before .before .before .before .before .before .before .before .before .before in
+    let found = claims-told _ _ (at-finding .before .before .before .before .analyze .ensures) (at-finding .finding .given .1) in
+    found-clash found (c .before .before .before .before .first-conflict .ensures) (c .before .before .conflict .given .1) (c .conflict-error .ensures)
+
+returns-3 : tie.Need-returns-3
+returns-3 c =
+    let at-finding = c .before .before .before .before .before .before .before .before .before .before .before .before in
+    let found = claims-told _ _ (at-finding .before .before .before .before .analyze .ensures) (at-finding .finding .given .1) in
+    found-passed found (c .before .before .before .before .before .before .first-conflict .ensures) (c .before .before .before .before .enum-told2 .given .1) (c .rows .ensures)
+
+pub find-spec : {M : Type 1} → statement M
+find-spec =
+    tie.close
+    (tie.spec
+    analyze-requires
+    enum-told
+    enum-known-finding
+    first-conflict-requires
+    enum-known-conflict
+    conflict-error-requires
+    enum-told-2
+    rows-requires
+    returns
+    returns-2
+    returns-3)

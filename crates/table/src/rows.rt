@@ -1,0 +1,75 @@
+// The entries of the table: a row for each nonterminal, and in each column the rule that claims it.
+ghost use mathlib.Core.Path.{_≡_};
+ghost use Prim.Native.Nat.{_+_, _≤_};
+ghost use lib.ListN.{length};
+ghost use Rattle.booleans.specs.Choice.{choose};
+ghost use Rattle.grammar.specs.Limits.{maxEntries};
+ghost use Rattle.lookahead.specs.Lookaheads.{alphabet};
+ghost use Rattle.lookahead.specs.Elements.{has};
+ghost use Rattle.semantics.specs.FiniteSets.{numbers};
+ghost use Rattle.table.specs.Columns.{columnCount, columnElement};
+ghost use Rattle.table.specs.Entries.{FilledRow, rowsOf, RowsGiven, FilledRows, noRules};
+use super::columns::count;
+use super::columns::element;
+use grammar::codes::NO_RULE;
+use grammar::limits::ENTRIES;
+use grammar::limits::RULES;
+use grammar::reading::Sizes;
+use lookahead::Lookahead;
+use lookahead::LookaheadSet;
+
+// The rule where it claims the element, else what stood there.
+fn entry(claim: LookaheadSet, element: u32, rule: u8, old: u8) -> u8
+    ensures { λ r. ⌜ r ≡ choose (has (claim .bits) element) rule old ⌝ }
+{
+    if claim.contains(element) { rule } else { old }
+}
+
+// Writes a rule's number into the columns of a row that it claims.
+fn fill_row(
+    entries: &mut [u8; ENTRIES],
+    row: usize,
+    terminals: u32,
+    claim: LookaheadSet,
+    rule: u8,
+    lookahead: Lookahead,
+)
+    requires { ⌜ (length (now entries) ≡ maxEntries) × (terminals ≤ alphabet lookahead) × (row + columnCount lookahead terminals ≤ maxEntries) ⌝ }
+    ensures { λ _. ⌜ FilledRow (now (entries .entry)) row (columnElement lookahead terminals) (columnCount lookahead terminals) (claim .bits) rule (now (entries .exit)) ⌝ }
+{
+    let columns = count(lookahead, terminals);
+    let mut column = 0;
+    while column < columns {
+        let at = row + column;
+        entries[at] = entry(
+            claim,
+            element(lookahead, terminals, column as u32),
+            rule,
+            entries[at],
+        );
+        column = column + 1;
+    }
+}
+
+// The rules in their rows, written from the last on: where two claim an entry, the first has it.
+pub(crate) fn rows<'a>(
+    sizes: Sizes,
+    heads: &'a [u8; RULES],
+    sets: &'a [u64; RULES],
+    lookahead: Lookahead,
+) -> [u8; ENTRIES]
+    requires { ⌜ RowsGiven lookahead sizes (now heads) ⌝ }
+    ensures { λ r. ⌜ FilledRows (rowsOf lookahead (sizes .nonterminals) (sizes .terminals)) (now (heads .entry)) (now (sets .entry)) 0 (numbers (sizes .rules)) noRules r ⌝ }
+{
+    let terminals = sizes.terminals;
+    let columns = count(lookahead, terminals);
+    let mut entries = [NO_RULE; ENTRIES];
+    let mut rule = sizes.rules;
+    while 0 < rule {
+        rule = rule - 1;
+        let row = heads[rule] as usize * columns;
+        let claim = LookaheadSet { bits: sets[rule] };
+        fill_row(&mut entries, row, terminals, claim, rule as u8, lookahead);
+    }
+    entries
+}
