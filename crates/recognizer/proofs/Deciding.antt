@@ -107,9 +107,12 @@ module _ {k : Lookahead} {words : List ℕ} {z : Sizes} {entries memo : List ℕ
   long : length events ≡ length input
   long = sym (input-length events)
 
+  abbrev n : ℕ
+  n = tokens k
+
   -- the choice that the descent goes by
   abbrev choice : Choice
-  choice = tableChoice G (tokens k) input
+  choice = tableChoice G n input
 
   some-nonterminal : 0 < G .nonterminals
   some-nonterminal = omega (arith, r .nonterminals, r .someNonterminal)
@@ -133,7 +136,7 @@ module _ {k : Lookahead} {words : List ℕ} {z : Sizes} {entries memo : List ℕ
         sizes = z;
         read = admitted-read k words (g .ready .taken);
         free = g .ready .free;
-        own = theorems .own-rules G (tokens k) input;
+        own = theorems .own-rules G n input;
         rows = λ A a. f .rows A (omega (arith, r .nonterminals)) ∙ ap (λ n. A * n) (omega (arith, long));
         ends = λ A a. f .ends A (omega (arith, r .nonterminals)) ∙ omega (arith, long);
         columns = λ i h. omega (arith, t .columns i h, column-few k (z .terminals) input tokens-given i);
@@ -162,11 +165,11 @@ module _ {k : Lookahead} {words : List ℕ} {z : Sizes} {entries memo : List ℕ
 
       done : (meant o ≡ descend G choice input 0 0) × Recorded G choice input memo′
       done =
-          let n = suc (level words input 0 0) in
-          let l : level words input 0 0 < n = omega arith in
-          let m : memoCall G choice input n 0 0 (blank G input) ≡ memoized (meant o) memo′ =
-          ap (λ x. memoCall G choice input n 0 0 x) (sym (b ∙ ap (λ l. replicate l uncalledCode) (g .size))) ∙ d .model n l in
-          let e = memo-recorded-within G choice input (r .formed .scoped) (g .ready .free) (theorems .own-rules G (tokens k) input) fits some-nonterminal n l in
+          let deep = suc (level words input 0 0) in
+          let l : level words input 0 0 < deep = omega arith in
+          let m : memoCall G choice input deep 0 0 (blank G input) ≡ memoized (meant o) memo′ =
+          ap (λ x. memoCall G choice input deep 0 0 x) (sym (b ∙ ap (λ l. replicate l uncalledCode) (g .size))) ∙ d .model deep l in
+          let e = memo-recorded-within G choice input (r .formed .scoped) (g .ready .free) (theorems .own-rules G n input) fits some-nonterminal deep l in
           (sym (ap (λ x. x .outcome) m) ∙ e .0, subst (λ x. Recorded G choice input x) (ap (λ x. x .memo) m) (e .1))
 
       pub memo-long : length memo′ ≡ z .nonterminals * (length events + 1)
@@ -178,8 +181,8 @@ module _ {k : Lookahead} {words : List ℕ} {z : Sizes} {entries memo : List ℕ
       unfolding verdictBy accepts
       descended {c} {ended} {a} tallied told e =
           let d = done in
-          let counted : c ≡ callsBy (tokens k) G input = tally-recorded (d .1) (r .nonterminals) (tallied ∙ ap (λ n. tallyOf (recordedCalls memo′ (z .nonterminals) n)) long) in
+          let counted : c ≡ callsBy n G input = tally-recorded (d .1) (r .nonterminals) (tallied ∙ ap (λ n. tallyOf (recordedCalls memo′ (z .nonterminals) n)) long) in
           record {
             answer = e ∙ rw (told, long, d .0, counted);
-            entries = words-recorded (tokens k) G input (r .formed .scoped) (g .ready .free) some-nonterminal (d .1);
+            entries = words-recorded n G input (r .formed .scoped) (g .ready .free) some-nonterminal (d .1);
           }
