@@ -20,14 +20,14 @@ use Rattle.grammar.specs.declared.reading.Sizes.{Sizes}
 use Rattle.grammar.specs.declared.reading.Outcome.{Outcome}
 use Rattle.grammar.specs.declared.reading.Outcome.the-variants.{Read, Faulty}
 use Rattle.grammar.specs.Encoding.{declaredBy, grammarOf}
-use Rattle.grammar.specs.Limits.{maxWords, maxNonterminals, maxTerminals}
+use Rattle.grammar.specs.Limits.{maxWords, maxNonterminals, maxTerminals, maxWideTerminals}
 use Rattle.grammar.specs.Reading.{beginsRule, reading, opened, headed, scan, fresh, within}
 use Rattle.grammar.proofs.WellFormed.{Each, none-in, faulty}
 use Rattle.grammar.proofs.WellRead.{chosen, refused, both, Within, within-limits, heading-begins-none}
 use Rattle.admission.specs.declared.Alone.{Alone}
 use Rattle.admission.specs.declared.Alone.the-variants.{Absent, At}
 use Rattle.admission.proofs.WithoutPositives.{Positives, none-found, found-none}
-use Rattle.admission.specs.Admission.{fewTerminals, Fits, aloneFrom, firstAlone, ofHeading, wordFault, twoTokensFault, faultyOr, admission}
+use Rattle.admission.specs.Admission.{Fits, aloneFrom, firstAlone, ofHeading, wordFault, twoTokensFault, faultyOr, admission}
 
 pub no-terminals : (words : List ℕ) → length words ≡ 0 → 0 ≡ grammarOf words .terminals
 unfolding grammarOf
@@ -66,22 +66,22 @@ module _ (o : Outcome) (words : List ℕ) where
       go (Read z) e h = absurd (false≢true h)
       go (Faulty x) e h = rw h
 
-  pub many-terminals : ofHeading o ≡ false → fewTerminals < grammarOf words .terminals → Faulty TooManyTerminals ≡ faultyOr (twoTokensFault o words) o
+  pub many-terminals : ofHeading o ≡ false → maxWideTerminals < grammarOf words .terminals → Faulty TooManyTerminals ≡ faultyOr (twoTokensFault o words) o
   unfolding twoTokensFault
   many-terminals h l = go o h
     where
       go : (p : Outcome) → ofHeading p ≡ false → Faulty TooManyTerminals ≡ faultyOr (twoTokensFault p words) p
-      go (Read z) h = rw (lt-ltb fewTerminals (grammarOf words .terminals) l)
-      go (Faulty x) h = rw (h, lt-ltb fewTerminals (grammarOf words .terminals) l)
+      go (Read z) h = rw (lt-ltb maxWideTerminals (grammarOf words .terminals) l)
+      go (Faulty x) h = rw (h, lt-ltb maxWideTerminals (grammarOf words .terminals) l)
 
-  pub words-then : ofHeading o ≡ false → grammarOf words .terminals ≤ fewTerminals
+  pub words-then : ofHeading o ≡ false → grammarOf words .terminals ≤ maxWideTerminals
       → faultyOr (wordFault o (firstAlone words)) o ≡ faultyOr (twoTokensFault o words) o
   unfolding twoTokensFault
   words-then h l = go o h
     where
       go : (p : Outcome) → ofHeading p ≡ false → faultyOr (wordFault p (firstAlone words)) p ≡ faultyOr (twoTokensFault p words) p
-      go (Read z) h = rw (le-ltb fewTerminals (grammarOf words .terminals) l) (last-fault (wordFault (Read z) (firstAlone words)) (Read z))
-      go (Faulty x) h = rw (h, le-ltb fewTerminals (grammarOf words .terminals) l) (last-fault (wordFault (Faulty x) (firstAlone words)) (Faulty x))
+      go (Read z) h = rw (le-ltb maxWideTerminals (grammarOf words .terminals) l) (last-fault (wordFault (Read z) (firstAlone words)) (Read z))
+      go (Faulty x) h = rw (h, le-ltb maxWideTerminals (grammarOf words .terminals) l) (last-fault (wordFault (Faulty x) (firstAlone words)) (Faulty x))
 
 -- the words behind the heading of a row that is read
 record Headed (w : ℕ) (ws : List ℕ) (z : Sizes) : Type 0 where
@@ -114,19 +114,19 @@ fault-none none o z e = (refl, e)
 fault-none (some x) o z e = absurd (faulty x z e)
 
 -- with two tokens, where reading finds no fault
-two-none : (words : List ℕ) (z : Sizes) → twoTokensFault (Read z) words ≡ none → (grammarOf words .terminals ≤ fewTerminals) × (firstAlone words ≡ Absent)
+two-none : (words : List ℕ) (z : Sizes) → twoTokensFault (Read z) words ≡ none → (grammarOf words .terminals ≤ maxWideTerminals) × (firstAlone words ≡ Absent)
 unfolding twoTokensFault
-two-none words z e = go (ltb fewTerminals (grammarOf words .terminals)) refl (firstAlone words) e
+two-none words z e = go (ltb maxWideTerminals (grammarOf words .terminals)) refl (firstAlone words) e
   where
-    go : (b : Bool) → ltb fewTerminals (grammarOf words .terminals) ≡ b → (a : Alone)
-        → firstFault (none ∷ faultIf b TooManyTerminals ∷ wordFault (Read z) a ∷ []) ≡ none → (grammarOf words .terminals ≤ fewTerminals) × (a ≡ Absent)
+    go : (b : Bool) → ltb maxWideTerminals (grammarOf words .terminals) ≡ b → (a : Alone)
+        → firstFault (none ∷ faultIf b TooManyTerminals ∷ wordFault (Read z) a ∷ []) ≡ none → (grammarOf words .terminals ≤ maxWideTerminals) × (a ≡ Absent)
     go true l a e = let n : _≡_ {A = ℕ} 0 1 = cc in absurd (omega arith)
-    go false l Absent e = (ltb-false fewTerminals (grammarOf words .terminals) l, refl)
+    go false l Absent e = (ltb-false maxWideTerminals (grammarOf words .terminals) l, refl)
     go false l (At i) e = let n : _≡_ {A = ℕ} 0 1 = cc in absurd (omega arith)
 
-none-two : (words : List ℕ) (z : Sizes) → grammarOf words .terminals ≤ fewTerminals → firstAlone words ≡ Absent → twoTokensFault (Read z) words ≡ none
+none-two : (words : List ℕ) (z : Sizes) → grammarOf words .terminals ≤ maxWideTerminals → firstAlone words ≡ Absent → twoTokensFault (Read z) words ≡ none
 unfolding twoTokensFault
-none-two words z l a = rw (le-ltb fewTerminals (grammarOf words .terminals) l, a)
+none-two words z l a = rw (le-ltb maxWideTerminals (grammarOf words .terminals) l, a)
 
 -- just those that are read and fit are admitted
 pub admitted : (k : Lookahead) (words : List ℕ) (z : Sizes) → (admission k words ≡ Read z) ↔ ((reading words ≡ Read z) × Fits k (grammarOf words))

@@ -15,7 +15,7 @@ use Rattle.answer.specs.Faults.{faultIf, firstFault}
 use Rattle.answer.proofs.Faults.{none-some, EachFault, first-each}
 use Rattle.booleans.specs.Choice.{choose}
 use Rattle.word.specs.Words.{decoded}
-use Rattle.grammar.specs.Limits.{maxWords}
+use Rattle.grammar.specs.Limits.{maxWords, maxWideTerminals}
 use Rattle.grammar.specs.Encoding.{grammarOf}
 use Rattle.grammar.specs.Reading.{beginsRule, reading}
 use Rattle.grammar.specs.declared.reading.Sizes.{Sizes}
@@ -27,7 +27,7 @@ use Rattle.lookahead.specs.declared.Lookahead.{Lookahead}
 use Rattle.lookahead.specs.declared.Lookahead.the-variants.{One, Two}
 use Rattle.admission.specs.declared.Alone.{Alone}
 use Rattle.admission.specs.declared.Alone.the-variants.{Absent, At}
-use Rattle.admission.specs.Admission.{fewTerminals, beginsNegative, aloneFrom, firstAlone, ofHeading, headingFault, terminalsFault, wordFault, twoTokensFault, faultyOr, admission}
+use Rattle.admission.specs.Admission.{beginsNegative, aloneFrom, firstAlone, ofHeading, headingFault, terminalsFault, wordFault, twoTokensFault, faultyOr, admission}
 
 abbrev Low : Error → Type 0
 Low e = coded e .position ≤ maxWords
@@ -77,7 +77,7 @@ two-low words =
     first-each Low (headingFault (reading words) ∷ terminalsFault words ∷ wordFault (reading words) (firstAlone words) ∷ []) (
       heading-low (reading words) (reading-low words),
       λ _. (
-        when-low (ltb fewTerminals (grammarOf words .terminals)) TooManyTerminals (omega arith),
+        when-low (ltb maxWideTerminals (grammarOf words .terminals)) TooManyTerminals (omega arith),
         λ _. (word-low words (reading words) refl (reading-low words) (firstAlone words) refl, λ _. tt),
       ),
     )

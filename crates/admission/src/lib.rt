@@ -6,6 +6,7 @@ ghost use Rattle.admission.specs.Admission.{beginsNegative, firstAlone, 
 use answer::Error;
 use answer::code;
 use answer::position;
+use grammar::limits::WIDE_TERMINALS;
 use grammar::reading::Outcome;
 use grammar::reading::begins_rule;
 use grammar::reading::declared;
@@ -13,9 +14,6 @@ use grammar::reading::read;
 use lookahead::Lookahead;
 use word::Word;
 use word::decode;
-
-// The most terminals with two tokens of lookahead.
-const FEW_TERMINALS: u32 = 7;
 
 // The code of a faulty heading; that of a faulty length is below it, and those of faulty words are above.
 const HEADING: u32 = 4;
@@ -111,7 +109,7 @@ fn admit_two(words: &[u32], outcome: Outcome) -> Outcome
     if of_heading(outcome) {
         return outcome;
     }
-    if FEW_TERMINALS < declared_terminals(words) {
+    if WIDE_TERMINALS < declared_terminals(words) {
         return Outcome::Faulty(Error::TooManyTerminals);
     }
     with_alone(outcome, first_alone(words))

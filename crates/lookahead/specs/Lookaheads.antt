@@ -4,6 +4,7 @@ use Prim.Native.Nat.{ℕ, _+_, _-_, _*_, _/_, _%_}
 use lib.Dec.{eqb, ltb}
 use lib.ListN.{take}
 use Rattle.booleans.specs.Choice.{choose}
+use Rattle.grammar.specs.Limits.{maxTerminals, maxColumns, maxWideTerminals, maxWideColumns}
 use Rattle.lookahead.specs.declared.Lookahead.{Lookahead}
 use Rattle.lookahead.specs.declared.Lookahead.the-variants.{One, Two}
 
@@ -13,13 +14,13 @@ tokens Two = 2
 
 -- the most terminals that there may be
 abbrev pub alphabet : Lookahead → ℕ
-alphabet One = 24
-alphabet Two = 7
+alphabet One = maxTerminals
+alphabet Two = maxWideTerminals
 
 -- the elements of sets are the numbers below it
 abbrev pub elements : Lookahead → ℕ
-elements One = 25
-elements Two = 57
+elements One = maxColumns
+elements Two = maxWideColumns
 
 -- the element for the end of the input and the empty string (document 01: "nothing")
 abbrev pub nothing : Lookahead → ℕ

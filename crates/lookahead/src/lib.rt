@@ -9,6 +9,7 @@ ghost use Rattle.lookahead.specs.Elements.{has, size};
 ghost use Rattle.lookahead.specs.Operations.{isEmpty, Empty, End, Terminal, Full, Joined, Met, Concatenated, behind};
 ghost use Rattle.lookahead.specs.Computing.{Has, single, Singles, isLong, begins, inRows};
 ghost use Rattle.lookahead.specs.declared.Lookahead.the-variants.{Two};
+use grammar::limits::WIDE_TERMINALS;
 
 // How many tokens are looked at.
 pub enum Lookahead {
@@ -19,10 +20,8 @@ pub enum Lookahead {
 // With one token, the element for the end of the input and the empty string (document 01: "nothing"); the terminals are below it.
 pub const NOTHING: u32 = 24;
 
-// With two tokens, the most terminals; nothing is the element 0, these come next, and the pairs behind them, a row for each.
-const TERMINALS: u32 = 7;
-
-const PAIRS: u32 = 1 + TERMINALS;
+// With two tokens, nothing is the element 0, the terminals come next, and the pairs behind them, a row for each.
+const PAIRS: u32 = 1 + WIDE_TERMINALS;
 
 // The bits of a set's number.
 const WIDTH: u32 = 64;
@@ -33,7 +32,7 @@ pub fn alphabet(lookahead: Lookahead) -> u32
 {
     match lookahead {
         Lookahead::One => NOTHING,
-        Lookahead::Two => TERMINALS,
+        Lookahead::Two => WIDE_TERMINALS,
     }
 }
 
@@ -43,7 +42,7 @@ pub fn element_count(lookahead: Lookahead) -> u32
 {
     match lookahead {
         Lookahead::One => NOTHING + 1,
-        Lookahead::Two => PAIRS + TERMINALS * TERMINALS,
+        Lookahead::Two => PAIRS + WIDE_TERMINALS * WIDE_TERMINALS,
     }
 }
 
@@ -191,11 +190,11 @@ impl LookaheadSet {
         requires { ⌜ terminal < 7 ⌝ }
         ensures { λ r. ⌜ r ≡ begins (self .bits) terminal ⌝ }
     {
-        let pairs = self.bits >> PAIRS + TERMINALS * terminal;
+        let pairs = self.bits >> PAIRS + WIDE_TERMINALS * terminal;
         if self.contains(1 + terminal) {
             true
         } else {
-            pairs & (1 << TERMINALS) - 1 != 0
+            pairs & (1 << WIDE_TERMINALS) - 1 != 0
         }
     }
 
@@ -217,7 +216,7 @@ impl LookaheadSet {
     {
         let mut firsts = LookaheadSet::empty();
         let mut terminal = 0u32;
-        while terminal < TERMINALS {
+        while terminal < WIDE_TERMINALS {
             firsts = self.first(terminal).join(firsts);
             terminal = terminal + 1;
         }
@@ -234,7 +233,7 @@ impl LookaheadSet {
         if self.contains(alone) {
             let ends = other.bits & 1;
             LookaheadSet {
-                bits: firsts.bits << PAIRS + TERMINALS * l | ends << alone,
+                bits: firsts.bits << PAIRS + WIDE_TERMINALS * l | ends << alone,
             }
         } else {
             LookaheadSet::empty()
@@ -248,7 +247,7 @@ impl LookaheadSet {
         let firsts = other.firsts();
         let mut rows = LookaheadSet::empty();
         let mut l = 0u32;
-        while l < TERMINALS {
+        while l < WIDE_TERMINALS {
             rows = self.row(l, other, firsts).join(rows);
             l = l + 1;
         }
