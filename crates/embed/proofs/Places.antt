@@ -110,8 +110,8 @@ abbrev tableFault : Lookahead → ℕ → Option Error
 tableFault k table = faultIf (ltb table (tableRoom k)) (tableTooShort k)
 
 table-low : (k : Lookahead) (table : ℕ) → LowFault maxWords (tableFault k table)
-table-low One table = when-low maxWords _ TableTooShort (omega arith)
-table-low Two table = when-low maxWords _ WideTableTooShort (omega arith)
+table-low One table = when-low maxWords (ltb table (tableRoom One)) TableTooShort (omega arith)
+table-low Two table = when-low maxWords (ltb table (tableRoom Two)) WideTableTooShort (omega arith)
 
 unknown-low : (n t at : ℕ) (w : List ℕ) → at + length w ≤ n → LowFault n (unknownFault (unknownFrom t at w))
 unfolding unknownFrom

@@ -35,9 +35,9 @@ pub(crate) fn lend_wide(table: &mut [u64], found: &[u64; WIDE_TABLE_WORDS], size
     ensures { λ _. ⌜ Lent Two (now (table .entry)) (now (found .entry)) sizes (now (table .exit)) ⌝ }
 {
     let count = word_count(sizes, Lookahead::Two);
-    let mut i = 0;
-    while i < count {
-        table[i] = found[i];
-        i = i + 1;
+    let mut at = 0;
+    while at < count {
+        table[at] = found[at];
+        at = at + 1;
     }
 }

@@ -17,6 +17,7 @@ use Rattle.event.proofs.Inputs.{input-length}
 use Rattle.grammar.specs.Limits.{maxWords, maxTokens, maxMemoEntries, maxTableWords}
 use Rattle.text.specs.Words.{bytesOfWord, wordsOf, areWords}
 use Rattle.text.specs.Refusal.{refusalText}
+use Rattle.lookahead.specs.declared.Lookahead.the-variants.{One}
 use Rattle.table.specs.Analysis.{fault}
 use Rattle.judgement_text.specs.Judgement.{judgementText}
 use Rattle.recognizer.specs.Answers.{judgeFault}
@@ -46,14 +47,14 @@ abbrev orLong : Option Error → Error
 orLong none = InputTooLong
 orLong (some e) = e
 
-long-fault : (words input : List ℕ) → maxTokens < length input → (f : Option Error) → fault words ≡ f
+long-fault : (words input : List ℕ) → maxTokens < length input → (f : Option Error) → fault One words ≡ f
     → judgeFault maxTableWords maxMemoEntries words input ≡ some (orLong f)
 long-fault words input h (some x) e = rw (judged-rows maxTableWords maxMemoEntries words input, e)
 long-fault words input h none e = rw (judged-rows maxTableWords maxMemoEntries words input, e, lt-ltb maxTokens (length input) h)
 
-long-text : (words events : List ℕ) → maxTokens < length events → judgedText words (inputOf events) ≡ refusalText (orLong (fault words))
+long-text : (words events : List ℕ) → maxTokens < length events → judgedText words (inputOf events) ≡ refusalText (orLong (fault One words))
 unfolding judgedText judgementText
-long-text words events h = rw (long-fault words (inputOf events) (omega (arith, input-length events)) (fault words) refl)
+long-text words events h = rw (long-fault words (inputOf events) (omega (arith, input-length events)) (fault One words) refl)
 
 -- what is refused as no row of words is the same of every file that is too long
 file-cut : (f : List ℕ → List ℕ) (file : ℕ) → bytesOfWord * maxWords < file

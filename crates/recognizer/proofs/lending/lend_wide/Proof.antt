@@ -14,10 +14,10 @@ use Rattle.recognizer.proofs.lending.lend_wide.Lts as lts
 use Rattle.recognizer.proofs.lending.word_count.Reads as word-count-reads
 
 abbrev Inv-loop : tie.InvT-loop
-Inv-loop table₀ found count i₀ table i = (count ≤ maxWideTableWords) × (i ≤ count) × (length table ≡ length table₀) × (table ≡ front found i table₀)
+Inv-loop table₀ found count at₀ table at = (count ≤ maxWideTableWords) × (at ≤ count) × (length table ≡ length table₀) × (table ≡ front found at table₀)
 
 abbrev μ-loop : tie.MeasureT-loop
-μ-loop table₀ found count i₀ table i = count - i
+μ-loop table₀ found count at₀ table at = count - at
 
 -- src/lending.rt:37:9
 word-count-requires : tie.Need-word-count-requires Inv-loop μ-loop
@@ -44,8 +44,8 @@ slice-write-table : tie.Need-slice-write-table Inv-loop μ-loop
 slice-write-table c = omega (arith, c .before .before .before .before .before .pre .long)
 
 -- src/lending.rt:41:13
-add-i : tie.Need-add-i Inv-loop μ-loop
-add-i c = omega arith
+add-at : tie.Need-add-at Inv-loop μ-loop
+add-at c = omega arith
 
 -- src/lending.rt:39:5
 loop-less : tie.Need-loop-less Inv-loop μ-loop
@@ -60,7 +60,7 @@ loop-again c =
       omega arith,
       simp length-set (at-loop .loop .inv .2),
       front-more (start .args .found .now) (start .args .table .now)
-          (at-loop .loop .table) (at-loop .loop .i) (at-loop .loop .inv .3) (omega (arith, start .pre .whole)) (omega (arith, start .pre .long)),
+          (at-loop .loop .table) (at-loop .loop .at) (at-loop .loop .inv .3) (omega (arith, start .pre .whole)) (omega (arith, start .pre .long)),
     )
 
 -- src/lending.rt:33:1
@@ -72,7 +72,7 @@ returns : tie.Need-returns Inv-loop μ-loop
 returns c =
     let at-loop = c .before in
     let counted = at-loop .before in
-    let e : at-loop .loop .i ≡ wordCount Two (counted .before .before .args .sizes) = omega (arith, counted .word-count .ensures) in
+    let e : at-loop .loop .at ≡ wordCount Two (counted .before .before .args .sizes) = omega (arith, counted .word-count .ensures) in
     record { words = at-loop .loop .inv .3 ∙ rw e }
 
 pub lend-wide-spec : {M : Type 1} → statement M
@@ -87,7 +87,7 @@ lend-wide-spec =
     element-copy-out-table
     mul-table-2
     slice-write-table
-    add-i
+    add-at
     loop-less
     loop-again
     same-length
