@@ -31,12 +31,14 @@ use Rattle.encoding.proofs.Faithful.{faithful}
 use Rattle.lookahead.specs.declared.Lookahead.{Lookahead}
 use Rattle.lookahead.specs.declared.Lookahead.the-variants.{One, Two}
 use Rattle.lookahead.specs.Lookaheads.{tokens, alphabet}
+use Rattle.lookahead.proofs.Strings.{some-token}
 use Rattle.admission.specs.Admission.{Fits, admission}
 use Rattle.admission.proofs.Admitted.{admitted}
 use Rattle.semantics.specs.LeftRecursion.{NoLeftRecursion, lowestLeftRecursive}
 use Rattle.semantics.specs.FirstFollow.{Entry}
 use Rattle.semantics.specs.Productive.{lowestUnproductive}
 use Rattle.semantics.specs.Claims.{clashes}
+use Rattle.semantics.specs.Predictive.{Predictive}
 use Rattle.semantics.specs.Theorems.{LeastSets}
 use Rattle.semantics.proofs.Theorems.{theorems}
 use Rattle.sets.specs.declared.Finding.{Finding}
@@ -153,6 +155,11 @@ module _ {k : Lookahead} (words : List ℕ) (p : PassedBy k words) where
 
   pub not-left-recursive : lowestLeftRecursive (grammarOf words) ≡ none
   not-left-recursive = theorems .left-recursion-decided (grammarOf words) (passed-encodes .formed .scoped) .absent .1 passed-free
+
+  pub passed-predictive : Predictive (grammarOf words) n
+  passed-predictive =
+      theorems .passed (grammarOf words) n (some-token k) (passed-encodes .formed) (passed-encodes .limited .someNonterminal) .0
+      (not-left-recursive, no-clashes)
 
   pub all-productive : lowestUnproductive (grammarOf words) n ≡ none
   all-productive = theorems .productive-decided (grammarOf words) n .absent .1 (rw (← same-grammar) (p .productive))

@@ -1,5 +1,5 @@
 -- What judging answers and leaves in the lent memories, by the first fault.
-use mathlib.Core.Path.{_≡_, refl, sym, ap, _∙_}
+use mathlib.Core.Path.{_≡_, refl, sym, ap, subst, _∙_}
 use mathlib.Core.Bool.{Bool, true, false}
 use mathlib.Core.List.{List, _++_}
 use mathlib.Core.Option.{Option, none, some}
@@ -33,6 +33,8 @@ use Rattle.semantics.specs.Choices.{tableChoice}
 use Rattle.semantics.specs.Descent.{accepts}
 use Rattle.semantics.specs.Calls.{allCalls, callCount, farthest}
 use Rattle.semantics.proofs.Range.{all-length}
+use Rattle.following.specs.Theorems.{EntriesTell}
+use Rattle.following.proofs.Theorems.{theorems as following}
 use Rattle.table.specs.Layout.{tableWords, tableRoom}
 use Rattle.sets.specs.declared.Finding.{Finding}
 use Rattle.sets.specs.declared.Finding.the-variants as finding
@@ -42,8 +44,8 @@ use Rattle.event.specs.Unknown.{unknownFrom}
 use Rattle.event.proofs.Inputs.{input-length}
 use Rattle.recognizer.specs.Answers.{judgeFaultBy, inputFaults, withInput, callsBy, verdictBy, verdictNumbersBy}
 use Rattle.recognizer.specs.Judging.{TableFound, PassedGiven, DescendGiven, Descended, JudgedPassed}
-use Rattle.recognizer.specs.Properties.{JudgesBy}
-use Rattle.recognizer.proofs.Checking.{fits-few, passed-fault-for, passed-free, fault-passed, Told, found, found-fault, lent-table}
+use Rattle.recognizer.specs.Properties.{PassedBy, Readable, RecognizesBy, JudgesBy}
+use Rattle.recognizer.proofs.Checking.{fits-few, passed-fault-for, passed-free, passed-predictive, fault-passed, Told, found, found-fault, lent-table}
 use Rattle.recognizer.proofs.Places.{judge-tells, fault-encoded, places}
 use Rattle.recognizer.proofs.JudgeFaults.{judge-fault-long, grammar-fault, input-fault, readable-faultless, faultless-readable, judged-checked, PassedWith, RefusedWith, byGrammar, byInput, with-passed, with-refused}
 use Rattle.recognizer.proofs.Meaning.{meaning}
@@ -57,6 +59,30 @@ verdict-told n G w = go (accepts G (tableChoice G n w) w)
         ≡ answered (choose b accepted rejected) 0 0 (callCount G (tableChoice G n w) w) (farthest G (tableChoice G n w) w)
     go true = refl
     go false = refl
+
+-- a passed grammar and a readable input: what is answered has its meaning, and the memo table lent back begins with the entries that the descent records
+module _ (k : Lookahead) (words input table memo : List ℕ) (long : tableRoom k ≤ length table) (room : maxMemoEntries ≤ length memo)
+    (p : PassedBy k words) (h : Readable words input) where
+  abbrev G : Grammar
+  G = grammarOf words
+
+  abbrev n : ℕ
+  n = tokens k
+
+  faultless : judgeFaultBy k (length table) (length memo) words input ≡ none
+  faultless = input-fault k words input table memo long room (fault-passed words p) (readable-faultless (G .terminals) input (h .short) (h .tokens))
+
+  recognizes : (r : Answer) → r ≡ refusedOr (judgeFaultBy k (length table) (length memo) words input) (verdictBy n G input)
+      → RecognizesBy n words input r
+  recognizes r a = meaning k words input r p h (a ∙ ap (λ y. refusedOr y (verdictBy n G input)) faultless)
+
+  entries : (memo′ : List ℕ) → memo′ ≡ lentBack (judgeFaultBy k (length table) (length memo) words input) (memoWordsBy n G input) memo
+      → EntriesTell G n input memo′
+  entries memo′ m =
+      let written = memoWordsBy n G input in
+      let recorded = meaning k words input (verdictBy n G input) p h refl .memo in
+      subst (EntriesTell G n input) (sym (m ∙ ap (λ y. lentBack y written memo) faultless))
+      (following .entries G n (passed-predictive words p) input (h .tokens) (omega (arith, h .short)) written recorded (drop (length written) memo))
 
 -- the promise from the answer and the memories
 judges : {k : Lookahead} {words input table memo table′ memo′ : List ℕ} {r : Answer}
@@ -83,9 +109,8 @@ judges {k} {words} {input} {table} {memo} {table′} {memo′} {r} a t m = recor
       (a ∙ ap (λ f. refusedOr f (verdictBy n H input)) (judge-fault-long k words input table memo long room (fault-encoded k words G few e fits))));
   as-checked = λ e c checked q.
       t ∙ ap (λ y. lentBack y (tableWords k (grammarOf words)) table) (e ∙ sym (judged-checked k words input (length table) (length memo) e)) ∙ sym (q .table);
-  recognizes = λ long room p h.
-      let f = input-fault k words input table memo long room (fault-passed words p) (readable-faultless (grammarOf words .terminals) input (h .short) (h .tokens)) in
-      meaning k words input r p h (a ∙ ap (λ y. refusedOr y (verdictBy (tokens k) (grammarOf words) input)) f);
+  recognizes = λ long room p h. recognizes k words input table memo long room p h r a;
+  entries = λ long room p h. entries k words input table memo long room p h memo′ m;
 }
 
 pub judge-refused : {k : Lookahead} {words input table memo : List ℕ} {x : Error} → judgeFaultBy k (length table) (length memo) words input ≡ some x

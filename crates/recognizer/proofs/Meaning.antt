@@ -15,16 +15,14 @@ use Rattle.booleans.specs.Choice.{choose}
 use Rattle.grammar.specs.Encoding.{grammarOf}
 use Rattle.lookahead.specs.declared.Lookahead.{Lookahead}
 use Rattle.lookahead.specs.Lookaheads.{tokens}
-use Rattle.lookahead.proofs.Strings.{some-token}
 use Rattle.semantics.specs.Valuations.{Valuation, Solves, solution}
 use Rattle.semantics.specs.Choices.{tableChoice}
 use Rattle.semantics.specs.Memo.{Recorded}
-use Rattle.semantics.specs.Predictive.{Predictive}
 use Rattle.semantics.proofs.Theorems.{theorems}
 use Rattle.recognizer.specs.Answers.{callsBy, verdictBy}
 use Rattle.recognizer.specs.Properties.{PassedBy, Readable, RecognizesBy, SameVerdict}
 use Rattle.recognizer.proofs.Deciding.{words-recorded}
-use Rattle.recognizer.proofs.Checking.{passed-encodes, passed-free, no-clashes, not-left-recursive}
+use Rattle.recognizer.proofs.Checking.{passed-encodes, passed-free, passed-predictive}
 
 -- a verdict by a test tells the test
 pub verdict-tells : {r : Answer} (b : Bool) (c : Calls) → r ≡ choose b (Accepted c) (Rejected c)
@@ -42,10 +40,9 @@ meaning k words input r p h e =
     let m = passed-encodes words p in
     let free = passed-free words p in
     let some-nonterminal : 0 < G .nonterminals = m .limited .someNonterminal in
-    let predictive : Predictive G n = theorems .passed G n (some-token k) (m .formed) some-nonterminal .0 (not-left-recursive words p, no-clashes words p) in
     let tells : (v : Valuation) → Solves G input v → ((r ≡ Accepted (callsBy n G input)) ↔ (v 0 0 (length input) ≡ true)) × ((r ≡ Rejected (callsBy n G input)) ↔ (v 0 0 (length input) ≡ false)) =
     λ v s. verdict-tells {r = r} (v 0 0 (length input)) (callsBy n G input)
-    (e ∙ ap (λ b. choose b (Accepted (callsBy n G input)) (Rejected (callsBy n G input))) (theorems .verdict G n predictive input (h .tokens) v s)) in
+    (e ∙ ap (λ b. choose b (Accepted (callsBy n G input)) (Rejected (callsBy n G input))) (theorems .verdict G n (passed-predictive words p) input (h .tokens) v s)) in
     let choice = tableChoice G n input in
     let own = theorems .own-rules G n input in
     let recorded = theorems .memo-right G (m .formed .scoped) free some-nonterminal choice own input (omega (arith, h .short)) .recorded in

@@ -36,6 +36,7 @@ use Rattle.semantics.specs.Claims.{clashes, tableOf}
 use Rattle.semantics.specs.Choices.{tableChoice}
 use Rattle.semantics.specs.Memo.{Recorded}
 use Rattle.semantics.specs.Theorems.{OneSolution, DescentEnds, CallsCounted}
+use Rattle.following.specs.Theorems.{EntriesTell}
 use Rattle.table.specs.Conflicts.{ClashAt, FirstClash}
 use Rattle.table.specs.Layout.{tableWords, tableRoom}
 use Rattle.table.specs.Analysis.{conflictError}
@@ -140,6 +141,9 @@ pub record JudgesBy (k : Lookahead) (words input table memo : List ℕ) (r : Ans
   -- where the memories are long enough, each passed grammar and readable input is judged by its one meaning, whatever the memories held
   pub recognizes : tableRoom k ≤ length table → maxMemoEntries ≤ length memo → PassedBy k words → Readable words input
       → RecognizesBy (tokens k) words input r
+  -- and the entries of the memo table that is lent back tell which spans belong to a nonterminal, wherever what comes next may follow it
+  pub entries : tableRoom k ≤ length table → maxMemoEntries ≤ length memo → PassedBy k words → Readable words input
+      → EntriesTell (grammarOf words) (tokens k) input memo′
 
 -- what is judged of events is the input that they are (`inputOf`), so two calls alike but for the directions in their events get the same answer and
 -- leave the same table and the same memo table
