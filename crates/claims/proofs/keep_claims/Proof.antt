@@ -4,10 +4,10 @@ use native.Mathlib.Omega.{arith}
 use lib.ListN.{length}
 use Rattle.sets.proofs.Lists.{listed-long}
 use Rattle.sets.proofs.ArrayLookup.{onto-at}
-use Rattle.table.specs.Claims.{kept}
-use Rattle.table.proofs.ClaimWalk.{Claiming, claiming-start, may-claim, claiming-turn, claiming-end}
-use Rattle.table.proofs.claims.keep_claims.Statement.{statement}
-use Rattle.table.proofs.claims.keep_claims.Tie as tie
+use Rattle.claims.specs.Claims.{kept}
+use Rattle.claims.proofs.ClaimWalk.{Claiming, claiming-start, may-claim, claiming-turn, claiming-end}
+use Rattle.claims.proofs.keep_claims.Statement.{statement}
+use Rattle.claims.proofs.keep_claims.Tie as tie
 
 abbrev Inv-loop : tie.InvT-loop
 Inv-loop words firsts follows heads₀ sets₀ lookahead terminals rest₀ rule₀ at₀ heads sets rest rule at =

@@ -20,9 +20,9 @@ use Rattle.lookahead.specs.declared.Lookahead.{Lookahead}
 use Rattle.lookahead.specs.Operations.{end, terminal, join}
 use Rattle.semantics.specs.Claims.{without}
 use Rattle.sets.specs.Naming.{ruleHead, Indexed}
+use Rattle.sets.proofs.Lists.{getD-zeros}
 use Rattle.sets.proofs.Words.{parse-before, parse-over}
-use Rattle.table.specs.Overruns.{beyondEnd, aloneIn, overrunSet, aloneFrom, WordOverruns, Overrunning}
-use Rattle.table.proofs.ClaimedTwice.{getD-zeros}
+use Rattle.claims.specs.Overruns.{beyondEnd, aloneIn, overrunSet, aloneFrom, WordOverruns, Overrunning}
 
 -- what is told of a nonterminal by one rule
 module _ (k : Lookahead) (alone : Bool) (s before : ℕ) {ends joined : ℕ} (e : ends ≡ end k) (j : joined ≡ join ends s) where

@@ -5,7 +5,7 @@ ghost use Rattle.booleans.specs.Choice.{choose};
 ghost use Rattle.grammar.specs.Encoding.{parse};
 ghost use Rattle.lookahead.specs.Operations.{terminal};
 ghost use Rattle.sets.specs.Naming.{ruleHead, Indexed};
-ghost use Rattle.table.specs.Overruns.{beyondEnd, aloneFrom, WordOverruns, WordsIndexed, Overrunning};
+ghost use Rattle.claims.specs.Overruns.{beyondEnd, aloneFrom, WordOverruns, WordsIndexed, Overrunning};
 use lookahead::Lookahead;
 use lookahead::LookaheadSet;
 use sets::family::SETS;

@@ -3,9 +3,9 @@ use mathlib.Core.Path.{refl}
 use native.Mathlib.Omega.{arith}
 use borrow.Author.Needs.{needs}
 use Rattle.sets.proofs.NamedNonterminals.{no-head}
-use Rattle.table.proofs.OverrunWalk.{head-own, head-told}
-use Rattle.table.proofs.overruns.overrun.Statement.{statement}
-use Rattle.table.proofs.overruns.overrun.Tie as tie
+use Rattle.claims.proofs.OverrunWalk.{head-own, head-told}
+use Rattle.claims.proofs.overruns.overrun.Statement.{statement}
+use Rattle.claims.proofs.overruns.overrun.Tie as tie
 
 enum-known-word : tie.Need-enum-known-word
 enum-known-word c = search needs

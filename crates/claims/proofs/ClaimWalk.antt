@@ -35,8 +35,8 @@ use Rattle.sets.proofs.NamedNonterminals.{before-indexed}
 use Rattle.sets.proofs.Numbers.{array-at}
 use Rattle.sets.proofs.FewTerminals.{admitted-read, few-terminals}
 use Rattle.sets.proofs.Words.{parse-before, parse-over}
-use Rattle.table.specs.Claims.{claimNumber, byRule, FamiliesGiven, Kept, kept, MayClaim, WordClaims, Empty, AllKept}
-use Rattle.table.proofs.RuleClaims.{claim-found}
+use Rattle.claims.specs.Claims.{claimNumber, byRule, FamiliesGiven, Kept, kept, MayClaim, WordClaims, Empty, AllKept}
+use Rattle.claims.proofs.RuleClaims.{claim-found}
 
 -- a word that begins a rule of A
 module _ {w : Word} {behind A : ℕ} (m : MayClaim w behind) (e : w ≡ RuleWord A) where

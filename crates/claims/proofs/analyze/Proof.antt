@@ -2,9 +2,9 @@
 use mathlib.Core.Path.{refl}
 use borrow.Author.Needs.{needs}
 use Rattle.sets.proofs.Findings.{families-told}
-use Rattle.table.proofs.Analyzing.{given, refused-claims, words-indexed, all-claims}
-use Rattle.table.proofs.claims.analyze.Statement.{statement}
-use Rattle.table.proofs.claims.analyze.Tie as tie
+use Rattle.claims.proofs.Findings.{given, refused-claims, words-indexed, all-claims}
+use Rattle.claims.proofs.analyze.Statement.{statement}
+use Rattle.claims.proofs.analyze.Tie as tie
 
 analyze-requires : tie.Need-analyze-requires
 analyze-requires c κs = search needs

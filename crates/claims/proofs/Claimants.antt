@@ -17,8 +17,8 @@ use Rattle.booleans.specs.Quantifiers.{anyOf}
 use Rattle.semantics.specs.FiniteSets.{member, numbersFrom, numbers}
 use Rattle.semantics.specs.FirstFollow.{sameString}
 use Rattle.semantics.specs.Claims.{several, position, claimed, claims, tableOf}
-use Rattle.table.specs.Claims.{claimNumber, headsOf, claimNumbers, byRule, claimant}
-use Rattle.table.proofs.RuleClaims.{claim-has}
+use Rattle.claims.specs.Claims.{claimNumber, headsOf, claimNumbers, byRule, claimant}
+use Rattle.claims.proofs.RuleClaims.{claim-has}
 
 -- a rule claims what its claim has, for its head alone
 module _ (heads sets : List ℕ) where

@@ -3,9 +3,9 @@ use mathlib.Core.Path.{refl}
 use native.Mathlib.Omega.{arith}
 use borrow.Author.Needs.{needs}
 use Rattle.sets.proofs.NamedNonterminals.{no-head}
-use Rattle.table.proofs.ClaimWalk.{own, some-rule, claim-kept}
-use Rattle.table.proofs.claims.claim.Statement.{statement}
-use Rattle.table.proofs.claims.claim.Tie as tie
+use Rattle.claims.proofs.ClaimWalk.{own, some-rule, claim-kept}
+use Rattle.claims.proofs.claim.Statement.{statement}
+use Rattle.claims.proofs.claim.Tie as tie
 
 enum-known-word : tie.Need-enum-known-word
 enum-known-word c = search needs

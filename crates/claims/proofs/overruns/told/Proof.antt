@@ -1,9 +1,9 @@
 -- By whether more than the end can follow, and then by whether the rule has positives.
 use mathlib.Core.Path.{_∙_}
 use borrow.Author.Needs.{needs}
-use Rattle.table.proofs.OverrunWalk.{told-ends, told-more}
-use Rattle.table.proofs.overruns.told.Statement.{statement}
-use Rattle.table.proofs.overruns.told.Tie as tie
+use Rattle.claims.proofs.OverrunWalk.{told-ends, told-more}
+use Rattle.claims.proofs.overruns.told.Statement.{statement}
+use Rattle.claims.proofs.overruns.told.Tie as tie
 
 end-requires : tie.Need-end-requires
 end-requires c κs = search needs

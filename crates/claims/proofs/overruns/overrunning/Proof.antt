@@ -1,9 +1,9 @@
 -- The loop keeps `Telling`: what the rules of the words from the index on tell is told.
 use Prim.Native.Nat.{_-_}
 use native.Mathlib.Omega.{arith}
-use Rattle.table.proofs.OverrunWalk.{Telling, telling-start, telling-turn, telling-end}
-use Rattle.table.proofs.overruns.overrunning.Statement.{statement}
-use Rattle.table.proofs.overruns.overrunning.Tie as tie
+use Rattle.claims.proofs.OverrunWalk.{Telling, telling-start, telling-turn, telling-end}
+use Rattle.claims.proofs.overruns.overrunning.Statement.{statement}
+use Rattle.claims.proofs.overruns.overrunning.Tie as tie
 
 abbrev Inv-loop : tie.InvT-loop
 Inv-loop words follows lookahead overruns₀ alone₀ at₀ overruns alone at = Telling lookahead words follows overruns alone at

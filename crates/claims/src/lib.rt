@@ -2,18 +2,20 @@
 ghost use mathlib.Core.Path.{_≡_};
 ghost use Rattle.sets.specs.Naming.{ruleHead};
 ghost use Rattle.grammar.specs.Encoding.{grammarOf};
-ghost use Rattle.table.specs.Claims.{claimsOf, FamiliesGiven, kept, MayClaim, WordClaims, Empty, AllKept};
-use super::overruns::overrunning;
+ghost use Rattle.claims.specs.Claims.{claimsOf, FamiliesGiven, kept, MayClaim, WordClaims, Empty, AllKept};
 use grammar::limits::RULES;
 use grammar::reading::Sizes;
 use lookahead::Lookahead;
 use lookahead::LookaheadSet;
+use overruns::overrunning;
 use sets::Finding;
 use sets::family::SETS;
 use sets::first::no_rest;
 use sets::first::onto;
 use word::Word;
 use word::decode;
+
+mod overruns;
 
 // What is found of an encoded grammar: its sizes, or why it is refused; its sets; for each rule its head and the set that it claims for
 // it; and for each nonterminal the first terminal's set where it overruns. Zeros stand elsewhere, and where the grammar is refused.
@@ -56,7 +58,7 @@ fn claim(
 
 // Goes through the words of a grammar that is admitted from their end, and keeps the head and the claim of each rule where
 // zeros stand.
-pub(crate) fn keep_claims<'a>(
+fn keep_claims<'a>(
     words: &[u32],
     sizes: Sizes,
     firsts: &'a [u64; SETS],

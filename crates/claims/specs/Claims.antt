@@ -27,8 +27,8 @@ use Rattle.sets.specs.Analysis.{setsFault, findingOf, setsIf}
 use Rattle.sets.specs.Lists.{listed}
 use Rattle.sets.specs.Naming.{Indexed}
 use Rattle.sets.specs.Sets.{numberOf, firstNumber, followNumber}
-use Rattle.table.specs.Overruns.{overrunSet}
-use Rattle.table.specs.declared.claims.Claims.{Claims}
+use Rattle.claims.specs.Overruns.{overrunSet}
+use Rattle.claims.specs.declared.Claims.{Claims}
 
 -- the strings that a rule claims for its head, as a number (document 01: the columns that a rule claims)
 unfoldable pub claimNumber : Lookahead → Grammar → Rule → ℕ

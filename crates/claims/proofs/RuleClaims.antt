@@ -30,7 +30,7 @@ use Rattle.sets.specs.First.{ruleFirst}
 use Rattle.sets.proofs.Strings.{StringIn, string-in, in-string, number-has, has-number}
 use Rattle.sets.proofs.Numbers.{number-string, in-number}
 use Rattle.sets.proofs.FirstTie.{rule-begins, begins-rule}
-use Rattle.table.specs.Claims.{claimNumber}
+use Rattle.claims.specs.Claims.{claimNumber}
 
 -- the number s has the elements of the strings that are listed
 abbrev Lists : Lookahead → List (List ℕ) → ℕ → Type 0
