@@ -1,8 +1,8 @@
 -- The farther place is the one that is not below the other.
 use borrow.Author.Needs.{needs}
-use Rattle.recognizer.proofs.Tallying.{together-left, together-right}
-use Rattle.recognizer.proofs.tally.together.Statement.{statement}
-use Rattle.recognizer.proofs.tally.together.Tie as tie
+use Rattle.memo_table.proofs.Tallying.{together-left, together-right}
+use Rattle.memo_table.proofs.together.Statement.{statement}
+use Rattle.memo_table.proofs.together.Tie as tie
 
 add-count : tie.Need-add-count
 add-count c = search needs

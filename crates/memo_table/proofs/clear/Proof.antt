@@ -7,8 +7,8 @@ use borrow.Author.Fill.{fill-none, fill-more}
 use lib.ListN.{length, drop, replicate, length-set}
 use lib.Seq.{drop-length}
 use Rattle.grammar.specs.Codes.{uncalledCode}
-use Rattle.recognizer.proofs.tally.clear.Statement.{statement}
-use Rattle.recognizer.proofs.tally.clear.Tie as tie
+use Rattle.memo_table.proofs.clear.Statement.{statement}
+use Rattle.memo_table.proofs.clear.Tie as tie
 
 abbrev Inv-loop : tie.InvT-loop
 Inv-loop memo₀ at₀ memo at = (at ≤ length memo₀) × ((length memo ≡ length memo₀) × (memo ≡ replicate at uncalledCode ++ drop at memo₀))

@@ -2,9 +2,9 @@
 use mathlib.Core.Path.{refl}
 use borrow.Author.Tests.{ne-eqb}
 use Rattle.grammar.specs.Codes.{uncalledCode}
-use Rattle.recognizer.specs.Tally.{entryCount}
-use Rattle.recognizer.proofs.tally.calls_of.Statement.{statement}
-use Rattle.recognizer.proofs.tally.calls_of.Tie as tie
+use Rattle.memo_table.specs.Tally.{entryCount}
+use Rattle.memo_table.proofs.calls_of.Statement.{statement}
+use Rattle.memo_table.proofs.calls_of.Tie as tie
 
 returns : tie.Need-returns
 unfolding entryCount

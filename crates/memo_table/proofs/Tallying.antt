@@ -2,7 +2,8 @@
 use mathlib.Core.Bool.{Bool, true, false, not, true≢false, false≢true}
 use mathlib.Core.List.{List, [], _∷_, _++_, map, map-append}
 use mathlib.Core.Path.{_≡_, refl, sym, ap, _∙_}
-use Prim.Native.Nat.{ℕ, zero, suc, _+_, _*_, max, _≤_, _<_}
+use Prim.Native.Nat.{ℕ, zero, suc, _+_, _*_, _/_, max, _≤_, _<_}
+use native.Mathlib.Nat.{mul-add-div-right, div-eq-of-lt}
 use native.Mathlib.Omega.{arith}
 use lib.Arith.{digits-lt}
 use lib.Dec.{eqb}
@@ -19,9 +20,9 @@ use Rattle.semantics.specs.Calls.{allCalls, callCount, greatestPlace, farthest}
 use Rattle.semantics.specs.Memo.{Memo, Recorded, written}
 use Rattle.semantics.proofs.FiniteSets.{numbers-length}
 use Rattle.semantics.proofs.Distinct.{combine-length}
-use Rattle.recognizer.specs.Tally.{tallyOf, together, writtenAmong, entryCount, recordedRow, recordedCalls}
-use Rattle.recognizer.proofs.JoinedLists.{keep-append, keep-length, numbers-more, combine-more}
-use Rattle.recognizer.proofs.Storing.{getD-any}
+use Rattle.memo_table.specs.Tally.{tallyOf, together, writtenAmong, entryCount, recordedRow, recordedCalls}
+use Rattle.memo_table.proofs.JoinedLists.{keep-append, keep-length, numbers-more, combine-more}
+use Rattle.memo_table.proofs.Entries.{getD-any}
 
 calls-same : (a b : Calls) → a .count ≡ b .count → a .farthest ≡ b .farthest → a ≡ b
 calls-same a b e d =
@@ -157,7 +158,7 @@ module _ (m : Memo) (tokens : ℕ) where
   row-told A i e d = calls-same _ _ e d
 
   -- the row of each nonterminal lies within the table
-  pub row-within : {A N : ℕ} → A < N → length m ≡ N * (tokens + 1) → A * (tokens + 1) + tokens < length m
+  pub row-within : {A N : ℕ} → A < N → N * (tokens + 1) ≤ length m → A * (tokens + 1) + tokens < length m
   row-within {A} {N} h e = let l : A * (tokens + 1) + tokens < N * (tokens + 1) = digits-lt h (omega arith) in omega arith
 
   pub rows-none : record { count = 0; farthest = 0 } ≡ tallyOf (recordedCalls m 0 tokens)
@@ -184,10 +185,18 @@ pub recorded-written : (G : Grammar) (w : List ℕ) (m : Memo) → recordedCalls
 unfolding recordedCalls allCalls
 recorded-written G w m = refl
 
+-- a memo table has the rows that it is made for
+rows-are : (l N k : ℕ) → l ≡ N * (k + 1) → l / (k + 1) ≡ N
+rows-are l N k e =
+    let low : 0 < k + 1 = omega arith in
+    let whole : l ≡ N * (k + 1) + 0 = omega arith in
+    rw whole (mul-add-div-right low N 0 ∙ omega (arith, div-eq-of-lt low))
+
 -- where the memo table records a descent, its tally is the number of the calls made and the farthest place of one
-pub tally-recorded : {G : Grammar} {choice : Choice} {w : List ℕ} {m : Memo} {r : Calls} {nonterminals : ℕ}
-    → Recorded G choice w m → nonterminals ≡ G .nonterminals → r ≡ tallyOf (recordedCalls m nonterminals (length w))
+pub tally-recorded : {G : Grammar} {choice : Choice} {w : List ℕ} {m : Memo} {r : Calls}
+    → Recorded G choice w m → r ≡ tallyOf (recordedCalls m (length m / (length w + 1)) (length w))
     → r ≡ record { count = callCount G choice w; farthest = farthest G choice w }
 unfolding tallyOf callCount farthest
-tally-recorded {G} {choice} {w} {m} recorded sized e =
-    e ∙ ap (λ n. tallyOf (recordedCalls m n (length w))) sized ∙ ap tallyOf (recorded-written G w m ∙ recorded .scanned)
+tally-recorded {G} {choice} {w} {m} recorded e =
+    let rows : length m / (length w + 1) ≡ G .nonterminals = rows-are (length m) (G .nonterminals) (length w) (recorded .size ∙ omega arith) in
+    e ∙ ap (λ n. tallyOf (recordedCalls m n (length w))) rows ∙ ap tallyOf (recorded-written G w m ∙ recorded .scanned)

@@ -1,9 +1,9 @@
 -- The count and the farthest place of a row are its tally.
 use Prim.Native.Nat.{_+_}
-use Rattle.recognizer.proofs.Tallying.{row-told}
+use Rattle.memo_table.proofs.Tallying.{row-told}
 use borrow.Author.Needs.{needs}
-use Rattle.recognizer.proofs.tally.tally_row.Statement.{statement}
-use Rattle.recognizer.proofs.tally.tally_row.Tie as tie
+use Rattle.memo_table.proofs.tally_row.Statement.{statement}
+use Rattle.memo_table.proofs.tally_row.Tie as tie
 
 count-row-requires : tie.Need-count-row-requires
 count-row-requires c κs = search needs

@@ -1,15 +1,15 @@
-// The memo table as a whole: cleared before the descent, and the calls read off it afterwards.
+// The memo table as a whole: cleared before a descent, and the calls that it made read off it afterwards.
 ghost use mathlib.Core.Path.{_≡_};
-ghost use Prim.Native.Nat.{_+_, _*_, _^_, _<_};
+ghost use Prim.Native.Nat.{_+_, _*_, _/_, _^_, _≤_, _<_};
 ghost use lib.ListN.{length, replicate};
 ghost use Rattle.grammar.specs.Codes.{uncalledCode};
 ghost use Rattle.semantics.specs.Calls.{greatestPlace};
-ghost use Rattle.recognizer.specs.Tally.{tallyOf, together as togetherOf, entryCount, recordedRow, recordedCalls};
+ghost use Rattle.memo_table.specs.Tally.{tallyOf, together as togetherOf, entryCount, recordedRow, recordedCalls};
 use answer::Calls;
 use grammar::codes::UNCALLED;
 
 // Makes every entry one of a call that was not made.
-pub(crate) fn clear(memo: &mut [u16])
+pub fn clear(memo: &mut [u16])
     ensures { λ _. ⌜ now (memo .exit) ≡ replicate (length (now (memo .entry))) uncalledCode ⌝ }
 {
     let mut at = 0;
@@ -86,9 +86,9 @@ fn tally_row(memo: &[u16], nonterminal: usize, tokens: usize) -> Calls
     Calls { count, farthest }
 }
 
-// The calls of all nonterminals.
-pub(crate) fn tally(memo: &[u16], nonterminals: usize, tokens: usize) -> Calls
-    requires { ⌜ length (now memo) ≡ nonterminals * (tokens + 1) ⌝ }
+// The calls of the first nonterminals.
+fn tally_rows(memo: &[u16], nonterminals: usize, tokens: usize) -> Calls
+    requires { ⌜ nonterminals * (tokens + 1) ≤ length (now memo) ⌝ }
     ensures { λ r. ⌜ r ≡ tallyOf (recordedCalls (now (memo .entry)) nonterminals tokens) ⌝ }
 {
     let mut calls = Calls {
@@ -101,4 +101,12 @@ pub(crate) fn tally(memo: &[u16], nonterminals: usize, tokens: usize) -> Calls
         nonterminal = nonterminal + 1;
     }
     calls
+}
+
+// The calls that a memo table for an input of so many tokens records: it has as many rows as there is room for.
+pub fn tally(memo: &[u16], tokens: u16) -> Calls
+    ensures { λ r. ⌜ r ≡ tallyOf (recordedCalls (now (memo .entry)) (length (now (memo .entry)) / (tokens + 1)) tokens) ⌝ }
+{
+    let nonterminals = memo.len() / (tokens as usize + 1);
+    tally_rows(memo, nonterminals, tokens as usize)
 }

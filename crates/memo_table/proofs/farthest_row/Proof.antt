@@ -3,10 +3,10 @@ use mathlib.Core.Path.{_≡_, refl, sym, ap, _∙_}
 use Prim.Native.Nat.{_+_, _-_, _≤_}
 use native.Mathlib.Omega.{arith}
 use Rattle.semantics.specs.Calls.{greatestPlace}
-use Rattle.recognizer.specs.Tally.{recordedRow}
-use Rattle.recognizer.proofs.Tallying.{farthest-here, farthest-before, farthest-none}
-use Rattle.recognizer.proofs.tally.farthest_row.Statement.{statement}
-use Rattle.recognizer.proofs.tally.farthest_row.Tie as tie
+use Rattle.memo_table.specs.Tally.{recordedRow}
+use Rattle.memo_table.proofs.Tallying.{farthest-here, farthest-before, farthest-none}
+use Rattle.memo_table.proofs.farthest_row.Statement.{statement}
+use Rattle.memo_table.proofs.farthest_row.Tie as tie
 
 abbrev Inv-loop : tie.InvT-loop
 Inv-loop memo nonterminal tokens row place₀ place =

@@ -3,10 +3,10 @@ use mathlib.Core.Path.{_≡_, ap, _∙_}
 use Prim.Native.Nat.{_+_, _-_, _≤_}
 use native.Mathlib.Omega.{arith}
 use lib.ListN.{length}
-use Rattle.recognizer.specs.Tally.{recordedRow}
-use Rattle.recognizer.proofs.Tallying.{count-none, count-more, count-room}
-use Rattle.recognizer.proofs.tally.count_row.Statement.{statement}
-use Rattle.recognizer.proofs.tally.count_row.Tie as tie
+use Rattle.memo_table.specs.Tally.{recordedRow}
+use Rattle.memo_table.proofs.Tallying.{count-none, count-more, count-room}
+use Rattle.memo_table.proofs.count_row.Statement.{statement}
+use Rattle.memo_table.proofs.count_row.Tie as tie
 
 abbrev Inv-loop : tie.InvT-loop
 Inv-loop memo nonterminal tokens row count₀ place₀ count place =

@@ -2,10 +2,10 @@
 use mathlib.Core.Path.{_≡_, ap, _∙_}
 use Prim.Native.Nat.{_-_, _≤_}
 use native.Mathlib.Omega.{arith}
-use Rattle.recognizer.specs.Tally.{tallyOf, recordedCalls}
-use Rattle.recognizer.proofs.Tallying.{row-within, rows-none, rows-room, rows-more}
-use Rattle.recognizer.proofs.tally.tally.Statement.{statement}
-use Rattle.recognizer.proofs.tally.tally.Tie as tie
+use Rattle.memo_table.specs.Tally.{tallyOf, recordedCalls}
+use Rattle.memo_table.proofs.Tallying.{row-within, rows-none, rows-room, rows-more}
+use Rattle.memo_table.proofs.tally_rows.Statement.{statement}
+use Rattle.memo_table.proofs.tally_rows.Tie as tie
 
 abbrev Inv-loop : tie.InvT-loop
 Inv-loop memo nonterminals tokens calls₀ nonterminal₀ calls nonterminal =
@@ -53,8 +53,8 @@ returns c =
     let e : c .before .loop .nonterminal ≡ args .nonterminals = omega arith in
     c .before .loop .inv .1 ∙ ap (λ n. tallyOf (recordedCalls (args .memo .now) n (args .tokens))) e
 
-pub tally-spec : {M : Type 1} → statement M
-tally-spec =
+pub tally-rows-spec : {M : Type 1} → statement M
+tally-rows-spec =
     tie.close
     (tie.spec
     Inv-loop
