@@ -12,9 +12,9 @@ use Rattle.booleans.proofs.Quantified.{one-le}
 use Rattle.lookahead.specs.Elements.{has}
 use Rattle.lookahead.specs.declared.Lookahead.the-variants.{One}
 use Rattle.lookahead.specs.Operations.{isEmpty}
-use Rattle.table.specs.Claims.{claimant}
+use Rattle.claims.specs.Claims.{claimant}
 use Rattle.table.specs.Columns.{columnElement}
-use Rattle.table.proofs.Claimants.{claimant-own}
+use Rattle.claims.proofs.Claimants.{claimant-own}
 use Rattle.text.specs.Ascii.{ascii}
 use Rattle.text.specs.Decimal.{decimal, labelled}
 use Rattle.text.specs.Writing.{Put}

@@ -24,11 +24,11 @@ use Rattle.sets.specs.declared.Finding.the-variants.{Passed, Refused}
 use Rattle.sets.specs.Analysis.{setsFault}
 use Rattle.sets.proofs.Findings.{told-passed, told-refused}
 use Rattle.sets.proofs.Lists.{listed-at}
-use Rattle.table.specs.declared.claims.Claims.{Claims}
-use Rattle.table.specs.Claims.{headsOf, claimNumbers, byRule, byRuleIf, overrunsOf, overrunsIf, claimsOf}
+use Rattle.claims.specs.declared.Claims.{Claims}
+use Rattle.claims.specs.Claims.{headsOf, claimNumbers, byRule, byRuleIf, overrunsOf, overrunsIf, claimsOf}
 use Rattle.table.specs.Columns.{columnElement}
-use Rattle.table.specs.Overruns.{overrunSet}
-use Rattle.table.proofs.Claimants.{claims-alike, told as rules-told}
+use Rattle.claims.specs.Overruns.{overrunSet}
+use Rattle.claims.proofs.Claimants.{claims-alike, told as rules-told}
 use Rattle.table.proofs.ColumnStrings.{column-string, element-small}
 use Rattle.text.specs.Refusal.{refusalText}
 use Rattle.text.specs.Writing.{Put}

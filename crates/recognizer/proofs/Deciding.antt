@@ -4,7 +4,6 @@ use mathlib.Core.Bool.{Bool, true, false}
 use mathlib.Core.List.{List, map}
 use Prim.Native.Nat.{ℕ, suc, _+_, _*_, _/_, _%_, _≤_, _<_}
 use native.Mathlib.Nat.{mod-lt, div-add-mod', div-lt-iff-lt-mul}
-use native.Mathlib.Numerals.{add-one}
 use native.Mathlib.Omega.{arith}
 use lib.Dec.{ltb}
 use lib.ListN.{length, getD, drop, replicate, length-map, length-replicate, getD-replicate, List·getD-map, drop-of-length-le}
@@ -41,7 +40,7 @@ use Rattle.sets.proofs.FewTerminals.{admitted-read, few-terminals}
 use Rattle.table.specs.Columns.{columnCount}
 use Rattle.recognizer.specs.Arrays.{held, rowAt}
 use Rattle.recognizer.specs.Descent.{MemoSound, CallGiven, CallDone, CallRequires, CallEnsures}
-use Rattle.recognizer.specs.Tally.{tallyOf, recordedCalls}
+use Rattle.memo_table.specs.Tally.{tallyOf, recordedCalls}
 use Rattle.recognizer.specs.Memory.{memoWordBy, memoWordsBy}
 use Rattle.recognizer.specs.Answers.{callsBy, verdictBy}
 use Rattle.recognizer.specs.Judging.{DescendGiven, Descended}
@@ -51,8 +50,8 @@ use Rattle.event.proofs.Inputs.{input-length}
 use Rattle.recognizer.proofs.Tokens.{column-few}
 use Rattle.recognizer.proofs.TableChoices.{choices-given, choices-hold}
 use Rattle.recognizer.proofs.Running.{level}
-use Rattle.recognizer.proofs.Storing.{getD-any}
-use Rattle.recognizer.proofs.Tallying.{tally-recorded}
+use Rattle.memo_table.proofs.Entries.{getD-any}
+use Rattle.memo_table.proofs.Tallying.{tally-recorded}
 
 -- a memo table in which no call is recorded is sound
 pub blank-sound : (choice : Choice) (words input : List ℕ) → MemoSound choice words input (blank (grammarOf words) input)
@@ -172,16 +171,13 @@ module _ {k : Lookahead} {words : List ℕ} {z : Sizes} {entries memo : List ℕ
           let e = memo-recorded-within G choice input (r .formed .scoped) (g .ready .free) (theorems .own-rules G n input) fits some-nonterminal deep l in
           (sym (ap (λ x. x .outcome) m) ∙ e .0, subst (λ x. Recorded G choice input x) (ap (λ x. x .memo) m) (e .1))
 
-      pub memo-long : length memo′ ≡ z .nonterminals * (length events + 1)
-      memo-long = d .sound .size ∙ rw (r .nonterminals, long, add-one (length input))
-
-      pub descended : {c : Calls} {ended : Bool} {a : Answer} → c ≡ tallyOf (recordedCalls memo′ (z .nonterminals) (length events))
+      pub descended : {c : Calls} {ended : Bool} {a : Answer} → c ≡ tallyOf (recordedCalls memo′ (length memo′ / (length events + 1)) (length events))
           → ended ≡ endsAt (meant o) (length events)
           → a ≡ choose ended (Accepted c) (Rejected c) → Descended k words input a memo′
       unfolding verdictBy accepts
       descended {c} {ended} {a} tallied told e =
           let d = done in
-          let counted : c ≡ callsBy n G input = tally-recorded (d .1) (r .nonterminals) (tallied ∙ ap (λ n. tallyOf (recordedCalls memo′ (z .nonterminals) n)) long) in
+          let counted : c ≡ callsBy n G input = tally-recorded (d .1) (tallied ∙ ap (λ n. tallyOf (recordedCalls memo′ (length memo′ / (n + 1)) n)) long) in
           record {
             answer = e ∙ rw (told, long, d .0, counted);
             entries = words-recorded n G input (r .formed .scoped) (g .ready .free) some-nonterminal (d .1);

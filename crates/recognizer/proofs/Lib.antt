@@ -8,8 +8,6 @@ pub mod Columns
 pub mod Tokens
 pub mod ChoiceRows
 pub mod TableChoices
-pub mod JoinedLists
-pub mod Tallying
 pub mod Front
 pub mod Places
 pub mod Checking

@@ -26,6 +26,7 @@ use Rattle.semantics.proofs.Memo.{transparent}
 use Rattle.rule.specs.declared.Outcome as code
 use Rattle.rule.specs.declared.Outcome.the-variants as outcome
 use Rattle.rule.specs.Rule.{meant}
+use Rattle.memo_table.proofs.Entries.{getD-any}
 use Rattle.recognizer.specs.Arrays.{rowAt}
 use Rattle.recognizer.specs.Descent.{MemoSound, CallGiven, CallDone}
 use Rattle.recognizer.proofs.Running.{deep, level}
@@ -75,12 +76,6 @@ module _ {choice : Choice} {words choices tokens input memo : List ℕ} {A place
         forward = λ x q. descend-forward G choice input (g .given .own) A place x (g .placed) (end-ends _ x (sym told ∙ q));
         idle = λ q. descend-null G choice input (g .given .own) (r .formed .scoped) A place place (g .placed) refl (end-ends _ place (sym told ∙ q));
       }
-
--- an index within a list has one element, whatever the default
-pub getD-any : (l : List ℕ) (i d d′ : ℕ) → i < length l → getD l i d ≡ getD l i d′
-getD-any [] i d d′ h = absurd (omega arith)
-getD-any (x ∷ l) zero d d′ h = refl
-getD-any (x ∷ l) (suc i) d d′ h = getD-any l i d d′ (omega arith)
 
 module _ {choice : Choice} {words choices tokens input memo : List ℕ} {A place : ℕ} (g : CallGiven choice words choices tokens input memo A place) where
   -- the index of the call's entry

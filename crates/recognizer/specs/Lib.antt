@@ -1,7 +1,6 @@
 pub mod Arrays
 pub mod Descent
 pub mod Preparing
-pub mod Tally
 pub mod Memory
 pub mod Answers
 pub mod Judging

@@ -6,8 +6,6 @@ ghost use Rattle.recognizer.specs.Judging.{PassedGiven, DescendGiven, De
 use super::descent::call;
 use super::preparing::choices_of;
 use super::preparing::tokens_of;
-use super::tally::clear;
-use super::tally::tally;
 use answer::Answer;
 use answer::Error;
 use event::Unknown;
@@ -16,6 +14,8 @@ use grammar::limits::ENTRIES;
 use grammar::limits::TOKENS;
 use grammar::reading::Sizes;
 use lookahead::Lookahead;
+use memo_table::clear;
+use memo_table::tally;
 use rule::ends_at;
 use sets::Finding;
 use table::columns::count;
@@ -57,8 +57,9 @@ fn descend(
     let choices = choices_of(words, nonterminals, columns, entries, events.len() + 1);
     let tokens = tokens_of(events, lookahead, sizes.terminals);
     let outcome = call(0, words, &choices, &tokens, memo, 0);
-    let calls = tally(memo, nonterminals, events.len());
-    if ends_at(outcome, events.len() as u16) {
+    let length = events.len() as u16;
+    let calls = tally(memo, length);
+    if ends_at(outcome, length) {
         Answer::Accepted(calls)
     } else {
         Answer::Rejected(calls)

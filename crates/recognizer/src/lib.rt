@@ -17,7 +17,6 @@ mod descent;
 mod judging;
 mod lending;
 mod preparing;
-mod tally;
 pub mod wide;
 
 // Checks an encoded grammar, and fills the lent table with its sets and its entries.

@@ -20,7 +20,7 @@ use Rattle.table.specs.Columns.{columns}
 use Rattle.table.specs.Layout.{setWord, rowWord, tableWords}
 use Rattle.recognizer.specs.Properties.{PassedGrammar}
 use Rattle.recognizer.proofs.Checking.{passed-encodes, fault-passed, check-fault-long, least}
-use Rattle.recognizer.proofs.Storing.{getD-any}
+use Rattle.memo_table.proofs.Entries.{getD-any}
 use Rattle.text.specs.Words.{wordsOf}
 use Rattle.sheet_text.specs.Room.{sheetRoom}
 use Rattle.sheet_text.specs.Sheet.{wordAt}

@@ -3,7 +3,7 @@ use mathlib.Core.Path.{_≡_, refl, ap, ap₂}
 use mathlib.Core.List.{List, [], _∷_}
 use Prim.Native.Nat.{ℕ, zero, suc, _<_}
 use native.Mathlib.Omega.{arith}
-use lib.ListN.{length, getD}
+use lib.ListN.{length, getD, replicate}
 use Rattle.sets.specs.Lists.{listed}
 
 pub listed-is : (n : ℕ) (f : ℕ → ℕ) (l : List ℕ) → length l ≡ n → ((i : ℕ) → getD l i 0 ≡ f i) → l ≡ listed n f
@@ -31,3 +31,9 @@ unfolding listed
 listed-below zero f m h b i = h
 listed-below (suc n) f m h b zero = b 0
 listed-below (suc n) f m h b (suc i) = listed-below n (λ k. f (suc k)) m h (λ k. b (suc k)) i
+
+-- an array of zeros has zeros alone
+pub getD-zeros : (n i : ℕ) → _≡_ {A = ℕ} (getD (replicate n 0) i 0) 0
+getD-zeros zero i = refl
+getD-zeros (suc n) zero = refl
+getD-zeros (suc n) (suc i) = getD-zeros n i

@@ -1,4 +1,4 @@
--- What is found of an encoded grammar, by its families, by the heads and the claims of its rules, by the nonterminals that overrun, and by the first clash.
+-- What is found of an encoded grammar, by its claims and by the first clash.
 use mathlib.Core.Path.{_≡_, refl, sym, ap, _∙_}
 use mathlib.Core.List.{List, [], _∷_}
 use mathlib.Core.Logic.{_↔_}
@@ -11,7 +11,7 @@ use Rattle.answer.specs.declared.Error.{Error}
 use Rattle.answer.specs.Faults.{firstFault}
 use Rattle.answer.proofs.Faults.{none-some, each-none, first-nested}
 use Rattle.grammar.specs.Codes.{noEntry}
-use Rattle.grammar.specs.Encoding.{parse, grammarOf}
+use Rattle.grammar.specs.Encoding.{grammarOf}
 use Rattle.grammar.specs.Limits.{maxNonterminals, maxRules, maxColumns}
 use Rattle.grammar.specs.Syntax.{Grammar}
 use Rattle.grammar.specs.declared.reading.Sizes.{Sizes}
@@ -26,29 +26,26 @@ use Rattle.admission.specs.Admission.{admission}
 use Rattle.semantics.specs.FiniteSets.{numbers}
 use Rattle.semantics.specs.Claims.{overruns, clashes}
 use Rattle.semantics.proofs.Outcomes.{nth-mem}
-use Rattle.sets.specs.declared.Finding.{Finding}
 use Rattle.sets.specs.declared.Finding.the-variants.{Passed, Refused}
-use Rattle.sets.specs.declared.Families.{Families}
-use Rattle.sets.specs.Analysis.{readingFault, setsFaults, setsFault, setsIf, familiesOf}
+use Rattle.sets.specs.Analysis.{readingFault, setsFaults, setsFault, setsIf}
 use Rattle.sets.specs.Lists.{listed}
 use Rattle.sets.specs.Sets.{firstNumber, followNumber}
-use Rattle.sets.proofs.Lists.{listed-is, listed-at, listed-long}
-use Rattle.sets.proofs.NamedNonterminals.{word-indexed}
-use Rattle.sets.proofs.Findings.{FoundFamilies, told-passed, told-refused, families-refused}
+use Rattle.sets.proofs.Lists.{listed-at, listed-long}
+use Rattle.sets.proofs.Findings.{told-passed, told-refused}
 use Rattle.table.specs.declared.conflicts.Conflict.{Conflict}
 use Rattle.table.specs.declared.conflicts.Conflict.the-variants as conflict
-use Rattle.table.specs.declared.claims.Claims.{Claims}
+use Rattle.claims.specs.declared.Claims.{Claims}
 use Rattle.table.specs.declared.Found.{Found}
-use Rattle.table.specs.Claims.{headsOf, claimNumbers, byRule, byRuleIf, overrunsOf, overrunsIf, claimsWith, claimsOf, FamiliesGiven, Headed, AllKept}
-use Rattle.table.specs.Overruns.{overrunSet, WordsIndexed, Overrunning}
+use Rattle.claims.specs.Claims.{claimsOf, Headed}
+use Rattle.claims.specs.Overruns.{overrunSet}
 use Rattle.table.specs.Conflicts.{firstClash, conflictOf}
 use Rattle.table.specs.Columns.{columnCount, columns}
 use Rattle.table.specs.Layout.{tableRoom, wordsOf, WordsGiven, FitWords}
-use Rattle.table.specs.Entries.{rowsOf, RowsGiven, FilledRows, noRules, entriesOf}
+use Rattle.table.specs.Entries.{rowsOf, FilledRows, noRules, entriesOf}
 use Rattle.table.specs.Analysis.{conflictError, clashFault, fault, entriesIf, foundWith, foundOf, analysis, analyzed}
-use Rattle.table.proofs.Claimants.{heads-own}
+use Rattle.claims.proofs.Claimants.{heads-own}
 use Rattle.sets.proofs.FewTerminals.{admitted-read, few-terminals}
-use Rattle.table.proofs.OverrunSets.{overruns-told}
+use Rattle.claims.proofs.Findings.{Claimed}
 use Rattle.table.proofs.ConflictScan.{clash-found}
 use Rattle.table.proofs.FirstClash.{clash-absent}
 use Rattle.table.proofs.EntriesFilled.{entries-filled}
@@ -90,51 +87,7 @@ fault-clashless k words e =
     let d : fault k words ≡ firstFault (none ∷ clashFault k (firstClash k G) ∷ []) = rw (fault-sets k words, e) in
     (λ f. a .0 (c .0 (sym d ∙ f)), λ f. d ∙ c .1 (a .1 f))
 
--- the families that are found: a grammar to go on with, or a refusal
-pub given : {k : Lookahead} {words : List ℕ} {z : Sizes} {firsts follows : List ℕ} → FoundFamilies k words z firsts follows → FamiliesGiven k words z firsts follows
-given f = record { read = f .read; first = f .first; follow = f .follow }
-
-pub refused-claims : (k : Lookahead) (words : List ℕ) {r : Families} {x : Error} → r ≡ familiesOf k words → r .finding ≡ Refused x
-    → claimsWith (r .finding) (r .firsts) (r .follows) (replicate maxRules 0) (replicate maxRules 0) (replicate maxNonterminals 0) ≡ claimsOf k words
-unfolding claimsOf familiesOf
-refused-claims k words {r} e q = rw (e, families-refused k words e q)
-
-pub words-indexed : {k : Lookahead} {words : List ℕ} {z : Sizes} {firsts follows : List ℕ} → FoundFamilies k words z firsts follows → WordsIndexed words
-words-indexed {k} {words} f i h = word-indexed words (admitted-read k words (f .read)) h refl
-
-pub all-claims : {k : Lookahead} {words : List ℕ} {z : Sizes} {firsts follows heads sets told : List ℕ} → FoundFamilies k words z firsts follows
-    → AllKept k (grammarOf words) heads sets → Overrunning k (parse words .rules) follows told
-    → claimsWith (Passed z) firsts follows heads sets told ≡ claimsOf k words
-unfolding claimsOf
-all-claims {k} {words} {z} {firsts} {follows} {heads} {sets} {told} f p o =
-    rw (f .read, f .faultless, f .first, f .follow, p .own, p .claims, listed-is maxNonterminals _ told (o .long) (overruns-told (given f) o))
-
--- what claims that are found tell
-pub record Claimed (k : Lookahead) (words : List ℕ) (z : Sizes) (r : Claims) : Type 0 where
-  pub read : admission k words ≡ Read z
-  pub faultless : setsFault k words ≡ none
-  pub first : r .firsts ≡ listed maxNonterminals (firstNumber k (grammarOf words))
-  pub follow : r .follows ≡ listed maxNonterminals (followNumber k (grammarOf words))
-  pub own : r .heads ≡ byRule (headsOf (grammarOf words))
-  pub claims : r .sets ≡ byRule (claimNumbers k (grammarOf words))
-  pub told : r .overruns ≡ overrunsOf k (grammarOf words)
-
 module _ (k : Lookahead) (words : List ℕ) {r : Claims} (e : r ≡ claimsOf k words) where
-  pub claims-told : {z : Sizes} → r .finding ≡ Passed z → Claimed k words z r
-  unfolding claimsOf
-  claims-told q =
-      let p = told-passed (setsFault k words) (admission k words) (sym (ap (λ x. x .finding) e) ∙ q) in
-      let G = grammarOf words in
-      record {
-        read = p .1;
-        faultless = p .0;
-        first = ap (λ x. x .firsts) e ∙ ap (λ f. setsIf f (listed maxNonterminals (firstNumber k G))) (p .0);
-        follow = ap (λ x. x .follows) e ∙ ap (λ f. setsIf f (listed maxNonterminals (followNumber k G))) (p .0);
-        own = ap (λ x. x .heads) e ∙ ap (λ f. byRuleIf f (headsOf G)) (p .0);
-        claims = ap (λ x. x .sets) e ∙ ap (λ f. byRuleIf f (claimNumbers k G)) (p .0);
-        told = ap (λ x. x .overruns) e ∙ ap (λ f. overrunsIf f (overrunsOf k G)) (p .0);
-      }
-
   -- a refusal goes on
   pub found-refused : {x : Error} → r .finding ≡ Refused x → foundWith (r .finding) (r .firsts) (r .follows) noRules ≡ foundOf k words
   unfolding claimsOf foundOf

@@ -2,7 +2,7 @@
 use mathlib.Core.Path.{_≡_, refl, sym, ap, ap₂, _∙_}
 use mathlib.Core.Bool.{Bool, true, false, _&&_, _||_, and-comm, or-comm}
 use mathlib.Core.List.{List, [], _∷_}
-use Prim.Native.Nat.{ℕ, zero, suc, _-_, _≤_, _<_}
+use Prim.Native.Nat.{ℕ, _-_, _≤_, _<_}
 use native.Mathlib.Decide.{ℕ-discrete}
 use native.Mathlib.Omega.{arith}
 use lib.ListN.{length, getD, set, replicate, length-set, length-replicate}
@@ -14,20 +14,16 @@ use Rattle.lookahead.proofs.Operations.{has-empty, has-join, has-meet}
 use Rattle.booleans.specs.Quantifiers.{anyOf}
 use Rattle.semantics.specs.FiniteSets.{numbersFrom, numbers}
 use Rattle.semantics.specs.Claims.{several}
-use Rattle.table.specs.Claims.{claimant}
+use Rattle.sets.proofs.Lists.{getD-zeros}
+use Rattle.claims.specs.Claims.{claimant}
 use Rattle.table.specs.Conflicts.{Noted, Twice}
-use Rattle.table.proofs.Claimants.{claimant-own, claimant-other, numbers-before}
+use Rattle.claims.proofs.Claimants.{claimant-own, claimant-other, numbers-before}
 
 -- these rules have been gone through
 pub record Noting (heads sets told rules once twice : List ℕ) : Type 0 where
   pub long : (length once ≡ maxNonterminals) × (length twice ≡ maxNonterminals)
   pub once-has : (A l : ℕ) → has (getD once A 0) l ≡ anyOf (claimant heads sets A l) rules
   pub twice-has : (A l : ℕ) → has (getD twice A 0) l ≡ (several (claimant heads sets A l) rules || has (getD told A 0) l)
-
-pub getD-zeros : (n i : ℕ) → _≡_ {A = ℕ} (getD (replicate n 0) i 0) 0
-getD-zeros zero i = refl
-getD-zeros (suc n) zero = refl
-getD-zeros (suc n) (suc i) = getD-zeros n i
 
 -- behind the last rule nothing is claimed
 noting-none : (heads sets told : List ℕ) → length told ≡ maxNonterminals → Noting heads sets told [] (replicate maxNonterminals 0) told

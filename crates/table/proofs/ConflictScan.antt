@@ -17,12 +17,12 @@ use Rattle.semantics.specs.Claims.{several, claims, overruns, clashing}
 use Rattle.table.specs.declared.conflicts.Conflict.{Conflict}
 use Rattle.table.specs.declared.conflicts.Conflict.the-variants.{Absent, At}
 use Rattle.table.specs.Columns.{columnString, columnElement, columns}
-use Rattle.table.specs.Claims.{headsOf, claimNumbers, byRule}
-use Rattle.table.specs.Overruns.{overrunSet}
+use Rattle.claims.specs.Claims.{headsOf, claimNumbers, byRule}
+use Rattle.claims.specs.Overruns.{overrunSet}
 use Rattle.table.specs.Conflicts.{rowConflict, orLater, conflictFrom, firstClash, inSet, inSets, claimedTwice, Twice}
 use Rattle.table.proofs.ColumnStrings.{column-string, element-small}
-use Rattle.table.proofs.Claimants.{several-claims, told as rules-told}
-use Rattle.table.proofs.OverrunSets.{overrun-column}
+use Rattle.claims.proofs.Claimants.{several-claims, told as rules-told}
+use Rattle.table.proofs.OverrunColumns.{overrun-column}
 use Rattle.table.proofs.conflicts.Conflict.{the-type}
 
 -- one turn of the loop over a row's columns

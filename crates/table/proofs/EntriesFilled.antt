@@ -17,9 +17,9 @@ use Rattle.semantics.specs.Claims.{tableOf}
 use Rattle.sets.specs.Lists.{listed}
 use Rattle.sets.proofs.Lists.{listed-long, listed-at}
 use Rattle.table.specs.Columns.{columnElement, columnString, columns}
-use Rattle.table.specs.Claims.{headsOf, claimNumbers, byRule}
+use Rattle.claims.specs.Claims.{headsOf, claimNumbers, byRule}
 use Rattle.table.specs.Entries.{ruleByte, byteAt, entriesOf, noRules, entryOver, rowsOf, FilledRows}
-use Rattle.table.proofs.Claimants.{first-claim, told}
+use Rattle.claims.proofs.Claimants.{first-claim, told}
 use Rattle.table.proofs.ColumnStrings.{some-column, column-count, column-string, element-small}
 use Rattle.table.proofs.Padded.{padded-in, padded-is}
 

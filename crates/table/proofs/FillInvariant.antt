@@ -13,14 +13,13 @@ use Rattle.booleans.specs.Choice.{choose}
 use Rattle.grammar.specs.Limits.{maxNonterminals, maxWideColumns, maxEntries}
 use Rattle.grammar.specs.declared.reading.Sizes.{Sizes}
 use Rattle.lookahead.specs.declared.Lookahead.{Lookahead}
-use Rattle.lookahead.specs.Elements.{has}
 use Rattle.semantics.specs.FiniteSets.{numbersFrom, numbers}
 use Rattle.semantics.specs.Claims.{position}
 use Rattle.table.specs.Columns.{columnCount}
-use Rattle.table.specs.Claims.{claimant}
+use Rattle.claims.specs.Claims.{claimant}
 use Rattle.table.specs.Entries.{Rows, indexOf, entryOver, FilledRow, FilledRows, RowsGiven}
 use Rattle.table.proofs.ColumnStrings.{column-count}
-use Rattle.table.proofs.Claimants.{claimant-own, claimant-other, numbers-before}
+use Rattle.claims.proofs.Claimants.{claimant-own, claimant-other, numbers-before}
 
 -- a list whose first member passes, or does not
 module _ {X : Type 0} (p : X → Bool) (x : X) (l : List X) (q old : ℕ) where

@@ -19,7 +19,7 @@ use Rattle.semantics.specs.Claims.{several, clashing}
 use Rattle.table.specs.declared.conflicts.Conflict.{Conflict}
 use Rattle.table.specs.declared.conflicts.Conflict.the-variants.{Absent, At}
 use Rattle.table.specs.Columns.{columnCount, columnElement, columnString, columnOf, columns}
-use Rattle.table.specs.Claims.{claimant}
+use Rattle.claims.specs.Claims.{claimant}
 
 -- the first of n columns of A, from one on, that passes a test
 unfoldable pub rowConflict : (ℕ → Bool) → ℕ → ℕ → ℕ → Conflict

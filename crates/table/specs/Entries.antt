@@ -13,12 +13,11 @@ use Rattle.grammar.specs.declared.reading.Sizes.{Sizes}
 use Rattle.lookahead.specs.declared.Lookahead.{Lookahead}
 use Rattle.lookahead.specs.Lookaheads.{tokens, alphabet}
 use Rattle.lookahead.specs.Elements.{has}
-use Rattle.semantics.specs.FiniteSets.{numbers}
 use Rattle.semantics.specs.Claims.{position, tableOf}
 use Rattle.sets.specs.Lists.{listed}
 use Rattle.table.specs.Columns.{columnCount, columnElement, columnString, columns}
 use Rattle.table.specs.Layout.{padded}
-use Rattle.table.specs.Claims.{claimant, Headed}
+use Rattle.claims.specs.Claims.{claimant, Headed}
 
 -- a rule's number as a byte
 abbrev pub ruleByte : Option ℕ → ℕ

@@ -5,7 +5,7 @@ ghost use lib.ListN.{length};
 ghost use Rattle.grammar.specs.Limits.{maxNonterminals};
 ghost use Rattle.lookahead.specs.Lookaheads.{alphabet};
 ghost use Rattle.table.specs.Columns.{columnCount, columnElement};
-ghost use Rattle.table.specs.Claims.{Headed};
+ghost use Rattle.claims.specs.Claims.{Headed};
 ghost use Rattle.table.specs.Conflicts.{rowConflict, conflictFrom, inSet, inSets, conflictOf, Noted, Twice};
 use super::columns::count;
 use super::columns::element;

@@ -14,11 +14,9 @@ use lookahead::Lookahead;
 use sets::Finding;
 use sets::family::SETS;
 
-pub mod claims;
 pub mod columns;
 pub mod conflicts;
 mod layout;
-mod overruns;
 mod rows;
 
 // What is found of an encoded grammar with one token of lookahead: its sizes, or why it is refused; its entries, by nonterminal, then column; and the words of its

@@ -55,7 +55,7 @@ use Rattle.recognizer.specs.Properties.{Judges, PassedGrammar}
 use Rattle.recognizer.proofs.Checking.{passed-fault, passed-encodes, passed-read, no-clashes, not-left-recursive}
 use Rattle.recognizer.proofs.JudgeFaults.{judgeRows, judged-rows, judged-readable, table-short, memo-short}
 use Rattle.recognizer.proofs.Judged.{judge-refused}
-use Rattle.recognizer.proofs.Storing.{getD-any}
+use Rattle.memo_table.proofs.Entries.{getD-any}
 use Rattle.tree.specs.Writing.{vertexAt, vertexWord, treeCalls, treeOf, treeWords, InTree}
 use Rattle.tree.specs.Theorems.{Told}
 use Rattle.tree.proofs.Lists.{map-elim}

@@ -1,6 +1,6 @@
 -- By whether the rule is one of the nonterminal.
 use mathlib.Core.Path.{sym}
-use Rattle.table.proofs.Claimants.{claimant-other}
+use Rattle.claims.proofs.Claimants.{claimant-other}
 use Rattle.gaps_text.proofs.Lines.{claimant-head}
 use borrow.Author.Needs.{needs}
 use Rattle.gaps_text.proofs.claims_element.Statement.{statement}

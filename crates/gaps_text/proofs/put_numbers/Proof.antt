@@ -2,7 +2,7 @@
 use mathlib.Core.Path.{ap}
 use Prim.Native.Nat.{_≤_, _-_}
 use native.Mathlib.Omega.{arith}
-use Rattle.table.specs.Claims.{claimant}
+use Rattle.claims.specs.Claims.{claimant}
 use Rattle.text.specs.Writing.{Put, upTo}
 use Rattle.text.proofs.Writing.{put-length, put-none, put-next, put-last}
 use Rattle.gaps_text.specs.Steps.{claimantText, numbersText}

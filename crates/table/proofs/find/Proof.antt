@@ -1,6 +1,7 @@
 -- An encoded grammar: by whether its claims are found, and whether an entry clashes.
 use borrow.Author.Needs.{needs}
-use Rattle.table.proofs.Analyzing.{claims-told, headed, sizes-few, overruns-long, found-refused, found-clash, found-passed}
+use Rattle.claims.proofs.Findings.{claims-told}
+use Rattle.table.proofs.Analyzing.{headed, sizes-few, overruns-long, found-refused, found-clash, found-passed}
 use Rattle.table.proofs.find.Statement.{statement}
 use Rattle.table.proofs.find.Tie as tie
 

@@ -1,7 +1,7 @@
 -- The start is called in a blank memo table, with the arrays made for it, and the calls are read off the table afterwards.
 use native.Mathlib.Omega.{arith}
 use Rattle.event.proofs.Inputs.{input-length}
-use Rattle.recognizer.proofs.Deciding.{rows-given, tokens-given, start-given, memo-long, descended}
+use Rattle.recognizer.proofs.Deciding.{rows-given, tokens-given, start-given, descended}
 use borrow.Author.Needs.{needs}
 use Rattle.recognizer.proofs.judging.descend.Statement.{statement}
 use Rattle.recognizer.proofs.judging.descend.Tie as tie
@@ -31,19 +31,14 @@ call-requires c κs =
     let start = cleared .before .before .before .before .before in
     start-given (start .args .events .now) (start .pre) (made .before .before .count .ensures) (made .before .choices-of .ensures) (made .tokens-of .ensures) (cleared .clear .ensures)
 
-tally-requires : tie.Need-tally-requires
-tally-requires c κs =
-    let called = c .before .before .before in
-    let made = called .before .before .before .before in
-    let cleared = made .before .before .before .before .before .before in
-    let start = cleared .before .before .before .before .before in
-    memo-long (start .args .events .now) (start .pre) (made .before .before .count .ensures) (made .before .choices-of .ensures) (made .tokens-of .ensures) (cleared .clear .ensures) (called .call .ensures)
-
-cast-ends-at : tie.Need-cast-ends-at
-cast-ends-at c =
-    let called = c .before .before .before .before in
+cast-length : tie.Need-cast-length
+cast-length c =
+    let called = c .before .before in
     let start = called .before .before .before .before .before .before .before .before .before .before .before .before .before .before .before in
     omega (arith, start .pre .ready .short, input-length (start .args .events .now))
+
+tally-requires : tie.Need-tally-requires
+tally-requires c κs = search needs
 
 ends-at-requires : tie.Need-ends-at-requires
 ends-at-requires c κs = search needs
@@ -83,8 +78,8 @@ descend-spec =
     choices-of-requires
     tokens-of-requires
     call-requires
+    cast-length
     tally-requires
-    cast-ends-at
     ends-at-requires
     same-length
     returns

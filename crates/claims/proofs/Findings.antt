@@ -1,0 +1,70 @@
+-- What is found of an encoded grammar, by its families, by the heads and the claims of its rules and by the nonterminals that overrun, and what that tells.
+use mathlib.Core.Path.{_≡_, refl, sym, ap, _∙_}
+use mathlib.Core.List.{List}
+use mathlib.Core.Option.{none}
+use Prim.Native.Nat.{ℕ}
+use lib.ListN.{replicate}
+use Rattle.answer.specs.declared.Error.{Error}
+use Rattle.grammar.specs.Encoding.{parse, grammarOf}
+use Rattle.grammar.specs.Limits.{maxNonterminals, maxRules}
+use Rattle.grammar.specs.declared.reading.Sizes.{Sizes}
+use Rattle.grammar.specs.declared.reading.Outcome.the-variants.{Read}
+use Rattle.lookahead.specs.declared.Lookahead.{Lookahead}
+use Rattle.admission.specs.Admission.{admission}
+use Rattle.sets.specs.declared.Finding.the-variants.{Passed, Refused}
+use Rattle.sets.specs.declared.Families.{Families}
+use Rattle.sets.specs.Analysis.{setsFault, setsIf, familiesOf}
+use Rattle.sets.specs.Lists.{listed}
+use Rattle.sets.specs.Sets.{firstNumber, followNumber}
+use Rattle.sets.proofs.Lists.{listed-is}
+use Rattle.sets.proofs.NamedNonterminals.{word-indexed}
+use Rattle.sets.proofs.FewTerminals.{admitted-read}
+use Rattle.sets.proofs.Findings.{FoundFamilies, told-passed, families-refused}
+use Rattle.claims.specs.declared.Claims.{Claims}
+use Rattle.claims.specs.Claims.{headsOf, claimNumbers, byRule, byRuleIf, overrunsOf, overrunsIf, claimsWith, claimsOf, FamiliesGiven, AllKept}
+use Rattle.claims.specs.Overruns.{WordsIndexed, Overrunning}
+use Rattle.claims.proofs.OverrunSets.{overruns-told}
+
+-- the families that are found: a grammar to go on with, or a refusal
+pub given : {k : Lookahead} {words : List ℕ} {z : Sizes} {firsts follows : List ℕ} → FoundFamilies k words z firsts follows → FamiliesGiven k words z firsts follows
+given f = record { read = f .read; first = f .first; follow = f .follow }
+
+pub refused-claims : (k : Lookahead) (words : List ℕ) {r : Families} {x : Error} → r ≡ familiesOf k words → r .finding ≡ Refused x
+    → claimsWith (r .finding) (r .firsts) (r .follows) (replicate maxRules 0) (replicate maxRules 0) (replicate maxNonterminals 0) ≡ claimsOf k words
+unfolding claimsOf familiesOf
+refused-claims k words {r} e q = rw (e, families-refused k words e q)
+
+pub words-indexed : {k : Lookahead} {words : List ℕ} {z : Sizes} {firsts follows : List ℕ} → FoundFamilies k words z firsts follows → WordsIndexed words
+words-indexed {k} {words} f i h = word-indexed words (admitted-read k words (f .read)) h refl
+
+pub all-claims : {k : Lookahead} {words : List ℕ} {z : Sizes} {firsts follows heads sets told : List ℕ} → FoundFamilies k words z firsts follows
+    → AllKept k (grammarOf words) heads sets → Overrunning k (parse words .rules) follows told
+    → claimsWith (Passed z) firsts follows heads sets told ≡ claimsOf k words
+unfolding claimsOf
+all-claims {k} {words} {z} {firsts} {follows} {heads} {sets} {told} f p o =
+    rw (f .read, f .faultless, f .first, f .follow, p .own, p .claims, listed-is maxNonterminals _ told (o .long) (overruns-told (given f) o))
+
+-- what claims that are found tell
+pub record Claimed (k : Lookahead) (words : List ℕ) (z : Sizes) (r : Claims) : Type 0 where
+  pub read : admission k words ≡ Read z
+  pub faultless : setsFault k words ≡ none
+  pub first : r .firsts ≡ listed maxNonterminals (firstNumber k (grammarOf words))
+  pub follow : r .follows ≡ listed maxNonterminals (followNumber k (grammarOf words))
+  pub own : r .heads ≡ byRule (headsOf (grammarOf words))
+  pub claims : r .sets ≡ byRule (claimNumbers k (grammarOf words))
+  pub told : r .overruns ≡ overrunsOf k (grammarOf words)
+
+pub claims-told : (k : Lookahead) (words : List ℕ) {r : Claims} → r ≡ claimsOf k words → {z : Sizes} → r .finding ≡ Passed z → Claimed k words z r
+unfolding claimsOf
+claims-told k words e q =
+    let p = told-passed (setsFault k words) (admission k words) (sym (ap (λ x. x .finding) e) ∙ q) in
+    let G = grammarOf words in
+    record {
+      read = p .1;
+      faultless = p .0;
+      first = ap (λ x. x .firsts) e ∙ ap (λ f. setsIf f (listed maxNonterminals (firstNumber k G))) (p .0);
+      follow = ap (λ x. x .follows) e ∙ ap (λ f. setsIf f (listed maxNonterminals (followNumber k G))) (p .0);
+      own = ap (λ x. x .heads) e ∙ ap (λ f. byRuleIf f (headsOf G)) (p .0);
+      claims = ap (λ x. x .sets) e ∙ ap (λ f. byRuleIf f (claimNumbers k G)) (p .0);
+      told = ap (λ x. x .overruns) e ∙ ap (λ f. overrunsIf f (overrunsOf k G)) (p .0);
+    }

@@ -1,0 +1,51 @@
+-- An encoded grammar: by whether its families are found.
+use mathlib.Core.Path.{refl}
+use borrow.Author.Needs.{needs}
+use Rattle.sets.proofs.Findings.{families-told}
+use Rattle.claims.proofs.Findings.{given, refused-claims, words-indexed, all-claims}
+use Rattle.claims.proofs.analyze.Statement.{statement}
+use Rattle.claims.proofs.analyze.Tie as tie
+
+analyze-requires : tie.Need-analyze-requires
+analyze-requires c κs = search needs
+
+enum-told : tie.Need-enum-told
+enum-told c = search needs
+
+enum-known-finding : tie.Need-enum-known-finding
+enum-known-finding c = search needs
+
+keep-claims-requires : tie.Need-keep-claims-requires
+keep-claims-requires c κs =
+    let at-finding = c .before .before .before .before .before .before in
+    let at-analyze = at-finding .before .before in
+    let found = families-told _ _ (at-analyze .analyze .ensures) (at-finding .finding .given .1) in
+    (given found, refl, refl)
+
+overrunning-requires : tie.Need-overrunning-requires
+overrunning-requires c κs =
+    let at-finding = c .before .before .before .before .before .before .before .before .before .before .before in
+    let at-analyze = at-finding .before .before in
+    words-indexed (families-told _ _ (at-analyze .analyze .ensures) (at-finding .finding .given .1))
+
+returns : tie.Need-returns
+returns c = refused-claims _ _ (c .before .before .before .before .analyze .ensures) (c .before .before .enum-told .given .1)
+
+returns-2 : tie.Need-returns-2
+returns-2 c =
+    let at-finding = c .before .before .before .before .before .before .before .before .before .before .before .before in
+    let at-analyze = at-finding .before .before in
+    let found = families-told _ _ (at-analyze .analyze .ensures) (at-finding .finding .given .1) in
+    all-claims found (c .before .before .before .before .before .keep-claims .ensures) (c .overrunning .ensures)
+
+pub analyze-spec : {M : Type 1} → statement M
+analyze-spec =
+    tie.close
+    (tie.spec
+    analyze-requires
+    enum-told
+    enum-known-finding
+    keep-claims-requires
+    overrunning-requires
+    returns
+    returns-2)

@@ -1,0 +1,3 @@
+pub mod Entries
+pub mod JoinedLists
+pub mod Tallying
