@@ -17,7 +17,7 @@ extern "C" {
 #endif
 
 /* How much memory is to be lent, the longest grammar, the longest log, of judging and of judging plainly, and how many clients there are.
- * TABLE2 is the table for two events of lookahead, and how many letters it is for. */
+ * TABLE2 is the table for two events of lookahead, and how many letters it is for. Among COSTLIEST_LOGS logs of a length the costliest is sought. */
 enum {
     VINEGARSPIT_TABLE_WORDS = 864,
     VINEGARSPIT_MEMO_ENTRIES = 13216,
@@ -27,7 +27,8 @@ enum {
     VINEGARSPIT_PLAIN_LOG_EVENTS = 48,
     VINEGARSPIT_CLIENTS = 8,
     VINEGARSPIT_TABLE2_WORDS = 1888,
-    VINEGARSPIT_TABLE2_LETTERS = 7
+    VINEGARSPIT_TABLE2_LETTERS = 7,
+    VINEGARSPIT_COSTLIEST_LOGS = 4096
 };
 
 /* A log that is kept: how many marks it has, and how many numbers its state is; and a mark that is not set. */
@@ -186,6 +187,22 @@ uint64_t vinegarspit_log_return(uint16_t state[VINEGARSPIT_LOG_STATE], uint32_t 
 /* Judges a kept log: answer, table and memo are those of vinegarspit_judge on the events that it has. It is never refused with 10. */
 uint64_t vinegarspit_log_judge(const uint32_t *card, size_t card_len, const uint8_t events[VINEGARSPIT_LOG_EVENTS],
                                const uint16_t state[VINEGARSPIT_LOG_STATE], uint32_t *table, size_t table_len, uint16_t *memo, size_t memo_len);
+
+/* Finds the costliest log of a length: of all logs of so many events the one with the greatest count, the first in the order of the letters (the
+ * first event weighs most) where several have it. Writes it to log[0] and the bytes behind it, and judges it.
+ *
+ * Its events have no direction; later bytes keep their contents. Answer, table and memo are those of vinegarspit_judge for that log. No log of
+ * that length has a greater count, and each before it in that order has a smaller one. Length 0 gives the empty log.
+ *
+ * REFUSED as by a check: nothing is written; and besides with 2, next after 1, then 23, and behind all others with 10 and 22:
+ *   23  log_len is under 412                                         0
+ *       10, where length is over 412
+ *   22  the letters to the power of length are over 4,096: there     0
+ *       are more logs than that
+ *
+ * The card is checked once, and each log judged; the stack is that of judging. */
+uint64_t vinegarspit_costliest(const uint32_t *card, size_t card_len, size_t length, uint8_t *log, size_t log_len,
+                               uint32_t *table, size_t table_len, uint16_t *memo, size_t memo_len);
 
 /* The parts of an answer. */
 static inline unsigned vinegarspit_verdict(uint64_t answer) { return (unsigned)(answer & 255); }

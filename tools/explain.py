@@ -3,7 +3,7 @@
 Nothing here decides: the programs refuse, with a number and a place, and what they found is looked up again in the grammar."""
 from typing import NamedTuple, Optional
 from itertools import product
-from notation import (MAX_WORDS, MAX_INPUT, MAX_WIDE_TERMINALS, NEGATIVE, NONTERMINAL, RULE, Grammar, Damaged, body_text, rule_text, scan,
+from notation import (MAX_WORDS, MAX_INPUT, MAX_LOGS, MAX_WIDE_TERMINALS, NEGATIVE, NONTERMINAL, RULE, Grammar, Damaged, body_text, rule_text, scan,
                       unknown_event)
 
 
@@ -388,6 +388,9 @@ def refusal(card, number, place, log=(), longest=MAX_INPUT, k=1):
     grammar = card.grammar
     if number in (3, 4, 5, 6, 7, 18):
         return [words_refused(card, number, place, k)]
+    if number == 22:
+        letters = len(grammar.terminals)
+        return [f'there are {letters}^{len(log)} logs of {len(log)} events, and the limit is {MAX_LOGS:,}']
     if number == 10:
         return [f'the log has {len(log)} events, and the limit is {longest}']
     if grammar is None or number not in (8, 9, 11, 13):

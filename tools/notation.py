@@ -15,6 +15,7 @@ from typing import NamedTuple
 MAX_WORDS, MAX_NONTERMINALS, MAX_TERMINALS, MAX_RULES, MAX_INPUT = 2048, 32, 24, 128, 412
 MAX_PLAIN_INPUT = 48    # of the plain judge
 MAX_WIDE_TERMINALS = 7    # with two events of lookahead
+MAX_LOGS = 4096    # of a length, of which the costliest is sought
 HEADING_FIELD = 255    # what eight bits of the heading can say
 
 HEADING, RULE, POSITIVE, NEGATIVE, TERMINAL, NONTERMINAL, END = range(1, 8)

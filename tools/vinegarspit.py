@@ -203,6 +203,11 @@ def log_judge(card, events, state, table, memo):
     return call('log_judge', card, events, state, table, memo)
 
 
+def costliest(card, length, log, table, memo):
+    """Writes the log of that length with the greatest count into log, judges it, and fills the table and the memo table."""
+    return call('costliest', card, length, log, table, memo)
+
+
 class Vertex(NamedTuple):
     rule: int
     start: int

@@ -267,6 +267,20 @@ pub fn slowest(leads: usize) -> Draft {
     padded(Draft { nonterminals: MAX_NONTERMINALS, terminals, rules }, links - 1, last, MAX_WORDS).reversed()
 }
 
+/// Two letters; wherever a log goes on, the rule that is run has 2,032 words more, each a name that has been called there before.
+pub fn slowest_search() -> Draft {
+    let (logs, letter, nothing) = (Nonterminal(0), Nonterminal(1), Nonterminal(2));
+    let body: Vec<Symbol> = [letter, logs].into_iter().chain([nothing; 2_032]).collect();
+    let rules = vec![
+        rule(0, &[&body], &[]),
+        rule(0, &[&[]], &[]),
+        rule(1, &[&[Terminal(0)]], &[]),
+        rule(1, &[&[Terminal(1)]], &[]),
+        rule(2, &[&[]], &[]),
+    ];
+    Draft { nonterminals: 3, terminals: 2, rules }
+}
+
 /// As slow to judge plainly as any that was found, on rows of terminal 0: 128 rules, and 2,048 words, nearly all of them a nonterminal that has
 /// every span.
 pub fn slowest_plain() -> Draft {

@@ -74,6 +74,17 @@ extern "C" {
         memo: *mut u16,
         memo_len: usize,
     ) -> u64;
+    fn vinegarspit_costliest(
+        card: *const u32,
+        card_len: usize,
+        length: usize,
+        log: *mut u8,
+        log_len: usize,
+        table: *mut u32,
+        table_len: usize,
+        memo: *mut u16,
+        memo_len: usize,
+    ) -> u64;
 }
 
 pub fn check(words: &[u32], table: &mut [u32]) -> u64 {
@@ -174,6 +185,23 @@ pub fn judge2(words: &[u32], input: &[u8], table: &mut [u64], memo: &mut [u16]) 
             words.len(),
             input.as_ptr(),
             input.len(),
+            table.as_mut_ptr(),
+            table.len(),
+            memo.as_mut_ptr(),
+            memo.len(),
+        )
+    }
+}
+
+pub fn costliest(words: &[u32], length: usize, log: &mut [u8], table: &mut [u32], memo: &mut [u16]) -> u64 {
+    // Sound: as above.
+    unsafe {
+        vinegarspit_costliest(
+            words.as_ptr(),
+            words.len(),
+            length,
+            log.as_mut_ptr(),
+            log.len(),
             table.as_mut_ptr(),
             table.len(),
             memo.as_mut_ptr(),

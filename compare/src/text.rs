@@ -120,6 +120,17 @@ pub fn plain(card: &[u8], log: &[u8], lent: usize) -> String {
     answered(outcome) + " | " + if written.is_empty() { "-" } else { &written["/ ".len()..] }
 }
 
+/// What searching the costliest log answers, all of it, and the log, where so much is lent.
+pub fn costliest(card: &[u8], length: usize, lent: [usize; 3]) -> String {
+    let words = words_of(card, usize::MAX).expect("words");
+    let (mut table, mut memo, mut log) = (vec![0; lent[0]], vec![0; lent[1]], vec![FILL; lent[2]]);
+    let outcome = twin::costliest(&words, length, &mut log, &mut table, &mut memo);
+    let written = if outcome.verdict == Verdict::Refused { 0 } else { length };
+    let told: String = log[..written].iter().map(|event| format!("{event:02x}")).collect();
+    let behind = if log[written..].iter().any(|&byte| byte != FILL) { " and bytes behind it" } else { "" };
+    answered(outcome) + " | " + if told.is_empty() { "-" } else { &told } + behind
+}
+
 /// The nonterminals that the heading of a grammar's words tells.
 fn names_of(words: &[u32]) -> usize {
     (words[0] & 0xff) as usize

@@ -12,6 +12,8 @@ use std::{hint::black_box, time::Instant};
 
 /// How many batches of each kind are timed; an odd number, so that one of them is the median.
 const ROUNDS: usize = 61;
+/// And of calls that may take long.
+const FEW_ROUNDS: usize = 5;
 /// About how long a batch lasts, in nanoseconds.
 const BATCH: f64 = 1_000_000.0;
 
@@ -239,6 +241,28 @@ fn time_tree(what: &str, draft: &Draft, input: &[u8]) {
     print_row(&format!("tree {what}, {} tokens", input.len()), &format!("{:?}", outcome.verdict).to_lowercase(), &times);
 }
 
+/// The costliest input of a length; the median of a few calls, as one may take long.
+fn time_costliest(what: &str, draft: &Draft, length: usize) {
+    let words = draft.words();
+    let (mut proved, mut twin) = (ONE.memory(), ONE.memory());
+    let (mut log, mut log_by_twin) = (vec![0; MAX_TOKENS], vec![0; MAX_TOKENS]);
+    let outcome = twin::costliest(&words, length, &mut log_by_twin, &mut twin.table, &mut twin.memo);
+    let answer = linked::costliest(&words, length, &mut log, &mut proved.table, &mut proved.memo);
+    assert!(answer == linked::packed(outcome) && log == log_by_twin && twin.memo == proved.memo, "{what}: the answers differ");
+    let mut by_library = || linked::costliest(black_box(&words), length, &mut log, &mut proved.table, &mut proved.memo);
+    let mut by_twin = || linked::packed(twin::costliest(black_box(&words), length, &mut log_by_twin, &mut twin.table, &mut twin.memo));
+    let mut times = [Vec::new(), Vec::new()];
+    for _ in 0..FEW_ROUNDS {
+        times[0].push(batch(1, &mut by_library));
+        times[1].push(batch(1, &mut by_twin));
+    }
+    let medians = times.map(|mut times| {
+        times.sort_by(f64::total_cmp);
+        times[times.len() / 2]
+    });
+    print_row(&format!("costliest {what}, {length} tokens"), &format!("{:?}", outcome.verdict).to_lowercase(), &medians);
+}
+
 /// An input of card M's language where `before` is not `nested`: a's, then b's and as many c's.
 fn axles(before: usize, nested: usize) -> Vec<u8> {
     [vec![0; before], vec![1; nested], vec![2; nested]].concat()
@@ -293,4 +317,8 @@ fn main() {
     time_judge(&TWO, "card M", &cards::card_m(), &axles(10, 20), false);
     time_judge(&TWO, "ladder", &cards::ladder(), &[0, 1, 3].repeat(16), false);
     time_judge(&TWO, "chain of 32", &cards::chain(32, 7), &[0; MAX_TOKENS], false);
+    time_costliest("card M", &cards::card_m(), 7);
+    time_costliest("chain of 32", &cards::chain(32, 1), MAX_TOKENS);
+    time_costliest("chain of 32", &cards::chain(32, 2), 12);
+    time_costliest("slowest found", &cards::slowest_search(), 12);
 }

@@ -1,5 +1,7 @@
 //! Compares the proved library with the twin, answer, memory and record, on random, damaged and all small grammars and inputs.
 
+#[path = "../costly.rs"]
+mod costly;
 #[path = "../histories.rs"]
 mod histories;
 #[path = "../kept_logs.rs"]
@@ -35,6 +37,8 @@ const DEFAULT_SEED: u64 = 1;
 const DEFAULT_COUNT: u64 = 150_000;
 /// How many random cases there are for each random history.
 const CASES_A_HISTORY: u64 = 10;
+/// And for each search of a costliest log.
+const CASES_A_SEARCH: u64 = 20;
 
 /// The memory lent to one of the two, with what lies around it.
 #[derive(Clone)]
@@ -634,11 +638,12 @@ fn run(seed: u64, count: u64) -> bool {
     let memory = Memory::random(&mut random);
     let mut pair = Pair { twin: memory.clone(), proved: memory, tally: Tally::default() };
 
-    println!("stated: the judged inputs and limits of document 01, and rows of the requests P1, P2 and P5 to P10");
+    println!("stated: the judged inputs and limits of document 01, and rows of the requests P1, P2, P5 to P10 and P14");
     stated_cases(&mut pair);
     histories::stated_histories(&mut pair);
     stated_plain_cases(&mut pair);
     stated_wide_cases(&mut pair);
+    costly::stated_costly(&mut pair);
     println!("  {} cases, {} differ", pair.tally.cases, pair.tally.differ);
     let stated_tally = std::mem::take(&mut pair.tally);
 
@@ -669,6 +674,14 @@ fn run(seed: u64, count: u64) -> bool {
     let kept_tally = std::mem::take(&mut pair.tally);
 
     let start = Instant::now();
+    println!("searched: seed {seed}, random grammars and lengths, for each the costliest log");
+    let found = costly::random_costly(&mut pair, seed, count / CASES_A_SEARCH);
+    found.print();
+    let complete = complete && found.complete();
+    println!("  {} cases, {} differ, {:.1} s", pair.tally.cases, pair.tally.differ, start.elapsed().as_secs_f64());
+    let searched_tally = std::mem::take(&mut pair.tally);
+
+    let start = Instant::now();
     println!("small: every grammar over few words, and every input up to {MOST_TOKENS} tokens for each that passes");
     for (nonterminals, terminals, most_words) in SMALL {
         pair.refill(&mut random);
@@ -680,12 +693,12 @@ fn run(seed: u64, count: u64) -> bool {
     pair.tally.print_wide();
     println!("  {} cases, {} differ, {:.1} s", pair.tally.cases, pair.tally.differ, start.elapsed().as_secs_f64());
 
-    let tallies = [&stated_tally, &random_tally, &recorded_tally, &kept_tally, &pair.tally];
+    let tallies = [&stated_tally, &random_tally, &recorded_tally, &kept_tally, &searched_tally, &pair.tally];
     let differ: u64 = tallies.iter().map(|tally| tally.differ).sum();
     let cases: u64 = tallies.iter().map(|tally| tally.cases).sum();
     println!("{cases} cases, {differ} differ");
     if !complete {
-        println!("an outcome never occurred among the random cases or histories");
+        println!("an outcome never occurred among the random cases, histories or searches");
     }
     differ == 0 && (complete || count < 10_000)
 }

@@ -67,7 +67,7 @@ fn main() -> ExitCode {
             }
             let fields: Vec<&str> = row.split('|').map(str::trim).collect();
             let told = match kind {
-                "plain" | "check2" | "judge2" => 2,
+                "plain" | "check2" | "judge2" | "costly" => 2,
                 "usage" | "kept" => 3,
                 _ => 1,
             };
@@ -83,6 +83,7 @@ fn main() -> ExitCode {
                 ("check2", [card, lent]) => text::check2(&bytes_of(card), sizes(lent)[0]),
                 ("judge2", [card, log, lent]) => text::judge2(&bytes_of(card), &bytes_of(log), sizes(lent).try_into().expect("two sizes")),
                 ("usage", [_, before, allowance, card, log, rooms]) => text::usage(&mut record, before, allowance, &bytes_of(card), &bytes_of(log), rooms),
+                ("costly", [card, length, rooms]) => text::costliest(&bytes_of(card), sizes(length)[0], sizes(rooms).try_into().expect("three sizes")),
                 ("tree", [card, log, rooms, verdict]) => recorded_tree(card, log, rooms, verdict),
                 ("kept", [card, history]) => recorded_history(card, history),
                 _ => panic!("{name}.txt:{}: not a row", number + 1),

@@ -32,3 +32,6 @@ pub const CLIENTS: usize = 8;
 pub const MARKS: usize = 8;
 /// What a mark that is not set is stored as.
 pub const NOT_SET: u16 = 65_535;
+
+/// Among how many inputs of a length the costliest is sought.
+pub const MAX_INPUTS: usize = 4_096;

@@ -2,6 +2,7 @@
 
 mod answers;
 mod calls;
+mod costliest;
 mod descent;
 mod kept;
 mod limits;
@@ -18,6 +19,7 @@ mod words;
 
 pub use answers::{Outcome, Refusal, Verdict};
 pub use calls::{check, check2, judge, judge2, judge_plain};
+pub use costliest::costliest;
 pub use kept::Log;
 pub use limits::*;
 pub use one::Gaps;

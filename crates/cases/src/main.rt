@@ -1,4 +1,4 @@
-// Document 01's limit cases and those of requests P1, P7, P8 and P10. Each grammar is a file; behind its name stands what the program sheet prints of it, or, for
+// Document 01's limit cases and those of requests P1, P7, P8, P10 and P14. Each grammar is a file; behind its name stands what the program sheet prints of it, or, for
 // each input, the first line of what the program judge prints.
 ghost use Rattle.io.specs.Counts.{Counts};
 use grammar::limits::MEMO_ENTRIES;
@@ -9,6 +9,7 @@ use grammar::limits::WIDE_TABLE_WORDS;
 use grammar::limits::WORDS;
 use judgement_text::put_judgement;
 use libc::STDOUT_FILENO;
+use recognizer::search::judge_costliest;
 use recognizer::wide::judge_wide;
 use report::FILE_BYTES;
 use report::INPUT_BYTES;
@@ -176,6 +177,36 @@ fn limits_of_two() {
     by_two(b"chain_of_must_nots", &log);
 }
 
+// The verdict on the costliest input of a length, by a grammar.
+fn costliest(path: &[u8], tokens: usize, log: &mut [u8]) {
+    name(path);
+    let mut card = [0u8; FILE_BYTES];
+    let n = read(path, &mut card);
+    let mut words = [0u32; WORDS];
+    let loaded = load(&card[..n], &mut words);
+    let Loaded::Words(count) = loaded else {
+        return;
+    };
+    let mut table = [0u32; TABLE_WORDS];
+    let mut memo = [0u16; MEMO_ENTRIES];
+    let answer = judge_costliest(&words[..count], tokens, log, &mut table, &mut memo);
+    let mut text = [0u8; LINE];
+    put_judgement(&mut text, answer, 0, 0, &memo);
+    write_line(&text);
+}
+
+// The longest input there is of one terminal, with the most nested calls, and one more token; 4,096 inputs of four terminals, and more; and a log
+// that is one byte too short.
+fn limits_of_searching() {
+    let mut log = [0u8; TOKENS];
+    costliest(b"chain", TOKENS, &mut log);
+    costliest(b"chain", PLACES, &mut log);
+    costliest(b"rules_128", 6, &mut log);
+    costliest(b"rules_128", 7, &mut log);
+    let mut short = [0u8; TOKENS - 1];
+    costliest(b"chain", 0, &mut short);
+}
+
 // The deepest tree that there can be: a vertex for each nonterminal and place.
 fn deepest_tree(path: &[u8]) {
     name(path);
@@ -208,4 +239,5 @@ fn main() {
     deepest_tree(b"chain");
     deepest_tree(b"chain_of_two_musts");
     limits_of_two();
+    limits_of_searching();
 }

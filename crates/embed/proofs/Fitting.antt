@@ -30,6 +30,7 @@ use Rattle.recognizer.specs.Answers.{checkFaultBy, judgeFaultBy, callsBy, verdi
 use Rattle.recognizer.specs.Properties.{ChecksBy, JudgesBy}
 use Rattle.recognizer.proofs.Checking.{passed-fault-for, passed-encodes, passed-free}
 use Rattle.recognizer.proofs.JudgeFaults.{judged-readable-by}
+use Rattle.recognizer.specs.Costliest.{costliestFault, JudgesCostliest}
 use Rattle.usage.specs.declared.Usage.{Usage}
 use Rattle.clients.specs.declared.Served.{Served}
 use Rattle.clients.specs.declared.totals.Totals.{Totals}
@@ -43,8 +44,8 @@ use Rattle.embed.specs.Packing.{Fit, NumbersFit, joined, packed, Unpacks
 use Rattle.tabular.specs.Answers.{tabularFault, noCalls, told, tabularVerdict}
 use Rattle.tabular.specs.Properties.{TabularJudges}
 use Rattle.embed.specs.Records.{usagesIn, totalsRow}
-use Rattle.embed.specs.Exports.{CheckExportedBy, JudgeExportedBy, ServedExported, TotalsExported, TreeExported, TabularExported}
-use Rattle.embed.proofs.Places.{Low, check-low, judge-low, tabular-low}
+use Rattle.embed.specs.Exports.{CheckExportedBy, JudgeExportedBy, CostliestExported, ServedExported, TotalsExported, TreeExported, TabularExported}
+use Rattle.embed.proofs.Places.{Low, check-low, judge-low, costliest-low, tabular-low}
 
 code-low : (e : Error) → coded e .code < 256
 code-low TableTooShort = omega arith
@@ -121,6 +122,17 @@ judge-fits {k} {words} {input} {table} {memo} {table′} {memo′} {a} j =
         verdict-fits (accepts (grammarOf words) (tableChoice (grammarOf words) (tokens k) input) input) (callsBy (tokens k) (grammarOf words) input)
         (calls-fit k words input (length table) (length memo) e)
     go (some x) e l = refused-fits x (l x refl)
+
+-- one of the costliest input
+pub costliest-fits : {words : List ℕ} {k : ℕ} {log table memo log′ table′ memo′ : List ℕ} {a : Answer} → JudgesCostliest words k log table memo a log′ table′ memo′
+    → NumbersFit (numbers a)
+costliest-fits {words} {k} {log} {table} {memo} {a = a} j =
+    go (costliestFault (length log) (length table) (length memo) words k) refl (costliest-low (length log) (length table) (length memo) words k)
+  where
+    go : (f : Option Error) → costliestFault (length log) (length table) (length memo) words k ≡ f → ((x : Error) → f ≡ some x → Low maxWords x)
+        → NumbersFit (numbers a)
+    go none e l = judge-fits (j .judges e)
+    go (some x) e l = rw (j .answer, e) (refused-fits x (l x refl))
 
 -- one for a client: turned away at place 0, or judged
 pub served-fits : {client share limit : ℕ} {words input table memo table′ memo′ : List ℕ} {us : List Usage} {x : Served}
@@ -205,6 +217,10 @@ pub judge-exported : {k : Lookahead} {words input table memo table′ memo′ : 
     → r ≡ packed (numbers a)
     → JudgeExportedBy k words input table memo r table′ memo′
 judge-exported {a = a} j e = record { answer = a; judges = j; packs = e; unpacks = unpacks (numbers a) (judge-fits j) e }
+
+pub costliest-exported : {words : List ℕ} {k : ℕ} {log table memo log′ table′ memo′ : List ℕ} {a : Answer} {r : ℕ}
+    → JudgesCostliest words k log table memo a log′ table′ memo′ → r ≡ packed (numbers a) → CostliestExported words k log table memo r log′ table′ memo′
+costliest-exported {a = a} j e = record { answer = a; judges = j; packs = e; unpacks = unpacks (numbers a) (costliest-fits j) e }
 
 pub served-exported : {client share limit : ℕ} {words input table memo table′ memo′ row row′ : List ℕ} {us : List Usage} {x : Served} {r : ℕ} → us ≡ usagesIn row
     → JudgesFor client share limit words input table memo us x table′ memo′

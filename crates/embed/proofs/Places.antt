@@ -3,18 +3,18 @@ use mathlib.Core.Path.{_≡_, refl}
 use mathlib.Core.Bool.{Bool, true, false}
 use mathlib.Core.List.{List, [], _∷_, _++_, List·Memᴰ, List·Memᴰ·head}
 use mathlib.Core.Option.{Option, none, some}
-use Prim.Native.Nat.{ℕ, suc, _+_, _≤_}
+use Prim.Native.Nat.{ℕ, suc, _+_, _^_, _≤_}
 use native.Mathlib.Omega.{arith}
 use lib.Dec.{ltb, ltb→lt}
 use lib.ListN.{length}
 use borrow.Author.Tests.{ltb-false}
 use Rattle.answer.specs.declared.Error.{Error}
-use Rattle.answer.specs.declared.Error.the-variants.{TableTooShort, MemoTooShort, LeftRecursive, Unproductive, Conflict, WideConflict, InputTooLong, UnknownToken, SpansTooShort, WideTableTooShort}
+use Rattle.answer.specs.declared.Error.the-variants.{TableTooShort, MemoTooShort, LeftRecursive, Unproductive, Conflict, WideConflict, InputTooLong, UnknownToken, SpansTooShort, WideTableTooShort, BufferTooShort, TooManyInputs}
 use Rattle.answer.specs.Numbers.{coded}
 use Rattle.answer.specs.Faults.{faultIf}
 use Rattle.answer.proofs.Faults.{none-some, fault-none, EachFault, first-each}
 use Rattle.booleans.specs.Choice.{choose}
-use Rattle.grammar.specs.Limits.{maxWords, maxTokens, maxMemoEntries, maxNonterminals, maxTabularTokens, maxSpanWords}
+use Rattle.grammar.specs.Limits.{maxWords, maxTokens, maxTableWords, maxMemoEntries, maxNonterminals, maxTabularTokens, maxSpanWords}
 use Rattle.grammar.specs.Syntax.{Grammar}
 use Rattle.grammar.specs.Encoding.{grammarOf}
 use Rattle.lookahead.specs.declared.Lookahead.{Lookahead}
@@ -39,6 +39,8 @@ use Rattle.event.specs.declared.Unknown.the-variants.{At}
 use Rattle.event.specs.Unknown.{unknownFrom, unknownFault}
 use Rattle.table.specs.Layout.{tableRoom}
 use Rattle.recognizer.specs.Answers.{tableTooShort, checkFaultBy, judgeFaultBy}
+use Rattle.inputs.specs.Inputs.{maxInputs}
+use Rattle.recognizer.specs.Costliest.{lengthFaults, costliestFault}
 use Rattle.tabular.specs.Answers.{tabularFault}
 use Rattle.recognizer.proofs.Checking.{read-some}
 use Rattle.grammar.proofs.FaultPositions.{LowOutcome}
@@ -147,6 +149,29 @@ judge-low k table memo words input =
       λ _. (
         when-low maxWords (ltb memo maxMemoEntries) MemoTooShort (omega arith),
         λ _. grammar-rows k words (long ∷ unknown ∷ []) (input-rows maxTokens (grammarOf words .terminals) input (omega arith)),
+      ),
+    )
+
+pub costliest-low : (log table memo : ℕ) (words : List ℕ) (k : ℕ) (e : Error) → costliestFault log table memo words k ≡ some e → Low maxWords e
+unfolding costliestFault
+costliest-low log table memo words k =
+    let n = grammarOf words .terminals in
+    first-each (Low maxWords)
+    (faultIf (ltb table maxTableWords) TableTooShort
+    ∷ faultIf (ltb memo maxMemoEntries) MemoTooShort
+    ∷ faultIf (ltb log maxTokens) BufferTooShort
+    ∷ grammarFaults One words
+    ++ lengthFaults n k) (
+      when-low maxWords (ltb table maxTableWords) TableTooShort (omega arith),
+      λ _. (
+        when-low maxWords (ltb memo maxMemoEntries) MemoTooShort (omega arith),
+        λ _. (
+          when-low maxWords (ltb log maxTokens) BufferTooShort (omega arith),
+          λ _. grammar-rows One words (lengthFaults n k) (
+            when-low maxWords (ltb maxTokens k) InputTooLong (omega arith),
+            λ _. (when-low maxWords (ltb maxInputs (n ^ k)) TooManyInputs (omega arith), λ _. tt),
+          ),
+        ),
       ),
     )
 

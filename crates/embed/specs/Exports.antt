@@ -8,6 +8,7 @@ use Rattle.answer.specs.Numbers.{numbers}
 use Rattle.lookahead.specs.declared.Lookahead.{Lookahead}
 use Rattle.lookahead.specs.declared.Lookahead.the-variants.{One}
 use Rattle.recognizer.specs.Properties.{ChecksBy, JudgesBy}
+use Rattle.recognizer.specs.Costliest.{JudgesCostliest}
 use Rattle.clients.specs.declared.Served.{Served}
 use Rattle.clients.specs.declared.totals.Totals.{Totals}
 use Rattle.clients.specs.Sums.{Totalled}
@@ -36,6 +37,12 @@ CheckExported = CheckExportedBy One
 
 abbrev pub JudgeExported : (words input table memo : List ℕ) (r : ℕ) (table′ memo′ : List ℕ) → Type 0
 JudgeExported = JudgeExportedBy One
+
+pub record CostliestExported (words : List ℕ) (k : ℕ) (log table memo : List ℕ) (r : ℕ) (log′ table′ memo′ : List ℕ) : Type 0 where
+  pub answer : Answer
+  pub judges : JudgesCostliest words k log table memo answer log′ table′ memo′
+  pub packs : r ≡ packed (numbers answer)
+  pub unpacks : Unpacks r (numbers answer)
 
 -- the clients' records are read from a row of the caller's and written back into it, so that the next call reads what this one handed back
 pub record ServedExported (client share limit : ℕ) (words input table memo row : List ℕ) (r : ℕ) (table′ memo′ row′ : List ℕ) : Type 0 where

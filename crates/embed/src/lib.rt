@@ -12,6 +12,7 @@ use recognizer::judge;
 use tabular::judge as judge_plain;
 
 mod kept;
+mod searched;
 mod served;
 mod shown;
 mod wide;

@@ -119,7 +119,7 @@ judge-refused {k} {words} {input} {table} {memo} f =
     judges (sym (ap (λ y. refusedOr y (verdictBy (tokens k) (grammarOf words) input)) f)) (sym (ap (λ y. lentBack y (tableWords k (grammarOf words)) table) f))
     (sym (ap (λ y. lentBack y (memoWordsBy (tokens k) (grammarOf words) input) memo) f))
 
-memo-count : (n : ℕ) (G : Grammar) (input : List ℕ) → length (memoWordsBy n G input) ≡ pairs G input
+pub memo-count : (n : ℕ) (G : Grammar) (input : List ℕ) → length (memoWordsBy n G input) ≡ pairs G input
 unfolding memoWordsBy
 memo-count n G input = length-map (allCalls G input) (memoWordBy n G input) ∙ all-length G input
 

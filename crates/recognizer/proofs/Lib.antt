@@ -16,4 +16,6 @@ pub mod Directions
 pub mod JudgeFaults
 pub mod Meaning
 pub mod Judged
+pub mod Searching
+pub mod CostliestFaults
 pub mod Rows

@@ -17,6 +17,7 @@ mod descent;
 mod judging;
 mod lending;
 mod preparing;
+pub mod search;
 pub mod wide;
 
 // Checks an encoded grammar, and fills the lent table with its sets and its entries.

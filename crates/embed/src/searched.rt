@@ -1,0 +1,18 @@
+// The costliest log of a length, found, written and judged in memory of the caller's.
+ghost use Rattle.embed.specs.Exports.{CostliestExported};
+use super::pack;
+use recognizer::search::judge_costliest;
+
+#[no_mangle]
+pub extern "C" fn vinegarspit_costliest(
+    card: &[u32],
+    tokens: usize,
+    log: &mut [u8],
+    table: &mut [u32],
+    memo: &mut [u16],
+) -> u64
+    ensures { λ r. ⌜ CostliestExported (now (card .entry)) tokens (now (log .entry)) (now (table .entry)) (now (memo .entry)) r (now (log .exit)) (now (table .exit)) (now (memo .exit)) ⌝ }
+{
+    let answer = judge_costliest(card, tokens, log, table, memo);
+    pack(answer)
+}

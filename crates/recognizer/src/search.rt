@@ -1,0 +1,168 @@
+// The costliest input of a length: the first in letter order of those on which the descent makes the most calls.
+ghost use mathlib.Core.Path.{_≡_};
+ghost use lib.Dec.{ltb};
+ghost use Rattle.answer.specs.Numbers.{numbers};
+ghost use Rattle.booleans.specs.Choice.{choose};
+ghost use Rattle.recognizer.specs.Costliest.{withLength, JudgesCostliest};
+ghost use Rattle.recognizer.specs.Search.{SearchGiven, NumberJudged, Tried, Found, BestJudged};
+use super::judging::judge_passed;
+use super::lending::lend;
+use answer::Answer;
+use answer::Error;
+use grammar::limits::ENTRIES;
+use grammar::limits::MEMO_ENTRIES;
+use grammar::limits::TABLE_WORDS;
+use grammar::limits::TOKENS;
+use grammar::reading::Sizes;
+use inputs::INPUTS;
+use inputs::count_inputs;
+use inputs::write_input;
+use lookahead::Lookahead;
+use sets::Finding;
+use table::analyze;
+
+// An input by its number in letter order, and how many calls the descent makes on it.
+struct Candidate {
+    number: usize,
+    calls: usize,
+}
+
+// What is found of a grammar and then of a length: that it is not too great, and that there are not too many inputs of it.
+fn with_length(finding: Finding, tokens: usize) -> Finding
+    ensures { λ r. ⌜ r ≡ withLength finding tokens ⌝ }
+{
+    match finding {
+        Finding::Refused(_) => finding,
+        Finding::Passed(sizes) => {
+            if TOKENS < tokens {
+                return Finding::Refused(Error::InputTooLong);
+            }
+            let inputs = count_inputs(sizes.terminals, tokens);
+            if INPUTS < inputs {
+                return Finding::Refused(Error::TooManyInputs);
+            }
+            finding
+        }
+    }
+}
+
+// Writes the input of a number, and judges it.
+fn judge_number(
+    words: &[u32],
+    sizes: Sizes,
+    entries: &[u8; ENTRIES],
+    number: usize,
+    events: &mut [u8],
+    memo: &mut [u16],
+) -> Answer
+    requires { ⌜ SearchGiven (now words) sizes (now entries) (now events) (now memo) ⌝ }
+    ensures { λ r. ⌜ NumberJudged (now (words .entry)) number (now (events .entry)) (now (memo .entry)) r (now (events .exit)) (now (memo .exit)) ⌝ }
+{
+    let last = sizes.terminals - 1;
+    write_input(events, last as u8, number);
+    judge_passed(words, sizes, Lookahead::One, entries, events, memo)
+}
+
+fn calls_told(answer: Answer) -> usize
+    ensures { λ r. ⌜ r ≡ numbers answer .count ⌝ }
+{
+    match answer {
+        Answer::Refused(_) => 0,
+        Answer::Passed => 0,
+        Answer::Rejected(calls) => calls.count,
+        Answer::Accepted(calls) => calls.count,
+    }
+}
+
+fn try_number(
+    words: &[u32],
+    sizes: Sizes,
+    entries: &[u8; ENTRIES],
+    number: usize,
+    events: &mut [u8],
+    memo: &mut [u16],
+) -> Candidate
+    requires { ⌜ SearchGiven (now words) sizes (now entries) (now events) (now memo) ⌝ }
+    ensures { λ r. ⌜ Tried (now (words .entry)) number (now (events .entry)) (now (memo .entry)) r (now (events .exit)) (now (memo .exit)) ⌝ }
+{
+    let answer = judge_number(words, sizes, entries, number, events, memo);
+    let calls = calls_told(answer);
+    Candidate { number, calls }
+}
+
+// The one with more calls, the first where both have as many.
+fn costlier(a: Candidate, b: Candidate) -> Candidate
+    ensures { λ r. ⌜ r ≡ choose (ltb (a .calls) (b .calls)) b a ⌝ }
+{
+    if a.calls < b.calls { b } else { a }
+}
+
+// The number of the costliest input, after all inputs of its length have been judged in the same memory.
+fn costliest_number(
+    words: &[u32],
+    sizes: Sizes,
+    entries: &[u8; ENTRIES],
+    events: &mut [u8],
+    memo: &mut [u16],
+) -> usize
+    requires { ⌜ SearchGiven (now words) sizes (now entries) (now events) (now memo) ⌝ }
+    ensures { λ r. ⌜ Found (now (words .entry)) (now (events .entry)) (now (memo .entry)) r (now (events .exit)) (now (memo .exit)) ⌝ }
+{
+    let inputs = count_inputs(sizes.terminals, events.len());
+    let mut best = Candidate {
+        number: 0,
+        calls: 0,
+    };
+    let mut number = 0;
+    while number < inputs {
+        let next = try_number(words, sizes, entries, number, events, memo);
+        best = costlier(best, next);
+        number = number + 1;
+    }
+    best.number
+}
+
+// Writes the costliest input, and judges it.
+fn judge_best(
+    words: &[u32],
+    sizes: Sizes,
+    entries: &[u8; ENTRIES],
+    events: &mut [u8],
+    memo: &mut [u16],
+) -> Answer
+    requires { ⌜ SearchGiven (now words) sizes (now entries) (now events) (now memo) ⌝ }
+    ensures { λ r. ⌜ BestJudged (now (words .entry)) (now (events .entry)) (now (memo .entry)) r (now (events .exit)) (now (memo .exit)) ⌝ }
+{
+    let number = costliest_number(words, sizes, entries, events, memo);
+    judge_number(words, sizes, entries, number, events, memo)
+}
+
+// Finds, for an encoded grammar and a length, the costliest input, writes it into the lent log, and judges it in the lent table and memo table.
+pub fn judge_costliest(
+    words: &[u32],
+    tokens: usize,
+    log: &mut [u8],
+    table: &mut [u32],
+    memo: &mut [u16],
+) -> Answer
+    ensures { λ r. ⌜ JudgesCostliest (now (words .entry)) tokens (now (log .entry)) (now (table .entry)) (now (memo .entry)) r (now (log .exit)) (now (table .exit)) (now (memo .exit)) ⌝ }
+{
+    if table.len() < TABLE_WORDS {
+        return Answer::Refused(Error::TableTooShort);
+    }
+    if memo.len() < MEMO_ENTRIES {
+        return Answer::Refused(Error::MemoTooShort);
+    }
+    if log.len() < TOKENS {
+        return Answer::Refused(Error::BufferTooShort);
+    }
+    let analysis = analyze(words);
+    let finding = with_length(analysis.finding, tokens);
+    match finding {
+        Finding::Refused(found) => Answer::Refused(found),
+        Finding::Passed(sizes) => {
+            lend(table, &analysis.table, sizes);
+            judge_best(words, sizes, &analysis.entries, &mut log[..tokens], memo)
+        }
+    }
+}
