@@ -39,8 +39,8 @@ use Rattle.recognizer.specs.Properties.{Judges}
 use Rattle.recognizer.specs.Costliest.{callsOn, costliestInput, lengthFaults, costliestFault, withLength, JudgesCostliest}
 use Rattle.recognizer.specs.Search.{SearchGiven, BestJudged}
 use Rattle.recognizer.proofs.Checking.{passed-fault-for, passed-free, Told, found, found-fault}
-use Rattle.recognizer.proofs.JudgeFaults.{input-fault, readable-faultless}
-use Rattle.recognizer.proofs.Judged.{judge-done}
+use Rattle.recognizer.proofs.JudgeFaults.{input-fault, readable-faultless, PassedWith, RefusedWith, byGrammar, byFaults, with-passed, with-refused}
+use Rattle.recognizer.proofs.Judged.{same-terminals, judge-done}
 
 -- what is found of a grammar and a length, as the code finds it
 module _ {f : Finding} {z : Sizes} (p : f ≡ finding.Passed z) (k : ℕ) where
@@ -53,31 +53,6 @@ module _ {f : Finding} {z : Sizes} (p : f ≡ finding.Passed z) (k : ℕ) where
 
     pub length-fits : inputs ≤ maxInputs → finding.Passed z ≡ withLength f k
     length-fits h = rw (p, le-ltb maxTokens k short, le-ltb maxInputs (z .terminals ^ k) (count-few (z .terminals) k (omega arith)))
-
--- and by what is found of the grammar
-record PassedBoth (f : Finding) (k : ℕ) (z : Sizes) : Type 0 where
-  grammar : f ≡ finding.Passed z
-  unfaulty : firstFault (lengthFaults (z .terminals) k) ≡ none
-
-data RefusedBy (f : Finding) (k : ℕ) (x : Error) : Type 0 where
-  byGrammar : f ≡ finding.Refused x → RefusedBy f k x
-  byLength : (z : Sizes) → f ≡ finding.Passed z → firstFault (lengthFaults (z .terminals) k) ≡ some x → RefusedBy f k x
-
-both-passed : (f : Finding) (k : ℕ) {z : Sizes} → withLength f k ≡ finding.Passed z → PassedBoth f k z
-both-passed (finding.Refused e) k q = let n : _≡_ {A = ℕ} 0 1 = cc in absurd (omega arith)
-both-passed (finding.Passed y) k {z} q = go (firstFault (lengthFaults (y .terminals) k)) refl q
-  where
-    go : (o : Option Error) → firstFault (lengthFaults (y .terminals) k) ≡ o → passedUnless o y ≡ finding.Passed z → PassedBoth (finding.Passed y) k z
-    go none e p = let s : y ≡ z = cc in record { grammar = p; unfaulty = rw (← s) e }
-    go (some x) e p = let n : _≡_ {A = ℕ} 0 1 = cc in absurd (omega arith)
-
-one-refused : (f : Finding) (k : ℕ) {x : Error} → withLength f k ≡ finding.Refused x → RefusedBy f k x
-one-refused (finding.Refused e) k q = byGrammar q
-one-refused (finding.Passed y) k {x} q = go (firstFault (lengthFaults (y .terminals) k)) refl q
-  where
-    go : (o : Option Error) → firstFault (lengthFaults (y .terminals) k) ≡ o → passedUnless o y ≡ finding.Refused x → RefusedBy (finding.Passed y) k x
-    go none e p = let n : _≡_ {A = ℕ} 0 1 = cc in absurd (omega arith)
-    go (some v) e p = let s : v ≡ x = cc in byLength y refl (e ∙ ap some s)
 
 -- the first fault, by what holds
 module _ (words : List ℕ) (k : ℕ) (log table memo : List ℕ) where
@@ -126,20 +101,19 @@ module _ (words : List ℕ) (k : ℕ) (log table memo : List ℕ) where
             ∙ rw (le-ltb (length table) maxTableWords long, le-ltb (length memo) maxMemoEntries room, le-ltb (length log) maxTokens space, e)
 
         module _ {g : Finding} {entries laid : List ℕ} (t : Told One words g entries laid) {f : Finding} (q : f ≡ withLength g k) where
-          same-terminals : {z : Sizes} {o : Option Error} → g ≡ finding.Passed z → firstFault (lengthFaults (z .terminals) k) ≡ o
-              → firstFault (lengthFaults (grammarOf words .terminals) k) ≡ o
-          same-terminals {z} p h = rw (← well-read words z (admitted-read One words (found t p .taken)) .terminals) h
+          abbrev faults : ℕ → List (Option Error)
+          faults n = lengthFaults n k
 
           pub found-refused : {x : Error} → f ≡ finding.Refused x → JudgesCostliest words k log table memo (Refused x) log table memo
-          found-refused {x} p = costliest-refused (go (one-refused g k (sym q ∙ p)))
+          found-refused {x} p = costliest-refused (go (with-refused g faults (sym q ∙ p)))
             where
-              go : RefusedBy g k x → refusal ≡ some x
+              go : RefusedWith g faults x → refusal ≡ some x
               go (byGrammar h) = by-grammar (found-fault t h)
-              go (byLength z h i) = by-grammar (found t h .faultless) ∙ same-terminals h i
+              go (byFaults z h i) = let m = found t h in by-grammar (m .faultless) ∙ same-terminals One words faults m i
 
           module _ {z : Sizes} (p : f ≡ finding.Passed z) where
-            both : PassedBoth g k z
-            both = both-passed g k (sym q ∙ p)
+            both : PassedWith g faults z
+            both = with-passed g faults (sym q ∙ p)
 
             pub costliest-found : TableFound One words z entries laid
             costliest-found = found t (both .grammar)
@@ -148,12 +122,12 @@ module _ (words : List ℕ) (k : ℕ) (log table memo : List ℕ) where
             read = well-read words z (admitted-read One words (costliest-found .taken))
 
             short : k ≤ maxTokens
-            short = ltb-false maxTokens k (fault-none (ltb maxTokens k) InputTooLong (each-none (lengthFaults (z .terminals) k) (both .unfaulty) .0))
+            short = ltb-false maxTokens k (fault-none (ltb maxTokens k) InputTooLong (each-none (lengthFaults (z .terminals) k) (both .faultless) .0))
 
             few : z .terminals ^ k ≤ maxInputs
             few =
                 ltb-false maxInputs (z .terminals ^ k)
-                (fault-none (ltb maxInputs (z .terminals ^ k)) TooManyInputs (each-none (lengthFaults (z .terminals) k) (both .unfaulty) .1 .0))
+                (fault-none (ltb maxInputs (z .terminals ^ k)) TooManyInputs (each-none (lengthFaults (z .terminals) k) (both .faultless) .1 .0))
 
             pub part-fits : k ≤ length log
             part-fits = omega (arith, short)
@@ -172,7 +146,7 @@ module _ (words : List ℕ) (k : ℕ) (log table memo : List ℕ) where
             }
 
             unrefused : refusal ≡ none
-            unrefused = by-grammar (costliest-found .faultless) ∙ same-terminals (both .grammar) (both .unfaulty)
+            unrefused = by-grammar (costliest-found .faultless) ∙ same-terminals One words faults costliest-found (both .faultless)
 
             pub costliest-done : {table′ part memo′ : List ℕ} {r : Answer} → Lent One table laid z table′ → BestJudged words (take k log) memo r part memo′
                 → JudgesCostliest words k log table memo r (part ++ drop k log) table′ memo′

@@ -31,7 +31,7 @@ use Rattle.event.specs.Unknown.{unknownFrom, unknownFault}
 use Rattle.grammar.specs.declared.reading.Sizes.{Sizes}
 use Rattle.sets.specs.declared.Finding.{Finding}
 use Rattle.sets.specs.declared.Finding.the-variants as finding
-use Rattle.recognizer.specs.Answers.{tableTooShort, checkFaultBy, judgeFaultBy, judgeFault, inputFaults, passedUnless, withInput}
+use Rattle.recognizer.specs.Answers.{tableTooShort, checkFaultBy, judgeFaultBy, judgeFault, inputFaults, passedUnless, withFaults, withInput}
 
 -- the rows of judging, with the grammar's faults as one
 abbrev pub judgeRowsBy : Lookahead → ℕ → ℕ → List ℕ → List ℕ → List (Option Error)
@@ -116,32 +116,32 @@ pub judged-readable : (words input : List ℕ) (table memo : ℕ) → judgeFault
     → (fault One words ≡ none) × (length input ≤ maxTokens)
 judged-readable = judged-readable-by One
 
--- what is found of a grammar and an input, by what is found of the grammar
-pub record PassedWith (f : Finding) (input : List ℕ) (z : Sizes) : Type 0 where
+-- what is found of a grammar and then by other faults, by what is found of the grammar
+pub record PassedWith (f : Finding) (faults : ℕ → List (Option Error)) (z : Sizes) : Type 0 where
   pub grammar : f ≡ finding.Passed z
-  pub readable : firstFault (inputFaults (z .terminals) input) ≡ none
+  pub faultless : firstFault (faults (z .terminals)) ≡ none
 
-pub data RefusedWith (f : Finding) (input : List ℕ) (x : Error) : Type 0 where
-  byGrammar : f ≡ finding.Refused x → RefusedWith f input x
-  byInput : (z : Sizes) → f ≡ finding.Passed z → firstFault (inputFaults (z .terminals) input) ≡ some x → RefusedWith f input x
+pub data RefusedWith (f : Finding) (faults : ℕ → List (Option Error)) (x : Error) : Type 0 where
+  byGrammar : f ≡ finding.Refused x → RefusedWith f faults x
+  byFaults : (z : Sizes) → f ≡ finding.Passed z → firstFault (faults (z .terminals)) ≡ some x → RefusedWith f faults x
 
-pub with-passed : (f : Finding) (input : List ℕ) {z : Sizes} → withInput f input ≡ finding.Passed z → PassedWith f input z
-with-passed (finding.Refused e) input q = let n : _≡_ {A = ℕ} 0 1 = cc in absurd (omega arith)
-with-passed (finding.Passed y) input {z} q = go (firstFault (inputFaults (y .terminals) input)) refl q
+pub with-passed : (f : Finding) (faults : ℕ → List (Option Error)) {z : Sizes} → withFaults f faults ≡ finding.Passed z → PassedWith f faults z
+with-passed (finding.Refused e) faults q = let n : _≡_ {A = ℕ} 0 1 = cc in absurd (omega arith)
+with-passed (finding.Passed y) faults {z} q = go (firstFault (faults (y .terminals))) refl q
   where
-    go : (o : Option Error) → firstFault (inputFaults (y .terminals) input) ≡ o → passedUnless o y ≡ finding.Passed z → PassedWith (finding.Passed y) input z
-    go none e p = let s : y ≡ z = cc in record { grammar = p; readable = rw (← s) e }
+    go : (o : Option Error) → firstFault (faults (y .terminals)) ≡ o → passedUnless o y ≡ finding.Passed z → PassedWith (finding.Passed y) faults z
+    go none e p = let s : y ≡ z = cc in record { grammar = p; faultless = rw (← s) e }
     go (some x) e p = let n : _≡_ {A = ℕ} 0 1 = cc in absurd (omega arith)
 
-pub with-refused : (f : Finding) (input : List ℕ) {x : Error} → withInput f input ≡ finding.Refused x → RefusedWith f input x
-with-refused (finding.Refused e) input q = byGrammar q
-with-refused (finding.Passed y) input {x} q = go (firstFault (inputFaults (y .terminals) input)) refl q
+pub with-refused : (f : Finding) (faults : ℕ → List (Option Error)) {x : Error} → withFaults f faults ≡ finding.Refused x → RefusedWith f faults x
+with-refused (finding.Refused e) faults q = byGrammar q
+with-refused (finding.Passed y) faults {x} q = go (firstFault (faults (y .terminals))) refl q
   where
-    go : (o : Option Error) → firstFault (inputFaults (y .terminals) input) ≡ o → passedUnless o y ≡ finding.Refused x → RefusedWith (finding.Passed y) input x
+    go : (o : Option Error) → firstFault (faults (y .terminals)) ≡ o → passedUnless o y ≡ finding.Refused x → RefusedWith (finding.Passed y) faults x
     go none e p = let n : _≡_ {A = ℕ} 0 1 = cc in absurd (omega arith)
-    go (some v) e p = let s : v ≡ x = cc in byInput y refl (e ∙ ap some s)
+    go (some v) e p = let s : v ≡ x = cc in byFaults y refl (e ∙ ap some s)
 
--- the same as the code finds it
+-- the same of an input, as the code finds it
 module _ (events : List ℕ) {f : Finding} {z : Sizes} (p : f ≡ finding.Passed z) where
   abbrev input : List ℕ
   input = inputOf events

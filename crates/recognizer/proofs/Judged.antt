@@ -47,7 +47,7 @@ use Rattle.recognizer.specs.Judging.{TableFound, PassedGiven, DescendGiv
 use Rattle.recognizer.specs.Properties.{PassedBy, Readable, RecognizesBy, JudgesBy}
 use Rattle.recognizer.proofs.Checking.{fits-few, passed-fault-for, passed-free, passed-predictive, fault-passed, Told, found, found-fault, lent-table}
 use Rattle.recognizer.proofs.Places.{judge-tells, fault-encoded, places}
-use Rattle.recognizer.proofs.JudgeFaults.{judge-fault-long, grammar-fault, input-fault, readable-faultless, faultless-readable, judged-checked, PassedWith, RefusedWith, byGrammar, byInput, with-passed, with-refused}
+use Rattle.recognizer.proofs.JudgeFaults.{judge-fault-long, grammar-fault, input-fault, readable-faultless, faultless-readable, judged-checked, PassedWith, RefusedWith, byGrammar, byFaults, with-passed, with-refused}
 use Rattle.recognizer.proofs.Meaning.{meaning}
 
 -- the numbers of what is answered
@@ -157,29 +157,33 @@ module _ {k : Lookahead} {words entries memo : List ℕ} {z : Sizes} (events : L
         lent = ap (λ y. y ++ drop (z .nonterminals * (length events + 1)) memo) (d .entries) ∙ ap (λ y. written ++ drop y memo) n;
       }
 
+-- faults that go by the number of terminals are told by that which was found
+pub same-terminals : (k : Lookahead) (words : List ℕ) (faults : ℕ → List (Option Error)) {z : Sizes} {entries laid : List ℕ} {o : Option Error}
+    → TableFound k words z entries laid → firstFault (faults (z .terminals)) ≡ o → firstFault (faults (grammarOf words .terminals)) ≡ o
+same-terminals k words faults {z} m h = rw (← well-read words z (admitted-read k words (m .taken)) .terminals) h
+
 -- what is found of a grammar and an input decides
 module _ {k : Lookahead} (words input table memo : List ℕ) (long : tableRoom k ≤ length table) (room : maxMemoEntries ≤ length memo) {g : Finding}
     {entries laid : List ℕ} (t : Told k words g entries laid) {f : Finding} (q : f ≡ withInput g input) where
-  same-terminals : {z : Sizes} {o : Option Error} → TableFound k words z entries laid → firstFault (inputFaults (z .terminals) input) ≡ o
-      → firstFault (inputFaults (grammarOf words .terminals) input) ≡ o
-  same-terminals {z} m h = rw (← well-read words z (admitted-read k words (m .taken)) .terminals) h
+  abbrev faults : ℕ → List (Option Error)
+  faults n = inputFaults n input
 
   pub judge-found-refused : {x : Error} → f ≡ finding.Refused x → JudgesBy k words input table memo (Refused x) table memo
-  judge-found-refused {x} p = judge-refused (go (with-refused g input (sym q ∙ p)))
+  judge-found-refused {x} p = judge-refused (go (with-refused g faults (sym q ∙ p)))
     where
-      go : RefusedWith g input x → judgeFaultBy k (length table) (length memo) words input ≡ some x
+      go : RefusedWith g faults x → judgeFaultBy k (length table) (length memo) words input ≡ some x
       go (byGrammar h) = grammar-fault k words input table memo long room (found-fault t h)
-      go (byInput z h i) = let m = found t h in input-fault k words input table memo long room (m .faultless) (same-terminals m i)
+      go (byFaults z h i) = let m = found t h in input-fault k words input table memo long room (m .faultless) (same-terminals k words faults m i)
 
   module _ {z : Sizes} (p : f ≡ finding.Passed z) where
-    both : PassedWith g input z
-    both = with-passed g input (sym q ∙ p)
+    both : PassedWith g faults z
+    both = with-passed g faults (sym q ∙ p)
 
     pub judge-found : TableFound k words z entries laid
     judge-found = found t (both .grammar)
 
     unfaulty : firstFault (inputFaults (grammarOf words .terminals) input) ≡ none
-    unfaulty = same-terminals judge-found (both .readable)
+    unfaulty = same-terminals k words faults judge-found (both .faultless)
 
     pub passed-given : PassedGiven k words z entries input memo
     passed-given =

@@ -53,14 +53,17 @@ judgeFaultBy k table memo words input =
     ∷ grammarFaults k words
     ++ inputFaults (grammarOf words .terminals) input)
 
--- what is found of a grammar, and then of an input
+-- what is found of a grammar, and then by the faults that are looked for behind it, which go by its number of terminals
 abbrev pub passedUnless : Option Error → Sizes → Finding
 passedUnless none z = finding.Passed z
 passedUnless (some e) z = finding.Refused e
 
+abbrev pub withFaults : Finding → (ℕ → List (Option Error)) → Finding
+withFaults (finding.Refused e) faults = finding.Refused e
+withFaults (finding.Passed z) faults = passedUnless (firstFault (faults (z .terminals))) z
+
 abbrev pub withInput : Finding → List ℕ → Finding
-withInput (finding.Refused e) input = finding.Refused e
-withInput (finding.Passed z) input = passedUnless (firstFault (inputFaults (z .terminals) input)) z
+withInput f input = withFaults f (λ n. inputFaults n input)
 
 -- of a check that passes
 abbrev pub passedNumbers : Numbers

@@ -17,12 +17,11 @@ use Rattle.lookahead.specs.declared.Lookahead.the-variants.{One}
 use Rattle.inputs.specs.Inputs.{maxInputs}
 use Rattle.inputs.specs.Costliest.{costliest, CostliestOf}
 use Rattle.sets.specs.declared.Finding.{Finding}
-use Rattle.sets.specs.declared.Finding.the-variants as finding
 use Rattle.semantics.specs.Strings.{Over}
 use Rattle.table.specs.Layout.{tableWords}
 use Rattle.table.specs.Analysis.{grammarFaults}
 use Rattle.recognizer.specs.Memory.{lentBack, memoWords}
-use Rattle.recognizer.specs.Answers.{passedUnless, callsOf, verdictOf, verdictNumbers}
+use Rattle.recognizer.specs.Answers.{withFaults, callsOf, verdictOf, verdictNumbers}
 use Rattle.recognizer.specs.Properties.{Judges}
 
 -- how many calls the descent makes on an input (document 01: the count)
@@ -52,8 +51,7 @@ costliestFault log table memo words k =
 
 -- what is found of a grammar, and then of a length
 abbrev pub withLength : Finding → ℕ → Finding
-withLength (finding.Refused e) k = finding.Refused e
-withLength (finding.Passed z) k = passedUnless (firstFault (lengthFaults (z .terminals) k)) z
+withLength f k = withFaults f (λ n. lengthFaults n k)
 
 -- for a grammar and a length k, with a lent log, a lent table and a lent memo table
 pub record JudgesCostliest (words : List ℕ) (k : ℕ) (log table memo : List ℕ) (r : Answer) (log′ table′ memo′ : List ℕ) : Type 0 where

@@ -10,7 +10,7 @@ all-cleared-requires : tie.Need-all-cleared-requires
 all-cleared-requires c κs = search needs
 
 returns : tie.Need-returns
-returns c = cc (c .before .before .bounded .ensures, c .all-cleared .ensures)
+returns c = rw (c .all-cleared .ensures, c .before .before .bounded .ensures)
 
 pub read-spec : {M : Type 1} → statement M
 read-spec = tie.close (tie.spec bounded-requires all-cleared-requires returns)

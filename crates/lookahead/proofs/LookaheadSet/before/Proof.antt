@@ -1,5 +1,5 @@
 -- Where nothing is in the first set, the second; else the empty set.
-use mathlib.Core.Path.{sym, ap, _∙_}
+use mathlib.Core.Path.{sym, _∙_}
 use borrow.Author.Needs.{needs}
 use Rattle.lookahead.specs.Lookaheads.{nothing}
 use Rattle.lookahead.specs.Elements.{has}
@@ -18,13 +18,15 @@ empty-requires c κs = search needs
 
 returns : tie.Need-returns
 returns c =
-    let args = c .before .before .before .args in
-    cases.if-passed (has (args .self .bits) (nothing (args .lookahead))) (args .other .bits) (cc)
+    let tested = c .before in
+    let args = tested .before .before .args in
+    cases.if-passed (has (args .self .bits) (nothing (args .lookahead))) (args .other .bits) (rw (tested .before .nothing .ensures) at (sym (tested .contains .ensures) ∙ c .if1 .taken))
 
 returns-2 : tie.Need-returns-2
 returns-2 c =
-    let args = c .before .before .before .before .args in
-    cases.if-failed (has (args .self .bits) (nothing (args .lookahead))) (has (args .other .bits)) (cc) (c .empty .ensures)
+    let tested = c .before .before in
+    let args = tested .before .before .args in
+    cases.if-failed (has (args .self .bits) (nothing (args .lookahead))) (has (args .other .bits)) (rw (tested .before .nothing .ensures) at (sym (tested .contains .ensures) ∙ c .before .if1 .left)) (c .empty .ensures)
 
 pub before-spec : {M : Type 1} → statement M
 before-spec = tie.close (tie.spec nothing-requires contains-requires empty-requires returns returns-2)

@@ -1,4 +1,5 @@
 -- A terminal begins a string where it is there alone, or where some digit of its pairs is.
+use mathlib.Core.Path.{sym, _∙_}
 use borrow.Author.Needs.{needs}
 use Rattle.lookahead.proofs.Rows as rows
 use Rattle.lookahead.proofs.LookaheadSet.begins.Statement.{statement}
@@ -32,10 +33,14 @@ sub-result : tie.Need-sub-result
 sub-result c = search needs
 
 returns : tie.Need-returns
-returns c = let args = c .before .before .before .args in rows.begins-alone (args .self .bits) (args .terminal) (cc)
+returns c =
+    let args = c .before .before .before .args in
+    rows.begins-alone (args .self .bits) (args .terminal) (sym (c .before .contains .ensures) ∙ c .if1 .taken)
 
 returns-2 : tie.Need-returns-2
-returns-2 c = let args = c .before .before .before .args in rows.begins-pair (args .self .bits) (args .terminal) (cc)
+returns-2 c =
+    let args = c .before .before .before .args in
+    rows.begins-pair (args .self .bits) (args .terminal) (sym (c .before .contains .ensures) ∙ c .if1 .left)
 
 pub begins-spec : {M : Type 1} → statement M
 begins-spec =

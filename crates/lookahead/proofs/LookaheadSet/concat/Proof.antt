@@ -1,5 +1,5 @@
 -- An empty second set, or the parts: with one token long strings and what comes behind nothing, with two what comes behind a terminal alone as well.
-use mathlib.Core.Path.{_∙_}
+use mathlib.Core.Path.{sym, _∙_}
 use Prim.Native.Nat.{_^_, _<_}
 use native.Mathlib.Nat.{mod-lt}
 use lib.Pow.{pow-pos}
@@ -22,7 +22,7 @@ returns : tie.Need-returns
 returns c =
     let at = c .before .before in
     let args = at .before .before .args in
-    parts.concat-empty (args .lookahead) (args .self .bits) (args .other .bits) (at .strings2 .ensures) (cc)
+    parts.concat-empty (args .lookahead) (args .self .bits) (args .other .bits) (at .strings2 .ensures) (sym (c .before .is-empty .ensures) ∙ c .if1 .taken)
 
 long-requires : tie.Need-long-requires
 long-requires c κs =
@@ -54,7 +54,8 @@ returns-2 c =
     let long = at .before .before in
     let second = long .before .before .before in
     let args = second .before .before .args in
-    parts.concat-one (args .lookahead) (args .self .bits) (args .other .bits) (second .before .strings .ensures) (second .strings2 .ensures) (cc)
+    parts.concat-one (args .lookahead) (args .self .bits) (args .other .bits) (second .before .strings .ensures) (second .strings2 .ensures)
+    (sym (long .before .before .is-empty .ensures) ∙ long .before .if1 .left)
     (long .long .ensures) (at .before .before2 .ensures) (c .enum-told .given .1) (at .join .ensures)
 
 returns-3 : tie.Need-returns-3
@@ -64,7 +65,8 @@ returns-3 c =
     let long = at .before .before in
     let second = long .before .before .before in
     let args = second .before .before .args in
-    parts.concat-two (args .lookahead) (args .self .bits) (args .other .bits) (second .before .strings .ensures) (second .strings2 .ensures) (cc)
+    parts.concat-two (args .lookahead) (args .self .bits) (args .other .bits) (second .before .strings .ensures) (second .strings2 .ensures)
+    (sym (long .before .before .is-empty .ensures) ∙ long .before .if1 .left)
     (long .long .ensures) (at .before .before2 .ensures) (rows .before .enum-told2 .given .1) (at .join .ensures) (rows .rows .ensures) (c .join2 .ensures)
 
 pub concat-spec : {M : Type 1} → statement M

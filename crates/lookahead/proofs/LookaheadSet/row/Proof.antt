@@ -1,4 +1,5 @@
 -- The first tokens are moved to the pairs of a terminal, and the end's digit to the terminal alone.
+use mathlib.Core.Path.{sym, _∙_}
 use borrow.Author.Needs.{needs}
 use Rattle.lookahead.proofs.Rows as rows
 use Rattle.lookahead.proofs.LookaheadSet.row.Statement.{statement}
@@ -33,13 +34,14 @@ empty-requires c κs = search needs
 
 returns : tie.Need-returns
 returns c =
-    let start = c .before .before .before .before in
-    rows.row-in (start .args .self .bits) (start .args .other .bits) (start .args .firsts .bits) (start .args .l) (start .pre .0) (start .pre .1) (cc)
+    let at = c .before .before in
+    let start = at .before .before in
+    rows.row-in (start .args .self .bits) (start .args .other .bits) (start .args .firsts .bits) (start .args .l) (start .pre .0) (start .pre .1) (sym (at .before .contains .ensures) ∙ at .if1 .taken)
 
 returns-2 : tie.Need-returns-2
 returns-2 c =
     let start = c .before .before .before in
-    rows.row-out (start .args .self .bits) (start .args .other .bits) (start .args .l) (cc) (c .empty .ensures)
+    rows.row-out (start .args .self .bits) (start .args .other .bits) (start .args .l) (sym (c .before .before .contains .ensures) ∙ c .before .if1 .left) (c .empty .ensures)
 
 pub row-spec : {M : Type 1} → statement M
 row-spec =

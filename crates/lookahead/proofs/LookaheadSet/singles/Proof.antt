@@ -35,7 +35,9 @@ shl-t10 : tie.Need-shl-t10
 shl-t10 c = omega (arith, cases.single-small (c .before .before .before .args .lookahead), c .single .ensures)
 
 returns : tie.Need-returns
-returns c = cases.singles-are (c .before .before .before .args .lookahead) (cc) (c .single .ensures)
+returns c =
+    let most = c .before .before in
+    cases.singles-are (most .before .args .lookahead) (rw (most .alphabet .ensures) at (c .before .fewer .ensures)) (c .single .ensures)
 
 pub singles-spec : {M : Type 1} → statement M
 singles-spec =
