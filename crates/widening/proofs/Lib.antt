@@ -1,0 +1,4 @@
+pub mod Narrowing
+pub mod Enough
+pub mod Refusals
+pub mod Theorems
