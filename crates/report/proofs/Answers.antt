@@ -21,12 +21,12 @@ use Rattle.recognizer.proofs.Checking.{passed-fault, passed-read}
 use Rattle.text.specs.Writing.{Put}
 use Rattle.sheet_text.specs.Sheet.{checkText}
 use Rattle.judgement_text.specs.Judgement.{judgementText}
-use Rattle.report.specs.Report.{blankTable, blankMemo, checkedText, judgedText, nonterminalsOf, tokensOf}
+use Rattle.report.specs.Report.{blankTable, blankMemo, checkedText, judgedText, nonterminalsOf, tokenCount}
 
 -- the numbers of nonterminals and tokens are those printed, wherever judging is not refused
 -- there are as many tokens as events
-tokens-same : (events : List ℕ) → tokensOf events ≡ tokensOf (inputOf events)
-unfolding tokensOf
+tokens-same : (events : List ℕ) → tokenCount events ≡ tokenCount (inputOf events)
+unfolding tokenCount
 tokens-same events = rw (input-length events)
 
 module _ (words input memo : List ℕ) (v : Answer) where
@@ -34,13 +34,13 @@ module _ (words input memo : List ℕ) (v : Answer) where
   f = judgeFault maxTableWords maxMemoEntries words input
 
   same-sizes : (g : Option Error) → f ≡ g
-      → judgementText (refusedOr f v) (nonterminalsOf (reading words)) (tokensOf input) memo ≡ judgementText (refusedOr f v) (grammarOf words .nonterminals) (length input) memo
-  unfolding judgementText tokensOf
+      → judgementText (refusedOr f v) (nonterminalsOf (reading words)) (tokenCount input) memo ≡ judgementText (refusedOr f v) (grammarOf words .nonterminals) (length input) memo
+  unfolding judgementText tokenCount
   same-sizes (some x) e = rw e
   same-sizes none e =
       let k = judged-readable words input maxTableWords maxMemoEntries e in
       let n : nonterminalsOf (reading words) ≡ grammarOf words .nonterminals = ap nonterminalsOf (passed-read words (passed-fault words (k .0))) in
-      let t : tokensOf input ≡ length input = rw (le-leb (length input) maxTokens (k .1)) in
+      let t : tokenCount input ≡ length input = rw (le-leb (length input) maxTokens (k .1)) in
       ap₂ (λ a b. judgementText (refusedOr f v) a b memo) n t
 
 module _ {l m : List ℕ} {k : ℕ} where
@@ -51,7 +51,7 @@ module _ {l m : List ℕ} {k : ℕ} where
 
   pub put-judged-text : {words table table′ memo : List ℕ} (events : List ℕ) {answer : Answer} {nonterminals tokens : ℕ} → length table ≡ maxTableWords
       → length blankMemo ≡ maxMemoEntries
-      → nonterminals ≡ nonterminalsOf (reading words) → tokens ≡ tokensOf events → Judges words (inputOf events) table blankMemo answer table′ memo
+      → nonterminals ≡ nonterminalsOf (reading words) → tokens ≡ tokenCount events → Judges words (inputOf events) table blankMemo answer table′ memo
       → Put l 0 (judgementText answer nonterminals tokens memo) m k → Put l 0 (judgedText words (inputOf events)) m k
   unfolding judgedText
   put-judged-text {words} {table} {table′} {memo} events {answer} size room n w j p =
@@ -60,6 +60,6 @@ module _ {l m : List ℕ} {k : ℕ} where
       let same : judgeFault (length table) (length blankMemo) words input ≡ g = ap₂ (λ a b. judgeFault a b words input) size room in
       let a : answer ≡ refusedOr g (verdictOf (grammarOf words) input) = j .answer ∙ ap (λ y. refusedOr y (verdictOf (grammarOf words) input)) same in
       let b : memo ≡ lentBack g (memoWords (grammarOf words) input) blankMemo = j .lent-memo ∙ ap (λ y. lentBack y (memoWords (grammarOf words) input) blankMemo) same in
-      let t = ap₂ (λ x y. judgementText x (nonterminalsOf (reading words)) (tokensOf input) y) a b
+      let t = ap₂ (λ x y. judgementText x (nonterminalsOf (reading words)) (tokenCount input) y) a b
       ∙ same-sizes words input (lentBack g (memoWords (grammarOf words) input) blankMemo) (verdictOf (grammarOf words) input) g refl in
       subst (λ x. Put l 0 x m k) t (rw (n, w ∙ tokens-same events) at p)

@@ -113,5 +113,5 @@ nonterminalsOf (Read z) = z .nonterminals
 nonterminalsOf (Faulty e) = 0
 
 -- how many tokens an input has that is not too long
-unfoldable pub tokensOf : List ℕ → ℕ
-tokensOf input = choose (leb (length input) maxTokens) (length input) 0
+unfoldable pub tokenCount : List ℕ → ℕ
+tokenCount input = choose (leb (length input) maxTokens) (length input) 0

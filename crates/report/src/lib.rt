@@ -5,7 +5,7 @@ ghost use Rattle.grammar.specs.Reading.{reading};
 ghost use Rattle.sheet_text.specs.Room.{sheetRoom};
 ghost use Rattle.judgement_text.specs.Room.{judgementRoom};
 ghost use Rattle.text.specs.Writing.{Put};
-ghost use Rattle.report.specs.Report.{Printed, SheetPrinted, GapsPrinted, Enough, enoughRoom, nonterminalsOf, tokensOf, checkedText, judgedText, judgementOf};
+ghost use Rattle.report.specs.Report.{Printed, SheetPrinted, GapsPrinted, Enough, enoughRoom, nonterminalsOf, tokenCount, checkedText, judgedText, judgementOf};
 use answer::Error;
 use gaps_text::put_gaps;
 use grammar::codes::NO_ENTRY;
@@ -135,7 +135,7 @@ fn nonterminals(words: &[u32]) -> u32
 
 // How many tokens an input has that is not too long: as many as there are events.
 fn tokens(events: &[u8]) -> u16
-    ensures { λ r. ⌜ r ≡ tokensOf (now (events .entry)) ⌝ }
+    ensures { λ r. ⌜ r ≡ tokenCount (now (events .entry)) ⌝ }
 {
     if events.len() <= TOKENS {
         events.len() as u16

@@ -1,6 +1,5 @@
 -- The computed list of the calls holds just the calls, each once; its length is that of any such list, and its farthest place that of a call.
 use mathlib.Core.List.{List, [], _∷_, List·Memᴰ, List·Memᴰ·head, List·Memᴰ·tail, List·Memᴰ·cases-cons, List·Memᴰ·not-nil}
-use mathlib.Core.List.{flatMap, List·Memᴰ·append-cases, Memᴰ·append-left, Memᴰ·append-right}
 use mathlib.Core.Logic.{_↔_, inl, inr}
 use mathlib.Core.Path.{_≡_, refl}
 use Prim.Native.Nat.{ℕ, zero, suc, _-_, _≤_, _<_}
@@ -17,23 +16,11 @@ use Rattle.semantics.specs.ComesTo.{Call, callAt, InRange, measure, call
 use Rattle.semantics.specs.Calls.{Called, start, more, Listing, callsWithin, sameCall}
 use Rattle.semantics.specs.Calls.{allCalls, calls, callCount, greatestPlace, farthest}
 use Rattle.semantics.proofs.FiniteSets.{member-mem, mem-member, keep-make, keep-elim}
+use Rattle.semantics.proofs.FlatMaps.{flatMap-elim, flatMap-make}
 use Rattle.semantics.proofs.Rank.{level-top}
 use Rattle.semantics.proofs.Measure.{measure-falls}
 use Rattle.semantics.proofs.Distinct.{distinct-length, distinct-keep}
 use Rattle.semantics.proofs.Range.{calls-equality, all-range, all-distinct, all-length}
-
-flatMap-elim : (f : Call → List Call) (l : List Call) (y : Call) → List·Memᴰ y (flatMap f l) → (x : Call) × List·Memᴰ x l × List·Memᴰ y (f x)
-unfolding flatMap
-flatMap-elim f [] y m = absurd (List·Memᴰ·not-nil m)
-flatMap-elim f (x ∷ l) y m = elim (List·Memᴰ·append-cases (f x) m) [
-  | inl k ↦ (x, List·Memᴰ·head refl, k)
-  | inr k ↦ let r = flatMap-elim f l y k in (r .0, List·Memᴰ·tail (r .1), r .2)
-]
-
-flatMap-make : (f : Call → List Call) (l : List Call) (x y : Call) → List·Memᴰ x l → List·Memᴰ y (f x) → List·Memᴰ y (flatMap f l)
-unfolding flatMap
-flatMap-make f (z ∷ l) x y (List·Memᴰ·head e) m = Memᴰ·append-left (flatMap f l) (rw e at m)
-flatMap-make f (z ∷ l) x y (List·Memᴰ·tail k) m = Memᴰ·append-right (f z) (flatMap-make f l x y k m)
 
 greatest-most : (l : List Call) (x : Call) → List·Memᴰ x l → x .place ≤ greatestPlace l
 unfolding greatestPlace

@@ -1,4 +1,5 @@
 pub mod FiniteSets
+pub mod FlatMaps
 pub mod Rounds
 pub mod Nullable
 pub mod Lowest

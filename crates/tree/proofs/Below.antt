@@ -21,7 +21,7 @@ use Rattle.booleans.proofs.Booleans.{T-true, and-make}
 use Rattle.semantics.proofs.Measure.{measure-falls}
 use Rattle.semantics.proofs.Theorems.{theorems}
 use Rattle.tree.specs.Writing.{ruleCalls, below}
-use Rattle.tree.proofs.Lists.{flatMap-elim, flatMap-make}
+use Rattle.semantics.proofs.FlatMaps.{flatMap-elim, flatMap-make}
 use Rattle.tree.proofs.Reading.{outcomes, Found, Reads, Chosen, chosen}
 
 -- what a body comes to, step by step

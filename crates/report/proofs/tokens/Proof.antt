@@ -1,6 +1,6 @@
 -- By whether the input is too long.
 use borrow.Author.Tests.{le-leb, lt-leb}
-use Rattle.report.specs.Report.{tokensOf}
+use Rattle.report.specs.Report.{tokenCount}
 use borrow.Author.Needs.{needs}
 use Rattle.report.proofs.tokens.Statement.{statement}
 use Rattle.report.proofs.tokens.Tie as tie
@@ -9,11 +9,11 @@ cast-result : tie.Need-cast-result
 cast-result c = search needs
 
 returns : tie.Need-returns
-unfolding tokensOf
+unfolding tokenCount
 returns c = rw (le-leb _ _ (c .if1 .taken))
 
 returns-2 : tie.Need-returns-2
-unfolding tokensOf
+unfolding tokenCount
 returns-2 c = rw (lt-leb _ _ (c .if1 .left))
 
 pub tokens-spec : {M : Type 1} → statement M
