@@ -1,42 +1,22 @@
 -- The inputs of one length: each stands at its number, so letter order is the order of numbers.
 use mathlib.Core.Path.{_≡_, refl, sym, ap, _∙_}
 use mathlib.Core.Bool.{_&&_}
-use mathlib.Core.List.{List, [], _∷_, _++_, map, append-assoc, append-nil}
+use mathlib.Core.List.{List, [], _∷_, _++_, append-assoc, append-nil}
 use mathlib.Core.Logic.{_⊎_, inl, inr}
 use Prim.Native.Nat.{ℕ, zero, suc, _+_, _*_, _/_, _%_, _^_, _≤_, _<_}
-use native.Mathlib.Nat.{zero-add, pow-zero, pow-suc, mod-lt, div-add-mod', div-lt-iff-lt-mul, mul-le-mul-right, one-le-pow}
+use native.Mathlib.Nat.{pow-zero, pow-suc, mod-lt, div-add-mod', div-lt-iff-lt-mul, mul-le-mul-right, one-le-pow}
 use native.Mathlib.Omega.{arith}
 use lib.Arith.{digits-lt, digits-div, digits-mod}
 use lib.Dec.{T, eqb, ltb, eqb→eq, ltb→lt, lt→ltb}
-use lib.ListN.{length, getD, length-map, length-append, List·getD-append}
-use lib.Seq.{getD-append-add}
+use lib.ListN.{length, getD, length-append}
 use Rattle.booleans.specs.Quantifiers.{allOf}
 use Rattle.booleans.proofs.Booleans.{and-l, and-r, and-make, or-cases}
-use Rattle.semantics.specs.FiniteSets.{numbersFrom, numbers, combine}
+use Rattle.semantics.specs.FiniteSets.{numbers}
 use Rattle.semantics.specs.Strings.{Over}
 use Rattle.semantics.proofs.FiniteSets.{numbers-length}
+use Rattle.semantics.proofs.CombinedAt.{combine-at}
 use Rattle.semantics.proofs.Distinct.{combine-length}
 use Rattle.inputs.specs.Inputs.{inputs, inputAt, before}
-
-module _ {X Z : Type 0} (f : X → ℕ → Z) (n : ℕ) where
-  row-at : (x : X) (a m i : ℕ) (z : Z) → i < m → getD (map (f x) (numbersFrom a m)) i z ≡ f x (a + i)
-  unfolding numbersFrom
-  row-at x a zero i z h = absurd (omega arith)
-  row-at x a (suc m) zero z h = let e : a ≡ a + 0 = omega arith in ap (f x) e
-  row-at x a (suc m) (suc i) z h = let e : suc a + i ≡ a + suc i = omega arith in row-at x (suc a) m i z (omega arith) ∙ ap (f x) e
-
-  row-length : (x : X) → length (map (f x) (numbers n)) ≡ n
-  row-length x = length-map (numbers n) (f x) ∙ numbers-length n
-
-  combine-at : (xs : List X) (A i : ℕ) (z : Z) (d : X) → A < length xs → i < n → getD (combine f xs (numbers n)) (A * n + i) z ≡ f (getD xs A d) i
-  unfolding combine numbers
-  combine-at [] A i z d h l = absurd (omega arith)
-  combine-at (x ∷ xs) zero i z d h l =
-      let e : 0 * n + i ≡ i = omega arith in
-      rw e (List·getD-append (map (f x) (numbers n)) _ z i (omega (arith, row-length x)) ∙ row-at x 0 n i z l ∙ ap (f x) (zero-add i))
-  combine-at (x ∷ xs) (suc A) i z d h l =
-      let e : suc A * n + i ≡ length (map (f x) (numbers n)) + (A * n + i) = omega (arith, row-length x) in
-      rw e (getD-append-add (map (f x) (numbers n)) (combine f xs (numbers n)) (A * n + i) z ∙ combine-at xs A i z d (omega arith) l)
 
 pub inputs-count : (n k : ℕ) → length (inputs n k) ≡ n ^ k
 unfolding inputs

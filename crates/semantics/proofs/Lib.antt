@@ -1,5 +1,6 @@
 pub mod FiniteSets
 pub mod FlatMaps
+pub mod CombinedAt
 pub mod Rounds
 pub mod Nullable
 pub mod Lowest

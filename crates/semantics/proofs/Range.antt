@@ -1,22 +1,21 @@
 -- The calls in range: all of them are listed, each once, and each has an entry of its own in the memo table.
-use mathlib.Core.List.{List, map, List·Memᴰ}
+use mathlib.Core.List.{List, List·Memᴰ}
 use mathlib.Core.Logic.{_↔_}
 use mathlib.Core.Path.{_≡_, refl, sym, ap, _∙_}
-use Prim.Native.Nat.{ℕ, zero, suc, _+_, _*_, _/_, _%_, _≤_, _<_}
-use native.Mathlib.Nat.{zero-add}
+use Prim.Native.Nat.{ℕ, suc, _/_, _%_, _≤_, _<_}
 use native.Mathlib.Omega.{arith}
 use lib.Arith.{digits-div, digits-mod, digits-lt}
 use lib.Dec.{eqb, eqb→eq, eqb-refl}
-use lib.ListN.{length, getD, length-map, List·getD-append}
-use lib.Seq.{getD-append-add}
+use lib.ListN.{length, getD}
 use Rattle.grammar.specs.Syntax.{Grammar}
-use Rattle.semantics.specs.FiniteSets.{numbersFrom, numbers, combine}
+use Rattle.semantics.specs.FiniteSets.{numbers}
 use Rattle.semantics.specs.Valuations.{pairs}
 use Rattle.semantics.specs.ComesTo.{Call, callAt, InRange}
 use Rattle.semantics.specs.Calls.{sameCall, allCalls, Distinct}
 use Rattle.semantics.specs.Memo.{indexOf}
 use Rattle.booleans.proofs.Booleans.{and-l, and-r, and-make}
 use Rattle.semantics.proofs.FiniteSets.{Equality, numbers-make, numbers-elim, numbers-length, combine-make, combine-elim}
+use Rattle.semantics.proofs.CombinedAt.{numbers-at, combine-at}
 use Rattle.semantics.proofs.Distinct.{distinct-numbers, distinct-combine, combine-length}
 
 call-same : (x y : Call) → x .nonterminal ≡ y .nonterminal → x .place ≡ y .place → x ≡ y
@@ -64,32 +63,9 @@ index-injective w x y h h′ e = call-same x y
     (sym (digits-div (x .nonterminal) (omega arith)) ∙ ap (λ z. z / suc (length w)) e ∙ digits-div (y .nonterminal) (omega arith))
     (sym (digits-mod (x .nonterminal) (omega arith)) ∙ ap (λ z. z % suc (length w)) e ∙ digits-mod (y .nonterminal) (omega arith))
 
-map-at : {Z : Type 0} (g : ℕ → Z) (a n i : ℕ) (z : Z) → i < n → getD (map g (numbersFrom a n)) i z ≡ g (a + i)
-unfolding numbersFrom
-map-at g a zero i z h = absurd (omega arith)
-map-at g a (suc n) zero z h = let e : a ≡ a + 0 = omega arith in ap g e
-map-at g a (suc n) (suc i) z h = let e : suc a + i ≡ a + suc i = omega arith in map-at g (suc a) n i z (omega arith) ∙ ap g e
-
-row-length : (B m : ℕ) → length (map (callAt B) (numbersFrom 0 m)) ≡ m
-unfolding numbers
-row-length B m = length-map (numbersFrom 0 m) (callAt B) ∙ numbers-length m
-
-combine-at : (B n m A i : ℕ) (z : Call) → A < n → i < m → getD (combine callAt (numbersFrom B n) (numbersFrom 0 m)) (A * m + i) z ≡ callAt (B + A) i
-unfolding numbersFrom combine
-combine-at B zero m A i z h l = absurd (omega arith)
-combine-at B (suc n) m zero i z h l =
-    let e : 0 * m + i ≡ i = omega arith in
-    let d : B ≡ B + 0 = omega arith in
-    rw e (List·getD-append (map (callAt B) (numbersFrom 0 m)) _ z i (omega (arith, row-length B m)) ∙ map-at (callAt B) 0 m i z l ∙ cc (zero-add i))
-combine-at B (suc n) m (suc A) i z h l =
-    let e : suc A * m + i ≡ length (map (callAt B) (numbersFrom 0 m)) + (A * m + i) = omega (arith, row-length B m) in
-    let d : suc B + A ≡ B + suc A = omega arith in
-    rw e (getD-append-add (map (callAt B) (numbersFrom 0 m)) (combine callAt (numbersFrom (suc B) n) (numbersFrom 0 m)) (A * m + i) z
-    ∙ combine-at (suc B) n m A i z (omega arith) l ∙ ap (λ C. callAt C i) d)
-
 -- the list of all calls is in the order of the memo table: the call of each entry stands at the entry's index
 pub all-ordered : (G : Grammar) (w : List ℕ) (x z : Call) → InRange G w x → getD (allCalls G w) (indexOf w x) z ≡ x
-unfolding allCalls numbers
+unfolding allCalls
 all-ordered G w x z h =
-    combine-at 0 (G .nonterminals) (suc (length w)) (x .nonterminal) (x .place) z (h .0) (omega (arith, h .1))
-    ∙ call-same (callAt (0 + x .nonterminal) (x .place)) x (zero-add (x .nonterminal)) refl
+    combine-at callAt (suc (length w)) (numbers (G .nonterminals)) (x .nonterminal) (x .place) z 0 (omega (arith, h .0, numbers-length (G .nonterminals))) (omega (arith, h .1))
+    ∙ call-same (callAt (getD (numbers (G .nonterminals)) (x .nonterminal) 0) (x .place)) x (numbers-at (G .nonterminals) (x .nonterminal) 0 (h .0)) refl

@@ -1,24 +1,19 @@
 -- Where j tokens are enough, so are more: an overlap of k tokens, cut to j, would be one of j, and what follows a rule without positives is the end.
-use mathlib.Core.List.{List, [], _∷_, List·Memᴰ, List·Memᴰ·head, List·Memᴰ·not-nil}
+use mathlib.Core.List.{List, [], _∷_, append-nil, List·Memᴰ, List·Memᴰ·head, List·Memᴰ·not-nil}
 use mathlib.Core.Logic.{inl, inr}
-use mathlib.Core.Path.{_≡_, refl, ap}
-use Prim.Native.Nat.{ℕ, zero, suc, _≤_, _<_}
+use mathlib.Core.Path.{_≡_, refl, ap, _∙_}
+use Prim.Native.Nat.{ℕ, _≤_}
 use native.Mathlib.Omega.{arith}
-use lib.ListN.{length, take}
+use lib.ListN.{take}
 use Rattle.grammar.specs.Syntax.{Grammar}
 use Rattle.semantics.specs.Families.{Clash, EveryEnds}
 use Rattle.semantics.specs.FirstFollow.{First, Follow, Entry}
 use Rattle.semantics.specs.Claims.{clashes}
 use Rattle.semantics.specs.Predictive.{Predictive}
+use Rattle.semantics.proofs.FirstNullable.{cut-none}
 use Rattle.semantics.proofs.Claims.{clashes-elim, clashes-make, everyEnds-elim, everyEnds-make}
 use Rattle.widening.specs.Widening.{Narrows}
 use Rattle.widening.proofs.Narrowing.{narrows}
-
--- a string with no first token is empty
-cut-none : (j : ℕ) (y : List ℕ) → 0 < j → take j y ≡ [] → y ≡ []
-cut-none zero y h e = absurd (omega arith)
-cut-none (suc j) [] h e = refl
-cut-none (suc j) (a ∷ y) h e = absurd (omega (arith, ap length e))
 
 none-listed : (l : List Entry) → ((e : Entry) → List·Memᴰ e l → ⊥) → l ≡ []
 none-listed [] h = refl
@@ -40,7 +35,7 @@ enough G j k shorter p = record {
     ends : EveryEnds G k (Follow G k)
     ends r m alone =
         let e = everyEnds-elim G j (p .ends) r m alone in
-        (omega (arith, e .0), λ y f. cut-none j y (e .0) (e .1 (take j y) (cut .follow (r .head) y f)))
+        (omega (arith, e .0), λ y f. cut-none j y [] (e .0) (ap (take j) (append-nil y) ∙ e .1 (take j y) (cut .follow (r .head) y f)) .0)
 
     no-clash : (A : ℕ) (x : List ℕ) → Clash G k (First G k) (Follow G k) A x → ⊥
     no-clash A x (inl o) = List·Memᴰ·not-nil (rw (p .clashless) at (clashes-make G j A (take j x) (inl (cut .overlap A x o))))
