@@ -26,11 +26,11 @@ use Rattle.semantics.proofs.Theorems.{theorems}
 use Rattle.answer.specs.Faults.{refusedOr}
 use Rattle.lookahead.specs.declared.Lookahead.{Lookahead}
 use Rattle.lookahead.specs.Lookaheads.{tokens}
-use Rattle.recognizer.specs.Answers.{checkFaultBy, judgeFaultBy, callsBy, verdictBy, verdictOf}
-use Rattle.recognizer.specs.Properties.{ChecksBy, JudgesBy}
-use Rattle.recognizer.proofs.Checking.{passed-fault-for, passed-encodes, passed-free}
-use Rattle.recognizer.proofs.JudgeFaults.{judged-readable-by}
-use Rattle.recognizer.specs.Costliest.{costliestFault, JudgesCostliest}
+use Rattle.promises.specs.Answers.{checkFaultBy, judgeFaultBy, callsBy, verdictBy, verdictOf}
+use Rattle.promises.specs.Properties.{ChecksBy, JudgesBy}
+use Rattle.promises.proofs.Checking.{passed-fault-for, passed-encodes, passed-free}
+use Rattle.promises.proofs.JudgeFaults.{judged-readable-by}
+use Rattle.promises.specs.Costliest.{costliestFault, JudgesCostliest}
 use Rattle.usage.specs.declared.Usage.{Usage}
 use Rattle.clients.specs.declared.Served.{Served}
 use Rattle.clients.specs.declared.totals.Totals.{Totals}

@@ -38,11 +38,11 @@ use Rattle.table.proofs.FirstClash.{clash-at}
 use Rattle.event.specs.declared.Unknown.the-variants.{At}
 use Rattle.event.specs.Unknown.{unknownFrom, unknownFault}
 use Rattle.table.specs.Layout.{tableRoom}
-use Rattle.recognizer.specs.Answers.{tableTooShort, checkFaultBy, judgeFaultBy}
+use Rattle.promises.specs.Answers.{tableTooShort, checkFaultBy, judgeFaultBy}
 use Rattle.inputs.specs.Inputs.{maxInputs}
-use Rattle.recognizer.specs.Costliest.{lengthFaults, costliestFault}
+use Rattle.promises.specs.Costliest.{lengthFaults, costliestFault}
 use Rattle.tabular.specs.Answers.{tabularFault}
-use Rattle.recognizer.proofs.Checking.{read-some}
+use Rattle.promises.proofs.Checking.{read-some}
 use Rattle.grammar.proofs.FaultPositions.{LowOutcome}
 
 -- what tells an error tells it at most at a position

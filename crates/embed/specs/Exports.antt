@@ -7,8 +7,8 @@ use Rattle.answer.specs.declared.Answer.{Answer}
 use Rattle.answer.specs.Numbers.{numbers}
 use Rattle.lookahead.specs.declared.Lookahead.{Lookahead}
 use Rattle.lookahead.specs.declared.Lookahead.the-variants.{One}
-use Rattle.recognizer.specs.Properties.{ChecksBy, JudgesBy}
-use Rattle.recognizer.specs.Costliest.{JudgesCostliest}
+use Rattle.promises.specs.Properties.{ChecksBy, JudgesBy}
+use Rattle.promises.specs.Costliest.{JudgesCostliest}
 use Rattle.clients.specs.declared.Served.{Served}
 use Rattle.clients.specs.declared.totals.Totals.{Totals}
 use Rattle.clients.specs.Sums.{Totalled}

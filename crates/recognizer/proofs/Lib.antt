@@ -9,13 +9,5 @@ pub mod Tokens
 pub mod ChoiceRows
 pub mod TableChoices
 pub mod Front
-pub mod Places
-pub mod Checking
 pub mod Deciding
-pub mod Directions
-pub mod JudgeFaults
-pub mod Meaning
-pub mod Judged
 pub mod Searching
-pub mod CostliestFaults
-pub mod Rows

@@ -29,7 +29,7 @@ use Rattle.sets.proofs.FewTerminals.{admitted-read, few-terminals}
 use Rattle.recognizer.specs.Arrays.{choiceColumns, firstAt}
 use Rattle.recognizer.specs.Descent.{firstConjunct}
 use Rattle.recognizer.specs.Preparing.{columnAt, TokensHold, entryOf, firstWord, FirstGiven, ChoicesGiven, Filled}
-use Rattle.recognizer.specs.Judging.{Ready}
+use Rattle.promises.specs.Judging.{Ready}
 use Rattle.recognizer.proofs.Columns.{column-right}
 
 module _ {k : Lookahead} {words : List ℕ} {z : Sizes} {entries input : List ℕ} (g : Ready k words z entries input) where

@@ -1,8 +1,8 @@
 // Judging an input by a grammar that has passed.
 ghost use mathlib.Core.Path.{_≡_};
 ghost use Rattle.event.specs.Events.{inputOf};
-ghost use Rattle.recognizer.specs.Answers.{withInput};
-ghost use Rattle.recognizer.specs.Judging.{PassedGiven, DescendGiven, Descended, JudgedPassed};
+ghost use Rattle.promises.specs.Answers.{withInput};
+ghost use Rattle.promises.specs.Judging.{PassedGiven, DescendGiven, Descended, JudgedPassed};
 use super::descent::call;
 use super::preparing::choices_of;
 use super::preparing::tokens_of;

@@ -2,7 +2,7 @@
 ghost use mathlib.Core.Path.{_≡_};
 ghost use Rattle.lookahead.specs.declared.Lookahead.the-variants.{One, Two};
 ghost use Rattle.table.specs.Layout.{wordCount, WordsGiven};
-ghost use Rattle.recognizer.specs.Memory.{LendGiven, Lent};
+ghost use Rattle.promises.specs.Memory.{LendGiven, Lent};
 use grammar::limits::TABLE_WORDS;
 use grammar::limits::WIDE_TABLE_WORDS;
 use grammar::reading::Sizes;

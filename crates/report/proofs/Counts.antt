@@ -18,8 +18,8 @@ use Rattle.sets.proofs.Lists.{listed-long, listed-at}
 use Rattle.sets.proofs.Members.{members}
 use Rattle.table.specs.Columns.{columns}
 use Rattle.table.specs.Layout.{setWord, rowWord, tableWords}
-use Rattle.recognizer.specs.Properties.{PassedGrammar}
-use Rattle.recognizer.proofs.Checking.{passed-encodes, fault-passed, check-fault-long, least}
+use Rattle.promises.specs.Properties.{PassedGrammar}
+use Rattle.promises.proofs.Checking.{passed-encodes, fault-passed, check-fault-long, least}
 use Rattle.memo_table.proofs.Entries.{getD-any}
 use Rattle.text.specs.Words.{wordsOf}
 use Rattle.sheet_text.specs.Room.{sheetRoom}

@@ -20,9 +20,9 @@ use Rattle.semantics.specs.FirstFollow.{First, Follow}
 use Rattle.sets.specs.Sets.{firstNumber, followNumber, Members}
 use Rattle.table.specs.Layout.{tableWords}
 use Rattle.answer.specs.Faults.{refusedOr}
-use Rattle.recognizer.specs.Answers.{checkFault, judgeFault, verdictOf}
-use Rattle.recognizer.specs.Memory.{lentBack, memoWords}
-use Rattle.recognizer.specs.Properties.{PassedGrammar}
+use Rattle.promises.specs.Answers.{checkFault, judgeFault, verdictOf}
+use Rattle.promises.specs.Memory.{lentBack, memoWords}
+use Rattle.promises.specs.Properties.{PassedGrammar}
 use Rattle.report.specs.declared.Rooms.{Rooms}
 use Rattle.report.specs.declared.Reads.{Reads}
 use Rattle.text.specs.Words.{bytesOfWord, wordsOf, areWords}

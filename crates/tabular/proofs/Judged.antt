@@ -47,12 +47,12 @@ use Rattle.sets.specs.Analysis.{leftFault, unproductiveFault, setsFaults, setsF
 use Rattle.sets.specs.Lists.{listed}
 use Rattle.sets.specs.Sets.{reachNumber}
 use Rattle.sets.specs.declared.Families.{Families}
-use Rattle.recognizer.specs.Memory.{lentBack}
-use Rattle.recognizer.specs.Properties.{PassedGrammar, Judges}
-use Rattle.recognizer.proofs.Checking.{none-left}
-use Rattle.recognizer.proofs.Meaning.{verdict-tells}
+use Rattle.promises.specs.Memory.{lentBack}
+use Rattle.promises.specs.Properties.{PassedGrammar, Judges}
+use Rattle.promises.proofs.Checking.{none-left}
+use Rattle.promises.proofs.Meaning.{verdict-tells}
 use Rattle.table.specs.declared.conflicts.Conflict.the-variants.{Absent}
-use Rattle.recognizer.proofs.Places.{Tells, judge-tells, grammarFault, left-told, unproductive-told}
+use Rattle.promises.proofs.Places.{Tells, judge-tells, grammarFault, left-told, unproductive-told}
 use Rattle.tabular.specs.Spans.{indexOf, spanWords, solutionWord}
 use Rattle.tabular.specs.Answers.{tabularFault, noCalls, told, tabularVerdict, tabularNumbers, tabularWords}
 use Rattle.tabular.specs.Judging.{TabulateGiven, Tabulated, PassedGiven}

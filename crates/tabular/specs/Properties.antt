@@ -21,8 +21,8 @@ use Rattle.semantics.specs.Valuations.{Valuation, Solves}
 use Rattle.semantics.specs.LeftRecursion.{NoLeftRecursion}
 use Rattle.semantics.specs.Strings.{Over}
 use Rattle.semantics.specs.Theorems.{OneSolution}
-use Rattle.recognizer.specs.Memory.{lentBack}
-use Rattle.recognizer.specs.Properties.{AllProductive, PassedGrammar, LowestRecursive, LowestUnproductive, Judges}
+use Rattle.promises.specs.Memory.{lentBack}
+use Rattle.promises.specs.Properties.{AllProductive, PassedGrammar, LowestRecursive, LowestUnproductive, Judges}
 use Rattle.tabular.specs.Spans.{indexOf}
 use Rattle.tabular.specs.Answers.{tabularFault, noCalls, tabularVerdict, tabularNumbers, tabularWords}
 

@@ -49,12 +49,12 @@ use Rattle.table.specs.Columns.{columns}
 use Rattle.table.specs.Layout.{tableWords}
 use Rattle.table.specs.Layout.{filled}
 use Rattle.table.proofs.Words.{filled-entries, table-length}
-use Rattle.recognizer.specs.Answers.{judgeFault, callsOf, verdictBy, verdictOf, verdictNumbers}
-use Rattle.recognizer.specs.Memory.{lentBack, memoWords}
-use Rattle.recognizer.specs.Properties.{Judges, PassedGrammar}
-use Rattle.recognizer.proofs.Checking.{passed-fault, passed-encodes, passed-read, no-clashes, not-left-recursive}
-use Rattle.recognizer.proofs.JudgeFaults.{judgeRows, judged-rows, judged-readable, table-short, memo-short}
-use Rattle.recognizer.proofs.Judged.{judge-refused}
+use Rattle.promises.specs.Answers.{judgeFault, callsOf, verdictBy, verdictOf, verdictNumbers}
+use Rattle.promises.specs.Memory.{lentBack, memoWords}
+use Rattle.promises.specs.Properties.{Judges, PassedGrammar}
+use Rattle.promises.proofs.Checking.{passed-fault, passed-encodes, passed-read, no-clashes, not-left-recursive}
+use Rattle.promises.proofs.JudgeFaults.{judgeRows, judged-rows, judged-readable, table-short, memo-short}
+use Rattle.promises.proofs.Judged.{judge-refused}
 use Rattle.memo_table.proofs.Entries.{getD-any}
 use Rattle.tree.specs.Writing.{vertexAt, vertexWord, treeCalls, treeOf, treeWords, InTree}
 use Rattle.tree.specs.Theorems.{Told}

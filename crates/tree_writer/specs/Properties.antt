@@ -16,9 +16,9 @@ use Rattle.semantics.specs.Valuations.{Valuation, Solves}
 use Rattle.semantics.specs.Choices.{tableChoice}
 use Rattle.lookahead.specs.declared.Lookahead.the-variants.{One}
 use Rattle.table.specs.Layout.{tableWords}
-use Rattle.recognizer.specs.Answers.{judgeFault, callsOf, verdictOf, verdictNumbers}
-use Rattle.recognizer.specs.Memory.{lentBack, memoWords}
-use Rattle.recognizer.specs.Properties.{Judges}
+use Rattle.promises.specs.Answers.{judgeFault, callsOf, verdictOf, verdictNumbers}
+use Rattle.promises.specs.Memory.{lentBack, memoWords}
+use Rattle.promises.specs.Properties.{Judges}
 use Rattle.tree.specs.ParseTrees.{Vertex}
 use Rattle.tree.specs.Writing.{treeOf, treeWords}
 use Rattle.tree.specs.Theorems.{TreeRight, Told}

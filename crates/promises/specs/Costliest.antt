@@ -20,9 +20,9 @@ use Rattle.sets.specs.declared.Finding.{Finding}
 use Rattle.semantics.specs.Strings.{Over}
 use Rattle.table.specs.Layout.{tableWords}
 use Rattle.table.specs.Analysis.{grammarFaults}
-use Rattle.recognizer.specs.Memory.{lentBack, memoWords}
-use Rattle.recognizer.specs.Answers.{withFaults, callsOf, verdictOf, verdictNumbers}
-use Rattle.recognizer.specs.Properties.{Judges}
+use Rattle.promises.specs.Memory.{lentBack, memoWords}
+use Rattle.promises.specs.Answers.{withFaults, callsOf, verdictOf, verdictNumbers}
+use Rattle.promises.specs.Properties.{Judges}
 
 -- how many calls the descent makes on an input (document 01: the count)
 abbrev pub callsOn : Grammar → List ℕ → ℕ

@@ -18,8 +18,8 @@ use Rattle.semantics.specs.Strings.{Over}
 use Rattle.table.specs.Layout.{tableWords, filled}
 use Rattle.table.specs.Entries.{entriesOf}
 use Rattle.table.specs.Analysis.{fault}
-use Rattle.recognizer.specs.Memory.{memoWordsBy}
-use Rattle.recognizer.specs.Answers.{verdictBy}
+use Rattle.promises.specs.Memory.{memoWordsBy}
+use Rattle.promises.specs.Answers.{verdictBy}
 
 -- what is found of a grammar that passes: its sizes, no fault, its entries, and all the words of its table
 pub record TableFound (k : Lookahead) (words : List ℕ) (z : Sizes) (entries table : List ℕ) : Type 0 where

@@ -38,17 +38,17 @@ use Rattle.following.proofs.Theorems.{theorems as following}
 use Rattle.table.specs.Layout.{tableWords, tableRoom}
 use Rattle.sets.specs.declared.Finding.{Finding}
 use Rattle.sets.specs.declared.Finding.the-variants as finding
-use Rattle.recognizer.specs.Memory.{lentBack, memoWordBy, memoWordsBy, Lent}
+use Rattle.promises.specs.Memory.{lentBack, memoWordBy, memoWordsBy, Lent}
 use Rattle.event.specs.Events.{inputOf}
 use Rattle.event.specs.Unknown.{unknownFrom}
 use Rattle.event.proofs.Inputs.{input-length}
-use Rattle.recognizer.specs.Answers.{judgeFaultBy, inputFaults, withInput, callsBy, verdictBy, verdictNumbersBy}
-use Rattle.recognizer.specs.Judging.{TableFound, PassedGiven, DescendGiven, Descended, JudgedPassed}
-use Rattle.recognizer.specs.Properties.{PassedBy, Readable, RecognizesBy, JudgesBy}
-use Rattle.recognizer.proofs.Checking.{fits-few, passed-fault-for, passed-free, passed-predictive, fault-passed, Told, found, found-fault, lent-table}
-use Rattle.recognizer.proofs.Places.{judge-tells, fault-encoded, places}
-use Rattle.recognizer.proofs.JudgeFaults.{judge-fault-long, grammar-fault, input-fault, readable-faultless, faultless-readable, judged-checked, PassedWith, RefusedWith, byGrammar, byFaults, with-passed, with-refused}
-use Rattle.recognizer.proofs.Meaning.{meaning}
+use Rattle.promises.specs.Answers.{judgeFaultBy, inputFaults, withInput, callsBy, verdictBy, verdictNumbersBy}
+use Rattle.promises.specs.Judging.{TableFound, PassedGiven, DescendGiven, Descended, JudgedPassed}
+use Rattle.promises.specs.Properties.{PassedBy, Readable, RecognizesBy, JudgesBy}
+use Rattle.promises.proofs.Checking.{fits-few, passed-fault-for, passed-free, passed-predictive, fault-passed, Told, found, found-fault, lent-table}
+use Rattle.promises.proofs.Places.{judge-tells, fault-encoded, places}
+use Rattle.promises.proofs.JudgeFaults.{judge-fault-long, grammar-fault, input-fault, readable-faultless, faultless-readable, judged-checked, PassedWith, RefusedWith, byGrammar, byFaults, with-passed, with-refused}
+use Rattle.promises.proofs.Meaning.{meaning}
 
 -- the numbers of what is answered
 verdict-told : (n : ℕ) (G : Grammar) (w : List ℕ) → numbers (verdictBy n G w) ≡ verdictNumbersBy n G w

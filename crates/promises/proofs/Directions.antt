@@ -10,9 +10,9 @@ use Rattle.grammar.specs.Encoding.{grammarOf}
 use Rattle.lookahead.specs.declared.Lookahead.{Lookahead}
 use Rattle.lookahead.specs.Lookaheads.{tokens}
 use Rattle.table.specs.Layout.{tableWords}
-use Rattle.recognizer.specs.Answers.{judgeFaultBy, verdictBy}
-use Rattle.recognizer.specs.Memory.{lentBack, memoWordsBy}
-use Rattle.recognizer.specs.Properties.{DirectionsIgnored}
+use Rattle.promises.specs.Answers.{judgeFaultBy, verdictBy}
+use Rattle.promises.specs.Memory.{lentBack, memoWordsBy}
+use Rattle.promises.specs.Properties.{DirectionsIgnored}
 
 pub directions-ignored : (k : Lookahead) → DirectionsIgnored k
 directions-ignored k words events turned table memo r s table′ table″ memo′ memo″ e i j = (

@@ -32,15 +32,15 @@ use Rattle.sets.proofs.FewTerminals.{admitted-read}
 use Rattle.semantics.specs.Strings.{Over}
 use Rattle.table.specs.Layout.{tableWords}
 use Rattle.table.specs.Analysis.{grammarFaults, fault}
-use Rattle.recognizer.specs.Memory.{lentBack, memoWords, Lent}
-use Rattle.recognizer.specs.Answers.{judgeFault, inputFaults, passedUnless, withInput, verdictOf, verdictNumbers}
-use Rattle.recognizer.specs.Judging.{TableFound, JudgedPassed}
-use Rattle.recognizer.specs.Properties.{Judges}
-use Rattle.recognizer.specs.Costliest.{callsOn, costliestInput, lengthFaults, costliestFault, withLength, JudgesCostliest}
-use Rattle.recognizer.specs.Search.{SearchGiven, BestJudged}
-use Rattle.recognizer.proofs.Checking.{passed-fault-for, passed-free, Told, found, found-fault}
-use Rattle.recognizer.proofs.JudgeFaults.{input-fault, readable-faultless, PassedWith, RefusedWith, byGrammar, byFaults, with-passed, with-refused}
-use Rattle.recognizer.proofs.Judged.{same-terminals, judge-done}
+use Rattle.promises.specs.Memory.{lentBack, memoWords, Lent}
+use Rattle.promises.specs.Answers.{judgeFault, inputFaults, passedUnless, withInput, verdictOf, verdictNumbers}
+use Rattle.promises.specs.Judging.{TableFound, JudgedPassed}
+use Rattle.promises.specs.Properties.{Judges}
+use Rattle.promises.specs.Costliest.{callsOn, costliestInput, lengthFaults, costliestFault, withLength, JudgesCostliest}
+use Rattle.promises.specs.Search.{SearchGiven, BestJudged}
+use Rattle.promises.proofs.Checking.{passed-fault-for, passed-free, Told, found, found-fault}
+use Rattle.promises.proofs.JudgeFaults.{input-fault, readable-faultless, PassedWith, RefusedWith, byGrammar, byFaults, with-passed, with-refused}
+use Rattle.promises.proofs.Judged.{same-terminals, judge-done}
 
 -- what is found of a grammar and a length, as the code finds it
 module _ {f : Finding} {z : Sizes} (p : f ≡ finding.Passed z) (k : ℕ) where

@@ -17,9 +17,9 @@ use Rattle.table.specs.Analysis.{fault}
 use Rattle.table.specs.Columns.{columnString}
 use Rattle.table.specs.Conflicts.{rowConflict, conflictFrom, firstClash}
 use Rattle.event.specs.Unknown.{unknownFrom}
-use Rattle.recognizer.specs.Answers.{inputFaults, verdictOf, verdictBy}
-use Rattle.recognizer.specs.Rows.{Row, starred, judged}
-use Rattle.recognizer.proofs.JudgeFaults.{judged-rows}
+use Rattle.promises.specs.Answers.{inputFaults, verdictOf, verdictBy}
+use Rattle.promises.specs.Rows.{Row, starred, judged}
+use Rattle.promises.proofs.JudgeFaults.{judged-rows}
 
 -- the three cards pass
 passes : (fault One wordsR ≡ none) × (fault One wordsM ≡ none) × (fault One wordsE ≡ none)

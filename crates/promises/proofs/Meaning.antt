@@ -19,10 +19,10 @@ use Rattle.semantics.specs.Valuations.{Valuation, Solves, solution}
 use Rattle.semantics.specs.Choices.{tableChoice}
 use Rattle.semantics.specs.Memo.{Recorded}
 use Rattle.semantics.proofs.Theorems.{theorems}
-use Rattle.recognizer.specs.Answers.{callsBy, verdictBy}
-use Rattle.recognizer.specs.Properties.{PassedBy, Readable, RecognizesBy, SameVerdict}
-use Rattle.recognizer.proofs.Deciding.{words-recorded}
-use Rattle.recognizer.proofs.Checking.{passed-encodes, passed-free, passed-predictive}
+use Rattle.promises.specs.Answers.{callsBy, verdictBy}
+use Rattle.promises.specs.Properties.{PassedBy, Readable, RecognizesBy, SameVerdict}
+use Rattle.promises.proofs.MemoWords.{words-recorded}
+use Rattle.promises.proofs.Checking.{passed-encodes, passed-free, passed-predictive}
 
 -- a verdict by a test tells the test
 pub verdict-tells : {r : Answer} (b : Bool) (c : Calls) → r ≡ choose b (Accepted c) (Rejected c)

@@ -31,7 +31,7 @@ use Rattle.event.specs.Unknown.{unknownFrom, unknownFault}
 use Rattle.grammar.specs.declared.reading.Sizes.{Sizes}
 use Rattle.sets.specs.declared.Finding.{Finding}
 use Rattle.sets.specs.declared.Finding.the-variants as finding
-use Rattle.recognizer.specs.Answers.{tableTooShort, checkFaultBy, judgeFaultBy, judgeFault, inputFaults, passedUnless, withFaults, withInput}
+use Rattle.promises.specs.Answers.{tableTooShort, checkFaultBy, judgeFaultBy, judgeFault, inputFaults, passedUnless, withFaults, withInput}
 
 -- the rows of judging, with the grammar's faults as one
 abbrev pub judgeRowsBy : Lookahead → ℕ → ℕ → List ℕ → List ℕ → List (Option Error)

@@ -40,8 +40,8 @@ use Rattle.following.specs.Theorems.{EntriesTell}
 use Rattle.table.specs.Conflicts.{ClashAt, FirstClash}
 use Rattle.table.specs.Layout.{tableWords, tableRoom}
 use Rattle.table.specs.Analysis.{conflictError}
-use Rattle.recognizer.specs.Memory.{lentBack, memoWordsBy}
-use Rattle.recognizer.specs.Answers.{checkFaultBy, judgeFaultBy, callsBy, verdictBy, passedNumbers, verdictNumbersBy}
+use Rattle.promises.specs.Memory.{lentBack, memoWordsBy}
+use Rattle.promises.specs.Answers.{checkFaultBy, judgeFaultBy, callsBy, verdictBy, passedNumbers, verdictNumbersBy}
 
 -- each nonterminal, reachable or not, has a string in its first set with k tokens of lookahead (document 02: none whose first set is empty)
 abbrev pub AllProductiveBy : ℕ → Grammar → Type 0

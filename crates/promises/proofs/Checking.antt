@@ -10,7 +10,7 @@ use lib.Seq.{take-at}
 use borrow.Author.Tests.{lt-ltb, le-ltb}
 use Rattle.answer.proofs.Apart.{fault-number, refused-ne-passed}
 use Rattle.answer.specs.declared.Error.{Error}
-use Rattle.answer.specs.Numbers.{numbers}
+use Rattle.answer.specs.Numbers.{coded, numbers}
 use Rattle.answer.specs.Faults.{refusedOr}
 use Rattle.answer.proofs.Faults.{none-some, each-none, numbers-told}
 use Rattle.answer.specs.declared.Answer.{Answer}
@@ -58,11 +58,11 @@ use Rattle.table.proofs.FirstClash.{clash-absent}
 use Rattle.table.proofs.Padded.{padded-long}
 use Rattle.table.proofs.Words.{table-long}
 use Rattle.table.proofs.Analyzing.{admitted-words}
-use Rattle.recognizer.specs.Memory.{lentBack, LendGiven, Lent}
-use Rattle.recognizer.specs.Answers.{tableTooShort, checkFaultBy}
-use Rattle.recognizer.specs.Judging.{TableFound}
-use Rattle.recognizer.specs.Properties.{PassedBy, PassedGrammar, LeastFamiliesBy, ChecksBy}
-use Rattle.recognizer.proofs.Places.{check-tells, encodes-taken, fault-encoded, places}
+use Rattle.promises.specs.Memory.{lentBack, LendGiven, Lent}
+use Rattle.promises.specs.Answers.{tableTooShort, checkFaultBy}
+use Rattle.promises.specs.Judging.{TableFound}
+use Rattle.promises.specs.Properties.{PassedBy, PassedGrammar, LeastFamiliesBy, ChecksBy}
+use Rattle.promises.proofs.Places.{check-tells, encodes-taken, fault-encoded, places}
 
 pub none-left : (o : Option ℕ) → leftFault o ≡ none → o ≡ none
 none-left none e = refl
@@ -187,6 +187,10 @@ check-fault-long k n words h = rw (le-ltb n (tableRoom k) h)
 refused-passed : (f : Option Error) → refusedOr f Passed ≡ Passed → f ≡ none
 refused-passed none e = refl
 refused-passed (some x) e = absurd (refused-ne-passed e)
+
+-- a table that is too short is told as 1, and with two tokens of lookahead as 17
+pub short-told : (coded (tableTooShort One) .code ≡ 1) × (coded (tableTooShort Two) .code ≡ 17)
+short-told = (refl, refl)
 
 module _ (k : Lookahead) where
   -- the promise from the answer and the table
