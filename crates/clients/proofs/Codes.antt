@@ -29,7 +29,7 @@ use Rattle.semantics.specs.Choices.{tableChoice}
 use Rattle.semantics.specs.Descent.{accepts}
 use Rattle.semantics.specs.LeftRecursion.{lowestLeftRecursive}
 use Rattle.semantics.specs.Productive.{lowestUnproductive}
-use Rattle.sets.specs.Analysis.{readingFault, leftFault, unproductiveFault}
+use Rattle.families.specs.Analysis.{readingFault, leftFault, unproductiveFault}
 use Rattle.table.specs.declared.conflicts.Conflict.{Conflict as Clash}
 use Rattle.table.specs.declared.conflicts.Conflict.the-variants as conflict
 use Rattle.table.specs.Analysis.{clashFault, grammarFaults}

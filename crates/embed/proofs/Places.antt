@@ -28,8 +28,8 @@ use Rattle.grammar.proofs.WellRead.{well-read}
 use Rattle.semantics.specs.LeftRecursion.{leftRecursive, lowestLeftRecursive}
 use Rattle.semantics.specs.Productive.{unproductive, lowestUnproductive}
 use Rattle.booleans.proofs.Quantified.{lowest-some}
-use Rattle.sets.specs.Analysis.{readingFault, leftFault, unproductiveFault, setsFaults}
-use Rattle.sets.proofs.FewTerminals.{admitted-read, few-terminals}
+use Rattle.families.specs.Analysis.{readingFault, leftFault, unproductiveFault, setsFaults}
+use Rattle.families.proofs.FewTerminals.{admitted-read, few-terminals}
 use Rattle.table.specs.declared.conflicts.Conflict.{Conflict as Clash}
 use Rattle.table.specs.declared.conflicts.Conflict.the-variants as conflict
 use Rattle.table.specs.Analysis.{clashFault, grammarFaults}

@@ -21,10 +21,10 @@ use Rattle.grammar.specs.Syntax.{Rule, Grammar}
 use Rattle.grammar.proofs.WellRead.{well-read}
 use Rattle.lookahead.specs.declared.Lookahead.the-variants.{One}
 use Rattle.semantics.specs.Claims.{claims, overruns}
-use Rattle.sets.specs.declared.Finding.{Finding}
-use Rattle.sets.specs.declared.Finding.the-variants.{Passed, Refused}
-use Rattle.sets.specs.Analysis.{setsFault, findingOf}
-use Rattle.sets.proofs.Findings.{told-passed}
+use Rattle.families.specs.declared.Finding.{Finding}
+use Rattle.families.specs.declared.Finding.the-variants.{Passed, Refused}
+use Rattle.families.specs.Analysis.{setsFault, findingOf}
+use Rattle.families.proofs.Findings.{told-passed}
 use Rattle.table.specs.Columns.{columnString}
 use Rattle.text.specs.Ascii.{ascii}
 use Rattle.text.specs.Decimal.{decimal, labelled}

@@ -22,7 +22,7 @@ use Rattle.semantics.proofs.FiniteSets.{keep-elim}
 use Rattle.semantics.proofs.LookaheadSets.{entries-elim}
 use Rattle.semantics.proofs.Positions.{several-elim}
 use Rattle.lookahead.specs.declared.Lookahead.the-variants.{One}
-use Rattle.sets.specs.Analysis.{setsFault}
+use Rattle.families.specs.Analysis.{setsFault}
 use Rattle.table.specs.Analysis.{fault}
 use Rattle.table.proofs.Analyzing.{fault-clashless}
 use Rattle.gaps_text.specs.Gaps.{onRule, claimsBy, claimants, NoneShown, LinesTell}

@@ -20,10 +20,10 @@ use Rattle.lookahead.specs.declared.Lookahead.the-variants.{One}
 use Rattle.lookahead.specs.Lookaheads.{alphabet}
 use Rattle.lookahead.specs.Operations.{isEmpty, terminal}
 use Rattle.semantics.specs.Claims.{claims, overruns}
-use Rattle.sets.specs.declared.Finding.the-variants.{Passed, Refused}
-use Rattle.sets.specs.Analysis.{setsFault}
-use Rattle.sets.proofs.Findings.{told-passed, told-refused}
-use Rattle.sets.proofs.Lists.{listed-at}
+use Rattle.families.specs.declared.Finding.the-variants.{Passed, Refused}
+use Rattle.families.specs.Analysis.{setsFault}
+use Rattle.families.proofs.Findings.{told-passed, told-refused}
+use Rattle.families.proofs.Lists.{listed-at}
 use Rattle.claims.specs.declared.Claims.{Claims}
 use Rattle.claims.specs.Claims.{headsOf, claimNumbers, byRule, byRuleIf, overrunsOf, overrunsIf, claimsOf}
 use Rattle.table.specs.Columns.{columnElement}

@@ -17,9 +17,9 @@ use Rattle.semantics.specs.Claims.{claims, overruns, column}
 use Rattle.semantics.specs.Families.{Claims, Overrun}
 use Rattle.semantics.specs.FiniteSets.{keep, numbers}
 use Rattle.semantics.specs.FirstFollow.{Entry, entries, First, Follow}
-use Rattle.sets.specs.declared.Finding.{Finding}
-use Rattle.sets.specs.declared.Finding.the-variants.{Passed, Refused}
-use Rattle.sets.specs.Analysis.{setsFault, findingOf}
+use Rattle.families.specs.declared.Finding.{Finding}
+use Rattle.families.specs.declared.Finding.the-variants.{Passed, Refused}
+use Rattle.families.specs.Analysis.{setsFault, findingOf}
 use Rattle.table.specs.Analysis.{fault}
 use Rattle.text.specs.Ascii.{ascii}
 use Rattle.text.specs.Decimal.{decimal, labelled}

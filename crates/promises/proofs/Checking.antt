@@ -41,15 +41,15 @@ use Rattle.semantics.specs.Claims.{clashes}
 use Rattle.semantics.specs.Predictive.{Predictive}
 use Rattle.semantics.specs.Theorems.{LeastSets}
 use Rattle.semantics.proofs.Theorems.{theorems}
-use Rattle.sets.specs.declared.Finding.{Finding}
-use Rattle.sets.specs.declared.Finding.the-variants as finding
-use Rattle.sets.proofs.FewTerminals.{admitted-read, few-terminals}
+use Rattle.families.specs.declared.Finding.{Finding}
+use Rattle.families.specs.declared.Finding.the-variants as finding
+use Rattle.families.proofs.FewTerminals.{admitted-read, few-terminals}
 use Rattle.table.specs.declared.Analysis.{Analysis}
 use Rattle.table.specs.declared.WideAnalysis.{WideAnalysis}
 use Rattle.table.specs.Layout.{tableWords, tableRoom, filled, wordCount, WordsGiven}
 use Rattle.table.specs.Entries.{entriesOf}
-use Rattle.sets.specs.Analysis.{readingFault, leftFault, unproductiveFault, findingOf}
-use Rattle.sets.proofs.Findings.{told-passed, told-refused}
+use Rattle.families.specs.Analysis.{readingFault, leftFault, unproductiveFault, findingOf}
+use Rattle.families.proofs.Findings.{told-passed, told-refused}
 use Rattle.table.specs.Analysis.{clashFault, grammarFaults, fault, entriesIf, tableIf, analyzed}
 use Rattle.table.specs.Conflicts.{firstClash}
 use Rattle.table.specs.declared.conflicts.Conflict.{Conflict}

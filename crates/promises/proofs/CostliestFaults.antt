@@ -26,9 +26,9 @@ use Rattle.inputs.specs.Inputs.{maxInputs, inputCount}
 use Rattle.inputs.specs.Costliest.{CostliestOf}
 use Rattle.inputs.proofs.Counting.{count-over, count-few}
 use Rattle.inputs.proofs.Greatest.{costliest-of}
-use Rattle.sets.specs.declared.Finding.{Finding}
-use Rattle.sets.specs.declared.Finding.the-variants as finding
-use Rattle.sets.proofs.FewTerminals.{admitted-read}
+use Rattle.families.specs.declared.Finding.{Finding}
+use Rattle.families.specs.declared.Finding.the-variants as finding
+use Rattle.families.proofs.FewTerminals.{admitted-read}
 use Rattle.semantics.specs.Strings.{Over}
 use Rattle.table.specs.Layout.{tableWords}
 use Rattle.table.specs.Analysis.{grammarFaults, fault}

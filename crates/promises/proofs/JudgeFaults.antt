@@ -29,8 +29,8 @@ use Rattle.event.specs.declared.Unknown.{Unknown}
 use Rattle.event.specs.declared.Unknown.the-variants.{Absent, At}
 use Rattle.event.specs.Unknown.{unknownFrom, unknownFault}
 use Rattle.grammar.specs.declared.reading.Sizes.{Sizes}
-use Rattle.sets.specs.declared.Finding.{Finding}
-use Rattle.sets.specs.declared.Finding.the-variants as finding
+use Rattle.families.specs.declared.Finding.{Finding}
+use Rattle.families.specs.declared.Finding.the-variants as finding
 use Rattle.promises.specs.Answers.{tableTooShort, checkFaultBy, judgeFaultBy, judgeFault, inputFaults, passedUnless, withFaults, withInput}
 
 -- the rows of judging, with the grammar's faults as one

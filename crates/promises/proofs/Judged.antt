@@ -27,7 +27,7 @@ use Rattle.encoding.proofs.Faithful.{faithful}
 use Rattle.lookahead.specs.declared.Lookahead.{Lookahead}
 use Rattle.lookahead.specs.Lookaheads.{tokens}
 use Rattle.admission.proofs.Admitted.{admitted}
-use Rattle.sets.proofs.FewTerminals.{admitted-read}
+use Rattle.families.proofs.FewTerminals.{admitted-read}
 use Rattle.semantics.specs.Valuations.{pairs}
 use Rattle.semantics.specs.Choices.{tableChoice}
 use Rattle.semantics.specs.Descent.{accepts}
@@ -36,8 +36,8 @@ use Rattle.semantics.proofs.Range.{all-length}
 use Rattle.following.specs.Theorems.{EntriesTell}
 use Rattle.following.proofs.Theorems.{theorems as following}
 use Rattle.table.specs.Layout.{tableWords, tableRoom}
-use Rattle.sets.specs.declared.Finding.{Finding}
-use Rattle.sets.specs.declared.Finding.the-variants as finding
+use Rattle.families.specs.declared.Finding.{Finding}
+use Rattle.families.specs.declared.Finding.the-variants as finding
 use Rattle.promises.specs.Memory.{lentBack, memoWordBy, memoWordsBy, Lent}
 use Rattle.event.specs.Events.{inputOf}
 use Rattle.event.specs.Unknown.{unknownFrom}

@@ -30,7 +30,7 @@ use Rattle.encoding.proofs.ReadingEncodes.{encodes-read}
 use Rattle.semantics.specs.LeftRecursion.{lowestLeftRecursive, NoLeftRecursion}
 use Rattle.semantics.specs.Productive.{lowestUnproductive}
 use Rattle.semantics.proofs.Theorems.{theorems}
-use Rattle.sets.specs.Analysis.{leftFault, unproductiveFault}
+use Rattle.families.specs.Analysis.{leftFault, unproductiveFault}
 use Rattle.table.specs.declared.conflicts.Conflict.{Conflict as Clash}
 use Rattle.table.specs.declared.conflicts.Conflict.the-variants as conflict
 use Rattle.table.specs.Analysis.{conflictError, clashFault, fault}

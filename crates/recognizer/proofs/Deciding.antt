@@ -36,7 +36,7 @@ use Rattle.rule.specs.declared.Outcome as code
 use Rattle.rule.specs.Rule.{meant}
 use Rattle.lookahead.specs.declared.Lookahead.{Lookahead}
 use Rattle.lookahead.specs.Lookaheads.{tokens}
-use Rattle.sets.proofs.FewTerminals.{admitted-read, few-terminals}
+use Rattle.families.proofs.FewTerminals.{admitted-read, few-terminals}
 use Rattle.table.specs.Columns.{columnCount}
 use Rattle.recognizer.specs.Arrays.{held, rowAt}
 use Rattle.recognizer.specs.Descent.{MemoSound, CallGiven, CallDone, CallRequires, CallEnsures}

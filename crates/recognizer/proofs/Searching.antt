@@ -20,7 +20,7 @@ use Rattle.grammar.specs.WellRead.{WellRead}
 use Rattle.grammar.specs.declared.reading.Sizes.{Sizes}
 use Rattle.grammar.proofs.WellRead.{well-read}
 use Rattle.lookahead.specs.declared.Lookahead.the-variants.{One}
-use Rattle.sets.proofs.FewTerminals.{admitted-read}
+use Rattle.families.proofs.FewTerminals.{admitted-read}
 use Rattle.semantics.specs.Choices.{tableChoice}
 use Rattle.semantics.specs.Descent.{accepts}
 use Rattle.semantics.specs.Strings.{Over}

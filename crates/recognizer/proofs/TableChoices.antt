@@ -25,7 +25,7 @@ use Rattle.table.proofs.ColumnStrings.{column-count}
 use Rattle.table.proofs.EntriesFilled.{entries-at}
 use Rattle.lookahead.specs.declared.Lookahead.{Lookahead}
 use Rattle.lookahead.specs.Lookaheads.{tokens}
-use Rattle.sets.proofs.FewTerminals.{admitted-read, few-terminals}
+use Rattle.families.proofs.FewTerminals.{admitted-read, few-terminals}
 use Rattle.recognizer.specs.Arrays.{choiceColumns, firstAt}
 use Rattle.recognizer.specs.Descent.{firstConjunct}
 use Rattle.recognizer.specs.Preparing.{columnAt, TokensHold, entryOf, firstWord, FirstGiven, ChoicesGiven, Filled}

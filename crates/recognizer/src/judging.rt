@@ -17,7 +17,7 @@ use lookahead::Lookahead;
 use memo_table::clear;
 use memo_table::tally;
 use rule::ends_at;
-use sets::Finding;
+use families::Finding;
 use table::columns::count;
 
 // What is found of a grammar and then of an input: its length, and its tokens.

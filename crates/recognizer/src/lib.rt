@@ -9,7 +9,7 @@ use judging::judge_passed;
 use judging::with_input;
 use lending::lend;
 use lookahead::Lookahead;
-use sets::Finding;
+use families::Finding;
 use table::analyze;
 
 pub mod arrays;

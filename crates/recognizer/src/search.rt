@@ -19,7 +19,7 @@ use inputs::INPUTS;
 use inputs::count_inputs;
 use inputs::write_input;
 use lookahead::Lookahead;
-use sets::Finding;
+use families::Finding;
 use table::analyze;
 
 // An input by its number in letter order, and how many calls the descent makes on it.

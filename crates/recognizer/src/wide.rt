@@ -10,7 +10,7 @@ use answer::Error;
 use grammar::limits::MEMO_ENTRIES;
 use grammar::limits::WIDE_TABLE_WORDS;
 use lookahead::Lookahead;
-use sets::Finding;
+use families::Finding;
 use table::analyze_wide;
 
 // Checks an encoded grammar, and fills the lent table with its sets and its entries.

@@ -12,10 +12,10 @@ use Rattle.lookahead.specs.declared.Lookahead.the-variants.{One}
 use Rattle.lookahead.specs.Lookaheads.{nothing}
 use Rattle.lookahead.specs.Elements.{size}
 use Rattle.semantics.specs.FirstFollow.{first, follow, First, Follow}
-use Rattle.sets.specs.Lists.{listed}
-use Rattle.sets.specs.Sets.{firstNumber, followNumber, Members}
-use Rattle.sets.proofs.Lists.{listed-long, listed-at}
-use Rattle.sets.proofs.Members.{members}
+use Rattle.families.specs.Lists.{listed}
+use Rattle.families.specs.Sets.{firstNumber, followNumber, Members}
+use Rattle.families.proofs.Lists.{listed-long, listed-at}
+use Rattle.families.proofs.Members.{members}
 use Rattle.table.specs.Columns.{columns}
 use Rattle.table.specs.Layout.{setWord, rowWord, tableWords}
 use Rattle.promises.specs.Properties.{PassedGrammar}

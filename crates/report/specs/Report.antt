@@ -17,7 +17,7 @@ use Rattle.grammar.specs.Reading.{reading}
 use Rattle.lookahead.specs.declared.Lookahead.the-variants.{One}
 use Rattle.lookahead.specs.Elements.{size}
 use Rattle.semantics.specs.FirstFollow.{First, Follow}
-use Rattle.sets.specs.Sets.{firstNumber, followNumber, Members}
+use Rattle.families.specs.Sets.{firstNumber, followNumber, Members}
 use Rattle.table.specs.Layout.{tableWords}
 use Rattle.answer.specs.Faults.{refusedOr}
 use Rattle.promises.specs.Answers.{checkFault, judgeFault, verdictOf}

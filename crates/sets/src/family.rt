@@ -3,13 +3,10 @@ ghost use mathlib.Core.Path.{_≡_};
 ghost use mathlib.Core.Bool.{_||_};
 ghost use Prim.Native.Nat.{_<_};
 ghost use Rattle.grammar.specs.Limits.{maxNonterminals};
-ghost use Rattle.sets.specs.Least.{lookup, Adds};
-use super::nonterminals::Nonterminals;
-use grammar::limits::NONTERMINALS;
+ghost use Rattle.families.specs.Least.{lookup, Adds};
+use families::SETS;
+use families::nonterminals::Nonterminals;
 use lookahead::LookaheadSet;
-
-// A set for each nonterminal that there may be.
-pub const SETS: usize = NONTERMINALS as usize;
 
 // The set of n; behind the array's end there is none.
 pub(crate) fn set_of(sets: &[u64; SETS], n: u32) -> u64

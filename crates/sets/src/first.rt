@@ -6,18 +6,19 @@ ghost use Rattle.grammar.specs.Encoding.{parse, grammarOf};
 ghost use Rattle.grammar.specs.Limits.{maxNonterminals};
 ghost use Rattle.grammar.specs.Starts.{ruleStarts};
 ghost use Rattle.admission.specs.Admission.{admission};
-ghost use Rattle.sets.specs.First.{symbolFirst, ruleFirst, noRest, withWord, closedMeet, insideWord, FirstNumbersClosed};
-ghost use Rattle.sets.specs.Least.{at as family, lookup, Passes};
-ghost use Rattle.sets.specs.Lists.{listed};
-ghost use Rattle.sets.specs.Rules.{RuleWords, PassGiven, ruleFrom};
-ghost use Rattle.sets.specs.Sets.{firstNumber};
-use super::family::SETS;
+ghost use Rattle.families.specs.First.{symbolFirst, ruleFirst, noRest, withWord, closedMeet, insideWord, FirstNumbersClosed};
+ghost use Rattle.families.specs.Least.{at as family, lookup, Passes};
+ghost use Rattle.families.specs.Lists.{listed};
+ghost use Rattle.families.specs.Rules.{RuleWords, PassGiven, ruleFrom};
+ghost use Rattle.families.specs.Sets.{firstNumber};
 use super::family::add;
 use super::family::either;
 use super::family::set_of;
 use super::rules::end_of;
 use super::rules::head_of;
 use super::rules::turn;
+use families::Rest;
+use families::SETS;
 use grammar::limits::RULES;
 use grammar::reading::Sizes;
 use lookahead::Lookahead;
@@ -25,13 +26,6 @@ use lookahead::LookaheadSet;
 use word::Symbol;
 use word::Word;
 use word::decode;
-
-// Of the words from an index on: the first set of what is left of the body, and the meet of those of the rule's positives
-// behind it.
-pub struct Rest {
-    pub body: LookaheadSet,
-    pub meet: LookaheadSet,
-}
 
 // Where neither a body nor a rule is open.
 pub fn no_rest(terminals: u32, lookahead: Lookahead) -> Rest

@@ -14,8 +14,8 @@ use Rattle.lookahead.specs.declared.Lookahead.{Lookahead}
 use Rattle.lookahead.specs.Lookaheads.{tokens, alphabet}
 use Rattle.semantics.specs.FiniteSets.{numbers}
 use Rattle.semantics.specs.Claims.{tableOf}
-use Rattle.sets.specs.Lists.{listed}
-use Rattle.sets.proofs.Lists.{listed-long, listed-at}
+use Rattle.families.specs.Lists.{listed}
+use Rattle.families.proofs.Lists.{listed-long, listed-at}
 use Rattle.table.specs.Columns.{columnElement, columnString, columns}
 use Rattle.claims.specs.Claims.{headsOf, claimNumbers, byRule}
 use Rattle.table.specs.Entries.{ruleByte, byteAt, entriesOf, noRules, entryOver, rowsOf, FilledRows}

@@ -13,7 +13,7 @@ use grammar::limits::RULES;
 use grammar::reading::Sizes;
 use lookahead::Lookahead;
 use lookahead::LookaheadSet;
-use sets::family::SETS;
+use families::SETS;
 
 // By nonterminal, then by column.
 pub enum Conflict {

@@ -12,7 +12,7 @@ use grammar::limits::TABLE_WORDS;
 use grammar::limits::WIDE_TABLE_WORDS;
 use grammar::reading::Sizes;
 use lookahead::Lookahead;
-use sets::family::SETS;
+use families::SETS;
 
 // An entry as a word.
 fn entry_word(entry: u8) -> u64

@@ -11,8 +11,8 @@ use grammar::limits::ENTRIES;
 use grammar::limits::TABLE_WORDS;
 use grammar::limits::WIDE_TABLE_WORDS;
 use lookahead::Lookahead;
-use sets::Finding;
-use sets::family::SETS;
+use families::Finding;
+use families::SETS;
 
 pub mod columns;
 pub mod conflicts;

@@ -43,10 +43,10 @@ use Rattle.semantics.specs.Valuations.{Valuation, Solves, solution}
 use Rattle.semantics.specs.LeftRecursion.{NoLeftRecursion, lowestLeftRecursive}
 use Rattle.semantics.specs.Productive.{lowestUnproductive}
 use Rattle.semantics.proofs.Theorems.{theorems}
-use Rattle.sets.specs.Analysis.{leftFault, unproductiveFault, setsFaults, setsFault, setsIf, familiesOf}
-use Rattle.sets.specs.Lists.{listed}
-use Rattle.sets.specs.Sets.{reachNumber}
-use Rattle.sets.specs.declared.Families.{Families}
+use Rattle.families.specs.Analysis.{leftFault, unproductiveFault, setsFaults, setsFault, setsIf, familiesOf}
+use Rattle.families.specs.Lists.{listed}
+use Rattle.families.specs.Sets.{reachNumber}
+use Rattle.families.specs.declared.Families.{Families}
 use Rattle.promises.specs.Memory.{lentBack}
 use Rattle.promises.specs.Properties.{PassedGrammar, Judges}
 use Rattle.promises.proofs.Checking.{none-left}

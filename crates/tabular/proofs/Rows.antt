@@ -10,7 +10,7 @@ use Rattle.lookahead.specs.Elements.{total}
 use Rattle.semantics.specs.Valuations.{contains, derives, byRules, rounds, solution}
 use Rattle.semantics.specs.Productive.{unproductive, lowestUnproductive}
 use Rattle.semantics.proofs.Computing.{left-recursion-computes, tables-compute}
-use Rattle.sets.specs.Lists.{listed}
+use Rattle.families.specs.Lists.{listed}
 use Rattle.tabular.specs.Spans.{solutionWord, rows, spanWords}
 use Rattle.tabular.specs.Answers.{tabularFault, tabularVerdict, tabularWords}
 use Rattle.tabular.specs.Rows.{worked, judged, lent}

@@ -32,10 +32,10 @@ use Rattle.lookahead.proofs.Size.{ones-count, count-cong}
 use Rattle.lookahead.proofs.Weights.{total-bound, has-total}
 use Rattle.semantics.specs.LeftRecursion.{leftReaches, rank}
 use Rattle.semantics.specs.Valuations.{derives, byRules}
-use Rattle.sets.specs.Rules.{RuleWords, ruleFrom}
-use Rattle.sets.specs.Sets.{reachNumber}
-use Rattle.sets.proofs.Lists.{listed-at}
-use Rattle.sets.proofs.RuleRanges.{till-next, till-end, rule-in, rule-is}
+use Rattle.families.specs.Rules.{RuleWords, ruleFrom}
+use Rattle.families.specs.Sets.{reachNumber}
+use Rattle.families.proofs.Lists.{listed-at}
+use Rattle.families.proofs.RuleRanges.{till-next, till-end, rule-in, rule-is}
 use Rattle.tabular.specs.Chart.{charted}
 use Rattle.tabular.specs.Scanning.{Over, holds, Keeps}
 use Rattle.tabular.specs.Filling.{RulesGiven, RanksGiven, Ranked, Derived}

@@ -22,8 +22,8 @@ use Rattle.grammar.proofs.EachIndex.{read-place}
 use Rattle.grammar.proofs.WellRead.{well-read}
 use Rattle.lookahead.specs.Elements.{has}
 use Rattle.semantics.specs.Valuations.{Valuation, contains}
-use Rattle.sets.specs.Rules.{RuleWords}
-use Rattle.sets.proofs.Words.{parse-before}
+use Rattle.families.specs.Rules.{RuleWords}
+use Rattle.families.proofs.Words.{parse-before}
 use Rattle.tabular.specs.declared.bodies.Scan.{Scan}
 use Rattle.tabular.specs.Chart.{charted, Before, Span}
 use Rattle.tabular.specs.Scanning.{Over, Reads, holds, Scanned, noneOpen, SymbolKnown, Known, SymbolOnto, Onto, Keeps}

@@ -25,7 +25,7 @@ use Rattle.encoding.proofs.Faithful.{reading-diagnosed}
 use Rattle.lookahead.specs.declared.Lookahead.the-variants.{One}
 use Rattle.semantics.specs.LeftRecursion.{lowestLeftRecursive}
 use Rattle.semantics.specs.Productive.{lowestUnproductive}
-use Rattle.sets.specs.Analysis.{readingFault, leftFault, unproductiveFault, setsFaults, setsFault}
+use Rattle.families.specs.Analysis.{readingFault, leftFault, unproductiveFault, setsFaults, setsFault}
 use Rattle.tabular.specs.Answers.{tabularFault}
 
 -- the first fault, by what holds

@@ -22,7 +22,7 @@ use Rattle.semantics.specs.LeftRecursion.{rank, level}
 use Rattle.semantics.specs.Theorems.{AgreeBelow}
 use Rattle.semantics.proofs.Rank.{rank-below}
 use Rattle.semantics.proofs.Unique.{rules-lower, solution-solves, solution-null}
-use Rattle.sets.proofs.Lists.{getD-zeros}
+use Rattle.families.proofs.Lists.{getD-zeros}
 use Rattle.tabular.specs.Places.{Standing}
 use Rattle.tabular.specs.Chart.{charted, Long, Span, Added}
 use Rattle.tabular.specs.Scanning.{Over}

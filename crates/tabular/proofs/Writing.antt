@@ -10,8 +10,8 @@ use lib.Seq.{take-all, getD-append-add}
 use Rattle.booleans.specs.Quantifiers.{one}
 use Rattle.grammar.specs.Limits.{maxTabularTokens, maxTabularPlaces, maxSpanWords}
 use Rattle.lookahead.specs.Elements.{weight, total}
-use Rattle.sets.specs.Lists.{listed}
-use Rattle.sets.proofs.Lists.{listed-long, listed-at}
+use Rattle.families.specs.Lists.{listed}
+use Rattle.families.proofs.Lists.{listed-long, listed-at}
 use Rattle.recognizer.proofs.Front.{front, front-more}
 use Rattle.tabular.specs.Spans.{spansBefore, spanCount, indexOf, rows, spanWords, Spans}
 

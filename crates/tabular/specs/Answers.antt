@@ -18,7 +18,7 @@ use Rattle.grammar.specs.Syntax.{Grammar}
 use Rattle.grammar.specs.Encoding.{grammarOf}
 use Rattle.lookahead.specs.declared.Lookahead.the-variants.{One}
 use Rattle.semantics.specs.Valuations.{solution}
-use Rattle.sets.specs.Analysis.{setsFaults}
+use Rattle.families.specs.Analysis.{setsFaults}
 use Rattle.event.specs.Unknown.{unknownFrom, unknownFault}
 use Rattle.tabular.specs.Spans.{spanWords, solutionWord}
 

@@ -15,9 +15,9 @@ use Rattle.grammar.specs.Starts.{ruleStarts}
 use Rattle.lookahead.specs.Elements.{has}
 use Rattle.semantics.specs.Valuations.{byRules, solution}
 use Rattle.semantics.specs.LeftRecursion.{NoLeftRecursion, rank}
-use Rattle.sets.specs.Lists.{listed}
-use Rattle.sets.specs.Rules.{ruleFrom}
-use Rattle.sets.specs.Sets.{reachNumber}
+use Rattle.families.specs.Lists.{listed}
+use Rattle.families.specs.Rules.{ruleFrom}
+use Rattle.families.specs.Sets.{reachNumber}
 use Rattle.tabular.specs.Places.{Standing, InputGiven}
 use Rattle.tabular.specs.Chart.{charted, Long, Span}
 use Rattle.tabular.specs.Scanning.{Over}

@@ -12,9 +12,9 @@ use Rattle.grammar.specs.declared.reading.Sizes.{Sizes}
 use Rattle.grammar.specs.declared.reading.Outcome.the-variants.{Read}
 use Rattle.lookahead.specs.declared.Lookahead.the-variants.{One}
 use Rattle.semantics.specs.Valuations.{solution}
-use Rattle.sets.specs.Analysis.{setsFault}
-use Rattle.sets.specs.Lists.{listed}
-use Rattle.sets.specs.Sets.{reachNumber}
+use Rattle.families.specs.Analysis.{setsFault}
+use Rattle.families.specs.Lists.{listed}
+use Rattle.families.specs.Sets.{reachNumber}
 use Rattle.tabular.specs.Filling.{FillGiven}
 use Rattle.tabular.specs.Spans.{Spans, solutionWord}
 

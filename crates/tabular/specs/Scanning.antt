@@ -15,7 +15,7 @@ use Rattle.grammar.specs.Syntax.{Body}
 use Rattle.grammar.specs.Encoding.{Parsed, onWord, parse}
 use Rattle.lookahead.specs.Elements.{weight, has}
 use Rattle.semantics.specs.Valuations.{Valuation, contains}
-use Rattle.sets.specs.Rules.{RuleWords}
+use Rattle.families.specs.Rules.{RuleWords}
 use Rattle.tabular.specs.declared.bodies.Scan.{Scan}
 use Rattle.tabular.specs.Places.{Standing}
 use Rattle.tabular.specs.Chart.{charted, Forward, Span}

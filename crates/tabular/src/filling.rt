@@ -14,7 +14,7 @@ use event::terminal_of;
 use grammar::limits::RULES;
 use grammar::reading::Sizes;
 use grammar::reading::rule_starts;
-use sets::family::SETS;
+use families::SETS;
 use sets::rules::head_of;
 use word::decode;
 

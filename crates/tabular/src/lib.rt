@@ -16,9 +16,9 @@ use grammar::limits::TABULAR_TOKENS;
 use grammar::reading::Sizes;
 use lookahead::Lookahead;
 use places::contains;
-use sets::Finding;
+use families::Finding;
 use sets::analyze;
-use sets::family::SETS;
+use families::SETS;
 use spans::write;
 
 mod bodies;

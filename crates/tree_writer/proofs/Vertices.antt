@@ -39,7 +39,7 @@ use Rattle.semantics.specs.ComesTo.{Call, callAt, InRange, measure, bodyComesTo
 use Rattle.semantics.specs.Calls.{Distinct, sameCall, allCalls}
 use Rattle.semantics.specs.LeftRecursion as semantics
 use Rattle.semantics.proofs.Theorems.{theorems}
-use Rattle.sets.proofs.Words.{parse-over}
+use Rattle.families.proofs.Words.{parse-over}
 use Rattle.recognizer.proofs.Bodies.{parse-here, symbol-reads}
 use Rattle.recognizer.proofs.Starting.{begin-next}
 use Rattle.tree.specs.Writing.{numberOf, vertexAt, below, each, visit, InTree, more}

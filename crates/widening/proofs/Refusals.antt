@@ -24,8 +24,8 @@ use Rattle.semantics.specs.Productive.{lowestUnproductive}
 use Rattle.event.specs.declared.Unknown.{Unknown}
 use Rattle.event.specs.declared.Unknown.the-variants.{Absent, At}
 use Rattle.event.specs.Unknown.{unknownFrom, unknownFault}
-use Rattle.sets.specs.Analysis.{readingFault, leftFault, unproductiveFault}
-use Rattle.sets.proofs.FewTerminals.{few-terminals}
+use Rattle.families.specs.Analysis.{readingFault, leftFault, unproductiveFault}
+use Rattle.families.proofs.FewTerminals.{few-terminals}
 use Rattle.table.specs.Analysis.{clashFault, grammarFaults}
 use Rattle.table.specs.Conflicts.{firstClash}
 use Rattle.table.specs.Layout.{tableRoom}

@@ -1,6 +1,6 @@
 -- By whether the array has a set there.
 use borrow.Author.Tests.{lt-ltb, le-ltb}
-use Rattle.sets.specs.Least.{lookup}
+use Rattle.families.specs.Least.{lookup}
 use borrow.Author.Needs.{needs}
 use Rattle.sets.proofs.family.set_of.Statement.{statement}
 use Rattle.sets.proofs.family.set_of.Tie as tie

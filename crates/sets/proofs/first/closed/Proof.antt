@@ -1,6 +1,6 @@
 -- Only a positive goes into the meet.
 use mathlib.Core.Path.{_∙_}
-use Rattle.sets.proofs.FirstPasses.{not-positive}
+use Rattle.families.proofs.FirstPasses.{not-positive}
 use borrow.Author.Needs.{needs}
 use Rattle.sets.proofs.first.closed.Statement.{statement}
 use Rattle.sets.proofs.first.closed.Tie as tie

@@ -1,6 +1,6 @@
 -- By whether the word is a symbol.
-use Rattle.sets.specs.Least.{lookup}
-use Rattle.sets.proofs.FirstPasses.{first-closed}
+use Rattle.families.specs.Least.{lookup}
+use Rattle.families.proofs.FirstPasses.{first-closed}
 use borrow.Author.Needs.{needs}
 use Rattle.sets.proofs.first.inside.Statement.{statement}
 use Rattle.sets.proofs.first.inside.Tie as tie

@@ -1,5 +1,5 @@
 -- A terminal by itself, a nonterminal by its set.
-use Rattle.sets.specs.First.{symbolFirst}
+use Rattle.families.specs.First.{symbolFirst}
 use borrow.Author.Needs.{needs}
 use Rattle.sets.proofs.first.symbol_first.Statement.{statement}
 use Rattle.sets.proofs.first.symbol_first.Tie as tie

@@ -1,5 +1,5 @@
 -- By whether the word is a symbol.
-use Rattle.sets.proofs.FollowPasses.{tail-closed}
+use Rattle.families.proofs.FollowPasses.{tail-closed}
 use borrow.Author.Needs.{needs}
 use Rattle.sets.proofs.follow.tail_before.Statement.{statement}
 use Rattle.sets.proofs.follow.tail_before.Tie as tie
