@@ -6,9 +6,9 @@ ghost use Rattle.grammar.specs.Encoding.{parse};
 ghost use Rattle.lookahead.specs.Operations.{terminal};
 ghost use Rattle.families.specs.Naming.{ruleHead, Indexed};
 ghost use Rattle.claims.specs.Overruns.{beyondEnd, aloneFrom, WordOverruns, WordsIndexed, Overrunning};
+use families::SETS;
 use lookahead::Lookahead;
 use lookahead::LookaheadSet;
-use families::SETS;
 use word::Word;
 use word::decode;
 

@@ -31,7 +31,7 @@ use Rattle.inputs.specs.Costliest.{costliest}
 use Rattle.inputs.proofs.Numbers.{at-long, at-over}
 use Rattle.inputs.proofs.Counting.{count-exact}
 use Rattle.inputs.proofs.Searching.{Searched, searched-none, searched-more, searched-less, searched-all}
-use Rattle.recognizer.specs.declared.search.Candidate.{Candidate}
+use Rattle.inputs.specs.declared.Candidate.{Candidate}
 use Rattle.promises.specs.Memory.{memoWords}
 use Rattle.promises.specs.Answers.{callsOf, verdictBy, verdictOf}
 use Rattle.promises.specs.Judging.{PassedGiven, JudgedPassed}

@@ -28,9 +28,10 @@ use Rattle.lookahead.specs.Lookaheads.{tokens}
 use Rattle.families.proofs.FewTerminals.{admitted-read, few-terminals}
 use Rattle.recognizer.specs.Arrays.{choiceColumns, firstAt}
 use Rattle.recognizer.specs.Descent.{firstConjunct}
-use Rattle.recognizer.specs.Preparing.{columnAt, TokensHold, entryOf, firstWord, FirstGiven, ChoicesGiven, Filled}
+use Rattle.columns.specs.Columns.{columnAt}
+use Rattle.recognizer.specs.Preparing.{TokensHold, entryOf, firstWord, FirstGiven, ChoicesGiven, Filled}
 use Rattle.promises.specs.Judging.{Ready}
-use Rattle.recognizer.proofs.Columns.{column-right}
+use Rattle.columns.proofs.Columns.{column-right}
 
 module _ {k : Lookahead} {words : List ℕ} {z : Sizes} {entries input : List ℕ} (g : Ready k words z entries input) where
   abbrev G : Grammar

@@ -7,7 +7,7 @@ use Rattle.answer.specs.declared.Answer.{Answer}
 use Rattle.grammar.specs.Encoding.{grammarOf}
 use Rattle.lookahead.specs.declared.Lookahead.the-variants.{One}
 use Rattle.inputs.specs.Inputs.{inputAt}
-use Rattle.recognizer.specs.declared.search.Candidate.{Candidate}
+use Rattle.inputs.specs.declared.Candidate.{Candidate}
 use Rattle.promises.specs.Judging.{JudgedPassed}
 use Rattle.promises.specs.Costliest.{callsOn, costliestInput}
 

@@ -3,13 +3,13 @@ ghost use Rattle.event.specs.Events.{inputOf};
 ghost use Rattle.promises.specs.Properties.{Checks, Judges};
 use answer::Answer;
 use answer::Error;
+use families::Finding;
+use findings::with_input;
 use grammar::limits::MEMO_ENTRIES;
 use grammar::limits::TABLE_WORDS;
 use judging::judge_passed;
-use judging::with_input;
 use lending::lend;
 use lookahead::Lookahead;
-use families::Finding;
 use table::analyze;
 
 pub mod arrays;

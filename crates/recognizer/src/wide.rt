@@ -3,14 +3,14 @@ ghost use Rattle.event.specs.Events.{inputOf};
 ghost use Rattle.lookahead.specs.declared.Lookahead.the-variants.{Two};
 ghost use Rattle.promises.specs.Properties.{ChecksBy, JudgesBy};
 use super::judging::judge_passed;
-use super::judging::with_input;
 use super::lending::lend_wide;
 use answer::Answer;
 use answer::Error;
+use families::Finding;
+use findings::with_input;
 use grammar::limits::MEMO_ENTRIES;
 use grammar::limits::WIDE_TABLE_WORDS;
 use lookahead::Lookahead;
-use families::Finding;
 use table::analyze_wide;
 
 // Checks an encoded grammar, and fills the lent table with its sets and its entries.

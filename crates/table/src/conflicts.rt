@@ -9,11 +9,11 @@ ghost use Rattle.claims.specs.Claims.{Headed};
 ghost use Rattle.table.specs.Conflicts.{rowConflict, conflictFrom, inSet, inSets, conflictOf, Noted, Twice};
 use super::columns::count;
 use super::columns::element;
+use families::SETS;
 use grammar::limits::RULES;
 use grammar::reading::Sizes;
 use lookahead::Lookahead;
 use lookahead::LookaheadSet;
-use families::SETS;
 
 // By nonterminal, then by column.
 pub enum Conflict {

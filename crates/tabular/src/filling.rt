@@ -11,10 +11,10 @@ use super::chart::add;
 use super::chart::found_by;
 use super::places::put;
 use event::terminal_of;
+use families::SETS;
 use grammar::limits::RULES;
 use grammar::reading::Sizes;
 use grammar::reading::rule_starts;
-use families::SETS;
 use sets::rules::head_of;
 use word::decode;
 

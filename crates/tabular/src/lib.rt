@@ -10,15 +10,15 @@ use answer::Calls;
 use answer::Error;
 use event::Unknown;
 use event::first_unknown;
+use families::Finding;
+use families::SETS;
 use filling::fill;
 use grammar::limits::SPAN_WORDS;
 use grammar::limits::TABULAR_TOKENS;
 use grammar::reading::Sizes;
 use lookahead::Lookahead;
 use places::contains;
-use families::Finding;
 use sets::analyze;
-use families::SETS;
 use spans::write;
 
 mod bodies;

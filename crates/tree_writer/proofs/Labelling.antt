@@ -12,8 +12,8 @@ use Rattle.grammar.specs.declared.reading.Sizes.{Sizes}
 use Rattle.event.specs.Events.{terminalOf, inputOf}
 use Rattle.event.proofs.Inputs.{input-length, input-at}
 use Rattle.lookahead.specs.declared.Lookahead.the-variants.{One}
-use Rattle.recognizer.specs.Preparing.{columnAt}
-use Rattle.recognizer.proofs.Columns.{one-token, one-end, column-right}
+use Rattle.columns.specs.Columns.{columnAt}
+use Rattle.columns.proofs.Columns.{one-token, one-end, column-right}
 use Rattle.tree.specs.ParseTrees.{vertex}
 use Rattle.tree.specs.Writing.{vertexWord}
 use Rattle.tree_writer.specs.Labels.{ruleOf, labelWord, LabelsGiven, IndexGiven, Labels, LabelledBelow, Labelled}

@@ -30,8 +30,8 @@ use Rattle.semantics.proofs.Rank.{level-top}
 use Rattle.semantics.proofs.Theorems.{theorems}
 use Rattle.lookahead.specs.declared.Lookahead.the-variants.{One}
 use Rattle.table.specs.Layout.{entryWord, entryAt}
-use Rattle.recognizer.specs.Preparing.{columnAt}
-use Rattle.recognizer.proofs.Columns.{column-right}
+use Rattle.columns.specs.Columns.{columnAt}
+use Rattle.columns.proofs.Columns.{column-right}
 use Rattle.tree.specs.Writing.{vertexAt, vertexWord, treeCalls, treeOf, treeWords, InTree, start}
 use Rattle.tree.proofs.Reading.{chosen}
 use Rattle.tree.proofs.Trees.{tree-sound}

@@ -8,7 +8,7 @@ use Rattle.grammar.specs.declared.reading.Sizes.{Sizes}
 use Rattle.semantics.specs.ComesTo.{Call}
 use Rattle.semantics.specs.Strings.{Over}
 use Rattle.lookahead.specs.declared.Lookahead.the-variants.{One}
-use Rattle.recognizer.specs.Preparing.{columnAt}
+use Rattle.columns.specs.Columns.{columnAt}
 use Rattle.tree.specs.ParseTrees.{vertex}
 use Rattle.tree.specs.Writing.{vertexWord}
 

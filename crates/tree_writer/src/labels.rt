@@ -4,7 +4,7 @@ ghost use Rattle.event.specs.Events.{inputOf};
 ghost use Rattle.tree.specs.ParseTrees.{vertex};
 ghost use Rattle.tree.specs.Writing.{vertexWord};
 ghost use Rattle.lookahead.specs.declared.Lookahead.the-variants.{One};
-ghost use Rattle.recognizer.specs.Preparing.{columnAt};
+ghost use Rattle.columns.specs.Columns.{columnAt};
 ghost use Rattle.tree_writer.specs.Labels.{ruleOf, endOf, FieldsGiven, LabelsGiven, Labels, Labelled};
 ghost use Rattle.tree_writer.specs.Labels.{IndexGiven};
 use event::terminal_of;

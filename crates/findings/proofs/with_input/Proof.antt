@@ -1,8 +1,8 @@
 -- A grammar that is refused stays so; of one that passed, the input's length and then its tokens are looked at.
 use Rattle.promises.proofs.JudgeFaults.{with-long, with-unknown, with-known}
 use borrow.Author.Needs.{needs}
-use Rattle.recognizer.proofs.judging.with_input.Statement.{statement}
-use Rattle.recognizer.proofs.judging.with_input.Tie as tie
+use Rattle.findings.proofs.with_input.Statement.{statement}
+use Rattle.findings.proofs.with_input.Tie as tie
 
 enum-told : tie.Need-enum-told
 enum-told c = search needs

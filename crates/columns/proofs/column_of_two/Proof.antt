@@ -5,10 +5,10 @@ use native.Mathlib.Omega.{arith}
 use lib.ListN.{getD}
 use Rattle.event.specs.Events.{inputOf}
 use Rattle.event.proofs.Inputs.{input-length, input-at}
-use Rattle.recognizer.proofs.Columns.{two-pair, two-last, two-end}
+use Rattle.columns.proofs.Columns.{two-pair, two-last, two-end}
 use borrow.Author.Needs.{needs}
-use Rattle.recognizer.proofs.preparing.column_of_two.Statement.{statement}
-use Rattle.recognizer.proofs.preparing.column_of_two.Tie as tie
+use Rattle.columns.proofs.column_of_two.Statement.{statement}
+use Rattle.columns.proofs.column_of_two.Tie as tie
 
 returns : tie.Need-returns
 returns c =

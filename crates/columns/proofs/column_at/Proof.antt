@@ -1,10 +1,10 @@
 -- Each lookahead has its columns.
 use mathlib.Core.Path.{sym, ap, _∙_}
 use Rattle.event.specs.Events.{inputOf}
-use Rattle.recognizer.specs.Preparing.{columnAt}
+use Rattle.columns.specs.Columns.{columnAt}
 use borrow.Author.Needs.{needs}
-use Rattle.recognizer.proofs.preparing.column_at.Statement.{statement}
-use Rattle.recognizer.proofs.preparing.column_at.Tie as tie
+use Rattle.columns.proofs.column_at.Statement.{statement}
+use Rattle.columns.proofs.column_at.Tie as tie
 
 enum-told : tie.Need-enum-told
 enum-told c = search needs

@@ -13,7 +13,7 @@ use Rattle.semantics.specs.Strings.{look, Over, Lookahead as Looked}
 use Rattle.semantics.proofs.Strings.{all-take, all-drop, take-short}
 use Rattle.table.specs.Columns.{columnCount, columnString, columnOf}
 use Rattle.table.proofs.ColumnStrings.{column-in, string-column}
-use Rattle.recognizer.specs.Preparing.{columnAt}
+use Rattle.columns.specs.Columns.{columnAt}
 
 module _ (n : ℕ) (w : List ℕ) (i : ℕ) where
   -- behind the last token nothing is left

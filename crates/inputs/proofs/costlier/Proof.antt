@@ -1,7 +1,7 @@
 -- By the comparison.
 use borrow.Author.Tests.{lt-ltb, le-ltb}
-use Rattle.recognizer.proofs.search.costlier.Statement.{statement}
-use Rattle.recognizer.proofs.search.costlier.Tie as tie
+use Rattle.inputs.proofs.costlier.Statement.{statement}
+use Rattle.inputs.proofs.costlier.Tie as tie
 
 returns : tie.Need-returns
 returns c = rw (lt-ltb _ _ (c .if1 .taken))

@@ -3,10 +3,10 @@ use mathlib.Core.Path.{sym, _∙_}
 use native.Mathlib.Omega.{arith}
 use Rattle.event.specs.Events.{inputOf}
 use Rattle.event.proofs.Inputs.{input-length, input-at}
-use Rattle.recognizer.proofs.Columns.{one-token, one-end}
+use Rattle.columns.proofs.Columns.{one-token, one-end}
 use borrow.Author.Needs.{needs}
-use Rattle.recognizer.proofs.preparing.column_of_one.Statement.{statement}
-use Rattle.recognizer.proofs.preparing.column_of_one.Tie as tie
+use Rattle.columns.proofs.column_of_one.Statement.{statement}
+use Rattle.columns.proofs.column_of_one.Tie as tie
 
 returns : tie.Need-returns
 returns c =
