@@ -10,8 +10,8 @@ use grammar::reading::Sizes;
 use lookahead::Lookahead;
 use lookahead::LookaheadSet;
 use overruns::overrunning;
-use sets::first::no_rest;
-use sets::first::onto;
+use rests::no_rest;
+use rests::onto;
 use word::Word;
 use word::decode;
 

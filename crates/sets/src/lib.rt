@@ -20,7 +20,7 @@ use left::reached;
 use lookahead::Lookahead;
 
 mod family;
-pub mod first;
+mod first;
 mod flaws;
 mod follow;
 mod left;

@@ -1,7 +1,7 @@
 -- The end alone, and the full set.
 use borrow.Author.Needs.{needs}
-use Rattle.sets.proofs.first.no_rest.Statement.{statement}
-use Rattle.sets.proofs.first.no_rest.Tie as tie
+use Rattle.rests.proofs.no_rest.Statement.{statement}
+use Rattle.rests.proofs.no_rest.Tie as tie
 
 end-requires : tie.Need-end-requires
 end-requires c κs = search needs

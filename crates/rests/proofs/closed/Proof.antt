@@ -2,8 +2,8 @@
 use mathlib.Core.Path.{_∙_}
 use Rattle.families.proofs.FirstPasses.{not-positive}
 use borrow.Author.Needs.{needs}
-use Rattle.sets.proofs.first.closed.Statement.{statement}
-use Rattle.sets.proofs.first.closed.Tie as tie
+use Rattle.rests.proofs.closed.Statement.{statement}
+use Rattle.rests.proofs.closed.Tie as tie
 
 enum-told : tie.Need-enum-told
 enum-told c = search needs

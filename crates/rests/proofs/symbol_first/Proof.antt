@@ -1,8 +1,8 @@
 -- A terminal by itself, a nonterminal by its set.
 use Rattle.families.specs.First.{symbolFirst}
 use borrow.Author.Needs.{needs}
-use Rattle.sets.proofs.first.symbol_first.Statement.{statement}
-use Rattle.sets.proofs.first.symbol_first.Tie as tie
+use Rattle.rests.proofs.symbol_first.Statement.{statement}
+use Rattle.rests.proofs.symbol_first.Tie as tie
 
 enum-known-symbol : tie.Need-enum-known-symbol
 enum-known-symbol c = search needs

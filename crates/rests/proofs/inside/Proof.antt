@@ -2,8 +2,8 @@
 use Rattle.families.specs.Least.{lookup}
 use Rattle.families.proofs.FirstPasses.{first-closed}
 use borrow.Author.Needs.{needs}
-use Rattle.sets.proofs.first.inside.Statement.{statement}
-use Rattle.sets.proofs.first.inside.Tie as tie
+use Rattle.rests.proofs.inside.Statement.{statement}
+use Rattle.rests.proofs.inside.Tie as tie
 
 enum-known-word : tie.Need-enum-known-word
 enum-known-word c = search needs

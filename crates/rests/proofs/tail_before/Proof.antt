@@ -1,8 +1,8 @@
 -- By whether the word is a symbol.
 use Rattle.families.proofs.FollowPasses.{tail-closed}
 use borrow.Author.Needs.{needs}
-use Rattle.sets.proofs.follow.tail_before.Statement.{statement}
-use Rattle.sets.proofs.follow.tail_before.Tie as tie
+use Rattle.rests.proofs.tail_before.Statement.{statement}
+use Rattle.rests.proofs.tail_before.Tie as tie
 
 enum-known-word : tie.Need-enum-known-word
 enum-known-word c = search needs

@@ -1,7 +1,7 @@
 -- By the kind of word.
 use borrow.Author.Needs.{needs}
-use Rattle.sets.proofs.first.onto.Statement.{statement}
-use Rattle.sets.proofs.first.onto.Tie as tie
+use Rattle.rests.proofs.onto.Statement.{statement}
+use Rattle.rests.proofs.onto.Tie as tie
 
 enum-known-word : tie.Need-enum-known-word
 enum-known-word c = search needs

@@ -2,8 +2,8 @@
 use borrow.Author.Tests.{lt-ltb, le-ltb}
 use Rattle.families.specs.Least.{lookup}
 use borrow.Author.Needs.{needs}
-use Rattle.sets.proofs.family.set_of.Statement.{statement}
-use Rattle.sets.proofs.family.set_of.Tie as tie
+use Rattle.rests.proofs.set_of.Statement.{statement}
+use Rattle.rests.proofs.set_of.Tie as tie
 
 mul-result : tie.Need-mul-result
 mul-result c = search needs
