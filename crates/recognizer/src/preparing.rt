@@ -14,8 +14,8 @@ use grammar::codes::NO_RULE;
 use grammar::limits::ENTRIES;
 use grammar::limits::PLACES;
 use grammar::limits::RULES;
-use grammar::reading::rule_starts;
 use lookahead::Lookahead;
+use reader::rule_starts;
 
 // The terminal of each event, and the column of the lookahead string there; behind the events, the end.
 pub(crate) fn tokens_of(events: &[u8], lookahead: Lookahead, terminals: u32) -> [u16; PLACES]

@@ -15,9 +15,9 @@ use flaws::lowest_with;
 use follow::follow_sets;
 use grammar::reading::Outcome;
 use grammar::reading::Sizes;
-use grammar::reading::rule_starts;
 use left::reached;
 use lookahead::Lookahead;
+use reader::rule_starts;
 
 mod family;
 mod first;

@@ -14,7 +14,7 @@ use event::terminal_of;
 use families::SETS;
 use grammar::limits::RULES;
 use grammar::reading::Sizes;
-use grammar::reading::rule_starts;
+use reader::rule_starts;
 use sets::rules::head_of;
 use word::decode;
 
