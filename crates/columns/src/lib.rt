@@ -1,11 +1,34 @@
-// The column of the table for the lookahead string at a place of an input.
+// The columns of a row of the table: with one token of lookahead the terminals in order, then the end; with two the elements of sets. And the
+// column for the lookahead string at a place of an input.
 ghost use mathlib.Core.Path.{_≡_};
 ghost use Rattle.event.specs.Events.{inputOf};
 ghost use Rattle.lookahead.specs.declared.Lookahead.the-variants.{One, Two};
-ghost use Rattle.columns.specs.Columns.{columnAt};
+ghost use Rattle.columns.specs.Columns.{columnCount, columnElement, columnAt};
 use event::terminal_of;
+use grammar::limits::WIDE_COLUMNS;
 use grammar::limits::WIDE_TERMINALS;
 use lookahead::Lookahead;
+use lookahead::NOTHING;
+
+// How many columns a row has.
+pub fn count(lookahead: Lookahead, terminals: u32) -> usize
+    ensures { λ r. ⌜ r ≡ columnCount lookahead terminals ⌝ }
+{
+    match lookahead {
+        Lookahead::One => terminals as usize + 1,
+        Lookahead::Two => WIDE_COLUMNS,
+    }
+}
+
+// The element of a column.
+pub fn element(lookahead: Lookahead, terminals: u32, column: u32) -> u32
+    ensures { λ r. ⌜ r ≡ columnElement lookahead terminals column ⌝ }
+{
+    match lookahead {
+        Lookahead::One => { if column == terminals { NOTHING } else { column } }
+        Lookahead::Two => column,
+    }
+}
 
 // With two tokens of lookahead, the column of terminal 0 where it is the last token, and of terminal 0 twice.
 const LAST: u32 = 1;

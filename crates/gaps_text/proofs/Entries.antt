@@ -19,8 +19,8 @@ use Rattle.semantics.specs.Claims.{overruns}
 use Rattle.semantics.specs.FiniteSets.{keep, numbersFrom, numbers, combine}
 use Rattle.semantics.specs.FirstFollow.{Entry, strings, entries}
 use Rattle.semantics.proofs.Distinct.{distinct-keep, distinct-numbers, distinct-combine, distinct-strings}
-use Rattle.table.specs.Columns.{columnString}
-use Rattle.table.proofs.ColumnStrings.{column-back, columns-strings}
+use Rattle.columns.specs.Columns.{columnString}
+use Rattle.columns.proofs.ColumnStrings.{column-back, columns-strings}
 use Rattle.text.specs.Ascii.{ascii}
 use Rattle.text.specs.Decimal.{labelled}
 use Rattle.text.specs.Writing.{upTo}

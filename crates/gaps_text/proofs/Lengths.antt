@@ -25,7 +25,7 @@ use Rattle.families.specs.declared.Finding.{Finding}
 use Rattle.families.specs.declared.Finding.the-variants.{Passed, Refused}
 use Rattle.families.specs.Analysis.{setsFault, findingOf}
 use Rattle.families.proofs.Findings.{told-passed}
-use Rattle.table.specs.Columns.{columnString}
+use Rattle.columns.specs.Columns.{columnString}
 use Rattle.text.specs.Ascii.{ascii}
 use Rattle.text.specs.Decimal.{decimal, labelled}
 use Rattle.text.specs.Writing.{upTo}

@@ -13,7 +13,7 @@ use Rattle.lookahead.specs.Elements.{has}
 use Rattle.lookahead.specs.declared.Lookahead.the-variants.{One}
 use Rattle.lookahead.specs.Operations.{isEmpty}
 use Rattle.claims.specs.Claims.{claimant}
-use Rattle.table.specs.Columns.{columnElement}
+use Rattle.columns.specs.Columns.{columnElement}
 use Rattle.claims.proofs.Claimants.{claimant-own}
 use Rattle.text.specs.Ascii.{ascii}
 use Rattle.text.specs.Decimal.{decimal, labelled}

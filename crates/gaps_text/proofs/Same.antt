@@ -26,10 +26,10 @@ use Rattle.families.proofs.Findings.{told-passed, told-refused}
 use Rattle.families.proofs.Lists.{listed-at}
 use Rattle.claims.specs.declared.Claims.{Claims}
 use Rattle.claims.specs.Claims.{headsOf, claimNumbers, byRule, byRuleIf, overrunsOf, overrunsIf, claimsOf}
-use Rattle.table.specs.Columns.{columnElement}
+use Rattle.columns.specs.Columns.{columnElement}
 use Rattle.claims.specs.Overruns.{overrunSet}
 use Rattle.claims.proofs.Claimants.{claims-alike, told as rules-told}
-use Rattle.table.proofs.ColumnStrings.{column-string, element-small}
+use Rattle.columns.proofs.ColumnStrings.{column-string, element-small}
 use Rattle.text.specs.Refusal.{refusalText}
 use Rattle.text.specs.Writing.{Put}
 use Rattle.gaps_text.specs.Gaps.{claimsBy, gapsText, GapsPut}

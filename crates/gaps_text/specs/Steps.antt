@@ -11,7 +11,7 @@ use Rattle.grammar.specs.Syntax.{Grammar}
 use Rattle.lookahead.specs.declared.Lookahead.the-variants.{One}
 use Rattle.lookahead.specs.Operations.{isEmpty}
 use Rattle.claims.specs.Claims.{claimant}
-use Rattle.table.specs.Columns.{columnElement, columnString}
+use Rattle.columns.specs.Columns.{columnElement, columnString}
 use Rattle.text.specs.Ascii.{ascii}
 use Rattle.text.specs.Decimal.{decimal, labelled}
 use Rattle.text.specs.Writing.{upTo}

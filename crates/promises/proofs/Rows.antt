@@ -14,7 +14,7 @@ use Rattle.lookahead.specs.declared.Lookahead.the-variants.{One}
 use Rattle.semantics.proofs.Computing.{left-recursion-computes, tables-compute, descent-computes, calls-compute}
 use Rattle.semantics.specs.Productive.{unproductive, lowestUnproductive}
 use Rattle.table.specs.Analysis.{fault}
-use Rattle.table.specs.Columns.{columnString}
+use Rattle.columns.specs.Columns.{columnString}
 use Rattle.table.specs.Conflicts.{rowConflict, conflictFrom, firstClash}
 use Rattle.event.specs.Unknown.{unknownFrom}
 use Rattle.promises.specs.Answers.{inputFaults, verdictOf, verdictBy}

@@ -37,7 +37,7 @@ use Rattle.rule.specs.Rule.{meant}
 use Rattle.lookahead.specs.declared.Lookahead.{Lookahead}
 use Rattle.lookahead.specs.Lookaheads.{tokens}
 use Rattle.families.proofs.FewTerminals.{admitted-read, few-terminals}
-use Rattle.table.specs.Columns.{columnCount}
+use Rattle.columns.specs.Columns.{columnCount}
 use Rattle.recognizer.specs.Arrays.{held, rowAt}
 use Rattle.recognizer.specs.Descent.{MemoSound, CallGiven, CallDone, CallRequires, CallEnsures}
 use Rattle.memo_table.specs.Tally.{tallyOf, recordedCalls}

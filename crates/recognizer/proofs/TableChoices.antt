@@ -19,9 +19,9 @@ use Rattle.semantics.specs.Claims.{tableOf}
 use Rattle.semantics.specs.Choices.{tableChoice}
 use Rattle.semantics.proofs.Outcomes.{nth-below}
 use Rattle.semantics.proofs.Predictive.{table-own}
-use Rattle.table.specs.Columns.{columnCount, columnString}
+use Rattle.columns.specs.Columns.{columnCount, columnString}
 use Rattle.table.specs.Entries.{ruleByte, byteAt}
-use Rattle.table.proofs.ColumnStrings.{column-count}
+use Rattle.columns.proofs.ColumnStrings.{column-count}
 use Rattle.table.proofs.EntriesFilled.{entries-at}
 use Rattle.lookahead.specs.declared.Lookahead.{Lookahead}
 use Rattle.lookahead.specs.Lookaheads.{tokens}

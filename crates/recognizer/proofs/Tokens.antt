@@ -12,7 +12,7 @@ use Rattle.grammar.specs.Limits.{maxPlaces}
 use Rattle.lookahead.specs.declared.Lookahead.{Lookahead}
 use Rattle.lookahead.specs.declared.Lookahead.the-variants.{One, Two}
 use Rattle.lookahead.specs.Lookaheads.{alphabet}
-use Rattle.table.proofs.ColumnStrings.{column-count}
+use Rattle.columns.proofs.ColumnStrings.{column-count}
 use Rattle.recognizer.specs.Arrays.{endColumn, endMark, columnWeight, held}
 use Rattle.columns.specs.Columns.{columnAt}
 use Rattle.recognizer.specs.Preparing.{TokensGiven, TokensHold}

@@ -5,13 +5,13 @@ use super::descent::call;
 use super::preparing::choices_of;
 use super::preparing::tokens_of;
 use answer::Answer;
+use columns::count;
 use grammar::limits::ENTRIES;
 use grammar::reading::Sizes;
 use lookahead::Lookahead;
 use memo_table::clear;
 use memo_table::tally;
 use rule::ends_at;
-use table::columns::count;
 
 // Runs the descent in a memo table of just the entries that it needs.
 fn descend(

@@ -16,7 +16,7 @@ use Rattle.families.specs.Lists.{listed}
 use Rattle.families.specs.Sets.{firstNumber, followNumber, Members}
 use Rattle.families.proofs.Lists.{listed-long, listed-at}
 use Rattle.families.proofs.Members.{members}
-use Rattle.table.specs.Columns.{columns}
+use Rattle.columns.specs.Columns.{columns}
 use Rattle.table.specs.Layout.{setWord, rowWord, tableWords}
 use Rattle.promises.specs.Properties.{PassedGrammar}
 use Rattle.promises.proofs.Checking.{passed-encodes, fault-passed, check-fault-long, least}

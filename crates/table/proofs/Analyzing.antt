@@ -39,7 +39,7 @@ use Rattle.table.specs.declared.Found.{Found}
 use Rattle.claims.specs.Claims.{claimsOf, Headed}
 use Rattle.claims.specs.Overruns.{overrunSet}
 use Rattle.table.specs.Conflicts.{firstClash, conflictOf}
-use Rattle.table.specs.Columns.{columnCount, columns}
+use Rattle.columns.specs.Columns.{columnCount, columns}
 use Rattle.table.specs.Layout.{tableRoom, wordsOf, WordsGiven, FitWords}
 use Rattle.table.specs.Entries.{rowsOf, FilledRows, noRules, entriesOf}
 use Rattle.table.specs.Analysis.{conflictError, clashFault, fault, entriesIf, foundWith, foundOf, analysis, analyzed}
@@ -49,7 +49,7 @@ use Rattle.claims.proofs.Findings.{Claimed}
 use Rattle.table.proofs.ConflictScan.{clash-found}
 use Rattle.table.proofs.FirstClash.{clash-absent}
 use Rattle.table.proofs.EntriesFilled.{entries-filled}
-use Rattle.table.proofs.ColumnStrings.{column-count}
+use Rattle.columns.proofs.ColumnStrings.{column-count}
 use Rattle.table.proofs.WordsLaid.{word-is, words-table, table-small}
 
 -- the faults found with the sets come first

@@ -24,7 +24,7 @@ use Rattle.families.specs.Lists.{listed}
 use Rattle.lookahead.specs.declared.Lookahead.the-variants.{One, Two}
 use Rattle.lookahead.specs.Lookaheads.{stringOf}
 use Rattle.families.specs.Sets.{numberOf, firstNumber, followNumber}
-use Rattle.table.specs.Columns.{columnString, columns}
+use Rattle.columns.specs.Columns.{columnString, columns}
 use Rattle.table.specs.Layout.{entryAt, setWord, rowWord, tableWords}
 use Rattle.table.specs.Conflicts.{rowConflict, conflictFrom, firstClash}
 use Rattle.families.specs.Analysis.{leftFault}

@@ -12,7 +12,7 @@ use Rattle.grammar.specs.Syntax.{Grammar}
 use Rattle.lookahead.specs.declared.Lookahead.{Lookahead}
 use Rattle.families.specs.Lists.{listed}
 use Rattle.families.proofs.Lists.{listed-long, listed-at}
-use Rattle.table.specs.Columns.{columns}
+use Rattle.columns.specs.Columns.{columns}
 use Rattle.table.specs.Layout.{entryAt, setWord, rowWord, tableWords, tableRoom, filled}
 use Rattle.table.proofs.Padded.{padded-in}
 

@@ -28,7 +28,7 @@ use Rattle.families.specs.Lists.{listed}
 use Rattle.families.specs.Sets.{firstNumber, followNumber}
 use Rattle.families.proofs.Lists.{listed-long, listed-at}
 use Rattle.families.proofs.Strings.{number-below}
-use Rattle.table.specs.Columns.{columnString, columns}
+use Rattle.columns.specs.Columns.{columnString, columns}
 use Rattle.table.specs.Layout.{entryWord, entryAt, setWord, rowWord, tableWords, tableRoom, filled, entryCode, wordAt, wordCount, wordsOf, FilledWords}
 use Rattle.table.specs.Entries.{ruleByte, byteAt, entriesOf}
 use Rattle.table.proofs.EntriesFilled.{entries-in}

@@ -16,7 +16,7 @@ use Rattle.lookahead.specs.Lookaheads.{tokens}
 use Rattle.semantics.specs.Claims.{tableOf}
 use Rattle.families.specs.Lists.{listed}
 use Rattle.families.specs.Sets.{firstNumber, followNumber}
-use Rattle.table.specs.Columns.{columnCount, columnString, columns}
+use Rattle.columns.specs.Columns.{columnCount, columnString, columns}
 
 abbrev pub entryWord : Option ℕ → ℕ
 entryWord none = noEntry

@@ -4,7 +4,7 @@ ghost use Prim.Native.Nat.{_+_, _*_, _≤_, _<_};
 ghost use Rattle.grammar.specs.Limits.{maxNonterminals, maxEntries};
 ghost use Rattle.table.specs.Layout.{entryCode, wordAt, wordCount, wordsOf, WordsGiven, FitWords};
 ghost use Rattle.lookahead.specs.declared.Lookahead.the-variants.{One, Two};
-use super::columns::count;
+use columns::count;
 use families::SETS;
 use grammar::codes::NO_ENTRY;
 use grammar::codes::NO_RULE;

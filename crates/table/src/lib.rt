@@ -14,7 +14,6 @@ use grammar::limits::TABLE_WORDS;
 use grammar::limits::WIDE_TABLE_WORDS;
 use lookahead::Lookahead;
 
-pub mod columns;
 pub mod conflicts;
 mod layout;
 mod rows;

@@ -45,7 +45,7 @@ use Rattle.semantics.proofs.Called.{called-range}
 use Rattle.semantics.proofs.Range.{index-range}
 use Rattle.semantics.proofs.Theorems.{theorems}
 use Rattle.lookahead.specs.declared.Lookahead.the-variants.{One}
-use Rattle.table.specs.Columns.{columns}
+use Rattle.columns.specs.Columns.{columns}
 use Rattle.table.specs.Layout.{tableWords}
 use Rattle.table.specs.Layout.{filled}
 use Rattle.table.proofs.Words.{filled-entries, table-length}

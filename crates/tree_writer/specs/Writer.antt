@@ -22,7 +22,7 @@ use Rattle.semantics.specs.Calls.{Called, Distinct, sameCall}
 use Rattle.semantics.specs.Memo.{encode, indexOf}
 use Rattle.semantics.specs.Predictive.{Predictive}
 use Rattle.lookahead.specs.declared.Lookahead.the-variants.{One}
-use Rattle.table.specs.Columns.{columns}
+use Rattle.columns.specs.Columns.{columns}
 use Rattle.table.specs.Layout.{entryAt}
 use Rattle.tree.specs.Writing.{vertexAt, below, visit, vertexWord, treeWords, InTree}
 use Rattle.tree_writer.specs.Labels.{labelIndex, endOf}

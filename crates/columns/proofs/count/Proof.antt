@@ -1,8 +1,8 @@
 -- By the lookahead.
 use native.Mathlib.Numerals.{add-one}
 use borrow.Author.Needs.{needs}
-use Rattle.table.proofs.columns.count.Statement.{statement}
-use Rattle.table.proofs.columns.count.Tie as tie
+use Rattle.columns.proofs.count.Statement.{statement}
+use Rattle.columns.proofs.count.Tie as tie
 
 enum-told : tie.Need-enum-told
 enum-told c = search needs

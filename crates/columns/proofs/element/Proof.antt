@@ -1,9 +1,9 @@
 -- By the lookahead, and then by whether the column is the last.
 use borrow.Author.Needs.{needs}
 use borrow.Author.Tests.{eq-eqb, ne-eqb}
-use Rattle.table.specs.Columns.{columnElement}
-use Rattle.table.proofs.columns.element.Statement.{statement}
-use Rattle.table.proofs.columns.element.Tie as tie
+use Rattle.columns.specs.Columns.{columnElement}
+use Rattle.columns.proofs.element.Statement.{statement}
+use Rattle.columns.proofs.element.Tie as tie
 
 enum-told : tie.Need-enum-told
 enum-told c = search needs

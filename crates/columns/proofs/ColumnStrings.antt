@@ -19,7 +19,7 @@ use Rattle.semantics.specs.FirstFollow.{strings}
 use Rattle.semantics.specs.Strings.{Lookahead as Looked}
 use Rattle.semantics.specs.Claims.{column}
 use Rattle.semantics.proofs.Columns.{strings-columns}
-use Rattle.table.specs.Columns.{columnCount, columnString, columnElement, columnOf}
+use Rattle.columns.specs.Columns.{columnCount, columnString, columnElement, columnOf}
 
 -- a row has columns, and no more than there is room for
 pub some-column : (k : Lookahead) (t : ℕ) → 0 < columnCount k t
