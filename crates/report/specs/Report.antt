@@ -30,10 +30,10 @@ use Rattle.text.specs.Writing.{Put}
 use Rattle.text.specs.Refusal.{refusalText}
 use Rattle.sheet_text.specs.Room.{sheetRoom}
 use Rattle.judgement_text.specs.Room.{judgementRoom}
-use Rattle.gaps_text.specs.Room.{gapsRoom}
+use Rattle.gap_lines.specs.Room.{gapsRoom}
 use Rattle.sheet_text.specs.Sheet.{wordAt, checkText}
 use Rattle.judgement_text.specs.Judgement.{judgementText}
-use Rattle.gaps_text.specs.Gaps.{gapsText, LinesTell}
+use Rattle.gap_lines.specs.Gaps.{gapsText, LinesTell}
 
 -- a text put from the buffer's front on, of which so many bytes stand there: all of them where the buffer has the room
 pub record Printed (room : ℕ) (text before after : List ℕ) (n : ℕ) : Type 0 where

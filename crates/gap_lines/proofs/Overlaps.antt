@@ -25,8 +25,8 @@ use Rattle.lookahead.specs.declared.Lookahead.the-variants.{One}
 use Rattle.families.specs.Analysis.{setsFault}
 use Rattle.table.specs.Analysis.{fault}
 use Rattle.table.proofs.Analyzing.{fault-clashless}
-use Rattle.gaps_text.specs.Gaps.{onRule, claimsBy, claimants, NoneShown, LinesTell}
-use Rattle.gaps_text.proofs.Entries.{count-kept, entries-once, overruns-once}
+use Rattle.gap_lines.specs.Gaps.{onRule, claimsBy, claimants, NoneShown, LinesTell}
+use Rattle.gap_lines.proofs.Entries.{count-kept, entries-once, overruns-once}
 
 -- how many rules of a list pass
 module _ (p : Rule → Bool) where

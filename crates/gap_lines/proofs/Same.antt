@@ -32,10 +32,10 @@ use Rattle.claims.proofs.Claimants.{claims-alike, told as rules-told}
 use Rattle.columns.proofs.ColumnStrings.{column-string, element-small}
 use Rattle.text.specs.Refusal.{refusalText}
 use Rattle.text.specs.Writing.{Put}
-use Rattle.gaps_text.specs.Gaps.{claimsBy, gapsText, GapsPut}
-use Rattle.gaps_text.specs.Steps.{claimantText, numbersText, claimantsText, entryLine, rowText, overrunLine, overrunsText, linesText, claimsAt, claimantAt, overrunsBy, overrunsIn}
-use Rattle.gaps_text.proofs.Entries.{up-to-same, lines-are}
-use Rattle.gaps_text.proofs.Overlaps.{lines-tell}
+use Rattle.gap_lines.specs.Gaps.{claimsBy, gapsText, GapsPut}
+use Rattle.gap_lines.specs.Steps.{claimantText, numbersText, claimantsText, entryLine, rowText, overrunLine, overrunsText, linesText, claimsAt, claimantAt, overrunsBy, overrunsIn}
+use Rattle.gap_lines.proofs.Entries.{up-to-same, lines-are}
+use Rattle.gap_lines.proofs.Overlaps.{lines-tell}
 
 -- texts by tests that agree
 line-same : (rules A c : ℕ) (p q : ℕ → Bool) → ((i : ℕ) → i < rules → p i ≡ q i) → entryLine rules p A c ≡ entryLine rules q A c

@@ -30,10 +30,10 @@ use Rattle.text.specs.Ascii.{ascii}
 use Rattle.text.specs.Decimal.{decimal, labelled}
 use Rattle.text.specs.Writing.{upTo}
 use Rattle.text.proofs.Lengths.{choose-most, decimal-few, up-to-most, refusal-most}
-use Rattle.gaps_text.specs.Room.{ruleRoom, entryRoom, overrunRoom, gapsRoom}
-use Rattle.gaps_text.specs.Gaps.{onRule, claimsBy, overrunText, foundText, gapsText}
-use Rattle.gaps_text.specs.Steps.{claimantText, numbersText, claimantsText, entryLine, rowText, overrunLine, overrunsText, linesText, claimsAt}
-use Rattle.gaps_text.proofs.Entries.{lines-are}
+use Rattle.gap_lines.specs.Room.{ruleRoom, entryRoom, overrunRoom, gapsRoom}
+use Rattle.gap_lines.specs.Gaps.{onRule, claimsBy, overrunText, foundText, gapsText}
+use Rattle.gap_lines.specs.Steps.{claimantText, numbersText, claimantsText, entryLine, rowText, overrunLine, overrunsText, linesText, claimsAt}
+use Rattle.gap_lines.proofs.Entries.{lines-are}
 
 claimant-most : (b : Bool) (q : ℕ) → q < 1000 → length (claimantText b q) ≤ one b * ruleRoom
 unfolding claimantText

@@ -7,7 +7,7 @@ use Rattle.semantics.proofs.Computing.{tables-compute}
 use Rattle.text.specs.Ascii.{ascii}
 use Rattle.text.specs.Decimal.{digits, decimal}
 use Rattle.word.specs.declared.Symbol.the-variants.{Terminal, Nonterminal}
-use Rattle.gaps_text.specs.Gaps.{claimsBy, claimants, entryText, overrunText, listedEntries, listedOverruns, gapsLines}
+use Rattle.gap_lines.specs.Gaps.{claimsBy, claimants, entryText, overrunText, listedEntries, listedOverruns, gapsLines}
 
 -- the definitions that lines compute by
 unfoldable lines-compute : Unit {0}

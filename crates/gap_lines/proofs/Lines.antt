@@ -19,8 +19,8 @@ use Rattle.text.specs.Ascii.{ascii}
 use Rattle.text.specs.Decimal.{decimal, labelled}
 use Rattle.text.specs.Writing.{Put}
 use Rattle.text.proofs.Writing.{put-none}
-use Rattle.gaps_text.specs.Gaps.{overrunText}
-use Rattle.gaps_text.specs.Steps.{claimantText, numbersText, claimantsText, entryLine, overrunLine, claimantAt, overrunsBy}
+use Rattle.gap_lines.specs.Gaps.{overrunText}
+use Rattle.gap_lines.specs.Steps.{claimantText, numbersText, claimantsText, entryLine, overrunLine, claimantAt, overrunsBy}
 
 -- a rule of the nonterminal claims what its claim has
 pub claimant-head : (heads sets : List ℕ) (A l q : ℕ) {b : Bool} → getD heads q 0 ≡ A → b ≡ has (getD sets q 0) l → b ≡ claimant heads sets A l q

@@ -15,7 +15,7 @@ use Rattle.columns.specs.Columns.{columnElement, columnString}
 use Rattle.text.specs.Ascii.{ascii}
 use Rattle.text.specs.Decimal.{decimal, labelled}
 use Rattle.text.specs.Writing.{upTo}
-use Rattle.gaps_text.specs.Gaps.{claimsBy, overrunText}
+use Rattle.gap_lines.specs.Gaps.{claimsBy, overrunText}
 
 -- a rule's number where it claims the entry
 unfoldable pub claimantText : Bool → ℕ → List ℕ
