@@ -32,11 +32,11 @@ use Rattle.promises.proofs.Checking.{passed-fault-for, passed-encodes, passed-f
 use Rattle.promises.proofs.JudgeFaults.{judged-readable-by}
 use Rattle.promises.specs.Costliest.{costliestFault, JudgesCostliest}
 use Rattle.usage.specs.declared.Usage.{Usage}
-use Rattle.clients.specs.declared.Served.{Served}
-use Rattle.clients.specs.declared.totals.Totals.{Totals}
-use Rattle.clients.specs.Usages.{clients, calledBy, sumBelow}
-use Rattle.clients.specs.Sums.{Totalled}
-use Rattle.clients.specs.Properties.{JudgesFor}
+use Rattle.client_records.specs.declared.Served.{Served}
+use Rattle.client_records.specs.declared.totals.Totals.{Totals}
+use Rattle.client_records.specs.Usages.{clients, calledBy, sumBelow}
+use Rattle.client_records.specs.Sums.{Totalled}
+use Rattle.client_records.specs.Properties.{JudgesFor}
 use Rattle.tree_writer.specs.declared.Shown.{Shown}
 use Rattle.tree_writer.specs.Properties.{Shows}
 use Rattle.tree_writer.proofs.Showing.{short-refused}

@@ -9,10 +9,10 @@ use Rattle.lookahead.specs.declared.Lookahead.{Lookahead}
 use Rattle.lookahead.specs.declared.Lookahead.the-variants.{One}
 use Rattle.promises.specs.Properties.{ChecksBy, JudgesBy}
 use Rattle.promises.specs.Costliest.{JudgesCostliest}
-use Rattle.clients.specs.declared.Served.{Served}
-use Rattle.clients.specs.declared.totals.Totals.{Totals}
-use Rattle.clients.specs.Sums.{Totalled}
-use Rattle.clients.specs.Properties.{JudgesFor}
+use Rattle.client_records.specs.declared.Served.{Served}
+use Rattle.client_records.specs.declared.totals.Totals.{Totals}
+use Rattle.client_records.specs.Sums.{Totalled}
+use Rattle.client_records.specs.Properties.{JudgesFor}
 use Rattle.tabular.specs.Properties.{TabularJudges}
 use Rattle.tree_writer.specs.declared.Shown.{Shown}
 use Rattle.tree_writer.specs.Properties.{Shows}

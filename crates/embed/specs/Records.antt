@@ -5,8 +5,8 @@ use Prim.Native.Nat.{ℕ, _+_, _*_, _≤_, _<_}
 use lib.ListN.{length, getD}
 use Rattle.usage.specs.declared.Usage.{Usage}
 use Rattle.usage.specs.Counters.{usageOf}
-use Rattle.clients.specs.Usages.{clients, usageOfClient}
-use Rattle.clients.specs.declared.totals.Totals.{Totals}
+use Rattle.client_records.specs.Usages.{clients, usageOfClient}
+use Rattle.client_records.specs.declared.totals.Totals.{Totals}
 
 -- the four numbers of a client
 abbrev pub usageAt : List ℕ → ℕ → Usage

@@ -12,10 +12,10 @@ use Rattle.promises.specs.Answers.{verdictOf}
 use Rattle.usage.specs.declared.Usage.{Usage}
 use Rattle.usage.specs.Counters.{counterLimit, calledOf}
 use Rattle.usage.specs.Histories.{total}
-use Rattle.clients.specs.declared.Served.{Served}
-use Rattle.clients.specs.Usages.{clients, nobody, calledBy, sumBelow}
-use Rattle.clients.specs.Histories.{Reply, reply, answersTo, Continues, OfTheDay}
-use Rattle.clients.specs.Properties.{clientFault, JudgesFor}
+use Rattle.client_records.specs.declared.Served.{Served}
+use Rattle.client_records.specs.Usages.{clients, nobody, calledBy, sumBelow}
+use Rattle.client_records.specs.Histories.{Reply, reply, answersTo, Continues, OfTheDay}
+use Rattle.client_records.specs.Properties.{clientFault, JudgesFor}
 
 -- what is handed in and lent at a call; share and limit are numbers of 32 bits
 pub record Call : Type 0 where

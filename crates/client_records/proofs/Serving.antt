@@ -23,13 +23,13 @@ use Rattle.promises.specs.Memory.{lentBack, memoWords}
 use Rattle.promises.specs.Properties.{Judges}
 use Rattle.usage.specs.declared.Usage.{Usage}
 use Rattle.usage.specs.Histories.{counted}
-use Rattle.clients.specs.declared.Served.{Served}
-use Rattle.clients.specs.Usages.{clients, usageOfClient, calledBy, sumBelow, charged, exhausted, UsedUp}
-use Rattle.clients.specs.Histories.{calledExactly}
-use Rattle.clients.specs.Properties.{clientFault, Answers, JudgesFor}
-use Rattle.clients.proofs.Codes.{never-judged}
-use Rattle.clients.proofs.Charging.{used-up, exhausted-true, charged-nobody, charged-client, charges}
-use Rattle.clients.proofs.Histories.{exactly-stops, used-up-alike, continues-with, of-the-day-with}
+use Rattle.client_records.specs.declared.Served.{Served}
+use Rattle.client_records.specs.Usages.{clients, usageOfClient, calledBy, sumBelow, charged, exhausted, UsedUp}
+use Rattle.client_records.specs.Histories.{calledExactly}
+use Rattle.client_records.specs.Properties.{clientFault, Answers, JudgesFor}
+use Rattle.client_records.proofs.Codes.{never-judged}
+use Rattle.client_records.proofs.Charging.{used-up, exhausted-true, charged-nobody, charged-client, charges}
+use Rattle.client_records.proofs.Histories.{exactly-stops, used-up-alike, continues-with, of-the-day-with}
 
 alone : (f : Option Error) → firstFault (f ∷ []) ≡ f
 alone none = refl

@@ -2,11 +2,11 @@
 use Prim.Native.Nat.{_-_}
 use native.Mathlib.Omega.{arith}
 use borrow.Author.Needs.{needs}
-use Rattle.clients.specs.Usages.{clients}
-use Rattle.clients.specs.Sums.{SummedUp}
-use Rattle.clients.proofs.Sums.{nothing-summed, small, one-more, all-summed}
-use Rattle.clients.proofs.totals.total.Statement.{statement}
-use Rattle.clients.proofs.totals.total.Tie as tie
+use Rattle.client_records.specs.Usages.{clients}
+use Rattle.client_records.specs.Sums.{SummedUp}
+use Rattle.client_records.proofs.Sums.{nothing-summed, small, one-more, all-summed}
+use Rattle.client_records.proofs.totals.total.Statement.{statement}
+use Rattle.client_records.proofs.totals.total.Tie as tie
 
 abbrev Inv-loop : tie.InvT-loop
 Inv-loop usages all₀ client₀ all client = SummedUp usages client all

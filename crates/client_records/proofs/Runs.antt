@@ -18,13 +18,13 @@ use Rattle.promises.specs.Answers.{verdictOf}
 use Rattle.usage.specs.declared.Usage.{Usage}
 use Rattle.usage.specs.Counters.{counterLimit, saturated, calledOf, eachCounter}
 use Rattle.usage.specs.Histories.{counted, recordOf, total}
-use Rattle.clients.specs.Usages.{clients, nobody, usageOfClient, calledBy, sumBelow, exhausted, Charges}
-use Rattle.clients.specs.Histories.{Reply, reply, answersTo, Continues, OfTheDay}
-use Rattle.clients.specs.Properties.{clientFault}
-use Rattle.clients.specs.Runs.{Call, Run, idle, next, replyBy, calledWith, repliesBy, RunsCounted}
-use Rattle.clients.proofs.Sums.{sum-alike, sums-stop}
-use Rattle.clients.proofs.Histories.{continued, of-nobody, of-each}
-use Rattle.clients.proofs.Serving.{first-unknown}
+use Rattle.client_records.specs.Usages.{clients, nobody, usageOfClient, calledBy, sumBelow, exhausted, Charges}
+use Rattle.client_records.specs.Histories.{Reply, reply, answersTo, Continues, OfTheDay}
+use Rattle.client_records.specs.Properties.{clientFault}
+use Rattle.client_records.specs.Runs.{Call, Run, idle, next, replyBy, calledWith, repliesBy, RunsCounted}
+use Rattle.client_records.proofs.Sums.{sum-alike, sums-stop}
+use Rattle.client_records.proofs.Histories.{continued, of-nobody, of-each}
+use Rattle.client_records.proofs.Serving.{first-unknown}
 
 -- counted one by one
 run-counts : {us vs : List Usage} {l : List Call} {h : List Reply} → Run us l h vs → (k : ℕ) → k < clients

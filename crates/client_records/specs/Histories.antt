@@ -8,7 +8,7 @@ use Rattle.booleans.specs.Choice.{choose}
 use Rattle.usage.specs.declared.Usage.{Usage}
 use Rattle.usage.specs.Counters.{calledOf}
 use Rattle.usage.specs.Histories.{recordOf, total, summed, spent, InRange}
-use Rattle.clients.specs.Usages.{clients, usageOfClient, calledBy}
+use Rattle.client_records.specs.Usages.{clients, usageOfClient, calledBy}
 
 -- an answer, and whom it was given
 pub record Reply : Type 0 where

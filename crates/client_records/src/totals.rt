@@ -1,5 +1,5 @@
 // The sums of all clients' counters, in numbers of 64 bits.
-ghost use Rattle.clients.specs.Sums.{TotalsSmall, Adds, Totalled};
+ghost use Rattle.client_records.specs.Sums.{TotalsSmall, Adds, Totalled};
 use super::CLIENTS;
 use usage::Usage;
 

@@ -4,8 +4,8 @@ use mathlib.Core.List.{List}
 use Prim.Native.Nat.{ℕ, _+_, _*_, _≤_}
 use Rattle.usage.specs.declared.Usage.{Usage}
 use Rattle.usage.specs.Counters.{counterLimit}
-use Rattle.clients.specs.declared.totals.Totals.{Totals}
-use Rattle.clients.specs.Usages.{clients, usageOfClient, calledBy, sumBelow}
+use Rattle.client_records.specs.declared.totals.Totals.{Totals}
+use Rattle.client_records.specs.Usages.{clients, usageOfClient, calledBy, sumBelow}
 
 abbrev pub totalsOf : ℕ → ℕ → ℕ → ℕ → Totals
 totalsOf c r a d = record { calls = c; refusals = r; acceptances = a; called = d }

@@ -1,7 +1,7 @@
 -- Eight times the empty record.
 use borrow.Author.Needs.{needs}
-use Rattle.clients.proofs.no_usage.Statement.{statement}
-use Rattle.clients.proofs.no_usage.Tie as tie
+use Rattle.client_records.proofs.no_usage.Statement.{statement}
+use Rattle.client_records.proofs.no_usage.Tie as tie
 
 new-requires : tie.Need-new-requires
 new-requires c κs = search needs

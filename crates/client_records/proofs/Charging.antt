@@ -13,9 +13,9 @@ use Rattle.booleans.specs.Choice.{choose}
 use Rattle.usage.specs.declared.Usage.{Usage}
 use Rattle.usage.specs.Counters.{unused}
 use Rattle.usage.specs.Histories.{counted}
-use Rattle.clients.specs.declared.totals.Totals.{Totals}
-use Rattle.clients.specs.Usages.{clients, usageOfClient, calledBy, sumBelow, charged, exhausted, UsedUp, Charges}
-use Rattle.clients.specs.Sums.{Totalled}
+use Rattle.client_records.specs.declared.totals.Totals.{Totals}
+use Rattle.client_records.specs.Usages.{clients, usageOfClient, calledBy, sumBelow, charged, exhausted, UsedUp, Charges}
+use Rattle.client_records.specs.Sums.{Totalled}
 
 -- the test of an allowance, by its first part
 pub share-reached : {t : Totals} (us : List Usage) (own share limit : ℕ) → share ≤ own → Totalled us t

@@ -6,9 +6,9 @@ use native.Mathlib.Numerals.{add-one}
 use native.Mathlib.Omega.{arith}
 use Rattle.usage.specs.declared.Usage.{Usage}
 use Rattle.usage.specs.Counters.{counterLimit, saturated}
-use Rattle.clients.specs.declared.totals.Totals.{Totals}
-use Rattle.clients.specs.Usages.{clients, usageOfClient, sumBelow}
-use Rattle.clients.specs.Sums.{totalsOf, summedBelow, TotalsSmall, Adds, SummedUp, Totalled}
+use Rattle.client_records.specs.declared.totals.Totals.{Totals}
+use Rattle.client_records.specs.Usages.{clients, usageOfClient, sumBelow}
+use Rattle.client_records.specs.Sums.{totalsOf, summedBelow, TotalsSmall, Adds, SummedUp, Totalled}
 
 pub nothing-summed : (us : List Usage) → SummedUp us 0 (totalsOf 0 0 0 0)
 unfolding sumBelow

@@ -1,8 +1,8 @@
 -- By the first part of the test.
-use Rattle.clients.proofs.Charging.{share-reached, share-not-reached}
+use Rattle.client_records.proofs.Charging.{share-reached, share-not-reached}
 use borrow.Author.Needs.{needs}
-use Rattle.clients.proofs.is_exhausted.Statement.{statement}
-use Rattle.clients.proofs.is_exhausted.Tie as tie
+use Rattle.client_records.proofs.is_exhausted.Statement.{statement}
+use Rattle.client_records.proofs.is_exhausted.Tie as tie
 
 total-requires : tie.Need-total-requires
 total-requires c κs = search needs
