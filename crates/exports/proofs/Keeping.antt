@@ -23,10 +23,10 @@ use Rattle.kept_input.specs.Histories.{checkpointCount, Kept, Step, Add, Mark, 
 use Rattle.kept_input.specs.Stored.{keptInput, held, valuesOf}
 use Rattle.kept_input.specs.Properties.{Steps, Moves, JudgesKept}
 use Rattle.kept_input.proofs.Lists.{elements}
-use Rattle.embed.specs.Packing.{NumbersFit, packed}
-use Rattle.embed.specs.Kept.{stateOf, StateRead, StepExported, MoveExported, KeptExported}
-use Rattle.embed.proofs.Places.{LowFault, none-low, some-low, when-low}
-use Rattle.embed.proofs.Fitting.{passed-fits, refused-fits, unpacks, judge-fits}
+use Rattle.exports.specs.Packing.{NumbersFit, packed}
+use Rattle.exports.specs.Kept.{stateOf, StateRead, StepExported, MoveExported, KeptExported}
+use Rattle.exports.proofs.Places.{LowFault, none-low, some-low, when-low}
+use Rattle.exports.proofs.Fitting.{passed-fits, refused-fits, unpacks, judge-fits}
 
 -- a refusal of a step tells no place
 unset-low : (o : Option ℕ) → LowFault maxWords (notSet o)

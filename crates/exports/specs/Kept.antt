@@ -13,7 +13,7 @@ use Rattle.kept_input.specs.declared.Changed.{Changed}
 use Rattle.kept_input.specs.Histories.{Step, Add}
 use Rattle.kept_input.specs.Stored.{keptInput}
 use Rattle.kept_input.specs.Properties.{Steps, JudgesKept}
-use Rattle.embed.specs.Packing.{packed, Unpacks}
+use Rattle.exports.specs.Packing.{packed, Unpacks}
 
 -- the length, then the checkpoints
 abbrev pub stateOf : Progress → List ℕ

@@ -16,8 +16,8 @@ use Rattle.client_records.specs.Properties.{JudgesFor}
 use Rattle.tabular.specs.Properties.{TabularJudges}
 use Rattle.tree_writer.specs.declared.Shown.{Shown}
 use Rattle.tree_writer.specs.Properties.{Shows}
-use Rattle.embed.specs.Packing.{packed, Unpacks}
-use Rattle.embed.specs.Records.{usagesIn, totalsRow}
+use Rattle.exports.specs.Packing.{packed, Unpacks}
+use Rattle.exports.specs.Records.{usagesIn, totalsRow}
 
 pub record CheckExportedBy (k : Lookahead) (words before : List ℕ) (r : ℕ) (after : List ℕ) : Type 0 where
   pub answer : Answer

@@ -40,12 +40,12 @@ use Rattle.client_records.specs.Properties.{JudgesFor}
 use Rattle.tree_writer.specs.declared.Shown.{Shown}
 use Rattle.tree_writer.specs.Properties.{Shows}
 use Rattle.tree_writer.proofs.Showing.{short-refused}
-use Rattle.embed.specs.Packing.{Fit, NumbersFit, joined, packed, Unpacks}
+use Rattle.exports.specs.Packing.{Fit, NumbersFit, joined, packed, Unpacks}
 use Rattle.tabular.specs.Answers.{tabularFault, noCalls, told, tabularVerdict}
 use Rattle.tabular.specs.Properties.{TabularJudges}
-use Rattle.embed.specs.Records.{usagesIn, totalsRow}
-use Rattle.embed.specs.Exports.{CheckExportedBy, JudgeExportedBy, CostliestExported, ServedExported, TotalsExported, TreeExported, TabularExported}
-use Rattle.embed.proofs.Places.{Low, check-low, judge-low, costliest-low, tabular-low}
+use Rattle.exports.specs.Records.{usagesIn, totalsRow}
+use Rattle.exports.specs.Exports.{CheckExportedBy, JudgeExportedBy, CostliestExported, ServedExported, TotalsExported, TreeExported, TabularExported}
+use Rattle.exports.proofs.Places.{Low, check-low, judge-low, costliest-low, tabular-low}
 
 code-low : (e : Error) → coded e .code < 256
 code-low TableTooShort = omega arith
