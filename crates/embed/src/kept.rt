@@ -7,7 +7,7 @@ use grammar::limits::TOKENS;
 use kept_input::CHECKPOINTS;
 use kept_input::KeptInput;
 use kept_input::Progress;
-use kept_input::judge_kept;
+use kept_judge::judge_kept;
 
 const STATE: usize = CHECKPOINTS + 1;
 

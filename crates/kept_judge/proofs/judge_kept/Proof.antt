@@ -4,10 +4,10 @@ use native.Mathlib.Omega.{arith}
 use lib.ListN.{length}
 use lib.Seq.{length-take-le}
 use Rattle.grammar.specs.Limits.{maxTokens}
 use Rattle.kept_input.proofs.Judging.{judges-kept}
 use borrow.Author.Needs.{needs}
-use Rattle.kept_input.proofs.judge_kept.Statement.{statement}
-use Rattle.kept_input.proofs.judge_kept.Tie as tie
+use Rattle.kept_judge.proofs.judge_kept.Statement.{statement}
+use Rattle.kept_judge.proofs.judge_kept.Tie as tie
 
 bounded-requires : tie.Need-bounded-requires
 bounded-requires c κs = search needs
