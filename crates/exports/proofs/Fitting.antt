@@ -37,12 +37,12 @@ use Rattle.client_records.specs.declared.totals.Totals.{Totals}
 use Rattle.client_records.specs.Usages.{clients, calledBy, sumBelow}
 use Rattle.client_records.specs.Sums.{Totalled}
 use Rattle.client_records.specs.Properties.{JudgesFor}
-use Rattle.tree_writer.specs.declared.Shown.{Shown}
-use Rattle.tree_writer.specs.Properties.{Shows}
-use Rattle.tree_writer.proofs.Showing.{short-refused}
+use Rattle.tree_words.specs.declared.Shown.{Shown}
+use Rattle.tree_words.specs.Properties.{Shows}
+use Rattle.tree_words.proofs.Showing.{short-refused}
 use Rattle.exports.specs.Packing.{Fit, NumbersFit, joined, packed, Unpacks}
-use Rattle.tabular.specs.Answers.{tabularFault, noCalls, told, tabularVerdict}
-use Rattle.tabular.specs.Properties.{TabularJudges}
+use Rattle.tabulation.specs.Answers.{tabularFault, noCalls, told, tabularVerdict}
+use Rattle.tabulation.specs.Properties.{TabularJudges}
 use Rattle.exports.specs.Records.{usagesIn, totalsRow}
 use Rattle.exports.specs.Exports.{CheckExportedBy, JudgeExportedBy, CostliestExported, ServedExported, TotalsExported, TreeExported, TabularExported}
 use Rattle.exports.proofs.Places.{Low, check-low, judge-low, costliest-low, tabular-low}

@@ -41,7 +41,7 @@ use Rattle.table.specs.Layout.{tableRoom}
 use Rattle.promises.specs.Answers.{tableTooShort, checkFaultBy, judgeFaultBy}
 use Rattle.inputs.specs.Inputs.{maxInputs}
 use Rattle.promises.specs.Costliest.{lengthFaults, costliestFault}
-use Rattle.tabular.specs.Answers.{tabularFault}
+use Rattle.tabulation.specs.Answers.{tabularFault}
 use Rattle.promises.proofs.Checking.{read-some}
 use Rattle.grammar.proofs.FaultPositions.{LowOutcome}
 

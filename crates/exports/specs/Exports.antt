@@ -13,9 +13,9 @@ use Rattle.client_records.specs.declared.Served.{Served}
 use Rattle.client_records.specs.declared.totals.Totals.{Totals}
 use Rattle.client_records.specs.Sums.{Totalled}
 use Rattle.client_records.specs.Properties.{JudgesFor}
-use Rattle.tabular.specs.Properties.{TabularJudges}
-use Rattle.tree_writer.specs.declared.Shown.{Shown}
-use Rattle.tree_writer.specs.Properties.{Shows}
+use Rattle.tabulation.specs.Properties.{TabularJudges}
+use Rattle.tree_words.specs.declared.Shown.{Shown}
+use Rattle.tree_words.specs.Properties.{Shows}
 use Rattle.exports.specs.Packing.{packed, Unpacks}
 use Rattle.exports.specs.Records.{usagesIn, totalsRow}
 

@@ -13,7 +13,7 @@ use Rattle.lookahead.specs.Elements.{weight, total}
 use Rattle.families.specs.Lists.{listed}
 use Rattle.families.proofs.Lists.{listed-long, listed-at}
 use Rattle.recognizer.proofs.Front.{front, front-more}
-use Rattle.tabular.specs.Spans.{spansBefore, spanCount, indexOf, rows, spanWords, Spans}
+use Rattle.tabulation.specs.Spans.{spansBefore, spanCount, indexOf, rows, spanWords, Spans}
 
 -- the spans before a place
 before-up : (n i : ℕ) (d : ℕ) → spansBefore n i ≤ spansBefore n (i + d)

@@ -11,9 +11,9 @@ use Rattle.semantics.specs.Valuations.{contains, derives, byRules, rounds, solu
 use Rattle.semantics.specs.Productive.{unproductive, lowestUnproductive}
 use Rattle.semantics.proofs.Computing.{left-recursion-computes, tables-compute}
 use Rattle.families.specs.Lists.{listed}
-use Rattle.tabular.specs.Spans.{solutionWord, rows, spanWords}
-use Rattle.tabular.specs.Answers.{tabularFault, tabularVerdict, tabularWords}
-use Rattle.tabular.specs.Rows.{worked, judged, lent}
+use Rattle.tabulation.specs.Spans.{solutionWord, rows, spanWords}
+use Rattle.tabulation.specs.Answers.{tabularFault, tabularVerdict, tabularWords}
+use Rattle.tabulation.specs.Rows.{worked, judged, lent}
 
 pub worked-answers : map (λ r. judged (r .words) (r .input)) worked ≡ map (λ r. r .told) worked
 unfolding judged tabularFault tabularVerdict unknownFrom reading opened headed within scan finished onStep stepped counted

@@ -12,11 +12,11 @@ use Rattle.grammar.specs.declared.reading.Outcome.the-variants.{Read}
 use Rattle.grammar.proofs.WellRead.{well-read}
 use Rattle.lookahead.specs.Elements.{has}
 use Rattle.semantics.specs.Valuations.{solution}
-use Rattle.tabular.specs.Chart.{slot, charted, wordAt}
-use Rattle.tabular.specs.Filling.{Filled}
-use Rattle.tabular.specs.Judging.{Tabulated}
-use Rattle.tabular.specs.Spans.{spanCount, solutionWord, Spans}
-use Rattle.tabular.proofs.Writing.{total-cong, words-cong}
+use Rattle.tabulation.specs.Chart.{slot, charted, wordAt}
+use Rattle.tabulation.specs.Filling.{Filled}
+use Rattle.tabulation.specs.Judging.{Tabulated}
+use Rattle.tabulation.specs.Spans.{spanCount, solutionWord, Spans}
+use Rattle.tabulation.proofs.Writing.{total-cong, words-cong}
 
 module _ {words w chart : List ℕ} {z : Sizes} (read : reading words ≡ Read z) (f : Filled words w chart) where
   verdict-right : {r : Bool} → r ≡ has (getD chart (length w) 0) 0 → r ≡ solution (grammarOf words) w 0 0 (length w)

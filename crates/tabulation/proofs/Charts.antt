@@ -14,8 +14,8 @@ use Rattle.booleans.specs.Choice.{choose}
 use Rattle.grammar.specs.Limits.{maxNonterminals, maxTabularPlaces}
 use Rattle.lookahead.specs.Elements.{has, total}
 use Rattle.lookahead.proofs.Weights.{total-bound}
-use Rattle.tabular.specs.Places.{Put}
-use Rattle.tabular.specs.Chart.{slot, charted, Long, wordAt, Added}
+use Rattle.tabulation.specs.Places.{Put}
+use Rattle.tabulation.specs.Chart.{slot, charted, Long, wordAt, Added}
 
 -- one weight more
 total-more : (p : ℕ → Bool) (k word r : ℕ) (t : Bool) → word ≡ total k p → t ≡ p k → r ≡ choose t (bitOr word (2 ^ k)) word → r ≡ total (k + 1) p

@@ -50,9 +50,9 @@ use Rattle.semantics.proofs.Outcomes.{nth-below}
 use Rattle.tree.proofs.Reading.{Found, Reads, Chosen, chosen}
 use Rattle.tree.proofs.Below.{comes-token, comes-name, below-chosen, below-make, below-falls}
 use Rattle.tree.proofs.Trees.{tree-sound}
-use Rattle.tree_writer.specs.Labels.{ruleOf as word-rule, endOf as word-end}
-use Rattle.tree_writer.specs.Writer.{choiceOf, wordAt, Holds, VertexGiven, VertexDone, falling}
-use Rattle.tree_writer.proofs.Marking.{holds-length, unseen, count-low, room, index-room, holds-more}
+use Rattle.tree_words.specs.Labels.{ruleOf as word-rule, endOf as word-end}
+use Rattle.tree_words.specs.Writer.{choiceOf, wordAt, Holds, VertexGiven, VertexDone, falling}
+use Rattle.tree_words.proofs.Marking.{holds-length, unseen, count-low, room, index-room, holds-more}
 
 abbrev pub level : List ℕ → List ℕ → ℕ → ℕ → ℕ
 level words input A place = measure (grammarOf words) input (callAt A place)

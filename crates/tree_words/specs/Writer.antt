@@ -25,7 +25,7 @@ use Rattle.lookahead.specs.declared.Lookahead.the-variants.{One}
 use Rattle.columns.specs.Columns.{columns}
 use Rattle.table.specs.Layout.{entryAt}
 use Rattle.tree.specs.Writing.{vertexAt, below, visit, vertexWord, treeWords, InTree}
-use Rattle.tree_writer.specs.Labels.{labelIndex, endOf}
+use Rattle.tree_words.specs.Labels.{labelIndex, endOf}
 
 -- the choice by one token of lookahead
 abbrev pub choiceOf : List ℕ → List ℕ → Choice

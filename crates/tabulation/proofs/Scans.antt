@@ -24,10 +24,10 @@ use Rattle.lookahead.specs.Elements.{has}
 use Rattle.semantics.specs.Valuations.{Valuation, contains}
 use Rattle.families.specs.Rules.{RuleWords}
 use Rattle.families.proofs.Words.{parse-before}
-use Rattle.tabular.specs.declared.bodies.Scan.{Scan}
-use Rattle.tabular.specs.Chart.{charted, Before, Span}
-use Rattle.tabular.specs.Scanning.{Over, Reads, holds, Scanned, noneOpen, SymbolKnown, Known, SymbolOnto, Onto, Keeps}
-use Rattle.tabular.proofs.Reaching.{nothing-reads, terminal-reads, nonterminal-reads}
+use Rattle.tabulation.specs.declared.Scan.{Scan}
+use Rattle.tabulation.specs.Chart.{charted, Before, Span}
+use Rattle.tabulation.specs.Scanning.{Over, Reads, holds, Scanned, noneOpen, SymbolKnown, Known, SymbolOnto, Onto, Keeps}
+use Rattle.tabulation.proofs.Reaching.{nothing-reads, terminal-reads, nonterminal-reads}
 
 abbrev pub scanOf : ℕ → Bool → Scan
 scanOf s k = record { set = s; kept = k }

@@ -23,8 +23,8 @@ use Rattle.semantics.specs.Strings.{Over}
 use Rattle.semantics.specs.Theorems.{OneSolution}
 use Rattle.promises.specs.Memory.{lentBack}
 use Rattle.promises.specs.Properties.{AllProductive, PassedGrammar, LowestRecursive, LowestUnproductive, Judges}
-use Rattle.tabular.specs.Spans.{indexOf}
-use Rattle.tabular.specs.Answers.{tabularFault, noCalls, tabularVerdict, tabularNumbers, tabularWords}
+use Rattle.tabulation.specs.Spans.{indexOf}
+use Rattle.tabulation.specs.Answers.{tabularFault, noCalls, tabularVerdict, tabularNumbers, tabularWords}
 
 -- a grammar that is taken: at most 2,048 words that encode a well-formed grammar within the limits, not left-recursive and without an empty
 -- first set; it may have clashes

@@ -26,7 +26,7 @@ use Rattle.lookahead.specs.declared.Lookahead.the-variants.{One}
 use Rattle.semantics.specs.LeftRecursion.{lowestLeftRecursive}
 use Rattle.semantics.specs.Productive.{lowestUnproductive}
 use Rattle.families.specs.Analysis.{readingFault, leftFault, unproductiveFault, setsFaults, setsFault}
-use Rattle.tabular.specs.Answers.{tabularFault}
+use Rattle.tabulation.specs.Answers.{tabularFault}
 
 -- the first fault, by what holds
 module _ (words input before : List ℕ) where

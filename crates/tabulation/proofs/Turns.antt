@@ -23,10 +23,10 @@ use Rattle.semantics.specs.Theorems.{AgreeBelow}
 use Rattle.semantics.proofs.Rank.{rank-below}
 use Rattle.semantics.proofs.Unique.{rules-lower, solution-solves, solution-null}
 use Rattle.families.proofs.Lists.{getD-zeros}
-use Rattle.tabular.specs.Places.{Standing}
-use Rattle.tabular.specs.Chart.{charted, Long, Span, Added}
-use Rattle.tabular.specs.Scanning.{Over}
-use Rattle.tabular.specs.Filling.{turn, FilledTo, Fills, Derived, FillingGiven, SettleGiven, LengthGiven, Filled}
+use Rattle.tabulation.specs.Places.{Standing}
+use Rattle.tabulation.specs.Chart.{charted, Long, Span, Added}
+use Rattle.tabulation.specs.Scanning.{Over}
+use Rattle.tabulation.specs.Filling.{turn, FilledTo, Fills, Derived, FillingGiven, SettleGiven, LengthGiven, Filled}
 
 -- an empty chart is filled up to the first turn
 pub filled-start : (G : Grammar) (w : List ℕ) (n : ℕ) → FilledTo G w 0 (replicate n 0)

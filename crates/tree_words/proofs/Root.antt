@@ -35,8 +35,8 @@ use Rattle.columns.proofs.Columns.{column-right}
 use Rattle.tree.specs.Writing.{vertexAt, vertexWord, treeCalls, treeOf, treeWords, InTree, start}
 use Rattle.tree.proofs.Reading.{chosen}
 use Rattle.tree.proofs.Trees.{tree-sound}
-use Rattle.tree_writer.specs.Labels.{labelIndex, labelWord, LabelsGiven, Labelled}
-use Rattle.tree_writer.specs.Writer.{choiceOf, wordAt, wordsOf, Holds, VertexGiven, VertexRequires, VertexEnsures, TreeGiven, TreeDone}
+use Rattle.tree_words.specs.Labels.{labelIndex, labelWord, LabelsGiven, Labelled}
+use Rattle.tree_words.specs.Writer.{choiceOf, wordAt, wordsOf, Holds, VertexGiven, VertexRequires, VertexEnsures, TreeGiven, TreeDone}
 
 map-twice : (f : Call → ℕ) {Z : Type 0} (g : Call → Z) (h : Z → ℕ) → ((x : Call) → h (g x) ≡ f x) → (l : List Call) → map h (map g l) ≡ map f l
 map-twice f g h e [] = refl

@@ -15,8 +15,8 @@ use Rattle.semantics.specs.Valuations.{solution}
 use Rattle.families.specs.Analysis.{setsFault}
 use Rattle.families.specs.Lists.{listed}
 use Rattle.families.specs.Sets.{reachNumber}
-use Rattle.tabular.specs.Filling.{FillGiven}
-use Rattle.tabular.specs.Spans.{Spans, solutionWord}
+use Rattle.tabulation.specs.Filling.{FillGiven}
+use Rattle.tabulation.specs.Spans.{Spans, solutionWord}
 
 pub record TabulateGiven (words : List ℕ) (z : Sizes) (reaches w spans : List ℕ) : Type 0 where
   pub given : FillGiven words z reaches w

@@ -22,7 +22,7 @@ use Rattle.promises.specs.Properties.{Judges}
 use Rattle.tree.specs.ParseTrees.{Vertex}
 use Rattle.tree.specs.Writing.{treeOf, treeWords}
 use Rattle.tree.specs.Theorems.{TreeRight, Told}
-use Rattle.tree_writer.specs.declared.Shown.{Shown}
+use Rattle.tree_words.specs.declared.Shown.{Shown}
 
 -- why the call is refused, in document 02's order: the table's and the memo table's length, then the tree memory's, which is to be as long as
 -- the memo table, and then as judging

@@ -36,9 +36,9 @@ use Rattle.families.specs.Rules.{RuleWords, ruleFrom}
 use Rattle.families.specs.Sets.{reachNumber}
 use Rattle.families.proofs.Lists.{listed-at}
 use Rattle.families.proofs.RuleRanges.{till-next, till-end, rule-in, rule-is}
-use Rattle.tabular.specs.Chart.{charted}
-use Rattle.tabular.specs.Scanning.{Over, holds, Keeps}
-use Rattle.tabular.specs.Filling.{RulesGiven, RanksGiven, Ranked, Derived}
+use Rattle.tabulation.specs.Chart.{charted}
+use Rattle.tabulation.specs.Scanning.{Over, holds, Keeps}
+use Rattle.tabulation.specs.Filling.{RulesGiven, RanksGiven, Ranked, Derived}
 
 -- a rule, by its number
 abbrev ruleNumbered : List ℕ → ℕ → Rule

@@ -16,7 +16,7 @@ use Rattle.columns.specs.Columns.{columnAt}
 use Rattle.columns.proofs.Columns.{one-token, one-end, column-right}
 use Rattle.tree.specs.ParseTrees.{vertex}
 use Rattle.tree.specs.Writing.{vertexWord}
-use Rattle.tree_writer.specs.Labels.{ruleOf, labelWord, LabelsGiven, IndexGiven, Labels, LabelledBelow, Labelled}
+use Rattle.tree_words.specs.Labels.{ruleOf, labelWord, LabelsGiven, IndexGiven, Labels, LabelledBelow, Labelled}
 
 -- the column of an event's terminal, and that of the end
 module _ (events : List ℕ) (n place : ℕ) where

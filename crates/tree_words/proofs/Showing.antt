@@ -61,10 +61,10 @@ use Rattle.tree.specs.Theorems.{Told}
 use Rattle.tree.proofs.Lists.{map-elim}
 use Rattle.tree.proofs.Trees.{tree-right, vertex-within}
 use Rattle.tree.proofs.Words.{told as word-told}
-use Rattle.tree_writer.specs.Writer as writer
-use Rattle.tree_writer.specs.Writer.{choiceOf, wordsOf, Entries, TreeGiven, TreeDone}
-use Rattle.tree_writer.specs.declared.Shown.{Shown}
-use Rattle.tree_writer.specs.Properties.{treeFault, writtenOr, TreeTold, Shows}
+use Rattle.tree_words.specs.Writer as writer
+use Rattle.tree_words.specs.Writer.{choiceOf, wordsOf, Entries, TreeGiven, TreeDone}
+use Rattle.tree_words.specs.declared.Shown.{Shown}
+use Rattle.tree_words.specs.Properties.{treeFault, writtenOr, TreeTold, Shows}
 
 -- acceptance, by its tag
 pub is-accepted : (a : Answer) → tagOf the-type a ≡ 3 → (c : Calls) × (a ≡ Accepted c)

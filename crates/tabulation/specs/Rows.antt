@@ -7,7 +7,7 @@ use Rattle.grammar.specs.Cards.{wordsR, wordsE}
 use Rattle.grammar.specs.Encoding.{grammarOf}
 use Rattle.grammar.specs.Limits.{maxSpanWords}
 use Rattle.promises.specs.Memory.{lentBack}
-use Rattle.tabular.specs.Answers.{tabularFault, tabularVerdict, tabularWords}
+use Rattle.tabulation.specs.Answers.{tabularFault, tabularVerdict, tabularWords}
 
 -- S → a | a, which claims an entry twice
 abbrev pub wordsTwice : List ℕ

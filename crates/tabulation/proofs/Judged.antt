@@ -53,12 +53,12 @@ use Rattle.promises.proofs.Checking.{none-left}
 use Rattle.promises.proofs.Meaning.{verdict-tells}
 use Rattle.table.specs.declared.conflicts.Conflict.the-variants.{Absent}
 use Rattle.promises.proofs.Places.{Tells, judge-tells, grammarFault, left-told, unproductive-told}
-use Rattle.tabular.specs.Spans.{indexOf, spanWords, solutionWord}
-use Rattle.tabular.specs.Answers.{tabularFault, noCalls, told, tabularVerdict, tabularNumbers, tabularWords}
-use Rattle.tabular.specs.Judging.{TabulateGiven, Tabulated, PassedGiven}
-use Rattle.tabular.specs.Properties.{FreeGrammar, ShortInput, Tabulates, TabularJudges, DirectionsIgnored}
-use Rattle.tabular.proofs.TabularFaults.{spans-short, fault-long, too-long, unknown-token, no-fault, fault-other}
-use Rattle.tabular.proofs.Writing.{index-low, words-long, words-at}
+use Rattle.tabulation.specs.Spans.{indexOf, spanWords, solutionWord}
+use Rattle.tabulation.specs.Answers.{tabularFault, noCalls, told, tabularVerdict, tabularNumbers, tabularWords}
+use Rattle.tabulation.specs.Judging.{TabulateGiven, Tabulated, PassedGiven}
+use Rattle.tabulation.specs.Properties.{FreeGrammar, ShortInput, Tabulates, TabularJudges, DirectionsIgnored}
+use Rattle.tabulation.proofs.TabularFaults.{spans-short, fault-long, too-long, unknown-token, no-fault, fault-other}
+use Rattle.tabulation.proofs.Writing.{index-low, words-long, words-at}
 
 -- a grammar that is taken is the one that is read, so the promises are about that
 module _ (words : List ℕ) (p : FreeGrammar words) where

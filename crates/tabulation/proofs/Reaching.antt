@@ -20,8 +20,8 @@ use Rattle.lookahead.specs.Elements.{has}
 use Rattle.lookahead.proofs.Elements.{has-or, has-and, has-suc, has-zero}
 use Rattle.lookahead.proofs.Powers.{has-pow}
 use Rattle.semantics.specs.Valuations.{Valuation, contains}
-use Rattle.tabular.specs.Chart.{slot, charted, Before, Span}
-use Rattle.tabular.specs.Scanning.{Over, Reads}
+use Rattle.tabulation.specs.Chart.{slot, charted, Before, Span}
+use Rattle.tabulation.specs.Scanning.{Over, Reads}
 
 below-none : (n : ℕ) (p : ℕ → Bool) → ((m : ℕ) → m < n → p m ≡ false) → anyBelow n p ≡ false
 unfolding anyBelow

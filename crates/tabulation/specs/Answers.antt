@@ -20,7 +20,7 @@ use Rattle.lookahead.specs.declared.Lookahead.the-variants.{One}
 use Rattle.semantics.specs.Valuations.{solution}
 use Rattle.families.specs.Analysis.{setsFaults}
 use Rattle.event.specs.Unknown.{unknownFrom, unknownFault}
-use Rattle.tabular.specs.Spans.{spanWords, solutionWord}
+use Rattle.tabulation.specs.Spans.{spanWords, solutionWord}
 
 -- why judging is refused: the lent words of the spans, the grammar's faults but for clashes, then the input's
 unfoldable pub tabularFault : ℕ → List ℕ → List ℕ → Option Error

@@ -25,8 +25,8 @@ use Rattle.semantics.proofs.Range.{calls-equality, all-range, all-length}
 use Rattle.tree.specs.Writing.{InTree}
 use Rattle.tree.proofs.Visiting.{distinct-last}
 use Rattle.tree.proofs.Trees.{call-same}
-use Rattle.tree_writer.specs.Labels.{labelIndex}
-use Rattle.tree_writer.specs.Writer.{choiceOf, wordAt, Holds}
+use Rattle.tree_words.specs.Labels.{labelIndex}
+use Rattle.tree_words.specs.Writer.{choiceOf, wordAt, Holds}
 
 set-behind : (f : Call → ℕ) (l : List Call) (x : Call) (lent : List ℕ) → length l < length lent
     → set (map f l ++ drop (length l) lent) (length l) (f x) ≡ map f (l ++ (x ∷ [])) ++ drop (length (l ++ (x ∷ []))) lent

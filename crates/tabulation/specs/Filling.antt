@@ -18,9 +18,9 @@ use Rattle.semantics.specs.LeftRecursion.{NoLeftRecursion, rank}
 use Rattle.families.specs.Lists.{listed}
 use Rattle.families.specs.Rules.{ruleFrom}
 use Rattle.families.specs.Sets.{reachNumber}
-use Rattle.tabular.specs.Places.{Standing, InputGiven}
-use Rattle.tabular.specs.Chart.{charted, Long, Span}
-use Rattle.tabular.specs.Scanning.{Over}
+use Rattle.tabulation.specs.Places.{Standing, InputGiven}
+use Rattle.tabulation.specs.Chart.{charted, Long, Span}
+use Rattle.tabulation.specs.Scanning.{Over}
 
 -- a grammar that has been read, and where its rules begin
 pub record RulesGiven (words starts : List ℕ) (z : Sizes) : Type 0 where

@@ -16,9 +16,9 @@ use Rattle.grammar.specs.Encoding.{Parsed, onWord, parse}
 use Rattle.lookahead.specs.Elements.{weight, has}
 use Rattle.semantics.specs.Valuations.{Valuation, contains}
 use Rattle.families.specs.Rules.{RuleWords}
-use Rattle.tabular.specs.declared.bodies.Scan.{Scan}
-use Rattle.tabular.specs.Places.{Standing}
-use Rattle.tabular.specs.Chart.{charted, Forward, Span}
+use Rattle.tabulation.specs.declared.Scan.{Scan}
+use Rattle.tabulation.specs.Places.{Standing}
+use Rattle.tabulation.specs.Chart.{charted, Forward, Span}
 
 -- the input w, by where its terminals stand, reaches to the end, and no span of the chart ends before it starts
 pub record Over (w stands chart : List ℕ) (end : ℕ) : Type 0 where
