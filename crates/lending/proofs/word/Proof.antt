@@ -3,9 +3,9 @@ use mathlib.Core.Path.{_∙_}
 use native.Mathlib.Omega.{arith}
 use borrow.Author.Needs.{needs}
 use borrow.Author.Tests.{eq-eqb, ne-eqb, lt-ltb, le-ltb}
-use Rattle.table.specs.Layout.{wordAt}
-use Rattle.table.proofs.layout.word.Statement.{statement}
-use Rattle.table.proofs.layout.word.Tie as tie
+use Rattle.lending.specs.Lending.{wordAt}
+use Rattle.lending.proofs.word.Statement.{statement}
+use Rattle.lending.proofs.word.Tie as tie
 
 mul-sets : tie.Need-mul-sets
 mul-sets c = search needs

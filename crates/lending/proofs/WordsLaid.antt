@@ -1,7 +1,7 @@
 -- The words that are laid out from the sets and the entries of a grammar are those of its table.
 use mathlib.Core.Path.{_≡_, refl, sym, ap, _∙_}
 use mathlib.Core.Bool.{Bool, true, false}
-use mathlib.Core.List.{List}
+use mathlib.Core.List.{List, _++_}
 use mathlib.Core.Logic.{_⊎_, inl, inr}
 use mathlib.Core.Option.{Option, none, some}
 use Prim.Native.Nat.{ℕ, _+_, _-_, _*_, _/_, _%_, _^_, _≤_, _<_}
@@ -9,12 +9,15 @@ use native.Mathlib.Decide.{decLt}
 use native.Mathlib.Nat.{mul-add}
 use native.Mathlib.Omega.{arith}
 use lib.Dec.{eqb}
-use lib.ListN.{length, getD, replicate, length-replicate, getD-replicate}
+use lib.ListN.{length, getD, drop}
 use lib.Seq.{ext-getD}
 use borrow.Author.Tests.{ne-eqb, lt-ltb, le-ltb}
 use Rattle.booleans.specs.Choice.{choose}
 use Rattle.grammar.specs.Codes.{noEntry, noRule}
-use Rattle.grammar.specs.Limits.{maxNonterminals, maxRules, maxWideTableWords}
+use Rattle.grammar.specs.Encoding.{grammarOf}
+use Rattle.grammar.specs.Limits.{maxNonterminals, maxRules}
+use Rattle.grammar.specs.WellRead.{WellRead}
+use Rattle.grammar.proofs.WellRead.{well-read}
 use Rattle.grammar.specs.Syntax.{Grammar}
 use Rattle.grammar.specs.declared.reading.Sizes.{Sizes}
 use Rattle.lookahead.specs.declared.Lookahead.{Lookahead}
@@ -24,32 +27,22 @@ use Rattle.semantics.specs.Claims.{claims, tableOf}
 use Rattle.semantics.specs.FirstFollow.{first, follow}
 use Rattle.semantics.proofs.Outcomes.{nth-below}
 use Rattle.semantics.proofs.Positions.{position-some}
+use Rattle.answer.specs.declared.Error.{Error}
+use Rattle.families.specs.declared.Finding.the-variants.{Passed, Refused}
+use Rattle.families.proofs.FewTerminals.{admitted-read}
+use Rattle.table.specs.declared.Found.{Found}
 use Rattle.families.specs.Lists.{listed}
 use Rattle.families.specs.Sets.{firstNumber, followNumber}
 use Rattle.families.proofs.Lists.{listed-long, listed-at}
 use Rattle.families.proofs.Strings.{number-below}
 use Rattle.columns.specs.Columns.{columnString, columns}
-use Rattle.table.specs.Layout.{entryWord, entryAt, setWord, rowWord, tableWords, tableRoom, filled, entryCode, wordAt, wordCount, wordsOf, FilledWords}
+use Rattle.table.specs.Layout.{entryWord, entryAt, setWord, rowWord, tableWords, tableRoom}
+use Rattle.lending.specs.Lending.{entryCode, wordAt, stored, wordCount, laid, noSizes, lentSizes, lentOf, lentBy, SizesGiven}
+use Rattle.lending.proofs.Laying.{lent-sizes, count-room, lent-long}
 use Rattle.table.specs.Entries.{ruleByte, byteAt, entriesOf}
 use Rattle.table.proofs.EntriesFilled.{entries-in}
-use Rattle.table.proofs.Padded.{padded-is}
-use Rattle.table.proofs.Words.{table-length, table-set, table-row}
-
-pub room-small : (k : Lookahead) → tableRoom k ≤ maxWideTableWords
-room-small One = omega arith
-room-small Two = omega arith
-
--- the loop's array is the one that is specified
-pub words-laid : (k : Lookahead) (z : Sizes) (firsts follows entries : List ℕ) {table : List ℕ} → wordCount k z ≤ tableRoom k
-    → FilledWords (wordAt (z .nonterminals) firsts follows entries) (wordCount k z) (replicate (tableRoom k) noEntry) table
-    → table ≡ wordsOf k z firsts follows entries
-unfolding wordsOf filled
-words-laid k z firsts follows entries room f =
-    let word = wordAt (z .nonterminals) firsts follows entries in
-    let n = listed-long (wordCount k z) word in
-    padded-is (tableRoom k) noEntry (listed (wordCount k z) word) (f .long ∙ length-replicate {A = ℕ} (tableRoom k) noEntry) (omega arith)
-    (λ i h. let l : i < wordCount k z = omega arith in f .inside i l ∙ sym (listed-at (wordCount k z) word i l))
-    (λ i h l. f .behind i (omega arith) ∙ getD-replicate (tableRoom k) i noEntry 0 l)
+use Rattle.table.proofs.Words.{table-length, table-long, table-set, table-row}
+use Rattle.table.proofs.Analyzing.{FoundEntries}
 
 -- a rule's byte as a word is its number
 code-byte : (o : Option ℕ) → ((q : ℕ) → o ≡ some q → q < noRule) → entryCode (ruleByte o) ≡ entryWord o
@@ -111,23 +104,6 @@ module _ (k : Lookahead) (G : Grammar) (fewRules : length (G .rules) ≤ maxRule
         go (inl b) = in-sets i b ∙ sym (table-set k G i b)
         go (inr j) = rw (j .2) (in-rows (j .0) (j .1) ∙ sym (table-row k G (j .0) (j .1)))
 
-    -- so all words are those of the table
-    pub words-table : (z : Sizes) → z .nonterminals ≡ G .nonterminals → z .terminals ≡ G .terminals → wordsOf k z firsts follows entries ≡ filled k (tableWords k G)
-    unfolding wordsOf
-    words-table z n t =
-        ap (filled k) (ext-getD 0 (listed (wordCount k z) (wordAt (z .nonterminals) firsts follows entries)) (tableWords k G) (long ∙ wide ∙ sym (table-length k G)) each)
-      where
-        long : length (listed (wordCount k z) (wordAt (z .nonterminals) firsts follows entries)) ≡ wordCount k z
-        long = listed-long (wordCount k z) (wordAt (z .nonterminals) firsts follows entries)
-
-        wide : wordCount k z ≡ count
-        wide = rw (n, t) (omega (arith, mul-add (G .nonterminals) 2 (columns k G)))
-
-        each : (i : ℕ) → i < length (listed (wordCount k z) (wordAt (z .nonterminals) firsts follows entries))
-            → getD (listed (wordCount k z) (wordAt (z .nonterminals) firsts follows entries)) i 0 ≡ getD (tableWords k G) i 0
-        each i l =
-            listed-at (wordCount k z) (wordAt (z .nonterminals) firsts follows entries) i (omega (arith, long)) ∙ (rw n (word-is i (omega (arith, long, wide))))
-
 -- with one token of lookahead each word fits one of 32 bits
 word-small : (o : Option ℕ) → ((q : ℕ) → o ≡ some q → q < maxRules) → entryWord o < 2 ^ 32
 word-small none h = omega arith
@@ -148,3 +124,63 @@ table-small G fewRules i l = go (split One G i l)
     go (inr j) =
         let x = columnString One (G .terminals) (j .0 % columns One G) in
         rw (j .2, table-row One G (j .0) (j .1)) (word-small (tableOf G 1 (j .0 / columns One G) x) (rule-small One G fewRules (j .0 / columns One G) x))
+
+table-stored : (k : Lookahead) (G : Grammar) → length (G .rules) ≤ maxRules → (i : ℕ) → i < 2 * G .nonterminals + G .nonterminals * columns k G
+    → stored k (getD (tableWords k G) i 0) ≡ getD (tableWords k G) i 0
+table-stored One G few i h = omega (arith, table-small G few i h)
+table-stored Two G few i h = refl
+
+-- the values of a function are a list that has the same elements
+listed-table : (l : List ℕ) (n : ℕ) (f : ℕ → ℕ) → n ≡ length l → ((i : ℕ) → i < length l → f i ≡ getD l i 0) → listed n f ≡ l
+listed-table l n f e each =
+    ext-getD 0 (listed n f) l (listed-long n f ∙ e) (λ i h. let b : i < n = omega (arith, listed-long n f) in listed-at n f i b ∙ each i (omega arith))
+
+-- so what is lent of a grammar that passes is its table
+module _ {k : Lookahead} {words : List ℕ} {z : Sizes} {r : Found} (f : FoundEntries k words z r) where
+  abbrev G : Grammar
+  G = grammarOf words
+
+  read : WellRead words z
+  read = well-read words z (admitted-read k words (f .read))
+
+  few : G .nonterminals ≤ maxNonterminals
+  few = omega (arith, read .fewNonterminals, read .nonterminals)
+
+  few-rules : length (G .rules) ≤ maxRules
+  few-rules = omega (arith, read .fewRules, read .rules)
+
+  given : SizesGiven z
+  given = record { fewNonterminals = read .fewNonterminals; fewTerminals = read .fewTerminals }
+
+  counted : wordCount k z ≡ length (tableWords k G)
+  counted = rw (read .nonterminals, read .terminals) (sym (table-long k G))
+
+  as-stored : ℕ → ℕ
+  as-stored i = stored k (wordAt (z .nonterminals) (r .firsts) (r .follows) (r .entries) i)
+
+  each : (i : ℕ) → i < length (tableWords k G) → as-stored i ≡ getD (tableWords k G) i 0
+  unfolding as-stored
+  each i h =
+      let b : i < 2 * G .nonterminals + G .nonterminals * columns k G = omega (arith, table-length k G) in
+      ap (λ n. stored k (wordAt n (r .firsts) (r .follows) (r .entries) i)) (read .nonterminals)
+      ∙ ap (stored k) (word-is k G few-rules few (f .first) (f .follow) (f .entries) i b) ∙ table-stored k G few-rules i b
+
+  laid-table : laid k z (r .firsts) (r .follows) (r .entries) ≡ tableWords k G
+  unfolding laid as-stored
+  laid-table = listed-table (tableWords k G) (wordCount k z) as-stored counted each
+
+  pub lent-table : (before : List ℕ) → tableRoom k ≤ length before → r .finding ≡ Passed z → lentOf k r before ≡ tableWords k G ++ drop (length (tableWords k G)) before
+  lent-table before room p =
+      rw (p, lent-sizes z given)
+      (lent-long k z (r .firsts) (r .follows) (r .entries) before (omega (arith, count-room k z given)) ∙ rw (laid-table, counted))
+
+-- and of one that is refused nothing
+none-lent : (k : Lookahead) (firsts follows entries before : List ℕ) → lentBy k noSizes firsts follows entries before ≡ before
+unfolding lentBy laid listed
+none-lent One firsts follows entries before = rw (le-ltb (length before) 0 (omega arith)) refl
+none-lent Two firsts follows entries before = rw (le-ltb (length before) 0 (omega arith)) refl
+
+pub lent-nothing : (k : Lookahead) (r : Found) (before : List ℕ) {x : Error} → r .finding ≡ Refused x → lentOf k r before ≡ before
+unfolding lentSizes
+lent-nothing k r before p =
+    ap (λ y. lentBy k (lentSizes y) (r .firsts) (r .follows) (r .entries) before) p ∙ none-lent k (r .firsts) (r .follows) (r .entries) before
