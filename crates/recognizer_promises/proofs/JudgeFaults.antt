@@ -32,6 +32,7 @@ use Rattle.grammar.specs.declared.reading.Sizes.{Sizes}
 use Rattle.families.specs.declared.Finding.{Finding}
 use Rattle.families.specs.declared.Finding.the-variants as finding
 use Rattle.recognizer_promises.specs.Answers.{tableTooShort, checkFaultBy, judgeFaultBy, judgeFault, inputFaults, passedUnless, withFaults, withInput}
+use Rattle.recognizer_promises.specs.Judging.{memoFaultBy}
 
 -- the rows of judging, with the grammar's faults as one
 abbrev pub judgeRowsBy : Lookahead → ℕ → ℕ → List ℕ → List ℕ → List (Option Error)
@@ -46,6 +47,25 @@ unfolding judgeFaultBy fault
 judged-rows-by k table memo words input =
     first-nested (faultIf (ltb table (tableRoom k)) (tableTooShort k) ∷ faultIf (ltb memo maxMemoEntries) MemoTooShort ∷ []) (grammarFaults k words)
     (inputFaults (grammarOf words .terminals) input)
+
+-- with a table that is long enough it is judging in the memo table alone
+pub judge-table-long : (k : Lookahead) (table memo : ℕ) (words input : List ℕ) → tableRoom k ≤ table
+    → judgeFaultBy k table memo words input ≡ memoFaultBy k memo words input
+unfolding judgeFaultBy memoFaultBy
+judge-table-long k table memo words input h = rw (le-ltb table (tableRoom k) h)
+
+memo-rows : (k : Lookahead) (memo : ℕ) (words input : List ℕ)
+    → memoFaultBy k memo words input ≡ firstFault (faultIf (ltb memo maxMemoEntries) MemoTooShort ∷ fault k words ∷ inputFaults (grammarOf words .terminals) input)
+unfolding memoFaultBy fault
+memo-rows k memo words input = first-nested (faultIf (ltb memo maxMemoEntries) MemoTooShort ∷ []) (grammarFaults k words) (inputFaults (grammarOf words .terminals) input)
+
+pub memo-fault-short : (k : Lookahead) (words input memo : List ℕ) → length memo < maxMemoEntries → memoFaultBy k (length memo) words input ≡ some MemoTooShort
+unfolding memoFaultBy
+memo-fault-short k words input memo h = rw (lt-ltb (length memo) maxMemoEntries h)
+
+pub memo-fault-long : (k : Lookahead) (words input memo : List ℕ) → maxMemoEntries ≤ length memo → {f : Option Error} → fault k words ≡ f
+    → memoFaultBy k (length memo) words input ≡ firstFault (f ∷ inputFaults (grammarOf words .terminals) input)
+memo-fault-long k words input memo room e = rw (memo-rows k (length memo) words input, le-ltb (length memo) maxMemoEntries room, e)
 
 -- an input that is short and known has no fault, and no other input
 pub readable-faultless : (n : ℕ) (input : List ℕ) → length input ≤ maxTokens → Over n input → firstFault (inputFaults n input) ≡ none
