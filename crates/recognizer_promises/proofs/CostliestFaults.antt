@@ -83,23 +83,23 @@ module _ (words : List ℕ) (k : ℕ) (log memo : List ℕ) where
   abbrev fault-found : Option Error
   fault-found = searchFault (length log) (length memo) words k
 
-  search-refused : {x : Error} → fault-found ≡ some x → SearchesWords words k log memo (refusedWith x) log memo
-  search-refused f =
+  search-refused : {x : Error} → fault-found ≡ some x → {r : Judgement} → r ≡ refusedWith x → SearchesWords words k log memo r log memo
+  search-refused f e =
       let G = grammarOf words in
       let w = costliestInput G k in
       record {
-        verdict = sym (ap (λ y. refusedOr y (verdictOf G w)) f);
-        grammar = sym (ap (λ y. foundUnless y (foundOf One words)) f);
+        verdict = ap (λ y. y .answer) e ∙ sym (ap (λ y. refusedOr y (verdictOf G w)) f);
+        grammar = ap (λ y. y .found) e ∙ sym (ap (λ y. foundUnless y (foundOf One words)) f);
         lent-log = sym (ap (λ y. lentBack y w log) f);
         lent-memo = sym (ap (λ y. lentBack y (memoWords G w) memo) f);
       }
 
-  pub memo-refused : length memo < maxMemoEntries → SearchesWords words k log memo (refusedWith MemoTooShort) log memo
+  pub memo-refused : length memo < maxMemoEntries → {r : Judgement} → r ≡ refusedWith MemoTooShort → SearchesWords words k log memo r log memo
   unfolding searchFault
   memo-refused h = search-refused (rw (lt-ltb (length memo) maxMemoEntries h))
 
   module _ (room : maxMemoEntries ≤ length memo) where
-    pub log-refused : length log < maxTokens → SearchesWords words k log memo (refusedWith BufferTooShort) log memo
+    pub log-refused : length log < maxTokens → {r : Judgement} → r ≡ refusedWith BufferTooShort → SearchesWords words k log memo r log memo
     unfolding searchFault
     log-refused h = search-refused (rw (le-ltb (length memo) maxMemoEntries room, lt-ltb (length log) maxTokens h))
 
@@ -114,7 +114,7 @@ module _ (words : List ℕ) (k : ℕ) (log memo : List ℕ) where
         abbrev known : Told One words (found .finding) (found .entries)
         known = told One words e
 
-        pub found-refused : {x : Error} → f ≡ finding.Refused x → SearchesWords words k log memo (refusedWith x) log memo
+        pub found-refused : {x : Error} → f ≡ finding.Refused x → {r : Judgement} → r ≡ refusedWith x → SearchesWords words k log memo r log memo
         found-refused {x} p = search-refused (go (with-refused (found .finding) faults (sym q ∙ p)))
           where
             go : RefusedWith (found .finding) faults x → fault-found ≡ some x

@@ -11,6 +11,7 @@ use lib.Dec.{ltb}
 use lib.ListN.{length, take, drop, length-map}
 use lib.Seq.{length-take-le}
 use Rattle.answer.specs.declared.Error.{Error}
+use Rattle.answer.specs.declared.Error.the-variants.{MemoTooShort}
 use Rattle.answer.specs.Numbers.{accepted, rejected, answered, numbers}
 use Rattle.answer.specs.Faults.{firstFault, refusedOr, toldOr}
 use Rattle.answer.proofs.Faults.{numbers-told}
@@ -50,7 +51,7 @@ use Rattle.recognizer_promises.specs.declared.Judgement.{Judgement}
 use Rattle.recognizer_promises.specs.Properties.{PassedBy, Readable, RecognizesBy, JudgesBy}
 use Rattle.recognizer_promises.proofs.Checking.{fits-few, passed-fault-for, passed-free, passed-predictive, fault-passed, Told, told, found as found-entries, found-fault}
 use Rattle.recognizer_promises.proofs.Places.{judge-tells, fault-encoded, places}
-use Rattle.recognizer_promises.proofs.JudgeFaults.{judge-fault-long, input-fault, judge-table-long, memo-fault-long, judged-readable-by, readable-faultless, faultless-readable, judged-checked, PassedWith, RefusedWith, byGrammar, byFaults, with-passed, with-refused}
+use Rattle.recognizer_promises.proofs.JudgeFaults.{judge-fault-long, input-fault, judge-table-long, memo-fault-short, memo-fault-long, judged-readable-by, readable-faultless, faultless-readable, judged-checked, PassedWith, RefusedWith, byGrammar, byFaults, with-passed, with-refused}
 use Rattle.recognizer_promises.proofs.Meaning.{meaning}
 
 -- the numbers of what is answered
@@ -166,13 +167,17 @@ pub same-terminals : (k : Lookahead) (words : List ℕ) (faults : ℕ → List (
 same-terminals k words faults {z} m h = rw (← well-read words z (admitted-read k words (m .taken)) .terminals) h
 
 -- judging in the memo table alone: a refusal
-pub words-refused : {k : Lookahead} {words input memo : List ℕ} {x : Error} → memoFaultBy k (length memo) words input ≡ some x
-    → JudgesWords k words input memo (refusedWith x) memo
-words-refused {k} {words} {input} {memo} f = record {
-  verdict = sym (ap (λ y. refusedOr y (verdictBy (tokens k) (grammarOf words) input)) f);
-  grammar = sym (ap (λ y. foundUnless y (foundOf k words)) f);
+words-refused : (k : Lookahead) (words input memo : List ℕ) {x : Error} → memoFaultBy k (length memo) words input ≡ some x → {r : Judgement}
+    → r ≡ refusedWith x → JudgesWords k words input memo r memo
+words-refused k words input memo f e = record {
+  verdict = ap (λ y. y .answer) e ∙ sym (ap (λ y. refusedOr y (verdictBy (tokens k) (grammarOf words) input)) f);
+  grammar = ap (λ y. y .found) e ∙ sym (ap (λ y. foundUnless y (foundOf k words)) f);
   lent = sym (ap (λ y. lentBack y (memoWordsBy (tokens k) (grammarOf words) input) memo) f);
 }
+
+pub words-short : (k : Lookahead) (words input memo : List ℕ) → length memo < maxMemoEntries → {r : Judgement} → r ≡ refusedWith MemoTooShort
+    → JudgesWords k words input memo r memo
+words-short k words input memo h = words-refused k words input memo (memo-fault-short k words input memo h)
 
 -- what is found of a grammar and an input decides
 module _ (k : Lookahead) (words input memo : List ℕ) (room : maxMemoEntries ≤ length memo) {found : Found} (e : found ≡ foundOf k words) {f : Finding}
@@ -183,8 +188,8 @@ module _ (k : Lookahead) (words input memo : List ℕ) (room : maxMemoEntries �
   abbrev known : Told k words (found .finding) (found .entries)
   known = told k words e
 
-  pub words-found-refused : {x : Error} → f ≡ finding.Refused x → JudgesWords k words input memo (refusedWith x) memo
-  words-found-refused {x} p = words-refused (go (with-refused (found .finding) faults (sym q ∙ p)))
+  pub words-found-refused : {x : Error} → f ≡ finding.Refused x → {r : Judgement} → r ≡ refusedWith x → JudgesWords k words input memo r memo
+  words-found-refused {x} p = words-refused k words input memo (go (with-refused (found .finding) faults (sym q ∙ p)))
     where
       go : RefusedWith (found .finding) faults x → memoFaultBy k (length memo) words input ≡ some x
       go (byGrammar h) = memo-fault-long k words input memo room (found-fault known h)

@@ -62,7 +62,7 @@ loop-again c =
     let room = count-room One (start .args .sizes) (start .pre) in (
       omega arith,
       front-next _ _ _ _ _ _ (loop .loop .inv .1) (c .before .loop-test .taken)
-      (omega (arith, loop .before .word-count .ensures, room, length-replicate {A = ℕ} maxTableWords noEntry)) (rw (c .word .ensures)),
+          (omega (arith, loop .before .word-count .ensures, room, length-replicate {A = ℕ} maxTableWords noEntry)) (rw (c .word .ensures)),
     )
 
 returns : tie.Need-returns Inv-loop μ-loop
