@@ -38,15 +38,15 @@ use Rattle.lookahead.specs.declared.Lookahead.{Lookahead}
 use Rattle.lookahead.specs.Lookaheads.{tokens}
 use Rattle.families.proofs.FewTerminals.{admitted-read, few-terminals}
 use Rattle.columns.specs.Columns.{columnCount}
-use Rattle.recognizer.specs.Arrays.{held, rowAt}
+use Rattle.descent_arrays.specs.Arrays.{held, rowAt}
 use Rattle.recognizer.specs.Descent.{MemoSound, CallGiven, CallDone, CallRequires, CallEnsures}
 use Rattle.memo_table.specs.Tally.{tallyOf, recordedCalls}
 use Rattle.recognizer_promises.specs.Answers.{callsBy, verdictBy}
 use Rattle.recognizer_promises.specs.Judging.{DescendGiven, Descended}
-use Rattle.recognizer.specs.Preparing.{TokensGiven, TokensHold, ChoicesGiven, Filled}
+use Rattle.descent_arrays.specs.Preparing.{TokensGiven, TokensHold, ChoicesGiven, Filled}
 use Rattle.event.specs.Events.{inputOf}
 use Rattle.event.proofs.Inputs.{input-length}
-use Rattle.recognizer.proofs.Tokens.{column-few}
+use Rattle.descent_arrays.proofs.Tokens.{column-few}
 use Rattle.recognizer.proofs.TableChoices.{choices-given, choices-hold}
 use Rattle.recognizer.proofs.Running.{level}
 use Rattle.recognizer_promises.proofs.MemoWords.{words-recorded}

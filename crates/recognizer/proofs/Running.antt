@@ -38,7 +38,7 @@ use Rattle.rule.specs.Rule.{meant}
 use Rattle.families.proofs.Words.{parse-over}
 use Rattle.grammar.specs.Limits.{maxNonterminals}
 use Rattle.recognizer.specs.declared.descent.Run.{Run}
-use Rattle.recognizer.specs.Arrays.{endMark, columnWeight, matchesAt}
+use Rattle.descent_arrays.specs.Arrays.{endMark, columnWeight, matchesAt}
 use Rattle.recognizer.specs.Descent.{Skipped, MemoSound, CallGiven, RunGiven, CallDone, RunDone}
 use Rattle.recognizer.proofs.Bodies.{parse-here, symbol-reads, skipped-none, skipped-symbol}
 

@@ -39,7 +39,7 @@ use Rattle.recognizer.proofs.Bodies.{parse-here}
 use Rattle.recognizer.proofs.Running.{deep}
 use Rattle.grammar.proofs.WellFormed.{reads}
 use Rattle.rule.specs.Rule.{signAt, openingBy}
-use Rattle.recognizer.specs.Arrays.{endAt, firstAt}
+use Rattle.descent_arrays.specs.Arrays.{endAt, firstAt}
 use Rattle.recognizer.specs.Descent.{firstConjunct, CallGiven}
 use Rattle.recognizer.proofs.Calling.{memoRest, Calling, InRule}
 

@@ -27,7 +27,7 @@ use Rattle.rule.specs.declared.Outcome as code
 use Rattle.rule.specs.declared.Outcome.the-variants as outcome
 use Rattle.rule.specs.Rule.{meant}
 use Rattle.memo_table.proofs.Entries.{getD-any}
-use Rattle.recognizer.specs.Arrays.{rowAt}
+use Rattle.descent_arrays.specs.Arrays.{rowAt}
 use Rattle.recognizer.specs.Descent.{MemoSound, CallGiven, CallDone}
 use Rattle.recognizer.proofs.Running.{deep, level}
 

@@ -26,10 +26,10 @@ use Rattle.table.proofs.EntriesFilled.{entries-at}
 use Rattle.lookahead.specs.declared.Lookahead.{Lookahead}
 use Rattle.lookahead.specs.Lookaheads.{tokens}
 use Rattle.families.proofs.FewTerminals.{admitted-read, few-terminals}
-use Rattle.recognizer.specs.Arrays.{choiceColumns, firstAt}
+use Rattle.descent_arrays.specs.Arrays.{choiceColumns, firstAt}
 use Rattle.recognizer.specs.Descent.{firstConjunct}
 use Rattle.columns.specs.Columns.{columnAt}
-use Rattle.recognizer.specs.Preparing.{TokensHold, entryOf, firstWord, FirstGiven, ChoicesGiven, Filled}
+use Rattle.descent_arrays.specs.Preparing.{TokensHold, entryOf, firstWord, FirstGiven, ChoicesGiven, Filled}
 use Rattle.recognizer_promises.specs.Judging.{Ready}
 use Rattle.columns.proofs.Columns.{column-right}
 

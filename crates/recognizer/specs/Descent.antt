@@ -30,7 +30,7 @@ use Rattle.semantics.specs.MemoDescent.{memoized, memoRun, memoCall}
 use Rattle.rule.specs.declared.Outcome as code
 use Rattle.rule.specs.Rule.{meant}
 use Rattle.recognizer.specs.declared.descent.Run.{Run}
-use Rattle.recognizer.specs.Arrays.{rowColumn, endMark, columnWeight, held, rowAt, endAt, firstAt}
+use Rattle.descent_arrays.specs.Arrays.{rowColumn, endMark, columnWeight, held, rowAt, endAt, firstAt}
 
 -- where the first conjunct stands of a rule by its number, or 0
 abbrev pub firstConjunct : List ℕ → Option ℕ → ℕ

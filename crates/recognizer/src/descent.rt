@@ -2,18 +2,19 @@
 ghost use mathlib.Core.Path.{_≡_};
 ghost use Prim.Native.Nat.{_+_, _≤_};
 ghost use lib.ListN.{length};
-ghost use Rattle.semantics.specs.Memo.{encode, decode as decodedEntry};
-ghost use Rattle.rule.specs.Rule.{meant, openingBy};
-ghost use Rattle.recognizer.specs.Arrays.{rowAt, endAt, firstAt, matchesAt};
+ghost use Rattle.rule.specs.Rule.{openingBy};
+ghost use Rattle.descent_arrays.specs.Arrays.{rowAt, endAt, firstAt, matchesAt};
 ghost use Rattle.recognizer.specs.Descent.{BodyEnd, TokenGiven, EntryGiven, EndGiven, ChosenGiven, CallRequires, CallEnsures, RunRequires, RunEnsures};
-use super::arrays::CHOICE_COLUMNS;
-use super::arrays::CHOICES;
-use super::arrays::COLUMN_WEIGHT;
-use super::arrays::END_COLUMN;
-use super::arrays::ROW_COLUMN;
+use descent_arrays::arrays::CHOICE_COLUMNS;
+use descent_arrays::arrays::CHOICES;
+use descent_arrays::arrays::COLUMN_WEIGHT;
+use descent_arrays::arrays::END_COLUMN;
+use descent_arrays::arrays::ROW_COLUMN;
 use grammar::codes::FAILED;
 use grammar::codes::UNCALLED;
 use grammar::limits::PLACES;
+use memo_table::entry::code;
+use memo_table::entry::recall;
 use rule::Agreement;
 use rule::Outcome;
 use rule::Sign;
@@ -82,26 +83,6 @@ fn first_agreement(choices: &[u16; CHOICES], nonterminal: usize, sign: Sign) -> 
     ensures { λ r. ⌜ r ≡ openingBy sign (endAt (now (choices .entry)) nonterminal) ⌝ }
 {
     opening(sign, choices[nonterminal * CHOICE_COLUMNS + END_COLUMN])
-}
-
-// An outcome as an entry of the memo table, and back.
-fn code(outcome: Outcome) -> u16
-    ensures { λ r. ⌜ r ≡ encode (meant outcome) ⌝ }
-{
-    match outcome {
-        Outcome::Failed => FAILED,
-        Outcome::End(end) => end,
-    }
-}
-
-fn recall(entry: u16) -> Outcome
-    ensures { λ r. ⌜ meant r ≡ decodedEntry entry ⌝ }
-{
-    if entry == FAILED {
-        Outcome::Failed
-    } else {
-        Outcome::End(entry)
-    }
 }
 
 // Runs the body at an index from a place on, for a call of the nonterminal there; the first symbol that fails stops it.

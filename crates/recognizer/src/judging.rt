@@ -2,10 +2,10 @@
 ghost use Rattle.event.specs.Events.{inputOf};
 ghost use Rattle.recognizer_promises.specs.Judging.{PassedGiven, DescendGiven, Descended, JudgedPassed};
 use super::descent::call;
-use super::preparing::choices_of;
-use super::preparing::tokens_of;
 use answer::Answer;
 use columns::count;
+use descent_arrays::preparing::choices_of;
+use descent_arrays::preparing::tokens_of;
 use grammar::limits::ENTRIES;
 use grammar::reading::Sizes;
 use lookahead::Lookahead;

@@ -12,11 +12,9 @@ use lending::lend;
 use lookahead::Lookahead;
 use table::analyze;
 
-pub mod arrays;
 mod descent;
 mod judging;
 mod lending;
-mod preparing;
 pub mod search;
 pub mod wide;
 

@@ -9,7 +9,7 @@ use lib.ListN.{length, length-set}
 use borrow.Author.Tests.{not-true, not-false}
 use Rattle.word.specs.declared.Word.the-variants.{Symbol}
 use Rattle.semantics.specs.Choices.{Choice}
-use Rattle.recognizer.specs.Arrays.{held}
+use Rattle.descent_arrays.specs.Arrays.{held}
 use Rattle.recognizer.specs.Descent.{CallGiven, RunGiven}
 use Rattle.recognizer.proofs.Bodies.{no-symbol}
 use Rattle.recognizer.proofs.Choosing.{token-given, entry-given, chosen-given}
@@ -28,11 +28,11 @@ use Rattle.recognizer.proofs.descent.run_body.Kinds as run-body-kinds
 use Rattle.recognizer.proofs.descent.+call+run_body.Lts-run_body as run-body-lts
 use Rattle.recognizer.proofs.descent.body_end.Reads as body-end-reads
 use Rattle.recognizer.proofs.descent.chosen.Reads as chosen-reads
-use Rattle.recognizer.proofs.descent.code.Reads as code-reads
+use Rattle.memo_table.proofs.entry.code.Reads as code-reads
 use Rattle.recognizer.proofs.descent.entry_of.Reads as entry-of-reads
 use Rattle.recognizer.proofs.descent.first_agreement.Reads as first-agreement-reads
 use Rattle.recognizer.proofs.descent.matches.Reads as matches-reads
-use Rattle.recognizer.proofs.descent.recall.Reads as recall-reads
+use Rattle.memo_table.proofs.entry.recall.Reads as recall-reads
 use Rattle.rule.proofs.conclude.Reads as conclude-reads
 use Rattle.rule.proofs.goes_on.Reads as goes-on-reads
 use Rattle.rule.proofs.joined.Reads as joined-reads

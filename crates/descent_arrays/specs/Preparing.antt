@@ -13,7 +13,7 @@ use Rattle.semantics.specs.Strings.{Over}
 use Rattle.lookahead.specs.declared.Lookahead.{Lookahead}
 use Rattle.lookahead.specs.Lookaheads.{alphabet}
 use Rattle.columns.specs.Columns.{columnAt}
-use Rattle.recognizer.specs.Arrays.{endMark, columnWeight, choiceColumns, choiceWords, held, rowAt, endAt}
+use Rattle.descent_arrays.specs.Arrays.{endMark, columnWeight, choiceColumns, choiceWords, held, rowAt, endAt}
 
 pub record TokensGiven (k : Lookahead) (w : List ℕ) (n : ℕ) : Type 0 where
   pub short : length w ≤ maxTokens

@@ -1,9 +1,9 @@
 -- The loop keeps: the columns passed are written, and the rows before are as they were.
 use Prim.Native.Nat.{_-_}
 use native.Mathlib.Omega.{arith}
-use Rattle.recognizer.proofs.ChoiceRows.{placed, Writing, writing-none, writing-more, row-filled}
-use Rattle.recognizer.proofs.preparing.fill_row.Statement.{statement}
-use Rattle.recognizer.proofs.preparing.fill_row.Tie as tie
+use Rattle.descent_arrays.proofs.ChoiceRows.{placed, Writing, writing-none, writing-more, row-filled}
+use Rattle.descent_arrays.proofs.preparing.fill_row.Statement.{statement}
+use Rattle.descent_arrays.proofs.preparing.fill_row.Tie as tie
 
 abbrev Inv-loop : tie.InvT-loop
 Inv-loop choices₀ starts entries columns nonterminal places from to column₀ choices column =

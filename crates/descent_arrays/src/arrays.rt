@@ -1,22 +1,22 @@
 // The arrays that the descent reads, made before it starts: their sizes, and how the word of a token is made up.
 ghost use mathlib.Core.Path.{_≡_};
-ghost use Rattle.recognizer.specs.Arrays.{arrays};
+ghost use Rattle.descent_arrays.specs.Arrays.{arrays};
 use grammar::limits::NONTERMINALS;
 
 // A row of choices for each nonterminal: where the first conjunct stands of the rule to run for each column of the table, 0 for
 // none; in the last columns the input's length, and where the row of the memo table begins.
-pub(crate) const CHOICE_COLUMNS: usize = 64;
+pub const CHOICE_COLUMNS: usize = 64;
 
-pub(crate) const ROW_COLUMN: usize = CHOICE_COLUMNS - 1;
+pub const ROW_COLUMN: usize = CHOICE_COLUMNS - 1;
 
-pub(crate) const END_COLUMN: usize = ROW_COLUMN - 1;
+pub const END_COLUMN: usize = ROW_COLUMN - 1;
 
-pub(crate) const CHOICES: usize = (NONTERMINALS as usize) * CHOICE_COLUMNS;
+pub const CHOICES: usize = (NONTERMINALS as usize) * CHOICE_COLUMNS;
 
 // A word for each place: its terminal, or the mark of the end, and the weight times the column of its lookahead string.
-pub(crate) const END_MARK: u32 = 255;
+pub const END_MARK: u32 = 255;
 
-pub(crate) const COLUMN_WEIGHT: u32 = END_MARK + 1;
+pub const COLUMN_WEIGHT: u32 = END_MARK + 1;
 
 pub struct Arrays {
     pub choice_columns: usize,

@@ -1,9 +1,9 @@
 use native.Mathlib.Omega.{arith}
 use borrow.Author.Tests.{eq-eqb, ne-eqb}
-use Rattle.recognizer.specs.Preparing.{firstWord}
+use Rattle.descent_arrays.specs.Preparing.{firstWord}
 use borrow.Author.Needs.{needs}
-use Rattle.recognizer.proofs.preparing.first_conjunct.Statement.{statement}
-use Rattle.recognizer.proofs.preparing.first_conjunct.Tie as tie
+use Rattle.descent_arrays.proofs.preparing.first_conjunct.Statement.{statement}
+use Rattle.descent_arrays.proofs.preparing.first_conjunct.Tie as tie
 
 mul-result : tie.Need-mul-result
 mul-result c = search needs

@@ -1,7 +1,7 @@
 use Rattle.semantics.specs.Memo.{encode}
 use borrow.Author.Needs.{needs}
-use Rattle.recognizer.proofs.descent.code.Statement.{statement}
-use Rattle.recognizer.proofs.descent.code.Tie as tie
+use Rattle.memo_table.proofs.entry.code.Statement.{statement}
+use Rattle.memo_table.proofs.entry.code.Tie as tie
 
 enum-told : tie.Need-enum-told
 enum-told c = search needs

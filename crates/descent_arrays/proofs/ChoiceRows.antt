@@ -9,8 +9,8 @@ use lib.ListN.{length, getD, set, length-set}
 use lib.Seq.{getD-set-same, getD-set-other}
 use Rattle.grammar.specs.Limits.{maxNonterminals, maxWideColumns, maxEntries, maxPlaces, maxMemoEntries}
 use Rattle.grammar.specs.Starts.{ruleStarts}
-use Rattle.recognizer.specs.Arrays.{choiceColumns, rowColumn, endColumn, choiceWords, rowAt, endAt}
-use Rattle.recognizer.specs.Preparing.{entryOf, firstWord, ChoicesGiven, RowGiven, RowFilled, Filled}
+use Rattle.descent_arrays.specs.Arrays.{choiceColumns, rowColumn, endColumn, choiceWords, rowAt, endAt}
+use Rattle.descent_arrays.specs.Preparing.{entryOf, firstWord, ChoicesGiven, RowGiven, RowFilled, Filled}
 
 -- where a row is read and written
 pub record Placed (columns A places : ℕ) : Type 0 where

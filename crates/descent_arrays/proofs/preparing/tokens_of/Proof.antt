@@ -5,11 +5,11 @@ use native.Mathlib.Omega.{arith}
 use lib.ListN.{length, getD}
 use Rattle.event.specs.Events.{inputOf}
 use Rattle.event.proofs.Inputs.{input-length, input-at}
-use Rattle.recognizer.specs.Arrays.{endMark, columnWeight}
+use Rattle.descent_arrays.specs.Arrays.{endMark, columnWeight}
 use Rattle.columns.specs.Columns.{columnAt}
-use Rattle.recognizer.proofs.Tokens.{Written, written-none, written-more, written-all, column-few}
-use Rattle.recognizer.proofs.preparing.tokens_of.Statement.{statement}
-use Rattle.recognizer.proofs.preparing.tokens_of.Tie as tie
+use Rattle.descent_arrays.proofs.Tokens.{Written, written-none, written-more, written-all, column-few}
+use Rattle.descent_arrays.proofs.preparing.tokens_of.Statement.{statement}
+use Rattle.descent_arrays.proofs.preparing.tokens_of.Tie as tie
 
 abbrev Inv-loop : tie.InvT-loop
 Inv-loop events lookahead terminals end tokens₀ place₀ tokens place = (place ≤ length events) × Written lookahead terminals (inputOf events) place tokens

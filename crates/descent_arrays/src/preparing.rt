@@ -1,7 +1,7 @@
 // What the descent reads beside the words, made before it starts: a choice of rules by the columns of the table, and the tokens.
 ghost use mathlib.Core.Path.{_≡_};
 ghost use Rattle.event.specs.Events.{inputOf};
-ghost use Rattle.recognizer.specs.Preparing.{firstWord, TokensGiven, TokensHold, FirstGiven, ChoicesGiven, RowGiven, RowFilled, Filled};
+ghost use Rattle.descent_arrays.specs.Preparing.{firstWord, TokensGiven, TokensHold, FirstGiven, ChoicesGiven, RowGiven, RowFilled, Filled};
 use super::arrays::CHOICE_COLUMNS;
 use super::arrays::CHOICES;
 use super::arrays::COLUMN_WEIGHT;
@@ -18,7 +18,7 @@ use lookahead::Lookahead;
 use reader::rule_starts;
 
 // The terminal of each event, and the column of the lookahead string there; behind the events, the end.
-pub(crate) fn tokens_of(events: &[u8], lookahead: Lookahead, terminals: u32) -> [u16; PLACES]
+pub fn tokens_of(events: &[u8], lookahead: Lookahead, terminals: u32) -> [u16; PLACES]
     requires { ⌜ TokensGiven lookahead (inputOf (now events)) terminals ⌝ }
     ensures { λ r. ⌜ TokensHold lookahead terminals (inputOf (now (events .entry))) r ⌝ }
 {
@@ -70,7 +70,7 @@ fn fill_row(
     choices[to + ROW_COLUMN] = (nonterminal * places) as u16;
 }
 
-pub(crate) fn choices_of(
+pub fn choices_of(
     words: &[u32],
     nonterminals: usize,
     columns: usize,

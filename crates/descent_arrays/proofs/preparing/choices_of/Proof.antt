@@ -2,10 +2,10 @@
 use Prim.Native.Nat.{ℕ, _-_}
 use native.Mathlib.Omega.{arith}
 use lib.ListN.{length-replicate}
-use Rattle.recognizer.specs.Arrays.{choiceWords}
-use Rattle.recognizer.proofs.ChoiceRows.{row-given, Rows, rows-none, rows-more, rows-all}
-use Rattle.recognizer.proofs.preparing.choices_of.Statement.{statement}
-use Rattle.recognizer.proofs.preparing.choices_of.Tie as tie
+use Rattle.descent_arrays.specs.Arrays.{choiceWords}
+use Rattle.descent_arrays.proofs.ChoiceRows.{row-given, Rows, rows-none, rows-more, rows-all}
+use Rattle.descent_arrays.proofs.preparing.choices_of.Statement.{statement}
+use Rattle.descent_arrays.proofs.preparing.choices_of.Tie as tie
 
 abbrev Inv-loop : tie.InvT-loop
 Inv-loop words nonterminals columns entries places starts choices₀ nonterminal₀ choices nonterminal =

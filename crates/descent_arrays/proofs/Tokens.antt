@@ -13,9 +13,9 @@ use Rattle.lookahead.specs.declared.Lookahead.{Lookahead}
 use Rattle.lookahead.specs.declared.Lookahead.the-variants.{One, Two}
 use Rattle.lookahead.specs.Lookaheads.{alphabet}
 use Rattle.columns.proofs.ColumnStrings.{column-count}
-use Rattle.recognizer.specs.Arrays.{endColumn, endMark, columnWeight, held}
+use Rattle.descent_arrays.specs.Arrays.{endColumn, endMark, columnWeight, held}
 use Rattle.columns.specs.Columns.{columnAt}
-use Rattle.recognizer.specs.Preparing.{TokensGiven, TokensHold}
+use Rattle.descent_arrays.specs.Preparing.{TokensGiven, TokensHold}
 use Rattle.columns.proofs.Columns.{column-right}
 
 -- words hold the input that their terminals are, up to the end

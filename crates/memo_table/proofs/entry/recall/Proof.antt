@@ -1,8 +1,8 @@
 use borrow.Author.Tests.{eq-eqb, ne-eqb}
 use Rattle.semantics.specs.Memo.{decode}
 use Rattle.booleans.specs.Choice.{choose}
-use Rattle.recognizer.proofs.descent.recall.Statement.{statement}
-use Rattle.recognizer.proofs.descent.recall.Tie as tie
+use Rattle.memo_table.proofs.entry.recall.Statement.{statement}
+use Rattle.memo_table.proofs.entry.recall.Tie as tie
 
 returns : tie.Need-returns
 unfolding decode
