@@ -1,2 +1,3 @@
-pub mod Tokens
+pub mod Listing
+pub mod TokenWords
 pub mod ChoiceRows

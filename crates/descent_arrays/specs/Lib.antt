@@ -1,2 +1,3 @@
 pub mod Arrays
-pub mod Preparing
+pub mod Tokens
+pub mod Choices

@@ -1,5 +1,6 @@
 // The arrays that the descent reads, made before it starts: their sizes, and how the word of a token is made up.
 ghost use mathlib.Core.Path.{_≡_};
+ghost use Prim.Native.Nat.{min};
 ghost use Rattle.descent_arrays.specs.Arrays.{arrays};
 use grammar::limits::NONTERMINALS;
 
@@ -14,16 +15,16 @@ pub const END_COLUMN: usize = ROW_COLUMN - 1;
 pub const CHOICES: usize = (NONTERMINALS as usize) * CHOICE_COLUMNS;
 
 // A word for each place: its terminal, or the mark of the end, and the weight times the column of its lookahead string.
-pub const END_MARK: u32 = 255;
+pub const END_MARK: u8 = 255;
 
-pub const COLUMN_WEIGHT: u32 = END_MARK + 1;
+pub const COLUMN_WEIGHT: u32 = END_MARK as u32 + 1;
 
 pub struct Arrays {
     pub choice_columns: usize,
     pub row_column: usize,
     pub end_column: usize,
     pub choices: usize,
-    pub end_mark: u32,
+    pub end_mark: u8,
     pub column_weight: u32,
 }
 
@@ -39,4 +40,11 @@ pub fn all() -> Arrays
         end_mark: END_MARK,
         column_weight: COLUMN_WEIGHT,
     }
+}
+
+// A number, or the most that there is room for.
+pub(crate) fn fitting(number: usize, room: usize) -> usize
+    ensures { λ r. ⌜ r ≡ min number room ⌝ }
+{
+    if number < room { number } else { room }
 }

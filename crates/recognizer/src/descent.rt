@@ -1,10 +1,9 @@
 // The descent: calling a nonterminal at a place and running a body call one another in turn.
 ghost use mathlib.Core.Path.{_≡_};
-ghost use Prim.Native.Nat.{_+_, _≤_};
-ghost use lib.ListN.{length};
+ghost use Prim.Native.Nat.{_+_};
 ghost use Rattle.rule.specs.Rule.{openingBy};
 ghost use Rattle.descent_arrays.specs.Arrays.{rowAt, endAt, firstAt, matchesAt};
-ghost use Rattle.recognizer.specs.Descent.{BodyEnd, TokenGiven, EntryGiven, EndGiven, ChosenGiven, CallRequires, CallEnsures, RunRequires, RunEnsures};
+ghost use Rattle.recognizer.specs.Descent.{TokenGiven, EntryGiven, EndGiven, ChosenGiven, CallRequires, CallEnsures, RunRequires, RunEnsures};
 use descent_arrays::arrays::CHOICE_COLUMNS;
 use descent_arrays::arrays::CHOICES;
 use descent_arrays::arrays::COLUMN_WEIGHT;
@@ -18,6 +17,7 @@ use memo_table::entry::recall;
 use rule::Agreement;
 use rule::Outcome;
 use rule::Sign;
+use rule::body_end;
 use rule::conclude;
 use rule::goes_on;
 use rule::joined;
@@ -35,22 +35,6 @@ pub struct Run {
 
 // What the column of a lookahead string weighs in a token's word.
 const WEIGHT: usize = COLUMN_WEIGHT as usize;
-
-// Where the body at an index ends.
-fn body_end(words: &[u32], from: usize) -> usize
-    requires { ⌜ from ≤ length (now words) ⌝ }
-    ensures { λ r. ⌜ BodyEnd (now (words .entry)) from r ⌝ }
-{
-    let mut at = from;
-    while at < words.len() {
-        let word = decode(words[at]);
-        let Word::Symbol(_) = word else {
-            return at;
-        };
-        at = at + 1;
-    }
-    at
-}
 
 // Whether the token at a place is a terminal.
 fn matches(tokens: &[u16; PLACES], place: u16, terminal: u32) -> bool

@@ -4,13 +4,14 @@ ghost use Rattle.recognizer_promises.specs.Judging.{PassedGiven, DescendGiven, 
 use super::descent::call;
 use answer::Answer;
 use columns::count;
-use descent_arrays::preparing::choices_of;
-use descent_arrays::preparing::tokens_of;
+use descent_arrays::choices::choices_of;
+use descent_arrays::tokens::tokens_of;
 use grammar::limits::ENTRIES;
 use grammar::reading::Sizes;
 use lookahead::Lookahead;
 use memo_table::clear;
 use memo_table::tally;
+use reader::rule_starts;
 use rule::ends_at;
 
 // Runs the descent in a memo table of just the entries that it needs.
@@ -28,7 +29,8 @@ fn descend(
     clear(memo);
     let nonterminals = sizes.nonterminals as usize;
     let columns = count(lookahead, sizes.terminals);
-    let choices = choices_of(words, nonterminals, columns, entries, events.len() + 1);
+    let starts = rule_starts(words);
+    let choices = choices_of(&starts, nonterminals, columns, entries, events.len());
     let tokens = tokens_of(events, lookahead, sizes.terminals);
     let outcome = call(0, words, &choices, &tokens, memo, 0);
     let length = events.len() as u16;

@@ -1,20 +1,21 @@
-use mathlib.Core.Path.{_∙_}
+-- The loop keeps: from here the body ends where it does from its start.
+use mathlib.Core.Path.{_≡_, refl, sym, ap, _∙_}
 use Prim.Native.Nat.{_-_}
 use native.Mathlib.Omega.{arith}
 use lib.ListN.{length}
-use Rattle.recognizer.specs.Descent.{Skipped}
-use Rattle.recognizer.proofs.Bodies.{skipped-none, skipped-symbol, no-symbol, body-ends}
-use Rattle.recognizer.proofs.descent.body_end.Statement.{statement}
-use Rattle.recognizer.proofs.descent.body_end.Tie as tie
+use Rattle.rule.specs.Rule.{isSymbol, bodyEnd}
+use Rattle.rule.proofs.Bodies.{is-symbol, no-symbol, symbol-test, body-on, body-stops, body-over}
+use Rattle.rule.proofs.body_end.Statement.{statement}
+use Rattle.rule.proofs.body_end.Tie as tie
 
 abbrev Inv-loop : tie.InvT-loop
-Inv-loop words from at₀ at = Skipped words from at
+Inv-loop words from at₀ at = bodyEnd words at ≡ bodyEnd words from
 
 abbrev μ-loop : tie.MeasureT-loop
 μ-loop words from at₀ at = length words - at
 
 loop-holds : tie.Need-loop-holds Inv-loop μ-loop
-loop-holds c = skipped-none (c .before .args .words .now) (c .before .args .from) (c .before .pre)
+loop-holds c = refl
 
 mul-decode : tie.Need-mul-decode Inv-loop μ-loop
 mul-decode c = omega arith
@@ -29,7 +30,12 @@ enum-told : tie.Need-enum-told Inv-loop μ-loop
 enum-told c = c .match .keys1
 
 returns : tie.Need-returns Inv-loop μ-loop
-returns c = body-ends (c .before .before .before .before .loop .inv) (λ X _ e. no-symbol _ (c .match .keys2) X (c .before .decode .ensures ∙ e))
+returns c =
+    let at-loop = c .before .before .before .before in
+    let word = c .before .decode .result in
+    let other = symbol-test word (no-symbol word (c .match .keys2)) in
+    let here = ap isSymbol (sym (c .before .decode .ensures)) ∙ other in
+    sym (body-stops _ _ (c .before .before .before .loop-test .taken) here) ∙ at-loop .loop .inv
 
 add-at : tie.Need-add-at Inv-loop μ-loop
 add-at c = omega arith
@@ -39,14 +45,14 @@ loop-less c = omega arith
 
 loop-again : tie.Need-loop-again Inv-loop μ-loop
 loop-again c =
-    let at-match = c .before in
-    let at-decode = at-match .before in
+    let at-decode = c .before .before in
     let at-loop-test = at-decode .before .before in
-    let at-loop = at-loop-test .before in
-    skipped-symbol (at-loop .loop .inv) (at-loop-test .loop-test .taken) (at-decode .decode .ensures) (at-match .match .keys1)
+    let symbol = is-symbol _ (c .before .match .keys1) in
+    let here = ap isSymbol (sym (at-decode .decode .ensures) ∙ symbol .1) in
+    sym (body-on _ _ (at-loop-test .loop-test .taken) here) ∙ at-loop-test .before .loop .inv
 
 returns-2 : tie.Need-returns-2 Inv-loop μ-loop
-returns-2 c = body-ends (c .before .loop .inv) (λ X l _. absurd (omega arith))
+returns-2 c = sym (body-over _ _ (c .loop-test .left)) ∙ c .before .loop .inv
 
 pub body-end-spec : {M : Type 1} → statement M
 body-end-spec =
