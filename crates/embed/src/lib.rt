@@ -7,7 +7,7 @@ ghost use Rattle.embed_promises.specs.Exports.{CheckExported, JudgeExported, Ta
 use answer::Answer;
 use answer::code;
 use answer::position;
-use recognizer::check;
+use checker::check;
 use recognizer::judge;
 use tabular::judge as judge_plain;
 

@@ -117,10 +117,10 @@ pub fn lend(found: Found, table: &mut [u32])
         return;
     }
     let words = words(sizes, &found.firsts, &found.follows, &found.entries);
-    let mut at = 0;
-    while at < count {
-        table[at] = words[at];
-        at = at + 1;
+    let mut copied = 0;
+    while copied < count {
+        table[copied] = words[copied];
+        copied = copied + 1;
     }
 }
 

@@ -10,8 +10,8 @@ use grammar::limits::WIDE_TABLE_WORDS;
 use lending::lend;
 use lending::lend_wide;
 use lookahead::Lookahead;
-use recursive_descent::judge_costliest_words;
 use recursive_descent::judge_words;
+use recursive_descent::search::judge_costliest_words;
 
 // Judges the input that the events of a log are by an encoded grammar, and fills the lent table and memo table.
 pub fn judge(words: &[u32], events: &[u8], table: &mut [u32], memo: &mut [u16]) -> Answer

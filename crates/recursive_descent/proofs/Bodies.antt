@@ -1,17 +1,13 @@
--- Skipping the symbols of a body leaves the rest of its rule as it is.
+-- Skipping the symbols of a body leaves the rest of its rule as it is, and ends where the body does.
 use mathlib.Core.Path.{_≡_, refl, sym, ap, _∙_}
-use mathlib.Core.List.{List, [], _∷_}
-use mathlib.Core.Logic.{_⊎_, ⊎-elim}
-use Prim.Native.Nat.{ℕ, _+_, _≤_, _<_}
+use mathlib.Core.Bool.{Bool, true, false, true≢false}
+use mathlib.Core.List.{List}
+use Prim.Native.Nat.{ℕ, zero, suc, _+_, _-_, _≤_, _<_}
 use native.Mathlib.Omega.{arith}
 use native.Mathlib.Numerals.{add-one}
-use denote.Enum.Declared.{tagOf}
-use types.Run.{OneOf}
 use lib.ListN.{length, getD, drop}
-use Rattle.word.proofs.Word.{the-type}
 use Rattle.word.specs.declared.Symbol as grammar
-use Rattle.word.specs.declared.Word.{Word}
-use Rattle.word.specs.declared.Word.the-variants.{Heading, Rule, Positive, Negative, Symbol, End, Invalid}
+use Rattle.word.specs.declared.Word.the-variants.{Symbol}
 use Rattle.word.specs.Words.{decoded}
 use Rattle.grammar.specs.declared.reading.Sizes.{Sizes}
 use Rattle.grammar.specs.declared.reading.Progress.{Progress}
@@ -20,7 +16,9 @@ use Rattle.grammar.specs.Encoding.{onWord, parse}
 use Rattle.grammar.specs.Reading.{scan}
 use Rattle.grammar.proofs.Suffixes.{scan-next}
 use Rattle.families.proofs.Words.{parse-here as parse-first}
-use Rattle.recursive_descent.specs.Descent.{Skipped, BodyEnd}
+use Rattle.rule.specs.Rule.{isSymbol, bodyEnd}
+use Rattle.rule.proofs.Bodies.{tested-symbol, body-on, body-stops, body-over}
+use Rattle.recursive_descent.specs.Descent.{Skipped}
 
 -- the row from an index on: its first word, and the rest
 pub parse-here : (words : List ℕ) (at : ℕ) → at < length words
@@ -44,35 +42,18 @@ symbol-reads words at p z X h x e =
 pub skipped-none : (words : List ℕ) (from : ℕ) → from ≤ length words → Skipped words from from
 skipped-none words from h = record { on = omega arith; within = h; positives = refl; negatives = refl; reads = λ p z e. e }
 
-is-symbol : (w : Word) → tagOf the-type w ≡ 4 → (X : grammar.Symbol) × (w ≡ Symbol X)
-is-symbol (Heading n t) e = absurd (omega arith)
-is-symbol (Rule A) e = absurd (omega arith)
-is-symbol Positive e = absurd (omega arith)
-is-symbol Negative e = absurd (omega arith)
-is-symbol (Symbol X) e = (X, refl)
-is-symbol End e = absurd (omega arith)
-is-symbol Invalid e = absurd (omega arith)
-
-pub no-symbol : (w : Word) → OneOf (0 ∷ 1 ∷ 2 ∷ 3 ∷ 5 ∷ 6 ∷ []) (tagOf the-type w) → (X : grammar.Symbol) → w ≡ Symbol X → ⊥
-no-symbol w t X e = ⊎-elim (λ e. omega arith) (⊎-elim (λ e. omega arith) (⊎-elim (λ e. omega arith) (⊎-elim (λ e. omega arith) (⊎-elim (λ e. omega arith) (λ e. omega arith))))) (rw e at t)
-
 module _ {words : List ℕ} {from at : ℕ} (s : Skipped words from at) where
-  pub skipped-symbol : {w : Word} → at < length words → w ≡ decoded (getD words at 0) → tagOf the-type w ≡ 4 → Skipped words from (at + 1)
+  pub skipped-symbol : {X : grammar.Symbol} → at < length words → decoded (getD words at 0) ≡ Symbol X → Skipped words from (at + 1)
   unfolding onWord
-  skipped-symbol {w} h e t =
-      let x = is-symbol w t in
-      let d : decoded (getD words at 0) ≡ Symbol (x .0) = sym e ∙ x .1 in
-      let here : parse (drop at words) ≡ onWord (Symbol (x .0)) (parse (drop (at + 1) words)) = parse-here words at h ∙ ap (λ y. onWord y (parse (drop (at + 1) words))) d in
+  skipped-symbol {X} h x =
+      let here : parse (drop at words) ≡ onWord (Symbol X) (parse (drop (at + 1) words)) = parse-here words at h ∙ ap (λ y. onWord y (parse (drop (at + 1) words))) x in
       record {
         on = omega (arith, s .on);
         within = omega arith;
         positives = sym (ap (λ q. q .positives) here) ∙ s .positives;
         negatives = sym (ap (λ q. q .negatives) here) ∙ s .negatives;
-        reads = λ p z r. symbol-reads words at p z (x .0) h d (s .reads p z r);
+        reads = λ p z r. symbol-reads words at p z X h x (s .reads p z r);
       }
-
-  pub body-ends : ((X : grammar.Symbol) → at < length words → decoded (getD words at 0) ≡ Symbol X → ⊥) → BodyEnd words from at
-  body-ends b = record { skipped = s; boundary = b }
 
   -- further symbols
   pub skipped-on : {r : ℕ} → Skipped words at r → Skipped words from r
@@ -83,3 +64,30 @@ module _ {words : List ℕ} {from at : ℕ} (s : Skipped words from at) where
     negatives = t .negatives ∙ s .negatives;
     reads = λ p z r. t .reads p z (s .reads p z r);
   }
+
+-- where a body ends no symbol stands
+pub record BodyEnd (words : List ℕ) (from at : ℕ) : Type 0 where
+  pub skipped : Skipped words from at
+  pub boundary : (X : grammar.Symbol) → at < length words → decoded (getD words at 0) ≡ Symbol X → ⊥
+
+-- by how many words are left
+body-ends : (left : ℕ) (words : List ℕ) (from : ℕ) → length words ≡ from + left → BodyEnd words from (bodyEnd words from)
+body-ends zero words from l =
+    rw (body-over words from (omega arith)) (record { skipped = skipped-none words from (omega arith); boundary = λ X h. absurd (omega arith) })
+body-ends (suc left) words from l = go (isSymbol (decoded (getD words from 0))) refl (body-ends left words (from + 1) (omega arith))
+  where
+    here : from < length words
+    here = omega arith
+
+    start : Skipped words from from
+    start = skipped-none words from (omega arith)
+
+    go : (b : Bool) → isSymbol (decoded (getD words from 0)) ≡ b → BodyEnd words (from + 1) (bodyEnd words (from + 1)) → BodyEnd words from (bodyEnd words from)
+    go true e r =
+        rw (body-on words from here e)
+        (record { skipped = skipped-on (skipped-symbol start here (tested-symbol (decoded (getD words from 0)) e .1)) (r .skipped); boundary = r .boundary })
+    go false e r =
+        rw (body-stops words from here e) (record { skipped = start; boundary = λ X h x. true≢false (sym (ap isSymbol x) ∙ e) })
+
+pub body-ended : {words : List ℕ} {from at : ℕ} → from ≤ length words → at ≡ bodyEnd words from → BodyEnd words from at
+body-ended {words} {from} h e = rw e (body-ends (length words - from) words from (omega arith))

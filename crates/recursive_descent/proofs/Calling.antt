@@ -8,7 +8,7 @@ use native.Mathlib.Omega.{arith}
 use native.Mathlib.Decide.{decLt}
 use lib.Dec.{ltb}
 use lib.ListN.{length, getD, drop}
-use borrow.Author.Tests.{lt-ltb, ltb-true}
+use borrow.Author.Tests.{lt-ltb}
 use Rattle.booleans.specs.Choice.{choose}
 use Rattle.word.specs.Words.{decoded}
 use Rattle.word.specs.declared.Symbol as grammar
@@ -32,13 +32,13 @@ use Rattle.rule.specs.declared.Sign.{Sign}
 use Rattle.rule.specs.declared.Sign.the-variants.{Positive, Negative, Neither}
 use Rattle.rule.specs.declared.Agreement.{Agreement}
 use Rattle.rule.specs.declared.Agreement.the-variants as agreement
-use Rattle.rule.specs.Rule.{meant, signOf, signAt, beginsBody, goesOn, joinedBy, concluded}
+use Rattle.rule.specs.Rule.{meant, signOf, signAt, bodyEnd, beginsBody, goesOn, joinedBy, concluded}
 use Rattle.rule.proofs.Signs.{sign-number, sign-positive, sign-negative, sign-within}
 use Rattle.rule.proofs.Agreements.{opens-no-more, ends-joined}
 use Rattle.families.proofs.Words.{parse-over}
 use Rattle.recursive_descent.specs.declared.descent.Run.{Run}
-use Rattle.recursive_descent.specs.Descent.{BodyEnd, MemoSound, CallGiven, RunGiven, RunDone}
-use Rattle.recursive_descent.proofs.Bodies.{parse-here, skipped-on}
+use Rattle.recursive_descent.specs.Descent.{MemoSound, CallGiven, RunGiven, RunDone}
+use Rattle.recursive_descent.proofs.Bodies.{parse-here, skipped-on, body-ended}
 use Rattle.recursive_descent.proofs.Running.{deep, level}
 
 -- what is left of a rule: of positives ps and negatives ns, where the bodies before them have agreed
@@ -223,12 +223,13 @@ module _ {choice : Choice} {words choices tokens input memo₀ : List ℕ} {A pl
 
   -- one body more
   pub calling-turn : goesOn sign agreed ≡ true → {o : Run} {memo′ : List ℕ} {at′ : ℕ} {sign′ : Sign} {agreed′ : Agreement}
-      → RunDone choice words input memo A (at + 1) place o memo′ → agreed′ ≡ joinedBy sign agreed (meant (o .outcome)) → BodyEnd words (o .at) at′
+      → RunDone choice words input memo A (at + 1) place o memo′ → agreed′ ≡ joinedBy sign agreed (meant (o .outcome)) → at′ ≡ bodyEnd words (o .at)
       → sign′ ≡ signAt words at′
       → Calling choice words input memo₀ A place r memo′ at′ sign′ agreed′
   calling-turn goes {o} {memo′} {at′} {sign′} {agreed′} d j b s =
       let k = conjunct goes in
-      let t = skipped-on (d .skipped) (b .skipped) in
+      let end = body-ended (d .skipped .within) b in
+      let t = skipped-on (d .skipped) (end .skipped) in
       record {
         sound = d .sound;
         within = t .within;
@@ -241,7 +242,7 @@ module _ {choice : Choice} {words choices tokens input memo₀ : List ℕ} {A pl
         reads = t .reads (k .progress) (g .given .sizes) (k .reads ∙ g .given .read) ∙ sym (g .given .read);
         opens = λ q. absurd (opens-no-more sign agreed (meant (o .outcome)) goes (sym j ∙ q));
         opened = λ q. absurd (opens-no-more sign agreed (meant (o .outcome)) goes (sym j ∙ q));
-        boundary = b .boundary;
+        boundary = end .boundary;
       }
 
 -- a word that begins no conjunct and is no symbol ends the rule
@@ -314,7 +315,7 @@ module _ {choice : Choice} {words choices tokens input memo₀ : List ℕ} {A pl
   rule-run goes = calling-run g (v .rule) (v .listed) (v .heads) (v .calling) (conjunct g (v .rule) (v .listed) (v .heads) (v .calling) goes)
 
   pub rule-turn : goesOn sign agreed ≡ true → {o : Run} {memo′ : List ℕ} {at′ : ℕ} {sign′ : Sign} {agreed′ : Agreement}
-      → RunDone choice words input memo A (at + 1) place o memo′ → agreed′ ≡ joinedBy sign agreed (meant (o .outcome)) → BodyEnd words (o .at) at′
+      → RunDone choice words input memo A (at + 1) place o memo′ → agreed′ ≡ joinedBy sign agreed (meant (o .outcome)) → at′ ≡ bodyEnd words (o .at)
       → sign′ ≡ signAt words at′
       → InRule choice words input memo₀ A place memo′ at′ sign′ agreed′
   rule-turn goes d j b s = record {

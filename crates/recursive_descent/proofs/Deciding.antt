@@ -1,35 +1,28 @@
 -- From a descent that has ended to its answer and to what the memo table then holds.
-use mathlib.Core.Path.{_≡_, refl, sym, ap, subst, _∙_}
-use mathlib.Core.Bool.{Bool, true, false}
-use mathlib.Core.List.{List, map}
-use Prim.Native.Nat.{ℕ, suc, _+_, _*_, _/_, _%_, _≤_, _<_}
-use native.Mathlib.Nat.{mod-lt, div-add-mod', div-lt-iff-lt-mul}
+use mathlib.Core.Path.{_≡_, sym, ap, subst, _∙_}
+use mathlib.Core.Bool.{Bool}
+use mathlib.Core.List.{List}
+use Prim.Native.Nat.{ℕ, suc, _+_, _*_, _/_, _<_}
+use native.Mathlib.Numerals.{add-one}
 use native.Mathlib.Omega.{arith}
-use lib.Dec.{ltb}
-use lib.ListN.{length, getD, drop, replicate, length-map, length-replicate, getD-replicate, List·getD-map, drop-of-length-le}
-use lib.Seq.{drop-cons, ext-getD}
-use borrow.Author.Tests.{lt-ltb, le-ltb}
+use lib.ListN.{length, replicate, length-replicate, getD-replicate}
 use Rattle.answer.specs.declared.Answer.{Answer}
 use Rattle.answer.specs.declared.Answer.the-variants.{Rejected, Accepted}
 use Rattle.answer.specs.declared.Calls.{Calls}
 use Rattle.booleans.specs.Choice.{choose}
 use Rattle.grammar.specs.Codes.{uncalledCode}
-use Rattle.grammar.specs.Syntax.{Grammar, WellScoped}
+use Rattle.grammar.specs.Syntax.{Grammar}
 use Rattle.grammar.specs.Encoding.{grammarOf}
+use Rattle.grammar.specs.Starts.{ruleStarts}
 use Rattle.grammar.specs.WellRead.{WellRead}
 use Rattle.grammar.specs.declared.reading.Sizes.{Sizes}
 use Rattle.grammar.proofs.WellRead.{well-read}
-use Rattle.semantics.specs.FiniteSets.{member}
 use Rattle.semantics.specs.Valuations.{pairs}
-use Rattle.semantics.specs.LeftRecursion.{NoLeftRecursion}
 use Rattle.semantics.specs.Choices.{Choice, tableChoice}
 use Rattle.semantics.specs.Descent.{endsAt, descend, accepts}
-use Rattle.semantics.specs.ComesTo.{Call, callAt, InRange}
-use Rattle.semantics.specs.Calls.{Listing, sameCall, allCalls, calls}
-use Rattle.semantics.specs.Memo.{EndsFit, encode, entry, indexOf, blank, Recorded}
+use Rattle.semantics.specs.Memo.{EndsFit, indexOf, blank, Recorded}
 use Rattle.semantics.specs.MemoDescent.{memoized, memoCall}
-use Rattle.semantics.proofs.FiniteSets.{member-mem, mem-member}
-use Rattle.semantics.proofs.Range.{calls-equality, all-length, all-ordered, index-range}
+use Rattle.semantics.proofs.Range.{index-range}
 use Rattle.semantics.proofs.Memo.{memo-recorded-within}
 use Rattle.semantics.proofs.Theorems.{theorems}
 use Rattle.rule.specs.declared.Outcome as code
@@ -38,16 +31,18 @@ use Rattle.lookahead.specs.declared.Lookahead.{Lookahead}
 use Rattle.lookahead.specs.Lookaheads.{tokens}
 use Rattle.families.proofs.FewTerminals.{admitted-read, few-terminals}
 use Rattle.columns.specs.Columns.{columnCount}
-use Rattle.recursive_descent.specs.Arrays.{held, rowAt}
+use Rattle.descent_arrays.specs.Arrays.{held, rowAt}
 use Rattle.recursive_descent.specs.Descent.{MemoSound, CallGiven, CallDone, CallRequires, CallEnsures}
 use Rattle.memo_table.specs.Tally.{tallyOf, recordedCalls}
 use Rattle.recognizer_promises.specs.Answers.{callsBy, verdictBy}
 use Rattle.recognizer_promises.specs.Judging.{DescendGiven, Descended}
-use Rattle.recursive_descent.specs.Preparing.{TokensGiven, TokensHold, ChoicesGiven, Filled}
+use Rattle.descent_arrays.specs.Tokens.{tokensOf}
+use Rattle.descent_arrays.specs.Choices.{choicesOf}
 use Rattle.event.specs.Events.{inputOf}
 use Rattle.event.proofs.Inputs.{input-length}
-use Rattle.recursive_descent.proofs.Tokens.{column-few}
-use Rattle.recursive_descent.proofs.TableChoices.{choices-given, choices-hold}
+use Rattle.descent_arrays.proofs.TokenWords.{TokensGiven, TokensHold, column-few, tokens-hold}
+use Rattle.descent_arrays.proofs.ChoiceRows.{Filled}
+use Rattle.recursive_descent.proofs.TableChoices.{rows-filled, choices-hold}
 use Rattle.recursive_descent.proofs.Running.{level}
 use Rattle.recognizer_promises.proofs.MemoWords.{words-recorded}
 use Rattle.memo_table.proofs.Tallying.{tally-recorded}
@@ -83,17 +78,18 @@ module _ {k : Lookahead} {words : List ℕ} {z : Sizes} {entries memo : List ℕ
   some-nonterminal : 0 < G .nonterminals
   some-nonterminal = omega (arith, r .nonterminals, r .someNonterminal)
 
-  pub rows-given : {columns : ℕ} → columns ≡ columnCount k (z .terminals) → ChoicesGiven words (z .nonterminals) columns entries (length events + 1)
-  rows-given m = rw m (choices-given (g .ready) long)
-
-  pub tokens-given : TokensGiven k input (z .terminals)
+  tokens-given : TokensGiven k input (z .terminals)
   tokens-given = record { short = g .ready .short; few = rw (r .terminals) (few-terminals k words (g .ready .taken)); known = rw (r .terminals) (g .ready .tokens) }
 
   -- with the arrays that are made before it
-  module _ {columns : ℕ} {choices tokens blanked : List ℕ} (m : columns ≡ columnCount k (z .terminals))
-      (f : Filled words (z .nonterminals) columns entries (length events + 1) choices) (t : TokensHold k (z .terminals) input tokens) (b : blanked ≡ replicate (length memo) uncalledCode) where
-    tokens-hold : TokensHold k (G .terminals) input tokens
-    tokens-hold = rw (← r .terminals) t
+  module _ {columns : ℕ} {starts choices tokens blanked : List ℕ} (m : columns ≡ columnCount k (z .terminals)) (s : starts ≡ ruleStarts words)
+      (c : choices ≡ choicesOf starts (z .nonterminals) columns entries (length events)) (w : tokens ≡ tokensOf k (z .terminals) input)
+      (b : blanked ≡ replicate (length memo) uncalledCode) where
+    f : Filled (ruleStarts words) (z .nonterminals) (columnCount k (z .terminals)) entries (length input) choices
+    f = rw (c, s, m, long) (rows-filled (g .ready))
+
+    t : TokensHold k (z .terminals) input tokens
+    t = rw w (tokens-hold tokens-given)
 
     begun : CallGiven choice words choices tokens input blanked 0 0
     unfolding rowAt
@@ -103,10 +99,10 @@ module _ {k : Lookahead} {words : List ℕ} {z : Sizes} {entries memo : List ℕ
         read = admitted-read k words (g .ready .taken);
         free = g .ready .free;
         own = theorems .own-rules G n input;
-        rows = λ A a. f .rows A (omega (arith, r .nonterminals)) ∙ ap (λ n. A * n) (omega (arith, long));
-        ends = λ A a. f .ends A (omega (arith, r .nonterminals)) ∙ omega (arith, long);
-        columns = λ i h. omega (arith, t .columns i h, column-few k (z .terminals) input tokens-given i);
-        firsts = choices-hold (g .ready) {places = length events + 1} (rw (← m) f) tokens-hold;
+        rows = λ A a. f .rows A (omega (arith, r .nonterminals)) ∙ ap (λ n. A * n) (add-one (length input));
+        ends = λ A a. f .ends A (omega (arith, r .nonterminals));
+        columns = λ i h. omega (arith, t .columns i h, column-few tokens-given i);
+        firsts = choices-hold (g .ready) f (rw (← r .terminals) t);
         terminals = t .terminals;
         end = t .end;
         short = g .ready .short;

@@ -4,8 +4,6 @@ pub mod Calling
 pub mod Storing
 pub mod Starting
 pub mod Choosing
-pub mod Tokens
-pub mod ChoiceRows
 pub mod TableChoices
 pub mod Deciding
 pub mod Searching

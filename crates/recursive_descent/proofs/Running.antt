@@ -1,6 +1,6 @@
 -- Running a body: what the descent with a memo table gives for the rest of the body is what it gave for the whole.
 use mathlib.Core.Path.{_≡_, refl, sym, ap, _∙_}
-use mathlib.Core.Bool.{Bool, true, false, _&&_, false≢true}
+use mathlib.Core.Bool.{true, false, _&&_, false≢true}
 use mathlib.Core.List.{List, [], _∷_}
 use Prim.Native.Nat.{ℕ, _+_, _-_, _%_, _≤_, _<_}
 use native.Mathlib.Omega.{arith}
@@ -8,10 +8,8 @@ use native.Mathlib.Decide.{decLt}
 use native.Mathlib.Numerals.{add-one}
 use lib.Dec.{ltb, eqb}
 use lib.ListN.{length, getD, drop}
-use denote.Enum.Declared.{tagOf}
 use borrow.Author.Tests.{lt-ltb, le-ltb, ne-eqb, ltb-true}
 use Rattle.booleans.proofs.Booleans.{and-first}
-use Rattle.word.proofs.Word.{the-type}
 use Rattle.word.specs.Words.{decoded}
 use Rattle.word.specs.declared.Symbol as grammar
 use Rattle.word.specs.declared.Symbol.the-variants.{Terminal, Nonterminal}
@@ -25,7 +23,6 @@ use Rattle.grammar.specs.declared.reading.State.{State}
 use Rattle.grammar.specs.declared.reading.Progress.{Progress}
 use Rattle.grammar.proofs.Suffixes.{scan-next}
 use Rattle.grammar.proofs.WellRead.{well-read}
-use Rattle.booleans.specs.Choice.{choose}
 use Rattle.semantics.specs.LeftRecursion.{nullable, LeftIn, here, there, LeftDepends}
 use Rattle.semantics.specs.Choices.{Choice}
 use Rattle.semantics.specs.Descent.{Outcome, Failed, End}
@@ -38,7 +35,7 @@ use Rattle.rule.specs.Rule.{meant}
 use Rattle.families.proofs.Words.{parse-over}
 use Rattle.grammar.specs.Limits.{maxNonterminals}
 use Rattle.recursive_descent.specs.declared.descent.Run.{Run}
-use Rattle.recursive_descent.specs.Arrays.{endMark, columnWeight, matchesAt}
+use Rattle.descent_arrays.specs.Arrays.{endMark, columnWeight, matchesAt}
 use Rattle.recursive_descent.specs.Descent.{Skipped, MemoSound, CallGiven, RunGiven, CallDone, RunDone}
 use Rattle.recursive_descent.proofs.Bodies.{parse-here, symbol-reads, skipped-none, skipped-symbol}
 
@@ -164,7 +161,7 @@ module _ {choice : Choice} {words choices tokens input memo₀ : List ℕ} {A fr
         symbol-reads words at (v .progress) z X h x (v .reads ∙ g .call .given .read) ∙ sym (g .call .given .read)
 
     next-skipped : Skipped words from (at + 1)
-    next-skipped = skipped-symbol (v .skipped) h refl (ap (tagOf the-type) x)
+    next-skipped = skipped-symbol (v .skipped) h x
 
     own-here : TerminalsBelow (grammarOf words .terminals) (X ∷ body-at words (at + 1))
     own-here = rw body-here at (v .own)

@@ -6,7 +6,7 @@ use mathlib.Core.Option.{Option, none, some}
 use Prim.Native.Nat.{ℕ, zero, suc, _+_, _-_, _<_}
 use native.Mathlib.Omega.{arith}
 use native.Mathlib.Numerals.{add-one}
-use lib.ListN.{length, getD, drop, getElem?}
+use lib.ListN.{length, getD, drop}
 use lib.Seq.{drop-cons}
 use Rattle.word.specs.Words.{decoded}
 use Rattle.word.specs.declared.Symbol as grammar
@@ -39,7 +39,7 @@ use Rattle.recursive_descent.proofs.Bodies.{parse-here}
 use Rattle.recursive_descent.proofs.Running.{deep}
 use Rattle.grammar.proofs.WellFormed.{reads}
 use Rattle.rule.specs.Rule.{signAt, openingBy}
-use Rattle.recursive_descent.specs.Arrays.{endAt, firstAt}
+use Rattle.descent_arrays.specs.Arrays.{endAt, firstAt}
 use Rattle.recursive_descent.specs.Descent.{firstConjunct, CallGiven}
 use Rattle.recursive_descent.proofs.Calling.{memoRest, Calling, InRule}
 

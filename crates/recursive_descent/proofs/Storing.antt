@@ -1,6 +1,6 @@
 -- A call is done: from what the descent with a memo table gives, for every depth that is enough, to what holds of its outcome.
 use mathlib.Core.Path.{_≡_, refl, sym, ap, _∙_}
-use mathlib.Core.List.{List, [], _∷_}
+use mathlib.Core.List.{List}
 use mathlib.Core.Option.{Option}
 use Prim.Native.Nat.{ℕ, zero, suc, _+_, _≤_, _<_}
 use native.Mathlib.Omega.{arith}
@@ -12,7 +12,6 @@ use Rattle.grammar.specs.Syntax.{Rule, Grammar}
 use Rattle.grammar.specs.Encoding.{grammarOf}
 use Rattle.grammar.specs.WellRead.{WellRead}
 use Rattle.grammar.proofs.WellRead.{well-read}
-use Rattle.booleans.specs.Choice.{choose}
 use Rattle.semantics.specs.Choices.{Choice}
 use Rattle.semantics.specs.Descent.{Outcome, select, descend}
 use Rattle.semantics.specs.ComesTo.{callAt}
@@ -27,7 +26,7 @@ use Rattle.rule.specs.declared.Outcome as code
 use Rattle.rule.specs.declared.Outcome.the-variants as outcome
 use Rattle.rule.specs.Rule.{meant}
 use Rattle.memo_table.proofs.Entries.{getD-any}
-use Rattle.recursive_descent.specs.Arrays.{rowAt}
+use Rattle.descent_arrays.specs.Arrays.{rowAt}
 use Rattle.recursive_descent.specs.Descent.{MemoSound, CallGiven, CallDone}
 use Rattle.recursive_descent.proofs.Running.{deep, level}
 

@@ -2,13 +2,13 @@
 use mathlib.Core.Path.{_≡_, refl, ap, _∙_}
 use mathlib.Core.List.{List}
 use mathlib.Core.Option.{Option, none, some}
-use Prim.Native.Nat.{ℕ, suc, _+_, _*_, _≤_, _<_}
+use Prim.Native.Nat.{ℕ, _+_, _*_, _%_, _≤_, _<_}
 use native.Mathlib.Omega.{arith}
-use lib.Dec.{eqb}
+use lib.Dec.{ltb}
 use lib.ListN.{length, getD}
-use borrow.Author.Tests.{ne-eqb}
+use borrow.Author.Tests.{lt-ltb}
 use Rattle.booleans.specs.Choice.{choose}
-use Rattle.grammar.specs.Codes.{noRule}
+use Rattle.grammar.specs.Limits.{maxWords, maxRules}
 use Rattle.grammar.specs.Syntax.{Grammar}
 use Rattle.grammar.specs.Encoding.{grammarOf}
 use Rattle.grammar.specs.Starts.{ruleStarts}
@@ -26,10 +26,12 @@ use Rattle.table.proofs.EntriesFilled.{entries-at}
 use Rattle.lookahead.specs.declared.Lookahead.{Lookahead}
 use Rattle.lookahead.specs.Lookaheads.{tokens}
 use Rattle.families.proofs.FewTerminals.{admitted-read, few-terminals}
-use Rattle.recursive_descent.specs.Arrays.{choiceColumns, firstAt}
+use Rattle.descent_arrays.specs.Arrays.{choiceColumns, firstAt}
 use Rattle.recursive_descent.specs.Descent.{firstConjunct}
 use Rattle.columns.specs.Columns.{columnAt}
-use Rattle.recursive_descent.specs.Preparing.{TokensHold, entryOf, firstWord, FirstGiven, ChoicesGiven, Filled}
+use Rattle.descent_arrays.specs.Choices.{entryOf, firstWord, choicesOf}
+use Rattle.descent_arrays.proofs.TokenWords.{TokensHold}
+use Rattle.descent_arrays.proofs.ChoiceRows.{Filled, choices-filled}
 use Rattle.recognizer_promises.specs.Judging.{Ready}
 use Rattle.columns.proofs.Columns.{column-right}
 
@@ -53,35 +55,27 @@ module _ {k : Lookahead} {words : List ℕ} {z : Sizes} {entries input : List �
   rule-low : (A q : ℕ) (x : List ℕ) → tableOf G n A x ≡ some q → q < z .rules
   rule-low A q x e = let m = table-own G n A x q e in omega (arith, nth-below (G .rules) q (m .0) (m .1), r .rules)
 
-  first-given : (A : ℕ) (x : List ℕ) → FirstGiven (ruleStarts words) (ruleByte (tableOf G n A x))
-  first-given A x = go (tableOf G n A x) refl
-    where
-      go : (o : Option ℕ) → tableOf G n A x ≡ o → FirstGiven (ruleStarts words) (ruleByte o)
-      go none e = record { low = λ m. absurd (m refl); high = λ m. absurd (m refl) }
-      go (some q) e =
-          let l = rule-low A q x e in
-          record { low = λ m. omega (arith, r .fewRules); high = λ m. omega (arith, r .begun q l .high, r .short) }
-
-  pub choices-given : {places : ℕ} → places ≡ length input → ChoicesGiven words (z .nonterminals) (columnCount k (z .terminals)) entries (places + 1)
-  choices-given e = record {
-    fewNonterminals = r .fewNonterminals;
-    fewColumns = rw (r .terminals) (column-count k (G .terminals) (few-terminals k words (g .taken)));
-    some-place = omega arith;
-    few = omega (arith, g .short);
-    firsts = λ A c a h. rw (entry-is A c a h) (first-given A (columnString k (G .terminals) c));
-  }
+  -- rows for these sizes are within the limits
+  pub rows-filled : Filled (ruleStarts words) (z .nonterminals) (columnCount k (z .terminals)) entries (length input)
+      (choicesOf (ruleStarts words) (z .nonterminals) (columnCount k (z .terminals)) entries (length input))
+  rows-filled =
+      choices-filled (ruleStarts words) entries (r .fewNonterminals)
+      (rw (r .terminals) (column-count k (G .terminals) (few-terminals k words (g .taken)))) (g .short)
 
   first-is : (A : ℕ) (x : List ℕ) → firstWord (ruleStarts words) (ruleByte (tableOf G n A x)) ≡ firstConjunct words (tableOf G n A x)
   unfolding firstWord
   first-is A x = go (tableOf G n A x) refl
     where
       go : (o : Option ℕ) → tableOf G n A x ≡ o
-          → choose (eqb (ruleByte o) noRule) 0 (getD (ruleStarts words) (ruleByte o) 0 + 1) ≡ firstConjunct words o
+          → choose (ltb (ruleByte o) maxRules) (getD (ruleStarts words) (ruleByte o) 0 % maxWords + 1) 0 ≡ firstConjunct words o
       go none e = refl
-      go (some q) e = let l = rule-low A q x e in rw (ne-eqb q noRule (λ m. absurd (omega (arith, r .fewRules))))
+      go (some q) e =
+          let l = rule-low A q x e in
+          let low : getD (ruleStarts words) q 0 % maxWords ≡ getD (ruleStarts words) q 0 = omega (arith, r .begun q l .high, r .short) in
+          rw (lt-ltb q maxRules (omega (arith, r .fewRules)), low)
 
   -- the rows and the tokens together hold the choice by lookahead
-  pub choices-hold : {choices tokens : List ℕ} {places : ℕ} → Filled words (z .nonterminals) (columnCount k (z .terminals)) entries places choices
+  pub choices-hold : {choices tokens : List ℕ} → Filled (ruleStarts words) (z .nonterminals) (columnCount k (z .terminals)) entries (length input) choices
       → TokensHold k (G .terminals) input tokens → (A i : ℕ) → A < G .nonterminals → i ≤ length input
       → firstAt choices tokens A i ≡ firstConjunct words (tableChoice G n input A i)
   unfolding firstAt

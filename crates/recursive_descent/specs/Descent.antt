@@ -1,16 +1,11 @@
 -- What calling a nonterminal and running a body require and ensure: they are the descent with a memo table, for every depth that is enough, by
 -- any choice of rules that two arrays hold.
 use mathlib.Core.Path.{_≡_}
-use mathlib.Core.Bool.{Bool}
-use mathlib.Core.List.{List, [], _∷_, List·Memᴰ}
+use mathlib.Core.List.{List, List·Memᴰ}
 use mathlib.Core.Option.{Option, none, some}
 use Prim.Native.Nat.{ℕ, suc, _+_, _*_, _/_, _%_, _≤_, _<_}
-use lib.Dec.{T, eqb}
+use lib.Dec.{T}
 use lib.ListN.{length, getD, drop}
-use Rattle.booleans.specs.Choice.{choose}
-use Rattle.word.specs.Words.{decoded}
-use Rattle.word.specs.declared.Symbol as grammar
-use Rattle.word.specs.declared.Word.the-variants.{Symbol}
 use Rattle.grammar.specs.Codes.{uncalledCode}
 use Rattle.grammar.specs.Limits.{maxWords, maxNonterminals, maxTokens, maxMemoEntries}
 use Rattle.grammar.specs.Syntax.{Rule, bodies}
@@ -30,7 +25,7 @@ use Rattle.semantics.specs.MemoDescent.{memoized, memoRun, memoCall}
 use Rattle.rule.specs.declared.Outcome as code
 use Rattle.rule.specs.Rule.{meant}
 use Rattle.recursive_descent.specs.declared.descent.Run.{Run}
-use Rattle.recursive_descent.specs.Arrays.{rowColumn, endMark, columnWeight, held, rowAt, endAt, firstAt}
+use Rattle.descent_arrays.specs.Arrays.{rowColumn, endMark, columnWeight, held, rowAt, endAt, firstAt}
 
 -- where the first conjunct stands of a rule by its number, or 0
 abbrev pub firstConjunct : List ℕ → Option ℕ → ℕ
@@ -60,11 +55,6 @@ pub record Skipped (words : List ℕ) (from at : ℕ) : Type 0 where
   pub positives : parse (drop at words) .positives ≡ parse (drop from words) .positives
   pub negatives : parse (drop at words) .negatives ≡ parse (drop from words) .negatives
   pub reads : (p : Progress) (z : Sizes) → scan p from (drop from words) ≡ Read z → scan p at (drop at words) ≡ Read z
-
--- r is where the body at an index ends
-pub record BodyEnd (words : List ℕ) (from r : ℕ) : Type 0 where
-  pub skipped : Skipped words from r
-  pub boundary : (X : grammar.Symbol) → r < length words → decoded (getD words r 0) ≡ Symbol X → ⊥
 
 -- each entry that is written holds the outcome of its call
 pub record MemoSound (choice : Choice) (words input memo : List ℕ) : Type 0 where

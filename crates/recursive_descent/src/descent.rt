@@ -1,22 +1,23 @@
 // The descent: calling a nonterminal at a place and running a body call one another in turn.
 ghost use mathlib.Core.Path.{_≡_};
-ghost use Prim.Native.Nat.{_+_, _≤_};
-ghost use lib.ListN.{length};
-ghost use Rattle.semantics.specs.Memo.{encode, decode as decodedEntry};
-ghost use Rattle.rule.specs.Rule.{meant, openingBy};
-ghost use Rattle.recursive_descent.specs.Arrays.{rowAt, endAt, firstAt, matchesAt};
-ghost use Rattle.recursive_descent.specs.Descent.{BodyEnd, TokenGiven, EntryGiven, EndGiven, ChosenGiven, CallRequires, CallEnsures, RunRequires, RunEnsures};
-use super::arrays::CHOICE_COLUMNS;
-use super::arrays::CHOICES;
-use super::arrays::COLUMN_WEIGHT;
-use super::arrays::END_COLUMN;
-use super::arrays::ROW_COLUMN;
+ghost use Prim.Native.Nat.{_+_};
+ghost use Rattle.rule.specs.Rule.{openingBy};
+ghost use Rattle.descent_arrays.specs.Arrays.{rowAt, endAt, firstAt, matchesAt};
+ghost use Rattle.recursive_descent.specs.Descent.{TokenGiven, EntryGiven, EndGiven, ChosenGiven, CallRequires, CallEnsures, RunRequires, RunEnsures};
+use descent_arrays::arrays::CHOICE_COLUMNS;
+use descent_arrays::arrays::CHOICES;
+use descent_arrays::arrays::COLUMN_WEIGHT;
+use descent_arrays::arrays::END_COLUMN;
+use descent_arrays::arrays::ROW_COLUMN;
 use grammar::codes::FAILED;
 use grammar::codes::UNCALLED;
 use grammar::limits::PLACES;
+use memo_table::entry::code;
+use memo_table::entry::recall;
 use rule::Agreement;
 use rule::Outcome;
 use rule::Sign;
+use rule::body_end;
 use rule::conclude;
 use rule::goes_on;
 use rule::joined;
@@ -34,22 +35,6 @@ pub struct Run {
 
 // What the column of a lookahead string weighs in a token's word.
 const WEIGHT: usize = COLUMN_WEIGHT as usize;
-
-// Where the body at an index ends.
-fn body_end(words: &[u32], from: usize) -> usize
-    requires { ⌜ from ≤ length (now words) ⌝ }
-    ensures { λ r. ⌜ BodyEnd (now (words .entry)) from r ⌝ }
-{
-    let mut at = from;
-    while at < words.len() {
-        let word = decode(words[at]);
-        let Word::Symbol(_) = word else {
-            return at;
-        };
-        at = at + 1;
-    }
-    at
-}
 
 // Whether the token at a place is a terminal.
 fn matches(tokens: &[u16; PLACES], place: u16, terminal: u32) -> bool
@@ -82,26 +67,6 @@ fn first_agreement(choices: &[u16; CHOICES], nonterminal: usize, sign: Sign) -> 
     ensures { λ r. ⌜ r ≡ openingBy sign (endAt (now (choices .entry)) nonterminal) ⌝ }
 {
     opening(sign, choices[nonterminal * CHOICE_COLUMNS + END_COLUMN])
-}
-
-// An outcome as an entry of the memo table, and back.
-fn code(outcome: Outcome) -> u16
-    ensures { λ r. ⌜ r ≡ encode (meant outcome) ⌝ }
-{
-    match outcome {
-        Outcome::Failed => FAILED,
-        Outcome::End(end) => end,
-    }
-}
-
-fn recall(entry: u16) -> Outcome
-    ensures { λ r. ⌜ meant r ≡ decodedEntry entry ⌝ }
-{
-    if entry == FAILED {
-        Outcome::Failed
-    } else {
-        Outcome::End(entry)
-    }
 }
 
 // Runs the body at an index from a place on, for a call of the nonterminal there; the first symbol that fails stops it.

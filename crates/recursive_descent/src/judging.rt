@@ -1,17 +1,25 @@
 // Judging an input by a grammar that has passed.
+ghost use mathlib.Core.Path.{_≡_};
 ghost use Rattle.event.specs.Events.{inputOf};
-ghost use Rattle.recognizer_promises.specs.Judging.{PassedGiven, DescendGiven, Descended, JudgedPassed};
+ghost use Rattle.recognizer_promises.specs.Judging.{refusedWith, PassedGiven, DescendGiven, Descended, JudgedPassed};
 use super::descent::call;
-use super::preparing::choices_of;
-use super::preparing::tokens_of;
 use answer::Answer;
+use answer::Error;
 use columns::count;
+use descent_arrays::choices::choices_of;
+use descent_arrays::tokens::tokens_of;
+use families::Finding;
+use families::SETS;
+use grammar::codes::NO_RULE;
 use grammar::limits::ENTRIES;
 use grammar::reading::Sizes;
 use lookahead::Lookahead;
 use memo_table::clear;
 use memo_table::tally;
+use reader::rule_starts;
+use recognizer_promises::Judgement;
 use rule::ends_at;
+use table::Found;
 
 // Runs the descent in a memo table of just the entries that it needs.
 fn descend(
@@ -28,7 +36,8 @@ fn descend(
     clear(memo);
     let nonterminals = sizes.nonterminals as usize;
     let columns = count(lookahead, sizes.terminals);
-    let choices = choices_of(words, nonterminals, columns, entries, events.len() + 1);
+    let starts = rule_starts(words);
+    let choices = choices_of(&starts, nonterminals, columns, entries, events.len());
     let tokens = tokens_of(events, lookahead, sizes.terminals);
     let outcome = call(0, words, &choices, &tokens, memo, 0);
     let length = events.len() as u16;
@@ -61,4 +70,19 @@ pub(crate) fn judge_passed(
         events,
         &mut memo[..needed],
     )
+}
+
+// What a refusal tells: of the grammar nothing but the error.
+pub(crate) fn refused(error: Error) -> Judgement
+    ensures { λ r. ⌜ r ≡ refusedWith error ⌝ }
+{
+    Judgement {
+        answer: Answer::Refused(error),
+        found: Found {
+            finding: Finding::Refused(error),
+            firsts: [0u64; SETS],
+            follows: [0u64; SETS],
+            entries: [NO_RULE; ENTRIES],
+        },
+    }
 }

@@ -1,16 +1,24 @@
 // The costliest input of a length: the first in letter order of those on which the descent makes the most calls.
-ghost use Rattle.recognizer_promises.specs.Search.{SearchGiven, BestJudged};
+ghost use Rattle.recognizer_promises.specs.Search.{SearchGiven, BestJudged, SearchesWords};
 ghost use Rattle.recursive_descent.specs.Search.{NumberJudged, Tried, Found};
 use super::judging::judge_passed;
+use super::judging::refused;
 use answer::Answer;
+use answer::Error;
 use answer::calls_told;
+use families::Finding;
+use findings::with_length;
 use grammar::limits::ENTRIES;
+use grammar::limits::MEMO_ENTRIES;
+use grammar::limits::TOKENS;
 use grammar::reading::Sizes;
 use inputs::Candidate;
 use inputs::costlier;
 use inputs::count_inputs;
 use inputs::write_input;
 use lookahead::Lookahead;
+use recognizer_promises::Judgement;
+use table::find;
 
 // Writes the input of a number, and judges it.
 fn judge_number(
@@ -71,7 +79,7 @@ fn costliest_number(
 }
 
 // Writes the costliest input, and judges it.
-pub(crate) fn judge_best(
+fn judge_best(
     words: &[u32],
     sizes: Sizes,
     entries: &[u8; ENTRIES],
@@ -83,4 +91,30 @@ pub(crate) fn judge_best(
 {
     let number = costliest_number(words, sizes, entries, events, memo);
     judge_number(words, sizes, entries, number, events, memo)
+}
+
+// Finds the costliest input of a length for an encoded grammar, writes it into the lent log, and judges it.
+pub fn judge_costliest_words(
+    words: &[u32],
+    tokens: usize,
+    log: &mut [u8],
+    memo: &mut [u16],
+) -> Judgement
+    ensures { λ r. ⌜ SearchesWords (now (words .entry)) tokens (now (log .entry)) (now (memo .entry)) r (now (log .exit)) (now (memo .exit)) ⌝ }
+{
+    if memo.len() < MEMO_ENTRIES {
+        return refused(Error::MemoTooShort);
+    }
+    if log.len() < TOKENS {
+        return refused(Error::BufferTooShort);
+    }
+    let found = find(words, Lookahead::One);
+    let finding = with_length(found.finding, tokens);
+    match finding {
+        Finding::Refused(error) => refused(error),
+        Finding::Passed(sizes) => {
+            let answer = judge_best(words, sizes, &found.entries, &mut log[..tokens], memo);
+            Judgement { answer, found }
+        }
+    }
 }

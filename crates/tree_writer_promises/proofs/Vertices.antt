@@ -40,8 +40,8 @@ use Rattle.semantics.specs.Calls.{Distinct, sameCall, allCalls}
 use Rattle.semantics.specs.LeftRecursion as semantics
 use Rattle.semantics.proofs.Theorems.{theorems}
 use Rattle.families.proofs.Words.{parse-over}
-use Rattle.recognizer.proofs.Bodies.{parse-here, symbol-reads}
-use Rattle.recognizer.proofs.Starting.{begin-next}
+use Rattle.recursive_descent.proofs.Bodies.{parse-here, symbol-reads}
+use Rattle.recursive_descent.proofs.Starting.{begin-next}
 use Rattle.tree.specs.Writing.{numberOf, vertexAt, below, each, visit, InTree, more}
 use Rattle.tree.specs.Writing.{start as root-in}
 use Rattle.tree.specs.Theorems.{Told}

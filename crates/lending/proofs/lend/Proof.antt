@@ -11,10 +11,10 @@ use Rattle.lending.proofs.lend.Statement.{statement}
 use Rattle.lending.proofs.lend.Tie as tie
 
 abbrev Inv-loop : tie.InvT-loop
-Inv-loop table₀ count words at₀ table at = (at ≤ count) × (length table ≡ length table₀) × (table ≡ front words at table₀)
+Inv-loop table₀ count words copied₀ table copied = (copied ≤ count) × (length table ≡ length table₀) × (table ≡ front words copied table₀)
 
 abbrev μ-loop : tie.MeasureT-loop
-μ-loop table₀ count words at₀ table at = count - at
+μ-loop table₀ count words copied₀ table copied = count - copied
 
 lent-sizes-requires : tie.Need-lent-sizes-requires Inv-loop μ-loop
 lent-sizes-requires c κs = search needs
@@ -61,8 +61,8 @@ slice-write-table c =
     let room = loop .before .before .before .before .before .before in
     omega (arith, room .if1 .left, loop .loop .inv .1)
 
-add-at : tie.Need-add-at Inv-loop μ-loop
-add-at c =
+add-copied : tie.Need-add-copied Inv-loop μ-loop
+add-copied c =
     let room = c .before .before .before .before .before .before .before in
     let counted = room .before in
     omega (arith, counted .word-count .ensures, count-room One _ (lent-given _ (counted .before .lent-sizes .ensures)))
@@ -113,7 +113,7 @@ lend-spec =
     array-read-table
     mul-table-2
     slice-write-table
-    add-at
+    add-copied
     loop-less
     loop-again
     same-length

@@ -9,9 +9,9 @@ use lib.ListN.{length, length-set}
 use borrow.Author.Tests.{not-true, not-false}
 use Rattle.word.specs.declared.Word.the-variants.{Symbol}
 use Rattle.semantics.specs.Choices.{Choice}
-use Rattle.recursive_descent.specs.Arrays.{held}
+use Rattle.descent_arrays.specs.Arrays.{held}
 use Rattle.recursive_descent.specs.Descent.{CallGiven, RunGiven}
-use Rattle.recursive_descent.proofs.Bodies.{no-symbol}
+use Rattle.rule.proofs.Bodies.{no-symbol}
 use Rattle.recursive_descent.proofs.Choosing.{token-given, entry-given, chosen-given}
 use Rattle.recursive_descent.proofs.Running.{level, Running, running-as, running-start, running-done, running-over, running-terminal, running-mismatch, running-given, running-small, running-falls, running-call, running-failed}
 use Rattle.recursive_descent.proofs.Calling.{InRule, rule-conjunct, rule-run, rule-turn, rule-done}
@@ -26,13 +26,13 @@ use Rattle.recursive_descent.proofs.descent.+call+run_body.Lts-call as 
 use Rattle.recursive_descent.proofs.descent.run_body.Reads as run-body
 use Rattle.recursive_descent.proofs.descent.run_body.Kinds as run-body-kinds
 use Rattle.recursive_descent.proofs.descent.+call+run_body.Lts-run_body as run-body-lts
-use Rattle.recursive_descent.proofs.descent.body_end.Reads as body-end-reads
 use Rattle.recursive_descent.proofs.descent.chosen.Reads as chosen-reads
-use Rattle.recursive_descent.proofs.descent.code.Reads as code-reads
+use Rattle.memo_table.proofs.entry.code.Reads as code-reads
 use Rattle.recursive_descent.proofs.descent.entry_of.Reads as entry-of-reads
 use Rattle.recursive_descent.proofs.descent.first_agreement.Reads as first-agreement-reads
 use Rattle.recursive_descent.proofs.descent.matches.Reads as matches-reads
-use Rattle.recursive_descent.proofs.descent.recall.Reads as recall-reads
+use Rattle.memo_table.proofs.entry.recall.Reads as recall-reads
+use Rattle.rule.proofs.body_end.Reads as body-end-reads
 use Rattle.rule.proofs.conclude.Reads as conclude-reads
 use Rattle.rule.proofs.goes_on.Reads as goes-on-reads
 use Rattle.rule.proofs.joined.Reads as joined-reads
@@ -177,14 +177,7 @@ call-joined-requires : (t : ℕ) → call-lts.Need-joined-requires (call-claims 
 call-joined-requires t c κs = tt
 
 call-body-end-requires : (t : ℕ) → call-lts.Need-body-end-requires (call-claims t) (call-at t) call.Post call-Inv-loop call-μ-loop
-call-body-end-requires t c κs =
-    let at-then = c .before .before .before .before .before in
-    let at-goes-on = at-then .before in
-    let at-loop = at-goes-on .before in
-    let start = at-loop .before .before .before .before .before .before .before .before .before .before in
-    let rule = at-loop .loop .inv _ (start .pre .1 .1) in
-    let goes = sym (at-goes-on .goes-on .ensures) ∙ at-then .if3 .taken in
-    c .before .before .before .run-body .ensures _ (rule-run (start .pre .1 .1) rule goes) .skipped .within
+call-body-end-requires t c κs = tt
 
 call-sign-at-requires-2 : (t : ℕ) → call-lts.Need-sign-at-requires-2 (call-claims t) (call-at t) call.Post call-Inv-loop call-μ-loop
 call-sign-at-requires-2 t c κs = tt
@@ -201,7 +194,7 @@ call-loop-less t c =
       arith,
       rule-conjunct (start .pre .1 .1) rule goes,
       c .before .before .before .before .before .run-body .ensures _ (rule-run (start .pre .1 .1) rule goes) .skipped .on,
-      c .before .body-end .ensures .skipped .on,
+      c .before .body-end .ensures,
     )
 
 call-loop-again : (t : ℕ) → call-lts.Need-loop-again (call-claims t) (call-at t) call.Post call-Inv-loop call-μ-loop

@@ -1,7 +1,7 @@
 -- The start is called in a blank memo table, with the arrays made for it, and the calls are read off the table afterwards.
 use native.Mathlib.Omega.{arith}
 use Rattle.event.proofs.Inputs.{input-length}
-use Rattle.recursive_descent.proofs.Deciding.{rows-given, tokens-given, start-given, descended}
+use Rattle.recursive_descent.proofs.Deciding.{start-given, descended}
 use borrow.Author.Needs.{needs}
 use Rattle.recursive_descent.proofs.judging.descend.Statement.{statement}
 use Rattle.recursive_descent.proofs.judging.descend.Tie as tie
@@ -15,26 +15,28 @@ cast-nonterminals c = search needs
 count-requires : tie.Need-count-requires
 count-requires c κs = search needs
 
-add-choices-of : tie.Need-add-choices-of
-add-choices-of c = search needs
+rule-starts-requires : tie.Need-rule-starts-requires
+rule-starts-requires c κs = search needs
 
 choices-of-requires : tie.Need-choices-of-requires
-choices-of-requires c κs = let start = c .before .before .before .before .before .before .before .before .before in rows-given (start .args .events .now) (start .pre) (c .count .ensures)
+choices-of-requires c κs = search needs
 
 tokens-of-requires : tie.Need-tokens-of-requires
-tokens-of-requires c κs = let start = c .before .before .before .before .before .before .before .before .before .before in tokens-given (start .args .events .now) (start .pre)
+tokens-of-requires c κs = search needs
 
 call-requires : tie.Need-call-requires
 call-requires c κs =
     let made = c .before .before .before in
-    let cleared = made .before .before .before .before .before .before in
+    let sized = made .before .before .before in
+    let counted = sized .before in
+    let cleared = counted .before .before .before .before in
     let start = cleared .before .before .before .before .before in
-    start-given (start .args .events .now) (start .pre) (made .before .before .count .ensures) (made .before .choices-of .ensures) (made .tokens-of .ensures) (cleared .clear .ensures)
+    start-given (start .args .events .now) (start .pre) (counted .count .ensures) (sized .rule-starts .ensures) (made .before .choices-of .ensures) (made .tokens-of .ensures)
+    (cleared .clear .ensures)
 
 cast-length : tie.Need-cast-length
 cast-length c =
-    let called = c .before .before in
-    let start = called .before .before .before .before .before .before .before .before .before .before .before .before .before .before .before in
+    let start = c .before .before .before .before .before .before .before .before .before .before .before .before .before .before .before .before .before .before .before in
     omega (arith, start .pre .ready .short, input-length (start .args .events .now))
 
 tally-requires : tie.Need-tally-requires
@@ -50,10 +52,12 @@ returns : tie.Need-returns
 returns c =
     let called = c .before .before .before .before .before .before in
     let made = called .before .before .before .before in
-    let cleared = made .before .before .before .before .before .before in
+    let sized = made .before .before .before in
+    let counted = sized .before in
+    let cleared = counted .before .before .before .before in
     let start = cleared .before .before .before .before .before in
-    descended (start .args .events .now) (start .pre) (made .before .before .count .ensures) (made .before .choices-of .ensures) (made .tokens-of .ensures) (cleared .clear .ensures) (called .call .ensures)
-    (c .before .before .tally .ensures) (c .before .ends-at .ensures) (rw (c .if1 .taken))
+    descended (start .args .events .now) (start .pre) (counted .count .ensures) (sized .rule-starts .ensures) (made .before .choices-of .ensures) (made .tokens-of .ensures)
+    (cleared .clear .ensures) (called .call .ensures) (c .before .before .tally .ensures) (c .before .ends-at .ensures) (rw (c .if1 .taken))
 
 same-length-2 : tie.Need-same-length-2
 same-length-2 c = search needs
@@ -62,10 +66,12 @@ returns-2 : tie.Need-returns-2
 returns-2 c =
     let called = c .before .before .before .before .before .before in
     let made = called .before .before .before .before in
-    let cleared = made .before .before .before .before .before .before in
+    let sized = made .before .before .before in
+    let counted = sized .before in
+    let cleared = counted .before .before .before .before in
     let start = cleared .before .before .before .before .before in
-    descended (start .args .events .now) (start .pre) (made .before .before .count .ensures) (made .before .choices-of .ensures) (made .tokens-of .ensures) (cleared .clear .ensures) (called .call .ensures)
-    (c .before .before .tally .ensures) (c .before .ends-at .ensures) (rw (c .if1 .left))
+    descended (start .args .events .now) (start .pre) (counted .count .ensures) (sized .rule-starts .ensures) (made .before .choices-of .ensures) (made .tokens-of .ensures)
+    (cleared .clear .ensures) (called .call .ensures) (c .before .before .tally .ensures) (c .before .ends-at .ensures) (rw (c .if1 .left))
 
 pub descend-spec : {M : Type 1} → statement M
 descend-spec =
@@ -74,7 +80,7 @@ descend-spec =
     clear-requires
     cast-nonterminals
     count-requires
-    add-choices-of
+    rule-starts-requires
     choices-of-requires
     tokens-of-requires
     call-requires
