@@ -8,10 +8,10 @@ use answer::code;
 use answer::position;
 use grammar::limits::WIDE_TERMINALS;
 use grammar::reading::Outcome;
-use grammar::reading::begins_rule;
-use grammar::reading::declared;
-use grammar::reading::read;
 use lookahead::Lookahead;
+use reader::declared;
+use reader::read;
+use reading_steps::begins_rule;
 use word::Word;
 use word::decode;
 

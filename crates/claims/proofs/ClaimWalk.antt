@@ -25,16 +25,16 @@ use Rattle.lookahead.specs.Operations.{concatNumbers}
 use Rattle.semantics.specs.FirstFollow.{first, follow}
 use Rattle.semantics.proofs.First.{first-lookahead}
 use Rattle.semantics.proofs.Follow.{follow-lookahead}
-use Rattle.sets.specs.declared.first.Rest.{Rest}
-use Rattle.sets.specs.Sets.{firstNumber, followNumber}
-use Rattle.sets.specs.Least.{at as family}
-use Rattle.sets.specs.Naming.{ruleHead}
-use Rattle.sets.specs.First.{bodyFirst, ruleFirst, restOf, noRest}
-use Rattle.sets.proofs.FirstPasses.{Onto}
-use Rattle.sets.proofs.NamedNonterminals.{before-indexed}
-use Rattle.sets.proofs.Numbers.{array-at}
-use Rattle.sets.proofs.FewTerminals.{admitted-read, few-terminals}
-use Rattle.sets.proofs.Words.{parse-before, parse-over}
+use Rattle.families.specs.declared.Rest.{Rest}
+use Rattle.families.specs.Sets.{firstNumber, followNumber}
+use Rattle.families.specs.Least.{at as family}
+use Rattle.families.specs.Naming.{ruleHead}
+use Rattle.families.specs.First.{bodyFirst, ruleFirst, restOf, noRest}
+use Rattle.families.proofs.FirstPasses.{Onto}
+use Rattle.families.proofs.NamedNonterminals.{before-indexed}
+use Rattle.families.proofs.Numbers.{array-at}
+use Rattle.families.proofs.FewTerminals.{admitted-read, few-terminals}
+use Rattle.families.proofs.Words.{parse-before, parse-over}
 use Rattle.claims.specs.Claims.{claimNumber, byRule, FamiliesGiven, Kept, kept, MayClaim, WordClaims, Empty, AllKept}
 use Rattle.claims.proofs.RuleClaims.{claim-found}
 

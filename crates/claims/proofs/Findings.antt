@@ -11,15 +11,15 @@ use Rattle.grammar.specs.declared.reading.Sizes.{Sizes}
 use Rattle.grammar.specs.declared.reading.Outcome.the-variants.{Read}
 use Rattle.lookahead.specs.declared.Lookahead.{Lookahead}
 use Rattle.admission.specs.Admission.{admission}
-use Rattle.sets.specs.declared.Finding.the-variants.{Passed, Refused}
-use Rattle.sets.specs.declared.Families.{Families}
-use Rattle.sets.specs.Analysis.{setsFault, setsIf, familiesOf}
-use Rattle.sets.specs.Lists.{listed}
-use Rattle.sets.specs.Sets.{firstNumber, followNumber}
-use Rattle.sets.proofs.Lists.{listed-is}
-use Rattle.sets.proofs.NamedNonterminals.{word-indexed}
-use Rattle.sets.proofs.FewTerminals.{admitted-read}
-use Rattle.sets.proofs.Findings.{FoundFamilies, told-passed, families-refused}
+use Rattle.families.specs.declared.Finding.the-variants.{Passed, Refused}
+use Rattle.families.specs.declared.Families.{Families}
+use Rattle.families.specs.Analysis.{setsFault, setsIf, familiesOf}
+use Rattle.families.specs.Lists.{listed}
+use Rattle.families.specs.Sets.{firstNumber, followNumber}
+use Rattle.families.proofs.Lists.{listed-is}
+use Rattle.families.proofs.NamedNonterminals.{word-indexed}
+use Rattle.families.proofs.FewTerminals.{admitted-read}
+use Rattle.families.proofs.Findings.{FoundFamilies, told-passed, families-refused}
 use Rattle.claims.specs.declared.Claims.{Claims}
 use Rattle.claims.specs.Claims.{headsOf, claimNumbers, byRule, byRuleIf, overrunsOf, overrunsIf, claimsWith, claimsOf, FamiliesGiven, AllKept}
 use Rattle.claims.specs.Overruns.{WordsIndexed, Overrunning}

@@ -23,8 +23,8 @@ use Rattle.lookahead.proofs.Strings.{string-nothing, is-nothing}
 use Rattle.semantics.specs.FirstFollow.{sameString, followSets}
 use Rattle.semantics.specs.Claims.{overruns}
 use Rattle.semantics.proofs.LookaheadSets.{strings-equality}
-use Rattle.sets.specs.Sets.{followNumber}
-use Rattle.sets.proofs.Strings.{string-in, number-element}
+use Rattle.families.specs.Sets.{followNumber}
+use Rattle.families.proofs.Strings.{string-in, number-element}
 use Rattle.claims.specs.Claims.{FamiliesGiven}
 use Rattle.claims.specs.Overruns.{beyondEnd, aloneIn, overrunSet, Overrunning}
 use Rattle.claims.proofs.RuleClaims.{follow-lists}

@@ -19,9 +19,9 @@ use Rattle.grammar.specs.Encoding.{Parsed, ruleOf, onWord, parse}
 use Rattle.lookahead.specs.declared.Lookahead.{Lookahead}
 use Rattle.lookahead.specs.Operations.{end, terminal, join}
 use Rattle.semantics.specs.Claims.{without}
-use Rattle.sets.specs.Naming.{ruleHead, Indexed}
-use Rattle.sets.proofs.Lists.{getD-zeros}
-use Rattle.sets.proofs.Words.{parse-before, parse-over}
+use Rattle.families.specs.Naming.{ruleHead, Indexed}
+use Rattle.families.proofs.Lists.{getD-zeros}
+use Rattle.families.proofs.Words.{parse-before, parse-over}
 use Rattle.claims.specs.Overruns.{beyondEnd, aloneIn, overrunSet, aloneFrom, WordOverruns, Overrunning}
 
 -- what is told of a nonterminal by one rule

@@ -25,11 +25,11 @@ use Rattle.semantics.proofs.LookaheadSets.{strings-equality, strings-make, stri
 use Rattle.semantics.proofs.First.{In, firstBody-mono, firstRule-make, firstRule-elim}
 use Rattle.semantics.proofs.First.{first-in, in-first}
 use Rattle.semantics.proofs.Follow.{follow-lookahead}
-use Rattle.sets.specs.Sets.{numberOf, firstNumber, followNumber}
-use Rattle.sets.specs.First.{ruleFirst}
-use Rattle.sets.proofs.Strings.{StringIn, string-in, in-string, number-has, has-number}
-use Rattle.sets.proofs.Numbers.{number-string, in-number}
-use Rattle.sets.proofs.FirstTie.{rule-begins, begins-rule}
+use Rattle.families.specs.Sets.{numberOf, firstNumber, followNumber}
+use Rattle.families.specs.First.{ruleFirst}
+use Rattle.families.proofs.Strings.{StringIn, string-in, in-string, number-has, has-number}
+use Rattle.families.proofs.Numbers.{number-string, in-number}
+use Rattle.families.proofs.FirstTie.{rule-begins, begins-rule}
 use Rattle.claims.specs.Claims.{claimNumber}
 
 -- the number s has the elements of the strings that are listed

@@ -22,11 +22,11 @@ use Rattle.semantics.specs.FiniteSets.{member}
 use Rattle.semantics.specs.FirstFollow.{sameString}
 use Rattle.semantics.specs.Claims.{claimed, overruns}
 use Rattle.admission.specs.Admission.{admission}
-use Rattle.sets.specs.declared.Finding.{Finding}
-use Rattle.sets.specs.Analysis.{setsFault, findingOf, setsIf}
-use Rattle.sets.specs.Lists.{listed}
-use Rattle.sets.specs.Naming.{Indexed}
-use Rattle.sets.specs.Sets.{numberOf, firstNumber, followNumber}
+use Rattle.families.specs.declared.Finding.{Finding}
+use Rattle.families.specs.Analysis.{setsFault, findingOf, setsIf}
+use Rattle.families.specs.Lists.{listed}
+use Rattle.families.specs.Naming.{Indexed}
+use Rattle.families.specs.Sets.{numberOf, firstNumber, followNumber}
 use Rattle.claims.specs.Overruns.{overrunSet}
 use Rattle.claims.specs.declared.Claims.{Claims}
 

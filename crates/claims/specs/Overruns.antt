@@ -16,7 +16,7 @@ use Rattle.grammar.specs.Syntax.{Rule}
 use Rattle.lookahead.specs.declared.Lookahead.{Lookahead}
 use Rattle.lookahead.specs.Operations.{empty, end, terminal, join}
 use Rattle.semantics.specs.Claims.{without}
-use Rattle.sets.specs.Naming.{Indexed}
+use Rattle.families.specs.Naming.{Indexed}
 
 -- a set has more than nothing
 unfoldable pub beyondEnd : Lookahead → ℕ → Bool

@@ -1,17 +1,17 @@
 // What each rule claims, and which nonterminals overrun, found once: conflicts and the table are read off it.
 ghost use mathlib.Core.Path.{_≡_};
-ghost use Rattle.sets.specs.Naming.{ruleHead};
+ghost use Rattle.families.specs.Naming.{ruleHead};
 ghost use Rattle.grammar.specs.Encoding.{grammarOf};
 ghost use Rattle.claims.specs.Claims.{claimsOf, FamiliesGiven, kept, MayClaim, WordClaims, Empty, AllKept};
+use families::Finding;
+use families::SETS;
 use grammar::limits::RULES;
 use grammar::reading::Sizes;
 use lookahead::Lookahead;
 use lookahead::LookaheadSet;
 use overruns::overrunning;
-use sets::Finding;
-use sets::family::SETS;
-use sets::first::no_rest;
-use sets::first::onto;
+use rests::no_rest;
+use rests::onto;
 use word::Word;
 use word::decode;
 

@@ -4,11 +4,11 @@ ghost use mathlib.Core.Bool.{_&&_};
 ghost use Rattle.booleans.specs.Choice.{choose};
 ghost use Rattle.grammar.specs.Encoding.{parse};
 ghost use Rattle.lookahead.specs.Operations.{terminal};
-ghost use Rattle.sets.specs.Naming.{ruleHead, Indexed};
+ghost use Rattle.families.specs.Naming.{ruleHead, Indexed};
 ghost use Rattle.claims.specs.Overruns.{beyondEnd, aloneFrom, WordOverruns, WordsIndexed, Overrunning};
+use families::SETS;
 use lookahead::Lookahead;
 use lookahead::LookaheadSet;
-use sets::family::SETS;
 use word::Word;
 use word::decode;
 

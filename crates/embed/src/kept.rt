@@ -1,13 +1,13 @@
 // A kept input in memory of the caller's: its events, and nine numbers that are its length and its eight checkpoints.
 ghost use mathlib.Core.Path.{_≡_};
 ghost use Rattle.kept_input.specs.Histories.{Mark, Return};
-ghost use Rattle.embed.specs.Kept.{stateOf, StateRead, AddExported, MoveExported, KeptExported};
+ghost use Rattle.exports.specs.Kept.{stateOf, StateRead, AddExported, MoveExported, KeptExported};
 use super::pack;
 use grammar::limits::TOKENS;
 use kept_input::CHECKPOINTS;
 use kept_input::KeptInput;
 use kept_input::Progress;
-use kept_input::judge_kept;
+use kept_judge::judge_kept;
 
 const STATE: usize = CHECKPOINTS + 1;
 

@@ -2,13 +2,13 @@
 ghost use mathlib.Core.Path.{_≡_};
 ghost use Prim.Native.Nat.{_<_};
 ghost use Rattle.event.specs.Events.{inputOf};
-ghost use Rattle.clients.specs.Usages.{clients};
-ghost use Rattle.embed.specs.Records.{usageAt, usagesIn};
-ghost use Rattle.embed.specs.Exports.{ServedExported, TotalsExported};
+ghost use Rattle.client_records.specs.Usages.{clients};
+ghost use Rattle.exports.specs.Records.{usageAt, usagesIn};
+ghost use Rattle.exports.specs.Exports.{ServedExported, TotalsExported};
 use super::pack;
-use clients::CLIENTS;
+use client_records::CLIENTS;
+use client_records::totals::total;
 use clients::judge_for;
-use clients::totals::total;
 use usage::Usage;
 
 const COUNTERS: usize = 4;

@@ -1,7 +1,9 @@
 // All inputs of one length in letter order: how many there are, and the one of a number.
 ghost use mathlib.Core.Path.{_≡_};
 ghost use Prim.Native.Nat.{_+_};
+ghost use lib.Dec.{ltb};
 ghost use lib.ListN.{length};
+ghost use Rattle.booleans.specs.Choice.{choose};
 ghost use Rattle.inputs.specs.Inputs.{inputAt, inputCount};
 
 // Among how many inputs a search goes.
@@ -35,4 +37,17 @@ pub fn write_input(input: &mut [u8], last: u8, number: usize)
         input[at] = (rest % terminals) as u8;
         rest = rest / terminals;
     }
+}
+
+// An input by its number, and how many calls it costs.
+pub struct Candidate {
+    pub number: usize,
+    pub calls: usize,
+}
+
+// The one with more calls, the first where both have as many.
+pub fn costlier(a: Candidate, b: Candidate) -> Candidate
+    ensures { λ r. ⌜ r ≡ choose (ltb (a .calls) (b .calls)) b a ⌝ }
+{
+    if a.calls < b.calls { b } else { a }
 }

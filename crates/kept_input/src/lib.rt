@@ -5,11 +5,10 @@ ghost use Prim.Native.Nat.{min};
 ghost use Rattle.grammar.specs.Limits.{maxTokens};
 ghost use Rattle.kept_input.specs.Histories.{empty, Add, Mark, Return};
 ghost use Rattle.kept_input.specs.Stored.{clearedBeyond, readProgress, progressOf};
-ghost use Rattle.kept_input.specs.Properties.{Begins, Steps, Moves, JudgesKept};
+ghost use Rattle.kept_input.specs.Properties.{Begins, Steps, Moves};
 use answer::Answer;
 use answer::Error;
 use grammar::limits::TOKENS;
-use recognizer::judge;
 
 pub const CHECKPOINTS: usize = 8;
 
@@ -41,7 +40,8 @@ pub struct Changed {
     pub kept: KeptInput,
 }
 
-fn bounded(length: u16) -> u16
+// The length that a value tells: at most the limit.
+pub fn bounded(length: u16) -> u16
     ensures { λ r. ⌜ r ≡ min length maxTokens ⌝ }
 {
     if length <= LIMIT { length } else { LIMIT }
@@ -213,14 +213,4 @@ impl KeptInput {
             kept: KeptInput { events, progress },
         }
     }
-}
-
-// Judges the input as it stands.
-pub fn judge_kept(words: &[u32], kept: KeptInput, table: &mut [u32], memo: &mut [u16]) -> Answer
-    ensures { λ r. ⌜ JudgesKept (now (words .entry)) kept (now (table .entry)) (now (memo .entry)) r (now (table .exit)) (now (memo .exit)) ⌝ }
-{
-    let progress = kept.progress;
-    let length = bounded(progress.length) as usize;
-    let events = kept.events;
-    judge(words, &events[..length], table, memo)
 }

@@ -19,7 +19,7 @@ use Rattle.grammar.specs.declared.reading.Outcome.the-variants.{Read}
 use Rattle.grammar.specs.Encoding.{onWord, parse}
 use Rattle.grammar.specs.Reading.{scan}
 use Rattle.grammar.proofs.Suffixes.{scan-next}
-use Rattle.sets.proofs.Words.{parse-here as parse-first}
+use Rattle.families.proofs.Words.{parse-here as parse-first}
 use Rattle.recognizer.specs.Descent.{Skipped, BodyEnd}
 
 -- the row from an index on: its first word, and the rest

@@ -35,7 +35,7 @@ use Rattle.rule.specs.declared.Agreement.the-variants as agreement
 use Rattle.rule.specs.Rule.{meant, signOf, signAt, beginsBody, goesOn, joinedBy, concluded}
 use Rattle.rule.proofs.Signs.{sign-number, sign-positive, sign-negative, sign-within}
 use Rattle.rule.proofs.Agreements.{opens-no-more, ends-joined}
-use Rattle.sets.proofs.Words.{parse-over}
+use Rattle.families.proofs.Words.{parse-over}
 use Rattle.recognizer.specs.declared.descent.Run.{Run}
 use Rattle.recognizer.specs.Descent.{BodyEnd, MemoSound, CallGiven, RunGiven, RunDone}
 use Rattle.recognizer.proofs.Bodies.{parse-here, skipped-on}

@@ -36,21 +36,20 @@ use Rattle.rule.specs.declared.Outcome as code
 use Rattle.rule.specs.Rule.{meant}
 use Rattle.lookahead.specs.declared.Lookahead.{Lookahead}
 use Rattle.lookahead.specs.Lookaheads.{tokens}
-use Rattle.sets.proofs.FewTerminals.{admitted-read, few-terminals}
-use Rattle.table.specs.Columns.{columnCount}
+use Rattle.families.proofs.FewTerminals.{admitted-read, few-terminals}
+use Rattle.columns.specs.Columns.{columnCount}
 use Rattle.recognizer.specs.Arrays.{held, rowAt}
 use Rattle.recognizer.specs.Descent.{MemoSound, CallGiven, CallDone, CallRequires, CallEnsures}
 use Rattle.memo_table.specs.Tally.{tallyOf, recordedCalls}
-use Rattle.recognizer.specs.Memory.{memoWordBy, memoWordsBy}
-use Rattle.recognizer.specs.Answers.{callsBy, verdictBy}
-use Rattle.recognizer.specs.Judging.{DescendGiven, Descended}
+use Rattle.promises.specs.Answers.{callsBy, verdictBy}
+use Rattle.promises.specs.Judging.{DescendGiven, Descended}
 use Rattle.recognizer.specs.Preparing.{TokensGiven, TokensHold, ChoicesGiven, Filled}
 use Rattle.event.specs.Events.{inputOf}
 use Rattle.event.proofs.Inputs.{input-length}
 use Rattle.recognizer.proofs.Tokens.{column-few}
 use Rattle.recognizer.proofs.TableChoices.{choices-given, choices-hold}
 use Rattle.recognizer.proofs.Running.{level}
-use Rattle.memo_table.proofs.Entries.{getD-any}
+use Rattle.promises.proofs.MemoWords.{words-recorded}
 use Rattle.memo_table.proofs.Tallying.{tally-recorded}
 
 -- a memo table in which no call is recorded is sound
@@ -59,38 +58,6 @@ blank-sound choice words input = record {
   size = length-replicate (pairs (grammarOf words) input) uncalledCode;
   right = λ x h n. absurd (n (getD-replicate (pairs (grammarOf words) input) (indexOf input x) uncalledCode uncalledCode (index-range (grammarOf words) input x h)));
 }
-
--- the entries of the calls in order are what the memo table records
-module _ (k : ℕ) (G : Grammar) (w : List ℕ) (scoped : WellScoped G) (free : NoLeftRecursion G) (nonempty : 0 < G .nonterminals) {m : List ℕ} (r : Recorded G (tableChoice G k w) w m) where
-  listing : Listing G (tableChoice G k w) w (calls G (tableChoice G k w) w)
-  listing = theorems .calls-counted G scoped free nonempty (tableChoice G k w) (theorems .own-rules G k w) w .listing
-
-  word-is : (x : Call) → InRange G w x → entry w m x ≡ memoWordBy k G w x
-  unfolding memoWordBy
-  word-is x h = go (member sameCall (calls G (tableChoice G k w) w) x) refl
-    where
-      go : (b : Bool) → member sameCall (calls G (tableChoice G k w) w) x ≡ b
-          → entry w m x ≡ choose b (encode (descend G (tableChoice G k w) w (x .nonterminal) (x .place))) uncalledCode
-      go true e = r .called x (listing .sound x (member-mem sameCall calls-equality (calls G (tableChoice G k w) w) x (rw e tt)))
-      go false e = r .uncalled x h (λ c. rw e at (mem-member sameCall calls-equality (calls G (tableChoice G k w) w) x (listing .full x c)))
-
-  pub words-recorded : m ≡ memoWordsBy k G w
-  unfolding memoWordsBy
-  words-recorded =
-      ext-getD uncalledCode m (map (memoWordBy k G w) (allCalls G w)) (r .size ∙ sym (length-map (allCalls G w) (memoWordBy k G w) ∙ all-length G w)) same
-    where
-      same : (i : ℕ) → i < length m → getD m i uncalledCode ≡ getD (map (memoWordBy k G w) (allCalls G w)) i uncalledCode
-      same i h =
-          let n = suc (length w) in
-          let x = callAt (i / n) (i % n) in
-          let z : 0 < n = omega arith in
-          let d : indexOf w x ≡ i = div-add-mod' i n in
-          let low : i < G .nonterminals * n = omega (arith, r .size) in
-          let inside : InRange G w x = (div-lt-iff-lt-mul z .1 low, omega (arith, mod-lt i z)) in
-          let here : getD (allCalls G w) i x ≡ x = ap (λ j. getD (allCalls G w) j x) (sym d) ∙ all-ordered G w x x inside in
-          let short : i < length (map (memoWordBy k G w) (allCalls G w)) = omega (arith, length-map (allCalls G w) (memoWordBy k G w), all-length G w, r .size) in
-          ap (λ j. getD m j uncalledCode) (sym d) ∙ word-is x inside ∙ ap (memoWordBy k G w) (sym here) ∙ sym (List·getD-map (memoWordBy k G w) (allCalls G w) i x)
-          ∙ getD-any (map (memoWordBy k G w) (allCalls G w)) i (memoWordBy k G w x) uncalledCode short
 
 -- the start's call has been made in a blank memo table
 module _ {k : Lookahead} {words : List ℕ} {z : Sizes} {entries memo : List ℕ} (events : List ℕ) (g : DescendGiven k words z entries (inputOf events) memo) where

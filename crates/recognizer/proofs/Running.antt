@@ -35,7 +35,7 @@ use Rattle.semantics.proofs.Rank.{level-onward}
 use Rattle.rule.specs.declared.Outcome as code
 use Rattle.rule.specs.declared.Outcome.the-variants as outcome
 use Rattle.rule.specs.Rule.{meant}
-use Rattle.sets.proofs.Words.{parse-over}
+use Rattle.families.proofs.Words.{parse-over}
 use Rattle.grammar.specs.Limits.{maxNonterminals}
 use Rattle.recognizer.specs.declared.descent.Run.{Run}
 use Rattle.recognizer.specs.Arrays.{endMark, columnWeight, matchesAt}

@@ -20,7 +20,7 @@ use Rattle.grammar.specs.WellRead.{WellRead}
 use Rattle.grammar.specs.declared.reading.Sizes.{Sizes}
 use Rattle.grammar.proofs.WellRead.{well-read}
 use Rattle.lookahead.specs.declared.Lookahead.the-variants.{One}
-use Rattle.sets.proofs.FewTerminals.{admitted-read}
+use Rattle.families.proofs.FewTerminals.{admitted-read}
 use Rattle.semantics.specs.Choices.{tableChoice}
 use Rattle.semantics.specs.Descent.{accepts}
 use Rattle.semantics.specs.Strings.{Over}
@@ -31,13 +31,14 @@ use Rattle.inputs.specs.Costliest.{costliest}
 use Rattle.inputs.proofs.Numbers.{at-long, at-over}
 use Rattle.inputs.proofs.Counting.{count-exact}
 use Rattle.inputs.proofs.Searching.{Searched, searched-none, searched-more, searched-less, searched-all}
-use Rattle.recognizer.specs.declared.search.Candidate.{Candidate}
-use Rattle.recognizer.specs.Memory.{memoWords}
-use Rattle.recognizer.specs.Answers.{callsOf, verdictBy, verdictOf}
-use Rattle.recognizer.specs.Judging.{PassedGiven, JudgedPassed}
-use Rattle.recognizer.specs.Costliest.{callsOn, costliestInput}
-use Rattle.recognizer.specs.Search.{SearchGiven, NumberJudged, Behind, Tried, Found, BestJudged}
-use Rattle.recognizer.proofs.Judged.{memo-count}
+use Rattle.inputs.specs.declared.Candidate.{Candidate}
+use Rattle.promises.specs.Memory.{memoWords}
+use Rattle.promises.specs.Answers.{callsOf, verdictBy, verdictOf}
+use Rattle.promises.specs.Judging.{PassedGiven, JudgedPassed}
+use Rattle.promises.specs.Costliest.{callsOn, costliestInput}
+use Rattle.promises.specs.Search.{SearchGiven, BestJudged}
+use Rattle.recognizer.specs.Search.{NumberJudged, Behind, Tried, Found}
+use Rattle.promises.proofs.Judged.{memo-count}
 
 -- the calls that a verdict tells
 verdict-count : (G : Grammar) (w : List ℕ) → numbers (verdictOf G w) .count ≡ callsOn G w

@@ -19,18 +19,19 @@ use Rattle.semantics.specs.Claims.{tableOf}
 use Rattle.semantics.specs.Choices.{tableChoice}
 use Rattle.semantics.proofs.Outcomes.{nth-below}
 use Rattle.semantics.proofs.Predictive.{table-own}
-use Rattle.table.specs.Columns.{columnCount, columnString}
+use Rattle.columns.specs.Columns.{columnCount, columnString}
 use Rattle.table.specs.Entries.{ruleByte, byteAt}
-use Rattle.table.proofs.ColumnStrings.{column-count}
+use Rattle.columns.proofs.ColumnStrings.{column-count}
 use Rattle.table.proofs.EntriesFilled.{entries-at}
 use Rattle.lookahead.specs.declared.Lookahead.{Lookahead}
 use Rattle.lookahead.specs.Lookaheads.{tokens}
-use Rattle.sets.proofs.FewTerminals.{admitted-read, few-terminals}
+use Rattle.families.proofs.FewTerminals.{admitted-read, few-terminals}
 use Rattle.recognizer.specs.Arrays.{choiceColumns, firstAt}
 use Rattle.recognizer.specs.Descent.{firstConjunct}
-use Rattle.recognizer.specs.Preparing.{columnAt, TokensHold, entryOf, firstWord, FirstGiven, ChoicesGiven, Filled}
-use Rattle.recognizer.specs.Judging.{Ready}
-use Rattle.recognizer.proofs.Columns.{column-right}
+use Rattle.columns.specs.Columns.{columnAt}
+use Rattle.recognizer.specs.Preparing.{TokensHold, entryOf, firstWord, FirstGiven, ChoicesGiven, Filled}
+use Rattle.promises.specs.Judging.{Ready}
+use Rattle.columns.proofs.Columns.{column-right}
 
 module _ {k : Lookahead} {words : List ℕ} {z : Sizes} {entries input : List ℕ} (g : Ready k words z entries input) where
   abbrev G : Grammar

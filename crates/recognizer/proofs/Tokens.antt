@@ -12,10 +12,11 @@ use Rattle.grammar.specs.Limits.{maxPlaces}
 use Rattle.lookahead.specs.declared.Lookahead.{Lookahead}
 use Rattle.lookahead.specs.declared.Lookahead.the-variants.{One, Two}
 use Rattle.lookahead.specs.Lookaheads.{alphabet}
-use Rattle.table.proofs.ColumnStrings.{column-count}
+use Rattle.columns.proofs.ColumnStrings.{column-count}
 use Rattle.recognizer.specs.Arrays.{endColumn, endMark, columnWeight, held}
-use Rattle.recognizer.specs.Preparing.{columnAt, TokensGiven, TokensHold}
-use Rattle.recognizer.proofs.Columns.{column-right}
+use Rattle.columns.specs.Columns.{columnAt}
+use Rattle.recognizer.specs.Preparing.{TokensGiven, TokensHold}
+use Rattle.columns.proofs.Columns.{column-right}
 
 -- words hold the input that their terminals are, up to the end
 held-is : (w tokens : List ℕ) → length w < length tokens → ((i : ℕ) → i < length w → getD tokens i 0 % columnWeight ≡ getD w i 0)

@@ -9,15 +9,11 @@ use Rattle.booleans.specs.Choice.{choose}
 use Rattle.grammar.specs.Codes.{noRule}
 use Rattle.grammar.specs.Limits.{maxWords, maxNonterminals, maxRules, maxWideColumns, maxTokens, maxPlaces}
 use Rattle.grammar.specs.Starts.{ruleStarts}
-use Rattle.semantics.specs.Strings.{look, Over}
+use Rattle.semantics.specs.Strings.{Over}
 use Rattle.lookahead.specs.declared.Lookahead.{Lookahead}
-use Rattle.lookahead.specs.Lookaheads.{tokens, alphabet}
-use Rattle.table.specs.Columns.{columnOf}
+use Rattle.lookahead.specs.Lookaheads.{alphabet}
+use Rattle.columns.specs.Columns.{columnAt}
 use Rattle.recognizer.specs.Arrays.{endMark, columnWeight, choiceColumns, choiceWords, held, rowAt, endAt}
-
--- the column of the lookahead string at a place, for n terminals
-unfoldable pub columnAt : Lookahead → ℕ → List ℕ → ℕ → ℕ
-columnAt k n w i = columnOf k n (look (tokens k) w i)
 
 pub record TokensGiven (k : Lookahead) (w : List ℕ) (n : ℕ) : Type 0 where
   pub short : length w ≤ maxTokens

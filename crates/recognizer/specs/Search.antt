@@ -1,30 +1,15 @@
 -- What the steps of the search for the costliest input require and ensure.
 use mathlib.Core.Path.{_≡_}
 use mathlib.Core.List.{List}
-use Prim.Native.Nat.{ℕ, suc, _*_, _^_, _≤_}
+use Prim.Native.Nat.{ℕ, suc, _*_}
 use lib.ListN.{length, drop}
 use Rattle.answer.specs.declared.Answer.{Answer}
-use Rattle.grammar.specs.Limits.{maxTokens, maxMemoEntries}
 use Rattle.grammar.specs.Encoding.{grammarOf}
-use Rattle.grammar.specs.declared.reading.Sizes.{Sizes}
-use Rattle.grammar.specs.declared.reading.Outcome.the-variants.{Read}
 use Rattle.lookahead.specs.declared.Lookahead.the-variants.{One}
-use Rattle.admission.specs.Admission.{admission}
-use Rattle.inputs.specs.Inputs.{maxInputs, inputAt}
-use Rattle.semantics.specs.LeftRecursion.{NoLeftRecursion}
-use Rattle.table.specs.Entries.{entriesOf}
-use Rattle.recognizer.specs.declared.search.Candidate.{Candidate}
-use Rattle.recognizer.specs.Judging.{JudgedPassed}
-use Rattle.recognizer.specs.Costliest.{callsOn, costliestInput}
-
--- a grammar that passes, with its sizes and its entries, room for an input of which there are not too many, and a memo table that is long enough
-pub record SearchGiven (words : List ℕ) (z : Sizes) (entries events memo : List ℕ) : Type 0 where
-  pub taken : admission One words ≡ Read z
-  pub free : NoLeftRecursion (grammarOf words)
-  pub entered : entries ≡ entriesOf One (grammarOf words)
-  pub short : length events ≤ maxTokens
-  pub few : z .terminals ^ length events ≤ maxInputs
-  pub room : maxMemoEntries ≤ length memo
+use Rattle.inputs.specs.Inputs.{inputAt}
+use Rattle.inputs.specs.declared.Candidate.{Candidate}
+use Rattle.promises.specs.Judging.{JudgedPassed}
+use Rattle.promises.specs.Costliest.{callsOn, costliestInput}
 
 -- the input of a number is written and judged
 pub record NumberJudged (words : List ℕ) (number : ℕ) (events memo : List ℕ) (r : Answer) (events′ memo′ : List ℕ) : Type 0 where
@@ -47,8 +32,3 @@ pub record Found (words events memo : List ℕ) (r : ℕ) (events′ memo′ : L
   pub best : inputAt (grammarOf words .terminals) (length events) r ≡ costliestInput (grammarOf words) (length events)
   pub same-length : length events′ ≡ length events
   pub behind : Behind words (length events) memo memo′
-
--- it is written, and judged as in the memory of before
-pub record BestJudged (words events memo : List ℕ) (r : Answer) (events′ memo′ : List ℕ) : Type 0 where
-  pub written : events′ ≡ costliestInput (grammarOf words) (length events)
-  pub judged : JudgedPassed One words events′ memo r memo′

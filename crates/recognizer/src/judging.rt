@@ -1,43 +1,17 @@
 // Judging an input by a grammar that has passed.
-ghost use mathlib.Core.Path.{_≡_};
 ghost use Rattle.event.specs.Events.{inputOf};
-ghost use Rattle.recognizer.specs.Answers.{withInput};
-ghost use Rattle.recognizer.specs.Judging.{PassedGiven, DescendGiven, Descended, JudgedPassed};
+ghost use Rattle.promises.specs.Judging.{PassedGiven, DescendGiven, Descended, JudgedPassed};
 use super::descent::call;
 use super::preparing::choices_of;
 use super::preparing::tokens_of;
 use answer::Answer;
-use answer::Error;
-use event::Unknown;
-use event::first_unknown;
+use columns::count;
 use grammar::limits::ENTRIES;
-use grammar::limits::TOKENS;
 use grammar::reading::Sizes;
 use lookahead::Lookahead;
 use memo_table::clear;
 use memo_table::tally;
 use rule::ends_at;
-use sets::Finding;
-use table::columns::count;
-
-// What is found of a grammar and then of an input: its length, and its tokens.
-pub(crate) fn with_input(finding: Finding, events: &[u8]) -> Finding
-    ensures { λ r. ⌜ r ≡ withInput finding (inputOf (now (events .entry))) ⌝ }
-{
-    match finding {
-        Finding::Refused(_) => finding,
-        Finding::Passed(sizes) => {
-            if TOKENS < events.len() {
-                return Finding::Refused(Error::InputTooLong);
-            }
-            let unknown = first_unknown(events, sizes.terminals);
-            match unknown {
-                Unknown::At(at) => Finding::Refused(Error::UnknownToken(at)),
-                Unknown::Absent => finding,
-            }
-        }
-    }
-}
 
 // Runs the descent in a memo table of just the entries that it needs.
 fn descend(

@@ -2,12 +2,12 @@
 ghost use mathlib.Core.Path.{_≡_};
 ghost use Rattle.lookahead.specs.declared.Lookahead.the-variants.{One, Two};
 ghost use Rattle.table.specs.Layout.{wordCount, WordsGiven};
-ghost use Rattle.recognizer.specs.Memory.{LendGiven, Lent};
+ghost use Rattle.promises.specs.Memory.{LendGiven, Lent};
+use columns::count;
 use grammar::limits::TABLE_WORDS;
 use grammar::limits::WIDE_TABLE_WORDS;
 use grammar::reading::Sizes;
 use lookahead::Lookahead;
-use table::columns::count;
 
 // How many words a table has: two sets for each nonterminal, and a row of entries.
 fn word_count(sizes: Sizes, lookahead: Lookahead) -> usize

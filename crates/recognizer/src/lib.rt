@@ -1,15 +1,15 @@
 // Recognizing an input by memoized recursive descent, in memory that the caller lends; here with one token of lookahead.
 ghost use Rattle.event.specs.Events.{inputOf};
-ghost use Rattle.recognizer.specs.Properties.{Checks, Judges};
+ghost use Rattle.promises.specs.Properties.{Checks, Judges};
 use answer::Answer;
 use answer::Error;
+use families::Finding;
+use findings::with_input;
 use grammar::limits::MEMO_ENTRIES;
 use grammar::limits::TABLE_WORDS;
 use judging::judge_passed;
-use judging::with_input;
 use lending::lend;
 use lookahead::Lookahead;
-use sets::Finding;
 use table::analyze;
 
 pub mod arrays;

@@ -1,64 +1,21 @@
 // What the descent reads beside the words, made before it starts: a choice of rules by the columns of the table, and the tokens.
 ghost use mathlib.Core.Path.{_≡_};
 ghost use Rattle.event.specs.Events.{inputOf};
-ghost use Rattle.lookahead.specs.declared.Lookahead.the-variants.{One, Two};
-ghost use Rattle.recognizer.specs.Preparing.{columnAt, firstWord, TokensGiven, TokensHold, FirstGiven, ChoicesGiven, RowGiven, RowFilled, Filled};
+ghost use Rattle.recognizer.specs.Preparing.{firstWord, TokensGiven, TokensHold, FirstGiven, ChoicesGiven, RowGiven, RowFilled, Filled};
 use super::arrays::CHOICE_COLUMNS;
 use super::arrays::CHOICES;
 use super::arrays::COLUMN_WEIGHT;
 use super::arrays::END_COLUMN;
 use super::arrays::END_MARK;
 use super::arrays::ROW_COLUMN;
+use columns::column_at;
 use event::terminal_of;
 use grammar::codes::NO_RULE;
 use grammar::limits::ENTRIES;
 use grammar::limits::PLACES;
 use grammar::limits::RULES;
-use grammar::limits::WIDE_TERMINALS;
-use grammar::reading::rule_starts;
 use lookahead::Lookahead;
-
-// With two tokens of lookahead, the column of terminal 0 where it is the last token, and of terminal 0 twice.
-const LAST: u32 = 1;
-
-const PAIR: u32 = LAST + WIDE_TERMINALS;
-
-// The column of the token at a place, or of the end.
-fn column_of_one(events: &[u8], terminals: u32, place: usize) -> u32
-    ensures { λ r. ⌜ r ≡ columnAt One terminals (inputOf (now (events .entry))) place ⌝ }
-{
-    if events.len() <= place {
-        return terminals;
-    }
-    let event = events[place];
-    terminal_of(event) as u32
-}
-
-// The column of the two tokens from a place on, of the last token, or of the end.
-fn column_of_two(events: &[u8], terminals: u32, place: usize) -> u32
-    ensures { λ r. ⌜ r ≡ columnAt Two terminals (inputOf (now (events .entry))) place ⌝ }
-{
-    if events.len() <= place {
-        return 0;
-    }
-    let event = events[place];
-    let first = terminal_of(event) as u32;
-    if events.len() <= place + 1 {
-        return LAST + first;
-    }
-    let next = events[place + 1];
-    PAIR + WIDE_TERMINALS * first + terminal_of(next) as u32
-}
-
-// The column of the lookahead string at a place.
-fn column_at(events: &[u8], lookahead: Lookahead, terminals: u32, place: usize) -> u32
-    ensures { λ r. ⌜ r ≡ columnAt lookahead terminals (inputOf (now (events .entry))) place ⌝ }
-{
-    match lookahead {
-        Lookahead::One => column_of_one(events, terminals, place),
-        Lookahead::Two => column_of_two(events, terminals, place),
-    }
-}
+use reader::rule_starts;
 
 // The terminal of each event, and the column of the lookahead string there; behind the events, the end.
 pub(crate) fn tokens_of(events: &[u8], lookahead: Lookahead, terminals: u32) -> [u16; PLACES]

@@ -1,50 +1,25 @@
 // The costliest input of a length: the first in letter order of those on which the descent makes the most calls.
-ghost use mathlib.Core.Path.{_≡_};
-ghost use lib.Dec.{ltb};
-ghost use Rattle.answer.specs.Numbers.{numbers};
-ghost use Rattle.booleans.specs.Choice.{choose};
-ghost use Rattle.recognizer.specs.Costliest.{withLength, JudgesCostliest};
-ghost use Rattle.recognizer.specs.Search.{SearchGiven, NumberJudged, Tried, Found, BestJudged};
+ghost use Rattle.promises.specs.Costliest.{JudgesCostliest};
+ghost use Rattle.promises.specs.Search.{SearchGiven, BestJudged};
+ghost use Rattle.recognizer.specs.Search.{NumberJudged, Tried, Found};
 use super::judging::judge_passed;
 use super::lending::lend;
 use answer::Answer;
 use answer::Error;
+use answer::calls_told;
+use families::Finding;
+use findings::with_length;
 use grammar::limits::ENTRIES;
 use grammar::limits::MEMO_ENTRIES;
 use grammar::limits::TABLE_WORDS;
 use grammar::limits::TOKENS;
 use grammar::reading::Sizes;
-use inputs::INPUTS;
+use inputs::Candidate;
+use inputs::costlier;
 use inputs::count_inputs;
 use inputs::write_input;
 use lookahead::Lookahead;
-use sets::Finding;
 use table::analyze;
-
-// An input by its number in letter order, and how many calls the descent makes on it.
-struct Candidate {
-    number: usize,
-    calls: usize,
-}
-
-// What is found of a grammar and then of a length: that it is not too great, and that there are not too many inputs of it.
-fn with_length(finding: Finding, tokens: usize) -> Finding
-    ensures { λ r. ⌜ r ≡ withLength finding tokens ⌝ }
-{
-    match finding {
-        Finding::Refused(_) => finding,
-        Finding::Passed(sizes) => {
-            if TOKENS < tokens {
-                return Finding::Refused(Error::InputTooLong);
-            }
-            let inputs = count_inputs(sizes.terminals, tokens);
-            if INPUTS < inputs {
-                return Finding::Refused(Error::TooManyInputs);
-            }
-            finding
-        }
-    }
-}
 
 // Writes the input of a number, and judges it.
 fn judge_number(
@@ -63,17 +38,6 @@ fn judge_number(
     judge_passed(words, sizes, Lookahead::One, entries, events, memo)
 }
 
-fn calls_told(answer: Answer) -> usize
-    ensures { λ r. ⌜ r ≡ numbers answer .count ⌝ }
-{
-    match answer {
-        Answer::Refused(_) => 0,
-        Answer::Passed => 0,
-        Answer::Rejected(calls) => calls.count,
-        Answer::Accepted(calls) => calls.count,
-    }
-}
-
 fn try_number(
     words: &[u32],
     sizes: Sizes,
@@ -88,13 +52,6 @@ fn try_number(
     let answer = judge_number(words, sizes, entries, number, events, memo);
     let calls = calls_told(answer);
     Candidate { number, calls }
-}
-
-// The one with more calls, the first where both have as many.
-fn costlier(a: Candidate, b: Candidate) -> Candidate
-    ensures { λ r. ⌜ r ≡ choose (ltb (a .calls) (b .calls)) b a ⌝ }
-{
-    if a.calls < b.calls { b } else { a }
 }
 
 // The number of the costliest input, after all inputs of its length have been judged in the same memory.

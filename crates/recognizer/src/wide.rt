@@ -1,16 +1,16 @@
 // Checking and judging with two tokens of lookahead, for grammars of few terminals, with a lent table of 64-bit words.
 ghost use Rattle.event.specs.Events.{inputOf};
 ghost use Rattle.lookahead.specs.declared.Lookahead.the-variants.{Two};
-ghost use Rattle.recognizer.specs.Properties.{ChecksBy, JudgesBy};
+ghost use Rattle.promises.specs.Properties.{ChecksBy, JudgesBy};
 use super::judging::judge_passed;
-use super::judging::with_input;
 use super::lending::lend_wide;
 use answer::Answer;
 use answer::Error;
+use families::Finding;
+use findings::with_input;
 use grammar::limits::MEMO_ENTRIES;
 use grammar::limits::WIDE_TABLE_WORDS;
 use lookahead::Lookahead;
-use sets::Finding;
 use table::analyze_wide;
 
 // Checks an encoded grammar, and fills the lent table with its sets and its entries.

@@ -12,12 +12,12 @@ use Rattle.event.proofs.Inputs.{input-length}
 use Rattle.grammar.specs.Limits.{maxTokens, maxMemoEntries, maxTableWords}
 use Rattle.grammar.specs.Encoding.{grammarOf}
 use Rattle.grammar.specs.Reading.{reading}
-use Rattle.recognizer.specs.Properties.{Checks, Judges}
+use Rattle.promises.specs.Properties.{Checks, Judges}
 use Rattle.answer.specs.Faults.{refusedOr}
-use Rattle.recognizer.specs.Answers.{judgeFault, verdictOf}
-use Rattle.recognizer.specs.Memory.{lentBack, memoWords}
-use Rattle.recognizer.proofs.JudgeFaults.{judged-readable}
-use Rattle.recognizer.proofs.Checking.{passed-fault, passed-read}
+use Rattle.promises.specs.Answers.{judgeFault, verdictOf}
+use Rattle.promises.specs.Memory.{lentBack, memoWords}
+use Rattle.promises.proofs.JudgeFaults.{judged-readable}
+use Rattle.promises.proofs.Checking.{passed-fault, passed-read}
 use Rattle.text.specs.Writing.{Put}
 use Rattle.sheet_text.specs.Sheet.{checkText}
 use Rattle.judgement_text.specs.Judgement.{judgementText}

@@ -12,14 +12,14 @@ use Rattle.lookahead.specs.declared.Lookahead.the-variants.{One}
 use Rattle.lookahead.specs.Lookaheads.{nothing}
 use Rattle.lookahead.specs.Elements.{size}
 use Rattle.semantics.specs.FirstFollow.{first, follow, First, Follow}
-use Rattle.sets.specs.Lists.{listed}
-use Rattle.sets.specs.Sets.{firstNumber, followNumber, Members}
-use Rattle.sets.proofs.Lists.{listed-long, listed-at}
-use Rattle.sets.proofs.Members.{members}
-use Rattle.table.specs.Columns.{columns}
+use Rattle.families.specs.Lists.{listed}
+use Rattle.families.specs.Sets.{firstNumber, followNumber, Members}
+use Rattle.families.proofs.Lists.{listed-long, listed-at}
+use Rattle.families.proofs.Members.{members}
+use Rattle.columns.specs.Columns.{columns}
 use Rattle.table.specs.Layout.{setWord, rowWord, tableWords}
-use Rattle.recognizer.specs.Properties.{PassedGrammar}
-use Rattle.recognizer.proofs.Checking.{passed-encodes, fault-passed, check-fault-long, least}
+use Rattle.promises.specs.Properties.{PassedGrammar}
+use Rattle.promises.proofs.Checking.{passed-encodes, fault-passed, check-fault-long, least}
 use Rattle.memo_table.proofs.Entries.{getD-any}
 use Rattle.text.specs.Words.{wordsOf}
 use Rattle.sheet_text.specs.Room.{sheetRoom}

@@ -3,21 +3,10 @@ ghost use mathlib.Core.Path.{_≡_};
 ghost use mathlib.Core.Bool.{_||_};
 ghost use Prim.Native.Nat.{_<_};
 ghost use Rattle.grammar.specs.Limits.{maxNonterminals};
-ghost use Rattle.sets.specs.Least.{lookup, Adds};
-use super::nonterminals::Nonterminals;
-use grammar::limits::NONTERMINALS;
+ghost use Rattle.families.specs.Least.{Adds};
+use families::SETS;
+use families::nonterminals::Nonterminals;
 use lookahead::LookaheadSet;
-
-// A set for each nonterminal that there may be.
-pub const SETS: usize = NONTERMINALS as usize;
-
-// The set of n; behind the array's end there is none.
-pub(crate) fn set_of(sets: &[u64; SETS], n: u32) -> u64
-    ensures { λ r. ⌜ r ≡ lookup (now (sets .entry)) n ⌝ }
-{
-    let at = n as usize;
-    if at < SETS { sets[at] } else { 0 }
-}
 
 // Joins a set into that of n; whether it has grown.
 pub(crate) fn add(sets: &mut [u64; SETS], n: u32, set: LookaheadSet) -> bool

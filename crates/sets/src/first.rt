@@ -6,121 +6,24 @@ ghost use Rattle.grammar.specs.Encoding.{parse, grammarOf};
 ghost use Rattle.grammar.specs.Limits.{maxNonterminals};
 ghost use Rattle.grammar.specs.Starts.{ruleStarts};
 ghost use Rattle.admission.specs.Admission.{admission};
-ghost use Rattle.sets.specs.First.{symbolFirst, ruleFirst, noRest, withWord, closedMeet, insideWord, FirstNumbersClosed};
-ghost use Rattle.sets.specs.Least.{at as family, lookup, Passes};
-ghost use Rattle.sets.specs.Lists.{listed};
-ghost use Rattle.sets.specs.Rules.{RuleWords, PassGiven, ruleFrom};
-ghost use Rattle.sets.specs.Sets.{firstNumber};
-use super::family::SETS;
+ghost use Rattle.families.specs.First.{ruleFirst, FirstNumbersClosed};
+ghost use Rattle.families.specs.Least.{at as family, Passes};
+ghost use Rattle.families.specs.Lists.{listed};
+ghost use Rattle.families.specs.Rules.{RuleWords, PassGiven, ruleFrom};
+ghost use Rattle.families.specs.Sets.{firstNumber};
 use super::family::add;
 use super::family::either;
-use super::family::set_of;
 use super::rules::end_of;
 use super::rules::head_of;
 use super::rules::turn;
+use families::SETS;
 use grammar::limits::RULES;
 use grammar::reading::Sizes;
 use lookahead::Lookahead;
 use lookahead::LookaheadSet;
-use word::Symbol;
-use word::Word;
+use rests::inside;
+use rests::no_rest;
 use word::decode;
-
-// Of the words from an index on: the first set of what is left of the body, and the meet of those of the rule's positives
-// behind it.
-pub struct Rest {
-    pub body: LookaheadSet,
-    pub meet: LookaheadSet,
-}
-
-// Where neither a body nor a rule is open.
-pub fn no_rest(terminals: u32, lookahead: Lookahead) -> Rest
-    ensures { λ r. ⌜ r ≡ noRest lookahead terminals ⌝ }
-{
-    Rest {
-        body: LookaheadSet::end(lookahead),
-        meet: LookaheadSet::full(lookahead, terminals),
-    }
-}
-
-pub(crate) fn symbol_first(
-    symbol: Symbol,
-    firsts: &[u64; SETS],
-    lookahead: Lookahead,
-) -> LookaheadSet
-    ensures { λ r. ⌜ r .bits ≡ symbolFirst lookahead (lookup (now (firsts .entry))) symbol ⌝ }
-{
-    match symbol {
-        Symbol::Terminal(number) => LookaheadSet::terminal(lookahead, number),
-        Symbol::Nonterminal(number) => LookaheadSet {
-            bits: set_of(firsts, number),
-        },
-    }
-}
-
-// The rest with a word in front.
-pub fn onto(
-    word: Word,
-    rest: Rest,
-    firsts: &[u64; SETS],
-    terminals: u32,
-    lookahead: Lookahead,
-) -> Rest
-    ensures { λ r. ⌜ r ≡ withWord lookahead terminals (lookup (now (firsts .entry))) word rest ⌝ }
-{
-    let body = rest.body;
-    let meet = rest.meet;
-    match word {
-        Word::Symbol(symbol) => Rest {
-            body: symbol_first(symbol, firsts, lookahead).concat(lookahead, body),
-            meet,
-        },
-        Word::Positive => Rest {
-            body: LookaheadSet::end(lookahead),
-            meet: body.meet(meet),
-        },
-        Word::Negative => Rest {
-            body: LookaheadSet::end(lookahead),
-            meet,
-        },
-        Word::Rule(_) => no_rest(terminals, lookahead),
-        Word::End => no_rest(terminals, lookahead),
-        Word::Heading {
-            nonterminals: _,
-            terminals: _,
-        } => rest,
-        Word::Invalid => rest,
-    }
-}
-
-// A body ends: if it is a positive, its first set goes into the meet.
-fn closed(word: Word, body: LookaheadSet, meet: LookaheadSet) -> LookaheadSet
-    ensures { λ r. ⌜ r .bits ≡ closedMeet word (body .bits) (meet .bits) ⌝ }
-{
-    let Word::Positive = word else {
-        return meet;
-    };
-    body.meet(meet)
-}
-
-// The rest with a word inside a rule in front.
-fn inside(word: Word, rest: Rest, firsts: &[u64; SETS], lookahead: Lookahead) -> Rest
-    ensures { λ r. ⌜ r ≡ insideWord lookahead (lookup (now (firsts .entry))) word rest ⌝ }
-{
-    let body = rest.body;
-    let meet = rest.meet;
-    let Word::Symbol(symbol) = word else {
-        return Rest {
-            body: LookaheadSet::end(lookahead),
-            meet: closed(word, body, meet),
-        };
-    };
-    let first = symbol_first(symbol, firsts, lookahead);
-    Rest {
-        body: first.concat(lookahead, body),
-        meet,
-    }
-}
 
 // What the positives of a rule can all begin with.
 fn rule_first(

@@ -3,22 +3,12 @@ ghost use mathlib.Core.Path.{_≡_};
 ghost use Prim.Native.Nat.{_≤_, _<_};
 ghost use Rattle.booleans.specs.Quantifiers.{lowest};
 ghost use Rattle.grammar.specs.Limits.{maxNonterminals};
-ghost use Rattle.sets.specs.Flaws.{flawIn, lowestOf};
-use super::family::SETS;
-use super::nonterminals::Nonterminals;
+ghost use Rattle.families.specs.Flaws.{flawIn, lowestOf};
+use families::Flaw;
+use families::Lowest;
+use families::SETS;
+use families::nonterminals::Nonterminals;
 use lookahead::LookaheadSet;
-
-pub(crate) enum Flaw {
-    // it left-reaches itself
-    LeftRecursive,
-    // its first set is empty
-    Unproductive,
-}
-
-pub(crate) enum Lowest {
-    Absent,
-    At(u8),
-}
 
 // Whether a nonterminal has a flaw, by the first sets and by what each nonterminal left-reaches.
 fn has_flaw(flaw: Flaw, firsts: &[u64; SETS], reaches: &[u32; SETS], nonterminal: u32) -> bool

@@ -7,23 +7,23 @@ ghost use Rattle.grammar.specs.Encoding.{parse, grammarOf};
 ghost use Rattle.grammar.specs.Limits.{maxNonterminals};
 ghost use Rattle.grammar.specs.Starts.{ruleStarts};
 ghost use Rattle.admission.specs.Admission.{admission};
-ghost use Rattle.sets.specs.Follow.{Asked, tailBefore, FollowRules, FollowNumbersClosed};
-ghost use Rattle.sets.specs.Least.{at as family, lookup, AddsTo, Passes};
-ghost use Rattle.sets.specs.Lists.{listed};
-ghost use Rattle.sets.specs.Naming.{nonterminalOf, Indexed};
-ghost use Rattle.sets.specs.Rules.{RuleWords, PassGiven};
-ghost use Rattle.sets.specs.Sets.{firstNumber, followNumber};
-use super::family::SETS;
+ghost use Rattle.families.specs.Follow.{Asked, FollowRules, FollowNumbersClosed};
+ghost use Rattle.families.specs.Least.{at as family, AddsTo, Passes};
+ghost use Rattle.families.specs.Lists.{listed};
+ghost use Rattle.families.specs.Naming.{nonterminalOf, Indexed};
+ghost use Rattle.families.specs.Rules.{RuleWords, PassGiven};
+ghost use Rattle.families.specs.Sets.{firstNumber, followNumber};
 use super::family::add;
 use super::family::either;
-use super::first::symbol_first;
 use super::rules::end_of;
 use super::rules::head_of;
 use super::rules::turn;
+use families::SETS;
 use grammar::limits::RULES;
 use grammar::reading::Sizes;
 use lookahead::Lookahead;
 use lookahead::LookaheadSet;
+use rests::tail_before;
 use word::Symbol;
 use word::Word;
 use word::decode;
@@ -40,22 +40,6 @@ fn add_behind(word: Word, tail: LookaheadSet, follows: &mut [u64; SETS]) -> bool
         return false;
     };
     add(follows, number, tail)
-}
-
-// What comes behind the index before a word inside a rule, where follow comes behind the body.
-fn tail_before(
-    word: Word,
-    tail: LookaheadSet,
-    follow: LookaheadSet,
-    firsts: &[u64; SETS],
-    lookahead: Lookahead,
-) -> LookaheadSet
-    ensures { λ r. ⌜ r .bits ≡ tailBefore lookahead (lookup (now (firsts .entry))) (follow .bits) word (tail .bits) ⌝ }
-{
-    let Word::Symbol(symbol) = word else {
-        return follow;
-    };
-    symbol_first(symbol, firsts, lookahead).concat(lookahead, tail)
 }
 
 // Behind each nonterminal in a body of head comes what is left of the body, then what follows head; whether a set has grown.

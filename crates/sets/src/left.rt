@@ -7,19 +7,20 @@ ghost use Rattle.grammar.specs.Limits.{maxNonterminals};
 ghost use Rattle.grammar.specs.Starts.{ruleStarts};
 ghost use Rattle.grammar.specs.Syntax.{bodies};
 ghost use Rattle.admission.specs.Admission.{admission};
-ghost use Rattle.sets.specs.Least.{at as family, Passes};
-ghost use Rattle.sets.specs.Left.{emptyIn, symbolLeft, bodiesLeft, lefts, insideLeft, ReachClosed};
-ghost use Rattle.sets.specs.Lists.{listed};
-ghost use Rattle.sets.specs.Naming.{IndexedSymbol, Indexed};
-ghost use Rattle.sets.specs.Rules.{RuleWords, PassGiven, ruleFrom};
-ghost use Rattle.sets.specs.Sets.{firstNumber, reachNumber};
-use super::family::SETS;
+ghost use Rattle.families.specs.Least.{at as family, Passes};
+ghost use Rattle.families.specs.Left.{emptyIn, symbolLeft, bodiesLeft, lefts, insideLeft, ReachClosed};
+ghost use Rattle.families.specs.Lists.{listed};
+ghost use Rattle.families.specs.Naming.{IndexedSymbol, Indexed};
+ghost use Rattle.families.specs.Rules.{RuleWords, PassGiven, ruleFrom};
+ghost use Rattle.families.specs.Sets.{firstNumber, reachNumber};
 use super::family::add_nonterminals;
 use super::family::either;
-use super::nonterminals::Nonterminals;
 use super::rules::end_of;
 use super::rules::head_of;
 use super::rules::turn;
+use families::Left;
+use families::SETS;
+use families::nonterminals::Nonterminals;
 use grammar::limits::RULES;
 use grammar::reading::Sizes;
 use lookahead::Lookahead;
@@ -28,13 +29,6 @@ use lookahead::nothing;
 use word::Symbol;
 use word::Word;
 use word::decode;
-
-// Of the words from an index on: what is at the left of the rest of the body, and of the rule's bodies behind it, with all
-// that this left-reaches.
-struct Left {
-    pub body: Nonterminals,
-    pub rule: Nonterminals,
-}
 
 fn no_left() -> Left
     ensures { λ r. ⌜ r ≡ lefts 0 0 ⌝ }

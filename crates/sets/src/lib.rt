@@ -2,42 +2,29 @@
 ghost use mathlib.Core.Path.{_≡_};
 ghost use Rattle.grammar.specs.declared.reading.Outcome.the-variants.{Read};
 ghost use Rattle.admission.specs.Admission.{admission};
-ghost use Rattle.sets.specs.Analysis.{refusedBy, familiesOf};
+ghost use Rattle.families.specs.Analysis.{refusedBy, familiesOf};
 use admission::admit;
 use answer::Error;
-use family::SETS;
+use families::Families;
+use families::Finding;
+use families::Flaw;
+use families::Lowest;
+use families::SETS;
 use first::first_sets;
-use flaws::Flaw;
-use flaws::Lowest;
 use flaws::lowest_with;
 use follow::follow_sets;
 use grammar::reading::Outcome;
 use grammar::reading::Sizes;
-use grammar::reading::rule_starts;
 use left::reached;
 use lookahead::Lookahead;
+use reader::rule_starts;
 
-pub mod family;
-pub mod first;
+mod family;
+mod first;
 mod flaws;
 mod follow;
 mod left;
-pub mod nonterminals;
 pub mod rules;
-
-pub enum Finding {
-    Passed(Sizes),
-    Refused(Error),
-}
-
-// What is found of an encoded grammar: its sizes, or why it is refused; and its sets, all empty where it is refused.
-pub struct Families {
-    pub finding: Finding,
-    pub firsts: [u64; SETS],
-    pub follows: [u64; SETS],
-    // what each nonterminal left-reaches, a set of nonterminals
-    pub reaches: [u32; SETS],
-}
 
 fn refused(error: Error) -> Families
     ensures { λ r. ⌜ r ≡ refusedBy error ⌝ }

@@ -6,7 +6,7 @@ ghost use Rattle.grammar.specs.declared.reading.Outcome.the-variants.{Read};
 ghost use Rattle.grammar.specs.Reading.{reading};
 ghost use Rattle.grammar.specs.Starts.{ruleStarts};
 ghost use Rattle.grammar.specs.WellRead.{headOf};
-ghost use Rattle.sets.specs.Rules.{turnOf, RuleWords};
+ghost use Rattle.families.specs.Rules.{turnOf, RuleWords};
 use grammar::limits::RULES;
 use grammar::reading::Sizes;
 use word::Word;

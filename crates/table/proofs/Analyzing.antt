@@ -26,12 +26,12 @@ use Rattle.admission.specs.Admission.{admission}
 use Rattle.semantics.specs.FiniteSets.{numbers}
 use Rattle.semantics.specs.Claims.{overruns, clashes}
 use Rattle.semantics.proofs.Outcomes.{nth-mem}
-use Rattle.sets.specs.declared.Finding.the-variants.{Passed, Refused}
-use Rattle.sets.specs.Analysis.{readingFault, setsFaults, setsFault, setsIf}
-use Rattle.sets.specs.Lists.{listed}
-use Rattle.sets.specs.Sets.{firstNumber, followNumber}
-use Rattle.sets.proofs.Lists.{listed-at, listed-long}
-use Rattle.sets.proofs.Findings.{told-passed, told-refused}
+use Rattle.families.specs.declared.Finding.the-variants.{Passed, Refused}
+use Rattle.families.specs.Analysis.{readingFault, setsFaults, setsFault, setsIf}
+use Rattle.families.specs.Lists.{listed}
+use Rattle.families.specs.Sets.{firstNumber, followNumber}
+use Rattle.families.proofs.Lists.{listed-at, listed-long}
+use Rattle.families.proofs.Findings.{told-passed, told-refused}
 use Rattle.table.specs.declared.conflicts.Conflict.{Conflict}
 use Rattle.table.specs.declared.conflicts.Conflict.the-variants as conflict
 use Rattle.claims.specs.declared.Claims.{Claims}
@@ -39,17 +39,17 @@ use Rattle.table.specs.declared.Found.{Found}
 use Rattle.claims.specs.Claims.{claimsOf, Headed}
 use Rattle.claims.specs.Overruns.{overrunSet}
 use Rattle.table.specs.Conflicts.{firstClash, conflictOf}
-use Rattle.table.specs.Columns.{columnCount, columns}
+use Rattle.columns.specs.Columns.{columnCount, columns}
 use Rattle.table.specs.Layout.{tableRoom, wordsOf, WordsGiven, FitWords}
 use Rattle.table.specs.Entries.{rowsOf, FilledRows, noRules, entriesOf}
 use Rattle.table.specs.Analysis.{conflictError, clashFault, fault, entriesIf, foundWith, foundOf, analysis, analyzed}
 use Rattle.claims.proofs.Claimants.{heads-own}
-use Rattle.sets.proofs.FewTerminals.{admitted-read, few-terminals}
+use Rattle.families.proofs.FewTerminals.{admitted-read, few-terminals}
 use Rattle.claims.proofs.Findings.{Claimed}
 use Rattle.table.proofs.ConflictScan.{clash-found}
 use Rattle.table.proofs.FirstClash.{clash-absent}
 use Rattle.table.proofs.EntriesFilled.{entries-filled}
-use Rattle.table.proofs.ColumnStrings.{column-count}
+use Rattle.columns.proofs.ColumnStrings.{column-count}
 use Rattle.table.proofs.WordsLaid.{word-is, words-table, table-small}
 
 -- the faults found with the sets come first

@@ -14,7 +14,7 @@ use Rattle.lookahead.proofs.Operations.{has-empty, has-join, has-meet}
 use Rattle.booleans.specs.Quantifiers.{anyOf}
 use Rattle.semantics.specs.FiniteSets.{numbersFrom, numbers}
 use Rattle.semantics.specs.Claims.{several}
-use Rattle.sets.proofs.Lists.{getD-zeros}
+use Rattle.families.proofs.Lists.{getD-zeros}
 use Rattle.claims.specs.Claims.{claimant}
 use Rattle.table.specs.Conflicts.{Noted, Twice}
 use Rattle.claims.proofs.Claimants.{claimant-own, claimant-other, numbers-before}

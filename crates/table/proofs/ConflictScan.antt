@@ -16,11 +16,11 @@ use Rattle.lookahead.proofs.Emptiness.{empty-none}
 use Rattle.semantics.specs.Claims.{several, claims, overruns, clashing}
 use Rattle.table.specs.declared.conflicts.Conflict.{Conflict}
 use Rattle.table.specs.declared.conflicts.Conflict.the-variants.{Absent, At}
-use Rattle.table.specs.Columns.{columnString, columnElement, columns}
+use Rattle.columns.specs.Columns.{columnString, columnElement, columns}
 use Rattle.claims.specs.Claims.{headsOf, claimNumbers, byRule}
 use Rattle.claims.specs.Overruns.{overrunSet}
 use Rattle.table.specs.Conflicts.{rowConflict, orLater, conflictFrom, firstClash, inSet, inSets, claimedTwice, Twice}
-use Rattle.table.proofs.ColumnStrings.{column-string, element-small}
+use Rattle.columns.proofs.ColumnStrings.{column-string, element-small}
 use Rattle.claims.proofs.Claimants.{several-claims, told as rules-told}
 use Rattle.table.proofs.OverrunColumns.{overrun-column}
 use Rattle.table.proofs.conflicts.Conflict.{the-type}

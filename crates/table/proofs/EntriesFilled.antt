@@ -14,13 +14,13 @@ use Rattle.lookahead.specs.declared.Lookahead.{Lookahead}
 use Rattle.lookahead.specs.Lookaheads.{tokens, alphabet}
 use Rattle.semantics.specs.FiniteSets.{numbers}
 use Rattle.semantics.specs.Claims.{tableOf}
-use Rattle.sets.specs.Lists.{listed}
-use Rattle.sets.proofs.Lists.{listed-long, listed-at}
-use Rattle.table.specs.Columns.{columnElement, columnString, columns}
+use Rattle.families.specs.Lists.{listed}
+use Rattle.families.proofs.Lists.{listed-long, listed-at}
+use Rattle.columns.specs.Columns.{columnElement, columnString, columns}
 use Rattle.claims.specs.Claims.{headsOf, claimNumbers, byRule}
 use Rattle.table.specs.Entries.{ruleByte, byteAt, entriesOf, noRules, entryOver, rowsOf, FilledRows}
 use Rattle.claims.proofs.Claimants.{first-claim, told}
-use Rattle.table.proofs.ColumnStrings.{some-column, column-count, column-string, element-small}
+use Rattle.columns.proofs.ColumnStrings.{some-column, column-count, column-string, element-small}
 use Rattle.table.proofs.Padded.{padded-in, padded-is}
 
 fresh-entry : (o : Option ℕ) → entryOver 0 noRule o ≡ ruleByte o

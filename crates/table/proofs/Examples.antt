@@ -20,14 +20,14 @@ use Rattle.semantics.specs.Claims.{clashes, tableOf}
 use Rattle.semantics.specs.LeftRecursion.{lowestLeftRecursive}
 use Rattle.semantics.proofs.Computing.{tables-compute, left-recursion-computes}
 use Rattle.table.specs.declared.conflicts.Conflict.the-variants.{Absent, At}
-use Rattle.sets.specs.Lists.{listed}
+use Rattle.families.specs.Lists.{listed}
 use Rattle.lookahead.specs.declared.Lookahead.the-variants.{One, Two}
 use Rattle.lookahead.specs.Lookaheads.{stringOf}
-use Rattle.sets.specs.Sets.{numberOf, firstNumber, followNumber}
-use Rattle.table.specs.Columns.{columnString, columns}
+use Rattle.families.specs.Sets.{numberOf, firstNumber, followNumber}
+use Rattle.columns.specs.Columns.{columnString, columns}
 use Rattle.table.specs.Layout.{entryAt, setWord, rowWord, tableWords}
 use Rattle.table.specs.Conflicts.{rowConflict, conflictFrom, firstClash}
-use Rattle.sets.specs.Analysis.{leftFault}
+use Rattle.families.specs.Analysis.{leftFault}
 
 -- the first sets of a grammar, and its follow sets, as lists of a nonterminal and a string each
 abbrev firstsOf : Grammar → List Entry

@@ -15,10 +15,10 @@ use Rattle.grammar.specs.declared.reading.Sizes.{Sizes}
 use Rattle.lookahead.specs.declared.Lookahead.{Lookahead}
 use Rattle.semantics.specs.FiniteSets.{numbersFrom, numbers}
 use Rattle.semantics.specs.Claims.{position}
-use Rattle.table.specs.Columns.{columnCount}
+use Rattle.columns.specs.Columns.{columnCount}
 use Rattle.claims.specs.Claims.{claimant}
 use Rattle.table.specs.Entries.{Rows, indexOf, entryOver, FilledRow, FilledRows, RowsGiven}
-use Rattle.table.proofs.ColumnStrings.{column-count}
+use Rattle.columns.proofs.ColumnStrings.{column-count}
 use Rattle.claims.proofs.Claimants.{claimant-own, claimant-other, numbers-before}
 
 -- a list whose first member passes, or does not

@@ -19,9 +19,9 @@ use Rattle.semantics.proofs.FiniteSets.{keep-elim}
 use Rattle.semantics.proofs.LookaheadSets.{entries-elim}
 use Rattle.table.specs.declared.conflicts.Conflict.{Conflict}
 use Rattle.table.specs.declared.conflicts.Conflict.the-variants.{Absent, At}
-use Rattle.table.specs.Columns.{columnString, columnOf, columns}
+use Rattle.columns.specs.Columns.{columnString, columnOf, columns}
 use Rattle.table.specs.Conflicts.{rowConflict, orLater, conflictFrom, firstClash, FirstClash}
-use Rattle.table.proofs.ColumnStrings.{column-back, column-in, string-column}
+use Rattle.columns.proofs.ColumnStrings.{column-back, column-in, string-column}
 
 -- by nonterminal, then column
 abbrev pub NotBefore : ℕ → ℕ → ℕ → ℕ → Type 0

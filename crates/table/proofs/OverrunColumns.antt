@@ -16,8 +16,8 @@ use Rattle.lookahead.proofs.Strings.{element-string, string-terminal}
 use Rattle.semantics.specs.FirstFollow.{sameString}
 use Rattle.semantics.proofs.LookaheadSets.{strings-equality}
 use Rattle.claims.specs.Overruns.{overrunSet}
-use Rattle.table.specs.Columns.{columnCount, columnString, columnElement}
-use Rattle.table.proofs.ColumnStrings.{column-string}
+use Rattle.columns.specs.Columns.{columnCount, columnString, columnElement}
+use Rattle.columns.proofs.ColumnStrings.{column-string}
 
 some-terminal : (k : Lookahead) → 0 < alphabet k
 some-terminal One = omega arith

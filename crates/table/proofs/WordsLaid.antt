@@ -24,11 +24,11 @@ use Rattle.semantics.specs.Claims.{claims, tableOf}
 use Rattle.semantics.specs.FirstFollow.{first, follow}
 use Rattle.semantics.proofs.Outcomes.{nth-below}
 use Rattle.semantics.proofs.Positions.{position-some}
-use Rattle.sets.specs.Lists.{listed}
-use Rattle.sets.specs.Sets.{firstNumber, followNumber}
-use Rattle.sets.proofs.Lists.{listed-long, listed-at}
-use Rattle.sets.proofs.Strings.{number-below}
-use Rattle.table.specs.Columns.{columnString, columns}
+use Rattle.families.specs.Lists.{listed}
+use Rattle.families.specs.Sets.{firstNumber, followNumber}
+use Rattle.families.proofs.Lists.{listed-long, listed-at}
+use Rattle.families.proofs.Strings.{number-below}
+use Rattle.columns.specs.Columns.{columnString, columns}
 use Rattle.table.specs.Layout.{entryWord, entryAt, setWord, rowWord, tableWords, tableRoom, filled, entryCode, wordAt, wordCount, wordsOf, FilledWords}
 use Rattle.table.specs.Entries.{ruleByte, byteAt, entriesOf}
 use Rattle.table.proofs.EntriesFilled.{entries-in}

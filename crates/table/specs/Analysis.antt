@@ -12,10 +12,10 @@ use Rattle.grammar.specs.Encoding.{grammarOf}
 use Rattle.lookahead.specs.declared.Lookahead.{Lookahead}
 use Rattle.lookahead.specs.declared.Lookahead.the-variants.{One, Two}
 use Rattle.admission.specs.Admission.{admission}
-use Rattle.sets.specs.declared.Finding.{Finding}
-use Rattle.sets.specs.Analysis.{setsFaults, setsFault, findingOf, setsIf}
-use Rattle.sets.specs.Lists.{listed}
-use Rattle.sets.specs.Sets.{firstNumber, followNumber}
+use Rattle.families.specs.declared.Finding.{Finding}
+use Rattle.families.specs.Analysis.{setsFaults, setsFault, findingOf, setsIf}
+use Rattle.families.specs.Lists.{listed}
+use Rattle.families.specs.Sets.{firstNumber, followNumber}
 use Rattle.table.specs.declared.Analysis.{Analysis}
 use Rattle.table.specs.declared.WideAnalysis.{WideAnalysis}
 use Rattle.table.specs.declared.Found.{Found}

@@ -18,7 +18,7 @@ use Rattle.semantics.specs.FirstFollow.{First, Follow}
 use Rattle.semantics.specs.Claims.{several, clashing}
 use Rattle.table.specs.declared.conflicts.Conflict.{Conflict}
 use Rattle.table.specs.declared.conflicts.Conflict.the-variants.{Absent, At}
-use Rattle.table.specs.Columns.{columnCount, columnElement, columnString, columnOf, columns}
+use Rattle.columns.specs.Columns.{columnCount, columnElement, columnString, columnOf, columns}
 use Rattle.claims.specs.Claims.{claimant}
 
 -- the first of n columns of A, from one on, that passes a test

@@ -14,8 +14,8 @@ use Rattle.lookahead.specs.declared.Lookahead.{Lookahead}
 use Rattle.lookahead.specs.Lookaheads.{tokens, alphabet}
 use Rattle.lookahead.specs.Elements.{has}
 use Rattle.semantics.specs.Claims.{position, tableOf}
-use Rattle.sets.specs.Lists.{listed}
-use Rattle.table.specs.Columns.{columnCount, columnElement, columnString, columns}
+use Rattle.families.specs.Lists.{listed}
+use Rattle.columns.specs.Columns.{columnCount, columnElement, columnString, columns}
 use Rattle.table.specs.Layout.{padded}
 use Rattle.claims.specs.Claims.{claimant, Headed}
 

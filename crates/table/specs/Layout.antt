@@ -14,9 +14,9 @@ use Rattle.lookahead.specs.declared.Lookahead.{Lookahead}
 use Rattle.lookahead.specs.declared.Lookahead.the-variants.{One, Two}
 use Rattle.lookahead.specs.Lookaheads.{tokens}
 use Rattle.semantics.specs.Claims.{tableOf}
-use Rattle.sets.specs.Lists.{listed}
-use Rattle.sets.specs.Sets.{firstNumber, followNumber}
-use Rattle.table.specs.Columns.{columnCount, columnString, columns}
+use Rattle.families.specs.Lists.{listed}
+use Rattle.families.specs.Sets.{firstNumber, followNumber}
+use Rattle.columns.specs.Columns.{columnCount, columnString, columns}
 
 abbrev pub entryWord : Option ℕ → ℕ
 entryWord none = noEntry

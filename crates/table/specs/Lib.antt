@@ -1,4 +1,3 @@
-pub mod Columns
 pub mod Layout
 pub mod Entries
 pub mod Conflicts

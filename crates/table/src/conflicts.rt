@@ -4,16 +4,16 @@ ghost use Prim.Native.Nat.{_≤_, _<_};
 ghost use lib.ListN.{length};
 ghost use Rattle.grammar.specs.Limits.{maxNonterminals};
 ghost use Rattle.lookahead.specs.Lookaheads.{alphabet};
-ghost use Rattle.table.specs.Columns.{columnCount, columnElement};
+ghost use Rattle.columns.specs.Columns.{columnCount, columnElement};
 ghost use Rattle.claims.specs.Claims.{Headed};
 ghost use Rattle.table.specs.Conflicts.{rowConflict, conflictFrom, inSet, inSets, conflictOf, Noted, Twice};
-use super::columns::count;
-use super::columns::element;
+use columns::count;
+use columns::element;
+use families::SETS;
 use grammar::limits::RULES;
 use grammar::reading::Sizes;
 use lookahead::Lookahead;
 use lookahead::LookaheadSet;
-use sets::family::SETS;
 
 // By nonterminal, then by column.
 pub enum Conflict {

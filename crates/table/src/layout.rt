@@ -4,7 +4,8 @@ ghost use Prim.Native.Nat.{_+_, _*_, _≤_, _<_};
 ghost use Rattle.grammar.specs.Limits.{maxNonterminals, maxEntries};
 ghost use Rattle.table.specs.Layout.{entryCode, wordAt, wordCount, wordsOf, WordsGiven, FitWords};
 ghost use Rattle.lookahead.specs.declared.Lookahead.the-variants.{One, Two};
-use super::columns::count;
+use columns::count;
+use families::SETS;
 use grammar::codes::NO_ENTRY;
 use grammar::codes::NO_RULE;
 use grammar::limits::ENTRIES;
@@ -12,7 +13,6 @@ use grammar::limits::TABLE_WORDS;
 use grammar::limits::WIDE_TABLE_WORDS;
 use grammar::reading::Sizes;
 use lookahead::Lookahead;
-use sets::family::SETS;
 
 // An entry as a word.
 fn entry_word(entry: u8) -> u64

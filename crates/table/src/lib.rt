@@ -5,16 +5,15 @@ ghost use Rattle.lookahead.specs.declared.Lookahead.the-variants.{One, Two};
 use answer::Error;
 use conflicts::Conflict;
 use conflicts::first_conflict;
+use families::Finding;
+use families::SETS;
 use grammar::codes::NO_ENTRY;
 use grammar::codes::NO_RULE;
 use grammar::limits::ENTRIES;
 use grammar::limits::TABLE_WORDS;
 use grammar::limits::WIDE_TABLE_WORDS;
 use lookahead::Lookahead;
-use sets::Finding;
-use sets::family::SETS;
 
-pub mod columns;
 pub mod conflicts;
 mod layout;
 mod rows;

@@ -4,24 +4,18 @@ ghost use mathlib.Core.Bool.{false};
 ghost use Prim.Native.Nat.{_<_};
 ghost use Rattle.booleans.specs.Choice.{choose};
 ghost use Rattle.grammar.specs.Limits.{maxTabularPlaces};
-ghost use Rattle.tabular.specs.Scanning.{noneOpen, SymbolGiven, SymbolOnto, OntoGiven, Onto, KeepsGiven, Keeps};
+ghost use Rattle.tabulation.specs.Scanning.{noneOpen, SymbolGiven, SymbolOnto, OntoGiven, Onto, KeepsGiven, Keeps};
 use super::chart::CHART;
 use super::chart::before;
 use super::places::contains;
 use grammar::limits::TERMINALS;
+use tabulation::Scan;
 use word::Symbol;
 use word::Word;
 use word::decode;
 
 // For each terminal, the places where it stands.
 pub const STANDS: usize = TERMINALS as usize;
-
-// Of the words from an index on, at a span: the places from which what is left of the body leads to the span's end, and whether
-// the conjuncts of the rule that are behind it hold.
-struct Scan {
-    pub set: u64,
-    pub kept: bool,
-}
 
 // Where nothing of a rule is open: nothing is left of a body, and no conjunct is behind.
 fn none_open(end: usize) -> Scan

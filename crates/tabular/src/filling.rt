@@ -1,9 +1,9 @@
 // The chart filled from short spans to long ones, and at each span in the order of rank.
-ghost use Rattle.tabular.specs.Places.{Standing, InputGiven};
+ghost use Rattle.tabulation.specs.Places.{Standing, InputGiven};
 ghost use Prim.Native.Nat.{_+_};
 ghost use Rattle.event.specs.Events.{inputOf};
 ghost use Rattle.grammar.specs.Limits.{maxTabularTokens};
-ghost use Rattle.tabular.specs.Filling.{RanksGiven, Ranked, DerivedGiven, Derived, turn, Fills, SettleGiven, LengthGiven, FillGiven, Filled};
+ghost use Rattle.tabulation.specs.Filling.{RanksGiven, Ranked, DerivedGiven, Derived, turn, Fills, SettleGiven, LengthGiven, FillGiven, Filled};
 use super::bodies::STANDS;
 use super::bodies::keeps;
 use super::chart::CHART;
@@ -11,10 +11,10 @@ use super::chart::add;
 use super::chart::found_by;
 use super::places::put;
 use event::terminal_of;
+use families::SETS;
 use grammar::limits::RULES;
 use grammar::reading::Sizes;
-use grammar::reading::rule_starts;
-use sets::family::SETS;
+use reader::rule_starts;
 use sets::rules::head_of;
 use word::decode;
 

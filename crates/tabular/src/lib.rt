@@ -2,23 +2,23 @@
 // nor memo table, only a grammar without left recursion, and takes shorter inputs.
 ghost use mathlib.Core.Path.{_≡_};
 ghost use Rattle.event.specs.Events.{inputOf};
-ghost use Rattle.tabular.specs.Answers.{told};
-ghost use Rattle.tabular.specs.Judging.{TabulateGiven, Tabulated, PassedGiven};
-ghost use Rattle.tabular.specs.Properties.{TabularJudges};
+ghost use Rattle.tabulation.specs.Answers.{told};
+ghost use Rattle.tabulation.specs.Judging.{TabulateGiven, Tabulated, PassedGiven};
+ghost use Rattle.tabulation.specs.Properties.{TabularJudges};
 use answer::Answer;
 use answer::Calls;
 use answer::Error;
 use event::Unknown;
 use event::first_unknown;
+use families::Finding;
+use families::SETS;
 use filling::fill;
 use grammar::limits::SPAN_WORDS;
 use grammar::limits::TABULAR_TOKENS;
 use grammar::reading::Sizes;
 use lookahead::Lookahead;
 use places::contains;
-use sets::Finding;
 use sets::analyze;
-use sets::family::SETS;
 use spans::write;
 
 mod bodies;

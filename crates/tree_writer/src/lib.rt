@@ -1,22 +1,17 @@
 // Judging a log and, where it is accepted, writing its parse tree.
 ghost use Rattle.event.specs.Events.{inputOf};
-ghost use Rattle.tree_writer.specs.Properties.{Shows};
+ghost use Rattle.tree_words.specs.Properties.{Shows};
 use answer::Answer;
 use answer::Error;
 use grammar::limits::MEMO_ENTRIES;
 use grammar::limits::TABLE_WORDS;
 use recognizer::judge;
+use tree_words::Shown;
 
 mod labels;
 mod writing;
 
 use writing::write_tree;
-
-// An answer, and how many words of the tree are written.
-pub struct Shown {
-    pub answer: Answer,
-    pub written: usize,
-}
 
 // Judges a log as `judge` does, and writes the parse tree of an accepted one into the front of the tree memory.
 pub fn judge_tree(

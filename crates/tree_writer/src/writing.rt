@@ -1,6 +1,6 @@
 // Writing the parse tree of an accepted input into lent words: root first, each vertex once.
 ghost use Rattle.event.specs.Events.{inputOf};
-ghost use Rattle.tree_writer.specs.Writer.{VertexRequires, VertexEnsures, TreeGiven, TreeDone};
+ghost use Rattle.tree_words.specs.Writer.{VertexRequires, VertexEnsures, TreeGiven, TreeDone};
 use super::labels::end_of;
 use super::labels::labels_of;
 use super::labels::rule_of;
@@ -8,8 +8,8 @@ use grammar::limits::MEMO_ENTRIES;
 use grammar::limits::PLACES;
 use grammar::limits::RULES;
 use grammar::reading::Outcome;
-use grammar::reading::read;
-use grammar::reading::rule_starts;
+use reader::read;
+use reader::rule_starts;
 use word::Symbol;
 use word::Word;
 use word::decode;

@@ -24,15 +24,15 @@ use Rattle.semantics.specs.Productive.{lowestUnproductive}
 use Rattle.event.specs.declared.Unknown.{Unknown}
 use Rattle.event.specs.declared.Unknown.the-variants.{Absent, At}
 use Rattle.event.specs.Unknown.{unknownFrom, unknownFault}
-use Rattle.sets.specs.Analysis.{readingFault, leftFault, unproductiveFault}
-use Rattle.sets.proofs.FewTerminals.{few-terminals}
+use Rattle.families.specs.Analysis.{readingFault, leftFault, unproductiveFault}
+use Rattle.families.proofs.FewTerminals.{few-terminals}
 use Rattle.table.specs.Analysis.{clashFault, grammarFaults}
 use Rattle.table.specs.Conflicts.{firstClash}
 use Rattle.table.specs.Layout.{tableRoom}
 use Rattle.table.proofs.FirstClash.{clash-absent}
-use Rattle.recognizer.specs.Answers.{checkFaultBy, inputFaults, judgeFaultBy}
-use Rattle.recognizer.specs.Properties.{PassedBy}
-use Rattle.recognizer.proofs.Checking.{read-some, passed-read, passed-predictive}
+use Rattle.promises.specs.Answers.{checkFaultBy, inputFaults, judgeFaultBy}
+use Rattle.promises.specs.Properties.{PassedBy}
+use Rattle.promises.proofs.Checking.{read-some, passed-read, passed-predictive}
 use Rattle.widening.specs.Widening.{NoConflict, NeverConflicts}
 use Rattle.widening.proofs.Enough.{enough}
 

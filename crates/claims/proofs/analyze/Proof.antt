@@ -1,7 +1,7 @@
 -- An encoded grammar: by whether its families are found.
 use mathlib.Core.Path.{refl}
 use borrow.Author.Needs.{needs}
-use Rattle.sets.proofs.Findings.{families-told}
+use Rattle.families.proofs.Findings.{families-told}
 use Rattle.claims.proofs.Findings.{given, refused-claims, words-indexed, all-claims}
 use Rattle.claims.proofs.analyze.Statement.{statement}
 use Rattle.claims.proofs.analyze.Tie as tie

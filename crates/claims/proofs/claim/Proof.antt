@@ -2,7 +2,7 @@
 use mathlib.Core.Path.{refl}
 use native.Mathlib.Omega.{arith}
 use borrow.Author.Needs.{needs}
-use Rattle.sets.proofs.NamedNonterminals.{no-head}
+use Rattle.families.proofs.NamedNonterminals.{no-head}
 use Rattle.claims.proofs.ClaimWalk.{own, some-rule, claim-kept}
 use Rattle.claims.proofs.claim.Statement.{statement}
 use Rattle.claims.proofs.claim.Tie as tie

@@ -2,8 +2,8 @@
 use mathlib.Core.Path.{_≡_}
 use lib.ListN.{length}
 use Rattle.event.specs.Events.{inputOf}
-use Rattle.clients.specs.Usages.{clients}
-use Rattle.clients.proofs.Serving.{unknown-client, quota-reached, judged}
+use Rattle.client_records.specs.Usages.{clients}
+use Rattle.client_records.proofs.Serving.{unknown-client, quota-reached, judged}
 use borrow.Author.Needs.{needs}
 use Rattle.clients.proofs.judge_for.Statement.{statement}
 use Rattle.clients.proofs.judge_for.Tie as tie

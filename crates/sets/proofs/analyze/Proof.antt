@@ -1,6 +1,6 @@
 -- An encoded grammar: by whether it is read without a fault.
 use mathlib.Core.Path.{sym, _∙_}
-use Rattle.sets.proofs.Findings.{families-faulty}
+use Rattle.families.proofs.Findings.{families-faulty}
 use Rattle.sets.proofs.analyze.Statement.{statement}
 use Rattle.sets.proofs.analyze.Tie as tie
 use borrow.Author.Needs.{needs}

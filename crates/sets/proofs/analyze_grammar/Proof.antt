@@ -1,9 +1,9 @@
 -- A grammar that has been read: by whether it is left-recursive, and by whether a first set is empty.
 use mathlib.Core.Path.{_∙_}
 use Rattle.grammar.proofs.WellRead.{well-read}
-use Rattle.sets.proofs.FewTerminals.{admitted-read}
-use Rattle.sets.proofs.Findings.{families-left, families-unproductive, families-found}
-use Rattle.sets.proofs.Flawed.{lowest-recursive, lowest-unproductive}
+use Rattle.families.proofs.FewTerminals.{admitted-read}
+use Rattle.families.proofs.Findings.{families-left, families-unproductive, families-found}
+use Rattle.families.proofs.Flawed.{lowest-recursive, lowest-unproductive}
 use borrow.Author.Needs.{needs}
 use Rattle.sets.proofs.analyze_grammar.Statement.{statement}
 use Rattle.sets.proofs.analyze_grammar.Tie as tie

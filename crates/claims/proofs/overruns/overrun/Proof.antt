@@ -2,7 +2,7 @@
 use mathlib.Core.Path.{refl}
 use native.Mathlib.Omega.{arith}
 use borrow.Author.Needs.{needs}
-use Rattle.sets.proofs.NamedNonterminals.{no-head}
+use Rattle.families.proofs.NamedNonterminals.{no-head}
 use Rattle.claims.proofs.OverrunWalk.{head-own, head-told}
 use Rattle.claims.proofs.overruns.overrun.Statement.{statement}
 use Rattle.claims.proofs.overruns.overrun.Tie as tie

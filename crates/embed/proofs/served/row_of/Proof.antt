@@ -4,9 +4,9 @@ use Prim.Native.Nat.{_-_}
 use native.Mathlib.Omega.{arith}
 use borrow.Author.Needs.{needs}
 use lib.ListN.{length}
-use Rattle.clients.specs.Usages.{clients}
-use Rattle.embed.specs.Records.{Written}
-use Rattle.embed.proofs.RecordRows.{nothing-written, one-written, all-written}
+use Rattle.client_records.specs.Usages.{clients}
+use Rattle.exports.specs.Records.{Written}
+use Rattle.exports.proofs.RecordRows.{nothing-written, one-written, all-written}
 use Rattle.embed.proofs.served.row_of.Statement.{statement}
 use Rattle.embed.proofs.served.row_of.Tie as tie
 

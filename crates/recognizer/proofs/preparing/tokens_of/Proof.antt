@@ -6,7 +6,7 @@ use lib.ListN.{length, getD}
 use Rattle.event.specs.Events.{inputOf}
 use Rattle.event.proofs.Inputs.{input-length, input-at}
 use Rattle.recognizer.specs.Arrays.{endMark, columnWeight}
-use Rattle.recognizer.specs.Preparing.{columnAt}
+use Rattle.columns.specs.Columns.{columnAt}
 use Rattle.recognizer.proofs.Tokens.{Written, written-none, written-more, written-all, column-few}
 use Rattle.recognizer.proofs.preparing.tokens_of.Statement.{statement}
 use Rattle.recognizer.proofs.preparing.tokens_of.Tie as tie

@@ -3,9 +3,9 @@ use Prim.Native.Nat.{_-_}
 use mathlib.Core.Path.{_∙_}
 use native.Mathlib.Omega.{arith}
 use Rattle.grammar.proofs.WellRead.{well-read}
-use Rattle.sets.proofs.RulePasses.{Turns, turns-start}
-use Rattle.sets.proofs.HeadPasses.{Gives, its-turn, its-start, head-below, visit, visits-end}
-use Rattle.sets.proofs.FirstPasses.{ruleGives, rule-larger}
+use Rattle.families.proofs.RulePasses.{Turns, turns-start}
+use Rattle.families.proofs.HeadPasses.{Gives, its-turn, its-start, head-below, visit, visits-end}
+use Rattle.families.proofs.FirstPasses.{ruleGives, rule-larger}
 use Rattle.sets.proofs.first.first_pass.Statement.{statement}
 use Rattle.sets.proofs.first.first_pass.Tie as tie
 

@@ -5,10 +5,10 @@ use lib.ListN.{length}
 use Rattle.grammar.specs.Limits.{maxNonterminals}
 use Rattle.grammar.specs.Encoding.{parse}
 use Rattle.lookahead.specs.Operations.{full}
-use Rattle.sets.specs.First.{FirstNumbersClosed}
-use Rattle.sets.proofs.LeastByPasses.{Below, below-none, missing, below-pass, least-pass, missing-falls}
-use Rattle.sets.proofs.FewTerminals.{admitted-read}
-use Rattle.sets.proofs.FirstTie.{full-closed, first-listed}
+use Rattle.families.specs.First.{FirstNumbersClosed}
+use Rattle.families.proofs.LeastByPasses.{Below, below-none, missing, below-pass, least-pass, missing-falls}
+use Rattle.families.proofs.FewTerminals.{admitted-read}
+use Rattle.families.proofs.FirstTie.{full-closed, first-listed}
 use Rattle.sets.proofs.first.first_sets.Statement.{statement}
 use Rattle.sets.proofs.first.first_sets.Tie as tie
 

@@ -1,8 +1,8 @@
 -- The loop keeps `FirstWalk`: the words from `at` on have been gone through.
 use native.Mathlib.Omega.{arith}
-use Rattle.sets.specs.Least.{at as family}
-use Rattle.sets.proofs.ArrayLookup.{lookup-at}
-use Rattle.sets.proofs.FirstPasses.{FirstWalk, walk-start, walk-turn, walk-end}
+use Rattle.families.specs.Least.{at as family}
+use Rattle.families.proofs.ArrayLookup.{lookup-at}
+use Rattle.families.proofs.FirstPasses.{FirstWalk, walk-start, walk-turn, walk-end}
 use Rattle.sets.proofs.first.rule_first.Statement.{statement}
 use Rattle.sets.proofs.first.rule_first.Tie as tie
 

@@ -3,8 +3,8 @@ use mathlib.Core.Path.{sym, _∙_}
 use Prim.Native.Nat.{_-_, _≤_}
 use native.Mathlib.Omega.{arith}
 use Rattle.booleans.proofs.Quantified.{NoneBelow}
-use Rattle.sets.specs.Flaws.{flawIn}
-use Rattle.sets.proofs.Lowest.{lowest-found, lowest-absent, none-more}
+use Rattle.families.specs.Flaws.{flawIn}
+use Rattle.families.proofs.LowestTold.{lowest-found, lowest-absent, none-more}
 use Rattle.sets.proofs.flaws.lowest_with.Statement.{statement}
 use Rattle.sets.proofs.flaws.lowest_with.Tie as tie
 

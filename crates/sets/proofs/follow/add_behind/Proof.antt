@@ -1,6 +1,6 @@
 -- Only a nonterminal of a body has something behind it.
 use mathlib.Core.Path.{refl}
-use Rattle.sets.proofs.NamedNonterminals.{no-name}
+use Rattle.families.proofs.NamedNonterminals.{no-name}
 use borrow.Author.Needs.{needs}
 use Rattle.sets.proofs.follow.add_behind.Statement.{statement}
 use Rattle.sets.proofs.follow.add_behind.Tie as tie

@@ -2,7 +2,7 @@
 use mathlib.Core.Path.{ap, _∙_}
 use native.Mathlib.Omega.{arith}
 use lib.ListN.{length, length-set}
-use Rattle.sets.proofs.FollowPasses.{follow-passes}
+use Rattle.families.proofs.FollowPasses.{follow-passes}
 use borrow.Author.Needs.{needs}
 use Rattle.sets.proofs.follow.follow_pass.Statement.{statement}
 use Rattle.sets.proofs.follow.follow_pass.Tie as tie

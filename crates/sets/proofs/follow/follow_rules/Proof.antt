@@ -3,10 +3,10 @@ use Prim.Native.Nat.{_-_}
 use mathlib.Core.Path.{_∙_}
 use native.Mathlib.Omega.{arith}
 use Rattle.grammar.proofs.WellRead.{well-read}
-use Rattle.sets.specs.Least.{at as family}
-use Rattle.sets.proofs.RulePasses.{Turns, turns-start}
-use Rattle.sets.proofs.HeadPasses.{its-turn, its-start, head-below}
-use Rattle.sets.proofs.FollowPasses.{Asks, follow-visit, follows-end}
+use Rattle.families.specs.Least.{at as family}
+use Rattle.families.proofs.RulePasses.{Turns, turns-start}
+use Rattle.families.proofs.HeadPasses.{its-turn, its-start, head-below}
+use Rattle.families.proofs.FollowPasses.{Asks, follow-visit, follows-end}
 use Rattle.sets.proofs.follow.follow_rules.Statement.{statement}
 use Rattle.sets.proofs.follow.follow_rules.Tie as tie
 

@@ -6,12 +6,12 @@ use Rattle.grammar.specs.Limits.{maxNonterminals}
 use Rattle.grammar.specs.Encoding.{parse}
 use Rattle.lookahead.specs.Lookaheads.{alphabet}
 use Rattle.lookahead.specs.Operations.{full}
-use Rattle.sets.specs.Least.{at as family}
-use Rattle.sets.specs.Follow.{FollowNumbersClosed}
-use Rattle.sets.proofs.Lists.{listed-long}
-use Rattle.sets.proofs.LeastByPasses.{Below, below-none, missing, below-pass, least-pass, missing-falls}
-use Rattle.sets.proofs.FewTerminals.{admitted-read}
-use Rattle.sets.proofs.FollowTie.{full-closed, follow-listed}
+use Rattle.families.specs.Least.{at as family}
+use Rattle.families.specs.Follow.{FollowNumbersClosed}
+use Rattle.families.proofs.Lists.{listed-long}
+use Rattle.families.proofs.LeastByPasses.{Below, below-none, missing, below-pass, least-pass, missing-falls}
+use Rattle.families.proofs.FewTerminals.{admitted-read}
+use Rattle.families.proofs.FollowTie.{full-closed, follow-listed}
 use Rattle.sets.proofs.follow.follow_sets.Statement.{statement}
 use Rattle.sets.proofs.follow.follow_sets.Tie as tie
 

@@ -1,5 +1,5 @@
 -- By whether the word is a symbol.
-use Rattle.sets.proofs.LeftPasses.{left-closed}
+use Rattle.families.proofs.LeftPasses.{left-closed}
 use borrow.Author.Needs.{needs}
 use Rattle.sets.proofs.left.inside_left.Statement.{statement}
 use Rattle.sets.proofs.left.inside_left.Tie as tie

@@ -2,11 +2,11 @@
 use Prim.Native.Nat.{_-_}
 use native.Mathlib.Omega.{arith}
 use Rattle.grammar.proofs.WellRead.{well-read}
-use Rattle.sets.specs.Least.{at as family}
-use Rattle.sets.specs.Left.{emptyIn}
-use Rattle.sets.proofs.RulePasses.{Turns, turns-start}
-use Rattle.sets.proofs.HeadPasses.{Gives, its-turn, its-start, head-below, visit, visits-end}
-use Rattle.sets.proofs.LeftPasses.{ruleLeft, rule-larger}
+use Rattle.families.specs.Least.{at as family}
+use Rattle.families.specs.Left.{emptyIn}
+use Rattle.families.proofs.RulePasses.{Turns, turns-start}
+use Rattle.families.proofs.HeadPasses.{Gives, its-turn, its-start, head-below, visit, visits-end}
+use Rattle.families.proofs.LeftPasses.{ruleLeft, rule-larger}
 use Rattle.sets.proofs.left.reach_pass.Statement.{statement}
 use Rattle.sets.proofs.left.reach_pass.Tie as tie
 

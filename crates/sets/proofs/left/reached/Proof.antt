@@ -4,11 +4,11 @@ use Prim.Native.Nat.{_^_}
 use lib.ListN.{length}
 use Rattle.grammar.specs.Limits.{maxNonterminals}
 use Rattle.grammar.specs.Encoding.{parse}
-use Rattle.sets.specs.Least.{at as family}
-use Rattle.sets.specs.Left.{emptyIn, ReachClosed}
-use Rattle.sets.proofs.LeastByPasses.{Below, below-none, missing, below-pass, least-pass, missing-falls}
-use Rattle.sets.proofs.FewTerminals.{admitted-read}
-use Rattle.sets.proofs.LeftTie.{reach-closed, reach-small, reach-listed}
+use Rattle.families.specs.Least.{at as family}
+use Rattle.families.specs.Left.{emptyIn, ReachClosed}
+use Rattle.families.proofs.LeastByPasses.{Below, below-none, missing, below-pass, least-pass, missing-falls}
+use Rattle.families.proofs.FewTerminals.{admitted-read}
+use Rattle.families.proofs.LeftTie.{reach-closed, reach-small, reach-listed}
 use Rattle.sets.proofs.left.reached.Statement.{statement}
 use Rattle.sets.proofs.left.reached.Tie as tie
 

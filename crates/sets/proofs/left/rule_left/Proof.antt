@@ -1,8 +1,8 @@
 -- The loop keeps `LeftWalk`: the words from `at` on have been gone through.
 use native.Mathlib.Omega.{arith}
-use Rattle.sets.specs.Least.{at as family}
-use Rattle.sets.specs.Left.{emptyIn}
-use Rattle.sets.proofs.LeftPasses.{LeftWalk, walk-start, walk-indexed, walk-turn, walk-end}
+use Rattle.families.specs.Least.{at as family}
+use Rattle.families.specs.Left.{emptyIn}
+use Rattle.families.proofs.LeftPasses.{LeftWalk, walk-start, walk-indexed, walk-turn, walk-end}
 use Rattle.sets.proofs.left.rule_left.Statement.{statement}
 use Rattle.sets.proofs.left.rule_left.Tie as tie
 

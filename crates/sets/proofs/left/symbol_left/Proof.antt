@@ -2,7 +2,7 @@
 use mathlib.Core.Path.{refl, sym, ap, _∙_}
 use native.Mathlib.Omega.{arith}
 use Rattle.lookahead.specs.Elements.{has}
-use Rattle.sets.proofs.LeftPasses.{left-terminal, left-on, left-stop}
+use Rattle.families.proofs.LeftPasses.{left-terminal, left-on, left-stop}
 use borrow.Author.Needs.{needs}
 use Rattle.sets.proofs.left.symbol_left.Statement.{statement}
 use Rattle.sets.proofs.left.symbol_left.Tie as tie

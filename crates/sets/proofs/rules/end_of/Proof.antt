@@ -2,7 +2,7 @@
 use native.Mathlib.Omega.{arith}
 use native.Mathlib.Numerals.{add-one}
 use Rattle.grammar.proofs.WellRead.{well-read}
-use Rattle.sets.proofs.RuleRanges.{till-next, till-end}
+use Rattle.families.proofs.RuleRanges.{till-next, till-end}
 use borrow.Author.Needs.{needs}
 use Rattle.sets.proofs.rules.end_of.Statement.{statement}
 use Rattle.sets.proofs.rules.end_of.Tie as tie

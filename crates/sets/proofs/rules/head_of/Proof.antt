@@ -1,5 +1,5 @@
 -- Only a word that begins a rule has a head.
-use Rattle.sets.proofs.NamedNonterminals.{no-head-of}
+use Rattle.families.proofs.NamedNonterminals.{no-head-of}
 use borrow.Author.Needs.{needs}
 use Rattle.sets.proofs.rules.head_of.Statement.{statement}
 use Rattle.sets.proofs.rules.head_of.Tie as tie

@@ -2,9 +2,9 @@
 use mathlib.Core.Path.{_≡_, sym, _∙_}
 use Prim.Native.Nat.{_-_, _≤_}
 use native.Mathlib.Omega.{arith}
-use Rattle.table.specs.Columns.{columnCount, columnElement}
+use Rattle.columns.specs.Columns.{columnCount, columnElement}
 use Rattle.table.specs.Conflicts.{rowConflict, inSet}
-use Rattle.table.proofs.ColumnStrings.{column-count}
+use Rattle.columns.proofs.ColumnStrings.{column-count}
 use Rattle.table.proofs.ConflictScan.{column-empty, column-all, column-here, column-later, column-none}
 use Rattle.table.proofs.conflicts.first_column.Statement.{statement}
 use Rattle.table.proofs.conflicts.first_column.Tie as tie

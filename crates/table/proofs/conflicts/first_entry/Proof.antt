@@ -2,7 +2,7 @@
 use mathlib.Core.Path.{_≡_, sym, _∙_}
 use Prim.Native.Nat.{_-_, _≤_}
 use native.Mathlib.Omega.{arith}
-use Rattle.table.specs.Columns.{columnCount, columnElement}
+use Rattle.columns.specs.Columns.{columnCount, columnElement}
 use Rattle.table.specs.Conflicts.{conflictFrom, inSets}
 use Rattle.table.proofs.ConflictScan.{rows-all, row-here, row-later, rows-none}
 use Rattle.table.proofs.conflicts.first_entry.Statement.{statement}

@@ -2,9 +2,9 @@
 use mathlib.Core.Path.{_≡_}
 use Prim.Native.Nat.{_-_, _≤_}
 use native.Mathlib.Omega.{arith}
-use Rattle.table.specs.Columns.{columnCount, columnElement}
+use Rattle.columns.specs.Columns.{columnCount, columnElement}
 use Rattle.table.specs.Entries.{FilledRow}
-use Rattle.table.proofs.ColumnStrings.{column-count}
+use Rattle.columns.proofs.ColumnStrings.{column-count}
 use Rattle.table.proofs.FillSteps.{row-none, row-more}
 use Rattle.table.proofs.rows.fill_row.Statement.{statement}
 use Rattle.table.proofs.rows.fill_row.Tie as tie

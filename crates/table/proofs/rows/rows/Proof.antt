@@ -6,7 +6,7 @@ use lib.ListN.{length-replicate}
 use Rattle.grammar.specs.Codes.{noRule}
 use Rattle.grammar.specs.Limits.{maxEntries}
 use Rattle.semantics.specs.FiniteSets.{numbersFrom}
-use Rattle.table.specs.Columns.{columnCount}
+use Rattle.columns.specs.Columns.{columnCount}
 use Rattle.claims.specs.Claims.{Headed}
 use Rattle.table.specs.Entries.{FilledRows, noRules, rowsOf}
 use Rattle.table.proofs.FillInvariant.{row-room, rows-start, rows-turn, rows-end}

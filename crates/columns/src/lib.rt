@@ -1,0 +1,73 @@
+// The columns of a row of the table: with one token of lookahead the terminals in order, then the end; with two the elements of sets. And the
+// column for the lookahead string at a place of an input.
+ghost use mathlib.Core.Path.{_≡_};
+ghost use Rattle.event.specs.Events.{inputOf};
+ghost use Rattle.lookahead.specs.declared.Lookahead.the-variants.{One, Two};
+ghost use Rattle.columns.specs.Columns.{columnCount, columnElement, columnAt};
+use event::terminal_of;
+use grammar::limits::WIDE_COLUMNS;
+use grammar::limits::WIDE_TERMINALS;
+use lookahead::Lookahead;
+use lookahead::NOTHING;
+
+// How many columns a row has.
+pub fn count(lookahead: Lookahead, terminals: u32) -> usize
+    ensures { λ r. ⌜ r ≡ columnCount lookahead terminals ⌝ }
+{
+    match lookahead {
+        Lookahead::One => terminals as usize + 1,
+        Lookahead::Two => WIDE_COLUMNS,
+    }
+}
+
+// The element of a column.
+pub fn element(lookahead: Lookahead, terminals: u32, column: u32) -> u32
+    ensures { λ r. ⌜ r ≡ columnElement lookahead terminals column ⌝ }
+{
+    match lookahead {
+        Lookahead::One => { if column == terminals { NOTHING } else { column } }
+        Lookahead::Two => column,
+    }
+}
+
+// With two tokens of lookahead, the column of terminal 0 where it is the last token, and of terminal 0 twice.
+const LAST: u32 = 1;
+
+const PAIR: u32 = LAST + WIDE_TERMINALS;
+
+// The column of the token at a place, or of the end.
+fn column_of_one(events: &[u8], terminals: u32, place: usize) -> u32
+    ensures { λ r. ⌜ r ≡ columnAt One terminals (inputOf (now (events .entry))) place ⌝ }
+{
+    if events.len() <= place {
+        return terminals;
+    }
+    let event = events[place];
+    terminal_of(event) as u32
+}
+
+// The column of the two tokens from a place on, of the last token, or of the end.
+fn column_of_two(events: &[u8], terminals: u32, place: usize) -> u32
+    ensures { λ r. ⌜ r ≡ columnAt Two terminals (inputOf (now (events .entry))) place ⌝ }
+{
+    if events.len() <= place {
+        return 0;
+    }
+    let event = events[place];
+    let first = terminal_of(event) as u32;
+    if events.len() <= place + 1 {
+        return LAST + first;
+    }
+    let next = events[place + 1];
+    PAIR + WIDE_TERMINALS * first + terminal_of(next) as u32
+}
+
+// The column of the lookahead string at a place.
+pub fn column_at(events: &[u8], lookahead: Lookahead, terminals: u32, place: usize) -> u32
+    ensures { λ r. ⌜ r ≡ columnAt lookahead terminals (inputOf (now (events .entry))) place ⌝ }
+{
+    match lookahead {
+        Lookahead::One => column_of_one(events, terminals, place),
+        Lookahead::Two => column_of_two(events, terminals, place),
+    }
+}

@@ -1,0 +1,85 @@
+-- The flaws that are found in the arrays of a grammar's sets are those of the grammar: left recursion, and empty first sets.
+use mathlib.Core.Path.{_≡_, sym, _∙_}
+use mathlib.Core.Bool.{true, false}
+use mathlib.Core.List.{List}
+use Prim.Native.Nat.{ℕ, _≤_, _<_}
+use native.Mathlib.Omega.{arith}
+use lib.Dec.{T, ltb, lt→ltb}
+use Rattle.booleans.specs.Quantifiers.{lowest}
+use Rattle.booleans.proofs.Booleans.{T-true, T-none, true-T, both}
+use Rattle.grammar.specs.Encoding.{grammarOf}
+use Rattle.grammar.specs.Limits.{maxNonterminals}
+use Rattle.grammar.specs.Reading.{reading}
+use Rattle.admission.specs.Admission.{admission}
+use Rattle.grammar.specs.declared.reading.Sizes.{Sizes}
+use Rattle.grammar.specs.declared.reading.Outcome.the-variants.{Read}
+use Rattle.grammar.proofs.WellRead.{well-read}
+use Rattle.lookahead.specs.declared.Lookahead.{Lookahead}
+use Rattle.lookahead.specs.Lookaheads.{tokens, alphabet, stringOf}
+use Rattle.lookahead.specs.Elements.{has}
+use Rattle.lookahead.specs.Operations.{isEmpty}
+use Rattle.lookahead.proofs.Emptiness.{empty-none, none-empty}
+use Rattle.lookahead.proofs.Weights.{has-total}
+use Rattle.semantics.specs.FirstFollow.{first}
+use Rattle.semantics.specs.LeftRecursion.{leftReaches, leftRecursive, lowestLeftRecursive}
+use Rattle.semantics.specs.Productive.{unproductive, lowestUnproductive}
+use Rattle.semantics.proofs.First.{first-lookahead}
+use Rattle.semantics.proofs.Productive.{unproductive-iff}
+use Rattle.families.specs.declared.Flaw.the-variants.{LeftRecursive, Unproductive}
+use Rattle.families.specs.declared.Lowest.{Lowest}
+use Rattle.families.specs.Lists.{listed}
+use Rattle.families.specs.Sets.{firstNumber, reachNumber}
+use Rattle.families.specs.Flaws.{flawIn, lowestOf}
+use Rattle.families.proofs.FewTerminals.{admitted-read, few-terminals}
+use Rattle.families.proofs.Lists.{listed-at}
+use Rattle.families.proofs.Numbers.{in-number, element-passes}
+use Rattle.families.proofs.LowestTold.{lowest-cong}
+
+-- the words of a grammar that is admitted, with its first sets and what its nonterminals left-reach
+module _ (k : Lookahead) (words : List ℕ) {firsts reaches : List ℕ} {z : Sizes} (taken : admission k words ≡ Read z)
+    (f : firsts ≡ listed maxNonterminals (firstNumber k (grammarOf words))) (g : reaches ≡ listed maxNonterminals (reachNumber (grammarOf words))) where
+  read : reading words ≡ Read z
+  read = admitted-read k words taken
+
+  many : grammarOf words .nonterminals ≤ maxNonterminals
+  many = let w = well-read words z read in omega (arith, w .fewNonterminals, w .nonterminals)
+
+  few : grammarOf words .terminals ≤ alphabet k
+  few = few-terminals k words taken
+
+  -- a nonterminal is in its own set just where it is left-recursive
+  own-reached : (A : ℕ) → A < grammarOf words .nonterminals → flawIn LeftRecursive firsts reaches A ≡ leftRecursive (grammarOf words) A
+  unfolding leftRecursive reachNumber
+  own-reached A h =
+      let G = grammarOf words in
+      let n = T-true (ltb A (G .nonterminals)) (lt→ltb A (G .nonterminals) h) in
+      rw (g, listed-at maxNonterminals (reachNumber G) A (omega (arith, many))) (has-total (G .nonterminals) (leftReaches G A) A ∙ rw n)
+
+  -- a first set is empty as a number just where it is
+  empty-first : (A : ℕ) → isEmpty (firstNumber k (grammarOf words) A) ≡ unproductive (grammarOf words) (tokens k) A
+  unfolding firstNumber
+  empty-first A =
+      let G = grammarOf words in
+      let set = firstNumber k G A in
+      let test = unproductive-iff G (tokens k) A in
+      both (isEmpty set) (unproductive G (tokens k) A)
+      (λ t. test .1 (λ x b. let i = in-number k G few (first G (tokens k)) (first-lookahead G (tokens k)) A x b in absurd (rw (empty-none set (i .0) (T-true (isEmpty set) t)) at (i .2))))
+      (λ t. true-T (isEmpty set) (none-empty set (λ l. T-none (has set l) (λ e. test .0 t (stringOf k l) (element-passes k G few (first G (tokens k)) (first-lookahead G (tokens k)) A l e)))))
+
+  empty-found : (A : ℕ) → A < grammarOf words .nonterminals → flawIn Unproductive firsts reaches A ≡ unproductive (grammarOf words) (tokens k) A
+  empty-found A h = rw (f, listed-at maxNonterminals (firstNumber k (grammarOf words)) A (omega (arith, many))) (empty-first A)
+
+  -- so the lowest are the same
+  pub lowest-recursive : {r : Lowest} → r ≡ lowestOf (lowest (z .nonterminals) (flawIn LeftRecursive firsts reaches))
+      → r ≡ lowestOf (lowestLeftRecursive (grammarOf words))
+  unfolding lowestLeftRecursive
+  lowest-recursive e =
+      let G = grammarOf words in
+      e ∙ rw (well-read words z read .nonterminals, lowest-cong (G .nonterminals) (flawIn LeftRecursive firsts reaches) (leftRecursive G) own-reached)
+
+  pub lowest-unproductive : {r : Lowest} → r ≡ lowestOf (lowest (z .nonterminals) (flawIn Unproductive firsts reaches))
+      → r ≡ lowestOf (lowestUnproductive (grammarOf words) (tokens k))
+  unfolding lowestUnproductive
+  lowest-unproductive e =
+      let G = grammarOf words in
+      e ∙ rw (well-read words z read .nonterminals, lowest-cong (G .nonterminals) (flawIn Unproductive firsts reaches) (unproductive G (tokens k)) empty-found)

@@ -1,0 +1,7 @@
+pub mod Memory
+pub mod Answers
+pub mod Judging
+pub mod Properties
+pub mod Costliest
+pub mod Search
+pub mod Rows

@@ -1,0 +1,160 @@
+// Reading an encoded grammar: its first fault, or its sizes; and where its rules start.
+ghost use mathlib.Core.Path.{_≡_};
+ghost use lib.ListN.{drop};
+ghost use Rattle.grammar.specs.Encoding.{declaredBy};
+ghost use Rattle.grammar.specs.Reading.{stepped, finished, fresh, scan, within as withinOf, reading};
+ghost use Rattle.grammar.specs.Starts.{Noted, ruleStarts};
+use answer::Error;
+use grammar::limits::NONTERMINALS;
+use grammar::limits::RULES;
+use grammar::limits::TERMINALS;
+use grammar::limits::WORDS;
+use grammar::reading::Outcome;
+use grammar::reading::Progress;
+use grammar::reading::Sizes;
+use grammar::reading::State;
+use grammar::reading::Step;
+use reading_steps::after;
+use reading_steps::allows;
+use reading_steps::begins_rule;
+use reading_steps::counted;
+use reading_steps::in_range;
+use reading_steps::row;
+use word::Word;
+use word::decode;
+
+// The word at an index: is it allowed, then is its number in range, then is there room for its rule.
+fn read_word(word: Word, progress: Progress, at: usize) -> Step
+    ensures { λ r. ⌜ r ≡ stepped word progress at ⌝ }
+{
+    let state = progress.state;
+    let sizes = progress.sizes;
+    if !allows(word, state) {
+        return Step::Stop(Error::UnexpectedWord(at));
+    }
+    if !in_range(word, sizes) {
+        return Step::Stop(Error::OutOfRange(at));
+    }
+    let next = after(word, state);
+    if begins_rule(word) {
+        counted(next, sizes, at)
+    } else {
+        Step::Go(Progress { state: next, sizes })
+    }
+}
+
+fn finish(progress: Progress, at: usize) -> Outcome
+    ensures { λ r. ⌜ r ≡ finished progress at ⌝ }
+{
+    let state = progress.state;
+    let sizes = progress.sizes;
+    if row(state, false, false, false, false, true) {
+        Outcome::Read(sizes)
+    } else {
+        Outcome::Faulty(Error::UnexpectedWord(at))
+    }
+}
+
+// The words behind the heading.
+fn read_rules(words: &[u32], sizes: Sizes) -> Outcome
+    ensures { λ r. ⌜ r ≡ scan (fresh sizes) 1 (drop 1 (now (words .entry))) ⌝ }
+{
+    let mut progress = Progress {
+        state: State::Before,
+        sizes,
+    };
+    let mut at = 1;
+    while at < words.len() {
+        let word = decode(words[at]);
+        let result = read_word(word, progress, at);
+        match result {
+            Step::Go(next) => {
+                progress = next;
+            }
+            Step::Stop(error) => {
+                return Outcome::Faulty(error);
+            }
+        }
+        at = at + 1;
+    }
+    finish(progress, at)
+}
+
+fn within(number: u32, limit: u32) -> bool
+    ensures { λ r. ⌜ r ≡ withinOf number limit ⌝ }
+{
+    if number == 0 {
+        return false;
+    }
+    number <= limit
+}
+
+// What a heading declares; another word declares nothing.
+pub fn declared(word: Word) -> Sizes
+    ensures { λ r. ⌜ r ≡ declaredBy word ⌝ }
+{
+    let Word::Heading {
+        nonterminals,
+        terminals,
+    } = word
+    else {
+        return Sizes {
+            nonterminals: 0,
+            terminals: 0,
+            rules: 0,
+        };
+    };
+    Sizes {
+        nonterminals,
+        terminals,
+        rules: 0,
+    }
+}
+
+// The first fault of an encoded grammar, or its sizes.
+pub fn read(words: &[u32]) -> Outcome
+    ensures { λ r. ⌜ r ≡ reading (now (words .entry)) ⌝ }
+{
+    if WORDS < words.len() {
+        return Outcome::Faulty(Error::Length);
+    }
+    if words.len() == 0 {
+        return Outcome::Faulty(Error::Heading);
+    }
+    let sizes = declared(decode(words[0]));
+    if !within(sizes.nonterminals, NONTERMINALS) {
+        return Outcome::Faulty(Error::Heading);
+    }
+    if !within(sizes.terminals, TERMINALS) {
+        return Outcome::Faulty(Error::Heading);
+    }
+    read_rules(words, sizes)
+}
+
+// Notes where a rule begins, while there is room; tells how many are noted.
+fn note(starts: &mut [usize; RULES], rules: usize, at: usize, word: Word) -> usize
+    ensures { λ r. ⌜ Noted (now (starts .entry)) rules at word (now (starts .exit)) r ⌝ }
+{
+    if begins_rule(word) {
+        if rules < RULES {
+            starts[rules] = at;
+            return rules + 1;
+        }
+    }
+    rules
+}
+
+// Where each rule begins, by index; zero for rules that are not there.
+pub fn rule_starts(words: &[u32]) -> [usize; RULES]
+    ensures { λ r. ⌜ r ≡ ruleStarts (now (words .entry)) ⌝ }
+{
+    let mut starts = [0usize; RULES];
+    let mut rules = 0;
+    let mut at = 0;
+    while at < words.len() {
+        let word = decode(words[at]);
+        rules = note(&mut starts, rules, at, word);
+        at = at + 1;
+    }
+    starts
+}

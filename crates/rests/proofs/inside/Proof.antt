@@ -1,0 +1,39 @@
+-- By whether the word is a symbol.
+use Rattle.families.specs.Least.{lookup}
+use Rattle.families.proofs.FirstPasses.{first-closed}
+use borrow.Author.Needs.{needs}
+use Rattle.rests.proofs.inside.Statement.{statement}
+use Rattle.rests.proofs.inside.Tie as tie
+
+enum-known-word : tie.Need-enum-known-word
+enum-known-word c = search needs
+
+end-requires : tie.Need-end-requires
+end-requires c κs = search needs
+
+closed-requires : tie.Need-closed-requires
+closed-requires c κs = search needs
+
+returns : tie.Need-returns
+returns c = rw (c .before .end .ensures .is, c .closed .ensures) (first-closed (c .before .before .before .before .before .args .lookahead) (lookup (c .before .before .before .before .before .args .firsts .now)) (c .before .before .before .before .before .args .word) (c .before .before .before .before .before .args .rest) (c .before .before .match .keys2))
+
+symbol-first-requires : tie.Need-symbol-first-requires
+symbol-first-requires c κs = search needs
+
+concat-requires : tie.Need-concat-requires
+concat-requires c κs = search needs
+
+returns-2 : tie.Need-returns-2
+returns-2 c = rw (c .before .before .before .word .given .1, c .concat .ensures .is, c .before .symbol-first .ensures)
+
+pub inside-spec : {M : Type 1} → statement M
+inside-spec =
+    tie.close
+    (tie.spec
+    enum-known-word
+    end-requires
+    closed-requires
+    returns
+    symbol-first-requires
+    concat-requires
+    returns-2)

@@ -1,0 +1,120 @@
+// The first set of what is left of a body and of a rule, made longer by one word at a time from the end.
+ghost use mathlib.Core.Path.{_≡_};
+ghost use Rattle.families.specs.First.{symbolFirst, noRest, withWord, closedMeet, insideWord};
+ghost use Rattle.families.specs.Follow.{tailBefore};
+ghost use Rattle.families.specs.Least.{lookup};
+use families::Rest;
+use families::SETS;
+use lookahead::Lookahead;
+use lookahead::LookaheadSet;
+use word::Symbol;
+use word::Word;
+
+// The set of n; behind the array's end there is none.
+fn set_of(sets: &[u64; SETS], n: u32) -> u64
+    ensures { λ r. ⌜ r ≡ lookup (now (sets .entry)) n ⌝ }
+{
+    let at = n as usize;
+    if at < SETS { sets[at] } else { 0 }
+}
+
+// Where neither a body nor a rule is open.
+pub fn no_rest(terminals: u32, lookahead: Lookahead) -> Rest
+    ensures { λ r. ⌜ r ≡ noRest lookahead terminals ⌝ }
+{
+    Rest {
+        body: LookaheadSet::end(lookahead),
+        meet: LookaheadSet::full(lookahead, terminals),
+    }
+}
+
+fn symbol_first(symbol: Symbol, firsts: &[u64; SETS], lookahead: Lookahead) -> LookaheadSet
+    ensures { λ r. ⌜ r .bits ≡ symbolFirst lookahead (lookup (now (firsts .entry))) symbol ⌝ }
+{
+    match symbol {
+        Symbol::Terminal(number) => LookaheadSet::terminal(lookahead, number),
+        Symbol::Nonterminal(number) => LookaheadSet {
+            bits: set_of(firsts, number),
+        },
+    }
+}
+
+// The rest with a word in front.
+pub fn onto(
+    word: Word,
+    rest: Rest,
+    firsts: &[u64; SETS],
+    terminals: u32,
+    lookahead: Lookahead,
+) -> Rest
+    ensures { λ r. ⌜ r ≡ withWord lookahead terminals (lookup (now (firsts .entry))) word rest ⌝ }
+{
+    let body = rest.body;
+    let meet = rest.meet;
+    match word {
+        Word::Symbol(symbol) => Rest {
+            body: symbol_first(symbol, firsts, lookahead).concat(lookahead, body),
+            meet,
+        },
+        Word::Positive => Rest {
+            body: LookaheadSet::end(lookahead),
+            meet: body.meet(meet),
+        },
+        Word::Negative => Rest {
+            body: LookaheadSet::end(lookahead),
+            meet,
+        },
+        Word::Rule(_) => no_rest(terminals, lookahead),
+        Word::End => no_rest(terminals, lookahead),
+        Word::Heading {
+            nonterminals: _,
+            terminals: _,
+        } => rest,
+        Word::Invalid => rest,
+    }
+}
+
+// A body ends: if it is a positive, its first set goes into the meet.
+fn closed(word: Word, body: LookaheadSet, meet: LookaheadSet) -> LookaheadSet
+    ensures { λ r. ⌜ r .bits ≡ closedMeet word (body .bits) (meet .bits) ⌝ }
+{
+    let Word::Positive = word else {
+        return meet;
+    };
+    body.meet(meet)
+}
+
+// The rest with a word inside a rule in front.
+pub fn inside(word: Word, rest: Rest, firsts: &[u64; SETS], lookahead: Lookahead) -> Rest
+    ensures { λ r. ⌜ r ≡ insideWord lookahead (lookup (now (firsts .entry))) word rest ⌝ }
+{
+    let body = rest.body;
+    let meet = rest.meet;
+    let Word::Symbol(symbol) = word else {
+        return Rest {
+            body: LookaheadSet::end(lookahead),
+            meet: closed(word, body, meet),
+        };
+    };
+    let first = symbol_first(symbol, firsts, lookahead);
+    Rest {
+        body: first.concat(lookahead, body),
+        meet,
+    }
+}
+
+// What comes behind the index before a word inside a rule, where follow comes behind the body.
+pub fn tail_before(
+    word: Word,
+    tail: LookaheadSet,
+    follow: LookaheadSet,
+    firsts: &[u64; SETS],
+    lookahead: Lookahead,
+) -> LookaheadSet
+    ensures { λ r. ⌜ r .bits ≡ tailBefore lookahead (lookup (now (firsts .entry))) (follow .bits) word (tail .bits) ⌝ }
+{
+    let Word::Symbol(symbol) = word else {
+        return follow;
+    };
+    symbol_first(symbol, firsts, lookahead).concat(lookahead, tail)
+}

@@ -1,0 +1,44 @@
+-- The words of the spans in lent memory: by start, then by end.
+use mathlib.Core.Path.{_≡_}
+use mathlib.Core.List.{List, [], _++_}
+use Prim.Native.Nat.{ℕ, zero, suc, _+_, _-_, _≤_}
+use lib.ListN.{length, drop}
+use Rattle.grammar.specs.Limits.{maxNonterminals, maxTabularTokens, maxSpanWords}
+use Rattle.grammar.specs.Syntax.{Grammar}
+use Rattle.lookahead.specs.Elements.{total}
+use Rattle.semantics.specs.Valuations.{solution}
+use Rattle.families.specs.Lists.{listed}
+
+-- the nonterminals that the one solution gives a span to, A weighing 2^A
+unfoldable pub solutionWord : Grammar → List ℕ → ℕ → ℕ → ℕ
+solutionWord G w i j = total (G .nonterminals) (λ A. solution G w A i j)
+
+-- how many spans of an input of n tokens start before a place
+unfoldable pub spansBefore : ℕ → ℕ → ℕ
+spansBefore n zero = 0
+spansBefore n (suc i) = spansBefore n i + (suc n - i)
+
+abbrev pub spanCount : ℕ → ℕ
+spanCount n = spansBefore n (suc n)
+
+-- where a span's word stands
+abbrev pub indexOf : ℕ → ℕ → ℕ → ℕ
+indexOf n start end = spansBefore n start + (end - start)
+
+-- the rows of the last c starts, the first of which is i
+unfoldable pub rows : (ℕ → ℕ → ℕ) → ℕ → ℕ → List ℕ
+rows f zero i = []
+rows f (suc c) i = listed (suc c) (λ d. f i (i + d)) ++ rows f c (suc i)
+
+-- all spans' words
+unfoldable pub spanWords : ℕ → (ℕ → ℕ → ℕ) → List ℕ
+spanWords n f = rows f (suc n) 0
+
+-- memory that holds them, and unchanged words behind them
+abbrev pub Spans : ℕ → (ℕ → ℕ → ℕ) → List ℕ → List ℕ → Type 0
+Spans n f before after = after ≡ spanWords n f ++ drop (spanCount n) before
+
+pub record WriteGiven (N tokens : ℕ) (spans : List ℕ) : Type 0 where
+  pub few : N ≤ maxNonterminals
+  pub short : tokens ≤ maxTabularTokens
+  pub room : maxSpanWords ≤ length spans
