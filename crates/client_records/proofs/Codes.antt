@@ -37,8 +37,8 @@ use Rattle.table.specs.Conflicts.{firstClash}
 use Rattle.event.specs.declared.Unknown.{Unknown}
 use Rattle.event.specs.declared.Unknown.the-variants.{Absent, At}
 use Rattle.event.specs.Unknown.{unknownFrom, unknownFault}
-use Rattle.promises.specs.Answers.{judgeFaultBy, judgeFault, callsOf, verdictBy}
-use Rattle.promises.specs.Properties.{Judges}
+use Rattle.recognizer_promises.specs.Answers.{judgeFaultBy, judgeFault, callsOf, verdictBy}
+use Rattle.recognizer_promises.specs.Properties.{Judges}
 
 abbrev LowCode : Error → Type 0
 LowCode e = coded e .code ≤ 13

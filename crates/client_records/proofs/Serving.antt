@@ -18,9 +18,9 @@ use Rattle.answer.proofs.Apart.{answer-number}
 use Rattle.grammar.specs.Encoding.{grammarOf}
 use Rattle.lookahead.specs.declared.Lookahead.the-variants.{One}
 use Rattle.table.specs.Layout.{tableWords}
-use Rattle.promises.specs.Answers.{judgeFault, verdictOf, verdictNumbers}
-use Rattle.promises.specs.Memory.{lentBack, memoWords}
-use Rattle.promises.specs.Properties.{Judges}
+use Rattle.recognizer_promises.specs.Answers.{judgeFault, verdictOf, verdictNumbers}
+use Rattle.recognizer_promises.specs.Memory.{lentBack, memoWords}
+use Rattle.recognizer_promises.specs.Properties.{Judges}
 use Rattle.usage.specs.declared.Usage.{Usage}
 use Rattle.usage.specs.Histories.{counted}
 use Rattle.client_records.specs.declared.Served.{Served}

@@ -1,7 +1,7 @@
 // A kept input in memory of the caller's: its events, and nine numbers that are its length and its eight checkpoints.
 ghost use mathlib.Core.Path.{_≡_};
 ghost use Rattle.kept_input.specs.Histories.{Mark, Return};
-ghost use Rattle.exports.specs.Kept.{stateOf, StateRead, AddExported, MoveExported, KeptExported};
+ghost use Rattle.embed_promises.specs.Kept.{stateOf, StateRead, AddExported, MoveExported, KeptExported};
 use super::pack;
 use grammar::limits::TOKENS;
 use kept_input::CHECKPOINTS;

@@ -2,8 +2,8 @@
 ghost use mathlib.Core.Path.{_≡_};
 ghost use Rattle.answer.specs.Numbers.{numbers};
 ghost use Rattle.event.specs.Events.{inputOf};
-ghost use Rattle.exports.specs.Packing.{Fit, NumbersFit, joined, packed};
-ghost use Rattle.exports.specs.Exports.{CheckExported, JudgeExported, TabularExported};
+ghost use Rattle.embed_promises.specs.Packing.{Fit, NumbersFit, joined, packed};
+ghost use Rattle.embed_promises.specs.Exports.{CheckExported, JudgeExported, TabularExported};
 use answer::Answer;
 use answer::code;
 use answer::position;

@@ -1,5 +1,5 @@
 // The costliest log of a length, found, written and judged in memory of the caller's.
-ghost use Rattle.exports.specs.Exports.{CostliestExported};
+ghost use Rattle.embed_promises.specs.Exports.{CostliestExported};
 use super::pack;
 use recognizer::search::judge_costliest;
 

@@ -1,7 +1,7 @@
 // Judging with a parse tree, whose words stand in memory of the caller's and their number in a word of its own.
 ghost use mathlib.Core.Path.{_≡_};
 ghost use Rattle.event.specs.Events.{inputOf};
-ghost use Rattle.exports.specs.Exports.{TreeExported};
+ghost use Rattle.embed_promises.specs.Exports.{TreeExported};
 use super::pack;
 use tree_writer::judge_tree;
 

@@ -1,8 +1,8 @@
 // What is found of a grammar and then of what is to be judged by it, an input or all inputs of a length.
 ghost use mathlib.Core.Path.{_≡_};
 ghost use Rattle.event.specs.Events.{inputOf};
-ghost use Rattle.promises.specs.Answers.{withInput};
-ghost use Rattle.promises.specs.Costliest.{withLength};
+ghost use Rattle.recognizer_promises.specs.Answers.{withInput};
+ghost use Rattle.recognizer_promises.specs.Costliest.{withLength};
 use answer::Error;
 use event::Unknown;
 use event::first_unknown;

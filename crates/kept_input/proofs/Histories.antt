@@ -4,7 +4,7 @@ use mathlib.Core.List.{List}
 use Prim.Native.Nat.{ℕ}
 use Rattle.answer.specs.declared.Answer.{Answer}
 use Rattle.event.specs.Events.{inputOf}
-use Rattle.promises.specs.Properties.{Judges}
+use Rattle.recognizer_promises.specs.Properties.{Judges}
 use Rattle.kept_input.specs.declared.KeptInput.{KeptInput}
 use Rattle.kept_input.specs.Histories.{empty, Step, ran}
 use Rattle.kept_input.specs.Stored.{held}

@@ -10,8 +10,8 @@ use Rattle.grammar.specs.Limits.{maxTokens}
 use Rattle.event.specs.Events.{inputOf}
 use Rattle.event.proofs.Inputs.{input-length}
 use Rattle.lookahead.specs.declared.Lookahead.the-variants.{One}
-use Rattle.promises.specs.Properties.{Judges}
-use Rattle.promises.proofs.Directions.{directions-ignored}
+use Rattle.recognizer_promises.specs.Properties.{Judges}
+use Rattle.recognizer_promises.proofs.Directions.{directions-ignored}
 use Rattle.kept_input.specs.declared.KeptInput.{KeptInput}
 use Rattle.kept_input.specs.Histories.{Kept, empty, ran}
 use Rattle.kept_input.specs.Stored.{readLength, held}

@@ -9,8 +9,8 @@ use Rattle.answer.specs.Numbers.{numbers}
 use Rattle.answer.specs.Faults.{refusedOr, toldOr}
 use Rattle.grammar.specs.Limits.{maxTokens}
 use Rattle.event.specs.Events.{inputOf}
-use Rattle.promises.specs.Answers.{passedNumbers}
-use Rattle.promises.specs.Properties.{Judges}
+use Rattle.recognizer_promises.specs.Answers.{passedNumbers}
+use Rattle.recognizer_promises.specs.Properties.{Judges}
 use Rattle.kept_input.specs.declared.Progress.{Progress}
 use Rattle.kept_input.specs.declared.KeptInput.{KeptInput}
 use Rattle.kept_input.specs.declared.Moved.{Moved}

@@ -9,7 +9,7 @@ use Rattle.answer.specs.declared.Error.{Error}
 use Rattle.answer.specs.declared.Error.the-variants.{UnknownCheckpoint, CheckpointNotSet, InputFull}
 use Rattle.grammar.specs.Limits.{maxTokens}
 use Rattle.event.specs.Events.{inputOf}
-use Rattle.promises.specs.Properties.{Judges}
+use Rattle.recognizer_promises.specs.Properties.{Judges}
 use Rattle.kept_input.specs.declared.KeptInput.{KeptInput}
 use Rattle.kept_input.specs.declared.Changed.{Changed}
 use Rattle.kept_input.specs.Histories.{checkpointCount, Kept, empty, Step, Add, Mark, Return, stepFault, after, ran}

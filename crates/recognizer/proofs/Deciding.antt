@@ -41,15 +41,15 @@ use Rattle.columns.specs.Columns.{columnCount}
 use Rattle.recognizer.specs.Arrays.{held, rowAt}
 use Rattle.recognizer.specs.Descent.{MemoSound, CallGiven, CallDone, CallRequires, CallEnsures}
 use Rattle.memo_table.specs.Tally.{tallyOf, recordedCalls}
-use Rattle.promises.specs.Answers.{callsBy, verdictBy}
-use Rattle.promises.specs.Judging.{DescendGiven, Descended}
+use Rattle.recognizer_promises.specs.Answers.{callsBy, verdictBy}
+use Rattle.recognizer_promises.specs.Judging.{DescendGiven, Descended}
 use Rattle.recognizer.specs.Preparing.{TokensGiven, TokensHold, ChoicesGiven, Filled}
 use Rattle.event.specs.Events.{inputOf}
 use Rattle.event.proofs.Inputs.{input-length}
 use Rattle.recognizer.proofs.Tokens.{column-few}
 use Rattle.recognizer.proofs.TableChoices.{choices-given, choices-hold}
 use Rattle.recognizer.proofs.Running.{level}
-use Rattle.promises.proofs.MemoWords.{words-recorded}
+use Rattle.recognizer_promises.proofs.MemoWords.{words-recorded}
 use Rattle.memo_table.proofs.Tallying.{tally-recorded}
 
 -- a memo table in which no call is recorded is sound

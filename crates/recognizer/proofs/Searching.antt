@@ -32,13 +32,13 @@ use Rattle.inputs.proofs.Numbers.{at-long, at-over}
 use Rattle.inputs.proofs.Counting.{count-exact}
 use Rattle.inputs.proofs.Searching.{Searched, searched-none, searched-more, searched-less, searched-all}
 use Rattle.inputs.specs.declared.Candidate.{Candidate}
-use Rattle.promises.specs.Memory.{memoWords}
-use Rattle.promises.specs.Answers.{callsOf, verdictBy, verdictOf}
-use Rattle.promises.specs.Judging.{PassedGiven, JudgedPassed}
-use Rattle.promises.specs.Costliest.{callsOn, costliestInput}
-use Rattle.promises.specs.Search.{SearchGiven, BestJudged}
+use Rattle.recognizer_promises.specs.Memory.{memoWords}
+use Rattle.recognizer_promises.specs.Answers.{callsOf, verdictBy, verdictOf}
+use Rattle.recognizer_promises.specs.Judging.{PassedGiven, JudgedPassed}
+use Rattle.recognizer_promises.specs.Costliest.{callsOn, costliestInput}
+use Rattle.recognizer_promises.specs.Search.{SearchGiven, BestJudged}
 use Rattle.recognizer.specs.Search.{NumberJudged, Behind, Tried, Found}
-use Rattle.promises.proofs.Judged.{memo-count}
+use Rattle.recognizer_promises.proofs.Judged.{memo-count}
 
 -- the calls that a verdict tells
 verdict-count : (G : Grammar) (w : List ℕ) → numbers (verdictOf G w) .count ≡ callsOn G w

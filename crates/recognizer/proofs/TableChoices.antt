@@ -30,7 +30,7 @@ use Rattle.recognizer.specs.Arrays.{choiceColumns, firstAt}
 use Rattle.recognizer.specs.Descent.{firstConjunct}
 use Rattle.columns.specs.Columns.{columnAt}
 use Rattle.recognizer.specs.Preparing.{TokensHold, entryOf, firstWord, FirstGiven, ChoicesGiven, Filled}
-use Rattle.promises.specs.Judging.{Ready}
+use Rattle.recognizer_promises.specs.Judging.{Ready}
 use Rattle.columns.proofs.Columns.{column-right}
 
 module _ {k : Lookahead} {words : List ℕ} {z : Sizes} {entries input : List ℕ} (g : Ready k words z entries input) where

@@ -1,6 +1,6 @@
 // Judging an input by a grammar that has passed.
 ghost use Rattle.event.specs.Events.{inputOf};
-ghost use Rattle.promises.specs.Judging.{PassedGiven, DescendGiven, Descended, JudgedPassed};
+ghost use Rattle.recognizer_promises.specs.Judging.{PassedGiven, DescendGiven, Descended, JudgedPassed};
 use super::descent::call;
 use super::preparing::choices_of;
 use super::preparing::tokens_of;

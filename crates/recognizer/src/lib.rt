@@ -1,6 +1,6 @@
 // Recognizing an input by memoized recursive descent, in memory that the caller lends; here with one token of lookahead.
 ghost use Rattle.event.specs.Events.{inputOf};
-ghost use Rattle.promises.specs.Properties.{Checks, Judges};
+ghost use Rattle.recognizer_promises.specs.Properties.{Checks, Judges};
 use answer::Answer;
 use answer::Error;
 use families::Finding;

@@ -1,6 +1,6 @@
 // The costliest input of a length: the first in letter order of those on which the descent makes the most calls.
-ghost use Rattle.promises.specs.Costliest.{JudgesCostliest};
-ghost use Rattle.promises.specs.Search.{SearchGiven, BestJudged};
+ghost use Rattle.recognizer_promises.specs.Costliest.{JudgesCostliest};
+ghost use Rattle.recognizer_promises.specs.Search.{SearchGiven, BestJudged};
 ghost use Rattle.recognizer.specs.Search.{NumberJudged, Tried, Found};
 use super::judging::judge_passed;
 use super::lending::lend;

@@ -1,7 +1,7 @@
 // Checking and judging with two tokens of lookahead, for grammars of few terminals, with a lent table of 64-bit words.
 ghost use Rattle.event.specs.Events.{inputOf};
 ghost use Rattle.lookahead.specs.declared.Lookahead.the-variants.{Two};
-ghost use Rattle.promises.specs.Properties.{ChecksBy, JudgesBy};
+ghost use Rattle.recognizer_promises.specs.Properties.{ChecksBy, JudgesBy};
 use super::judging::judge_passed;
 use super::lending::lend_wide;
 use answer::Answer;

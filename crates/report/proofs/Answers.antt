@@ -12,12 +12,12 @@ use Rattle.event.proofs.Inputs.{input-length}
 use Rattle.grammar.specs.Limits.{maxTokens, maxMemoEntries, maxTableWords}
 use Rattle.grammar.specs.Encoding.{grammarOf}
 use Rattle.grammar.specs.Reading.{reading}
-use Rattle.promises.specs.Properties.{Checks, Judges}
+use Rattle.recognizer_promises.specs.Properties.{Checks, Judges}
 use Rattle.answer.specs.Faults.{refusedOr}
-use Rattle.promises.specs.Answers.{judgeFault, verdictOf}
-use Rattle.promises.specs.Memory.{lentBack, memoWords}
-use Rattle.promises.proofs.JudgeFaults.{judged-readable}
-use Rattle.promises.proofs.Checking.{passed-fault, passed-read}
+use Rattle.recognizer_promises.specs.Answers.{judgeFault, verdictOf}
+use Rattle.recognizer_promises.specs.Memory.{lentBack, memoWords}
+use Rattle.recognizer_promises.proofs.JudgeFaults.{judged-readable}
+use Rattle.recognizer_promises.proofs.Checking.{passed-fault, passed-read}
 use Rattle.text.specs.Writing.{Put}
 use Rattle.sheet_text.specs.Sheet.{checkText}
 use Rattle.judgement_text.specs.Judgement.{judgementText}

@@ -18,8 +18,8 @@ use Rattle.families.proofs.Lists.{listed-long, listed-at}
 use Rattle.families.proofs.Members.{members}
 use Rattle.columns.specs.Columns.{columns}
 use Rattle.table.specs.Layout.{setWord, rowWord, tableWords}
-use Rattle.promises.specs.Properties.{PassedGrammar}
-use Rattle.promises.proofs.Checking.{passed-encodes, fault-passed, check-fault-long, least}
+use Rattle.recognizer_promises.specs.Properties.{PassedGrammar}
+use Rattle.recognizer_promises.proofs.Checking.{passed-encodes, fault-passed, check-fault-long, least}
 use Rattle.memo_table.proofs.Entries.{getD-any}
 use Rattle.text.specs.Words.{wordsOf}
 use Rattle.sheet_text.specs.Room.{sheetRoom}

@@ -20,8 +20,8 @@ use Rattle.text.specs.Refusal.{refusalText}
 use Rattle.lookahead.specs.declared.Lookahead.the-variants.{One}
 use Rattle.table.specs.Analysis.{fault}
 use Rattle.judgement_text.specs.Judgement.{judgementText}
-use Rattle.promises.specs.Answers.{judgeFault}
-use Rattle.promises.proofs.JudgeFaults.{judged-rows}
+use Rattle.recognizer_promises.specs.Answers.{judgeFault}
+use Rattle.recognizer_promises.proofs.JudgeFaults.{judged-rows}
 use Rattle.report.specs.Report.{sheetOf, judgedText, judgementOf, gapsOf, enoughRead, Enough}
 
 -- a function that does not tell lists longer than a limit apart is the same of a list cut past the limit

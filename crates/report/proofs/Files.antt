@@ -22,9 +22,9 @@ use Rattle.text.proofs.Lengths.{refusal-most}
 use Rattle.text.proofs.Writing.{put-length, put-whole}
 use Rattle.sheet_text.specs.Room.{sheetRoom}
 use Rattle.judgement_text.specs.Room.{judgementRoom}
-use Rattle.gap_lines.specs.Gaps.{GapsPut}
-use Rattle.gap_lines.proofs.Lengths.{gaps-most}
-use Rattle.gap_lines.proofs.Overlaps.{lines-tell}
+use Rattle.gaps_text_promises.specs.Gaps.{GapsPut}
+use Rattle.gaps_text_promises.proofs.Lengths.{gaps-most}
+use Rattle.gaps_text_promises.proofs.Overlaps.{lines-tell}
 use Rattle.report.specs.Report.{Printed, checkedText, sheetOf, judgedText, judgementOf, gapsOf, GapsPrinted}
 use Rattle.report.proofs.Lengths.{checked-short, judged-short}
 

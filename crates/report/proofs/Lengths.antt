@@ -28,10 +28,10 @@ use Rattle.lookahead.specs.declared.Lookahead.the-variants.{One}
 use Rattle.semantics.proofs.Theorems.{theorems}
 use Rattle.table.specs.Layout.{tableWords}
 use Rattle.answer.specs.Faults.{refusedOr}
-use Rattle.promises.specs.Answers.{checkFault, judgeFault, callsOf, verdictBy, verdictOf}
-use Rattle.promises.specs.Memory.{lentBack, memoWordBy, memoWord, memoWordsBy, memoWords}
-use Rattle.promises.proofs.Checking.{passed-fault, passed-encodes, passed-free}
-use Rattle.promises.proofs.JudgeFaults.{judged-readable}
+use Rattle.recognizer_promises.specs.Answers.{checkFault, judgeFault, callsOf, verdictBy, verdictOf}
+use Rattle.recognizer_promises.specs.Memory.{lentBack, memoWordBy, memoWord, memoWordsBy, memoWords}
+use Rattle.recognizer_promises.proofs.Checking.{passed-fault, passed-encodes, passed-free}
+use Rattle.recognizer_promises.proofs.JudgeFaults.{judged-readable}
 use Rattle.text.proofs.Lengths.{refusal-most}
 use Rattle.sheet_text.specs.Sheet.{sheetText, checkText}
 use Rattle.sheet_text.proofs.Lengths.{sheet-most}

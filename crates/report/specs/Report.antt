@@ -20,9 +20,9 @@ use Rattle.semantics.specs.FirstFollow.{First, Follow}
 use Rattle.families.specs.Sets.{firstNumber, followNumber, Members}
 use Rattle.table.specs.Layout.{tableWords}
 use Rattle.answer.specs.Faults.{refusedOr}
-use Rattle.promises.specs.Answers.{checkFault, judgeFault, verdictOf}
-use Rattle.promises.specs.Memory.{lentBack, memoWords}
-use Rattle.promises.specs.Properties.{PassedGrammar}
+use Rattle.recognizer_promises.specs.Answers.{checkFault, judgeFault, verdictOf}
+use Rattle.recognizer_promises.specs.Memory.{lentBack, memoWords}
+use Rattle.recognizer_promises.specs.Properties.{PassedGrammar}
 use Rattle.report.specs.declared.Rooms.{Rooms}
 use Rattle.report.specs.declared.Reads.{Reads}
 use Rattle.text.specs.Words.{bytesOfWord, wordsOf, areWords}
@@ -30,10 +30,10 @@ use Rattle.text.specs.Writing.{Put}
 use Rattle.text.specs.Refusal.{refusalText}
 use Rattle.sheet_text.specs.Room.{sheetRoom}
 use Rattle.judgement_text.specs.Room.{judgementRoom}
-use Rattle.gap_lines.specs.Room.{gapsRoom}
+use Rattle.gaps_text_promises.specs.Room.{gapsRoom}
 use Rattle.sheet_text.specs.Sheet.{wordAt, checkText}
 use Rattle.judgement_text.specs.Judgement.{judgementText}
-use Rattle.gap_lines.specs.Gaps.{gapsText, LinesTell}
+use Rattle.gaps_text_promises.specs.Gaps.{gapsText, LinesTell}
 
 -- a text put from the buffer's front on, of which so many bytes stand there: all of them where the buffer has the room
 pub record Printed (room : ℕ) (text before after : List ℕ) (n : ℕ) : Type 0 where

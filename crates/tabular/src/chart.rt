@@ -5,7 +5,7 @@ ghost use lib.Bits.{bitOr};
 ghost use Rattle.booleans.specs.Choice.{choose};
 ghost use Rattle.grammar.specs.Limits.{maxNonterminals};
 ghost use Rattle.lookahead.specs.Elements.{weight};
-ghost use Rattle.tabulation.specs.Chart.{wordAt, WordGiven, BeforeGiven, Before, AddGiven, Added};
+ghost use Rattle.tabular_promises.specs.Chart.{wordAt, WordGiven, BeforeGiven, Before, AddGiven, Added};
 use super::places::contains;
 use super::places::put;
 use grammar::limits::NONTERMINALS;

@@ -1,9 +1,9 @@
 // The chart filled from short spans to long ones, and at each span in the order of rank.
-ghost use Rattle.tabulation.specs.Places.{Standing, InputGiven};
+ghost use Rattle.tabular_promises.specs.Places.{Standing, InputGiven};
 ghost use Prim.Native.Nat.{_+_};
 ghost use Rattle.event.specs.Events.{inputOf};
 ghost use Rattle.grammar.specs.Limits.{maxTabularTokens};
-ghost use Rattle.tabulation.specs.Filling.{RanksGiven, Ranked, DerivedGiven, Derived, turn, Fills, SettleGiven, LengthGiven, FillGiven, Filled};
+ghost use Rattle.tabular_promises.specs.Filling.{RanksGiven, Ranked, DerivedGiven, Derived, turn, Fills, SettleGiven, LengthGiven, FillGiven, Filled};
 use super::bodies::STANDS;
 use super::bodies::keeps;
 use super::chart::CHART;

@@ -2,9 +2,9 @@
 // nor memo table, only a grammar without left recursion, and takes shorter inputs.
 ghost use mathlib.Core.Path.{_≡_};
 ghost use Rattle.event.specs.Events.{inputOf};
-ghost use Rattle.tabulation.specs.Answers.{told};
-ghost use Rattle.tabulation.specs.Judging.{TabulateGiven, Tabulated, PassedGiven};
-ghost use Rattle.tabulation.specs.Properties.{TabularJudges};
+ghost use Rattle.tabular_promises.specs.Answers.{told};
+ghost use Rattle.tabular_promises.specs.Judging.{TabulateGiven, Tabulated, PassedGiven};
+ghost use Rattle.tabular_promises.specs.Properties.{TabularJudges};
 use answer::Answer;
 use answer::Calls;
 use answer::Error;

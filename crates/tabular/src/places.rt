@@ -3,7 +3,7 @@ ghost use mathlib.Core.Path.{_≡_};
 ghost use Prim.Native.Nat.{_<_};
 ghost use Rattle.grammar.specs.Limits.{maxTabularPlaces};
 ghost use Rattle.lookahead.specs.Elements.{has};
-ghost use Rattle.tabulation.specs.Places.{Put};
+ghost use Rattle.tabular_promises.specs.Places.{Put};
 
 pub(crate) fn contains(set: u64, place: usize) -> bool
     requires { ⌜ place < maxTabularPlaces ⌝ }

@@ -1,6 +1,6 @@
 // The words of the spans in lent memory: by start, then by end.
-ghost use Rattle.tabulation.specs.Chart.{wordAt};
-ghost use Rattle.tabulation.specs.Spans.{WriteGiven, Spans};
+ghost use Rattle.tabular_promises.specs.Chart.{wordAt};
+ghost use Rattle.tabular_promises.specs.Spans.{WriteGiven, Spans};
 use super::chart::CHART;
 use super::chart::word_at;
 

@@ -1,12 +1,12 @@
 // Judging a log and, where it is accepted, writing its parse tree.
 ghost use Rattle.event.specs.Events.{inputOf};
-ghost use Rattle.tree_words.specs.Properties.{Shows};
+ghost use Rattle.tree_writer_promises.specs.Properties.{Shows};
 use answer::Answer;
 use answer::Error;
 use grammar::limits::MEMO_ENTRIES;
 use grammar::limits::TABLE_WORDS;
 use recognizer::judge;
-use tree_words::Shown;
+use tree_writer_promises::Shown;
 
 mod labels;
 mod writing;

@@ -30,9 +30,9 @@ use Rattle.table.specs.Analysis.{clashFault, grammarFaults}
 use Rattle.table.specs.Conflicts.{firstClash}
 use Rattle.table.specs.Layout.{tableRoom}
 use Rattle.table.proofs.FirstClash.{clash-absent}
-use Rattle.promises.specs.Answers.{checkFaultBy, inputFaults, judgeFaultBy}
-use Rattle.promises.specs.Properties.{PassedBy}
-use Rattle.promises.proofs.Checking.{read-some, passed-read, passed-predictive}
+use Rattle.recognizer_promises.specs.Answers.{checkFaultBy, inputFaults, judgeFaultBy}
+use Rattle.recognizer_promises.specs.Properties.{PassedBy}
+use Rattle.recognizer_promises.proofs.Checking.{read-some, passed-read, passed-predictive}
 use Rattle.widening.specs.Widening.{NoConflict, NeverConflicts}
 use Rattle.widening.proofs.Enough.{enough}
 

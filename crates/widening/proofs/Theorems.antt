@@ -9,9 +9,9 @@ use Rattle.answer.proofs.Faults.{each-none, first-none}
 use Rattle.lookahead.specs.declared.Lookahead.the-variants.{One}
 use Rattle.table.specs.Analysis.{grammarFaults, fault}
 use Rattle.table.specs.Layout.{tableRoom}
-use Rattle.promises.specs.Answers.{tableTooShort, checkFaultBy}
-use Rattle.promises.proofs.Checking.{passed-fault}
-use Rattle.promises.proofs.JudgeFaults.{judged-readable}
+use Rattle.recognizer_promises.specs.Answers.{tableTooShort, checkFaultBy}
+use Rattle.recognizer_promises.proofs.Checking.{passed-fault}
+use Rattle.recognizer_promises.proofs.JudgeFaults.{judged-readable}
 use Rattle.widening.specs.Widening.{Theorems}
 use Rattle.widening.proofs.Narrowing.{narrows}
 use Rattle.widening.proofs.Enough.{enough}

@@ -12,7 +12,7 @@ use Rattle.lookahead.specs.declared.Lookahead.the-variants.{One, Two}
 use Rattle.semantics.specs.Families.{Claims, Overlap, OwnTerminals}
 use Rattle.semantics.specs.FirstFollow.{First, Follow}
 use Rattle.semantics.specs.Predictive.{Predictive}
-use Rattle.promises.specs.Answers.{checkFaultBy, judgeFaultBy}
+use Rattle.recognizer_promises.specs.Answers.{checkFaultBy, judgeFaultBy}
 
 -- what k tokens tell, cut to j tokens, is told by j: of the sets, of what a rule claims, and so of the entries that two rules claim
 pub record Narrows (G : Grammar) (j k : ℕ) : Type 0 where

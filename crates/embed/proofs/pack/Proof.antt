@@ -1,6 +1,6 @@
 -- By the kinds of answers: the fields fit, and their sum is the packed answer.
 use native.Mathlib.Omega.{arith}
-use Rattle.exports.proofs.Fitting.{refused-fields, refused-packed, passed-packed, rejected-fields, rejected-packed, accepted-fields, accepted-packed}
+use Rattle.embed_promises.proofs.Fitting.{refused-fields, refused-packed, passed-packed, rejected-fields, rejected-packed, accepted-fields, accepted-packed}
 use borrow.Author.Needs.{needs}
 use Rattle.embed.proofs.pack.Statement.{statement}
 use Rattle.embed.proofs.pack.Tie as tie

@@ -1,5 +1,5 @@
 -- The answer of the plain judge fits, and packed it is what is told.
-use Rattle.exports.proofs.Fitting.{tabular-fits, tabular-exported}
+use Rattle.embed_promises.proofs.Fitting.{tabular-fits, tabular-exported}
 use borrow.Author.Needs.{needs}
 use Rattle.embed.proofs.vinegarspit_judge_plain.Statement.{statement}
 use Rattle.embed.proofs.vinegarspit_judge_plain.Tie as tie

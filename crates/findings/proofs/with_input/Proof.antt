@@ -1,5 +1,5 @@
 -- A grammar that is refused stays so; of one that passed, the input's length and then its tokens are looked at.
-use Rattle.promises.proofs.JudgeFaults.{with-long, with-unknown, with-known}
+use Rattle.recognizer_promises.proofs.JudgeFaults.{with-long, with-unknown, with-known}
 use borrow.Author.Needs.{needs}
 use Rattle.findings.proofs.with_input.Statement.{statement}
 use Rattle.findings.proofs.with_input.Tie as tie

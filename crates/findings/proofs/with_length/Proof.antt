@@ -1,5 +1,5 @@
 -- A grammar that is refused stays so; of one that passed, the length and then the number of inputs are looked at.
-use Rattle.promises.proofs.CostliestFaults.{length-over, inputs-over, length-fits}
+use Rattle.recognizer_promises.proofs.CostliestFaults.{length-over, inputs-over, length-fits}
 use borrow.Author.Needs.{needs}
 use Rattle.findings.proofs.with_length.Statement.{statement}
 use Rattle.findings.proofs.with_length.Tie as tie

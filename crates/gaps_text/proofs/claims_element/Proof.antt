@@ -1,7 +1,7 @@
 -- By whether the rule is one of the nonterminal.
 use mathlib.Core.Path.{sym}
 use Rattle.claims.proofs.Claimants.{claimant-other}
-use Rattle.gap_lines.proofs.Lines.{claimant-head}
+use Rattle.gaps_text_promises.proofs.Lines.{claimant-head}
 use borrow.Author.Needs.{needs}
 use Rattle.gaps_text.proofs.claims_element.Statement.{statement}
 use Rattle.gaps_text.proofs.claims_element.Tie as tie

@@ -1,5 +1,5 @@
 -- A rule that claims the entry is put behind a space.
-use Rattle.gap_lines.proofs.Lines.{claimant-put, nobody-put}
+use Rattle.gaps_text_promises.proofs.Lines.{claimant-put, nobody-put}
 use borrow.Author.Needs.{needs}
 use Rattle.gaps_text.proofs.put_claimant.Statement.{statement}
 use Rattle.gaps_text.proofs.put_claimant.Tie as tie

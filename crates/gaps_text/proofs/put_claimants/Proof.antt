@@ -1,5 +1,5 @@
 -- A dash where no rule claims the entry.
-use Rattle.gap_lines.proofs.Lines.{dash-put, numbers-put}
+use Rattle.gaps_text_promises.proofs.Lines.{dash-put, numbers-put}
 use borrow.Author.Needs.{needs}
 use Rattle.gaps_text.proofs.put_claimants.Statement.{statement}
 use Rattle.gaps_text.proofs.put_claimants.Tie as tie

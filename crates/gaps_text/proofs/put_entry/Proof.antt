@@ -1,6 +1,6 @@
 -- The parts of the line are put one behind the other.
 use Rattle.text.proofs.Writing.{put-then}
-use Rattle.gap_lines.proofs.Lines.{line-put, column-line, no-line-put}
+use Rattle.gaps_text_promises.proofs.Lines.{line-put, column-line, no-line-put}
 use borrow.Author.Needs.{needs}
 use Rattle.gaps_text.proofs.put_entry.Statement.{statement}
 use Rattle.gaps_text.proofs.put_entry.Tie as tie

@@ -1,7 +1,7 @@
 -- By what is found: a refusal, or the lines.
 use Rattle.text.proofs.Writing.{put-then}
-use Rattle.gap_lines.specs.Steps.{linesText}
-use Rattle.gap_lines.proofs.Same.{sizes-few, gaps-put, refusal-put}
+use Rattle.gaps_text_promises.specs.Steps.{linesText}
+use Rattle.gaps_text_promises.proofs.Same.{sizes-few, gaps-put, refusal-put}
 use borrow.Author.Needs.{needs}
 use Rattle.gaps_text.proofs.put_gaps.Statement.{statement}
 use Rattle.gaps_text.proofs.put_gaps.Tie as tie

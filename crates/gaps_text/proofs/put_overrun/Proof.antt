@@ -1,6 +1,6 @@
 -- A nonterminal that overruns is put on a line of its own.
 use Rattle.text.proofs.Writing.{put-then}
-use Rattle.gap_lines.proofs.Lines.{overrun-put, no-overrun-put}
+use Rattle.gaps_text_promises.proofs.Lines.{overrun-put, no-overrun-put}
 use borrow.Author.Needs.{needs}
 use Rattle.gaps_text.proofs.put_overrun.Statement.{statement}
 use Rattle.gaps_text.proofs.put_overrun.Tie as tie

@@ -1,6 +1,6 @@
 -- What checking answers, by the table's length and by what is found of the grammar.
 use Rattle.lookahead.specs.declared.Lookahead.the-variants.{One}
-use Rattle.promises.proofs.Checking.{check-short, told-one, found, found-fault, lend-given, check-refused, check-passed}
+use Rattle.recognizer_promises.proofs.Checking.{check-short, told-one, found, found-fault, lend-given, check-refused, check-passed}
 use borrow.Author.Needs.{needs}
 use Rattle.recognizer.proofs.check.Statement.{statement}
 use Rattle.recognizer.proofs.check.Tie as tie

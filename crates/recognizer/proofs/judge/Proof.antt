@@ -1,9 +1,9 @@
 -- What judging answers, by the lengths of the memories and by what is found of the grammar and the input.
 use Rattle.event.specs.Events.{inputOf}
 use Rattle.lookahead.specs.declared.Lookahead.the-variants.{One}
-use Rattle.promises.proofs.Checking.{told-one, lend-given}
-use Rattle.promises.proofs.JudgeFaults.{table-short-by, memo-short-by}
-use Rattle.promises.proofs.Judged.{judge-refused, judge-found-refused, judge-found, passed-given, judge-done}
+use Rattle.recognizer_promises.proofs.Checking.{told-one, lend-given}
+use Rattle.recognizer_promises.proofs.JudgeFaults.{table-short-by, memo-short-by}
+use Rattle.recognizer_promises.proofs.Judged.{judge-refused, judge-found-refused, judge-found, passed-given, judge-done}
 use borrow.Author.Needs.{needs}
 use Rattle.recognizer.proofs.judge.Statement.{statement}
 use Rattle.recognizer.proofs.judge.Tie as tie

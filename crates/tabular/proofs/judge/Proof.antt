@@ -3,7 +3,7 @@ use native.Mathlib.Omega.{arith}
 use Rattle.event.specs.Events.{inputOf}
 use Rattle.lookahead.specs.declared.Lookahead.the-variants.{One}
 use Rattle.families.proofs.Findings.{families-told, families-refused}
-use Rattle.tabulation.proofs.Judged.{judge-short, judge-faulty, found-reaches}
+use Rattle.tabular_promises.proofs.Judged.{judge-short, judge-faulty, found-reaches}
 use Rattle.tabular.proofs.judge.Statement.{statement}
 use Rattle.tabular.proofs.judge.Tie as tie
 

@@ -1,6 +1,6 @@
 -- An input that is too long or has an unknown token is refused; for any other every span is tabulated.
 use native.Mathlib.Omega.{arith}
-use Rattle.tabulation.proofs.Judged.{judge-long, judge-unknown, tabulate-given, judge-done}
+use Rattle.tabular_promises.proofs.Judged.{judge-long, judge-unknown, tabulate-given, judge-done}
 use Rattle.tabular.proofs.judge_passed.Statement.{statement}
 use Rattle.tabular.proofs.judge_passed.Tie as tie
 

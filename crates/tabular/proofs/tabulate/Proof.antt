@@ -3,7 +3,7 @@ use mathlib.Core.Path.{sym}
 use native.Mathlib.Omega.{arith}
 use Rattle.event.proofs.Inputs.{input-length}
 use Rattle.grammar.proofs.WellRead.{well-read}
-use Rattle.tabulation.proofs.Tabulating.{tabulated}
+use Rattle.tabular_promises.proofs.Tabulating.{tabulated}
 use Rattle.tabular.proofs.tabulate.Statement.{statement}
 use Rattle.tabular.proofs.tabulate.Tie as tie
 

@@ -3,7 +3,7 @@ use mathlib.Core.Path.{_≡_, sym}
 use native.Mathlib.Omega.{arith}
 use borrow.Author.Needs.{needs}
 use Rattle.event.specs.Events.{inputOf}
-use Rattle.tree_words.proofs.Showing.{is-accepted, not-accepted, short-table, short-memo, short-tree, shows-none, show-given, shows-tree}
+use Rattle.tree_writer_promises.proofs.Showing.{is-accepted, not-accepted, short-table, short-memo, short-tree, shows-none, show-given, shows-tree}
 use Rattle.tree_writer.proofs.judge_tree.Statement.{statement}
 use Rattle.tree_writer.proofs.judge_tree.Tie as tie
 

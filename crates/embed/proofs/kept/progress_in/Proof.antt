@@ -1,7 +1,7 @@
 -- All nine numbers are read.
 use mathlib.Core.Path.{_≡_}
 use lib.ListN.{length}
-use Rattle.exports.proofs.Keeping.{state-read}
+use Rattle.embed_promises.proofs.Keeping.{state-read}
 use borrow.Author.Needs.{needs}
 use Rattle.embed.proofs.kept.progress_in.Statement.{statement}
 use Rattle.embed.proofs.kept.progress_in.Tie as tie

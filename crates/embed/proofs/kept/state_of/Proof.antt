@@ -4,7 +4,7 @@ use mathlib.Core.List.{List, _∷_}
 use Prim.Native.Nat.{ℕ}
 use lib.ListN.{length}
 use Rattle.kept_input.specs.Histories.{checkpointCount}
-use Rattle.exports.proofs.Keeping.{eight-listed}
+use Rattle.embed_promises.proofs.Keeping.{eight-listed}
 use borrow.Author.Needs.{needs}
 use Rattle.embed.proofs.kept.state_of.Statement.{statement}
 use Rattle.embed.proofs.kept.state_of.Tie as tie

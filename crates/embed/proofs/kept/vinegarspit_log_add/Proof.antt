@@ -1,6 +1,6 @@
 -- The answer fits, and events and state are written back.
 use mathlib.Core.Path.{refl}
-use Rattle.exports.proofs.Keeping.{step-fits, step-exported}
+use Rattle.embed_promises.proofs.Keeping.{step-fits, step-exported}
 use borrow.Author.Needs.{needs}
 use Rattle.embed.proofs.kept.vinegarspit_log_add.Statement.{statement}
 use Rattle.embed.proofs.kept.vinegarspit_log_add.Tie as tie

@@ -1,6 +1,6 @@
 -- The answer of the judge fits, and packed it is what is told.
-use Rattle.exports.proofs.Fitting.{judge-fits}
-use Rattle.exports.proofs.Keeping.{kept-exported}
+use Rattle.embed_promises.proofs.Fitting.{judge-fits}
+use Rattle.embed_promises.proofs.Keeping.{kept-exported}
 use borrow.Author.Needs.{needs}
 use Rattle.embed.proofs.kept.vinegarspit_log_judge.Statement.{statement}
 use Rattle.embed.proofs.kept.vinegarspit_log_judge.Tie as tie

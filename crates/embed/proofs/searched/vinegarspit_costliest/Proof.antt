@@ -1,6 +1,6 @@
 -- The answer of the search fits.
 use borrow.Author.Needs.{needs}
-use Rattle.exports.proofs.Fitting.{costliest-fits, costliest-exported}
+use Rattle.embed_promises.proofs.Fitting.{costliest-fits, costliest-exported}
 use Rattle.embed.proofs.searched.vinegarspit_costliest.Statement.{statement}
 use Rattle.embed.proofs.searched.vinegarspit_costliest.Tie as tie
 

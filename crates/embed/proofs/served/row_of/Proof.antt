@@ -5,8 +5,8 @@ use native.Mathlib.Omega.{arith}
 use borrow.Author.Needs.{needs}
 use lib.ListN.{length}
 use Rattle.client_records.specs.Usages.{clients}
-use Rattle.exports.specs.Records.{Written}
-use Rattle.exports.proofs.RecordRows.{nothing-written, one-written, all-written}
+use Rattle.embed_promises.specs.Records.{Written}
+use Rattle.embed_promises.proofs.RecordRows.{nothing-written, one-written, all-written}
 use Rattle.embed.proofs.served.row_of.Statement.{statement}
 use Rattle.embed.proofs.served.row_of.Tie as tie
 

@@ -1,5 +1,5 @@
 -- The row is read, the answer fits, and the row is written back.
-use Rattle.exports.proofs.Fitting.{served-fits, served-exported}
+use Rattle.embed_promises.proofs.Fitting.{served-fits, served-exported}
 use borrow.Author.Needs.{needs}
 use Rattle.embed.proofs.served.vinegarspit_judge_for.Statement.{statement}
 use Rattle.embed.proofs.served.vinegarspit_judge_for.Tie as tie

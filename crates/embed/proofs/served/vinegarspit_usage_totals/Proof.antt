@@ -1,6 +1,6 @@
 -- The row is read, and the sums are written.
 use mathlib.Core.Path.{refl}
-use Rattle.exports.proofs.Fitting.{totals-exported}
+use Rattle.embed_promises.proofs.Fitting.{totals-exported}
 use borrow.Author.Needs.{needs}
 use Rattle.embed.proofs.served.vinegarspit_usage_totals.Statement.{statement}
 use Rattle.embed.proofs.served.vinegarspit_usage_totals.Tie as tie

@@ -2,7 +2,7 @@
 use mathlib.Core.Path.{refl}
 use native.Mathlib.Omega.{arith}
 use borrow.Author.Needs.{needs}
-use Rattle.exports.proofs.Fitting.{tree-fits, tree-exported}
+use Rattle.embed_promises.proofs.Fitting.{tree-fits, tree-exported}
 use Rattle.embed.proofs.shown.vinegarspit_tree.Statement.{statement}
 use Rattle.embed.proofs.shown.vinegarspit_tree.Tie as tie
 

@@ -4,7 +4,7 @@ use Prim.Native.Nat.{_+_, _*_}
 use native.Mathlib.Omega.{arith}
 use lib.ListN.{length}
 use lib.Seq.{length-take-le}
-use Rattle.promises.proofs.Judged.{needed-few, needed-room, descend-given, judged-passed}
+use Rattle.recognizer_promises.proofs.Judged.{needed-few, needed-room, descend-given, judged-passed}
 use borrow.Author.Needs.{needs}
 use Rattle.recognizer.proofs.judging.judge_passed.Statement.{statement}
 use Rattle.recognizer.proofs.judging.judge_passed.Tie as tie

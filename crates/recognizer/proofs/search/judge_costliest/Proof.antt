@@ -1,7 +1,7 @@
 -- What is answered, by the lengths of the memories and by what is found of the grammar and the length.
 use mathlib.Core.Path.{sym}
-use Rattle.promises.proofs.Checking.{told-one, lend-given}
-use Rattle.promises.proofs.CostliestFaults.{table-refused, memo-refused, log-refused, found-refused, costliest-found, part-fits, part-length, search-given, costliest-done}
+use Rattle.recognizer_promises.proofs.Checking.{told-one, lend-given}
+use Rattle.recognizer_promises.proofs.CostliestFaults.{table-refused, memo-refused, log-refused, found-refused, costliest-found, part-fits, part-length, search-given, costliest-done}
 use borrow.Author.Needs.{needs}
 use Rattle.recognizer.proofs.search.judge_costliest.Statement.{statement}
 use Rattle.recognizer.proofs.search.judge_costliest.Tie as tie

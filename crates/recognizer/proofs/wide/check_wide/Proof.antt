@@ -1,6 +1,6 @@
 -- What checking with two tokens of lookahead answers, by the table's length and by what is found of the grammar.
 use Rattle.lookahead.specs.declared.Lookahead.the-variants.{Two}
-use Rattle.promises.proofs.Checking.{check-short, told-two, found, found-fault, lend-given, check-refused, check-passed}
+use Rattle.recognizer_promises.proofs.Checking.{check-short, told-two, found, found-fault, lend-given, check-refused, check-passed}
 use borrow.Author.Needs.{needs}
 use Rattle.recognizer.proofs.wide.check_wide.Statement.{statement}
 use Rattle.recognizer.proofs.wide.check_wide.Tie as tie

@@ -1,9 +1,9 @@
 -- What judging with two tokens of lookahead answers, by the lengths of the memories and by what is found of the grammar and the input.
 use Rattle.event.specs.Events.{inputOf}
 use Rattle.lookahead.specs.declared.Lookahead.the-variants.{Two}
-use Rattle.promises.proofs.Checking.{told-two, lend-given}
-use Rattle.promises.proofs.JudgeFaults.{table-short-by, memo-short-by}
-use Rattle.promises.proofs.Judged.{judge-refused, judge-found-refused, judge-found, passed-given, judge-done}
+use Rattle.recognizer_promises.proofs.Checking.{told-two, lend-given}
+use Rattle.recognizer_promises.proofs.JudgeFaults.{table-short-by, memo-short-by}
+use Rattle.recognizer_promises.proofs.Judged.{judge-refused, judge-found-refused, judge-found, passed-given, judge-done}
 use borrow.Author.Needs.{needs}
 use Rattle.recognizer.proofs.wide.judge_wide.Statement.{statement}
 use Rattle.recognizer.proofs.wide.judge_wide.Tie as tie

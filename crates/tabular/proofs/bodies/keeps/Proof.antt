@@ -1,6 +1,6 @@
 -- The loop keeps `Walk`: the words from `at` on have been gone through.
 use native.Mathlib.Omega.{arith}
-use Rattle.tabulation.proofs.Scans.{Walk, walk-start, walk-on, walked, word-known}
+use Rattle.tabular_promises.proofs.Scans.{Walk, walk-start, walk-on, walked, word-known}
 use Rattle.tabular.proofs.bodies.keeps.Statement.{statement}
 use Rattle.tabular.proofs.bodies.keeps.Tie as tie
 

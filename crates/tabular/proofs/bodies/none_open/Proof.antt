@@ -3,8 +3,8 @@ use mathlib.Core.Bool.{true}
 use mathlib.Core.Path.{ap}
 use Prim.Native.Nat.{ℕ}
 use native.Mathlib.Omega.{arith}
-use Rattle.tabulation.proofs.PlaceSets.{weight-64}
-use Rattle.tabulation.proofs.Scans.{scanOf}
+use Rattle.tabular_promises.proofs.PlaceSets.{weight-64}
+use Rattle.tabular_promises.proofs.Scans.{scanOf}
 use Rattle.tabular.proofs.bodies.none_open.Statement.{statement}
 use Rattle.tabular.proofs.bodies.none_open.Tie as tie
 

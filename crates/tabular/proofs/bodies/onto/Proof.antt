@@ -1,7 +1,7 @@
 -- By the kind of word.
 use native.Mathlib.Omega.{arith}
-use Rattle.tabulation.proofs.PlaceSets.{weight-64}
-use Rattle.tabulation.proofs.Scans.{by-symbol, by-positive, by-negative, by-rule, by-end, by-heading, by-invalid}
+use Rattle.tabular_promises.proofs.PlaceSets.{weight-64}
+use Rattle.tabular_promises.proofs.Scans.{by-symbol, by-positive, by-negative, by-rule, by-end, by-heading, by-invalid}
 use Rattle.tabular.proofs.bodies.onto.Statement.{statement}
 use Rattle.tabular.proofs.bodies.onto.Tie as tie
 

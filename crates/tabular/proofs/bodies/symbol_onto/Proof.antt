@@ -1,7 +1,7 @@
 -- By the kind of symbol.
 use mathlib.Core.Path.{refl}
 use native.Mathlib.Omega.{arith}
-use Rattle.tabulation.proofs.Scans.{by-terminal, by-nonterminal}
+use Rattle.tabular_promises.proofs.Scans.{by-terminal, by-nonterminal}
 use Rattle.tabular.proofs.bodies.symbol_onto.Statement.{statement}
 use Rattle.tabular.proofs.bodies.symbol_onto.Tie as tie
 

@@ -2,9 +2,9 @@
 use mathlib.Core.Path.{_≡_, refl}
 use Prim.Native.Nat.{_≤_, _-_}
 use native.Mathlib.Omega.{arith}
-use Rattle.tabulation.specs.Chart.{Added}
-use Rattle.tabulation.proofs.PlaceSets.{digit}
-use Rattle.tabulation.proofs.Charts.{added-start, added-more}
+use Rattle.tabular_promises.specs.Chart.{Added}
+use Rattle.tabular_promises.proofs.PlaceSets.{digit}
+use Rattle.tabular_promises.proofs.Charts.{added-start, added-more}
 use Rattle.tabular.proofs.chart.add.Statement.{statement}
 use Rattle.tabular.proofs.chart.add.Tie as tie
 

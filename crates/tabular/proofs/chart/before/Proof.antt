@@ -2,7 +2,7 @@
 use Prim.Native.Nat.{suc, _-_}
 use native.Mathlib.Omega.{arith}
 use mathlib.Core.Path.{refl}
-use Rattle.tabulation.proofs.Reaching.{Reached, reached-start, reached-more, reached-end}
+use Rattle.tabular_promises.proofs.Reaching.{Reached, reached-start, reached-more, reached-end}
 use Rattle.tabular.proofs.chart.before.Statement.{statement}
 use Rattle.tabular.proofs.chart.before.Tie as tie
 

@@ -1,6 +1,6 @@
 -- By the test.
 use native.Mathlib.Omega.{arith}
-use Rattle.tabulation.proofs.PlaceSets.{weight-32}
+use Rattle.tabular_promises.proofs.PlaceSets.{weight-32}
 use Rattle.tabular.proofs.chart.found_by.Statement.{statement}
 use Rattle.tabular.proofs.chart.found_by.Tie as tie
 

@@ -2,7 +2,7 @@
 use Prim.Native.Nat.{_-_}
 use native.Mathlib.Omega.{arith}
 use Rattle.grammar.proofs.WellRead.{well-read}
-use Rattle.tabulation.proofs.RuleRanks.{from-low, head-low, Asking, asking-start, asking-past, asking-more, asked}
+use Rattle.tabular_promises.proofs.RuleRanks.{from-low, head-low, Asking, asking-start, asking-past, asking-more, asked}
 use Rattle.tabular.proofs.filling.derived.Statement.{statement}
 use Rattle.tabular.proofs.filling.derived.Tie as tie
 

@@ -5,9 +5,9 @@ use lib.ListN.{length as List·length, length-replicate}
 use Rattle.event.specs.Events.{inputOf}
 use Rattle.event.proofs.Inputs.{input-length}
 use Rattle.grammar.specs.Encoding.{grammarOf}
-use Rattle.tabulation.specs.Chart.{Long}
-use Rattle.tabulation.specs.Filling.{turn, FilledTo}
-use Rattle.tabulation.proofs.Turns.{filled-start, filled}
+use Rattle.tabular_promises.specs.Chart.{Long}
+use Rattle.tabular_promises.specs.Filling.{turn, FilledTo}
+use Rattle.tabular_promises.proofs.Turns.{filled-start, filled}
 use Rattle.tabular.proofs.filling.fill.Statement.{statement}
 use Rattle.tabular.proofs.filling.fill.Tie as tie
 

@@ -3,7 +3,7 @@ use mathlib.Core.Path.{refl}
 use Prim.Native.Nat.{_-_}
 use native.Mathlib.Omega.{arith}
 use Rattle.grammar.proofs.WellRead.{well-read}
-use Rattle.tabulation.proofs.RuleRanks.{from-low, head-low, RankedTo, ranked-start, ranked-more, ranked-end}
+use Rattle.tabular_promises.proofs.RuleRanks.{from-low, head-low, RankedTo, ranked-start, ranked-more, ranked-end}
 use Rattle.tabular.proofs.filling.ranks_of.Statement.{statement}
 use Rattle.tabular.proofs.filling.ranks_of.Tie as tie
 

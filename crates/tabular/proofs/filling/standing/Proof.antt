@@ -5,7 +5,7 @@ use native.Mathlib.Omega.{arith}
 use lib.ListN.{length}
 use Rattle.event.specs.Events.{inputOf}
 use Rattle.event.proofs.Inputs.{input-length}
-use Rattle.tabulation.proofs.PlaceSets.{StandingTo, standing-start, terminal-low, standing-more, standing-end}
+use Rattle.tabular_promises.proofs.PlaceSets.{StandingTo, standing-start, terminal-low, standing-more, standing-end}
 use Rattle.tabular.proofs.filling.standing.Statement.{statement}
 use Rattle.tabular.proofs.filling.standing.Tie as tie
 

@@ -3,7 +3,7 @@ use native.Mathlib.Omega.{arith}
 use mathlib.Core.Path.{ap}
 use Prim.Native.Nat.{ℕ}
 use lib.Bits.{bitOr}
-use Rattle.tabulation.proofs.PlaceSets.{weight-64, put-in, put-none}
+use Rattle.tabular_promises.proofs.PlaceSets.{weight-64, put-in, put-none}
 use Rattle.tabular.proofs.places.put.Statement.{statement}
 use Rattle.tabular.proofs.places.put.Tie as tie
 

@@ -1,7 +1,7 @@
 -- The column of an event's terminal, or of the end.
 use mathlib.Core.Path.{_∙_}
 use borrow.Author.Needs.{needs}
-use Rattle.tree_words.proofs.Labelling.{event-column, behind-column}
+use Rattle.tree_writer_promises.proofs.Labelling.{event-column, behind-column}
 use Rattle.tree_writer.proofs.labels.column_at.Statement.{statement}
 use Rattle.tree_writer.proofs.labels.column_at.Tie as tie
 

@@ -4,7 +4,7 @@ use native.Mathlib.Omega.{arith}
 use lib.ListN.{length}
 use Rattle.grammar.specs.Limits.{maxPlaces}
 use borrow.Author.Needs.{needs}
-use Rattle.tree_words.proofs.Labelling.{named, row-low, column-few, entry-low, label-none, label-some}
+use Rattle.tree_writer_promises.proofs.Labelling.{named, row-low, column-few, entry-low, label-none, label-some}
 use Rattle.tree_writer.proofs.labels.label.Statement.{statement}
 use Rattle.tree_writer.proofs.labels.label.Tie as tie
 

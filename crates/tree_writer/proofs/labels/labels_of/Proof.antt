@@ -3,8 +3,8 @@ use Prim.Native.Nat.{ℕ, _*_, _-_, _≤_}
 use native.Mathlib.Omega.{arith}
 use Rattle.grammar.specs.Limits.{maxPlaces}
 use Rattle.event.specs.Events.{inputOf}
-use Rattle.tree_words.specs.Labels.{LabelledBelow}
-use Rattle.tree_words.proofs.Labelling.{labels-start, labels-more, labels-all}
+use Rattle.tree_writer_promises.specs.Labels.{LabelledBelow}
+use Rattle.tree_writer_promises.proofs.Labelling.{labels-start, labels-more, labels-all}
 use Rattle.tree_writer.proofs.labels.labels_of.Statement.{statement}
 use Rattle.tree_writer.proofs.labels.labels_of.Tie as tie
 

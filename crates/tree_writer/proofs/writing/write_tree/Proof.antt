@@ -1,7 +1,7 @@
 -- The words have been read, so the tree is written from its root.
 use mathlib.Core.Path.{sym, _∙_}
 use borrow.Author.Needs.{needs}
-use Rattle.tree_words.proofs.Root.{not-read, labels-given, tree-start, tree-done}
+use Rattle.tree_writer_promises.proofs.Root.{not-read, labels-given, tree-start, tree-done}
 use Rattle.tree_writer.proofs.writing.write_tree.Statement.{statement}
 use Rattle.tree_writer.proofs.writing.write_tree.Tie as tie
 

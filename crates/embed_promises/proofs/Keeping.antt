@@ -1,0 +1,114 @@
+-- The answers of a step fit, and what is written back is what the library hands back.
+use mathlib.Core.Path.{_≡_, refl, sym, ap, _∙_, subst}
+use mathlib.Core.List.{List, [], _∷_}
+use mathlib.Core.Option.{Option, none, some}
+use Prim.Native.Nat.{ℕ}
+use native.Mathlib.Omega.{arith}
+use lib.Dec.{leb}
+use lib.ListN.{length, getD, replicate, length-replicate}
+use Rattle.answer.specs.declared.Answer.{Answer}
+use Rattle.answer.specs.declared.Answer.the-variants.{Refused, Passed}
+use Rattle.answer.specs.declared.Error.{Error}
+use Rattle.answer.specs.declared.Error.the-variants.{UnknownCheckpoint, CheckpointNotSet, InputFull}
+use Rattle.answer.specs.Numbers.{numbers}
+use Rattle.answer.specs.Faults.{refusedOr}
+use Rattle.answer.proofs.Apart.{refused-ne-passed}
+use Rattle.answer.proofs.Faults.{first-each}
+use Rattle.grammar.specs.Limits.{maxTokens, maxWords}
+use Rattle.kept_input.specs.declared.Progress.{Progress}
+use Rattle.kept_input.specs.declared.KeptInput.{KeptInput}
+use Rattle.kept_input.specs.declared.Moved.{Moved}
+use Rattle.kept_input.specs.declared.Changed.{Changed}
+use Rattle.kept_input.specs.Histories.{checkpointCount, Kept, Step, Add, Mark, Return, unknown, notSet, stepFault, unlessRefused}
+use Rattle.kept_input.specs.Stored.{keptInput, held, valuesOf}
+use Rattle.kept_input.specs.Properties.{Steps, Moves, JudgesKept}
+use Rattle.kept_input.proofs.Lists.{elements}
+use Rattle.embed_promises.specs.Packing.{NumbersFit, packed}
+use Rattle.embed_promises.specs.Kept.{stateOf, StateRead, StepExported, MoveExported, KeptExported}
+use Rattle.embed_promises.proofs.Places.{LowFault, none-low, some-low, when-low}
+use Rattle.embed_promises.proofs.Fitting.{passed-fits, refused-fits, unpacks, judge-fits}
+
+-- a refusal of a step tells no place
+unset-low : (o : Option ℕ) → LowFault maxWords (notSet o)
+unset-low none = some-low maxWords CheckpointNotSet (omega arith)
+unset-low (some n) = none-low maxWords
+
+unknown-low : (m : ℕ) → LowFault maxWords (unknown m)
+unknown-low m = when-low maxWords (leb checkpointCount m) UnknownCheckpoint (omega arith)
+
+step-low : (t : Step) (s : Kept) → LowFault maxWords (stepFault t s)
+unfolding stepFault
+step-low (Add event) s = first-each _ (_ ∷ []) (when-low maxWords (leb maxTokens (length (s .events))) InputFull (omega arith), λ _. tt)
+step-low (Mark m) s = first-each _ (_ ∷ []) (unknown-low m, λ _. tt)
+step-low (Return m) s = first-each _ (_ ∷ _ ∷ []) (unknown-low m, λ _. (unset-low (s .checkpoints m), λ _. tt))
+
+pub step-fits : {t : Step} {k : KeptInput} {c : Changed} → Steps t k c → NumbersFit (numbers (c .answer))
+step-fits {t} {k} s = rw (s .answer) (go (stepFault t (held k)) (step-low t (held k)))
+  where
+    go : (f : Option Error) → LowFault maxWords f → NumbersFit (numbers (refusedOr f Passed))
+    go none l = passed-fits
+    go (some e) l = refused-fits e (l e refl)
+
+pub move-fits : {t : Step} {p : Progress} {r : Moved} → Moves t p r → NumbersFit (numbers (r .answer))
+move-fits m = step-fits (m .steps (replicate maxTokens 0) (length-replicate {A = ℕ} maxTokens 0))
+
+-- the nine numbers of the state
+listed : (l : List ℕ) (n : ℕ) → length l ≡ n → valuesOf (λ m. getD l m 0) n ≡ l
+listed l n e = rw (← e) (elements l)
+
+pub eight-listed : (l : List ℕ) → length l ≡ checkpointCount
+    → getD l 0 0 ∷ getD l 1 0 ∷ getD l 2 0 ∷ getD l 3 0 ∷ getD l 4 0 ∷ getD l 5 0 ∷ getD l 6 0 ∷ getD l 7 0 ∷ [] ≡ l
+unfolding valuesOf
+eight-listed l e = listed l checkpointCount e
+
+pub state-read : (l : List ℕ) → length l ≡ 9
+    → StateRead l (record {
+      length = getD l 0 0;
+      checkpoints = getD l 1 0 ∷ getD l 2 0 ∷ getD l 3 0 ∷ getD l 4 0 ∷ getD l 5 0 ∷ getD l 6 0 ∷ getD l 7 0 ∷ getD l 8 0 ∷ [];
+    })
+state-read [] e = absurd (omega arith)
+state-read (x ∷ l) e =
+    let all = eight-listed l (omega arith) in
+    record { read = ap (λ (c : List ℕ). record { length = x; checkpoints = c }) all; whole = ap (λ (c : List ℕ). x ∷ c) all }
+
+-- a refused step hands back what it was given
+refused-kept : {t : Step} {k : KeptInput} {c : Changed} → Steps t k c → (e : Error) → c .answer ≡ Refused e → c .kept ≡ k
+refused-kept {t} {k} {c} s e q = go (stepFault t (held k)) _ (s .answer) (s .kept)
+  where
+    go : (f : Option Error) (next : KeptInput) → c .answer ≡ refusedOr f Passed → c .kept ≡ unlessRefused f next k → c .kept ≡ k
+    go none next a h = absurd (refused-ne-passed (sym q ∙ a))
+    go (some x) next a h = h
+
+pub step-exported : {t : Step} {events state events′ state′ : List ℕ} {p : Progress} {c : Changed} {r : ℕ} → StateRead state p → Steps t (keptInput events p) c
+    → r ≡ packed (numbers (c .answer))
+    → events′ ≡ c .kept .events
+    → state′ ≡ stateOf (c .kept .progress)
+    → StepExported t events state r events′ state′
+step-exported {t = t} {events = events} {c = c} g s e written left = record {
+  changed = c;
+  steps = subst (λ (q : Progress). Steps t (keptInput events q) c) (g .read) s;
+  packs = e;
+  unpacks = unpacks (numbers (c .answer)) (step-fits s) e;
+  events-written = written;
+  state-written = left;
+  unchanged = λ x q.
+      let same = refused-kept s x q in
+      (written ∙ ap (λ (k : KeptInput). k .events) same, left ∙ ap (λ (k : KeptInput). stateOf (k .progress)) same ∙ g .whole);
+}
+
+pub move-exported : {t : Step} {state state′ : List ℕ} {p : Progress} {m : Moved} {r : ℕ} → StateRead state p → Moves t p m
+    → r ≡ packed (numbers (m .answer))
+    → state′ ≡ stateOf (m .progress)
+    → MoveExported t state r state′
+move-exported g m e left = record { of-any-events = λ events whole. step-exported g (m .steps events whole) e refl left }
+
+pub kept-exported : {words events state table memo table′ memo′ : List ℕ} {p : Progress} {a : Answer} {r : ℕ} → StateRead state p
+    → JudgesKept words (keptInput events p) table memo a table′ memo′
+    → r ≡ packed (numbers a)
+    → KeptExported words events state table memo r table′ memo′
+kept-exported {words} {events} {state} {table} {memo} {table′} {memo′} {p} {a} g j e = record {
+  answer = a;
+  judges = subst (λ (q : Progress). JudgesKept words (keptInput events q) table memo a table′ memo′) (g .read) j;
+  packs = e;
+  unpacks = unpacks (numbers a) (judge-fits (j .judges)) e;
+}

@@ -1,0 +1,51 @@
+-- What the exported calls on a kept input promise: what stands in the caller's memory is a value of it, and each call is the library's on that value.
+use mathlib.Core.Path.{_≡_}
+use mathlib.Core.List.{List, _∷_}
+use Prim.Native.Nat.{ℕ}
+use lib.ListN.{length, getD, drop}
+use Rattle.answer.specs.declared.Answer.{Answer}
+use Rattle.answer.specs.declared.Answer.the-variants.{Refused}
+use Rattle.answer.specs.declared.Error.{Error}
+use Rattle.answer.specs.Numbers.{numbers}
+use Rattle.grammar.specs.Limits.{maxTokens}
+use Rattle.kept_input.specs.declared.Progress.{Progress}
+use Rattle.kept_input.specs.declared.Changed.{Changed}
+use Rattle.kept_input.specs.Histories.{Step, Add}
+use Rattle.kept_input.specs.Stored.{keptInput}
+use Rattle.kept_input.specs.Properties.{Steps, JudgesKept}
+use Rattle.embed_promises.specs.Packing.{packed, Unpacks}
+
+-- the length, then the checkpoints
+abbrev pub stateOf : Progress → List ℕ
+stateOf p = p .length ∷ p .checkpoints
+
+abbrev pub progressIn : List ℕ → Progress
+progressIn l = record { length = getD l 0 0; checkpoints = drop 1 l }
+
+pub record StateRead (state : List ℕ) (p : Progress) : Type 0 where
+  pub read : p ≡ progressIn state
+  pub whole : stateOf p ≡ state
+
+-- a step on these events and this state
+pub record StepExported (t : Step) (events state : List ℕ) (r : ℕ) (events′ state′ : List ℕ) : Type 0 where
+  pub changed : Changed
+  pub steps : Steps t (keptInput events (progressIn state)) changed
+  pub packs : r ≡ packed (numbers (changed .answer))
+  pub unpacks : Unpacks r (numbers (changed .answer))
+  -- what it hands back is written, and a refusal changes nothing
+  pub events-written : events′ ≡ changed .kept .events
+  pub state-written : state′ ≡ stateOf (changed .kept .progress)
+  pub unchanged : (e : Error) → changed .answer ≡ Refused e → (events′ ≡ events) × (state′ ≡ state)
+
+abbrev pub AddExported : ℕ → List ℕ → List ℕ → ℕ → List ℕ → List ℕ → Type 0
+AddExported event = StepExported (Add event)
+
+-- a step that takes the state alone, whatever the events are
+pub record MoveExported (t : Step) (state : List ℕ) (r : ℕ) (state′ : List ℕ) : Type 0 where
+  pub of-any-events : (events : List ℕ) → length events ≡ maxTokens → StepExported t events state r events state′
+
+pub record KeptExported (words events state table memo : List ℕ) (r : ℕ) (table′ memo′ : List ℕ) : Type 0 where
+  pub answer : Answer
+  pub judges : JudgesKept words (keptInput events (progressIn state)) table memo answer table′ memo′
+  pub packs : r ≡ packed (numbers answer)
+  pub unpacks : Unpacks r (numbers answer)

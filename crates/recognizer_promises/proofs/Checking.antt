@@ -1,0 +1,288 @@
+-- What checking answers and leaves in the lent table, by what is found of the grammar; and what it means to pass.
+use mathlib.Core.Path.{_≡_, refl, sym, ap, _∙_}
+use mathlib.Core.List.{List, [], _∷_, _++_, List·Memᴰ·head, List·Memᴰ·not-nil}
+use mathlib.Core.Option.{Option, none, some}
+use Prim.Native.Nat.{ℕ, _-_, _≤_, _<_}
+use native.Mathlib.Omega.{arith}
+use lib.Dec.{T}
+use lib.ListN.{length, take, drop, replicate}
+use lib.Seq.{take-at}
+use borrow.Author.Tests.{lt-ltb, le-ltb}
+use Rattle.answer.proofs.Apart.{fault-number, refused-ne-passed}
+use Rattle.answer.specs.declared.Error.{Error}
+use Rattle.answer.specs.Numbers.{coded, numbers}
+use Rattle.answer.specs.Faults.{refusedOr}
+use Rattle.answer.proofs.Faults.{none-some, each-none, numbers-told}
+use Rattle.answer.specs.declared.Answer.{Answer}
+use Rattle.answer.specs.declared.Answer.the-variants.{Refused, Passed}
+use Rattle.grammar.specs.Codes.{noEntry}
+use Rattle.grammar.specs.Syntax.{Grammar}
+use Rattle.grammar.specs.Encoding.{grammarOf}
+use Rattle.grammar.specs.Reading.{reading}
+use Rattle.grammar.specs.declared.reading.Sizes.{Sizes}
+use Rattle.grammar.specs.declared.reading.Outcome.{Outcome}
+use Rattle.grammar.specs.declared.reading.Outcome.the-variants.{Read, Faulty}
+use Rattle.grammar.specs.WellRead.{WellRead}
+use Rattle.grammar.proofs.WellRead.{well-read}
+use Rattle.encoding.specs.Encode.{sizesOf, Encodes}
+use Rattle.encoding.proofs.Decoding.{encodes-grammar}
+use Rattle.encoding.proofs.ReadingEncodes.{read-encodes, encodes-read}
+use Rattle.encoding.proofs.Faithful.{faithful}
+use Rattle.lookahead.specs.declared.Lookahead.{Lookahead}
+use Rattle.lookahead.specs.declared.Lookahead.the-variants.{One, Two}
+use Rattle.lookahead.specs.Lookaheads.{tokens, alphabet}
+use Rattle.lookahead.proofs.Strings.{some-token}
+use Rattle.admission.specs.Admission.{Fits, admission}
+use Rattle.admission.proofs.Admitted.{admitted}
+use Rattle.semantics.specs.LeftRecursion.{NoLeftRecursion, lowestLeftRecursive}
+use Rattle.semantics.specs.FirstFollow.{Entry}
+use Rattle.semantics.specs.Productive.{lowestUnproductive}
+use Rattle.semantics.specs.Claims.{clashes}
+use Rattle.semantics.specs.Predictive.{Predictive}
+use Rattle.semantics.specs.Theorems.{LeastSets}
+use Rattle.semantics.proofs.Theorems.{theorems}
+use Rattle.families.specs.declared.Finding.{Finding}
+use Rattle.families.specs.declared.Finding.the-variants as finding
+use Rattle.families.proofs.FewTerminals.{admitted-read, few-terminals}
+use Rattle.table.specs.declared.Analysis.{Analysis}
+use Rattle.table.specs.declared.WideAnalysis.{WideAnalysis}
+use Rattle.table.specs.Layout.{tableWords, tableRoom, filled, wordCount, WordsGiven}
+use Rattle.table.specs.Entries.{entriesOf}
+use Rattle.families.specs.Analysis.{readingFault, leftFault, unproductiveFault, findingOf}
+use Rattle.families.proofs.Findings.{told-passed, told-refused}
+use Rattle.table.specs.Analysis.{clashFault, grammarFaults, fault, entriesIf, tableIf, analyzed}
+use Rattle.table.specs.Conflicts.{firstClash}
+use Rattle.table.specs.declared.conflicts.Conflict.{Conflict}
+use Rattle.table.specs.declared.conflicts.Conflict.the-variants.{Absent, At}
+use Rattle.table.proofs.FirstClash.{clash-absent}
+use Rattle.table.proofs.Padded.{padded-long}
+use Rattle.table.proofs.Words.{table-long}
+use Rattle.table.proofs.Analyzing.{admitted-words}
+use Rattle.recognizer_promises.specs.Memory.{lentBack, LendGiven, Lent}
+use Rattle.recognizer_promises.specs.Answers.{tableTooShort, checkFaultBy}
+use Rattle.recognizer_promises.specs.Judging.{TableFound}
+use Rattle.recognizer_promises.specs.Properties.{PassedBy, PassedGrammar, LeastFamiliesBy, ChecksBy}
+use Rattle.recognizer_promises.proofs.Places.{check-tells, encodes-taken, fault-encoded, places}
+
+pub none-left : (o : Option ℕ) → leftFault o ≡ none → o ≡ none
+none-left none e = refl
+none-left (some A) e = absurd (omega (arith, fault-number e))
+
+none-unproductive : (o : Option ℕ) → unproductiveFault o ≡ none → o ≡ none
+none-unproductive none e = refl
+none-unproductive (some A) e = absurd (omega (arith, fault-number e))
+
+none-clash : (k : Lookahead) (r : Conflict) → clashFault k r ≡ none → r ≡ Absent
+none-clash k Absent e = refl
+none-clash k (At A c) e = absurd (none-some (sym e))
+
+pub read-some : (o : Outcome) → readingFault o ≡ none → (z : Sizes) × (o ≡ Read z)
+read-some (Read z) e = (z, refl)
+read-some (Faulty x) e = absurd (none-some (sym e))
+
+-- the theorems of the semantics about an encoded grammar
+pub least-for : (n : ℕ) {words : List ℕ} (G : Grammar) → Encodes words G → LeastSets G n
+least-for n G e = theorems .least-sets G (e .formed .scoped) (e .formed .terminals) (e .limited .someNonterminal) n
+
+pub least : {words : List ℕ} (G : Grammar) → Encodes words G → LeastSets G 1
+least = least-for 1
+
+families : (n : ℕ) {words : List ℕ} (G : Grammar) → Encodes words G → LeastFamiliesBy n G
+families n G e =
+    let l = least-for n G e in
+    record {
+      first-closed = l .first .closed;
+      first-least = λ F c A x h. l .first .smallest (λ B y. T (F B y)) c A x h;
+      follow-closed = l .follow .closed;
+      follow-least = λ L c A x h. l .follow .smallest (λ B y. T (L B y)) c A x h;
+      claimed = l .claimed;
+      unclaimed = l .unclaimed;
+    }
+
+-- a grammar that fits has no more terminals than its lookahead allows
+pub fits-few : (k : Lookahead) {words : List ℕ} (G : Grammar) → Encodes words G → Fits k G → G .terminals ≤ alphabet k
+fits-few One G e f = e .limited .fewTerminals
+fits-few Two G e f = f .0
+
+-- a grammar without a fault passes
+pub passed-fault-for : (k : Lookahead) (words : List ℕ) → fault k words ≡ none → PassedBy k words
+unfolding fault
+passed-fault-for k words e =
+    let G = grammarOf words in
+    let n = tokens k in
+    let f = each-none (grammarFaults k words) e in
+    let z = read-some (admission k words) (f .0) in
+    let t = admitted k words (z .0) .0 (z .1) in
+    let r = read-encodes words (z .0) (t .0) in
+    let none-clashes : clashes G n ≡ [] =
+    clash-absent k G (few-terminals k words (z .1)) .0 (none-clash k (firstClash k G) (f .1 .1 .1 .0)) in
+    record {
+      short = r .0;
+      grammar = G;
+      encodes = r .1;
+      fits = t .1;
+      free = theorems .left-recursion-decided G (r .1 .formed .scoped) .absent .0 (none-left (lowestLeftRecursive G) (f .1 .0));
+      productive = theorems .productive-decided G n .absent .0 (none-unproductive (lowestUnproductive G n) (f .1 .1 .0));
+      clashless = λ A x c. List·Memᴰ·not-nil (rw none-clashes at (least-for n G (r .1) .clash A x .1 c));
+    }
+
+pub passed-fault : (words : List ℕ) → fault One words ≡ none → PassedGrammar words
+passed-fault = passed-fault-for One
+
+-- a grammar that passes is the one that is read, so its promises are about that
+module _ {k : Lookahead} (words : List ℕ) (p : PassedBy k words) where
+  abbrev n : ℕ
+  n = tokens k
+
+  same-grammar : p .grammar ≡ grammarOf words
+  same-grammar = sym (encodes-grammar words (p .grammar) (p .encodes))
+
+  pub passed-encodes : Encodes words (grammarOf words)
+  passed-encodes = rw (← same-grammar) (p .encodes)
+
+  passed-fits : Fits k (grammarOf words)
+  passed-fits = rw (← same-grammar) (p .fits)
+
+  pub passed-free : NoLeftRecursion (grammarOf words)
+  passed-free = rw (← same-grammar) (p .free)
+
+  pub no-clashes : clashes (grammarOf words) n ≡ []
+  no-clashes = rw (← same-grammar) (go (clashes (p .grammar) n) refl)
+    where
+      go : (l : List Entry) → clashes (p .grammar) n ≡ l → clashes (p .grammar) n ≡ []
+      go [] e = e
+      go (x ∷ l) e = absurd (p .clashless (x .0) (x .1) (least-for n (p .grammar) (p .encodes) .clash (x .0) (x .1) .0 (rw e (List·Memᴰ·head refl))))
+
+  pub not-left-recursive : lowestLeftRecursive (grammarOf words) ≡ none
+  not-left-recursive = theorems .left-recursion-decided (grammarOf words) (passed-encodes .formed .scoped) .absent .1 passed-free
+
+  pub passed-predictive : Predictive (grammarOf words) n
+  passed-predictive =
+      theorems .passed (grammarOf words) n (some-token k) (passed-encodes .formed) (passed-encodes .limited .someNonterminal) .0
+      (not-left-recursive, no-clashes)
+
+  pub all-productive : lowestUnproductive (grammarOf words) n ≡ none
+  all-productive = theorems .productive-decided (grammarOf words) n .absent .1 (rw (← same-grammar) (p .productive))
+
+  pub passed-read : reading words ≡ Read (sizesOf (grammarOf words))
+  passed-read = encodes-read words (grammarOf words) (p .short) passed-encodes
+
+  -- and has no fault
+  pub fault-passed : fault k words ≡ none
+  unfolding fault
+  fault-passed =
+      let few = fits-few k (grammarOf words) passed-encodes passed-fits in
+      rw (
+        encodes-taken k words (grammarOf words) (p .short) passed-encodes passed-fits,
+        not-left-recursive,
+        all-productive,
+        clash-absent k (grammarOf words) few .1 no-clashes,
+      )
+
+-- with a table that is long enough only the grammar's faults are left
+pub check-fault-long : (k : Lookahead) (n : ℕ) (words : List ℕ) → tableRoom k ≤ n → checkFaultBy k n words ≡ fault k words
+unfolding checkFaultBy fault
+check-fault-long k n words h = rw (le-ltb n (tableRoom k) h)
+
+refused-passed : (f : Option Error) → refusedOr f Passed ≡ Passed → f ≡ none
+refused-passed none e = refl
+refused-passed (some x) e = absurd (refused-ne-passed e)
+
+-- a table that is too short is told as 1, and with two tokens of lookahead as 17
+pub short-told : (coded (tableTooShort One) .code ≡ 1) × (coded (tableTooShort Two) .code ≡ 17)
+short-told = (refl, refl)
+
+module _ (k : Lookahead) where
+  -- the promise from the answer and the table
+  checks : {words before after : List ℕ} {r : Answer} → r ≡ refusedOr (checkFaultBy k (length before) words) Passed
+      → after ≡ lentBack (checkFaultBy k (length before) words) (tableWords k (grammarOf words)) before → ChecksBy k words before r after
+  checks {words} {before} {after} {r} a t = record {
+    faithful = faithful words;
+    admits = admitted k words;
+    answer = a;
+    told = ap numbers a ∙ numbers-told (checkFaultBy k (length before) words) Passed;
+    table = t;
+    passed = λ long.
+        let f = check-fault-long k (length before) words long in (
+          λ p. passed-fault-for k words (sym f ∙ refused-passed (checkFaultBy k (length before) words) (sym a ∙ p)),
+          λ p. a ∙ rw (f, fault-passed words p),
+        );
+    places = λ long short G e fits.
+        places k G (e .formed .scoped) (fits-few k G e fits)
+        (check-tells k _ (a ∙ ap (λ f. refusedOr f Passed) (check-fault-long k (length before) words long ∙ fault-encoded k words G short e fits)));
+    least = families (tokens k);
+  }
+
+  pub check-short : {words before : List ℕ} → length before < tableRoom k → ChecksBy k words before (Refused (tableTooShort k)) before
+  unfolding checkFaultBy
+  check-short {words} {before} h = checks (rw (lt-ltb (length before) (tableRoom k) h)) (rw (lt-ltb (length before) (tableRoom k) h))
+
+-- what an analysis tells of an encoded grammar
+pub record Told (k : Lookahead) (words : List ℕ) (f : Finding) (entries table : List ℕ) : Type 0 where
+  pub finding : f ≡ findingOf (fault k words) (admission k words)
+  pub entered : entries ≡ entriesIf (fault k words) (entriesOf k (grammarOf words))
+  pub laid : table ≡ tableIf k (fault k words) (filled k (tableWords k (grammarOf words)))
+
+pub told-one : (words : List ℕ) {a : Analysis} → a ≡ analyzed One words → Told One words (a .finding) (a .entries) (a .table)
+unfolding analyzed
+told-one words e = record { finding = ap (λ y. y .finding) e; entered = ap (λ y. y .entries) e; laid = ap (λ y. y .table) e }
+
+pub told-two : (words : List ℕ) {a : WideAnalysis} → a ≡ analyzed Two words → Told Two words (a .finding) (a .entries) (a .table)
+unfolding analyzed
+told-two words e = record { finding = ap (λ y. y .finding) e; entered = ap (λ y. y .entries) e; laid = ap (λ y. y .table) e }
+
+module _ {k : Lookahead} {words : List ℕ} {f : Finding} {entries laid : List ℕ} (t : Told k words f entries laid) where
+  -- one that finds no fault tells the sizes, the entries and the whole table
+  pub found : {z : Sizes} → f ≡ finding.Passed z → TableFound k words z entries laid
+  found q =
+      let m = told-passed (fault k words) (admission k words) (sym (t .finding) ∙ q) in
+      record {
+        taken = m .1;
+        faultless = m .0;
+        entered = t .entered ∙ ap (λ y. entriesIf y (entriesOf k (grammarOf words))) (m .0);
+        laid = t .laid ∙ ap (λ y. tableIf k y (filled k (tableWords k (grammarOf words)))) (m .0);
+      }
+
+  pub found-fault : {x : Error} → f ≡ finding.Refused x → fault k words ≡ some x
+  unfolding fault
+  found-fault q = told-refused (fault k words) (admission k words) (λ y e. rw e) (sym (t .finding) ∙ q)
+
+-- the table of a grammar that passes, lent back
+module _ {k : Lookahead} (words before : List ℕ) (long : tableRoom k ≤ length before) {z : Sizes} {entries laid : List ℕ}
+    (f : TableFound k words z entries laid) where
+  r : WellRead words z
+  r = well-read words z (admitted-read k words (f .taken))
+
+  words-count : length (tableWords k (grammarOf words)) ≡ wordCount k z
+  words-count = table-long k (grammarOf words) ∙ rw (r .nonterminals, r .terminals)
+
+  given : WordsGiven k z
+  given = admitted-words k words (f .taken)
+
+  pub lend-given : LendGiven k before laid z
+  unfolding filled
+  lend-given = record {
+    given = given;
+    long = long;
+    whole = ap length (f .laid) ∙ padded-long (tableRoom k) noEntry (tableWords k (grammarOf words)) (omega (arith, words-count, given .room));
+  }
+
+  pub lent-table : {after : List ℕ} → Lent k before laid z after
+      → after ≡ tableWords k (grammarOf words) ++ drop (length (tableWords k (grammarOf words))) before
+  unfolding filled
+  lent-table l =
+      let w : take (wordCount k z) laid ≡ tableWords k (grammarOf words) =
+      ap (take (wordCount k z)) (f .laid)
+      ∙ take-at (tableWords k (grammarOf words)) (replicate (tableRoom k - length (tableWords k (grammarOf words))) noEntry) (wordCount k z) words-count in
+      l .words ∙ ap (λ y. y ++ drop (wordCount k z) before) w ∙ ap (λ y. tableWords k (grammarOf words) ++ drop y before) (sym words-count)
+
+  pub check-passed : {after : List ℕ} → Lent k before laid z after → ChecksBy k words before Passed after
+  check-passed l =
+      let c : checkFaultBy k (length before) words ≡ none = check-fault-long k (length before) words long ∙ f .faultless in
+      checks k (sym (ap (λ y. refusedOr y Passed) c)) (lent-table l ∙ sym (ap (λ y. lentBack y (tableWords k (grammarOf words)) before) c))
+
+pub check-refused : {k : Lookahead} (words before : List ℕ) → tableRoom k ≤ length before → {x : Error} → fault k words ≡ some x
+    → ChecksBy k words before (Refused x) before
+check-refused {k} words before long {x} f =
+    let c : checkFaultBy k (length before) words ≡ some x = check-fault-long k (length before) words long ∙ f in
+    checks k (sym (ap (λ y. refusedOr y Passed) c)) (sym (ap (λ y. lentBack y (tableWords k (grammarOf words)) before) c))

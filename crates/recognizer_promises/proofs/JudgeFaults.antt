@@ -1,0 +1,157 @@
+-- The order of the faults of judging: which is the first, by what holds; and what holds where there is none.
+use mathlib.Core.Path.{_≡_, refl, sym, ap, _∙_}
+use mathlib.Core.Bool.{Bool, true, false, _&&_}
+use mathlib.Core.List.{List, [], _∷_}
+use mathlib.Core.Option.{Option, none, some}
+use Prim.Native.Nat.{ℕ, suc, _≤_, _<_}
+use native.Mathlib.Omega.{arith}
+use lib.Dec.{T, ltb}
+use lib.ListN.{length}
+use borrow.Author.Tests.{lt-ltb, le-ltb, ltb-false}
+use Rattle.answer.specs.declared.Error.{Error}
+use Rattle.answer.specs.declared.Error.the-variants.{TableTooShort, MemoTooShort, InputTooLong, UnknownToken}
+use Rattle.answer.specs.Faults.{faultIf, firstFault}
+use Rattle.answer.proofs.Faults.{Faultless, none-some, fault-none, each-none, first-nested}
+use Rattle.booleans.specs.Choice.{choose}
+use Rattle.grammar.specs.Limits.{maxTableWords, maxMemoEntries, maxTokens}
+use Rattle.grammar.specs.Encoding.{grammarOf}
+use Rattle.booleans.specs.Quantifiers.{allOf}
+use Rattle.semantics.specs.Strings.{Over}
+use Rattle.booleans.proofs.Booleans.{T-true, and-l, and-r}
+use Rattle.lookahead.specs.declared.Lookahead.{Lookahead}
+use Rattle.lookahead.specs.declared.Lookahead.the-variants.{One}
+use Rattle.table.specs.Layout.{tableRoom}
+use Rattle.table.specs.Analysis.{grammarFaults, fault}
+use Rattle.event.specs.Events.{inputOf}
+use Rattle.event.proofs.Inputs.{input-length}
+use Rattle.event.proofs.Known.{known-absent, absent-known}
+use Rattle.event.specs.declared.Unknown.{Unknown}
+use Rattle.event.specs.declared.Unknown.the-variants.{Absent, At}
+use Rattle.event.specs.Unknown.{unknownFrom, unknownFault}
+use Rattle.grammar.specs.declared.reading.Sizes.{Sizes}
+use Rattle.families.specs.declared.Finding.{Finding}
+use Rattle.families.specs.declared.Finding.the-variants as finding
+use Rattle.recognizer_promises.specs.Answers.{tableTooShort, checkFaultBy, judgeFaultBy, judgeFault, inputFaults, passedUnless, withFaults, withInput}
+
+-- the rows of judging, with the grammar's faults as one
+abbrev pub judgeRowsBy : Lookahead → ℕ → ℕ → List ℕ → List ℕ → List (Option Error)
+judgeRowsBy k table memo words input =
+    faultIf (ltb table (tableRoom k)) (tableTooShort k)
+    ∷ faultIf (ltb memo maxMemoEntries) MemoTooShort
+    ∷ fault k words
+    ∷ inputFaults (grammarOf words .terminals) input
+
+pub judged-rows-by : (k : Lookahead) (table memo : ℕ) (words input : List ℕ) → judgeFaultBy k table memo words input ≡ firstFault (judgeRowsBy k table memo words input)
+unfolding judgeFaultBy fault
+judged-rows-by k table memo words input =
+    first-nested (faultIf (ltb table (tableRoom k)) (tableTooShort k) ∷ faultIf (ltb memo maxMemoEntries) MemoTooShort ∷ []) (grammarFaults k words)
+    (inputFaults (grammarOf words .terminals) input)
+
+-- an input that is short and known has no fault, and no other input
+pub readable-faultless : (n : ℕ) (input : List ℕ) → length input ≤ maxTokens → Over n input → firstFault (inputFaults n input) ≡ none
+readable-faultless n input short known = rw (le-ltb maxTokens (length input) short, known-absent n 0 input known)
+
+pub faultless-readable : (n : ℕ) (input : List ℕ) → firstFault (inputFaults n input) ≡ none → (length input ≤ maxTokens) × Over n input
+faultless-readable n input e =
+    let f = each-none (inputFaults n input) e in
+    (ltb-false maxTokens (length input) (fault-none (ltb maxTokens (length input)) InputTooLong (f .0)), absent-known n 0 input (none-unknown (unknownFrom n 0 input) (f .1 .0)))
+  where
+    none-unknown : (u : Unknown) → unknownFault u ≡ none → u ≡ Absent
+    none-unknown Absent q = refl
+    none-unknown (At i) q = absurd (none-some (sym q))
+
+-- the first fault, by what holds
+module _ (k : Lookahead) (words input table memo : List ℕ) where
+  abbrev judged : Option Error
+  judged = judgeFaultBy k (length table) (length memo) words input
+
+  pub table-short-by : length table < tableRoom k → judged ≡ some (tableTooShort k)
+  unfolding judgeFaultBy
+  table-short-by h = rw (lt-ltb (length table) (tableRoom k) h)
+
+  module _ (long : tableRoom k ≤ length table) where
+    pub memo-short-by : length memo < maxMemoEntries → judged ≡ some MemoTooShort
+    unfolding judgeFaultBy
+    memo-short-by h = rw (le-ltb (length table) (tableRoom k) long, lt-ltb (length memo) maxMemoEntries h)
+
+    module _ (room : maxMemoEntries ≤ length memo) where
+      pub judge-fault-long : {f : Option Error} → fault k words ≡ f → judged ≡ firstFault (f ∷ inputFaults (grammarOf words .terminals) input)
+      judge-fault-long e =
+          rw (judged-rows-by k (length table) (length memo) words input, le-ltb (length table) (tableRoom k) long, le-ltb (length memo) maxMemoEntries room, e)
+
+      pub grammar-fault : {x : Error} → fault k words ≡ some x → judged ≡ some x
+      grammar-fault e = judge-fault-long e
+
+      pub input-fault : {f : Option Error} → fault k words ≡ none → firstFault (inputFaults (grammarOf words .terminals) input) ≡ f → judged ≡ f
+      input-fault passed e = judge-fault-long passed ∙ e
+
+module _ (k : Lookahead) (words input : List ℕ) (table memo : ℕ) (e : judgeFaultBy k table memo words input ≡ none) where
+  each : Faultless (judgeRowsBy k table memo words input)
+  each = each-none (judgeRowsBy k table memo words input) (sym (judged-rows-by k table memo words input) ∙ e)
+
+  -- what is judged is checked
+  pub judged-checked : checkFaultBy k table words ≡ none
+  unfolding checkFaultBy fault
+  judged-checked = rw (each .0) (each .1 .1 .0)
+
+  -- and is read and not too long
+  pub judged-readable-by : (fault k words ≡ none) × (length input ≤ maxTokens)
+  judged-readable-by = (each .1 .1 .0, ltb-false maxTokens (length input) (fault-none (ltb maxTokens (length input)) InputTooLong (each .1 .1 .1 .0)))
+
+-- the same with one token
+abbrev pub judgeRows : ℕ → ℕ → List ℕ → List ℕ → List (Option Error)
+judgeRows = judgeRowsBy One
+
+pub judged-rows : (table memo : ℕ) (words input : List ℕ) → judgeFault table memo words input ≡ firstFault (judgeRows table memo words input)
+judged-rows = judged-rows-by One
+
+pub table-short : (words input table memo : List ℕ) → length table < maxTableWords → judgeFault (length table) (length memo) words input ≡ some TableTooShort
+table-short = table-short-by One
+
+pub memo-short : (words input table memo : List ℕ) → maxTableWords ≤ length table → length memo < maxMemoEntries
+    → judgeFault (length table) (length memo) words input ≡ some MemoTooShort
+memo-short = memo-short-by One
+
+pub judged-readable : (words input : List ℕ) (table memo : ℕ) → judgeFault table memo words input ≡ none
+    → (fault One words ≡ none) × (length input ≤ maxTokens)
+judged-readable = judged-readable-by One
+
+-- what is found of a grammar and then by other faults, by what is found of the grammar
+pub record PassedWith (f : Finding) (faults : ℕ → List (Option Error)) (z : Sizes) : Type 0 where
+  pub grammar : f ≡ finding.Passed z
+  pub faultless : firstFault (faults (z .terminals)) ≡ none
+
+pub data RefusedWith (f : Finding) (faults : ℕ → List (Option Error)) (x : Error) : Type 0 where
+  byGrammar : f ≡ finding.Refused x → RefusedWith f faults x
+  byFaults : (z : Sizes) → f ≡ finding.Passed z → firstFault (faults (z .terminals)) ≡ some x → RefusedWith f faults x
+
+pub with-passed : (f : Finding) (faults : ℕ → List (Option Error)) {z : Sizes} → withFaults f faults ≡ finding.Passed z → PassedWith f faults z
+with-passed (finding.Refused e) faults q = let n : _≡_ {A = ℕ} 0 1 = cc in absurd (omega arith)
+with-passed (finding.Passed y) faults {z} q = go (firstFault (faults (y .terminals))) refl q
+  where
+    go : (o : Option Error) → firstFault (faults (y .terminals)) ≡ o → passedUnless o y ≡ finding.Passed z → PassedWith (finding.Passed y) faults z
+    go none e p = let s : y ≡ z = cc in record { grammar = p; faultless = rw (← s) e }
+    go (some x) e p = let n : _≡_ {A = ℕ} 0 1 = cc in absurd (omega arith)
+
+pub with-refused : (f : Finding) (faults : ℕ → List (Option Error)) {x : Error} → withFaults f faults ≡ finding.Refused x → RefusedWith f faults x
+with-refused (finding.Refused e) faults q = byGrammar q
+with-refused (finding.Passed y) faults {x} q = go (firstFault (faults (y .terminals))) refl q
+  where
+    go : (o : Option Error) → firstFault (faults (y .terminals)) ≡ o → passedUnless o y ≡ finding.Refused x → RefusedWith (finding.Passed y) faults x
+    go none e p = let n : _≡_ {A = ℕ} 0 1 = cc in absurd (omega arith)
+    go (some v) e p = let s : v ≡ x = cc in byFaults y refl (e ∙ ap some s)
+
+-- the same of an input, as the code finds it
+module _ (events : List ℕ) {f : Finding} {z : Sizes} (p : f ≡ finding.Passed z) where
+  abbrev input : List ℕ
+  input = inputOf events
+
+  pub with-long : maxTokens < length events → finding.Refused InputTooLong ≡ withInput f input
+  with-long h = rw (p, lt-ltb maxTokens (length input) (omega (arith, input-length events)))
+
+  module _ (short : length events ≤ maxTokens) {u : Unknown} (e : u ≡ unknownFrom (z .terminals) 0 input) where
+    pub with-unknown : {at : ℕ} → u ≡ At at → finding.Refused (UnknownToken at) ≡ withInput f input
+    with-unknown q = rw (p, le-ltb maxTokens (length input) (omega (arith, input-length events)), sym e ∙ q)
+
+    pub with-known : u ≡ Absent → finding.Passed z ≡ withInput f input
+    with-known q = rw (p, le-ltb maxTokens (length input) (omega (arith, input-length events)), sym e ∙ q)

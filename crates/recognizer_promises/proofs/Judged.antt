@@ -1,0 +1,209 @@
+-- What judging answers and leaves in the lent memories, by the first fault.
+use mathlib.Core.Path.{_≡_, refl, sym, ap, subst, _∙_}
+use mathlib.Core.Bool.{Bool, true, false}
+use mathlib.Core.List.{List, _++_}
+use mathlib.Core.Option.{Option, none, some}
+use Prim.Native.Nat.{ℕ, _+_, _*_, _≤_, _<_}
+use native.Mathlib.Nat.{mul-le-mul}
+use native.Mathlib.Numerals.{add-one}
+use native.Mathlib.Omega.{arith}
+use lib.Dec.{ltb}
+use lib.ListN.{length, take, drop, length-map}
+use lib.Seq.{length-take-le}
+use Rattle.answer.specs.declared.Error.{Error}
+use Rattle.answer.specs.Numbers.{accepted, rejected, answered, numbers}
+use Rattle.answer.specs.Faults.{firstFault, refusedOr, toldOr}
+use Rattle.answer.proofs.Faults.{numbers-told}
+use Rattle.answer.specs.declared.Answer.{Answer}
+use Rattle.answer.specs.declared.Answer.the-variants.{Refused, Accepted, Rejected}
+use Rattle.booleans.specs.Choice.{choose}
+use Rattle.grammar.specs.Limits.{maxMemoEntries, maxTokens, maxNonterminals, maxPlaces}
+use Rattle.grammar.specs.Syntax.{Grammar}
+use Rattle.grammar.specs.Encoding.{grammarOf}
+use Rattle.grammar.specs.WellRead.{WellRead}
+use Rattle.grammar.specs.declared.reading.Sizes.{Sizes}
+use Rattle.grammar.proofs.WellRead.{well-read}
+use Rattle.encoding.proofs.Faithful.{faithful}
+use Rattle.lookahead.specs.declared.Lookahead.{Lookahead}
+use Rattle.lookahead.specs.Lookaheads.{tokens}
+use Rattle.admission.proofs.Admitted.{admitted}
+use Rattle.families.proofs.FewTerminals.{admitted-read}
+use Rattle.semantics.specs.Valuations.{pairs}
+use Rattle.semantics.specs.Choices.{tableChoice}
+use Rattle.semantics.specs.Descent.{accepts}
+use Rattle.semantics.specs.Calls.{allCalls, callCount, farthest}
+use Rattle.semantics.proofs.Range.{all-length}
+use Rattle.following.specs.Theorems.{EntriesTell}
+use Rattle.following.proofs.Theorems.{theorems as following}
+use Rattle.table.specs.Layout.{tableWords, tableRoom}
+use Rattle.families.specs.declared.Finding.{Finding}
+use Rattle.families.specs.declared.Finding.the-variants as finding
+use Rattle.recognizer_promises.specs.Memory.{lentBack, memoWordBy, memoWordsBy, Lent}
+use Rattle.event.specs.Events.{inputOf}
+use Rattle.event.specs.Unknown.{unknownFrom}
+use Rattle.event.proofs.Inputs.{input-length}
+use Rattle.recognizer_promises.specs.Answers.{judgeFaultBy, inputFaults, withInput, callsBy, verdictBy, verdictNumbersBy}
+use Rattle.recognizer_promises.specs.Judging.{TableFound, PassedGiven, DescendGiven, Descended, JudgedPassed}
+use Rattle.recognizer_promises.specs.Properties.{PassedBy, Readable, RecognizesBy, JudgesBy}
+use Rattle.recognizer_promises.proofs.Checking.{fits-few, passed-fault-for, passed-free, passed-predictive, fault-passed, Told, found, found-fault, lent-table}
+use Rattle.recognizer_promises.proofs.Places.{judge-tells, fault-encoded, places}
+use Rattle.recognizer_promises.proofs.JudgeFaults.{judge-fault-long, grammar-fault, input-fault, readable-faultless, faultless-readable, judged-checked, PassedWith, RefusedWith, byGrammar, byFaults, with-passed, with-refused}
+use Rattle.recognizer_promises.proofs.Meaning.{meaning}
+
+-- the numbers of what is answered
+verdict-told : (n : ℕ) (G : Grammar) (w : List ℕ) → numbers (verdictBy n G w) ≡ verdictNumbersBy n G w
+unfolding verdictBy verdictNumbersBy
+verdict-told n G w = go (accepts G (tableChoice G n w) w)
+  where
+    go : (b : Bool) → numbers (choose b (Accepted (callsBy n G w)) (Rejected (callsBy n G w)))
+        ≡ answered (choose b accepted rejected) 0 0 (callCount G (tableChoice G n w) w) (farthest G (tableChoice G n w) w)
+    go true = refl
+    go false = refl
+
+-- a passed grammar and a readable input: what is answered has its meaning, and the memo table lent back begins with the entries that the descent records
+module _ (k : Lookahead) (words input table memo : List ℕ) (long : tableRoom k ≤ length table) (room : maxMemoEntries ≤ length memo)
+    (p : PassedBy k words) (h : Readable words input) where
+  abbrev G : Grammar
+  G = grammarOf words
+
+  abbrev n : ℕ
+  n = tokens k
+
+  faultless : judgeFaultBy k (length table) (length memo) words input ≡ none
+  faultless = input-fault k words input table memo long room (fault-passed words p) (readable-faultless (G .terminals) input (h .short) (h .tokens))
+
+  recognizes : (r : Answer) → r ≡ refusedOr (judgeFaultBy k (length table) (length memo) words input) (verdictBy n G input)
+      → RecognizesBy n words input r
+  recognizes r a = meaning k words input r p h (a ∙ ap (λ y. refusedOr y (verdictBy n G input)) faultless)
+
+  entries : (memo′ : List ℕ) → memo′ ≡ lentBack (judgeFaultBy k (length table) (length memo) words input) (memoWordsBy n G input) memo
+      → EntriesTell G n input memo′
+  entries memo′ m =
+      let written = memoWordsBy n G input in
+      let recorded = meaning k words input (verdictBy n G input) p h refl .memo in
+      subst (EntriesTell G n input) (sym (m ∙ ap (λ y. lentBack y written memo) faultless))
+      (following .entries G n (passed-predictive words p) input (h .tokens) (omega (arith, h .short)) written recorded (drop (length written) memo))
+
+-- the promise from the answer and the memories
+judges : {k : Lookahead} {words input table memo table′ memo′ : List ℕ} {r : Answer}
+    → r ≡ refusedOr (judgeFaultBy k (length table) (length memo) words input) (verdictBy (tokens k) (grammarOf words) input)
+    → table′ ≡ lentBack (judgeFaultBy k (length table) (length memo) words input) (tableWords k (grammarOf words)) table
+    → memo′ ≡ lentBack (judgeFaultBy k (length table) (length memo) words input) (memoWordsBy (tokens k) (grammarOf words) input) memo
+    → JudgesBy k words input table memo r table′ memo′
+unfolding verdictBy
+judges {k} {words} {input} {table} {memo} {table′} {memo′} {r} a t m = record {
+  faithful = faithful words;
+  admits = admitted k words;
+  answer = a;
+  told =
+      let f = judgeFaultBy k (length table) (length memo) words input in
+      let n = tokens k in
+      ap numbers a ∙ numbers-told f (verdictBy n (grammarOf words) input) ∙ ap (toldOr f) (verdict-told n (grammarOf words) input);
+  lent-table = t;
+  lent-memo = m;
+  places = λ long room few G e fits.
+      let H = grammarOf words in
+      let n = tokens k in
+      places k G (e .formed .scoped) (fits-few k G e fits)
+      (judge-tells k _ (ltb maxTokens (length input)) (unknownFrom (H .terminals) 0 input) (accepts H (tableChoice H n input) input) (callsBy n H input)
+      (a ∙ ap (λ f. refusedOr f (verdictBy n H input)) (judge-fault-long k words input table memo long room (fault-encoded k words G few e fits))));
+  as-checked = λ e c checked q.
+      t ∙ ap (λ y. lentBack y (tableWords k (grammarOf words)) table) (e ∙ sym (judged-checked k words input (length table) (length memo) e)) ∙ sym (q .table);
+  recognizes = λ long room p h. recognizes k words input table memo long room p h r a;
+  entries = λ long room p h. entries k words input table memo long room p h memo′ m;
+}
+
+pub judge-refused : {k : Lookahead} {words input table memo : List ℕ} {x : Error} → judgeFaultBy k (length table) (length memo) words input ≡ some x
+    → JudgesBy k words input table memo (Refused x) table memo
+judge-refused {k} {words} {input} {table} {memo} f =
+    judges (sym (ap (λ y. refusedOr y (verdictBy (tokens k) (grammarOf words) input)) f)) (sym (ap (λ y. lentBack y (tableWords k (grammarOf words)) table) f))
+    (sym (ap (λ y. lentBack y (memoWordsBy (tokens k) (grammarOf words) input) memo) f))
+
+pub memo-count : (n : ℕ) (G : Grammar) (input : List ℕ) → length (memoWordsBy n G input) ≡ pairs G input
+unfolding memoWordsBy
+memo-count n G input = length-map (allCalls G input) (memoWordBy n G input) ∙ all-length G input
+
+-- a grammar that has passed, and an input of its terminals
+module _ {k : Lookahead} {words entries memo : List ℕ} {z : Sizes} (events : List ℕ) (g : PassedGiven k words z entries (inputOf events) memo) where
+  abbrev input : List ℕ
+  input = inputOf events
+
+  r : WellRead words z
+  r = well-read words z (admitted-read k words (g .ready .taken))
+
+  -- so many entries are needed, and there are
+  pub needed-few : z .nonterminals * (length events + 1) ≤ maxMemoEntries
+  needed-few =
+      let m = mul-le-mul {n₁ = z .nonterminals} {m₁ = length events + 1} {n₂ = maxNonterminals} {m₂ = maxPlaces} (r .fewNonterminals)
+      (omega (arith, g .ready .short, input-length events)) in
+      omega arith
+
+  pub needed-room : z .nonterminals * (length events + 1) ≤ length memo
+  needed-room = omega (arith, needed-few, g .room)
+
+  needed : z .nonterminals * (length events + 1) ≡ pairs (grammarOf words) input
+  needed = rw (r .nonterminals, sym (input-length events), add-one (length input))
+
+  pub descend-given : DescendGiven k words z entries input (take (z .nonterminals * (length events + 1)) memo)
+  descend-given = record { ready = g .ready; size = length-take-le (z .nonterminals * (length events + 1)) memo needed-room ∙ needed }
+
+  pub judged-passed : {part : List ℕ} {a : Answer} → Descended k words input a part
+      → JudgedPassed k words input memo a (part ++ drop (z .nonterminals * (length events + 1)) memo)
+  judged-passed {part} d =
+      let written = memoWordsBy (tokens k) (grammarOf words) input in
+      let n : z .nonterminals * (length events + 1) ≡ length written = needed ∙ sym (memo-count (tokens k) (grammarOf words) input) in
+      record {
+        answer = d .answer;
+        lent = ap (λ y. y ++ drop (z .nonterminals * (length events + 1)) memo) (d .entries) ∙ ap (λ y. written ++ drop y memo) n;
+      }
+
+-- faults that go by the number of terminals are told by that which was found
+pub same-terminals : (k : Lookahead) (words : List ℕ) (faults : ℕ → List (Option Error)) {z : Sizes} {entries laid : List ℕ} {o : Option Error}
+    → TableFound k words z entries laid → firstFault (faults (z .terminals)) ≡ o → firstFault (faults (grammarOf words .terminals)) ≡ o
+same-terminals k words faults {z} m h = rw (← well-read words z (admitted-read k words (m .taken)) .terminals) h
+
+-- what is found of a grammar and an input decides
+module _ {k : Lookahead} (words input table memo : List ℕ) (long : tableRoom k ≤ length table) (room : maxMemoEntries ≤ length memo) {g : Finding}
+    {entries laid : List ℕ} (t : Told k words g entries laid) {f : Finding} (q : f ≡ withInput g input) where
+  abbrev faults : ℕ → List (Option Error)
+  faults n = inputFaults n input
+
+  pub judge-found-refused : {x : Error} → f ≡ finding.Refused x → JudgesBy k words input table memo (Refused x) table memo
+  judge-found-refused {x} p = judge-refused (go (with-refused g faults (sym q ∙ p)))
+    where
+      go : RefusedWith g faults x → judgeFaultBy k (length table) (length memo) words input ≡ some x
+      go (byGrammar h) = grammar-fault k words input table memo long room (found-fault t h)
+      go (byFaults z h i) = let m = found t h in input-fault k words input table memo long room (m .faultless) (same-terminals k words faults m i)
+
+  module _ {z : Sizes} (p : f ≡ finding.Passed z) where
+    both : PassedWith g faults z
+    both = with-passed g faults (sym q ∙ p)
+
+    pub judge-found : TableFound k words z entries laid
+    judge-found = found t (both .grammar)
+
+    unfaulty : firstFault (inputFaults (grammarOf words .terminals) input) ≡ none
+    unfaulty = same-terminals k words faults judge-found (both .faultless)
+
+    pub passed-given : PassedGiven k words z entries input memo
+    passed-given =
+        let m = judge-found in
+        let s = faultless-readable (grammarOf words .terminals) input unfaulty in
+        record {
+          ready = record {
+            taken = m .taken;
+            free = passed-free words (passed-fault-for k words (m .faultless));
+            entered = m .entered;
+            tokens = s .1;
+            short = s .0;
+          };
+          room = room;
+        }
+
+    pub judge-done : {table′ memo′ : List ℕ} {r : Answer} → Lent k table laid z table′ → JudgedPassed k words input memo r memo′
+        → JudgesBy k words input table memo r table′ memo′
+    judge-done l d =
+        let e = input-fault k words input table memo long room (judge-found .faultless) unfaulty in
+        judges (d .answer ∙ sym (ap (λ y. refusedOr y (verdictBy (tokens k) (grammarOf words) input)) e))
+        (lent-table words table long judge-found l ∙ sym (ap (λ y. lentBack y (tableWords k (grammarOf words)) table) e))
+        (d .lent ∙ sym (ap (λ y. lentBack y (memoWordsBy (tokens k) (grammarOf words) input) memo) e))

@@ -1,0 +1,68 @@
+-- What the verdict of the descent means: property 3 for a passed grammar and a readable input.
+use mathlib.Core.Path.{_≡_, refl, ap, subst, _∙_, sym}
+use mathlib.Core.Bool.{Bool, true, false, true≢false, false≢true}
+use mathlib.Core.List.{List}
+use mathlib.Core.Logic.{_↔_}
+use Prim.Native.Nat.{ℕ, _<_}
+use native.Mathlib.Omega.{arith}
+use lib.ListN.{length}
+use Rattle.answer.proofs.Apart.{answer-number}
+use Rattle.answer.specs.Numbers.{accepted, rejected, numbers}
+use Rattle.answer.specs.declared.Calls.{Calls}
+use Rattle.answer.specs.declared.Answer.{Answer}
+use Rattle.answer.specs.declared.Answer.the-variants.{Accepted, Rejected}
+use Rattle.booleans.specs.Choice.{choose}
+use Rattle.grammar.specs.Encoding.{grammarOf}
+use Rattle.lookahead.specs.declared.Lookahead.{Lookahead}
+use Rattle.lookahead.specs.Lookaheads.{tokens}
+use Rattle.semantics.specs.Valuations.{Valuation, Solves, solution}
+use Rattle.semantics.specs.Choices.{tableChoice}
+use Rattle.semantics.specs.Memo.{Recorded}
+use Rattle.semantics.proofs.Theorems.{theorems}
+use Rattle.recognizer_promises.specs.Answers.{callsBy, verdictBy}
+use Rattle.recognizer_promises.specs.Properties.{PassedBy, Readable, RecognizesBy, SameVerdict}
+use Rattle.recognizer_promises.proofs.MemoWords.{words-recorded}
+use Rattle.recognizer_promises.proofs.Checking.{passed-encodes, passed-free, passed-predictive}
+
+-- a verdict by a test tells the test
+pub verdict-tells : {r : Answer} (b : Bool) (c : Calls) → r ≡ choose b (Accepted c) (Rejected c)
+    → ((r ≡ Accepted c) ↔ (b ≡ true)) × ((r ≡ Rejected c) ↔ (b ≡ false))
+verdict-tells true c e = ((λ q. refl, λ q. e), (λ q. absurd (omega (arith, answer-number (sym e ∙ q))), λ q. absurd (true≢false q)))
+verdict-tells false c e = ((λ q. absurd (omega (arith, answer-number (sym e ∙ q))), λ q. absurd (false≢true q)), (λ q. refl, λ q. e))
+
+-- property 3 from the verdict of the descent, for any lookahead
+pub meaning : (k : Lookahead) (words input : List ℕ) (r : Answer) → PassedBy k words → Readable words input
+    → r ≡ verdictBy (tokens k) (grammarOf words) input → RecognizesBy (tokens k) words input r
+unfolding verdictBy
+meaning k words input r p h e =
+    let G = grammarOf words in
+    let n = tokens k in
+    let m = passed-encodes words p in
+    let free = passed-free words p in
+    let some-nonterminal : 0 < G .nonterminals = m .limited .someNonterminal in
+    let tells : (v : Valuation) → Solves G input v → ((r ≡ Accepted (callsBy n G input)) ↔ (v 0 0 (length input) ≡ true)) × ((r ≡ Rejected (callsBy n G input)) ↔ (v 0 0 (length input) ≡ false)) =
+    λ v s. verdict-tells {r = r} (v 0 0 (length input)) (callsBy n G input)
+    (e ∙ ap (λ b. choose b (Accepted (callsBy n G input)) (Rejected (callsBy n G input))) (theorems .verdict G n (passed-predictive words p) input (h .tokens) v s)) in
+    let choice = tableChoice G n input in
+    let own = theorems .own-rules G n input in
+    let recorded = theorems .memo-right G (m .formed .scoped) free some-nonterminal choice own input (omega (arith, h .short)) .recorded in
+    record {
+      one-solution = theorems .one-solution G (m .formed .scoped) free input;
+      accepted = λ v s. tells v s .0;
+      rejected = λ v s. tells v s .1;
+      descent = theorems .descent-ends G (m .formed .scoped) free choice own input;
+      calls = theorems .calls-counted G (m .formed .scoped) free some-nonterminal choice own input;
+      memo = subst (λ l. Recorded G choice input l) (words-recorded n G input (m .formed .scoped) free some-nonterminal recorded) recorded;
+    }
+
+-- two verdicts by it agree
+pub same-verdict : SameVerdict
+same-verdict k l words input r s a b =
+    let v = solution (grammarOf words) input in
+    go (v 0 0 (length input)) (a .accepted v (a .one-solution .solves) .1) (b .accepted v (a .one-solution .solves) .1)
+    (a .rejected v (a .one-solution .solves) .1) (b .rejected v (a .one-solution .solves) .1)
+  where
+    go : (x : Bool) {c d e f : Calls} → (x ≡ true → r ≡ Accepted c) → (x ≡ true → s ≡ Accepted d) → (x ≡ false → r ≡ Rejected e) → (x ≡ false → s ≡ Rejected f)
+        → numbers r .verdict ≡ numbers s .verdict
+    go true m n o p = rw (m refl, n refl)
+    go false m n o p = rw (o refl, p refl)

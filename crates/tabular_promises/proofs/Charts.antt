@@ -1,0 +1,72 @@
+-- The chart: a span's word read off it and put into it.
+use mathlib.Core.Path.{_≡_, refl, sym, ap, _∙_}
+use mathlib.Core.Bool.{Bool, true, false, _||_, or-false}
+use mathlib.Core.List.{List}
+use Prim.Native.Nat.{ℕ, suc, _+_, _*_, _^_, _<_}
+use native.Mathlib.Decide.{ℕ-discrete}
+use native.Mathlib.Numerals.{add-one}
+use native.Mathlib.Omega.{arith}
+use lib.Bits.{bitOr, or-shifted-r}
+use lib.ListN.{length, getD, set, length-set}
+use lib.Seq.{getD-set-same, getD-set-other}
+use borrow.Author.Tests.{eq-eqb, ne-eqb}
+use Rattle.booleans.specs.Choice.{choose}
+use Rattle.grammar.specs.Limits.{maxNonterminals, maxTabularPlaces}
+use Rattle.lookahead.specs.Elements.{has, total}
+use Rattle.lookahead.proofs.Weights.{total-bound}
+use Rattle.tabular_promises.specs.Places.{Put}
+use Rattle.tabular_promises.specs.Chart.{slot, charted, Long, wordAt, Added}
+
+-- one weight more
+total-more : (p : ℕ → Bool) (k word r : ℕ) (t : Bool) → word ≡ total k p → t ≡ p k → r ≡ choose t (bitOr word (2 ^ k)) word → r ≡ total (k + 1) p
+unfolding total
+total-more p k word r t h e f = rw (f, h, e, add-one) (go (p k) refl)
+  where
+    go : (b : Bool) → p k ≡ b → choose b (bitOr (total k p) (2 ^ k)) (total k p) ≡ total (suc k) p
+    go true d =
+        let one : 1 * 2 ^ k ≡ 2 ^ k = omega arith in
+        rw d (ap (bitOr (total k p)) (sym one) ∙ or-shifted-r 1 k (total k p) (total-bound k p))
+    go false d = rw d (omega arith)
+
+pub word-start : (chart : List ℕ) (start end : ℕ) → 0 ≡ wordAt chart 0 start end
+unfolding wordAt total
+word-start chart start end = refl
+
+pub word-more : (chart : List ℕ) (start end k word r : ℕ) (t : Bool) → word ≡ wordAt chart k start end → t ≡ has (getD chart (slot k end) 0) start
+    → r ≡ choose t (bitOr word (2 ^ k)) word → r ≡ wordAt chart (k + 1) start end
+unfolding wordAt charted
+word-more chart start end k word r t h e f = total-more (λ A. charted chart A start end) k word r t h e f
+
+-- the bits of the nonterminals below i have been put in
+pub added-start : (chart : List ℕ) (start end word : ℕ) → Long chart → Added chart 0 start end word chart
+added-start chart start end word n = record { long = n; here = λ A h. absurd (omega arith); others = λ A k m a b d. refl }
+
+pub added-more : {before chart chart′ : List ℕ} {i start end word r : ℕ} {t : Bool} → Added before i start end word chart → i < maxNonterminals
+    → end < maxTabularPlaces → t ≡ has word i → Put (getD chart (slot i end) 0) start t r → chart′ ≡ set chart (slot i end) r
+    → Added before (i + 1) start end word chart′
+unfolding charted
+added-more {before} {chart} {chart′} {i} {start} {end} {word} {r} {t} h o q e g f = record {
+  long = rw (f, length-set chart (slot i end) r) (h .long);
+  here = λ A b. rw f (new A b (ℕ-discrete A i));
+  others = λ A k m a b d. rw f (old A k m a b d (ℕ-discrete (slot A m) (slot i end)));
+}
+  where
+    long : slot i end < length chart
+    long = omega (arith, h .long)
+
+    was : has (getD chart (slot i end) 0) start ≡ charted before i start end
+    was = h .others i start end o q (λ l _ _. omega arith)
+
+    new : (A : ℕ) → A < i + 1 → Dec (A ≡ i) → has (getD (set chart (slot i end) r) (slot A end) 0) start ≡ (charted before A start end || has word A)
+    new A b (yes d) = rw (d, getD-set-same chart (slot i end) r 0 long, g .is start, eq-eqb start start refl, was, e)
+    new A b (no d) = rw (getD-set-other chart (slot i end) (slot A end) r 0 (λ z. d (omega arith))) (h .here A (omega arith))
+
+    old : (A k m : ℕ) → A < maxNonterminals → m < maxTabularPlaces → (A < i + 1 → k ≡ start → m ≡ end → ⊥) → Dec (slot A m ≡ slot i end)
+        → has (getD (set chart (slot i end) r) (slot A m) 0) k ≡ charted before A k m
+    old A k m a b d (yes s) =
+        let same : m ≡ end = omega arith in
+        let low : A < i + 1 = omega arith in
+        rw (s, getD-set-same chart (slot i end) r 0 long, g .is k, ne-eqb k start (λ z. d low z same), or-false)
+        (rw s at (h .others A k m a b (λ _ z _. d low z same)))
+    old A k m a b d (no s) =
+        rw (getD-set-other chart (slot i end) (slot A m) r 0 s) (h .others A k m a b (λ l y z. d (omega arith) y z))

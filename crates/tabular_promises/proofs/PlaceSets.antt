@@ -1,0 +1,93 @@
+-- Sets of places as numbers: a place put in; a digit read; where terminals stand.
+use mathlib.Core.Path.{_≡_, sym, ap, _∙_}
+use mathlib.Core.Bool.{Bool, true, false, _&&_, _||_, or-false, or-true, and-true, and-false}
+use mathlib.Core.List.{List}
+use Prim.Native.Nat.{ℕ, suc, _+_, _*_, _/_, _%_, _^_, _≤_, _<_}
+use native.Mathlib.Decide.{ℕ-discrete, decLt}
+use native.Mathlib.Numerals.{add-one}
+use native.Mathlib.Omega.{arith}
+use lib.Bits.{bitAnd, bitOr, and-mask}
+use lib.Dec.{eqb, ltb}
+use lib.ListN.{length, getD, set, replicate, length-set, length-replicate, getD-replicate}
+use lib.Pow.{shl-exact}
+use lib.Seq.{getD-set-same, getD-set-other}
+use borrow.Author.Tests.{eq-eqb, ne-eqb, lt-ltb, le-ltb}
+use Rattle.grammar.specs.Limits.{maxTerminals, maxTabularPlaces, maxNonterminals}
+use Rattle.lookahead.specs.Elements.{has}
+use Rattle.lookahead.proofs.Elements.{has-or, has-zero}
+use Rattle.lookahead.proofs.Powers.{has-pow}
+use Rattle.event.specs.Events.{terminalOf, inputOf}
+use Rattle.event.proofs.Inputs.{input-length, input-at}
+use Rattle.tabular_promises.specs.Places.{Put, Standing, InputGiven}
+
+-- a place's weight, and a nonterminal's
+pub weight-64 : (k : ℕ) → k < maxTabularPlaces → 1 * 2 ^ k % 2 ^ 64 ≡ 2 ^ k
+weight-64 k h = shl-exact 1 k 64 (omega arith) (omega arith) ∙ omega arith
+
+pub weight-32 : (k : ℕ) → k < maxNonterminals → 1 * 2 ^ k % 2 ^ 32 ≡ 2 ^ k
+weight-32 k h = shl-exact 1 k 32 (omega arith) (omega arith) ∙ omega arith
+
+pub digit : (n k : ℕ) → eqb (bitAnd (n / 2 ^ k) 1) 1 ≡ has n k
+unfolding has
+digit n k = ap (λ (d : ℕ). eqb d 1) (and-mask (n / 2 ^ k) 1)
+
+pub put-in : {s place r : ℕ} {member : Bool} → member ≡ true → r ≡ bitOr s (2 ^ place) → Put s place member r
+put-in {s} {place} {r} {member} m e =
+    record { is = λ k. rw (e, m) (has-or s (2 ^ place) k ∙ ap (has s k ||_) (has-pow place k ∙ sym (and-true (eqb k place)))) }
+
+pub put-none : {s place : ℕ} {member : Bool} → member ≡ false → Put s place member s
+put-none {s} {place} {member} m =
+    record { is = λ k. rw m (sym (ap (has s k ||_) (and-false (eqb k place)) ∙ or-false (has s k))) }
+
+-- the first i tokens have been put in
+pub record StandingTo (w l : List ℕ) (i : ℕ) : Type 0 where
+  pub long : length l ≡ maxTerminals
+  pub within : i ≤ length w
+  pub at : (a k : ℕ) → a < maxTerminals → has (getD l a 0) k ≡ (ltb k i && eqb (getD w k 0) a)
+
+pub standing-start : (w : List ℕ) (n : ℕ) → n ≡ maxTerminals → StandingTo w (replicate n 0) 0
+standing-start w n e = record {
+  long = length-replicate {A = ℕ} n 0 ∙ e;
+  within = omega arith;
+  at = λ a k h. rw (getD-replicate {A = ℕ} n a 0 0 (omega arith), le-ltb k 0 (omega arith)) (has-zero k);
+}
+
+one-more : {w l l′ : List ℕ} {i r : ℕ} → StandingTo w l i → i < length w → getD w i 0 < maxTerminals
+    → Put (getD l (getD w i 0) 0) i true r → l′ ≡ set l (getD w i 0) r → StandingTo w l′ (i + 1)
+one-more {w} {l} {l′} {i} {r} h o t g e = record {
+  long = rw (e, length-set l (getD w i 0) r) (h .long);
+  within = omega arith;
+  at = λ a k b. rw (e, add-one) (go a k b (ℕ-discrete a (getD w i 0)) (ℕ-discrete k i));
+}
+  where
+    later : (k : ℕ) → (k ≡ i → ⊥) → ltb k i ≡ ltb k (suc i)
+    later k d = elim (decLt k i) [
+      | yes p ↦ rw (lt-ltb k i p, lt-ltb k (suc i) (omega arith))
+      | no p ↦ rw (le-ltb k i (omega arith), le-ltb k (suc i) (omega arith))
+    ]
+
+    go : (a k : ℕ) → a < maxTerminals → Dec (a ≡ getD w i 0) → Dec (k ≡ i) → has (getD (set l (getD w i 0) r) a 0) k ≡ (ltb k (suc i) && eqb (getD w k 0) a)
+    go a k b (yes p) (yes q) =
+        rw (p, getD-set-same l (getD w i 0) r 0 (omega (arith, h .long)), g .is k, eq-eqb k i q, lt-ltb k (suc i) (omega arith), or-true)
+        (sym (eq-eqb (getD w k 0) (getD w i 0) (ap (λ (n : ℕ). getD w n 0) q)))
+    go a k b (yes p) (no q) =
+        rw (p, getD-set-same l (getD w i 0) r 0 (omega (arith, h .long)), g .is k, ne-eqb k i q, or-false, h .at (getD w i 0) k t, later k q)
+    go a k b (no p) (yes q) =
+        rw (getD-set-other l (getD w i 0) a r 0 p, h .at a k b, le-ltb k i (omega arith), lt-ltb k (suc i) (omega arith))
+        (sym (ne-eqb (getD w k 0) a (λ d. p (sym d ∙ ap (λ (n : ℕ). getD w n 0) q))))
+    go a k b (no p) (no q) = rw (getD-set-other l (getD w i 0) a r 0 p, h .at a k b, later k q)
+
+-- the same of events
+module _ (events : List ℕ) (g : InputGiven (inputOf events)) {i : ℕ} (o : i < length events) {a : ℕ} (t : a ≡ terminalOf (getD events i 0)) where
+  its-token : a ≡ getD (inputOf events) i 0
+  its-token = t ∙ sym (input-at events i)
+
+  pub terminal-low : a < maxTerminals
+  terminal-low = rw its-token (g .terminals i (omega (arith, input-length events)))
+
+  pub standing-more : {l l′ : List ℕ} {r : ℕ} → StandingTo (inputOf events) l i → Put (getD l a 0) i true r → l′ ≡ set l a r
+      → StandingTo (inputOf events) l′ (i + 1)
+  standing-more h p e = one-more h (omega (arith, input-length events)) (rw its-token at terminal-low) (rw its-token at p) (rw its-token at e)
+
+pub standing-end : {w l : List ℕ} {i : ℕ} → StandingTo w l i → length w ≤ i → Standing w l
+standing-end {w} {l} {i} h o = let e : i ≡ length w = omega (arith, h .within) in record { at = λ a k b. rw e at (h .at a k b) }

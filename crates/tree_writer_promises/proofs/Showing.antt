@@ -1,0 +1,316 @@
+-- From the answer of judging to the tree that is written, and the promise of the call.
+use mathlib.Core.Path.{_≡_, refl, sym, ap, _∙_}
+use mathlib.Core.Bool.{Bool, true, false}
+use mathlib.Core.List.{List, [], _∷_, _++_}
+use mathlib.Core.Logic.{⊎-elim}
+use mathlib.Core.Option.{Option, none, some}
+use denote.Enum.Declared.{tagOf}
+use types.Run.{OneOf}
+use Prim.Native.Nat.{ℕ, suc, _+_, _-_, _*_, _≤_, _<_}
+use native.Mathlib.Decide.{decLt}
+use native.Mathlib.Nat.{mul-le-mul}
+use native.Mathlib.Omega.{arith}
+use lib.Dec.{T}
+use lib.Arith.{digits-lt}
+use lib.ListN.{length, getD, drop, replicate, length-append, length-drop, length-map, List·getD-append}
+use borrow.Author.Tests.{lt-ltb, le-ltb}
+use Rattle.answer.specs.Faults.{firstFault, refusedOr, toldOr}
+use Rattle.answer.specs.Numbers.{coded}
+use Rattle.answer.specs.declared.Error.{Error}
+use Rattle.answer.specs.declared.Error.the-variants.{TableTooShort, MemoTooShort, TreeTooShort}
+use Rattle.answer.specs.declared.Calls.{Calls}
+use Rattle.answer.specs.declared.Answer.{Answer}
+use Rattle.answer.specs.declared.Answer.the-variants.{Refused, Passed, Rejected, Accepted}
+use Rattle.answer.proofs.Answer.{the-type}
+use Rattle.answer.proofs.Apart.{answer-number, refusalNumber}
+use Rattle.answer.proofs.Faults.{none-some, each-none}
+use Rattle.booleans.specs.Choice.{choose}
+use Rattle.booleans.proofs.Booleans.{true-T}
+use Rattle.grammar.specs.Codes.{noEntry, uncalledCode}
+use Rattle.grammar.specs.Limits.{maxNonterminals, maxTokens, maxPlaces, maxTableWords, maxMemoEntries}
+use Rattle.grammar.specs.Syntax.{Grammar}
+use Rattle.grammar.specs.Encoding.{grammarOf}
+use Rattle.event.specs.declared.Unknown.{Unknown}
+use Rattle.event.specs.declared.Unknown.the-variants.{Absent, At}
+use Rattle.event.specs.Unknown.{unknownFrom, unknownFault}
+use Rattle.event.proofs.Known.{absent-known}
+use Rattle.semantics.specs.Valuations.{solution}
+use Rattle.semantics.specs.Strings.{Over}
+use Rattle.semantics.specs.Descent.{accepts, descend}
+use Rattle.semantics.specs.ComesTo.{Call}
+use Rattle.semantics.specs.Calls.{Called}
+use Rattle.semantics.specs.Memo.{encode, indexOf}
+use Rattle.semantics.specs.Predictive.{Predictive}
+use Rattle.semantics.proofs.Called.{called-range}
+use Rattle.semantics.proofs.Range.{index-range}
+use Rattle.semantics.proofs.Theorems.{theorems}
+use Rattle.lookahead.specs.declared.Lookahead.the-variants.{One}
+use Rattle.columns.specs.Columns.{columns}
+use Rattle.table.specs.Layout.{tableWords}
+use Rattle.table.specs.Layout.{filled}
+use Rattle.table.proofs.Words.{filled-entries, table-length}
+use Rattle.recognizer_promises.specs.Answers.{judgeFault, callsOf, verdictBy, verdictOf, verdictNumbers}
+use Rattle.recognizer_promises.specs.Memory.{lentBack, memoWords}
+use Rattle.recognizer_promises.specs.Properties.{Judges, PassedGrammar}
+use Rattle.recognizer_promises.proofs.Checking.{passed-fault, passed-encodes, passed-read, no-clashes, not-left-recursive}
+use Rattle.recognizer_promises.proofs.JudgeFaults.{judgeRows, judged-rows, judged-readable, table-short, memo-short}
+use Rattle.recognizer_promises.proofs.Judged.{judge-refused}
+use Rattle.memo_table.proofs.Entries.{getD-any}
+use Rattle.tree.specs.Writing.{vertexAt, vertexWord, treeCalls, treeOf, treeWords, InTree}
+use Rattle.tree.specs.Theorems.{Told}
+use Rattle.tree.proofs.Lists.{map-elim}
+use Rattle.tree.proofs.Trees.{tree-right, vertex-within}
+use Rattle.tree.proofs.Words.{told as word-told}
+use Rattle.tree_writer_promises.specs.Writer as writer
+use Rattle.tree_writer_promises.specs.Writer.{choiceOf, wordsOf, Entries, TreeGiven, TreeDone}
+use Rattle.tree_writer_promises.specs.declared.Shown.{Shown}
+use Rattle.tree_writer_promises.specs.Properties.{treeFault, writtenOr, TreeTold, Shows}
+
+-- acceptance, by its tag
+pub is-accepted : (a : Answer) → tagOf the-type a ≡ 3 → (c : Calls) × (a ≡ Accepted c)
+is-accepted (Refused e) t = absurd (omega arith)
+is-accepted Passed t = absurd (omega arith)
+is-accepted (Rejected c) t = absurd (omega arith)
+is-accepted (Accepted c) t = (c, refl)
+
+pub not-accepted : (a : Answer) → OneOf (0 ∷ 1 ∷ 2 ∷ []) (tagOf the-type a) → (c : Calls) → a ≡ Accepted c → ⊥
+not-accepted a t c e = ⊎-elim (λ e. omega arith) (⊎-elim (λ e. omega arith) (λ e. omega arith)) (rw e at t)
+
+-- an answer that is acceptance is no refusal and tells that the descent accepts
+accepted-tells : (f : Option Error) (b : Bool) (c d : Calls) → Accepted d ≡ refusedOr f (choose b (Accepted c) (Rejected c)) → (f ≡ none) × (b ≡ true)
+accepted-tells (some e) b c d q = absurd (omega (arith, ap refusalNumber q))
+accepted-tells none true c d q = (refl, refl)
+accepted-tells none false c d q = absurd (omega (arith, answer-number q))
+
+-- and one that is not, tells that the call is refused or the descent rejects
+other-tells : (f : Option Error) (b : Bool) (c : Calls) → (Accepted c ≡ refusedOr f (choose b (Accepted c) (Rejected c)) → ⊥) → (f ≡ none → b ≡ false)
+other-tells (some e) b c n q = absurd (none-some (sym q))
+other-tells none true c n q = absurd (n refl)
+other-tells none false c n q = refl
+
+alone : (f : Option Error) → firstFault (f ∷ []) ≡ f
+alone none = refl
+alone (some e) = refl
+
+-- the first fault of the call, by what holds
+module _ (words input table memo tree : List ℕ) where
+  abbrev judged : Option Error
+  judged = judgeFault (length table) (length memo) words input
+
+  abbrev showing : Option Error
+  showing = treeFault (length table) (length memo) (length tree) words input
+
+  first-table : length table < maxTableWords → showing ≡ some TableTooShort
+  unfolding treeFault
+  first-table h = rw (lt-ltb (length table) maxTableWords h) refl
+
+  module _ (long : maxTableWords ≤ length table) where
+    first-memo : length memo < maxMemoEntries → showing ≡ some MemoTooShort
+    unfolding treeFault
+    first-memo h = rw (le-ltb (length table) maxTableWords long, lt-ltb (length memo) maxMemoEntries h) refl
+
+    module _ (room : maxMemoEntries ≤ length memo) where
+      first-tree : length tree < maxMemoEntries → showing ≡ some TreeTooShort
+      unfolding treeFault
+      first-tree h = rw (le-ltb (length table) maxTableWords long, le-ltb (length memo) maxMemoEntries room, lt-ltb (length tree) maxMemoEntries h) refl
+
+      -- then as judging
+      then-judged : maxMemoEntries ≤ length tree → showing ≡ judged
+      unfolding treeFault
+      then-judged h =
+          rw (le-ltb (length table) maxTableWords long, le-ltb (length memo) maxMemoEntries room, le-ltb (length tree) maxMemoEntries h) (alone judged)
+
+  -- tree memory that is too short is refused, if not for another memory's length
+  pub short-refused : length tree < maxMemoEntries → (x : Error) × (showing ≡ some x) × (coded x .position ≡ 0)
+  short-refused h = go (decLt (length table) maxTableWords) (decLt (length memo) maxMemoEntries)
+    where
+      go : Dec (length table < maxTableWords) → Dec (length memo < maxMemoEntries) → (x : Error) × (showing ≡ some x) × (coded x .position ≡ 0)
+      go (yes t) m = (TableTooShort, first-table t, refl)
+      go (no t) (yes m) = (MemoTooShort, first-memo (omega arith) m, refl)
+      go (no t) (no m) = (TreeTooShort, first-tree (omega arith) (omega arith) h, refl)
+
+  -- a refusal
+  refused : {x : Error} → showing ≡ some x → (maxMemoEntries ≤ length tree → judged ≡ some x)
+      → Shows words input table memo tree (record { answer = Refused x; written = 0 }) table memo tree
+  refused e k = record {
+    answer = sym (ap (λ f. refusedOr f (verdictOf (grammarOf words) input)) e);
+    numbered = sym (ap (λ f. toldOr f (verdictNumbers (grammarOf words) input)) e);
+    lent-table = sym (ap (λ f. lentBack f (tableWords One (grammarOf words)) table) e);
+    lent-memo = sym (ap (λ f. lentBack f (memoWords (grammarOf words) input) memo) e);
+    lent-tree = sym (ap (λ f. lentBack f (wordsOf words input) tree) e);
+    written = sym (ap (λ f. writtenOr f (length (wordsOf words input))) e);
+    few = omega arith;
+    judges = λ h. judge-refused (k h);
+    tells = λ q. absurd (omega (arith, ap refusalNumber q));
+  }
+
+  pub short-table : length table < maxTableWords → Shows words input table memo tree (record { answer = Refused TableTooShort; written = 0 }) table memo tree
+  short-table h = refused (first-table h) (λ _. table-short words input table memo h)
+
+  pub short-memo : maxTableWords ≤ length table → length memo < maxMemoEntries
+      → Shows words input table memo tree (record { answer = Refused MemoTooShort; written = 0 }) table memo tree
+  short-memo long h = refused (first-memo long h) (λ _. memo-short words input table memo long h)
+
+  pub short-tree : maxTableWords ≤ length table → maxMemoEntries ≤ length memo → length tree < maxMemoEntries
+      → Shows words input table memo tree (record { answer = Refused TreeTooShort; written = 0 }) table memo tree
+  short-tree long room h = refused (first-tree long room h) (λ l. absurd (omega arith))
+
+-- memories that are long enough, and what judging promises
+module _ (tree : List ℕ) {words input table memo : List ℕ} (long : maxTableWords ≤ length table) (room : maxMemoEntries ≤ length memo) (high : maxMemoEntries ≤ length tree)
+    {a : Answer} {table′ memo′ : List ℕ} (j : Judges words input table memo a table′ memo′) where
+  abbrev G : Grammar
+  G = grammarOf words
+
+  abbrev fault : Option Error
+  fault = judgeFault (length table) (length memo) words input
+
+  same : treeFault (length table) (length memo) (length tree) words input ≡ fault
+  same = then-judged words input table memo tree long room high
+
+  -- the promise from the words that are written
+  shows : {n : ℕ} {tree′ : List ℕ} → n ≡ writtenOr fault (length (wordsOf words input)) → tree′ ≡ lentBack fault (wordsOf words input) tree → n ≤ maxMemoEntries
+      → (a ≡ Accepted (callsOf G input) → TreeTold words input)
+      → Shows words input table memo tree (record { answer = a; written = n }) table′ memo′ tree′
+  shows w l f t = record {
+    answer = j .answer ∙ sym (ap (λ f. refusedOr f (verdictOf G input)) same);
+    numbered = j .told ∙ sym (ap (λ f. toldOr f (verdictNumbers G input)) same);
+    lent-table = j .lent-table ∙ sym (ap (λ f. lentBack f (tableWords One G) table) same);
+    lent-memo = j .lent-memo ∙ sym (ap (λ f. lentBack f (memoWords G input) memo) same);
+    lent-tree = l ∙ sym (ap (λ f. lentBack f (wordsOf words input) tree) same);
+    written = w ∙ sym (ap (λ f. writtenOr f (length (wordsOf words input))) same);
+    few = f;
+    judges = λ _. j;
+    tells = t;
+  }
+
+  -- no word is written for an answer that is no acceptance
+  pub shows-none : ((c : Calls) → a ≡ Accepted c → ⊥) → Shows words input table memo tree (record { answer = a; written = 0 }) table′ memo′ tree
+  unfolding verdictBy treeWords
+  shows-none n =
+      let t = other-tells fault (accepts G (choiceOf words input) input) (callsOf G input) (λ e. n (callsOf G input) (j .answer ∙ sym e)) in
+      shows (count fault t) (back fault t) (omega arith) (λ q. absurd (n (callsOf G input) q))
+    where
+      count : (f : Option Error) → (f ≡ none → accepts G (choiceOf words input) input ≡ false) → 0 ≡ writtenOr f (length (wordsOf words input))
+      count (some e) h = refl
+      count none h = rw (h refl) refl
+
+      back : (f : Option Error) → (f ≡ none → accepts G (choiceOf words input) input ≡ false) → tree ≡ lentBack f (wordsOf words input) tree
+      back (some e) h = refl
+      back none h = rw (h refl) refl
+
+  module _ (c : Calls) (q : a ≡ Accepted c) where
+    told : (fault ≡ none) × (accepts G (choiceOf words input) input ≡ true)
+    unfolding verdictBy
+    told = accepted-tells fault (accepts G (choiceOf words input) input) (callsOf G input) c (sym q ∙ j .answer)
+
+    passed : PassedGrammar words
+    passed = passed-fault words (judged-readable words input (length table) (length memo) (told .0) .0)
+
+    short : length input ≤ maxTokens
+    short = judged-readable words input (length table) (length memo) (told .0) .1
+
+    absent : (u : Unknown) → unknownFault u ≡ none → u ≡ Absent
+    absent Absent e = refl
+    absent (At i) e = absurd (none-some (sym e))
+
+    tokens : Over (G .terminals) input
+    tokens =
+        let rows = each-none (judgeRows (length table) (length memo) words input) (sym (judged-rows (length table) (length memo) words input) ∙ told .0) in
+        absent-known (G .terminals) 0 input (absent (unknownFrom (G .terminals) 0 input) (rows .1 .1 .1 .1 .0))
+
+    predictive : Predictive G 1
+    predictive =
+        let k = passed-encodes words passed in
+        theorems .passed G 1 (omega arith) (k .formed) (k .limited .someNonterminal) .0 (not-left-recursive words passed, no-clashes words passed)
+
+    accepted : writer.Accepted words input
+    accepted = record {
+      sizes = _;
+      read = passed-read words passed;
+      predictive = predictive;
+      tokens = tokens;
+      short = short;
+      accepted = true-T _ (told .1);
+    }
+
+    table-is : table′ ≡ tableWords One G ++ drop (length (tableWords One G)) table
+    table-is = j .lent-table ∙ ap (λ f. lentBack f (tableWords One G) table) (told .0)
+
+    memo-is : memo′ ≡ memoWords G input ++ drop (length (memoWords G input)) memo
+    memo-is = j .lent-memo ∙ ap (λ f. lentBack f (memoWords G input) memo) (told .0)
+
+    -- the lent table has the grammar's entries
+    entries : Entries G table′
+    unfolding filled
+    entries A k named low =
+        let i : ℕ = 2 * G .nonterminals + A * columns One G + k in
+        let within : A * columns One G + k < G .nonterminals * columns One G = digits-lt named low in
+        let b : i < length (tableWords One G) = omega (arith, table-length One G) in
+        ap (λ l. getD l i 0) table-is ∙ List·getD-append (tableWords One G) (drop (length (tableWords One G)) table) 0 i b
+        ∙ sym (List·getD-append (tableWords One G) (replicate (maxTableWords - length (tableWords One G)) noEntry) 0 i b) ∙ filled-entries One G A k named low
+
+    -- the lent memo table has the outcomes of the calls
+    recorded : (x : Call) → Called G (choiceOf words input) input x
+        → getD memo′ (indexOf input x) 0 ≡ encode (descend G (choiceOf words input) input (x .nonterminal) (x .place))
+    recorded x k =
+        let m = j .recognizes long room passed (record { short = short; tokens = tokens }) .memo in
+        let own = theorems .own-rules G 1 input in
+        let range = called-range G (choiceOf words input) input (predictive .scoped) (predictive .unrecursive) own (predictive .start) x k in
+        let b : indexOf input x < length (memoWords G input) = omega (arith, index-range G input x range, m .size) in
+        ap (λ l. getD l (indexOf input x) 0) memo-is ∙ List·getD-append (memoWords G input) (drop (length (memoWords G input)) memo) 0 (indexOf input x) b
+        ∙ getD-any (memoWords G input) (indexOf input x) 0 uncalledCode b ∙ m .called x k
+
+    as-long : (new old : List ℕ) → length old ≤ length (new ++ drop (length new) old)
+    as-long new old = omega (arith, length-append new (drop (length new) old), length-drop (length new) old)
+
+    pub show-given : TreeGiven words input table′ memo′ tree
+    show-given = record {
+      accepted = accepted;
+      entries = entries;
+      recorded = recorded;
+      long-table = omega (arith, long, ap length table-is, as-long (tableWords One G) table);
+      long-memo = omega (arith, room, ap length memo-is, as-long (memoWords G input) memo);
+      long-tree = high;
+    }
+
+    -- what the words tell
+    tells : TreeTold words input
+    unfolding treeOf
+    tells = record {
+      told = λ y m.
+          let e = map-elim (vertexAt G (choiceOf words input) input) (treeCalls G (choiceOf words input) input) y m in
+          let solves = theorems .one-solution G (predictive .scoped) (predictive .unrecursive) input .solves in
+          let h = tree-right G 1 input predictive tokens (solution G input) solves (true-T _ (told .1)) .written .sound (e .0) (e .1) in
+          rw (e .2) (vertex-told predictive tokens short (true-T _ (told .1)) (e .0) h);
+      right = λ v solves. tree-right G 1 input predictive tokens v solves (true-T _ (told .1));
+    }
+      where
+        few : length (G .rules) ≤ 128
+        few = let k = passed-encodes words passed in omega (arith, k .limited .fewRules)
+
+        vertex-told : (p : Predictive G 1) (over : Over (G .terminals) input) → length input ≤ maxTokens → (t : T (accepts G (choiceOf words input) input))
+            → (x : Call) → InTree G (choiceOf words input) input x → Told (vertexAt G (choiceOf words input) input x)
+        vertex-told p over s t x h =
+            let solves = theorems .one-solution G (p .scoped) (p .unrecursive) input .solves in
+            let low = vertex-within G 1 input p over (solution G input) solves t x h in
+            word-told _ (omega (arith, low .0, few)) (omega (arith, low .1)) (omega (arith, low .2))
+
+    -- no more words than there are calls
+    few : length (wordsOf words input) ≤ maxMemoEntries
+    unfolding treeWords
+    few =
+        let v = theorems .one-solution G (predictive .scoped) (predictive .unrecursive) input .solves in
+        let vertices = treeOf G (choiceOf words input) input .vertices in
+        let a = tells .right (solution G input) v .written .few in
+        let b = theorems .calls-counted G (predictive .scoped) (predictive .unrecursive) (predictive .start) (choiceOf words input) (theorems .own-rules G 1 input) input .bounded in
+        let k = mul-le-mul {n₁ = G .nonterminals} {m₁ = suc (length input)} {n₂ = maxNonterminals} {m₂ = maxPlaces}
+        (passed-encodes words passed .limited .fewNonterminals) (omega (arith, short)) in
+        rw (told .1) (omega (arith, length-map vertices vertexWord))
+
+    pub shows-tree : {n : ℕ} {tree′ : List ℕ} → TreeDone words input tree n tree′
+        → Shows words input table memo tree (record { answer = a; written = n }) table′ memo′ tree′
+    shows-tree {n} {tree′} d = shows
+        (d .number ∙ sym (ap (λ f. writtenOr f (length (wordsOf words input))) (told .0)))
+        (d .written ∙ ap (λ m. wordsOf words input ++ drop m tree) (d .number) ∙ sym (ap (λ f. lentBack f (wordsOf words input) tree) (told .0)))
+        (omega (arith, d .number, few))
+        (λ _. tells)
