@@ -5,8 +5,8 @@ use Prim.Native.Nat.{ℕ, _<_}
 use native.Mathlib.Omega.{arith}
 use lib.ListN.{length, getD}
 use lib.Seq.{ext-getD}
-use Rattle.families.specs.Lists.{listed}
-use Rattle.families.proofs.Lists.{listed-long, listed-at}
+use Rattle.base.specs.Lists.{listed}
+use Rattle.base.proofs.Lists.{listed-long, listed-at}
 
 pub listed-by : (n : ℕ) (f : ℕ → ℕ) (l : List ℕ) → length l ≡ n → ((i : ℕ) → i < n → getD l i 0 ≡ f i) → l ≡ listed n f
 listed-by n f l e h =

@@ -8,20 +8,20 @@ use native.Mathlib.Omega.{arith}
 use lib.ListN.{length, take, drop, set, getD, replicate, length-append}
 use lib.Seq.{take-all, take-at}
 use borrow.Author.Tests.{lt-ltb, le-ltb}
-use Rattle.booleans.specs.Choice.{choose}
+use Rattle.base.specs.Choice.{choose}
 use Rattle.grammar.specs.Codes.{noEntry}
 use Rattle.grammar.specs.Limits.{maxNonterminals, maxTerminals, maxColumns, maxWideColumns, maxTableWords, maxWideTableWords}
 use Rattle.grammar.specs.declared.reading.Sizes.{Sizes}
 use Rattle.lookahead.specs.declared.Lookahead.{Lookahead}
 use Rattle.lookahead.specs.declared.Lookahead.the-variants.{One, Two}
-use Rattle.families.specs.Lists.{listed}
+use Rattle.base.specs.Lists.{listed}
 use Rattle.families.specs.declared.Finding.{Finding}
 use Rattle.families.specs.declared.Finding.the-variants.{Passed, Refused}
-use Rattle.families.proofs.Lists.{listed-long, listed-at}
+use Rattle.base.proofs.Lists.{listed-long, listed-at}
 use Rattle.columns.specs.Columns.{columnCount}
 use Rattle.table.specs.Layout.{tableRoom}
 use Rattle.lending.specs.Lending.{wordAt, stored, wordCount, laid, madeUp, noSizes, lentSizes, lentBy, SizesGiven}
-use Rattle.lending.proofs.Front.{front, front-more}
+use Rattle.base.proofs.Front.{front, front-more}
 
 none-few : SizesGiven noSizes
 none-few = record { fewNonterminals = omega arith; fewTerminals = omega arith }

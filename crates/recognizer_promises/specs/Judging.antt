@@ -19,7 +19,7 @@ use Rattle.lookahead.specs.Lookaheads.{tokens}
 use Rattle.admission.specs.Admission.{admission}
 use Rattle.semantics.specs.Valuations.{pairs}
 use Rattle.semantics.specs.LeftRecursion.{NoLeftRecursion}
-use Rattle.semantics.specs.Strings.{Over}
+use Rattle.base.specs.Strings.{Over}
 use Rattle.families.specs.declared.Finding.{Finding}
 use Rattle.families.specs.declared.Finding.the-variants.{Passed, Refused}
 use Rattle.table.specs.Entries.{entriesOf, noRules}

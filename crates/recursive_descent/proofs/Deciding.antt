@@ -9,7 +9,7 @@ use lib.ListN.{length, replicate, length-replicate, getD-replicate}
 use Rattle.answer.specs.declared.Answer.{Answer}
 use Rattle.answer.specs.declared.Answer.the-variants.{Rejected, Accepted}
 use Rattle.answer.specs.declared.Calls.{Calls}
-use Rattle.booleans.specs.Choice.{choose}
+use Rattle.base.specs.Choice.{choose}
 use Rattle.grammar.specs.Codes.{uncalledCode}
 use Rattle.grammar.specs.Syntax.{Grammar}
 use Rattle.grammar.specs.Encoding.{grammarOf}
@@ -22,8 +22,8 @@ use Rattle.semantics.specs.Choices.{Choice, tableChoice}
 use Rattle.semantics.specs.Descent.{endsAt, descend, accepts}
 use Rattle.semantics.specs.Memo.{EndsFit, indexOf, blank, Recorded}
 use Rattle.semantics.specs.MemoDescent.{memoized, memoCall}
-use Rattle.semantics.proofs.Range.{index-range}
-use Rattle.semantics.proofs.Memo.{memo-recorded-within}
+use Rattle.semantics.proofs.descent.Range.{index-range}
+use Rattle.semantics.proofs.descent.Memo.{memo-recorded-within}
 use Rattle.semantics.proofs.Theorems.{theorems}
 use Rattle.rule.specs.declared.Outcome as code
 use Rattle.rule.specs.Rule.{meant}

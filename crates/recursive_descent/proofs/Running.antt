@@ -9,7 +9,7 @@ use native.Mathlib.Numerals.{add-one}
 use lib.Dec.{ltb, eqb}
 use lib.ListN.{length, getD, drop}
 use borrow.Author.Tests.{lt-ltb, le-ltb, ne-eqb, ltb-true}
-use Rattle.booleans.proofs.Booleans.{and-first}
+use Rattle.base.proofs.Booleans.{and-first}
 use Rattle.word.specs.Words.{decoded}
 use Rattle.word.specs.declared.Symbol as grammar
 use Rattle.word.specs.declared.Symbol.the-variants.{Terminal, Nonterminal}
@@ -28,7 +28,7 @@ use Rattle.semantics.specs.Choices.{Choice}
 use Rattle.semantics.specs.Descent.{Outcome, Failed, End}
 use Rattle.semantics.specs.ComesTo.{callAt, measure}
 use Rattle.semantics.specs.MemoDescent.{memoized, andThen, MemoCalls, memoRun, memoCall}
-use Rattle.semantics.proofs.Rank.{level-onward}
+use Rattle.semantics.proofs.meaning.Rank.{level-onward}
 use Rattle.rule.specs.declared.Outcome as code
 use Rattle.rule.specs.declared.Outcome.the-variants as outcome
 use Rattle.rule.specs.Rule.{meant}

@@ -4,7 +4,7 @@ use Prim.Native.Nat.{_-_, _≤_}
 use native.Mathlib.Omega.{arith}
 use lib.ListN.{length, length-set}
 use Rattle.lookahead.specs.declared.Lookahead.the-variants.{One}
-use Rattle.lending.proofs.Front.{front, front-more}
+use Rattle.base.proofs.Front.{front, front-more}
 use Rattle.lending.proofs.Laying.{lent-given, count-room, made-room, lent-short, lent-copied}
 use borrow.Author.Needs.{needs}
 use Rattle.lending.proofs.lend.Statement.{statement}

@@ -4,9 +4,9 @@ use Prim.Native.Nat.{_-_, _≤_}
 use native.Mathlib.Omega.{arith}
 use lib.ListN.{length, length-set}
 use Rattle.lookahead.specs.declared.Lookahead.the-variants.{Two}
-use Rattle.families.specs.Lists.{listed}
+use Rattle.base.specs.Lists.{listed}
 use Rattle.lending.specs.Lending.{wordAt}
-use Rattle.lending.proofs.Front.{front}
+use Rattle.base.proofs.Front.{front}
 use Rattle.lending.proofs.Laying.{lent-given, count-room, front-next, lent-short, lent-written}
 use borrow.Author.Needs.{needs}
 use Rattle.lending.proofs.lend_wide.Statement.{statement}

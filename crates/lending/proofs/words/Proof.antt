@@ -6,9 +6,9 @@ use lib.ListN.{length-replicate}
 use Rattle.grammar.specs.Codes.{noEntry}
 use Rattle.grammar.specs.Limits.{maxTableWords}
 use Rattle.lookahead.specs.declared.Lookahead.the-variants.{One}
-use Rattle.families.specs.Lists.{listed}
+use Rattle.base.specs.Lists.{listed}
 use Rattle.lending.specs.Lending.{wordAt}
-use Rattle.lending.proofs.Front.{front}
+use Rattle.base.proofs.Front.{front}
 use Rattle.lending.proofs.Laying.{count-room, front-next, words-made}
 use Rattle.lending.proofs.words.Statement.{statement}
 use Rattle.lending.proofs.words.Tie as tie
