@@ -9,9 +9,9 @@ use lib.ListN.{length}
 use Rattle.word.specs.declared.Symbol.the-variants.{Terminal, Nonterminal}
 use Rattle.grammar.specs.Syntax.{Grammar}
 use Rattle.grammar.specs.Cards.{grammarM, grammarE}
-use Rattle.booleans.specs.Quantifiers.{anyOf, allOf, anyBelow}
-use Rattle.booleans.proofs.Booleans.{T-true, true-T, and-make}
-use Rattle.booleans.proofs.Quantified.{below-make}
+use Rattle.base.specs.Quantifiers.{anyOf, allOf, anyBelow}
+use Rattle.base.proofs.Booleans.{T-true, true-T, and-make}
+use Rattle.base.proofs.Quantified.{below-make}
 use Rattle.semantics.specs.Valuations.{Valuation, contains, derives, byRules, rounds, Solves, solution}
 use Rattle.semantics.specs.Predictive.{Predictive}
 use Rattle.semantics.proofs.Theorems.{theorems}

@@ -12,8 +12,8 @@ use lib.ListN.{length, take}
 use lib.Seq.{take-length}
 use lib.Pow.{pow-pos}
 use native.Mathlib.Nat.{mod-lt}
-use Rattle.booleans.proofs.Booleans.{T-subst, true-T, T-true, T-none, both, and-l, and-r, and-make, or-l, or-r, or-cases}
-use Rattle.booleans.proofs.Quantified.{below-make, below-elim}
+use Rattle.base.proofs.Booleans.{T-subst, true-T, T-true, T-none, both, and-l, and-r, and-make, or-l, or-r, or-cases}
+use Rattle.base.proofs.Quantified.{below-make, below-elim}
 use Rattle.lookahead.specs.declared.Lookahead.{Lookahead}
 use Rattle.lookahead.specs.declared.Lookahead.the-variants.{One, Two}
 use Rattle.lookahead.specs.Lookaheads.{tokens, elements, nothing, elementOf, stringOf, after}

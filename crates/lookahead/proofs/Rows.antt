@@ -10,9 +10,9 @@ use lib.Bits.{bitAnd, bitOr, and-mask}
 use lib.Dec.{T, eqb, ltb, ltb→lt, lt→ltb}
 use lib.Pow.{shl-exact}
 use borrow.Author.Tests.{eq-eqb, ne-eqb, lt-ltb, le-ltb}
-use Rattle.booleans.specs.Quantifiers.{anyBelow}
-use Rattle.booleans.proofs.Booleans.{T-subst, T-true, both, and-l, and-r, and-make, or-l, or-r, or-cases}
-use Rattle.booleans.proofs.Quantified.{below-cong, below-make, below-elim}
+use Rattle.base.specs.Quantifiers.{anyBelow}
+use Rattle.base.proofs.Booleans.{T-subst, T-true, both, and-l, and-r, and-make, or-l, or-r, or-cases}
+use Rattle.base.proofs.Quantified.{below-cong, below-make, below-elim}
 use Rattle.lookahead.specs.declared.Lookahead.the-variants.{One, Two}
 use Rattle.lookahead.specs.Lookaheads.{stringOf, after}
 use Rattle.lookahead.specs.Elements.{has, width}

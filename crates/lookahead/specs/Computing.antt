@@ -6,7 +6,7 @@ use mathlib.Core.Logic.{_↔_}
 use Prim.Native.Nat.{ℕ, suc, _+_, _*_, _<_}
 use lib.Dec.{T, eqb}
 use lib.ListN.{length}
-use Rattle.booleans.specs.Quantifiers.{anyBelow}
+use Rattle.base.specs.Quantifiers.{anyBelow}
 use Rattle.lookahead.specs.declared.Lookahead.{Lookahead}
 use Rattle.lookahead.specs.declared.Lookahead.the-variants.{One, Two}
 use Rattle.lookahead.specs.Lookaheads.{tokens, alphabet, elementOf, stringOf}

@@ -3,7 +3,7 @@ ghost use mathlib.Core.Path.{_≡_};
 ghost use mathlib.Core.Bool.{_&&_, _||_};
 ghost use Prim.Native.Nat.{suc, _%_, _^_, _<_};
 ghost use lib.Dec.{eqb, ltb};
-ghost use Rattle.booleans.specs.Choice.{choose};
+ghost use Rattle.base.specs.Choice.{choose};
 ghost use Rattle.lookahead.specs.Lookaheads.{alphabet, elements, nothing};
 ghost use Rattle.lookahead.specs.Elements.{has, size};
 ghost use Rattle.lookahead.specs.Operations.{isEmpty, Empty, End, Terminal, Full, Joined, Met, Concatenated, behind};

@@ -12,7 +12,7 @@ use Rattle.grammar.specs.Syntax.{Rule, Grammar}
 use Rattle.grammar.specs.Encoding.{grammarOf}
 use Rattle.grammar.specs.WellRead.{WellRead}
 use Rattle.grammar.proofs.WellRead.{well-read}
-use Rattle.booleans.specs.Choice.{choose}
+use Rattle.base.specs.Choice.{choose}
 use Rattle.semantics.specs.Choices.{Choice}
 use Rattle.semantics.specs.Descent.{Outcome, select, descend}
 use Rattle.semantics.specs.ComesTo.{callAt}

@@ -7,7 +7,7 @@ use native.Mathlib.Omega.{arith}
 use lib.Dec.{eqb}
 use lib.ListN.{length, getD}
 use borrow.Author.Tests.{ne-eqb}
-use Rattle.booleans.specs.Choice.{choose}
+use Rattle.base.specs.Choice.{choose}
 use Rattle.grammar.specs.Codes.{noRule}
 use Rattle.grammar.specs.Syntax.{Grammar}
 use Rattle.grammar.specs.Encoding.{grammarOf}

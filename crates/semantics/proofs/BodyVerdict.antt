@@ -8,16 +8,16 @@ use lib.Dec.{T, leb, ltb, eqb, leb→le, le→leb, ltb→lt, lt→ltb}
 use lib.ListN.{length, getD, take}
 use Rattle.word.specs.declared.Symbol.the-variants.{Terminal, Nonterminal}
 use Rattle.grammar.specs.Syntax.{Body, Grammar, NonterminalsBelow}
-use Rattle.booleans.specs.Quantifiers.{anyBelow}
+use Rattle.base.specs.Quantifiers.{anyBelow}
 use Rattle.semantics.specs.Valuations.{Valuation, contains}
 use Rattle.semantics.specs.LeftRecursion.{nullable, LeftIn, here, there}
-use Rattle.semantics.specs.Strings.{span, look}
+use Rattle.base.specs.Strings.{span, look}
 use Rattle.semantics.specs.Families.{Family, FollowBody}
 use Rattle.semantics.specs.Descent.{Outcome, endsAt, onward, Outcomes, read, run}
-use Rattle.booleans.proofs.Booleans.{T-subst, both, and-l, and-r, and-make, and-cong, and-twist}
-use Rattle.booleans.proofs.Quantified.{below-cong, below-elim, below-make}
+use Rattle.base.proofs.Booleans.{T-subst, both, and-l, and-r, and-make, and-cong, and-twist}
+use Rattle.base.proofs.Quantified.{below-cong, below-elim, below-make}
 use Rattle.semantics.proofs.Unique.{NullSound}
-use Rattle.semantics.proofs.Strings.{look-split}
+use Rattle.base.proofs.Strings.{look-split}
 use Rattle.semantics.proofs.FirstSound.{FirstSound, contains-first}
 use Rattle.semantics.proofs.Outcomes.{onward-elim, onward-make, onward-guard}
 use Rattle.semantics.proofs.Ends.{Forward, run-forward, EmptyNull}

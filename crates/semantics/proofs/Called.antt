@@ -8,18 +8,18 @@ use native.Mathlib.Omega.{arith}
 use lib.Dec.{T}
 use lib.ListN.{length}
 use Rattle.grammar.specs.Syntax.{Grammar, WellScoped}
-use Rattle.semantics.specs.FiniteSets.{member}
+use Rattle.base.specs.FiniteSets.{member}
 use Rattle.semantics.specs.Valuations.{pairs}
 use Rattle.semantics.specs.LeftRecursion.{NoLeftRecursion}
 use Rattle.semantics.specs.Choices.{Choice, OwnRules}
 use Rattle.semantics.specs.ComesTo.{Call, callAt, InRange, measure, callComesTo}
 use Rattle.semantics.specs.Calls.{Called, start, more, Listing, callsWithin, sameCall}
 use Rattle.semantics.specs.Calls.{allCalls, calls, callCount, greatestPlace, farthest}
-use Rattle.semantics.proofs.FiniteSets.{member-mem, mem-member, keep-make, keep-elim}
-use Rattle.semantics.proofs.FlatMaps.{flatMap-elim, flatMap-make}
+use Rattle.base.proofs.FiniteSets.{member-mem, mem-member, keep-make, keep-elim}
+use Rattle.base.proofs.FlatMaps.{flatMap-elim, flatMap-make}
 use Rattle.semantics.proofs.Rank.{level-top}
 use Rattle.semantics.proofs.Measure.{measure-falls}
-use Rattle.semantics.proofs.Distinct.{distinct-length, distinct-keep}
+use Rattle.base.proofs.Distinct.{distinct-length, distinct-keep}
 use Rattle.semantics.proofs.Range.{calls-equality, all-range, all-distinct, all-length}
 
 greatest-most : (l : List Call) (x : Call) → List·Memᴰ x l → x .place ≤ greatestPlace l

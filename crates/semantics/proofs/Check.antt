@@ -7,12 +7,12 @@ use Prim.Native.Nat.{ℕ}
 use lib.Dec.{T, ltb, ltb→lt}
 use Rattle.word.specs.declared.Symbol.the-variants.{Terminal, Nonterminal}
 use Rattle.grammar.specs.Syntax.{Body, Rule, Grammar, bodies, NonterminalsBelow, TerminalsBelow, WellScoped}
-use Rattle.booleans.specs.Quantifiers.{allOf}
+use Rattle.base.specs.Quantifiers.{allOf}
 use Rattle.semantics.specs.LeftRecursion.{lowestLeftRecursive}
 use Rattle.semantics.specs.Claims.{clashes, everyEnds}
 use Rattle.semantics.specs.Predictive.{Predictive}
-use Rattle.booleans.proofs.Booleans.{and-l, and-r}
-use Rattle.booleans.proofs.Quantified.{all-elim}
+use Rattle.base.proofs.Booleans.{and-l, and-r}
+use Rattle.base.proofs.Quantified.{all-elim}
 use Rattle.semantics.proofs.LeftRecursion.{lowestLeftRecursive-none}
 
 unfoldable pub belowTest : ℕ → Body → Bool

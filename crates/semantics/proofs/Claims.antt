@@ -10,14 +10,16 @@ use native.Mathlib.Omega.{arith}
 use lib.ListN.{length}
 use lib.Dec.{T, T-not, not-T, eqb, ltb, eqb→eq, eqb-refl, ltb→lt, lt→ltb}
 use Rattle.grammar.specs.Syntax.{Body, Rule, Grammar}
-use Rattle.booleans.specs.Quantifiers.{anyOf, allOf}
+use Rattle.base.specs.Quantifiers.{anyOf, allOf}
 use Rattle.semantics.specs.Families.{Claims, Overlap, Overrun, Clash, TableRight, EveryEnds}
-use Rattle.semantics.specs.FirstFollow.{strings, sameString, Entry, entries, firstSets, firstRule, First, followSets, Follow}
+use Rattle.base.specs.Strings.{strings, sameString}
+use Rattle.semantics.specs.FirstFollow.{Entry, entries, firstSets, firstRule, First, followSets, Follow}
 use Rattle.semantics.specs.Claims.{several, meeting, claimed, claims, overruns, clashing, clashes, tableOf, without, everyEnds}
-use Rattle.booleans.proofs.Booleans.{and-l, and-r, and-make, or-cases, or-l, or-r}
-use Rattle.booleans.proofs.Quantified.{any-elim, any-make, all-elim, all-make}
-use Rattle.semantics.proofs.FiniteSets.{member-mem, mem-member, keep-make, keep-elim}
-use Rattle.semantics.proofs.LookaheadSets.{strings-equality, strings-make, strings-elim, entries-make, concat-make, concat-elim, cut-lookahead}
+use Rattle.base.proofs.Booleans.{and-l, and-r, and-make, or-cases, or-l, or-r}
+use Rattle.base.proofs.Quantified.{any-elim, any-make, all-elim, all-make}
+use Rattle.base.proofs.FiniteSets.{member-mem, mem-member, keep-make, keep-elim}
+use Rattle.base.proofs.LookaheadStrings.{strings-equality, strings-make, strings-elim, cut-lookahead}
+use Rattle.semantics.proofs.LookaheadSets.{entries-make, concat-make, concat-elim}
 use Rattle.semantics.proofs.First.{In, firstBody-mono, firstRule-make, firstRule-elim, in-first, first-in}
 use Rattle.semantics.proofs.Follow.{follow-lookahead, in-follow, follow-in}
 use Rattle.semantics.proofs.Positions.{PassesAt, several-elim, several-make, position-some, position-none}

@@ -7,12 +7,13 @@ use mathlib.Core.Path.{_≡_, refl, sym, ap}
 use Prim.Native.Nat.{ℕ, zero, suc, _≤_, _<_}
 use native.Mathlib.Omega.{arith}
 use Rattle.grammar.specs.Syntax.{Grammar}
-use Rattle.semantics.specs.FiniteSets.{keep, numbersFrom, numbers, combine}
+use Rattle.base.specs.FiniteSets.{keep, numbersFrom, numbers, combine}
 use Rattle.semantics.specs.Families.{Clash}
-use Rattle.semantics.specs.FirstFollow.{strings, sameString, Entry, entries, First, Follow}
+use Rattle.base.specs.Strings.{strings, sameString}
+use Rattle.semantics.specs.FirstFollow.{Entry, entries, First, Follow}
 use Rattle.semantics.specs.Claims.{several, claims, overruns, clashes, column}
-use Rattle.semantics.proofs.FiniteSets.{keep-elim, numbers-elim, combine-elim}
-use Rattle.semantics.proofs.Distinct.{from-above}
+use Rattle.base.proofs.FiniteSets.{keep-elim, numbers-elim, combine-elim}
+use Rattle.base.proofs.Distinct.{from-above}
 use Rattle.semantics.proofs.Claims.{clashes-make}
 
 -- each element comes before all that stand after it

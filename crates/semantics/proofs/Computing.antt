@@ -1,13 +1,13 @@
 -- The definitions that things compute by, to be named together: `unfolding tables-compute` for sets, clashes and tables, and so on.
 use mathlib.Core.List.{flatMap}
-use Rattle.booleans.specs.Quantifiers.{anyOf, allOf, anyBelow, lowest}
-use Rattle.booleans.specs.Choice.{choose}
-use Rattle.semantics.specs.FiniteSets.{member, keep, distinct, numbersFrom, numbers, combine}
-use Rattle.semantics.specs.Rounds.{round, settle, members, least}
+use Rattle.base.specs.Quantifiers.{anyOf, allOf, anyBelow, lowest}
+use Rattle.base.specs.Choice.{choose}
+use Rattle.base.specs.FiniteSets.{member, keep, distinct, numbersFrom, numbers, combine}
+use Rattle.base.specs.Rounds.{round, settle, members, least}
 use Rattle.semantics.specs.LeftRecursion.{allNullable, nullStep, nullable, leftIn, leftDepends, reachStep, leftReaches, leftRecursive}
 use Rattle.semantics.specs.LeftRecursion.{lowestLeftRecursive}
-use Rattle.semantics.specs.Strings.{look}
-use Rattle.semantics.specs.FirstFollow.{strings, sameString, concatStrings, sameEntry, entries, setsOf, firstOfSymbol, firstBody, firstRule, firstStep}
+use Rattle.base.specs.Strings.{look, strings, sameString}
+use Rattle.semantics.specs.FirstFollow.{concatStrings, sameEntry, entries, setsOf, firstOfSymbol, firstBody, firstRule, firstStep}
 use Rattle.semantics.specs.FirstFollow.{first, firstSets, behind, followStep, follow, followSets}
 use Rattle.semantics.specs.Productive.{unproductive, lowestUnproductive}
 use Rattle.semantics.specs.Claims.{several, position, meeting, claimed, claims, overruns, clashes, tableOf, everyEnds}

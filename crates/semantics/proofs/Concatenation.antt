@@ -11,7 +11,7 @@ use Rattle.word.specs.declared.Symbol.the-variants.{Terminal, Nonterminal}
 use Rattle.grammar.specs.Syntax.{Body, Rule, Grammar}
 use Rattle.semantics.specs.Families.{Family, Short, FirstOf, FirstBody, Strung, Meeting, FollowBody, FollowClosed, FollowStrung, Claims}
 use Rattle.semantics.specs.FirstFollow.{First, Follow}
-use Rattle.semantics.proofs.Strings.{take-short}
+use Rattle.base.proofs.Strings.{take-short}
 use Rattle.semantics.proofs.First.{first-lookahead}
 use Rattle.semantics.proofs.Follow.{follow-lookahead}
 use Rattle.semantics.proofs.FollowCuts.{Cuts, follow-cuts}

@@ -9,13 +9,13 @@ use lib.Dec.{T, ltb, eqb, ltb→lt, eqb→eq, eqb-refl}
 use lib.ListN.{length, getD, getElem?}
 use Rattle.word.specs.declared.Symbol.the-variants.{Terminal, Nonterminal}
 use Rattle.grammar.specs.Syntax.{Body, Rule, Grammar, WellScoped}
-use Rattle.booleans.specs.Quantifiers.{allOf}
+use Rattle.base.specs.Quantifiers.{allOf}
 use Rattle.semantics.specs.Valuations.{pairs}
 use Rattle.semantics.specs.LeftRecursion.{allNullable, nullStep, nullable}
 use Rattle.semantics.specs.Choices.{Choice, OwnRules}
 use Rattle.semantics.specs.Descent.{endsAt, guard, Outcomes, read, run, agrees, obey, select, byChoice, within, descend}
-use Rattle.booleans.proofs.Booleans.{and-l, and-make}
-use Rattle.booleans.proofs.Quantified.{all-map, any-make}
+use Rattle.base.proofs.Booleans.{and-l, and-make}
+use Rattle.base.proofs.Quantified.{all-map, any-make}
 use Rattle.semantics.proofs.Nullable.{nullable-closed}
 use Rattle.semantics.proofs.Outcomes.{onward-elim, guard-elim, conclude-elim, conclude-make, nth-mem, obey-elim, select-elim}
 

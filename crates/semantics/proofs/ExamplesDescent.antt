@@ -5,7 +5,7 @@ use mathlib.Core.Path.{_≡_, refl}
 use Prim.Native.Nat.{ℕ}
 use Rattle.word.specs.declared.Symbol.the-variants.{Terminal, Nonterminal}
 use Rattle.grammar.specs.Syntax.{Grammar}
-use Rattle.booleans.specs.Quantifiers.{anyOf, allOf, anyBelow}
+use Rattle.base.specs.Quantifiers.{anyOf, allOf, anyBelow}
 use Rattle.semantics.specs.Valuations.{contains, derives, byRules, rounds, pairs, solution}
 use Rattle.semantics.specs.Choices.{tableChoice}
 use Rattle.semantics.specs.Descent.{Failed, End, descend, accepts}

@@ -7,9 +7,10 @@ use mathlib.Core.Path.{_≡_, refl}
 use Prim.Native.Nat.{ℕ, _+_, _^_}
 use Rattle.word.specs.declared.Symbol.the-variants.{Terminal, Nonterminal}
 use Rattle.grammar.specs.Syntax.{Rule, Grammar}
-use Rattle.semantics.specs.FiniteSets.{member, numbers}
-use Rattle.semantics.specs.Rounds.{settle}
-use Rattle.semantics.specs.FirstFollow.{strings, sameEntry, entries, firstStep, firstSets, followSets}
+use Rattle.base.specs.FiniteSets.{member, numbers}
+use Rattle.base.specs.Rounds.{settle}
+use Rattle.base.specs.Strings.{strings}
+use Rattle.semantics.specs.FirstFollow.{sameEntry, entries, firstStep, firstSets, followSets}
 use Rattle.semantics.specs.Claims.{clashes, tableOf, everyEnds}
 use Rattle.grammar.specs.Cards.{grammarR, grammarM, grammarE}
 use Rattle.semantics.specs.Productive.{lowestUnproductive}

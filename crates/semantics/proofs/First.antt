@@ -8,14 +8,15 @@ use lib.Dec.{T, eqb, eqb→eq, eqb-refl}
 use Rattle.word.specs.declared.Symbol.{Symbol}
 use Rattle.word.specs.declared.Symbol.the-variants.{Terminal, Nonterminal}
 use Rattle.grammar.specs.Syntax.{Body, Rule, Grammar, WellScoped}
-use Rattle.semantics.specs.Rounds.{_⊆ᵇ_}
-use Rattle.semantics.specs.Strings.{Lookahead}
+use Rattle.base.specs.Rounds.{_⊆ᵇ_}
+use Rattle.base.specs.Strings.{Lookahead, sameString}
 use Rattle.semantics.specs.Families.{Family, Least, FirstOf, FirstBody, FirstRule, FirstClosed}
-use Rattle.semantics.specs.FirstFollow.{sameString, Entry, Sets, setsOf, firstOfSymbol, firstBody, firstRule, firstStep, first, firstSets, First}
-use Rattle.booleans.proofs.Booleans.{and-l, and-r, and-make}
-use Rattle.booleans.proofs.Quantified.{any-elim, any-make, all-elim, all-make}
-use Rattle.semantics.proofs.FiniteSets.{member-mem, mem-member}
-use Rattle.semantics.proofs.LookaheadSets.{strings-equality, sets-elim, sets-mono, concat-make, concat-elim}
+use Rattle.semantics.specs.FirstFollow.{Entry, Sets, setsOf, firstOfSymbol, firstBody, firstRule, firstStep, first, firstSets, First}
+use Rattle.base.proofs.Booleans.{and-l, and-r, and-make}
+use Rattle.base.proofs.Quantified.{any-elim, any-make, all-elim, all-make}
+use Rattle.base.proofs.FiniteSets.{member-mem, mem-member}
+use Rattle.base.proofs.LookaheadStrings.{strings-equality}
+use Rattle.semantics.proofs.LookaheadSets.{sets-elim, sets-mono, concat-make, concat-elim}
 use Rattle.semantics.proofs.LookaheadSets.{entry-lookahead, entry-sets, entry-kept, entry-closed}
 
 -- two least families are one

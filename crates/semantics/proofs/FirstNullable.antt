@@ -2,29 +2,24 @@
 use mathlib.Core.List.{List, [], _∷_, _++_, List·Memᴰ}
 use mathlib.Core.Logic.{_↔_}
 use mathlib.Core.Path.{_≡_, refl, sym, ap, _∙_}
-use Prim.Native.Nat.{ℕ, zero, suc, _<_}
+use Prim.Native.Nat.{ℕ, _<_}
 use native.Mathlib.Omega.{arith}
 use lib.Dec.{T, eqb, eqb→eq, eqb-refl}
-use lib.ListN.{length, take}
+use lib.ListN.{length}
 use lib.Seq.{take-nil}
 use Rattle.word.specs.declared.Symbol.the-variants.{Terminal, Nonterminal}
 use Rattle.grammar.specs.Syntax.{Body, Grammar, WellScoped}
-use Rattle.booleans.specs.Quantifiers.{allOf}
-use Rattle.semantics.specs.Rounds.{NumberSet}
+use Rattle.base.specs.Quantifiers.{allOf}
+use Rattle.base.specs.Rounds.{NumberSet}
 use Rattle.semantics.specs.LeftRecursion.{allNullable, nullStep, nullable}
 use Rattle.semantics.specs.Families.{Family, FirstBody}
 use Rattle.semantics.specs.FirstFollow.{setsOf, firstStep, first, First}
-use Rattle.booleans.proofs.Booleans.{and-l, and-r, and-make}
-use Rattle.booleans.proofs.Quantified.{any-elim, any-make, all-elim, all-make}
+use Rattle.base.proofs.Booleans.{and-l, and-r, and-make}
+use Rattle.base.proofs.Quantified.{any-elim, any-make, all-elim, all-make}
+use Rattle.base.proofs.LookaheadStrings.{cut-none}
 use Rattle.semantics.proofs.Nullable.{nullable-least, nullable-closed}
 use Rattle.semantics.proofs.LookaheadSets.{entry-kept}
 use Rattle.semantics.proofs.First.{In, firstStep-elim, first-closed}
-
-pub cut-none : (k : ℕ) (u y : List ℕ) → 0 < k → take k (u ++ y) ≡ [] → (u ≡ []) × (y ≡ [])
-cut-none zero u y h e = absurd (omega arith)
-cut-none (suc k) [] [] h e = (refl, refl)
-cut-none (suc k) [] (a ∷ y) h e = absurd (omega (arith, ap length e))
-cut-none (suc k) (a ∷ u) y h e = absurd (omega (arith, ap length e))
 
 -- a body whose set has the empty string consists of nonterminals whose sets have it, and back
 body-none : (k : ℕ) (F : Family) (s : NumberSet) → 0 < k → ((A : ℕ) → F A [] → T (s A)) → (b : Body) → FirstBody k F b [] → T (allNullable s b)

@@ -9,15 +9,15 @@ use lib.ListN.{length, getD, take}
 use lib.Seq.{take-nil}
 use Rattle.word.specs.declared.Symbol.the-variants.{Terminal, Nonterminal}
 use Rattle.grammar.specs.Syntax.{Body, Rule, Grammar, NonterminalsBelow, WellScoped}
-use Rattle.booleans.specs.Quantifiers.{allOf}
+use Rattle.base.specs.Quantifiers.{allOf}
 use Rattle.semantics.specs.Valuations.{Valuation, contains, derives, byRules, rounds, Solves, solution}
 use Rattle.semantics.specs.LeftRecursion.{NoLeftRecursion}
-use Rattle.semantics.specs.Strings.{span, Over}
+use Rattle.base.specs.Strings.{span, Over}
 use Rattle.semantics.specs.Families.{Family, FirstBody, FirstRule, FirstClosed}
-use Rattle.booleans.proofs.Booleans.{T-subst, and-l, and-r}
-use Rattle.booleans.proofs.Quantified.{all-elim, any-elim, below-elim}
+use Rattle.base.proofs.Booleans.{T-subst, and-l, and-r}
+use Rattle.base.proofs.Quantified.{all-elim, any-elim, below-elim}
 use Rattle.semantics.proofs.Unique.{solution-solves, solution-unique}
-use Rattle.semantics.proofs.Strings.{take-cut, span-none, span-split, span-cons, all-span, take-short}
+use Rattle.base.proofs.Strings.{take-cut, span-none, span-split, span-cons, all-span, take-short}
 
 -- what one round of the rules preserves holds of every solution
 module _ (G : Grammar) (c : WellScoped G) (free : NoLeftRecursion G) (w : List ℕ) where

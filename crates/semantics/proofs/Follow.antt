@@ -9,17 +9,18 @@ use lib.Dec.{T, eqb, ltb, eqb→eq, eqb-refl, lt→ltb}
 use lib.ListN.{take}
 use Rattle.word.specs.declared.Symbol.the-variants.{Terminal, Nonterminal}
 use Rattle.grammar.specs.Syntax.{Body, Rule, Grammar, bodies, NonterminalsBelow, TerminalsBelow, WellScoped}
-use Rattle.booleans.specs.Quantifiers.{allOf}
-use Rattle.semantics.specs.Rounds.{_⊆ᵇ_}
-use Rattle.semantics.specs.Strings.{Over, Lookahead}
+use Rattle.base.specs.Quantifiers.{allOf}
+use Rattle.base.specs.Rounds.{_⊆ᵇ_}
+use Rattle.base.specs.Strings.{Over, Lookahead, sameString}
 use Rattle.semantics.specs.Families.{Family, Least, FirstBody, FollowBody, FollowClosed, OwnTerminals}
-use Rattle.semantics.specs.FirstFollow.{sameString, concatStrings, Entry, sameEntry, Sets, setsOf, firstBody, firstSets, First}
+use Rattle.semantics.specs.FirstFollow.{concatStrings, Entry, sameEntry, Sets, setsOf, firstBody, firstSets, First}
 use Rattle.semantics.specs.FirstFollow.{behind, followStep, follow, followSets, Follow}
-use Rattle.booleans.proofs.Booleans.{true-T, and-make, or-cases, or-l, or-r}
-use Rattle.booleans.proofs.Quantified.{any-elim, any-make}
-use Rattle.semantics.proofs.FiniteSets.{member-mem, mem-member}
-use Rattle.semantics.proofs.Strings.{all-take}
-use Rattle.semantics.proofs.LookaheadSets.{strings-equality, entries-equality, sets-elim, sets-mono, concat-make, concat-elim, cut-lookahead}
+use Rattle.base.proofs.Booleans.{true-T, and-make, or-cases, or-l, or-r}
+use Rattle.base.proofs.Quantified.{any-elim, any-make}
+use Rattle.base.proofs.FiniteSets.{member-mem, mem-member}
+use Rattle.base.proofs.Strings.{all-take}
+use Rattle.base.proofs.LookaheadStrings.{strings-equality, cut-lookahead}
+use Rattle.semantics.proofs.LookaheadSets.{entries-equality, sets-elim, sets-mono, concat-make, concat-elim}
 use Rattle.semantics.proofs.LookaheadSets.{entry-lookahead, entry-sets, entry-kept, entry-closed}
 use Rattle.semantics.proofs.First.{In, firstBody-mono, firstBody-make, firstBody-elim, first-lookahead, in-first, first-in}
 

@@ -8,16 +8,16 @@ use Prim.Native.Nat.{ℕ, _<_}
 use lib.Dec.{T, eqb, eqb→eq, eqb-refl}
 use Rattle.word.specs.declared.Symbol.the-variants.{Terminal, Nonterminal}
 use Rattle.grammar.specs.Syntax.{Body, Grammar, bodies, NonterminalsBelow, WellScoped}
-use Rattle.booleans.specs.Quantifiers.{anyOf}
-use Rattle.semantics.specs.FiniteSets.{numbers}
-use Rattle.semantics.specs.Rounds.{NumberSet, _⊆ᵇ_}
+use Rattle.base.specs.Quantifiers.{anyOf}
+use Rattle.base.specs.FiniteSets.{numbers}
+use Rattle.base.specs.Rounds.{NumberSet, _⊆ᵇ_}
 use Rattle.semantics.specs.LeftRecursion.{nullable, LeftIn, here, there, LeftDepends, LeftReaches, once, more, NoLeftRecursion}
 use Rattle.semantics.specs.LeftRecursion.{leftIn, leftDepends, reachStep, leftReaches, leftRecursive, lowestLeftRecursive}
-use Rattle.booleans.proofs.Booleans.{and-l, and-r, and-make, or-cases, or-map, or-l, or-r}
-use Rattle.booleans.proofs.Quantified.{any-elim, any-make, below-elim, below-make}
-use Rattle.semantics.proofs.FiniteSets.{numbers-equality, numbers-make}
-use Rattle.semantics.proofs.Lowest.{lowest-decided, none-decided}
-use Rattle.semantics.proofs.Rounds.{least-kept, least-closed}
+use Rattle.base.proofs.Booleans.{and-l, and-r, and-make, or-cases, or-map, or-l, or-r}
+use Rattle.base.proofs.Quantified.{any-elim, any-make, below-elim, below-make}
+use Rattle.base.proofs.FiniteSets.{numbers-equality, numbers-make}
+use Rattle.base.proofs.Lowest.{lowest-decided, none-decided}
+use Rattle.base.proofs.Rounds.{least-kept, least-closed}
 
 leftIn-sound : (s : NumberSet) (B : ℕ) (b : Body) → T (leftIn s B b) → LeftIn s B b
 unfolding leftIn

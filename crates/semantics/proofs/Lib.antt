@@ -1,13 +1,7 @@
-pub mod FiniteSets
-pub mod FlatMaps
-pub mod CombinedAt
-pub mod Rounds
 pub mod Nullable
-pub mod Lowest
 pub mod LeftRecursion
 pub mod Rank
 pub mod Unique
-pub mod Strings
 pub mod LookaheadSets
 pub mod First
 pub mod FirstNullable
@@ -26,7 +20,6 @@ pub mod BodyVerdict
 pub mod Verdict
 pub mod Predictive
 pub mod Measure
-pub mod Distinct
 pub mod Range
 pub mod Called
 pub mod Plan

@@ -1,43 +1,21 @@
--- Laws of finite sets of lookahead strings: which strings and entries there are, and what a concatenation holds.
+-- Laws of finite sets of lookahead strings: which entries there are, and what a concatenation holds.
 use mathlib.Core.Bool.{Bool}
-use mathlib.Core.List.{List, [], _∷_, _++_, List·Memᴰ, List·Memᴰ·head, List·Memᴰ·append-cases, List·Memᴰ·eq-of-singleton}
-use mathlib.Core.List.{Memᴰ·append-left, Memᴰ·append-right}
-use mathlib.Core.Logic.{_⊎_, inl, inr}
-use mathlib.Core.Path.{_≡_, refl}
-use Prim.Native.Nat.{ℕ, zero, suc, _<_}
-use native.Mathlib.Omega.{arith}
-use lib.Dec.{T, eqb, ltb, eqb→eq, eqb-refl, ltb→lt, lt→ltb}
-use lib.ListN.{length, take}
+use mathlib.Core.List.{List, _++_, List·Memᴰ}
+use mathlib.Core.Path.{_≡_}
+use Prim.Native.Nat.{ℕ, _<_}
+use lib.Dec.{T, eqb, eqb→eq, eqb-refl}
+use lib.ListN.{take}
 use Rattle.grammar.specs.Syntax.{Grammar}
-use Rattle.booleans.specs.Quantifiers.{allOf}
-use Rattle.semantics.specs.FiniteSets.{numbers, combine}
-use Rattle.semantics.specs.Rounds.{_⊆ᵇ_, least}
-use Rattle.semantics.specs.Strings.{Over, Lookahead}
+use Rattle.base.specs.FiniteSets.{numbers, combine}
+use Rattle.base.specs.Rounds.{_⊆ᵇ_, least}
+use Rattle.base.specs.Strings.{Lookahead, strings, sameString}
 use Rattle.semantics.specs.Families.{Family}
-use Rattle.semantics.specs.FirstFollow.{strings, sameString, concatStrings, Entry, sameEntry, entries, setsOf}
-use Rattle.booleans.proofs.Booleans.{and-l, and-r, and-make}
-use Rattle.semantics.proofs.Strings.{all-take, take-short}
-use Rattle.semantics.proofs.FiniteSets.{Equality, distinct-make, distinct-elim, keep-make, keep-elim, numbers-make, numbers-elim}
-use Rattle.semantics.proofs.FiniteSets.{combine-make, combine-elim}
-use Rattle.semantics.proofs.Rounds.{least-kept, least-closed}
-
-string-equal : (x y : List ℕ) → T (sameString x y) → x ≡ y
-unfolding sameString
-string-equal [] [] t = refl
-string-equal [] (y ∷ ys) t = absurd t
-string-equal (x ∷ xs) [] t = absurd t
-string-equal (x ∷ xs) (y ∷ ys) t =
-    let e : x ≡ y = eqb→eq x y (and-l (eqb x y) _ t) in
-    let f : xs ≡ ys = string-equal xs ys (and-r (eqb x y) _ t) in
-    cc
-
-string-itself : (x : List ℕ) → T (sameString x x)
-unfolding sameString
-string-itself [] = tt
-string-itself (x ∷ xs) = and-make (eqb x x) _ (eqb-refl x) (string-itself xs)
-
-pub strings-equality : Equality sameString
-strings-equality = record { equal = string-equal; itself = string-itself }
+use Rattle.semantics.specs.FirstFollow.{concatStrings, Entry, sameEntry, entries, setsOf}
+use Rattle.base.proofs.Booleans.{and-l, and-r, and-make}
+use Rattle.base.proofs.FiniteSets.{Equality, distinct-make, distinct-elim, keep-make, keep-elim, numbers-make, numbers-elim}
+use Rattle.base.proofs.FiniteSets.{combine-make, combine-elim}
+use Rattle.base.proofs.Rounds.{least-kept, least-closed}
+use Rattle.base.proofs.LookaheadStrings.{string-equal, string-itself, strings-equality, strings-make, strings-elim}
 
 pub entries-equality : Equality sameEntry
 unfolding sameEntry
@@ -49,30 +27,6 @@ entries-equality = record {
       c;
   itself = λ e. and-make (eqb (e .0) (e .0)) _ (eqb-refl (e .0)) (string-itself (e .1));
 }
-
--- the strings of at most k terminals below n
-pub strings-make : (k n : ℕ) (x : List ℕ) → Lookahead k n x → List·Memᴰ x (strings k n)
-unfolding strings allOf
-strings-make zero n [] h = List·Memᴰ·head refl
-strings-make zero n (a ∷ x) h = absurd (omega arith)
-strings-make (suc k) n [] h = Memᴰ·append-right (combine (λ a x. a ∷ x) (numbers n) (strings k n)) (List·Memᴰ·head refl)
-strings-make (suc k) n (a ∷ x) h =
-    Memᴰ·append-left ([] ∷ []) (combine-make (λ a x. a ∷ x) (numbers n) (strings k n) a x (numbers-make n a (ltb→lt a n (and-l (ltb a n) _ (h .1))))
-    (strings-make k n x (omega arith, and-r (ltb a n) (allOf (λ a. ltb a n) x) (h .1))))
-
-pub strings-elim : (k n : ℕ) (x : List ℕ) → List·Memᴰ x (strings k n) → Lookahead k n x
-unfolding strings allOf
-strings-elim zero n x m = rw (List·Memᴰ·eq-of-singleton m) (omega arith, tt)
-strings-elim (suc k) n x m = go (List·Memᴰ·append-cases (combine (λ a y. a ∷ y) (numbers n) (strings k n)) m) (strings-elim k n)
-  where
-    go : List·Memᴰ x (combine (λ a y. a ∷ y) (numbers n) (strings k n)) ⊎ List·Memᴰ x ([] ∷ [])
-        → ((y : List ℕ) → List·Memᴰ y (strings k n) → Lookahead k n y) → Lookahead (suc k) n x
-    go (inl l) f =
-        let r = combine-elim (λ a y. a ∷ y) (numbers n) (strings k n) x l in
-        let h = f (r .1) (r .3) in
-        let i : length (r .1) < suc k = omega (arith, h .0) in
-        rw (r .4) (i, and-make (ltb (r .0) n) (allOf (λ a. ltb a n) (r .1)) (lt→ltb (r .0) n (numbers-elim n (r .0) (r .2))) (h .1))
-    go (inr l) f = rw (List·Memᴰ·eq-of-singleton l) (omega arith, tt)
 
 module _ (G : Grammar) (k : ℕ) where
   pub entries-make : (A : ℕ) (x : List ℕ) → A < G .nonterminals → Lookahead k (G .terminals) x → List·Memᴰ (A, x) (entries G k)
@@ -133,13 +87,3 @@ pub concat-elim : (k : ℕ) (us ys : List (List ℕ)) (x : List ℕ) → List·M
     → (u : List ℕ) × (y : List ℕ) × List·Memᴰ u us × List·Memᴰ y ys × (x ≡ take k (u ++ y))
 unfolding concatStrings
 concat-elim k us ys x m = combine-elim (λ u y. take k (u ++ y)) us ys x (distinct-elim sameString strings-equality _ x m)
-
-over-append : (n : ℕ) (x y : List ℕ) → Over n x → Over n y → Over n (x ++ y)
-unfolding allOf
-over-append n [] y h l = l
-over-append n (a ∷ x) y h l =
-    and-make (ltb a n) (allOf (λ a. ltb a n) (x ++ y)) (and-l (ltb a n) _ h) (over-append n x y (and-r (ltb a n) (allOf (λ a. ltb a n) x) h) l)
-
--- the concatenation, cut to k, of strings over n terminals is a lookahead string
-pub cut-lookahead : (k n : ℕ) (x y : List ℕ) → Over n x → Over n y → Lookahead k n (take k (x ++ y))
-cut-lookahead k n x y h l = (take-short k (x ++ y), all-take _ k (x ++ y) (over-append n x y h l))

@@ -15,7 +15,7 @@ use Rattle.semantics.specs.Choices.{Choice, OwnRules}
 use Rattle.semantics.specs.Descent.{Outcome, Failed, End, endsAt, guard, Outcomes, read, run, select, descend}
 use Rattle.semantics.specs.ComesTo.{Call, InRange, measure, fromEnd, when, bodyComesTo, negativesComeTo, positivesComeTo, ruleComesTo}
 use Rattle.semantics.specs.ComesTo.{selectedComesTo, callComesTo}
-use Rattle.booleans.proofs.Booleans.{and-l}
+use Rattle.base.proofs.Booleans.{and-l}
 use Rattle.semantics.proofs.Rank.{rank-falls, level-onward}
 use Rattle.semantics.proofs.Outcomes.{guard-elim}
 use Rattle.semantics.proofs.Ends.{Forward, EmptyNull, selected, descend-forward, descend-null}

@@ -9,7 +9,7 @@ use lib.Dec.{T-not, eqb, eqb→eq}
 use lib.ListN.{length, length-replicate, getD-replicate}
 use Rattle.grammar.specs.Codes.{uncalledCode}
 use Rattle.grammar.specs.Syntax.{Grammar, WellScoped}
-use Rattle.semantics.specs.FiniteSets.{keep}
+use Rattle.base.specs.FiniteSets.{keep}
 use Rattle.semantics.specs.Valuations.{pairs}
 use Rattle.semantics.specs.LeftRecursion.{NoLeftRecursion}
 use Rattle.semantics.specs.Choices.{Choice, OwnRules}
@@ -18,7 +18,7 @@ use Rattle.semantics.specs.ComesTo.{Call, callAt, measure}
 use Rattle.semantics.specs.Calls.{Called, start, more, allCalls, calls}
 use Rattle.semantics.specs.Memo.{Memo, indexOf, entry, blank, Recorded, EndsFit}
 use Rattle.semantics.specs.MemoDescent.{memoCall, memoStart}
-use Rattle.booleans.proofs.Booleans.{both, test}
+use Rattle.base.proofs.Booleans.{both, test}
 use Rattle.semantics.proofs.Rank.{level-top}
 use Rattle.semantics.proofs.Range.{index-range, all-range}
 use Rattle.semantics.proofs.Called.{called-test}

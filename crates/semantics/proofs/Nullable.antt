@@ -5,14 +5,14 @@ use Prim.Native.Nat.{ℕ, _<_}
 use lib.Dec.{T, eqb, eqb→eq}
 use Rattle.word.specs.declared.Symbol.the-variants.{Terminal, Nonterminal}
 use Rattle.grammar.specs.Syntax.{Body, Grammar, WellScoped}
-use Rattle.booleans.specs.Quantifiers.{allOf}
-use Rattle.semantics.specs.FiniteSets.{numbers}
-use Rattle.semantics.specs.Rounds.{NumberSet, _⊆ᵇ_}
+use Rattle.base.specs.Quantifiers.{allOf}
+use Rattle.base.specs.FiniteSets.{numbers}
+use Rattle.base.specs.Rounds.{NumberSet, _⊆ᵇ_}
 use Rattle.semantics.specs.LeftRecursion.{allNullable, nullStep, nullable}
-use Rattle.booleans.proofs.Booleans.{and-l, and-r, and-make}
-use Rattle.booleans.proofs.Quantified.{all-map, any-map, any-elim}
-use Rattle.semantics.proofs.FiniteSets.{numbers-equality, numbers-make}
-use Rattle.semantics.proofs.Rounds.{least-least, least-closed}
+use Rattle.base.proofs.Booleans.{and-l, and-r, and-make}
+use Rattle.base.proofs.Quantified.{all-map, any-map, any-elim}
+use Rattle.base.proofs.FiniteSets.{numbers-equality, numbers-make}
+use Rattle.base.proofs.Rounds.{least-least, least-closed}
 
 allNullable-mono : (s s′ : NumberSet) → s ⊆ᵇ s′ → (b : Body) → T (allNullable s b) → T (allNullable s′ b)
 unfolding allNullable

@@ -9,10 +9,10 @@ use native.Mathlib.Omega.{arith}
 use lib.Dec.{T, eqb→eq, eqb-refl}
 use lib.ListN.{length, getElem?}
 use Rattle.grammar.specs.Syntax.{Body, Rule, Grammar, bodies}
-use Rattle.booleans.specs.Quantifiers.{anyOf, allOf}
+use Rattle.base.specs.Quantifiers.{anyOf, allOf}
 use Rattle.semantics.specs.Descent.{Outcome, Failed, End, endsAt, onward, guard, agrees, confirm, conclude, obey, select}
-use Rattle.booleans.proofs.Booleans.{T-true, true-T, T-subst, and-l, and-r, and-make, and-assoc}
-use Rattle.booleans.proofs.Quantified.{any-cong, all-cong}
+use Rattle.base.proofs.Booleans.{T-true, true-T, T-subst, and-l, and-r, and-make, and-assoc}
+use Rattle.base.proofs.Quantified.{any-cong, all-cong}
 
 pub ends-end : (o : Outcome) (j : ℕ) → T (endsAt o j) → o ≡ End j
 ends-end Failed j t = absurd t

@@ -8,8 +8,8 @@ use lib.Dec.{ltb, eqb}
 use lib.ListN.{length, getD}
 use Rattle.word.specs.declared.Symbol.the-variants.{Terminal, Nonterminal}
 use Rattle.grammar.specs.Syntax.{Body, Rule}
-use Rattle.booleans.specs.Quantifiers.{anyOf, allOf}
-use Rattle.booleans.specs.Choice.{choose}
+use Rattle.base.specs.Quantifiers.{anyOf, allOf}
+use Rattle.base.specs.Choice.{choose}
 use Rattle.semantics.specs.Descent.{Outcome, Failed, End, endsAt, onward, guard, Outcomes, read, run, agrees, confirm, conclude, obey}
 use Rattle.semantics.specs.ComesTo.{Call, callAt, fromEnd, when, bodyComesTo, negativesComeTo, positivesComeTo, ruleComesTo, selectedComesTo}
 use Rattle.semantics.specs.Memo.{Memo}

@@ -8,9 +8,9 @@ use Prim.Native.Nat.{ℕ, zero, suc, _<_}
 use native.Mathlib.Omega.{arith}
 use lib.Dec.{T}
 use lib.ListN.{getElem?}
-use Rattle.booleans.specs.Quantifiers.{anyOf}
+use Rattle.base.specs.Quantifiers.{anyOf}
 use Rattle.semantics.specs.Claims.{several, position}
-use Rattle.booleans.proofs.Booleans.{T-subst, true-T, and-l, and-r, and-make, or-cases, or-l, or-r}
+use Rattle.base.proofs.Booleans.{T-subst, true-T, and-l, and-r, and-make, or-cases, or-l, or-r}
 
 module _ {X : Type 0} (p : X → Bool) where
   -- the member at place q passes

@@ -7,13 +7,14 @@ use mathlib.Core.Path.{_≡_}
 use Prim.Native.Nat.{ℕ, _<_}
 use lib.Dec.{T, T-not, not-T}
 use Rattle.grammar.specs.Syntax.{Grammar}
-use Rattle.booleans.specs.Quantifiers.{anyOf}
-use Rattle.booleans.proofs.Booleans.{test}
-use Rattle.booleans.proofs.Quantified.{any-elim, any-make}
-use Rattle.semantics.specs.FirstFollow.{strings, first, First}
+use Rattle.base.specs.Quantifiers.{anyOf}
+use Rattle.base.proofs.Booleans.{test}
+use Rattle.base.proofs.Quantified.{any-elim, any-make}
+use Rattle.base.specs.Strings.{strings}
+use Rattle.semantics.specs.FirstFollow.{first, First}
 use Rattle.semantics.specs.Productive.{Unproductive, unproductive, lowestUnproductive}
-use Rattle.semantics.proofs.Lowest.{lowest-decided, none-decided}
-use Rattle.semantics.proofs.LookaheadSets.{strings-make}
+use Rattle.base.proofs.Lowest.{lowest-decided, none-decided}
+use Rattle.base.proofs.LookaheadStrings.{strings-make}
 use Rattle.semantics.proofs.First.{first-lookahead}
 
 module _ (G : Grammar) (k : ℕ) where

@@ -8,15 +8,15 @@ use lib.Arith.{digits-div, digits-mod, digits-lt}
 use lib.Dec.{eqb, eqb→eq, eqb-refl}
 use lib.ListN.{length, getD}
 use Rattle.grammar.specs.Syntax.{Grammar}
-use Rattle.semantics.specs.FiniteSets.{numbers}
+use Rattle.base.specs.FiniteSets.{numbers, Distinct}
 use Rattle.semantics.specs.Valuations.{pairs}
 use Rattle.semantics.specs.ComesTo.{Call, callAt, InRange}
-use Rattle.semantics.specs.Calls.{sameCall, allCalls, Distinct}
+use Rattle.semantics.specs.Calls.{sameCall, allCalls}
 use Rattle.semantics.specs.Memo.{indexOf}
-use Rattle.booleans.proofs.Booleans.{and-l, and-r, and-make}
-use Rattle.semantics.proofs.FiniteSets.{Equality, numbers-make, numbers-elim, numbers-length, combine-make, combine-elim}
-use Rattle.semantics.proofs.CombinedAt.{numbers-at, combine-at}
-use Rattle.semantics.proofs.Distinct.{distinct-numbers, distinct-combine, combine-length}
+use Rattle.base.proofs.Booleans.{and-l, and-r, and-make}
+use Rattle.base.proofs.FiniteSets.{Equality, numbers-make, numbers-elim, numbers-length, combine-make, combine-elim}
+use Rattle.base.proofs.CombinedAt.{numbers-at, combine-at}
+use Rattle.base.proofs.Distinct.{distinct-numbers, distinct-combine, combine-length}
 
 call-same : (x y : Call) → x .nonterminal ≡ y .nonterminal → x .place ≡ y .place → x ≡ y
 call-same x y a b = let s : callAt (x .nonterminal) (x .place) ≡ callAt (y .nonterminal) (y .place) = cc in s

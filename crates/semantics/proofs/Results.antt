@@ -12,7 +12,7 @@ use Rattle.semantics.specs.Valuations.{pairs}
 use Rattle.semantics.specs.LeftRecursion.{nullable, LeftIn, here, there, LeftDepends, NoLeftRecursion, level}
 use Rattle.semantics.specs.Choices.{Choice, OwnRules}
 use Rattle.semantics.specs.Descent.{onward, guard, Outcomes, read, run, select, byChoice, Results, within, descend}
-use Rattle.booleans.proofs.Booleans.{and-l}
+use Rattle.base.proofs.Booleans.{and-l}
 use Rattle.semantics.proofs.Rank.{level-onward, level-top}
 use Rattle.semantics.proofs.Outcomes.{guard-elim, onward-cong, obey-cong}
 use Rattle.semantics.proofs.Ends.{Forward, EmptyNull, selected, within-forward, within-null}

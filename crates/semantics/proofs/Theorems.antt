@@ -2,7 +2,7 @@
 use mathlib.Core.Path.{refl}
 use native.Mathlib.Omega.{arith}
 use Rattle.semantics.specs.Valuations.{solution}
-use Rattle.semantics.specs.Strings.{look}
+use Rattle.base.specs.Strings.{look}
 use Rattle.semantics.specs.FirstFollow.{First}
 use Rattle.semantics.specs.Descent.{descend}
 use Rattle.semantics.specs.Theorems.{Theorems}

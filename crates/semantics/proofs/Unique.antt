@@ -9,12 +9,12 @@ use lib.Dec.{T, leb, ltb, eqb, leb→le, ltb→lt, eqb→eq}
 use lib.ListN.{length, getD}
 use Rattle.word.specs.declared.Symbol.the-variants.{Terminal, Nonterminal}
 use Rattle.grammar.specs.Syntax.{Body, Rule, Grammar, bodies, NonterminalsBelow, WellScoped}
-use Rattle.booleans.specs.Quantifiers.{allOf}
+use Rattle.base.specs.Quantifiers.{allOf}
 use Rattle.semantics.specs.Valuations.{Valuation, contains, derives, byRules, rounds, Solves, pairs, solution}
 use Rattle.semantics.specs.LeftRecursion.{allNullable, nullStep, nullable, LeftIn, here, there, LeftDepends, NoLeftRecursion, level}
 use Rattle.semantics.specs.Theorems.{AgreeBelow}
-use Rattle.booleans.proofs.Booleans.{and-l, and-r, and-make, and-cong}
-use Rattle.booleans.proofs.Quantified.{any-cong, all-cong, all-map, any-map, below-cong, below-elim}
+use Rattle.base.proofs.Booleans.{and-l, and-r, and-make, and-cong}
+use Rattle.base.proofs.Quantified.{any-cong, all-cong, all-map, any-map, below-cong, below-elim}
 use Rattle.semantics.proofs.Nullable.{nullable-closed}
 use Rattle.semantics.proofs.Rank.{level-shorter, level-left, level-top}
 

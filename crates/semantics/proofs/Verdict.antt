@@ -10,20 +10,20 @@ use lib.Dec.{T, eqb, eqb→eq, eqb-refl}
 use lib.ListN.{length, take}
 use Rattle.word.specs.declared.Symbol.the-variants.{Nonterminal}
 use Rattle.grammar.specs.Syntax.{Body, Rule, Grammar, bodies, NonterminalsBelow, WellScoped}
-use Rattle.booleans.specs.Quantifiers.{anyOf, allOf}
+use Rattle.base.specs.Quantifiers.{anyOf, allOf}
 use Rattle.semantics.specs.Valuations.{Valuation, contains, derives, byRules, Solves, pairs}
 use Rattle.semantics.specs.LeftRecursion.{LeftDepends, NoLeftRecursion, level}
-use Rattle.semantics.specs.Strings.{span, look, Over}
+use Rattle.base.specs.Strings.{span, look, Over}
 use Rattle.semantics.specs.Families.{Family, FollowBody, Table}
 use Rattle.semantics.specs.Predictive.{Guides}
 use Rattle.semantics.specs.Choices.{Choice, OwnRules, byLookahead}
 use Rattle.semantics.specs.Theorems.{Piece}
 use Rattle.semantics.specs.Descent.{End, endsAt, onward, Outcomes, read, run, agrees, byChoice, descend, accepts}
-use Rattle.booleans.proofs.Booleans.{T-subst, both, and-l, and-r, and-make}
-use Rattle.booleans.proofs.Quantified.{any-cong, all-cong, any-make, any-elim}
+use Rattle.base.proofs.Booleans.{T-subst, both, and-l, and-r, and-make}
+use Rattle.base.proofs.Quantified.{any-cong, all-cong, any-make, any-elim}
 use Rattle.semantics.proofs.Rank.{level-onward, level-top}
 use Rattle.semantics.proofs.Unique.{NullSound, solution-null}
-use Rattle.semantics.proofs.Strings.{look-split, look-end, look-none, all-span, take-short}
+use Rattle.base.proofs.Strings.{look-split, look-end, look-none, all-span, take-short}
 use Rattle.semantics.proofs.FirstSound.{FirstSound, contains-first, rule-first, first-sound}
 use Rattle.semantics.proofs.Outcomes.{ends-end, end-ends, ends-iff, onward-elim, mem-nth}
 use Rattle.semantics.proofs.Ends.{Forward, run-forward, EmptyNull, byChoice-elim, byChoice-make, descend-forward, descend-null}

@@ -12,7 +12,7 @@ use lib.ListN.{length, set, length-set}
 use lib.Seq.{getD-set-same, getD-set-other}
 use Rattle.grammar.specs.Codes.{failedCode, uncalledCode}
 use Rattle.grammar.specs.Syntax.{Rule, Grammar, WellScoped}
-use Rattle.booleans.specs.Choice.{choose}
+use Rattle.base.specs.Choice.{choose}
 use Rattle.semantics.specs.Valuations.{pairs}
 use Rattle.semantics.specs.LeftRecursion.{NoLeftRecursion}
 use Rattle.semantics.specs.Choices.{Choice, OwnRules}
@@ -20,7 +20,7 @@ use Rattle.semantics.specs.Descent.{Outcome, Failed, End, endsAt, Outcom
 use Rattle.semantics.specs.ComesTo.{Call, callAt, InRange, measure, callComesTo}
 use Rattle.semantics.specs.Memo.{Memo, encode, decode, indexOf, entry, written, EndsFit}
 use Rattle.semantics.specs.MemoDescent.{Memoized, memoized, memoObey, memoCall, stored}
-use Rattle.booleans.proofs.Booleans.{T-true, T-false, test}
+use Rattle.base.proofs.Booleans.{T-true, T-false, test}
 use Rattle.semantics.proofs.Plan.{Plan, Done, Ask, value, asked, through, plan, plan-value, plan-asked, plan-through}
 use Rattle.semantics.proofs.Ends.{descend-forward}
 use Rattle.semantics.proofs.Results.{descend-results}

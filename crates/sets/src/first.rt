@@ -8,7 +8,7 @@ ghost use Rattle.grammar.specs.Starts.{ruleStarts};
 ghost use Rattle.admission.specs.Admission.{admission};
 ghost use Rattle.families.specs.First.{ruleFirst, FirstNumbersClosed};
 ghost use Rattle.families.specs.Least.{at as family, Passes};
-ghost use Rattle.families.specs.Lists.{listed};
+ghost use Rattle.base.specs.Lists.{listed};
 ghost use Rattle.families.specs.Rules.{RuleWords, PassGiven, ruleFrom};
 ghost use Rattle.families.specs.Sets.{firstNumber};
 use super::family::add;

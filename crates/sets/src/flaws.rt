@@ -1,7 +1,7 @@
 // The lowest nonterminal with a flaw that refuses a grammar.
 ghost use mathlib.Core.Path.{_≡_};
 ghost use Prim.Native.Nat.{_≤_, _<_};
-ghost use Rattle.booleans.specs.Quantifiers.{lowest};
+ghost use Rattle.base.specs.Quantifiers.{lowest};
 ghost use Rattle.grammar.specs.Limits.{maxNonterminals};
 ghost use Rattle.families.specs.Flaws.{flawIn, lowestOf};
 use families::Flaw;

@@ -9,7 +9,7 @@ ghost use Rattle.grammar.specs.Starts.{ruleStarts};
 ghost use Rattle.admission.specs.Admission.{admission};
 ghost use Rattle.families.specs.Follow.{Asked, FollowRules, FollowNumbersClosed};
 ghost use Rattle.families.specs.Least.{at as family, AddsTo, Passes};
-ghost use Rattle.families.specs.Lists.{listed};
+ghost use Rattle.base.specs.Lists.{listed};
 ghost use Rattle.families.specs.Naming.{nonterminalOf, Indexed};
 ghost use Rattle.families.specs.Rules.{RuleWords, PassGiven};
 ghost use Rattle.families.specs.Sets.{firstNumber, followNumber};

@@ -9,7 +9,7 @@ ghost use Rattle.grammar.specs.Syntax.{bodies};
 ghost use Rattle.admission.specs.Admission.{admission};
 ghost use Rattle.families.specs.Least.{at as family, Passes};
 ghost use Rattle.families.specs.Left.{emptyIn, symbolLeft, bodiesLeft, lefts, insideLeft, ReachClosed};
-ghost use Rattle.families.specs.Lists.{listed};
+ghost use Rattle.base.specs.Lists.{listed};
 ghost use Rattle.families.specs.Naming.{IndexedSymbol, Indexed};
 ghost use Rattle.families.specs.Rules.{RuleWords, PassGiven, ruleFrom};
 ghost use Rattle.families.specs.Sets.{firstNumber, reachNumber};

@@ -12,15 +12,15 @@ use Rattle.grammar.specs.Codes.{noEntry}
 use Rattle.grammar.specs.Cards.{grammarR, grammarM, grammarE}
 use Rattle.grammar.specs.Syntax.{Body, Rule, Grammar}
 use Rattle.lookahead.specs.Elements.{total}
-use Rattle.booleans.specs.Choice.{choose}
-use Rattle.semantics.specs.FiniteSets.{member}
-use Rattle.semantics.specs.Rounds.{members, least}
+use Rattle.base.specs.Choice.{choose}
+use Rattle.base.specs.FiniteSets.{member}
+use Rattle.base.specs.Rounds.{members, least}
 use Rattle.semantics.specs.FirstFollow.{Entry, sameEntry, entries, firstStep, first, followStep, follow}
 use Rattle.semantics.specs.Claims.{clashes, tableOf}
 use Rattle.semantics.specs.LeftRecursion.{lowestLeftRecursive}
 use Rattle.semantics.proofs.Computing.{tables-compute, left-recursion-computes}
 use Rattle.table.specs.declared.conflicts.Conflict.the-variants.{Absent, At}
-use Rattle.families.specs.Lists.{listed}
+use Rattle.base.specs.Lists.{listed}
 use Rattle.lookahead.specs.declared.Lookahead.the-variants.{One, Two}
 use Rattle.lookahead.specs.Lookaheads.{stringOf}
 use Rattle.families.specs.Sets.{numberOf, firstNumber, followNumber}

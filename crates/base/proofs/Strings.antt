@@ -7,9 +7,9 @@ use native.Mathlib.Omega.{arith}
 use lib.Dec.{T}
 use lib.ListN.{length, getD, take, drop, length-take, length-drop, take-append-drop}
 use lib.Seq.{take-take, take-nil, take-add, drop-drop, drop-cons, drop-length}
-use Rattle.booleans.specs.Quantifiers.{allOf}
-use Rattle.semantics.specs.Strings.{span, look}
-use Rattle.booleans.proofs.Booleans.{and-l, and-r, and-make}
+use Rattle.base.specs.Quantifiers.{allOf}
+use Rattle.base.specs.Strings.{span, look}
+use Rattle.base.proofs.Booleans.{and-l, and-r, and-make}
 
 -- to cut the parts to at least n does not change the first n of the whole
 pub take-cut : (n a b : ℕ) (xs ys : List ℕ) → n ≤ a → n ≤ b → take n (take a xs ++ take b ys) ≡ take n (xs ++ ys)

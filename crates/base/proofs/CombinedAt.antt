@@ -6,8 +6,8 @@ use native.Mathlib.Nat.{zero-add}
 use native.Mathlib.Omega.{arith}
 use lib.ListN.{length, getD, length-map, List·getD-append}
 use lib.Seq.{getD-append-add}
-use Rattle.semantics.specs.FiniteSets.{numbersFrom, numbers, combine}
-use Rattle.semantics.proofs.FiniteSets.{numbers-length}
+use Rattle.base.specs.FiniteSets.{numbersFrom, numbers, combine}
+use Rattle.base.proofs.FiniteSets.{numbers-length}
 
 map-at : {Z : Type 0} (g : ℕ → Z) (a n i : ℕ) (z : Z) → i < n → getD (map g (numbersFrom a n)) i z ≡ g (a + i)
 unfolding numbersFrom

@@ -1,8 +1,8 @@
--- Finite sets written out as lists.
+-- Finite sets written out as lists, and lists without repetition.
 use mathlib.Core.Bool.{Bool, true, false}
-use mathlib.Core.List.{List, [], _∷_, _++_, map}
+use mathlib.Core.List.{List, [], _∷_, _++_, map, List·Memᴰ}
 use Prim.Native.Nat.{ℕ, zero, suc}
-use Rattle.booleans.specs.Quantifiers.{anyOf}
+use Rattle.base.specs.Quantifiers.{anyOf}
 
 module _ {X : Type 0} where
   -- a member of the list, by a test for equality
@@ -33,3 +33,9 @@ module _ {X Y Z : Type 0} (f : X → Y → Z) where
   unfoldable pub combine : List X → List Y → List Z
   combine [] ys = []
   combine (x ∷ xs) ys = map (f x) ys ++ combine xs ys
+
+module _ {A : Type 0} where
+  -- no element twice
+  abbrev pub Distinct : List A → Type 0
+  Distinct [] = Unit {0}
+  Distinct (x ∷ l) = (List·Memᴰ x l → ⊥) × Distinct l

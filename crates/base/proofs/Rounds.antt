@@ -7,11 +7,11 @@ use native.Mathlib.Decide.{ℕ-discrete}
 use native.Mathlib.Omega.{arith}
 use lib.Dec.{T, eqb, eqb→eq, eqb-refl}
 use lib.ListN.{length}
-use Rattle.booleans.specs.Quantifiers.{anyOf}
-use Rattle.semantics.specs.FiniteSets.{member, keep}
-use Rattle.semantics.specs.Rounds.{_⊆ᵇ_, round, settle, members, least}
-use Rattle.booleans.proofs.Booleans.{T-subst, true-T}
-use Rattle.semantics.proofs.FiniteSets.{Equality, member-mem, mem-member, keep-make, keep-elim, keep-grows, keep-same, keep-all, keep-none}
+use Rattle.base.specs.Quantifiers.{anyOf}
+use Rattle.base.specs.FiniteSets.{member, keep}
+use Rattle.base.specs.Rounds.{_⊆ᵇ_, round, settle, members, least}
+use Rattle.base.proofs.Booleans.{T-subst, true-T}
+use Rattle.base.proofs.FiniteSets.{Equality, member-mem, mem-member, keep-make, keep-elim, keep-grows, keep-same, keep-all, keep-none}
 
 unequal : (m n : ℕ) → eqb m n ≡ false → n ≤ m → n < m
 unequal m n e h = go (ℕ-discrete m n)

@@ -8,9 +8,9 @@ use Prim.Native.Nat.{ℕ, zero, suc, _+_, _≤_, _<_}
 use native.Mathlib.Decide.{decLt, ℕ-discrete}
 use native.Mathlib.Omega.{arith}
 use lib.Dec.{T, T-not, not-T}
-use Rattle.booleans.specs.Quantifiers.{one, anyBelow, allOf, countBelow, anyOf, lowest}
-use Rattle.booleans.specs.Choice.{choose}
-use Rattle.booleans.proofs.Booleans.{T-true, T-false, or-r, or-cases, and-make, and-l, test, and-r, or-l}
+use Rattle.base.specs.Quantifiers.{one, anyBelow, allOf, countBelow, anyOf, lowest}
+use Rattle.base.specs.Choice.{choose}
+use Rattle.base.proofs.Booleans.{T-true, T-false, or-r, or-cases, and-make, and-l, test, and-r, or-l}
 
 module _ {A : Type 0} where
   pub any-cong : (p q : A → Bool) (l : List A) → ((x : A) → List·Memᴰ x l → p x ≡ q x) → anyOf p l ≡ anyOf q l

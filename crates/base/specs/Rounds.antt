@@ -4,7 +4,7 @@ use mathlib.Core.List.{List, []}
 use Prim.Native.Nat.{ℕ, zero, suc}
 use lib.Dec.{T, eqb}
 use lib.ListN.{length}
-use Rattle.semantics.specs.FiniteSets.{member, keep}
+use Rattle.base.specs.FiniteSets.{member, keep}
 
 abbrev pub NumberSet : Type 0
 NumberSet = ℕ → Bool

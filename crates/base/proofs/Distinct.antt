@@ -7,10 +7,9 @@ use mathlib.Core.Path.{_≡_, refl, sym, ap, _∙_}
 use Prim.Native.Nat.{ℕ, zero, suc, _*_, _≤_}
 use native.Mathlib.Omega.{arith}
 use lib.ListN.{length, length-append, length-map}
-use Rattle.semantics.specs.FiniteSets.{keep, numbersFrom, numbers, combine}
-use Rattle.semantics.specs.FirstFollow.{strings}
-use Rattle.semantics.specs.Calls.{Distinct}
-use Rattle.semantics.proofs.FiniteSets.{keep-elim, combine-elim}
+use Rattle.base.specs.FiniteSets.{keep, numbersFrom, numbers, combine, Distinct}
+use Rattle.base.specs.Strings.{strings}
+use Rattle.base.proofs.FiniteSets.{keep-elim, combine-elim}
 
 module _ {A : Type 0} where
   split-at : (x : A) (l : List A) → List·Memᴰ x l → (a : List A) × (b : List A) × (l ≡ a ++ (x ∷ b))

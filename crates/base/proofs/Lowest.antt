@@ -5,8 +5,8 @@ use mathlib.Core.Option.{none, some}
 use mathlib.Core.Path.{_≡_}
 use Prim.Native.Nat.{ℕ, _<_}
 use lib.Dec.{T, T-not, not-T}
-use Rattle.booleans.specs.Quantifiers.{lowest}
-use Rattle.booleans.proofs.Quantified.{lowest-some, lowest-none}
+use Rattle.base.specs.Quantifiers.{lowest}
+use Rattle.base.proofs.Quantified.{lowest-some, lowest-none}
 
 module _ (n : ℕ) (p : ℕ → Bool) (P : ℕ → Type 0) (iff : (A : ℕ) → T (p A) ↔ P A) where
   pub lowest-decided : (A : ℕ) → (lowest n p ≡ some A) ↔ ((A < n) × P A × ((B : ℕ) → B < A → P B → ⊥))

@@ -9,9 +9,9 @@ use native.Mathlib.Decide.{ℕ-discrete}
 use native.Mathlib.Omega.{arith}
 use lib.Dec.{T, eqb, eqb→eq, eqb-refl}
 use lib.ListN.{length}
-use Rattle.semantics.specs.FiniteSets.{member, keep, distinct, numbersFrom, numbers, combine}
-use Rattle.booleans.proofs.Booleans.{T-subst, true-T}
-use Rattle.booleans.proofs.Quantified.{any-elim, any-make}
+use Rattle.base.specs.FiniteSets.{member, keep, distinct, numbersFrom, numbers, combine}
+use Rattle.base.proofs.Booleans.{T-subst, true-T}
+use Rattle.base.proofs.Quantified.{any-elim, any-make}
 
 -- a test that decides equality
 pub record Equality {X : Type 0} (same : X → X → Bool) : Type 0 where
