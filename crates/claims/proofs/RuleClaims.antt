@@ -22,10 +22,9 @@ use Rattle.semantics.specs.FirstFollow.{concatStrings, firstSets, firstRule, Fi
 use Rattle.semantics.specs.Claims.{meeting, claimed}
 use Rattle.base.proofs.FiniteSets.{member-mem, mem-member, keep-make, keep-elim}
 use Rattle.base.proofs.LookaheadStrings.{strings-equality, strings-make, strings-elim}
-use Rattle.semantics.proofs.LookaheadSets.{sets-make, sets-elim, concat-make, concat-elim}
-use Rattle.semantics.proofs.First.{In, firstBody-mono, firstRule-make, firstRule-elim}
-use Rattle.semantics.proofs.First.{first-in, in-first}
-use Rattle.semantics.proofs.Follow.{follow-lookahead}
+use Rattle.semantics.proofs.families.LookaheadSets.{sets-make, sets-elim, concat-make, concat-elim}
+use Rattle.semantics.proofs.families.First.{In, firstBody-mono, firstRule-make, firstRule-elim, first-in, in-first}
+use Rattle.semantics.proofs.families.Follow.{follow-lookahead}
 use Rattle.families.specs.Sets.{numberOf, firstNumber, followNumber}
 use Rattle.families.specs.First.{ruleFirst}
 use Rattle.families.proofs.Strings.{StringIn, string-in, in-string, number-has, has-number}

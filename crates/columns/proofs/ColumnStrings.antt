@@ -17,7 +17,7 @@ use Rattle.lookahead.proofs.Strings.{element-string, string-element, element-be
 use Rattle.base.specs.FiniteSets.{numbersFrom, numbers}
 use Rattle.base.specs.Strings.{strings, Lookahead as Looked}
 use Rattle.semantics.specs.Claims.{column}
-use Rattle.semantics.proofs.Columns.{strings-columns}
+use Rattle.semantics.proofs.families.Columns.{strings-columns}
 use Rattle.columns.specs.Columns.{columnCount, columnString, columnElement, columnOf}
 
 -- a row has columns, and no more than there is room for

@@ -21,7 +21,7 @@ use Rattle.grammar.specs.Encoding.{grammarOf}
 use Rattle.semantics.specs.Choices.{tableChoice}
 use Rattle.semantics.specs.Descent.{accepts}
 use Rattle.semantics.specs.Valuations.{solution}
-use Rattle.semantics.proofs.Called.{called-range}
+use Rattle.semantics.proofs.descent.Called.{called-range}
 use Rattle.semantics.proofs.Theorems.{theorems}
 use Rattle.answer.specs.Faults.{refusedOr}
 use Rattle.lookahead.specs.declared.Lookahead.{Lookahead}

@@ -17,7 +17,7 @@ use Rattle.grammar.proofs.WellRead.{well-read}
 use Rattle.base.specs.Strings.{Lookahead as Looked}
 use Rattle.semantics.specs.Families.{FirstBody, FirstRule, FirstClosed}
 use Rattle.semantics.specs.FirstFollow.{first, First}
-use Rattle.semantics.proofs.First.{firstBody-mono, first-lookahead, first-closed, first-smallest}
+use Rattle.semantics.proofs.families.First.{firstBody-mono, first-lookahead, first-closed, first-smallest}
 use Rattle.lookahead.specs.declared.Lookahead.{Lookahead}
 use Rattle.lookahead.specs.Lookaheads.{tokens, alphabet, elements, elementOf, stringOf}
 use Rattle.lookahead.specs.Elements.{has}

@@ -23,8 +23,8 @@ use Rattle.lookahead.proofs.Weights.{has-total}
 use Rattle.semantics.specs.FirstFollow.{first}
 use Rattle.semantics.specs.LeftRecursion.{leftReaches, leftRecursive, lowestLeftRecursive}
 use Rattle.semantics.specs.Productive.{unproductive, lowestUnproductive}
-use Rattle.semantics.proofs.First.{first-lookahead}
-use Rattle.semantics.proofs.Productive.{unproductive-iff}
+use Rattle.semantics.proofs.families.First.{first-lookahead}
+use Rattle.semantics.proofs.families.Productive.{unproductive-iff}
 use Rattle.families.specs.declared.Flaw.the-variants.{LeftRecursive, Unproductive}
 use Rattle.families.specs.declared.Lowest.{Lowest}
 use Rattle.base.specs.Lists.{listed}

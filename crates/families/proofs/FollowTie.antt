@@ -16,8 +16,8 @@ use Rattle.grammar.proofs.EachIndex.{read-whole}
 use Rattle.grammar.proofs.WellRead.{well-read}
 use Rattle.semantics.specs.Families.{FirstBody, FollowBody, FollowClosed}
 use Rattle.semantics.specs.FirstFollow.{first, follow, First, Follow}
-use Rattle.semantics.proofs.First.{first-lookahead}
-use Rattle.semantics.proofs.Follow.{follow-lookahead, follow-closed, follow-smallest}
+use Rattle.semantics.proofs.families.First.{first-lookahead}
+use Rattle.semantics.proofs.families.Follow.{follow-lookahead, follow-closed, follow-smallest}
 use Rattle.lookahead.specs.declared.Lookahead.{Lookahead}
 use Rattle.lookahead.specs.Lookaheads.{tokens, alphabet, elements, nothing, stringOf, after}
 use Rattle.lookahead.specs.Elements.{Subset}

@@ -32,9 +32,9 @@ use Rattle.base.specs.Rounds.{NumberSet}
 use Rattle.semantics.specs.FirstFollow.{first}
 use Rattle.semantics.specs.LeftRecursion.{nullable, LeftIn, here, there, LeftDepends, LeftReaches, once, more, leftReaches}
 use Rattle.base.proofs.Booleans.{T-true, and-l, and-r, and-make, or-cases}
-use Rattle.semantics.proofs.First.{first-lookahead}
-use Rattle.semantics.proofs.FirstNullable.{first-none}
-use Rattle.semantics.proofs.LeftRecursion.{reaches-then, target-below, leftReaches-iff}
+use Rattle.semantics.proofs.families.First.{first-lookahead}
+use Rattle.semantics.proofs.families.FirstNullable.{first-none}
+use Rattle.semantics.proofs.meaning.LeftRecursion.{reaches-then, target-below, leftReaches-iff}
 use Rattle.base.specs.Lists.{listed}
 use Rattle.families.specs.Sets.{firstNumber, reachNumber}
 use Rattle.families.specs.Least.{SetFamily, at, LeastNumbers}

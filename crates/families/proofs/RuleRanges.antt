@@ -24,7 +24,7 @@ use Rattle.grammar.proofs.Begins.{begins, as-many}
 use Rattle.grammar.proofs.EachIndex.{read-whole}
 use Rattle.grammar.proofs.Suffixes.{scan-next, read-reaches}
 use Rattle.grammar.proofs.WellRead.{well-read}
-use Rattle.semantics.proofs.Outcomes.{nth-below, nth-mem, mem-nth}
+use Rattle.semantics.proofs.descent.Outcomes.{nth-below, nth-mem, mem-nth}
 use Rattle.families.specs.Rules.{ruleFrom, Ended, Inside, RuleWords}
 use Rattle.families.proofs.Words.{parse-here, parse-over}
 

@@ -20,8 +20,8 @@ use Rattle.semantics.specs.Memo.{Memo, EndsFit, encode, decode}
 use Rattle.semantics.specs.MemoDescent.{memoStart, memoCall, memoObey, memoRule, memoPositives, memoNegatives, memoRun, andThen, stored}
 use Rattle.semantics.specs.Predictive.{Predictive}
 use Rattle.semantics.proofs.Theorems.{theorems as semantics}
-use Rattle.semantics.proofs.Check.{belowTest, scopedTest, terminalsTest, ownTest, predictive}
-use Rattle.semantics.proofs.Computing.{left-recursion-computes, tables-compute, descent-computes, calls-compute}
+use Rattle.semantics.proofs.examples.Check.{belowTest, scopedTest, terminalsTest, ownTest, predictive}
+use Rattle.semantics.proofs.examples.Computing.{left-recursion-computes, tables-compute, descent-computes, calls-compute}
 use Rattle.following.specs.Following.{MayFollow, behind, Agrees, Begins}
 use Rattle.following.specs.Following.{start as nothing}
 use Rattle.following.specs.Theorems.{EntriesTell}

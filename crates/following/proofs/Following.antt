@@ -14,8 +14,8 @@ use Rattle.semantics.specs.FirstFollow.{First, Follow}
 use Rattle.semantics.specs.Predictive.{Predictive}
 use Rattle.semantics.proofs.Theorems.{theorems}
 use Rattle.base.proofs.Strings.{take-cut}
-use Rattle.semantics.proofs.FollowCuts.{follow-cuts}
-use Rattle.semantics.proofs.BodyVerdict.{below-rest}
+use Rattle.semantics.proofs.families.FollowCuts.{follow-cuts}
+use Rattle.semantics.proofs.descent.BodyVerdict.{below-rest}
 use Rattle.following.specs.Following.{MayFollow, start, behind}
 
 span-whole : (x : List ℕ) → span x 0 (length x) ≡ x

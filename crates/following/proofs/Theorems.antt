@@ -15,8 +15,8 @@ use Rattle.semantics.specs.ComesTo.{callAt}
 use Rattle.semantics.specs.Memo.{Memo, EndsFit, encode, indexOf, Recorded}
 use Rattle.semantics.specs.Predictive.{Predictive}
 use Rattle.semantics.proofs.Theorems.{theorems as semantics}
-use Rattle.semantics.proofs.Called.{called-range}
-use Rattle.semantics.proofs.Range.{index-range}
+use Rattle.semantics.proofs.descent.Called.{called-range}
+use Rattle.semantics.proofs.descent.Range.{index-range}
 use Rattle.following.specs.Theorems.{TellWhere, EntriesTell, Theorems}
 use Rattle.following.proofs.Agreeing.{agrees, begins}
 use Rattle.following.proofs.Following.{may-follow}

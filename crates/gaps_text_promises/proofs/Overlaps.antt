@@ -18,10 +18,10 @@ use Rattle.semantics.specs.Claims.{several, claims, overruns, clashes}
 use Rattle.semantics.specs.Families.{Claims}
 use Rattle.semantics.specs.FirstFollow.{Entry, entries, First, Follow}
 use Rattle.base.specs.Strings.{sameString}
-use Rattle.semantics.proofs.Claims.{claims-make, claims-elim, overruns-make, overruns-elim, clashes-make}
+use Rattle.semantics.proofs.families.Claims.{claims-make, claims-elim, overruns-make, overruns-elim, clashes-make}
 use Rattle.base.proofs.FiniteSets.{keep-elim}
-use Rattle.semantics.proofs.LookaheadSets.{entries-elim}
-use Rattle.semantics.proofs.Positions.{several-elim}
+use Rattle.semantics.proofs.families.LookaheadSets.{entries-elim}
+use Rattle.semantics.proofs.families.Positions.{several-elim}
 use Rattle.lookahead.specs.declared.Lookahead.the-variants.{One}
 use Rattle.families.specs.Analysis.{setsFault}
 use Rattle.table.specs.Analysis.{fault}

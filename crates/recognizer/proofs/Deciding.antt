@@ -29,8 +29,8 @@ use Rattle.semantics.specs.Calls.{Listing, sameCall, allCalls, calls}
 use Rattle.semantics.specs.Memo.{EndsFit, encode, entry, indexOf, blank, Recorded}
 use Rattle.semantics.specs.MemoDescent.{memoized, memoCall}
 use Rattle.base.proofs.FiniteSets.{member-mem, mem-member}
-use Rattle.semantics.proofs.Range.{calls-equality, all-length, all-ordered, index-range}
-use Rattle.semantics.proofs.Memo.{memo-recorded-within}
+use Rattle.semantics.proofs.descent.Range.{calls-equality, all-length, all-ordered, index-range}
+use Rattle.semantics.proofs.descent.Memo.{memo-recorded-within}
 use Rattle.semantics.proofs.Theorems.{theorems}
 use Rattle.rule.specs.declared.Outcome as code
 use Rattle.rule.specs.Rule.{meant}

@@ -31,7 +31,7 @@ use Rattle.semantics.specs.Choices.{Choice}
 use Rattle.semantics.specs.Descent.{Outcome, Failed, End}
 use Rattle.semantics.specs.ComesTo.{callAt, measure}
 use Rattle.semantics.specs.MemoDescent.{memoized, andThen, MemoCalls, memoRun, memoCall}
-use Rattle.semantics.proofs.Rank.{level-onward}
+use Rattle.semantics.proofs.meaning.Rank.{level-onward}
 use Rattle.rule.specs.declared.Outcome as code
 use Rattle.rule.specs.declared.Outcome.the-variants as outcome
 use Rattle.rule.specs.Rule.{meant}

@@ -32,7 +32,7 @@ use Rattle.semantics.specs.Valuations.{pairs}
 use Rattle.semantics.specs.Choices.{tableChoice}
 use Rattle.semantics.specs.Descent.{accepts}
 use Rattle.semantics.specs.Calls.{allCalls, callCount, farthest}
-use Rattle.semantics.proofs.Range.{all-length}
+use Rattle.semantics.proofs.descent.Range.{all-length}
 use Rattle.following.specs.Theorems.{EntriesTell}
 use Rattle.following.proofs.Theorems.{theorems as following}
 use Rattle.table.specs.Layout.{tableWords, tableRoom}

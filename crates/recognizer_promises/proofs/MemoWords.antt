@@ -18,7 +18,7 @@ use Rattle.semantics.specs.ComesTo.{Call, callAt, InRange}
 use Rattle.semantics.specs.Calls.{Listing, sameCall, allCalls, calls}
 use Rattle.semantics.specs.Memo.{encode, entry, indexOf, Recorded}
 use Rattle.base.proofs.FiniteSets.{member-mem, mem-member}
-use Rattle.semantics.proofs.Range.{calls-equality, all-length, all-ordered}
+use Rattle.semantics.proofs.descent.Range.{calls-equality, all-length, all-ordered}
 use Rattle.semantics.proofs.Theorems.{theorems}
 use Rattle.memo_table.proofs.Entries.{getD-any}
 use Rattle.recognizer_promises.specs.Memory.{memoWordBy, memoWordsBy}

@@ -11,7 +11,7 @@ use Rattle.grammar.specs.Encoding.{onWord, parse, grammarOf}
 use Rattle.grammar.specs.Limits.{maxTableWords, maxMemoEntries}
 use Rattle.grammar.specs.Reading.{counted, stepped, onStep, finished, scan, within, headed, opened, reading}
 use Rattle.lookahead.specs.declared.Lookahead.the-variants.{One}
-use Rattle.semantics.proofs.Computing.{left-recursion-computes, tables-compute, descent-computes, calls-compute}
+use Rattle.semantics.proofs.examples.Computing.{left-recursion-computes, tables-compute, descent-computes, calls-compute}
 use Rattle.semantics.specs.Productive.{unproductive, lowestUnproductive}
 use Rattle.table.specs.Analysis.{fault}
 use Rattle.columns.specs.Columns.{columnString}

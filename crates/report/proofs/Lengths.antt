@@ -23,7 +23,7 @@ use Rattle.semantics.specs.Descent.{Outcome as Ended, Failed, End, descend, acc
 use Rattle.semantics.specs.ComesTo.{Call}
 use Rattle.semantics.specs.Calls.{sameCall, allCalls, calls}
 use Rattle.semantics.specs.Memo.{encode}
-use Rattle.semantics.proofs.Range.{all-range}
+use Rattle.semantics.proofs.descent.Range.{all-range}
 use Rattle.lookahead.specs.declared.Lookahead.the-variants.{One}
 use Rattle.semantics.proofs.Theorems.{theorems}
 use Rattle.table.specs.Layout.{tableWords}

@@ -25,7 +25,7 @@ use Rattle.lookahead.specs.Lookaheads.{tokens, alphabet}
 use Rattle.admission.specs.Admission.{admission}
 use Rattle.base.specs.FiniteSets.{numbers}
 use Rattle.semantics.specs.Claims.{overruns, clashes}
-use Rattle.semantics.proofs.Outcomes.{nth-mem}
+use Rattle.semantics.proofs.descent.Outcomes.{nth-mem}
 use Rattle.families.specs.declared.Finding.the-variants.{Passed, Refused}
 use Rattle.families.specs.Analysis.{readingFault, setsFaults, setsFault, setsIf}
 use Rattle.base.specs.Lists.{listed}

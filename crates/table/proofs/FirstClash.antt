@@ -14,9 +14,9 @@ use Rattle.lookahead.specs.Lookaheads.{tokens, alphabet}
 use Rattle.semantics.specs.FirstFollow.{Entry, entries}
 use Rattle.base.specs.Strings.{Lookahead as Looked}
 use Rattle.semantics.specs.Claims.{clashing, clashes}
-use Rattle.semantics.proofs.Claims.{clashing-elim, clashes-make}
+use Rattle.semantics.proofs.families.Claims.{clashing-elim, clashes-make}
 use Rattle.base.proofs.FiniteSets.{keep-elim}
-use Rattle.semantics.proofs.LookaheadSets.{entries-elim}
+use Rattle.semantics.proofs.families.LookaheadSets.{entries-elim}
 use Rattle.table.specs.declared.conflicts.Conflict.{Conflict}
 use Rattle.table.specs.declared.conflicts.Conflict.the-variants.{Absent, At}
 use Rattle.columns.specs.Columns.{columnString, columnOf, columns}

@@ -22,8 +22,8 @@ use Rattle.lookahead.specs.declared.Lookahead.the-variants.{One, Two}
 use Rattle.lookahead.specs.Lookaheads.{tokens}
 use Rattle.semantics.specs.Claims.{claims, tableOf}
 use Rattle.semantics.specs.FirstFollow.{first, follow}
-use Rattle.semantics.proofs.Outcomes.{nth-below}
-use Rattle.semantics.proofs.Positions.{position-some}
+use Rattle.semantics.proofs.descent.Outcomes.{nth-below}
+use Rattle.semantics.proofs.families.Positions.{position-some}
 use Rattle.base.specs.Lists.{listed}
 use Rattle.families.specs.Sets.{firstNumber, followNumber}
 use Rattle.base.proofs.Lists.{listed-long, listed-at}

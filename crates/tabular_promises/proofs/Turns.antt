@@ -20,8 +20,8 @@ use Rattle.lookahead.proofs.Elements.{has-zero}
 use Rattle.semantics.specs.Valuations.{solution}
 use Rattle.semantics.specs.LeftRecursion.{rank, level}
 use Rattle.semantics.specs.Theorems.{AgreeBelow}
-use Rattle.semantics.proofs.Rank.{rank-below}
-use Rattle.semantics.proofs.Unique.{rules-lower, solution-solves, solution-null}
+use Rattle.semantics.proofs.meaning.Rank.{rank-below}
+use Rattle.semantics.proofs.meaning.Unique.{rules-lower, solution-solves, solution-null}
 use Rattle.base.proofs.Lists.{getD-zeros}
 use Rattle.tabular_promises.specs.Places.{Standing}
 use Rattle.tabular_promises.specs.Chart.{charted, Long, Span, Added}

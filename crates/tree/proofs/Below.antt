@@ -18,7 +18,7 @@ use Rattle.semantics.specs.Descent.{Outcome, Failed, End, endsAt, guard, Outcom
 use Rattle.semantics.specs.ComesTo.{Call, callAt, InRange, measure, when, fromEnd, bodyComesTo, positivesComeTo, ruleComesTo, selectedComesTo, callComesTo}
 use Rattle.semantics.specs.Predictive.{Predictive}
 use Rattle.base.proofs.Booleans.{T-true, and-make}
-use Rattle.semantics.proofs.Measure.{measure-falls}
+use Rattle.semantics.proofs.descent.Measure.{measure-falls}
 use Rattle.semantics.proofs.Theorems.{theorems}
 use Rattle.tree.specs.Writing.{ruleCalls, below}
 use Rattle.base.proofs.FlatMaps.{flatMap-elim, flatMap-make}

@@ -23,9 +23,9 @@ use Rattle.semantics.specs.Predictive.{Predictive}
 use Rattle.semantics.specs.Theorems.{LocalVerdict}
 use Rattle.base.proofs.Booleans.{T-subst, T-true, and-l, and-r}
 use Rattle.base.proofs.Quantified.{all-elim, any-make}
-use Rattle.semantics.proofs.Outcomes.{ends-end, end-ends, onward-elim, guard-elim, obey-elim, select-elim, conclude-elim, nth-mem}
-use Rattle.semantics.proofs.Ends.{run-forward, selected, descend-forward}
-use Rattle.semantics.proofs.BodyVerdict.{below-rest}
+use Rattle.semantics.proofs.descent.Outcomes.{ends-end, end-ends, onward-elim, guard-elim, obey-elim, select-elim, conclude-elim, nth-mem}
+use Rattle.semantics.proofs.descent.Ends.{run-forward, selected, descend-forward}
+use Rattle.semantics.proofs.descent.BodyVerdict.{below-rest}
 use Rattle.semantics.proofs.Theorems.{theorems}
 use Rattle.tree.specs.Writing.{ruleCalls, below}
 

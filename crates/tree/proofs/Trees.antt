@@ -21,9 +21,9 @@ use Rattle.base.specs.FiniteSets.{Distinct}
 use Rattle.semantics.specs.Calls as called
 use Rattle.semantics.specs.Predictive.{Predictive}
 use Rattle.base.proofs.Strings.{look-end}
-use Rattle.semantics.proofs.Outcomes.{ends-end, nth-below}
-use Rattle.semantics.proofs.Rank.{level-top}
-use Rattle.semantics.proofs.Predictive.{own-guides}
+use Rattle.semantics.proofs.descent.Outcomes.{ends-end, nth-below}
+use Rattle.semantics.proofs.meaning.Rank.{level-top}
+use Rattle.semantics.proofs.descent.Predictive.{own-guides}
 use Rattle.base.proofs.Distinct.{distinct-length}
 use Rattle.semantics.proofs.Theorems.{theorems}
 use Rattle.tree.specs.ParseTrees.{Vertex, vertex, Node, Leaf, Inner, leaves, Tree, Pairwise, Corresponds, Cut, Conditions, Reaches, itself, ParseTree}

@@ -14,7 +14,7 @@ use Rattle.semantics.specs.ComesTo.{Call}
 use Rattle.semantics.specs.Calls.{sameCall}
 use Rattle.base.proofs.Booleans.{true-T, T-subst}
 use Rattle.base.proofs.FiniteSets.{member-mem, mem-member}
-use Rattle.semantics.proofs.Range.{calls-equality}
+use Rattle.semantics.proofs.descent.Range.{calls-equality}
 use Rattle.tree.specs.Writing.{each, visit}
 
 pub distinct-last : (l : List Call) (x : Call) → Distinct l → (List·Memᴰ x l → ⊥) → Distinct (l ++ (x ∷ []))

@@ -21,7 +21,7 @@ use Rattle.semantics.specs.Calls.{sameCall, allCalls}
 use Rattle.base.proofs.Booleans.{T-subst, T-true, both, true-T}
 use Rattle.base.proofs.FiniteSets.{member-mem, mem-member}
 use Rattle.base.proofs.Distinct.{distinct-length}
-use Rattle.semantics.proofs.Range.{calls-equality, all-range, all-length}
+use Rattle.semantics.proofs.descent.Range.{calls-equality, all-range, all-length}
 use Rattle.tree.specs.Writing.{InTree}
 use Rattle.tree.proofs.Visiting.{distinct-last}
 use Rattle.tree.proofs.Trees.{call-same}

@@ -25,8 +25,8 @@ use Rattle.semantics.specs.Claims.{tableOf}
 use Rattle.semantics.specs.Descent.{accepts}
 use Rattle.semantics.specs.ComesTo.{Call, callAt, measure}
 use Rattle.semantics.specs.Memo.{encode}
-use Rattle.semantics.proofs.Outcomes.{nth-below}
-use Rattle.semantics.proofs.Rank.{level-top}
+use Rattle.semantics.proofs.descent.Outcomes.{nth-below}
+use Rattle.semantics.proofs.meaning.Rank.{level-top}
 use Rattle.semantics.proofs.Theorems.{theorems}
 use Rattle.lookahead.specs.declared.Lookahead.the-variants.{One}
 use Rattle.table.specs.Layout.{entryWord, entryAt}

@@ -41,8 +41,8 @@ use Rattle.semantics.specs.ComesTo.{Call}
 use Rattle.semantics.specs.Calls.{Called}
 use Rattle.semantics.specs.Memo.{encode, indexOf}
 use Rattle.semantics.specs.Predictive.{Predictive}
-use Rattle.semantics.proofs.Called.{called-range}
-use Rattle.semantics.proofs.Range.{index-range}
+use Rattle.semantics.proofs.descent.Called.{called-range}
+use Rattle.semantics.proofs.descent.Range.{index-range}
 use Rattle.semantics.proofs.Theorems.{theorems}
 use Rattle.lookahead.specs.declared.Lookahead.the-variants.{One}
 use Rattle.columns.specs.Columns.{columns}

@@ -46,7 +46,7 @@ use Rattle.tree.specs.Writing.{numberOf, vertexAt, below, each, visit, InTree, 
 use Rattle.tree.specs.Writing.{start as root-in}
 use Rattle.tree.specs.Theorems.{Told}
 use Rattle.tree.proofs.Words.{told}
-use Rattle.semantics.proofs.Outcomes.{nth-below}
+use Rattle.semantics.proofs.descent.Outcomes.{nth-below}
 use Rattle.tree.proofs.Reading.{Found, Reads, Chosen, chosen}
 use Rattle.tree.proofs.Below.{comes-token, comes-name, below-chosen, below-make, below-falls}
 use Rattle.tree.proofs.Trees.{tree-sound}

@@ -20,9 +20,9 @@ use Rattle.base.proofs.Quantified.{any-elim, any-make}
 use Rattle.base.proofs.FiniteSets.{member-mem, mem-member}
 use Rattle.base.proofs.Strings.{all-take}
 use Rattle.base.proofs.LookaheadStrings.{strings-equality, cut-lookahead}
-use Rattle.semantics.proofs.LookaheadSets.{entries-equality, sets-elim, sets-mono, concat-make, concat-elim}
-use Rattle.semantics.proofs.LookaheadSets.{entry-lookahead, entry-sets, entry-kept, entry-closed}
-use Rattle.semantics.proofs.First.{In, firstBody-mono, firstBody-make, firstBody-elim, first-lookahead, in-first, first-in}
+use Rattle.semantics.proofs.families.LookaheadSets.{entries-equality, sets-elim, sets-mono, concat-make, concat-elim}
+use Rattle.semantics.proofs.families.LookaheadSets.{entry-lookahead, entry-sets, entry-kept, entry-closed}
+use Rattle.semantics.proofs.families.First.{In, firstBody-mono, firstBody-make, firstBody-elim, first-lookahead, in-first, first-in}
 
 -- a string of the set of a body over n terminals is one over n terminals
 firstBody-over : (k n : ℕ) (F : Family) → ((A : ℕ) (x : List ℕ) → F A x → Over n x) → (b : Body) → TerminalsBelow n b

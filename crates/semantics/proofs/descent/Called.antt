@@ -17,10 +17,10 @@ use Rattle.semantics.specs.Calls.{Called, start, more, Listing, callsWit
 use Rattle.semantics.specs.Calls.{allCalls, calls, callCount, greatestPlace, farthest}
 use Rattle.base.proofs.FiniteSets.{member-mem, mem-member, keep-make, keep-elim}
 use Rattle.base.proofs.FlatMaps.{flatMap-elim, flatMap-make}
-use Rattle.semantics.proofs.Rank.{level-top}
-use Rattle.semantics.proofs.Measure.{measure-falls}
+use Rattle.semantics.proofs.meaning.Rank.{level-top}
+use Rattle.semantics.proofs.descent.Measure.{measure-falls}
 use Rattle.base.proofs.Distinct.{distinct-length, distinct-keep}
-use Rattle.semantics.proofs.Range.{calls-equality, all-range, all-distinct, all-length}
+use Rattle.semantics.proofs.descent.Range.{calls-equality, all-range, all-distinct, all-length}
 
 greatest-most : (l : List Call) (x : Call) → List·Memᴰ x l → x .place ≤ greatestPlace l
 unfolding greatestPlace

@@ -15,8 +15,8 @@ use Rattle.semantics.specs.LeftRecursion.{allNullable, nullStep, nullabl
 use Rattle.semantics.specs.Theorems.{AgreeBelow}
 use Rattle.base.proofs.Booleans.{and-l, and-r, and-make, and-cong}
 use Rattle.base.proofs.Quantified.{any-cong, all-cong, all-map, any-map, below-cong, below-elim}
-use Rattle.semantics.proofs.Nullable.{nullable-closed}
-use Rattle.semantics.proofs.Rank.{level-shorter, level-left, level-top}
+use Rattle.semantics.proofs.meaning.Nullable.{nullable-closed}
+use Rattle.semantics.proofs.meaning.Rank.{level-shorter, level-left, level-top}
 
 -- Two valuations that agree on each piece that a body's reading of i .. j can ask for read the body alike. H's last premise: a piece that is the
 -- whole span is one on which A left-depends. Its result: they agree there, and what derives an empty span is nullable

@@ -13,7 +13,7 @@ use Rattle.semantics.specs.Claims.{clashes, everyEnds}
 use Rattle.semantics.specs.Predictive.{Predictive}
 use Rattle.base.proofs.Booleans.{and-l, and-r}
 use Rattle.base.proofs.Quantified.{all-elim}
-use Rattle.semantics.proofs.LeftRecursion.{lowestLeftRecursive-none}
+use Rattle.semantics.proofs.meaning.LeftRecursion.{lowestLeftRecursive-none}
 
 unfoldable pub belowTest : ℕ → Body → Bool
 belowTest n [] = true

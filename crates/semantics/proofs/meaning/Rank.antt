@@ -11,7 +11,7 @@ use Rattle.grammar.specs.Syntax.{Grammar, WellScoped}
 use Rattle.semantics.specs.Valuations.{pairs}
 use Rattle.semantics.specs.LeftRecursion.{LeftDepends, once, NoLeftRecursion, leftReaches, rank, level}
 use Rattle.base.proofs.Quantified.{count-lt, count-short}
-use Rattle.semantics.proofs.LeftRecursion.{reaches-then, target-below, leftReaches-iff}
+use Rattle.semantics.proofs.meaning.LeftRecursion.{reaches-then, target-below, leftReaches-iff}
 
 module _ (G : Grammar) (c : WellScoped G) (free : NoLeftRecursion G) where
   -- the rank falls along left dependence

@@ -15,7 +15,7 @@ use Rattle.semantics.specs.FirstFollow.{first, First}
 use Rattle.semantics.specs.Productive.{Unproductive, unproductive, lowestUnproductive}
 use Rattle.base.proofs.Lowest.{lowest-decided, none-decided}
 use Rattle.base.proofs.LookaheadStrings.{strings-make}
-use Rattle.semantics.proofs.First.{first-lookahead}
+use Rattle.semantics.proofs.families.First.{first-lookahead}
 
 module _ (G : Grammar) (k : ℕ) where
   -- some string is in A's set

@@ -14,7 +14,7 @@ use Rattle.semantics.specs.FirstFollow.{sameEntry, entries, firstStep, f
 use Rattle.semantics.specs.Claims.{clashes, tableOf, everyEnds}
 use Rattle.grammar.specs.Cards.{grammarR, grammarM, grammarE}
 use Rattle.semantics.specs.Productive.{lowestUnproductive}
-use Rattle.semantics.proofs.Computing.{tables-compute, productive-computes}
+use Rattle.semantics.proofs.examples.Computing.{tables-compute, productive-computes}
 
 -- the number of a set at k = 1: a terminal a weighs 2 ^ a, the empty string 2 ^ 24
 weight : List (List ℕ) → ℕ

@@ -19,10 +19,10 @@ use Rattle.base.proofs.Booleans.{and-l, and-r, and-make, or-cases, or-l, or-r}
 use Rattle.base.proofs.Quantified.{any-elim, any-make, all-elim, all-make}
 use Rattle.base.proofs.FiniteSets.{member-mem, mem-member, keep-make, keep-elim}
 use Rattle.base.proofs.LookaheadStrings.{strings-equality, strings-make, strings-elim, cut-lookahead}
-use Rattle.semantics.proofs.LookaheadSets.{entries-make, concat-make, concat-elim}
-use Rattle.semantics.proofs.First.{In, firstBody-mono, firstRule-make, firstRule-elim, in-first, first-in}
-use Rattle.semantics.proofs.Follow.{follow-lookahead, in-follow, follow-in}
-use Rattle.semantics.proofs.Positions.{PassesAt, several-elim, several-make, position-some, position-none}
+use Rattle.semantics.proofs.families.LookaheadSets.{entries-make, concat-make, concat-elim}
+use Rattle.semantics.proofs.families.First.{In, firstBody-mono, firstRule-make, firstRule-elim, in-first, first-in}
+use Rattle.semantics.proofs.families.Follow.{follow-lookahead, in-follow, follow-in}
+use Rattle.semantics.proofs.families.Positions.{PassesAt, several-elim, several-make, position-some, position-none}
 
 none-without : (l : List Body) → T (without l) → l ≡ []
 none-without [] t = refl

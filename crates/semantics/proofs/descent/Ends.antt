@@ -16,8 +16,8 @@ use Rattle.semantics.specs.Choices.{Choice, OwnRules}
 use Rattle.semantics.specs.Descent.{endsAt, guard, Outcomes, read, run, agrees, obey, select, byChoice, within, descend}
 use Rattle.base.proofs.Booleans.{and-l, and-make}
 use Rattle.base.proofs.Quantified.{all-map, any-make}
-use Rattle.semantics.proofs.Nullable.{nullable-closed}
-use Rattle.semantics.proofs.Outcomes.{onward-elim, guard-elim, conclude-elim, conclude-make, nth-mem, obey-elim, select-elim}
+use Rattle.semantics.proofs.meaning.Nullable.{nullable-closed}
+use Rattle.semantics.proofs.descent.Outcomes.{onward-elim, guard-elim, conclude-elim, conclude-make, nth-mem, obey-elim, select-elim}
 
 module _ (w : List ℕ) (c : Outcomes) where
   abbrev pub Forward : Type 0

@@ -13,7 +13,7 @@ use Rattle.semantics.specs.Descent.{Failed, End, Outcomes, read, run, se
 use Rattle.semantics.specs.ComesTo.{callAt, when, bodyComesTo, negativesComeTo, positivesComeTo, ruleComesTo}
 use Rattle.semantics.specs.Memo.{encode, decode}
 use Rattle.semantics.specs.MemoDescent.{memoized, andThen, memoRun, memoNegatives, memoPositives, memoRule, memoObey, memoCall, memoStart, stored}
-use Rattle.semantics.proofs.ExamplesValuations.{balanced}
+use Rattle.semantics.proofs.examples.ExamplesValuations.{balanced}
 
 -- aⁿbⁿ but for ab, with one token
 abbrev balancedTable : Table

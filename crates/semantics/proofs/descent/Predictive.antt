@@ -10,10 +10,10 @@ use Rattle.semantics.specs.Families.{OwnEntries}
 use Rattle.semantics.specs.FirstFollow.{First, Follow}
 use Rattle.semantics.specs.Claims.{clashes, tableOf}
 use Rattle.semantics.specs.Predictive.{Guides, Predictive}
-use Rattle.semantics.proofs.LeftRecursion.{lowestLeftRecursive-none}
-use Rattle.semantics.proofs.First.{first-closed}
-use Rattle.semantics.proofs.Follow.{follow-closed}
-use Rattle.semantics.proofs.Claims.{table-claims, table-right, clashless-ends, everyEnds-elim, everyEnds-make}
+use Rattle.semantics.proofs.meaning.LeftRecursion.{lowestLeftRecursive-none}
+use Rattle.semantics.proofs.families.First.{first-closed}
+use Rattle.semantics.proofs.families.Follow.{follow-closed}
+use Rattle.semantics.proofs.families.Claims.{table-claims, table-right, clashless-ends, everyEnds-elim, everyEnds-make}
 
 -- each entry of the computed table is the number of a rule of its nonterminal
 pub table-own : (G : Grammar) (k : ℕ) → OwnEntries G (tableOf G k)

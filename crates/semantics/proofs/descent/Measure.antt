@@ -16,9 +16,9 @@ use Rattle.semantics.specs.Descent.{Outcome, Failed, End, endsAt, guard,
 use Rattle.semantics.specs.ComesTo.{Call, InRange, measure, fromEnd, when, bodyComesTo, negativesComeTo, positivesComeTo, ruleComesTo}
 use Rattle.semantics.specs.ComesTo.{selectedComesTo, callComesTo}
 use Rattle.base.proofs.Booleans.{and-l}
-use Rattle.semantics.proofs.Rank.{rank-falls, level-onward}
-use Rattle.semantics.proofs.Outcomes.{guard-elim}
-use Rattle.semantics.proofs.Ends.{Forward, EmptyNull, selected, descend-forward, descend-null}
+use Rattle.semantics.proofs.meaning.Rank.{rank-falls, level-onward}
+use Rattle.semantics.proofs.descent.Outcomes.{guard-elim}
+use Rattle.semantics.proofs.descent.Ends.{Forward, EmptyNull, selected, descend-forward, descend-null}
 
 fromEnd-elim : (o : Outcome) (f : ℕ → List Call) (x : Call) → List·Memᴰ x (fromEnd o f) → (m : ℕ) × T (endsAt o m) × List·Memᴰ x (f m)
 fromEnd-elim Failed f x m = absurd (List·Memᴰ·not-nil m)

@@ -14,7 +14,7 @@ use Rattle.semantics.specs.FirstFollow.{Entry, entries, First, Follow}
 use Rattle.semantics.specs.Claims.{several, claims, overruns, clashes, column}
 use Rattle.base.proofs.FiniteSets.{keep-elim, numbers-elim, combine-elim}
 use Rattle.base.proofs.Distinct.{from-above}
-use Rattle.semantics.proofs.Claims.{clashes-make}
+use Rattle.semantics.proofs.families.Claims.{clashes-make}
 
 -- each element comes before all that stand after it
 abbrev Ordered : {X : Type 0} → (X → X → Type 0) → List X → Type 0

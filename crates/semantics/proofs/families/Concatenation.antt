@@ -12,9 +12,9 @@ use Rattle.grammar.specs.Syntax.{Body, Rule, Grammar}
 use Rattle.semantics.specs.Families.{Family, Short, FirstOf, FirstBody, Strung, Meeting, FollowBody, FollowClosed, FollowStrung, Claims}
 use Rattle.semantics.specs.FirstFollow.{First, Follow}
 use Rattle.base.proofs.Strings.{take-short}
-use Rattle.semantics.proofs.First.{first-lookahead}
-use Rattle.semantics.proofs.Follow.{follow-lookahead}
-use Rattle.semantics.proofs.FollowCuts.{Cuts, follow-cuts}
+use Rattle.semantics.proofs.families.First.{first-lookahead}
+use Rattle.semantics.proofs.families.Follow.{follow-lookahead}
+use Rattle.semantics.proofs.families.FollowCuts.{Cuts, follow-cuts}
 
 -- a string of the first set and one of the second after it, cut to k
 abbrev pub Cut : ℕ → (List ℕ → Type 0) → (List ℕ → Type 0) → List ℕ → Type 0

@@ -21,11 +21,11 @@ use Rattle.semantics.specs.ComesTo.{Call, callAt, InRange, measure, call
 use Rattle.semantics.specs.Memo.{Memo, encode, decode, indexOf, entry, written, EndsFit}
 use Rattle.semantics.specs.MemoDescent.{Memoized, memoized, memoObey, memoCall, stored}
 use Rattle.base.proofs.Booleans.{T-true, T-false, test}
-use Rattle.semantics.proofs.Plan.{Plan, Done, Ask, value, asked, through, plan, plan-value, plan-asked, plan-through}
-use Rattle.semantics.proofs.Ends.{descend-forward}
-use Rattle.semantics.proofs.Results.{descend-results}
-use Rattle.semantics.proofs.Measure.{measure-falls}
-use Rattle.semantics.proofs.Range.{index-injective, index-range}
+use Rattle.semantics.proofs.descent.Plan.{Plan, Done, Ask, value, asked, through, plan, plan-value, plan-asked, plan-through}
+use Rattle.semantics.proofs.descent.Ends.{descend-forward}
+use Rattle.semantics.proofs.descent.Results.{descend-results}
+use Rattle.semantics.proofs.descent.Measure.{measure-falls}
+use Rattle.semantics.proofs.descent.Range.{index-injective, index-range}
 
 -- a call's entry is written
 abbrev pub Has : Grammar → List ℕ → Memo → Call → Type 0

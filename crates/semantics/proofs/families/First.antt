@@ -16,8 +16,8 @@ use Rattle.base.proofs.Booleans.{and-l, and-r, and-make}
 use Rattle.base.proofs.Quantified.{any-elim, any-make, all-elim, all-make}
 use Rattle.base.proofs.FiniteSets.{member-mem, mem-member}
 use Rattle.base.proofs.LookaheadStrings.{strings-equality}
-use Rattle.semantics.proofs.LookaheadSets.{sets-elim, sets-mono, concat-make, concat-elim}
-use Rattle.semantics.proofs.LookaheadSets.{entry-lookahead, entry-sets, entry-kept, entry-closed}
+use Rattle.semantics.proofs.families.LookaheadSets.{sets-elim, sets-mono, concat-make, concat-elim}
+use Rattle.semantics.proofs.families.LookaheadSets.{entry-lookahead, entry-sets, entry-kept, entry-closed}
 
 -- two least families are one
 pub least-unique : (Closed : Family → Type 0) (F F′ : Family) → Least Closed F → Least Closed F′ → (A : ℕ) (x : List ℕ) → F A x ↔ F′ A x

@@ -16,7 +16,7 @@ use Rattle.base.specs.Strings.{span, Over}
 use Rattle.semantics.specs.Families.{Family, FirstBody, FirstRule, FirstClosed}
 use Rattle.base.proofs.Booleans.{T-subst, and-l, and-r}
 use Rattle.base.proofs.Quantified.{all-elim, any-elim, below-elim}
-use Rattle.semantics.proofs.Unique.{solution-solves, solution-unique}
+use Rattle.semantics.proofs.meaning.Unique.{solution-solves, solution-unique}
 use Rattle.base.proofs.Strings.{take-cut, span-none, span-split, span-cons, all-span, take-short}
 
 -- what one round of the rules preserves holds of every solution

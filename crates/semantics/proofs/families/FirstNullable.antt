@@ -17,9 +17,9 @@ use Rattle.semantics.specs.FirstFollow.{setsOf, firstStep, first, First}
 use Rattle.base.proofs.Booleans.{and-l, and-r, and-make}
 use Rattle.base.proofs.Quantified.{any-elim, any-make, all-elim, all-make}
 use Rattle.base.proofs.LookaheadStrings.{cut-none}
-use Rattle.semantics.proofs.Nullable.{nullable-least, nullable-closed}
-use Rattle.semantics.proofs.LookaheadSets.{entry-kept}
-use Rattle.semantics.proofs.First.{In, firstStep-elim, first-closed}
+use Rattle.semantics.proofs.meaning.Nullable.{nullable-least, nullable-closed}
+use Rattle.semantics.proofs.families.LookaheadSets.{entry-kept}
+use Rattle.semantics.proofs.families.First.{In, firstStep-elim, first-closed}
 
 -- a body whose set has the empty string consists of nonterminals whose sets have it, and back
 body-none : (k : ℕ) (F : Family) (s : NumberSet) → 0 < k → ((A : ℕ) → F A [] → T (s A)) → (b : Body) → FirstBody k F b [] → T (allNullable s b)

@@ -21,14 +21,14 @@ use Rattle.semantics.specs.Theorems.{Piece}
 use Rattle.semantics.specs.Descent.{End, endsAt, onward, Outcomes, read, run, agrees, byChoice, descend, accepts}
 use Rattle.base.proofs.Booleans.{T-subst, both, and-l, and-r, and-make}
 use Rattle.base.proofs.Quantified.{any-cong, all-cong, any-make, any-elim}
-use Rattle.semantics.proofs.Rank.{level-onward, level-top}
-use Rattle.semantics.proofs.Unique.{NullSound, solution-null}
+use Rattle.semantics.proofs.meaning.Rank.{level-onward, level-top}
+use Rattle.semantics.proofs.meaning.Unique.{NullSound, solution-null}
 use Rattle.base.proofs.Strings.{look-split, look-end, look-none, all-span, take-short}
-use Rattle.semantics.proofs.FirstSound.{FirstSound, contains-first, rule-first, first-sound}
-use Rattle.semantics.proofs.Outcomes.{ends-end, end-ends, ends-iff, onward-elim, mem-nth}
-use Rattle.semantics.proofs.Ends.{Forward, run-forward, EmptyNull, byChoice-elim, byChoice-make, descend-forward, descend-null}
-use Rattle.semantics.proofs.Results.{descend-results}
-use Rattle.semantics.proofs.BodyVerdict.{run-contains, follow-rest, below-rest}
+use Rattle.semantics.proofs.families.FirstSound.{FirstSound, contains-first, rule-first, first-sound}
+use Rattle.semantics.proofs.descent.Outcomes.{ends-end, end-ends, ends-iff, onward-elim, mem-nth}
+use Rattle.semantics.proofs.descent.Ends.{Forward, run-forward, EmptyNull, byChoice-elim, byChoice-make, descend-forward, descend-null}
+use Rattle.semantics.proofs.descent.Results.{descend-results}
+use Rattle.semantics.proofs.descent.BodyVerdict.{run-contains, follow-rest, below-rest}
 
 -- Everything about a grammar, its families and table, an input and its solution that the verdict needs
 module _ {G : Grammar} {k : ℕ} {F L : Family} {t : Table} (scoped : WellScoped G) (free : NoLeftRecursion G) (guides : Guides G k F L t)

@@ -19,10 +19,10 @@ use Rattle.semantics.specs.Calls.{Called, start, more, allCalls, calls}
 use Rattle.semantics.specs.Memo.{Memo, indexOf, entry, blank, Recorded, EndsFit}
 use Rattle.semantics.specs.MemoDescent.{memoCall, memoStart}
 use Rattle.base.proofs.Booleans.{both, test}
-use Rattle.semantics.proofs.Rank.{level-top}
-use Rattle.semantics.proofs.Range.{index-range, all-range}
-use Rattle.semantics.proofs.Called.{called-test}
-use Rattle.semantics.proofs.Written.{Has, Sound, Good, good-calls}
+use Rattle.semantics.proofs.meaning.Rank.{level-top}
+use Rattle.semantics.proofs.descent.Range.{index-range, all-range}
+use Rattle.semantics.proofs.descent.Called.{called-test}
+use Rattle.semantics.proofs.descent.Written.{Has, Sound, Good, good-calls}
 
 -- tests that agree on a list keep the same of it
 keep-cong : (p q : Call → Bool) (l : List Call) → ((x : Call) → List·Memᴰ x l → p x ≡ q x) → keep p l ≡ keep q l

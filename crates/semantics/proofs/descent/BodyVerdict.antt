@@ -16,11 +16,11 @@ use Rattle.semantics.specs.Families.{Family, FollowBody}
 use Rattle.semantics.specs.Descent.{Outcome, endsAt, onward, Outcomes, read, run}
 use Rattle.base.proofs.Booleans.{T-subst, both, and-l, and-r, and-make, and-cong, and-twist}
 use Rattle.base.proofs.Quantified.{below-cong, below-elim, below-make}
-use Rattle.semantics.proofs.Unique.{NullSound}
+use Rattle.semantics.proofs.meaning.Unique.{NullSound}
 use Rattle.base.proofs.Strings.{look-split}
-use Rattle.semantics.proofs.FirstSound.{FirstSound, contains-first}
-use Rattle.semantics.proofs.Outcomes.{onward-elim, onward-make, onward-guard}
-use Rattle.semantics.proofs.Ends.{Forward, run-forward, EmptyNull}
+use Rattle.semantics.proofs.families.FirstSound.{FirstSound, contains-first}
+use Rattle.semantics.proofs.descent.Outcomes.{onward-elim, onward-make, onward-guard}
+use Rattle.semantics.proofs.descent.Ends.{Forward, run-forward, EmptyNull}
 
 -- to go on from where o ends is to go on from some place between
 onward-below : (o : Outcome) (f : ℕ → Outcome) (i j : ℕ) → ((m : ℕ) → T (endsAt o m) → T (endsAt (f m) j) → (i ≤ m) × (m ≤ j))

@@ -13,9 +13,9 @@ use Rattle.semantics.specs.LeftRecursion.{nullable, LeftIn, here, there,
 use Rattle.semantics.specs.Choices.{Choice, OwnRules}
 use Rattle.semantics.specs.Descent.{onward, guard, Outcomes, read, run, select, byChoice, Results, within, descend}
 use Rattle.base.proofs.Booleans.{and-l}
-use Rattle.semantics.proofs.Rank.{level-onward, level-top}
-use Rattle.semantics.proofs.Outcomes.{guard-elim, onward-cong, obey-cong}
-use Rattle.semantics.proofs.Ends.{Forward, EmptyNull, selected, within-forward, within-null}
+use Rattle.semantics.proofs.meaning.Rank.{level-onward, level-top}
+use Rattle.semantics.proofs.descent.Outcomes.{guard-elim, onward-cong, obey-cong}
+use Rattle.semantics.proofs.descent.Ends.{Forward, EmptyNull, selected, within-forward, within-null}
 
 -- outcomes that agree on the calls that a body makes agree on the body
 module _ (G : Grammar) (w : List ℕ) (c c′ : Outcomes) (forward : Forward w c) (empty : EmptyNull G w c) (B start : ℕ)

@@ -1,0 +1,6 @@
+pub mod Check
+pub mod Computing
+pub mod ExamplesValuations
+pub mod ExamplesMemo
+pub mod ExamplesTables
+pub mod ExamplesDescent
