@@ -3,4 +3,3 @@ pub mod Computing
 pub mod ExamplesValuations
 pub mod ExamplesMemo
 pub mod ExamplesTables
-pub mod ExamplesDescent

@@ -17,9 +17,9 @@ use Rattle.table.specs.Analysis.{fault}
 use Rattle.columns.specs.Columns.{columnString}
 use Rattle.table.specs.Conflicts.{rowConflict, conflictFrom, firstClash}
 use Rattle.event.specs.Unknown.{unknownFrom}
 use Rattle.recognizer_promises.specs.Answers.{inputFaults, verdictOf, verdictBy}
-use Rattle.recognizer_promises.specs.Rows.{Row, starred, judged}
+use Rattle.worked_examples.specs.Rows.{Row, starred, judged}
 use Rattle.recognizer_promises.proofs.JudgeFaults.{judged-rows}
 
 -- the three cards pass
 passes : (fault One wordsR ≡ none) × (fault One wordsM ≡ none) × (fault One wordsE ≡ none)
