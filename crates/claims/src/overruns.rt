@@ -8,7 +8,7 @@ ghost use Rattle.families.specs.Naming.{ruleHead, Indexed};
 ghost use Rattle.claims.specs.Overruns.{beyondEnd, aloneFrom, WordOverruns, WordsIndexed, Overrunning};
 use families::SETS;
 use lookahead::Lookahead;
-use lookahead::LookaheadSet;
+use lookahead_sets::LookaheadSet;
 use word::Word;
 use word::decode;
 

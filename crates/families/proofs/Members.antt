@@ -16,7 +16,7 @@ use Rattle.lookahead.specs.declared.Lookahead.{Lookahead}
 use Rattle.lookahead.specs.Lookaheads.{tokens, alphabet, elements, elementOf, stringOf}
 use Rattle.lookahead.specs.Elements.{has, size, width}
 use Rattle.lookahead.proofs.Strings.{string-same}
-use Rattle.lookahead.proofs.Cases.{elements-fit}
+use Rattle.lookahead.proofs.Bounds.{elements-fit}
 use Rattle.lookahead.proofs.Size.{count-cong, count-first, size-below}
 use Rattle.lookahead.proofs.Weights.{has-total}
 use Rattle.families.specs.Sets.{numberOf, Members}

@@ -16,7 +16,7 @@ use grammar::limits::NONTERMINALS;
 use grammar::limits::RULES;
 use grammar::reading::Sizes;
 use lookahead::Lookahead;
-use lookahead::LookaheadSet;
+use lookahead_sets::LookaheadSet;
 use text::put::put_bytes;
 use text::put::put_labelled;
 use text::put::put_number;

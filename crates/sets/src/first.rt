@@ -20,7 +20,7 @@ use families::SETS;
 use grammar::limits::RULES;
 use grammar::reading::Sizes;
 use lookahead::Lookahead;
-use lookahead::LookaheadSet;
+use lookahead_sets::LookaheadSet;
 use rests::inside;
 use rests::no_rest;
 use word::decode;

@@ -8,7 +8,7 @@ use families::Flaw;
 use families::Lowest;
 use families::SETS;
 use families::nonterminals::Nonterminals;
-use lookahead::LookaheadSet;
+use lookahead_sets::LookaheadSet;
 
 // Whether a nonterminal has a flaw, by the first sets and by what each nonterminal left-reaches.
 fn has_flaw(flaw: Flaw, firsts: &[u64; SETS], reaches: &[u32; SETS], nonterminal: u32) -> bool

@@ -18,11 +18,12 @@ use super::family::either;
 use super::rules::end_of;
 use super::rules::head_of;
 use super::rules::turn;
+use concatenation::concat;
 use families::SETS;
 use grammar::limits::RULES;
 use grammar::reading::Sizes;
 use lookahead::Lookahead;
-use lookahead::LookaheadSet;
+use lookahead_sets::LookaheadSet;
 use rests::tail_before;
 use word::Symbol;
 use word::Word;
@@ -58,7 +59,7 @@ fn follow_rule(
     let follow = LookaheadSet {
         bits: follows[head as usize],
     };
-    let behind = LookaheadSet::end(lookahead).concat(lookahead, follow);
+    let behind = concat(LookaheadSet::end(lookahead), lookahead, follow);
     let mut grown = false;
     let mut tail = behind;
     let mut at = end;

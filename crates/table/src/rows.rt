@@ -16,7 +16,7 @@ use grammar::limits::ENTRIES;
 use grammar::limits::RULES;
 use grammar::reading::Sizes;
 use lookahead::Lookahead;
-use lookahead::LookaheadSet;
+use lookahead_sets::LookaheadSet;
 
 // The rule where it claims the element, else what stood there.
 fn entry(claim: LookaheadSet, element: u32, rule: u8, old: u8) -> u8
