@@ -13,41 +13,35 @@ use Rattle.answer.specs.declared.Error.the-variants.{UnknownCheckpoint, Checkpo
 use Rattle.answer.specs.Numbers.{numbers}
 use Rattle.answer.specs.Faults.{refusedOr}
 use Rattle.answer.proofs.Apart.{refused-ne-passed}
-use Rattle.answer.proofs.Faults.{first-each}
-use Rattle.grammar.specs.Limits.{maxTokens, maxWords}
+use Rattle.answer.proofs.Faults.{OfFault, of-none, of-some, of-if, first-each}
+use Rattle.grammar.specs.Limits.{maxTokens}
 use Rattle.kept_input.specs.declared.Progress.{Progress}
 use Rattle.kept_input.specs.declared.KeptInput.{KeptInput}
 use Rattle.kept_input.specs.declared.Moved.{Moved}
 use Rattle.kept_input.specs.declared.Changed.{Changed}
-use Rattle.kept_input.specs.Histories.{checkpointCount, Kept, Step, Add, Mark, Return, unknown, notSet, stepFault, unlessRefused}
+use Rattle.kept_input.specs.Histories.{checkpointCount, Kept, Step, Add, Mark, Return, notSet, stepFault, unlessRefused}
 use Rattle.kept_input.specs.Stored.{keptInput, held, valuesOf}
 use Rattle.kept_input.specs.Properties.{Steps, Moves, JudgesKept}
 use Rattle.kept_input.proofs.Lists.{elements}
 use Rattle.embed_promises.specs.Packing.{NumbersFit, packed}
 use Rattle.embed_promises.specs.Kept.{stateOf, StateRead, StepExported, MoveExported, KeptExported}
-use Rattle.embed_promises.proofs.Places.{LowFault, none-low, some-low, when-low}
-use Rattle.embed_promises.proofs.Fitting.{passed-fits, refused-fits, unpacks, judge-fits}
+use Rattle.embed_promises.proofs.Places.{Low}
+use Rattle.embed_promises.proofs.Fitting.{passed-fits, fits-by, unpacks, judge-fits}
 
 -- a refusal of a step tells no place
-unset-low : (o : Option ℕ) → LowFault maxWords (notSet o)
-unset-low none = some-low maxWords CheckpointNotSet (omega arith)
-unset-low (some n) = none-low maxWords
-
-unknown-low : (m : ℕ) → LowFault maxWords (unknown m)
-unknown-low m = when-low maxWords (leb checkpointCount m) UnknownCheckpoint (omega arith)
-
-step-low : (t : Step) (s : Kept) → LowFault maxWords (stepFault t s)
+step-low : (t : Step) (s : Kept) → OfFault Low (stepFault t s)
 unfolding stepFault
-step-low (Add event) s = first-each _ (_ ∷ []) (when-low maxWords (leb maxTokens (length (s .events))) InputFull (omega arith), λ _. tt)
-step-low (Mark m) s = first-each _ (_ ∷ []) (unknown-low m, λ _. tt)
-step-low (Return m) s = first-each _ (_ ∷ _ ∷ []) (unknown-low m, λ _. (unset-low (s .checkpoints m), λ _. tt))
+step-low (Add event) s = first-each Low (_ ∷ []) (of-if Low (leb maxTokens (length (s .events))) InputFull (omega arith), λ _. tt)
+step-low (Mark m) s = first-each Low (_ ∷ []) (of-if Low (leb checkpointCount m) UnknownCheckpoint (omega arith), λ _. tt)
+step-low (Return m) s =
+    first-each Low (_ ∷ _ ∷ []) (of-if Low (leb checkpointCount m) UnknownCheckpoint (omega arith), λ _. (unset (s .checkpoints m), λ _. tt))
+  where
+    unset : (o : Option ℕ) → OfFault Low (notSet o)
+    unset none = of-some Low CheckpointNotSet (omega arith)
+    unset (some n) = of-none Low
 
 pub step-fits : {t : Step} {k : KeptInput} {c : Changed} → Steps t k c → NumbersFit (numbers (c .answer))
-step-fits {t} {k} s = rw (s .answer) (go (stepFault t (held k)) (step-low t (held k)))
-  where
-    go : (f : Option Error) → LowFault maxWords f → NumbersFit (numbers (refusedOr f Passed))
-    go none l = passed-fits
-    go (some e) l = refused-fits e (l e refl)
+step-fits {t} {k} s = fits-by (stepFault t (held k)) Passed (s .answer) (step-low t (held k)) (λ q. rw (s .answer, q) passed-fits)
 
 pub move-fits : {t : Step} {p : Progress} {r : Moved} → Moves t p r → NumbersFit (numbers (r .answer))
 move-fits m = step-fits (m .steps (replicate maxTokens 0) (length-replicate {A = ℕ} maxTokens 0))
