@@ -3,7 +3,7 @@ ghost use mathlib.Core.Path.{_≡_};
 ghost use Rattle.lookahead.specs.declared.Lookahead.the-variants.{Two};
 ghost use Rattle.event.specs.Events.{inputOf};
 ghost use Rattle.embed_promises.specs.Exports.{CheckExportedBy, JudgeExportedBy};
-use super::pack;
+use packing::pack;
 use recognizer::wide::check_wide;
 use recognizer::wide::judge_wide;
 

@@ -1,4 +1,4 @@
--- Each answer of the calls fits the fields, and the fields give it back.
+-- Each answer of the calls fits the fields.
 use mathlib.Core.Path.{_≡_, refl, ap, _∙_}
 use mathlib.Core.Bool.{Bool, true, false}
 use mathlib.Core.List.{List}
@@ -14,7 +14,7 @@ use Rattle.answer.specs.declared.Error.the-variants.{SpansTooShort, TreeTooShor
 use Rattle.answer.specs.declared.Calls.{Calls}
 use Rattle.answer.specs.declared.Answer.{Answer}
 use Rattle.answer.specs.declared.Answer.the-variants.{Refused, Passed, Rejected, Accepted}
-use Rattle.answer.specs.Numbers.{coded, numbers, Numbers}
+use Rattle.answer.specs.Numbers.{coded, numbers}
 use Rattle.booleans.specs.Choice.{choose}
 use Rattle.grammar.specs.Limits.{maxWords, maxNonterminals, maxPlaces, maxMemoEntries}
 use Rattle.grammar.specs.Encoding.{grammarOf}
@@ -36,19 +36,15 @@ use Rattle.recognizer_promises.proofs.CallErrors.{check-each, judge-each, costl
 use Rattle.recognizer_promises.specs.Costliest.{costliestInput, costliestFault, JudgesCostliest}
 use Rattle.usage.specs.declared.Usage.{Usage}
 use Rattle.client_records.specs.declared.Served.{Served}
-use Rattle.client_records.specs.declared.totals.Totals.{Totals}
 use Rattle.client_records.specs.Usages.{clients, calledBy, sumBelow}
-use Rattle.client_records.specs.Sums.{Totalled}
 use Rattle.client_records.specs.Properties.{JudgesFor}
 use Rattle.tree_writer_promises.specs.declared.Shown.{Shown}
 use Rattle.tree_writer_promises.specs.Properties.{Shows}
 use Rattle.tree_writer_promises.proofs.Showing.{short-refused}
-use Rattle.embed_promises.specs.Packing.{Fit, NumbersFit, joined, packed, Unpacks}
+use Rattle.embed_promises.specs.Packing.{NumbersFit}
 use Rattle.tabular_promises.specs.Answers.{tabularFault, noCalls, tabularVerdict}
 use Rattle.tabular_promises.specs.Properties.{TabularJudges}
 use Rattle.tabular_promises.proofs.TabularFaults.{tabular-each}
-use Rattle.embed_promises.specs.Records.{usagesIn, totalsRow}
-use Rattle.embed_promises.specs.Exports.{CheckExportedBy, JudgeExportedBy, CostliestExported, ServedExported, TotalsExported, TreeExported, TabularExported}
 use Rattle.embed_promises.proofs.Places.{Low, sets-low, input-low, judge-low}
 
 code-low : (e : Error) → coded e .code < 256
@@ -77,7 +73,7 @@ code-low CheckpointNotSet = omega arith
 code-low InputFull = omega arith
 code-low TooManyInputs = omega arith
 
-pub refused-fits : (e : Error) → coded e .position ≤ maxWords → NumbersFit (numbers (Refused e))
+refused-fits : (e : Error) → coded e .position ≤ maxWords → NumbersFit (numbers (Refused e))
 refused-fits e h = record { verdict = omega arith; code = code-low e; position = omega arith; count = omega arith; farthest = omega arith }
 
 pub passed-fits : NumbersFit (numbers Passed)
@@ -161,85 +157,3 @@ tree-fits {words} {input} {table} {memo} {tree} {x = x} s = go (decLt (length tr
         let k = short-refused words input table memo tree h in
         rw (s .answer ∙ ap (λ f. refusedOr f (verdictOf (grammarOf words) input)) (k .1)) (refused-fits (k .0) (omega (arith, k .2)))
     go (no h) = judge-fits (s .judges (omega (arith, h)))
-
--- whichever verdict the fields are of
-any-verdict : {u v n p c f : ℕ} → v < 256 → Fit u n p c f → Fit v n p c f
-any-verdict h k = record { verdict = h; code = k .code; position = k .position; count = k .count; farthest = k .farthest }
-
--- packing, by the answer
-module _ {a : Answer} where
-  pub refused-fields : {e : Error} {n p : ℕ} → NumbersFit (numbers a) → a ≡ Refused e → n ≡ coded e .code → p ≡ coded e .position → Fit 0 n p 0 0
-  refused-fields f q n p = rw (n, p) (rw q at f)
-
-  pub refused-packed : {e : Error} {n p r : ℕ} → a ≡ Refused e → n ≡ coded e .code → p ≡ coded e .position → r ≡ joined 0 n p 0 0
-      → r ≡ packed (numbers a)
-  unfolding packed
-  refused-packed q n p r = r ∙ rw (n, p, q)
-
-  pub passed-packed : {r : ℕ} → a ≡ Passed → r ≡ joined 1 0 0 0 0 → r ≡ packed (numbers a)
-  unfolding packed
-  passed-packed q r = r ∙ rw q
-
-  pub rejected-fields : {c : Calls} → NumbersFit (numbers a) → a ≡ Rejected c → {v : ℕ} → v < 256 → Fit v 0 0 (c .count) (c .farthest)
-  rejected-fields {c} f q h = any-verdict h (rw q at f)
-
-  pub rejected-packed : {c : Calls} {r : ℕ} → a ≡ Rejected c → r ≡ joined 2 0 0 (c .count) (c .farthest) → r ≡ packed (numbers a)
-  unfolding packed
-  rejected-packed q r = r ∙ rw q
-
-  pub accepted-fields : {c : Calls} → NumbersFit (numbers a) → a ≡ Accepted c → {v : ℕ} → v < 256 → Fit v 0 0 (c .count) (c .farthest)
-  accepted-fields {c} f q h = any-verdict h (rw q at f)
-
-  pub accepted-packed : {c : Calls} {r : ℕ} → a ≡ Accepted c → r ≡ joined 3 0 0 (c .count) (c .farthest) → r ≡ packed (numbers a)
-  unfolding packed
-  accepted-packed q r = r ∙ rw q
-
--- the fields of a joined number
-pub unpacks : {r : ℕ} (n : Numbers) → NumbersFit n → r ≡ packed n → Unpacks r n
-unfolding packed
-unpacks {r} n f e = record {
-  verdict = omega (arith, e, f .verdict, f .code, f .position, f .count, f .farthest);
-  code = omega (arith, e, f .verdict, f .code, f .position, f .count, f .farthest);
-  position = omega (arith, e, f .verdict, f .code, f .position, f .count, f .farthest);
-  count = omega (arith, e, f .verdict, f .code, f .position, f .count, f .farthest);
-  farthest = omega (arith, e, f .verdict, f .code, f .position, f .count, f .farthest);
-}
-
-pub check-exported : {k : Lookahead} {words before after : List ℕ} {a : Answer} {r : ℕ} → ChecksBy k words before a after → r ≡ packed (numbers a)
-    → CheckExportedBy k words before r after
-check-exported {a = a} c e = record { answer = a; checks = c; packs = e; unpacks = unpacks (numbers a) (check-fits c) e }
-
-pub judge-exported : {k : Lookahead} {words input table memo table′ memo′ : List ℕ} {a : Answer} {r : ℕ} → JudgesBy k words input table memo a table′ memo′
-    → r ≡ packed (numbers a)
-    → JudgeExportedBy k words input table memo r table′ memo′
-judge-exported {a = a} j e = record { answer = a; judges = j; packs = e; unpacks = unpacks (numbers a) (judge-fits j) e }
-
-pub costliest-exported : {words : List ℕ} {k : ℕ} {log table memo log′ table′ memo′ : List ℕ} {a : Answer} {r : ℕ}
-    → JudgesCostliest words k log table memo a log′ table′ memo′ → r ≡ packed (numbers a) → CostliestExported words k log table memo r log′ table′ memo′
-costliest-exported {a = a} j e = record { answer = a; judges = j; packs = e; unpacks = unpacks (numbers a) (costliest-fits j) e }
-
-pub served-exported : {client share limit : ℕ} {words input table memo table′ memo′ row row′ : List ℕ} {us : List Usage} {x : Served} {r : ℕ} → us ≡ usagesIn row
-    → JudgesFor client share limit words input table memo us x table′ memo′
-    → usagesIn row′ ≡ x .usages
-    → r ≡ packed (numbers (x .answer))
-    → ServedExported client share limit words input table memo row r table′ memo′ row′
-served-exported {x = x} h j w e = record {
-  served = x;
-  judges = rw h at j;
-  written = w;
-  packs = e;
-  unpacks = unpacks (numbers (x .answer)) (served-fits j) e;
-}
-
-pub totals-exported : {row : List ℕ} {us : List Usage} {t : Totals} → us ≡ usagesIn row → Totalled us t → TotalsExported row (totalsRow t)
-totals-exported {t = t} h s = record { totals = t; sums = rw h at s; written = refl }
-
-pub tabular-exported : {words input before after : List ℕ} {a : Answer} {r : ℕ} → TabularJudges words input before a after → r ≡ packed (numbers a)
-    → TabularExported words input before r after
-tabular-exported {a = a} j e = record { answer = a; judges = j; packs = e; unpacks = unpacks (numbers a) (tabular-fits j) e }
-
-pub tree-exported : {words input table memo tree table′ memo′ tree′ : List ℕ} {x : Shown} {r written′ : ℕ} → Shows words input table memo tree x table′ memo′ tree′
-    → written′ ≡ x .written
-    → r ≡ packed (numbers (x .answer))
-    → TreeExported words input table memo tree r table′ memo′ tree′ written′
-tree-exported {x = x} s w e = record { shown = x; shows = s; number = w; packs = e; unpacks = unpacks (numbers (x .answer)) (tree-fits s) e }
