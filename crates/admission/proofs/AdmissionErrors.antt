@@ -12,7 +12,7 @@ use Rattle.answer.specs.declared.Error.{Error}
 use Rattle.answer.specs.declared.Error.the-variants.{Length, UnexpectedWord, TooManyTerminals}
 use Rattle.answer.specs.Numbers.{coded}
 use Rattle.answer.proofs.Faults.{none-some, OfFault, of-none, of-some, of-if, first-each}
-use Rattle.booleans.specs.Choice.{choose}
+use Rattle.base.specs.Choice.{choose}
 use Rattle.grammar.specs.Limits.{maxWords, maxWideTerminals}
 use Rattle.grammar.specs.Encoding.{grammarOf}
 use Rattle.grammar.specs.Reading.{opened, reading}

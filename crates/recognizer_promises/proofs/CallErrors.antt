@@ -16,7 +16,7 @@ use Rattle.answer.specs.declared.Answer.the-variants.{Refused, Rejected, Accept
 use Rattle.answer.specs.Faults.{faultIf, refusedOr}
 use Rattle.answer.proofs.Apart.{refusalNumber}
 use Rattle.answer.proofs.Faults.{fault-none, OfFault, of-none, of-some, of-if, EachFault, first-each}
-use Rattle.booleans.specs.Choice.{choose}
+use Rattle.base.specs.Choice.{choose}
 use Rattle.grammar.specs.Limits.{maxTokens, maxTableWords, maxMemoEntries}
 use Rattle.grammar.specs.Encoding.{grammarOf}
 use Rattle.lookahead.specs.declared.Lookahead.{Lookahead}

@@ -7,7 +7,7 @@ use native.Mathlib.Omega.{arith}
 use Rattle.answer.specs.declared.Error.{Error}
 use Rattle.answer.specs.declared.Error.the-variants.{Length, Heading, UnexpectedWord, OutOfRange, TooManyRules, TooManyTerminals, LeftRecursive, Unproductive}
 use Rattle.answer.proofs.Faults.{OfFault, of-none, of-some, EachFault}
-use Rattle.booleans.proofs.Quantified.{lowest-some}
+use Rattle.base.proofs.Quantified.{lowest-some}
 use Rattle.grammar.specs.Limits.{maxWords, maxNonterminals}
 use Rattle.grammar.specs.Syntax.{Grammar}
 use Rattle.grammar.specs.Encoding.{grammarOf}

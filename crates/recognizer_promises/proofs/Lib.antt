@@ -8,4 +8,3 @@ pub mod CallErrors
 pub mod Meaning
 pub mod Judged
 pub mod CostliestFaults
-pub mod Rows

@@ -13,7 +13,7 @@ use Rattle.grammar.specs.declared.reading.Outcome.the-variants.{Read}
 use Rattle.lookahead.specs.declared.Lookahead.the-variants.{One}
 use Rattle.semantics.specs.Valuations.{solution}
 use Rattle.families.specs.Analysis.{setsFault}
-use Rattle.families.specs.Lists.{listed}
+use Rattle.base.specs.Lists.{listed}
 use Rattle.families.specs.Sets.{reachNumber}
 use Rattle.tabular_promises.specs.Filling.{FillGiven}
 use Rattle.tabular_promises.specs.Spans.{Spans, solutionWord}
