@@ -1,6 +1,6 @@
 // The costliest log of a length, found, written and judged in memory of the caller's.
 ghost use Rattle.embed_promises.specs.Exports.{CostliestExported};
-use super::pack;
+use packing::pack;
 use recognizer::judge_costliest;
 
 #[no_mangle]

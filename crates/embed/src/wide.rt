@@ -3,8 +3,8 @@ ghost use mathlib.Core.Path.{_≡_};
 ghost use Rattle.lookahead.specs.declared.Lookahead.the-variants.{Two};
 ghost use Rattle.event.specs.Events.{inputOf};
 ghost use Rattle.embed_promises.specs.Exports.{CheckExportedBy, JudgeExportedBy};
-use super::pack;
 use checker::check_wide;
+use packing::pack;
 use recognizer::judge_wide;
 
 #[no_mangle]

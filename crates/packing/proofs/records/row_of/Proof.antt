@@ -7,8 +7,8 @@ use lib.ListN.{length}
 use Rattle.client_records.specs.Usages.{clients}
 use Rattle.embed_promises.specs.Records.{Written}
 use Rattle.embed_promises.proofs.RecordRows.{nothing-written, one-written, all-written}
-use Rattle.embed.proofs.served.row_of.Statement.{statement}
-use Rattle.embed.proofs.served.row_of.Tie as tie
+use Rattle.packing.proofs.records.row_of.Statement.{statement}
+use Rattle.packing.proofs.records.row_of.Tie as tie
 
 abbrev Inv-loop : tie.InvT-loop
 Inv-loop usages row₀ client₀ row client = Written usages client row

@@ -1,9 +1,8 @@
--- By the kinds of answers: the fields fit, and their sum is the packed answer.
-use native.Mathlib.Omega.{arith}
-use Rattle.embed_promises.proofs.Fitting.{refused-fields, refused-packed, passed-packed, rejected-fields, rejected-packed, accepted-fields, accepted-packed}
+-- By the kinds of answers: the sum of the fields is the packed answer.
+use Rattle.embed_promises.proofs.Packed.{refused-packed, passed-packed, rejected-packed, accepted-packed}
 use borrow.Author.Needs.{needs}
-use Rattle.embed.proofs.pack.Statement.{statement}
-use Rattle.embed.proofs.pack.Tie as tie
+use Rattle.packing.proofs.pack.Statement.{statement}
+use Rattle.packing.proofs.pack.Tie as tie
 
 enum-known-answer : tie.Need-enum-known-answer
 enum-known-answer c = search needs
@@ -18,11 +17,7 @@ position-requires : tie.Need-position-requires
 position-requires c κs = search needs
 
 join-requires : tie.Need-join-requires
-join-requires c κs =
-    let at-code = c .before in
-    let at-answer = at-code .before .before in
-    let start = at-answer .before .before in
-    refused-fields (start .pre) (at-answer .answer .given .1) (at-code .code .ensures) (c .position .ensures)
+join-requires c κs = search needs
 
 enum-told : tie.Need-enum-told
 enum-told c = search needs
@@ -34,13 +29,13 @@ enum-known-answer-2 : tie.Need-enum-known-answer-2
 enum-known-answer-2 c = search needs
 
 join-requires-3 : tie.Need-join-requires-3
-join-requires-3 c κs = rejected-fields (c .before .before .before .pre) (c .before .answer2 .given .1) (omega arith)
+join-requires-3 c κs = search needs
 
 enum-known-answer-3 : tie.Need-enum-known-answer-3
 enum-known-answer-3 c = search needs
 
 join-requires-4 : tie.Need-join-requires-4
-join-requires-4 c κs = accepted-fields (c .before .before .before .pre) (c .before .answer3 .given .1) (omega arith)
+join-requires-4 c κs = search needs
 
 returns : tie.Need-returns
 returns c =

@@ -1,10 +1,13 @@
--- All nine numbers are read.
-use mathlib.Core.Path.{_≡_}
+-- All eight checkpoints are written.
+use mathlib.Core.Path.{_≡_, ap}
+use mathlib.Core.List.{List, _∷_}
+use Prim.Native.Nat.{ℕ}
 use lib.ListN.{length}
-use Rattle.embed_promises.proofs.Keeping.{state-read}
+use Rattle.kept_input.specs.Histories.{checkpointCount}
+use Rattle.embed_promises.proofs.Keeping.{eight-listed}
 use borrow.Author.Needs.{needs}
-use Rattle.embed.proofs.kept.progress_in.Statement.{statement}
-use Rattle.embed.proofs.kept.progress_in.Tie as tie
+use Rattle.packing.proofs.states.state_of.Statement.{statement}
+use Rattle.packing.proofs.states.state_of.Tie as tie
 
 array-read-t5 : tie.Need-array-read-t5
 array-read-t5 c = search needs
@@ -30,16 +33,14 @@ array-read-t23 c = search needs
 array-read-t26 : tie.Need-array-read-t26
 array-read-t26 c = search needs
 
-array-read-t29 : tie.Need-array-read-t29
-array-read-t29 c = search needs
-
 returns : tie.Need-returns
 returns c =
-    let nine : length (c .args .t1) ≡ 9 = search needs in
-    state-read (c .args .t1) nine
+    let p = c .before .args .progress in
+    let eight : length (p .checkpoints) ≡ checkpointCount = search needs in
+    ap (λ (l : List ℕ). p .length ∷ l) (eight-listed (p .checkpoints) eight)
 
-pub progress-in-spec : {M : Type 1} → statement M
-progress-in-spec =
+pub state-of-spec : {M : Type 1} → statement M
+state-of-spec =
     tie.close
     (tie.spec
     array-read-t5
@@ -50,5 +51,4 @@ progress-in-spec =
     array-read-t20
     array-read-t23
     array-read-t26
-    array-read-t29
     returns)
