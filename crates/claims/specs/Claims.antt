@@ -13,6 +13,7 @@ use Rattle.grammar.specs.declared.reading.Outcome.the-variants.{Read}
 use Rattle.grammar.specs.Encoding.{grammarOf}
 use Rattle.grammar.specs.Limits.{maxNonterminals, maxRules}
 use Rattle.grammar.specs.Reading.{beginsRule}
+use Rattle.grammar.specs.Starts.{ruleStarts}
 use Rattle.grammar.specs.Syntax.{Rule, Grammar}
 use Rattle.lookahead.specs.declared.Lookahead.{Lookahead}
 use Rattle.lookahead.specs.Lookaheads.{tokens}
@@ -23,7 +24,7 @@ use Rattle.semantics.specs.FirstFollow.{sameString}
 use Rattle.semantics.specs.Claims.{claimed, overruns}
 use Rattle.admission.specs.Admission.{admission}
 use Rattle.families.specs.declared.Finding.{Finding}
-use Rattle.families.specs.Analysis.{setsFault, findingOf, setsIf}
+use Rattle.families.specs.Analysis.{setsFault, findingOf, startsIf, setsIf}
 use Rattle.families.specs.Lists.{listed}
 use Rattle.families.specs.Naming.{Indexed}
 use Rattle.families.specs.Sets.{numberOf, firstNumber, followNumber}
@@ -57,14 +58,14 @@ abbrev pub overrunsIf : Option Error → List ℕ → List ℕ
 overrunsIf none l = l
 overrunsIf (some e) l = replicate maxNonterminals 0
 
-abbrev pub claimsWith : Finding → List ℕ → List ℕ → List ℕ → List ℕ → List ℕ → Claims
-claimsWith f firsts follows heads sets told = record { finding = f; firsts = firsts; follows = follows; heads = heads; sets = sets; overruns = told }
+abbrev pub claimsWith : Finding → List ℕ → List ℕ → List ℕ → List ℕ → List ℕ → List ℕ → Claims
+claimsWith f starts firsts follows heads sets told = record { finding = f; starts = starts; firsts = firsts; follows = follows; heads = heads; sets = sets; overruns = told }
 
--- what is found of an encoded grammar: the first fault among the errors 3 to 8, 13 and 18, or its sizes, its sets, the head and the claim of
+-- what is found of an encoded grammar: the first fault among the errors 3 to 8, 13 and 18, or its sizes, where its rules begin, its sets, the head and the claim of
 -- each rule, and the nonterminals that overrun
 unfoldable pub claimsOf : Lookahead → List ℕ → Claims
 claimsOf k words =
-    claimsWith (findingOf (setsFault k words) (admission k words))
+    claimsWith (findingOf (setsFault k words) (admission k words)) (startsIf (setsFault k words) (ruleStarts words))
     (setsIf (setsFault k words) (listed maxNonterminals (firstNumber k (grammarOf words))))
     (setsIf (setsFault k words) (listed maxNonterminals (followNumber k (grammarOf words))))
     (byRuleIf (setsFault k words) (headsOf (grammarOf words)))

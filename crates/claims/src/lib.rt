@@ -17,10 +17,11 @@ use word::decode;
 
 mod overruns;
 
-// What is found of an encoded grammar: its sizes, or why it is refused; its sets; for each rule its head and the set that it claims for
+// What is found of an encoded grammar: its sizes, or why it is refused; where its rules begin; its sets; for each rule its head and the set that it claims for
 // it; and for each nonterminal the first terminal's set where it overruns. Zeros stand elsewhere, and where the grammar is refused.
 pub struct Claims {
     pub finding: Finding,
+    pub starts: [usize; RULES],
     pub firsts: [u64; SETS],
     pub follows: [u64; SETS],
     pub heads: [u8; RULES],
@@ -93,6 +94,7 @@ pub fn analyze(words: &[u32], lookahead: Lookahead) -> Claims
     match finding {
         Finding::Refused(_) => Claims {
             finding,
+            starts: families.starts,
             firsts: families.firsts,
             follows: families.follows,
             heads,
@@ -111,6 +113,7 @@ pub fn analyze(words: &[u32], lookahead: Lookahead) -> Claims
             );
             Claims {
                 finding,
+                starts: families.starts,
                 firsts: families.firsts,
                 follows: families.follows,
                 heads,

@@ -8,6 +8,7 @@ use Rattle.answer.specs.declared.Error.{Error}
 use Rattle.answer.specs.declared.Error.the-variants.{LeftRecursive, Unproductive}
 use Rattle.grammar.specs.Limits.{maxNonterminals}
 use Rattle.grammar.specs.Encoding.{grammarOf}
+use Rattle.grammar.specs.Starts.{ruleStarts}
 use Rattle.lookahead.specs.declared.Lookahead.{Lookahead}
 use Rattle.lookahead.specs.Lookaheads.{tokens}
 use Rattle.admission.specs.Admission.{admission}
@@ -23,7 +24,7 @@ use Rattle.families.specs.declared.Lowest.the-variants as lowest
 use Rattle.families.specs.Lists.{listed}
 use Rattle.families.specs.Flaws.{lowestOf}
 use Rattle.families.specs.Sets.{firstNumber, followNumber, reachNumber}
-use Rattle.families.specs.Analysis.{setsFault, findingOf, setsIf, families, refusedBy, familiesOf}
+use Rattle.families.specs.Analysis.{setsFault, findingOf, startsIf, setsIf, families, refusedBy, familiesOf}
 
 pub families-faulty : (k : Lookahead) (words : List ℕ) {e : Error} {o : Outcome} → o ≡ admission k words → o ≡ Faulty e → refusedBy e ≡ familiesOf k words
 unfolding familiesOf setsFault
@@ -48,19 +49,20 @@ module _ (k : Lookahead) (words : List ℕ) {z : Sizes} {l m : Lowest} (read : a
   unfolding familiesOf setsFault
   families-unproductive a b = rw (read, lowest-none (lowestLeftRecursive (grammarOf words)) e a, lowest-some (lowestUnproductive (grammarOf words) (tokens k)) d b)
 
-  pub families-found : {firsts follows reaches : List ℕ} → l ≡ lowest.Absent → m ≡ lowest.Absent → firsts ≡ listed maxNonterminals (firstNumber k (grammarOf words))
+  pub families-found : {starts firsts follows reaches : List ℕ} → l ≡ lowest.Absent → m ≡ lowest.Absent → starts ≡ ruleStarts words → firsts ≡ listed maxNonterminals (firstNumber k (grammarOf words))
       → follows ≡ listed maxNonterminals (followNumber k (grammarOf words)) → reaches ≡ listed maxNonterminals (reachNumber (grammarOf words))
-      → families (Passed z) firsts follows reaches ≡ familiesOf k words
+      → families (Passed z) starts firsts follows reaches ≡ familiesOf k words
   unfolding familiesOf setsFault
-  families-found a b f g h =
-      rw (read, lowest-none (lowestLeftRecursive (grammarOf words)) e a, lowest-none (lowestUnproductive (grammarOf words) (tokens k)) d b, f, g, h)
+  families-found a b s f g h =
+      rw (read, lowest-none (lowestLeftRecursive (grammarOf words)) e a, lowest-none (lowestUnproductive (grammarOf words) (tokens k)) d b, s, f, g, h)
 
--- where sets are found there is no fault, and the sets are those of the grammar
-pub record FoundFamilies (k : Lookahead) (words : List ℕ) (z : Sizes) (firsts follows : List ℕ) : Type 0 where
+-- where sets are found there is no fault, and the rules' starts and the sets are those of the grammar
+pub record FoundFamilies (k : Lookahead) (words : List ℕ) (z : Sizes) (r : Families) : Type 0 where
   pub read : admission k words ≡ Read z
   pub faultless : setsFault k words ≡ none
-  pub first : firsts ≡ listed maxNonterminals (firstNumber k (grammarOf words))
-  pub follow : follows ≡ listed maxNonterminals (followNumber k (grammarOf words))
+  pub begins : r .starts ≡ ruleStarts words
+  pub first : r .firsts ≡ listed maxNonterminals (firstNumber k (grammarOf words))
+  pub follow : r .follows ≡ listed maxNonterminals (followNumber k (grammarOf words))
 
 -- a finding without an error tells that there is no fault
 pub told-passed : (f : Option Error) (o : Outcome) {z : Sizes} → findingOf f o ≡ Passed z → (f ≡ none) × (o ≡ Read z)
@@ -69,13 +71,14 @@ told-passed none (Faulty x) q = let n : _≡_ {A = ℕ} 0 1 = cc in absurd (omeg
 told-passed (some x) o q = let n : _≡_ {A = ℕ} 0 1 = cc in absurd (omega arith)
 
 pub families-told : (k : Lookahead) (words : List ℕ) {r : Families} {z : Sizes} → r ≡ familiesOf k words → r .finding ≡ Passed z
-    → FoundFamilies k words z (r .firsts) (r .follows)
+    → FoundFamilies k words z r
 unfolding familiesOf
 families-told k words {r} {z} e q =
     let t = told-passed (setsFault k words) (admission k words) (sym (ap (λ x. x .finding) e) ∙ q) in
     record {
       read = t .1;
       faultless = t .0;
+      begins = ap (λ x. x .starts) e ∙ ap (λ f. startsIf f (ruleStarts words)) (t .0);
       first = ap (λ x. x .firsts) e ∙ ap (λ f. setsIf f (listed maxNonterminals (firstNumber k (grammarOf words)))) (t .0);
       follow = ap (λ x. x .follows) e ∙ ap (λ f. setsIf f (listed maxNonterminals (followNumber k (grammarOf words)))) (t .0);
     }

@@ -13,6 +13,7 @@ use families::SETS;
 use first::first_sets;
 use flaws::lowest_with;
 use follow::follow_sets;
+use grammar::limits::RULES;
 use grammar::reading::Outcome;
 use grammar::reading::Sizes;
 use left::reached;
@@ -31,6 +32,7 @@ fn refused(error: Error) -> Families
 {
     Families {
         finding: Finding::Refused(error),
+        starts: [0usize; RULES],
         firsts: [0u64; SETS],
         follows: [0u64; SETS],
         reaches: [0u32; SETS],
@@ -56,6 +58,7 @@ fn analyze_grammar(words: &[u32], sizes: Sizes, lookahead: Lookahead) -> Familie
                 let follows = follow_sets(words, &starts, sizes, &firsts, lookahead);
                 Families {
                     finding: Finding::Passed(sizes),
+                    starts,
                     firsts,
                     follows,
                     reaches,

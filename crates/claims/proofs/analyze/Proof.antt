@@ -24,19 +24,19 @@ keep-claims-requires c κs =
 
 overrunning-requires : tie.Need-overrunning-requires
 overrunning-requires c κs =
-    let at-finding = c .before .before .before .before .before .before .before .before .before .before .before in
+    let at-finding = c .before .before .before .before .before .before .before .before .before .before .before .before in
     let at-analyze = at-finding .before .before in
     words-indexed (families-told _ _ (at-analyze .analyze .ensures) (at-finding .finding .given .1))
 
 returns : tie.Need-returns
-returns c = refused-claims _ _ (c .before .before .before .before .analyze .ensures) (c .before .before .enum-told .given .1)
+returns c = refused-claims _ _ (c .before .before .before .before .before .analyze .ensures) (c .before .before .before .enum-told .given .1)
 
 returns-2 : tie.Need-returns-2
 returns-2 c =
-    let at-finding = c .before .before .before .before .before .before .before .before .before .before .before .before in
+    let at-finding = c .before .before .before .before .before .before .before .before .before .before .before .before .before in
     let at-analyze = at-finding .before .before in
     let found = families-told _ _ (at-analyze .analyze .ensures) (at-finding .finding .given .1) in
-    all-claims found (c .before .before .before .before .before .keep-claims .ensures) (c .overrunning .ensures)
+    all-claims found (c .before .before .before .before .before .before .keep-claims .ensures) (c .overrunning .ensures)
 
 pub analyze-spec : {M : Type 1} → statement M
 analyze-spec =

@@ -86,7 +86,7 @@ returns-3 c =
     let reaches = reached .reached .ensures in
     let lowest-left = lowest-recursive (start .args .lookahead) (start .args .words .now) (start .pre) first-sets reaches (recursive .lowest-with .ensures) in
     let lowest-empty = lowest-unproductive (start .args .lookahead) (start .args .words .now) (start .pre) first-sets reaches (unproductive .lowest-with2 .ensures) in
-    families-found (start .args .lookahead) (start .args .words .now) (start .pre) lowest-left lowest-empty (c .before .before .before .before .before .enum-told .given .1) (c .before .before .before .enum-told2 .given .1) first-sets
+    families-found (start .args .lookahead) (start .args .words .now) (start .pre) lowest-left lowest-empty (c .before .before .before .before .before .enum-told .given .1) (c .before .before .before .enum-told2 .given .1) (firsts .before .before .rule-starts .ensures) first-sets
     (c .follow-sets .ensures) reaches
 
 pub analyze-grammar-spec : {M : Type 1} → statement M
