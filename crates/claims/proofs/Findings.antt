@@ -5,7 +5,7 @@ use mathlib.Core.Option.{none}
 use Prim.Native.Nat.{ℕ}
 use lib.ListN.{replicate}
 use Rattle.answer.specs.declared.Error.{Error}
-use Rattle.grammar.specs.Encoding.{parse, grammarOf}
+use Rattle.grammar.specs.Encoding.{grammarOf}
 use Rattle.grammar.specs.Limits.{maxNonterminals, maxRules}
 use Rattle.grammar.specs.Starts.{ruleStarts}
 use Rattle.grammar.specs.declared.reading.Sizes.{Sizes}
@@ -14,32 +14,32 @@ use Rattle.lookahead.specs.declared.Lookahead.{Lookahead}
 use Rattle.admission.specs.Admission.{admission}
 use Rattle.families.specs.declared.Finding.the-variants.{Passed, Refused}
 use Rattle.families.specs.declared.Families.{Families}
-use Rattle.families.specs.Analysis.{setsFault, startsIf, setsIf, familiesOf}
-use Rattle.families.specs.Lists.{listed}
+use Rattle.families.specs.Analysis.{setsFault, startsIf, byRuleIf, setsIf, familiesOf}
+use Rattle.families.specs.Lists.{listed, byRule}
 use Rattle.families.specs.Sets.{firstNumber, followNumber}
 use Rattle.families.proofs.Lists.{listed-is}
-use Rattle.families.proofs.NamedNonterminals.{word-indexed}
 use Rattle.families.proofs.FewTerminals.{admitted-read}
 use Rattle.families.proofs.Findings.{FoundFamilies, told-passed, families-refused}
 use Rattle.claims.specs.declared.Claims.{Claims}
-use Rattle.claims.specs.Claims.{headsOf, claimNumbers, byRule, byRuleIf, overrunsOf, overrunsIf, claimsWith, claimsOf, FamiliesGiven, AllKept}
-use Rattle.claims.specs.Overruns.{WordsIndexed, Overrunning}
+use Rattle.claims.specs.Claims.{headsOf, claimNumbers, overrunsOf, overrunsIf, claimsWith, claimsOf, FamiliesGiven, AllKept}
+use Rattle.claims.specs.Overruns.{HeadsGiven, Overrunning}
 use Rattle.claims.proofs.OverrunSets.{overruns-told}
 
 -- the families that are found: a grammar to go on with, or a refusal
-pub given : {k : Lookahead} {words : List ℕ} {z : Sizes} {r : Families} → FoundFamilies k words z r → FamiliesGiven k words z (r .firsts) (r .follows)
-given f = record { read = f .read; first = f .first; follow = f .follow }
+pub given : {k : Lookahead} {words : List ℕ} {z : Sizes} {r : Families} → FoundFamilies k words z r → FamiliesGiven k words z (r .starts) (r .meets) (r .follows)
+given f = record { read = f .read; begins = f .begins; met = f .met; follow = f .follow }
 
 pub refused-claims : (k : Lookahead) (words : List ℕ) {r : Families} {x : Error} → r ≡ familiesOf k words → r .finding ≡ Refused x
     → claimsWith (r .finding) (r .starts) (r .firsts) (r .follows) (replicate maxRules 0) (replicate maxRules 0) (replicate maxNonterminals 0) ≡ claimsOf k words
 unfolding claimsOf familiesOf
 refused-claims k words {r} e q = rw (e, families-refused k words e q)
 
-pub words-indexed : {k : Lookahead} {words : List ℕ} {z : Sizes} {r : Families} → FoundFamilies k words z r → WordsIndexed words
-words-indexed {k} {words} f i h = word-indexed words (admitted-read k words (f .read)) h refl
+pub heads-given : {k : Lookahead} {words : List ℕ} {z : Sizes} {r : Families} {heads sets : List ℕ} → FoundFamilies k words z r
+    → AllKept k (grammarOf words) heads sets → HeadsGiven words (r .starts) heads z
+heads-given {k} {words} f p = record { read = admitted-read k words (f .read); begins = f .begins; own = p .own }
 
 pub all-claims : {k : Lookahead} {words : List ℕ} {z : Sizes} {r : Families} {heads sets told : List ℕ} → FoundFamilies k words z r
-    → AllKept k (grammarOf words) heads sets → Overrunning k (parse words .rules) (r .follows) told
+    → AllKept k (grammarOf words) heads sets → Overrunning k (grammarOf words .rules) (r .follows) told
     → claimsWith (Passed z) (r .starts) (r .firsts) (r .follows) heads sets told ≡ claimsOf k words
 unfolding claimsOf
 all-claims {told = told} f p o =

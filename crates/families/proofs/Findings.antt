@@ -21,10 +21,10 @@ use Rattle.families.specs.declared.Finding.the-variants.{Passed, Refused
 use Rattle.families.specs.declared.Families.{Families}
 use Rattle.families.specs.declared.Lowest.{Lowest}
 use Rattle.families.specs.declared.Lowest.the-variants as lowest
-use Rattle.families.specs.Lists.{listed}
+use Rattle.families.specs.Lists.{listed, byRule}
 use Rattle.families.specs.Flaws.{lowestOf}
-use Rattle.families.specs.Sets.{firstNumber, followNumber, reachNumber}
-use Rattle.families.specs.Analysis.{setsFault, findingOf, startsIf, setsIf, families, refusedBy, familiesOf}
+use Rattle.families.specs.Sets.{firstNumber, followNumber, meetNumbers, reachNumber}
+use Rattle.families.specs.Analysis.{setsFault, findingOf, startsIf, byRuleIf, setsIf, families, refusedBy, familiesOf}
 
 pub families-faulty : (k : Lookahead) (words : List ℕ) {e : Error} {o : Outcome} → o ≡ admission k words → o ≡ Faulty e → refusedBy e ≡ familiesOf k words
 unfolding familiesOf setsFault
@@ -49,19 +49,20 @@ module _ (k : Lookahead) (words : List ℕ) {z : Sizes} {l m : Lowest} (read : a
   unfolding familiesOf setsFault
   families-unproductive a b = rw (read, lowest-none (lowestLeftRecursive (grammarOf words)) e a, lowest-some (lowestUnproductive (grammarOf words) (tokens k)) d b)
 
-  pub families-found : {starts firsts follows reaches : List ℕ} → l ≡ lowest.Absent → m ≡ lowest.Absent → starts ≡ ruleStarts words → firsts ≡ listed maxNonterminals (firstNumber k (grammarOf words))
-      → follows ≡ listed maxNonterminals (followNumber k (grammarOf words)) → reaches ≡ listed maxNonterminals (reachNumber (grammarOf words))
-      → families (Passed z) starts firsts follows reaches ≡ familiesOf k words
+  pub families-found : {starts firsts meets follows reaches : List ℕ} → l ≡ lowest.Absent → m ≡ lowest.Absent → starts ≡ ruleStarts words → firsts ≡ listed maxNonterminals (firstNumber k (grammarOf words))
+      → meets ≡ byRule (meetNumbers k (grammarOf words)) → follows ≡ listed maxNonterminals (followNumber k (grammarOf words)) → reaches ≡ listed maxNonterminals (reachNumber (grammarOf words))
+      → families (Passed z) starts firsts meets follows reaches ≡ familiesOf k words
   unfolding familiesOf setsFault
-  families-found a b s f g h =
-      rw (read, lowest-none (lowestLeftRecursive (grammarOf words)) e a, lowest-none (lowestUnproductive (grammarOf words) (tokens k)) d b, s, f, g, h)
+  families-found a b s f n g h =
+      rw (read, lowest-none (lowestLeftRecursive (grammarOf words)) e a, lowest-none (lowestUnproductive (grammarOf words) (tokens k)) d b, s, f, n, g, h)
 
--- where sets are found there is no fault, and the rules' starts and the sets are those of the grammar
+-- where sets are found there is no fault, and what is found is the grammar's
 pub record FoundFamilies (k : Lookahead) (words : List ℕ) (z : Sizes) (r : Families) : Type 0 where
   pub read : admission k words ≡ Read z
   pub faultless : setsFault k words ≡ none
   pub begins : r .starts ≡ ruleStarts words
   pub first : r .firsts ≡ listed maxNonterminals (firstNumber k (grammarOf words))
+  pub met : r .meets ≡ byRule (meetNumbers k (grammarOf words))
   pub follow : r .follows ≡ listed maxNonterminals (followNumber k (grammarOf words))
 
 -- a finding without an error tells that there is no fault
@@ -80,6 +81,7 @@ families-told k words {r} {z} e q =
       faultless = t .0;
       begins = ap (λ x. x .starts) e ∙ ap (λ f. startsIf f (ruleStarts words)) (t .0);
       first = ap (λ x. x .firsts) e ∙ ap (λ f. setsIf f (listed maxNonterminals (firstNumber k (grammarOf words)))) (t .0);
+      met = ap (λ x. x .meets) e ∙ ap (λ f. byRuleIf f (meetNumbers k (grammarOf words))) (t .0);
       follow = ap (λ x. x .follows) e ∙ ap (λ f. setsIf f (listed maxNonterminals (followNumber k (grammarOf words)))) (t .0);
     }
 

@@ -45,12 +45,13 @@ pub enum Finding {
     Refused(Error),
 }
 
-// What is found of an encoded grammar: its sizes, or why it is refused; where its rules begin; and its sets. Zeros and empty sets stand where it
-// is refused.
+// What is found of an encoded grammar: its sizes, or why it is refused; where its rules begin; its sets; and what the positives of each
+// rule can all begin with. Zeros and empty sets stand where it is refused.
 pub struct Families {
     pub finding: Finding,
     pub starts: [usize; RULES],
     pub firsts: [u64; SETS],
+    pub meets: [u64; RULES],
     pub follows: [u64; SETS],
     // what each nonterminal left-reaches, a set of nonterminals
     pub reaches: [u32; SETS],

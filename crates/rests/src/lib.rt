@@ -1,6 +1,6 @@
 // The first set of what is left of a body and of a rule, made longer by one word at a time from the end.
 ghost use mathlib.Core.Path.{_≡_};
-ghost use Rattle.families.specs.First.{symbolFirst, noRest, withWord, closedMeet, insideWord};
+ghost use Rattle.families.specs.First.{symbolFirst, noRest, closedMeet, insideWord, insideWords};
 ghost use Rattle.families.specs.Follow.{tailBefore};
 ghost use Rattle.families.specs.Least.{lookup};
 use families::Rest;
@@ -9,6 +9,7 @@ use lookahead::Lookahead;
 use lookahead::LookaheadSet;
 use word::Symbol;
 use word::Word;
+use word::decode;
 
 // The set of n; behind the array's end there is none.
 fn set_of(sets: &[u64; SETS], n: u32) -> u64
@@ -19,7 +20,7 @@ fn set_of(sets: &[u64; SETS], n: u32) -> u64
 }
 
 // Where neither a body nor a rule is open.
-pub fn no_rest(terminals: u32, lookahead: Lookahead) -> Rest
+fn no_rest(terminals: u32, lookahead: Lookahead) -> Rest
     ensures { λ r. ⌜ r ≡ noRest lookahead terminals ⌝ }
 {
     Rest {
@@ -39,41 +40,6 @@ fn symbol_first(symbol: Symbol, firsts: &[u64; SETS], lookahead: Lookahead) -> L
     }
 }
 
-// The rest with a word in front.
-pub fn onto(
-    word: Word,
-    rest: Rest,
-    firsts: &[u64; SETS],
-    terminals: u32,
-    lookahead: Lookahead,
-) -> Rest
-    ensures { λ r. ⌜ r ≡ withWord lookahead terminals (lookup (now (firsts .entry))) word rest ⌝ }
-{
-    let body = rest.body;
-    let meet = rest.meet;
-    match word {
-        Word::Symbol(symbol) => Rest {
-            body: symbol_first(symbol, firsts, lookahead).concat(lookahead, body),
-            meet,
-        },
-        Word::Positive => Rest {
-            body: LookaheadSet::end(lookahead),
-            meet: body.meet(meet),
-        },
-        Word::Negative => Rest {
-            body: LookaheadSet::end(lookahead),
-            meet,
-        },
-        Word::Rule(_) => no_rest(terminals, lookahead),
-        Word::End => no_rest(terminals, lookahead),
-        Word::Heading {
-            nonterminals: _,
-            terminals: _,
-        } => rest,
-        Word::Invalid => rest,
-    }
-}
-
 // A body ends: if it is a positive, its first set goes into the meet.
 fn closed(word: Word, body: LookaheadSet, meet: LookaheadSet) -> LookaheadSet
     ensures { λ r. ⌜ r .bits ≡ closedMeet word (body .bits) (meet .bits) ⌝ }
@@ -85,7 +51,7 @@ fn closed(word: Word, body: LookaheadSet, meet: LookaheadSet) -> LookaheadSet
 }
 
 // The rest with a word inside a rule in front.
-pub fn inside(word: Word, rest: Rest, firsts: &[u64; SETS], lookahead: Lookahead) -> Rest
+fn inside(word: Word, rest: Rest, firsts: &[u64; SETS], lookahead: Lookahead) -> Rest
     ensures { λ r. ⌜ r ≡ insideWord lookahead (lookup (now (firsts .entry))) word rest ⌝ }
 {
     let body = rest.body;
@@ -101,6 +67,25 @@ pub fn inside(word: Word, rest: Rest, firsts: &[u64; SETS], lookahead: Lookahead
         body: first.concat(lookahead, body),
         meet,
     }
+}
+
+// What the positives of a rule can all begin with, by the words inside it.
+pub fn rule_first(
+    words: &[u32],
+    firsts: &[u64; SETS],
+    terminals: u32,
+    lookahead: Lookahead,
+) -> LookaheadSet
+    ensures { λ r. ⌜ r .bits ≡ insideWords lookahead (lookup (now (firsts .entry))) (noRest lookahead terminals) (now (words .entry)) .meet .bits ⌝ }
+{
+    let mut rest = no_rest(terminals, lookahead);
+    let mut at = words.len();
+    while 0 < at {
+        at = at - 1;
+        let word = decode(words[at]);
+        rest = inside(word, rest, firsts, lookahead);
+    }
+    rest.meet
 }
 
 // What comes behind the index before a word inside a rule, where follow comes behind the body.

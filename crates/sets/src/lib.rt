@@ -34,6 +34,7 @@ fn refused(error: Error) -> Families
         finding: Finding::Refused(error),
         starts: [0usize; RULES],
         firsts: [0u64; SETS],
+        meets: [0u64; RULES],
         follows: [0u64; SETS],
         reaches: [0u32; SETS],
     }
@@ -46,7 +47,8 @@ fn analyze_grammar(words: &[u32], sizes: Sizes, lookahead: Lookahead) -> Familie
 {
     let nonterminals = sizes.nonterminals;
     let starts = rule_starts(words);
-    let firsts = first_sets(words, &starts, sizes, lookahead);
+    let mut meets = [0u64; RULES];
+    let firsts = first_sets(words, &starts, sizes, &mut meets, lookahead);
     let reaches = reached(words, &starts, sizes, &firsts, lookahead);
     let recursive = lowest_with(Flaw::LeftRecursive, &firsts, &reaches, nonterminals);
     let unproductive = lowest_with(Flaw::Unproductive, &firsts, &reaches, nonterminals);
@@ -60,6 +62,7 @@ fn analyze_grammar(words: &[u32], sizes: Sizes, lookahead: Lookahead) -> Familie
                     finding: Finding::Passed(sizes),
                     starts,
                     firsts,
+                    meets,
                     follows,
                     reaches,
                 }

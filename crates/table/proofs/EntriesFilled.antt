@@ -14,10 +14,10 @@ use Rattle.lookahead.specs.declared.Lookahead.{Lookahead}
 use Rattle.lookahead.specs.Lookaheads.{tokens, alphabet}
 use Rattle.semantics.specs.FiniteSets.{numbers}
 use Rattle.semantics.specs.Claims.{tableOf}
-use Rattle.families.specs.Lists.{listed}
+use Rattle.families.specs.Lists.{listed, byRule}
 use Rattle.families.proofs.Lists.{listed-long, listed-at}
 use Rattle.columns.specs.Columns.{columnElement, columnString, columns}
-use Rattle.claims.specs.Claims.{headsOf, claimNumbers, byRule}
+use Rattle.claims.specs.Claims.{headsOf, claimNumbers}
 use Rattle.table.specs.Entries.{ruleByte, byteAt, entriesOf, noRules, entryOver, rowsOf, FilledRows}
 use Rattle.claims.proofs.Claimants.{first-claim, told}
 use Rattle.columns.proofs.ColumnStrings.{some-column, column-count, column-string, element-small}
