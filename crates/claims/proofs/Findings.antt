@@ -1,5 +1,5 @@
 -- What is found of an encoded grammar, by its families, by the heads and the claims of its rules and by the nonterminals that overrun, and what that tells.
-use mathlib.Core.Path.{_≡_, refl, sym, ap, _∙_}
+use mathlib.Core.Path.{_≡_, sym, ap, _∙_}
 use mathlib.Core.List.{List}
 use mathlib.Core.Option.{none}
 use Prim.Native.Nat.{ℕ}

@@ -1,17 +1,16 @@
 -- A pass that adds nothing to the first sets has kept, for each rule, what its positives can all begin with by these sets.
-use mathlib.Core.Path.{_≡_, refl, sym, ap, fun-ext, _∙_}
+use mathlib.Core.Path.{_≡_, refl, sym, fun-ext, _∙_}
 use mathlib.Core.Bool.{Bool, true, false, true≢false, _||_}
 use mathlib.Core.List.{List}
 use mathlib.Core.Option.{some}
 use Prim.Native.Nat.{ℕ, _+_, _≤_, _<_}
 use native.Mathlib.Omega.{arith}
-use lib.ListN.{length, getD, getElem?, set}
+use lib.ListN.{getD, getElem?, set}
 use Rattle.grammar.specs.declared.reading.Sizes.{Sizes}
 use Rattle.grammar.specs.declared.reading.Outcome.the-variants.{Read}
 use Rattle.grammar.specs.Limits.{maxNonterminals, maxRules}
 use Rattle.grammar.specs.Syntax.{Rule}
 use Rattle.grammar.specs.Encoding.{grammarOf}
-use Rattle.grammar.specs.Starts.{ruleStarts}
 use Rattle.grammar.specs.WellRead.{WellRead}
 use Rattle.grammar.proofs.WellRead.{well-read}
 use Rattle.admission.specs.Admission.{admission}

@@ -7,11 +7,9 @@ use admission::admit;
 use answer::Error;
 use families::Families;
 use families::Finding;
-use families::Flaw;
-use families::Lowest;
 use families::SETS;
 use first::first_sets;
-use flaws::lowest_with;
+use flaws::finding_of;
 use follow::follow_sets;
 use grammar::limits::RULES;
 use grammar::reading::Outcome;
@@ -22,7 +20,6 @@ use reader::rule_starts;
 
 mod family;
 mod first;
-mod flaws;
 mod follow;
 mod left;
 pub mod rules;
@@ -45,29 +42,24 @@ fn analyze_grammar(words: &[u32], sizes: Sizes, lookahead: Lookahead) -> Familie
     requires { ⌜ admission lookahead (now words) ≡ Read sizes ⌝ }
     ensures { λ r. ⌜ r ≡ familiesOf lookahead (now (words .entry)) ⌝ }
 {
-    let nonterminals = sizes.nonterminals;
     let starts = rule_starts(words);
     let mut meets = [0u64; RULES];
     let firsts = first_sets(words, &starts, sizes, &mut meets, lookahead);
     let reaches = reached(words, &starts, sizes, &firsts, lookahead);
-    let recursive = lowest_with(Flaw::LeftRecursive, &firsts, &reaches, nonterminals);
-    let unproductive = lowest_with(Flaw::Unproductive, &firsts, &reaches, nonterminals);
-    match recursive {
-        Lowest::At(nonterminal) => refused(Error::LeftRecursive(nonterminal)),
-        Lowest::Absent => match unproductive {
-            Lowest::At(nonterminal) => refused(Error::Unproductive(nonterminal)),
-            Lowest::Absent => {
-                let follows = follow_sets(words, &starts, sizes, &firsts, lookahead);
-                Families {
-                    finding: Finding::Passed(sizes),
-                    starts,
-                    firsts,
-                    meets,
-                    follows,
-                    reaches,
-                }
+    let finding = finding_of(sizes, &firsts, &reaches);
+    match finding {
+        Finding::Refused(error) => refused(error),
+        Finding::Passed(_) => {
+            let follows = follow_sets(words, &starts, sizes, &firsts, lookahead);
+            Families {
+                finding,
+                starts,
+                firsts,
+                meets,
+                follows,
+                reaches,
             }
-        },
+        }
     }
 }
 

@@ -4,7 +4,7 @@ use Prim.Native.Nat.{_-_}
 use native.Mathlib.Omega.{arith}
 use Rattle.grammar.proofs.WellRead.{well-read}
 use Rattle.families.proofs.RulePasses.{Turns, turns-start}
-use Rattle.families.proofs.HeadPasses.{Gives, its-turn, its-start, head-below, visit, visits-end}
+use Rattle.families.proofs.HeadPasses.{Gives, its-turn, head-below, visit, visits-end}
 use Rattle.families.proofs.FirstPasses.{ruleGives, rule-larger, rule-given}
 use Rattle.families.proofs.FirstMeets.{Meeting, meeting-start, meeting-next, meeting-end}
 use Rattle.sets.proofs.first.first_pass.Statement.{statement}
