@@ -20,15 +20,15 @@ use Rattle.lookahead.specs.declared.Lookahead.{Lookahead}
 use Rattle.lookahead.specs.Lookaheads.{tokens, alphabet}
 use Rattle.lookahead.specs.Operations.{concatNumbers}
 use Rattle.semantics.specs.FirstFollow.{follow}
-use Rattle.semantics.proofs.Follow.{follow-lookahead}
-use Rattle.semantics.proofs.Outcomes.{nth-below, nth-mem}
-use Rattle.families.specs.Lists.{byRule}
+use Rattle.semantics.proofs.families.Follow.{follow-lookahead}
+use Rattle.semantics.proofs.descent.Outcomes.{nth-below, nth-mem}
+use Rattle.families.specs.RuleLists.{byRule}
 use Rattle.families.specs.Rules.{ByRules, PassGiven}
 use Rattle.families.specs.Sets.{followNumber, meetNumber}
 use Rattle.families.proofs.ByRules.{FilledTo, filled-none, filled-next, filled-each, by-rule-is, by-rule-at}
 use Rattle.families.proofs.FewTerminals.{admitted-read, few-terminals}
 use Rattle.families.proofs.HeadPasses.{ruleNumbered, its-head as pass-head, its-start, head-below}
-use Rattle.families.proofs.Lists.{listed-long}
+use Rattle.base.proofs.Lists.{listed-long}
 use Rattle.families.proofs.Numbers.{array-at}
 use Rattle.claims.specs.Claims.{claimNumber, FamiliesGiven, AllKept}
 use Rattle.claims.proofs.RuleClaims.{claim-found}

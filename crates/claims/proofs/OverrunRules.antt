@@ -9,8 +9,8 @@ use native.Mathlib.Omega.{arith}
 use borrow.Author.Tests.{eq-eqb, ne-eqb}
 use lib.ListN.{length, getD, getElem?, drop, set, replicate, length-set, length-replicate, drop-of-length-le}
 use lib.Seq.{getD-set-same, getD-set-other}
-use Rattle.booleans.specs.Choice.{choose}
-use Rattle.booleans.specs.Quantifiers.{anyOf}
+use Rattle.base.specs.Choice.{choose}
+use Rattle.base.specs.Quantifiers.{anyOf}
 use Rattle.word.specs.declared.Word.{Word}
 use Rattle.word.specs.Words.{decoded}
 use Rattle.grammar.specs.declared.reading.Sizes.{Sizes}
@@ -23,10 +23,10 @@ use Rattle.admission.specs.Admission.{beginsNegative}
 use Rattle.lookahead.specs.declared.Lookahead.{Lookahead}
 use Rattle.lookahead.specs.Operations.{end, terminal, join}
 use Rattle.semantics.specs.Claims.{without}
-use Rattle.semantics.proofs.Outcomes.{nth-mem}
+use Rattle.semantics.proofs.descent.Outcomes.{nth-mem}
 use Rattle.families.proofs.ByRules.{by-rule-at}
 use Rattle.families.proofs.HeadPasses.{ruleNumbered}
-use Rattle.families.proofs.Lists.{getD-zeros}
+use Rattle.base.proofs.Lists.{getD-zeros}
 use Rattle.claims.specs.Overruns.{beyondEnd, aloneIn, overrunSet, HeadsGiven, Overrunning}
 use Rattle.claims.proofs.FirstConjuncts.{first-conjunct}
 

@@ -13,11 +13,12 @@ use Rattle.lookahead.specs.Operations.{concatNumbers}
 use Rattle.lookahead.proofs.Strings.{string-after, after-below}
 use Rattle.lookahead.proofs.Pairs.{Pair, pair-concat, concat-pair}
 use Rattle.lookahead.proofs.Weights.{has-total}
-use Rattle.semantics.specs.FiniteSets.{member}
-use Rattle.semantics.specs.FirstFollow.{sameString, concatStrings, follow, followSets}
+use Rattle.base.specs.FiniteSets.{member}
+use Rattle.base.specs.Strings.{sameString}
+use Rattle.semantics.specs.FirstFollow.{concatStrings, follow, followSets}
 use Rattle.semantics.specs.Claims.{meeting, claimed}
-use Rattle.semantics.proofs.LookaheadSets.{sets-make, sets-elim, concat-make, concat-elim}
-use Rattle.semantics.proofs.Follow.{follow-lookahead}
+use Rattle.semantics.proofs.families.LookaheadSets.{sets-make, sets-elim, concat-make, concat-elim}
+use Rattle.semantics.proofs.families.Follow.{follow-lookahead}
 use Rattle.families.specs.Sets.{numberOf, followNumber, meetNumber}
 use Rattle.families.proofs.Strings.{string-in}
 use Rattle.families.proofs.Numbers.{number-string, in-number}

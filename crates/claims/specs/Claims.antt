@@ -16,13 +16,14 @@ use Rattle.grammar.specs.Syntax.{Rule, Grammar}
 use Rattle.lookahead.specs.declared.Lookahead.{Lookahead}
 use Rattle.lookahead.specs.Lookaheads.{tokens}
 use Rattle.lookahead.specs.Elements.{has}
-use Rattle.semantics.specs.FiniteSets.{member}
-use Rattle.semantics.specs.FirstFollow.{sameString}
+use Rattle.base.specs.FiniteSets.{member}
+use Rattle.base.specs.Strings.{sameString}
 use Rattle.semantics.specs.Claims.{claimed, overruns}
 use Rattle.admission.specs.Admission.{admission}
 use Rattle.families.specs.declared.Finding.{Finding}
 use Rattle.families.specs.Analysis.{setsFault, findingOf, startsIf, byRuleIf, setsIf}
-use Rattle.families.specs.Lists.{listed, byRule}
+use Rattle.base.specs.Lists.{listed}
+use Rattle.families.specs.RuleLists.{byRule}
 use Rattle.families.specs.Sets.{numberOf, firstNumber, followNumber, meetNumbers}
 use Rattle.claims.specs.Overruns.{overrunSet}
 use Rattle.claims.specs.declared.Claims.{Claims}

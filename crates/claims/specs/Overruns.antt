@@ -5,8 +5,8 @@ use mathlib.Core.List.{List, map}
 use Prim.Native.Nat.{ℕ}
 use lib.Dec.{eqb}
 use lib.ListN.{length, getD}
-use Rattle.booleans.specs.Choice.{choose}
-use Rattle.booleans.specs.Quantifiers.{anyOf}
+use Rattle.base.specs.Choice.{choose}
+use Rattle.base.specs.Quantifiers.{anyOf}
 use Rattle.grammar.specs.declared.reading.Sizes.{Sizes}
 use Rattle.grammar.specs.declared.reading.Outcome.the-variants.{Read}
 use Rattle.grammar.specs.Encoding.{grammarOf}
@@ -17,7 +17,7 @@ use Rattle.grammar.specs.Syntax.{Rule}
 use Rattle.lookahead.specs.declared.Lookahead.{Lookahead}
 use Rattle.lookahead.specs.Operations.{empty, end, terminal, join}
 use Rattle.semantics.specs.Claims.{without}
-use Rattle.families.specs.Lists.{byRule}
+use Rattle.families.specs.RuleLists.{byRule}
 
 -- a set has more than nothing
 unfoldable pub beyondEnd : Lookahead → ℕ → Bool

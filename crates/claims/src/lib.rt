@@ -3,12 +3,13 @@ ghost use mathlib.Core.Path.{_≡_};
 ghost use Rattle.families.specs.Rules.{ByRules};
 ghost use Rattle.grammar.specs.Encoding.{grammarOf};
 ghost use Rattle.claims.specs.Claims.{claimsOf, FamiliesGiven, AllKept};
+use concatenation::concat;
 use families::Finding;
 use families::SETS;
 use grammar::limits::RULES;
 use grammar::reading::Sizes;
 use lookahead::Lookahead;
-use lookahead::LookaheadSet;
+use lookahead_sets::LookaheadSet;
 use overruns::overrunning;
 use sets::rules::head_of;
 use word::decode;
@@ -50,7 +51,7 @@ fn keep_claims<'a>(
             bits: follows[head as usize],
         };
         heads[rule] = head as u8;
-        sets[rule] = meet.concat(lookahead, follow).bits;
+        sets[rule] = concat(meet, lookahead, follow).bits;
         rule = rule + 1;
     }
 }

@@ -1,7 +1,7 @@
 // The nonterminals that overrun: a rule without positives takes all that is left, yet more than the end can follow.
 ghost use mathlib.Core.Path.{_≡_};
 ghost use mathlib.Core.Bool.{_&&_};
-ghost use Rattle.booleans.specs.Choice.{choose};
+ghost use Rattle.base.specs.Choice.{choose};
 ghost use Rattle.grammar.specs.Encoding.{grammarOf};
 ghost use Rattle.lookahead.specs.Operations.{terminal};
 ghost use Rattle.claims.specs.Overruns.{beyondEnd, HeadsGiven, Overrunning};
@@ -10,7 +10,7 @@ use families::SETS;
 use grammar::limits::RULES;
 use grammar::reading::Sizes;
 use lookahead::Lookahead;
-use lookahead::LookaheadSet;
+use lookahead_sets::LookaheadSet;
 use word::decode;
 
 // The first terminal where a rule has no positives and more than the end can follow it, else what was told before.

@@ -6,7 +6,7 @@ use Prim.Native.Nat.{ℕ, min}
 use native.Mathlib.Omega.{arith}
 use Rattle.answer.specs.declared.Error.{Error}
 use Rattle.answer.specs.declared.Error.the-variants.{LeftRecursive, Unproductive}
-use Rattle.booleans.specs.Quantifiers.{lowest}
+use Rattle.base.specs.Quantifiers.{lowest}
 use Rattle.grammar.specs.Limits.{maxNonterminals}
 use Rattle.grammar.specs.Encoding.{grammarOf}
 use Rattle.grammar.specs.Starts.{ruleStarts}
@@ -21,7 +21,8 @@ use Rattle.families.specs.declared.Families.{Families}
 use Rattle.families.specs.declared.Lowest.{Lowest}
 use Rattle.families.specs.declared.Lowest.the-variants as told
 use Rattle.families.specs.declared.Flaw.the-variants as flaw
-use Rattle.families.specs.Lists.{listed, byRule}
+use Rattle.base.specs.Lists.{listed}
+use Rattle.families.specs.RuleLists.{byRule}
 use Rattle.families.specs.Flaws.{flawIn, lowestOf, findingIn}
 use Rattle.families.specs.Sets.{firstNumber, followNumber, meetNumbers, reachNumber}
 use Rattle.families.specs.Analysis.{setsFault, findingOf, startsIf, byRuleIf, setsIf, families, refusedBy, familiesOf}

@@ -17,11 +17,12 @@ use Rattle.admission.specs.Admission.{admission}
 use Rattle.lookahead.specs.declared.Lookahead.{Lookahead}
 use Rattle.lookahead.specs.Lookaheads.{tokens}
 use Rattle.semantics.specs.FirstFollow.{first}
-use Rattle.semantics.proofs.First.{first-lookahead}
-use Rattle.semantics.proofs.Outcomes.{nth-below, nth-mem}
+use Rattle.semantics.proofs.families.First.{first-lookahead}
+use Rattle.semantics.proofs.descent.Outcomes.{nth-below, nth-mem}
 use Rattle.families.specs.First.{ruleFirst, Met}
 use Rattle.families.specs.Least.{at}
-use Rattle.families.specs.Lists.{listed, byRule}
+use Rattle.base.specs.Lists.{listed}
+use Rattle.families.specs.RuleLists.{byRule}
 use Rattle.families.specs.Rules.{turnOf, ruleFrom, ByRules, PassGiven}
 use Rattle.families.specs.Sets.{firstNumber, meetNumber, meetNumbers}
 use Rattle.families.proofs.ByRules.{FilledTo, filled-none, filled-next, filled-each, store-room, by-rule-is}

@@ -9,15 +9,14 @@ use Rattle.lookahead.specs.declared.Lookahead.{Lookahead}
 use Rattle.lookahead.specs.Lookaheads.{tokens, alphabet, elements, stringOf}
 use Rattle.lookahead.specs.Elements.{has}
 use Rattle.lookahead.proofs.Order.{subset-antisym}
-use Rattle.semantics.specs.Strings.{Lookahead as Looked}
+use Rattle.base.specs.Strings.{Lookahead as Looked, strings, sameString}
 use Rattle.semantics.specs.Families.{FirstRule}
-use Rattle.semantics.specs.FiniteSets.{member}
-use Rattle.semantics.specs.FirstFollow.{strings, sameString, firstSets, firstRule, First}
+use Rattle.base.specs.FiniteSets.{member}
+use Rattle.semantics.specs.FirstFollow.{firstSets, firstRule, First}
 use Rattle.semantics.specs.Claims.{meeting}
-use Rattle.semantics.proofs.FiniteSets.{member-mem, mem-member, keep-make, keep-elim}
-use Rattle.semantics.proofs.LookaheadSets.{strings-equality, strings-make, strings-elim}
-use Rattle.semantics.proofs.First.{In, firstBody-mono, firstRule-make, firstRule-elim}
-use Rattle.semantics.proofs.First.{first-in, in-first}
+use Rattle.base.proofs.FiniteSets.{member-mem, mem-member, keep-make, keep-elim}
+use Rattle.base.proofs.LookaheadStrings.{strings-equality, strings-make, strings-elim}
+use Rattle.semantics.proofs.families.First.{In, firstBody-mono, firstRule-make, firstRule-elim, first-in, in-first}
 use Rattle.families.specs.Sets.{numberOf, firstNumber, meetNumber}
 use Rattle.families.specs.First.{ruleFirst}
 use Rattle.families.proofs.Strings.{lookahead-bound, StringIn, string-in, in-string, number-has, has-number}

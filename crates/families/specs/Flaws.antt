@@ -4,13 +4,13 @@ use mathlib.Core.Option.{Option, none, some}
 use Prim.Native.Nat.{ℕ, min}
 use lib.ListN.{getD}
 use Rattle.answer.specs.Faults.{firstFault}
-use Rattle.booleans.specs.Quantifiers.{lowest}
+use Rattle.base.specs.Quantifiers.{lowest}
 use Rattle.grammar.specs.Limits.{maxNonterminals}
 use Rattle.grammar.specs.declared.reading.Sizes.{Sizes}
 use Rattle.grammar.specs.declared.reading.Outcome.the-variants.{Read}
 use Rattle.lookahead.specs.Elements.{has}
 use Rattle.lookahead.specs.Operations.{isEmpty}
-use Rattle.semantics.specs.Rounds.{NumberSet}
+use Rattle.base.specs.Rounds.{NumberSet}
 use Rattle.families.specs.declared.Flaw.{Flaw}
 use Rattle.families.specs.declared.Flaw.the-variants.{LeftRecursive, Unproductive}
 use Rattle.families.specs.declared.Finding.{Finding}

@@ -9,9 +9,9 @@ use Rattle.grammar.specs.Syntax.{Rule, Grammar}
 use Rattle.lookahead.specs.declared.Lookahead.{Lookahead}
 use Rattle.lookahead.specs.Lookaheads.{tokens, elements, stringOf}
 use Rattle.lookahead.specs.Elements.{total}
-use Rattle.semantics.specs.FiniteSets.{member}
-use Rattle.semantics.specs.FirstFollow.{sameString, first, follow}
-use Rattle.semantics.specs.Calls.{Distinct}
+use Rattle.base.specs.FiniteSets.{member, Distinct}
+use Rattle.base.specs.Strings.{sameString}
+use Rattle.semantics.specs.FirstFollow.{first, follow}
 use Rattle.semantics.specs.Claims.{meeting}
 use Rattle.semantics.specs.LeftRecursion.{leftReaches}
 

@@ -1,7 +1,7 @@
 // What is found of a grammar by its sets: the lowest nonterminal with a flaw refuses it.
 ghost use mathlib.Core.Path.{_≡_};
 ghost use Prim.Native.Nat.{_≤_, _<_, min};
-ghost use Rattle.booleans.specs.Quantifiers.{lowest};
+ghost use Rattle.base.specs.Quantifiers.{lowest};
 ghost use Rattle.grammar.specs.Limits.{maxNonterminals};
 ghost use Rattle.families.specs.Flaws.{flawIn, lowestOf, findingIn};
 use answer::Error;
@@ -12,7 +12,7 @@ use families::SETS;
 use families::nonterminals::Nonterminals;
 use grammar::limits::NONTERMINALS;
 use grammar::reading::Sizes;
-use lookahead::LookaheadSet;
+use lookahead_sets::LookaheadSet;
 
 // Whether a nonterminal has a flaw, by the first sets and by what each nonterminal left-reaches.
 fn has_flaw(flaw: Flaw, firsts: &[u64; SETS], reaches: &[u32; SETS], nonterminal: u32) -> bool

@@ -7,7 +7,7 @@ use Prim.Native.Nat.{ℕ, suc, _+_, _≤_, _<_}
 use native.Mathlib.Omega.{arith}
 use lib.ListN.{getElem?}
 use Rattle.answer.specs.declared.Error.{Error}
-use Rattle.booleans.proofs.Quantified.{count-cong}
+use Rattle.base.proofs.Quantified.{count-cong}
 use Rattle.grammar.specs.Encoding.{grammarOf}
 use Rattle.grammar.specs.Limits.{maxNonterminals, maxTerminals, maxRules}
 use Rattle.grammar.specs.declared.reading.Sizes.{Sizes}
@@ -22,9 +22,9 @@ use Rattle.lookahead.specs.Operations.{isEmpty, terminal}
 use Rattle.semantics.specs.Claims.{claims, overruns}
 use Rattle.families.specs.declared.Finding.the-variants.{Passed, Refused}
 use Rattle.families.specs.Analysis.{setsFault, byRuleIf}
-use Rattle.families.specs.Lists.{byRule}
+use Rattle.families.specs.RuleLists.{byRule}
 use Rattle.families.proofs.Findings.{told-passed, told-refused}
-use Rattle.families.proofs.Lists.{listed-at}
+use Rattle.base.proofs.Lists.{listed-at}
 use Rattle.claims.specs.declared.Claims.{Claims}
 use Rattle.claims.specs.Claims.{headsOf, claimNumbers, overrunsOf, overrunsIf, claimsOf}
 use Rattle.columns.specs.Columns.{columnElement}

@@ -2,7 +2,7 @@
 ghost use mathlib.Core.Path.{_≡_};
 ghost use mathlib.Core.Bool.{false};
 ghost use Prim.Native.Nat.{_<_};
-ghost use Rattle.booleans.specs.Choice.{choose};
+ghost use Rattle.base.specs.Choice.{choose};
 ghost use Rattle.grammar.specs.Limits.{maxTabularPlaces};
 ghost use Rattle.tabular_promises.specs.Scanning.{noneOpen, SymbolGiven, SymbolOnto, OntoGiven, Onto, KeepsGiven, Keeps};
 use super::chart::CHART;

@@ -2,7 +2,7 @@
 ghost use mathlib.Core.Path.{_≡_};
 ghost use Prim.Native.Nat.{_<_};
 ghost use lib.Bits.{bitOr};
-ghost use Rattle.booleans.specs.Choice.{choose};
+ghost use Rattle.base.specs.Choice.{choose};
 ghost use Rattle.grammar.specs.Limits.{maxNonterminals};
 ghost use Rattle.lookahead.specs.Elements.{weight};
 ghost use Rattle.tabular_promises.specs.Chart.{wordAt, WordGiven, BeforeGiven, Before, AddGiven, Added};

@@ -5,7 +5,7 @@ use mathlib.Core.List.{List}
 use Prim.Native.Nat.{ℕ, suc, _+_, _*_, _≤_, _<_}
 use lib.Dec.{T, leb}
 use lib.ListN.{length, getD}
-use Rattle.booleans.specs.Quantifiers.{anyBelow}
+use Rattle.base.specs.Quantifiers.{anyBelow}
 use Rattle.grammar.specs.Limits.{maxNonterminals, maxTabularPlaces}
 use Rattle.lookahead.specs.Elements.{has, total}
 use Rattle.semantics.specs.Valuations.{Valuation}

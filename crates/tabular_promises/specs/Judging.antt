@@ -11,7 +11,7 @@ use Rattle.grammar.specs.declared.reading.Sizes.{Sizes}
 use Rattle.lookahead.specs.declared.Lookahead.the-variants.{One}
 use Rattle.semantics.specs.Valuations.{solution}
 use Rattle.families.specs.Analysis.{setsFault}
-use Rattle.families.specs.Lists.{listed}
+use Rattle.base.specs.Lists.{listed}
 use Rattle.families.specs.Sets.{reachNumber}
 use Rattle.tabular_promises.specs.Filling.{RulesGiven, FillGiven}
 use Rattle.tabular_promises.specs.Spans.{Spans, solutionWord}

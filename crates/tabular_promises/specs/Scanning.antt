@@ -5,7 +5,7 @@ use mathlib.Core.Bool.{Bool, true, not, _&&_}
 use mathlib.Core.List.{List, _∷_}
 use Prim.Native.Nat.{ℕ, suc, _≤_, _<_}
 use lib.ListN.{length, drop}
-use Rattle.booleans.specs.Quantifiers.{anyOf, allOf}
+use Rattle.base.specs.Quantifiers.{anyOf, allOf}
 use Rattle.word.specs.declared.Symbol.{Symbol as GrammarSymbol}
 use Rattle.word.specs.declared.Symbol.the-variants.{Terminal, Nonterminal}
 use Rattle.word.specs.declared.Word.{Word}

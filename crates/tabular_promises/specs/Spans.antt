@@ -7,7 +7,7 @@ use Rattle.grammar.specs.Limits.{maxNonterminals, maxTabularTokens, maxSpanWord
 use Rattle.grammar.specs.Syntax.{Grammar}
 use Rattle.lookahead.specs.Elements.{total}
 use Rattle.semantics.specs.Valuations.{solution}
-use Rattle.families.specs.Lists.{listed}
+use Rattle.base.specs.Lists.{listed}
 
 -- the nonterminals that the one solution gives a span to, A weighing 2^A
 unfoldable pub solutionWord : Grammar → List ℕ → ℕ → ℕ → ℕ
