@@ -1,3 +1,4 @@
+pub mod RuleLists
 pub mod Least
 pub mod Naming
 pub mod Rules

@@ -21,11 +21,12 @@ use Rattle.lookahead.specs.Lookaheads.{alphabet}
 use Rattle.lookahead.specs.Operations.{isEmpty, terminal}
 use Rattle.semantics.specs.Claims.{claims, overruns}
 use Rattle.families.specs.declared.Finding.the-variants.{Passed, Refused}
-use Rattle.families.specs.Analysis.{setsFault}
+use Rattle.families.specs.Analysis.{setsFault, byRuleIf}
+use Rattle.families.specs.RuleLists.{byRule}
 use Rattle.families.proofs.Findings.{told-passed, told-refused}
 use Rattle.base.proofs.Lists.{listed-at}
 use Rattle.claims.specs.declared.Claims.{Claims}
-use Rattle.claims.specs.Claims.{headsOf, claimNumbers, byRule, byRuleIf, overrunsOf, overrunsIf, claimsOf}
+use Rattle.claims.specs.Claims.{headsOf, claimNumbers, overrunsOf, overrunsIf, claimsOf}
 use Rattle.columns.specs.Columns.{columnElement}
 use Rattle.claims.specs.Overruns.{overrunSet}
 use Rattle.claims.proofs.Claimants.{claims-alike, told as rules-told}

@@ -13,6 +13,7 @@ use event::first_unknown;
 use families::Finding;
 use families::SETS;
 use filling::fill;
+use grammar::limits::RULES;
 use grammar::limits::SPAN_WORDS;
 use grammar::limits::TABULAR_TOKENS;
 use grammar::reading::Sizes;
@@ -30,15 +31,16 @@ mod spans;
 // Fills the lent words with the nonterminals of every span; whether nonterminal 0 has the whole input.
 fn tabulate(
     words: &[u32],
+    starts: &[usize; RULES],
     sizes: Sizes,
     reaches: &[u32; SETS],
     events: &[u8],
     spans: &mut [u32],
 ) -> bool
-    requires { ⌜ TabulateGiven (now words) sizes (now reaches) (inputOf (now events)) (now spans) ⌝ }
+    requires { ⌜ TabulateGiven (now words) (now starts) sizes (now reaches) (inputOf (now events)) (now spans) ⌝ }
     ensures { λ r. ⌜ Tabulated (now (words .entry)) (inputOf (now (events .entry))) (now (spans .entry)) r (now (spans .exit)) ⌝ }
 {
-    let chart = fill(words, sizes, reaches, events);
+    let chart = fill(words, starts, sizes, reaches, events);
     write(&chart, sizes.nonterminals, events.len(), spans);
     contains(chart[events.len()], 0)
 }
@@ -58,14 +60,15 @@ fn verdict(accepted: bool) -> Answer
 }
 
 // A grammar without left recursion: the input's length, its tokens, and then every span.
-fn judge_passed(
+fn judge_passed<'a>(
     words: &[u32],
+    starts: &'a [usize; RULES],
     sizes: Sizes,
-    reaches: &[u32; SETS],
+    reaches: &'a [u32; SETS],
     events: &[u8],
     spans: &mut [u32],
 ) -> Answer
-    requires { ⌜ PassedGiven (now words) sizes (now reaches) (now spans) ⌝ }
+    requires { ⌜ PassedGiven (now words) (now starts) sizes (now reaches) (now spans) ⌝ }
     ensures { λ r. ⌜ TabularJudges (now (words .entry)) (inputOf (now (events .entry))) (now (spans .entry)) r (now (spans .exit)) ⌝ }
 {
     if TABULAR_TOKENS < events.len() {
@@ -74,7 +77,7 @@ fn judge_passed(
     let unknown = first_unknown(events, sizes.terminals);
     match unknown {
         Unknown::At(at) => Answer::Refused(Error::UnknownToken(at)),
-        Unknown::Absent => verdict(tabulate(words, sizes, reaches, events, spans)),
+        Unknown::Absent => verdict(tabulate(words, starts, sizes, reaches, events, spans)),
     }
 }
 
@@ -89,6 +92,13 @@ pub fn judge(words: &[u32], events: &[u8], spans: &mut [u32]) -> Answer
     let finding = families.finding;
     match finding {
         Finding::Refused(error) => Answer::Refused(error),
-        Finding::Passed(sizes) => judge_passed(words, sizes, &families.reaches, events, spans),
+        Finding::Passed(sizes) => judge_passed(
+            words,
+            &families.starts,
+            sizes,
+            &families.reaches,
+            events,
+            spans,
+        ),
     }
 }

@@ -247,7 +247,7 @@ unfolding familiesOf
 found-reaches words e k = ap (λ x. x .reaches) e ∙ ap (λ f. setsIf f (listed maxNonterminals (reachNumber (grammarOf words)))) k
 
 -- an input of terminals, and a grammar that is not refused
-module _ {words spans reaches : List ℕ} {z : Sizes} (g : PassedGiven words z reaches spans) (events : List ℕ) where
+module _ {words starts spans reaches : List ℕ} {z : Sizes} (g : PassedGiven words starts z reaches spans) (events : List ℕ) where
   abbrev input : List ℕ
   input = inputOf events
 
@@ -259,20 +259,20 @@ module _ {words spans reaches : List ℕ} {z : Sizes} (g : PassedGiven words z r
     short-input = omega (arith, input-length events)
 
     searched : u ≡ unknownFrom (grammarOf words .terminals) 0 input
-    searched = e ∙ ap (λ n. unknownFrom n 0 input) (well-read words z (g .read) .terminals)
+    searched = e ∙ ap (λ n. unknownFrom n 0 input) (well-read words z (g .rules .read) .terminals)
 
     pub judge-unknown : {at : ℕ} → u ≡ At at → TabularJudges words input spans (Refused (UnknownToken at)) spans
     judge-unknown a = judge-refused (unknown-token words input spans (g .room) (g .faultless) short-input (sym a ∙ searched))
 
     module _ (a : u ≡ Absent) where
-      pub tabulate-given : TabulateGiven words z reaches input spans
+      pub tabulate-given : TabulateGiven words starts z reaches input spans
       tabulate-given =
-          let k = well-read words z (g .read) in
+          let k = well-read words z (g .rules .read) in
           let known = absent-known (z .terminals) 0 input (sym e ∙ a) in
           record {
             given = record {
-              read = g .read;
-              free = faultless-free words z (g .read) (g .faultless);
+              rules = g .rules;
+              free = faultless-free words z (g .rules .read) (g .faultless);
               reached = g .reached;
               input = record { short = short-input; terminals = λ i l. omega (arith, token-below (z .terminals) input known i l, k .fewTerminals) };
             };

@@ -20,7 +20,19 @@ enum-known-finding-2 : tie.Need-enum-known-finding-2
 enum-known-finding-2 c = c .match .keys2
 
 judge-passed-requires : tie.Need-judge-passed-requires
-judge-passed-requires c κs = let found = families-told One (c .before .before .before .before .before .before .before .before .before .before .before .args .words .now) (c .before .before .before .before .before .before .analyze .ensures) (c .before .before .before .before .finding2 .given .1) in record { read = found .read; faultless = found .faultless; reached = found-reaches (c .before .before .before .before .before .before .before .before .before .before .before .args .words .now) (c .before .before .before .before .before .before .analyze .ensures) (found .faultless); room = omega (arith, c .before .before .before .before .before .before .before .if1 .left) }
+judge-passed-requires c κs =
+    let finding = c .before .before .before .before .before in
+    let analyzed = finding .before .before in
+    let test = analyzed .before in
+    let start = test .before .before .before .before in
+    let words = start .args .words .now in
+    let found = families-told One words (analyzed .analyze .ensures) (finding .finding2 .given .1) in
+    record {
+      rules = record { read = found .read; begins = found .begins };
+      faultless = found .faultless;
+      reached = found-reaches words (analyzed .analyze .ensures) (found .faultless);
+      room = omega (arith, test .if1 .left);
+    }
 
 returns-2 : tie.Need-returns-2
 returns-2 c = judge-faulty (c .before .before .before .before .before .before .before .before .args .words .now) (inputOf (c .before .before .before .before .before .before .before .before .args .events .now)) (c .before .before .before .before .before .before .before .before .args .spans .now) (omega (arith, c .before .before .before .before .if1 .left)) (families-refused One (c .before .before .before .before .before .before .before .before .args .words .now) (c .before .before .before .analyze .ensures) (c .before .finding .given .1))

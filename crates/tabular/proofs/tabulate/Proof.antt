@@ -11,7 +11,7 @@ fill-requires : tie.Need-fill-requires
 fill-requires c κs = c .before .before .before .pre .given
 
 write-requires : tie.Need-write-requires
-write-requires c κs = let g = c .before .before .before .before .before .before .pre in record { few = well-read _ _ (g .given .read) .fewNonterminals; short = omega (arith, g .given .input .short, input-length (c .before .before .before .before .before .before .args .events .now)); room = g .room }
+write-requires c κs = let g = c .before .before .before .before .before .before .pre in record { few = well-read _ _ (g .given .rules .read) .fewNonterminals; short = omega (arith, g .given .input .short, input-length (c .before .before .before .before .before .before .args .events .now)); room = g .room }
 
 mul-contains : tie.Need-mul-contains
 mul-contains c = omega (arith, c .before .before .before .before .before .before .before .before .before .pre .given .input .short, input-length (c .before .before .before .before .before .before .before .before .before .args .events .now))
@@ -26,7 +26,7 @@ same-length : tie.Need-same-length
 same-length c = c .before .before .spans .given
 
 returns : tie.Need-returns
-returns c = tabulated (c .before .before .before .before .before .before .before .before .before .before .pre .given .read) (c .before .before .before .before .before .before .fill .ensures) (sym (input-length (c .before .before .before .before .before .before .before .before .before .before .args .events .now))) (c .before .before .before .write .ensures) (c .contains .ensures)
+returns c = tabulated (c .before .before .before .before .before .before .before .before .before .before .pre .given .rules .read) (c .before .before .before .before .before .before .fill .ensures) (sym (input-length (c .before .before .before .before .before .before .before .before .before .before .args .events .now))) (c .before .before .before .write .ensures) (c .contains .ensures)
 
 pub tabulate-spec : {M : Type 1} → statement M
 tabulate-spec =

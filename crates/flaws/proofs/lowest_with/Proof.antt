@@ -5,8 +5,8 @@ use native.Mathlib.Omega.{arith}
 use Rattle.base.proofs.Quantified.{NoneBelow}
 use Rattle.families.specs.Flaws.{flawIn}
 use Rattle.families.proofs.LowestTold.{lowest-found, lowest-absent, none-more}
-use Rattle.sets.proofs.flaws.lowest_with.Statement.{statement}
-use Rattle.sets.proofs.flaws.lowest_with.Tie as tie
+use Rattle.flaws.proofs.lowest_with.Statement.{statement}
+use Rattle.flaws.proofs.lowest_with.Tie as tie
 
 abbrev Inv-loop : tie.InvT-loop
 Inv-loop flaw firsts reaches nonterminals nonterminal₀ nonterminal = (nonterminal ≤ nonterminals) × NoneBelow nonterminal (flawIn flaw firsts reaches)

@@ -1,31 +1,31 @@
 -- By which flaw is asked for.
-use borrow.Author.Needs.{needs}
-use Rattle.sets.proofs.flaws.has_flaw.Statement.{statement}
-use Rattle.sets.proofs.flaws.has_flaw.Tie as tie
+use native.Mathlib.Omega.{arith}
+use Rattle.flaws.proofs.has_flaw.Statement.{statement}
+use Rattle.flaws.proofs.has_flaw.Tie as tie
 
 enum-told : tie.Need-enum-told
-enum-told c = search needs
+enum-told c = c .match .keys1
 
 mul-t9 : tie.Need-mul-t9
-mul-t9 c = search needs
+mul-t9 c = omega arith
 
 element-copy-out-t12 : tie.Need-element-copy-out-t12
-element-copy-out-t12 c = search needs
+element-copy-out-t12 c = omega arith
 
 contains-requires : tie.Need-contains-requires
-contains-requires c κs = search needs
+contains-requires c κs = tt
 
 enum-told-2 : tie.Need-enum-told-2
-enum-told-2 c = search needs
+enum-told-2 c = c .match .keys2
 
 mul-t14 : tie.Need-mul-t14
-mul-t14 c = search needs
+mul-t14 c = omega arith
 
 element-copy-out-t17 : tie.Need-element-copy-out-t17
-element-copy-out-t17 c = search needs
+element-copy-out-t17 c = omega arith
 
 is-empty-requires : tie.Need-is-empty-requires
-is-empty-requires c κs = search needs
+is-empty-requires c κs = tt
 
 returns : tie.Need-returns
 returns c = rw (c .before .before .enum-told .given .1) (c .contains .ensures)
