@@ -7,6 +7,5 @@ pub mod Choosing
 pub mod Tokens
 pub mod ChoiceRows
 pub mod TableChoices
-pub mod Front
 pub mod Deciding
 pub mod Searching

@@ -58,7 +58,8 @@ use Rattle.table.proofs.FirstClash.{clash-absent}
 use Rattle.table.proofs.Padded.{padded-long}
 use Rattle.table.proofs.Words.{table-long}
 use Rattle.table.proofs.Analyzing.{admitted-words}
-use Rattle.recognizer_promises.specs.Memory.{lentBack, LendGiven, Lent}
+use Rattle.promises.specs.Memory.{lentBack}
+use Rattle.recognizer_promises.specs.Memory.{LendGiven, Lent}
 use Rattle.recognizer_promises.specs.Answers.{tableTooShort, checkFaultBy}
 use Rattle.recognizer_promises.specs.Judging.{TableFound}
 use Rattle.recognizer_promises.specs.Properties.{PassedBy, PassedGrammar, LeastFamiliesBy, ChecksBy}

@@ -32,7 +32,8 @@ use Rattle.families.proofs.FewTerminals.{admitted-read}
 use Rattle.semantics.specs.Strings.{Over}
 use Rattle.table.specs.Layout.{tableWords}
 use Rattle.table.specs.Analysis.{grammarFaults, fault}
-use Rattle.recognizer_promises.specs.Memory.{lentBack, memoWords, Lent}
+use Rattle.promises.specs.Memory.{lentBack}
+use Rattle.recognizer_promises.specs.Memory.{memoWords, Lent}
 use Rattle.recognizer_promises.specs.Answers.{judgeFault, inputFaults, passedUnless, withInput, verdictOf, verdictNumbers}
 use Rattle.recognizer_promises.specs.Judging.{TableFound, JudgedPassed}
 use Rattle.recognizer_promises.specs.Properties.{Judges}

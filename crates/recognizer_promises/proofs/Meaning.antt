@@ -1,12 +1,11 @@
 -- What the verdict of the descent means: property 3 for a passed grammar and a readable input.
 use mathlib.Core.Path.{_≡_, refl, ap, subst, _∙_, sym}
-use mathlib.Core.Bool.{Bool, true, false, true≢false, false≢true}
+use mathlib.Core.Bool.{Bool, true, false}
 use mathlib.Core.List.{List}
 use mathlib.Core.Logic.{_↔_}
 use Prim.Native.Nat.{ℕ, _<_}
 use native.Mathlib.Omega.{arith}
 use lib.ListN.{length}
-use Rattle.answer.proofs.Apart.{answer-number}
 use Rattle.answer.specs.Numbers.{accepted, rejected, numbers}
 use Rattle.answer.specs.declared.Calls.{Calls}
 use Rattle.answer.specs.declared.Answer.{Answer}
@@ -19,16 +18,11 @@ use Rattle.semantics.specs.Valuations.{Valuation, Solves, solution}
 use Rattle.semantics.specs.Choices.{tableChoice}
 use Rattle.semantics.specs.Memo.{Recorded}
 use Rattle.semantics.proofs.Theorems.{theorems}
+use Rattle.promises.proofs.Verdicts.{verdict-tells}
 use Rattle.recognizer_promises.specs.Answers.{callsBy, verdictBy}
 use Rattle.recognizer_promises.specs.Properties.{PassedBy, Readable, RecognizesBy, SameVerdict}
 use Rattle.recognizer_promises.proofs.MemoWords.{words-recorded}
 use Rattle.recognizer_promises.proofs.Checking.{passed-encodes, passed-free, passed-predictive}
-
--- a verdict by a test tells the test
-pub verdict-tells : {r : Answer} (b : Bool) (c : Calls) → r ≡ choose b (Accepted c) (Rejected c)
-    → ((r ≡ Accepted c) ↔ (b ≡ true)) × ((r ≡ Rejected c) ↔ (b ≡ false))
-verdict-tells true c e = ((λ q. refl, λ q. e), (λ q. absurd (omega (arith, answer-number (sym e ∙ q))), λ q. absurd (true≢false q)))
-verdict-tells false c e = ((λ q. absurd (omega (arith, answer-number (sym e ∙ q))), λ q. absurd (false≢true q)), (λ q. refl, λ q. e))
 
 -- property 3 from the verdict of the descent, for any lookahead
 pub meaning : (k : Lookahead) (words input : List ℕ) (r : Answer) → PassedBy k words → Readable words input

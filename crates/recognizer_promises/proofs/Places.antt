@@ -39,7 +39,8 @@ use Rattle.table.proofs.FirstClash.{clash-first, first-clash}
 use Rattle.event.specs.declared.Unknown.{Unknown}
 use Rattle.event.specs.declared.Unknown.the-variants.{Absent, At}
 use Rattle.event.specs.Unknown.{unknownFault}
-use Rattle.recognizer_promises.specs.Properties.{AllProductiveBy, LowestRecursive, LowestUnproductiveBy, PlacesBy}
+use Rattle.promises.specs.Places.{AllProductiveBy, LowestRecursive, LowestUnproductiveBy}
+use Rattle.recognizer_promises.specs.Properties.{PlacesBy}
 
 -- the code of a clash is 9, whichever the lookahead
 clash-code : (k : Lookahead) (A c : ℕ) → coded (conflictError k A c) .code ≡ 9

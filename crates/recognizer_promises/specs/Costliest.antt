@@ -20,7 +20,8 @@ use Rattle.families.specs.declared.Finding.{Finding}
 use Rattle.semantics.specs.Strings.{Over}
 use Rattle.table.specs.Layout.{tableWords}
 use Rattle.table.specs.Analysis.{grammarFaults}
-use Rattle.recognizer_promises.specs.Memory.{lentBack, memoWords}
+use Rattle.promises.specs.Memory.{lentBack}
+use Rattle.recognizer_promises.specs.Memory.{memoWords}
 use Rattle.recognizer_promises.specs.Answers.{withFaults, callsOf, verdictOf, verdictNumbers}
 use Rattle.recognizer_promises.specs.Properties.{Judges}
 

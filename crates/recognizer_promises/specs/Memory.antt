@@ -1,10 +1,8 @@
 -- What lent memory holds after a call.
 use mathlib.Core.Path.{_≡_}
 use mathlib.Core.List.{List, _++_, map}
-use mathlib.Core.Option.{Option, none, some}
 use Prim.Native.Nat.{ℕ, _≤_}
 use lib.ListN.{length, take, drop}
-use Rattle.answer.specs.declared.Error.{Error}
 use Rattle.booleans.specs.Choice.{choose}
 use Rattle.grammar.specs.Codes.{uncalledCode}
 use Rattle.grammar.specs.Syntax.{Grammar}
@@ -17,11 +15,6 @@ use Rattle.semantics.specs.ComesTo.{Call}
 use Rattle.semantics.specs.Calls.{sameCall, allCalls, calls}
 use Rattle.semantics.specs.Memo.{encode}
 use Rattle.table.specs.Layout.{tableRoom, wordCount, WordsGiven}
-
--- by whether a call is refused: what was there, or new words in front of what was there
-abbrev pub lentBack : Option Error → List ℕ → List ℕ → List ℕ
-lentBack (some e) new old = old
-lentBack none new old = new ++ drop (length new) old
 
 -- the entry of a call with k tokens of lookahead: its outcome where it was made
 unfoldable pub memoWordBy : ℕ → Grammar → List ℕ → Call → ℕ

@@ -47,10 +47,10 @@ use Rattle.families.specs.Analysis.{leftFault, unproductiveFault, setsFaults, s
 use Rattle.families.specs.Lists.{listed}
 use Rattle.families.specs.Sets.{reachNumber}
 use Rattle.families.specs.declared.Families.{Families}
-use Rattle.recognizer_promises.specs.Memory.{lentBack}
+use Rattle.promises.specs.Memory.{lentBack}
 use Rattle.recognizer_promises.specs.Properties.{PassedGrammar, Judges}
 use Rattle.recognizer_promises.proofs.Checking.{none-left}
-use Rattle.recognizer_promises.proofs.Meaning.{verdict-tells}
+use Rattle.promises.proofs.Verdicts.{verdict-tells}
 use Rattle.table.specs.declared.conflicts.Conflict.the-variants.{Absent}
 use Rattle.recognizer_promises.proofs.Places.{Tells, judge-tells, grammarFault, left-told, unproductive-told}
 use Rattle.tabular_promises.specs.Spans.{indexOf, spanWords, solutionWord}

@@ -12,7 +12,7 @@ use Rattle.grammar.specs.Limits.{maxTabularTokens, maxTabularPlaces, maxSpanWor
 use Rattle.lookahead.specs.Elements.{weight, total}
 use Rattle.families.specs.Lists.{listed}
 use Rattle.families.proofs.Lists.{listed-long, listed-at}
-use Rattle.recognizer.proofs.Front.{front, front-more}
+use Rattle.promises.proofs.Front.{front, front-more}
 use Rattle.tabular_promises.specs.Spans.{spansBefore, spanCount, indexOf, rows, spanWords, Spans}
 
 -- the spans before a place

@@ -21,8 +21,9 @@ use Rattle.semantics.specs.Valuations.{Valuation, Solves}
 use Rattle.semantics.specs.LeftRecursion.{NoLeftRecursion}
 use Rattle.semantics.specs.Strings.{Over}
 use Rattle.semantics.specs.Theorems.{OneSolution}
-use Rattle.recognizer_promises.specs.Memory.{lentBack}
-use Rattle.recognizer_promises.specs.Properties.{AllProductive, PassedGrammar, LowestRecursive, LowestUnproductive, Judges}
+use Rattle.promises.specs.Memory.{lentBack}
+use Rattle.promises.specs.Places.{AllProductive, LowestRecursive, LowestUnproductive}
+use Rattle.recognizer_promises.specs.Properties.{PassedGrammar, Judges}
 use Rattle.tabular_promises.specs.Spans.{indexOf}
 use Rattle.tabular_promises.specs.Answers.{tabularFault, noCalls, tabularVerdict, tabularNumbers, tabularWords}
 
