@@ -12,8 +12,8 @@ use Rattle.semantics.specs.Claims.{clashes}
 use Rattle.semantics.specs.Predictive.{Predictive}
 use Rattle.semantics.proofs.FirstNullable.{cut-none}
 use Rattle.semantics.proofs.Claims.{clashes-elim, clashes-make, everyEnds-elim, everyEnds-make}
-use Rattle.widening.specs.Widening.{Narrows}
-use Rattle.widening.proofs.Narrowing.{narrows}
+use Rattle.agreement.specs.Widening.{Narrows}
+use Rattle.agreement.proofs.Narrowing.{narrows}
 
 none-listed : (l : List Entry) → ((e : Entry) → List·Memᴰ e l → ⊥) → l ≡ []
 none-listed [] h = refl

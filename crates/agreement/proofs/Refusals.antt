@@ -33,8 +33,8 @@ use Rattle.table.proofs.FirstClash.{clash-absent}
 use Rattle.recognizer_promises.specs.Answers.{checkFaultBy, inputFaults, judgeFaultBy}
 use Rattle.recognizer_promises.specs.Properties.{PassedBy}
 use Rattle.recognizer_promises.proofs.Checking.{read-some, passed-read, passed-predictive}
-use Rattle.widening.specs.Widening.{NoConflict, NeverConflicts}
-use Rattle.widening.proofs.Enough.{enough}
+use Rattle.agreement.specs.Widening.{NoConflict, NeverConflicts}
+use Rattle.agreement.proofs.Enough.{enough}
 
 -- the rows of the faults with two tokens, one by one: none is a 9
 abbrev Quiet : Option Error → Type 0

@@ -14,7 +14,7 @@ use Rattle.semantics.specs.FirstFollow.{First, Follow}
 use Rattle.semantics.proofs.Strings.{take-cut, take-short, all-take}
 use Rattle.semantics.proofs.First.{first-closed, first-smallest}
 use Rattle.semantics.proofs.Follow.{follow-closed, follow-smallest}
-use Rattle.widening.specs.Widening.{Narrows}
+use Rattle.agreement.specs.Widening.{Narrows}
 
 module _ (j k : ℕ) (shorter : j ≤ k) where
   -- to cut a concatenation further is to concatenate what is cut further

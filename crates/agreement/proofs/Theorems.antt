@@ -12,10 +12,10 @@ use Rattle.table.specs.Layout.{tableRoom}
 use Rattle.recognizer_promises.specs.Answers.{tableTooShort, checkFaultBy}
 use Rattle.recognizer_promises.proofs.Checking.{passed-fault}
 use Rattle.recognizer_promises.proofs.JudgeFaults.{judged-readable}
-use Rattle.widening.specs.Widening.{Theorems}
-use Rattle.widening.proofs.Narrowing.{narrows}
-use Rattle.widening.proofs.Enough.{enough}
-use Rattle.widening.proofs.Refusals.{never-conflicts}
+use Rattle.agreement.specs.Widening.{Theorems}
+use Rattle.agreement.proofs.Narrowing.{narrows}
+use Rattle.agreement.proofs.Enough.{enough}
+use Rattle.agreement.proofs.Refusals.{never-conflicts}
 
 -- a check that passes finds no fault in the grammar
 checked-fault : (words : List ℕ) (table : ℕ) → checkFaultBy One table words ≡ none → fault One words ≡ none
