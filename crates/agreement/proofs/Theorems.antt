@@ -1,4 +1,4 @@
--- The theorems of specs/Widening, each by citing the file that proves it.
+-- The theorems of specs/Theorems, each by citing the file that proves it.
 use mathlib.Core.Path.{_≡_}
 use mathlib.Core.List.{List, _∷_}
 use mathlib.Core.Option.{none}
@@ -12,10 +12,11 @@ use Rattle.table.specs.Layout.{tableRoom}
 use Rattle.recognizer_promises.specs.Answers.{tableTooShort, checkFaultBy}
 use Rattle.recognizer_promises.proofs.Checking.{passed-fault}
 use Rattle.recognizer_promises.proofs.JudgeFaults.{judged-readable}
-use Rattle.agreement.specs.Widening.{Theorems}
+use Rattle.agreement.specs.Theorems.{Theorems}
 use Rattle.agreement.proofs.Narrowing.{narrows}
 use Rattle.agreement.proofs.Enough.{enough}
 use Rattle.agreement.proofs.Refusals.{never-conflicts}
+use Rattle.agreement.proofs.Agreeing.{same-verdict, same-as-tabular}
 
 -- a check that passes finds no fault in the grammar
 checked-fault : (words : List ℕ) (table : ℕ) → checkFaultBy One table words ≡ none → fault One words ≡ none
@@ -29,4 +30,6 @@ theorems = record {
   enough = enough;
   passed = λ words table e. never-conflicts words (passed-fault words (checked-fault words table e));
   judged = λ words table memo input e. never-conflicts words (passed-fault words (judged-readable words input table memo e .0));
+  lookaheads = same-verdict;
+  tabular = same-as-tabular;
 }

@@ -1,1 +1,2 @@
-// Longer lookaheads: definitions in specs/, theorems in proofs/, no code. specs/Widening.antt states all theorems on one page.
+// Where two judges both judge, they agree, with two lookaheads and with the tabular judge: definitions in specs/, theorems in proofs/, no
+// code. specs/Theorems.antt states all theorems on one page.

@@ -1,3 +1,4 @@
 pub mod Memory
+pub mod Places
 pub mod Verdicts
 pub mod Front

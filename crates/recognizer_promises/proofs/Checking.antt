@@ -59,19 +59,13 @@ use Rattle.table.proofs.Padded.{padded-long}
 use Rattle.table.proofs.Words.{table-long}
 use Rattle.table.proofs.Analyzing.{admitted-words}
 use Rattle.promises.specs.Memory.{lentBack}
+use Rattle.promises.proofs.Memory.{refused-stays, faultless-lends}
 use Rattle.recognizer_promises.specs.Memory.{LendGiven, Lent}
 use Rattle.recognizer_promises.specs.Answers.{tableTooShort, checkFaultBy}
 use Rattle.recognizer_promises.specs.Judging.{TableFound}
 use Rattle.recognizer_promises.specs.Properties.{PassedBy, PassedGrammar, LeastFamiliesBy, ChecksBy}
-use Rattle.recognizer_promises.proofs.Places.{check-tells, encodes-taken, fault-encoded, places}
-
-pub none-left : (o : Option ℕ) → leftFault o ≡ none → o ≡ none
-none-left none e = refl
-none-left (some A) e = absurd (omega (arith, fault-number e))
-
-none-unproductive : (o : Option ℕ) → unproductiveFault o ≡ none → o ≡ none
-none-unproductive none e = refl
-none-unproductive (some A) e = absurd (omega (arith, fault-number e))
+use Rattle.promises.proofs.Places.{check-tells, none-left, none-unproductive}
+use Rattle.recognizer_promises.proofs.Places.{encodes-taken, fault-encoded, places}
 
 none-clash : (k : Lookahead) (r : Conflict) → clashFault k r ≡ none → r ≡ Absent
 none-clash k Absent e = refl
@@ -210,7 +204,7 @@ module _ (k : Lookahead) where
         );
     places = λ long short G e fits.
         places k G (e .formed .scoped) (fits-few k G e fits)
-        (check-tells k _ (a ∙ ap (λ f. refusedOr f Passed) (check-fault-long k (length before) words long ∙ fault-encoded k words G short e fits)));
+        (check-tells _ (a ∙ ap (λ f. refusedOr f Passed) (check-fault-long k (length before) words long ∙ fault-encoded k words G short e fits)));
     least = families (tokens k);
   }
 
@@ -280,10 +274,10 @@ module _ {k : Lookahead} (words before : List ℕ) (long : tableRoom k ≤ lengt
   pub check-passed : {after : List ℕ} → Lent k before laid z after → ChecksBy k words before Passed after
   check-passed l =
       let c : checkFaultBy k (length before) words ≡ none = check-fault-long k (length before) words long ∙ f .faultless in
-      checks k (sym (ap (λ y. refusedOr y Passed) c)) (lent-table l ∙ sym (ap (λ y. lentBack y (tableWords k (grammarOf words)) before) c))
+      checks k (sym (ap (λ y. refusedOr y Passed) c)) (lent-table l ∙ sym (faultless-lends (tableWords k (grammarOf words)) before c))
 
 pub check-refused : {k : Lookahead} (words before : List ℕ) → tableRoom k ≤ length before → {x : Error} → fault k words ≡ some x
     → ChecksBy k words before (Refused x) before
 check-refused {k} words before long {x} f =
     let c : checkFaultBy k (length before) words ≡ some x = check-fault-long k (length before) words long ∙ f in
-    checks k (sym (ap (λ y. refusedOr y Passed) c)) (sym (ap (λ y. lentBack y (tableWords k (grammarOf words)) before) c))
+    checks k (sym (ap (λ y. refusedOr y Passed) c)) (refused-stays (tableWords k (grammarOf words)) before c)

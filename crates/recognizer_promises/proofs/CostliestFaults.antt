@@ -33,6 +33,7 @@ use Rattle.semantics.specs.Strings.{Over}
 use Rattle.table.specs.Layout.{tableWords}
 use Rattle.table.specs.Analysis.{grammarFaults, fault}
 use Rattle.promises.specs.Memory.{lentBack}
+use Rattle.promises.proofs.Memory.{refused-stays, faultless-lends}
 use Rattle.recognizer_promises.specs.Memory.{memoWords, Lent}
 use Rattle.recognizer_promises.specs.Answers.{judgeFault, inputFaults, passedUnless, withInput, verdictOf, verdictNumbers}
 use Rattle.recognizer_promises.specs.Judging.{TableFound, JudgedPassed}
@@ -67,9 +68,9 @@ module _ (words : List ℕ) (k : ℕ) (log table memo : List ℕ) where
       record {
         answer = sym (ap (λ y. refusedOr y (verdictOf G w)) f);
         told = sym (ap (λ y. toldOr y (verdictNumbers G w)) f);
-        lent-log = sym (ap (λ y. lentBack y w log) f);
-        lent-table = sym (ap (λ y. lentBack y (tableWords One G) table) f);
-        lent-memo = sym (ap (λ y. lentBack y (memoWords G w) memo) f);
+        lent-log = refused-stays w log f;
+        lent-table = refused-stays (tableWords One G) table f;
+        lent-memo = refused-stays (memoWords G w) memo f;
         judges = λ e. absurd (none-some (sym e ∙ f));
         costliest = λ e. absurd (none-some (sym e ∙ f));
         undirected = λ e. absurd (none-some (sym e ∙ f));
@@ -168,7 +169,7 @@ module _ (words : List ℕ) (k : ℕ) (log table memo : List ℕ) where
                   answer = j .answer ∙ ap (λ y. refusedOr y (verdictOf G w)) v;
                   told = j .told ∙ ap (λ y. toldOr y (verdictNumbers G w)) v;
                   lent-log =
-                      ap (λ y. y ++ drop k log) e ∙ ap (λ i. w ++ drop i log) (sym (o .long)) ∙ sym (ap (λ y. lentBack y w log) unrefused);
+                      ap (λ y. y ++ drop k log) e ∙ ap (λ i. w ++ drop i log) (sym (o .long)) ∙ sym (faultless-lends w log unrefused);
                   lent-table = j .lent-table ∙ ap (λ y. lentBack y (tableWords One G) table) v;
                   lent-memo = j .lent-memo ∙ ap (λ y. lentBack y (memoWords G w) memo) v;
                   judges = λ _. j;

@@ -39,6 +39,7 @@ use Rattle.table.specs.Layout.{tableWords, tableRoom}
 use Rattle.families.specs.declared.Finding.{Finding}
 use Rattle.families.specs.declared.Finding.the-variants as finding
 use Rattle.promises.specs.Memory.{lentBack}
+use Rattle.promises.proofs.Memory.{refused-stays, faultless-lends}
 use Rattle.recognizer_promises.specs.Memory.{memoWordBy, memoWordsBy, Lent}
 use Rattle.event.specs.Events.{inputOf}
 use Rattle.event.specs.Unknown.{unknownFrom}
@@ -47,7 +48,8 @@ use Rattle.recognizer_promises.specs.Answers.{judgeFaultBy, inputFaults,
 use Rattle.recognizer_promises.specs.Judging.{TableFound, PassedGiven, DescendGiven, Descended, JudgedPassed}
 use Rattle.recognizer_promises.specs.Properties.{PassedBy, Readable, RecognizesBy, JudgesBy}
 use Rattle.recognizer_promises.proofs.Checking.{fits-few, passed-fault-for, passed-free, passed-predictive, fault-passed, Told, found, found-fault, lent-table}
-use Rattle.recognizer_promises.proofs.Places.{judge-tells, fault-encoded, places}
+use Rattle.promises.proofs.Places.{judge-tells}
+use Rattle.recognizer_promises.proofs.Places.{fault-encoded, places}
 use Rattle.recognizer_promises.proofs.JudgeFaults.{judge-fault-long, grammar-fault, input-fault, readable-faultless, faultless-readable, judged-checked, PassedWith, RefusedWith, byGrammar, byFaults, with-passed, with-refused}
 use Rattle.recognizer_promises.proofs.Meaning.{meaning}
 
@@ -82,7 +84,7 @@ module _ (k : Lookahead) (words input table memo : List ℕ) (long : tableRoom k
   entries memo′ m =
       let written = memoWordsBy n G input in
       let recorded = meaning k words input (verdictBy n G input) p h refl .memo in
-      subst (EntriesTell G n input) (sym (m ∙ ap (λ y. lentBack y written memo) faultless))
+      subst (EntriesTell G n input) (sym (m ∙ faultless-lends written memo faultless))
       (following .entries G n (passed-predictive words p) input (h .tokens) (omega (arith, h .short)) written recorded (drop (length written) memo))
 
 -- the promise from the answer and the memories
@@ -106,7 +108,7 @@ judges {k} {words} {input} {table} {memo} {table′} {memo′} {r} a t m = recor
       let H = grammarOf words in
       let n = tokens k in
       places k G (e .formed .scoped) (fits-few k G e fits)
-      (judge-tells k _ (ltb maxTokens (length input)) (unknownFrom (H .terminals) 0 input) (accepts H (tableChoice H n input) input) (callsBy n H input)
+      (judge-tells _ (ltb maxTokens (length input)) (unknownFrom (H .terminals) 0 input) (accepts H (tableChoice H n input) input) (callsBy n H input)
       (a ∙ ap (λ f. refusedOr f (verdictBy n H input)) (judge-fault-long k words input table memo long room (fault-encoded k words G few e fits))));
   as-checked = λ e c checked q.
       t ∙ ap (λ y. lentBack y (tableWords k (grammarOf words)) table) (e ∙ sym (judged-checked k words input (length table) (length memo) e)) ∙ sym (q .table);
@@ -117,8 +119,8 @@ judges {k} {words} {input} {table} {memo} {table′} {memo′} {r} a t m = recor
 pub judge-refused : {k : Lookahead} {words input table memo : List ℕ} {x : Error} → judgeFaultBy k (length table) (length memo) words input ≡ some x
     → JudgesBy k words input table memo (Refused x) table memo
 judge-refused {k} {words} {input} {table} {memo} f =
-    judges (sym (ap (λ y. refusedOr y (verdictBy (tokens k) (grammarOf words) input)) f)) (sym (ap (λ y. lentBack y (tableWords k (grammarOf words)) table) f))
-    (sym (ap (λ y. lentBack y (memoWordsBy (tokens k) (grammarOf words) input) memo) f))
+    judges (sym (ap (λ y. refusedOr y (verdictBy (tokens k) (grammarOf words) input)) f)) (refused-stays (tableWords k (grammarOf words)) table f)
+    (refused-stays (memoWordsBy (tokens k) (grammarOf words) input) memo f)
 
 pub memo-count : (n : ℕ) (G : Grammar) (input : List ℕ) → length (memoWordsBy n G input) ≡ pairs G input
 unfolding memoWordsBy
@@ -206,5 +208,5 @@ module _ {k : Lookahead} (words input table memo : List ℕ) (long : tableRoom k
     judge-done l d =
         let e = input-fault k words input table memo long room (judge-found .faultless) unfaulty in
         judges (d .answer ∙ sym (ap (λ y. refusedOr y (verdictBy (tokens k) (grammarOf words) input)) e))
-        (lent-table words table long judge-found l ∙ sym (ap (λ y. lentBack y (tableWords k (grammarOf words)) table) e))
-        (d .lent ∙ sym (ap (λ y. lentBack y (memoWordsBy (tokens k) (grammarOf words) input) memo) e))
+        (lent-table words table long judge-found l ∙ sym (faultless-lends (tableWords k (grammarOf words)) table e))
+        (d .lent ∙ sym (faultless-lends (memoWordsBy (tokens k) (grammarOf words) input) memo e))

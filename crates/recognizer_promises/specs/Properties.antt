@@ -139,11 +139,6 @@ DirectionsIgnored k =
     → JudgesBy k words (inputOf events) table memo r table′ memo′ → JudgesBy k words (inputOf turned) table memo s table″ memo″
     → (r ≡ s) × (table′ ≡ table″) × (memo′ ≡ memo″)
 
--- both lookaheads judge by the one meaning, so where both give a verdict it is the same
-abbrev pub SameVerdict : Type 0
-SameVerdict =
-    (k l : ℕ) (words input : List ℕ) (r s : Answer) → RecognizesBy k words input r → RecognizesBy l words input s → numbers r .verdict ≡ numbers s .verdict
-
 -- with one token of lookahead (document 01)
 abbrev pub PassedGrammar : List ℕ → Type 0
 PassedGrammar = PassedBy One

@@ -10,14 +10,13 @@ use lib.Dec.{ltb}
 use lib.ListN.{length, getD, drop, List·getD-append}
 use borrow.Author.Tests.{lt-ltb, le-ltb}
 use Rattle.answer.specs.declared.Error.{Error}
-use Rattle.answer.specs.declared.Error.the-variants.{LeftRecursive, Conflict, InputTooLong, UnknownToken, SpansTooShort}
-use Rattle.answer.specs.declared.Calls.{Calls}
+use Rattle.answer.specs.declared.Error.the-variants.{Conflict, InputTooLong, UnknownToken, SpansTooShort}
 use Rattle.answer.specs.declared.Answer.{Answer}
 use Rattle.answer.specs.declared.Answer.the-variants.{Refused, Accepted, Rejected}
 use Rattle.answer.specs.Numbers.{accepted, rejected, coded, numbers, answered}
 use Rattle.answer.specs.Faults.{firstFault, refusedOr, toldOr}
 use Rattle.answer.proofs.Apart.{answer-number}
-use Rattle.answer.proofs.Faults.{each-none, numbers-told}
+use Rattle.answer.proofs.Faults.{none-some, each-none, numbers-told}
 use Rattle.booleans.specs.Choice.{choose}
 use Rattle.event.specs.Events.{inputOf}
 use Rattle.event.specs.Unknown.{unknownFrom}
@@ -25,7 +24,7 @@ use Rattle.event.specs.declared.Unknown.{Unknown}
 use Rattle.event.specs.declared.Unknown.the-variants.{Absent, At}
 use Rattle.event.proofs.Inputs.{input-length}
 use Rattle.event.proofs.Known.{known-absent, absent-known, token-below}
-use Rattle.grammar.specs.Limits.{maxWords, maxNonterminals, maxTableWords, maxMemoEntries, maxTabularTokens, maxSpanWords}
+use Rattle.grammar.specs.Limits.{maxWords, maxNonterminals, maxTabularTokens, maxSpanWords}
 use Rattle.grammar.specs.Syntax.{Grammar}
 use Rattle.grammar.specs.Encoding.{grammarOf}
 use Rattle.grammar.specs.Reading.{reading}
@@ -43,16 +42,14 @@ use Rattle.semantics.specs.Valuations.{Valuation, Solves, solution}
 use Rattle.semantics.specs.LeftRecursion.{NoLeftRecursion, lowestLeftRecursive}
 use Rattle.semantics.specs.Productive.{lowestUnproductive}
 use Rattle.semantics.proofs.Theorems.{theorems}
-use Rattle.families.specs.Analysis.{leftFault, unproductiveFault, setsFaults, setsFault, setsIf, familiesOf}
+use Rattle.families.specs.Analysis.{setsFaults, setsFault, setsIf, familiesOf}
 use Rattle.families.specs.Lists.{listed}
 use Rattle.families.specs.Sets.{reachNumber}
 use Rattle.families.specs.declared.Families.{Families}
 use Rattle.promises.specs.Memory.{lentBack}
-use Rattle.recognizer_promises.specs.Properties.{PassedGrammar, Judges}
-use Rattle.recognizer_promises.proofs.Checking.{none-left}
+use Rattle.promises.proofs.Memory.{refused-stays, faultless-lends}
 use Rattle.promises.proofs.Verdicts.{verdict-tells}
-use Rattle.table.specs.declared.conflicts.Conflict.the-variants.{Absent}
-use Rattle.recognizer_promises.proofs.Places.{Tells, judge-tells, grammarFault, left-told, unproductive-told}
+use Rattle.promises.proofs.Places.{Tells, Other, judge-tells, none-left, faultBy, lowest-recursive, lowest-unproductive}
 use Rattle.tabular_promises.specs.Spans.{indexOf, spanWords, solutionWord}
 use Rattle.tabular_promises.specs.Answers.{tabularFault, noCalls, told, tabularVerdict, tabularNumbers, tabularWords}
 use Rattle.tabular_promises.specs.Judging.{TabulateGiven, Tabulated, PassedGiven}
@@ -87,17 +84,11 @@ faultless-free words z r e =
     theorems .left-recursion-decided (grammarOf words) (read-encodes words z r .1 .formed .scoped) .absent .0
     (none-left (lowestLeftRecursive (grammarOf words)) (each-none (setsFaults One words) e .1 .0))
 
--- the fault of a grammar that has been read, as where no entry clashes
+-- the fault of a grammar that has been read
 fault-encoded : (words : List ℕ) (G : Grammar) → length words ≤ maxWords → Encodes words G
-    → setsFault One words ≡ grammarFault One (lowestLeftRecursive G) (lowestUnproductive G 1) Absent
+    → setsFault One words ≡ faultBy [] (lowestLeftRecursive G) (lowestUnproductive G 1)
 unfolding setsFault
-fault-encoded words G short e =
-    rw (encodes-read words G short e, encodes-grammar words G e) (alone (leftFault (lowestLeftRecursive G)) (unproductiveFault (lowestUnproductive G 1)))
-  where
-    alone : (f g : Option Error) → firstFault (f ∷ g ∷ []) ≡ firstFault (f ∷ g ∷ none ∷ [])
-    alone none none = refl
-    alone none (some x) = refl
-    alone (some x) g = refl
+fault-encoded words G short e = rw (encodes-read words G short e, encodes-grammar words G e)
 
 -- the lent words of the spans
 module _ (words input before : List ℕ) {after : List ℕ} (m : after ≡ tabularWords (grammarOf words) input ++ drop (length (tabularWords (grammarOf words) input)) before) where
@@ -121,12 +112,6 @@ module _ (words input before : List ℕ) {after : List ℕ} (m : after ≡ tabul
   other-of i j h k A a =
       rw (word-of i j h k, has-total (grammarOf words .nonterminals) (λ B. solution (grammarOf words) input B i j) A, le-ltb A (grammarOf words .nonterminals) a)
 
--- two answers by one test
-same-told : (b : Bool) {c c′ : Calls} {d r : Answer} → (b ≡ true → d ≡ Accepted c) → (b ≡ false → d ≡ Rejected c) → (b ≡ true → r ≡ Accepted c′)
-    → (b ≡ false → r ≡ Rejected c′) → numbers d .verdict ≡ numbers r .verdict
-same-told true x y u v = rw (x refl, u refl)
-same-told false x y u v = rw (y refl, v refl)
-
 -- what the answer and the words mean
 module _ (words input before : List ℕ) {after : List ℕ} {r : Answer} (p : FreeGrammar words) (h : ShortInput words input)
     (a : r ≡ tabularVerdict (grammarOf words) input)
@@ -145,18 +130,6 @@ module _ (words input before : List ℕ) {after : List ℕ} {r : Answer} (p : Fr
   unfolding tabularVerdict
   tells v s = verdict-tells {r = r} (whole v) noCalls (a ∙ ap told (sym (one v s 0 0 (length input) start (omega arith) (omega arith))))
 
-  solved : Solves (grammarOf words) input (solution (grammarOf words) input)
-  solved = theorems .one-solution (grammarOf words) (free-encodes words p .formed .scoped) (free-free words p) input .solves
-
-  -- the descent has the same verdict: both go by the one solution
-  same-verdict : PassedGrammar words → (table memo table′ memo′ : List ℕ) (d : Answer) → Judges words input table memo d table′ memo′
-      → maxTableWords ≤ length table → maxMemoEntries ≤ length memo → numbers d .verdict ≡ numbers r .verdict
-  same-verdict q table memo table′ memo′ d j lt lm =
-      let k = j .recognizes lt lm q record { short = omega (arith, h .short); tokens = h .tokens } in
-      let t = tells (solution (grammarOf words) input) solved in
-      same-told (whole (solution (grammarOf words) input)) (k .accepted (solution (grammarOf words) input) solved .1)
-      (k .rejected (solution (grammarOf words) input) solved .1) (t .0 .1) (t .1 .1)
-
   tabulates : Tabulates words input r after
   tabulates = record {
     one-solution = theorems .one-solution (grammarOf words) (free-encodes words p .formed .scoped) (free-free words p) input;
@@ -164,7 +137,6 @@ module _ (words input before : List ℕ) {after : List ℕ} {r : Answer} (p : Fr
     rejected = λ v s. tells v s .1;
     span = λ v s i j ij jn A b. bit-of words input before m i j ij jn A b ∙ sym (one v s A i j b ij jn);
     others = other-of words input before m;
-    descent = same-verdict;
   }
 
 -- the numbers of what is answered
@@ -194,44 +166,32 @@ judges {words} {input} {before} {after} {r} a m = record {
       let f = tabularFault (length before) words input in
       ap numbers a ∙ numbers-told f (tabularVerdict (grammarOf words) input) ∙ ap (toldOr f) (verdict-told (grammarOf words) input);
   spans = m;
-  recursive = λ room short G e A.
-      let t = tells room short G e in
-      let decided = theorems .left-recursion-decided G (e .formed .scoped) .lowest A in
-      let left = left-told One (lowestLeftRecursive G) (lowestUnproductive G 1) Absent A in (
-        λ q. let k = decided .0 (left .0 (t .recursive A .0 q)) in record { reaches = k .0; lowest = k .1 },
-        λ k. t .recursive A .1 (left .1 (decided .1 (k .reaches, k .lowest))),
-      );
-  unproductive = λ room short G e A.
-      let t = tells room short G e in
-      let free = theorems .left-recursion-decided G (e .formed .scoped) .absent in
-      let decided = theorems .productive-decided G 1 .lowest A in
-      let empty = unproductive-told One (lowestLeftRecursive G) (lowestUnproductive G 1) Absent A in (
-        λ q.
-            let k = empty .0 (t .unproductive A .0 q) in
-            let l = decided .0 (k .1) in
-            (free .0 (k .0), record { named = l .0; unproductive = l .1; lowest = l .2 }),
-        λ k. t .unproductive A .1 (empty .1 (free .1 (k .0), decided .1 (k .1 .named, k .1 .unproductive, k .1 .lowest))),
-      );
+  recursive = λ room short G e. lowest-recursive [] none-behind 1 G (e .formed .scoped) (tells room short G e);
+  unproductive = λ room short G e. lowest-unproductive [] none-behind 1 G (e .formed .scoped) (tells room short G e);
   conflictless = not-conflict (tabularFault (length before) words input) (fault-other (length before) words input)
       (solution (grammarOf words) input 0 0 (length input)) a;
   tabulates = λ room p h.
       let f = no-fault words input before room (free-faultless words p) (h .short) (known-absent (grammarOf words .terminals) 0 input (h .tokens)) in
       tabulates words input before p h (a ∙ ap (λ y. refusedOr y (tabularVerdict (grammarOf words) input)) f)
-      (m ∙ ap (λ y. lentBack y (tabularWords (grammarOf words) input) before) f);
+      (m ∙ faultless-lends (tabularWords (grammarOf words) input) before f);
 }
   where
+    -- behind 8 and 13 no fault of the grammar is told
+    none-behind : (e : Error) → firstFault [] ≡ some e → Other e
+    none-behind e q = absurd (none-some q)
+
     -- where the lent words are enough, the answer tells the grammar's fault
     tells : maxSpanWords ≤ length before → length words ≤ maxWords → (G : Grammar) → Encodes words G
-        → Tells One (grammarFault One (lowestLeftRecursive G) (lowestUnproductive G 1) Absent) r
+        → Tells (faultBy [] (lowestLeftRecursive G) (lowestUnproductive G 1)) r
     tells room short G e =
-        judge-tells One _ (ltb maxTabularTokens (length input)) (unknownFrom (grammarOf words .terminals) 0 input)
+        judge-tells _ (ltb maxTabularTokens (length input)) (unknownFrom (grammarOf words .terminals) 0 input)
         (solution (grammarOf words) input 0 0 (length input)) noCalls
         (a ∙ ap (λ y. refusedOr y (tabularVerdict (grammarOf words) input)) (fault-long words input before room (fault-encoded words G short e)))
 
 pub judge-refused : {words input before : List ℕ} {x : Error} → tabularFault (length before) words input ≡ some x
     → TabularJudges words input before (Refused x) before
 judge-refused {words} {input} {before} f =
-    judges (sym (ap (λ y. refusedOr y (tabularVerdict (grammarOf words) input)) f)) (sym (ap (λ y. lentBack y (tabularWords (grammarOf words) input) before) f))
+    judges (sym (ap (λ y. refusedOr y (tabularVerdict (grammarOf words) input)) f)) (refused-stays (tabularWords (grammarOf words) input) before f)
 
 pub judge-short : (words input before : List ℕ) → length before < maxSpanWords → TabularJudges words input before (Refused SpansTooShort) before
 judge-short words input before h = judge-refused (spans-short words input before h)
@@ -286,7 +246,7 @@ module _ {words spans reaches : List ℕ} {z : Sizes} (g : PassedGiven words z r
           judges (q ∙ ap told (t .verdict) ∙ sym (ap (λ y. refusedOr y (tabularVerdict (grammarOf words) input)) f))
           (t .memory
           ∙ ap (λ (n : ℕ). spanWords (length input) (solutionWord (grammarOf words) input) ++ drop n spans) (sym (words-long (length input) (solutionWord (grammarOf words) input)))
-          ∙ sym (ap (λ y. lentBack y (tabularWords (grammarOf words) input) spans) f))
+          ∙ sym (faultless-lends (tabularWords (grammarOf words) input) spans f))
 
 -- what judging leaves is settled by the input
 pub directions-ignored : DirectionsIgnored
