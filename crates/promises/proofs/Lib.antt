@@ -1,4 +1,5 @@
 pub mod Memory
 pub mod Places
+pub mod Inputs
 pub mod Verdicts
 pub mod Front

@@ -4,9 +4,10 @@ ghost use Rattle.recognizer_promises.specs.Properties.{Checks, Judges};
 use answer::Answer;
 use answer::Error;
 use families::Finding;
-use findings::with_input;
 use grammar::limits::MEMO_ENTRIES;
 use grammar::limits::TABLE_WORDS;
+use grammar::limits::TOKENS;
+use input_findings::with_input;
 use judging::judge_passed;
 use lending::lend;
 use lookahead::Lookahead;
@@ -49,7 +50,7 @@ pub fn judge(words: &[u32], events: &[u8], table: &mut [u32], memo: &mut [u16]) 
         return Answer::Refused(Error::MemoTooShort);
     }
     let analysis = analyze(words);
-    let finding = with_input(analysis.finding, events);
+    let finding = with_input(analysis.finding, events, TOKENS);
     match finding {
         Finding::Refused(found) => Answer::Refused(found),
         Finding::Passed(sizes) => {

@@ -7,9 +7,10 @@ use super::lending::lend_wide;
 use answer::Answer;
 use answer::Error;
 use families::Finding;
-use findings::with_input;
 use grammar::limits::MEMO_ENTRIES;
+use grammar::limits::TOKENS;
 use grammar::limits::WIDE_TABLE_WORDS;
+use input_findings::with_input;
 use lookahead::Lookahead;
 use table::analyze_wide;
 
@@ -42,7 +43,7 @@ pub fn judge_wide(words: &[u32], events: &[u8], table: &mut [u64], memo: &mut [u
         return Answer::Refused(Error::MemoTooShort);
     }
     let analysis = analyze_wide(words);
-    let finding = with_input(analysis.finding, events);
+    let finding = with_input(analysis.finding, events, TOKENS);
     match finding {
         Finding::Refused(found) => Answer::Refused(found),
         Finding::Passed(sizes) => {

@@ -33,15 +33,17 @@ use Rattle.semantics.specs.Strings.{Over}
 use Rattle.table.specs.Layout.{tableWords}
 use Rattle.table.specs.Analysis.{grammarFaults, fault}
 use Rattle.promises.specs.Memory.{lentBack}
+use Rattle.promises.specs.Inputs.{passedUnless}
+use Rattle.promises.proofs.Inputs.{PassedWith, RefusedWith, byGrammar, byFaults, with-passed, with-refused}
 use Rattle.promises.proofs.Memory.{refused-stays, faultless-lends}
 use Rattle.recognizer_promises.specs.Memory.{memoWords, Lent}
-use Rattle.recognizer_promises.specs.Answers.{judgeFault, inputFaults, passedUnless, withInput, verdictOf, verdictNumbers}
+use Rattle.recognizer_promises.specs.Answers.{judgeFault, inputFaults, withInput, verdictOf, verdictNumbers}
 use Rattle.recognizer_promises.specs.Judging.{TableFound, JudgedPassed}
 use Rattle.recognizer_promises.specs.Properties.{Judges}
 use Rattle.recognizer_promises.specs.Costliest.{callsOn, costliestInput, lengthFaults, costliestFault, withLength, JudgesCostliest}
 use Rattle.recognizer_promises.specs.Search.{SearchGiven, BestJudged}
 use Rattle.recognizer_promises.proofs.Checking.{passed-fault-for, passed-free, Told, found, found-fault}
-use Rattle.recognizer_promises.proofs.JudgeFaults.{input-fault, readable-faultless, PassedWith, RefusedWith, byGrammar, byFaults, with-passed, with-refused}
+use Rattle.recognizer_promises.proofs.JudgeFaults.{input-fault, readable-faultless}
 use Rattle.recognizer_promises.proofs.Judged.{same-terminals, judge-done}
 
 -- what is found of a grammar and a length, as the code finds it

@@ -39,6 +39,7 @@ use Rattle.table.specs.Layout.{tableWords, tableRoom}
 use Rattle.families.specs.declared.Finding.{Finding}
 use Rattle.families.specs.declared.Finding.the-variants as finding
 use Rattle.promises.specs.Memory.{lentBack}
+use Rattle.promises.proofs.Inputs.{PassedWith, RefusedWith, byGrammar, byFaults, with-passed, with-refused}
 use Rattle.promises.proofs.Memory.{refused-stays, faultless-lends}
 use Rattle.recognizer_promises.specs.Memory.{memoWordBy, memoWordsBy, Lent}
 use Rattle.event.specs.Events.{inputOf}
@@ -50,7 +51,7 @@ use Rattle.recognizer_promises.specs.Properties.{PassedBy, Readable, Rec
 use Rattle.recognizer_promises.proofs.Checking.{fits-few, passed-fault-for, passed-free, passed-predictive, fault-passed, Told, found, found-fault, lent-table}
 use Rattle.promises.proofs.Places.{judge-tells}
 use Rattle.recognizer_promises.proofs.Places.{fault-encoded, places}
-use Rattle.recognizer_promises.proofs.JudgeFaults.{judge-fault-long, grammar-fault, input-fault, readable-faultless, faultless-readable, judged-checked, PassedWith, RefusedWith, byGrammar, byFaults, with-passed, with-refused}
+use Rattle.recognizer_promises.proofs.JudgeFaults.{judge-fault-long, grammar-fault, input-fault, readable-faultless, faultless-readable, judged-checked}
 use Rattle.recognizer_promises.proofs.Meaning.{meaning}
 
 -- the numbers of what is answered

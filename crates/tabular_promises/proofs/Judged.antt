@@ -8,21 +8,21 @@ use Prim.Native.Nat.{ℕ, _≤_, _<_}
 use native.Mathlib.Omega.{arith}
 use lib.Dec.{ltb}
 use lib.ListN.{length, getD, drop, List·getD-append}
-use borrow.Author.Tests.{lt-ltb, le-ltb}
+use borrow.Author.Tests.{lt-ltb, le-ltb, ltb-false}
 use Rattle.answer.specs.declared.Error.{Error}
-use Rattle.answer.specs.declared.Error.the-variants.{Conflict, InputTooLong, UnknownToken, SpansTooShort}
+use Rattle.answer.specs.declared.Error.the-variants.{Conflict, InputTooLong, SpansTooShort}
 use Rattle.answer.specs.declared.Answer.{Answer}
-use Rattle.answer.specs.declared.Answer.the-variants.{Refused, Accepted, Rejected}
+use Rattle.answer.specs.declared.Answer.the-variants.{Accepted, Rejected}
+use Rattle.answer.specs.declared.Answer.the-variants as answer
 use Rattle.answer.specs.Numbers.{accepted, rejected, coded, numbers, answered}
 use Rattle.answer.specs.Faults.{firstFault, refusedOr, toldOr}
 use Rattle.answer.proofs.Apart.{answer-number}
-use Rattle.answer.proofs.Faults.{none-some, each-none, numbers-told}
+use Rattle.answer.proofs.Faults.{Faultless, none-some, fault-none, each-none, numbers-told}
 use Rattle.booleans.specs.Choice.{choose}
 use Rattle.event.specs.Events.{inputOf}
-use Rattle.event.specs.Unknown.{unknownFrom}
+use Rattle.event.specs.Unknown.{unknownFrom, unknownFault}
 use Rattle.event.specs.declared.Unknown.{Unknown}
 use Rattle.event.specs.declared.Unknown.the-variants.{Absent, At}
-use Rattle.event.proofs.Inputs.{input-length}
 use Rattle.event.proofs.Known.{known-absent, absent-known, token-below}
 use Rattle.grammar.specs.Limits.{maxWords, maxNonterminals, maxTabularTokens, maxSpanWords}
 use Rattle.grammar.specs.Syntax.{Grammar}
@@ -45,16 +45,20 @@ use Rattle.semantics.proofs.Theorems.{theorems}
 use Rattle.families.specs.Analysis.{setsFaults, setsFault, setsIf, familiesOf}
 use Rattle.families.specs.Lists.{listed}
 use Rattle.families.specs.Sets.{reachNumber}
-use Rattle.families.specs.declared.Families.{Families}
+use Rattle.families.specs.declared.Finding.{Finding}
+use Rattle.families.specs.declared.Finding.the-variants.{Passed, Refused}
+use Rattle.families.proofs.Findings.{FoundFamilies, families-told, families-refused}
+use Rattle.promises.specs.Inputs.{inputFaultsTo}
+use Rattle.promises.proofs.Inputs.{PassedWith, RefusedWith, byGrammar, byFaults, with-passed, with-refused}
 use Rattle.promises.specs.Memory.{lentBack}
 use Rattle.promises.proofs.Memory.{refused-stays, faultless-lends}
 use Rattle.promises.proofs.Verdicts.{verdict-tells}
 use Rattle.promises.proofs.Places.{Tells, Other, judge-tells, none-left, faultBy, lowest-recursive, lowest-unproductive}
 use Rattle.tabular_promises.specs.Spans.{indexOf, spanWords, solutionWord}
 use Rattle.tabular_promises.specs.Answers.{tabularFault, noCalls, told, tabularVerdict, tabularNumbers, tabularWords}
-use Rattle.tabular_promises.specs.Judging.{TabulateGiven, Tabulated, PassedGiven}
+use Rattle.tabular_promises.specs.Judging.{TabulateGiven, Tabulated, FoundGiven}
 use Rattle.tabular_promises.specs.Properties.{FreeGrammar, ShortInput, Tabulates, TabularJudges, DirectionsIgnored}
-use Rattle.tabular_promises.proofs.TabularFaults.{spans-short, fault-long, too-long, unknown-token, no-fault, fault-other}
+use Rattle.tabular_promises.proofs.TabularFaults.{spans-short, fault-long, no-fault, fault-other}
 use Rattle.tabular_promises.proofs.Writing.{index-low, words-long, words-at}
 
 -- a grammar that is taken is the one that is read, so the promises are about that
@@ -76,6 +80,10 @@ module _ (words : List ℕ) (p : FreeGrammar words) where
         theorems .left-recursion-decided (grammarOf words) (free-encodes .formed .scoped) .absent .1 free-free,
         theorems .productive-decided (grammarOf words) 1 .absent .1 (rw (← same-grammar) (p .productive)),
       )
+
+none-unknown : (u : Unknown) → unknownFault u ≡ none → u ≡ Absent
+none-unknown Absent q = refl
+none-unknown (At i) q = absurd (none-some (sym q))
 
 -- without a fault there is no left recursion
 faultless-free : (words : List ℕ) (z : Sizes) → reading words ≡ Read z → setsFault One words ≡ none → NoLeftRecursion (grammarOf words)
@@ -150,7 +158,7 @@ verdict-told G w = go (solution G w 0 0 (length w))
 
 -- an answer that is not a refusal for a conflict, nor a verdict that is one
 not-conflict : (f : Option Error) → ((e : Error) → f ≡ some e → coded e .code ≡ 9 → ⊥) → (b : Bool) {r : Answer} → r ≡ refusedOr f (told b)
-    → (A c : ℕ) → r ≡ Refused (Conflict A c) → ⊥
+    → (A c : ℕ) → r ≡ answer.Refused (Conflict A c) → ⊥
 not-conflict (some x) h b e A c q = h x refl (answer-number (sym e ∙ q))
 not-conflict none h true e A c q = omega (arith, answer-number (sym e ∙ q))
 not-conflict none h false e A c q = omega (arith, answer-number (sym e ∙ q))
@@ -189,64 +197,80 @@ judges {words} {input} {before} {after} {r} a m = record {
         (a ∙ ap (λ y. refusedOr y (tabularVerdict (grammarOf words) input)) (fault-long words input before room (fault-encoded words G short e)))
 
 pub judge-refused : {words input before : List ℕ} {x : Error} → tabularFault (length before) words input ≡ some x
-    → TabularJudges words input before (Refused x) before
+    → TabularJudges words input before (answer.Refused x) before
 judge-refused {words} {input} {before} f =
     judges (sym (ap (λ y. refusedOr y (tabularVerdict (grammarOf words) input)) f)) (refused-stays (tabularWords (grammarOf words) input) before f)
 
-pub judge-short : (words input before : List ℕ) → length before < maxSpanWords → TabularJudges words input before (Refused SpansTooShort) before
+pub judge-short : (words input before : List ℕ) → length before < maxSpanWords → TabularJudges words input before (answer.Refused SpansTooShort) before
 judge-short words input before h = judge-refused (spans-short words input before h)
 
 pub judge-faulty : (words input before : List ℕ) {x : Error} → maxSpanWords ≤ length before → setsFault One words ≡ some x
-    → TabularJudges words input before (Refused x) before
+    → TabularJudges words input before (answer.Refused x) before
 judge-faulty words input before room f = judge-refused (fault-long words input before room f)
 
--- what is left-reached is found with the sets
-pub found-reaches : (words : List ℕ) {r : Families} → r ≡ familiesOf One words → setsFault One words ≡ none
-    → r .reaches ≡ listed maxNonterminals (reachNumber (grammarOf words))
-unfolding familiesOf
-found-reaches words e k = ap (λ x. x .reaches) e ∙ ap (λ f. setsIf f (listed maxNonterminals (reachNumber (grammarOf words)))) k
+-- by what is found of the grammar and the input
+module _ {words input spans reaches : List ℕ} {f : Finding} (g : FoundGiven words f reaches input spans) where
+  abbrev faults : ℕ → List (Option Error)
+  faults n = inputFaultsTo maxTabularTokens n input
 
--- an input of terminals, and a grammar that is not refused
-module _ {words spans reaches : List ℕ} {z : Sizes} (g : PassedGiven words z reaches spans) (events : List ℕ) where
-  abbrev input : List ℕ
-  input = inputOf events
+  -- of a grammar that passed: its sizes, no fault, and what its nonterminals left-reach
+  module _ {z : Sizes} (p : g .families .finding ≡ Passed z) where
+    told-sets : FoundFamilies One words z (g .families .firsts) (g .families .follows)
+    told-sets = families-told One words (g .found) p
 
-  pub judge-long : maxTabularTokens < length events → TabularJudges words input spans (Refused InputTooLong) spans
-  judge-long h = judge-refused (too-long words input spans (g .room) (g .faultless) (omega (arith, input-length events)))
+    terminals : z .terminals ≡ grammarOf words .terminals
+    terminals = well-read words z (told-sets .read) .terminals
 
-  module _ (short : length events ≤ maxTabularTokens) {u : Unknown} (e : u ≡ unknownFrom (z .terminals) 0 input) where
-    short-input : length input ≤ maxTabularTokens
-    short-input = omega (arith, input-length events)
+    found-reaches : reaches ≡ listed maxNonterminals (reachNumber (grammarOf words))
+    unfolding familiesOf
+    found-reaches =
+        g .reached ∙ ap (λ x. x .reaches) (g .found) ∙ ap (λ o. setsIf o (listed maxNonterminals (reachNumber (grammarOf words)))) (told-sets .faultless)
 
-    searched : u ≡ unknownFrom (grammarOf words .terminals) 0 input
-    searched = e ∙ ap (λ n. unknownFrom n 0 input) (well-read words z (g .read) .terminals)
+    by-input : {o : Option Error} → firstFault (faults (z .terminals)) ≡ o → tabularFault (length spans) words input ≡ o
+    by-input e = fault-long words input spans (g .room) (told-sets .faultless) ∙ rw (← terminals) e
 
-    pub judge-unknown : {at : ℕ} → u ≡ At at → TabularJudges words input spans (Refused (UnknownToken at)) spans
-    judge-unknown a = judge-refused (unknown-token words input spans (g .room) (g .faultless) short-input (sym a ∙ searched))
+  pub judge-found-refused : {x : Error} → f ≡ Refused x → TabularJudges words input spans (answer.Refused x) spans
+  judge-found-refused {x} q = go (with-refused (g .families .finding) faults (sym (g .finding) ∙ q))
+    where
+      go : RefusedWith (g .families .finding) faults x → TabularJudges words input spans (answer.Refused x) spans
+      go (byGrammar h) = judge-faulty words input spans (g .room) (families-refused One words (g .found) h)
+      go (byFaults z h i) = judge-refused (by-input h i)
 
-    module _ (a : u ≡ Absent) where
-      pub tabulate-given : TabulateGiven words z reaches input spans
-      tabulate-given =
-          let k = well-read words z (g .read) in
-          let known = absent-known (z .terminals) 0 input (sym e ∙ a) in
-          record {
-            given = record {
-              read = g .read;
-              free = faultless-free words z (g .read) (g .faultless);
-              reached = g .reached;
-              input = record { short = short-input; terminals = λ i l. omega (arith, token-below (z .terminals) input known i l, k .fewTerminals) };
+  module _ {z : Sizes} (q : f ≡ Passed z) where
+    both : PassedWith (g .families .finding) faults z
+    both = with-passed (g .families .finding) faults (sym (g .finding) ∙ q)
+
+    unfaulty : Faultless (faults (z .terminals))
+    unfaulty = each-none (faults (z .terminals)) (both .faultless)
+
+    pub tabulate-given : TabulateGiven words z reaches input spans
+    tabulate-given =
+        let read = told-sets (both .grammar) .read in
+        let k = well-read words z read in
+        let known = absent-known (z .terminals) 0 input (none-unknown (unknownFrom (z .terminals) 0 input) (unfaulty .1 .0)) in
+        record {
+          given = record {
+            read = read;
+            free = faultless-free words z read (told-sets (both .grammar) .faultless);
+            reached = found-reaches (both .grammar);
+            input = record {
+              short = ltb-false maxTabularTokens (length input) (fault-none (ltb maxTabularTokens (length input)) InputTooLong (unfaulty .0));
+              terminals = λ i l. omega (arith, token-below (z .terminals) input known i l, k .fewTerminals);
             };
-            room = g .room;
-          }
+          };
+          room = g .room;
+        }
 
-      pub judge-done : {after : List ℕ} {b : Bool} {r : Answer} → Tabulated words input spans b after → r ≡ told b → TabularJudges words input spans r after
-      unfolding tabularVerdict tabularWords
-      judge-done {after} {b} {r} t q =
-          let f = no-fault words input spans (g .room) (g .faultless) short-input (sym searched ∙ a) in
-          judges (q ∙ ap told (t .verdict) ∙ sym (ap (λ y. refusedOr y (tabularVerdict (grammarOf words) input)) f))
-          (t .memory
-          ∙ ap (λ (n : ℕ). spanWords (length input) (solutionWord (grammarOf words) input) ++ drop n spans) (sym (words-long (length input) (solutionWord (grammarOf words) input)))
-          ∙ sym (faultless-lends (tabularWords (grammarOf words) input) spans f))
+    pub judge-done : {after : List ℕ} {b : Bool} {r : Answer} → Tabulated words input spans b after → r ≡ told b → TabularJudges words input spans r after
+    unfolding tabularVerdict tabularWords
+    judge-done {after} {b} {r} t e =
+        let G = grammarOf words in
+        let written = tabularWords G input in
+        let none-found = by-input (both .grammar) (both .faultless) in
+        judges (e ∙ ap told (t .verdict) ∙ sym (ap (λ y. refusedOr y (tabularVerdict G input)) none-found))
+        (t .memory
+        ∙ ap (λ (n : ℕ). spanWords (length input) (solutionWord G input) ++ drop n spans) (sym (words-long (length input) (solutionWord G input)))
+        ∙ sym (faultless-lends written spans none-found))
 
 -- what judging leaves is settled by the input
 pub directions-ignored : DirectionsIgnored

@@ -1,5 +1,5 @@
 -- The order of the faults of judging by tabulation: which is the first, by what holds; and that none is a conflict.
-use mathlib.Core.Path.{_≡_, refl, sym, _∙_}
+use mathlib.Core.Path.{_≡_, refl, _∙_}
 use mathlib.Core.Bool.{Bool, true, false}
 use mathlib.Core.List.{List, [], _∷_}
 use mathlib.Core.Option.{Option, none, some}
@@ -46,16 +46,8 @@ module _ (words input before : List ℕ) where
         (faultIf (ltb maxTabularTokens (length input)) InputTooLong ∷ unknownFault (unknownFrom (grammarOf words .terminals) 0 input) ∷ [])
         ∙ rw (le-ltb (length before) maxSpanWords room, e)
 
-    module _ (passed : setsFault One words ≡ none) where
-      pub too-long : maxTabularTokens < length input → judged ≡ some InputTooLong
-      too-long h = fault-long passed ∙ rw (lt-ltb maxTabularTokens (length input) h)
-
-      module _ (short : length input ≤ maxTabularTokens) where
-        pub unknown-token : {at : ℕ} → At at ≡ unknownFrom (grammarOf words .terminals) 0 input → judged ≡ some (UnknownToken at)
-        unknown-token u = fault-long passed ∙ rw (le-ltb maxTabularTokens (length input) short, sym u)
-
-        pub no-fault : unknownFrom (grammarOf words .terminals) 0 input ≡ Absent → judged ≡ none
-        no-fault u = fault-long passed ∙ rw (le-ltb maxTabularTokens (length input) short, u)
+    pub no-fault : setsFault One words ≡ none → length input ≤ maxTabularTokens → unknownFrom (grammarOf words .terminals) 0 input ≡ Absent → judged ≡ none
+    no-fault passed short u = fault-long passed ∙ rw (le-ltb maxTabularTokens (length input) short, u)
 
 -- no row tells a conflict
 abbrev Other : Error → Type 0
