@@ -13,7 +13,7 @@ use Rattle.answer.specs.declared.Error.the-variants.{UnexpectedWord, TooManyTer
 use Rattle.answer.specs.Numbers.{coded}
 use Rattle.answer.specs.Faults.{faultIf, firstFault}
 use Rattle.answer.proofs.Faults.{none-some, EachFault, first-each}
-use Rattle.booleans.specs.Choice.{choose}
+use Rattle.base.specs.Choice.{choose}
 use Rattle.word.specs.Words.{decoded}
 use Rattle.grammar.specs.Limits.{maxWords, maxWideTerminals}
 use Rattle.grammar.specs.Encoding.{grammarOf}

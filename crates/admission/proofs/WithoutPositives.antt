@@ -19,7 +19,7 @@ use Rattle.grammar.specs.declared.reading.Sizes.{Sizes}
 use Rattle.grammar.specs.declared.reading.Progress.{Progress}
 use Rattle.grammar.specs.declared.reading.Outcome.the-variants.{Read}
 use Rattle.grammar.proofs.WellFormed.{Each, none-in, more-in, Shape, step-passed, onward, finished-read, Reads, reads}
-use Rattle.booleans.specs.Choice.{choose}
+use Rattle.base.specs.Choice.{choose}
 use Rattle.admission.specs.declared.Alone.{Alone as Found}
 use Rattle.admission.specs.declared.Alone.the-variants.{Absent, At}
 use Rattle.admission.specs.Admission.{beginsNegative, aloneFrom}

@@ -10,8 +10,8 @@ use Rattle.semantics.specs.Families.{Clash, EveryEnds}
 use Rattle.semantics.specs.FirstFollow.{First, Follow, Entry}
 use Rattle.semantics.specs.Claims.{clashes}
 use Rattle.semantics.specs.Predictive.{Predictive}
-use Rattle.semantics.proofs.FirstNullable.{cut-none}
-use Rattle.semantics.proofs.Claims.{clashes-elim, clashes-make, everyEnds-elim, everyEnds-make}
+use Rattle.base.proofs.LookaheadStrings.{cut-none}
+use Rattle.semantics.proofs.families.Claims.{clashes-elim, clashes-make, everyEnds-elim, everyEnds-make}
 use Rattle.agreement.specs.Widening.{Narrows}
 use Rattle.agreement.proofs.Narrowing.{narrows}
 

@@ -8,12 +8,12 @@ use lib.Seq.{take-take, take-nil}
 use Rattle.word.specs.declared.Symbol.{Symbol}
 use Rattle.word.specs.declared.Symbol.the-variants.{Terminal, Nonterminal}
 use Rattle.grammar.specs.Syntax.{Body, Grammar, WellScoped}
-use Rattle.semantics.specs.Strings.{Lookahead}
+use Rattle.base.specs.Strings.{Lookahead}
 use Rattle.semantics.specs.Families.{Family, FirstOf, FirstBody, FollowBody, OwnTerminals, Claims}
 use Rattle.semantics.specs.FirstFollow.{First, Follow}
-use Rattle.semantics.proofs.Strings.{take-cut, take-short, all-take}
-use Rattle.semantics.proofs.First.{first-closed, first-smallest}
-use Rattle.semantics.proofs.Follow.{follow-closed, follow-smallest}
+use Rattle.base.proofs.Strings.{take-cut, take-short, all-take}
+use Rattle.semantics.proofs.families.First.{first-closed, first-smallest}
+use Rattle.semantics.proofs.families.Follow.{follow-closed, follow-smallest}
 use Rattle.agreement.specs.Widening.{Narrows}
 
 module _ (j k : ℕ) (shorter : j ≤ k) where

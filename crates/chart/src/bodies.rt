@@ -1,7 +1,7 @@
 // A rule read at one span, by a pass over its words from their end.
 ghost use mathlib.Core.Path.{_≡_};
 ghost use mathlib.Core.Bool.{false};
-ghost use Rattle.booleans.specs.Choice.{choose};
+ghost use Rattle.base.specs.Choice.{choose};
 ghost use Rattle.tabular_promises.specs.Scanning.{noneOpen, beforeTerminal, beforeSymbol, scanOnto, keepsBy};
 use super::CHART;
 use super::before;

@@ -2,7 +2,7 @@
 // function requires anything of its numbers.
 ghost use mathlib.Core.Path.{_≡_};
 ghost use lib.Bits.{bitOr};
-ghost use Rattle.booleans.specs.Choice.{choose};
+ghost use Rattle.base.specs.Choice.{choose};
 ghost use Rattle.tabular_promises.specs.Chart.{placesBefore, oneNonterminal, withNonterminal, spanWord};
 use grammar::limits::NONTERMINALS;
 use grammar::limits::TABULAR_PLACES;

@@ -23,8 +23,8 @@ use Rattle.lookahead.specs.declared.Lookahead.{Lookahead}
 use Rattle.lookahead.specs.Lookaheads.{tokens, alphabet}
 use Rattle.lookahead.specs.Operations.{concatNumbers}
 use Rattle.semantics.specs.FirstFollow.{first, follow}
-use Rattle.semantics.proofs.First.{first-lookahead}
-use Rattle.semantics.proofs.Follow.{follow-lookahead}
+use Rattle.semantics.proofs.families.First.{first-lookahead}
+use Rattle.semantics.proofs.families.Follow.{follow-lookahead}
 use Rattle.families.specs.declared.Rest.{Rest}
 use Rattle.families.specs.Sets.{firstNumber, followNumber}
 use Rattle.families.specs.Least.{at as family}

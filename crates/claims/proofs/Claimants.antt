@@ -13,9 +13,9 @@ use Rattle.grammar.specs.Syntax.{Rule, Grammar}
 use Rattle.lookahead.specs.declared.Lookahead.{Lookahead}
 use Rattle.lookahead.specs.Lookaheads.{tokens, elements, stringOf}
 use Rattle.lookahead.specs.Elements.{has}
-use Rattle.booleans.specs.Quantifiers.{anyOf}
-use Rattle.semantics.specs.FiniteSets.{member, numbersFrom, numbers}
-use Rattle.semantics.specs.FirstFollow.{sameString}
+use Rattle.base.specs.Quantifiers.{anyOf}
+use Rattle.base.specs.FiniteSets.{member, numbersFrom, numbers}
+use Rattle.base.specs.Strings.{sameString}
 use Rattle.semantics.specs.Claims.{several, position, claimed, claims, tableOf}
 use Rattle.claims.specs.Claims.{claimNumber, headsOf, claimNumbers, byRule, claimant}
 use Rattle.claims.proofs.RuleClaims.{claim-has}

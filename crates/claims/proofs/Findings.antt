@@ -14,9 +14,9 @@ use Rattle.admission.specs.Admission.{admission}
 use Rattle.families.specs.declared.Finding.the-variants.{Passed, Refused}
 use Rattle.families.specs.declared.Families.{Families}
 use Rattle.families.specs.Analysis.{setsFault, setsIf, familiesOf}
-use Rattle.families.specs.Lists.{listed}
+use Rattle.base.specs.Lists.{listed}
 use Rattle.families.specs.Sets.{firstNumber, followNumber}
-use Rattle.families.proofs.Lists.{listed-is}
+use Rattle.base.proofs.Lists.{listed-is}
 use Rattle.families.proofs.NamedNonterminals.{word-indexed}
 use Rattle.families.proofs.FewTerminals.{admitted-read}
 use Rattle.families.proofs.Findings.{FoundFamilies, told-passed, families-refused}

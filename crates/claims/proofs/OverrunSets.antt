@@ -6,8 +6,8 @@ use Prim.Native.Nat.{ℕ, _≤_, _<_}
 use borrow.Author.Tests.{eq-eqb, ne-eqb}
 use lib.Dec.{T, T-not, eqb, eqb→eq, eqb-refl}
 use lib.ListN.{getD}
-use Rattle.booleans.specs.Quantifiers.{anyOf}
-use Rattle.booleans.proofs.Quantified.{any-elim, any-make}
+use Rattle.base.specs.Quantifiers.{anyOf}
+use Rattle.base.proofs.Quantified.{any-elim, any-make}
 use Rattle.grammar.specs.declared.reading.Sizes.{Sizes}
 use Rattle.grammar.specs.Encoding.{parse, grammarOf}
 use Rattle.grammar.specs.Syntax.{Grammar, WellFormed}
@@ -20,9 +20,10 @@ use Rattle.lookahead.specs.Operations.{end, join}
 use Rattle.lookahead.proofs.Operations.{has-end}
 use Rattle.lookahead.proofs.Order.{join-same, same-join}
 use Rattle.lookahead.proofs.Strings.{string-nothing, is-nothing}
-use Rattle.semantics.specs.FirstFollow.{sameString, followSets}
+use Rattle.base.specs.Strings.{sameString}
+use Rattle.semantics.specs.FirstFollow.{followSets}
 use Rattle.semantics.specs.Claims.{overruns}
-use Rattle.semantics.proofs.LookaheadSets.{strings-equality}
+use Rattle.base.proofs.LookaheadStrings.{strings-equality}
 use Rattle.families.specs.Sets.{followNumber}
 use Rattle.families.proofs.Strings.{string-in, number-element}
 use Rattle.claims.specs.Claims.{FamiliesGiven}

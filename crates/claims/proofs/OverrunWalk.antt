@@ -8,8 +8,8 @@ use native.Mathlib.Omega.{arith}
 use borrow.Author.Tests.{eq-eqb, ne-eqb}
 use lib.ListN.{length, getD, drop, set, replicate, length-set, length-replicate}
 use lib.Seq.{getD-set-same, getD-set-other}
-use Rattle.booleans.specs.Choice.{choose}
-use Rattle.booleans.specs.Quantifiers.{anyOf}
+use Rattle.base.specs.Choice.{choose}
+use Rattle.base.specs.Quantifiers.{anyOf}
 use Rattle.word.specs.declared.Word.{Word}
 use Rattle.word.specs.declared.Word.the-variants.{Heading, Rule as RuleWord, Positive, Negative, Symbol, End, Invalid}
 use Rattle.word.specs.Words.{decoded}
@@ -20,7 +20,7 @@ use Rattle.lookahead.specs.declared.Lookahead.{Lookahead}
 use Rattle.lookahead.specs.Operations.{end, terminal, join}
 use Rattle.semantics.specs.Claims.{without}
 use Rattle.families.specs.Naming.{ruleHead, Indexed}
-use Rattle.families.proofs.Lists.{getD-zeros}
+use Rattle.base.proofs.Lists.{getD-zeros}
 use Rattle.families.proofs.Words.{parse-before, parse-over}
 use Rattle.claims.specs.Overruns.{beyondEnd, aloneIn, overrunSet, aloneFrom, WordOverruns, Overrunning}
 

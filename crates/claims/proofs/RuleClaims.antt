@@ -15,16 +15,16 @@ use Rattle.lookahead.proofs.Strings.{string-after, after-below}
 use Rattle.lookahead.proofs.Pairs.{Pair, pair-concat, concat-pair}
 use Rattle.lookahead.proofs.Order.{subset-antisym}
 use Rattle.lookahead.proofs.Weights.{has-total}
-use Rattle.semantics.specs.Strings.{Lookahead as Looked}
+use Rattle.base.specs.Strings.{Lookahead as Looked, strings, sameString}
 use Rattle.semantics.specs.Families.{FirstRule}
-use Rattle.semantics.specs.FiniteSets.{member}
-use Rattle.semantics.specs.FirstFollow.{strings, sameString, concatStrings, firstSets, firstRule, First, follow, followSets}
+use Rattle.base.specs.FiniteSets.{member}
+use Rattle.semantics.specs.FirstFollow.{concatStrings, firstSets, firstRule, First, follow, followSets}
 use Rattle.semantics.specs.Claims.{meeting, claimed}
-use Rattle.semantics.proofs.FiniteSets.{member-mem, mem-member, keep-make, keep-elim}
-use Rattle.semantics.proofs.LookaheadSets.{strings-equality, strings-make, strings-elim, sets-make, sets-elim, concat-make, concat-elim}
-use Rattle.semantics.proofs.First.{In, firstBody-mono, firstRule-make, firstRule-elim}
-use Rattle.semantics.proofs.First.{first-in, in-first}
-use Rattle.semantics.proofs.Follow.{follow-lookahead}
+use Rattle.base.proofs.FiniteSets.{member-mem, mem-member, keep-make, keep-elim}
+use Rattle.base.proofs.LookaheadStrings.{strings-equality, strings-make, strings-elim}
+use Rattle.semantics.proofs.families.LookaheadSets.{sets-make, sets-elim, concat-make, concat-elim}
+use Rattle.semantics.proofs.families.First.{In, firstBody-mono, firstRule-make, firstRule-elim, first-in, in-first}
+use Rattle.semantics.proofs.families.Follow.{follow-lookahead}
 use Rattle.families.specs.Sets.{numberOf, firstNumber, followNumber}
 use Rattle.families.specs.First.{ruleFirst}
 use Rattle.families.proofs.Strings.{StringIn, string-in, in-string, number-has, has-number}

@@ -18,13 +18,13 @@ use Rattle.lookahead.specs.declared.Lookahead.{Lookahead}
 use Rattle.lookahead.specs.Lookaheads.{tokens}
 use Rattle.lookahead.specs.Elements.{has}
 use Rattle.lookahead.specs.Operations.{concatNumbers}
-use Rattle.semantics.specs.FiniteSets.{member}
-use Rattle.semantics.specs.FirstFollow.{sameString}
+use Rattle.base.specs.FiniteSets.{member}
+use Rattle.base.specs.Strings.{sameString}
 use Rattle.semantics.specs.Claims.{claimed, overruns}
 use Rattle.admission.specs.Admission.{admission}
 use Rattle.families.specs.declared.Finding.{Finding}
 use Rattle.families.specs.Analysis.{setsFault, findingOf, setsIf}
-use Rattle.families.specs.Lists.{listed}
+use Rattle.base.specs.Lists.{listed}
 use Rattle.families.specs.Naming.{Indexed}
 use Rattle.families.specs.Sets.{numberOf, firstNumber, followNumber}
 use Rattle.claims.specs.Overruns.{overrunSet}

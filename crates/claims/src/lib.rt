@@ -3,12 +3,13 @@ ghost use mathlib.Core.Path.{_≡_};
 ghost use Rattle.families.specs.Naming.{ruleHead};
 ghost use Rattle.grammar.specs.Encoding.{grammarOf};
 ghost use Rattle.claims.specs.Claims.{claimsOf, FamiliesGiven, kept, MayClaim, WordClaims, Empty, AllKept};
+use concatenation::concat;
 use families::Finding;
 use families::SETS;
 use grammar::limits::RULES;
 use grammar::reading::Sizes;
 use lookahead::Lookahead;
-use lookahead::LookaheadSet;
+use lookahead_sets::LookaheadSet;
 use overruns::overrunning;
 use rests::no_rest;
 use rests::onto;
@@ -52,7 +53,7 @@ fn claim(
     };
     let rule = behind - 1;
     heads[rule] = head as u8;
-    sets[rule] = meet.concat(lookahead, follow).bits;
+    sets[rule] = concat(meet, lookahead, follow).bits;
     rule
 }
 

@@ -1,14 +1,14 @@
 // The nonterminals that overrun: a rule without positives takes all that is left, yet more than the end can follow.
 ghost use mathlib.Core.Path.{_≡_};
 ghost use mathlib.Core.Bool.{_&&_};
-ghost use Rattle.booleans.specs.Choice.{choose};
+ghost use Rattle.base.specs.Choice.{choose};
 ghost use Rattle.grammar.specs.Encoding.{parse};
 ghost use Rattle.lookahead.specs.Operations.{terminal};
 ghost use Rattle.families.specs.Naming.{ruleHead, Indexed};
 ghost use Rattle.claims.specs.Overruns.{beyondEnd, aloneFrom, WordOverruns, WordsIndexed, Overrunning};
 use families::SETS;
 use lookahead::Lookahead;
-use lookahead::LookaheadSet;
+use lookahead_sets::LookaheadSet;
 use word::Word;
 use word::decode;
 

@@ -16,7 +16,7 @@ use Rattle.answer.specs.Numbers.{coded}
 use Rattle.answer.specs.Faults.{faultIf, refusedOr}
 use Rattle.answer.proofs.Apart.{refusalNumber, answer-number}
 use Rattle.answer.proofs.Faults.{none-some, EachFault, first-each}
-use Rattle.booleans.specs.Choice.{choose}
+use Rattle.base.specs.Choice.{choose}
 use Rattle.grammar.specs.Limits.{maxTokens, maxTableWords, maxMemoEntries}
 use Rattle.grammar.specs.Encoding.{grammarOf}
 use Rattle.grammar.specs.Reading.{reading}

@@ -13,7 +13,7 @@ use Rattle.answer.specs.declared.Error.the-variants.{TableTooShort, MemoTooShor
 use Rattle.answer.specs.Numbers.{coded}
 use Rattle.answer.specs.Faults.{faultIf}
 use Rattle.answer.proofs.Faults.{none-some, fault-none, EachFault, first-each}
-use Rattle.booleans.specs.Choice.{choose}
+use Rattle.base.specs.Choice.{choose}
 use Rattle.grammar.specs.Limits.{maxWords, maxTokens, maxTableWords, maxMemoEntries, maxNonterminals, maxTabularTokens, maxSpanWords}
 use Rattle.grammar.specs.Syntax.{Grammar}
 use Rattle.grammar.specs.Encoding.{grammarOf}
@@ -27,7 +27,7 @@ use Rattle.grammar.specs.declared.reading.Outcome.the-variants.{Read, Faulty}
 use Rattle.grammar.proofs.WellRead.{well-read}
 use Rattle.semantics.specs.LeftRecursion.{leftRecursive, lowestLeftRecursive}
 use Rattle.semantics.specs.Productive.{unproductive, lowestUnproductive}
-use Rattle.booleans.proofs.Quantified.{lowest-some}
+use Rattle.base.proofs.Quantified.{lowest-some}
 use Rattle.families.specs.Analysis.{readingFault, leftFault, unproductiveFault, setsFaults}
 use Rattle.families.proofs.FewTerminals.{admitted-read, few-terminals}
 use Rattle.table.specs.declared.conflicts.Conflict.{Conflict as Clash}

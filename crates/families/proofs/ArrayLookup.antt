@@ -7,7 +7,7 @@ use native.Mathlib.Decide.{decLt}
 use lib.Dec.{ltb}
 use lib.ListN.{length, getD, List·getD-eq-default}
 use borrow.Author.Tests.{lt-ltb, le-ltb}
-use Rattle.booleans.specs.Choice.{choose}
+use Rattle.base.specs.Choice.{choose}
 use Rattle.word.specs.declared.Word.{Word}
 use Rattle.grammar.specs.Limits.{maxNonterminals}
 use Rattle.lookahead.specs.declared.Lookahead.{Lookahead}

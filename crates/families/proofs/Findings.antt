@@ -20,7 +20,7 @@ use Rattle.families.specs.declared.Finding.the-variants.{Passed, Refused
 use Rattle.families.specs.declared.Families.{Families}
 use Rattle.families.specs.declared.Lowest.{Lowest}
 use Rattle.families.specs.declared.Lowest.the-variants as lowest
-use Rattle.families.specs.Lists.{listed}
+use Rattle.base.specs.Lists.{listed}
 use Rattle.families.specs.Flaws.{lowestOf}
 use Rattle.families.specs.Sets.{firstNumber, followNumber, reachNumber}
 use Rattle.families.specs.Analysis.{setsFault, findingOf, setsIf, families, refusedBy, familiesOf}

@@ -5,8 +5,8 @@ use mathlib.Core.List.{List}
 use Prim.Native.Nat.{ℕ, _≤_, _<_}
 use native.Mathlib.Omega.{arith}
 use lib.Dec.{T, ltb, lt→ltb}
-use Rattle.booleans.specs.Quantifiers.{lowest}
-use Rattle.booleans.proofs.Booleans.{T-true, T-none, true-T, both}
+use Rattle.base.specs.Quantifiers.{lowest}
+use Rattle.base.proofs.Booleans.{T-true, T-none, true-T, both}
 use Rattle.grammar.specs.Encoding.{grammarOf}
 use Rattle.grammar.specs.Limits.{maxNonterminals}
 use Rattle.grammar.specs.Reading.{reading}
@@ -23,15 +23,15 @@ use Rattle.lookahead.proofs.Weights.{has-total}
 use Rattle.semantics.specs.FirstFollow.{first}
 use Rattle.semantics.specs.LeftRecursion.{leftReaches, leftRecursive, lowestLeftRecursive}
 use Rattle.semantics.specs.Productive.{unproductive, lowestUnproductive}
-use Rattle.semantics.proofs.First.{first-lookahead}
-use Rattle.semantics.proofs.Productive.{unproductive-iff}
+use Rattle.semantics.proofs.families.First.{first-lookahead}
+use Rattle.semantics.proofs.families.Productive.{unproductive-iff}
 use Rattle.families.specs.declared.Flaw.the-variants.{LeftRecursive, Unproductive}
 use Rattle.families.specs.declared.Lowest.{Lowest}
-use Rattle.families.specs.Lists.{listed}
+use Rattle.base.specs.Lists.{listed}
 use Rattle.families.specs.Sets.{firstNumber, reachNumber}
 use Rattle.families.specs.Flaws.{flawIn, lowestOf}
 use Rattle.families.proofs.FewTerminals.{admitted-read, few-terminals}
-use Rattle.families.proofs.Lists.{listed-at}
+use Rattle.base.proofs.Lists.{listed-at}
 use Rattle.families.proofs.Numbers.{in-number, element-passes}
 use Rattle.families.proofs.LowestTold.{lowest-cong}
 

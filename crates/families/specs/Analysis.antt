@@ -18,7 +18,7 @@ use Rattle.semantics.specs.Productive.{lowestUnproductive}
 use Rattle.families.specs.declared.Finding.{Finding}
 use Rattle.families.specs.declared.Finding.the-variants.{Passed, Refused}
 use Rattle.families.specs.declared.Families.{Families}
-use Rattle.families.specs.Lists.{listed}
+use Rattle.base.specs.Lists.{listed}
 use Rattle.families.specs.Sets.{firstNumber, followNumber, reachNumber}
 
 -- 3 to 7 and 18

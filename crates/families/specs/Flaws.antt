@@ -5,7 +5,7 @@ use Prim.Native.Nat.{ℕ}
 use lib.ListN.{getD}
 use Rattle.lookahead.specs.Elements.{has}
 use Rattle.lookahead.specs.Operations.{isEmpty}
-use Rattle.semantics.specs.Rounds.{NumberSet}
+use Rattle.base.specs.Rounds.{NumberSet}
 use Rattle.families.specs.declared.Flaw.{Flaw}
 use Rattle.families.specs.declared.Flaw.the-variants.{LeftRecursive, Unproductive}
 use Rattle.families.specs.declared.Lowest.{Lowest}

@@ -1,4 +1,3 @@
-pub mod Lists
 pub mod Least
 pub mod Naming
 pub mod Rules

@@ -10,7 +10,7 @@ use Rattle.lookahead.specs.declared.Lookahead.{Lookahead}
 use Rattle.lookahead.specs.Lookaheads.{tokens, elements, stringOf}
 use Rattle.lookahead.specs.Elements.{total}
 use Rattle.semantics.specs.FirstFollow.{first, follow}
-use Rattle.semantics.specs.Calls.{Distinct}
+use Rattle.base.specs.FiniteSets.{Distinct}
 use Rattle.semantics.specs.LeftRecursion.{leftReaches}
 
 -- the weights of a set's elements together

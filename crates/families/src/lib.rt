@@ -3,7 +3,7 @@
 use answer::Error;
 use grammar::limits::NONTERMINALS;
 use grammar::reading::Sizes;
-use lookahead::LookaheadSet;
+use lookahead_sets::LookaheadSet;
 use nonterminals::Nonterminals;
 
 pub mod nonterminals;

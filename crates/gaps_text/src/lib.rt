@@ -1,7 +1,7 @@
 // The gaps and overlaps of a grammar's table, line by line, and the nonterminals that overrun, from what each rule claims.
 ghost use mathlib.Core.Path.{_≡_};
 ghost use Prim.Native.Nat.{_≤_, _<_};
-ghost use Rattle.booleans.specs.Quantifiers.{one as oneOf, countBelow};
+ghost use Rattle.base.specs.Quantifiers.{one as oneOf, countBelow};
 ghost use Rattle.grammar.specs.Limits.{maxNonterminals, maxTerminals, maxRules};
 ghost use Rattle.claims.specs.Claims.{claimant};
 ghost use Rattle.text.specs.Writing.{Put, upTo};
@@ -15,7 +15,7 @@ use grammar::limits::RULES;
 use grammar::limits::TERMINALS;
 use grammar::reading::Sizes;
 use lookahead::Lookahead;
-use lookahead::LookaheadSet;
+use lookahead_sets::LookaheadSet;
 use text::put::put_bytes;
 use text::put::put_labelled;
 use text::put::put_number;

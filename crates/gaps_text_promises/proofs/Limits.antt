@@ -6,7 +6,7 @@ use Prim.Native.Nat.{ℕ, _≤_, _<_}
 use lib.Dec.{leb, leb→le}
 use borrow.Author.Tests.{le-leb, lt-leb}
 use Rattle.answer.specs.declared.Error.{Error}
-use Rattle.booleans.proofs.Booleans.{true-T, and-l, and-r}
+use Rattle.base.proofs.Booleans.{true-T, and-l, and-r}
 use Rattle.grammar.specs.Limits.{maxNonterminals, maxTerminals, maxRules}
 use Rattle.grammar.specs.declared.reading.Sizes.{Sizes}
 use Rattle.families.specs.declared.Finding.{Finding}

@@ -8,7 +8,7 @@ use native.Mathlib.Omega.{arith}
 use lib.ListN.{getElem?}
 use borrow.Author.Tests.{le-leb}
 use Rattle.answer.specs.declared.Error.{Error}
-use Rattle.booleans.proofs.Quantified.{count-cong}
+use Rattle.base.proofs.Quantified.{count-cong}
 use Rattle.grammar.specs.Encoding.{grammarOf}
 use Rattle.grammar.specs.Limits.{maxNonterminals, maxTerminals, maxRules}
 use Rattle.grammar.specs.declared.reading.Sizes.{Sizes}
@@ -25,7 +25,7 @@ use Rattle.families.specs.declared.Finding.{Finding}
 use Rattle.families.specs.declared.Finding.the-variants.{Passed, Refused}
 use Rattle.families.specs.Analysis.{setsFault}
 use Rattle.families.proofs.Findings.{told-passed, told-refused}
-use Rattle.families.proofs.Lists.{listed-at}
+use Rattle.base.proofs.Lists.{listed-at}
 use Rattle.claims.specs.declared.Claims.{Claims}
 use Rattle.claims.specs.Claims.{headsOf, claimNumbers, byRule, byRuleIf, overrunsOf, overrunsIf, claimsOf}
 use Rattle.columns.specs.Columns.{columnElement}

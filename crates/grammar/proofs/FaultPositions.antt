@@ -10,7 +10,7 @@ use borrow.Author.Tests.{ltb-false}
 use Rattle.answer.specs.declared.Error.{Error}
 use Rattle.answer.specs.declared.Error.the-variants.{Length, Heading, UnexpectedWord, OutOfRange, TooManyRules}
 use Rattle.answer.specs.Numbers.{coded}
-use Rattle.booleans.specs.Choice.{choose}
+use Rattle.base.specs.Choice.{choose}
 use Rattle.word.specs.Words.{decoded}
 use Rattle.word.specs.declared.Word.{Word}
 use Rattle.grammar.specs.Limits.{maxWords, maxRules, maxNonterminals, maxTerminals}

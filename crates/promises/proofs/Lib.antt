@@ -2,4 +2,3 @@ pub mod Memory
 pub mod Places
 pub mod Inputs
 pub mod Verdicts
-pub mod Front

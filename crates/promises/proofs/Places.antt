@@ -15,7 +15,7 @@ use Rattle.answer.specs.declared.Answer.the-variants.{Refused, Passed, Accepted
 use Rattle.answer.specs.declared.Calls.{Calls}
 use Rattle.answer.specs.Numbers.{coded}
 use Rattle.answer.specs.Faults.{faultIf, firstFault, refusedOr}
-use Rattle.booleans.specs.Choice.{choose}
+use Rattle.base.specs.Choice.{choose}
 use Rattle.event.specs.declared.Unknown.{Unknown}
 use Rattle.event.specs.declared.Unknown.the-variants.{Absent, At}
 use Rattle.event.specs.Unknown.{unknownFault}

@@ -12,7 +12,7 @@ use Rattle.grammar.specs.WellRead.{WellRead}
 use Rattle.grammar.proofs.WellRead.{well-read}
 use Rattle.semantics.specs.Choices.{Choice}
 use Rattle.recognizer.specs.Descent.{firstConjunct, TokenGiven, EntryGiven, ChosenGiven, ArraysGiven, CallGiven}
-use Rattle.semantics.proofs.Outcomes.{nth-below}
+use Rattle.semantics.proofs.descent.Outcomes.{nth-below}
 
 pub token-given : {choice : Choice} {words choices tokens input memo : List ℕ} → ArraysGiven choice words choices tokens input memo
     → {place : ℕ} → place ≤ length input → TokenGiven tokens place

@@ -29,7 +29,7 @@ use Rattle.semantics.specs.Choices.{Choice}
 use Rattle.semantics.specs.Descent.{Failed, select}
 use Rattle.semantics.specs.Memo.{encode}
 use Rattle.semantics.specs.MemoDescent.{MemoCalls, memoized, memoPositives, memoRule, memoObey}
-use Rattle.semantics.proofs.Outcomes.{nth-below, nth-mem}
+use Rattle.semantics.proofs.descent.Outcomes.{nth-below, nth-mem}
 use Rattle.rule.specs.declared.Sign.{Sign}
 use Rattle.rule.specs.declared.Agreement.{Agreement}
 use Rattle.rule.specs.declared.Sign.the-variants.{Positive, Negative, Neither}

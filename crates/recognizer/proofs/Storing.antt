@@ -12,17 +12,17 @@ use Rattle.grammar.specs.Syntax.{Rule, Grammar}
 use Rattle.grammar.specs.Encoding.{grammarOf}
 use Rattle.grammar.specs.WellRead.{WellRead}
 use Rattle.grammar.proofs.WellRead.{well-read}
-use Rattle.booleans.specs.Choice.{choose}
+use Rattle.base.specs.Choice.{choose}
 use Rattle.semantics.specs.Choices.{Choice}
 use Rattle.semantics.specs.Descent.{Outcome, select, descend}
 use Rattle.semantics.specs.ComesTo.{callAt}
 use Rattle.semantics.specs.Memo.{EndsFit, encode, decode, indexOf, entry}
 use Rattle.semantics.specs.MemoDescent.{memoized, memoObey, stored, memoCall}
-use Rattle.semantics.proofs.Outcomes.{end-ends}
-use Rattle.semantics.proofs.Ends.{descend-forward, descend-null}
-use Rattle.semantics.proofs.Range.{index-range}
-use Rattle.semantics.proofs.Written.{Sound}
-use Rattle.semantics.proofs.Memo.{transparent}
+use Rattle.semantics.proofs.descent.Outcomes.{end-ends}
+use Rattle.semantics.proofs.descent.Ends.{descend-forward, descend-null}
+use Rattle.semantics.proofs.descent.Range.{index-range}
+use Rattle.semantics.proofs.descent.Written.{Sound}
+use Rattle.semantics.proofs.descent.Memo.{transparent}
 use Rattle.rule.specs.declared.Outcome as code
 use Rattle.rule.specs.declared.Outcome.the-variants as outcome
 use Rattle.rule.specs.Rule.{meant}

@@ -7,7 +7,7 @@ use native.Mathlib.Omega.{arith}
 use lib.Dec.{eqb}
 use lib.ListN.{length, getD}
 use borrow.Author.Tests.{ne-eqb}
-use Rattle.booleans.specs.Choice.{choose}
+use Rattle.base.specs.Choice.{choose}
 use Rattle.grammar.specs.Codes.{noRule}
 use Rattle.grammar.specs.Syntax.{Grammar}
 use Rattle.grammar.specs.Encoding.{grammarOf}
@@ -17,8 +17,8 @@ use Rattle.grammar.specs.declared.reading.Sizes.{Sizes}
 use Rattle.grammar.proofs.WellRead.{well-read}
 use Rattle.semantics.specs.Claims.{tableOf}
 use Rattle.semantics.specs.Choices.{tableChoice}
-use Rattle.semantics.proofs.Outcomes.{nth-below}
-use Rattle.semantics.proofs.Predictive.{table-own}
+use Rattle.semantics.proofs.descent.Outcomes.{nth-below}
+use Rattle.semantics.proofs.descent.Predictive.{table-own}
 use Rattle.columns.specs.Columns.{columnCount, columnString}
 use Rattle.table.specs.Entries.{ruleByte, byteAt}
 use Rattle.columns.proofs.ColumnStrings.{column-count}

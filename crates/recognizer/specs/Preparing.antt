@@ -5,11 +5,11 @@ use mathlib.Core.Option.{Option, none, some}
 use Prim.Native.Nat.{ℕ, _+_, _-_, _*_, _/_, _%_, _≤_, _<_}
 use lib.Dec.{eqb}
 use lib.ListN.{length, getD}
-use Rattle.booleans.specs.Choice.{choose}
+use Rattle.base.specs.Choice.{choose}
 use Rattle.grammar.specs.Codes.{noRule}
 use Rattle.grammar.specs.Limits.{maxWords, maxNonterminals, maxRules, maxWideColumns, maxTokens, maxPlaces}
 use Rattle.grammar.specs.Starts.{ruleStarts}
-use Rattle.semantics.specs.Strings.{Over}
+use Rattle.base.specs.Strings.{Over}
 use Rattle.lookahead.specs.declared.Lookahead.{Lookahead}
 use Rattle.lookahead.specs.Lookaheads.{alphabet}
 use Rattle.columns.specs.Columns.{columnAt}

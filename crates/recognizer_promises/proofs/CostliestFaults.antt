@@ -15,7 +15,7 @@ use Rattle.answer.specs.declared.Answer.the-variants.{Refused}
 use Rattle.answer.specs.Numbers.{numbers}
 use Rattle.answer.specs.Faults.{faultIf, firstFault, refusedOr, toldOr}
 use Rattle.answer.proofs.Faults.{none-some, fault-none, each-none, first-nested}
-use Rattle.booleans.proofs.Quantified.{all-map}
+use Rattle.base.proofs.Quantified.{all-map}
 use Rattle.grammar.specs.Limits.{maxTokens, maxTableWords, maxMemoEntries}
 use Rattle.grammar.specs.Encoding.{grammarOf}
 use Rattle.grammar.specs.WellRead.{WellRead}
@@ -29,7 +29,7 @@ use Rattle.inputs.proofs.Greatest.{costliest-of}
 use Rattle.families.specs.declared.Finding.{Finding}
 use Rattle.families.specs.declared.Finding.the-variants as finding
 use Rattle.families.proofs.FewTerminals.{admitted-read}
-use Rattle.semantics.specs.Strings.{Over}
+use Rattle.base.specs.Strings.{Over}
 use Rattle.table.specs.Layout.{tableWords}
 use Rattle.table.specs.Analysis.{grammarFaults, fault}
 use Rattle.promises.specs.Memory.{lentBack}

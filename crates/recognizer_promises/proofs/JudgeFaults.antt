@@ -12,12 +12,12 @@ use Rattle.answer.specs.declared.Error.{Error}
 use Rattle.answer.specs.declared.Error.the-variants.{TableTooShort, MemoTooShort, InputTooLong}
 use Rattle.answer.specs.Faults.{faultIf, firstFault}
 use Rattle.answer.proofs.Faults.{Faultless, none-some, fault-none, each-none, first-nested}
-use Rattle.booleans.specs.Choice.{choose}
+use Rattle.base.specs.Choice.{choose}
 use Rattle.grammar.specs.Limits.{maxTableWords, maxMemoEntries, maxTokens}
 use Rattle.grammar.specs.Encoding.{grammarOf}
-use Rattle.booleans.specs.Quantifiers.{allOf}
-use Rattle.semantics.specs.Strings.{Over}
-use Rattle.booleans.proofs.Booleans.{T-true, and-l, and-r}
+use Rattle.base.specs.Quantifiers.{allOf}
+use Rattle.base.specs.Strings.{Over}
+use Rattle.base.proofs.Booleans.{T-true, and-l, and-r}
 use Rattle.lookahead.specs.declared.Lookahead.{Lookahead}
 use Rattle.lookahead.specs.declared.Lookahead.the-variants.{One}
 use Rattle.table.specs.Layout.{tableRoom}

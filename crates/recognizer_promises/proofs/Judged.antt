@@ -16,7 +16,7 @@ use Rattle.answer.specs.Faults.{firstFault, refusedOr, toldOr}
 use Rattle.answer.proofs.Faults.{numbers-told}
 use Rattle.answer.specs.declared.Answer.{Answer}
 use Rattle.answer.specs.declared.Answer.the-variants.{Refused, Accepted, Rejected}
-use Rattle.booleans.specs.Choice.{choose}
+use Rattle.base.specs.Choice.{choose}
 use Rattle.grammar.specs.Limits.{maxMemoEntries, maxTokens, maxNonterminals, maxPlaces}
 use Rattle.grammar.specs.Syntax.{Grammar}
 use Rattle.grammar.specs.Encoding.{grammarOf}
@@ -32,7 +32,7 @@ use Rattle.semantics.specs.Valuations.{pairs}
 use Rattle.semantics.specs.Choices.{tableChoice}
 use Rattle.semantics.specs.Descent.{accepts}
 use Rattle.semantics.specs.Calls.{allCalls, callCount, farthest}
-use Rattle.semantics.proofs.Range.{all-length}
+use Rattle.semantics.proofs.descent.Range.{all-length}
 use Rattle.following.specs.Theorems.{EntriesTell}
 use Rattle.following.proofs.Theorems.{theorems as following}
 use Rattle.table.specs.Layout.{tableWords, tableRoom}

@@ -6,4 +6,3 @@ pub mod JudgeFaults
 pub mod Meaning
 pub mod Judged
 pub mod CostliestFaults
-pub mod Rows

@@ -17,7 +17,7 @@ use Rattle.lookahead.specs.declared.Lookahead.the-variants.{One}
 use Rattle.inputs.specs.Inputs.{maxInputs}
 use Rattle.inputs.specs.Costliest.{costliest, CostliestOf}
 use Rattle.families.specs.declared.Finding.{Finding}
-use Rattle.semantics.specs.Strings.{Over}
+use Rattle.base.specs.Strings.{Over}
 use Rattle.table.specs.Layout.{tableWords}
 use Rattle.table.specs.Analysis.{grammarFaults}
 use Rattle.promises.specs.Inputs.{withFaults}

@@ -14,7 +14,7 @@ use Rattle.lookahead.specs.Lookaheads.{tokens}
 use Rattle.admission.specs.Admission.{admission}
 use Rattle.semantics.specs.Valuations.{pairs}
 use Rattle.semantics.specs.LeftRecursion.{NoLeftRecursion}
-use Rattle.semantics.specs.Strings.{Over}
+use Rattle.base.specs.Strings.{Over}
 use Rattle.table.specs.Layout.{tableWords, filled}
 use Rattle.table.specs.Entries.{entriesOf}
 use Rattle.table.specs.Analysis.{fault}

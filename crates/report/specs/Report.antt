@@ -6,7 +6,7 @@ use lib.Dec.{leb}
 use lib.ListN.{length, take, replicate}
 use Rattle.answer.specs.declared.Answer.the-variants.{Passed}
 use Rattle.answer.specs.declared.Error.the-variants.{Length}
-use Rattle.booleans.specs.Choice.{choose}
+use Rattle.base.specs.Choice.{choose}
 use Rattle.event.specs.Events.{inputOf}
 use Rattle.grammar.specs.Codes.{noEntry, uncalledCode}
 use Rattle.grammar.specs.declared.reading.Outcome.{Outcome}

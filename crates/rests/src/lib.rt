@@ -3,10 +3,12 @@ ghost use mathlib.Core.Path.{_≡_};
 ghost use Rattle.families.specs.First.{symbolFirst, noRest, withWord, closedMeet, insideWord};
 ghost use Rattle.families.specs.Follow.{tailBefore};
 ghost use Rattle.families.specs.Least.{lookup};
+use concatenation::concat;
+use concatenation::full;
 use families::Rest;
 use families::SETS;
 use lookahead::Lookahead;
-use lookahead::LookaheadSet;
+use lookahead_sets::LookaheadSet;
 use word::Symbol;
 use word::Word;
 
@@ -24,7 +26,7 @@ pub fn no_rest(terminals: u32, lookahead: Lookahead) -> Rest
 {
     Rest {
         body: LookaheadSet::end(lookahead),
-        meet: LookaheadSet::full(lookahead, terminals),
+        meet: full(lookahead, terminals),
     }
 }
 
@@ -53,7 +55,7 @@ pub fn onto(
     let meet = rest.meet;
     match word {
         Word::Symbol(symbol) => Rest {
-            body: symbol_first(symbol, firsts, lookahead).concat(lookahead, body),
+            body: concat(symbol_first(symbol, firsts, lookahead), lookahead, body),
             meet,
         },
         Word::Positive => Rest {
@@ -98,7 +100,7 @@ pub fn inside(word: Word, rest: Rest, firsts: &[u64; SETS], lookahead: Lookahead
     };
     let first = symbol_first(symbol, firsts, lookahead);
     Rest {
-        body: first.concat(lookahead, body),
+        body: concat(first, lookahead, body),
         meet,
     }
 }
@@ -116,5 +118,5 @@ pub fn tail_before(
     let Word::Symbol(symbol) = word else {
         return follow;
     };
-    symbol_first(symbol, firsts, lookahead).concat(lookahead, tail)
+    concat(symbol_first(symbol, firsts, lookahead), lookahead, tail)
 }

@@ -10,15 +10,15 @@ use lib.ListN.{length, getD, getElem?, take}
 use Rattle.word.specs.declared.Symbol.{Symbol}
 use Rattle.word.specs.declared.Symbol.the-variants.{Nonterminal}
 use Rattle.grammar.specs.Syntax.{Body, Rule, Grammar, bodies, NonterminalsBelow, WellScoped, WellFormed}
-use Rattle.semantics.specs.FiniteSets.{numbers}
-use Rattle.semantics.specs.Rounds.{NumberSet, _⊆ᵇ_}
+use Rattle.base.specs.FiniteSets.{numbers}
+use Rattle.base.specs.Rounds.{NumberSet, _⊆ᵇ_}
 use Rattle.semantics.specs.Valuations.{Valuation, contains, byRules, Solves, solution}
 use Rattle.semantics.specs.LeftRecursion.{nullStep, nullable, LeftDepends, LeftReaches, NoLeftRecursion, leftRecursive, lowestLeftRecursive, rank, level}
-use Rattle.semantics.specs.Strings.{span, look, Over, Lookahead}
+use Rattle.base.specs.Strings.{span, look, Over, Lookahead, strings}
 use Rattle.semantics.specs.Families.{Family, Least, Short, FirstOf, FirstBody, Strung, Meeting, FirstClosed, FollowClosed, FollowStrung, Claims, Clash}
 use Rattle.semantics.specs.Families.{EveryEnds, OwnTerminals}
 use Rattle.semantics.specs.Productive.{Unproductive, unproductive, lowestUnproductive}
-use Rattle.semantics.specs.FirstFollow.{strings, Entry, First, Follow}
+use Rattle.semantics.specs.FirstFollow.{Entry, First, Follow}
 use Rattle.semantics.specs.Claims.{clashes, column, tableOf, everyEnds}
 use Rattle.semantics.specs.Choices.{Choice, OwnRules, tableChoice}
 use Rattle.semantics.specs.Descent.{End, Outcomes, run, Results, descend, accepts}

@@ -1,14 +1,14 @@
 // The lowest nonterminal with a flaw that refuses a grammar.
 ghost use mathlib.Core.Path.{_≡_};
 ghost use Prim.Native.Nat.{_≤_, _<_};
-ghost use Rattle.booleans.specs.Quantifiers.{lowest};
+ghost use Rattle.base.specs.Quantifiers.{lowest};
 ghost use Rattle.grammar.specs.Limits.{maxNonterminals};
 ghost use Rattle.families.specs.Flaws.{flawIn, lowestOf};
 use families::Flaw;
 use families::Lowest;
 use families::SETS;
 use families::nonterminals::Nonterminals;
-use lookahead::LookaheadSet;
+use lookahead_sets::LookaheadSet;
 
 // Whether a nonterminal has a flaw, by the first sets and by what each nonterminal left-reaches.
 fn has_flaw(flaw: Flaw, firsts: &[u64; SETS], reaches: &[u32; SETS], nonterminal: u32) -> bool

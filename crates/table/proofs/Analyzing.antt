@@ -23,14 +23,14 @@ use Rattle.lookahead.specs.declared.Lookahead.{Lookahead}
 use Rattle.lookahead.specs.declared.Lookahead.the-variants.{One, Two}
 use Rattle.lookahead.specs.Lookaheads.{tokens, alphabet}
 use Rattle.admission.specs.Admission.{admission}
-use Rattle.semantics.specs.FiniteSets.{numbers}
+use Rattle.base.specs.FiniteSets.{numbers}
 use Rattle.semantics.specs.Claims.{overruns, clashes}
-use Rattle.semantics.proofs.Outcomes.{nth-mem}
+use Rattle.semantics.proofs.descent.Outcomes.{nth-mem}
 use Rattle.families.specs.declared.Finding.the-variants.{Passed, Refused}
 use Rattle.families.specs.Analysis.{readingFault, setsFaults, setsFault, setsIf}
-use Rattle.families.specs.Lists.{listed}
+use Rattle.base.specs.Lists.{listed}
 use Rattle.families.specs.Sets.{firstNumber, followNumber}
-use Rattle.families.proofs.Lists.{listed-at, listed-long}
+use Rattle.base.proofs.Lists.{listed-at, listed-long}
 use Rattle.families.proofs.Findings.{told-passed, told-refused}
 use Rattle.table.specs.declared.conflicts.Conflict.{Conflict}
 use Rattle.table.specs.declared.conflicts.Conflict.the-variants as conflict

@@ -12,10 +12,10 @@ use Rattle.grammar.specs.Limits.{maxNonterminals, maxEntries}
 use Rattle.grammar.specs.Syntax.{Grammar}
 use Rattle.lookahead.specs.declared.Lookahead.{Lookahead}
 use Rattle.lookahead.specs.Lookaheads.{tokens, alphabet}
-use Rattle.semantics.specs.FiniteSets.{numbers}
+use Rattle.base.specs.FiniteSets.{numbers}
 use Rattle.semantics.specs.Claims.{tableOf}
-use Rattle.families.specs.Lists.{listed}
-use Rattle.families.proofs.Lists.{listed-long, listed-at}
+use Rattle.base.specs.Lists.{listed}
+use Rattle.base.proofs.Lists.{listed-long, listed-at}
 use Rattle.columns.specs.Columns.{columnElement, columnString, columns}
 use Rattle.claims.specs.Claims.{headsOf, claimNumbers, byRule}
 use Rattle.table.specs.Entries.{ruleByte, byteAt, entriesOf, noRules, entryOver, rowsOf, FilledRows}

@@ -10,8 +10,8 @@ use lib.Seq.{getD-append-add}
 use Rattle.grammar.specs.Codes.{noEntry}
 use Rattle.grammar.specs.Syntax.{Grammar}
 use Rattle.lookahead.specs.declared.Lookahead.{Lookahead}
-use Rattle.families.specs.Lists.{listed}
-use Rattle.families.proofs.Lists.{listed-long, listed-at}
+use Rattle.base.specs.Lists.{listed}
+use Rattle.base.proofs.Lists.{listed-long, listed-at}
 use Rattle.columns.specs.Columns.{columns}
 use Rattle.table.specs.Layout.{entryAt, setWord, rowWord, tableWords, tableRoom, filled}
 use Rattle.table.proofs.Padded.{padded-in}

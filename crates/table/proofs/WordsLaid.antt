@@ -12,7 +12,7 @@ use lib.Dec.{eqb}
 use lib.ListN.{length, getD, replicate, length-replicate, getD-replicate}
 use lib.Seq.{ext-getD}
 use borrow.Author.Tests.{ne-eqb, lt-ltb, le-ltb}
-use Rattle.booleans.specs.Choice.{choose}
+use Rattle.base.specs.Choice.{choose}
 use Rattle.grammar.specs.Codes.{noEntry, noRule}
 use Rattle.grammar.specs.Limits.{maxNonterminals, maxRules, maxWideTableWords}
 use Rattle.grammar.specs.Syntax.{Grammar}
@@ -22,11 +22,11 @@ use Rattle.lookahead.specs.declared.Lookahead.the-variants.{One, Two}
 use Rattle.lookahead.specs.Lookaheads.{tokens}
 use Rattle.semantics.specs.Claims.{claims, tableOf}
 use Rattle.semantics.specs.FirstFollow.{first, follow}
-use Rattle.semantics.proofs.Outcomes.{nth-below}
-use Rattle.semantics.proofs.Positions.{position-some}
-use Rattle.families.specs.Lists.{listed}
+use Rattle.semantics.proofs.descent.Outcomes.{nth-below}
+use Rattle.semantics.proofs.families.Positions.{position-some}
+use Rattle.base.specs.Lists.{listed}
 use Rattle.families.specs.Sets.{firstNumber, followNumber}
-use Rattle.families.proofs.Lists.{listed-long, listed-at}
+use Rattle.base.proofs.Lists.{listed-long, listed-at}
 use Rattle.families.proofs.Strings.{number-below}
 use Rattle.columns.specs.Columns.{columnString, columns}
 use Rattle.table.specs.Layout.{entryWord, entryAt, setWord, rowWord, tableWords, tableRoom, filled, entryCode, wordAt, wordCount, wordsOf, FilledWords}

@@ -14,7 +14,7 @@ use Rattle.lookahead.specs.declared.Lookahead.the-variants.{One, Two}
 use Rattle.admission.specs.Admission.{admission}
 use Rattle.families.specs.declared.Finding.{Finding}
 use Rattle.families.specs.Analysis.{setsFaults, setsFault, findingOf, setsIf}
-use Rattle.families.specs.Lists.{listed}
+use Rattle.base.specs.Lists.{listed}
 use Rattle.families.specs.Sets.{firstNumber, followNumber}
 use Rattle.table.specs.declared.Analysis.{Analysis}
 use Rattle.table.specs.declared.WideAnalysis.{WideAnalysis}

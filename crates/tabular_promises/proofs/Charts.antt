@@ -10,7 +10,7 @@ use lib.Bits.{bitOr, or-shifted-r}
 use lib.ListN.{length, getD, set, length-set}
 use lib.Seq.{getD-set-same, getD-set-other}
 use borrow.Author.Tests.{eq-eqb, ne-eqb, lt-ltb, le-ltb, le-leb, lt-leb}
-use Rattle.booleans.specs.Choice.{choose}
+use Rattle.base.specs.Choice.{choose}
 use Rattle.grammar.specs.Limits.{maxNonterminals, maxTabularPlaces}
 use Rattle.lookahead.specs.Elements.{weight, has, total}
 use Rattle.lookahead.proofs.Weights.{total-bound}

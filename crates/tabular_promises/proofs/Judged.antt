@@ -18,7 +18,7 @@ use Rattle.answer.specs.Numbers.{accepted, rejected, coded, numbers, answered}
 use Rattle.answer.specs.Faults.{firstFault, refusedOr, toldOr}
 use Rattle.answer.proofs.Apart.{answer-number}
 use Rattle.answer.proofs.Faults.{Faultless, none-some, fault-none, each-none, numbers-told}
-use Rattle.booleans.specs.Choice.{choose}
+use Rattle.base.specs.Choice.{choose}
 use Rattle.event.specs.Events.{inputOf}
 use Rattle.event.specs.Unknown.{unknownFrom, unknownFault}
 use Rattle.event.specs.declared.Unknown.{Unknown}
@@ -43,7 +43,7 @@ use Rattle.semantics.specs.LeftRecursion.{NoLeftRecursion, lowestLeftRecursive}
 use Rattle.semantics.specs.Productive.{lowestUnproductive}
 use Rattle.semantics.proofs.Theorems.{theorems}
 use Rattle.families.specs.Analysis.{setsFaults, setsFault, setsIf, familiesOf}
-use Rattle.families.specs.Lists.{listed}
+use Rattle.base.specs.Lists.{listed}
 use Rattle.families.specs.Sets.{reachNumber}
 use Rattle.families.specs.declared.Finding.{Finding}
 use Rattle.families.specs.declared.Finding.the-variants.{Passed, Refused}

@@ -9,10 +9,10 @@ use lib.Bits.{bitAnd, bitOr}
 use lib.Dec.{T, leb, ltb, eqb, leb→le, ltb→lt, eqb→eq}
 use lib.ListN.{length, getD}
 use borrow.Author.Tests.{lt-ltb, le-ltb, le-leb}
-use Rattle.booleans.specs.Choice.{choose}
-use Rattle.booleans.specs.Quantifiers.{anyBelow}
-use Rattle.booleans.proofs.Booleans.{and-l, true-T}
-use Rattle.booleans.proofs.Quantified.{below-cong, below-elim}
+use Rattle.base.specs.Choice.{choose}
+use Rattle.base.specs.Quantifiers.{anyBelow}
+use Rattle.base.proofs.Booleans.{and-l, true-T}
+use Rattle.base.proofs.Quantified.{below-cong, below-elim}
 use Rattle.word.specs.declared.Symbol.the-variants.{Terminal, Nonterminal}
 use Rattle.grammar.specs.Limits.{maxNonterminals, maxTerminals, maxTabularPlaces}
 use Rattle.grammar.specs.Syntax.{Body}

@@ -8,12 +8,12 @@ use native.Mathlib.Omega.{arith}
 use lib.ListN.{length, drop, set, getD, length-append, length-set, List·getD-append}
 use lib.Seq.{take-all, getD-append-add}
 use borrow.Author.Tests.{le-leb, lt-leb}
-use Rattle.booleans.specs.Quantifiers.{one}
+use Rattle.base.specs.Quantifiers.{one}
 use Rattle.grammar.specs.Limits.{maxTabularTokens, maxTabularPlaces, maxSpanWords}
 use Rattle.lookahead.specs.Elements.{weight, total}
-use Rattle.families.specs.Lists.{listed}
-use Rattle.families.proofs.Lists.{listed-long, listed-at}
-use Rattle.promises.proofs.Front.{front, front-more}
+use Rattle.base.specs.Lists.{listed}
+use Rattle.base.proofs.Lists.{listed-long, listed-at}
+use Rattle.base.proofs.Front.{front, front-more}
 use Rattle.tabular_promises.specs.Chart.{spanWord}
 use Rattle.tabular_promises.specs.Spans.{spansBefore, spanCount, indexOf, rows, spanWords, Spans, writtenSpans}
 

@@ -19,7 +19,7 @@ use Rattle.event.specs.Events.{inputOf}
 use Rattle.lookahead.specs.Elements.{has}
 use Rattle.semantics.specs.Valuations.{Valuation, Solves}
 use Rattle.semantics.specs.LeftRecursion.{NoLeftRecursion}
-use Rattle.semantics.specs.Strings.{Over}
+use Rattle.base.specs.Strings.{Over}
 use Rattle.semantics.specs.Theorems.{OneSolution}
 use Rattle.promises.specs.Memory.{lentBack}
 use Rattle.promises.specs.Places.{AllProductive, LowestRecursive, LowestUnproductive}

@@ -8,8 +8,8 @@ use lib.Bits.{bitAnd}
 use lib.Dec.{leb, ltb}
 use lib.ListN.{length, getD, drop}
 use lib.Seq.{slice}
-use Rattle.booleans.specs.Choice.{choose}
-use Rattle.booleans.specs.Quantifiers.{anyOf, allOf}
+use Rattle.base.specs.Choice.{choose}
+use Rattle.base.specs.Quantifiers.{anyOf, allOf}
 use Rattle.word.specs.declared.Symbol.{Symbol as GrammarSymbol}
 use Rattle.word.specs.declared.Symbol.the-variants.{Terminal, Nonterminal}
 use Rattle.word.specs.declared.Word.{Word}

@@ -5,12 +5,12 @@ use mathlib.Core.Bool.{_&&_}
 use Prim.Native.Nat.{ℕ, zero, suc, _+_, _-_}
 use lib.Dec.{leb}
 use lib.ListN.{length, drop}
-use Rattle.booleans.specs.Choice.{choose}
+use Rattle.base.specs.Choice.{choose}
 use Rattle.grammar.specs.Limits.{maxTabularTokens, maxSpanWords}
 use Rattle.grammar.specs.Syntax.{Grammar}
 use Rattle.lookahead.specs.Elements.{total}
 use Rattle.semantics.specs.Valuations.{solution}
-use Rattle.families.specs.Lists.{listed}
+use Rattle.base.specs.Lists.{listed}
 use Rattle.tabular_promises.specs.Chart.{spanWord}
 
 -- the nonterminals that the one solution gives a span to, A weighing 2^A

@@ -24,8 +24,8 @@ use Rattle.answer.specs.declared.Answer.the-variants.{Refused, Passed, Rejected
 use Rattle.answer.proofs.Answer.{the-type}
 use Rattle.answer.proofs.Apart.{answer-number, refusalNumber}
 use Rattle.answer.proofs.Faults.{none-some, each-none}
-use Rattle.booleans.specs.Choice.{choose}
-use Rattle.booleans.proofs.Booleans.{true-T}
+use Rattle.base.specs.Choice.{choose}
+use Rattle.base.proofs.Booleans.{true-T}
 use Rattle.grammar.specs.Codes.{noEntry, uncalledCode}
 use Rattle.grammar.specs.Limits.{maxNonterminals, maxTokens, maxPlaces, maxTableWords, maxMemoEntries}
 use Rattle.grammar.specs.Syntax.{Grammar}
@@ -35,14 +35,14 @@ use Rattle.event.specs.declared.Unknown.the-variants.{Absent, At}
 use Rattle.event.specs.Unknown.{unknownFrom, unknownFault}
 use Rattle.event.proofs.Known.{absent-known}
 use Rattle.semantics.specs.Valuations.{solution}
-use Rattle.semantics.specs.Strings.{Over}
+use Rattle.base.specs.Strings.{Over}
 use Rattle.semantics.specs.Descent.{accepts, descend}
 use Rattle.semantics.specs.ComesTo.{Call}
 use Rattle.semantics.specs.Calls.{Called}
 use Rattle.semantics.specs.Memo.{encode, indexOf}
 use Rattle.semantics.specs.Predictive.{Predictive}
-use Rattle.semantics.proofs.Called.{called-range}
-use Rattle.semantics.proofs.Range.{index-range}
+use Rattle.semantics.proofs.descent.Called.{called-range}
+use Rattle.semantics.proofs.descent.Range.{index-range}
 use Rattle.semantics.proofs.Theorems.{theorems}
 use Rattle.lookahead.specs.declared.Lookahead.the-variants.{One}
 use Rattle.columns.specs.Columns.{columns}

@@ -6,7 +6,7 @@ use lib.ListN.{length, getD}
 use Rattle.grammar.specs.Limits.{maxNonterminals, maxTerminals, maxTokens, maxPlaces, maxTableWords, maxMemoEntries}
 use Rattle.grammar.specs.declared.reading.Sizes.{Sizes}
 use Rattle.semantics.specs.ComesTo.{Call}
-use Rattle.semantics.specs.Strings.{Over}
+use Rattle.base.specs.Strings.{Over}
 use Rattle.lookahead.specs.declared.Lookahead.the-variants.{One}
 use Rattle.columns.specs.Columns.{columnAt}
 use Rattle.tree.specs.ParseTrees.{vertex}

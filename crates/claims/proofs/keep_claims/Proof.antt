@@ -2,7 +2,7 @@
 use mathlib.Core.Path.{ap, _∙_}
 use native.Mathlib.Omega.{arith}
 use lib.ListN.{length}
-use Rattle.families.proofs.Lists.{listed-long}
+use Rattle.base.proofs.Lists.{listed-long}
 use Rattle.families.proofs.ArrayLookup.{onto-at}
 use Rattle.claims.specs.Claims.{kept}
 use Rattle.claims.proofs.ClaimWalk.{Claiming, claiming-start, may-claim, claiming-turn, claiming-end}

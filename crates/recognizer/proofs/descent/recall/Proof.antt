@@ -1,6 +1,6 @@
 use borrow.Author.Tests.{eq-eqb, ne-eqb}
 use Rattle.semantics.specs.Memo.{decode}
-use Rattle.booleans.specs.Choice.{choose}
+use Rattle.base.specs.Choice.{choose}
 use Rattle.recognizer.proofs.descent.recall.Statement.{statement}
 use Rattle.recognizer.proofs.descent.recall.Tie as tie
 

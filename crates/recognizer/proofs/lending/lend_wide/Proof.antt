@@ -6,7 +6,7 @@ use lib.ListN.{length, length-set}
 use Rattle.grammar.specs.Limits.{maxWideTableWords}
 use Rattle.lookahead.specs.declared.Lookahead.the-variants.{Two}
 use Rattle.table.specs.Layout.{wordCount}
-use Rattle.promises.proofs.Front.{front, front-more}
+use Rattle.base.proofs.Front.{front, front-more}
 use Rattle.recognizer.proofs.lending.lend_wide.Statement.{statement}
 use Rattle.recognizer.proofs.lending.lend_wide.Tie as tie
 

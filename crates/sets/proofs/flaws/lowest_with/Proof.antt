@@ -2,7 +2,7 @@
 use mathlib.Core.Path.{sym, _∙_}
 use Prim.Native.Nat.{_-_, _≤_}
 use native.Mathlib.Omega.{arith}
-use Rattle.booleans.proofs.Quantified.{NoneBelow}
+use Rattle.base.proofs.Quantified.{NoneBelow}
 use Rattle.families.specs.Flaws.{flawIn}
 use Rattle.families.proofs.LowestTold.{lowest-found, lowest-absent, none-more}
 use Rattle.sets.proofs.flaws.lowest_with.Statement.{statement}
