@@ -16,8 +16,9 @@ use Rattle.table.specs.Analysis.{conflictError}
 use Rattle.table.specs.Conflicts.{firstClash}
 use Rattle.table.proofs.FirstClash.{clash-at}
 use Rattle.recognizer_promises.specs.Answers.{tableTooShort}
-use Rattle.recognizer_promises.proofs.GrammarErrors.{SetsErrors}
-use Rattle.recognizer_promises.proofs.CallErrors.{InputErrors, JudgeErrors}
+use Rattle.promises.proofs.SetsErrors.{SetsErrors}
+use Rattle.recognizer_promises.proofs.CallErrors.{JudgeErrors}
+use Rattle.promises.proofs.InputErrors.{InputErrors}
 
 abbrev pub Low : Error → Type 0
 Low e = coded e .position ≤ maxWords

@@ -6,6 +6,7 @@ use Prim.Native.Nat.{ℕ, min}
 use native.Mathlib.Omega.{arith}
 use Rattle.answer.specs.declared.Error.{Error}
 use Rattle.answer.specs.declared.Error.the-variants.{LeftRecursive, Unproductive}
+use Rattle.answer.proofs.Faults.{none-some}
 use Rattle.base.specs.Quantifiers.{lowest}
 use Rattle.grammar.specs.Limits.{maxNonterminals}
 use Rattle.grammar.specs.Encoding.{grammarOf}
@@ -25,7 +26,12 @@ use Rattle.base.specs.Lists.{listed}
 use Rattle.families.specs.RuleLists.{byRule}
 use Rattle.families.specs.Flaws.{flawIn, lowestOf, findingIn}
 use Rattle.families.specs.Sets.{firstNumber, followNumber, meetNumbers, reachNumber}
-use Rattle.families.specs.Analysis.{setsFault, findingOf, startsIf, byRuleIf, setsIf, families, refusedBy, familiesOf}
+use Rattle.families.specs.Analysis.{readingFault, setsFault, findingOf, startsIf, byRuleIf, setsIf, families, refusedBy, familiesOf}
+
+-- a reading without a fault is read
+pub read-some : (o : Outcome) → readingFault o ≡ none → (z : Sizes) × (o ≡ Read z)
+read-some (Read z) e = (z, refl)
+read-some (Faulty x) e = absurd (none-some (sym e))
 
 pub families-faulty : (k : Lookahead) (words : List ℕ) {e : Error} {o : Outcome} → o ≡ admission k words → o ≡ Faulty e → refusedBy e ≡ familiesOf k words
 unfolding familiesOf setsFault

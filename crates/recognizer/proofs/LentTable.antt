@@ -21,12 +21,12 @@ use Rattle.table.proofs.Analyzing.{entries-told}
 use Rattle.lending.specs.Lending.{lentOf}
 use Rattle.lending.proofs.WordsLaid.{lent-table, lent-nothing}
 use Rattle.recognizer_promises.specs.declared.Judgement.{Judgement}
-use Rattle.recognizer_promises.specs.Memory.{lentBack}
+use Rattle.promises.specs.Memory.{lentBack}
 use Rattle.recognizer_promises.specs.Judging.{memoFaultBy, foundUnless, JudgesWords}
 use Rattle.recognizer_promises.specs.Search.{searchFault, SearchesWords}
 use Rattle.recognizer_promises.specs.Properties.{JudgesBy}
 use Rattle.recognizer_promises.specs.Costliest.{JudgesCostliest}
-use Rattle.recognizer_promises.proofs.Checking.{read-some}
+use Rattle.families.proofs.Findings.{read-some}
 use Rattle.recognizer_promises.proofs.Judged.{judged-by-words, judged-faultless}
 use Rattle.recognizer_promises.proofs.CostliestFaults.{costliest-by-words, search-faultless}
 

@@ -3,19 +3,18 @@ use mathlib.Core.Path.{_≡_, refl, sym, ap, _∙_}
 use mathlib.Core.Bool.{Bool, true, false}
 use mathlib.Core.List.{List, [], _∷_, _++_}
 use mathlib.Core.Option.{Option, none, some}
-use Prim.Native.Nat.{ℕ, suc, _+_, _^_, _≤_, _<_}
+use Prim.Native.Nat.{ℕ, _^_}
 use native.Mathlib.Omega.{arith}
 use lib.Dec.{ltb}
 use lib.ListN.{length}
-use borrow.Author.Tests.{ltb-false}
 use Rattle.answer.specs.declared.Error.{Error}
-use Rattle.answer.specs.declared.Error.the-variants.{TableTooShort, MemoTooShort, BufferTooShort, InputTooLong, UnknownToken, TooManyInputs}
+use Rattle.answer.specs.declared.Error.the-variants.{TableTooShort, MemoTooShort, BufferTooShort, InputTooLong, TooManyInputs}
 use Rattle.answer.specs.declared.Calls.{Calls}
 use Rattle.answer.specs.declared.Answer.{Answer}
 use Rattle.answer.specs.declared.Answer.the-variants.{Refused, Rejected, Accepted}
 use Rattle.answer.specs.Faults.{faultIf, refusedOr}
 use Rattle.answer.proofs.Apart.{refusalNumber}
-use Rattle.answer.proofs.Faults.{fault-none, OfFault, of-none, of-some, of-if, EachFault, first-each}
+use Rattle.answer.proofs.Faults.{OfFault, of-if, first-each}
 use Rattle.base.specs.Choice.{choose}
 use Rattle.grammar.specs.Limits.{maxTokens, maxTableWords, maxMemoEntries}
 use Rattle.grammar.specs.Encoding.{grammarOf}
@@ -24,8 +23,6 @@ use Rattle.lookahead.specs.declared.Lookahead.the-variants.{One}
 use Rattle.lookahead.specs.Lookaheads.{tokens}
 use Rattle.semantics.specs.Choices.{tableChoice}
 use Rattle.semantics.specs.Descent.{accepts}
-use Rattle.event.specs.declared.Unknown.the-variants.{At}
-use Rattle.event.specs.Unknown.{unknownFrom, unknownFault}
 use Rattle.inputs.specs.Inputs.{maxInputs}
 use Rattle.table.specs.Layout.{tableRoom}
 use Rattle.table.specs.Analysis.{grammarFaults}
@@ -33,11 +30,7 @@ use Rattle.recognizer_promises.specs.Answers.{tableTooShort, checkFaultB
 use Rattle.recognizer_promises.specs.Properties.{JudgesBy}
 use Rattle.recognizer_promises.specs.Costliest.{lengthFaults, costliestFault}
 use Rattle.recognizer_promises.proofs.GrammarErrors.{GrammarErrors, grammar-each}
-
--- the errors of an input
-pub record InputErrors (P : Error → Type 0) : Type 0 where
-  pub tooLong : P InputTooLong
-  pub unknownToken : (i : ℕ) → i < maxTokens → P (UnknownToken i)
+use Rattle.promises.proofs.InputErrors.{InputErrors, input-each}
 
 -- the errors of judging
 pub record JudgeErrors (k : Lookahead) (words : List ℕ) (P : Error → Type 0) : Type 0 where
@@ -45,27 +38,6 @@ pub record JudgeErrors (k : Lookahead) (words : List ℕ) (P : Error → Type 0)
   pub shortMemo : P MemoTooShort
   pub grammar : GrammarErrors k words P
   pub input : InputErrors P
-
-module _ {P : Error → Type 0} (each : InputErrors P) where
-  unknown-each : (n at : ℕ) (w : List ℕ) → at + length w ≤ maxTokens → OfFault P (unknownFault (unknownFrom n at w))
-  unfolding unknownFrom
-  unknown-each n at [] h = of-none P
-  unknown-each n at (a ∷ w) h = go (ltb a n) (unknown-each n (suc at) w (omega arith))
-    where
-      go : (b : Bool) → OfFault P (unknownFault (unknownFrom n (suc at) w)) → OfFault P (unknownFault (choose b (unknownFrom n (suc at) w) (At at)))
-      go true later = later
-      go false later = of-some P (UnknownToken at) (each .unknownToken at (omega arith))
-
-  -- where it may have so many tokens
-  pub input-each : (limit n : ℕ) (input : List ℕ) → limit ≤ maxTokens
-      → EachFault P (faultIf (ltb limit (length input)) InputTooLong ∷ unknownFault (unknownFrom n 0 input) ∷ [])
-  input-each limit n input few = (
-    of-if P (ltb limit (length input)) InputTooLong (each .tooLong),
-    λ q. (
-      unknown-each n 0 input (omega (arith, ltb-false limit (length input) (fault-none (ltb limit (length input)) InputTooLong q))),
-      λ _. tt,
-    ),
-  )
 
 module _ {k : Lookahead} {words : List ℕ} {P : Error → Type 0} where
   pub check-each : P (tableTooShort k) → GrammarErrors k words P → (table : ℕ) → OfFault P (checkFaultBy k table words)

@@ -44,33 +44,22 @@ use Rattle.table.specs.declared.Found.{Found}
 use Rattle.table.specs.Layout.{tableWords, tableRoom}
 use Rattle.table.specs.Entries.{entriesOf}
 use Rattle.families.specs.Analysis.{readingFault, leftFault, unproductiveFault, findingOf}
-use Rattle.families.proofs.Findings.{told-passed, told-refused}
+use Rattle.families.proofs.Findings.{read-some, told-passed, told-refused}
 use Rattle.table.specs.Analysis.{clashFault, grammarFaults, fault, entriesIf, foundOf}
 use Rattle.table.specs.Conflicts.{firstClash}
 use Rattle.table.specs.declared.conflicts.Conflict.{Conflict}
 use Rattle.table.specs.declared.conflicts.Conflict.the-variants.{Absent, At}
 use Rattle.table.proofs.FirstClash.{clash-absent}
-use Rattle.recognizer_promises.specs.Memory.{lentBack}
+use Rattle.promises.specs.Memory.{lentBack}
 use Rattle.recognizer_promises.specs.Answers.{tableTooShort, checkFaultBy}
 use Rattle.recognizer_promises.specs.Judging.{EntriesFound}
 use Rattle.recognizer_promises.specs.Properties.{PassedBy, PassedGrammar, LeastFamiliesBy, ChecksBy}
-use Rattle.recognizer_promises.proofs.Places.{check-tells, encodes-taken, fault-encoded, places}
-
-pub none-left : (o : Option ℕ) → leftFault o ≡ none → o ≡ none
-none-left none e = refl
-none-left (some A) e = absurd (omega (arith, fault-number e))
-
-none-unproductive : (o : Option ℕ) → unproductiveFault o ≡ none → o ≡ none
-none-unproductive none e = refl
-none-unproductive (some A) e = absurd (omega (arith, fault-number e))
+use Rattle.promises.proofs.Places.{check-tells, none-left, none-unproductive}
+use Rattle.recognizer_promises.proofs.Places.{encodes-taken, fault-encoded, places}
 
 none-clash : (k : Lookahead) (r : Conflict) → clashFault k r ≡ none → r ≡ Absent
 none-clash k Absent e = refl
 none-clash k (At A c) e = absurd (none-some (sym e))
-
-pub read-some : (o : Outcome) → readingFault o ≡ none → (z : Sizes) × (o ≡ Read z)
-read-some (Read z) e = (z, refl)
-read-some (Faulty x) e = absurd (none-some (sym e))
 
 -- the theorems of the semantics about an encoded grammar
 pub least-for : (n : ℕ) {words : List ℕ} (G : Grammar) → Encodes words G → LeastSets G n

@@ -35,7 +35,9 @@ use Rattle.base.specs.Strings.{Over}
 use Rattle.table.specs.Layout.{tableWords}
 use Rattle.table.specs.Analysis.{grammarFaults, fault, foundOf}
 use Rattle.table.specs.declared.Found.{Found}
-use Rattle.recognizer_promises.specs.Memory.{lentBack, memoWords}
+use Rattle.promises.specs.Memory.{lentBack}
+use Rattle.promises.proofs.Inputs.{PassedWith, RefusedWith, byGrammar, byFaults, with-passed, with-refused}
+use Rattle.recognizer_promises.specs.Memory.{memoWords}
 use Rattle.recognizer_promises.specs.Answers.{judgeFault, verdictOf, verdictNumbers}
 use Rattle.recognizer_promises.specs.declared.Judgement.{Judgement}
 use Rattle.recognizer_promises.specs.Judging.{foundUnless, refusedWith, EntriesFound, JudgedPassed}
@@ -43,7 +45,7 @@ use Rattle.recognizer_promises.specs.Properties.{Judges}
 use Rattle.recognizer_promises.specs.Costliest.{callsOn, costliestInput, lengthFaults, costliestFault, withLength, JudgesCostliest}
 use Rattle.recognizer_promises.specs.Search.{searchFault, SearchesWords, SearchGiven, BestJudged}
 use Rattle.recognizer_promises.proofs.Checking.{passed-fault-for, passed-encodes, passed-free, Told, told, found as found-entries, found-fault}
-use Rattle.recognizer_promises.proofs.JudgeFaults.{input-fault, readable-faultless, PassedWith, RefusedWith, byGrammar, byFaults, with-passed, with-refused}
+use Rattle.recognizer_promises.proofs.JudgeFaults.{input-fault, readable-faultless}
 use Rattle.recognizer_promises.proofs.Judged.{verdict-told, judges, same-terminals}
 
 -- what is found of a grammar and a length, as the code finds it

@@ -41,7 +41,10 @@ use Rattle.table.specs.Analysis.{fault, foundOf}
 use Rattle.table.specs.declared.Found.{Found}
 use Rattle.families.specs.declared.Finding.{Finding}
 use Rattle.families.specs.declared.Finding.the-variants as finding
-use Rattle.recognizer_promises.specs.Memory.{lentBack, memoWordBy, memoWordsBy}
+use Rattle.promises.specs.Memory.{lentBack}
+use Rattle.promises.proofs.Inputs.{PassedWith, RefusedWith, byGrammar, byFaults, with-passed, with-refused}
+use Rattle.promises.proofs.Places.{judge-tells}
+use Rattle.recognizer_promises.specs.Memory.{memoWordBy, memoWordsBy}
 use Rattle.event.specs.Events.{inputOf}
 use Rattle.event.specs.Unknown.{unknownFrom}
 use Rattle.event.proofs.Inputs.{input-length}
@@ -50,8 +53,8 @@ use Rattle.recognizer_promises.specs.Judging.{memoFaultBy, foundUnless, 
 use Rattle.recognizer_promises.specs.declared.Judgement.{Judgement}
 use Rattle.recognizer_promises.specs.Properties.{PassedBy, Readable, RecognizesBy, JudgesBy}
 use Rattle.recognizer_promises.proofs.Checking.{fits-few, passed-fault-for, passed-free, passed-predictive, fault-passed, Told, told, found as found-entries, found-fault}
-use Rattle.recognizer_promises.proofs.Places.{judge-tells, fault-encoded, places}
-use Rattle.recognizer_promises.proofs.JudgeFaults.{judge-fault-long, input-fault, judge-table-long, memo-fault-short, memo-fault-long, judged-readable-by, readable-faultless, faultless-readable, judged-checked, PassedWith, RefusedWith, byGrammar, byFaults, with-passed, with-refused}
+use Rattle.recognizer_promises.proofs.Places.{fault-encoded, places}
+use Rattle.recognizer_promises.proofs.JudgeFaults.{judge-fault-long, input-fault, judge-table-long, memo-fault-short, memo-fault-long, judged-readable-by, readable-faultless, faultless-readable, judged-checked}
 use Rattle.recognizer_promises.proofs.Meaning.{meaning}
 
 -- the numbers of what is answered

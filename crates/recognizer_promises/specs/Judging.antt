@@ -26,7 +26,8 @@ use Rattle.table.specs.Entries.{entriesOf, noRules}
 use Rattle.table.specs.declared.Found.{Found}
 use Rattle.table.specs.Analysis.{grammarFaults, fault, foundWith, foundOf}
 use Rattle.recognizer_promises.specs.declared.Judgement.{Judgement}
-use Rattle.recognizer_promises.specs.Memory.{lentBack, memoWordsBy}
+use Rattle.promises.specs.Memory.{lentBack}
+use Rattle.recognizer_promises.specs.Memory.{memoWordsBy}
 use Rattle.recognizer_promises.specs.Answers.{inputFaults, verdictBy}
 
 -- what checking answers, by what is found of a grammar

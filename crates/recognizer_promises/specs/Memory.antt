@@ -1,9 +1,6 @@
 -- What lent memory holds after a call.
 use mathlib.Core.List.{List, _++_, map}
-use mathlib.Core.Option.{Option, none, some}
 use Prim.Native.Nat.{ℕ}
-use lib.ListN.{length, drop}
-use Rattle.answer.specs.declared.Error.{Error}
 use Rattle.base.specs.Choice.{choose}
 use Rattle.grammar.specs.Codes.{uncalledCode}
 use Rattle.grammar.specs.Syntax.{Grammar}
@@ -13,11 +10,6 @@ use Rattle.semantics.specs.Descent.{descend}
 use Rattle.semantics.specs.ComesTo.{Call}
 use Rattle.semantics.specs.Calls.{sameCall, allCalls, calls}
 use Rattle.semantics.specs.Memo.{encode}
-
--- by whether a call is refused: what was there, or new words in front of what was there
-abbrev pub lentBack : Option Error → List ℕ → List ℕ → List ℕ
-lentBack (some e) new old = old
-lentBack none new old = new ++ drop (length new) old
 
 -- the entry of a call with k tokens of lookahead: its outcome where it was made
 unfoldable pub memoWordBy : ℕ → Grammar → List ℕ → Call → ℕ

@@ -20,7 +20,8 @@ use Rattle.inputs.specs.Inputs.{maxInputs}
 use Rattle.semantics.specs.LeftRecursion.{NoLeftRecursion}
 use Rattle.table.specs.Entries.{entriesOf}
 use Rattle.table.specs.Analysis.{grammarFaults, foundOf}
-use Rattle.recognizer_promises.specs.Memory.{lentBack, memoWords}
+use Rattle.promises.specs.Memory.{lentBack}
+use Rattle.recognizer_promises.specs.Memory.{memoWords}
 use Rattle.recognizer_promises.specs.Answers.{verdictOf}
 use Rattle.recognizer_promises.specs.declared.Judgement.{Judgement}
 use Rattle.recognizer_promises.specs.Judging.{foundUnless, JudgedPassed}

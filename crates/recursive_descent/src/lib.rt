@@ -3,8 +3,9 @@ ghost use Rattle.event.specs.Events.{inputOf};
 ghost use Rattle.recognizer_promises.specs.Judging.{JudgesWords};
 use answer::Error;
 use families::Finding;
-use findings::with_input;
 use grammar::limits::MEMO_ENTRIES;
+use grammar::limits::TOKENS;
+use input_findings::with_input;
 use judging::judge_passed;
 use judging::refused;
 use lookahead::Lookahead;
@@ -28,7 +29,7 @@ pub fn judge_words(
         return refused(Error::MemoTooShort);
     }
     let found = find(words, lookahead);
-    let finding = with_input(found.finding, events);
+    let finding = with_input(found.finding, events, TOKENS);
     match finding {
         Finding::Refused(error) => refused(error),
         Finding::Passed(sizes) => {

@@ -29,7 +29,8 @@ use Rattle.semantics.proofs.Theorems.{theorems}
 use Rattle.table.specs.Layout.{tableWords}
 use Rattle.answer.specs.Faults.{refusedOr}
 use Rattle.recognizer_promises.specs.Answers.{checkFault, judgeFault, callsOf, verdictBy, verdictOf}
-use Rattle.recognizer_promises.specs.Memory.{lentBack, memoWordBy, memoWord, memoWordsBy, memoWords}
+use Rattle.promises.specs.Memory.{lentBack}
+use Rattle.recognizer_promises.specs.Memory.{memoWordBy, memoWord, memoWordsBy, memoWords}
 use Rattle.recognizer_promises.proofs.Checking.{passed-fault, passed-encodes, passed-free}
 use Rattle.recognizer_promises.proofs.JudgeFaults.{judged-readable}
 use Rattle.text.proofs.Lengths.{refusal-most}

@@ -21,7 +21,8 @@ use Rattle.families.specs.Sets.{firstNumber, followNumber, Members}
 use Rattle.table.specs.Layout.{tableWords}
 use Rattle.answer.specs.Faults.{refusedOr}
 use Rattle.recognizer_promises.specs.Answers.{checkFault, judgeFault, verdictOf}
-use Rattle.recognizer_promises.specs.Memory.{lentBack, memoWords}
+use Rattle.promises.specs.Memory.{lentBack}
+use Rattle.recognizer_promises.specs.Memory.{memoWords}
 use Rattle.recognizer_promises.specs.Properties.{PassedGrammar}
 use Rattle.report.specs.declared.Rooms.{Rooms}
 use Rattle.report.specs.declared.Reads.{Reads}

@@ -29,7 +29,7 @@ use Rattle.families.specs.Analysis.{readingFault, setsFaults, setsFault, setsIf
 use Rattle.base.specs.Lists.{listed}
 use Rattle.families.specs.Sets.{firstNumber, followNumber}
 use Rattle.base.proofs.Lists.{listed-at, listed-long}
-use Rattle.families.proofs.Findings.{told-passed, told-refused}
+use Rattle.families.proofs.Findings.{read-some, told-passed, told-refused}
 use Rattle.table.specs.declared.conflicts.Conflict.{Conflict}
 use Rattle.table.specs.declared.conflicts.Conflict.the-variants as conflict
 use Rattle.claims.specs.declared.Claims.{Claims}
@@ -60,13 +60,9 @@ fault-first : (k : Lookahead) (words : List ℕ) (e : Error) → admission k wor
 fault-first k words e f = rw (fault-sets k words, sets-first k words e f)
 
 -- a grammar clear of these is admitted, and then it has a fault just where an entry clashes
-none-faulty : (o : Outcome) → readingFault o ≡ none → (z : Sizes) × (o ≡ Read z)
-none-faulty (Read z) e = (z, refl)
-none-faulty (Faulty x) e = absurd (none-some (sym e))
-
 pub sets-admitted : (k : Lookahead) (words : List ℕ) → setsFault k words ≡ none → (z : Sizes) × (admission k words ≡ Read z)
 unfolding setsFault
-sets-admitted k words e = none-faulty (admission k words) (each-none (setsFaults k words) e .0)
+sets-admitted k words e = read-some (admission k words) (each-none (setsFaults k words) e .0)
 
 clash-alone : (k : Lookahead) (r : Conflict) → (firstFault (none ∷ clashFault k r ∷ []) ≡ none) ↔ (r ≡ conflict.Absent)
 clash-alone k conflict.Absent = (λ e. refl, λ e. refl)

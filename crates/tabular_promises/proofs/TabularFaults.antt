@@ -1,5 +1,5 @@
 -- The order of the faults of judging by tabulation: which is the first, by what holds; which errors it can give; and that none is a conflict.
-use mathlib.Core.Path.{_≡_, sym, _∙_}
+use mathlib.Core.Path.{_≡_, _∙_}
 use mathlib.Core.List.{List, [], _∷_, _++_}
 use mathlib.Core.Option.{Option, none, some}
 use Prim.Native.Nat.{ℕ, _≤_, _<_}
@@ -18,8 +18,8 @@ use Rattle.grammar.specs.Limits.{maxTabularTokens, maxSpanWords}
 use Rattle.grammar.specs.Encoding.{grammarOf}
 use Rattle.lookahead.specs.declared.Lookahead.the-variants.{One}
 use Rattle.families.specs.Analysis.{setsFaults, setsFault}
-use Rattle.recognizer_promises.proofs.GrammarErrors.{SetsErrors, sets-each}
-use Rattle.recognizer_promises.proofs.CallErrors.{InputErrors, input-each}
+use Rattle.promises.proofs.SetsErrors.{SetsErrors, sets-each}
+use Rattle.promises.proofs.InputErrors.{InputErrors, input-each}
 use Rattle.tabular_promises.specs.Answers.{tabularFault}
 
 -- the first fault, by what holds
@@ -40,16 +40,8 @@ module _ (words input before : List ℕ) where
         (faultIf (ltb maxTabularTokens (length input)) InputTooLong ∷ unknownFault (unknownFrom (grammarOf words .terminals) 0 input) ∷ [])
         ∙ rw (le-ltb (length before) maxSpanWords room, e)
 
-    module _ (passed : setsFault One words ≡ none) where
-      pub too-long : maxTabularTokens < length input → judged ≡ some InputTooLong
-      too-long h = fault-long passed ∙ rw (lt-ltb maxTabularTokens (length input) h)
-
-      module _ (short : length input ≤ maxTabularTokens) where
-        pub unknown-token : {at : ℕ} → At at ≡ unknownFrom (grammarOf words .terminals) 0 input → judged ≡ some (UnknownToken at)
-        unknown-token u = fault-long passed ∙ rw (le-ltb maxTabularTokens (length input) short, sym u)
-
-        pub no-fault : unknownFrom (grammarOf words .terminals) 0 input ≡ Absent → judged ≡ none
-        no-fault u = fault-long passed ∙ rw (le-ltb maxTabularTokens (length input) short, u)
+    pub no-fault : setsFault One words ≡ none → length input ≤ maxTabularTokens → unknownFrom (grammarOf words .terminals) 0 input ≡ Absent → judged ≡ none
+    no-fault passed short u = fault-long passed ∙ rw (le-ltb maxTabularTokens (length input) short, u)
 
 -- which errors it can give
 pub tabular-each : {P : Error → Type 0} → SetsErrors One P → P SpansTooShort → InputErrors P → (spans : ℕ) (words input : List ℕ)

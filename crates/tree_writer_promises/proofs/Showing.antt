@@ -49,7 +49,8 @@ use Rattle.columns.specs.Columns.{columns}
 use Rattle.table.specs.Layout.{tableWords}
 use Rattle.table.proofs.Words.{table-entry, table-length}
 use Rattle.recognizer_promises.specs.Answers.{judgeFault, callsOf, verdictBy, verdictOf, verdictNumbers}
-use Rattle.recognizer_promises.specs.Memory.{lentBack, memoWords}
+use Rattle.promises.specs.Memory.{lentBack}
+use Rattle.recognizer_promises.specs.Memory.{memoWords}
 use Rattle.recognizer_promises.specs.Properties.{Judges, PassedGrammar}
 use Rattle.recognizer_promises.proofs.Checking.{passed-fault, passed-encodes, passed-read, no-clashes, not-left-recursive}
 use Rattle.recognizer_promises.proofs.JudgeFaults.{judgeRows, judged-rows, judged-readable, table-short, memo-short}
