@@ -94,6 +94,20 @@ def body_of(card, step):
     return shortened(('not ' if step.negative else '') + body_text(card.grammar, step.body))
 
 
+# Names that the start never comes to
+
+def unreached(card):
+    """A line for each name that no row of bodies leads to from name 0: it has no say in any verdict."""
+    grammar = card.grammar
+    found = list(steps(grammar))
+    reached, before = {0}, 0
+    while before != len(reached):
+        before = len(reached)
+        reached |= {step.to for step in found if step.name in reached}
+    return [f'{card.rule(number).split(":")[0]}: nothing comes to {grammar.nonterminals[name]} from {grammar.nonterminals[0]}'
+            for name in range(len(grammar.nonterminals)) if name not in reached for number in rules_of(grammar, name)[:1]]
+
+
 # Left recursion
 
 def nullable(grammar):

@@ -1,14 +1,23 @@
-"""Texts and cards as they are read from files."""
+"""Texts, cards and logs as they are read from files and from standard input."""
 import sys
 from exits import fail, say
 from explain import Card
 from notation import Damaged, beyond_limits, decode, encode, from_bytes, located, parse, to_bytes
 
 
+UTF_16 = (b'\xff\xfe', b'\xfe\xff')    # how a text in UTF-16 begins
+
+
+def standard_input():
+    if sys.stdin is None:
+        fail('standard input is closed')
+    return sys.stdin
+
+
 def read(path):
     try:
         if path == '-':
-            return sys.stdin.buffer.read()
+            return standard_input().buffer.read()
         with open(path, 'rb') as file:
             return file.read()
     except OSError as error:
@@ -17,14 +26,17 @@ def read(path):
 
 def is_words(data):
     """A well-formed card has a zero byte in its heading, a text has none."""
-    return b'\0' in data
+    return b'\0' in data and not data.startswith(UTF_16)
 
 
 def text_of(path, data, otherwise='neither text nor the words of a card'):
+    if data.startswith(UTF_16):
+        fail(f'{path}: a text in UTF-16: save it as UTF-8')
     try:
         return data.decode('utf-8-sig')
-    except UnicodeDecodeError:
-        fail(f'{path}: {otherwise}')
+    except UnicodeDecodeError as error:
+        line = 1 + data.count(b'\n', 0, error.start)
+        fail(f'{path}: {otherwise}: line {line} is not in UTF-8')
 
 
 def parsed(path, data):
@@ -50,3 +62,18 @@ def loaded(path):
         return data, Card(words, decode(words), None)
     except Damaged:
         return data, Card(words, None, None)
+
+
+def log_text(path, letters):
+    """The log of the letters that were given or, without any, of standard input; the path is that of its card."""
+    if letters:
+        return ' '.join(letters)
+    if path == '-':
+        fail('the card is read from standard input, so the log has to be an argument')
+    if standard_input().isatty():
+        say('the log, then the end of input:')
+    text = text_of('log', standard_input().buffer.read(), 'not a text of letters')
+    lines = sum(bool(line.strip()) for line in text.splitlines())
+    if lines > 1:
+        say(f'log: {lines} lines are read as one log')
+    return text

@@ -8,7 +8,8 @@ The text (its words are reserved: letters, names, empty, not):
     A -> a A b | empty
 
 The words are those of document 01: a word's top four bits are its kind, the low 28 its payload."""
-import re
+import difflib, re, sys
+from array import array
 from typing import NamedTuple
 
 
@@ -57,6 +58,11 @@ class Damaged(Exception):
 
 RESERVED = {'letters', 'names', 'empty', 'not'}
 TOKEN = re.compile(r"\s*(?:(->|[|&]|[A-Za-z0-9_][A-Za-z0-9_']*)|(\S))")
+LINE_END = re.compile(r'\r\n|\r|\n')
+
+
+def lines_of(text):
+    return LINE_END.split(text)
 
 
 def tokens(line, number):
@@ -64,9 +70,24 @@ def tokens(line, number):
     found = []
     for match in TOKEN.finditer(line.split('#', 1)[0]):
         if match[2]:
-            raise TextError(number, f"the character '{match[2]}' means nothing here")
+            raise TextError(number, f"the character '{match[2]}' means nothing here" + character_meant(match[2]))
         found.append(match[1])
     return found
+
+
+def character_meant(character):
+    """What may be meant by a character that means nothing."""
+    if character in '\u2192\u21d2=:-':
+        return ": a rule is written with '->'"
+    if character in ',;.':
+        return ': words are separated by spaces'
+    if character in '!~\u00ac':
+        return ": a must-not is written with 'not'"
+    if character in '\u03b5\u03bb"\u2205':
+        return ": the empty body is written 'empty'"
+    if character.isalpha():
+        return ": words are of A to Z, a to z, 0 to 9, _ and '"
+    return ''
 
 
 def is_word(token):
@@ -87,7 +108,7 @@ def split(line, items, separator):
 def statements(text):
     """The lists of (token, line); a line that begins with | or & continues the one before."""
     found = []
-    for number, line in enumerate(text.split('\n'), 1):
+    for number, line in enumerate(lines_of(text), 1):
         items = [(token, number) for token in tokens(line, number)]
         if items and items[0][0] in ('|', '&'):
             if not found or found[-1][0][0] in ('letters', 'names'):
@@ -154,7 +175,7 @@ def located(text):
             if terminals is None:
                 raise TextError(line, "a line 'letters' is missing before the first rule")
             definitions.append((head_of(items), items))
-    last = text.count('\n') + 1
+    last = len(lines_of(text))
     if terminals is None:
         raise TextError(last, "the line 'letters' is missing")
     listed = nonterminals is not None
@@ -179,6 +200,10 @@ def resolver(nonterminals, terminals, listed):
     symbols = {name: Symbol(NONTERMINAL, at) for at, name in enumerate(nonterminals)}
     symbols.update((name, Symbol(TERMINAL, at)) for at, name in enumerate(terminals))
 
+    def meant(token):
+        near = difflib.get_close_matches(token, [*symbols, 'empty', 'not'], n=1, cutoff=0.66)
+        return f'; is {near[0]} meant?' if near else ''
+
     def resolve(token, line):
         if token in symbols:
             return symbols[token]
@@ -187,10 +212,10 @@ def resolver(nonterminals, terminals, listed):
         if token in RESERVED or not is_word(token):
             raise TextError(line, f"'{token}' does not belong inside a body")
         if not is_nonterminal(token):
-            raise TextError(line, f"'{token}' is not among the letters")
+            raise TextError(line, f"'{token}' is not among the letters" + meant(token))
         if listed:
-            raise TextError(line, f"{token} is not in the line 'names'")
-        raise TextError(line, f'{token} has no rule')
+            raise TextError(line, f"{token} is not in the line 'names'" + meant(token))
+        raise TextError(line, f'{token} has no rule' + meant(token))
     return resolve
 
 
@@ -282,7 +307,7 @@ def event_of(grammar, written):
 
 
 def unknown_event(grammar, at, written):
-    return f"event {at}, '{written}', is not among the letters {' '.join(grammar.terminals)}"
+    return f"event {at}, '{written}', is not among the letters {' '.join(grammar.terminals)}" + (' (the first event is event 0)' if at else '')
 
 
 def parse_input(grammar, text):
@@ -313,13 +338,20 @@ def encode(grammar):
 
 
 def to_bytes(words):
-    return b''.join(w.to_bytes(4, 'little') for w in words)
+    return in_file_order(array('I', words)).tobytes()
 
 
 def from_bytes(data):
     if len(data) % 4:
         raise Damaged(3, 0, f'{len(data)} bytes are not a row of 4-byte words')
-    return [int.from_bytes(data[at:at + 4], 'little') for at in range(0, len(data), 4)]
+    return in_file_order(array('I', data)).tolist()
+
+
+def in_file_order(words):
+    """Words as a file has them, low byte first, from those of this machine, or the other way round."""
+    if sys.byteorder == 'big':
+        words.byteswap()
+    return words
 
 
 KIND_NAMES = {HEADING: 'a heading', RULE: 'a rule', POSITIVE: 'a must', NEGATIVE: 'a must-not',

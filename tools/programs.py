@@ -54,12 +54,14 @@ def program(name):
 def printed(name, stdin, card=None):
     """The lines that a program prints, with the bytes of card.bin where it reads that."""
     path = os.path.abspath(program(name))
-    with tempfile.TemporaryDirectory() as folder:
+    with tempfile.TemporaryDirectory() as folder, tempfile.TemporaryFile() as given:
         if card is not None:
             with open(os.path.join(folder, 'card.bin'), 'wb') as file:
                 file.write(card)
+        given.write(stdin)    # a file, since a program may refuse what it is given before it has read all of it
+        given.seek(0)
         try:
-            run = subprocess.run([path], input=stdin, capture_output=True, cwd=folder)
+            run = subprocess.run([path], stdin=given, capture_output=True, cwd=folder)
         except OSError as error:
             fail(f'{path}: {error.strerror}')
     if run.returncode:

@@ -1,4 +1,4 @@
-"""The parse tree of an accepted log, from its words: as indented text, and as a picture in SVG."""
+"""The parse tree of an accepted log, from its vertices: as indented text, and as a picture in SVG."""
 from html import escape
 from typing import NamedTuple
 from notation import TERMINAL, rule_text
@@ -33,9 +33,8 @@ def descendants(grammar, at, vertex):
     return found
 
 
-def walked(grammar, words):
+def walked(grammar, vertices):
     """The tree from its root down, musts in order: what is met, one after the other."""
-    vertices = [vinegarspit.vertex(word) for word in words]
     at = {(grammar.rules[vertex.rule].head, vertex.start): vertex for vertex in vertices}
     todo, seen = [(vertices[0], 0, None)], set()
     while todo:
@@ -49,8 +48,8 @@ def walked(grammar, words):
             todo += [(each, depth + 1, met) for row in reversed(descendants(grammar, at, met)) for each in reversed(row)]
 
 
-def text(grammar, log, words):
-    for met in walked(grammar, words):
+def text(grammar, log, vertices):
+    for met in walked(grammar, vertices):
         indent = '  ' * met.depth
         if isinstance(met, Leaf):
             yield f'{indent}{log[met.place]}'
@@ -63,9 +62,9 @@ def text(grammar, log, words):
 CELL, ROW, BOX = 72, 56, 28    # an event's width, a level's height, a vertex's height
 
 
-def svg(grammar, log, words):
+def svg(grammar, log, vertices):
     """Vertices over their stretches, the log's letters along the bottom; a dashed box is a vertex that stands elsewhere."""
-    nodes = list(walked(grammar, words))
+    nodes = list(walked(grammar, vertices))
     levels = max(node.depth for node in nodes) + 1
     bottom = levels * ROW + BOX
     ends, where, boxes, lines = {}, {}, [], []

@@ -15,7 +15,7 @@ def judged():
             ((loop, 'aabbccaaabbbccc'), '', 0,
              'accepted: the log of 15 events belongs to Day\n25 calls, the farthest at place 15, the end of the log\n'),
             ((loop, 'aabbcc', 'a a a', 'bbbccc'), 'c', 0, 'accepted: the log of 15 events '),
-            ((loop,), 'aabbcc\na a abbbccc\n', 0, 'accepted: the log of 15 events '),
+            ((loop,), 'aabbcca a abbbccc\n', 0, 'accepted: the log of 15 events '),
             ((loop, 'aaabbbcc'), '', 1, 'rejected: the log of 8 events does not belong to Day\n8 calls, the farthest at place 6, before c\n'),
             ((loop, ''), 'abc', 0, 'accepted: the log of 0 events belongs to Day\n1 call, the farthest at place 0, the end of the log\n'),
             ((loop,), '', 0, 'accepted: the log of 0 events '),
@@ -73,7 +73,7 @@ def marks(number, lookahead):
 
 STUB = """#!/bin/sh
 echo "rt: answer proved (3 s)"
-mkdir -p target/bin && cp {programs}/sheet {programs}/judge {programs}/gaps target/bin/
+mkdir -p target/bin && cp "{programs}/sheet" "{programs}/judge" "{programs}/gaps" target/bin/
 echo "rt: ok"
 """
 
