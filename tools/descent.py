@@ -5,7 +5,8 @@ the parse tree that the library writes (tests/tools compares them)."""
 from typing import NamedTuple, Optional
 from calls import trusted
 from judges import lookahead
-from notation import DIRECTION, NONTERMINAL, Symbol
+from logs import DIRECTION
+from notation import NONTERMINAL, Symbol
 import vinegarspit
 
 

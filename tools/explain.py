@@ -3,8 +3,9 @@
 Nothing here decides: the programs refuse, with a number and a place, and what they found is looked up again in the grammar."""
 from typing import NamedTuple, Optional
 from itertools import product
-from notation import (MAX_WORDS, MAX_INPUT, MAX_LOGS, MAX_WIDE_TERMINALS, NEGATIVE, NONTERMINAL, RULE, Grammar, Damaged, body_text, rule_text, scan,
-                      unknown_event)
+from logs import unknown_event
+from notation import (MAX_WORDS, MAX_INPUT, MAX_LOGS, MAX_WIDE_TERMINALS, NEGATIVE, NONTERMINAL, RULE, Grammar, Damaged,
+                      body_text, rule_text, scan)
 
 
 LONGEST = 100    # how much of a rule or a body is shown

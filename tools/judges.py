@@ -4,13 +4,13 @@ Nothing here decides: every check and every verdict is a call of the library. Wh
 from array import array
 from typing import NamedTuple
 import vinegarspit
-from notation import DIRECTION, MAX_INPUT, MAX_PLAIN_INPUT, MAX_WIDE_TERMINALS
+from logs import DIRECTION
+from notation import MAX_INPUT, MAX_PLAIN_INPUT, MAX_WIDE_TERMINALS
 from explain import column_of, refusal
 
 
 ONE, TWO, PLAIN = 'one event', 'two events', 'plain'    # by one event of lookahead, by two, and plainly
 COLUMNS_OF_TWO = 1 + MAX_WIDE_TERMINALS + MAX_WIDE_TERMINALS ** 2    # of a row of the table, however few letters there are
-NO_LETTER = 255    # stands in a log for what is no letter of the card, so that the judge refuses it
 
 
 class Told(NamedTuple):

@@ -3,7 +3,7 @@
 Nothing here decides: every step and every judgement is a call of the proved library."""
 import vinegarspit
 from explain import counted
-from notation import DIRECTION, WESTWARD, event_of, events, unknown_event
+from logs import DIRECTION, WESTWARD, event_of, events, unknown_event
 
 
 LONGEST = 60    # how much of a log is shown

@@ -92,6 +92,7 @@ class Answer(NamedTuple):
     count: int
     far: int
 
+    @functools.lru_cache(maxsize=4096)
     def __str__(self):
         """As the programs print it."""
         return {'refused': f'refused {self.number} {self.place}', 'passed': 'passed'}.get(self.verdict, f'{self.verdict} {self.count} {self.far}')

@@ -1,7 +1,8 @@
 """Commands that need nothing built: assemble, disassemble, words and log."""
 import os
 from checking import CARD, ROOT, check, example, run
-from notation import encode, from_bytes, parse, parse_input, to_bytes
+from logs import parse_input
+from notation import encode, from_bytes, parse, to_bytes
 
 
 def commands():

@@ -18,7 +18,7 @@ def sessions(path):
 
 
 # Commands that call the library, which takes a C compiler to make.
-LIBRARY = re.compile(r'^examples/tally |tools/card (tree|plain|rehearse|costliest) |--lookahead')
+LIBRARY = re.compile(r'^examples/tally |tools/card (tree|plain|rehearse|costliest|test) |--lookahead|--each')
 
 
 def documents():

@@ -1,10 +1,8 @@
 """The examples: their sheets and their logs, by the built programs."""
-import os, re, subprocess, tempfile
+import os, subprocess, tempfile
 from checking import BIN, CARD, ROOT, check, example, run
-from notation import encode, parse, parse_input, to_bytes
-
-
-ROW = re.compile(r'^#   (\S.*?)\s+(accepted|rejected) (\d+) (\d+)\b')
+from logs import parse_input
+from notation import encode, read_text, to_bytes
 
 
 SHEET_OF_E = """names 4 letters 2 rules 5
@@ -58,13 +56,14 @@ def logs():
     rows = 0
     with tempfile.TemporaryDirectory() as folder:
         for file in passing():
-            text = example(file)
+            text = read_text(example(file))
             with open(os.path.join(folder, 'card.bin'), 'wb') as card:
-                card.write(to_bytes(encode(parse(text))))
-            for log, *verdict in (match.groups() for match in map(ROW.match, text.splitlines()) if match):
-                tokens = parse_input(parse(text), log if log != '(empty)' else '')
+                card.write(to_bytes(encode(text.grammar)))
+            for expected in text.expected:
+                tokens = parse_input(text.grammar, expected.written)
                 printed = subprocess.run([os.path.join(BIN, 'judge')], input=tokens, capture_output=True, cwd=folder, timeout=60)
                 first = printed.stdout.decode().split('\n')[0]
-                check(first == ' '.join(verdict), f'examples/{file}: {log} is {first}')
+                check(first == '{} {} {}'.format(expected.verdict, *expected.calls), f'examples/{file}: {expected.written} is {first}')
                 rows += 1
+    check(rows == 20, 'the logs of the examples')
     print(f'examples: {rows} logs are judged as written')

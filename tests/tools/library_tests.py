@@ -1,11 +1,10 @@
 """Commands that call the library: plain, tree, two events of lookahead, rehearse and costliest."""
-import os, re, tempfile
+import os, tempfile
 from itertools import product
 import vinegarspit
 from calls import MARKED
 from checking import CARD, ROOT, check, example, run
-from example_tests import ROW
-from notation import MAX_INPUT, encode, parse, to_bytes
+from notation import MAX_INPUT, encode, parse, read_text, to_bytes
 
 
 TRIANGLE = """accepted: the log of 4 events belongs to Spur
@@ -16,9 +15,6 @@ TRIANGLE = """accepted: the log of 4 events belongs to Spur
 3 a                      Spur  -
 4 end                          Spur
 """
-
-PLAIN_ROW = re.compile(r'^#   (\S+)\s+(accepted|rejected)$')
-
 
 def plainly():
     """Plain verdicts by the proved library, also by a card that the check refuses, and the names of every stretch."""
@@ -39,12 +35,10 @@ def plainly():
             (('-', 'a'), bytes.fromhex('010100100000003000000070'), 'refused 5 1: word 1 (30000000): a must before the first rule')):
         status, printed, errors = run(CARD, 'plain', *args, stdin=stdin)
         check(status == 2 and printed == b'' and reason in errors, f'plain {args}: {status} {printed} {errors}')
-    rows = 0
-    for match in filter(None, map(PLAIN_ROW.match, example('spur.card').splitlines())):
-        log, verdict = match.groups()
-        check(run(CARD, 'plain', spur, log if log != '(empty)' else '')[1].startswith(verdict.encode()), f'examples/spur.card: {log} is not {verdict}')
-        rows += 1
-    check(rows == 5, 'the logs of examples/spur.card')
+    rows = read_text(example('spur.card')).expected
+    for expected in rows:
+        check(run(CARD, 'plain', spur, expected.written)[1].startswith(expected.verdict.encode()), f'examples/spur.card: {expected.written} is not {expected.verdict}')
+    check(len(rows) == 5, 'the logs of examples/spur.card')
     print('plain: verdicts, refusals and the triangle of stretches')
 
 
@@ -117,13 +111,12 @@ def by_two():
         status, printed, errors = run(CARD, 'judge', *args)
         check(status == code and printed.decode().startswith(out) and bool(errors) == (code == 2), f'judge {args}: {status} {printed.decode()} {errors}')
     check(MARKED not in run(CARD, 'judge', e, 'bba', '--calls', '--lookahead', '2')[1].decode(), 'a mark on an end where only the next event may follow')
-    rows = 0
-    for log, *verdict in (match.groups() for match in map(ROW.match, example('ladder.card').splitlines()) if match):
-        told = run(CARD, 'judge', '--lookahead', '2', ladder, log if log != '(empty)' else '')[1].decode()
-        check(told.startswith(verdict[0]) and f'\n{verdict[1]} call' in told and f'at place {verdict[2]},' in told, f'examples/ladder.card: {log} is {told}')
-        rows += 1
-    check(rows == 4, 'the logs of examples/ladder.card')
-    print(f'two events of lookahead: {len(WIDE)} refusals told in names, {rows} logs of the example')
+    rows = read_text(example('ladder.card')).expected
+    for expected in rows:
+        told, (count, far) = run(CARD, 'judge', '--lookahead', '2', ladder, expected.written)[1].decode(), expected.calls
+        check(told.startswith(expected.verdict) and f'\n{count} call' in told and f'at place {far},' in told, f'examples/ladder.card: {expected.written} is {told}')
+    check(len(rows) == 4, 'the logs of examples/ladder.card')
+    print(f'two events of lookahead: {len(WIDE)} refusals told in names, {len(rows)} logs of the example')
 
 
 # What is typed at the prompt by examples/M.card, and what is told.

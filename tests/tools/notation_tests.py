@@ -1,7 +1,7 @@
 """Text to words and back: of random and of recorded cards, of those of document 01, at the limits, and with every fault."""
 import random
 from checking import check, example
-from notation import TextError, Damaged, beyond_limits, decode, encode, from_bytes, located, parse, to_bytes, write
+from notation import TextError, Damaged, beyond_limits, decode, encode, from_bytes, parse, read_text, to_bytes, write
 from random_cards import expected_words, in_order_of_definition, random_rules, random_text
 from recorded_cards import recorded
 
@@ -14,7 +14,7 @@ def round_trips(words, what):
 
 def lines_hold(text, words):
     """Whether the line told for each rule and symbol has it, and lines do not go back."""
-    (nonterminals, terminals, _), lines = located(text)
+    (nonterminals, terminals, _), lines, _ = read_text(text)
     written = [line.split('#')[0].split() for line in text.split('\n')]
 
     def stands(word, line):
