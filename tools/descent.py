@@ -36,6 +36,12 @@ class Call(NamedTuple):
     end: Optional[int]     # none where it failed
     rule: Optional[int]    # none where the table has none for what comes next
     runs: tuple            # up to the first that does not hold
+    left: tuple            # the bodies behind that one, which were not run, each with whether it is a must-not
+
+
+def bodies_of(rule):
+    """The bodies of a rule in the order in which they are run, each with whether it is a must-not."""
+    return tuple((False, body) for body in rule.positives) + tuple((True, body) for body in rule.negatives)
 
 
 class Descent:
@@ -49,8 +55,9 @@ class Descent:
         """A call that was made."""
         if (name, place) not in self.calls:
             rule = self.judges.chosen(self.judge, name, self.tokens, place)
+            bodies = () if rule is None else bodies_of(self.grammar.rules[rule])
             runs = () if rule is None else tuple(self.runs(self.grammar.rules[rule], place))
-            self.calls[name, place] = Call(name, place, self.ends[name, place], rule, runs)
+            self.calls[name, place] = Call(name, place, self.ends[name, place], rule, runs, bodies[len(runs):])
         return self.calls[name, place]
 
     def proved(self, name, place):
@@ -60,14 +67,13 @@ class Descent:
 
     def runs(self, rule, place):
         agreed = None if rule.positives else len(self.tokens)    # must-nots alone take all up to the end
-        for negative, bodies in ((False, rule.positives), (True, rule.negatives)):
-            for body in bodies:
-                steps = tuple(self.steps(body, place))
-                run = Run(negative, body, steps, steps[-1].end if steps else place, agreed)
-                yield run
-                if not run.holds:
-                    return
-                agreed = agreed if negative else run.end
+        for negative, body in bodies_of(rule):
+            steps = tuple(self.steps(body, place))
+            run = Run(negative, body, steps, steps[-1].end if steps else place, agreed)
+            yield run
+            if not run.holds:
+                return
+            agreed = agreed if negative else run.end
 
     def steps(self, body, place):
         for symbol in body:

@@ -86,13 +86,12 @@ def faulty(path, *faults):
     return CardTried(path, list(faults), {}, [], '')
 
 
-def tried_text(path, text):
-    """What is expected in a text, as read_text gives it."""
-    card = card_of(text)
-    judges, bytes_of = Judges(card), log_reader(text.grammar)
+def tried_text(path, text, judges=None):
+    """What is expected in a text, as read_text gives it, by the judges of its card."""
+    judges, bytes_of = judges or Judges(card_of(text)), log_reader(text.grammar)
     logs = [Tried(expected, judges.verdicts(bytes_of(expected.written))) for expected in text.expected]
     faults = [] if judges.taking() else judges.refused(PLAIN)
-    return CardTried(path, faults, judges.checks, logs, hashlib.sha256(to_bytes(card.words)).hexdigest()[:16])
+    return CardTried(path, faults, judges.checks, logs, hashlib.sha256(to_bytes(judges.card.words)).hexdigest()[:16])
 
 
 def tried(path):
