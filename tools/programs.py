@@ -1,10 +1,10 @@
 """The proved programs sheet, judge and gaps: they are built if they are not there, and run."""
 import os, shutil, subprocess, tempfile
 from exits import fail, say
+from places import IN_REPOSITORY, PROGRAMS, ROOT
 
 
-ROOT = os.path.normpath(os.path.join(os.path.dirname(os.path.abspath(__file__)), '..'))
-PROGRAMS = ['sheet', 'judge', 'gaps']
+NAMES = ['sheet', 'judge', 'gaps']
 
 
 def below(programs):
@@ -43,11 +43,11 @@ def build(programs):
 def program(name):
     """The path of a program, which is built if it is not there."""
     folder = os.environ.get('VINEGARSPIT_BIN')
-    path = os.path.join(folder or os.path.join(ROOT, 'target', 'bin'), name)
+    path = os.path.join(folder or PROGRAMS, name)
     if not os.path.exists(path):
-        if folder:
-            fail(f'{path}: not there, and VINEGARSPIT_BIN names its folder')
-        build(PROGRAMS)
+        if folder or not IN_REPOSITORY:
+            fail(f'{path}: not there' + (', and VINEGARSPIT_BIN names its folder' if folder else ''))
+        build(NAMES)
     return path
 
 

@@ -7,10 +7,10 @@ from http.server import BaseHTTPRequestHandler, ThreadingHTTPServer
 from exits import say
 from expectations import cards
 from files import decoded, is_words
+from places import EXAMPLES, HERE
 import vinegarspit, workbench
 
 
-HERE = os.path.dirname(os.path.abspath(__file__))
 PAGE = {'/': ('index.html', 'text/html'), '/style.css': ('style.css', 'text/css'), '/workbench.js': ('workbench.js', 'text/javascript')}
 LONGEST = 1 << 16      # of a request and of a file, in bytes
 PASSED_OVER = 1 << 20  # of a request that is refused
@@ -139,7 +139,7 @@ def texts(paths):
 def serve(paths, port):
     """Serves the page until it is interrupted, with the files' texts and the examples to choose from."""
     vinegarspit.library()    # made before the first request
-    files = list(texts([*paths, os.path.join(HERE, '..', 'examples')]))
+    files = list(texts([*paths, EXAMPLES]))
     try:
         server = Server(port, files)
     except OSError as error:

@@ -17,9 +17,9 @@ the main thread has."""
 import ctypes, functools, os, re, subprocess
 from array import array
 from typing import NamedTuple
+from places import HEADER, HERE, IN_REPOSITORY, LIBRARY
 
 
-ROOT = os.path.normpath(os.path.join(os.path.dirname(os.path.abspath(__file__)), '..'))
 TYPES = {'uint8_t': ('B', ctypes.c_uint8), 'uint16_t': ('H', ctypes.c_uint16), 'uint32_t': ('I', ctypes.c_uint32),
          'uint64_t': ('Q', ctypes.c_uint64), 'size_t': (None, ctypes.c_size_t)}
 
@@ -37,7 +37,7 @@ class Parameter(NamedTuple):
 @functools.cache
 def header():
     """The header without its comments, and with the lengths of rows as numbers."""
-    with open(os.path.join(ROOT, 'include', 'vinegarspit.h')) as file:
+    with open(HEADER) as file:
         text = re.sub(r'/\*.*?\*/', '', file.read(), flags=re.DOTALL)
     lengths = dict(re.findall(r'\b(VINEGARSPIT_\w+) = (\d+)', text))
     return re.sub(r'\[(VINEGARSPIT_\w+)\]', lambda found: f'[{lengths[found[1]]}]', text)
@@ -112,10 +112,10 @@ class NoLibrary(Exception):
 
 @functools.cache
 def library():
-    if subprocess.run([os.path.join(ROOT, 'tools', 'build_library')], stdout=subprocess.DEVNULL).returncode:
+    if IN_REPOSITORY and subprocess.run([os.path.join(HERE, 'build_library')], stdout=subprocess.DEVNULL).returncode:
         raise NoLibrary('the library cannot be made: tools/build_library failed')
     try:
-        return ctypes.CDLL(os.path.join(ROOT, 'target', 'libvinegarspit.so'))
+        return ctypes.CDLL(LIBRARY)
     except OSError as error:
         raise NoLibrary(f'the library cannot be loaded: {error}') from None
 

@@ -1,7 +1,7 @@
 """What goes wrong around a judgement, or is mistyped, is told in a line and with exit status 2, so that no script takes it for a verdict."""
 import os, shutil, subprocess, sys, tempfile
 import vinegarspit
-from checking import BIN, CARD, ROOT, check, run
+from checking import CARD, ROOT, check, run
 from notation import TextError, parse
 
 
@@ -135,6 +135,7 @@ def without_a_library():
         folder = os.path.join(top, 'my layouts')
         for part in ('tools', 'examples', 'include'):
             shutil.copytree(os.path.join(ROOT, part), os.path.join(folder, part))
+        shutil.copy(os.path.join(ROOT, 'crates.txt'), folder)
         for part in ('crates', 'path'):
             os.mkdir(os.path.join(folder, part))
         rt = os.path.join(folder, 'path', 'rt')
