@@ -25,7 +25,7 @@ def documents():
     """What the documents say that a command prints is what it prints, empty lines aside."""
     commands, library = 0, library_there()
     landings = sorted(os.listdir(os.path.join(ROOT, 'docs', 'landings')))
-    for path in ('README.md', 'tools/README.md', *(f'docs/landings/{file}' for file in landings)):
+    for path in ('README.md', 'tools/README.md', 'docs/TOUR.md', *(f'docs/landings/{file}' for file in landings)):
         for command, printed in sessions(path):
             if LIBRARY.search(command) and not library:
                 continue
@@ -34,3 +34,15 @@ def documents():
             check(got == printed, f'{path}: {command}\n' + '\n'.join(got))
             commands += 1
     print(f'documents: {commands} commands print what is said')
+
+
+def pictures():
+    """The drawings of the tour are those that its commands have made, and all its pictures are there."""
+    with open(os.path.join(ROOT, 'docs', 'TOUR.md')) as file:
+        tour = file.read()
+    named = re.findall(r'\]\((pictures/[^)]*)\)', tour)
+    check(sorted(os.path.basename(path) for path in named) == sorted(os.listdir(os.path.join(ROOT, 'docs', 'pictures'))), f'the pictures of the tour: {named}')
+    for path in (path for path in named if path.endswith('.svg')):
+        with open(os.path.join(ROOT, 'docs', path)) as one, open(os.path.join(ROOT, 'target', os.path.basename(path))) as other:
+            check(one.read() == other.read(), f'docs/{path} is not what its command makes')
+    print(f'documents: {len(named)} pictures of the tour')
