@@ -49,10 +49,14 @@ class Handler(BaseHTTPRequestHandler):
             self.answer(refused.status, f'{refused}\n'.encode())
 
     def pass_over_body(self):
-        """Reads what a refused request still has, up to a limit, so that its sender comes to read the answer."""
-        length = self.headers.get('Content-Length', '')
-        if length.isdecimal() and not self.read:
-            self.rfile.read(min(int(length), PASSED_OVER))
+        """Reads what a refused request still has, unless that is far too much, so that its sender comes to read the answer."""
+        if not self.read and (self.length() or 0) <= PASSED_OVER:
+            self.rfile.read(self.length() or 0)
+
+    def length(self):
+        """How long the body of the request is, or none where that is not told; all that is far too long is told alike."""
+        told = self.headers.get('Content-Length', '')
+        return int(told[:9]) if told.isdecimal() else None
 
     def check_sender(self):
         """Only this machine by its own name, and no other site's page."""
@@ -86,17 +90,17 @@ class Handler(BaseHTTPRequestHandler):
         """The card's text and the log of a request."""
         if self.headers.get_content_type() != 'application/json':
             raise Refused(415, 'JSON is asked for')
-        length = self.headers.get('Content-Length', '')
-        if not length.isdecimal():
+        length = self.length()
+        if length is None:
             raise Refused(411, 'the length is asked for')
-        if int(length) > LONGEST:
+        if length > LONGEST:
             raise Refused(413, f'a card and a log of at most {LONGEST:,} bytes are asked for')
         self.read = True
         try:
-            given = json.loads(self.rfile.read(int(length)))
+            given = json.loads(self.rfile.read(length))
             card, log = given['card'], given['log']
             (card + log).encode()
-        except (ValueError, TypeError, KeyError):
+        except (ValueError, TypeError, KeyError, RecursionError):
             raise Refused(400, 'a card and a log, both texts, are asked for') from None
         return card, log
 
@@ -120,8 +124,12 @@ class Server(ThreadingHTTPServer):
 
 
 def texts(paths):
-    """The texts of files; what cannot be shown is told."""
+    """The texts of files, each once; what cannot be shown is told."""
+    met = set()
     for path in cards(paths):
+        if os.path.realpath(path) in met:
+            continue
+        met.add(os.path.realpath(path))
         try:
             with open(path, 'rb') as file:
                 data = file.read(LONGEST + 1)

@@ -43,8 +43,8 @@ def table(judges):
 
 
 def expected_told(log):
-    return {'line': log.expected.line, 'log': log.expected.written, 'remark': log.expected.remark, 'verdict': log.expected.verdict, 'holds': log.holds,
-            'differing': log.differing()}
+    return {'line': log.expected.line, 'log': log.expected.written, 'events': log.expected.log, 'remark': log.expected.remark, 'verdict': log.expected.verdict,
+            'holds': log.holds, 'differing': log.differing()}
 
 
 @functools.lru_cache(maxsize=4)    # while a log is typed, its card stays as it is

@@ -10,9 +10,11 @@ from vinegarspit import Answer
 M, SPUR, LOOP = (os.path.join(ROOT, 'examples', name + '.card') for name in ('M', 'spur', 'loop'))
 
 FAULTY_TEXTS = [
-    ('letters a\nS -> a\naccept', 3, "behind 'accept' a log is missing; write 'empty' for the empty one"), ('letters a\nS -> a\nreject : 1 2', 3, 'a log is missing'),
+    ('letters a\nS -> a\naccept', 3, "behind 'accept' a log is missing; write 'empty' for the empty one"),
+    ('letters a\nS -> a\nreject : 1 2', 3, 'a log is missing'),
     ('letters a\nS -> a\nreject ab', 3, "event 1, 'b', is not among the letters a"), ('letters a\nS -> a\naccept a\n | a', 4, 'continues a rule'),
-    ('letters a\nS -> a\naccept a : 1', 3, 'count and far, two numbers'), ('letters a\nS -> a\naccept a : 1 2 3', 3, 'count and far'), ('letters a\nS -> a\naccept a : x y', 3, 'count and far'),
+    ('letters a\nS -> a\naccept a : 1', 3, 'count and far, two numbers'), ('letters a\nS -> a\naccept a : 1 2 3', 3, 'count and far'),
+    ('letters a\nS -> a\naccept a : x y', 3, 'count and far'),
     ('accept a', 1, "the line 'letters' is missing"), ('letters a\nS -> a\naccepted a', 3, "'->' is missing")]
 
 
@@ -52,13 +54,16 @@ def kept():
 
 # A text, the lines that are told of it, the exit status, and what is told of all.
 TRIED = [
-    ('letters a b\nS -> a S b | empty\naccept aabb\naccept a<b : 2 1  # a remark\nreject a\naccept empty', [': 4 logs as expected (one event, two events, plain)'], 0,
+    ('letters a b\nS -> a S b | empty\naccept aabb\naccept a<b : 2 1  # a remark\nreject a\naccept empty',
+     [': 4 logs as expected (one event, two events, plain)'], 0,
      '1 card, 4 logs: all as expected'),
     ('letters a b\nS -> a S b | empty\naccept aab\nreject ab\naccept aabb', [': 2 of 3 logs not as expected (one event, two events, plain)',
-     '  line 3: aab is to be accepted, and is rejected (one event, two events, plain)', '  line 4: ab is to be rejected, and is accepted (one event, two events, plain)'],
+     '  line 3: aab is to be accepted, and is rejected (one event, two events, plain)',
+     '  line 4: ab is to be rejected, and is accepted (one event, two events, plain)'],
      1, '1 card, 3 logs: 2 not as expected'),
     ('letters a b\nS -> a S b | empty\naccept ab : 2 2\nreject a : 9 9', [': 2 of 2 logs not as expected (one event, two events, plain)',
-     '  line 3: ab is to have count 2 and far 2, and has 2 and 1 (one event)', '  line 4: a is to have count 9 and far 9, and has 2 and 1 (one event)'], 1, '1 card, 2 logs: 2 not as expected'),
+     '  line 3: ab is to have count 2 and far 2, and has 2 and 1 (one event)', '  line 4: a is to have count 9 and far 9, and has 2 and 1 (one event)'], 1,
+     '1 card, 2 logs: 2 not as expected'),
     ('reject a\nletters a\nS -> a S a | empty\naccept ' + 'a' * 50, [': 1 of 2 logs not as expected (plain)',
      f'  line 4: {"a" * 50} is to be accepted, and no judge that takes the card takes a log of 50 events'], 1, '1 card, 2 logs: 1 not as expected'),
     ('letters a\nS -> a S a | empty\naccept aa : 2 1', [': 1 of 1 log not as expected (plain)',
@@ -82,8 +87,10 @@ def tried():
             status, out, errors = run(CARD, 'test', '--json', path)
             got = json.loads(out)
             differing = [f'  line {log["line"]}: {line}' for log in got['logs'] for line in log['differing']]
-            check(status == code and errors == summary + '\n' and got['holds'] == (code == 0) and (differing == lines[1:] or code == 2), f'test --json {text!r}: {status} {out} {errors}')
-        check(run(CARD, 'test', os.path.join(folder, 'none'))[0] == 2 and run(CARD, 'test', os.path.join(ROOT, 'include'))[0] == 2, 'test of a missing file, and of a folder without cards')
+            check(status == code and errors == summary + '\n' and got['holds'] == (code == 0) and (differing == lines[1:] or code == 2),
+                  f'test --json {text!r}: {status} {out} {errors}')
+        check(run(CARD, 'test', os.path.join(folder, 'none'))[0] == 2 and run(CARD, 'test', os.path.join(ROOT, 'include'))[0] == 2,
+              'test of a missing file, and of a folder without cards')
     code, out, errors = run(CARD, 'test', os.path.join(ROOT, 'examples'))
     check((code, errors) == (0, '') and out.endswith(b'\n7 cards, 29 logs: all as expected\n'), f'test examples: {out.decode()} {errors}')
     print(f'expected logs: {len(TRIED)} texts, and the examples')
@@ -93,7 +100,8 @@ def differing():
     """Where judges differ, which is proved never to be, it is told."""
     expected, = read_text('letters a\nS -> a\naccept a').expected
     answers = {'one event': Answer('accepted', 0, 0, 1, 0), 'plain': Answer('rejected', 0, 0, 0, 0)}
-    check(expectations.Tried(expected, answers).differing() == ['a is to be accepted, and is rejected (plain)', 'a: the judges differ: one event accepted, plain rejected'], 'judges that differ')
+    told = ['a is to be accepted, and is rejected (plain)', 'a: the judges differ: one event accepted, plain rejected']
+    check(expectations.Tried(expected, answers).differing() == told, 'judges that differ')
 
 
 def progress():
@@ -125,7 +133,8 @@ def each_line():
                                   ((M, '--lookahead', '2'), b'bc', 0, 'accepted 6 1     bc\n')):
         status, printed, errors = run(CARD, 'judge', '--each', *args, stdin=logs)
         check((status, printed.decode(), errors) == (code, out, ''), f'judge --each {args} {logs}: {status} {printed.decode()} {errors}')
-    for args, reason in (((M, 'a'), 'the lines of standard input'), (('-',), 'the lines of standard input'), ((M, '--calls'), 'no calls are told'), ((SPUR,), 'refused 9 0: two rules of Spur')):
+    for args, reason in (((M, 'a'), 'the lines of standard input'), (('-',), 'the lines of standard input'), ((M, '--calls'), 'no calls are told'),
+                         ((SPUR,), 'refused 9 0: two rules of Spur')):
         code, out, errors = run(CARD, 'judge', '--each', *args, stdin=b'a')
         check((code, out) == (2, b'') and reason in errors, f'judge --each {args}: {errors}')
     with subprocess.Popen([CARD, 'judge', '--each', M], stdin=subprocess.PIPE, stdout=subprocess.PIPE) as asked:

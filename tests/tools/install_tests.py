@@ -26,7 +26,8 @@ def ran(command, folder, **environment):
 def command(prefix, folder):
     """The command answers as tools/card does, from anywhere and without the repository's programs."""
     tool, loop = os.path.join(prefix, 'bin', 'vinegarspit'), os.path.join(ROOT, 'examples', 'loop.card')
-    for args in (['judge', '--calls', loop, 'aabbcc'], ['check', loop], ['plain', os.path.join(ROOT, 'examples', 'spur.card'), 'abba'], ['tree', loop, 'aabbcc'], ['test', loop]):
+    spur = os.path.join(ROOT, 'examples', 'spur.card')
+    for args in (['judge', '--calls', loop, 'aabbcc'], ['check', loop], ['plain', spur, 'abba'], ['tree', loop, 'aabbcc'], ['test', loop]):
         check(ran([tool, *args], folder)[:2] == ran([CARD, *args], folder)[:2], f'installed: {args}')
     code, out, errors = ran([tool, 'judge', loop, 'a'], folder, VINEGARSPIT_BIN=os.path.join(prefix, 'nowhere'))
     check(code == 2 and 'VINEGARSPIT_BIN' in errors, f'installed, without programs: {errors}')
@@ -67,7 +68,8 @@ def installed():
         install = os.path.join(ROOT, 'tools', 'install')
         code, out, errors = ran([install, prefix], folder)
         check((code, out) == (0, '') and INSTALLED <= files_below(prefix), f'install: {code} {errors} {sorted(INSTALLED - files_below(prefix))}')
-        check(ran([install, '/usr/local'], folder, DESTDIR=staged)[0] == 0 and files_below(os.path.join(staged, 'usr/local')) == files_below(prefix), 'below DESTDIR')
+        check(ran([install, '/usr/local'], folder, DESTDIR=staged)[0] == 0 and files_below(os.path.join(staged, 'usr/local')) == files_below(prefix),
+              'below DESTDIR')
         with open(os.path.join(staged, 'usr/local/lib/pkgconfig/vinegarspit.pc')) as file:
             check(file.read().startswith('prefix=/usr/local\n'), 'the prefix below DESTDIR')
         check(ran([install], folder)[0] == 2 and ran([install, '--help'], folder)[0] == 2, 'without a prefix')

@@ -29,7 +29,8 @@ def judged():
             ((m, 'b<c'), '', 0, 'accepted: the log of 2 events belongs to S\n6 calls, the farthest at place 1, before c\n'),
             ((m, 'bc<'), '', 0, 'accepted: the log of 2 events belongs to S\n6 calls, the farthest at place 1, before c<\n'),
             (('-', 'a'), example('M.card'), 0, 'accepted: the log of 1 event '),
-            ((loop,), b'a\xff', 2, ''), (('-',), example('M.card'), 2, ''), ((m, 'abd'), '', 2, ''), ((m, 'a' * (MAX_INPUT + 1)), '', 2, ''), ((m + 'x', 'a'), '', 2, ''),
+            ((loop,), b'a\xff', 2, ''), (('-',), example('M.card'), 2, ''), ((m, 'abd'), '', 2, ''), ((m, 'a' * (MAX_INPUT + 1)), '', 2, ''),
+            ((m + 'x', 'a'), '', 2, ''),
             ((), '', 2, ''), (('-', 'a'), 'letters a\nS -> b', 2, '')):
         status, printed, errors = run(CARD, 'judge', *args, stdin=stdin if isinstance(stdin, bytes) else stdin.encode())
         check(status == code and printed.decode().startswith(out) and bool(errors) == (code == 2), f'judge {args}: {status} {printed} {errors}')
@@ -69,7 +70,7 @@ def marks(number, lookahead):
     print(f'marks: by {passed} random cards, with lookahead {lookahead}, {marked} of {ends} ends are marked, and {wrong} of the others are no membership')
 
 
-# A copy of the tools without programs, and an rt that only puts them there
+# A copy of the tools without programs, in a folder with a space in its name, and an rt that only puts them there
 
 STUB = """#!/bin/sh
 echo "rt: answer proved (3 s)"
@@ -79,7 +80,9 @@ echo "rt: ok"
 
 
 def first_build():
-    with tempfile.TemporaryDirectory() as folder:
+    with tempfile.TemporaryDirectory() as top:
+        folder, programs = os.path.join(top, 'my layouts'), os.path.join(top, 'my programs')
+        shutil.copytree(BIN, programs)
         for part in ('tools', 'examples'):
             shutil.copytree(os.path.join(ROOT, part), os.path.join(folder, part))
         shutil.copy(os.path.join(ROOT, 'crates.txt'), folder)
@@ -96,7 +99,7 @@ def first_build():
         check(code == 2 and out == '' and 'rt, the Rattle toolchain' in errors, f'no programs and no rt: {errors}')
         code, out, errors = judge(VINEGARSPIT_BIN='/nowhere')
         check(code == 2 and out == '' and 'VINEGARSPIT_BIN' in errors, f'no programs in VINEGARSPIT_BIN: {errors}')
-        for text, expected in (('#!/bin/sh\nexit 1\n', 2), (STUB.format(programs=BIN), 0)):
+        for text, expected in (('#!/bin/sh\nexit 1\n', 2), (STUB.format(programs=programs), 0)):
             with open(stub, 'w') as file:
                 file.write(text)
             os.chmod(stub, 0o755)

@@ -37,7 +37,8 @@ def plainly():
         check(status == 2 and printed == b'' and reason in errors, f'plain {args}: {status} {printed} {errors}')
     rows = read_text(example('spur.card')).expected
     for expected in rows:
-        check(run(CARD, 'plain', spur, expected.written)[1].startswith(expected.verdict.encode()), f'examples/spur.card: {expected.written} is not {expected.verdict}')
+        check(run(CARD, 'plain', spur, expected.written)[1].startswith(expected.verdict.encode()),
+              f'examples/spur.card: {expected.written} is not {expected.verdict}')
     check(len(rows) == 5, 'the logs of examples/spur.card')
     print('plain: verdicts, refusals and the triangle of stretches')
 
@@ -71,7 +72,8 @@ WIDE = [
      ['line 3: X -> b c', 'line 4: X -> b c a']),
     ('letters a b\nS -> a X\nX -> b | b | b a', 'refused 9 66: two rules of X may be meant where the next event is b, the last of the log',
      ['line 3: X -> b', 'line 3: X -> b']),
-    ('letters a b\nS -> X | Y\nX -> b | empty\nY -> b | empty', 'refused 9 0: two rules of S may be meant at the end of the log', ['line 2: S -> X', 'line 2: S -> Y']),
+    ('letters a b\nS -> X | Y\nX -> b | empty\nY -> b | empty', 'refused 9 0: two rules of S may be meant at the end of the log',
+     ['line 2: S -> X', 'line 2: S -> Y']),
     ('letters a b c\nS -> a\nT -> a b & a c', 'refused 13 1: nothing can begin T, so no log belongs to it',
      ['line 3: T -> a b & a c: its musts have no beginning of two events in common']),
     ('letters a b\nS -> a\n   | not a', 'refused 5 5: line 3: a rule of must-nots alone, which is not taken with two events of lookahead', []),
@@ -167,7 +169,8 @@ def costliest():
             code, out, errors = run(CARD, 'costliest', path, str(length))
             first, verdict, calls = out.decode().splitlines() or ['', '', '']
             check((code, errors) == (0, '') and first.replace(' ', '') == (''.join(letters) or '(empty)'), f'costliest {file} {length}: {out.decode()} {errors}')
-            check(verdict.startswith(answer.verdict) and calls.startswith(f'{answer.count} call') and f'at place {answer.far},' in calls, f'costliest {file} {length}: {verdict} {calls}')
+            check(verdict.startswith(answer.verdict) and calls.startswith(f'{answer.count} call') and f'at place {answer.far},' in calls,
+                  f'costliest {file} {length}: {verdict} {calls}')
             logs += 1
     m, longest = os.path.join(ROOT, 'examples', 'M.card'), vinegarspit.LOG_EVENTS
     check(run(CARD, 'costliest', '-', str(longest), stdin=b'letters a\nS -> a S | empty')[1].decode().startswith('a' * longest + '\naccepted'), 'one letter')

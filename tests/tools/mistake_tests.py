@@ -17,14 +17,16 @@ def told(got, reason, what):
 
 def in_shell(command, **environment):
     """Runs a line of the shell in which CARD stands for tools/card, with nothing to read."""
-    done = subprocess.run(['bash', '-c', command], stdin=subprocess.DEVNULL, capture_output=True, cwd=ROOT, timeout=60, env={**os.environ, 'CARD': CARD, **environment})
+    here = {**os.environ, 'CARD': CARD, **environment}
+    done = subprocess.run(['bash', '-c', command], stdin=subprocess.DEVNULL, capture_output=True, cwd=ROOT, timeout=60, env=here)
     return done.returncode, done.stdout, done.stderr.decode()
 
 
 # Files and streams
 
 def files_and_streams():
-    for command in ('"$CARD" judge examples/loop.card', '"$CARD" check -', '"$CARD" rehearse examples/loop.card', '"$CARD" log examples/loop.card', '"$CARD" plain examples/spur.card'):
+    for command in ('"$CARD" judge examples/loop.card', '"$CARD" check -', '"$CARD" rehearse examples/loop.card', '"$CARD" log examples/loop.card',
+                    '"$CARD" plain examples/spur.card'):
         told(in_shell(command + ' <&-'), 'standard input is closed', command)
     told(in_shell('"$CARD" check examples/loop.card > /dev/full'), 'standard output: No space left', 'a full disk')
     told(in_shell('"$CARD" words examples/loop.card > /dev/full'), 'standard output: No space left', 'a full disk')
@@ -51,14 +53,18 @@ TYPED = [
     (['costliest', LOOP, '-1'], 'LENGTH'), (['nonsense'], 'invalid choice')]
 
 FAULTY_TEXTS = [
-    ('letters a b\nDay -> Lap\nLpa -> a b', 'line 2: Lap has no rule; is Lpa meant?'), ('letters arrive b\nS -> arive', "line 2: 'arive' is not among the letters; is arrive meant?"),
-    ('letters a\nnames Day Lap\nDay -> Lpa\nLap -> a', "line 3: Lpa is not in the line 'names'; is Lap meant?"), ('letters a\nS -> emtpy', "line 2: 'emtpy' is not among the letters; is empty meant?"),
+    ('letters a b\nDay -> Lap\nLpa -> a b', 'line 2: Lap has no rule; is Lpa meant?'),
+    ('letters arrive b\nS -> arive', "line 2: 'arive' is not among the letters; is arrive meant?"),
+    ('letters a\nnames Day Lap\nDay -> Lpa\nLap -> a', "line 3: Lpa is not in the line 'names'; is Lap meant?"),
+    ('letters a\nS -> emtpy', "line 2: 'emtpy' is not among the letters; is empty meant?"),
     ('letters a\nS -> Xyz', 'line 2: Xyz has no rule'),
-    ('letters a\nS \u2192 a', "line 2: the character '\u2192' means nothing here: a rule is written with '->'"), ('letters a b\nS = a b', "line 2: the character '=' means nothing here: a rule is written with '->'"),
+    ('letters a\nS \u2192 a', "line 2: the character '\u2192' means nothing here: a rule is written with '->'"),
+    ('letters a b\nS = a b', "line 2: the character '=' means nothing here: a rule is written with '->'"),
     ('letters a, b\nS -> a', "line 1: the character ',' means nothing here: words are separated by spaces"),
     ('letters a\nB\u00fchne -> a', "line 2: the character '\u00fc' means nothing here: words are of A to Z, a to z, 0 to 9, _ and '"),
     ('letters a\nS -> !a', "line 2: the character '!' means nothing here: a must-not is written with 'not'"),
-    ('letters a\nS -> \u03b5', "line 2: the character '\u03b5' means nothing here: the empty body is written 'empty'"), ('letters a\nS -> a*', "line 2: the character '*' means nothing here")]
+    ('letters a\nS -> \u03b5', "line 2: the character '\u03b5' means nothing here: the empty body is written 'empty'"),
+    ('letters a\nS -> a*', "line 2: the character '*' means nothing here")]
 
 
 def typed():
@@ -91,7 +97,8 @@ def trees():
         picture = os.path.join(folder, 'x.svg')
         check(run(CARD, 'tree', LOOP, '--svg', picture, 'aabbcc') == (0, b'', '') and os.path.getsize(picture), 'an option with a value before the letters')
     code, out, errors = run(CARD, 'tree', LOOP, 'aaabbbcc')
-    check((code, out) == (1, b'rejected: the log of 8 events does not belong to Day\n8 calls, the farthest at place 6, before c\n') and 'judge --calls' in errors, f'a rejected log: {out} {errors}')
+    check((code, out) == (1, b'rejected: the log of 8 events does not belong to Day\n8 calls, the farthest at place 6, before c\n')
+          and 'judge --calls' in errors, f'a rejected log: {out} {errors}')
     ladder = os.path.join(ROOT, 'examples', 'ladder.card')
     code, out, errors = run(CARD, 'tree', '--lookahead', '2', ladder, 'la')
     check((code, errors) == (0, '') and out == b'Day 0-2  rule 0: Cuts & not Full\n  Cuts 0-2  rule 1: Cut Cuts\n    Cut 0-2  rule 3: l a\n      l\n      a\n    Cuts 2-2  rule 2: empty\n',
@@ -112,8 +119,10 @@ def numbers():
     code, out, errors = run(TALLY, '-', 'a<a<bb<cc', stdin=b'\xef\xbb\xbf' + open(LOOP, 'rb').read())
     check((code, errors) == (0, '') and out.startswith(b'a<a<bb<cc    accepted 11 6\n'), f'a text with a mark of its order, and directions: {out} {errors}')
     words, lent = [0x10000101, 0x20000000, 0x30000000, 0x70000000], (vinegarspit.table(), vinegarspit.memo())
-    for call, arguments in ((vinegarspit.judge_for, (2 ** 32 + 3, 1, 1, words, b'', *lent, vinegarspit.usage())), (vinegarspit.judge_for, (0, 2 ** 32, 1, words, b'', *lent, vinegarspit.usage())),
-                            (vinegarspit.judge_for, (0, 0, -1, words, b'', *lent, vinegarspit.usage())), (vinegarspit.log_add, (vinegarspit.log_events(), vinegarspit.log_state(), 300)),
+    for call, arguments in ((vinegarspit.judge_for, (2 ** 32 + 3, 1, 1, words, b'', *lent, vinegarspit.usage())),
+                            (vinegarspit.judge_for, (0, 2 ** 32, 1, words, b'', *lent, vinegarspit.usage())),
+                            (vinegarspit.judge_for, (0, 0, -1, words, b'', *lent, vinegarspit.usage())),
+                            (vinegarspit.log_add, (vinegarspit.log_events(), vinegarspit.log_state(), 300)),
                             (vinegarspit.log_mark, (vinegarspit.log_state(), -1)), (vinegarspit.costliest, (words, 2 ** 64, vinegarspit.log_events(), *lent))):
         try:
             check(False, f'{call.__name__} takes a number past its width: {call(*arguments)}')

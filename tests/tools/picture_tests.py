@@ -70,8 +70,10 @@ def charts(number):
 
 # A log of an example, the judge, and the captions of its picture.
 CAPTIONS = [
-    ('loop.card', 'aaabbbcc', ONE, ['\u2715 must  a As b BC c  \u2014  stops at 8: the rule has c here, the log ends', '\u2013 must  a AB b c Cs  \u2014  not run', '\u2013 must not  a b c  \u2014  not run']),
-    ('loop.card', 'aaabbccc', ONE, ['\u2713 must  a As b BC c', '\u2715 must  a AB b c Cs  \u2014  stops at 5: the rule has b here, c comes', '\u2013 must not  a b c  \u2014  not run']),
+    ('loop.card', 'aaabbbcc', ONE, ['\u2715 must  a As b BC c  \u2014  stops at 8: the rule has c here, the log ends',
+     '\u2013 must  a AB b c Cs  \u2014  not run', '\u2013 must not  a b c  \u2014  not run']),
+    ('loop.card', 'aaabbccc', ONE, ['\u2713 must  a As b BC c', '\u2715 must  a AB b c Cs  \u2014  stops at 5: the rule has b here, c comes',
+     '\u2013 must not  a b c  \u2014  not run']),
     ('loop.card', 'abc', ONE, ['\u2713 must  a As b BC c', '\u2713 must  a AB b c Cs', '\u2715 must not  a b c  \u2014  ends at 3 too']),
     ('E.card', 'ba', ONE, ['\u2713 must  B', '\u2713 must not  b C  \u2014  stops at 1: C fails here']),
     ('ladder.card', 'la', TWO, ['\u2713 must  Cuts', '\u2713 must not  Full  \u2014  stops at 0: Full fails here'])]
@@ -101,7 +103,8 @@ def commands():
             with open(path) as file:
                 picture = file.read()
             os.remove(path)
-            check((status, errors) == (code, '') and out.startswith(b'rejected') == bool(code) and picture.count('class="event"') == events, f'{args}: {status} {errors}')
+            check((status, errors) == (code, '') and out.startswith(b'rejected') == bool(code) and picture.count('class="event"') == events,
+                  f'{args}: {status} {errors}')
             minidom.parseString(picture)
         check(run(CARD, 'tree', '--svg', path, ladder, 'la')[0] == 2 and not os.path.exists(path), 'a refused card has no picture')
     minidom.parseString('\n'.join(svg(['a', '\x01', '<', '&'])))    # what was typed may be anything

@@ -2,8 +2,8 @@
 'use strict';
 
 const at = id => document.getElementById(id);
-const SVG = 'http://www.w3.org/2000/svg';
-let shown = {}, name = 0, saved = '';         // what is shown, the name whose stretches are shown, and the text as it was last saved
+const SVG = 'http://www.w3.org/2000/svg', MONOSPACE = 'ui-monospace, DejaVu Sans Mono, monospace';
+let shown = {}, name = 0, saved = '';            // what is shown, the name whose stretches are shown, and the text as it was last saved
 let changes = 0, asking = false, waiting = 0;    // how often something was changed, whether an answer is awaited, and the timer
 
 function made(tag, attributes = {}, ...children) {
@@ -52,15 +52,16 @@ async function ask() {
 }
 
 async function answered() {
-  const answer = await fetch('/told', { method: 'POST', headers: { 'Content-Type': 'application/json' }, body: JSON.stringify({ card: at('text').value, log: at('log').value }) });
+  const body = JSON.stringify({ card: at('text').value, log: at('log').value });
+  const answer = await fetch('/told', { method: 'POST', headers: { 'Content-Type': 'application/json' }, body });
   if (!answer.ok) throw new Error(await answer.text());
   return answer.json();
 }
 
 function unanswered(error) {
-  const gone = error instanceof TypeError;
+  const gone = error instanceof TypeError, reason = gone ? 'the workbench does not answer: is `tools/card serve` still running?' : error.message;
   unjudged(gone ? 'the workbench does not answer' : 'the workbench does not take this');
-  at('told').replaceChildren(made('p', { class: 'bad' }, gone ? 'the workbench does not answer: is `tools/card serve` still running?' : error.message));
+  at('told').replaceChildren(made('p', { class: 'bad' }, reason));
 }
 
 function show(told) {
@@ -113,8 +114,10 @@ function goTo(line) {
   text.scrollTop = Math.max(0, (line - 6) * 20);
 }
 
+// A text in which each line of the card that it names can be gone to.
 function withLines(text) {
-  return text.split(/\b(line \d+)(?=:)/).map((part, odd) => odd % 2 ? made('button', { type: 'button', onclick: () => goTo(Number(part.slice(5))) }, part) : part);
+  const link = part => made('button', { type: 'button', onclick: () => goTo(Number(part.slice('line '.length))) }, part);
+  return text.split(/\b(line \d+)(?=:)/).map((part, number) => number % 2 ? link(part) : part);
 }
 
 function showCard() {
@@ -140,38 +143,45 @@ function verdictOf(log) {
   return said.find(([, each]) => each.verdict !== 'refused') || said[0] || [null, null];
 }
 
-function showVerdict() {
-  const { log, names } = shown, [judge, said] = verdictOf(log), parts = [];
-  if (!said) parts.push(made('span', { class: 'chip refused' }, 'not judged'), made('span', {}, 'no judge takes the card'));
-  else if (said.verdict === 'refused') parts.push(made('span', { class: 'chip refused' }, 'refused'), made('span', {}, said.reason));
-  else {
-    const where = said.far < log.events.length ? `before ${log.events[said.far]}` : 'the end of the log';
-    parts.push(made('span', { class: `chip ${said.verdict}` }, said.verdict),
-      made('span', {}, `the log of ${counted(log.events.length, 'event')} ${said.verdict === 'accepted' ? 'belongs' : 'does not belong'} to ${names[0]}`),
-      made('span', { class: 'quiet' }, judge === 'plain' ? 'by the plain judge' : `by ${judge}: ${counted(said.count, 'call')}, the farthest at place ${said.far}, ${where}`));
-  }
-  at('verdict').replaceChildren(...parts);
-  at('verdict').classList.remove('pending');
-  at('expect').disabled = !said || said.verdict === 'refused' || shown.expected.some(each => each.log.replaceAll(' ', '') === log.events.join(''));
+// The word of a verdict, what it says, and by which judge.
+function verdictTold(judge, said) {
+  const { log, names } = shown;
+  if (!said) return ['refused', 'not judged', 'no judge takes the card', ''];
+  if (said.verdict === 'refused') return ['refused', 'refused', said.reason, ''];
+  const where = said.far < log.events.length ? `before ${log.events[said.far]}` : 'the end of the log';
+  return [said.verdict, said.verdict, `the log of ${counted(log.events.length, 'event')} ${said.verdict === 'accepted' ? 'belongs' : 'does not belong'} to ${names[0]}`,
+    judge === 'plain' ? 'by the plain judge' : `by ${judge}: ${counted(said.count, 'call')}, the farthest at place ${said.far}, ${where}`];
 }
+
+function showVerdict() {
+  const [judge, said] = verdictOf(shown.log), [look, word, told, by] = verdictTold(judge, said), events = shown.log.events.join(' ');
+  at('verdict').replaceChildren(made('span', { class: `chip ${look}` }, word), made('span', {}, told), made('span', { class: 'quiet' }, by));
+  at('verdict').classList.remove('pending');
+  at('expect').disabled = look === 'refused' || shown.expected.some(each => each.events.join(' ') === events);
+}
+
+const heads = columns => made('thead', {}, made('tr', {}, ...columns.map(each => made('th', { scope: 'col' }, each))));
 
 function showReading() {
   const { log } = shown;
-  at('picture').replaceChildren(...(log.picture ? [document.importNode(new DOMParser().parseFromString(log.picture, 'image/svg+xml').documentElement, true)] : []));
+  const svg = log.picture && new DOMParser().parseFromString(log.picture, 'image/svg+xml').documentElement;
+  at('picture').replaceChildren(...(svg ? [document.importNode(svg, true)] : []));
   at('calls-box').hidden = at('legend').hidden = !log.calls.length;
-  at('calls').replaceChildren(made('table', {},
-    made('thead', {}, made('tr', {}, ...['name', 'place', 'end', ''].map(each => made('th', { scope: 'col' }, each)))),
-    made('tbody', {}, ...log.calls.map(([called, place, end, trusted]) => made('tr', {}, made('td', {}, called), made('td', {}, String(place)),
-      made('td', {}, end === null ? 'failed' : String(end)), made('td', {}, trusted ? 'the stretch belongs to the name' : ''))))));
+  const rows = log.calls.map(([called, place, end, trusted]) =>
+    [called, String(place), end === null ? 'failed' : String(end), trusted ? 'the stretch belongs to the name' : '']);
+  at('calls').replaceChildren(made('table', {}, heads(['name', 'place', 'end', '']),
+    made('tbody', {}, ...rows.map(row => made('tr', {}, ...row.map(each => made('td', {}, each)))))));
 }
 
 const written = events => events.join(events.every(event => event.replace('<', '').length === 1) ? '' : ' ') || 'empty';
 
 // What is expected
 
+const NONE = 'A line of the card such as “accept aabb” or “reject aab” says what is to become of a log. The button writes one for the log above.';
+
 function showExpected() {
-  const { expected } = shown, unmet = expected.filter(each => !each.holds).length;
-  at('kept').textContent = !expected.length ? '' : unmet ? `${unmet} of ${counted(expected.length, 'log')} not as expected` : `all ${counted(expected.length, 'log')} as expected`;
+  const { expected } = shown, unmet = expected.filter(each => !each.holds).length, count = counted(expected.length, 'log');
+  at('kept').textContent = !expected.length ? '' : unmet ? `${unmet} of ${count} not as expected` : `all ${count} as expected`;
   at('kept').className = unmet ? 'bad' : 'quiet';
   at('expected').replaceChildren(...expected.map(each => made('li', {},
     made('span', { class: each.holds ? 'ok' : 'bad', role: 'img', 'aria-label': each.holds ? 'as expected' : 'not as expected' }, each.holds ? '✓' : '✕'),
@@ -179,7 +189,7 @@ function showExpected() {
     made('button', { type: 'button', class: 'try', onclick: () => tryLog(each.log) }, each.log || 'empty'),
     ...(each.remark ? [made('span', { class: 'note quiet' }, each.remark)] : []),
     ...each.differing.map(line => made('span', { class: 'why' }, line)))));
-  if (!expected.length) at('expected').replaceChildren(made('li', { class: 'none quiet' }, 'A line of the card such as “accept aabb” or “reject aab” says what is to become of a log. The button writes one for the log above.'));
+  if (!expected.length) at('expected').replaceChildren(made('li', { class: 'none quiet' }, NONE));
 }
 
 function tryLog(log) {
@@ -202,19 +212,23 @@ function expect() {
 
 // The table
 
+// An entry with the rules that claim it, each of which can be gone to.
+function entry(claims, head, column) {
+  const { rules } = shown, title = claims.map(rule => rules[rule].text).join('\n') || `no rule of ${head}`;
+  const link = rule => made('button', { type: 'button', class: 'rule', title: rules[rule].text, 'aria-label': `rule ${rule} of ${head}, before ${column}`,
+    onclick: () => goTo(rules[rule].line) }, String(rule));
+  return made('td', { class: ['gap', 'one'][claims.length] || 'overlap', title },
+    ...(claims.length ? claims.flatMap((rule, later) => [later ? ' ' : '', link(rule)]) : ['–']));
+}
+
 function showTable() {
-  const { table, names, letters, rules } = shown;
+  const { table, names, letters } = shown, columns = [...letters, 'end'];
   if (!table.length) {
     at('table').replaceChildren(made('p', { class: 'quiet' }, 'a card that is refused before its table is made has none'));
     return;
   }
-  const cell = (claims, head, column) => made('td', { class: ['gap', 'one'][claims.length] || 'overlap', title: claims.map(rule => rules[rule].text).join('\n') || `no rule of ${head}` },
-    ...(claims.length ? claims.flatMap((rule, later) => [later ? ' ' : '', made('button', { type: 'button', class: 'rule', title: rules[rule].text,
-      'aria-label': `rule ${rule} of ${head}, before ${column}`, onclick: () => goTo(rules[rule].line) }, String(rule))]) : ['–']));
-  const columns = [...letters, 'end'];
-  at('table').replaceChildren(made('table', {},
-    made('thead', {}, made('tr', {}, made('th', {}), ...columns.map(each => made('th', { scope: 'col' }, each)))),
-    made('tbody', {}, ...table.map((row, number) => made('tr', {}, made('th', { scope: 'row' }, names[number]), ...row.map((claims, column) => cell(claims, names[number], columns[column])))))));
+  const row = (entries, head) => made('tr', {}, made('th', { scope: 'row' }, head), ...entries.map((claims, column) => entry(claims, head, columns[column])));
+  at('table').replaceChildren(made('table', {}, heads(['', ...columns]), made('tbody', {}, ...table.map((entries, number) => row(entries, names[number])))));
 }
 
 // The stretches
@@ -222,8 +236,21 @@ function showTable() {
 function showNames() {
   const { names } = shown;
   name = Math.min(name, names.length - 1);
-  at('names').replaceChildren(at('names').firstElementChild, ...names.map((each, number) => made('label', {},
-    made('input', { type: 'radio', name: 'name', value: number, ...(number === name ? { checked: '' } : {}), onchange: () => { name = number; showStretches(); } }), ' ' + each)));
+  const choose = number => () => { name = number; showStretches(); };
+  const choice = number => made('input', { type: 'radio', name: 'name', value: number, checked: number === name ? '' : null, onchange: choose(number) });
+  at('names').replaceChildren(at('names').firstElementChild, ...names.map((each, number) => made('label', {}, choice(number), ' ' + each)));
+}
+
+const belongs = (word, number) => word >>> number & 1;
+
+// The cell of a stretch, a square on its corner over the middle of the stretch, as high as the stretch is long.
+function cell([start, end, word], size) {
+  const { names, log: { events } } = shown, half = size / 2, whole = start === 0 && end === events.length;
+  const x = size + (start + end) / 2 * size, y = half + 4 + (events.length - (end - start)) * half;
+  const holders = names.filter((_, number) => belongs(word, number)).join(', ') || 'no name';
+  return drawn('path', { d: `M${x} ${y - half + 1}l${half - 1} ${half - 1}l${1 - half} ${half - 1}l${1 - half} ${1 - half}z`,
+    fill: belongs(word, name) ? '#2c8a57' : word ? '#e2ecdf' : '#f6f3ec', stroke: whole ? '#1d1f23' : '#d4cfc3', 'stroke-width': whole ? 2 : 1 },
+  drawn('title', {}, `${start} to ${end} ${events.slice(start, end).join(' ') || '(empty)'}: ${holders}`));
 }
 
 function showStretches() {
@@ -234,20 +261,13 @@ function showStretches() {
     at('belong').textContent = 'the plain judge does not take this card or this log';
     return;
   }
-  const size = Math.max(14, Math.min(36, Math.floor((at('stretches').clientWidth || 700) / (events.length + 2)))), half = size / 2, wide = (events.length + 2) * size, high = (events.length + 2) * half + 30;
-  const picture = drawn('svg', { width: Math.max(wide, 200), height: high, role: 'img', 'font-family': 'ui-monospace, DejaVu Sans Mono, monospace', 'font-size': Math.min(13, size * .62) });
-  const belonging = [];
-  for (const [start, end, word] of stretches) {
-    const yes = word >>> name & 1, x = size + (start + end) / 2 * size, y = half + 4 + (events.length - (end - start)) * half, whole = start === 0 && end === events.length;
-    const holds = names.filter((_, number) => word >>> number & 1).join(', ') || 'no name', text = `${start} to ${end} ${events.slice(start, end).join(' ') || '(empty)'}: ${holds}`;
-    if (yes) belonging.push(`${start}–${end}`);
-    picture.append(drawn('path', { d: `M${x} ${y - half + 1}l${half - 1} ${half - 1}l${1 - half} ${half - 1}l${1 - half} ${1 - half}z`, fill: yes ? '#2c8a57' : word ? '#e2ecdf' : '#f6f3ec',
-      stroke: whole ? '#1d1f23' : '#d4cfc3', 'stroke-width': whole ? 2 : 1 }, drawn('title', {}, text)));
-  }
-  events.forEach((event, place) => picture.append(drawn('text', { x: size + (place + .5) * size, y: high - 12, 'text-anchor': 'middle', 'font-weight': 'bold' }, event)));
-  at('stretches').replaceChildren(picture);
-  picture.setAttribute('aria-label', `stretches of ${names[name]}`);
-  at('belong').textContent = `${names[name]}: ${belonging.join(' ') || 'no stretch'}`;
+  const size = Math.max(14, Math.min(36, Math.floor((at('stretches').clientWidth || 700) / (events.length + 2))));
+  const wide = Math.max((events.length + 2) * size, 200), high = (events.length + 2) * size / 2 + 30;
+  const letter = (event, place) => drawn('text', { x: size + (place + .5) * size, y: high - 12, 'text-anchor': 'middle', 'font-weight': 'bold' }, event);
+  at('stretches').replaceChildren(drawn('svg', { width: wide, height: high, role: 'img', 'aria-label': `stretches of ${names[name]}`, 'font-family': MONOSPACE,
+    'font-size': Math.min(13, size * .62) }, ...stretches.map(each => cell(each, size)), ...events.map(letter)));
+  const found = stretches.filter(([, , word]) => belongs(word, name)).map(([start, end]) => `${start}–${end}`);
+  at('belong').textContent = `${names[name]}: ${found.join(' ') || 'no stretch'}`;
 }
 
 // Cards to work on
@@ -263,10 +283,24 @@ function take(text, called) {
 
 const leaving = () => at('text').value === saved || confirm('Leave the card as it is now? What was changed is not saved.');
 
+function save() {
+  const called = document.title.split(' – ')[0].split('/').pop() || 'new.card';
+  const link = made('a', { href: URL.createObjectURL(new Blob([at('text').value], { type: 'text/plain' })), download: called });
+  link.click();
+  setTimeout(() => URL.revokeObjectURL(link.href), 1000);
+  saved = at('text').value;
+}
+
+async function open() {
+  const [file] = at('file').files;
+  if (file && leaving()) take(await file.text(), file.name);
+  at('file').value = '';
+}
+
 async function start() {
   const cards = await (await fetch('/cards')).json(), choice = at('cards');
-  choice.append(...cards.map((card, number) => made('option', { value: number }, card.name)));
   let chosen = 0;
+  choice.append(...cards.map((card, number) => made('option', { value: number }, card.name)));
   choice.addEventListener('change', () => {
     if (!leaving()) choice.value = chosen;
     else take(cards[chosen = Number(choice.value)].text, cards[chosen].name);
@@ -276,17 +310,8 @@ async function start() {
   at('log').addEventListener('input', changed);
   at('expect').addEventListener('click', expect);
   at('open').addEventListener('click', () => at('file').click());
-  at('file').addEventListener('change', async () => {
-    const [file] = at('file').files;
-    if (file && leaving()) take(await file.text(), file.name);
-    at('file').value = '';
-  });
-  at('save').addEventListener('click', () => {
-    const called = (document.title.split(' – ')[0].split('/').pop() || 'new.card'), link = made('a', { href: URL.createObjectURL(new Blob([at('text').value], { type: 'text/plain' })), download: called });
-    link.click();
-    setTimeout(() => URL.revokeObjectURL(link.href), 1000);
-    saved = at('text').value;
-  });
+  at('file').addEventListener('change', open);
+  at('save').addEventListener('click', save);
   addEventListener('beforeunload', event => { if (at('text').value !== saved) event.preventDefault(); });
   if (cards.length) take(cards[0].text, cards[0].name);
 }
