@@ -137,6 +137,15 @@ def each_line():
                          ((SPUR,), 'refused 9 0: two rules of Spur')):
         code, out, errors = run(CARD, 'judge', '--each', *args, stdin=b'a')
         check((code, out) == (2, b'') and reason in errors, f'judge --each {args}: {errors}')
+    with tempfile.NamedTemporaryFile() as damaged:
+        for data, reason in ((bytes.fromhex('01010010000000'), 'refused 3 0: the file is no row of 4-byte words'), (bytes.fromhex('01010010'), 'refused 5 1: word 1')):
+            damaged.seek(0)
+            damaged.write(data)
+            damaged.truncate()
+            damaged.flush()
+            for command in (['judge', '--each'], ['rehearse'], ['judge', '--each', '--lookahead', '2']):
+                code, out, errors = run(CARD, *command, damaged.name, stdin=b'a')
+                check((code, out) == (2, b'') and reason in errors, f'{command} by a damaged card: {errors}')
     with subprocess.Popen([CARD, 'judge', '--each', M], stdin=subprocess.PIPE, stdout=subprocess.PIPE) as asked:
         for log, verdict in ((b'a\n', b'accepted 6 1     a\n'), (b'b\n', b'rejected 4 1     b\n')):
             asked.stdin.write(log)

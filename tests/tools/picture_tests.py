@@ -1,6 +1,7 @@
 """The picture of a reading shows what the descent did: every call and no other, the parse tree of an accepted log, and no bar over another."""
 import os, random, re, tempfile
 from array import array
+from itertools import product
 from xml.dom import minidom
 import vinegarspit
 from chart import Chart
@@ -38,6 +39,9 @@ def drawn(judges, judge, tokens, what):
     grammar = judges.card.grammar
     log, said = [grammar.terminals[token] for token in tokens], judges.told(judge, tokens)
     descent = Descent(judges, judge, tokens, said.left)
+    call, table, memo = *((vinegarspit.judge, vinegarspit.table()) if judge == ONE else (vinegarspit.judge2, vinegarspit.table2())), vinegarspit.memo()
+    used = len(grammar.nonterminals) * (len(tokens) + 1)
+    check(call(judges.card.words, tokens, table, memo) == said.answer and memo[:used] == said.left[:used], f'the call with rows laid out once: {what}')
     check(Chart(descent, log).met == set(descent.ends), f'calls of {what}')
     found = list(boxes('\n'.join(svg(log, descent, said.answer.far))))
     check(not any(overlap(one, other) for at, one in enumerate(found) for other in found[:at]), f'bars over one another of {what}')
@@ -55,14 +59,15 @@ def drawn(judges, judge, tokens, what):
 
 
 def charts(number):
-    """Of random cards and logs, accepted and rejected, by either lookahead."""
+    """Of random cards, by either lookahead: an accepted log, if a short one is, and any."""
     rng, pictures, trees = random.Random(3), 0, 0
+    short = [bytes(log) for length in range(6) for log in product(range(2), repeat=length)]
     while pictures < number:
         words = small_card(rng)
         judges = Judges(Card(words, decode(words), None))
-        tokens = bytes(rng.randrange(2) for _ in range(rng.randrange(8)))
-        for judge in judges.taking():
-            if judge != PLAIN:
+        for judge in (judge for judge in judges.taking() if judge != PLAIN):
+            accepted = [log for log in short if judges.answers[judge](log).verdict == 'accepted']
+            for tokens in [bytes(rng.randrange(2) for _ in range(rng.randrange(8)))] + ([rng.choice(accepted)] if accepted else []):
                 trees += drawn(judges, judge, tokens, f'{write(judges.card.grammar)} {list(tokens)} {judge}')
                 pictures += 1
     print(f'pictures: {pictures} have every call, {trees} of them the parse tree')
