@@ -2,6 +2,7 @@
 
 Each must has a colour of its own, what is of a must-not is hatched, what failed is red. Colours are attributes, so that the picture is the same in a file
 and in a page that forbids styles."""
+from collections import Counter
 from html import escape
 from chart import BAR, CAPTION, FAILED, GAP, MUST, MUST_NOT, NOT_RUN, Chart, described
 from explain import counted
@@ -144,7 +145,7 @@ def track(log, xs, top, far, calls):
     for place, event in enumerate(log):
         yield from event_drawn(place, event, (xs[2 * place + 1] + xs[2 * place + 2]) / 2, rail)
     for place in range(len(log) + 1):
-        yield from place_drawn(place, (xs[2 * place] + xs[2 * place + 1]) / 2, rail, calls.count(place), place == far)
+        yield from place_drawn(place, (xs[2 * place] + xs[2 * place + 1]) / 2, rail, calls[place], place == far)
 
 
 def svg(log, descent=None, far=None, most=None):
@@ -163,7 +164,7 @@ def svg(log, descent=None, far=None, most=None):
     yield f'<rect width="{wide:g}" height="{high}" fill="#ffffff"/>'
     yield from captions_drawn(captions, limits, xs)
     yield from bars_drawn(bars, places)
-    yield from track(log, xs, bottom, far, [place for _, place in descent.ends] if descent else [])
+    yield from track(log, xs, bottom, far, Counter(place for _, place in descent.ends) if descent else Counter())
     if chart and chart.left_out:
         yield f'<text x="8" y="{bottom - 1}" font-size="11" fill="#7a1710">{counted(chart.left_out, "lane")} left out: the picture would be too large</text>'
     yield '</svg>'

@@ -63,6 +63,9 @@ def requests():
                 got, text = 413, b' '
             check(got == status and text, f'{method} {path} {headers} {str(given)[:40]}: {got}, not {status}')
         check(asked('POST', '/told', body)[0] == 200, 'it answers still')
+        chain = ''.join(f'N{at} -> N{at + 1}\n' for at in range(31))
+        answer = json.loads(asked('POST', '/told', told(f'letters a\n{chain}N31 -> a N0 | empty', 'a' * 412))[2])
+        check(answer['log']['verdicts'][ONE]['count'] == 13216, 'the deepest card, on the stack of a thread')
     print('the server: its page, and who may ask what')
 
 
