@@ -9,7 +9,7 @@ CMAKE = """cmake_minimum_required(VERSION 3.13)
 project(judge_log C)
 find_package(PkgConfig REQUIRED)
 pkg_check_modules(vinegarspit REQUIRED IMPORTED_TARGET vinegarspit)
-add_executable(judge_log {source})
+add_executable(judge_log "{source}")
 target_link_libraries(judge_log PkgConfig::vinegarspit)
 """
 
@@ -46,9 +46,9 @@ def for_c(prefix, folder):
             file.write(run(CARD, command, os.path.join(ROOT, 'examples', 'loop.card'), *(['aabbcc'] if command == 'log' else []))[1])
     path = {'PKG_CONFIG_PATH': os.path.join(prefix, 'lib', 'pkgconfig'), 'LD_LIBRARY_PATH': os.path.join(prefix, 'lib')}
     program = os.path.join(folder, 'judge_log')
-    builds = [('archive', f'{compiler} -I{prefix}/include {source} {prefix}/lib/libvinegarspit.a -o {program}')]
+    builds = [('archive', f'{compiler} -I{prefix}/include "{source}" {prefix}/lib/libvinegarspit.a -o {program}')]
     if shutil.which('pkg-config'):
-        builds.append(('pkg-config', f'{compiler} {source} $(pkg-config --cflags --libs vinegarspit) -o {program}'))
+        builds.append(('pkg-config', f'{compiler} "{source}" $(pkg-config --cflags --libs vinegarspit) -o {program}'))
     if shutil.which('pkg-config') and shutil.which('cmake'):
         with open(os.path.join(folder, 'CMakeLists.txt'), 'w') as file:
             file.write(CMAKE.format(source=source))
