@@ -13,7 +13,7 @@ def recorded():
                 card, *_, output = (field.strip() for field in line.split('|'))
                 refused = re.match(r'refused (\d+) (\d+)', output)
                 refusal = (int(refused[1]), int(refused[2])) if refused else None
-                cards.setdefault(b'' if card == '-' else bytes.fromhex(card), refusal)
+                cards.setdefault(b'' if card in ('-', 'no file') else bytes.fromhex(card), refusal)
     return cards
 
 

@@ -4,7 +4,7 @@ use compare::{text, twin};
 use std::{fs, path::{Path, PathBuf}, process::ExitCode};
 
 fn bytes_of(field: &str) -> Vec<u8> {
-    let digits = if field == "-" { "" } else { field };
+    let digits = if matches!(field, "-" | "no file") { "" } else { field };
     (0..digits.len() / 2).map(|i| u8::from_str_radix(&digits[2 * i..2 * i + 2], 16).expect("hex digits")).collect()
 }
 
