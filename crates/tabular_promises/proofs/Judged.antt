@@ -215,7 +215,7 @@ module _ {words input spans reaches : List ℕ} {f : Finding} (g : FoundGiven wo
 
   -- of a grammar that passed: its sizes, no fault, and what its nonterminals left-reach
   module _ {z : Sizes} (p : g .families .finding ≡ Passed z) where
-    told-sets : FoundFamilies One words z (g .families .firsts) (g .families .follows)
+    told-sets : FoundFamilies One words z (g .families)
     told-sets = families-told One words (g .found) p
 
     terminals : z .terminals ≡ grammarOf words .terminals
