@@ -190,7 +190,7 @@ module _ (k : Lookahead) where
         );
     places = λ long short G e fits.
         places k G (e .formed .scoped) (fits-few k G e fits)
-        (check-tells k _ (a ∙ ap (λ f. refusedOr f Passed) (check-fault-long k (length before) words long ∙ fault-encoded k words G short e fits)));
+        (check-tells _ (a ∙ ap (λ f. refusedOr f Passed) (check-fault-long k (length before) words long ∙ fault-encoded k words G short e fits)));
     least = families (tokens k);
   }
 

@@ -112,7 +112,7 @@ judges {k} {words} {input} {table} {memo} {table′} {memo′} {r} a t m = recor
       let H = grammarOf words in
       let n = tokens k in
       places k G (e .formed .scoped) (fits-few k G e fits)
-      (judge-tells k _ (ltb maxTokens (length input)) (unknownFrom (H .terminals) 0 input) (accepts H (tableChoice H n input) input) (callsBy n H input)
+      (judge-tells _ (ltb maxTokens (length input)) (unknownFrom (H .terminals) 0 input) (accepts H (tableChoice H n input) input) (callsBy n H input)
       (a ∙ ap (λ f. refusedOr f (verdictBy n H input)) (judge-fault-long k words input table memo long room (fault-encoded k words G few e fits))));
   as-checked = λ e c checked q.
       t ∙ ap (λ y. lentBack y (tableWords k (grammarOf words)) table) (e ∙ sym (judged-checked k words input (length table) (length memo) e)) ∙ sym (q .table);

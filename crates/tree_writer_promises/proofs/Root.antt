@@ -60,17 +60,8 @@ module _ {words input table memo tree : List ℕ} (g : TreeGiven words input tab
   pub not-read : {o : Outcome} {n : ℕ} {tree′ : List ℕ} → o ≡ reading words → tagOf the-type o ≡ 1 → TreeDone words input tree n tree′
   not-read e t = let q : _≡_ {A = ℕ} 0 1 = rw (e ∙ g .accepted .read) at t in absurd (omega arith)
 
-  pub labels-given : {z : Sizes} → reading words ≡ Read z → LabelsGiven z input table memo
-  labels-given {z} e =
-      let k = well-read words z e in
-      record {
-        fewNonterminals = k .fewNonterminals;
-        fewTerminals = k .fewTerminals;
-        short = g .accepted .short;
-        tokens = rw (k .terminals) (g .accepted .tokens);
-        long-table = g .long-table;
-        long-memo = g .long-memo;
-      }
+  pub labels-given : {z : Sizes} → reading words ≡ Read z → LabelsGiven z input
+  labels-given {z} e = record { fewNonterminals = well-read words z e .fewNonterminals; short = g .accepted .short }
 
   abbrev meaning : Valuation
   meaning = solution G input

@@ -1,8 +1,8 @@
 -- The fields lie side by side.
 use borrow.Author.Needs.{needs}
 use Rattle.tree.specs.Writing.{vertexWord}
-use Rattle.tree_writer.proofs.labels.vertex_word.Statement.{statement}
-use Rattle.tree_writer.proofs.labels.vertex_word.Tie as tie
+use Rattle.vertex_words.proofs.vertex_word.Statement.{statement}
+use Rattle.vertex_words.proofs.vertex_word.Tie as tie
 
 mul-result : tie.Need-mul-result
 mul-result c = search needs
