@@ -1,13 +1,8 @@
-//! Links the proved library, and the PEG recognizer where it was made, into the programs that use them.
+//! Links the PEG recognizer, where it was made, into the benchmark.
 
 fn main() {
     let folder = std::env::var("CARGO_MANIFEST_DIR").expect("cargo sets it");
-    let embed = format!("{folder}/../target/staticlib/libembed.a");
     println!("cargo:rerun-if-changed=build.rs");
-    println!("cargo:rerun-if-changed={embed}");
-    for program in ["differential", "benchmark"] {
-        println!("cargo:rustc-link-arg-bin={program}={embed}");
-    }
     println!("cargo:rustc-check-cfg=cfg(peg)");
     let peg = format!("{folder}/target/libpegm.a");
     println!("cargo:rerun-if-changed={peg}");

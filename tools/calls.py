@@ -4,7 +4,8 @@ An end alone proves nothing. Where what comes next in the log is in the name's f
 name: that is proved for both lookaheads (`EntriesTell` of crates/following). The follow sets are those that the program sheet prints, or with two
 events of lookahead those of the library's table."""
 from explain import column_of
-from notation import DIRECTION, MAX_TERMINALS
+from logs import DIRECTION
+from notation import MAX_TERMINALS
 
 
 NOTHING = MAX_TERMINALS    # the place of "nothing" in a set for one event of lookahead; with two the places are those of the columns

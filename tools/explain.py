@@ -3,8 +3,9 @@
 Nothing here decides: the programs refuse, with a number and a place, and what they found is looked up again in the grammar."""
 from typing import NamedTuple, Optional
 from itertools import product
-from notation import (MAX_WORDS, MAX_INPUT, MAX_LOGS, MAX_WIDE_TERMINALS, NEGATIVE, NONTERMINAL, RULE, Grammar, Damaged, body_text, rule_text, scan,
-                      unknown_event)
+from logs import unknown_event
+from notation import (MAX_WORDS, MAX_INPUT, MAX_LOGS, MAX_WIDE_TERMINALS, NEGATIVE, NONTERMINAL, RULE, Grammar, Damaged,
+                      body_text, rule_text, scan)
 
 
 LONGEST = 100    # how much of a rule or a body is shown
@@ -92,6 +93,20 @@ def shortest(start, onward):
 
 def body_of(card, step):
     return shortened(('not ' if step.negative else '') + body_text(card.grammar, step.body))
+
+
+# Names that the start never comes to
+
+def unreached(card):
+    """A line for each name that no row of bodies leads to from name 0: it has no say in any verdict."""
+    grammar = card.grammar
+    found = list(steps(grammar))
+    reached, before = {0}, 0
+    while before != len(reached):
+        before = len(reached)
+        reached |= {step.to for step in found if step.name in reached}
+    return [f'{card.rule(number).split(":")[0]}: nothing comes to {grammar.nonterminals[name]} from {grammar.nonterminals[0]}'
+            for name in range(len(grammar.nonterminals)) if name not in reached for number in rules_of(grammar, name)[:1]]
 
 
 # Left recursion

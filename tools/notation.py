@@ -6,10 +6,14 @@ The text (its words are reserved: letters, names, empty, not):
     letters a b
     S -> A & not a b
     A -> a A b | empty
+    accept aabb : 6 3    # a log, how it is to be judged, with count and far, and a remark
+    reject ab
 
 The words are those of document 01: a word's top four bits are its kind, the low 28 its payload."""
-import re
-from typing import NamedTuple
+import difflib, re, sys
+from array import array
+from typing import NamedTuple, Optional
+from logs import event_of, events, unknown_event
 
 
 MAX_WORDS, MAX_NONTERMINALS, MAX_TERMINALS, MAX_RULES, MAX_INPUT = 2048, 32, 24, 128, 412
@@ -38,6 +42,22 @@ class Grammar(NamedTuple):
     rules: tuple
 
 
+class Expectation(NamedTuple):
+    """A log that a text says is accepted or rejected."""
+    line: int
+    verdict: str              # accepted or rejected
+    log: tuple                # its events as they are written
+    written: str              # the log as it stands in the text, spaces and all; empty for the empty one
+    calls: Optional[tuple]    # count and far, where they are given
+    remark: str
+
+
+class Text(NamedTuple):
+    grammar: Grammar
+    lines: list               # the line of the text for each word of the grammar
+    expected: tuple           # of expectations
+
+
 class TextError(Exception):
     """A fault of the text, at a line counted from 1."""
     def __init__(self, line, reason):
@@ -57,6 +77,13 @@ class Damaged(Exception):
 
 RESERVED = {'letters', 'names', 'empty', 'not'}
 TOKEN = re.compile(r"\s*(?:(->|[|&]|[A-Za-z0-9_][A-Za-z0-9_']*)|(\S))")
+EXPECTED = re.compile(r"\s*(accept|reject)(?![A-Za-z0-9_'])([^:#]*)(:[^#]*)?(?:#(.*))?")    # at the beginning of a line, where no letter can stand
+CALLS = re.compile(r':\s*(\d{1,9})\s+(\d{1,9})\s*')
+LINE_END = re.compile(r'\r\n|\r|\n')
+
+
+def lines_of(text):
+    return LINE_END.split(text)
 
 
 def tokens(line, number):
@@ -64,9 +91,24 @@ def tokens(line, number):
     found = []
     for match in TOKEN.finditer(line.split('#', 1)[0]):
         if match[2]:
-            raise TextError(number, f"the character '{match[2]}' means nothing here")
+            raise TextError(number, f"the character '{match[2]}' means nothing here" + character_meant(match[2]))
         found.append(match[1])
     return found
+
+
+def character_meant(character):
+    """What may be meant by a character that means nothing."""
+    if character in '\u2192\u21d2=:-':
+        return ": a rule is written with '->'"
+    if character in ',;.':
+        return ': words are separated by spaces'
+    if character in '!~\u00ac':
+        return ": a must-not is written with 'not'"
+    if character in '\u03b5\u03bb"\u2205':
+        return ": the empty body is written 'empty'"
+    if character.isalpha():
+        return ": words are of A to Z, a to z, 0 to 9, _ and '"
+    return ''
 
 
 def is_word(token):
@@ -85,17 +127,23 @@ def split(line, items, separator):
 
 
 def statements(text):
-    """The lists of (token, line); a line that begins with | or & continues the one before."""
-    found = []
-    for number, line in enumerate(text.split('\n'), 1):
+    """The lists of (token, line), in which a line that begins with | or & continues the one before; and line and parts of what is expected of logs."""
+    found, expected, continued = [], [], False
+    for number, line in enumerate(lines_of(text), 1):
+        parts = EXPECTED.fullmatch(line)
+        if parts:
+            expected.append((number, parts.groups()))
+            continued = False
+            continue
         items = [(token, number) for token in tokens(line, number)]
         if items and items[0][0] in ('|', '&'):
-            if not found or found[-1][0][0] in ('letters', 'names'):
+            if not continued:
                 raise TextError(number, f"'{items[0][0]}' continues a rule, and there is none before it")
             found[-1].extend(items)
         elif items:
             found.append(items)
-    return found
+            continued = items[0][0] not in ('letters', 'names')
+    return found, expected
 
 
 def declared(items, what, allowed):
@@ -133,13 +181,32 @@ def head_of(items):
 
 def parse(text):
     """The grammar that a text says."""
-    return located(text)[0]
+    return read_text(text).grammar
 
 
-def located(text):
-    """The grammar that a text says, and the line of the text for each of its words."""
+def read_text(text):
+    """All that a text says."""
+    found, expected = statements(text)
+    last = len(lines_of(text))
+    terminals, nonterminals, definitions, heading = declarations(found, last)
+    listed = nonterminals is not None
+    if not listed:
+        nonterminals = defined(definitions, last)
+    resolve = resolver(nonterminals, terminals, listed)
+    rules, lines = [], [heading]
+    for _, items in definitions:
+        head = resolve(*items[0]).number
+        for line, run in split(items[1][1], items[2:], '|'):
+            rules.append(parse_rule(head, line, run, resolve))
+            lines += rule_lines(line, run)
+    grammar = Grammar(tuple(nonterminals), tuple(terminals), tuple(rules))
+    return Text(grammar, lines + [last], tuple(expectation(grammar, line, *parts) for line, parts in expected))
+
+
+def declarations(found, last):
+    """Letters and, where they are listed, names; each rule's name with its tokens; and the line of the letters."""
     terminals, nonterminals, definitions, heading = None, None, [], 1
-    for items in statements(text):
+    for items in found:
         token, line = items[0]
         if token in ('letters', 'names'):
             if definitions:
@@ -154,30 +221,45 @@ def located(text):
             if terminals is None:
                 raise TextError(line, "a line 'letters' is missing before the first rule")
             definitions.append((head_of(items), items))
-    last = text.count('\n') + 1
     if terminals is None:
         raise TextError(last, "the line 'letters' is missing")
-    listed = nonterminals is not None
-    if not listed:
-        nonterminals = list(dict.fromkeys(head for head, _ in definitions))
-        if not nonterminals:
-            raise TextError(last, "no name: write a rule, or a line 'names'")
-        if len(nonterminals) > HEADING_FIELD:
-            raise TextError(last, f'{len(nonterminals)} names: the heading has room for {HEADING_FIELD}')
-    resolve = resolver(nonterminals, terminals, listed)
-    rules, lines = [], [heading]
-    for _, items in definitions:
-        head = resolve(*items[0]).number
-        for line, run in split(items[1][1], items[2:], '|'):
-            rules.append(parse_rule(head, line, run, resolve))
-            lines += rule_lines(line, run)
-    return Grammar(tuple(nonterminals), tuple(terminals), tuple(rules)), lines + [last]
+    return terminals, nonterminals, definitions, heading
+
+
+def defined(definitions, last):
+    """The names in the order of their first rules."""
+    names = list(dict.fromkeys(head for head, _ in definitions))
+    if not names:
+        raise TextError(last, "no name: write a rule, or a line 'names'")
+    if len(names) > HEADING_FIELD:
+        raise TextError(last, f'{len(names)} names: the heading has room for {HEADING_FIELD}')
+    return names
+
+
+def expectation(grammar, line, verb, text, calls, remark):
+    """What a line expects of a log, from its parts."""
+    written = ' '.join(text.split())
+    if not written:
+        raise TextError(line, f"behind '{verb}' a log is missing; write 'empty' for the empty one")
+    written = '' if written == 'empty' else written
+    log = tuple(events(grammar, written))
+    for at, event in enumerate(log):
+        if event_of(grammar, event) is None:
+            raise TextError(line, unknown_event(grammar, at, event))
+    numbers = calls and CALLS.fullmatch(calls)
+    if calls and not numbers:
+        raise TextError(line, "behind ':' stand count and far, two numbers")
+    return Expectation(line, verb + 'ed', log, written, tuple(map(int, numbers.groups())) if numbers else None, (remark or '').strip())
 
 
 def resolver(nonterminals, terminals, listed):
     """From a word of the text and its line to the symbol."""
     symbols = {name: Symbol(NONTERMINAL, at) for at, name in enumerate(nonterminals)}
     symbols.update((name, Symbol(TERMINAL, at)) for at, name in enumerate(terminals))
+
+    def meant(token):
+        near = difflib.get_close_matches(token, [*symbols, 'empty', 'not'], n=1, cutoff=0.66)
+        return f'; is {near[0]} meant?' if near else ''
 
     def resolve(token, line):
         if token in symbols:
@@ -187,10 +269,10 @@ def resolver(nonterminals, terminals, listed):
         if token in RESERVED or not is_word(token):
             raise TextError(line, f"'{token}' does not belong inside a body")
         if not is_nonterminal(token):
-            raise TextError(line, f"'{token}' is not among the letters")
+            raise TextError(line, f"'{token}' is not among the letters" + meant(token))
         if listed:
-            raise TextError(line, f"{token} is not in the line 'names'")
-        raise TextError(line, f'{token} has no rule')
+            raise TextError(line, f"{token} is not in the line 'names'" + meant(token))
+        raise TextError(line, f'{token} has no rule' + meant(token))
     return resolve
 
 
@@ -232,8 +314,15 @@ def rule_text(grammar, rule):
                       + ['not ' + body_text(grammar, body) for body in rule.negatives])
 
 
-def write(grammar):
-    """A text that says the grammar."""
+def expectation_text(expected):
+    """The line of a text that expects this."""
+    calls = ' : {} {}'.format(*expected.calls) if expected.calls else ''
+    remark = f'    # {expected.remark}' if expected.remark else ''
+    return f'{expected.verdict.removesuffix("ed")} {expected.written or "empty"}{calls}{remark}'
+
+
+def write(grammar, expected=()):
+    """A text that says the grammar, and what is expected of logs."""
     lines = ['letters ' + ' '.join(grammar.terminals), 'names ' + ' '.join(grammar.nonterminals)]
     before = None
     for rule in grammar.rules:
@@ -242,6 +331,7 @@ def write(grammar):
         opening = f'{head} ->' if rule.head != before else ' ' * (len(head) + 1) + ' |'
         lines.append(f'{opening} {rule_text(grammar, rule)}')
         before = rule.head
+    lines += [expectation_text(each) for each in expected]
     return '\n'.join(lines) + '\n'
 
 
@@ -251,48 +341,6 @@ def beyond_limits(grammar):
              (len(grammar.rules), MAX_RULES, 'rules', 7), (len(encode(grammar)), MAX_WORDS, 'words', 3)]
     return [f'{size} {what}, and the limit is {limit}: the check refuses it ({code})'
             for size, limit, what, code in sizes if size > limit]
-
-
-WESTWARD = '<'      # behind a letter: the event of a westward axle, which has its top bit set
-DIRECTION = 128     # the weight of that bit
-
-
-def events(grammar, text):
-    """The events of a log as they are written, each a letter or a letter with the mark of a westward axle; letters of one character may be
-    written together."""
-    written = []
-    for word in text.split():
-        if word in grammar.terminals or word.removesuffix(WESTWARD) in grammar.terminals:
-            written.append(word)
-            continue
-        for at, letter in enumerate(word):
-            if letter == WESTWARD and at:
-                written[-1] += letter
-            else:
-                written.append(letter)
-    return written
-
-
-def event_of(grammar, written):
-    """The byte of an event, or None where it is of no letter."""
-    letter = written.removesuffix(WESTWARD)
-    if letter not in grammar.terminals:
-        return None
-    return grammar.terminals.index(letter) + (DIRECTION if letter != written else 0)
-
-
-def unknown_event(grammar, at, written):
-    return f"event {at}, '{written}', is not among the letters {' '.join(grammar.terminals)}"
-
-
-def parse_input(grammar, text):
-    """The events of a log written in the grammar's letters, as bytes."""
-    written = events(grammar, text)
-    found = [event_of(grammar, event) for event in written]
-    if None in found:
-        at = found.index(None)
-        raise ValueError(unknown_event(grammar, at, written[at]))
-    return bytes(found)
 
 
 # Words
@@ -313,13 +361,20 @@ def encode(grammar):
 
 
 def to_bytes(words):
-    return b''.join(w.to_bytes(4, 'little') for w in words)
+    return in_file_order(array('I', words)).tobytes()
 
 
 def from_bytes(data):
     if len(data) % 4:
         raise Damaged(3, 0, f'{len(data)} bytes are not a row of 4-byte words')
-    return [int.from_bytes(data[at:at + 4], 'little') for at in range(0, len(data), 4)]
+    return in_file_order(array('I', data)).tolist()
+
+
+def in_file_order(words):
+    """Words as a file has them, low byte first, from those of this machine, or the other way round."""
+    if sys.byteorder == 'big':
+        words.byteswap()
+    return words
 
 
 KIND_NAMES = {HEADING: 'a heading', RULE: 'a rule', POSITIVE: 'a must', NEGATIVE: 'a must-not',

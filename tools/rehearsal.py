@@ -3,7 +3,7 @@
 Nothing here decides: every step and every judgement is a call of the proved library."""
 import vinegarspit
 from explain import counted
-from notation import DIRECTION, WESTWARD, event_of, events, unknown_event
+from logs import DIRECTION, WESTWARD, event_of, events, unknown_event
 
 
 LONGEST = 60    # how much of a log is shown
@@ -12,7 +12,10 @@ HELP = """letters, as in "a a b" or aab, are added to the log
 mark 3      notes the log's length under one of the marks 0 to 7
 back 3      cuts the log where that mark was set, and clears the marks beyond
 judge       judges the log as it stands
-+ letters   adds letters that are called mark, back, judge or help"""
+quit        leaves, as does exit or the end of input (Ctrl-D)
++ letters   adds letters that are called mark, back, judge, quit, exit or help
+Events and places count from 0: place 0 is before the first event."""
+LEAVING = ('quit', 'exit')
 
 
 class Rehearsal:
@@ -45,7 +48,7 @@ class Rehearsal:
         found = [event_of(grammar, event) for event in written]
         if None in found:
             at = found.index(None)
-            return unknown_event(grammar, at, written[at]) + ': nothing is added'
+            return unknown_event(grammar, at, written[at]) + ': nothing is added; help tells what can be typed'
         for at, event in enumerate(found):
             answer = vinegarspit.log_add(self.events, self.state, event)
             if answer.number:
@@ -63,6 +66,12 @@ class Rehearsal:
         answer = call(self.state, mark)
         reason = {0: None, 19: f'there is no mark {mark}, marks are 0 to {last}', 20: f'mark {mark} is not set'}[answer.number]
         return f'{answer}: {reason}' if reason else self.told()
+
+    def done(self, command, words, line):
+        """Does what a line says whose first word and others these are, and tells what has become of the log."""
+        if command in ('mark', 'back'):
+            return self.move(command, words)
+        return HELP if command in ('help', 'judge', *LEAVING) else self.add(line.removeprefix('+'))
 
     def judge(self):
         return vinegarspit.log_judge(self.card.words, self.events, self.state, *self.lent)

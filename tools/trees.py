@@ -1,5 +1,4 @@
-"""The parse tree of an accepted log, from its words: as indented text, and as a picture in SVG."""
-from html import escape
+"""The parse tree of an accepted log, from its vertices, as indented text."""
 from typing import NamedTuple
 from notation import TERMINAL, rule_text
 import vinegarspit
@@ -33,9 +32,8 @@ def descendants(grammar, at, vertex):
     return found
 
 
-def walked(grammar, words):
+def walked(grammar, vertices):
     """The tree from its root down, musts in order: what is met, one after the other."""
-    vertices = [vinegarspit.vertex(word) for word in words]
     at = {(grammar.rules[vertex.rule].head, vertex.start): vertex for vertex in vertices}
     todo, seen = [(vertices[0], 0, None)], set()
     while todo:
@@ -49,8 +47,8 @@ def walked(grammar, words):
             todo += [(each, depth + 1, met) for row in reversed(descendants(grammar, at, met)) for each in reversed(row)]
 
 
-def text(grammar, log, words):
-    for met in walked(grammar, words):
+def text(grammar, log, vertices):
+    for met in walked(grammar, vertices):
         indent = '  ' * met.depth
         if isinstance(met, Leaf):
             yield f'{indent}{log[met.place]}'
@@ -58,43 +56,3 @@ def text(grammar, log, words):
         name = grammar.nonterminals[grammar.rules[met.vertex.rule].head]
         told = 'as above' if met.again else f'rule {met.vertex.rule}: {rule_text(grammar, grammar.rules[met.vertex.rule])}'
         yield f'{indent}{name} {met.vertex.start}-{met.vertex.end}  {told}'
-
-
-CELL, ROW, BOX = 72, 56, 28    # an event's width, a level's height, a vertex's height
-
-
-def svg(grammar, log, words):
-    """Vertices over their stretches, the log's letters along the bottom; a dashed box is a vertex that stands elsewhere."""
-    nodes = list(walked(grammar, words))
-    levels = max(node.depth for node in nodes) + 1
-    bottom = levels * ROW + BOX
-    ends, where, boxes, lines = {}, {}, [], []
-    for node in nodes:
-        above = where.get(node.parent)
-        if isinstance(node, Leaf):
-            lines.append((*above, CELL * node.place + CELL / 2, bottom - 14, False))
-            continue
-        label = f'{grammar.nonterminals[grammar.rules[node.vertex.rule].head]} {node.vertex.start}-{node.vertex.end} ({node.vertex.rule})'
-        width = 8 * len(label) + 12
-        left = max(CELL * (node.vertex.start + node.vertex.end) / 2 - width / 2, ends.get(node.depth, 4))
-        ends[node.depth] = left + width + 8
-        middle, top = left + width / 2, node.depth * ROW + 8
-        if not node.again:
-            where[node.vertex] = middle, top + BOX
-        if above:
-            lines.append((*above, middle, top, node.again))
-        boxes.append((left, top, width, label, node.again))
-    wide = max([CELL * max(len(log), 1)] + list(ends.values())) + 8
-    yield f'<svg xmlns="http://www.w3.org/2000/svg" width="{wide:g}" height="{bottom + 12}" font-family="monospace" font-size="13">'
-    yield f'<rect width="{wide:g}" height="{bottom + 12}" fill="white"/>'
-    for x, y, to_x, to_y, again in lines:
-        yield f'<line x1="{x:g}" y1="{y:g}" x2="{to_x:g}" y2="{to_y:g}" stroke="#888"{DASHED * again}/>'
-    for left, top, width, label, again in boxes:
-        yield f'<rect x="{left:g}" y="{top}" width="{width}" height="{BOX}" rx="4" fill="#eef4ff" stroke="#345"{DASHED * again}/>'
-        yield f'<text x="{left + width / 2:g}" y="{top + 18}" text-anchor="middle">{escape(label)}</text>'
-    for place, letter in enumerate(log):
-        yield f'<text x="{CELL * place + CELL / 2:g}" y="{bottom}" text-anchor="middle" font-weight="bold">{escape(letter)}</text>'
-    yield '</svg>'
-
-
-DASHED = ' stroke-dasharray="4 3"'

@@ -12,13 +12,14 @@
 A card is a row of words and a log a row of bytes. Lent memory, or a record, is an array that the call writes into: array('I') for
 words of 32 bits, 'Q' for those of 64, 'H' for entries of 16. What the header states stands there alone: its limits and codes are attributes here
 (TABLE_WORDS, NO_RULE, ...), and the types of arguments and the parts of an answer are read from it. The library is made by
-tools/build_library when it is first called. The deepest cards need 4 MiB of stack, which the main thread has."""
+tools/build_library when it is first called, and NoLibrary is raised where that fails. Judging the deepest cards takes 4 MiB of stack to be safe, which
+the main thread has."""
 import ctypes, functools, os, re, subprocess
 from array import array
 from typing import NamedTuple
+from places import HEADER, HERE, IN_REPOSITORY, LIBRARY
 
 
-ROOT = os.path.normpath(os.path.join(os.path.dirname(os.path.abspath(__file__)), '..'))
 TYPES = {'uint8_t': ('B', ctypes.c_uint8), 'uint16_t': ('H', ctypes.c_uint16), 'uint32_t': ('I', ctypes.c_uint32),
          'uint64_t': ('Q', ctypes.c_uint64), 'size_t': (None, ctypes.c_size_t)}
 
@@ -36,7 +37,7 @@ class Parameter(NamedTuple):
 @functools.cache
 def header():
     """The header without its comments, and with the lengths of rows as numbers."""
-    with open(os.path.join(ROOT, 'include', 'vinegarspit.h')) as file:
+    with open(HEADER) as file:
         text = re.sub(r'/\*.*?\*/', '', file.read(), flags=re.DOTALL)
     lengths = dict(re.findall(r'\b(VINEGARSPIT_\w+) = (\d+)', text))
     return re.sub(r'\[(VINEGARSPIT_\w+)\]', lambda found: f'[{lengths[found[1]]}]', text)
@@ -91,11 +92,13 @@ class Answer(NamedTuple):
     count: int
     far: int
 
+    @functools.lru_cache(maxsize=4096)
     def __str__(self):
         """As the programs print it."""
         return {'refused': f'refused {self.number} {self.place}', 'passed': 'passed'}.get(self.verdict, f'{self.verdict} {self.count} {self.far}')
 
 
+@functools.lru_cache(maxsize=4096)
 def unpacked(number):
     verdict, *rest = (number >> shift & mask for shift, mask in (parts()[name] for name in Answer._fields))
     return Answer({constants()[name.upper()]: name for name in ('refused', 'passed', 'rejected', 'accepted')}[verdict], *rest)
@@ -103,10 +106,18 @@ def unpacked(number):
 
 # Calls
 
+class NoLibrary(Exception):
+    """The library is not there and cannot be made, or cannot be loaded."""
+
+
 @functools.cache
 def library():
-    subprocess.run([os.path.join(ROOT, 'tools', 'build_library')], check=True)
-    return ctypes.CDLL(os.path.join(ROOT, 'target', 'libvinegarspit.so'))
+    if IN_REPOSITORY and subprocess.run([os.path.join(HERE, 'build_library')], stdout=subprocess.DEVNULL).returncode:
+        raise NoLibrary('the library cannot be made: tools/build_library failed')
+    try:
+        return ctypes.CDLL(LIBRARY)
+    except OSError as error:
+        raise NoLibrary(f'the library cannot be loaded: {error}') from None
 
 
 def row_of(parameter, argument):
@@ -122,6 +133,14 @@ def row_of(parameter, argument):
     return [elements] if parameter.length else [elements, ctypes.c_size_t(len(argument))]
 
 
+def number_of(parameter, argument):
+    """A number for C, which has to be within its width: ctypes would cut it."""
+    element = TYPES[parameter.type][1]
+    if not 0 <= argument < 1 << 8 * ctypes.sizeof(element):
+        raise OverflowError(f'{parameter.name} has to be a number of {8 * ctypes.sizeof(element)} bits')
+    return element(argument)
+
+
 def call(name, *arguments):
     """Calls vinegarspit_NAME; each row is passed with its length, unless that is always the same, each number as it is."""
     parameters = calls()[name]
@@ -135,11 +154,22 @@ def call(name, *arguments):
         if parameter.row:
             passed += row_of(parameter, argument)
         else:
-            passed.append(TYPES[parameter.type][1](argument))
+            passed.append(number_of(parameter, argument))
     function = getattr(library(), 'vinegarspit_' + name)
     function.restype = ctypes.c_uint64 if name in answering() else None
     answer = function(*passed)
     return unpacked(answer) if name in answering() else None
+
+
+def of_log(name, card, *lent):
+    """The call vinegarspit_NAME of a card, a log and lent memory, as a function of the log's bytes alone: for many logs of one card, as the rows are laid
+    out once. The memory holds what the last of these calls left."""
+    parameters = calls()[name]
+    before = row_of(parameters[0], card)
+    after = [part for parameter, memory in zip(parameters[2:], lent, strict=True) for part in row_of(parameter, memory)]
+    function = getattr(library(), 'vinegarspit_' + name)
+    function.restype = ctypes.c_uint64
+    return lambda log: unpacked(function(*before, bytes(log), ctypes.c_size_t(len(log)), *after))
 
 
 def check(card, table):

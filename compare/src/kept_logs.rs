@@ -139,7 +139,7 @@ fn change(pair: &mut Pair, step: Step, log: &mut Log, stored: &mut linked::Store
     pair.tally.cases += 1;
     if answer != linked::packed(outcome) || *stored != expected {
         pair.tally.differ += 1;
-        println!("{step:?} of {before:?}: the twin answers {outcome:?} and has {:?}, the library {answer:016x} and {:?}", expected.state, stored.state);
+        println!("{step:?} of {before:?}: the twin answers {outcome:?} and has {:?}, the library {answer:?} and {:?}", expected.state, stored.state);
         *stored = expected;
     }
 }

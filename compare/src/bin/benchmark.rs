@@ -7,7 +7,7 @@ use compare::cards::{self, Draft};
 use compare::twin::{
     self, Allowance, Log, Outcome, Usages, MARKS, MAX_PLAIN_TOKENS, MAX_TOKENS, MEMO_ENTRIES, NOT_SET, SPAN_WORDS, TABLE_WORDS, TABLE_WORDS_OF_TWO,
 };
-use linked::Stored;
+use linked::{Answer, Stored};
 use std::{hint::black_box, time::Instant};
 
 /// How many batches of each kind are timed; an odd number, so that one of them is the median.
@@ -49,9 +49,9 @@ struct Memory<Word> {
 struct Lookahead<Word> {
     name: &'static str,
     table_words: usize,
-    check: fn(&[u32], &mut [Word]) -> u64,
+    check: fn(&[u32], &mut [Word]) -> Answer,
     check_by_twin: fn(&[u32], &mut [Word]) -> Outcome,
-    judge: fn(&[u32], &[u8], &mut [Word], &mut [u16]) -> u64,
+    judge: fn(&[u32], &[u8], &mut [Word], &mut [u16]) -> Answer,
     judge_by_twin: fn(&[u32], &[u8], &mut [Word], &mut [u16]) -> Outcome,
 }
 
@@ -80,7 +80,7 @@ impl<Word: Clone + From<u32>> Lookahead<Word> {
 }
 
 /// The nanoseconds that one call takes, on average over a batch.
-fn batch(times: usize, call: &mut dyn FnMut() -> u64) -> f64 {
+fn batch<T>(times: usize, call: &mut dyn FnMut() -> T) -> f64 {
     let start = Instant::now();
     for _ in 0..times {
         black_box(call());
@@ -89,7 +89,7 @@ fn batch(times: usize, call: &mut dyn FnMut() -> u64) -> f64 {
 }
 
 /// The median time of each call, in nanoseconds; batches of the calls take turns.
-fn medians(calls: &mut [&mut dyn FnMut() -> u64]) -> Vec<f64> {
+fn medians<T>(calls: &mut [&mut dyn FnMut() -> T]) -> Vec<f64> {
     let sizes: Vec<usize> = calls
         .iter_mut()
         .map(|call| {
@@ -140,8 +140,8 @@ fn time_judge<Word: Clone + From<u32> + PartialEq>(by: &Lookahead<Word>, what: &
     let letters: Vec<u8> = input.iter().map(|token| b'a' + token).collect();
     let mut by_library = || (by.judge)(black_box(&words), black_box(input), &mut proved.table, &mut proved.memo);
     let mut by_twin = || linked::packed((by.judge_by_twin)(black_box(&words), black_box(input), &mut twin.table, &mut twin.memo));
-    let mut by_peg = || peg::accepts(black_box(&letters)) as u64;
-    let mut calls: Vec<&mut dyn FnMut() -> u64> = vec![&mut by_library, &mut by_twin];
+    let mut by_peg = || Answer::from_bits(peg::accepts(black_box(&letters)) as u64);
+    let mut calls: Vec<&mut dyn FnMut() -> Answer> = vec![&mut by_library, &mut by_twin];
     if with_peg {
         assert!(peg::accepts(&letters) == (outcome.verdict == twin::Verdict::Accepted), "{what}: peg's answer differs");
         calls.push(&mut by_peg);
@@ -207,11 +207,11 @@ fn time_kept(what: &str, draft: &Draft, input: &[u8]) {
     let times = medians(&mut [
         &mut || {
             stored.return_to(0);
-            input.iter().map(|&event| stored.add(black_box(event))).sum()
+            input.iter().map(|&event| stored.add(black_box(event)).bits()).sum::<u64>()
         },
         &mut || {
             log.return_to(0).expect("a mark");
-            input.iter().map(|&event| u64::from(log.add(black_box(event)).is_ok())).sum()
+            input.iter().map(|&event| u64::from(log.add(black_box(event)).is_ok())).sum::<u64>()
         },
     ]);
     print_row(&format!("grow to {} events", input.len()), "passed", &times);

@@ -296,7 +296,7 @@ impl Pair {
         self.settle("judge2", agree, expected, answer, words, input, lengths)
     }
 
-    fn settle(&mut self, call: &str, agree: bool, expected: Outcome, answer: u64, words: &[u32], input: &[u8], lengths: Lengths) -> Outcome {
+    fn settle(&mut self, call: &str, agree: bool, expected: Outcome, answer: linked::Answer, words: &[u32], input: &[u8], lengths: Lengths) -> Outcome {
         self.tally.add(expected);
         if !agree {
             self.tally.differ += 1;
@@ -304,8 +304,8 @@ impl Pair {
                 println!("{call} differs, {lengths:?}");
                 println!("  words {}", words.iter().map(|word| format!("{word:08x}")).collect::<Vec<_>>().join(" "));
                 println!("  input {}", input.iter().map(|token| format!("{token:02x}")).collect::<String>());
-                println!("  the twin answers {:016x}, {expected:?}", linked::packed(expected));
-                println!("  the library answers {answer:016x}");
+                println!("  the twin answers {:?}, {expected:?}", linked::packed(expected));
+                println!("  the library answers {answer:?}");
                 print_first_difference("table", &self.twin.table, &self.proved.table);
                 print_first_difference("memo", &self.twin.memo, &self.proved.memo);
                 print_first_difference("spans", &self.twin.spans, &self.proved.spans);

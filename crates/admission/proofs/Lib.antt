@@ -1,3 +1,3 @@
 pub mod WithoutPositives
 pub mod Admitted
-pub mod Positions
+pub mod AdmissionErrors

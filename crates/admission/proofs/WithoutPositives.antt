@@ -19,7 +19,7 @@ use Rattle.grammar.specs.declared.reading.Sizes.{Sizes}
 use Rattle.grammar.specs.declared.reading.Progress.{Progress}
 use Rattle.grammar.specs.declared.reading.Outcome.the-variants.{Read}
 use Rattle.grammar.proofs.WellFormed.{Each, none-in, more-in, Shape, step-passed, onward, finished-read, Reads, reads}
-use Rattle.booleans.specs.Choice.{choose}
+use Rattle.base.specs.Choice.{choose}
 use Rattle.admission.specs.declared.Alone.{Alone as Found}
 use Rattle.admission.specs.declared.Alone.the-variants.{Absent, At}
 use Rattle.admission.specs.Admission.{beginsNegative, aloneFrom}
@@ -37,6 +37,17 @@ module _ (words : List ℕ) (opened : Bool) (at : ℕ) {w : Word} (h : at < leng
 pub alone-none : (words : List ℕ) (opened : Bool) (at : ℕ) → length words ≤ at → aloneFrom opened at (drop at words) ≡ Absent
 unfolding aloneFrom
 alone-none words opened at h = rw (drop-of-length-le words h)
+
+-- what is found is one of the words
+pub alone-among : (opened : Bool) (at : ℕ) (ws : List ℕ) (i : ℕ) → aloneFrom opened at ws ≡ At i → i < at + length ws
+unfolding aloneFrom
+alone-among opened at [] i e = let n : _≡_ {A = ℕ} 0 1 = cc in absurd (omega arith)
+alone-among opened at (w ∷ ws) i e = go (opened && beginsNegative (decoded w)) (alone-among (beginsRule (decoded w)) (suc at) ws i) e
+  where
+    go : (b : Bool) → (aloneFrom (beginsRule (decoded w)) (suc at) ws ≡ At i → i < suc at + length ws)
+        → choose b (At at) (aloneFrom (beginsRule (decoded w)) (suc at) ws) ≡ At i → i < at + length (w ∷ ws)
+    go true later q = let n : i ≡ at = cc in omega (arith, n)
+    go false later q = omega (arith, later q)
 
 -- a rule has a positive
 abbrev pub Positives : Rule → Type 0

@@ -24,7 +24,7 @@ pub(crate) enum Alone {
     At(usize),
 }
 
-fn begins_negative(word: Word) -> bool
+pub fn begins_negative(word: Word) -> bool
     ensures { λ r. ⌜ r ≡ beginsNegative word ⌝ }
 {
     match word {

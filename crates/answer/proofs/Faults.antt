@@ -41,12 +41,27 @@ first-nested [] (some x ∷ l) m = refl
 first-nested (none ∷ k) l m = first-nested k l m
 first-nested (some x ∷ k) l m = refl
 
+-- what holds of a row's error, if it has one
+abbrev pub OfFault : (Error → Type 0) → Option Error → Type 0
+OfFault P f = (e : Error) → f ≡ some e → P e
+
+module _ (P : Error → Type 0) where
+  pub of-none : OfFault P none
+  of-none e q = absurd (none-some q)
+
+  pub of-some : (x : Error) → P x → OfFault P (some x)
+  of-some x h e q = let z : e ≡ x = cc in rw z h
+
+  pub of-if : (b : Bool) (x : Error) → P x → OfFault P (faultIf b x)
+  of-if true x h = of-some x h
+  of-if false x h = of-none
+
 -- what holds of each row's error, where no row before it has one
 abbrev pub EachFault : (Error → Type 0) → List (Option Error) → Type 0
 EachFault P [] = Unit {0}
-EachFault P (f ∷ l) = ((e : Error) → f ≡ some e → P e) × (f ≡ none → EachFault P l)
+EachFault P (f ∷ l) = OfFault P f × (f ≡ none → EachFault P l)
 
-pub first-each : (P : Error → Type 0) (l : List (Option Error)) → EachFault P l → (e : Error) → firstFault l ≡ some e → P e
+pub first-each : (P : Error → Type 0) (l : List (Option Error)) → EachFault P l → OfFault P (firstFault l)
 first-each P [] h e q = absurd (none-some q)
 first-each P (none ∷ l) h e q = first-each P l (h .1 refl) e q
 first-each P (some x ∷ l) h e q = h .0 e q

@@ -1,23 +1,24 @@
 -- The rules that claim an entry, by heads and claims as by the grammar: some, several, and the first of them.
 use mathlib.Core.Path.{_≡_, refl, sym, ap, ap₂, _∙_}
 use mathlib.Core.Bool.{Bool, true, false, _&&_, _||_}
-use mathlib.Core.List.{List, [], _∷_, _++_, map}
+use mathlib.Core.List.{List, [], _∷_}
 use mathlib.Core.Option.{Option, none, some}
-use Prim.Native.Nat.{ℕ, zero, suc, _+_, _-_, _≤_, _<_}
+use Prim.Native.Nat.{ℕ, suc, _+_, _-_, _≤_, _<_}
 use native.Mathlib.Omega.{arith}
 use borrow.Author.Tests.{eq-eqb, ne-eqb}
 use lib.Dec.{eqb}
-use lib.ListN.{length, getD, getElem?, replicate}
-use Rattle.grammar.specs.Limits.{maxRules}
+use lib.ListN.{length, getD, getElem?}
 use Rattle.grammar.specs.Syntax.{Rule, Grammar}
 use Rattle.lookahead.specs.declared.Lookahead.{Lookahead}
 use Rattle.lookahead.specs.Lookaheads.{tokens, elements, stringOf}
 use Rattle.lookahead.specs.Elements.{has}
-use Rattle.booleans.specs.Quantifiers.{anyOf}
-use Rattle.semantics.specs.FiniteSets.{member, numbersFrom, numbers}
-use Rattle.semantics.specs.FirstFollow.{sameString}
+use Rattle.base.specs.Quantifiers.{anyOf}
+use Rattle.base.specs.FiniteSets.{member, numbersFrom, numbers}
+use Rattle.base.specs.Strings.{sameString}
 use Rattle.semantics.specs.Claims.{several, position, claimed, claims, tableOf}
-use Rattle.claims.specs.Claims.{claimNumber, headsOf, claimNumbers, byRule, claimant}
+use Rattle.families.specs.RuleLists.{byRule}
+use Rattle.families.proofs.ByRules.{by-rule-at}
+use Rattle.claims.specs.Claims.{claimNumber, headsOf, claimNumbers, claimant}
 use Rattle.claims.proofs.RuleClaims.{claim-has}
 
 -- a rule claims what its claim has, for its head alone
@@ -92,24 +93,15 @@ module _ {G : Grammar} {k : ℕ} {heads sets : List ℕ} {l : ℕ} {x : List ℕ
   unfolding numbers tableOf
   first-claim = position-alike (claimant heads sets A l) (claims G k (A, x)) 0 (G .rules) claims-alike
 
--- an array by rule has what its rules give
-rule-at : (f : Rule → ℕ) (rs : List Rule) (z : List ℕ) (q : ℕ) (r : Rule) → getElem? rs q ≡ some r → getD (map f rs ++ z) q 0 ≡ f r
-rule-at f [] z q r e = let n : _≡_ {A = ℕ} 0 1 = cc in absurd (omega arith)
-rule-at f (s ∷ rs) z zero r e = let d : s ≡ r = cc in ap f d
-rule-at f (s ∷ rs) z (suc q) r e = rule-at f rs z q r e
-
 -- with the heads and the claims of a grammar's rules
 module _ (k : Lookahead) (G : Grammar) {heads sets : List ℕ} (h : heads ≡ byRule (headsOf G)) (s : sets ≡ byRule (claimNumbers k G)) where
   pub heads-own : (q : ℕ) (r : Rule) → getElem? (G .rules) q ≡ some r → getD heads q 0 ≡ r .head
-  unfolding byRule
-  heads-own q r e = rw h (rule-at (λ r. r .head) (G .rules) (replicate (maxRules - length (headsOf G)) 0) q r e)
+  heads-own q r e = rw h (by-rule-at (λ r. r .head) (G .rules) q r e)
 
   module _ (l : ℕ) (small : l < elements k) where
     sets-have : (q : ℕ) (r : Rule) → getElem? (G .rules) q ≡ some r → has (getD sets q 0) l ≡ member sameString (claimed G (tokens k) r) (stringOf k l)
-    unfolding byRule
     sets-have q r e =
-        let n : getD sets q 0 ≡ claimNumber k G r =
-        rw s (rule-at (claimNumber k G) (G .rules) (replicate (maxRules - length (claimNumbers k G)) 0) q r e) in
+        let n : getD sets q 0 ≡ claimNumber k G r = rw s (by-rule-at (claimNumber k G) (G .rules) q r e) in
         ap (λ x. has x l) n ∙ claim-has k G r l small
 
     pub told : Told G (tokens k) heads sets l (stringOf k l)

@@ -1,53 +1,56 @@
 -- What is found of an encoded grammar, by its families, by the heads and the claims of its rules and by the nonterminals that overrun, and what that tells.
-use mathlib.Core.Path.{_≡_, refl, sym, ap, _∙_}
+use mathlib.Core.Path.{_≡_, sym, ap, _∙_}
 use mathlib.Core.List.{List}
 use mathlib.Core.Option.{none}
 use Prim.Native.Nat.{ℕ}
 use lib.ListN.{replicate}
 use Rattle.answer.specs.declared.Error.{Error}
-use Rattle.grammar.specs.Encoding.{parse, grammarOf}
+use Rattle.grammar.specs.Encoding.{grammarOf}
 use Rattle.grammar.specs.Limits.{maxNonterminals, maxRules}
+use Rattle.grammar.specs.Starts.{ruleStarts}
 use Rattle.grammar.specs.declared.reading.Sizes.{Sizes}
 use Rattle.grammar.specs.declared.reading.Outcome.the-variants.{Read}
 use Rattle.lookahead.specs.declared.Lookahead.{Lookahead}
 use Rattle.admission.specs.Admission.{admission}
 use Rattle.families.specs.declared.Finding.the-variants.{Passed, Refused}
 use Rattle.families.specs.declared.Families.{Families}
-use Rattle.families.specs.Analysis.{setsFault, setsIf, familiesOf}
-use Rattle.families.specs.Lists.{listed}
+use Rattle.families.specs.Analysis.{setsFault, startsIf, byRuleIf, setsIf, familiesOf}
+use Rattle.base.specs.Lists.{listed}
+use Rattle.families.specs.RuleLists.{byRule}
 use Rattle.families.specs.Sets.{firstNumber, followNumber}
-use Rattle.families.proofs.Lists.{listed-is}
-use Rattle.families.proofs.NamedNonterminals.{word-indexed}
+use Rattle.base.proofs.Lists.{listed-is}
 use Rattle.families.proofs.FewTerminals.{admitted-read}
 use Rattle.families.proofs.Findings.{FoundFamilies, told-passed, families-refused}
 use Rattle.claims.specs.declared.Claims.{Claims}
-use Rattle.claims.specs.Claims.{headsOf, claimNumbers, byRule, byRuleIf, overrunsOf, overrunsIf, claimsWith, claimsOf, FamiliesGiven, AllKept}
-use Rattle.claims.specs.Overruns.{WordsIndexed, Overrunning}
+use Rattle.claims.specs.Claims.{headsOf, claimNumbers, overrunsOf, overrunsIf, claimsWith, claimsOf, FamiliesGiven, AllKept}
+use Rattle.claims.specs.Overruns.{HeadsGiven, Overrunning}
 use Rattle.claims.proofs.OverrunSets.{overruns-told}
 
 -- the families that are found: a grammar to go on with, or a refusal
-pub given : {k : Lookahead} {words : List ℕ} {z : Sizes} {firsts follows : List ℕ} → FoundFamilies k words z firsts follows → FamiliesGiven k words z firsts follows
-given f = record { read = f .read; first = f .first; follow = f .follow }
+pub given : {k : Lookahead} {words : List ℕ} {z : Sizes} {r : Families} → FoundFamilies k words z r → FamiliesGiven k words z (r .starts) (r .meets) (r .follows)
+given f = record { read = f .read; begins = f .begins; met = f .met; follow = f .follow }
 
 pub refused-claims : (k : Lookahead) (words : List ℕ) {r : Families} {x : Error} → r ≡ familiesOf k words → r .finding ≡ Refused x
-    → claimsWith (r .finding) (r .firsts) (r .follows) (replicate maxRules 0) (replicate maxRules 0) (replicate maxNonterminals 0) ≡ claimsOf k words
+    → claimsWith (r .finding) (r .starts) (r .firsts) (r .follows) (replicate maxRules 0) (replicate maxRules 0) (replicate maxNonterminals 0) ≡ claimsOf k words
 unfolding claimsOf familiesOf
 refused-claims k words {r} e q = rw (e, families-refused k words e q)
 
-pub words-indexed : {k : Lookahead} {words : List ℕ} {z : Sizes} {firsts follows : List ℕ} → FoundFamilies k words z firsts follows → WordsIndexed words
-words-indexed {k} {words} f i h = word-indexed words (admitted-read k words (f .read)) h refl
+pub heads-given : {k : Lookahead} {words : List ℕ} {z : Sizes} {r : Families} {heads sets : List ℕ} → FoundFamilies k words z r
+    → AllKept k (grammarOf words) heads sets → HeadsGiven words (r .starts) heads z
+heads-given {k} {words} f p = record { read = admitted-read k words (f .read); begins = f .begins; own = p .own }
 
-pub all-claims : {k : Lookahead} {words : List ℕ} {z : Sizes} {firsts follows heads sets told : List ℕ} → FoundFamilies k words z firsts follows
-    → AllKept k (grammarOf words) heads sets → Overrunning k (parse words .rules) follows told
-    → claimsWith (Passed z) firsts follows heads sets told ≡ claimsOf k words
+pub all-claims : {k : Lookahead} {words : List ℕ} {z : Sizes} {r : Families} {heads sets told : List ℕ} → FoundFamilies k words z r
+    → AllKept k (grammarOf words) heads sets → Overrunning k (grammarOf words .rules) (r .follows) told
+    → claimsWith (Passed z) (r .starts) (r .firsts) (r .follows) heads sets told ≡ claimsOf k words
 unfolding claimsOf
-all-claims {k} {words} {z} {firsts} {follows} {heads} {sets} {told} f p o =
-    rw (f .read, f .faultless, f .first, f .follow, p .own, p .claims, listed-is maxNonterminals _ told (o .long) (overruns-told (given f) o))
+all-claims {told = told} f p o =
+    rw (f .read, f .faultless, f .begins, f .first, f .follow, p .own, p .claims, listed-is maxNonterminals _ told (o .long) (overruns-told (given f) o))
 
 -- what claims that are found tell
 pub record Claimed (k : Lookahead) (words : List ℕ) (z : Sizes) (r : Claims) : Type 0 where
   pub read : admission k words ≡ Read z
   pub faultless : setsFault k words ≡ none
+  pub begins : r .starts ≡ ruleStarts words
   pub first : r .firsts ≡ listed maxNonterminals (firstNumber k (grammarOf words))
   pub follow : r .follows ≡ listed maxNonterminals (followNumber k (grammarOf words))
   pub own : r .heads ≡ byRule (headsOf (grammarOf words))
@@ -62,6 +65,7 @@ claims-told k words e q =
     record {
       read = p .1;
       faultless = p .0;
+      begins = ap (λ x. x .starts) e ∙ ap (λ f. startsIf f (ruleStarts words)) (p .0);
       first = ap (λ x. x .firsts) e ∙ ap (λ f. setsIf f (listed maxNonterminals (firstNumber k G))) (p .0);
       follow = ap (λ x. x .follows) e ∙ ap (λ f. setsIf f (listed maxNonterminals (followNumber k G))) (p .0);
       own = ap (λ x. x .heads) e ∙ ap (λ f. byRuleIf f (headsOf G)) (p .0);

@@ -1,6 +1,7 @@
 pub mod RuleClaims
-pub mod ClaimWalk
+pub mod KeptClaims
 pub mod Claimants
-pub mod OverrunWalk
+pub mod FirstConjuncts
+pub mod OverrunRules
 pub mod OverrunSets
 pub mod Findings

@@ -1,18 +1,17 @@
--- What is told of the nonterminals by a walk over the words is that they overrun, as the semantics has it.
-use mathlib.Core.Path.{_≡_, refl, sym, ap, ap₂, _∙_}
+-- What is told of the nonterminals by the rules is that they overrun, as the semantics has it.
+use mathlib.Core.Path.{_≡_, refl, sym, ap, _∙_}
 use mathlib.Core.Bool.{Bool, true, false, not, _&&_}
 use mathlib.Core.List.{List, [], List·Memᴰ}
 use Prim.Native.Nat.{ℕ, _≤_, _<_}
 use borrow.Author.Tests.{eq-eqb, ne-eqb}
 use lib.Dec.{T, T-not, eqb, eqb→eq, eqb-refl}
 use lib.ListN.{getD}
-use Rattle.booleans.specs.Quantifiers.{anyOf}
-use Rattle.booleans.proofs.Quantified.{any-elim, any-make}
+use Rattle.base.specs.Quantifiers.{anyOf}
+use Rattle.base.proofs.Quantified.{any-elim, any-make}
 use Rattle.grammar.specs.declared.reading.Sizes.{Sizes}
-use Rattle.grammar.specs.Encoding.{parse, grammarOf}
+use Rattle.grammar.specs.Encoding.{grammarOf}
 use Rattle.grammar.specs.Syntax.{Grammar, WellFormed}
 use Rattle.grammar.proofs.WellRead.{well-read}
-use Rattle.grammar.proofs.EachIndex.{read-whole}
 use Rattle.lookahead.specs.declared.Lookahead.{Lookahead}
 use Rattle.lookahead.specs.Lookaheads.{tokens, alphabet, elements, nothing, stringOf}
 use Rattle.lookahead.specs.Elements.{has, Subset}
@@ -20,15 +19,16 @@ use Rattle.lookahead.specs.Operations.{end, join}
 use Rattle.lookahead.proofs.Operations.{has-end}
 use Rattle.lookahead.proofs.Order.{join-same, same-join}
 use Rattle.lookahead.proofs.Strings.{string-nothing, is-nothing}
-use Rattle.semantics.specs.FirstFollow.{sameString, followSets}
+use Rattle.base.specs.Strings.{sameString}
+use Rattle.semantics.specs.FirstFollow.{followSets}
 use Rattle.semantics.specs.Claims.{overruns}
-use Rattle.semantics.proofs.LookaheadSets.{strings-equality}
+use Rattle.base.proofs.LookaheadStrings.{strings-equality}
 use Rattle.families.specs.Sets.{followNumber}
 use Rattle.families.proofs.Strings.{string-in, number-element}
 use Rattle.claims.specs.Claims.{FamiliesGiven}
 use Rattle.claims.specs.Overruns.{beyondEnd, aloneIn, overrunSet, Overrunning}
 use Rattle.claims.proofs.RuleClaims.{follow-lists}
-use Rattle.claims.proofs.ClaimWalk.{read, follow-is, few}
+use Rattle.claims.proofs.KeptClaims.{read, follow-is, few}
 
 -- more than the end can follow a nonterminal just where its follow set has more than nothing
 module _ (k : Lookahead) (G : Grammar) (formed : WellFormed G) (few : G .terminals ≤ alphabet k) (A : ℕ) where
@@ -75,10 +75,10 @@ module _ (k : Lookahead) (G : Grammar) (formed : WellFormed G) (few : G .termina
       go false e = rw (eq-eqb (join (end k) set) (end k) (join-same (end k) set (none-subset e)))
 
 -- so the sets that are told are those of the nonterminals that overrun
-pub overruns-told : {k : Lookahead} {words : List ℕ} {z : Sizes} {firsts follows told : List ℕ} (g : FamiliesGiven k words z firsts follows)
-    → Overrunning k (parse words .rules) follows told → (A : ℕ) → getD told A 0 ≡ overrunSet k (overruns (grammarOf words) (tokens k) A)
+pub overruns-told : {k : Lookahead} {words : List ℕ} {z : Sizes} {starts meets follows told : List ℕ} (g : FamiliesGiven k words z starts meets follows)
+    → Overrunning k (grammarOf words .rules) follows told → (A : ℕ) → getD told A 0 ≡ overrunSet k (overruns (grammarOf words) (tokens k) A)
 unfolding overruns aloneIn
 overruns-told {k} {words} {z} g o A =
     o .each A
-    ∙ ap (overrunSet k) (ap₂ _&&_ (ap (aloneIn A) (sym (read-whole words z (read g) .rules)))
-    (ap (beyondEnd k) (follow-is g A) ∙ beyond-follow k (grammarOf words) (well-read words z (read g) .formed) (few g) A))
+    ∙ ap (λ more. overrunSet k (aloneIn A (grammarOf words .rules) && more))
+    (ap (beyondEnd k) (follow-is g A) ∙ beyond-follow k (grammarOf words) (well-read words z (read g) .formed) (few g) A)

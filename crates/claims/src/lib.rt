@@ -1,26 +1,26 @@
 // What each rule claims, and which nonterminals overrun, found once: conflicts and the table are read off it.
 ghost use mathlib.Core.Path.{_≡_};
-ghost use Rattle.families.specs.Naming.{ruleHead};
+ghost use Rattle.families.specs.Rules.{ByRules};
 ghost use Rattle.grammar.specs.Encoding.{grammarOf};
-ghost use Rattle.claims.specs.Claims.{claimsOf, FamiliesGiven, kept, MayClaim, WordClaims, Empty, AllKept};
+ghost use Rattle.claims.specs.Claims.{claimsOf, FamiliesGiven, AllKept};
+use concatenation::concat;
 use families::Finding;
 use families::SETS;
 use grammar::limits::RULES;
 use grammar::reading::Sizes;
 use lookahead::Lookahead;
-use lookahead::LookaheadSet;
+use lookahead_sets::LookaheadSet;
 use overruns::overrunning;
-use rests::no_rest;
-use rests::onto;
-use word::Word;
+use sets::rules::head_of;
 use word::decode;
 
 mod overruns;
 
-// What is found of an encoded grammar: its sizes, or why it is refused; its sets; for each rule its head and the set that it claims for
+// What is found of an encoded grammar: its sizes, or why it is refused; where its rules begin; its sets; for each rule its head and the set that it claims for
 // it; and for each nonterminal the first terminal's set where it overruns. Zeros stand elsewhere, and where the grammar is refused.
 pub struct Claims {
     pub finding: Finding,
+    pub starts: [usize; RULES],
     pub firsts: [u64; SETS],
     pub follows: [u64; SETS],
     pub heads: [u8; RULES],
@@ -28,58 +28,31 @@ pub struct Claims {
     pub overruns: [u64; SETS],
 }
 
-// Where a rule begins, keeps its head, and what its positives' meet, and then what may follow the head, begins with. Tells the
-// number of the first rule from the word on.
-fn claim(
-    word: Word,
-    meet: LookaheadSet,
-    follows: &[u64; SETS],
-    heads: &mut [u8; RULES],
-    sets: &mut [u64; RULES],
-    behind: usize,
-    lookahead: Lookahead,
-) -> usize
-    requires { ⌜ MayClaim word behind ⌝ }
-    ensures { λ r. ⌜ WordClaims lookahead (ruleHead word) (now (follows .entry)) (meet .bits)
-        (kept (now (heads .entry)) (now (sets .entry)) behind)
-        (kept (now (heads .exit)) (now (sets .exit)) r) ⌝ }
-{
-    let Word::Rule(head) = word else {
-        return behind;
-    };
-    let follow = LookaheadSet {
-        bits: follows[head as usize],
-    };
-    let rule = behind - 1;
-    heads[rule] = head as u8;
-    sets[rule] = meet.concat(lookahead, follow).bits;
-    rule
-}
-
-// Goes through the words of a grammar that is admitted from their end, and keeps the head and the claim of each rule where
-// zeros stand.
+// Keeps for each rule of a grammar that is admitted, where zeros stand, its head and what its positives' meet, and then what may follow the
+// head, begins with.
 fn keep_claims<'a>(
     words: &[u32],
     sizes: Sizes,
-    firsts: &'a [u64; SETS],
+    starts: &'a [usize; RULES],
+    meets: &'a [u64; RULES],
     follows: &'a [u64; SETS],
     heads: &mut [u8; RULES],
     sets: &mut [u64; RULES],
     lookahead: Lookahead,
 )
-    requires { ⌜ FamiliesGiven lookahead (now words) sizes (now firsts) (now follows) × Empty (now heads) × Empty (now sets) ⌝ }
+    requires { ⌜ FamiliesGiven lookahead (now words) sizes (now starts) (now meets) (now follows) × ByRules (sizes .rules) (now heads) × ByRules (sizes .rules) (now sets) ⌝ }
     ensures { λ _. ⌜ AllKept lookahead (grammarOf (now (words .entry))) (now (heads .exit)) (now (sets .exit)) ⌝ }
 {
-    let terminals = sizes.terminals;
-    let mut rest = no_rest(terminals, lookahead);
-    let mut rule = sizes.rules;
-    let mut at = words.len();
-    while 0 < at {
-        at = at - 1;
-        let word = decode(words[at]);
-        let meet = rest.meet;
-        rest = onto(word, rest, firsts, terminals, lookahead);
-        rule = claim(word, meet, follows, heads, sets, rule, lookahead);
+    let mut rule = 0;
+    while rule < sizes.rules {
+        let head = head_of(decode(words[starts[rule]]));
+        let meet = LookaheadSet { bits: meets[rule] };
+        let follow = LookaheadSet {
+            bits: follows[head as usize],
+        };
+        heads[rule] = head as u8;
+        sets[rule] = concat(meet, lookahead, follow).bits;
+        rule = rule + 1;
     }
 }
 
@@ -93,6 +66,7 @@ pub fn analyze(words: &[u32], lookahead: Lookahead) -> Claims
     match finding {
         Finding::Refused(_) => Claims {
             finding,
+            starts: families.starts,
             firsts: families.firsts,
             follows: families.follows,
             heads,
@@ -103,7 +77,8 @@ pub fn analyze(words: &[u32], lookahead: Lookahead) -> Claims
             keep_claims(
                 words,
                 sizes,
-                &families.firsts,
+                &families.starts,
+                &families.meets,
                 &families.follows,
                 &mut heads,
                 &mut sets,
@@ -111,11 +86,19 @@ pub fn analyze(words: &[u32], lookahead: Lookahead) -> Claims
             );
             Claims {
                 finding,
+                starts: families.starts,
                 firsts: families.firsts,
                 follows: families.follows,
                 heads,
                 sets,
-                overruns: overrunning(words, &families.follows, lookahead),
+                overruns: overrunning(
+                    words,
+                    sizes,
+                    &families.starts,
+                    &heads,
+                    &families.follows,
+                    lookahead,
+                ),
             }
         }
     }

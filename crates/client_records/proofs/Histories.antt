@@ -9,7 +9,7 @@ use lib.Dec.{eqb}
 use lib.ListN.{getD-replicate}
 use borrow.Author.Tests.{eqb-true, eqb-false}
 use Rattle.answer.specs.declared.Answer.{Answer}
-use Rattle.booleans.specs.Choice.{choose}
+use Rattle.base.specs.Choice.{choose}
 use Rattle.usage.specs.declared.Usage.{Usage}
 use Rattle.usage.specs.Counters.{counterLimit, saturated, unused, calledOf, eachCounter}
 use Rattle.usage.specs.Histories.{counted, recordOf, total, spent}

@@ -6,7 +6,7 @@ use Prim.Native.Nat.{ℕ, zero, suc, _+_, _≤_, _<_}
 use lib.Dec.{leb, ltb}
 use lib.ListN.{getD, set, replicate}
 use Rattle.answer.specs.declared.Answer.{Answer}
-use Rattle.booleans.specs.Choice.{choose}
+use Rattle.base.specs.Choice.{choose}
 use Rattle.usage.specs.declared.Usage.{Usage}
 use Rattle.usage.specs.Counters.{unused}
 use Rattle.usage.specs.Histories.{counted}

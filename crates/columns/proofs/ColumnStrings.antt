@@ -6,19 +6,18 @@ use native.Mathlib.Decide.{ℕ-discrete}
 use native.Mathlib.Omega.{arith}
 use lib.Dec.{eqb, ltb, ltb→lt}
 use borrow.Author.Tests.{eq-eqb, ne-eqb}
-use Rattle.booleans.specs.Choice.{choose}
-use Rattle.booleans.specs.Quantifiers.{allOf}
-use Rattle.booleans.proofs.Booleans.{and-l}
+use Rattle.base.specs.Choice.{choose}
+use Rattle.base.specs.Quantifiers.{allOf}
+use Rattle.base.proofs.Booleans.{and-l}
 use Rattle.grammar.specs.Limits.{maxWideColumns}
 use Rattle.lookahead.specs.declared.Lookahead.{Lookahead}
 use Rattle.lookahead.specs.declared.Lookahead.the-variants.{One, Two}
 use Rattle.lookahead.specs.Lookaheads.{tokens, alphabet, elements, nothing, stringOf}
 use Rattle.lookahead.proofs.Strings.{element-string, string-element, element-below, over-wider}
-use Rattle.semantics.specs.FiniteSets.{numbersFrom, numbers}
-use Rattle.semantics.specs.FirstFollow.{strings}
-use Rattle.semantics.specs.Strings.{Lookahead as Looked}
+use Rattle.base.specs.FiniteSets.{numbersFrom, numbers}
+use Rattle.base.specs.Strings.{strings, Lookahead as Looked}
 use Rattle.semantics.specs.Claims.{column}
-use Rattle.semantics.proofs.Columns.{strings-columns}
+use Rattle.semantics.proofs.families.Columns.{strings-columns}
 use Rattle.columns.specs.Columns.{columnCount, columnString, columnElement, columnOf}
 
 -- a row has columns, and no more than there is room for

@@ -9,8 +9,8 @@ use lib.Seq.{drop-cons, take-nil}
 use Rattle.lookahead.specs.declared.Lookahead.{Lookahead}
 use Rattle.lookahead.specs.declared.Lookahead.the-variants.{One, Two}
 use Rattle.lookahead.specs.Lookaheads.{tokens, alphabet}
-use Rattle.semantics.specs.Strings.{look, Over, Lookahead as Looked}
-use Rattle.semantics.proofs.Strings.{all-take, all-drop, take-short}
+use Rattle.base.specs.Strings.{look, Over, Lookahead as Looked}
+use Rattle.base.proofs.Strings.{all-take, all-drop, take-short}
 use Rattle.columns.specs.Columns.{columnCount, columnString, columnOf}
 use Rattle.columns.proofs.ColumnStrings.{column-in, string-column}
 use Rattle.columns.specs.Columns.{columnAt}

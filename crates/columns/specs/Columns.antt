@@ -3,13 +3,13 @@
 use mathlib.Core.List.{List, [], _∷_}
 use Prim.Native.Nat.{ℕ, suc}
 use lib.Dec.{eqb}
-use Rattle.booleans.specs.Choice.{choose}
+use Rattle.base.specs.Choice.{choose}
 use Rattle.grammar.specs.Limits.{maxWideColumns}
 use Rattle.grammar.specs.Syntax.{Grammar}
 use Rattle.lookahead.specs.declared.Lookahead.{Lookahead}
 use Rattle.lookahead.specs.declared.Lookahead.the-variants.{One, Two}
 use Rattle.lookahead.specs.Lookaheads.{tokens, nothing, elementOf, stringOf}
-use Rattle.semantics.specs.Strings.{look}
+use Rattle.base.specs.Strings.{look}
 use Rattle.semantics.specs.Claims.{column}
 
 -- how many there are

@@ -1,50 +1,13 @@
 // A kept input in memory of the caller's: its events, and nine numbers that are its length and its eight checkpoints.
-ghost use mathlib.Core.Path.{_≡_};
 ghost use Rattle.kept_input.specs.Histories.{Mark, Return};
-ghost use Rattle.embed_promises.specs.Kept.{stateOf, StateRead, AddExported, MoveExported, KeptExported};
-use super::pack;
+ghost use Rattle.embed_promises.specs.Kept.{AddExported, MoveExported, KeptExported};
 use grammar::limits::TOKENS;
-use kept_input::CHECKPOINTS;
 use kept_input::KeptInput;
-use kept_input::Progress;
 use kept_judge::judge_kept;
-
-const STATE: usize = CHECKPOINTS + 1;
-
-fn progress_in(state: [u16; STATE]) -> Progress
-    ensures { λ r. ⌜ StateRead state r ⌝ }
-{
-    Progress {
-        length: state[0],
-        checkpoints: [
-            state[1],
-            state[2],
-            state[3],
-            state[4],
-            state[5],
-            state[6],
-            state[7],
-            state[8],
-        ],
-    }
-}
-
-fn state_of(progress: Progress) -> [u16; STATE]
-    ensures { λ r. ⌜ r ≡ stateOf progress ⌝ }
-{
-    let set = progress.checkpoints;
-    [
-        progress.length,
-        set[0],
-        set[1],
-        set[2],
-        set[3],
-        set[4],
-        set[5],
-        set[6],
-        set[7],
-    ]
-}
+use packing::pack;
+use packing::states::STATE;
+use packing::states::progress_in;
+use packing::states::state_of;
 
 #[no_mangle]
 pub extern "C" fn vinegarspit_log_add(

@@ -1,13 +1,8 @@
 // The public calls for programs in C and Rust: the library's answers, packed into one number.
-ghost use mathlib.Core.Path.{_≡_};
-ghost use Rattle.answer.specs.Numbers.{numbers};
 ghost use Rattle.event.specs.Events.{inputOf};
-ghost use Rattle.embed_promises.specs.Packing.{Fit, NumbersFit, joined, packed};
 ghost use Rattle.embed_promises.specs.Exports.{CheckExported, JudgeExported, TabularExported};
-use answer::Answer;
-use answer::code;
-use answer::position;
-use recognizer::check;
+use checker::check;
+use packing::pack;
 use recognizer::judge;
 use tabular::judge as judge_plain;
 
@@ -16,26 +11,6 @@ mod searched;
 mod served;
 mod shown;
 mod wide;
-
-// The five fields side by side.
-fn join(verdict: u64, code: u64, position: u64, count: u64, farthest: u64) -> u64
-    requires { ⌜ Fit verdict code position count farthest ⌝ }
-    ensures { λ r. ⌜ r ≡ joined verdict code position count farthest ⌝ }
-{
-    verdict + code * 256 + position * 65536 + count * 4294967296 + farthest * 281474976710656
-}
-
-fn pack(answer: Answer) -> u64
-    requires { ⌜ NumbersFit (numbers answer) ⌝ }
-    ensures { λ r. ⌜ r ≡ packed (numbers answer) ⌝ }
-{
-    match answer {
-        Answer::Refused(error) => join(0, code(error) as u64, position(error) as u64, 0, 0),
-        Answer::Passed => join(1, 0, 0, 0, 0),
-        Answer::Rejected(calls) => join(2, 0, 0, calls.count as u64, calls.farthest as u64),
-        Answer::Accepted(calls) => join(3, 0, 0, calls.count as u64, calls.farthest as u64),
-    }
-}
 
 #[no_mangle]
 pub extern "C" fn vinegarspit_check(card: &[u32], table: &mut [u32]) -> u64

@@ -1,7 +1,7 @@
 // The costliest log of a length, found, written and judged in memory of the caller's.
 ghost use Rattle.embed_promises.specs.Exports.{CostliestExported};
-use super::pack;
-use recognizer::search::judge_costliest;
+use packing::pack;
+use recognizer::judge_costliest;
 
 #[no_mangle]
 pub extern "C" fn vinegarspit_costliest(

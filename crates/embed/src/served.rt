@@ -1,65 +1,13 @@
 // Judging for a client, with the records of all clients in a row of the caller's: four counters for each client, one client after the other.
-ghost use mathlib.Core.Path.{_≡_};
-ghost use Prim.Native.Nat.{_<_};
 ghost use Rattle.event.specs.Events.{inputOf};
-ghost use Rattle.client_records.specs.Usages.{clients};
-ghost use Rattle.embed_promises.specs.Records.{usageAt, usagesIn};
 ghost use Rattle.embed_promises.specs.Exports.{ServedExported, TotalsExported};
-use super::pack;
-use client_records::CLIENTS;
 use client_records::totals::total;
 use clients::judge_for;
-use usage::Usage;
-
-const COUNTERS: usize = 4;
-
-const ROW: usize = CLIENTS * COUNTERS;
-
-// A client's record.
-fn usage_at(row: [u32; ROW], client: usize) -> Usage
-    requires { ⌜ client < clients ⌝ }
-    ensures { λ r. ⌜ r ≡ usageAt row client ⌝ }
-{
-    let at = client * COUNTERS;
-    Usage {
-        calls: row[at],
-        refusals: row[at + 1],
-        acceptances: row[at + 2],
-        called: row[at + 3],
-    }
-}
-
-fn usages_in(row: [u32; ROW]) -> [Usage; CLIENTS]
-    ensures { λ r. ⌜ r ≡ usagesIn row ⌝ }
-{
-    [
-        usage_at(row, 0),
-        usage_at(row, 1),
-        usage_at(row, 2),
-        usage_at(row, 3),
-        usage_at(row, 4),
-        usage_at(row, 5),
-        usage_at(row, 6),
-        usage_at(row, 7),
-    ]
-}
-
-fn row_of(usages: [Usage; CLIENTS]) -> [u32; ROW]
-    ensures { λ r. ⌜ usagesIn r ≡ usages ⌝ }
-{
-    let mut row = [0; ROW];
-    let mut client = 0;
-    while client < CLIENTS {
-        let usage = usages[client];
-        let at = client * COUNTERS;
-        row[at] = usage.calls;
-        row[at + 1] = usage.refusals;
-        row[at + 2] = usage.acceptances;
-        row[at + 3] = usage.called;
-        client = client + 1;
-    }
-    row
-}
+use packing::pack;
+use packing::records::ROW;
+use packing::records::row_of;
+use packing::records::totals_row;
+use packing::records::usages_in;
 
 #[no_mangle]
 pub extern "C" fn vinegarspit_judge_for(
@@ -91,6 +39,6 @@ pub extern "C" fn vinegarspit_usage_totals(usage: &[u32; ROW], totals: &mut [u64
     let row = *usage;
     let usages = usages_in(row);
     let all = total(usages);
-    let new = [all.calls, all.refusals, all.acceptances, all.called];
+    let new = totals_row(all);
     *totals = new;
 }

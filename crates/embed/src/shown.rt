@@ -2,7 +2,7 @@
 ghost use mathlib.Core.Path.{_≡_};
 ghost use Rattle.event.specs.Events.{inputOf};
 ghost use Rattle.embed_promises.specs.Exports.{TreeExported};
-use super::pack;
+use packing::pack;
 use tree_writer::judge_tree;
 
 #[no_mangle]

@@ -3,9 +3,9 @@ ghost use mathlib.Core.Path.{_≡_};
 ghost use Rattle.lookahead.specs.declared.Lookahead.the-variants.{Two};
 ghost use Rattle.event.specs.Events.{inputOf};
 ghost use Rattle.embed_promises.specs.Exports.{CheckExportedBy, JudgeExportedBy};
-use super::pack;
-use recognizer::wide::check_wide;
-use recognizer::wide::judge_wide;
+use checker::check_wide;
+use packing::pack;
+use recognizer::judge_wide;
 
 #[no_mangle]
 pub extern "C" fn vinegarspit_check2(card: &[u32], table2: &mut [u64]) -> u64

@@ -5,7 +5,7 @@ use mathlib.Core.Option.{Option, none, some}
 use Prim.Native.Nat.{ℕ}
 use native.Mathlib.Omega.{arith}
 use lib.Dec.{leb}
-use lib.ListN.{length, getD, replicate, length-replicate}
+use lib.ListN.{length, getD}
 use Rattle.answer.specs.declared.Answer.{Answer}
 use Rattle.answer.specs.declared.Answer.the-variants.{Refused, Passed}
 use Rattle.answer.specs.declared.Error.{Error}
@@ -13,44 +13,36 @@ use Rattle.answer.specs.declared.Error.the-variants.{UnknownCheckpoint, Checkpo
 use Rattle.answer.specs.Numbers.{numbers}
 use Rattle.answer.specs.Faults.{refusedOr}
 use Rattle.answer.proofs.Apart.{refused-ne-passed}
-use Rattle.answer.proofs.Faults.{first-each}
-use Rattle.grammar.specs.Limits.{maxTokens, maxWords}
+use Rattle.answer.proofs.Faults.{OfFault, of-none, of-some, of-if, first-each}
+use Rattle.grammar.specs.Limits.{maxTokens}
 use Rattle.kept_input.specs.declared.Progress.{Progress}
 use Rattle.kept_input.specs.declared.KeptInput.{KeptInput}
 use Rattle.kept_input.specs.declared.Moved.{Moved}
 use Rattle.kept_input.specs.declared.Changed.{Changed}
-use Rattle.kept_input.specs.Histories.{checkpointCount, Kept, Step, Add, Mark, Return, unknown, notSet, stepFault, unlessRefused}
+use Rattle.kept_input.specs.Histories.{checkpointCount, Kept, Step, Add, Mark, Return, notSet, stepFault, unlessRefused}
 use Rattle.kept_input.specs.Stored.{keptInput, held, valuesOf}
 use Rattle.kept_input.specs.Properties.{Steps, Moves, JudgesKept}
 use Rattle.kept_input.proofs.Lists.{elements}
-use Rattle.embed_promises.specs.Packing.{NumbersFit, packed}
+use Rattle.embed_promises.specs.Packing.{NumbersFit, packed, cut}
 use Rattle.embed_promises.specs.Kept.{stateOf, StateRead, StepExported, MoveExported, KeptExported}
-use Rattle.embed_promises.proofs.Places.{LowFault, none-low, some-low, when-low}
-use Rattle.embed_promises.proofs.Fitting.{passed-fits, refused-fits, unpacks, judge-fits}
+use Rattle.embed_promises.proofs.Places.{Low}
+use Rattle.embed_promises.proofs.Fitting.{passed-fits, fits-by, judge-fits}
+use Rattle.embed_promises.proofs.Packed.{packs}
 
 -- a refusal of a step tells no place
-unset-low : (o : Option ℕ) → LowFault maxWords (notSet o)
-unset-low none = some-low maxWords CheckpointNotSet (omega arith)
-unset-low (some n) = none-low maxWords
-
-unknown-low : (m : ℕ) → LowFault maxWords (unknown m)
-unknown-low m = when-low maxWords (leb checkpointCount m) UnknownCheckpoint (omega arith)
-
-step-low : (t : Step) (s : Kept) → LowFault maxWords (stepFault t s)
+step-low : (t : Step) (s : Kept) → OfFault Low (stepFault t s)
 unfolding stepFault
-step-low (Add event) s = first-each _ (_ ∷ []) (when-low maxWords (leb maxTokens (length (s .events))) InputFull (omega arith), λ _. tt)
-step-low (Mark m) s = first-each _ (_ ∷ []) (unknown-low m, λ _. tt)
-step-low (Return m) s = first-each _ (_ ∷ _ ∷ []) (unknown-low m, λ _. (unset-low (s .checkpoints m), λ _. tt))
-
-pub step-fits : {t : Step} {k : KeptInput} {c : Changed} → Steps t k c → NumbersFit (numbers (c .answer))
-step-fits {t} {k} s = rw (s .answer) (go (stepFault t (held k)) (step-low t (held k)))
+step-low (Add event) s = first-each Low (_ ∷ []) (of-if Low (leb maxTokens (length (s .events))) InputFull (omega arith), λ _. tt)
+step-low (Mark m) s = first-each Low (_ ∷ []) (of-if Low (leb checkpointCount m) UnknownCheckpoint (omega arith), λ _. tt)
+step-low (Return m) s =
+    first-each Low (_ ∷ _ ∷ []) (of-if Low (leb checkpointCount m) UnknownCheckpoint (omega arith), λ _. (unset (s .checkpoints m), λ _. tt))
   where
-    go : (f : Option Error) → LowFault maxWords f → NumbersFit (numbers (refusedOr f Passed))
-    go none l = passed-fits
-    go (some e) l = refused-fits e (l e refl)
+    unset : (o : Option ℕ) → OfFault Low (notSet o)
+    unset none = of-some Low CheckpointNotSet (omega arith)
+    unset (some n) = of-none Low
 
-pub move-fits : {t : Step} {p : Progress} {r : Moved} → Moves t p r → NumbersFit (numbers (r .answer))
-move-fits m = step-fits (m .steps (replicate maxTokens 0) (length-replicate {A = ℕ} maxTokens 0))
+step-fits : {t : Step} {k : KeptInput} {c : Changed} → Steps t k c → NumbersFit (numbers (c .answer))
+step-fits {t} {k} s = fits-by (stepFault t (held k)) Passed (s .answer) (step-low t (held k)) (λ q. rw (s .answer, q) passed-fits)
 
 -- the nine numbers of the state
 listed : (l : List ℕ) (n : ℕ) → length l ≡ n → valuesOf (λ m. getD l m 0) n ≡ l
@@ -80,15 +72,14 @@ refused-kept {t} {k} {c} s e q = go (stepFault t (held k)) _ (s .answer) (s .kep
     go (some x) next a h = h
 
 pub step-exported : {t : Step} {events state events′ state′ : List ℕ} {p : Progress} {c : Changed} {r : ℕ} → StateRead state p → Steps t (keptInput events p) c
-    → r ≡ packed (numbers (c .answer))
+    → r ≡ packed (cut (numbers (c .answer)))
     → events′ ≡ c .kept .events
     → state′ ≡ stateOf (c .kept .progress)
     → StepExported t events state r events′ state′
 step-exported {t = t} {events = events} {c = c} g s e written left = record {
   changed = c;
   steps = subst (λ (q : Progress). Steps t (keptInput events q) c) (g .read) s;
-  packs = e;
-  unpacks = unpacks (numbers (c .answer)) (step-fits s) e;
+  packs = packs (step-fits s) e;
   events-written = written;
   state-written = left;
   unchanged = λ x q.
@@ -97,18 +88,17 @@ step-exported {t = t} {events = events} {c = c} g s e written left = record {
 }
 
 pub move-exported : {t : Step} {state state′ : List ℕ} {p : Progress} {m : Moved} {r : ℕ} → StateRead state p → Moves t p m
-    → r ≡ packed (numbers (m .answer))
+    → r ≡ packed (cut (numbers (m .answer)))
     → state′ ≡ stateOf (m .progress)
     → MoveExported t state r state′
 move-exported g m e left = record { of-any-events = λ events whole. step-exported g (m .steps events whole) e refl left }
 
 pub kept-exported : {words events state table memo table′ memo′ : List ℕ} {p : Progress} {a : Answer} {r : ℕ} → StateRead state p
     → JudgesKept words (keptInput events p) table memo a table′ memo′
-    → r ≡ packed (numbers a)
+    → r ≡ packed (cut (numbers a))
     → KeptExported words events state table memo r table′ memo′
 kept-exported {words} {events} {state} {table} {memo} {table′} {memo′} {p} {a} g j e = record {
   answer = a;
   judges = subst (λ (q : Progress). JudgesKept words (keptInput events q) table memo a table′ memo′) (g .read) j;
-  packs = e;
-  unpacks = unpacks (numbers a) (judge-fits (j .judges)) e;
+  packs = packs (judge-fits (j .judges)) e;
 }

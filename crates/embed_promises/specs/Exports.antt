@@ -4,7 +4,6 @@ use mathlib.Core.Path.{_≡_}
 use mathlib.Core.List.{List}
 use Prim.Native.Nat.{ℕ}
 use Rattle.answer.specs.declared.Answer.{Answer}
-use Rattle.answer.specs.Numbers.{numbers}
 use Rattle.lookahead.specs.declared.Lookahead.{Lookahead}
 use Rattle.lookahead.specs.declared.Lookahead.the-variants.{One}
 use Rattle.recognizer_promises.specs.Properties.{ChecksBy, JudgesBy}
@@ -16,20 +15,18 @@ use Rattle.client_records.specs.Properties.{JudgesFor}
 use Rattle.tabular_promises.specs.Properties.{TabularJudges}
 use Rattle.tree_writer_promises.specs.declared.Shown.{Shown}
 use Rattle.tree_writer_promises.specs.Properties.{Shows}
-use Rattle.embed_promises.specs.Packing.{packed, Unpacks}
+use Rattle.embed_promises.specs.Packing.{Packs}
 use Rattle.embed_promises.specs.Records.{usagesIn, totalsRow}
 
 pub record CheckExportedBy (k : Lookahead) (words before : List ℕ) (r : ℕ) (after : List ℕ) : Type 0 where
   pub answer : Answer
   pub checks : ChecksBy k words before answer after
-  pub packs : r ≡ packed (numbers answer)
-  pub unpacks : Unpacks r (numbers answer)
+  pub packs : Packs r answer
 
 pub record JudgeExportedBy (k : Lookahead) (words input table memo : List ℕ) (r : ℕ) (table′ memo′ : List ℕ) : Type 0 where
   pub answer : Answer
   pub judges : JudgesBy k words input table memo answer table′ memo′
-  pub packs : r ≡ packed (numbers answer)
-  pub unpacks : Unpacks r (numbers answer)
+  pub packs : Packs r answer
 
 -- the same with one token of lookahead (document 01)
 abbrev pub CheckExported : (words before : List ℕ) (r : ℕ) (after : List ℕ) → Type 0
@@ -41,16 +38,14 @@ JudgeExported = JudgeExportedBy One
 pub record CostliestExported (words : List ℕ) (k : ℕ) (log table memo : List ℕ) (r : ℕ) (log′ table′ memo′ : List ℕ) : Type 0 where
   pub answer : Answer
   pub judges : JudgesCostliest words k log table memo answer log′ table′ memo′
-  pub packs : r ≡ packed (numbers answer)
-  pub unpacks : Unpacks r (numbers answer)
+  pub packs : Packs r answer
 
 -- the clients' records are read from a row of the caller's and written back into it, so that the next call reads what this one handed back
 pub record ServedExported (client share limit : ℕ) (words input table memo row : List ℕ) (r : ℕ) (table′ memo′ row′ : List ℕ) : Type 0 where
   pub served : Served
   pub judges : JudgesFor client share limit words input table memo (usagesIn row) served table′ memo′
   pub written : usagesIn row′ ≡ served .usages
-  pub packs : r ≡ packed (numbers (served .answer))
-  pub unpacks : Unpacks r (numbers (served .answer))
+  pub packs : Packs r (served .answer)
 
 -- the totals of a row's records, in a row of the caller's
 pub record TotalsExported (row totals′ : List ℕ) : Type 0 where
@@ -61,13 +56,11 @@ pub record TotalsExported (row totals′ : List ℕ) : Type 0 where
 pub record TabularExported (words input before : List ℕ) (r : ℕ) (after : List ℕ) : Type 0 where
   pub answer : Answer
   pub judges : TabularJudges words input before answer after
-  pub packs : r ≡ packed (numbers answer)
-  pub unpacks : Unpacks r (numbers answer)
+  pub packs : Packs r answer
 
 -- the number of words that are written stands in a word of the caller's
 pub record TreeExported (words input table memo tree : List ℕ) (r : ℕ) (table′ memo′ tree′ : List ℕ) (written′ : ℕ) : Type 0 where
   pub shown : Shown
   pub shows : Shows words input table memo tree shown table′ memo′ tree′
   pub number : written′ ≡ shown .written
-  pub packs : r ≡ packed (numbers (shown .answer))
-  pub unpacks : Unpacks r (numbers (shown .answer))
+  pub packs : Packs r (shown .answer)

@@ -6,14 +6,13 @@ use lib.ListN.{length, getD, drop}
 use Rattle.answer.specs.declared.Answer.{Answer}
 use Rattle.answer.specs.declared.Answer.the-variants.{Refused}
 use Rattle.answer.specs.declared.Error.{Error}
-use Rattle.answer.specs.Numbers.{numbers}
 use Rattle.grammar.specs.Limits.{maxTokens}
 use Rattle.kept_input.specs.declared.Progress.{Progress}
 use Rattle.kept_input.specs.declared.Changed.{Changed}
 use Rattle.kept_input.specs.Histories.{Step, Add}
 use Rattle.kept_input.specs.Stored.{keptInput}
 use Rattle.kept_input.specs.Properties.{Steps, JudgesKept}
-use Rattle.embed_promises.specs.Packing.{packed, Unpacks}
+use Rattle.embed_promises.specs.Packing.{Packs}
 
 -- the length, then the checkpoints
 abbrev pub stateOf : Progress → List ℕ
@@ -30,8 +29,7 @@ pub record StateRead (state : List ℕ) (p : Progress) : Type 0 where
 pub record StepExported (t : Step) (events state : List ℕ) (r : ℕ) (events′ state′ : List ℕ) : Type 0 where
   pub changed : Changed
   pub steps : Steps t (keptInput events (progressIn state)) changed
-  pub packs : r ≡ packed (numbers (changed .answer))
-  pub unpacks : Unpacks r (numbers (changed .answer))
+  pub packs : Packs r (changed .answer)
   -- what it hands back is written, and a refusal changes nothing
   pub events-written : events′ ≡ changed .kept .events
   pub state-written : state′ ≡ stateOf (changed .kept .progress)
@@ -47,5 +45,4 @@ pub record MoveExported (t : Step) (state : List ℕ) (r : ℕ) (state′ : List
 pub record KeptExported (words events state table memo : List ℕ) (r : ℕ) (table′ memo′ : List ℕ) : Type 0 where
   pub answer : Answer
   pub judges : JudgesKept words (keptInput events (progressIn state)) table memo answer table′ memo′
-  pub packs : r ≡ packed (numbers answer)
-  pub unpacks : Unpacks r (numbers answer)
+  pub packs : Packs r answer

@@ -2,7 +2,8 @@
 -- farthest place.
 use mathlib.Core.Path.{_≡_}
 use Prim.Native.Nat.{ℕ, _+_, _*_, _/_, _%_, _<_}
-use Rattle.answer.specs.Numbers.{Verdict, refused, passed, rejected, accepted, Numbers}
+use Rattle.answer.specs.declared.Answer.{Answer}
+use Rattle.answer.specs.Numbers.{Verdict, refused, passed, rejected, accepted, Numbers, answered, numbers}
 
 abbrev pub verdictNumber : Verdict → ℕ
 verdictNumber refused = 0
@@ -15,6 +16,10 @@ joined verdict code position count farthest = verdict + code * 256 + position * 
 
 unfoldable pub packed : Numbers → ℕ
 packed n = joined (verdictNumber (n .verdict)) (n .code) (n .position) (n .count) (n .farthest)
+
+-- each number cut to the bits of its field
+abbrev pub cut : Numbers → Numbers
+cut n = answered (n .verdict) (n .code % 256) (n .position % 65536) (n .count % 65536) (n .farthest % 65536)
 
 -- each field is within its bits
 pub record Fit (v n p c f : ℕ) : Type 0 where
@@ -34,3 +39,8 @@ pub record Unpacks (r : ℕ) (n : Numbers) : Type 0 where
   pub position : r / 65536 % 65536 ≡ n .position
   pub count : r / 4294967296 % 65536 ≡ n .count
   pub farthest : r / 281474976710656 ≡ n .farthest
+
+-- the number is the answer packed, and its bits give the answer back
+pub record Packs (r : ℕ) (a : Answer) : Type 0 where
+  pub number : r ≡ packed (numbers a)
+  pub fields : Unpacks r (numbers a)

@@ -9,7 +9,7 @@ use Rattle.word.specs.declared.Symbol.the-variants.{Terminal, Nonterminal}
 use Rattle.word.specs.declared.Symbol as symbol
 use Rattle.word.specs.declared.Word.{Word}
 use Rattle.word.specs.declared.Word.the-variants.{Heading, Rule as RuleWord, Positive, Negative, Symbol, End, Invalid}
-use Rattle.booleans.specs.Choice.{choose}
+use Rattle.base.specs.Choice.{choose}
 use Rattle.word.specs.Words.{kind, payload, bare, heading, ofKind, decoded}
 use Rattle.encoding.specs.Encode.{word, headingWord, ruleWord, positiveWord, negativeWord, symbolWord, endWord}
 

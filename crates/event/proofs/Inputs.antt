@@ -6,9 +6,9 @@ use native.Mathlib.Nat.{mod-eq-of-lt}
 use native.Mathlib.Omega.{arith}
 use lib.Dec.{ltb, ltb→lt}
 use lib.ListN.{length, getD, length-map, List·getD-map}
-use Rattle.booleans.specs.Quantifiers.{allOf}
-use Rattle.booleans.proofs.Booleans.{and-l, and-r}
-use Rattle.semantics.specs.Strings.{Over}
+use Rattle.base.specs.Quantifiers.{allOf}
+use Rattle.base.proofs.Booleans.{and-l, and-r}
+use Rattle.base.specs.Strings.{Over}
 use Rattle.event.specs.Events.{terminalOf, inputOf}
 
 pub input-length : (events : List ℕ) → length (inputOf events) ≡ length events

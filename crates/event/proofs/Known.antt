@@ -9,10 +9,10 @@ use lib.Dec.{T, ltb, ltb→lt}
 use lib.ListN.{length, getD, drop, drop-of-length-le}
 use lib.Seq.{drop-cons}
 use borrow.Author.Tests.{lt-ltb, le-ltb}
-use Rattle.booleans.specs.Choice.{choose}
-use Rattle.booleans.specs.Quantifiers.{allOf}
-use Rattle.booleans.proofs.Booleans.{T-true, and-l, and-r}
-use Rattle.semantics.specs.Strings.{Over}
+use Rattle.base.specs.Choice.{choose}
+use Rattle.base.specs.Quantifiers.{allOf}
+use Rattle.base.proofs.Booleans.{T-true, and-l, and-r}
+use Rattle.base.specs.Strings.{Over}
 use Rattle.event.specs.declared.Unknown.the-variants.{Absent, At}
 use Rattle.event.specs.Events.{terminalOf, inputOf}
 use Rattle.event.specs.Unknown.{unknownFrom}

@@ -2,65 +2,76 @@
 use mathlib.Core.Path.{_≡_, refl, sym, ap, _∙_}
 use mathlib.Core.List.{List}
 use mathlib.Core.Option.{Option, none, some}
-use Prim.Native.Nat.{ℕ}
+use Prim.Native.Nat.{ℕ, min}
 use native.Mathlib.Omega.{arith}
 use Rattle.answer.specs.declared.Error.{Error}
 use Rattle.answer.specs.declared.Error.the-variants.{LeftRecursive, Unproductive}
+use Rattle.answer.proofs.Faults.{none-some}
+use Rattle.base.specs.Quantifiers.{lowest}
 use Rattle.grammar.specs.Limits.{maxNonterminals}
 use Rattle.grammar.specs.Encoding.{grammarOf}
+use Rattle.grammar.specs.Starts.{ruleStarts}
 use Rattle.lookahead.specs.declared.Lookahead.{Lookahead}
-use Rattle.lookahead.specs.Lookaheads.{tokens}
 use Rattle.admission.specs.Admission.{admission}
 use Rattle.grammar.specs.declared.reading.Sizes.{Sizes}
 use Rattle.grammar.specs.declared.reading.Outcome.{Outcome}
 use Rattle.grammar.specs.declared.reading.Outcome.the-variants.{Read, Faulty}
-use Rattle.semantics.specs.LeftRecursion.{lowestLeftRecursive}
-use Rattle.semantics.specs.Productive.{lowestUnproductive}
+use Rattle.families.specs.declared.Finding.{Finding}
 use Rattle.families.specs.declared.Finding.the-variants.{Passed, Refused}
 use Rattle.families.specs.declared.Families.{Families}
 use Rattle.families.specs.declared.Lowest.{Lowest}
-use Rattle.families.specs.declared.Lowest.the-variants as lowest
-use Rattle.families.specs.Lists.{listed}
-use Rattle.families.specs.Flaws.{lowestOf}
-use Rattle.families.specs.Sets.{firstNumber, followNumber, reachNumber}
-use Rattle.families.specs.Analysis.{setsFault, findingOf, setsIf, families, refusedBy, familiesOf}
+use Rattle.families.specs.declared.Lowest.the-variants as told
+use Rattle.families.specs.declared.Flaw.the-variants as flaw
+use Rattle.base.specs.Lists.{listed}
+use Rattle.families.specs.RuleLists.{byRule}
+use Rattle.families.specs.Flaws.{flawIn, lowestOf, findingIn}
+use Rattle.families.specs.Sets.{firstNumber, followNumber, meetNumbers, reachNumber}
+use Rattle.families.specs.Analysis.{readingFault, setsFault, findingOf, startsIf, byRuleIf, setsIf, families, refusedBy, familiesOf}
+
+-- a reading without a fault is read
+pub read-some : (o : Outcome) → readingFault o ≡ none → (z : Sizes) × (o ≡ Read z)
+read-some (Read z) e = (z, refl)
+read-some (Faulty x) e = absurd (none-some (sym e))
 
 pub families-faulty : (k : Lookahead) (words : List ℕ) {e : Error} {o : Outcome} → o ≡ admission k words → o ≡ Faulty e → refusedBy e ≡ familiesOf k words
 unfolding familiesOf setsFault
 families-faulty k words r f = rw (sym r ∙ f)
 
 -- the lowest nonterminal that is told
-lowest-none : (o : Option ℕ) {l : Lowest} → l ≡ lowestOf o → l ≡ lowest.Absent → o ≡ none
+lowest-none : (o : Option ℕ) {l : Lowest} → l ≡ lowestOf o → l ≡ told.Absent → o ≡ none
 lowest-none none e a = refl
 lowest-none (some A) e a = let z : _≡_ {A = ℕ} 0 1 = cc in absurd (omega arith)
 
-lowest-some : (o : Option ℕ) {l : Lowest} {A : ℕ} → l ≡ lowestOf o → l ≡ lowest.At A → o ≡ some A
+lowest-some : (o : Option ℕ) {l : Lowest} {A : ℕ} → l ≡ lowestOf o → l ≡ told.At A → o ≡ some A
 lowest-some none e a = let z : _≡_ {A = ℕ} 0 1 = cc in absurd (omega arith)
 lowest-some (some B) {l} {A} e a = let z : B ≡ A = cc in ap some z
 
-module _ (k : Lookahead) (words : List ℕ) {z : Sizes} {l m : Lowest} (read : admission k words ≡ Read z) (e : l ≡ lowestOf (lowestLeftRecursive (grammarOf words)))
-    (d : m ≡ lowestOf (lowestUnproductive (grammarOf words) (tokens k))) where
-  pub families-left : {A : ℕ} → l ≡ lowest.At A → refusedBy (LeftRecursive A) ≡ familiesOf k words
-  unfolding familiesOf setsFault
-  families-left a = rw (read, lowest-some (lowestLeftRecursive (grammarOf words)) e a)
+-- what is found by the lowest nonterminals with each flaw
+module _ (z : Sizes) (firsts reaches : List ℕ) {n : ℕ} {l m : Lowest} (all : n ≡ min (z .nonterminals) maxNonterminals)
+    (e : l ≡ lowestOf (lowest n (flawIn flaw.LeftRecursive firsts reaches))) (d : m ≡ lowestOf (lowest n (flawIn flaw.Unproductive firsts reaches))) where
+  abbrev recursive : Option ℕ
+  recursive = lowest (min (z .nonterminals) maxNonterminals) (flawIn flaw.LeftRecursive firsts reaches)
 
-  pub families-unproductive : {A : ℕ} → l ≡ lowest.Absent → m ≡ lowest.At A → refusedBy (Unproductive A) ≡ familiesOf k words
-  unfolding familiesOf setsFault
-  families-unproductive a b = rw (read, lowest-none (lowestLeftRecursive (grammarOf words)) e a, lowest-some (lowestUnproductive (grammarOf words) (tokens k)) d b)
+  abbrev unproductive : Option ℕ
+  unproductive = lowest (min (z .nonterminals) maxNonterminals) (flawIn flaw.Unproductive firsts reaches)
 
-  pub families-found : {firsts follows reaches : List ℕ} → l ≡ lowest.Absent → m ≡ lowest.Absent → firsts ≡ listed maxNonterminals (firstNumber k (grammarOf words))
-      → follows ≡ listed maxNonterminals (followNumber k (grammarOf words)) → reaches ≡ listed maxNonterminals (reachNumber (grammarOf words))
-      → families (Passed z) firsts follows reaches ≡ familiesOf k words
-  unfolding familiesOf setsFault
-  families-found a b f g h =
-      rw (read, lowest-none (lowestLeftRecursive (grammarOf words)) e a, lowest-none (lowestUnproductive (grammarOf words) (tokens k)) d b, f, g, h)
+  pub found-recursive : {A : ℕ} → l ≡ told.At A → Refused (LeftRecursive A) ≡ findingIn z firsts reaches
+  found-recursive a = rw (lowest-some recursive (rw all at e) a)
 
--- where sets are found there is no fault, and the sets are those of the grammar
-pub record FoundFamilies (k : Lookahead) (words : List ℕ) (z : Sizes) (firsts follows : List ℕ) : Type 0 where
+  pub found-unproductive : {A : ℕ} → l ≡ told.Absent → m ≡ told.At A → Refused (Unproductive A) ≡ findingIn z firsts reaches
+  found-unproductive a b = rw (lowest-none recursive (rw all at e) a, lowest-some unproductive (rw all at d) b)
+
+  pub found-flawless : l ≡ told.Absent → m ≡ told.Absent → Passed z ≡ findingIn z firsts reaches
+  found-flawless a b = rw (lowest-none recursive (rw all at e) a, lowest-none unproductive (rw all at d) b)
+
+-- where sets are found there is no fault, and what is found is the grammar's
+pub record FoundFamilies (k : Lookahead) (words : List ℕ) (z : Sizes) (r : Families) : Type 0 where
   pub read : admission k words ≡ Read z
   pub faultless : setsFault k words ≡ none
-  pub first : firsts ≡ listed maxNonterminals (firstNumber k (grammarOf words))
-  pub follow : follows ≡ listed maxNonterminals (followNumber k (grammarOf words))
+  pub begins : r .starts ≡ ruleStarts words
+  pub first : r .firsts ≡ listed maxNonterminals (firstNumber k (grammarOf words))
+  pub met : r .meets ≡ byRule (meetNumbers k (grammarOf words))
+  pub follow : r .follows ≡ listed maxNonterminals (followNumber k (grammarOf words))
 
 -- a finding without an error tells that there is no fault
 pub told-passed : (f : Option Error) (o : Outcome) {z : Sizes} → findingOf f o ≡ Passed z → (f ≡ none) × (o ≡ Read z)
@@ -69,14 +80,16 @@ told-passed none (Faulty x) q = let n : _≡_ {A = ℕ} 0 1 = cc in absurd (omeg
 told-passed (some x) o q = let n : _≡_ {A = ℕ} 0 1 = cc in absurd (omega arith)
 
 pub families-told : (k : Lookahead) (words : List ℕ) {r : Families} {z : Sizes} → r ≡ familiesOf k words → r .finding ≡ Passed z
-    → FoundFamilies k words z (r .firsts) (r .follows)
+    → FoundFamilies k words z r
 unfolding familiesOf
 families-told k words {r} {z} e q =
     let t = told-passed (setsFault k words) (admission k words) (sym (ap (λ x. x .finding) e) ∙ q) in
     record {
       read = t .1;
       faultless = t .0;
+      begins = ap (λ x. x .starts) e ∙ ap (λ f. startsIf f (ruleStarts words)) (t .0);
       first = ap (λ x. x .firsts) e ∙ ap (λ f. setsIf f (listed maxNonterminals (firstNumber k (grammarOf words)))) (t .0);
+      met = ap (λ x. x .meets) e ∙ ap (λ f. byRuleIf f (meetNumbers k (grammarOf words))) (t .0);
       follow = ap (λ x. x .follows) e ∙ ap (λ f. setsIf f (listed maxNonterminals (followNumber k (grammarOf words)))) (t .0);
     }
 
@@ -86,6 +99,24 @@ told-refused (some y) o {x} first q = let e : y ≡ x = cc in ap some e
 told-refused none (Read z) first q = let n : _≡_ {A = ℕ} 0 1 = cc in absurd (omega arith)
 told-refused none (Faulty e) first q = let n : _≡_ {A = ℕ} 0 1 = cc (first e refl) in absurd (omega arith)
 
+-- a faulty reading is
+found-fault : (k : Lookahead) (words : List ℕ) {x : Error} → findingOf (setsFault k words) (admission k words) ≡ Refused x → setsFault k words ≡ some x
+unfolding setsFault
+found-fault k words q = told-refused (setsFault k words) (admission k words) (λ y f. rw f) q
+
 pub families-refused : (k : Lookahead) (words : List ℕ) {r : Families} {x : Error} → r ≡ familiesOf k words → r .finding ≡ Refused x → setsFault k words ≡ some x
-unfolding familiesOf setsFault
-families-refused k words e q = told-refused (setsFault k words) (admission k words) (λ y f. rw f) (sym (ap (λ x. x .finding) e) ∙ q)
+unfolding familiesOf
+families-refused k words e q = found-fault k words (sym (ap (λ x. x .finding) e) ∙ q)
+
+-- so for what is found of a grammar
+module _ (k : Lookahead) (words : List ℕ) {f : Finding} (e : f ≡ findingOf (setsFault k words) (admission k words)) where
+  pub families-flawed : {x : Error} → f ≡ Refused x → refusedBy x ≡ familiesOf k words
+  unfolding familiesOf
+  families-flawed q = rw (found-fault k words (sym e ∙ q))
+
+  pub families-found : {z : Sizes} {starts firsts meets follows reaches : List ℕ} → f ≡ Passed z → starts ≡ ruleStarts words
+      → firsts ≡ listed maxNonterminals (firstNumber k (grammarOf words)) → meets ≡ byRule (meetNumbers k (grammarOf words))
+      → follows ≡ listed maxNonterminals (followNumber k (grammarOf words)) → reaches ≡ listed maxNonterminals (reachNumber (grammarOf words))
+      → families f starts firsts meets follows reaches ≡ familiesOf k words
+  unfolding familiesOf
+  families-found q s a n b c = let t = told-passed (setsFault k words) (admission k words) (sym e ∙ q) in rw (e, t .0, s, a, n, b, c)

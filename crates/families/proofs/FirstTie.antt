@@ -14,10 +14,10 @@ use Rattle.admission.specs.Admission.{admission}
 use Rattle.grammar.proofs.EachIndex.{read-whole}
 use Rattle.grammar.proofs.WellFormed.{none-in, more-in}
 use Rattle.grammar.proofs.WellRead.{well-read}
-use Rattle.semantics.specs.Strings.{Lookahead as Looked}
+use Rattle.base.specs.Strings.{Lookahead as Looked}
 use Rattle.semantics.specs.Families.{FirstBody, FirstRule, FirstClosed}
 use Rattle.semantics.specs.FirstFollow.{first, First}
-use Rattle.semantics.proofs.First.{firstBody-mono, first-lookahead, first-closed, first-smallest}
+use Rattle.semantics.proofs.families.First.{firstBody-mono, first-lookahead, first-closed, first-smallest}
 use Rattle.lookahead.specs.declared.Lookahead.{Lookahead}
 use Rattle.lookahead.specs.Lookaheads.{tokens, alphabet, elements, elementOf, stringOf}
 use Rattle.lookahead.specs.Elements.{has}
@@ -26,10 +26,10 @@ use Rattle.lookahead.proofs.Operations.{has-meet}
 use Rattle.lookahead.proofs.Order.{meet-left, meet-right}
 use Rattle.lookahead.proofs.Over.{over-full}
 use Rattle.families.specs.Least.{SetFamily, at, LeastNumbers}
-use Rattle.families.specs.Lists.{listed}
+use Rattle.base.specs.Lists.{listed}
 use Rattle.families.specs.Sets.{firstNumber}
 use Rattle.families.specs.First.{bodyFirst, ruleFirst, FirstNumbersClosed}
-use Rattle.families.proofs.Lists.{listed-is}
+use Rattle.base.proofs.Lists.{listed-is}
 use Rattle.families.proofs.FewTerminals.{admitted-read, few-terminals}
 use Rattle.families.proofs.Strings.{lookahead-string, lookahead-full, full-has, StringIn, stringsOf, string-in, in-element, body-in, in-body}
 use Rattle.families.proofs.Numbers.{number-string, string-number, in-number, least-numbers}

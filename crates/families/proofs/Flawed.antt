@@ -2,11 +2,12 @@
 use mathlib.Core.Path.{_≡_, sym, _∙_}
 use mathlib.Core.Bool.{true, false}
 use mathlib.Core.List.{List}
-use Prim.Native.Nat.{ℕ, _≤_, _<_}
+use Prim.Native.Nat.{ℕ, _≤_, _<_, min}
+use native.Mathlib.Nat.{min-eq-left}
 use native.Mathlib.Omega.{arith}
 use lib.Dec.{T, ltb, lt→ltb}
-use Rattle.booleans.specs.Quantifiers.{lowest}
-use Rattle.booleans.proofs.Booleans.{T-true, T-none, true-T, both}
+use Rattle.base.specs.Quantifiers.{lowest}
+use Rattle.base.proofs.Booleans.{T-true, T-none, true-T, both}
 use Rattle.grammar.specs.Encoding.{grammarOf}
 use Rattle.grammar.specs.Limits.{maxNonterminals}
 use Rattle.grammar.specs.Reading.{reading}
@@ -23,15 +24,16 @@ use Rattle.lookahead.proofs.Weights.{has-total}
 use Rattle.semantics.specs.FirstFollow.{first}
 use Rattle.semantics.specs.LeftRecursion.{leftReaches, leftRecursive, lowestLeftRecursive}
 use Rattle.semantics.specs.Productive.{unproductive, lowestUnproductive}
-use Rattle.semantics.proofs.First.{first-lookahead}
-use Rattle.semantics.proofs.Productive.{unproductive-iff}
+use Rattle.semantics.proofs.families.First.{first-lookahead}
+use Rattle.semantics.proofs.families.Productive.{unproductive-iff}
 use Rattle.families.specs.declared.Flaw.the-variants.{LeftRecursive, Unproductive}
-use Rattle.families.specs.declared.Lowest.{Lowest}
-use Rattle.families.specs.Lists.{listed}
+use Rattle.families.specs.declared.Finding.{Finding}
+use Rattle.base.specs.Lists.{listed}
 use Rattle.families.specs.Sets.{firstNumber, reachNumber}
-use Rattle.families.specs.Flaws.{flawIn, lowestOf}
+use Rattle.families.specs.Analysis.{setsFault, findingOf}
+use Rattle.families.specs.Flaws.{flawIn, findingIn}
 use Rattle.families.proofs.FewTerminals.{admitted-read, few-terminals}
-use Rattle.families.proofs.Lists.{listed-at}
+use Rattle.base.proofs.Lists.{listed-at}
 use Rattle.families.proofs.Numbers.{in-number, element-passes}
 use Rattle.families.proofs.LowestTold.{lowest-cong}
 
@@ -70,16 +72,21 @@ module _ (k : Lookahead) (words : List ℕ) {firsts reaches : List ℕ} {z : Siz
   empty-found A h = rw (f, listed-at maxNonterminals (firstNumber k (grammarOf words)) A (omega (arith, many))) (empty-first A)
 
   -- so the lowest are the same
-  pub lowest-recursive : {r : Lowest} → r ≡ lowestOf (lowest (z .nonterminals) (flawIn LeftRecursive firsts reaches))
-      → r ≡ lowestOf (lowestLeftRecursive (grammarOf words))
+  lowest-recursive : lowest (z .nonterminals) (flawIn LeftRecursive firsts reaches) ≡ lowestLeftRecursive (grammarOf words)
   unfolding lowestLeftRecursive
-  lowest-recursive e =
+  lowest-recursive =
       let G = grammarOf words in
-      e ∙ rw (well-read words z read .nonterminals, lowest-cong (G .nonterminals) (flawIn LeftRecursive firsts reaches) (leftRecursive G) own-reached)
+      rw (well-read words z read .nonterminals, lowest-cong (G .nonterminals) (flawIn LeftRecursive firsts reaches) (leftRecursive G) own-reached)
 
-  pub lowest-unproductive : {r : Lowest} → r ≡ lowestOf (lowest (z .nonterminals) (flawIn Unproductive firsts reaches))
-      → r ≡ lowestOf (lowestUnproductive (grammarOf words) (tokens k))
+  lowest-unproductive : lowest (z .nonterminals) (flawIn Unproductive firsts reaches) ≡ lowestUnproductive (grammarOf words) (tokens k)
   unfolding lowestUnproductive
-  lowest-unproductive e =
+  lowest-unproductive =
       let G = grammarOf words in
-      e ∙ rw (well-read words z read .nonterminals, lowest-cong (G .nonterminals) (flawIn Unproductive firsts reaches) (unproductive G (tokens k)) empty-found)
+      rw (well-read words z read .nonterminals, lowest-cong (G .nonterminals) (flawIn Unproductive firsts reaches) (unproductive G (tokens k)) empty-found)
+
+  -- and what is found by them is what is found of the grammar
+  pub flaws-found : {r : Finding} → r ≡ findingIn z firsts reaches → r ≡ findingOf (setsFault k words) (admission k words)
+  unfolding setsFault
+  flaws-found e =
+      let all : min (z .nonterminals) maxNonterminals ≡ z .nonterminals = min-eq-left (well-read words z read .fewNonterminals) in
+      e ∙ rw (all, taken, lowest-recursive, lowest-unproductive)

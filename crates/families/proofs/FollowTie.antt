@@ -16,8 +16,8 @@ use Rattle.grammar.proofs.EachIndex.{read-whole}
 use Rattle.grammar.proofs.WellRead.{well-read}
 use Rattle.semantics.specs.Families.{FirstBody, FollowBody, FollowClosed}
 use Rattle.semantics.specs.FirstFollow.{first, follow, First, Follow}
-use Rattle.semantics.proofs.First.{first-lookahead}
-use Rattle.semantics.proofs.Follow.{follow-lookahead, follow-closed, follow-smallest}
+use Rattle.semantics.proofs.families.First.{first-lookahead}
+use Rattle.semantics.proofs.families.Follow.{follow-lookahead, follow-closed, follow-smallest}
 use Rattle.lookahead.specs.declared.Lookahead.{Lookahead}
 use Rattle.lookahead.specs.Lookaheads.{tokens, alphabet, elements, nothing, stringOf, after}
 use Rattle.lookahead.specs.Elements.{Subset}
@@ -29,12 +29,12 @@ use Rattle.lookahead.proofs.Pairs.{concat-pair}
 use Rattle.lookahead.proofs.Concat.{paired, concat-bound}
 use Rattle.admission.specs.Admission.{admission}
 use Rattle.families.specs.Least.{SetFamily, at, LeastNumbers}
-use Rattle.families.specs.Lists.{listed}
+use Rattle.base.specs.Lists.{listed}
 use Rattle.families.specs.Sets.{firstNumber, followNumber}
 use Rattle.families.specs.First.{bodyFirst}
 use Rattle.families.specs.Follow.{FollowNumbersBody, FollowNumbersClosed}
 use Rattle.families.proofs.FewTerminals.{admitted-read, few-terminals}
-use Rattle.families.proofs.Lists.{listed-is}
+use Rattle.base.proofs.Lists.{listed-is}
 use Rattle.families.proofs.Strings.{StringIn, stringsOf}
 use Rattle.families.proofs.Numbers.{array-at, element-passes, string-number, least-numbers}
 use Rattle.families.proofs.FirstTie.{body-begins, begins-body}

@@ -14,7 +14,7 @@ use Rattle.word.specs.declared.Symbol.{Symbol as GrammarSymbol}
 use Rattle.word.specs.declared.Symbol.the-variants.{Terminal, Nonterminal}
 use Rattle.word.specs.declared.Word.{Word}
 use Rattle.word.specs.declared.Word.the-variants.{Heading, Rule as RuleWord, Positive, Negative, Symbol, End, Invalid}
-use Rattle.booleans.specs.Choice.{choose}
+use Rattle.base.specs.Choice.{choose}
 use Rattle.word.specs.Words.{decoded}
 use Rattle.grammar.specs.Limits.{maxNonterminals}
 use Rattle.grammar.specs.Syntax.{Body, Rule, bodies}
@@ -24,7 +24,7 @@ use Rattle.grammar.proofs.EachIndex.{Behind}
 use Rattle.lookahead.specs.Elements.{weight, Subset}
 use Rattle.lookahead.specs.Operations.{empty, join, Empty, Joined}
 use Rattle.lookahead.proofs.Order.{subset-refl, subset-antisym, join-left, join-right, join-least, join-mono, join-same}
-use Rattle.semantics.specs.Rounds.{NumberSet}
+use Rattle.base.specs.Rounds.{NumberSet}
 use Rattle.families.specs.declared.Left.{Left}
 use Rattle.families.specs.Least.{SetFamily, Under}
 use Rattle.families.specs.Left.{symbolLeft, bodyLeft, bodiesLeft, lefts, leftOf, insideLeft}

@@ -8,7 +8,7 @@ use native.Mathlib.Omega.{arith}
 use lib.Dec.{T, ltb, eqb→eq, eqb-refl, ltb→lt, lt→ltb}
 use lib.ListN.{length}
 use Rattle.word.specs.declared.Symbol.the-variants.{Terminal, Nonterminal}
-use Rattle.booleans.specs.Choice.{choose}
+use Rattle.base.specs.Choice.{choose}
 use Rattle.grammar.specs.declared.reading.Sizes.{Sizes}
 use Rattle.grammar.specs.declared.reading.Outcome.the-variants.{Read}
 use Rattle.grammar.specs.Limits.{maxNonterminals}
@@ -28,18 +28,18 @@ use Rattle.lookahead.proofs.Operations.{has-empty, has-join}
 use Rattle.lookahead.proofs.Order.{subset-antisym, join-left, join-right}
 use Rattle.lookahead.proofs.Powers.{has-pow}
 use Rattle.lookahead.proofs.Weights.{has-total}
-use Rattle.semantics.specs.Rounds.{NumberSet}
+use Rattle.base.specs.Rounds.{NumberSet}
 use Rattle.semantics.specs.FirstFollow.{first}
 use Rattle.semantics.specs.LeftRecursion.{nullable, LeftIn, here, there, LeftDepends, LeftReaches, once, more, leftReaches}
-use Rattle.booleans.proofs.Booleans.{T-true, and-l, and-r, and-make, or-cases}
-use Rattle.semantics.proofs.First.{first-lookahead}
-use Rattle.semantics.proofs.FirstNullable.{first-none}
-use Rattle.semantics.proofs.LeftRecursion.{reaches-then, target-below, leftReaches-iff}
-use Rattle.families.specs.Lists.{listed}
+use Rattle.base.proofs.Booleans.{T-true, and-l, and-r, and-make, or-cases}
+use Rattle.semantics.proofs.families.First.{first-lookahead}
+use Rattle.semantics.proofs.families.FirstNullable.{first-none}
+use Rattle.semantics.proofs.meaning.LeftRecursion.{reaches-then, target-below, leftReaches-iff}
+use Rattle.base.specs.Lists.{listed}
 use Rattle.families.specs.Sets.{firstNumber, reachNumber}
 use Rattle.families.specs.Least.{SetFamily, at, LeastNumbers}
 use Rattle.families.specs.Left.{emptyIn, symbolLeft, bodyLeft, bodiesLeft, ReachClosed}
-use Rattle.families.proofs.Lists.{listed-is, listed-at}
+use Rattle.base.proofs.Lists.{listed-is, listed-at}
 use Rattle.families.proofs.FewTerminals.{admitted-read, few-terminals}
 use Rattle.families.proofs.Numbers.{number-string, string-number, array-at}
 

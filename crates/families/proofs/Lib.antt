@@ -1,8 +1,8 @@
-pub mod Lists
 pub mod Words
 pub mod NamedNonterminals
 pub mod LeastByPasses
 pub mod RulePasses
+pub mod ByRules
 pub mod RuleRanges
 pub mod Inner
 pub mod HeadPasses
@@ -13,6 +13,8 @@ pub mod Strings
 pub mod Numbers
 pub mod Members
 pub mod FirstTie
+pub mod StringLists
+pub mod FirstMeets
 pub mod FollowPasses
 pub mod FollowTie
 pub mod NonterminalSets

@@ -7,17 +7,16 @@ use native.Mathlib.Omega.{arith}
 use lib.Dec.{T}
 use lib.ListN.{length, length-map}
 use borrow.Author.Tests.{lt-ltb}
-use Rattle.semantics.specs.Calls.{Distinct}
-use Rattle.semantics.specs.FiniteSets.{keep, numbersFrom, numbers}
-use Rattle.semantics.specs.Strings.{Lookahead as Looked}
-use Rattle.semantics.proofs.FiniteSets.{keep-make, keep-elim, numbers-make, numbers-elim}
-use Rattle.semantics.proofs.Distinct.{distinct-keep, distinct-numbers}
-use Rattle.booleans.specs.Quantifiers.{one, countBelow}
+use Rattle.base.specs.FiniteSets.{Distinct, keep, numbersFrom, numbers}
+use Rattle.base.specs.Strings.{Lookahead as Looked}
+use Rattle.base.proofs.FiniteSets.{keep-make, keep-elim, numbers-make, numbers-elim}
+use Rattle.base.proofs.Distinct.{distinct-keep, distinct-numbers}
+use Rattle.base.specs.Quantifiers.{one, countBelow}
 use Rattle.lookahead.specs.declared.Lookahead.{Lookahead}
 use Rattle.lookahead.specs.Lookaheads.{tokens, alphabet, elements, elementOf, stringOf}
 use Rattle.lookahead.specs.Elements.{has, size, width}
 use Rattle.lookahead.proofs.Strings.{string-same}
-use Rattle.lookahead.proofs.Cases.{elements-fit}
+use Rattle.lookahead.proofs.Bounds.{elements-fit}
 use Rattle.lookahead.proofs.Size.{count-cong, count-first, size-below}
 use Rattle.lookahead.proofs.Weights.{has-total}
 use Rattle.families.specs.Sets.{numberOf, Members}

@@ -21,18 +21,9 @@ use Rattle.grammar.specs.Reading.{inRange, reading}
 use Rattle.grammar.specs.WellRead.{headOf}
 use Rattle.grammar.proofs.EachIndex.{read-place}
 use Rattle.grammar.proofs.WellRead.{well-read}
-use Rattle.families.specs.Naming.{ruleHead, nonterminalOf, Indexed}
+use Rattle.families.specs.Naming.{nonterminalOf, Indexed}
 
 -- every kind of word but a rule's begin has no head
-pub no-head : (w : Word) → OneOf (0 ∷ 2 ∷ 3 ∷ 4 ∷ 5 ∷ 6 ∷ []) (tagOf the-type w) → ruleHead w ≡ none
-no-head (Rule A) h = absurd (miss (0 ∷ 2 ∷ 3 ∷ 4 ∷ 5 ∷ 6 ∷ []) 1 tt h)
-no-head (Heading n t) h = refl
-no-head Positive h = refl
-no-head Negative h = refl
-no-head (Symbol X) h = refl
-no-head End h = refl
-no-head Invalid h = refl
-
 pub no-head-of : (w : Word) → OneOf (0 ∷ 2 ∷ 3 ∷ 4 ∷ 5 ∷ 6 ∷ []) (tagOf the-type w) → headOf w ≡ 0
 no-head-of (Rule A) h = absurd (miss (0 ∷ 2 ∷ 3 ∷ 4 ∷ 5 ∷ 6 ∷ []) 1 tt h)
 no-head-of (Heading n t) h = refl

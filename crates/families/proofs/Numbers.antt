@@ -9,16 +9,16 @@ use lib.Dec.{T}
 use lib.ListN.{List·getD-eq-default}
 use Rattle.grammar.specs.Limits.{maxNonterminals}
 use Rattle.grammar.specs.Syntax.{Grammar}
-use Rattle.semantics.specs.Strings.{Lookahead as Looked}
+use Rattle.base.specs.Strings.{Lookahead as Looked}
 use Rattle.semantics.specs.FirstFollow.{Entry}
 use Rattle.lookahead.specs.declared.Lookahead.{Lookahead}
 use Rattle.lookahead.specs.Lookaheads.{tokens, alphabet, elementOf, stringOf}
 use Rattle.lookahead.specs.Elements.{has}
 use Rattle.lookahead.proofs.Order.{subset-antisym, empty-least}
 use Rattle.families.specs.Least.{SetFamily, at, LeastNumbers}
-use Rattle.families.specs.Lists.{listed}
+use Rattle.base.specs.Lists.{listed}
 use Rattle.families.specs.Sets.{numberOf}
-use Rattle.families.proofs.Lists.{listed-long, listed-at}
+use Rattle.base.proofs.Lists.{listed-long, listed-at}
 use Rattle.families.proofs.Strings.{lookahead-string, lookahead-bound, StringIn, string-in, in-string, number-has, has-number, number-element}
 
 -- the sets of strings that pass, by nonterminal

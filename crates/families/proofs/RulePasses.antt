@@ -15,7 +15,7 @@ pub turn-below : (forward : Bool) (n i : ℕ) → i < n → turnOf forward n i <
 turn-below true n i h = h
 turn-below false n i h = omega arith
 
-turn-of : (forward : Bool) (n q : ℕ) → q < n → (i : ℕ) × (i < n) × (turnOf forward n i ≡ q)
+pub turn-of : (forward : Bool) (n q : ℕ) → q < n → (i : ℕ) × (i < n) × (turnOf forward n i ≡ q)
 turn-of true n q h = (q, h, refl)
 turn-of false n q h = (n - suc q, omega arith, omega arith)
 

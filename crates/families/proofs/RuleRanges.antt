@@ -9,7 +9,7 @@ use lib.ListN.{length, getD, drop, replicate, getElem?, List·getD-append}
 use lib.Seq.{drop-cons, getD-take}
 use Rattle.word.specs.declared.Word.{Word}
 use Rattle.word.specs.declared.Word.the-variants.{Heading, Rule as RuleWord, Positive, Negative, Symbol, End, Invalid}
-use Rattle.booleans.specs.Choice.{choose}
+use Rattle.base.specs.Choice.{choose}
 use Rattle.word.specs.Words.{decoded}
 use Rattle.grammar.specs.declared.reading.Sizes.{Sizes}
 use Rattle.grammar.specs.declared.reading.State.{State}
@@ -24,7 +24,7 @@ use Rattle.grammar.proofs.Begins.{begins, as-many}
 use Rattle.grammar.proofs.EachIndex.{read-whole}
 use Rattle.grammar.proofs.Suffixes.{scan-next, read-reaches}
 use Rattle.grammar.proofs.WellRead.{well-read}
-use Rattle.semantics.proofs.Outcomes.{nth-below, nth-mem, mem-nth}
+use Rattle.semantics.proofs.descent.Outcomes.{nth-below, nth-mem, mem-nth}
 use Rattle.families.specs.Rules.{ruleFrom, Ended, Inside, RuleWords}
 use Rattle.families.proofs.Words.{parse-here, parse-over}
 

@@ -8,11 +8,11 @@ use lib.Dec.{T, eqb, ltb, ltb→lt, lt→ltb, eqb→eq, eqb-refl}
 use lib.ListN.{take}
 use lib.Seq.{take-all}
 use mir.Facts.{and-yes, yes-and}
-use Rattle.booleans.specs.Quantifiers.{allOf}
+use Rattle.base.specs.Quantifiers.{allOf}
 use Rattle.word.specs.declared.Symbol.{Symbol}
 use Rattle.word.specs.declared.Symbol.the-variants.{Terminal, Nonterminal}
 use Rattle.grammar.specs.Syntax.{Body, TerminalsBelow}
-use Rattle.semantics.specs.Strings.{Over, Lookahead as Looked}
+use Rattle.base.specs.Strings.{Over, Lookahead as Looked}
 use Rattle.semantics.specs.Families.{Family, FirstOf, FirstBody}
 use Rattle.lookahead.specs.declared.Lookahead.{Lookahead}
 use Rattle.lookahead.specs.Lookaheads.{tokens, alphabet, elements, nothing, elementOf, stringOf, after}

@@ -1,17 +1,23 @@
 -- First sets as numbers: of a symbol, a body and a rule, and the families that the rules close.
+use mathlib.Core.Path.{_≡_}
+use mathlib.Core.Bool.{Bool, false}
 use mathlib.Core.List.{List, [], _∷_, List·Memᴰ}
-use Prim.Native.Nat.{ℕ}
+use Prim.Native.Nat.{ℕ, _<_}
+use lib.ListN.{getD}
 use Rattle.word.specs.declared.Symbol.{Symbol as GrammarSymbol}
 use Rattle.word.specs.declared.Symbol.the-variants.{Terminal, Nonterminal}
 use Rattle.word.specs.declared.Word.{Word}
 use Rattle.word.specs.declared.Word.the-variants.{Heading, Rule as RuleWord, Positive, Negative, Symbol, End, Invalid}
+use Rattle.word.specs.Words.{decoded}
 use Rattle.grammar.specs.Syntax.{Body, Rule}
 use Rattle.grammar.specs.Encoding.{Parsed}
+use Rattle.grammar.specs.Starts.{ruleStarts}
 use Rattle.lookahead.specs.declared.Lookahead.{Lookahead}
 use Rattle.lookahead.specs.Elements.{Subset}
 use Rattle.lookahead.specs.Operations.{end, terminal, full, meet, concatNumbers}
 use Rattle.families.specs.declared.Rest.{Rest}
-use Rattle.families.specs.Least.{SetFamily}
+use Rattle.families.specs.Least.{SetFamily, at}
+use Rattle.families.specs.Rules.{ruleFrom, ByRules}
 
 unfoldable pub symbolFirst : Lookahead → SetFamily → GrammarSymbol → ℕ
 symbolFirst k F (Terminal a) = terminal k a
@@ -41,16 +47,6 @@ restOf k t F p = sets (bodyFirst k F (p .body)) (ruleFirst k t F (p .positives))
 abbrev pub noRest : Lookahead → ℕ → Rest
 noRest k t = sets (end k) (full k t)
 
--- the rest with a word in front
-abbrev pub withWord : Lookahead → ℕ → SetFamily → Word → Rest → Rest
-withWord k t F (Symbol X) rest = sets (concatNumbers k (symbolFirst k F X) (rest .body .bits)) (rest .meet .bits)
-withWord k t F Positive rest = sets (end k) (meet (rest .body .bits) (rest .meet .bits))
-withWord k t F Negative rest = sets (end k) (rest .meet .bits)
-withWord k t F (RuleWord A) rest = noRest k t
-withWord k t F End rest = noRest k t
-withWord k t F (Heading m n) rest = rest
-withWord k t F Invalid rest = rest
-
 -- a body ends: if it is a positive, its first set goes into the meet
 abbrev pub closedMeet : Word → ℕ → ℕ → ℕ
 closedMeet Positive b m = meet b m
@@ -61,7 +57,7 @@ closedMeet (RuleWord A) b m = m
 closedMeet (Heading n t) b m = m
 closedMeet Invalid b m = m
 
--- the same for a word inside a rule: a symbol, or what ends the body before it
+-- the rest with a word inside a rule in front: a symbol, or what ends the body before it
 abbrev pub insideWord : Lookahead → SetFamily → Word → Rest → Rest
 insideWord k F (Symbol X) rest = sets (concatNumbers k (symbolFirst k F X) (rest .body .bits)) (rest .meet .bits)
 insideWord k F Positive rest = sets (end k) (meet (rest .body .bits) (rest .meet .bits))
@@ -70,3 +66,13 @@ insideWord k F End rest = sets (end k) (rest .meet .bits)
 insideWord k F (RuleWord A) rest = sets (end k) (rest .meet .bits)
 insideWord k F (Heading m n) rest = sets (end k) (rest .meet .bits)
 insideWord k F Invalid rest = sets (end k) (rest .meet .bits)
+
+-- the same with all words inside a rule, from their end
+unfoldable pub insideWords : Lookahead → SetFamily → Rest → List ℕ → Rest
+insideWords k F rest [] = rest
+insideWords k F rest (w ∷ ws) = insideWord k F (decoded w) (insideWords k F rest ws)
+
+-- what a pass leaves for n rules: where no set has grown, what the positives of each can all begin with
+pub record Met (k : Lookahead) (t : ℕ) (words : List ℕ) (n : ℕ) (firsts meets : List ℕ) (grown : Bool) : Type 0 where
+  pub room : ByRules n meets
+  pub each : grown ≡ false → (q : ℕ) → q < n → getD meets q 0 ≡ ruleFirst k t (at firsts) (ruleFrom words (getD (ruleStarts words) q 0) .positives)

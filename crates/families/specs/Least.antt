@@ -6,9 +6,9 @@ use mathlib.Core.Option.{Option, none, some}
 use Prim.Native.Nat.{ℕ, _+_, _≤_}
 use lib.Dec.{eqb, ltb}
 use lib.ListN.{length, getD, set}
-use Rattle.booleans.specs.Choice.{choose}
+use Rattle.base.specs.Choice.{choose}
 use Rattle.grammar.specs.Limits.{maxNonterminals}
-use Rattle.booleans.specs.Quantifiers.{one}
+use Rattle.base.specs.Quantifiers.{one}
 use Rattle.lookahead.specs.Elements.{Subset}
 use Rattle.lookahead.specs.Operations.{join}
 

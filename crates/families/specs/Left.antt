@@ -5,14 +5,14 @@ use Rattle.word.specs.declared.Symbol.{Symbol as GrammarSymbol}
 use Rattle.word.specs.declared.Symbol.the-variants.{Terminal, Nonterminal}
 use Rattle.word.specs.declared.Word.{Word}
 use Rattle.word.specs.declared.Word.the-variants.{Heading, Rule as RuleWord, Positive, Negative, Symbol, End, Invalid}
-use Rattle.booleans.specs.Choice.{choose}
+use Rattle.base.specs.Choice.{choose}
 use Rattle.grammar.specs.Syntax.{Body, Rule, bodies}
 use Rattle.grammar.specs.Encoding.{Parsed}
 use Rattle.lookahead.specs.declared.Lookahead.{Lookahead}
 use Rattle.lookahead.specs.Lookaheads.{nothing}
 use Rattle.lookahead.specs.Elements.{weight, has, Subset}
 use Rattle.lookahead.specs.Operations.{empty, join}
-use Rattle.semantics.specs.Rounds.{NumberSet}
+use Rattle.base.specs.Rounds.{NumberSet}
 use Rattle.families.specs.declared.Left.{Left}
 use Rattle.families.specs.Least.{SetFamily}
 

@@ -1,4 +1,4 @@
-pub mod Lists
+pub mod RuleLists
 pub mod Least
 pub mod Naming
 pub mod Rules

@@ -7,16 +7,6 @@ use Rattle.word.specs.declared.Word.{Word}
 use Rattle.word.specs.declared.Word.the-variants.{Heading, Rule, Positive, Negative, Symbol, End, Invalid}
 use Rattle.grammar.specs.Limits.{maxNonterminals}
 
--- the head of the rule that begins with a word
-abbrev pub ruleHead : Word → Option ℕ
-ruleHead (Rule A) = some A
-ruleHead Positive = none
-ruleHead Negative = none
-ruleHead (Symbol X) = none
-ruleHead End = none
-ruleHead (Heading n t) = none
-ruleHead Invalid = none
-
 abbrev pub symbolName : GrammarSymbol → Option ℕ
 symbolName (Terminal a) = none
 symbolName (Nonterminal A) = some A

@@ -5,7 +5,7 @@ use Prim.Native.Nat.{ℕ}
 use lib.Dec.{eqb, ltb}
 use Rattle.grammar.specs.Limits.{maxNonterminals}
 use Rattle.lookahead.specs.Elements.{weight, has}
-use Rattle.booleans.specs.Choice.{choose}
+use Rattle.base.specs.Choice.{choose}
 use Rattle.lookahead.specs.Operations.{empty}
 
 -- the set of a nonterminal alone, empty where the number is no nonterminal's

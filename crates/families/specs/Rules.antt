@@ -9,7 +9,7 @@ use Rattle.word.specs.declared.Word.the-variants.{Heading, Rule as RuleWord, Po
 use Rattle.word.specs.Words.{decoded}
 use Rattle.grammar.specs.declared.reading.Sizes.{Sizes}
 use Rattle.grammar.specs.declared.reading.Outcome.the-variants.{Read}
-use Rattle.grammar.specs.Limits.{maxNonterminals}
+use Rattle.grammar.specs.Limits.{maxNonterminals, maxRules}
 use Rattle.grammar.specs.Syntax.{Rule}
 use Rattle.grammar.specs.Encoding.{Parsed, parse}
 use Rattle.grammar.specs.Reading.{reading}
@@ -49,6 +49,11 @@ pub record RuleWords (words : List ℕ) (start end : ℕ) : Type 0 where
   pub within : end ≤ length words
   pub ended : Ended (parse (drop end words))
   pub inside : (i : ℕ) → start < i → i < end → Inside (decoded (getD words i 0))
+
+-- an array of a number for each of n rules: zeros stand behind them
+pub record ByRules (n : ℕ) (l : List ℕ) : Type 0 where
+  pub long : length l ≡ maxRules
+  pub behind : (q : ℕ) → n ≤ q → getD l q 0 ≡ 0
 
 -- what a pass over the rules of a grammar that has been read needs
 pub record PassGiven (words starts : List ℕ) (z : Sizes) (sets : List ℕ) : Type 0 where

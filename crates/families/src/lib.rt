@@ -2,8 +2,9 @@
 // proofs/, and the types of what is computed of them. specs/Analysis.antt tells what is found of a grammar.
 use answer::Error;
 use grammar::limits::NONTERMINALS;
+use grammar::limits::RULES;
 use grammar::reading::Sizes;
-use lookahead::LookaheadSet;
+use lookahead_sets::LookaheadSet;
 use nonterminals::Nonterminals;
 
 pub mod nonterminals;
@@ -44,10 +45,13 @@ pub enum Finding {
     Refused(Error),
 }
 
-// What is found of an encoded grammar: its sizes, or why it is refused; and its sets, all empty where it is refused.
+// What is found of an encoded grammar: its sizes, or why it is refused; where its rules begin; its sets; and what the positives of each
+// rule can all begin with. Zeros and empty sets stand where it is refused.
 pub struct Families {
     pub finding: Finding,
+    pub starts: [usize; RULES],
     pub firsts: [u64; SETS],
+    pub meets: [u64; RULES],
     pub follows: [u64; SETS],
     // what each nonterminal left-reaches, a set of nonterminals
     pub reaches: [u32; SETS],

@@ -7,7 +7,7 @@ use native.Mathlib.Decide.{decLt}
 use native.Mathlib.Omega.{arith}
 use lib.ListN.{length, getD, take, drop, length-take}
 use lib.Seq.{take-all, drop-cons, drop-length}
-use Rattle.semantics.specs.Strings.{look}
+use Rattle.base.specs.Strings.{look}
 use Rattle.following.specs.Following.{SameFirst, Agrees, Begins}
 
 -- cut to k, two sequences are equal just where they have the same first k tokens or, one of them being shorter, are equal

@@ -8,9 +8,9 @@ use native.Mathlib.Omega.{arith}
 use Rattle.word.specs.declared.Symbol.the-variants.{Terminal, Nonterminal}
 use Rattle.grammar.specs.Syntax.{Grammar}
 use Rattle.grammar.specs.Cards.{grammarE}
-use Rattle.booleans.specs.Quantifiers.{anyOf, allOf, anyBelow}
+use Rattle.base.specs.Quantifiers.{anyOf, allOf, anyBelow}
 use Rattle.semantics.specs.Valuations.{Valuation, contains, derives, byRules, rounds, Solves, solution}
-use Rattle.semantics.specs.Strings.{look, Over}
+use Rattle.base.specs.Strings.{look, Over}
 use Rattle.semantics.specs.FirstFollow.{Follow}
 use Rattle.semantics.specs.Choices.{tableChoice}
 use Rattle.semantics.specs.Descent.{select}
@@ -20,8 +20,8 @@ use Rattle.semantics.specs.Memo.{Memo, EndsFit, encode, decode}
 use Rattle.semantics.specs.MemoDescent.{memoStart, memoCall, memoObey, memoRule, memoPositives, memoNegatives, memoRun, andThen, stored}
 use Rattle.semantics.specs.Predictive.{Predictive}
 use Rattle.semantics.proofs.Theorems.{theorems as semantics}
-use Rattle.semantics.proofs.Check.{belowTest, scopedTest, terminalsTest, ownTest, predictive}
-use Rattle.semantics.proofs.Computing.{left-recursion-computes, tables-compute, descent-computes, calls-compute}
+use Rattle.semantics.proofs.examples.Check.{belowTest, scopedTest, terminalsTest, ownTest, predictive}
+use Rattle.semantics.proofs.examples.Computing.{left-recursion-computes, tables-compute, descent-computes, calls-compute}
 use Rattle.following.specs.Following.{MayFollow, behind, Agrees, Begins}
 use Rattle.following.specs.Following.{start as nothing}
 use Rattle.following.specs.Theorems.{EntriesTell}

@@ -9,14 +9,14 @@ use lib.ListN.{length}
 use Rattle.word.specs.declared.Symbol.the-variants.{Terminal, Nonterminal}
 use Rattle.grammar.specs.Syntax.{Grammar}
 use Rattle.grammar.specs.Cards.{grammarM, grammarE}
-use Rattle.booleans.specs.Quantifiers.{anyOf, allOf, anyBelow}
-use Rattle.booleans.proofs.Booleans.{T-true, true-T, and-make}
-use Rattle.booleans.proofs.Quantified.{below-make}
+use Rattle.base.specs.Quantifiers.{anyOf, allOf, anyBelow}
+use Rattle.base.proofs.Booleans.{T-true, true-T, and-make}
+use Rattle.base.proofs.Quantified.{below-make}
 use Rattle.semantics.specs.Valuations.{Valuation, contains, derives, byRules, rounds, Solves, solution}
 use Rattle.semantics.specs.Predictive.{Predictive}
 use Rattle.semantics.proofs.Theorems.{theorems}
-use Rattle.semantics.proofs.Check.{belowTest, scopedTest, terminalsTest, ownTest, predictive}
-use Rattle.semantics.proofs.Computing.{left-recursion-computes, tables-compute}
+use Rattle.semantics.proofs.examples.Check.{belowTest, scopedTest, terminalsTest, ownTest, predictive}
+use Rattle.semantics.proofs.examples.Computing.{left-recursion-computes, tables-compute}
 use Rattle.following.specs.Following.{MayFollow, start, behind}
 
 -- every valuation that solves a grammar on a sequence gives what the computed one gives

@@ -7,15 +7,15 @@ use lib.ListN.{length, take}
 use lib.Seq.{take-nil, take-length}
 use Rattle.word.specs.declared.Symbol.the-variants.{Nonterminal}
 use Rattle.grammar.specs.Syntax.{Body, Grammar}
-use Rattle.booleans.proofs.Booleans.{true-T}
+use Rattle.base.proofs.Booleans.{true-T}
 use Rattle.semantics.specs.Valuations.{solution}
-use Rattle.semantics.specs.Strings.{span}
+use Rattle.base.specs.Strings.{span}
 use Rattle.semantics.specs.FirstFollow.{First, Follow}
 use Rattle.semantics.specs.Predictive.{Predictive}
 use Rattle.semantics.proofs.Theorems.{theorems}
-use Rattle.semantics.proofs.Strings.{take-cut}
-use Rattle.semantics.proofs.FollowCuts.{follow-cuts}
-use Rattle.semantics.proofs.BodyVerdict.{below-rest}
+use Rattle.base.proofs.Strings.{take-cut}
+use Rattle.semantics.proofs.families.FollowCuts.{follow-cuts}
+use Rattle.semantics.proofs.descent.BodyVerdict.{below-rest}
 use Rattle.following.specs.Following.{MayFollow, start, behind}
 
 span-whole : (x : List ℕ) → span x 0 (length x) ≡ x

@@ -7,7 +7,7 @@ use native.Mathlib.Omega.{arith}
 use lib.ListN.{length, List·getD-append}
 use Rattle.grammar.specs.Codes.{failedCode, uncalledCode}
 use Rattle.grammar.specs.Syntax.{Grammar}
-use Rattle.semantics.specs.Strings.{Over, look}
+use Rattle.base.specs.Strings.{Over, look}
 use Rattle.semantics.specs.FirstFollow.{Follow}
 use Rattle.semantics.specs.Choices.{tableChoice}
 use Rattle.semantics.specs.Descent.{Outcome, Failed, End, descend}
@@ -15,8 +15,8 @@ use Rattle.semantics.specs.ComesTo.{callAt}
 use Rattle.semantics.specs.Memo.{Memo, EndsFit, encode, indexOf, Recorded}
 use Rattle.semantics.specs.Predictive.{Predictive}
 use Rattle.semantics.proofs.Theorems.{theorems as semantics}
-use Rattle.semantics.proofs.Called.{called-range}
-use Rattle.semantics.proofs.Range.{index-range}
+use Rattle.semantics.proofs.descent.Called.{called-range}
+use Rattle.semantics.proofs.descent.Range.{index-range}
 use Rattle.following.specs.Theorems.{TellWhere, EntriesTell, Theorems}
 use Rattle.following.proofs.Agreeing.{agrees, begins}
 use Rattle.following.proofs.Following.{may-follow}

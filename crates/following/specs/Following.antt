@@ -8,7 +8,7 @@ use lib.ListN.{length, getD, take, drop}
 use Rattle.word.specs.declared.Symbol.the-variants.{Nonterminal}
 use Rattle.grammar.specs.Syntax.{Body, Rule, Grammar, bodies}
 use Rattle.semantics.specs.Valuations.{Valuation, contains, Solves}
-use Rattle.semantics.specs.Strings.{Over}
+use Rattle.base.specs.Strings.{Over}
 
 -- a sequence of terminals, of any length, belongs to a body: by the valuation that solves the grammar on that sequence alone, the body contains the
 -- whole of it (without left recursion there is just one such valuation: `OneSolution` of semantics/specs/Theorems.antt)

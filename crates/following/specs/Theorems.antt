@@ -7,7 +7,7 @@ use Prim.Native.Nat.{ℕ, _≤_}
 use lib.ListN.{length, take}
 use Rattle.grammar.specs.Syntax.{Grammar}
 use Rattle.semantics.specs.Valuations.{Valuation, Solves}
-use Rattle.semantics.specs.Strings.{look, Over}
+use Rattle.base.specs.Strings.{look, Over}
 use Rattle.semantics.specs.FirstFollow.{Follow}
 use Rattle.semantics.specs.Choices.{tableChoice}
 use Rattle.semantics.specs.ComesTo.{callAt}

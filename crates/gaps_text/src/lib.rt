@@ -1,22 +1,21 @@
 // The gaps and overlaps of a grammar's table, line by line, and the nonterminals that overrun, from what each rule claims.
 ghost use mathlib.Core.Path.{_≡_};
 ghost use Prim.Native.Nat.{_≤_, _<_};
-ghost use Rattle.booleans.specs.Quantifiers.{one as oneOf, countBelow};
+ghost use Rattle.base.specs.Quantifiers.{one as oneOf, countBelow};
 ghost use Rattle.grammar.specs.Limits.{maxNonterminals, maxTerminals, maxRules};
 ghost use Rattle.claims.specs.Claims.{claimant};
 ghost use Rattle.text.specs.Writing.{Put, upTo};
-ghost use Rattle.gaps_text_promises.specs.Gaps.{GapsPut};
-ghost use Rattle.gaps_text_promises.specs.Steps.{claimantText, numbersText, claimantsText, entryLine, rowText, overrunLine, overrunsText, claimantAt, overrunsBy, overrunsIn};
-use claims::analyze;
+ghost use Rattle.gaps_text_promises.specs.Steps.{claimantText, numbersText, claimantsText, entryLine, rowText, overrunLine, overrunsText, claimantAt, overrunsBy, overrunsIn, withinLimits, GapsPutBy};
 use columns::element;
 use families::Finding;
 use families::SETS;
 use grammar::limits::COLUMNS;
 use grammar::limits::NONTERMINALS;
 use grammar::limits::RULES;
+use grammar::limits::TERMINALS;
 use grammar::reading::Sizes;
 use lookahead::Lookahead;
-use lookahead::LookaheadSet;
+use lookahead_sets::LookaheadSet;
 use text::put::put_bytes;
 use text::put::put_labelled;
 use text::put::put_number;
@@ -229,17 +228,37 @@ fn put_overruns(out: &mut [u8], at: usize, overruns: &[u64; SETS], nonterminals:
     next
 }
 
-// The gaps and overlaps of the grammar that the words are, and its nonterminals that overrun; or why there are none to tell.
-pub fn put_gaps(out: &mut [u8], words: &[u32]) -> usize
-    ensures { λ r. ⌜ GapsPut (now (words .entry)) (now (out .entry)) (now (out .exit)) r ⌝ }
+// No more of each than a grammar may have.
+fn within_limits(sizes: Sizes) -> bool
+    ensures { λ r. ⌜ r ≡ withinLimits sizes ⌝ }
 {
-    let claims = analyze(words, Lookahead::One);
-    let finding = claims.finding;
+    if NONTERMINALS < sizes.nonterminals {
+        return false;
+    }
+    if TERMINALS < sizes.terminals {
+        return false;
+    }
+    sizes.rules <= RULES
+}
+
+// The gaps and overlaps of a grammar, and its nonterminals that overrun, by what is found of it and of its rules; or why there are none to tell.
+pub fn put_gaps<'a>(
+    out: &mut [u8],
+    finding: Finding,
+    heads: &'a [u8; RULES],
+    sets: &'a [u64; RULES],
+    overruns: &'a [u64; SETS],
+) -> usize
+    ensures { λ r. ⌜ GapsPutBy finding (now (heads .entry)) (now (sets .entry)) (now (overruns .entry)) (now (out .entry)) (now (out .exit)) r ⌝ }
+{
     match finding {
         Finding::Refused(error) => put_refusal(out, 0, error),
         Finding::Passed(sizes) => {
-            let at = put_rows(out, 0, &claims.heads, &claims.sets, sizes);
-            put_overruns(out, at, &claims.overruns, sizes.nonterminals)
+            if !within_limits(sizes) {
+                return 0;
+            }
+            let at = put_rows(out, 0, heads, sets, sizes);
+            put_overruns(out, at, overruns, sizes.nonterminals)
         }
     }
 }

@@ -8,17 +8,17 @@ use native.Mathlib.Omega.{arith}
 use lib.Dec.{eqb}
 use borrow.Author.Tests.{ne-eqb}
 use lib.ListN.{length}
-use Rattle.booleans.specs.Choice.{choose}
-use Rattle.booleans.specs.Quantifiers.{one, countBelow}
-use Rattle.booleans.proofs.Quantified.{count-cong, count-first}
+use Rattle.base.specs.Choice.{choose}
+use Rattle.base.specs.Quantifiers.{one, countBelow}
+use Rattle.base.proofs.Quantified.{count-cong, count-first}
 use Rattle.grammar.specs.declared.reading.Sizes.{Sizes}
 use Rattle.grammar.specs.Syntax.{Grammar}
 use Rattle.lookahead.specs.declared.Lookahead.the-variants.{One}
-use Rattle.semantics.specs.Calls.{Distinct}
+use Rattle.base.specs.FiniteSets.{Distinct, keep, numbersFrom, numbers, combine}
 use Rattle.semantics.specs.Claims.{overruns}
-use Rattle.semantics.specs.FiniteSets.{keep, numbersFrom, numbers, combine}
-use Rattle.semantics.specs.FirstFollow.{Entry, strings, entries}
-use Rattle.semantics.proofs.Distinct.{distinct-keep, distinct-numbers, distinct-combine, distinct-strings}
+use Rattle.semantics.specs.FirstFollow.{Entry, entries}
+use Rattle.base.specs.Strings.{strings}
+use Rattle.base.proofs.Distinct.{distinct-keep, distinct-numbers, distinct-combine, distinct-strings}
 use Rattle.columns.specs.Columns.{columnString}
 use Rattle.columns.proofs.ColumnStrings.{column-back, columns-strings}
 use Rattle.text.specs.Ascii.{ascii}

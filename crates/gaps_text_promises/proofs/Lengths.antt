@@ -10,9 +10,9 @@ use native.Mathlib.Omega.{arith}
 use borrow.Author.Tests.{eq-eqb, ne-eqb, lt-ltb, le-ltb}
 use lib.Dec.{T, eqb, ltb, eqb→eq}
 use lib.ListN.{length, getElem?, length-append}
-use Rattle.booleans.specs.Quantifiers.{one, countBelow}
-use Rattle.booleans.proofs.Booleans.{true-T, and-l}
-use Rattle.booleans.proofs.Quantified.{count-le, count-mono}
+use Rattle.base.specs.Quantifiers.{one, countBelow}
+use Rattle.base.proofs.Booleans.{true-T, and-l}
+use Rattle.base.proofs.Quantified.{count-le, count-mono}
 use Rattle.grammar.specs.Encoding.{grammarOf}
 use Rattle.grammar.specs.Limits.{maxNonterminals, maxTerminals, maxColumns, maxRules}
 use Rattle.grammar.specs.declared.reading.Sizes.{Sizes}

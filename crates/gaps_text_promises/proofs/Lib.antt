@@ -4,3 +4,4 @@ pub mod Overlaps
 pub mod Same
 pub mod Lengths
 pub mod Examples
+pub mod Limits

@@ -7,8 +7,8 @@ use native.Mathlib.Numerals.{add-one}
 use native.Mathlib.Omega.{arith}
 use lib.ListN.{getD}
 use borrow.Author.Tests.{eq-eqb, ne-eqb}
-use Rattle.booleans.specs.Quantifiers.{one, countBelow}
-use Rattle.booleans.proofs.Quantified.{one-le}
+use Rattle.base.specs.Quantifiers.{one, countBelow}
+use Rattle.base.proofs.Quantified.{one-le}
 use Rattle.lookahead.specs.Elements.{has}
 use Rattle.lookahead.specs.declared.Lookahead.the-variants.{One}
 use Rattle.lookahead.specs.Operations.{isEmpty}

@@ -9,18 +9,19 @@ use Prim.Native.Nat.{ℕ, _+_, _≤_}
 use native.Mathlib.Omega.{arith}
 use lib.Dec.{T}
 use lib.ListN.{length, getElem?}
-use Rattle.booleans.specs.Quantifiers.{anyOf, one, countBelow}
-use Rattle.booleans.proofs.Booleans.{T-none, or-cases}
-use Rattle.booleans.proofs.Quantified.{count-first}
+use Rattle.base.specs.Quantifiers.{anyOf, one, countBelow}
+use Rattle.base.proofs.Booleans.{T-none, or-cases}
+use Rattle.base.proofs.Quantified.{count-first}
 use Rattle.grammar.specs.Encoding.{grammarOf}
 use Rattle.grammar.specs.Syntax.{Rule, Grammar}
 use Rattle.semantics.specs.Claims.{several, claims, overruns, clashes}
 use Rattle.semantics.specs.Families.{Claims}
-use Rattle.semantics.specs.FirstFollow.{Entry, sameString, entries, First, Follow}
-use Rattle.semantics.proofs.Claims.{claims-make, claims-elim, overruns-make, overruns-elim, clashes-make}
-use Rattle.semantics.proofs.FiniteSets.{keep-elim}
-use Rattle.semantics.proofs.LookaheadSets.{entries-elim}
-use Rattle.semantics.proofs.Positions.{several-elim}
+use Rattle.semantics.specs.FirstFollow.{Entry, entries, First, Follow}
+use Rattle.base.specs.Strings.{sameString}
+use Rattle.semantics.proofs.families.Claims.{claims-make, claims-elim, overruns-make, overruns-elim, clashes-make}
+use Rattle.base.proofs.FiniteSets.{keep-elim}
+use Rattle.semantics.proofs.families.LookaheadSets.{entries-elim}
+use Rattle.semantics.proofs.families.Positions.{several-elim}
 use Rattle.lookahead.specs.declared.Lookahead.the-variants.{One}
 use Rattle.families.specs.Analysis.{setsFault}
 use Rattle.table.specs.Analysis.{fault}

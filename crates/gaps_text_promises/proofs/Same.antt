@@ -6,8 +6,9 @@ use mathlib.Core.Option.{none, some}
 use Prim.Native.Nat.{ℕ, suc, _+_, _≤_, _<_}
 use native.Mathlib.Omega.{arith}
 use lib.ListN.{getElem?}
+use borrow.Author.Tests.{le-leb}
 use Rattle.answer.specs.declared.Error.{Error}
-use Rattle.booleans.proofs.Quantified.{count-cong}
+use Rattle.base.proofs.Quantified.{count-cong}
 use Rattle.grammar.specs.Encoding.{grammarOf}
 use Rattle.grammar.specs.Limits.{maxNonterminals, maxTerminals, maxRules}
 use Rattle.grammar.specs.declared.reading.Sizes.{Sizes}
@@ -20,12 +21,14 @@ use Rattle.lookahead.specs.declared.Lookahead.the-variants.{One}
 use Rattle.lookahead.specs.Lookaheads.{alphabet}
 use Rattle.lookahead.specs.Operations.{isEmpty, terminal}
 use Rattle.semantics.specs.Claims.{claims, overruns}
+use Rattle.families.specs.declared.Finding.{Finding}
 use Rattle.families.specs.declared.Finding.the-variants.{Passed, Refused}
-use Rattle.families.specs.Analysis.{setsFault}
+use Rattle.families.specs.Analysis.{setsFault, byRuleIf}
+use Rattle.families.specs.RuleLists.{byRule}
 use Rattle.families.proofs.Findings.{told-passed, told-refused}
-use Rattle.families.proofs.Lists.{listed-at}
+use Rattle.base.proofs.Lists.{listed-at}
 use Rattle.claims.specs.declared.Claims.{Claims}
-use Rattle.claims.specs.Claims.{headsOf, claimNumbers, byRule, byRuleIf, overrunsOf, overrunsIf, claimsOf}
+use Rattle.claims.specs.Claims.{headsOf, claimNumbers, overrunsOf, overrunsIf, claimsOf}
 use Rattle.columns.specs.Columns.{columnElement}
 use Rattle.claims.specs.Overruns.{overrunSet}
 use Rattle.claims.proofs.Claimants.{claims-alike, told as rules-told}
@@ -33,7 +36,7 @@ use Rattle.columns.proofs.ColumnStrings.{column-string, element-small}
 use Rattle.text.specs.Refusal.{refusalText}
 use Rattle.text.specs.Writing.{Put}
 use Rattle.gaps_text_promises.specs.Gaps.{claimsBy, gapsText, GapsPut}
-use Rattle.gaps_text_promises.specs.Steps.{claimantText, numbersText, claimantsText, entryLine, rowText, overrunLine, overrunsText, linesText, claimsAt, claimantAt, overrunsBy, overrunsIn}
+use Rattle.gaps_text_promises.specs.Steps.{claimantText, numbersText, claimantsText, entryLine, rowText, overrunLine, overrunsText, linesText, claimsAt, claimantAt, overrunsBy, overrunsIn, withinLimits, gapsBy, GapsPutBy}
 use Rattle.gaps_text_promises.proofs.Entries.{up-to-same, lines-are}
 use Rattle.gaps_text_promises.proofs.Overlaps.{lines-tell}
 
@@ -80,14 +83,21 @@ module _ (words : List ℕ) {r : Claims} (e : r ≡ claimsOf One words) where
     read : WellRead words z
     read = well-read words z (told .1)
 
-    pub sizes-few : (z .nonterminals ≤ maxNonterminals) × (z .rules ≤ maxRules) × (z .terminals ≤ maxTerminals)
-    sizes-few = (read .fewNonterminals, read .fewRules, read .fewTerminals)
+    -- sizes that are told are within the limits
+    sizes-within : withinLimits z ≡ true
+    unfolding withinLimits
+    sizes-within =
+        rw (
+          le-leb (z .nonterminals) maxNonterminals (read .fewNonterminals),
+          le-leb (z .terminals) maxTerminals (read .fewTerminals),
+          le-leb (z .rules) maxRules (read .fewRules),
+        )
 
-    pub gaps-put : {l m : List ℕ} {n : ℕ}
+    lines-put : {l m : List ℕ} {n : ℕ}
         → Put l 0 (linesText z (claimantAt (r .heads) (r .sets) (z .terminals)) (overrunsIn (r .overruns))) m n
         → GapsPut words l m n
     unfolding gapsText claimsOf
-    gaps-put {l} {m} {n} p =
+    lines-put {l} {m} {n} p =
         let G = grammarOf words in
         let hs : r .heads ≡ byRule (headsOf G) = ap (λ y. y .heads) e ∙ ap (λ y. byRuleIf y (headsOf G)) (told .0) in
         let cs : r .sets ≡ byRule (claimNumbers One G) = ap (λ y. y .sets) e ∙ ap (λ y. byRuleIf y (claimNumbers One G)) (told .0) in
@@ -102,8 +112,15 @@ module _ (words : List ℕ) {r : Claims} (e : r ≡ claimsOf One words) where
         let u = lines-are G z (read .nonterminals) (read .terminals) (read .rules) in
         record { put = rw (told .0, told .1) (rw (t ∙ u) at p); tells = lines-tell words }
 
-  pub refusal-put : {x : Error} → r .finding ≡ Refused x → {l m : List ℕ} {n : ℕ} → Put l 0 (refusalText x) m n → GapsPut words l m n
+  refusal-put : {x : Error} → r .finding ≡ Refused x → {l m : List ℕ} {n : ℕ} → Put l 0 (refusalText x) m n → GapsPut words l m n
   unfolding gapsText claimsOf setsFault
   refusal-put {x} q p =
       let f : setsFault One words ≡ some x = told-refused (setsFault One words) (reading words) (λ y f. rw f) (sym (ap (λ y. y .finding) e) ∙ q) in
       record { put = rw f p; tells = lines-tell words }
+
+  pub gaps-put : {l m : List ℕ} {n : ℕ} → GapsPutBy (r .finding) (r .heads) (r .sets) (r .overruns) l m n → GapsPut words l m n
+  gaps-put {l} {m} {n} p = go (r .finding) refl (p .put)
+    where
+      go : (f : Finding) → r .finding ≡ f → Put l 0 (gapsBy f (r .heads) (r .sets) (r .overruns)) m n → GapsPut words l m n
+      go (Passed z) q d = lines-put q (rw (sizes-within q) at d)
+      go (Refused x) q d = refusal-put q d

@@ -12,10 +12,9 @@ use Rattle.grammar.specs.Encoding.{grammarOf}
 use Rattle.grammar.specs.Reading.{reading}
 use Rattle.grammar.specs.Syntax.{Rule, Grammar}
 use Rattle.lookahead.specs.declared.Lookahead.the-variants.{One}
-use Rattle.semantics.specs.Calls.{Distinct}
+use Rattle.base.specs.FiniteSets.{Distinct, keep, numbers}
 use Rattle.semantics.specs.Claims.{claims, overruns, column}
 use Rattle.semantics.specs.Families.{Claims, Overrun}
-use Rattle.semantics.specs.FiniteSets.{keep, numbers}
 use Rattle.semantics.specs.FirstFollow.{Entry, entries, First, Follow}
 use Rattle.families.specs.declared.Finding.{Finding}
 use Rattle.families.specs.declared.Finding.the-variants.{Passed, Refused}

@@ -1,20 +1,24 @@
 -- The lines as the code puts them: row by row, by a test for the rules that claim an entry and one for the nonterminals that overrun.
-use mathlib.Core.Bool.{Bool, not}
+use mathlib.Core.Bool.{Bool, not, _&&_}
 use mathlib.Core.List.{List, [], _++_}
 use Prim.Native.Nat.{ℕ, _+_}
-use lib.Dec.{eqb}
+use lib.Dec.{eqb, leb}
 use lib.ListN.{getD}
-use Rattle.booleans.specs.Choice.{choose}
-use Rattle.booleans.specs.Quantifiers.{countBelow}
+use Rattle.base.specs.Choice.{choose}
+use Rattle.base.specs.Quantifiers.{countBelow}
 use Rattle.grammar.specs.declared.reading.Sizes.{Sizes}
+use Rattle.grammar.specs.Limits.{maxNonterminals, maxTerminals, maxRules}
 use Rattle.grammar.specs.Syntax.{Grammar}
 use Rattle.lookahead.specs.declared.Lookahead.the-variants.{One}
 use Rattle.lookahead.specs.Operations.{isEmpty}
+use Rattle.families.specs.declared.Finding.{Finding}
+use Rattle.families.specs.declared.Finding.the-variants.{Passed, Refused}
 use Rattle.claims.specs.Claims.{claimant}
 use Rattle.columns.specs.Columns.{columnElement, columnString}
 use Rattle.text.specs.Ascii.{ascii}
 use Rattle.text.specs.Decimal.{decimal, labelled}
-use Rattle.text.specs.Writing.{upTo}
+use Rattle.text.specs.Refusal.{refusalText}
+use Rattle.text.specs.Writing.{Put, upTo}
 use Rattle.gaps_text_promises.specs.Gaps.{claimsBy, overrunText}
 
 -- a rule's number where it claims the entry
@@ -58,3 +62,15 @@ overrunsBy set = not (isEmpty set)
 
 abbrev pub overrunsIn : List ℕ → ℕ → Bool
 overrunsIn sets A = overrunsBy (getD sets A 0)
+
+-- no more of each than a grammar may have
+unfoldable pub withinLimits : Sizes → Bool
+withinLimits z = leb (z .nonterminals) maxNonterminals && (leb (z .terminals) maxTerminals && leb (z .rules) maxRules)
+
+-- what is put by what is found of a grammar, of its rules and of its nonterminals; nothing of sizes beyond the limits
+abbrev pub gapsBy : Finding → (heads sets overruns : List ℕ) → List ℕ
+gapsBy (Refused e) heads sets overruns = refusalText e
+gapsBy (Passed z) heads sets overruns = choose (withinLimits z) (linesText z (claimantAt heads sets (z .terminals)) (overrunsIn overruns)) []
+
+pub record GapsPutBy (f : Finding) (heads sets overruns before after : List ℕ) (n : ℕ) : Type 0 where
+  pub put : Put before 0 (gapsBy f heads sets overruns) after n

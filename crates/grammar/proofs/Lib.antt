@@ -7,4 +7,3 @@ pub mod WellRead
 pub mod Examples
 pub mod Starts
 pub mod EachIndex
-pub mod FaultPositions

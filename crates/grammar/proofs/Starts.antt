@@ -10,7 +10,7 @@ use lib.ListN.{length, getD, take, drop, set, replicate, length-take, length-set
 use lib.Seq.{drop-cons, drop-drop, drop-set-lt, take-suc-set, take-append-le, take-append-add}
 use borrow.Author.Tests.{lt-ltb, le-ltb}
 use Rattle.word.specs.declared.Word.{Word}
-use Rattle.booleans.specs.Choice.{choose}
+use Rattle.base.specs.Choice.{choose}
 use Rattle.word.specs.Words.{decoded}
 use Rattle.grammar.specs.Limits.{maxRules}
 use Rattle.grammar.specs.Reading.{beginsRule}

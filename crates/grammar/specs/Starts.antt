@@ -6,7 +6,7 @@ use Prim.Native.Nat.{ℕ, suc, _+_}
 use lib.Dec.{ltb}
 use lib.ListN.{take, replicate, set}
 use Rattle.word.specs.declared.Word.{Word}
-use Rattle.booleans.specs.Choice.{choose}
+use Rattle.base.specs.Choice.{choose}
 use Rattle.word.specs.Words.{decoded}
 use Rattle.grammar.specs.Limits.{maxRules}
 use Rattle.grammar.specs.Reading.{beginsRule}

@@ -4,7 +4,7 @@ use mathlib.Core.Bool.{true}
 use mathlib.Core.List.{List, [], _∷_, _++_, map}
 use Prim.Native.Nat.{ℕ, _+_, _%_}
 use lib.ListN.{getD}
-use Rattle.semantics.specs.FiniteSets.{numbersFrom, numbers, combine}
+use Rattle.base.specs.FiniteSets.{numbersFrom, numbers, combine}
 use Rattle.inputs.specs.Inputs.{inputs, inputAt, inputCount, before}
 use Rattle.inputs.specs.Costliest.{costliestFrom, costliest}
 

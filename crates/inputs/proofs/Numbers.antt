@@ -9,13 +9,13 @@ use native.Mathlib.Omega.{arith}
 use lib.Arith.{digits-lt, digits-div, digits-mod}
 use lib.Dec.{T, eqb, ltb, eqb→eq, ltb→lt, lt→ltb}
 use lib.ListN.{length, getD, length-append}
-use Rattle.booleans.specs.Quantifiers.{allOf}
-use Rattle.booleans.proofs.Booleans.{and-l, and-r, and-make, or-cases}
-use Rattle.semantics.specs.FiniteSets.{numbers}
-use Rattle.semantics.specs.Strings.{Over}
-use Rattle.semantics.proofs.FiniteSets.{numbers-length}
-use Rattle.semantics.proofs.CombinedAt.{combine-at}
-use Rattle.semantics.proofs.Distinct.{combine-length}
+use Rattle.base.specs.Quantifiers.{allOf}
+use Rattle.base.proofs.Booleans.{and-l, and-r, and-make, or-cases}
+use Rattle.base.specs.FiniteSets.{numbers}
+use Rattle.base.specs.Strings.{Over}
+use Rattle.base.proofs.FiniteSets.{numbers-length}
+use Rattle.base.proofs.CombinedAt.{combine-at}
+use Rattle.base.proofs.Distinct.{combine-length}
 use Rattle.inputs.specs.Inputs.{inputs, inputAt, before}
 
 pub inputs-count : (n k : ℕ) → length (inputs n k) ≡ n ^ k

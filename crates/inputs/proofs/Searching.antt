@@ -10,7 +10,7 @@ use lib.Dec.{ltb}
 use lib.ListN.{length, getD, drop, drop-of-length-le}
 use lib.Seq.{drop-cons}
 use borrow.Author.Tests.{lt-ltb, le-ltb}
-use Rattle.booleans.specs.Choice.{choose}
+use Rattle.base.specs.Choice.{choose}
 use Rattle.inputs.specs.Inputs.{inputs, inputAt}
 use Rattle.inputs.specs.Costliest.{costliestFrom, firstCostliest, costliest}
 use Rattle.inputs.proofs.Numbers.{inputs-count, some-input, inputs-at}

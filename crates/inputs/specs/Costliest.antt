@@ -4,8 +4,8 @@ use mathlib.Core.List.{List, [], _∷_}
 use Prim.Native.Nat.{ℕ, _≤_, _<_}
 use lib.Dec.{T, ltb}
 use lib.ListN.{length}
-use Rattle.booleans.specs.Choice.{choose}
-use Rattle.semantics.specs.Strings.{Over}
+use Rattle.base.specs.Choice.{choose}
+use Rattle.base.specs.Strings.{Over}
 use Rattle.inputs.specs.Inputs.{inputs, before}
 
 module _ (cost : List ℕ → ℕ) where

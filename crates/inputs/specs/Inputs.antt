@@ -3,8 +3,8 @@ use mathlib.Core.Bool.{Bool, false, _&&_, _||_}
 use mathlib.Core.List.{List, [], _∷_, _++_}
 use Prim.Native.Nat.{ℕ, zero, suc, _/_, _%_, _^_}
 use lib.Dec.{eqb, ltb}
-use Rattle.booleans.specs.Choice.{choose}
-use Rattle.semantics.specs.FiniteSets.{numbers, combine}
+use Rattle.base.specs.Choice.{choose}
+use Rattle.base.specs.FiniteSets.{numbers, combine}
 
 -- every string of k terminals below n: those of one terminal less, in order, each followed by each terminal (document 02: letter order)
 unfoldable pub inputs : ℕ → ℕ → List (List ℕ)

@@ -3,7 +3,7 @@ ghost use mathlib.Core.Path.{_≡_};
 ghost use Prim.Native.Nat.{_+_};
 ghost use lib.Dec.{ltb};
 ghost use lib.ListN.{length};
-ghost use Rattle.booleans.specs.Choice.{choose};
+ghost use Rattle.base.specs.Choice.{choose};
 ghost use Rattle.inputs.specs.Inputs.{inputAt, inputCount};
 
 // Among how many inputs a search goes.

@@ -10,7 +10,7 @@ use lib.Dec.{leb}
 use lib.ListN.{length, getD, take, drop, List·getD-eq-default}
 use lib.Seq.{take-append-seam}
 use borrow.Author.Tests.{le-leb, lt-leb}
-use Rattle.booleans.specs.Choice.{choose}
+use Rattle.base.specs.Choice.{choose}
 use Rattle.grammar.specs.Limits.{maxTokens}
 use Rattle.kept_input.specs.Histories.{checkpointCount, Kept, within}
 use Rattle.kept_input.specs.Stored.{unsetCode, readCheckpoint, held, valuesOf, codeOf, progressOf, stored, clearedBeyond}

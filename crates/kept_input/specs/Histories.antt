@@ -7,7 +7,7 @@ use lib.ListN.{length, take}
 use Rattle.answer.specs.declared.Error.{Error}
 use Rattle.answer.specs.declared.Error.the-variants.{UnknownCheckpoint, CheckpointNotSet, InputFull}
 use Rattle.answer.specs.Faults.{faultIf, firstFault}
-use Rattle.booleans.specs.Choice.{choose}
+use Rattle.base.specs.Choice.{choose}
 use Rattle.grammar.specs.Limits.{maxTokens}
 
 abbrev pub checkpointCount : ℕ

@@ -4,7 +4,7 @@ use mathlib.Core.Option.{Option, none, some}
 use Prim.Native.Nat.{ℕ, zero, suc, min}
 use lib.Dec.{leb}
 use lib.ListN.{length, getD, take, drop}
-use Rattle.booleans.specs.Choice.{choose}
+use Rattle.base.specs.Choice.{choose}
 use Rattle.grammar.specs.Limits.{maxTokens}
 use Rattle.kept_input.specs.Histories.{checkpointCount, Kept}
 use Rattle.kept_input.specs.declared.Progress.{Progress}

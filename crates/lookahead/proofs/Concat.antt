@@ -4,7 +4,7 @@ use mathlib.Core.Bool.{Bool, true, false, _&&_, _||_}
 use Prim.Native.Nat.{ℕ, _^_, _<_}
 use lib.Dec.{T, eqb→eq, eqb-refl}
 use mir.Facts.{and-yes, yes-and}
-use Rattle.booleans.proofs.Booleans.{both, T-none}
+use Rattle.base.proofs.Booleans.{both, T-none}
 use Rattle.lookahead.specs.declared.Lookahead.{Lookahead}
 use Rattle.lookahead.specs.Lookaheads.{elements, nothing, after}
 use Rattle.lookahead.specs.Elements.{has, Subset}

@@ -8,9 +8,9 @@ use native.Mathlib.Omega.{arith}
 use lib.Dec.{T, eqb, ltb}
 use lib.Pow.{pow-add, pow-pos, shl-exact, shl-shr, field, mod-mod-pow}
 use borrow.Author.Tests.{eq-eqb, ne-eqb, lt-ltb, le-ltb}
-use Rattle.booleans.specs.Quantifiers.{anyBelow}
-use Rattle.booleans.proofs.Booleans.{T-subst, both}
-use Rattle.booleans.proofs.Quantified.{below-make, below-elim}
+use Rattle.base.specs.Quantifiers.{anyBelow}
+use Rattle.base.proofs.Booleans.{T-subst, both}
+use Rattle.base.proofs.Quantified.{below-make, below-elim}
 use Rattle.lookahead.specs.Elements.{has, width}
 use Rattle.lookahead.proofs.Elements.{has-shift, has-above, has-zero, some-element, bounded}
 

@@ -11,9 +11,9 @@ use lib.Bits.{bitAnd, bitOr, and-shr, or-shr, and-mod, or-mod}
 use lib.Dec.{T, eqb}
 use lib.Pow.{shr-shr, pow-mono, pow-pos}
 use borrow.Author.Tests.{eq-eqb, ne-eqb}
-use Rattle.booleans.specs.Quantifiers.{one}
+use Rattle.base.specs.Quantifiers.{one}
 use Rattle.lookahead.specs.Elements.{has}
-use Rattle.booleans.proofs.Booleans.{true-T}
+use Rattle.base.proofs.Booleans.{true-T}
 
 -- one digit
 digits : (x y : ℕ) → x < 2 → y < 2 → (eqb (bitOr x y) 1 ≡ (eqb x 1 || eqb y 1)) × (eqb (bitAnd x y) 1 ≡ (eqb x 1 && eqb y 1))

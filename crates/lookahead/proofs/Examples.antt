@@ -2,7 +2,7 @@
 -- b = 4, aa = 256 and ab = 512.
 use mathlib.Core.Path.{_≡_, refl}
 use native.Mathlib.Omega.{arith}
-use Rattle.booleans.specs.Quantifiers.{allOf, anyBelow, countBelow}
+use Rattle.base.specs.Quantifiers.{allOf, anyBelow, countBelow}
 use Rattle.lookahead.specs.declared.Lookahead.the-variants.{One, Two}
 use Rattle.lookahead.specs.Lookaheads.{stringOf, after}
 use Rattle.lookahead.specs.Elements.{has, total, width, size}

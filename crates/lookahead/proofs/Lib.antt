@@ -4,15 +4,11 @@ pub mod Powers
 pub mod Weights
 pub mod Digits
 pub mod Operations
-pub mod Cases
 pub mod Emptiness
 pub mod Order
 pub mod Pairs
 pub mod Concat
 pub mod Bounds
-pub mod Rows
-pub mod Parts
 pub mod Over
-pub mod FullSet
 pub mod Size
 pub mod Examples

@@ -5,10 +5,10 @@ use mathlib.Core.List.{[], _∷_}
 use Prim.Native.Nat.{ℕ, _<_}
 use lib.Dec.{T, eqb, ltb, eqb→eq, lt→ltb}
 use mir.Facts.{and-yes, yes-and}
-use Rattle.booleans.specs.Choice.{choose}
-use Rattle.booleans.specs.Quantifiers.{allOf, anyBelow}
-use Rattle.booleans.proofs.Booleans.{both}
-use Rattle.booleans.proofs.Quantified.{below-elim}
+use Rattle.base.specs.Choice.{choose}
+use Rattle.base.specs.Quantifiers.{allOf, anyBelow}
+use Rattle.base.proofs.Booleans.{both}
+use Rattle.base.proofs.Quantified.{below-elim}
 use Rattle.lookahead.specs.declared.Lookahead.{Lookahead}
 use Rattle.lookahead.specs.Lookaheads.{alphabet, elements, nothing, elementOf, stringOf, after}
 use Rattle.lookahead.specs.Elements.{weight, has}

@@ -6,9 +6,9 @@ use Prim.Native.Nat.{ℕ, _^_, _≤_, _<_}
 use native.Mathlib.Omega.{arith}
 use lib.Dec.{T, ltb, eqb, eqb→eq, ltb→lt, lt→ltb}
 use mir.Facts.{and-yes, yes-and, or-yes}
-use Rattle.booleans.specs.Quantifiers.{allOf}
-use Rattle.semantics.specs.Strings.{Over}
-use Rattle.semantics.proofs.LookaheadSets.{cut-lookahead}
+use Rattle.base.specs.Quantifiers.{allOf}
+use Rattle.base.specs.Strings.{Over}
+use Rattle.base.proofs.LookaheadStrings.{cut-lookahead}
 use Rattle.lookahead.specs.declared.Lookahead.{Lookahead}
 use Rattle.lookahead.specs.Lookaheads.{tokens, alphabet, elements, nothing, elementOf, stringOf, after}
 use Rattle.lookahead.specs.Elements.{has, Subset, OverTerminals}

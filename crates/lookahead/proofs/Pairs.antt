@@ -4,7 +4,7 @@ use mathlib.Core.Bool.{_&&_}
 use Prim.Native.Nat.{ℕ, _<_}
 use lib.Dec.{T, eqb, eqb→eq, eqb-refl}
 use mir.Facts.{and-yes, yes-and}
-use Rattle.booleans.proofs.Quantified.{below-elim, below-make}
+use Rattle.base.proofs.Quantified.{below-elim, below-make}
 use Rattle.lookahead.specs.declared.Lookahead.{Lookahead}
 use Rattle.lookahead.specs.Lookaheads.{elements, after}
 use Rattle.lookahead.specs.Elements.{has}

@@ -7,9 +7,9 @@ use native.Mathlib.Omega.{arith}
 use lib.Dec.{eqb, ltb, leb·suc-suc, eqb·suc-suc, eqb·zero-suc, eqb·suc-zero}
 use lib.Pow.{pow-pos}
 use borrow.Author.Tests.{eq-eqb, ne-eqb, lt-ltb, le-ltb}
-use Rattle.booleans.specs.Quantifiers.{one}
+use Rattle.base.specs.Quantifiers.{one}
 use Rattle.lookahead.specs.Elements.{has}
-use Rattle.booleans.proofs.Booleans.{true-T}
+use Rattle.base.proofs.Booleans.{true-T}
 use Rattle.lookahead.proofs.Elements.{has-zero, has-weight, has-suc, lowest}
 
 -- a power of two has one element

@@ -6,7 +6,7 @@ use native.Mathlib.Nat.{pow-suc}
 use native.Mathlib.Omega.{arith}
 use native.Mathlib.Decide.{le-ind}
 use lib.Count.{ones, ones-step}
-use Rattle.booleans.specs.Quantifiers.{one, countBelow}
+use Rattle.base.specs.Quantifiers.{one, countBelow}
 use Rattle.lookahead.specs.Elements.{has, width, size}
 use Rattle.lookahead.proofs.Elements as of-numbers
 

@@ -9,14 +9,13 @@ use lib.Dec.{eqb, ltb, ltb→lt, lt→ltb}
 use lib.ListN.{length, take}
 use lib.Seq.{take-all}
 use borrow.Author.Tests.{eqb-true, eq-eqb, ne-eqb, lt-ltb, le-ltb}
-use Rattle.booleans.specs.Choice.{choose}
-use Rattle.booleans.specs.Quantifiers.{allOf}
-use Rattle.booleans.proofs.Booleans.{and-l, and-r, and-make}
-use Rattle.booleans.proofs.Quantified.{all-map}
-use Rattle.semantics.specs.Strings.{Over, Lookahead as Looked}
-use Rattle.semantics.proofs.Strings.{take-cut}
-use Rattle.semantics.proofs.LookaheadSets.{cut-lookahead}
-use Rattle.semantics.proofs.FirstNullable.{cut-none}
+use Rattle.base.specs.Choice.{choose}
+use Rattle.base.specs.Quantifiers.{allOf}
+use Rattle.base.proofs.Booleans.{and-l, and-r, and-make}
+use Rattle.base.proofs.Quantified.{all-map}
+use Rattle.base.specs.Strings.{Over, Lookahead as Looked}
+use Rattle.base.proofs.Strings.{take-cut}
+use Rattle.base.proofs.LookaheadStrings.{cut-lookahead, cut-none}
 use Rattle.lookahead.specs.declared.Lookahead.{Lookahead}
 use Rattle.lookahead.specs.declared.Lookahead.the-variants.{One, Two}
 use Rattle.lookahead.specs.Lookaheads.{tokens, alphabet, elements, nothing, elementOf, stringOf, after}

@@ -8,7 +8,7 @@ use native.Mathlib.Decide.{decLt, ℕ-discrete}
 use lib.Bits.{or-shifted}
 use lib.Dec.{ltb, eqb}
 use borrow.Author.Tests.{lt-ltb, le-ltb, eq-eqb, ne-eqb}
-use Rattle.booleans.specs.Quantifiers.{one}
+use Rattle.base.specs.Quantifiers.{one}
 use Rattle.lookahead.specs.Elements.{has, total}
 use Rattle.lookahead.proofs.Elements as elements
 use Rattle.lookahead.proofs.Powers.{has-pow}

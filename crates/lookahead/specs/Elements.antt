@@ -2,8 +2,8 @@
 use mathlib.Core.Bool.{Bool}
 use Prim.Native.Nat.{ℕ, zero, suc, _+_, _*_, _/_, _%_, _^_, _<_}
 use lib.Dec.{T, eqb}
-use Rattle.booleans.specs.Quantifiers.{one, countBelow}
-use Rattle.semantics.specs.Strings.{Over}
+use Rattle.base.specs.Quantifiers.{one, countBelow}
+use Rattle.base.specs.Strings.{Over}
 use Rattle.lookahead.specs.declared.Lookahead.{Lookahead}
 use Rattle.lookahead.specs.Lookaheads.{elements, stringOf}
 

@@ -3,7 +3,7 @@ use mathlib.Core.List.{List, [], _∷_, _++_}
 use Prim.Native.Nat.{ℕ, _+_, _-_, _*_, _/_, _%_}
 use lib.Dec.{eqb, ltb}
 use lib.ListN.{take}
-use Rattle.booleans.specs.Choice.{choose}
+use Rattle.base.specs.Choice.{choose}
 use Rattle.grammar.specs.Limits.{maxTerminals, maxColumns, maxWideTerminals, maxWideColumns}
 use Rattle.lookahead.specs.declared.Lookahead.{Lookahead}
 use Rattle.lookahead.specs.declared.Lookahead.the-variants.{One, Two}
@@ -43,3 +43,7 @@ stringOf Two l = choose (eqb l (nothing Two)) [] (choose (ltb l 8) ((l - 1) ∷ 
 -- the element of the tokens that are looked at where the string of a is followed by that of b
 unfoldable pub after : Lookahead → ℕ → ℕ → ℕ
 after k a b = elementOf k (take (tokens k) (stringOf k a ++ stringOf k b))
+
+-- the element for terminal 0 alone
+abbrev pub single : Lookahead → ℕ
+single k = elementOf k (0 ∷ [])

@@ -5,8 +5,8 @@ use mathlib.Core.List.{[], _∷_}
 use Prim.Native.Nat.{ℕ}
 use lib.Bits.{bitAnd, bitOr}
 use lib.Dec.{eqb, ltb}
-use Rattle.booleans.specs.Choice.{choose}
-use Rattle.booleans.specs.Quantifiers.{allOf, anyBelow}
+use Rattle.base.specs.Choice.{choose}
+use Rattle.base.specs.Quantifiers.{allOf, anyBelow}
 use Rattle.lookahead.specs.declared.Lookahead.{Lookahead}
 use Rattle.lookahead.specs.Lookaheads.{alphabet, elements, nothing, elementOf, stringOf, after}
 use Rattle.lookahead.specs.Elements.{weight, has, total}

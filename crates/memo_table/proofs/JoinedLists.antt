@@ -5,8 +5,8 @@ use mathlib.Core.Path.{_≡_, refl, sym, ap, _∙_}
 use Prim.Native.Nat.{ℕ, zero, suc, _+_, _≤_}
 use native.Mathlib.Omega.{arith}
 use lib.ListN.{length}
-use Rattle.semantics.specs.FiniteSets.{keep, numbersFrom, numbers, combine}
-use Rattle.semantics.proofs.FiniteSets.{keep-grows, keep-all}
+use Rattle.base.specs.FiniteSets.{keep, numbersFrom, numbers, combine}
+use Rattle.base.proofs.FiniteSets.{keep-grows, keep-all}
 
 module _ {X : Type 0} (p : X → Bool) where
   pub keep-append : (l l′ : List X) → keep p (l ++ l′) ≡ keep p l ++ keep p l′

@@ -10,16 +10,16 @@ use lib.Dec.{eqb}
 use borrow.Author.Tests.{eq-eqb, ne-eqb}
 use lib.ListN.{length, getD, length-append, length-map}
 use Rattle.answer.specs.declared.Calls.{Calls}
-use Rattle.booleans.specs.Choice.{choose}
+use Rattle.base.specs.Choice.{choose}
 use Rattle.grammar.specs.Codes.{uncalledCode}
 use Rattle.grammar.specs.Syntax.{Grammar}
-use Rattle.semantics.specs.FiniteSets.{keep, numbersFrom, numbers, combine}
+use Rattle.base.specs.FiniteSets.{keep, numbersFrom, numbers, combine}
 use Rattle.semantics.specs.Choices.{Choice}
 use Rattle.semantics.specs.ComesTo.{Call, callAt}
 use Rattle.semantics.specs.Calls.{allCalls, callCount, greatestPlace, farthest}
 use Rattle.semantics.specs.Memo.{Memo, Recorded, written}
-use Rattle.semantics.proofs.FiniteSets.{numbers-length}
-use Rattle.semantics.proofs.Distinct.{combine-length}
+use Rattle.base.proofs.FiniteSets.{numbers-length}
+use Rattle.base.proofs.Distinct.{combine-length}
 use Rattle.memo_table.specs.Tally.{tallyOf, together, writtenAmong, entryCount, recordedRow, recordedCalls}
 use Rattle.memo_table.proofs.JoinedLists.{keep-append, keep-length, numbers-more, combine-more}
 use Rattle.memo_table.proofs.Entries.{getD-any}

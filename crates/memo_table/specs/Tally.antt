@@ -5,9 +5,9 @@ use Prim.Native.Nat.{ℕ, suc, _+_, _*_, max}
 use lib.Dec.{eqb}
 use lib.ListN.{length, getD}
 use Rattle.grammar.specs.Codes.{uncalledCode}
-use Rattle.booleans.specs.Choice.{choose}
+use Rattle.base.specs.Choice.{choose}
 use Rattle.answer.specs.declared.Calls.{Calls}
-use Rattle.semantics.specs.FiniteSets.{keep, numbers, combine}
+use Rattle.base.specs.FiniteSets.{keep, numbers, combine}
 use Rattle.semantics.specs.ComesTo.{Call, callAt}
 use Rattle.semantics.specs.Calls.{greatestPlace}
 use Rattle.semantics.specs.Memo.{Memo}

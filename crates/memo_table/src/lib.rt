@@ -8,6 +8,8 @@ ghost use Rattle.memo_table.specs.Tally.{tallyOf, together as togetherOf
 use answer::Calls;
 use grammar::codes::UNCALLED;
 
+pub mod entry;
+
 // Makes every entry one of a call that was not made.
 pub fn clear(memo: &mut [u16])
     ensures { λ _. ⌜ now (memo .exit) ≡ replicate (length (now (memo .entry))) uncalledCode ⌝ }

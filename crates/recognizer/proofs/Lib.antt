@@ -1,12 +1,1 @@
-pub mod Bodies
-pub mod Running
-pub mod Calling
-pub mod Storing
-pub mod Starting
-pub mod Choosing
-pub mod Tokens
-pub mod ChoiceRows
-pub mod TableChoices
-pub mod Front
-pub mod Deciding
-pub mod Searching
+pub mod LentTable

@@ -1,42 +1,17 @@
-// Recognizing an input by memoized recursive descent, in memory that the caller lends; here with one token of lookahead.
+// Judging with memory that the caller lends: an input with one token of lookahead, with two, and the costliest of all inputs of a length.
 ghost use Rattle.event.specs.Events.{inputOf};
-ghost use Rattle.recognizer_promises.specs.Properties.{Checks, Judges};
+ghost use Rattle.lookahead.specs.declared.Lookahead.the-variants.{Two};
+ghost use Rattle.recognizer_promises.specs.Properties.{Judges, JudgesBy};
+ghost use Rattle.recognizer_promises.specs.Costliest.{JudgesCostliest};
 use answer::Answer;
 use answer::Error;
-use families::Finding;
-use findings::with_input;
-use grammar::limits::MEMO_ENTRIES;
 use grammar::limits::TABLE_WORDS;
-use judging::judge_passed;
+use grammar::limits::WIDE_TABLE_WORDS;
 use lending::lend;
+use lending::lend_wide;
 use lookahead::Lookahead;
-use table::analyze;
-
-pub mod arrays;
-mod descent;
-mod judging;
-mod lending;
-mod preparing;
-pub mod search;
-pub mod wide;
-
-// Checks an encoded grammar, and fills the lent table with its sets and its entries.
-pub fn check(words: &[u32], table: &mut [u32]) -> Answer
-    ensures { λ r. ⌜ Checks (now (words .entry)) (now (table .entry)) r (now (table .exit)) ⌝ }
-{
-    if table.len() < TABLE_WORDS {
-        return Answer::Refused(Error::TableTooShort);
-    }
-    let analysis = analyze(words);
-    let finding = analysis.finding;
-    match finding {
-        Finding::Refused(error) => Answer::Refused(error),
-        Finding::Passed(sizes) => {
-            lend(table, &analysis.table, sizes);
-            Answer::Passed
-        }
-    }
-}
+use recursive_descent::judge_words;
+use recursive_descent::search::judge_costliest_words;
 
 // Judges the input that the events of a log are by an encoded grammar, and fills the lent table and memo table.
 pub fn judge(words: &[u32], events: &[u8], table: &mut [u32], memo: &mut [u16]) -> Answer
@@ -45,23 +20,40 @@ pub fn judge(words: &[u32], events: &[u8], table: &mut [u32], memo: &mut [u16]) 
     if table.len() < TABLE_WORDS {
         return Answer::Refused(Error::TableTooShort);
     }
-    if memo.len() < MEMO_ENTRIES {
-        return Answer::Refused(Error::MemoTooShort);
+    let judgement = judge_words(words, Lookahead::One, events, memo);
+    let found = judgement.found;
+    lend(found, table);
+    judgement.answer
+}
+
+// The same with two tokens of lookahead, for grammars of few terminals, with a lent table of 64-bit words.
+pub fn judge_wide(words: &[u32], events: &[u8], table: &mut [u64], memo: &mut [u16]) -> Answer
+    ensures { λ r. ⌜ JudgesBy Two (now (words .entry)) (inputOf (now (events .entry))) (now (table .entry)) (now (memo .entry)) r (now (table .exit)) (now (memo .exit)) ⌝ }
+{
+    if table.len() < WIDE_TABLE_WORDS {
+        return Answer::Refused(Error::WideTableTooShort);
     }
-    let analysis = analyze(words);
-    let finding = with_input(analysis.finding, events);
-    match finding {
-        Finding::Refused(found) => Answer::Refused(found),
-        Finding::Passed(sizes) => {
-            lend(table, &analysis.table, sizes);
-            judge_passed(
-                words,
-                sizes,
-                Lookahead::One,
-                &analysis.entries,
-                events,
-                memo,
-            )
-        }
+    let judgement = judge_words(words, Lookahead::Two, events, memo);
+    let found = judgement.found;
+    lend_wide(found, table);
+    judgement.answer
+}
+
+// Finds, for an encoded grammar and a length, the costliest input, writes it into the lent log, and judges it in the lent table and memo table.
+pub fn judge_costliest(
+    words: &[u32],
+    tokens: usize,
+    log: &mut [u8],
+    table: &mut [u32],
+    memo: &mut [u16],
+) -> Answer
+    ensures { λ r. ⌜ JudgesCostliest (now (words .entry)) tokens (now (log .entry)) (now (table .entry)) (now (memo .entry)) r (now (log .exit)) (now (table .exit)) (now (memo .exit)) ⌝ }
+{
+    if table.len() < TABLE_WORDS {
+        return Answer::Refused(Error::TableTooShort);
     }
+    let judgement = judge_costliest_words(words, tokens, log, memo);
+    let found = judgement.found;
+    lend(found, table);
+    judgement.answer
 }

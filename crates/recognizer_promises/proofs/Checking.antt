@@ -2,11 +2,10 @@
 use mathlib.Core.Path.{_≡_, refl, sym, ap, _∙_}
 use mathlib.Core.List.{List, [], _∷_, _++_, List·Memᴰ·head, List·Memᴰ·not-nil}
 use mathlib.Core.Option.{Option, none, some}
-use Prim.Native.Nat.{ℕ, _-_, _≤_, _<_}
+use Prim.Native.Nat.{ℕ, _≤_, _<_}
 use native.Mathlib.Omega.{arith}
 use lib.Dec.{T}
-use lib.ListN.{length, take, drop, replicate}
-use lib.Seq.{take-at}
+use lib.ListN.{length, drop}
 use borrow.Author.Tests.{lt-ltb, le-ltb}
 use Rattle.answer.proofs.Apart.{fault-number, refused-ne-passed}
 use Rattle.answer.specs.declared.Error.{Error}
@@ -15,15 +14,12 @@ use Rattle.answer.specs.Faults.{refusedOr}
 use Rattle.answer.proofs.Faults.{none-some, each-none, numbers-told}
 use Rattle.answer.specs.declared.Answer.{Answer}
 use Rattle.answer.specs.declared.Answer.the-variants.{Refused, Passed}
-use Rattle.grammar.specs.Codes.{noEntry}
 use Rattle.grammar.specs.Syntax.{Grammar}
 use Rattle.grammar.specs.Encoding.{grammarOf}
 use Rattle.grammar.specs.Reading.{reading}
 use Rattle.grammar.specs.declared.reading.Sizes.{Sizes}
 use Rattle.grammar.specs.declared.reading.Outcome.{Outcome}
 use Rattle.grammar.specs.declared.reading.Outcome.the-variants.{Read, Faulty}
-use Rattle.grammar.specs.WellRead.{WellRead}
-use Rattle.grammar.proofs.WellRead.{well-read}
 use Rattle.encoding.specs.Encode.{sizesOf, Encodes}
 use Rattle.encoding.proofs.Decoding.{encodes-grammar}
 use Rattle.encoding.proofs.ReadingEncodes.{read-encodes, encodes-read}
@@ -43,42 +39,27 @@ use Rattle.semantics.specs.Theorems.{LeastSets}
 use Rattle.semantics.proofs.Theorems.{theorems}
 use Rattle.families.specs.declared.Finding.{Finding}
 use Rattle.families.specs.declared.Finding.the-variants as finding
-use Rattle.families.proofs.FewTerminals.{admitted-read, few-terminals}
-use Rattle.table.specs.declared.Analysis.{Analysis}
-use Rattle.table.specs.declared.WideAnalysis.{WideAnalysis}
-use Rattle.table.specs.Layout.{tableWords, tableRoom, filled, wordCount, WordsGiven}
+use Rattle.families.proofs.FewTerminals.{few-terminals}
+use Rattle.table.specs.declared.Found.{Found}
+use Rattle.table.specs.Layout.{tableWords, tableRoom}
 use Rattle.table.specs.Entries.{entriesOf}
 use Rattle.families.specs.Analysis.{readingFault, leftFault, unproductiveFault, findingOf}
-use Rattle.families.proofs.Findings.{told-passed, told-refused}
-use Rattle.table.specs.Analysis.{clashFault, grammarFaults, fault, entriesIf, tableIf, analyzed}
+use Rattle.families.proofs.Findings.{read-some, told-passed, told-refused}
+use Rattle.table.specs.Analysis.{clashFault, grammarFaults, fault, entriesIf, foundOf}
 use Rattle.table.specs.Conflicts.{firstClash}
 use Rattle.table.specs.declared.conflicts.Conflict.{Conflict}
 use Rattle.table.specs.declared.conflicts.Conflict.the-variants.{Absent, At}
 use Rattle.table.proofs.FirstClash.{clash-absent}
-use Rattle.table.proofs.Padded.{padded-long}
-use Rattle.table.proofs.Words.{table-long}
-use Rattle.table.proofs.Analyzing.{admitted-words}
-use Rattle.recognizer_promises.specs.Memory.{lentBack, LendGiven, Lent}
+use Rattle.promises.specs.Memory.{lentBack}
 use Rattle.recognizer_promises.specs.Answers.{tableTooShort, checkFaultBy}
-use Rattle.recognizer_promises.specs.Judging.{TableFound}
+use Rattle.recognizer_promises.specs.Judging.{EntriesFound}
 use Rattle.recognizer_promises.specs.Properties.{PassedBy, PassedGrammar, LeastFamiliesBy, ChecksBy}
-use Rattle.recognizer_promises.proofs.Places.{check-tells, encodes-taken, fault-encoded, places}
-
-pub none-left : (o : Option ℕ) → leftFault o ≡ none → o ≡ none
-none-left none e = refl
-none-left (some A) e = absurd (omega (arith, fault-number e))
-
-none-unproductive : (o : Option ℕ) → unproductiveFault o ≡ none → o ≡ none
-none-unproductive none e = refl
-none-unproductive (some A) e = absurd (omega (arith, fault-number e))
+use Rattle.promises.proofs.Places.{check-tells, none-left, none-unproductive}
+use Rattle.recognizer_promises.proofs.Places.{encodes-taken, fault-encoded, places}
 
 none-clash : (k : Lookahead) (r : Conflict) → clashFault k r ≡ none → r ≡ Absent
 none-clash k Absent e = refl
 none-clash k (At A c) e = absurd (none-some (sym e))
-
-pub read-some : (o : Outcome) → readingFault o ≡ none → (z : Sizes) × (o ≡ Read z)
-read-some (Read z) e = (z, refl)
-read-some (Faulty x) e = absurd (none-some (sym e))
 
 -- the theorems of the semantics about an encoded grammar
 pub least-for : (n : ℕ) {words : List ℕ} (G : Grammar) → Encodes words G → LeastSets G n
@@ -209,7 +190,7 @@ module _ (k : Lookahead) where
         );
     places = λ long short G e fits.
         places k G (e .formed .scoped) (fits-few k G e fits)
-        (check-tells k _ (a ∙ ap (λ f. refusedOr f Passed) (check-fault-long k (length before) words long ∙ fault-encoded k words G short e fits)));
+        (check-tells _ (a ∙ ap (λ f. refusedOr f Passed) (check-fault-long k (length before) words long ∙ fault-encoded k words G short e fits)));
     least = families (tokens k);
   }
 
@@ -217,69 +198,35 @@ module _ (k : Lookahead) where
   unfolding checkFaultBy
   check-short {words} {before} h = checks (rw (lt-ltb (length before) (tableRoom k) h)) (rw (lt-ltb (length before) (tableRoom k) h))
 
--- what an analysis tells of an encoded grammar
-pub record Told (k : Lookahead) (words : List ℕ) (f : Finding) (entries table : List ℕ) : Type 0 where
+-- what is found of an encoded grammar tells
+pub record Told (k : Lookahead) (words : List ℕ) (f : Finding) (entries : List ℕ) : Type 0 where
   pub finding : f ≡ findingOf (fault k words) (admission k words)
   pub entered : entries ≡ entriesIf (fault k words) (entriesOf k (grammarOf words))
-  pub laid : table ≡ tableIf k (fault k words) (filled k (tableWords k (grammarOf words)))
 
-pub told-one : (words : List ℕ) {a : Analysis} → a ≡ analyzed One words → Told One words (a .finding) (a .entries) (a .table)
-unfolding analyzed
-told-one words e = record { finding = ap (λ y. y .finding) e; entered = ap (λ y. y .entries) e; laid = ap (λ y. y .table) e }
+pub told : (k : Lookahead) (words : List ℕ) {r : Found} → r ≡ foundOf k words → Told k words (r .finding) (r .entries)
+unfolding foundOf
+told k words e = record { finding = ap (λ y. y .finding) e; entered = ap (λ y. y .entries) e }
 
-pub told-two : (words : List ℕ) {a : WideAnalysis} → a ≡ analyzed Two words → Told Two words (a .finding) (a .entries) (a .table)
-unfolding analyzed
-told-two words e = record { finding = ap (λ y. y .finding) e; entered = ap (λ y. y .entries) e; laid = ap (λ y. y .table) e }
-
-module _ {k : Lookahead} {words : List ℕ} {f : Finding} {entries laid : List ℕ} (t : Told k words f entries laid) where
-  -- one that finds no fault tells the sizes, the entries and the whole table
-  pub found : {z : Sizes} → f ≡ finding.Passed z → TableFound k words z entries laid
+module _ {k : Lookahead} {words : List ℕ} {f : Finding} {entries : List ℕ} (t : Told k words f entries) where
+  -- where no fault is found, the sizes and the entries are
+  pub found : {z : Sizes} → f ≡ finding.Passed z → EntriesFound k words z entries
   found q =
       let m = told-passed (fault k words) (admission k words) (sym (t .finding) ∙ q) in
       record {
         taken = m .1;
         faultless = m .0;
         entered = t .entered ∙ ap (λ y. entriesIf y (entriesOf k (grammarOf words))) (m .0);
-        laid = t .laid ∙ ap (λ y. tableIf k y (filled k (tableWords k (grammarOf words)))) (m .0);
       }
 
   pub found-fault : {x : Error} → f ≡ finding.Refused x → fault k words ≡ some x
   unfolding fault
   found-fault q = told-refused (fault k words) (admission k words) (λ y e. rw e) (sym (t .finding) ∙ q)
 
--- the table of a grammar that passes, lent back
-module _ {k : Lookahead} (words before : List ℕ) (long : tableRoom k ≤ length before) {z : Sizes} {entries laid : List ℕ}
-    (f : TableFound k words z entries laid) where
-  r : WellRead words z
-  r = well-read words z (admitted-read k words (f .taken))
-
-  words-count : length (tableWords k (grammarOf words)) ≡ wordCount k z
-  words-count = table-long k (grammarOf words) ∙ rw (r .nonterminals, r .terminals)
-
-  given : WordsGiven k z
-  given = admitted-words k words (f .taken)
-
-  pub lend-given : LendGiven k before laid z
-  unfolding filled
-  lend-given = record {
-    given = given;
-    long = long;
-    whole = ap length (f .laid) ∙ padded-long (tableRoom k) noEntry (tableWords k (grammarOf words)) (omega (arith, words-count, given .room));
-  }
-
-  pub lent-table : {after : List ℕ} → Lent k before laid z after
-      → after ≡ tableWords k (grammarOf words) ++ drop (length (tableWords k (grammarOf words))) before
-  unfolding filled
-  lent-table l =
-      let w : take (wordCount k z) laid ≡ tableWords k (grammarOf words) =
-      ap (take (wordCount k z)) (f .laid)
-      ∙ take-at (tableWords k (grammarOf words)) (replicate (tableRoom k - length (tableWords k (grammarOf words))) noEntry) (wordCount k z) words-count in
-      l .words ∙ ap (λ y. y ++ drop (wordCount k z) before) w ∙ ap (λ y. tableWords k (grammarOf words) ++ drop y before) (sym words-count)
-
-  pub check-passed : {after : List ℕ} → Lent k before laid z after → ChecksBy k words before Passed after
-  check-passed l =
-      let c : checkFaultBy k (length before) words ≡ none = check-fault-long k (length before) words long ∙ f .faultless in
-      checks k (sym (ap (λ y. refusedOr y Passed) c)) (lent-table l ∙ sym (ap (λ y. lentBack y (tableWords k (grammarOf words)) before) c))
+pub check-passed : {k : Lookahead} (words before : List ℕ) → tableRoom k ≤ length before → fault k words ≡ none → {after : List ℕ}
+    → after ≡ tableWords k (grammarOf words) ++ drop (length (tableWords k (grammarOf words))) before → ChecksBy k words before Passed after
+check-passed {k} words before long f l =
+    let c : checkFaultBy k (length before) words ≡ none = check-fault-long k (length before) words long ∙ f in
+    checks k (sym (ap (λ y. refusedOr y Passed) c)) (l ∙ sym (ap (λ y. lentBack y (tableWords k (grammarOf words)) before) c))
 
 pub check-refused : {k : Lookahead} (words before : List ℕ) → tableRoom k ≤ length before → {x : Error} → fault k words ≡ some x
     → ChecksBy k words before (Refused x) before

@@ -11,7 +11,8 @@ use Rattle.lookahead.specs.declared.Lookahead.{Lookahead}
 use Rattle.lookahead.specs.Lookaheads.{tokens}
 use Rattle.table.specs.Layout.{tableWords}
 use Rattle.recognizer_promises.specs.Answers.{judgeFaultBy, verdictBy}
-use Rattle.recognizer_promises.specs.Memory.{lentBack, memoWordsBy}
+use Rattle.promises.specs.Memory.{lentBack}
+use Rattle.recognizer_promises.specs.Memory.{memoWordsBy}
 use Rattle.recognizer_promises.specs.Properties.{DirectionsIgnored}
 
 pub directions-ignored : (k : Lookahead) → DirectionsIgnored k

@@ -9,29 +9,25 @@ use lib.Dec.{T, ltb}
 use lib.ListN.{length}
 use borrow.Author.Tests.{lt-ltb, le-ltb, ltb-false}
 use Rattle.answer.specs.declared.Error.{Error}
-use Rattle.answer.specs.declared.Error.the-variants.{TableTooShort, MemoTooShort, InputTooLong, UnknownToken}
+use Rattle.answer.specs.declared.Error.the-variants.{TableTooShort, MemoTooShort, InputTooLong}
 use Rattle.answer.specs.Faults.{faultIf, firstFault}
 use Rattle.answer.proofs.Faults.{Faultless, none-some, fault-none, each-none, first-nested}
-use Rattle.booleans.specs.Choice.{choose}
+use Rattle.base.specs.Choice.{choose}
 use Rattle.grammar.specs.Limits.{maxTableWords, maxMemoEntries, maxTokens}
 use Rattle.grammar.specs.Encoding.{grammarOf}
-use Rattle.booleans.specs.Quantifiers.{allOf}
-use Rattle.semantics.specs.Strings.{Over}
-use Rattle.booleans.proofs.Booleans.{T-true, and-l, and-r}
+use Rattle.base.specs.Quantifiers.{allOf}
+use Rattle.base.specs.Strings.{Over}
+use Rattle.base.proofs.Booleans.{T-true, and-l, and-r}
 use Rattle.lookahead.specs.declared.Lookahead.{Lookahead}
 use Rattle.lookahead.specs.declared.Lookahead.the-variants.{One}
 use Rattle.table.specs.Layout.{tableRoom}
 use Rattle.table.specs.Analysis.{grammarFaults, fault}
-use Rattle.event.specs.Events.{inputOf}
-use Rattle.event.proofs.Inputs.{input-length}
 use Rattle.event.proofs.Known.{known-absent, absent-known}
 use Rattle.event.specs.declared.Unknown.{Unknown}
 use Rattle.event.specs.declared.Unknown.the-variants.{Absent, At}
 use Rattle.event.specs.Unknown.{unknownFrom, unknownFault}
-use Rattle.grammar.specs.declared.reading.Sizes.{Sizes}
-use Rattle.families.specs.declared.Finding.{Finding}
-use Rattle.families.specs.declared.Finding.the-variants as finding
-use Rattle.recognizer_promises.specs.Answers.{tableTooShort, checkFaultBy, judgeFaultBy, judgeFault, inputFaults, passedUnless, withFaults, withInput}
+use Rattle.recognizer_promises.specs.Answers.{tableTooShort, checkFaultBy, judgeFaultBy, judgeFault, inputFaults}
+use Rattle.recognizer_promises.specs.Judging.{memoFaultBy}
 
 -- the rows of judging, with the grammar's faults as one
 abbrev pub judgeRowsBy : Lookahead → ℕ → ℕ → List ℕ → List ℕ → List (Option Error)
@@ -46,6 +42,25 @@ unfolding judgeFaultBy fault
 judged-rows-by k table memo words input =
     first-nested (faultIf (ltb table (tableRoom k)) (tableTooShort k) ∷ faultIf (ltb memo maxMemoEntries) MemoTooShort ∷ []) (grammarFaults k words)
     (inputFaults (grammarOf words .terminals) input)
+
+-- with a table that is long enough it is judging in the memo table alone
+pub judge-table-long : (k : Lookahead) (table memo : ℕ) (words input : List ℕ) → tableRoom k ≤ table
+    → judgeFaultBy k table memo words input ≡ memoFaultBy k memo words input
+unfolding judgeFaultBy memoFaultBy
+judge-table-long k table memo words input h = rw (le-ltb table (tableRoom k) h)
+
+memo-rows : (k : Lookahead) (memo : ℕ) (words input : List ℕ)
+    → memoFaultBy k memo words input ≡ firstFault (faultIf (ltb memo maxMemoEntries) MemoTooShort ∷ fault k words ∷ inputFaults (grammarOf words .terminals) input)
+unfolding memoFaultBy fault
+memo-rows k memo words input = first-nested (faultIf (ltb memo maxMemoEntries) MemoTooShort ∷ []) (grammarFaults k words) (inputFaults (grammarOf words .terminals) input)
+
+pub memo-fault-short : (k : Lookahead) (words input memo : List ℕ) → length memo < maxMemoEntries → memoFaultBy k (length memo) words input ≡ some MemoTooShort
+unfolding memoFaultBy
+memo-fault-short k words input memo h = rw (lt-ltb (length memo) maxMemoEntries h)
+
+pub memo-fault-long : (k : Lookahead) (words input memo : List ℕ) → maxMemoEntries ≤ length memo → {f : Option Error} → fault k words ≡ f
+    → memoFaultBy k (length memo) words input ≡ firstFault (f ∷ inputFaults (grammarOf words .terminals) input)
+memo-fault-long k words input memo room e = rw (memo-rows k (length memo) words input, le-ltb (length memo) maxMemoEntries room, e)
 
 -- an input that is short and known has no fault, and no other input
 pub readable-faultless : (n : ℕ) (input : List ℕ) → length input ≤ maxTokens → Over n input → firstFault (inputFaults n input) ≡ none
@@ -115,43 +130,3 @@ memo-short = memo-short-by One
 pub judged-readable : (words input : List ℕ) (table memo : ℕ) → judgeFault table memo words input ≡ none
     → (fault One words ≡ none) × (length input ≤ maxTokens)
 judged-readable = judged-readable-by One
-
--- what is found of a grammar and then by other faults, by what is found of the grammar
-pub record PassedWith (f : Finding) (faults : ℕ → List (Option Error)) (z : Sizes) : Type 0 where
-  pub grammar : f ≡ finding.Passed z
-  pub faultless : firstFault (faults (z .terminals)) ≡ none
-
-pub data RefusedWith (f : Finding) (faults : ℕ → List (Option Error)) (x : Error) : Type 0 where
-  byGrammar : f ≡ finding.Refused x → RefusedWith f faults x
-  byFaults : (z : Sizes) → f ≡ finding.Passed z → firstFault (faults (z .terminals)) ≡ some x → RefusedWith f faults x
-
-pub with-passed : (f : Finding) (faults : ℕ → List (Option Error)) {z : Sizes} → withFaults f faults ≡ finding.Passed z → PassedWith f faults z
-with-passed (finding.Refused e) faults q = let n : _≡_ {A = ℕ} 0 1 = cc in absurd (omega arith)
-with-passed (finding.Passed y) faults {z} q = go (firstFault (faults (y .terminals))) refl q
-  where
-    go : (o : Option Error) → firstFault (faults (y .terminals)) ≡ o → passedUnless o y ≡ finding.Passed z → PassedWith (finding.Passed y) faults z
-    go none e p = let s : y ≡ z = cc in record { grammar = p; faultless = rw (← s) e }
-    go (some x) e p = let n : _≡_ {A = ℕ} 0 1 = cc in absurd (omega arith)
-
-pub with-refused : (f : Finding) (faults : ℕ → List (Option Error)) {x : Error} → withFaults f faults ≡ finding.Refused x → RefusedWith f faults x
-with-refused (finding.Refused e) faults q = byGrammar q
-with-refused (finding.Passed y) faults {x} q = go (firstFault (faults (y .terminals))) refl q
-  where
-    go : (o : Option Error) → firstFault (faults (y .terminals)) ≡ o → passedUnless o y ≡ finding.Refused x → RefusedWith (finding.Passed y) faults x
-    go none e p = let n : _≡_ {A = ℕ} 0 1 = cc in absurd (omega arith)
-    go (some v) e p = let s : v ≡ x = cc in byFaults y refl (e ∙ ap some s)
-
--- the same of an input, as the code finds it
-module _ (events : List ℕ) {f : Finding} {z : Sizes} (p : f ≡ finding.Passed z) where
-  abbrev input : List ℕ
-  input = inputOf events
-
-  pub with-long : maxTokens < length events → finding.Refused InputTooLong ≡ withInput f input
-  with-long h = rw (p, lt-ltb maxTokens (length input) (omega (arith, input-length events)))
-
-  module _ (short : length events ≤ maxTokens) {u : Unknown} (e : u ≡ unknownFrom (z .terminals) 0 input) where
-    pub with-unknown : {at : ℕ} → u ≡ At at → finding.Refused (UnknownToken at) ≡ withInput f input
-    with-unknown q = rw (p, le-ltb maxTokens (length input) (omega (arith, input-length events)), sym e ∙ q)
-
-    pub with-known : u ≡ Absent → finding.Passed z ≡ withInput f input
-    with-known q = rw (p, le-ltb maxTokens (length input) (omega (arith, input-length events)), sym e ∙ q)

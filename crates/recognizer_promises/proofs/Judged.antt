@@ -11,12 +11,13 @@ use lib.Dec.{ltb}
 use lib.ListN.{length, take, drop, length-map}
 use lib.Seq.{length-take-le}
 use Rattle.answer.specs.declared.Error.{Error}
+use Rattle.answer.specs.declared.Error.the-variants.{MemoTooShort}
 use Rattle.answer.specs.Numbers.{accepted, rejected, answered, numbers}
 use Rattle.answer.specs.Faults.{firstFault, refusedOr, toldOr}
 use Rattle.answer.proofs.Faults.{numbers-told}
 use Rattle.answer.specs.declared.Answer.{Answer}
 use Rattle.answer.specs.declared.Answer.the-variants.{Refused, Accepted, Rejected}
-use Rattle.booleans.specs.Choice.{choose}
+use Rattle.base.specs.Choice.{choose}
 use Rattle.grammar.specs.Limits.{maxMemoEntries, maxTokens, maxNonterminals, maxPlaces}
 use Rattle.grammar.specs.Syntax.{Grammar}
 use Rattle.grammar.specs.Encoding.{grammarOf}
@@ -32,26 +33,32 @@ use Rattle.semantics.specs.Valuations.{pairs}
 use Rattle.semantics.specs.Choices.{tableChoice}
 use Rattle.semantics.specs.Descent.{accepts}
 use Rattle.semantics.specs.Calls.{allCalls, callCount, farthest}
-use Rattle.semantics.proofs.Range.{all-length}
+use Rattle.semantics.proofs.descent.Range.{all-length}
 use Rattle.following.specs.Theorems.{EntriesTell}
 use Rattle.following.proofs.Theorems.{theorems as following}
 use Rattle.table.specs.Layout.{tableWords, tableRoom}
+use Rattle.table.specs.Analysis.{fault, foundOf}
+use Rattle.table.specs.declared.Found.{Found}
 use Rattle.families.specs.declared.Finding.{Finding}
 use Rattle.families.specs.declared.Finding.the-variants as finding
-use Rattle.recognizer_promises.specs.Memory.{lentBack, memoWordBy, memoWordsBy, Lent}
+use Rattle.promises.specs.Memory.{lentBack}
+use Rattle.promises.proofs.Inputs.{PassedWith, RefusedWith, byGrammar, byFaults, with-passed, with-refused}
+use Rattle.promises.proofs.Places.{judge-tells}
+use Rattle.recognizer_promises.specs.Memory.{memoWordBy, memoWordsBy}
 use Rattle.event.specs.Events.{inputOf}
 use Rattle.event.specs.Unknown.{unknownFrom}
 use Rattle.event.proofs.Inputs.{input-length}
 use Rattle.recognizer_promises.specs.Answers.{judgeFaultBy, inputFaults, withInput, callsBy, verdictBy, verdictNumbersBy}
-use Rattle.recognizer_promises.specs.Judging.{TableFound, PassedGiven, DescendGiven, Descended, JudgedPassed}
+use Rattle.recognizer_promises.specs.Judging.{memoFaultBy, foundUnless, refusedWith, JudgesWords, EntriesFound, PassedGiven, DescendGiven, Descended, JudgedPassed}
+use Rattle.recognizer_promises.specs.declared.Judgement.{Judgement}
 use Rattle.recognizer_promises.specs.Properties.{PassedBy, Readable, RecognizesBy, JudgesBy}
-use Rattle.recognizer_promises.proofs.Checking.{fits-few, passed-fault-for, passed-free, passed-predictive, fault-passed, Told, found, found-fault, lent-table}
-use Rattle.recognizer_promises.proofs.Places.{judge-tells, fault-encoded, places}
-use Rattle.recognizer_promises.proofs.JudgeFaults.{judge-fault-long, grammar-fault, input-fault, readable-faultless, faultless-readable, judged-checked, PassedWith, RefusedWith, byGrammar, byFaults, with-passed, with-refused}
+use Rattle.recognizer_promises.proofs.Checking.{fits-few, passed-fault-for, passed-free, passed-predictive, fault-passed, Told, told, found as found-entries, found-fault}
+use Rattle.recognizer_promises.proofs.Places.{fault-encoded, places}
+use Rattle.recognizer_promises.proofs.JudgeFaults.{judge-fault-long, input-fault, judge-table-long, memo-fault-short, memo-fault-long, judged-readable-by, readable-faultless, faultless-readable, judged-checked}
 use Rattle.recognizer_promises.proofs.Meaning.{meaning}
 
 -- the numbers of what is answered
-verdict-told : (n : ℕ) (G : Grammar) (w : List ℕ) → numbers (verdictBy n G w) ≡ verdictNumbersBy n G w
+pub verdict-told : (n : ℕ) (G : Grammar) (w : List ℕ) → numbers (verdictBy n G w) ≡ verdictNumbersBy n G w
 unfolding verdictBy verdictNumbersBy
 verdict-told n G w = go (accepts G (tableChoice G n w) w)
   where
@@ -85,7 +92,7 @@ module _ (k : Lookahead) (words input table memo : List ℕ) (long : tableRoom k
       (following .entries G n (passed-predictive words p) input (h .tokens) (omega (arith, h .short)) written recorded (drop (length written) memo))
 
 -- the promise from the answer and the memories
-judges : {k : Lookahead} {words input table memo table′ memo′ : List ℕ} {r : Answer}
+pub judges : {k : Lookahead} {words input table memo table′ memo′ : List ℕ} {r : Answer}
     → r ≡ refusedOr (judgeFaultBy k (length table) (length memo) words input) (verdictBy (tokens k) (grammarOf words) input)
     → table′ ≡ lentBack (judgeFaultBy k (length table) (length memo) words input) (tableWords k (grammarOf words)) table
     → memo′ ≡ lentBack (judgeFaultBy k (length table) (length memo) words input) (memoWordsBy (tokens k) (grammarOf words) input) memo
@@ -105,7 +112,7 @@ judges {k} {words} {input} {table} {memo} {table′} {memo′} {r} a t m = recor
       let H = grammarOf words in
       let n = tokens k in
       places k G (e .formed .scoped) (fits-few k G e fits)
-      (judge-tells k _ (ltb maxTokens (length input)) (unknownFrom (H .terminals) 0 input) (accepts H (tableChoice H n input) input) (callsBy n H input)
+      (judge-tells _ (ltb maxTokens (length input)) (unknownFrom (H .terminals) 0 input) (accepts H (tableChoice H n input) input) (callsBy n H input)
       (a ∙ ap (λ f. refusedOr f (verdictBy n H input)) (judge-fault-long k words input table memo long room (fault-encoded k words G few e fits))));
   as-checked = λ e c checked q.
       t ∙ ap (λ y. lentBack y (tableWords k (grammarOf words)) table) (e ∙ sym (judged-checked k words input (length table) (length memo) e)) ∙ sym (q .table);
@@ -158,36 +165,54 @@ module _ {k : Lookahead} {words entries memo : List ℕ} {z : Sizes} (events : L
       }
 
 -- faults that go by the number of terminals are told by that which was found
-pub same-terminals : (k : Lookahead) (words : List ℕ) (faults : ℕ → List (Option Error)) {z : Sizes} {entries laid : List ℕ} {o : Option Error}
-    → TableFound k words z entries laid → firstFault (faults (z .terminals)) ≡ o → firstFault (faults (grammarOf words .terminals)) ≡ o
+pub same-terminals : (k : Lookahead) (words : List ℕ) (faults : ℕ → List (Option Error)) {z : Sizes} {entries : List ℕ} {o : Option Error}
+    → EntriesFound k words z entries → firstFault (faults (z .terminals)) ≡ o → firstFault (faults (grammarOf words .terminals)) ≡ o
 same-terminals k words faults {z} m h = rw (← well-read words z (admitted-read k words (m .taken)) .terminals) h
 
+-- judging in the memo table alone: a refusal
+words-refused : (k : Lookahead) (words input memo : List ℕ) {x : Error} → memoFaultBy k (length memo) words input ≡ some x → {r : Judgement}
+    → r ≡ refusedWith x → JudgesWords k words input memo r memo
+words-refused k words input memo f e = record {
+  verdict = ap (λ y. y .answer) e ∙ sym (ap (λ y. refusedOr y (verdictBy (tokens k) (grammarOf words) input)) f);
+  grammar = ap (λ y. y .found) e ∙ sym (ap (λ y. foundUnless y (foundOf k words)) f);
+  lent = sym (ap (λ y. lentBack y (memoWordsBy (tokens k) (grammarOf words) input) memo) f);
+}
+
+pub words-short : (k : Lookahead) (words input memo : List ℕ) → length memo < maxMemoEntries → {r : Judgement} → r ≡ refusedWith MemoTooShort
+    → JudgesWords k words input memo r memo
+words-short k words input memo h = words-refused k words input memo (memo-fault-short k words input memo h)
+
 -- what is found of a grammar and an input decides
-module _ {k : Lookahead} (words input table memo : List ℕ) (long : tableRoom k ≤ length table) (room : maxMemoEntries ≤ length memo) {g : Finding}
-    {entries laid : List ℕ} (t : Told k words g entries laid) {f : Finding} (q : f ≡ withInput g input) where
+module _ (k : Lookahead) (words input memo : List ℕ) (room : maxMemoEntries ≤ length memo) {found : Found} (e : found ≡ foundOf k words) {f : Finding}
+    (q : f ≡ withInput (found .finding) input) where
   abbrev faults : ℕ → List (Option Error)
   faults n = inputFaults n input
 
-  pub judge-found-refused : {x : Error} → f ≡ finding.Refused x → JudgesBy k words input table memo (Refused x) table memo
-  judge-found-refused {x} p = judge-refused (go (with-refused g faults (sym q ∙ p)))
+  abbrev known : Told k words (found .finding) (found .entries)
+  known = told k words e
+
+  pub words-found-refused : {x : Error} → f ≡ finding.Refused x → {r : Judgement} → r ≡ refusedWith x → JudgesWords k words input memo r memo
+  words-found-refused {x} p = words-refused k words input memo (go (with-refused (found .finding) faults (sym q ∙ p)))
     where
-      go : RefusedWith g faults x → judgeFaultBy k (length table) (length memo) words input ≡ some x
-      go (byGrammar h) = grammar-fault k words input table memo long room (found-fault t h)
-      go (byFaults z h i) = let m = found t h in input-fault k words input table memo long room (m .faultless) (same-terminals k words faults m i)
+      go : RefusedWith (found .finding) faults x → memoFaultBy k (length memo) words input ≡ some x
+      go (byGrammar h) = memo-fault-long k words input memo room (found-fault known h)
+      go (byFaults z h i) =
+          let m = found-entries known h in
+          memo-fault-long k words input memo room (m .faultless) ∙ same-terminals k words faults m i
 
   module _ {z : Sizes} (p : f ≡ finding.Passed z) where
-    both : PassedWith g faults z
-    both = with-passed g faults (sym q ∙ p)
+    both : PassedWith (found .finding) faults z
+    both = with-passed (found .finding) faults (sym q ∙ p)
 
-    pub judge-found : TableFound k words z entries laid
-    judge-found = found t (both .grammar)
+    entries-found : EntriesFound k words z (found .entries)
+    entries-found = found-entries known (both .grammar)
 
     unfaulty : firstFault (inputFaults (grammarOf words .terminals) input) ≡ none
-    unfaulty = same-terminals k words faults judge-found (both .faultless)
+    unfaulty = same-terminals k words faults entries-found (both .faultless)
 
-    pub passed-given : PassedGiven k words z entries input memo
+    pub passed-given : PassedGiven k words z (found .entries) input memo
     passed-given =
-        let m = judge-found in
+        let m = entries-found in
         let s = faultless-readable (grammarOf words .terminals) input unfaulty in
         record {
           ready = record {
@@ -200,10 +225,27 @@ module _ {k : Lookahead} (words input table memo : List ℕ) (long : tableRoom k
           room = room;
         }
 
-    pub judge-done : {table′ memo′ : List ℕ} {r : Answer} → Lent k table laid z table′ → JudgedPassed k words input memo r memo′
-        → JudgesBy k words input table memo r table′ memo′
-    judge-done l d =
-        let e = input-fault k words input table memo long room (judge-found .faultless) unfaulty in
-        judges (d .answer ∙ sym (ap (λ y. refusedOr y (verdictBy (tokens k) (grammarOf words) input)) e))
-        (lent-table words table long judge-found l ∙ sym (ap (λ y. lentBack y (tableWords k (grammarOf words)) table) e))
-        (d .lent ∙ sym (ap (λ y. lentBack y (memoWordsBy (tokens k) (grammarOf words) input) memo) e))
+    pub words-judged : {memo′ : List ℕ} {r : Judgement} → JudgedPassed k words input memo (r .answer) memo′ → r .found ≡ found
+        → JudgesWords k words input memo r memo′
+    words-judged d g =
+        let n : memoFaultBy k (length memo) words input ≡ none = memo-fault-long k words input memo room (entries-found .faultless) ∙ unfaulty in
+        record {
+          verdict = d .answer ∙ sym (ap (λ y. refusedOr y (verdictBy (tokens k) (grammarOf words) input)) n);
+          grammar = g ∙ e ∙ sym (ap (λ y. foundUnless y (foundOf k words)) n);
+          lent = d .lent ∙ sym (ap (λ y. lentBack y (memoWordsBy (tokens k) (grammarOf words) input) memo) n);
+        }
+
+-- and with a table that is lent, and long enough, and holds the words of what is found
+module _ {k : Lookahead} (words input table memo : List ℕ) (long : tableRoom k ≤ length table) {r : Judgement} {memo′ : List ℕ} (j : JudgesWords k words input memo r memo′) where
+  same-fault : judgeFaultBy k (length table) (length memo) words input ≡ memoFaultBy k (length memo) words input
+  same-fault = judge-table-long k (length table) (length memo) words input long
+
+  pub judged-by-words : {table′ : List ℕ} → table′ ≡ lentBack (memoFaultBy k (length memo) words input) (tableWords k (grammarOf words)) table
+      → JudgesBy k words input table memo (r .answer) table′ memo′
+  judged-by-words t =
+      judges (j .verdict ∙ sym (ap (λ y. refusedOr y (verdictBy (tokens k) (grammarOf words) input)) same-fault))
+      (t ∙ sym (ap (λ y. lentBack y (tableWords k (grammarOf words)) table) same-fault))
+      (j .lent ∙ sym (ap (λ y. lentBack y (memoWordsBy (tokens k) (grammarOf words) input) memo) same-fault))
+
+  pub judged-faultless : memoFaultBy k (length memo) words input ≡ none → fault k words ≡ none
+  judged-faultless n = judged-readable-by k words input (length table) (length memo) (same-fault ∙ n) .0

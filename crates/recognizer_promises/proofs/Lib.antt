@@ -3,7 +3,8 @@ pub mod Checking
 pub mod MemoWords
 pub mod Directions
 pub mod JudgeFaults
+pub mod GrammarErrors
+pub mod CallErrors
 pub mod Meaning
 pub mod Judged
 pub mod CostliestFaults
-pub mod Rows

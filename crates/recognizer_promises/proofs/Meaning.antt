@@ -1,34 +1,26 @@
 -- What the verdict of the descent means: property 3 for a passed grammar and a readable input.
-use mathlib.Core.Path.{_≡_, refl, ap, subst, _∙_, sym}
-use mathlib.Core.Bool.{Bool, true, false, true≢false, false≢true}
+use mathlib.Core.Path.{_≡_, ap, subst, _∙_}
+use mathlib.Core.Bool.{true, false}
 use mathlib.Core.List.{List}
 use mathlib.Core.Logic.{_↔_}
 use Prim.Native.Nat.{ℕ, _<_}
 use native.Mathlib.Omega.{arith}
 use lib.ListN.{length}
-use Rattle.answer.proofs.Apart.{answer-number}
-use Rattle.answer.specs.Numbers.{accepted, rejected, numbers}
-use Rattle.answer.specs.declared.Calls.{Calls}
 use Rattle.answer.specs.declared.Answer.{Answer}
 use Rattle.answer.specs.declared.Answer.the-variants.{Accepted, Rejected}
-use Rattle.booleans.specs.Choice.{choose}
+use Rattle.base.specs.Choice.{choose}
 use Rattle.grammar.specs.Encoding.{grammarOf}
 use Rattle.lookahead.specs.declared.Lookahead.{Lookahead}
 use Rattle.lookahead.specs.Lookaheads.{tokens}
-use Rattle.semantics.specs.Valuations.{Valuation, Solves, solution}
+use Rattle.semantics.specs.Valuations.{Valuation, Solves}
 use Rattle.semantics.specs.Choices.{tableChoice}
 use Rattle.semantics.specs.Memo.{Recorded}
 use Rattle.semantics.proofs.Theorems.{theorems}
+use Rattle.promises.proofs.Verdicts.{verdict-tells}
 use Rattle.recognizer_promises.specs.Answers.{callsBy, verdictBy}
-use Rattle.recognizer_promises.specs.Properties.{PassedBy, Readable, RecognizesBy, SameVerdict}
+use Rattle.recognizer_promises.specs.Properties.{PassedBy, Readable, RecognizesBy}
 use Rattle.recognizer_promises.proofs.MemoWords.{words-recorded}
 use Rattle.recognizer_promises.proofs.Checking.{passed-encodes, passed-free, passed-predictive}
-
--- a verdict by a test tells the test
-pub verdict-tells : {r : Answer} (b : Bool) (c : Calls) → r ≡ choose b (Accepted c) (Rejected c)
-    → ((r ≡ Accepted c) ↔ (b ≡ true)) × ((r ≡ Rejected c) ↔ (b ≡ false))
-verdict-tells true c e = ((λ q. refl, λ q. e), (λ q. absurd (omega (arith, answer-number (sym e ∙ q))), λ q. absurd (true≢false q)))
-verdict-tells false c e = ((λ q. absurd (omega (arith, answer-number (sym e ∙ q))), λ q. absurd (false≢true q)), (λ q. refl, λ q. e))
 
 -- property 3 from the verdict of the descent, for any lookahead
 pub meaning : (k : Lookahead) (words input : List ℕ) (r : Answer) → PassedBy k words → Readable words input
@@ -54,15 +46,3 @@ meaning k words input r p h e =
       calls = theorems .calls-counted G (m .formed .scoped) free some-nonterminal choice own input;
       memo = subst (λ l. Recorded G choice input l) (words-recorded n G input (m .formed .scoped) free some-nonterminal recorded) recorded;
     }
-
--- two verdicts by it agree
-pub same-verdict : SameVerdict
-same-verdict k l words input r s a b =
-    let v = solution (grammarOf words) input in
-    go (v 0 0 (length input)) (a .accepted v (a .one-solution .solves) .1) (b .accepted v (a .one-solution .solves) .1)
-    (a .rejected v (a .one-solution .solves) .1) (b .rejected v (a .one-solution .solves) .1)
-  where
-    go : (x : Bool) {c d e f : Calls} → (x ≡ true → r ≡ Accepted c) → (x ≡ true → s ≡ Accepted d) → (x ≡ false → r ≡ Rejected e) → (x ≡ false → s ≡ Rejected f)
-        → numbers r .verdict ≡ numbers s .verdict
-    go true m n o p = rw (m refl, n refl)
-    go false m n o p = rw (o refl, p refl)

@@ -7,18 +7,18 @@ use native.Mathlib.Nat.{mod-lt, div-add-mod', div-lt-iff-lt-mul}
 use native.Mathlib.Omega.{arith}
 use lib.ListN.{length, getD, length-map, List·getD-map}
 use lib.Seq.{ext-getD}
-use Rattle.booleans.specs.Choice.{choose}
+use Rattle.base.specs.Choice.{choose}
 use Rattle.grammar.specs.Codes.{uncalledCode}
 use Rattle.grammar.specs.Syntax.{Grammar, WellScoped}
-use Rattle.semantics.specs.FiniteSets.{member}
+use Rattle.base.specs.FiniteSets.{member}
 use Rattle.semantics.specs.LeftRecursion.{NoLeftRecursion}
 use Rattle.semantics.specs.Choices.{tableChoice}
 use Rattle.semantics.specs.Descent.{descend}
 use Rattle.semantics.specs.ComesTo.{Call, callAt, InRange}
 use Rattle.semantics.specs.Calls.{Listing, sameCall, allCalls, calls}
 use Rattle.semantics.specs.Memo.{encode, entry, indexOf, Recorded}
-use Rattle.semantics.proofs.FiniteSets.{member-mem, mem-member}
-use Rattle.semantics.proofs.Range.{calls-equality, all-length, all-ordered}
+use Rattle.base.proofs.FiniteSets.{member-mem, mem-member}
+use Rattle.semantics.proofs.descent.Range.{calls-equality, all-length, all-ordered}
 use Rattle.semantics.proofs.Theorems.{theorems}
 use Rattle.memo_table.proofs.Entries.{getD-any}
 use Rattle.recognizer_promises.specs.Memory.{memoWordBy, memoWordsBy}

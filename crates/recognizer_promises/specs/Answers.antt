@@ -1,32 +1,29 @@
 -- What a call answers: the first refusal that holds, in the papers' order, or else a verdict.
 use mathlib.Core.Bool.{Bool, true, false}
-use mathlib.Core.List.{List, [], _∷_, _++_}
-use mathlib.Core.Option.{Option, none, some}
+use mathlib.Core.List.{List, _∷_, _++_}
+use mathlib.Core.Option.{Option}
 use Prim.Native.Nat.{ℕ, suc}
 use lib.Dec.{ltb}
-use lib.ListN.{length}
 use Rattle.answer.specs.declared.Error.{Error}
-use Rattle.answer.specs.declared.Error.the-variants.{TableTooShort, MemoTooShort, WideTableTooShort, InputTooLong}
+use Rattle.answer.specs.declared.Error.the-variants.{TableTooShort, MemoTooShort, WideTableTooShort}
 use Rattle.answer.specs.declared.Calls.{Calls}
 use Rattle.answer.specs.declared.Answer.{Answer}
 use Rattle.answer.specs.declared.Answer.the-variants.{Rejected, Accepted}
 use Rattle.answer.specs.Numbers.{passed, rejected, accepted, Numbers, answered}
 use Rattle.answer.specs.Faults.{faultIf, firstFault}
-use Rattle.event.specs.Unknown.{unknownFrom, unknownFault}
-use Rattle.booleans.specs.Choice.{choose}
+use Rattle.base.specs.Choice.{choose}
 use Rattle.grammar.specs.Limits.{maxTokens, maxMemoEntries}
 use Rattle.grammar.specs.Syntax.{Grammar}
 use Rattle.grammar.specs.Encoding.{grammarOf}
 use Rattle.semantics.specs.Choices.{tableChoice}
 use Rattle.semantics.specs.Descent.{accepts}
 use Rattle.semantics.specs.Calls.{callCount, farthest}
-use Rattle.grammar.specs.declared.reading.Sizes.{Sizes}
 use Rattle.families.specs.declared.Finding.{Finding}
-use Rattle.families.specs.declared.Finding.the-variants as finding
 use Rattle.lookahead.specs.declared.Lookahead.{Lookahead}
 use Rattle.lookahead.specs.declared.Lookahead.the-variants.{One, Two}
 use Rattle.table.specs.Layout.{tableRoom}
 use Rattle.table.specs.Analysis.{grammarFaults}
+use Rattle.promises.specs.Inputs.{inputFaultsTo, withInputTo}
 
 -- the lent table is too short: 17 stands in the place of 1
 abbrev pub tableTooShort : Lookahead → Error
@@ -37,12 +34,9 @@ tableTooShort Two = WideTableTooShort
 unfoldable pub checkFaultBy : Lookahead → ℕ → List ℕ → Option Error
 checkFaultBy k table words = firstFault (faultIf (ltb table (tableRoom k)) (tableTooShort k) ∷ grammarFaults k words)
 
--- the faults of an input for a grammar of n terminals: its length, then its tokens
+-- the faults of an input for a grammar of n terminals
 abbrev pub inputFaults : ℕ → List ℕ → List (Option Error)
-inputFaults n input =
-    faultIf (ltb maxTokens (length input)) InputTooLong
-    ∷ unknownFault (unknownFrom n 0 input)
-    ∷ []
+inputFaults = inputFaultsTo maxTokens
 
 -- why judging is refused
 unfoldable pub judgeFaultBy : Lookahead → ℕ → ℕ → List ℕ → List ℕ → Option Error
@@ -53,17 +47,9 @@ judgeFaultBy k table memo words input =
     ∷ grammarFaults k words
     ++ inputFaults (grammarOf words .terminals) input)
 
--- what is found of a grammar, and then by the faults that are looked for behind it, which go by its number of terminals
-abbrev pub passedUnless : Option Error → Sizes → Finding
-passedUnless none z = finding.Passed z
-passedUnless (some e) z = finding.Refused e
-
-abbrev pub withFaults : Finding → (ℕ → List (Option Error)) → Finding
-withFaults (finding.Refused e) faults = finding.Refused e
-withFaults (finding.Passed z) faults = passedUnless (firstFault (faults (z .terminals))) z
-
+-- what is found of a grammar and then of an input
 abbrev pub withInput : Finding → List ℕ → Finding
-withInput f input = withFaults f (λ n. inputFaults n input)
+withInput = withInputTo maxTokens
 
 -- of a check that passes
 abbrev pub passedNumbers : Numbers

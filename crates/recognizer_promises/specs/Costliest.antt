@@ -17,11 +17,13 @@ use Rattle.lookahead.specs.declared.Lookahead.the-variants.{One}
 use Rattle.inputs.specs.Inputs.{maxInputs}
 use Rattle.inputs.specs.Costliest.{costliest, CostliestOf}
 use Rattle.families.specs.declared.Finding.{Finding}
-use Rattle.semantics.specs.Strings.{Over}
+use Rattle.base.specs.Strings.{Over}
 use Rattle.table.specs.Layout.{tableWords}
 use Rattle.table.specs.Analysis.{grammarFaults}
-use Rattle.recognizer_promises.specs.Memory.{lentBack, memoWords}
-use Rattle.recognizer_promises.specs.Answers.{withFaults, callsOf, verdictOf, verdictNumbers}
+use Rattle.promises.specs.Inputs.{withFaults}
+use Rattle.promises.specs.Memory.{lentBack}
+use Rattle.recognizer_promises.specs.Memory.{memoWords}
+use Rattle.recognizer_promises.specs.Answers.{callsOf, verdictOf, verdictNumbers}
 use Rattle.recognizer_promises.specs.Properties.{Judges}
 
 -- how many calls the descent makes on an input (document 01: the count)

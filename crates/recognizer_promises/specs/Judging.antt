@@ -1,11 +1,16 @@
--- What judging by a grammar that has passed requires and ensures.
+-- What judging in a lent memo table alone answers, finds and leaves there; and what its steps require and ensure.
 use mathlib.Core.Path.{_≡_}
-use mathlib.Core.List.{List, _++_}
-use mathlib.Core.Option.{none}
+use mathlib.Core.List.{List, _∷_, _++_}
+use mathlib.Core.Option.{Option, none, some}
 use Prim.Native.Nat.{ℕ, _≤_}
-use lib.ListN.{length, drop}
+use lib.Dec.{ltb}
+use lib.ListN.{length, drop, replicate}
 use Rattle.answer.specs.declared.Answer.{Answer}
-use Rattle.grammar.specs.Limits.{maxTokens, maxMemoEntries}
+use Rattle.answer.specs.declared.Answer.the-variants as answer
+use Rattle.answer.specs.declared.Error.{Error}
+use Rattle.answer.specs.declared.Error.the-variants.{MemoTooShort}
+use Rattle.answer.specs.Faults.{faultIf, firstFault, refusedOr}
+use Rattle.grammar.specs.Limits.{maxNonterminals, maxTokens, maxMemoEntries}
 use Rattle.grammar.specs.Encoding.{grammarOf}
 use Rattle.grammar.specs.declared.reading.Sizes.{Sizes}
 use Rattle.grammar.specs.declared.reading.Outcome.the-variants.{Read}
@@ -14,19 +19,50 @@ use Rattle.lookahead.specs.Lookaheads.{tokens}
 use Rattle.admission.specs.Admission.{admission}
 use Rattle.semantics.specs.Valuations.{pairs}
 use Rattle.semantics.specs.LeftRecursion.{NoLeftRecursion}
-use Rattle.semantics.specs.Strings.{Over}
-use Rattle.table.specs.Layout.{tableWords, filled}
-use Rattle.table.specs.Entries.{entriesOf}
-use Rattle.table.specs.Analysis.{fault}
+use Rattle.base.specs.Strings.{Over}
+use Rattle.families.specs.declared.Finding.{Finding}
+use Rattle.families.specs.declared.Finding.the-variants.{Passed, Refused}
+use Rattle.table.specs.Entries.{entriesOf, noRules}
+use Rattle.table.specs.declared.Found.{Found}
+use Rattle.table.specs.Analysis.{grammarFaults, fault, foundWith, foundOf}
+use Rattle.recognizer_promises.specs.declared.Judgement.{Judgement}
+use Rattle.promises.specs.Memory.{lentBack}
 use Rattle.recognizer_promises.specs.Memory.{memoWordsBy}
-use Rattle.recognizer_promises.specs.Answers.{verdictBy}
+use Rattle.recognizer_promises.specs.Answers.{inputFaults, verdictBy}
 
--- what is found of a grammar that passes: its sizes, no fault, its entries, and all the words of its table
-pub record TableFound (k : Lookahead) (words : List ℕ) (z : Sizes) (entries table : List ℕ) : Type 0 where
+-- what checking answers, by what is found of a grammar
+abbrev pub answerOf : Finding → Answer
+answerOf (Passed z) = answer.Passed
+answerOf (Refused e) = answer.Refused e
+
+-- why it is refused: as judging is, but for the table's length
+unfoldable pub memoFaultBy : Lookahead → ℕ → List ℕ → List ℕ → Option Error
+memoFaultBy k memo words input =
+    firstFault (faultIf (ltb memo maxMemoEntries) MemoTooShort ∷ grammarFaults k words ++ inputFaults (grammarOf words .terminals) input)
+
+-- what is found of a grammar, unless there is an error
+abbrev pub refusedFound : Error → Found
+refusedFound e = foundWith (Refused e) (replicate maxNonterminals 0) (replicate maxNonterminals 0) noRules
+
+abbrev pub foundUnless : Option Error → Found → Found
+foundUnless none r = r
+foundUnless (some e) r = refusedFound e
+
+abbrev pub refusedWith : Error → Judgement
+refusedWith e = record { answer = answer.Refused e; found = refusedFound e }
+
+-- the first refusal that holds decides, and a refusal changes nothing; else the verdict, what is found of the grammar, and the entries in front of
+-- what was there
+pub record JudgesWords (k : Lookahead) (words input memo : List ℕ) (r : Judgement) (memo′ : List ℕ) : Type 0 where
+  pub verdict : r .answer ≡ refusedOr (memoFaultBy k (length memo) words input) (verdictBy (tokens k) (grammarOf words) input)
+  pub grammar : r .found ≡ foundUnless (memoFaultBy k (length memo) words input) (foundOf k words)
+  pub lent : memo′ ≡ lentBack (memoFaultBy k (length memo) words input) (memoWordsBy (tokens k) (grammarOf words) input) memo
+
+-- what is found of a grammar that passes: its sizes, no fault, and its entries
+pub record EntriesFound (k : Lookahead) (words : List ℕ) (z : Sizes) (entries : List ℕ) : Type 0 where
   pub taken : admission k words ≡ Read z
   pub faultless : fault k words ≡ none
   pub entered : entries ≡ entriesOf k (grammarOf words)
-  pub laid : table ≡ filled k (tableWords k (grammarOf words))
 
 -- a grammar that passes, with its sizes and its entries, and an input of its terminals
 pub record Ready (k : Lookahead) (words : List ℕ) (z : Sizes) (entries input : List ℕ) : Type 0 where

@@ -4,4 +4,3 @@ pub mod Judging
 pub mod Properties
 pub mod Costliest
 pub mod Search
-pub mod Rows

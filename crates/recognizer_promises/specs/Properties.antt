@@ -4,7 +4,7 @@ use mathlib.Core.Bool.{Bool, true, false}
 use mathlib.Core.List.{List, []}
 use mathlib.Core.Logic.{_↔_}
 use mathlib.Core.Option.{none, some}
-use Prim.Native.Nat.{ℕ, _≤_, _<_}
+use Prim.Native.Nat.{ℕ, _≤_}
 use lib.Dec.{T}
 use lib.ListN.{length}
 use Rattle.answer.specs.Numbers.{numbers}
@@ -27,11 +27,10 @@ use Rattle.encoding.specs.Encode.{Encodes}
 use Rattle.encoding.specs.Faithful.{FaithfulReading}
 use Rattle.event.specs.Events.{inputOf}
 use Rattle.semantics.specs.Valuations.{Valuation, Solves}
-use Rattle.semantics.specs.LeftRecursion.{LeftReaches, NoLeftRecursion}
-use Rattle.semantics.specs.Strings.{Over}
+use Rattle.semantics.specs.LeftRecursion.{NoLeftRecursion}
+use Rattle.base.specs.Strings.{Over}
 use Rattle.semantics.specs.Families.{FirstClosed, FollowClosed, Claims}
 use Rattle.semantics.specs.FirstFollow.{First, Follow}
-use Rattle.semantics.specs.Productive.{Unproductive}
 use Rattle.semantics.specs.Claims.{clashes, tableOf}
 use Rattle.semantics.specs.Choices.{tableChoice}
 use Rattle.semantics.specs.Memo.{Recorded}
@@ -40,12 +39,10 @@ use Rattle.following.specs.Theorems.{EntriesTell}
 use Rattle.table.specs.Conflicts.{ClashAt, FirstClash}
 use Rattle.table.specs.Layout.{tableWords, tableRoom}
 use Rattle.table.specs.Analysis.{conflictError}
-use Rattle.recognizer_promises.specs.Memory.{lentBack, memoWordsBy}
+use Rattle.promises.specs.Memory.{lentBack}
+use Rattle.promises.specs.Places.{AllProductiveBy, LowestRecursive, LowestUnproductiveBy}
+use Rattle.recognizer_promises.specs.Memory.{memoWordsBy}
 use Rattle.recognizer_promises.specs.Answers.{checkFaultBy, judgeFaultBy, callsBy, verdictBy, passedNumbers, verdictNumbersBy}
-
--- each nonterminal, reachable or not, has a string in its first set with k tokens of lookahead (document 02: none whose first set is empty)
-abbrev pub AllProductiveBy : ℕ → Grammar → Type 0
-AllProductiveBy k G = (A : ℕ) → A < G .nonterminals → (x : List ℕ) × First G k A x
 
 -- a grammar that passes with a lookahead (document 01: a passed card): at most 2,048 words that encode a well-formed grammar within the limits, also
 -- those of the lookahead, not left-recursive, without an empty first set, and without a clash: no entry is claimed by two rules, and only the end can
@@ -68,17 +65,6 @@ pub record LeastFamiliesBy (k : ℕ) (G : Grammar) : Type 0 where
   pub follow-least : (L : ℕ → List ℕ → Bool) → FollowClosed G k (First G k) (λ A x. T (L A x)) → (A : ℕ) (x : List ℕ) → Follow G k A x → T (L A x)
   pub claimed : clashes G k ≡ [] → (A : ℕ) (x : List ℕ) (q : ℕ) → (tableOf G k A x ≡ some q) ↔ Claims G k (First G k) (Follow G k) q A x
   pub unclaimed : (A : ℕ) (x : List ℕ) → (tableOf G k A x ≡ none) ↔ ((q : ℕ) → Claims G k (First G k) (Follow G k) q A x → ⊥)
-
--- the lowest nonterminal that left-reaches itself (document 01: the place of 8)
-pub record LowestRecursive (G : Grammar) (A : ℕ) : Type 0 where
-  pub reaches : LeftReaches G A A
-  pub lowest : (B : ℕ) → B < A → LeftReaches G B B → ⊥
-
--- the lowest nonterminal whose first set is empty with k tokens of lookahead (document 02: the place of 13)
-pub record LowestUnproductiveBy (k : ℕ) (G : Grammar) (A : ℕ) : Type 0 where
-  pub named : A < G .nonterminals
-  pub unproductive : Unproductive G k A
-  pub lowest : (B : ℕ) → B < A → Unproductive G k B → ⊥
 
 -- when a grammar that fits the lookahead is refused, and where: 8 comes before 13, and 13 before 9, the first clash by nonterminal, then column
 pub record PlacesBy (k : Lookahead) (G : Grammar) (r : Answer) : Type 0 where
@@ -153,18 +139,7 @@ DirectionsIgnored k =
     → JudgesBy k words (inputOf events) table memo r table′ memo′ → JudgesBy k words (inputOf turned) table memo s table″ memo″
     → (r ≡ s) × (table′ ≡ table″) × (memo′ ≡ memo″)
 
--- both lookaheads judge by the one meaning, so where both give a verdict it is the same
-abbrev pub SameVerdict : Type 0
-SameVerdict =
-    (k l : ℕ) (words input : List ℕ) (r s : Answer) → RecognizesBy k words input r → RecognizesBy l words input s → numbers r .verdict ≡ numbers s .verdict
-
 -- with one token of lookahead (document 01)
-abbrev pub AllProductive : Grammar → Type 0
-AllProductive = AllProductiveBy 1
-
-abbrev pub LowestUnproductive : Grammar → ℕ → Type 0
-LowestUnproductive = LowestUnproductiveBy 1
-
 abbrev pub PassedGrammar : List ℕ → Type 0
 PassedGrammar = PassedBy One
 

@@ -15,7 +15,8 @@ use Rattle.grammar.specs.Reading.{reading}
 use Rattle.recognizer_promises.specs.Properties.{Checks, Judges}
 use Rattle.answer.specs.Faults.{refusedOr}
 use Rattle.recognizer_promises.specs.Answers.{judgeFault, verdictOf}
-use Rattle.recognizer_promises.specs.Memory.{lentBack, memoWords}
+use Rattle.promises.specs.Memory.{lentBack}
+use Rattle.recognizer_promises.specs.Memory.{memoWords}
 use Rattle.recognizer_promises.proofs.JudgeFaults.{judged-readable}
 use Rattle.recognizer_promises.proofs.Checking.{passed-fault, passed-read}
 use Rattle.text.specs.Writing.{Put}

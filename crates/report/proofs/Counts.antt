@@ -12,9 +12,9 @@ use Rattle.lookahead.specs.declared.Lookahead.the-variants.{One}
 use Rattle.lookahead.specs.Lookaheads.{nothing}
 use Rattle.lookahead.specs.Elements.{size}
 use Rattle.semantics.specs.FirstFollow.{first, follow, First, Follow}
-use Rattle.families.specs.Lists.{listed}
+use Rattle.base.specs.Lists.{listed}
 use Rattle.families.specs.Sets.{firstNumber, followNumber, Members}
-use Rattle.families.proofs.Lists.{listed-long, listed-at}
+use Rattle.base.proofs.Lists.{listed-long, listed-at}
 use Rattle.families.proofs.Members.{members}
 use Rattle.columns.specs.Columns.{columns}
 use Rattle.table.specs.Layout.{setWord, rowWord, tableWords}

@@ -11,7 +11,7 @@ use lib.Seq.{length-take-le, take-all}
 use borrow.Author.Tests.{lt-ltb, lt-leb}
 use Rattle.answer.specs.declared.Error.{Error}
 use Rattle.answer.specs.declared.Error.the-variants.{Length, InputTooLong}
-use Rattle.booleans.specs.Choice.{choose}
+use Rattle.base.specs.Choice.{choose}
 use Rattle.event.specs.Events.{inputOf}
 use Rattle.event.proofs.Inputs.{input-length}
 use Rattle.grammar.specs.Limits.{maxWords, maxTokens, maxMemoEntries, maxTableWords}

@@ -8,7 +8,7 @@ use lib.Dec.{leb, eqb}
 use lib.ListN.{length, take, drop}
 use lib.Seq.{sets, sets-eq, length-sets, take-at, length-take-le}
 use borrow.Author.Tests.{leb-true}
-use Rattle.booleans.proofs.Booleans.{and-first}
+use Rattle.base.proofs.Booleans.{and-first}
 use Rattle.answer.specs.declared.Error.the-variants.{Length}
 use Rattle.event.specs.Events.{inputOf}
 use Rattle.grammar.specs.Limits.{maxWords}

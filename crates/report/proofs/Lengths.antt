@@ -8,7 +8,7 @@ use native.Mathlib.Omega.{arith}
 use lib.ListN.{length, getD, drop, replicate, length-append}
 use Rattle.answer.specs.declared.Error.{Error}
 use Rattle.answer.specs.declared.Answer.the-variants.{Passed, Rejected, Accepted}
-use Rattle.booleans.specs.Choice.{choose}
+use Rattle.base.specs.Choice.{choose}
 use Rattle.grammar.specs.Codes.{uncalledCode}
 use Rattle.grammar.specs.Limits.{maxMemoEntries, maxTableWords}
 use Rattle.grammar.specs.Syntax.{Grammar}
@@ -17,19 +17,20 @@ use Rattle.grammar.specs.Reading.{reading}
 use Rattle.grammar.specs.declared.reading.Outcome.{Outcome}
 use Rattle.grammar.specs.declared.reading.Outcome.the-variants.{Read, Faulty}
 use Rattle.grammar.proofs.WellRead.{well-read}
-use Rattle.semantics.specs.FiniteSets.{member}
+use Rattle.base.specs.FiniteSets.{member}
 use Rattle.semantics.specs.Choices.{tableChoice}
 use Rattle.semantics.specs.Descent.{Outcome as Ended, Failed, End, descend, accepts}
 use Rattle.semantics.specs.ComesTo.{Call}
 use Rattle.semantics.specs.Calls.{sameCall, allCalls, calls}
 use Rattle.semantics.specs.Memo.{encode}
-use Rattle.semantics.proofs.Range.{all-range}
+use Rattle.semantics.proofs.descent.Range.{all-range}
 use Rattle.lookahead.specs.declared.Lookahead.the-variants.{One}
 use Rattle.semantics.proofs.Theorems.{theorems}
 use Rattle.table.specs.Layout.{tableWords}
 use Rattle.answer.specs.Faults.{refusedOr}
 use Rattle.recognizer_promises.specs.Answers.{checkFault, judgeFault, callsOf, verdictBy, verdictOf}
-use Rattle.recognizer_promises.specs.Memory.{lentBack, memoWordBy, memoWord, memoWordsBy, memoWords}
+use Rattle.promises.specs.Memory.{lentBack}
+use Rattle.recognizer_promises.specs.Memory.{memoWordBy, memoWord, memoWordsBy, memoWords}
 use Rattle.recognizer_promises.proofs.Checking.{passed-fault, passed-encodes, passed-free}
 use Rattle.recognizer_promises.proofs.JudgeFaults.{judged-readable}
 use Rattle.text.proofs.Lengths.{refusal-most}

@@ -4,9 +4,12 @@ ghost use Rattle.event.specs.Events.{inputOf};
 ghost use Rattle.grammar.specs.Reading.{reading};
 ghost use Rattle.sheet_text.specs.Room.{sheetRoom};
 ghost use Rattle.judgement_text.specs.Room.{judgementRoom};
+ghost use Rattle.gaps_text_promises.specs.Gaps.{GapsPut};
 ghost use Rattle.text.specs.Writing.{Put};
 ghost use Rattle.report.specs.Report.{Printed, SheetPrinted, GapsPrinted, Enough, enoughRoom, nonterminalsOf, tokenCount, checkedText, judgedText, judgementOf};
 use answer::Error;
+use checker::check;
+use claims::analyze;
 use gaps_text::put_gaps;
 use grammar::codes::NO_ENTRY;
 use grammar::codes::UNCALLED;
@@ -16,8 +19,8 @@ use grammar::limits::TOKENS;
 use grammar::limits::WORDS;
 use grammar::reading::Outcome;
 use judgement_text::put_judgement;
+use lookahead::Lookahead;
 use reader::read;
-use recognizer::check;
 use recognizer::judge;
 use sheet_text::put_check;
 use text::refusal::put_refusal;
@@ -100,7 +103,7 @@ pub fn gaps(bytes: &[u8], out: &mut [u8]) -> usize
     let mut words = [0u32; WORDS];
     let loaded = load(bytes, &mut words);
     match loaded {
-        Loaded::Words(n) => put_gaps(out, &words[..n]),
+        Loaded::Words(n) => put_claimed(&words[..n], out),
         Loaded::NotWords => put_refusal(out, 0, Error::Length),
     }
 }
@@ -120,6 +123,14 @@ fn put_judged(words: &[u32], events: &[u8], out: &mut [u8]) -> usize
     let mut memo = [UNCALLED; MEMO_ENTRIES];
     let answer = judge(words, events, &mut table, &mut memo);
     put_judgement(out, answer, nonterminals(words), tokens(events), &memo)
+}
+
+fn put_claimed(words: &[u32], out: &mut [u8]) -> usize
+    ensures { λ r. ⌜ GapsPut (now (words .entry)) (now (out .entry)) (now (out .exit)) r ⌝ }
+{
+    let claims = analyze(words, Lookahead::One);
+    let finding = claims.finding;
+    put_gaps(out, finding, &claims.heads, &claims.sets, &claims.overruns)
 }
 
 // How many nonterminals words have that are read.

@@ -1,14 +1,17 @@
 // The first set of what is left of a body and of a rule, made longer by one word at a time from the end.
 ghost use mathlib.Core.Path.{_≡_};
-ghost use Rattle.families.specs.First.{symbolFirst, noRest, withWord, closedMeet, insideWord};
+ghost use Rattle.families.specs.First.{symbolFirst, noRest, closedMeet, insideWord, insideWords};
 ghost use Rattle.families.specs.Follow.{tailBefore};
 ghost use Rattle.families.specs.Least.{lookup};
+use concatenation::concat;
+use concatenation::full;
 use families::Rest;
 use families::SETS;
 use lookahead::Lookahead;
-use lookahead::LookaheadSet;
+use lookahead_sets::LookaheadSet;
 use word::Symbol;
 use word::Word;
+use word::decode;
 
 // The set of n; behind the array's end there is none.
 fn set_of(sets: &[u64; SETS], n: u32) -> u64
@@ -19,12 +22,12 @@ fn set_of(sets: &[u64; SETS], n: u32) -> u64
 }
 
 // Where neither a body nor a rule is open.
-pub fn no_rest(terminals: u32, lookahead: Lookahead) -> Rest
+fn no_rest(terminals: u32, lookahead: Lookahead) -> Rest
     ensures { λ r. ⌜ r ≡ noRest lookahead terminals ⌝ }
 {
     Rest {
         body: LookaheadSet::end(lookahead),
-        meet: LookaheadSet::full(lookahead, terminals),
+        meet: full(lookahead, terminals),
     }
 }
 
@@ -39,41 +42,6 @@ fn symbol_first(symbol: Symbol, firsts: &[u64; SETS], lookahead: Lookahead) -> L
     }
 }
 
-// The rest with a word in front.
-pub fn onto(
-    word: Word,
-    rest: Rest,
-    firsts: &[u64; SETS],
-    terminals: u32,
-    lookahead: Lookahead,
-) -> Rest
-    ensures { λ r. ⌜ r ≡ withWord lookahead terminals (lookup (now (firsts .entry))) word rest ⌝ }
-{
-    let body = rest.body;
-    let meet = rest.meet;
-    match word {
-        Word::Symbol(symbol) => Rest {
-            body: symbol_first(symbol, firsts, lookahead).concat(lookahead, body),
-            meet,
-        },
-        Word::Positive => Rest {
-            body: LookaheadSet::end(lookahead),
-            meet: body.meet(meet),
-        },
-        Word::Negative => Rest {
-            body: LookaheadSet::end(lookahead),
-            meet,
-        },
-        Word::Rule(_) => no_rest(terminals, lookahead),
-        Word::End => no_rest(terminals, lookahead),
-        Word::Heading {
-            nonterminals: _,
-            terminals: _,
-        } => rest,
-        Word::Invalid => rest,
-    }
-}
-
 // A body ends: if it is a positive, its first set goes into the meet.
 fn closed(word: Word, body: LookaheadSet, meet: LookaheadSet) -> LookaheadSet
     ensures { λ r. ⌜ r .bits ≡ closedMeet word (body .bits) (meet .bits) ⌝ }
@@ -85,7 +53,7 @@ fn closed(word: Word, body: LookaheadSet, meet: LookaheadSet) -> LookaheadSet
 }
 
 // The rest with a word inside a rule in front.
-pub fn inside(word: Word, rest: Rest, firsts: &[u64; SETS], lookahead: Lookahead) -> Rest
+fn inside(word: Word, rest: Rest, firsts: &[u64; SETS], lookahead: Lookahead) -> Rest
     ensures { λ r. ⌜ r ≡ insideWord lookahead (lookup (now (firsts .entry))) word rest ⌝ }
 {
     let body = rest.body;
@@ -98,9 +66,28 @@ pub fn inside(word: Word, rest: Rest, firsts: &[u64; SETS], lookahead: Lookahead
     };
     let first = symbol_first(symbol, firsts, lookahead);
     Rest {
-        body: first.concat(lookahead, body),
+        body: concat(first, lookahead, body),
         meet,
     }
+}
+
+// What the positives of a rule can all begin with, by the words inside it.
+pub fn rule_first(
+    words: &[u32],
+    firsts: &[u64; SETS],
+    terminals: u32,
+    lookahead: Lookahead,
+) -> LookaheadSet
+    ensures { λ r. ⌜ r .bits ≡ insideWords lookahead (lookup (now (firsts .entry))) (noRest lookahead terminals) (now (words .entry)) .meet .bits ⌝ }
+{
+    let mut rest = no_rest(terminals, lookahead);
+    let mut at = words.len();
+    while 0 < at {
+        at = at - 1;
+        let word = decode(words[at]);
+        rest = inside(word, rest, firsts, lookahead);
+    }
+    rest.meet
 }
 
 // What comes behind the index before a word inside a rule, where follow comes behind the body.
@@ -116,5 +103,5 @@ pub fn tail_before(
     let Word::Symbol(symbol) = word else {
         return follow;
     };
-    symbol_first(symbol, firsts, lookahead).concat(lookahead, tail)
+    concat(symbol_first(symbol, firsts, lookahead), lookahead, tail)
 }

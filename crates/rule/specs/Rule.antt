@@ -1,10 +1,10 @@
 -- How the bodies of a rule, run one after the other, come to agree on an end.
 use mathlib.Core.Bool.{Bool, true, false}
-use mathlib.Core.List.{List}
-use Prim.Native.Nat.{ℕ}
+use mathlib.Core.List.{List, [], _∷_}
+use Prim.Native.Nat.{ℕ, suc, _+_}
 use lib.Dec.{ltb}
-use lib.ListN.{length, getD}
-use Rattle.booleans.specs.Choice.{choose}
+use lib.ListN.{length, getD, drop}
+use Rattle.base.specs.Choice.{choose}
 use Rattle.word.specs.Words.{decoded}
 use Rattle.word.specs.declared.Word.{Word}
 use Rattle.word.specs.declared.Word.the-variants as word
@@ -34,6 +34,24 @@ signOf word.Invalid = Neither
 -- what begins at an index
 unfoldable pub signAt : List ℕ → ℕ → Sign
 signAt words at = choose (ltb at (length words)) (signOf (decoded (getD words at 0))) Neither
+
+abbrev pub isSymbol : Word → Bool
+isSymbol word.Positive = false
+isSymbol word.Negative = false
+isSymbol (word.Rule A) = false
+isSymbol (word.Symbol X) = true
+isSymbol word.End = false
+isSymbol (word.Heading n t) = false
+isSymbol word.Invalid = false
+
+-- how many words of symbols come first
+unfoldable pub symbolsFirst : List ℕ → ℕ
+symbolsFirst [] = 0
+symbolsFirst (x ∷ words) = choose (isSymbol (decoded x)) (suc (symbolsFirst words)) 0
+
+-- where the body at an index ends
+abbrev pub bodyEnd : List ℕ → ℕ → ℕ
+bodyEnd words from = from + symbolsFirst (drop from words)
 
 abbrev pub beginsBody : Sign → Bool
 beginsBody Positive = true

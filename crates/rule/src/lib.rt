@@ -1,7 +1,7 @@
 // The bodies of a rule, run one after the other: what a word begins, and how the bodies come to agree on an end.
 ghost use mathlib.Core.Path.{_≡_};
 ghost use Rattle.semantics.specs.Descent.{endsAt};
-ghost use Rattle.rule.specs.Rule.{meant, signOf, signAt, beginsBody, goesOn, openingBy, openedBy, keptBy, joinedBy, concluded};
+ghost use Rattle.rule.specs.Rule.{meant, signOf, signAt, bodyEnd, beginsBody, goesOn, openingBy, openedBy, keptBy, joinedBy, concluded};
 use word::Word;
 use word::decode;
 
@@ -50,6 +50,21 @@ pub fn sign_at(words: &[u32], at: usize) -> Sign
     } else {
         Sign::Neither
     }
+}
+
+// Where the body at an index ends.
+pub fn body_end(words: &[u32], from: usize) -> usize
+    ensures { λ r. ⌜ r ≡ bodyEnd (now (words .entry)) from ⌝ }
+{
+    let mut at = from;
+    while at < words.len() {
+        let word = decode(words[at]);
+        let Word::Symbol(_) = word else {
+            return at;
+        };
+        at = at + 1;
+    }
+    at
 }
 
 // Whether another body is to be run: one begins here, and the rule has not failed.

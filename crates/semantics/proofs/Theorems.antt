@@ -2,31 +2,31 @@
 use mathlib.Core.Path.{refl}
 use native.Mathlib.Omega.{arith}
 use Rattle.semantics.specs.Valuations.{solution}
-use Rattle.semantics.specs.Strings.{look}
+use Rattle.base.specs.Strings.{look}
 use Rattle.semantics.specs.FirstFollow.{First}
 use Rattle.semantics.specs.Descent.{descend}
 use Rattle.semantics.specs.Theorems.{Theorems}
-use Rattle.semantics.proofs.Nullable.{nullable-closed, nullable-least}
-use Rattle.semantics.proofs.LeftRecursion.{leftRecursive-iff, lowestLeftRecursive-some, lowestLeftRecursive-none}
-use Rattle.semantics.proofs.Rank.{rank-falls, rank-below}
-use Rattle.semantics.proofs.Unique.{rules-lower, solution-solves, solution-unique, solution-null}
-use Rattle.semantics.proofs.First.{first-closed, first-least, first-lookahead, least-unique}
-use Rattle.semantics.proofs.FirstNullable.{first-none}
-use Rattle.semantics.proofs.Productive.{unproductive-iff, lowest-unproductive, all-productive}
-use Rattle.semantics.proofs.Follow.{follow-least, follow-lookahead}
-use Rattle.semantics.proofs.Concatenation.{first-strung, follow-strung, claims-strung}
-use Rattle.semantics.proofs.Claims.{clashes-elim, clashes-make, table-some, table-none, everyEnds-elim, everyEnds-make}
-use Rattle.semantics.proofs.Columns.{strings-columns, first-clash}
-use Rattle.semantics.proofs.FirstSound.{first-sound, first-sound-body}
-use Rattle.semantics.proofs.Outcomes.{end-ends}
-use Rattle.semantics.proofs.Ends.{descend-forward, descend-null}
-use Rattle.semantics.proofs.Results.{descend-results, results-unique}
-use Rattle.semantics.proofs.Predictive.{table-own, own-guides, passed-iff}
-use Rattle.semantics.proofs.Verdict.{local-verdict, local-verdict-body, local-verdict-piece, verdict}
-use Rattle.semantics.proofs.Measure.{tokens-then-rank}
-use Rattle.semantics.proofs.Called.{calls-listing, count-listing, count-bound, farthest-most, farthest-called}
-use Rattle.semantics.proofs.Range.{all-ordered}
-use Rattle.semantics.proofs.Memo.{memo-recorded}
+use Rattle.semantics.proofs.meaning.Nullable.{nullable-closed, nullable-least}
+use Rattle.semantics.proofs.meaning.LeftRecursion.{leftRecursive-iff, lowestLeftRecursive-some, lowestLeftRecursive-none}
+use Rattle.semantics.proofs.meaning.Rank.{rank-falls, rank-below}
+use Rattle.semantics.proofs.meaning.Unique.{rules-lower, solution-solves, solution-unique, solution-null}
+use Rattle.semantics.proofs.families.First.{first-closed, first-least, first-lookahead, least-unique}
+use Rattle.semantics.proofs.families.FirstNullable.{first-none}
+use Rattle.semantics.proofs.families.Productive.{unproductive-iff, lowest-unproductive, all-productive}
+use Rattle.semantics.proofs.families.Follow.{follow-least, follow-lookahead}
+use Rattle.semantics.proofs.families.Concatenation.{first-strung, follow-strung, claims-strung}
+use Rattle.semantics.proofs.families.Claims.{clashes-elim, clashes-make, table-some, table-none, everyEnds-elim, everyEnds-make}
+use Rattle.semantics.proofs.families.Columns.{strings-columns, first-clash}
+use Rattle.semantics.proofs.families.FirstSound.{first-sound, first-sound-body}
+use Rattle.semantics.proofs.descent.Outcomes.{end-ends}
+use Rattle.semantics.proofs.descent.Ends.{descend-forward, descend-null}
+use Rattle.semantics.proofs.descent.Results.{descend-results, results-unique}
+use Rattle.semantics.proofs.descent.Predictive.{table-own, own-guides, passed-iff}
+use Rattle.semantics.proofs.descent.Verdict.{local-verdict, local-verdict-body, local-verdict-piece, verdict}
+use Rattle.semantics.proofs.descent.Measure.{tokens-then-rank}
+use Rattle.semantics.proofs.descent.Called.{calls-listing, count-listing, count-bound, farthest-most, farthest-called}
+use Rattle.semantics.proofs.descent.Range.{all-ordered}
+use Rattle.semantics.proofs.descent.Memo.{memo-recorded}
 
 pub theorems : Theorems
 theorems = record {

@@ -5,7 +5,7 @@ use Prim.Native.Nat.{ℕ, zero, suc, max}
 use lib.ListN.{length}
 use lib.Dec.{eqb}
 use Rattle.grammar.specs.Syntax.{Grammar}
-use Rattle.semantics.specs.FiniteSets.{member, keep, numbers, combine}
+use Rattle.base.specs.FiniteSets.{member, keep, numbers, combine, Distinct}
 use Rattle.semantics.specs.Valuations.{pairs}
 use Rattle.semantics.specs.Choices.{Choice}
 use Rattle.semantics.specs.ComesTo.{Call, callAt, callComesTo}
@@ -14,12 +14,6 @@ use Rattle.semantics.specs.ComesTo.{Call, callAt, callComesTo}
 pub data Called (G : Grammar) (choice : Choice) (w : List ℕ) : Call → Type 0 where
   start : Called G choice w (callAt 0 0)
   more : {x y : Call} → Called G choice w x → List·Memᴰ y (callComesTo G choice w x) → Called G choice w y
-
-module _ {A : Type 0} where
-  -- no element twice
-  abbrev pub Distinct : List A → Type 0
-  Distinct [] = Unit {0}
-  Distinct (x ∷ l) = (List·Memᴰ x l → ⊥) × Distinct l
 
 -- a list of just the calls made, each once
 pub record Listing (G : Grammar) (choice : Choice) (w : List ℕ) (l : List Call) : Type 0 where

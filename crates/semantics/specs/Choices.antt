@@ -5,7 +5,7 @@ use mathlib.Core.Option.{Option, some}
 use Prim.Native.Nat.{ℕ}
 use lib.ListN.{getElem?}
 use Rattle.grammar.specs.Syntax.{Rule, Grammar}
-use Rattle.semantics.specs.Strings.{look}
+use Rattle.base.specs.Strings.{look}
 use Rattle.semantics.specs.Families.{Table}
 use Rattle.semantics.specs.Claims.{tableOf}
 

@@ -5,10 +5,11 @@ use mathlib.Core.Option.{Option, none, some}
 use Prim.Native.Nat.{ℕ, suc}
 use lib.Dec.{eqb, ltb}
 use Rattle.grammar.specs.Syntax.{Body, Rule, Grammar}
-use Rattle.booleans.specs.Quantifiers.{anyOf, allOf}
-use Rattle.semantics.specs.FiniteSets.{member, keep}
+use Rattle.base.specs.Quantifiers.{anyOf, allOf}
+use Rattle.base.specs.FiniteSets.{member, keep}
 use Rattle.semantics.specs.Families.{Table}
-use Rattle.semantics.specs.FirstFollow.{strings, sameString, concatStrings, Entry, entries, firstSets, firstRule, followSets}
+use Rattle.base.specs.Strings.{strings, sameString}
+use Rattle.semantics.specs.FirstFollow.{concatStrings, Entry, entries, firstSets, firstRule, followSets}
 
 module _ {X : Type 0} (p : X → Bool) where
   -- two members at different places pass

@@ -9,7 +9,7 @@ use lib.Dec.{ltb, eqb}
 use Rattle.word.specs.declared.Symbol.{Symbol}
 use Rattle.word.specs.declared.Symbol.the-variants.{Terminal, Nonterminal}
 use Rattle.grammar.specs.Syntax.{Body, Rule, Grammar}
-use Rattle.booleans.specs.Quantifiers.{anyOf, allOf}
+use Rattle.base.specs.Quantifiers.{anyOf, allOf}
 use Rattle.semantics.specs.Valuations.{pairs}
 use Rattle.semantics.specs.Choices.{Choice}
 

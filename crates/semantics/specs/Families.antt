@@ -8,7 +8,7 @@ use lib.ListN.{length, take, getElem?}
 use Rattle.word.specs.declared.Symbol.{Symbol}
 use Rattle.word.specs.declared.Symbol.the-variants.{Terminal, Nonterminal}
 use Rattle.grammar.specs.Syntax.{Body, Rule, Grammar, bodies, TerminalsBelow}
-use Rattle.semantics.specs.Strings.{Lookahead}
+use Rattle.base.specs.Strings.{Lookahead}
 
 -- for each nonterminal a set of lookahead strings
 abbrev pub Family : Type 1

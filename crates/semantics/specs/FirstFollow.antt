@@ -1,27 +1,17 @@
 -- FIRST_k and FOLLOW_k, computed from the grammar as the least families that its rules close.
 use mathlib.Core.Bool.{Bool, true, false, _&&_, _||_}
 use mathlib.Core.List.{List, [], _∷_, _++_}
-use Prim.Native.Nat.{ℕ, zero, suc}
+use Prim.Native.Nat.{ℕ}
 use lib.Dec.{T, eqb}
 use lib.ListN.{take}
 use Rattle.word.specs.declared.Symbol.{Symbol}
 use Rattle.word.specs.declared.Symbol.the-variants.{Terminal, Nonterminal}
 use Rattle.grammar.specs.Syntax.{Body, Rule, Grammar, bodies}
-use Rattle.booleans.specs.Quantifiers.{anyOf, allOf}
-use Rattle.semantics.specs.FiniteSets.{member, keep, distinct, numbers, combine}
-use Rattle.semantics.specs.Rounds.{least}
+use Rattle.base.specs.Quantifiers.{anyOf, allOf}
+use Rattle.base.specs.FiniteSets.{member, keep, distinct, numbers, combine}
+use Rattle.base.specs.Rounds.{least}
+use Rattle.base.specs.Strings.{strings, sameString}
 use Rattle.semantics.specs.Families.{Family}
-
--- every string of at most k terminals below n: by the first terminal in order, and the empty string last (document 01, k = 1: the columns of a row)
-unfoldable pub strings : ℕ → ℕ → List (List ℕ)
-strings zero n = [] ∷ []
-strings (suc k) n = combine (λ a x. a ∷ x) (numbers n) (strings k n) ++ [] ∷ []
-
-unfoldable pub sameString : List ℕ → List ℕ → Bool
-sameString [] [] = true
-sameString [] (y ∷ ys) = false
-sameString (x ∷ xs) [] = false
-sameString (x ∷ xs) (y ∷ ys) = eqb x y && sameString xs ys
 
 -- the concatenation of two sets, cut to k (document 01: stringing)
 unfoldable pub concatStrings : ℕ → List (List ℕ) → List (List ℕ) → List (List ℕ)

@@ -7,9 +7,9 @@ use Prim.Native.Nat.{ℕ, _+_, _*_}
 use lib.Dec.{T, eqb}
 use Rattle.word.specs.declared.Symbol.the-variants.{Terminal, Nonterminal}
 use Rattle.grammar.specs.Syntax.{Body, Rule, Grammar, bodies}
-use Rattle.booleans.specs.Quantifiers.{anyOf, allOf, anyBelow, countBelow, lowest}
-use Rattle.semantics.specs.FiniteSets.{numbers}
-use Rattle.semantics.specs.Rounds.{NumberSet, least}
+use Rattle.base.specs.Quantifiers.{anyOf, allOf, anyBelow, countBelow, lowest}
+use Rattle.base.specs.FiniteSets.{numbers}
+use Rattle.base.specs.Rounds.{NumberSet, least}
 
 -- the body consists of nonterminals of the set
 unfoldable pub allNullable : NumberSet → Body → Bool

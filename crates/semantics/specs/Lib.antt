@@ -1,8 +1,5 @@
-pub mod FiniteSets
-pub mod Rounds
 pub mod Valuations
 pub mod LeftRecursion
-pub mod Strings
 pub mod Families
 pub mod FirstFollow
 pub mod Productive

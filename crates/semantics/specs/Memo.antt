@@ -7,8 +7,8 @@ use lib.ListN.{length, getD, replicate}
 use lib.Dec.{eqb}
 use Rattle.grammar.specs.Codes.{failedCode, uncalledCode}
 use Rattle.grammar.specs.Syntax.{Grammar}
-use Rattle.booleans.specs.Choice.{choose}
-use Rattle.semantics.specs.FiniteSets.{keep}
+use Rattle.base.specs.Choice.{choose}
+use Rattle.base.specs.FiniteSets.{keep}
 use Rattle.semantics.specs.Valuations.{pairs}
 use Rattle.semantics.specs.Choices.{Choice}
 use Rattle.semantics.specs.Descent.{Outcome, Failed, End, descend}

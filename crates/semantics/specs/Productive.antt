@@ -4,9 +4,10 @@ use mathlib.Core.List.{List}
 use mathlib.Core.Option.{Option}
 use Prim.Native.Nat.{ℕ}
 use Rattle.grammar.specs.Syntax.{Grammar}
-use Rattle.booleans.specs.Quantifiers.{anyOf, lowest}
-use Rattle.semantics.specs.Rounds.{NumberSet}
-use Rattle.semantics.specs.FirstFollow.{strings, first, First}
+use Rattle.base.specs.Quantifiers.{anyOf, lowest}
+use Rattle.base.specs.Rounds.{NumberSet}
+use Rattle.base.specs.Strings.{strings}
+use Rattle.semantics.specs.FirstFollow.{first, First}
 
 -- (document 02: a name whose first set is empty)
 abbrev pub Unproductive : Grammar → ℕ → ℕ → Type 0

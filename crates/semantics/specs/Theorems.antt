@@ -1,4 +1,4 @@
--- What this crate proves, on one page: nine statements, and in the end what each of them needs. All of it is given in proofs/Theorems.
+-- What this crate proves, on one page: twelve statements, and in the end what each of them needs. All of it is given in proofs/Theorems.
 use mathlib.Core.Path.{_≡_}
 use mathlib.Core.Bool.{true}
 use mathlib.Core.List.{List, [], _∷_, _++_, map, List·Memᴰ}
@@ -10,15 +10,15 @@ use lib.ListN.{length, getD, getElem?, take}
 use Rattle.word.specs.declared.Symbol.{Symbol}
 use Rattle.word.specs.declared.Symbol.the-variants.{Nonterminal}
 use Rattle.grammar.specs.Syntax.{Body, Rule, Grammar, bodies, NonterminalsBelow, WellScoped, WellFormed}
-use Rattle.semantics.specs.FiniteSets.{numbers}
-use Rattle.semantics.specs.Rounds.{NumberSet, _⊆ᵇ_}
+use Rattle.base.specs.FiniteSets.{numbers}
+use Rattle.base.specs.Rounds.{NumberSet, _⊆ᵇ_}
 use Rattle.semantics.specs.Valuations.{Valuation, contains, byRules, Solves, solution}
 use Rattle.semantics.specs.LeftRecursion.{nullStep, nullable, LeftDepends, LeftReaches, NoLeftRecursion, leftRecursive, lowestLeftRecursive, rank, level}
-use Rattle.semantics.specs.Strings.{span, look, Over, Lookahead}
+use Rattle.base.specs.Strings.{span, look, Over, Lookahead, strings}
 use Rattle.semantics.specs.Families.{Family, Least, Short, FirstOf, FirstBody, Strung, Meeting, FirstClosed, FollowClosed, FollowStrung, Claims, Clash}
 use Rattle.semantics.specs.Families.{EveryEnds, OwnTerminals}
 use Rattle.semantics.specs.Productive.{Unproductive, unproductive, lowestUnproductive}
-use Rattle.semantics.specs.FirstFollow.{strings, Entry, First, Follow}
+use Rattle.semantics.specs.FirstFollow.{Entry, First, Follow}
 use Rattle.semantics.specs.Claims.{clashes, column, tableOf, everyEnds}
 use Rattle.semantics.specs.Choices.{Choice, OwnRules, tableChoice}
 use Rattle.semantics.specs.Descent.{End, Outcomes, run, Results, descend, accepts}
@@ -61,14 +61,14 @@ pub record LeastSets (G : Grammar) (k : ℕ) : Type 1 where
   pub unclaimed : (A : ℕ) (x : List ℕ) → (tableOf G k A x ≡ none) ↔ ((q : ℕ) → Claims G k (First G k) (Follow G k) q A x → ⊥)
   pub ends : T (everyEnds G k) ↔ EveryEnds G k (Follow G k)
 
--- Which nonterminals are unproductive is decided, with the lowest; where there is none, each has a string in its FIRST set
+-- 4. Which nonterminals are unproductive is decided, with the lowest; where there is none, each has a string in its FIRST set
 pub record ProductiveDecided (G : Grammar) (k : ℕ) : Type 0 where
   pub test : (A : ℕ) → T (unproductive G k A) ↔ Unproductive G k A
   pub lowest : (A : ℕ)
       → (lowestUnproductive G k ≡ some A) ↔ ((A < G .nonterminals) × Unproductive G k A × ((B : ℕ) → B < A → Unproductive G k B → ⊥))
   pub absent : (lowestUnproductive G k ≡ none) ↔ ((A : ℕ) → A < G .nonterminals → (x : List ℕ) × First G k A x)
 
--- With one token of lookahead, in document 01's words: sets are strung together, and the entries of a row are its columns, terminals in order and the
+-- 5. With one token of lookahead, in document 01's words: sets are strung together, and the entries of a row are its columns, terminals in order and the
 -- end last; the first clash is the first by nonterminal, then by column
 pub record OneToken (G : Grammar) : Type 1 where
   pub first : (X : Symbol) (b : Body) (x : List ℕ)
@@ -80,7 +80,7 @@ pub record OneToken (G : Grammar) : Type 1 where
   pub first-clash : (A : ℕ) (x : List ℕ) (l : List Entry) → clashes G 1 ≡ (A, x) ∷ l → (B : ℕ) (y : List ℕ) → Clash G 1 (First G 1) (Follow G 1) B y
       → (A < B) ⊎ ((A ≡ B) × (column (G .terminals) x ≤ column (G .terminals) y))
 
--- 4. FIRST sets are sound for a solution v: a span begins as its nonterminal or body says, and what derives an empty span is nullable
+-- 6. FIRST sets are sound for a solution v: a span begins as its nonterminal or body says, and what derives an empty span is nullable
 pub record SoundFirst (G : Grammar) (k : ℕ) (w : List ℕ) (v : Valuation) : Type 0 where
   pub nonterminal : (A i j : ℕ) → A < G .nonterminals → i ≤ j → j ≤ length w → T (v A i j) → First G k A (take k (span w i j))
   pub body : (b : Body) → NonterminalsBelow (G .nonterminals) b → (i j : ℕ) → i ≤ j → j ≤ length w → T (contains v w b i j)
@@ -95,7 +95,7 @@ pub record Piece (k : ℕ) (L : Family) (w : List ℕ) (v : Valuation) (c : Outc
   pub follow : L A (look k w m)
   pub derived : v A i m ≡ true
 
--- 5. The local verdict for a solution v, where the lookahead string at j can follow: for a nonterminal, for the rest of a body of a rule,
+-- 7. The local verdict for a solution v, where the lookahead string at j can follow: for a nonterminal, for the rest of a body of a rule,
 -- and so for each nonterminal that such a rest begins with
 pub record LocalVerdict (G : Grammar) (k : ℕ) (w : List ℕ) (v : Valuation) : Type 0 where
   pub nonterminal : (A i j : ℕ) → A < G .nonterminals → i ≤ j → j ≤ length w → Follow G k A (look k w j)
@@ -107,11 +107,11 @@ pub record LocalVerdict (G : Grammar) (k : ℕ) (w : List ℕ) (v : Valuation) :
       → (i j : ℕ) → i ≤ j → j ≤ length w → Follow G k (r .head) (look k w j) → run (descend G (tableChoice G k w) w) w (Nonterminal A ∷ b) i ≡ End j
       → (m : ℕ) × Piece k (Follow G k) w v (descend G (tableChoice G k w) w) A b i m j
 
--- 6. The verdict for a solution v
+-- 8. The verdict for a solution v
 abbrev pub VerdictByMeaning : Grammar → ℕ → List ℕ → Valuation → Type 0
 VerdictByMeaning G k w v = accepts G (tableChoice G k w) w ≡ v 0 0 (length w)
 
--- 7. The descent ends: its outcomes are what the rules give and the only such ones; from each call to those it makes the tokens left fall, or else
+-- 9. The descent ends: its outcomes are what the rules give and the only such ones; from each call to those it makes the tokens left fall, or else
 -- the rank does
 pub record DescentEnds (G : Grammar) (choice : Choice) (w : List ℕ) : Type 0 where
   pub unfolds : Results G choice w (descend G choice w)
@@ -121,7 +121,7 @@ pub record DescentEnds (G : Grammar) (choice : Choice) (w : List ℕ) : Type 0 w
   pub falls : (x : Call) → InRange G w x → (y : Call) → List·Memᴰ y (callComesTo G choice w x)
       → InRange G w y × (x .place ≤ y .place) × (y .place ≡ x .place → rank G (y .nonterminal) < rank G (x .nonterminal))
 
--- 8. The calls are listed, each once; any such list has their number; they are at most one for each nonterminal and place; the farthest place is a call's
+-- 10. The calls are listed, each once; any such list has their number; they are at most one for each nonterminal and place; the farthest place is a call's
 pub record CallsCounted (G : Grammar) (choice : Choice) (w : List ℕ) : Type 0 where
   pub listing : Listing G choice w (calls G choice w)
   pub count : (l : List Call) → Listing G choice w l → length l ≡ callCount G choice w
@@ -129,7 +129,7 @@ pub record CallsCounted (G : Grammar) (choice : Choice) (w : List ℕ) : Type 0 
   pub farthest-most : (x : Call) → Called G choice w x → x .place ≤ farthest G choice w
   pub farthest-called : (x : Call) × Called G choice w x × (x .place ≡ farthest G choice w)
 
--- 9. The memo table changes no outcome, and in the end holds the results of the calls and nothing else; the list of all calls is in its order
+-- 11. The memo table changes no outcome, and in the end holds the results of the calls and nothing else; the list of all calls is in its order
 pub record MemoRight (G : Grammar) (choice : Choice) (w : List ℕ) : Type 0 where
   pub outcome : memoStart G choice w .outcome ≡ descend G choice w 0 0
   pub recorded : Recorded G choice w (memoStart G choice w .memo)
@@ -141,6 +141,7 @@ pub record Theorems : Type 1 where
   pub left-recursion-decided : (G : Grammar) → WellScoped G → LeftRecursionDecided G
   pub least-sets : (G : Grammar) → WellScoped G → OwnTerminals G → 0 < G .nonterminals → (k : ℕ) → LeastSets G k
   pub productive-decided : (G : Grammar) (k : ℕ) → ProductiveDecided G k
+  -- 12. Two families that are the least closed ones are one
   pub least-unique : (Closed : Family → Type 0) (F F′ : Family) → Least Closed F → Least Closed F′ → (A : ℕ) (x : List ℕ) → F A x ↔ F′ A x
   pub one-token : (G : Grammar) → OneToken G
   pub sound-first : (G : Grammar) → WellScoped G → NoLeftRecursion G → (k : ℕ) (w : List ℕ) → Over (G .terminals) w
@@ -154,6 +155,6 @@ pub record Theorems : Type 1 where
       → (choice : Choice) → OwnRules G choice → (w : List ℕ) → CallsCounted G choice w
   pub memo-right : (G : Grammar) → WellScoped G → NoLeftRecursion G → 0 < G .nonterminals
       → (choice : Choice) → OwnRules G choice → (w : List ℕ) → EndsFit w → MemoRight G choice w
-  -- the needs of 5 to 9 are met: the table's choice is of own rules, and of the well-formed grammars just those that pass are predictive
+  -- the needs of 7 to 11 are met: the table's choice is of own rules, and of the well-formed grammars just those that pass are predictive
   pub own-rules : (G : Grammar) (k : ℕ) (w : List ℕ) → OwnRules G (tableChoice G k w)
   pub passed : (G : Grammar) (k : ℕ) → 0 < k → WellFormed G → 0 < G .nonterminals → ((lowestLeftRecursive G ≡ none) × (clashes G k ≡ [])) ↔ Predictive G k

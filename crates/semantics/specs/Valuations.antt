@@ -7,7 +7,7 @@ use lib.ListN.{length, getD}
 use lib.Dec.{leb, ltb, eqb}
 use Rattle.word.specs.declared.Symbol.the-variants.{Terminal, Nonterminal}
 use Rattle.grammar.specs.Syntax.{Body, Rule, Grammar}
-use Rattle.booleans.specs.Quantifiers.{anyOf, allOf, anyBelow}
+use Rattle.base.specs.Quantifiers.{anyOf, allOf, anyBelow}
 
 -- yes or no for a nonterminal and a span from i to j (document 01: a way)
 abbrev pub Valuation : Type 0

@@ -6,7 +6,7 @@ ghost use Rattle.grammar.specs.Limits.{maxNonterminals};
 ghost use Rattle.families.specs.Least.{Adds};
 use families::SETS;
 use families::nonterminals::Nonterminals;
-use lookahead::LookaheadSet;
+use lookahead_sets::LookaheadSet;
 
 // Joins a set into that of n; whether it has grown.
 pub(crate) fn add(sets: &mut [u64; SETS], n: u32, set: LookaheadSet) -> bool

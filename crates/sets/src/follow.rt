@@ -9,7 +9,7 @@ ghost use Rattle.grammar.specs.Starts.{ruleStarts};
 ghost use Rattle.admission.specs.Admission.{admission};
 ghost use Rattle.families.specs.Follow.{Asked, FollowRules, FollowNumbersClosed};
 ghost use Rattle.families.specs.Least.{at as family, AddsTo, Passes};
-ghost use Rattle.families.specs.Lists.{listed};
+ghost use Rattle.base.specs.Lists.{listed};
 ghost use Rattle.families.specs.Naming.{nonterminalOf, Indexed};
 ghost use Rattle.families.specs.Rules.{RuleWords, PassGiven};
 ghost use Rattle.families.specs.Sets.{firstNumber, followNumber};
@@ -18,11 +18,12 @@ use super::family::either;
 use super::rules::end_of;
 use super::rules::head_of;
 use super::rules::turn;
+use concatenation::concat;
 use families::SETS;
 use grammar::limits::RULES;
 use grammar::reading::Sizes;
 use lookahead::Lookahead;
-use lookahead::LookaheadSet;
+use lookahead_sets::LookaheadSet;
 use rests::tail_before;
 use word::Symbol;
 use word::Word;
@@ -58,7 +59,7 @@ fn follow_rule(
     let follow = LookaheadSet {
         bits: follows[head as usize],
     };
-    let behind = LookaheadSet::end(lookahead).concat(lookahead, follow);
+    let behind = concat(LookaheadSet::end(lookahead), lookahead, follow);
     let mut grown = false;
     let mut tail = behind;
     let mut at = end;

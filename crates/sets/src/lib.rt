@@ -7,12 +7,11 @@ use admission::admit;
 use answer::Error;
 use families::Families;
 use families::Finding;
-use families::Flaw;
-use families::Lowest;
 use families::SETS;
 use first::first_sets;
-use flaws::lowest_with;
+use flaws::finding_of;
 use follow::follow_sets;
+use grammar::limits::RULES;
 use grammar::reading::Outcome;
 use grammar::reading::Sizes;
 use left::reached;
@@ -21,7 +20,6 @@ use reader::rule_starts;
 
 mod family;
 mod first;
-mod flaws;
 mod follow;
 mod left;
 pub mod rules;
@@ -31,7 +29,9 @@ fn refused(error: Error) -> Families
 {
     Families {
         finding: Finding::Refused(error),
+        starts: [0usize; RULES],
         firsts: [0u64; SETS],
+        meets: [0u64; RULES],
         follows: [0u64; SETS],
         reaches: [0u32; SETS],
     }
@@ -42,26 +42,24 @@ fn analyze_grammar(words: &[u32], sizes: Sizes, lookahead: Lookahead) -> Familie
     requires { ⌜ admission lookahead (now words) ≡ Read sizes ⌝ }
     ensures { λ r. ⌜ r ≡ familiesOf lookahead (now (words .entry)) ⌝ }
 {
-    let nonterminals = sizes.nonterminals;
     let starts = rule_starts(words);
-    let firsts = first_sets(words, &starts, sizes, lookahead);
+    let mut meets = [0u64; RULES];
+    let firsts = first_sets(words, &starts, sizes, &mut meets, lookahead);
     let reaches = reached(words, &starts, sizes, &firsts, lookahead);
-    let recursive = lowest_with(Flaw::LeftRecursive, &firsts, &reaches, nonterminals);
-    let unproductive = lowest_with(Flaw::Unproductive, &firsts, &reaches, nonterminals);
-    match recursive {
-        Lowest::At(nonterminal) => refused(Error::LeftRecursive(nonterminal)),
-        Lowest::Absent => match unproductive {
-            Lowest::At(nonterminal) => refused(Error::Unproductive(nonterminal)),
-            Lowest::Absent => {
-                let follows = follow_sets(words, &starts, sizes, &firsts, lookahead);
-                Families {
-                    finding: Finding::Passed(sizes),
-                    firsts,
-                    follows,
-                    reaches,
-                }
+    let finding = finding_of(sizes, &firsts, &reaches);
+    match finding {
+        Finding::Refused(error) => refused(error),
+        Finding::Passed(_) => {
+            let follows = follow_sets(words, &starts, sizes, &firsts, lookahead);
+            Families {
+                finding,
+                starts,
+                firsts,
+                meets,
+                follows,
+                reaches,
             }
-        },
+        }
     }
 }
 

@@ -3,7 +3,7 @@ use mathlib.Core.Path.{_≡_, refl}
 use mathlib.Core.List.{[], _∷_}
 use Rattle.grammar.specs.declared.reading.Outcome.the-variants.{Read}
 use Rattle.grammar.specs.Encoding.{sizes}
-use Rattle.booleans.specs.Quantifiers.{countBelow}
+use Rattle.base.specs.Quantifiers.{countBelow}
 use Rattle.lookahead.specs.Elements.{has, size}
 use Rattle.text.specs.Ascii.{ascii}
 use Rattle.text.specs.Decimal.{digits, decimal, orDash}

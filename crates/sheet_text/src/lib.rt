@@ -14,7 +14,7 @@ use grammar::limits::COLUMNS;
 use grammar::limits::NONTERMINALS;
 use grammar::reading::Outcome;
 use grammar::reading::Sizes;
-use lookahead::LookaheadSet;
+use lookahead_sets::LookaheadSet;
 use reader::read;
 use text::put::put_bytes;
 use text::put::put_labelled;

@@ -11,10 +11,10 @@ use Rattle.grammar.specs.Limits.{maxNonterminals}
 use Rattle.lookahead.specs.Elements.{has}
 use Rattle.lookahead.specs.Operations.{join, meet}
 use Rattle.lookahead.proofs.Operations.{has-empty, has-join, has-meet}
-use Rattle.booleans.specs.Quantifiers.{anyOf}
-use Rattle.semantics.specs.FiniteSets.{numbersFrom, numbers}
+use Rattle.base.specs.Quantifiers.{anyOf}
+use Rattle.base.specs.FiniteSets.{numbersFrom, numbers}
 use Rattle.semantics.specs.Claims.{several}
-use Rattle.families.proofs.Lists.{getD-zeros}
+use Rattle.base.proofs.Lists.{getD-zeros}
 use Rattle.claims.specs.Claims.{claimant}
 use Rattle.table.specs.Conflicts.{Noted, Twice}
 use Rattle.claims.proofs.Claimants.{claimant-own, claimant-other, numbers-before}

@@ -17,7 +17,8 @@ use Rattle.semantics.specs.Claims.{several, claims, overruns, clashing}
 use Rattle.table.specs.declared.conflicts.Conflict.{Conflict}
 use Rattle.table.specs.declared.conflicts.Conflict.the-variants.{Absent, At}
 use Rattle.columns.specs.Columns.{columnString, columnElement, columns}
-use Rattle.claims.specs.Claims.{headsOf, claimNumbers, byRule}
+use Rattle.claims.specs.Claims.{headsOf, claimNumbers}
+use Rattle.families.specs.RuleLists.{byRule}
 use Rattle.claims.specs.Overruns.{overrunSet}
 use Rattle.table.specs.Conflicts.{rowConflict, orLater, conflictFrom, firstClash, inSet, inSets, claimedTwice, Twice}
 use Rattle.columns.proofs.ColumnStrings.{column-string, element-small}

@@ -12,12 +12,13 @@ use Rattle.grammar.specs.Limits.{maxNonterminals, maxEntries}
 use Rattle.grammar.specs.Syntax.{Grammar}
 use Rattle.lookahead.specs.declared.Lookahead.{Lookahead}
 use Rattle.lookahead.specs.Lookaheads.{tokens, alphabet}
-use Rattle.semantics.specs.FiniteSets.{numbers}
+use Rattle.base.specs.FiniteSets.{numbers}
 use Rattle.semantics.specs.Claims.{tableOf}
-use Rattle.families.specs.Lists.{listed}
-use Rattle.families.proofs.Lists.{listed-long, listed-at}
+use Rattle.base.specs.Lists.{listed}
+use Rattle.families.specs.RuleLists.{byRule}
+use Rattle.base.proofs.Lists.{listed-long, listed-at}
 use Rattle.columns.specs.Columns.{columnElement, columnString, columns}
-use Rattle.claims.specs.Claims.{headsOf, claimNumbers, byRule}
+use Rattle.claims.specs.Claims.{headsOf, claimNumbers}
 use Rattle.table.specs.Entries.{ruleByte, byteAt, entriesOf, noRules, entryOver, rowsOf, FilledRows}
 use Rattle.claims.proofs.Claimants.{first-claim, told}
 use Rattle.columns.proofs.ColumnStrings.{some-column, column-count, column-string, element-small}

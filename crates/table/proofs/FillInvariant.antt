@@ -9,11 +9,11 @@ use native.Mathlib.Decide.{ℕ-discrete, decLt}
 use native.Mathlib.Nat.{suc-mul, mul-le-mul, mul-le-mul-right}
 use native.Mathlib.Omega.{arith}
 use lib.ListN.{getD}
-use Rattle.booleans.specs.Choice.{choose}
+use Rattle.base.specs.Choice.{choose}
 use Rattle.grammar.specs.Limits.{maxNonterminals, maxWideColumns, maxEntries}
 use Rattle.grammar.specs.declared.reading.Sizes.{Sizes}
 use Rattle.lookahead.specs.declared.Lookahead.{Lookahead}
-use Rattle.semantics.specs.FiniteSets.{numbersFrom, numbers}
+use Rattle.base.specs.FiniteSets.{numbersFrom, numbers}
 use Rattle.semantics.specs.Claims.{position}
 use Rattle.columns.specs.Columns.{columnCount}
 use Rattle.claims.specs.Claims.{claimant}

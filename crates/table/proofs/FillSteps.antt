@@ -1,4 +1,4 @@
--- One turn of the loops that fill an array from an index on: the columns of a row, and the words.
+-- One turn of the loop that fills the columns of a row.
 use mathlib.Core.Path.{_≡_, refl, _∙_}
 use mathlib.Core.List.{List}
 use mathlib.Core.Logic.{_⊎_, inl, inr}
@@ -7,10 +7,9 @@ use native.Mathlib.Decide.{ℕ-discrete}
 use native.Mathlib.Omega.{arith}
 use lib.ListN.{length, getD, set, length-set}
 use lib.Seq.{getD-set-same, getD-set-other}
-use Rattle.booleans.specs.Choice.{choose}
+use Rattle.base.specs.Choice.{choose}
 use Rattle.lookahead.specs.Elements.{has}
 use Rattle.table.specs.Entries.{FilledRow}
-use Rattle.table.specs.Layout.{FilledWords}
 
 -- the columns of a row
 pub row-none : (table : List ℕ) (row : ℕ) (element : ℕ → ℕ) (claim rule : ℕ) → FilledRow table row element 0 claim rule table
@@ -38,19 +37,3 @@ row-more {before} {row} {element} {n} {claim} {rule} {after} {v} f h e = record 
     wider : (i : ℕ) → (i < row) ⊎ (row + (n + 1) ≤ i) → (i < row) ⊎ (row + n ≤ i)
     wider i (inl l) = inl l
     wider i (inr l) = inr (omega arith)
-
--- the words
-pub words-none : (word : ℕ → ℕ) (table : List ℕ) → FilledWords word 0 table table
-words-none word table = record { long = refl; inside = λ i h. absurd (omega arith); behind = λ i h. refl }
-
-pub words-more : {word : ℕ → ℕ} {n : ℕ} {before after : List ℕ} {v : ℕ} → FilledWords word n before after → n < length after → v ≡ word n
-    → FilledWords word (n + 1) before (set after n v)
-words-more {word} {n} {before} {after} {v} f h e = record {
-  long = length-set after n v ∙ f .long;
-  inside = λ i l. within i l (ℕ-discrete i n);
-  behind = λ i l. getD-set-other after n i v 0 (λ d. omega arith) ∙ f .behind i (omega arith);
-}
-  where
-    within : (i : ℕ) → i < n + 1 → Dec (i ≡ n) → getD (set after n v) i 0 ≡ word i
-    within i l (yes d) = rw (d, getD-set-same after n v 0 h) e
-    within i l (no ne) = getD-set-other after n i v 0 ne ∙ f .inside i (omega arith)

@@ -7,16 +7,16 @@ use Prim.Native.Nat.{ℕ, zero, suc, _+_, _≤_, _<_}
 use native.Mathlib.Decide.{ℕ-discrete}
 use native.Mathlib.Omega.{arith}
 use lib.Dec.{T}
-use Rattle.booleans.specs.Choice.{choose}
+use Rattle.base.specs.Choice.{choose}
 use Rattle.grammar.specs.Syntax.{Grammar}
 use Rattle.lookahead.specs.declared.Lookahead.{Lookahead}
 use Rattle.lookahead.specs.Lookaheads.{tokens, alphabet}
 use Rattle.semantics.specs.FirstFollow.{Entry, entries}
-use Rattle.semantics.specs.Strings.{Lookahead as Looked}
+use Rattle.base.specs.Strings.{Lookahead as Looked}
 use Rattle.semantics.specs.Claims.{clashing, clashes}
-use Rattle.semantics.proofs.Claims.{clashing-elim, clashes-make}
-use Rattle.semantics.proofs.FiniteSets.{keep-elim}
-use Rattle.semantics.proofs.LookaheadSets.{entries-elim}
+use Rattle.semantics.proofs.families.Claims.{clashing-elim, clashes-make}
+use Rattle.base.proofs.FiniteSets.{keep-elim}
+use Rattle.semantics.proofs.families.LookaheadSets.{entries-elim}
 use Rattle.table.specs.declared.conflicts.Conflict.{Conflict}
 use Rattle.table.specs.declared.conflicts.Conflict.the-variants.{Absent, At}
 use Rattle.columns.specs.Columns.{columnString, columnOf, columns}

@@ -5,7 +5,7 @@ use mathlib.Core.List.{[], _∷_}
 use Prim.Native.Nat.{ℕ, _≤_, _<_}
 use native.Mathlib.Omega.{arith}
 use lib.Dec.{T, eqb, ltb, eqb→eq, eqb-refl, lt→ltb}
-use Rattle.booleans.proofs.Booleans.{and-r, and-make, both}
+use Rattle.base.proofs.Booleans.{and-r, and-make, both}
 use Rattle.lookahead.specs.declared.Lookahead.{Lookahead}
 use Rattle.lookahead.specs.declared.Lookahead.the-variants.{One, Two}
 use Rattle.lookahead.specs.Lookaheads.{alphabet, elementOf, stringOf}
@@ -13,8 +13,8 @@ use Rattle.lookahead.specs.Elements.{has}
 use Rattle.lookahead.specs.Operations.{terminal}
 use Rattle.lookahead.proofs.Operations.{has-choose, has-terminal}
 use Rattle.lookahead.proofs.Strings.{element-string, string-terminal}
-use Rattle.semantics.specs.FirstFollow.{sameString}
-use Rattle.semantics.proofs.LookaheadSets.{strings-equality}
+use Rattle.base.specs.Strings.{sameString}
+use Rattle.base.proofs.LookaheadStrings.{strings-equality}
 use Rattle.claims.specs.Overruns.{overrunSet}
 use Rattle.columns.specs.Columns.{columnCount, columnString, columnElement}
 use Rattle.columns.proofs.ColumnStrings.{column-string}

@@ -1,4 +1,4 @@
--- The words of the table: how many they are, which is which, and where an entry stands in the memory that they fill.
+-- The words of the table: how many they are, which is which, and where an entry stands.
 use mathlib.Core.Path.{_≡_, ap, _∙_}
 use mathlib.Core.List.{_++_}
 use Prim.Native.Nat.{ℕ, _+_, _*_, _<_}
@@ -7,14 +7,12 @@ use native.Mathlib.Omega.{arith}
 use lib.Arith.{digits-lt, digits-div, digits-mod}
 use lib.ListN.{length, getD, length-append, List·getD-append}
 use lib.Seq.{getD-append-add}
-use Rattle.grammar.specs.Codes.{noEntry}
 use Rattle.grammar.specs.Syntax.{Grammar}
 use Rattle.lookahead.specs.declared.Lookahead.{Lookahead}
-use Rattle.families.specs.Lists.{listed}
-use Rattle.families.proofs.Lists.{listed-long, listed-at}
+use Rattle.base.specs.Lists.{listed}
+use Rattle.base.proofs.Lists.{listed-long, listed-at}
 use Rattle.columns.specs.Columns.{columns}
-use Rattle.table.specs.Layout.{entryAt, setWord, rowWord, tableWords, tableRoom, filled}
-use Rattle.table.proofs.Padded.{padded-in}
+use Rattle.table.specs.Layout.{entryAt, setWord, rowWord, tableWords}
 
 module _ (k : Lookahead) (G : Grammar) where
   abbrev setCount : ℕ
@@ -48,15 +46,12 @@ module _ (k : Lookahead) (G : Grammar) where
       ∙ getD-append-add (listed setCount (setWord k G)) (listed rowCount (rowWord k G)) i 0
       ∙ listed-at rowCount (rowWord k G) i h
 
-  -- the entries of a grammar in its filled table
-  pub filled-entries : (A c : ℕ) → A < G .nonterminals → c < columns k G
-      → getD (filled k (tableWords k G)) (2 * G .nonterminals + A * columns k G + c) 0 ≡ entryAt k G A c
-  unfolding filled rowWord
-  filled-entries A c a h =
+  -- where an entry stands
+  pub table-entry : (A c : ℕ) → A < G .nonterminals → c < columns k G
+      → getD (tableWords k G) (2 * G .nonterminals + A * columns k G + c) 0 ≡ entryAt k G A c
+  unfolding rowWord
+  table-entry A c a h =
       let i = A * columns k G + c in
       let low : i < G .nonterminals * columns k G = digits-lt a h in
       let place : 2 * G .nonterminals + A * columns k G + c ≡ 2 * G .nonterminals + i = omega arith in
-      ap (λ j. getD (filled k (tableWords k G)) j 0) place
-      ∙ padded-in (tableRoom k) noEntry (tableWords k G) (2 * G .nonterminals + i) (omega (arith, table-length))
-      ∙ table-row i low
-      ∙ rw (digits-div A h, digits-mod A h)
+      ap (λ j. getD (tableWords k G) j 0) place ∙ table-row i low ∙ rw (digits-div A h, digits-mod A h)

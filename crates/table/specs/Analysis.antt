@@ -1,12 +1,10 @@
--- What is found of an encoded grammar: the first fault among the errors 3 to 8, 13, 18 and 9, or its sizes, its entries and the words of its table.
+-- What is found of an encoded grammar: the first fault among the errors 3 to 8, 13, 18 and 9, or its sizes, its sets and its entries.
 use mathlib.Core.List.{List, [], _∷_, _++_}
 use mathlib.Core.Option.{Option, none, some}
 use Prim.Native.Nat.{ℕ}
-use lib.ListN.{replicate}
 use Rattle.answer.specs.declared.Error.{Error}
 use Rattle.answer.specs.declared.Error.the-variants as error
 use Rattle.answer.specs.Faults.{firstFault}
-use Rattle.grammar.specs.Codes.{noEntry}
 use Rattle.grammar.specs.Limits.{maxNonterminals}
 use Rattle.grammar.specs.Encoding.{grammarOf}
 use Rattle.lookahead.specs.declared.Lookahead.{Lookahead}
@@ -14,14 +12,11 @@ use Rattle.lookahead.specs.declared.Lookahead.the-variants.{One, Two}
 use Rattle.admission.specs.Admission.{admission}
 use Rattle.families.specs.declared.Finding.{Finding}
 use Rattle.families.specs.Analysis.{setsFaults, setsFault, findingOf, setsIf}
-use Rattle.families.specs.Lists.{listed}
+use Rattle.base.specs.Lists.{listed}
 use Rattle.families.specs.Sets.{firstNumber, followNumber}
-use Rattle.table.specs.declared.Analysis.{Analysis}
-use Rattle.table.specs.declared.WideAnalysis.{WideAnalysis}
 use Rattle.table.specs.declared.Found.{Found}
 use Rattle.table.specs.declared.conflicts.Conflict.{Conflict}
 use Rattle.table.specs.declared.conflicts.Conflict.the-variants.{Absent, At}
-use Rattle.table.specs.Layout.{tableWords, tableRoom, filled}
 use Rattle.table.specs.Entries.{entriesOf, noRules}
 use Rattle.table.specs.Conflicts.{firstClash}
 
@@ -45,11 +40,6 @@ abbrev pub entriesIf : Option Error → List ℕ → List ℕ
 entriesIf none l = l
 entriesIf (some e) l = noRules
 
-abbrev pub tableIf : Lookahead → Option Error → List ℕ → List ℕ
-tableIf k none l = l
-tableIf k (some e) l = replicate (tableRoom k) noEntry
-
--- before the words are laid out
 abbrev pub foundWith : Finding → List ℕ → List ℕ → List ℕ → Found
 foundWith f firsts follows entries = record { finding = f; firsts = firsts; follows = follows; entries = entries }
 
@@ -59,18 +49,3 @@ foundOf k words =
     (setsIf (setsFault k words) (listed maxNonterminals (firstNumber k (grammarOf words))))
     (setsIf (setsFault k words) (listed maxNonterminals (followNumber k (grammarOf words))))
     (entriesIf (fault k words) (entriesOf k (grammarOf words)))
-
--- and with them: the words have a type of their own for each lookahead
-abbrev pub Analyzed : Lookahead → Type 0
-Analyzed One = Analysis
-Analyzed Two = WideAnalysis
-
-abbrev pub analysis : (k : Lookahead) → Finding → List ℕ → List ℕ → Analyzed k
-analysis One f entries table = record { finding = f; entries = entries; table = table }
-analysis Two f entries table = record { finding = f; entries = entries; table = table }
-
-unfoldable pub analyzed : (k : Lookahead) → List ℕ → Analyzed k
-analyzed k words =
-    analysis k (findingOf (fault k words) (admission k words))
-    (entriesIf (fault k words) (entriesOf k (grammarOf words)))
-    (tableIf k (fault k words) (filled k (tableWords k (grammarOf words))))

@@ -5,7 +5,7 @@ use mathlib.Core.Logic.{_⊎_}
 use mathlib.Core.Option.{Option, none, some}
 use Prim.Native.Nat.{ℕ, _+_, _*_, _/_, _%_, _≤_, _<_}
 use lib.ListN.{length, getD, replicate}
-use Rattle.booleans.specs.Choice.{choose}
+use Rattle.base.specs.Choice.{choose}
 use Rattle.grammar.specs.Codes.{noRule}
 use Rattle.grammar.specs.Limits.{maxEntries}
 use Rattle.grammar.specs.Syntax.{Grammar}
@@ -14,7 +14,7 @@ use Rattle.lookahead.specs.declared.Lookahead.{Lookahead}
 use Rattle.lookahead.specs.Lookaheads.{tokens, alphabet}
 use Rattle.lookahead.specs.Elements.{has}
 use Rattle.semantics.specs.Claims.{position, tableOf}
-use Rattle.families.specs.Lists.{listed}
+use Rattle.base.specs.Lists.{listed}
 use Rattle.columns.specs.Columns.{columnCount, columnElement, columnString, columns}
 use Rattle.table.specs.Layout.{padded}
 use Rattle.claims.specs.Claims.{claimant, Headed}

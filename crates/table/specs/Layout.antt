@@ -5,7 +5,7 @@ use mathlib.Core.Option.{Option, none, some}
 use Prim.Native.Nat.{ℕ, _+_, _-_, _*_, _/_, _%_, _^_, _≤_, _<_}
 use lib.Dec.{eqb, ltb}
 use lib.ListN.{length, getD, replicate}
-use Rattle.booleans.specs.Choice.{choose}
+use Rattle.base.specs.Choice.{choose}
 use Rattle.grammar.specs.Codes.{noEntry, noRule}
 use Rattle.grammar.specs.Limits.{maxNonterminals, maxWideColumns, maxTableWords, maxWideTableWords}
 use Rattle.grammar.specs.Syntax.{Grammar}
@@ -14,7 +14,7 @@ use Rattle.lookahead.specs.declared.Lookahead.{Lookahead}
 use Rattle.lookahead.specs.declared.Lookahead.the-variants.{One, Two}
 use Rattle.lookahead.specs.Lookaheads.{tokens}
 use Rattle.semantics.specs.Claims.{tableOf}
-use Rattle.families.specs.Lists.{listed}
+use Rattle.base.specs.Lists.{listed}
 use Rattle.families.specs.Sets.{firstNumber, followNumber}
 use Rattle.columns.specs.Columns.{columnCount, columnString, columns}
 
@@ -44,39 +44,3 @@ tableRoom Two = maxWideTableWords
 -- a list in an array of n, and v behind it
 abbrev pub padded : ℕ → ℕ → List ℕ → List ℕ
 padded n v l = l ++ replicate (n - length l) v
-
--- all of the memory: the table, and behind it no entries
-unfoldable pub filled : Lookahead → List ℕ → List ℕ
-filled k l = padded (tableRoom k) noEntry l
-
--- The same by arrays of sets and of entries, as the code lays it out: an entry as a word
-unfoldable pub entryCode : ℕ → ℕ
-entryCode b = choose (eqb b noRule) noEntry b
-
--- the word at an index
-unfoldable pub wordAt : ℕ → List ℕ → List ℕ → List ℕ → ℕ → ℕ
-wordAt nonterminals firsts follows entries i =
-    choose (ltb i (2 * nonterminals)) (choose (eqb (i % 2) 0) (getD firsts (i / 2) 0) (getD follows (i / 2) 0)) (entryCode (getD entries (i - 2 * nonterminals) 0))
-
--- how many words there are
-abbrev pub wordCount : Lookahead → Sizes → ℕ
-wordCount k z = z .nonterminals * (2 + columnCount k (z .terminals))
-
-unfoldable pub wordsOf : Lookahead → Sizes → List ℕ → List ℕ → List ℕ → List ℕ
-wordsOf k z firsts follows entries = filled k (listed (wordCount k z) (wordAt (z .nonterminals) firsts follows entries))
-
--- the first n words are written
-pub record FilledWords (word : ℕ → ℕ) (n : ℕ) (before after : List ℕ) : Type 0 where
-  pub long : length after ≡ length before
-  pub inside : (i : ℕ) → i < n → getD after i 0 ≡ word i
-  pub behind : (i : ℕ) → n ≤ i → getD after i 0 ≡ getD before i 0
-
--- there is room for them
-pub record WordsGiven (k : Lookahead) (z : Sizes) : Type 0 where
-  pub few : z .nonterminals ≤ maxNonterminals
-  pub room : wordCount k z ≤ tableRoom k
-  pub row : columnCount k (z .terminals) ≤ maxWideColumns
-
--- with one token of lookahead each fits a word of 32 bits
-abbrev pub FitWords : Sizes → List ℕ → List ℕ → List ℕ → Type 0
-FitWords z firsts follows entries = (i : ℕ) → i < wordCount One z → wordAt (z .nonterminals) firsts follows entries i < 2 ^ 32

@@ -13,7 +13,7 @@ use families::SETS;
 use grammar::limits::RULES;
 use grammar::reading::Sizes;
 use lookahead::Lookahead;
-use lookahead::LookaheadSet;
+use lookahead_sets::LookaheadSet;
 
 // By nonterminal, then by column.
 pub enum Conflict {

@@ -2,11 +2,11 @@
 ghost use mathlib.Core.Path.{_≡_};
 ghost use Prim.Native.Nat.{_+_, _≤_};
 ghost use lib.ListN.{length};
-ghost use Rattle.booleans.specs.Choice.{choose};
+ghost use Rattle.base.specs.Choice.{choose};
 ghost use Rattle.grammar.specs.Limits.{maxEntries};
 ghost use Rattle.lookahead.specs.Lookaheads.{alphabet};
 ghost use Rattle.lookahead.specs.Elements.{has};
-ghost use Rattle.semantics.specs.FiniteSets.{numbers};
+ghost use Rattle.base.specs.FiniteSets.{numbers};
 ghost use Rattle.columns.specs.Columns.{columnCount, columnElement};
 ghost use Rattle.table.specs.Entries.{FilledRow, rowsOf, RowsGiven, FilledRows, noRules};
 use columns::count;
@@ -16,7 +16,7 @@ use grammar::limits::ENTRIES;
 use grammar::limits::RULES;
 use grammar::reading::Sizes;
 use lookahead::Lookahead;
-use lookahead::LookaheadSet;
+use lookahead_sets::LookaheadSet;
 
 // The rule where it claims the element, else what stood there.
 fn entry(claim: LookaheadSet, element: u32, rule: u8, old: u8) -> u8

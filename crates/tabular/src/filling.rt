@@ -1,18 +1,19 @@
 // The chart filled from short spans to long ones, and at each span in the order of rank.
 ghost use Rattle.tabular_promises.specs.Places.{Standing, InputGiven};
+ghost use Rattle.tabular_promises.specs.Chart.{AddGiven, Added};
 ghost use Prim.Native.Nat.{_+_};
 ghost use Rattle.event.specs.Events.{inputOf};
 ghost use Rattle.grammar.specs.Limits.{maxTabularTokens};
 ghost use Rattle.tabular_promises.specs.Filling.{RanksGiven, Ranked, DerivedGiven, Derived, turn, Fills, SettleGiven, LengthGiven, FillGiven, Filled};
-use super::bodies::STANDS;
-use super::bodies::keeps;
-use super::chart::CHART;
-use super::chart::add;
-use super::chart::found_by;
-use super::places::put;
+use chart::CHART;
+use chart::bodies::STANDS;
+use chart::bodies::keeps;
+use chart::found_by;
+use chart::places::put;
 use event::terminal_of;
 use families::SETS;
 use grammar::limits::RULES;
+use grammar::limits::TABULAR_PLACES;
 use grammar::reading::Sizes;
 use reader::rule_starts;
 use sets::rules::head_of;
@@ -81,6 +82,19 @@ fn derived(
         to = from;
     }
     found
+}
+
+// The chart gives a span to the nonterminals of a word too.
+fn add(chart: &mut [u64; CHART], nonterminals: u32, start: usize, end: usize, word: u32)
+    requires { ⌜ AddGiven (now chart) nonterminals start end ⌝ }
+    ensures { λ _. ⌜ Added (now (chart .entry)) nonterminals start end word (now (chart .exit)) ⌝ }
+{
+    let mut at = 0;
+    while at < nonterminals {
+        let slot = at as usize * TABULAR_PLACES + end;
+        chart[slot] = put(chart[slot], start, word >> at & 1 == 1);
+        at = at + 1;
+    }
 }
 
 // Asks the rules of one span, those of lower rank first: what a nonterminal asks of the same span is of nonterminals of lower rank.

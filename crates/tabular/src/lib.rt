@@ -3,29 +3,24 @@
 ghost use mathlib.Core.Path.{_≡_};
 ghost use Rattle.event.specs.Events.{inputOf};
 ghost use Rattle.tabular_promises.specs.Answers.{told};
-ghost use Rattle.tabular_promises.specs.Judging.{TabulateGiven, Tabulated, PassedGiven};
+ghost use Rattle.tabular_promises.specs.Judging.{TabulateGiven, Tabulated, FoundGiven};
 ghost use Rattle.tabular_promises.specs.Properties.{TabularJudges};
 use answer::Answer;
 use answer::Calls;
 use answer::Error;
-use event::Unknown;
-use event::first_unknown;
+use chart::places::contains;
+use chart::spans::write;
 use families::Finding;
 use families::SETS;
 use filling::fill;
 use grammar::limits::SPAN_WORDS;
 use grammar::limits::TABULAR_TOKENS;
 use grammar::reading::Sizes;
+use input_findings::with_input;
 use lookahead::Lookahead;
-use places::contains;
 use sets::analyze;
-use spans::write;
 
-mod bodies;
-mod chart;
 mod filling;
-mod places;
-mod spans;
 
 // Fills the lent words with the nonterminals of every span; whether nonterminal 0 has the whole input.
 fn tabulate(
@@ -57,24 +52,20 @@ fn verdict(accepted: bool) -> Answer
     }
 }
 
-// A grammar without left recursion: the input's length, its tokens, and then every span.
-fn judge_passed(
+// By what is found of the grammar and the input: why they are refused, or the verdict.
+fn judge_found(
     words: &[u32],
-    sizes: Sizes,
+    finding: Finding,
     reaches: &[u32; SETS],
     events: &[u8],
     spans: &mut [u32],
 ) -> Answer
-    requires { ⌜ PassedGiven (now words) sizes (now reaches) (now spans) ⌝ }
+    requires { ⌜ FoundGiven (now words) finding (now reaches) (inputOf (now events)) (now spans) ⌝ }
     ensures { λ r. ⌜ TabularJudges (now (words .entry)) (inputOf (now (events .entry))) (now (spans .entry)) r (now (spans .exit)) ⌝ }
 {
-    if TABULAR_TOKENS < events.len() {
-        return Answer::Refused(Error::InputTooLong);
-    }
-    let unknown = first_unknown(events, sizes.terminals);
-    match unknown {
-        Unknown::At(at) => Answer::Refused(Error::UnknownToken(at)),
-        Unknown::Absent => verdict(tabulate(words, sizes, reaches, events, spans)),
+    match finding {
+        Finding::Refused(error) => Answer::Refused(error),
+        Finding::Passed(sizes) => verdict(tabulate(words, sizes, reaches, events, spans)),
     }
 }
 
@@ -86,9 +77,6 @@ pub fn judge(words: &[u32], events: &[u8], spans: &mut [u32]) -> Answer
         return Answer::Refused(Error::SpansTooShort);
     }
     let families = analyze(words, Lookahead::One);
-    let finding = families.finding;
-    match finding {
-        Finding::Refused(error) => Answer::Refused(error),
-        Finding::Passed(sizes) => judge_passed(words, sizes, &families.reaches, events, spans),
-    }
+    let finding = with_input(families.finding, events, TABULAR_TOKENS);
+    judge_found(words, finding, &families.reaches, events, spans)
 }

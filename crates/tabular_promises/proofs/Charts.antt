@@ -2,20 +2,22 @@
 use mathlib.Core.Path.{_≡_, refl, sym, ap, _∙_}
 use mathlib.Core.Bool.{Bool, true, false, _||_, or-false}
 use mathlib.Core.List.{List}
-use Prim.Native.Nat.{ℕ, suc, _+_, _*_, _^_, _<_}
+use Prim.Native.Nat.{ℕ, suc, _+_, _*_, _^_, _≤_, _<_}
 use native.Mathlib.Decide.{ℕ-discrete}
 use native.Mathlib.Numerals.{add-one}
 use native.Mathlib.Omega.{arith}
 use lib.Bits.{bitOr, or-shifted-r}
 use lib.ListN.{length, getD, set, length-set}
 use lib.Seq.{getD-set-same, getD-set-other}
-use borrow.Author.Tests.{eq-eqb, ne-eqb}
-use Rattle.booleans.specs.Choice.{choose}
+use borrow.Author.Tests.{eq-eqb, ne-eqb, lt-ltb, le-ltb, le-leb, lt-leb}
+use Rattle.base.specs.Choice.{choose}
 use Rattle.grammar.specs.Limits.{maxNonterminals, maxTabularPlaces}
-use Rattle.lookahead.specs.Elements.{has, total}
+use Rattle.lookahead.specs.Elements.{weight, has, total}
 use Rattle.lookahead.proofs.Weights.{total-bound}
-use Rattle.tabular_promises.specs.Places.{Put}
-use Rattle.tabular_promises.specs.Chart.{slot, charted, Long, wordAt, Added}
+use Rattle.tabular_promises.specs.Places.{hasPlace, Put}
+use Rattle.tabular_promises.specs.Chart.{slot, charted, Long, oneNonterminal, withNonterminal, WordGiven, wordAt, foundWord, spanWord, Added}
+use Rattle.tabular_promises.proofs.PlaceSets.{has-place}
+use Rattle.tabular_promises.proofs.Writing.{total-cong}
 
 -- one weight more
 total-more : (p : ℕ → Bool) (k word r : ℕ) (t : Bool) → word ≡ total k p → t ≡ p k → r ≡ choose t (bitOr word (2 ^ k)) word → r ≡ total (k + 1) p
@@ -28,14 +30,49 @@ total-more p k word r t h e f = rw (f, h, e, add-one) (go (p k) refl)
         rw d (ap (bitOr (total k p)) (sym one) ∙ or-shifted-r 1 k (total k p) (total-bound k p))
     go false d = rw d (omega arith)
 
-pub word-start : (chart : List ℕ) (start end : ℕ) → 0 ≡ wordAt chart 0 start end
-unfolding wordAt total
+-- a nonterminal of a grammar
+pub one-nonterminal : (A : ℕ) → A < maxNonterminals → oneNonterminal A ≡ 2 ^ A
+unfolding oneNonterminal
+one-nonterminal A h = rw (lt-ltb A maxNonterminals h)
+
+pub no-nonterminal : (A : ℕ) → maxNonterminals ≤ A → 0 ≡ oneNonterminal A
+unfolding oneNonterminal
+no-nonterminal A h = rw (le-ltb A maxNonterminals h)
+
+pub with-nonterminal : (found A : ℕ) (there : Bool) {r : ℕ} → A < maxNonterminals → r ≡ withNonterminal found A there → r ≡ choose there (bitOr found (weight A)) found
+unfolding withNonterminal
+with-nonterminal found A there h e = e ∙ ap (λ (n : ℕ). choose there (bitOr found n) found) (one-nonterminal A h)
+
+-- one nonterminal more
+pub word-start : (chart : List ℕ) (start end : ℕ) → 0 ≡ foundWord chart 0 start end
+unfolding foundWord total
 word-start chart start end = refl
 
-pub word-more : (chart : List ℕ) (start end k word r : ℕ) (t : Bool) → word ≡ wordAt chart k start end → t ≡ has (getD chart (slot k end) 0) start
-    → r ≡ choose t (bitOr word (2 ^ k)) word → r ≡ wordAt chart (k + 1) start end
-unfolding wordAt charted
-word-more chart start end k word r t h e f = total-more (λ A. charted chart A start end) k word r t h e f
+pub word-more : (chart : List ℕ) (start end k word r : ℕ) (t : Bool) → k < maxNonterminals → word ≡ foundWord chart k start end
+    → t ≡ hasPlace (getD chart (slot k end) 0) start → r ≡ withNonterminal word k t → r ≡ foundWord chart (k + 1) start end
+unfolding foundWord
+word-more chart start end k word r t l h e f = total-more (λ A. hasPlace (getD chart (slot A end) 0) start) k word r t h e (with-nonterminal word k t l f)
+
+-- beyond the limits there is none
+pub word-of-many : (chart : List ℕ) (N start end : ℕ) → maxNonterminals < N → 0 ≡ spanWord chart N start end
+unfolding spanWord
+word-of-many chart N start end h = rw (lt-leb N maxNonterminals h)
+
+module _ (chart : List ℕ) (N start end : ℕ) (few : N ≤ maxNonterminals) where
+  pub word-beyond : maxTabularPlaces ≤ end → 0 ≡ spanWord chart N start end
+  unfolding spanWord
+  word-beyond h = rw (le-leb N maxNonterminals few, le-ltb end maxTabularPlaces h)
+
+  pub word-within : end < maxTabularPlaces → foundWord chart N start end ≡ spanWord chart N start end
+  unfolding spanWord
+  word-within h = rw (le-leb N maxNonterminals few, lt-ltb end maxTabularPlaces h)
+
+-- at a span of the input it is the chart's
+pub span-word : (chart : List ℕ) (N start end : ℕ) → WordGiven N start end → spanWord chart N start end ≡ wordAt chart N start end
+unfolding wordAt charted foundWord
+span-word chart N start end g =
+    sym (word-within chart N start end (g .few) (g .span .short))
+    ∙ total-cong N _ _ (λ A l. has-place (getD chart (slot A end) 0) start (omega (arith, g .span .forward, g .span .short)))
 
 -- the bits of the nonterminals below i have been put in
 pub added-start : (chart : List ℕ) (start end word : ℕ) → Long chart → Added chart 0 start end word chart

@@ -8,24 +8,23 @@ use Prim.Native.Nat.{ℕ, _≤_, _<_}
 use native.Mathlib.Omega.{arith}
 use lib.Dec.{ltb}
 use lib.ListN.{length, getD, drop, List·getD-append}
-use borrow.Author.Tests.{lt-ltb, le-ltb}
+use borrow.Author.Tests.{lt-ltb, le-ltb, ltb-false}
 use Rattle.answer.specs.declared.Error.{Error}
-use Rattle.answer.specs.declared.Error.the-variants.{LeftRecursive, Conflict, InputTooLong, UnknownToken, SpansTooShort}
-use Rattle.answer.specs.declared.Calls.{Calls}
+use Rattle.answer.specs.declared.Error.the-variants.{Conflict, InputTooLong, SpansTooShort}
 use Rattle.answer.specs.declared.Answer.{Answer}
-use Rattle.answer.specs.declared.Answer.the-variants.{Refused, Accepted, Rejected}
+use Rattle.answer.specs.declared.Answer.the-variants.{Accepted, Rejected}
+use Rattle.answer.specs.declared.Answer.the-variants as answer
 use Rattle.answer.specs.Numbers.{accepted, rejected, coded, numbers, answered}
 use Rattle.answer.specs.Faults.{firstFault, refusedOr, toldOr}
 use Rattle.answer.proofs.Apart.{answer-number}
-use Rattle.answer.proofs.Faults.{each-none, numbers-told}
-use Rattle.booleans.specs.Choice.{choose}
+use Rattle.answer.proofs.Faults.{Faultless, none-some, fault-none, each-none, numbers-told}
+use Rattle.base.specs.Choice.{choose}
 use Rattle.event.specs.Events.{inputOf}
-use Rattle.event.specs.Unknown.{unknownFrom}
+use Rattle.event.specs.Unknown.{unknownFrom, unknownFault}
 use Rattle.event.specs.declared.Unknown.{Unknown}
 use Rattle.event.specs.declared.Unknown.the-variants.{Absent, At}
-use Rattle.event.proofs.Inputs.{input-length}
 use Rattle.event.proofs.Known.{known-absent, absent-known, token-below}
-use Rattle.grammar.specs.Limits.{maxWords, maxNonterminals, maxTableWords, maxMemoEntries, maxTabularTokens, maxSpanWords}
+use Rattle.grammar.specs.Limits.{maxWords, maxNonterminals, maxTabularTokens, maxSpanWords}
 use Rattle.grammar.specs.Syntax.{Grammar}
 use Rattle.grammar.specs.Encoding.{grammarOf}
 use Rattle.grammar.specs.Reading.{reading}
@@ -43,21 +42,23 @@ use Rattle.semantics.specs.Valuations.{Valuation, Solves, solution}
 use Rattle.semantics.specs.LeftRecursion.{NoLeftRecursion, lowestLeftRecursive}
 use Rattle.semantics.specs.Productive.{lowestUnproductive}
 use Rattle.semantics.proofs.Theorems.{theorems}
-use Rattle.families.specs.Analysis.{leftFault, unproductiveFault, setsFaults, setsFault, setsIf, familiesOf}
-use Rattle.families.specs.Lists.{listed}
+use Rattle.families.specs.Analysis.{setsFaults, setsFault, setsIf, familiesOf}
+use Rattle.base.specs.Lists.{listed}
 use Rattle.families.specs.Sets.{reachNumber}
-use Rattle.families.specs.declared.Families.{Families}
-use Rattle.recognizer_promises.specs.Memory.{lentBack}
-use Rattle.recognizer_promises.specs.Properties.{PassedGrammar, Judges}
-use Rattle.recognizer_promises.proofs.Checking.{none-left}
-use Rattle.recognizer_promises.proofs.Meaning.{verdict-tells}
-use Rattle.table.specs.declared.conflicts.Conflict.the-variants.{Absent}
-use Rattle.recognizer_promises.proofs.Places.{Tells, judge-tells, grammarFault, left-told, unproductive-told}
+use Rattle.families.specs.declared.Finding.{Finding}
+use Rattle.families.specs.declared.Finding.the-variants.{Passed, Refused}
+use Rattle.families.proofs.Findings.{FoundFamilies, families-told, families-refused}
+use Rattle.promises.specs.Inputs.{inputFaultsTo}
+use Rattle.promises.proofs.Inputs.{PassedWith, RefusedWith, byGrammar, byFaults, with-passed, with-refused}
+use Rattle.promises.specs.Memory.{lentBack}
+use Rattle.promises.proofs.Memory.{refused-stays, faultless-lends}
+use Rattle.promises.proofs.Verdicts.{verdict-tells}
+use Rattle.promises.proofs.Places.{Tells, Other, judge-tells, none-left, faultBy, lowest-recursive, lowest-unproductive}
 use Rattle.tabular_promises.specs.Spans.{indexOf, spanWords, solutionWord}
 use Rattle.tabular_promises.specs.Answers.{tabularFault, noCalls, told, tabularVerdict, tabularNumbers, tabularWords}
-use Rattle.tabular_promises.specs.Judging.{TabulateGiven, Tabulated, PassedGiven}
+use Rattle.tabular_promises.specs.Judging.{TabulateGiven, Tabulated, FoundGiven}
 use Rattle.tabular_promises.specs.Properties.{FreeGrammar, ShortInput, Tabulates, TabularJudges, DirectionsIgnored}
-use Rattle.tabular_promises.proofs.TabularFaults.{spans-short, fault-long, too-long, unknown-token, no-fault, fault-other}
+use Rattle.tabular_promises.proofs.TabularFaults.{spans-short, fault-long, no-fault, fault-other}
 use Rattle.tabular_promises.proofs.Writing.{index-low, words-long, words-at}
 
 -- a grammar that is taken is the one that is read, so the promises are about that
@@ -80,6 +81,10 @@ module _ (words : List ℕ) (p : FreeGrammar words) where
         theorems .productive-decided (grammarOf words) 1 .absent .1 (rw (← same-grammar) (p .productive)),
       )
 
+none-unknown : (u : Unknown) → unknownFault u ≡ none → u ≡ Absent
+none-unknown Absent q = refl
+none-unknown (At i) q = absurd (none-some (sym q))
+
 -- without a fault there is no left recursion
 faultless-free : (words : List ℕ) (z : Sizes) → reading words ≡ Read z → setsFault One words ≡ none → NoLeftRecursion (grammarOf words)
 unfolding setsFault
@@ -87,17 +92,11 @@ faultless-free words z r e =
     theorems .left-recursion-decided (grammarOf words) (read-encodes words z r .1 .formed .scoped) .absent .0
     (none-left (lowestLeftRecursive (grammarOf words)) (each-none (setsFaults One words) e .1 .0))
 
--- the fault of a grammar that has been read, as where no entry clashes
+-- the fault of a grammar that has been read
 fault-encoded : (words : List ℕ) (G : Grammar) → length words ≤ maxWords → Encodes words G
-    → setsFault One words ≡ grammarFault One (lowestLeftRecursive G) (lowestUnproductive G 1) Absent
+    → setsFault One words ≡ faultBy [] (lowestLeftRecursive G) (lowestUnproductive G 1)
 unfolding setsFault
-fault-encoded words G short e =
-    rw (encodes-read words G short e, encodes-grammar words G e) (alone (leftFault (lowestLeftRecursive G)) (unproductiveFault (lowestUnproductive G 1)))
-  where
-    alone : (f g : Option Error) → firstFault (f ∷ g ∷ []) ≡ firstFault (f ∷ g ∷ none ∷ [])
-    alone none none = refl
-    alone none (some x) = refl
-    alone (some x) g = refl
+fault-encoded words G short e = rw (encodes-read words G short e, encodes-grammar words G e)
 
 -- the lent words of the spans
 module _ (words input before : List ℕ) {after : List ℕ} (m : after ≡ tabularWords (grammarOf words) input ++ drop (length (tabularWords (grammarOf words) input)) before) where
@@ -121,12 +120,6 @@ module _ (words input before : List ℕ) {after : List ℕ} (m : after ≡ tabul
   other-of i j h k A a =
       rw (word-of i j h k, has-total (grammarOf words .nonterminals) (λ B. solution (grammarOf words) input B i j) A, le-ltb A (grammarOf words .nonterminals) a)
 
--- two answers by one test
-same-told : (b : Bool) {c c′ : Calls} {d r : Answer} → (b ≡ true → d ≡ Accepted c) → (b ≡ false → d ≡ Rejected c) → (b ≡ true → r ≡ Accepted c′)
-    → (b ≡ false → r ≡ Rejected c′) → numbers d .verdict ≡ numbers r .verdict
-same-told true x y u v = rw (x refl, u refl)
-same-told false x y u v = rw (y refl, v refl)
-
 -- what the answer and the words mean
 module _ (words input before : List ℕ) {after : List ℕ} {r : Answer} (p : FreeGrammar words) (h : ShortInput words input)
     (a : r ≡ tabularVerdict (grammarOf words) input)
@@ -145,18 +138,6 @@ module _ (words input before : List ℕ) {after : List ℕ} {r : Answer} (p : Fr
   unfolding tabularVerdict
   tells v s = verdict-tells {r = r} (whole v) noCalls (a ∙ ap told (sym (one v s 0 0 (length input) start (omega arith) (omega arith))))
 
-  solved : Solves (grammarOf words) input (solution (grammarOf words) input)
-  solved = theorems .one-solution (grammarOf words) (free-encodes words p .formed .scoped) (free-free words p) input .solves
-
-  -- the descent has the same verdict: both go by the one solution
-  same-verdict : PassedGrammar words → (table memo table′ memo′ : List ℕ) (d : Answer) → Judges words input table memo d table′ memo′
-      → maxTableWords ≤ length table → maxMemoEntries ≤ length memo → numbers d .verdict ≡ numbers r .verdict
-  same-verdict q table memo table′ memo′ d j lt lm =
-      let k = j .recognizes lt lm q record { short = omega (arith, h .short); tokens = h .tokens } in
-      let t = tells (solution (grammarOf words) input) solved in
-      same-told (whole (solution (grammarOf words) input)) (k .accepted (solution (grammarOf words) input) solved .1)
-      (k .rejected (solution (grammarOf words) input) solved .1) (t .0 .1) (t .1 .1)
-
   tabulates : Tabulates words input r after
   tabulates = record {
     one-solution = theorems .one-solution (grammarOf words) (free-encodes words p .formed .scoped) (free-free words p) input;
@@ -164,7 +145,6 @@ module _ (words input before : List ℕ) {after : List ℕ} {r : Answer} (p : Fr
     rejected = λ v s. tells v s .1;
     span = λ v s i j ij jn A b. bit-of words input before m i j ij jn A b ∙ sym (one v s A i j b ij jn);
     others = other-of words input before m;
-    descent = same-verdict;
   }
 
 -- the numbers of what is answered
@@ -178,7 +158,7 @@ verdict-told G w = go (solution G w 0 0 (length w))
 
 -- an answer that is not a refusal for a conflict, nor a verdict that is one
 not-conflict : (f : Option Error) → ((e : Error) → f ≡ some e → coded e .code ≡ 9 → ⊥) → (b : Bool) {r : Answer} → r ≡ refusedOr f (told b)
-    → (A c : ℕ) → r ≡ Refused (Conflict A c) → ⊥
+    → (A c : ℕ) → r ≡ answer.Refused (Conflict A c) → ⊥
 not-conflict (some x) h b e A c q = h x refl (answer-number (sym e ∙ q))
 not-conflict none h true e A c q = omega (arith, answer-number (sym e ∙ q))
 not-conflict none h false e A c q = omega (arith, answer-number (sym e ∙ q))
@@ -194,99 +174,103 @@ judges {words} {input} {before} {after} {r} a m = record {
       let f = tabularFault (length before) words input in
       ap numbers a ∙ numbers-told f (tabularVerdict (grammarOf words) input) ∙ ap (toldOr f) (verdict-told (grammarOf words) input);
   spans = m;
-  recursive = λ room short G e A.
-      let t = tells room short G e in
-      let decided = theorems .left-recursion-decided G (e .formed .scoped) .lowest A in
-      let left = left-told One (lowestLeftRecursive G) (lowestUnproductive G 1) Absent A in (
-        λ q. let k = decided .0 (left .0 (t .recursive A .0 q)) in record { reaches = k .0; lowest = k .1 },
-        λ k. t .recursive A .1 (left .1 (decided .1 (k .reaches, k .lowest))),
-      );
-  unproductive = λ room short G e A.
-      let t = tells room short G e in
-      let free = theorems .left-recursion-decided G (e .formed .scoped) .absent in
-      let decided = theorems .productive-decided G 1 .lowest A in
-      let empty = unproductive-told One (lowestLeftRecursive G) (lowestUnproductive G 1) Absent A in (
-        λ q.
-            let k = empty .0 (t .unproductive A .0 q) in
-            let l = decided .0 (k .1) in
-            (free .0 (k .0), record { named = l .0; unproductive = l .1; lowest = l .2 }),
-        λ k. t .unproductive A .1 (empty .1 (free .1 (k .0), decided .1 (k .1 .named, k .1 .unproductive, k .1 .lowest))),
-      );
+  recursive = λ room short G e. lowest-recursive [] none-behind 1 G (e .formed .scoped) (tells room short G e);
+  unproductive = λ room short G e. lowest-unproductive [] none-behind 1 G (e .formed .scoped) (tells room short G e);
   conflictless = not-conflict (tabularFault (length before) words input) (fault-other (length before) words input)
       (solution (grammarOf words) input 0 0 (length input)) a;
   tabulates = λ room p h.
       let f = no-fault words input before room (free-faultless words p) (h .short) (known-absent (grammarOf words .terminals) 0 input (h .tokens)) in
       tabulates words input before p h (a ∙ ap (λ y. refusedOr y (tabularVerdict (grammarOf words) input)) f)
-      (m ∙ ap (λ y. lentBack y (tabularWords (grammarOf words) input) before) f);
+      (m ∙ faultless-lends (tabularWords (grammarOf words) input) before f);
 }
   where
+    -- behind 8 and 13 no fault of the grammar is told
+    none-behind : (e : Error) → firstFault [] ≡ some e → Other e
+    none-behind e q = absurd (none-some q)
+
     -- where the lent words are enough, the answer tells the grammar's fault
     tells : maxSpanWords ≤ length before → length words ≤ maxWords → (G : Grammar) → Encodes words G
-        → Tells One (grammarFault One (lowestLeftRecursive G) (lowestUnproductive G 1) Absent) r
+        → Tells (faultBy [] (lowestLeftRecursive G) (lowestUnproductive G 1)) r
     tells room short G e =
-        judge-tells One _ (ltb maxTabularTokens (length input)) (unknownFrom (grammarOf words .terminals) 0 input)
+        judge-tells _ (ltb maxTabularTokens (length input)) (unknownFrom (grammarOf words .terminals) 0 input)
         (solution (grammarOf words) input 0 0 (length input)) noCalls
         (a ∙ ap (λ y. refusedOr y (tabularVerdict (grammarOf words) input)) (fault-long words input before room (fault-encoded words G short e)))
 
 pub judge-refused : {words input before : List ℕ} {x : Error} → tabularFault (length before) words input ≡ some x
-    → TabularJudges words input before (Refused x) before
+    → TabularJudges words input before (answer.Refused x) before
 judge-refused {words} {input} {before} f =
-    judges (sym (ap (λ y. refusedOr y (tabularVerdict (grammarOf words) input)) f)) (sym (ap (λ y. lentBack y (tabularWords (grammarOf words) input) before) f))
+    judges (sym (ap (λ y. refusedOr y (tabularVerdict (grammarOf words) input)) f)) (refused-stays (tabularWords (grammarOf words) input) before f)
 
-pub judge-short : (words input before : List ℕ) → length before < maxSpanWords → TabularJudges words input before (Refused SpansTooShort) before
+pub judge-short : (words input before : List ℕ) → length before < maxSpanWords → TabularJudges words input before (answer.Refused SpansTooShort) before
 judge-short words input before h = judge-refused (spans-short words input before h)
 
 pub judge-faulty : (words input before : List ℕ) {x : Error} → maxSpanWords ≤ length before → setsFault One words ≡ some x
-    → TabularJudges words input before (Refused x) before
+    → TabularJudges words input before (answer.Refused x) before
 judge-faulty words input before room f = judge-refused (fault-long words input before room f)
 
--- what is left-reached is found with the sets
-pub found-reaches : (words : List ℕ) {r : Families} → r ≡ familiesOf One words → setsFault One words ≡ none
-    → r .reaches ≡ listed maxNonterminals (reachNumber (grammarOf words))
-unfolding familiesOf
-found-reaches words e k = ap (λ x. x .reaches) e ∙ ap (λ f. setsIf f (listed maxNonterminals (reachNumber (grammarOf words)))) k
+-- by what is found of the grammar and the input
+module _ {words input spans reaches : List ℕ} {f : Finding} (g : FoundGiven words f reaches input spans) where
+  abbrev faults : ℕ → List (Option Error)
+  faults n = inputFaultsTo maxTabularTokens n input
 
--- an input of terminals, and a grammar that is not refused
-module _ {words spans reaches : List ℕ} {z : Sizes} (g : PassedGiven words z reaches spans) (events : List ℕ) where
-  abbrev input : List ℕ
-  input = inputOf events
+  -- of a grammar that passed: its sizes, no fault, and what its nonterminals left-reach
+  module _ {z : Sizes} (p : g .families .finding ≡ Passed z) where
+    told-sets : FoundFamilies One words z (g .families)
+    told-sets = families-told One words (g .found) p
 
-  pub judge-long : maxTabularTokens < length events → TabularJudges words input spans (Refused InputTooLong) spans
-  judge-long h = judge-refused (too-long words input spans (g .room) (g .faultless) (omega (arith, input-length events)))
+    terminals : z .terminals ≡ grammarOf words .terminals
+    terminals = well-read words z (told-sets .read) .terminals
 
-  module _ (short : length events ≤ maxTabularTokens) {u : Unknown} (e : u ≡ unknownFrom (z .terminals) 0 input) where
-    short-input : length input ≤ maxTabularTokens
-    short-input = omega (arith, input-length events)
+    found-reaches : reaches ≡ listed maxNonterminals (reachNumber (grammarOf words))
+    unfolding familiesOf
+    found-reaches =
+        g .reached ∙ ap (λ x. x .reaches) (g .found) ∙ ap (λ o. setsIf o (listed maxNonterminals (reachNumber (grammarOf words)))) (told-sets .faultless)
 
-    searched : u ≡ unknownFrom (grammarOf words .terminals) 0 input
-    searched = e ∙ ap (λ n. unknownFrom n 0 input) (well-read words z (g .read) .terminals)
+    by-input : {o : Option Error} → firstFault (faults (z .terminals)) ≡ o → tabularFault (length spans) words input ≡ o
+    by-input e = fault-long words input spans (g .room) (told-sets .faultless) ∙ rw (← terminals) e
 
-    pub judge-unknown : {at : ℕ} → u ≡ At at → TabularJudges words input spans (Refused (UnknownToken at)) spans
-    judge-unknown a = judge-refused (unknown-token words input spans (g .room) (g .faultless) short-input (sym a ∙ searched))
+  pub judge-found-refused : {x : Error} → f ≡ Refused x → TabularJudges words input spans (answer.Refused x) spans
+  judge-found-refused {x} q = go (with-refused (g .families .finding) faults (sym (g .finding) ∙ q))
+    where
+      go : RefusedWith (g .families .finding) faults x → TabularJudges words input spans (answer.Refused x) spans
+      go (byGrammar h) = judge-faulty words input spans (g .room) (families-refused One words (g .found) h)
+      go (byFaults z h i) = judge-refused (by-input h i)
 
-    module _ (a : u ≡ Absent) where
-      pub tabulate-given : TabulateGiven words z reaches input spans
-      tabulate-given =
-          let k = well-read words z (g .read) in
-          let known = absent-known (z .terminals) 0 input (sym e ∙ a) in
-          record {
-            given = record {
-              read = g .read;
-              free = faultless-free words z (g .read) (g .faultless);
-              reached = g .reached;
-              input = record { short = short-input; terminals = λ i l. omega (arith, token-below (z .terminals) input known i l, k .fewTerminals) };
+  module _ {z : Sizes} (q : f ≡ Passed z) where
+    both : PassedWith (g .families .finding) faults z
+    both = with-passed (g .families .finding) faults (sym (g .finding) ∙ q)
+
+    unfaulty : Faultless (faults (z .terminals))
+    unfaulty = each-none (faults (z .terminals)) (both .faultless)
+
+    pub tabulate-given : TabulateGiven words z reaches input spans
+    tabulate-given =
+        let read = told-sets (both .grammar) .read in
+        let k = well-read words z read in
+        let known = absent-known (z .terminals) 0 input (none-unknown (unknownFrom (z .terminals) 0 input) (unfaulty .1 .0)) in
+        record {
+          given = record {
+            read = read;
+            free = faultless-free words z read (told-sets (both .grammar) .faultless);
+            reached = found-reaches (both .grammar);
+            input = record {
+              short = ltb-false maxTabularTokens (length input) (fault-none (ltb maxTabularTokens (length input)) InputTooLong (unfaulty .0));
+              terminals = λ i l. omega (arith, token-below (z .terminals) input known i l, k .fewTerminals);
             };
-            room = g .room;
-          }
+          };
+          room = g .room;
+        }
 
-      pub judge-done : {after : List ℕ} {b : Bool} {r : Answer} → Tabulated words input spans b after → r ≡ told b → TabularJudges words input spans r after
-      unfolding tabularVerdict tabularWords
-      judge-done {after} {b} {r} t q =
-          let f = no-fault words input spans (g .room) (g .faultless) short-input (sym searched ∙ a) in
-          judges (q ∙ ap told (t .verdict) ∙ sym (ap (λ y. refusedOr y (tabularVerdict (grammarOf words) input)) f))
-          (t .memory
-          ∙ ap (λ (n : ℕ). spanWords (length input) (solutionWord (grammarOf words) input) ++ drop n spans) (sym (words-long (length input) (solutionWord (grammarOf words) input)))
-          ∙ sym (ap (λ y. lentBack y (tabularWords (grammarOf words) input) spans) f))
+    pub judge-done : {after : List ℕ} {b : Bool} {r : Answer} → Tabulated words input spans b after → r ≡ told b → TabularJudges words input spans r after
+    unfolding tabularVerdict tabularWords
+    judge-done {after} {b} {r} t e =
+        let G = grammarOf words in
+        let written = tabularWords G input in
+        let none-found = by-input (both .grammar) (both .faultless) in
+        judges (e ∙ ap told (t .verdict) ∙ sym (ap (λ y. refusedOr y (tabularVerdict G input)) none-found))
+        (t .memory
+        ∙ ap (λ (n : ℕ). spanWords (length input) (solutionWord G input) ++ drop n spans) (sym (words-long (length input) (solutionWord G input)))
+        ∙ sym (faultless-lends written spans none-found))
 
 -- what judging leaves is settled by the input
 pub directions-ignored : DirectionsIgnored

@@ -1,5 +1,5 @@
 -- Sets of places as numbers: a place put in; a digit read; where terminals stand.
-use mathlib.Core.Path.{_≡_, sym, ap, _∙_}
+use mathlib.Core.Path.{_≡_, refl, sym, ap, _∙_}
 use mathlib.Core.Bool.{Bool, true, false, _&&_, _||_, or-false, or-true, and-true, and-false}
 use mathlib.Core.List.{List}
 use Prim.Native.Nat.{ℕ, suc, _+_, _*_, _/_, _%_, _^_, _≤_, _<_}
@@ -12,13 +12,14 @@ use lib.ListN.{length, getD, set, replicate, length-set, length-replicate, getD-
 use lib.Pow.{shl-exact}
 use lib.Seq.{getD-set-same, getD-set-other}
 use borrow.Author.Tests.{eq-eqb, ne-eqb, lt-ltb, le-ltb}
+use Rattle.base.specs.Choice.{choose}
 use Rattle.grammar.specs.Limits.{maxTerminals, maxTabularPlaces, maxNonterminals}
 use Rattle.lookahead.specs.Elements.{has}
 use Rattle.lookahead.proofs.Elements.{has-or, has-zero}
 use Rattle.lookahead.proofs.Powers.{has-pow}
 use Rattle.event.specs.Events.{terminalOf, inputOf}
 use Rattle.event.proofs.Inputs.{input-length, input-at}
-use Rattle.tabular_promises.specs.Places.{Put, Standing, InputGiven}
+use Rattle.tabular_promises.specs.Places.{onePlace, hasPlace, withPlace, Put, Standing, InputGiven}
 
 -- a place's weight, and a nonterminal's
 pub weight-64 : (k : ℕ) → k < maxTabularPlaces → 1 * 2 ^ k % 2 ^ 64 ≡ 2 ^ k
@@ -31,13 +32,38 @@ pub digit : (n k : ℕ) → eqb (bitAnd (n / 2 ^ k) 1) 1 ≡ has n k
 unfolding has
 digit n k = ap (λ (d : ℕ). eqb d 1) (and-mask (n / 2 ^ k) 1)
 
-pub put-in : {s place r : ℕ} {member : Bool} → member ≡ true → r ≡ bitOr s (2 ^ place) → Put s place member r
+-- a place of an input
+pub one-place : (place : ℕ) → place < maxTabularPlaces → onePlace place ≡ 2 ^ place
+unfolding onePlace
+one-place place h = rw (lt-ltb place maxTabularPlaces h)
+
+pub no-place : (place : ℕ) → maxTabularPlaces ≤ place → 0 ≡ onePlace place
+unfolding onePlace
+no-place place h = rw (le-ltb place maxTabularPlaces h)
+
+pub has-place : (set place : ℕ) → place < maxTabularPlaces → hasPlace set place ≡ has set place
+unfolding hasPlace
+has-place set place h = rw (lt-ltb place maxTabularPlaces h)
+
+pub lacks-place : (set place : ℕ) → maxTabularPlaces ≤ place → false ≡ hasPlace set place
+unfolding hasPlace
+lacks-place set place h = rw (le-ltb place maxTabularPlaces h)
+
+put-in : {s place r : ℕ} {member : Bool} → member ≡ true → r ≡ bitOr s (2 ^ place) → Put s place member r
 put-in {s} {place} {r} {member} m e =
     record { is = λ k. rw (e, m) (has-or s (2 ^ place) k ∙ ap (has s k ||_) (has-pow place k ∙ sym (and-true (eqb k place)))) }
 
-pub put-none : {s place : ℕ} {member : Bool} → member ≡ false → Put s place member s
+put-none : {s place : ℕ} {member : Bool} → member ≡ false → Put s place member s
 put-none {s} {place} {member} m =
     record { is = λ k. rw m (sym (ap (has s k ||_) (and-false (eqb k place)) ∙ or-false (has s k))) }
+
+pub with-place : {s place r : ℕ} {member : Bool} → place < maxTabularPlaces → r ≡ withPlace s place member → Put s place member r
+unfolding withPlace
+with-place {s} {place} {r} {member} h e = go member e
+  where
+    go : (b : Bool) → r ≡ choose b (bitOr s (onePlace place)) s → Put s place b r
+    go true f = put-in refl (f ∙ ap (bitOr s) (one-place place h))
+    go false f = rw f (put-none refl)
 
 -- the first i tokens have been put in
 pub record StandingTo (w l : List ℕ) (i : ℕ) : Type 0 where

@@ -2,26 +2,28 @@
 use mathlib.Core.Path.{_≡_, refl, sym, _∙_}
 use mathlib.Core.Bool.{Bool, true, false, _&&_, _||_, or-comm, and-true, and-false}
 use mathlib.Core.List.{List, [], _∷_}
-use Prim.Native.Nat.{ℕ, zero, suc, _+_, _/_, _^_, _≤_, _<_}
+use Prim.Native.Nat.{ℕ, zero, suc, _+_, _-_, _/_, _^_, _≤_, _<_}
 use native.Mathlib.Numerals.{add-one}
 use native.Mathlib.Omega.{arith}
 use lib.Bits.{bitAnd, bitOr}
 use lib.Dec.{T, leb, ltb, eqb, leb→le, ltb→lt, eqb→eq}
 use lib.ListN.{length, getD}
-use borrow.Author.Tests.{lt-ltb, le-leb}
-use Rattle.booleans.specs.Choice.{choose}
-use Rattle.booleans.specs.Quantifiers.{anyBelow}
-use Rattle.booleans.proofs.Booleans.{and-l, true-T}
-use Rattle.booleans.proofs.Quantified.{below-cong, below-elim}
+use borrow.Author.Tests.{lt-ltb, le-ltb, le-leb}
+use Rattle.base.specs.Choice.{choose}
+use Rattle.base.specs.Quantifiers.{anyBelow}
+use Rattle.base.proofs.Booleans.{and-l, true-T}
+use Rattle.base.proofs.Quantified.{below-cong, below-elim}
 use Rattle.word.specs.declared.Symbol.the-variants.{Terminal, Nonterminal}
-use Rattle.grammar.specs.Limits.{maxNonterminals, maxTerminals}
+use Rattle.grammar.specs.Limits.{maxNonterminals, maxTerminals, maxTabularPlaces}
 use Rattle.grammar.specs.Syntax.{Body}
 use Rattle.lookahead.specs.Elements.{has}
 use Rattle.lookahead.proofs.Elements.{has-or, has-and, has-suc, has-zero}
 use Rattle.lookahead.proofs.Powers.{has-pow}
 use Rattle.semantics.specs.Valuations.{Valuation, contains}
-use Rattle.tabular_promises.specs.Chart.{slot, charted, Before, Span}
+use Rattle.tabular_promises.specs.Places.{hasPlace}
+use Rattle.tabular_promises.specs.Chart.{slot, charted, gathered, placesBefore, Before, Span}
 use Rattle.tabular_promises.specs.Scanning.{Over, Reads}
+use Rattle.tabular_promises.proofs.PlaceSets.{has-place}
 
 below-none : (n : ℕ) (p : ℕ → Bool) → ((m : ℕ) → m < n → p m ≡ false) → anyBelow n p ≡ false
 unfolding anyBelow
@@ -40,13 +42,13 @@ abbrev leads : List ℕ → ℕ → ℕ → ℕ → ℕ → ℕ → Bool
 leads chart A set start k m = leb start m && (charted chart A k m && has set m)
 
 -- the places from the start on, up to `at`, have been gone through
-pub record Reached (chart : List ℕ) (A set start end found at : ℕ) : Type 0 where
+record Reached (chart : List ℕ) (A set start end found at : ℕ) : Type 0 where
   pub low : start ≤ at
   pub high : at ≤ suc end
   pub member : (k : ℕ) → has found k ≡ anyBelow at (leads chart A set start k)
 
 -- before the start there are none
-pub reached-start : {chart : List ℕ} {A set start end : ℕ} → start ≤ end → Reached chart A set start end 0 start
+reached-start : {chart : List ℕ} {A set start end : ℕ} → start ≤ end → Reached chart A set start end 0 start
 reached-start {chart} {A} {set} {start} {end} h = record {
   low = omega arith;
   high = omega arith;
@@ -54,7 +56,7 @@ reached-start {chart} {A} {set} {start} {end} h = record {
 }
 
 -- one place more
-pub reached-more : {chart : List ℕ} {A set start end found at r x : ℕ} {t : Bool} → Reached chart A set start end found at → at ≤ end
+reached-more : {chart : List ℕ} {A set start end found at r x : ℕ} {t : Bool} → Reached chart A set start end found at → at ≤ end
     → t ≡ has set at → x ≡ getD chart (slot A at) 0 → r ≡ choose t (bitOr found x) found → Reached chart A set start end r (at + 1)
 unfolding charted anyBelow
 reached-more {chart} {A} {set} {start} {end} {found} {at} {r} {x} {t} h l s c e = record {
@@ -70,9 +72,54 @@ reached-more {chart} {A} {set} {start} {end} {found} {at} {r} {x} {t} h l s c e 
         ∙ rw (f, h .member k, le-leb start at (h .low), and-true (charted chart A k at))
     go k false f = rw (f, and-false (charted chart A k at), and-false (leb start at)) (h .member k)
 
-pub reached-end : {chart : List ℕ} {A set start end found at : ℕ} → Reached chart A set start end found at → end < at → Before chart A set start end found
+reached-end : {chart : List ℕ} {A set start end found at : ℕ} → Reached chart A set start end found at → end < at → Before chart A set start end found
 reached-end {chart} {A} {set} {start} {end} {found} {at} h l =
     let e : at ≡ suc end = omega (arith, h .high) in record { member = λ k. rw e at (h .member k) }
+
+-- what the code gathers has been gone through
+gathered-reached : (chart : List ℕ) (A set start end n : ℕ) → Span start end → start + n ≤ suc end
+    → Reached chart A set start end (gathered chart A set start n) (start + n)
+unfolding gathered
+gathered-reached chart A set start end zero s h = let e : start + 0 ≡ start = omega arith in rw e (reached-start (s .forward))
+gathered-reached chart A set start end (suc n) s h =
+    let e : start + suc n ≡ start + n + 1 = omega arith in
+    rw e (reached-more (gathered-reached chart A set start end n s (omega arith)) (omega arith)
+    (has-place set (start + n) (omega (arith, s .short))) refl refl)
+
+pub places-before : (chart : List ℕ) (A set start end : ℕ) → A < maxNonterminals → Span start end
+    → Before chart A set start end (placesBefore chart A set start end)
+unfolding placesBefore
+places-before chart A set start end a s =
+    let n : start + (suc end - start) ≡ suc end = omega (arith, s .forward) in
+    rw (lt-ltb A maxNonterminals a, lt-ltb end maxTabularPlaces (s .short))
+    (reached-end (gathered-reached chart A set start end (suc end - start) s (omega arith)) (omega arith))
+
+-- the same, step by step
+pub gathered-start : (chart : List ℕ) (A set start : ℕ) → 0 ≡ gathered chart A set start (start - start)
+unfolding gathered
+gathered-start chart A set start = let e : start - start ≡ 0 = omega arith in rw e
+
+pub gathered-more : (chart : List ℕ) (A set start at found r x : ℕ) (t : Bool) → start ≤ at → found ≡ gathered chart A set start (at - start)
+    → t ≡ hasPlace set at → x ≡ getD chart (slot A at) 0 → r ≡ choose t (bitOr found x) found → r ≡ gathered chart A set start (at + 1 - start)
+unfolding gathered
+gathered-more chart A set start at found r x t h f e c g =
+    let n : at + 1 - start ≡ suc (at - start) = omega arith in
+    let m : start + (at - start) ≡ at = omega arith in
+    rw (n, m) (g ∙ rw (f, e, c))
+
+pub none-before : (chart : List ℕ) (A set start end : ℕ) → maxNonterminals ≤ A → 0 ≡ placesBefore chart A set start end
+unfolding placesBefore
+none-before chart A set start end h = rw (le-ltb A maxNonterminals h)
+
+module _ (chart : List ℕ) (A set start end : ℕ) (a : A < maxNonterminals) where
+  pub none-beyond : maxTabularPlaces ≤ end → 0 ≡ placesBefore chart A set start end
+  unfolding placesBefore
+  none-beyond h = rw (lt-ltb A maxNonterminals a, le-ltb end maxTabularPlaces h)
+
+  pub all-before : (at : ℕ) {found : ℕ} → end < maxTabularPlaces → found ≡ gathered chart A set start (at - start) → at - start ≡ suc end - start
+      → found ≡ placesBefore chart A set start end
+  unfolding placesBefore
+  all-before at h f e = rw (lt-ltb A maxNonterminals a, lt-ltb end maxTabularPlaces h, ← e) f
 
 -- a body leads only onward
 contains-le : (v : Valuation) (w : List ℕ) (b : Body) (k j : ℕ) → T (contains v w b k j) → k ≤ j

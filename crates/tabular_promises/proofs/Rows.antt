@@ -1,7 +1,7 @@
 -- The worked rows come out by the definitions, from the words of their grammars on, by computation.
 use mathlib.Core.Path.{_≡_, refl}
 use mathlib.Core.List.{map}
-use Rattle.booleans.specs.Quantifiers.{anyOf, allOf, anyBelow}
+use Rattle.base.specs.Quantifiers.{anyOf, allOf, anyBelow}
 use Rattle.event.specs.Unknown.{unknownFrom}
 use Rattle.word.specs.Words.{bare, heading, ofKind, decoded}
 use Rattle.grammar.specs.Encoding.{onWord, parse, grammarOf}
@@ -9,8 +9,8 @@ use Rattle.grammar.specs.Reading.{counted, stepped, onStep, finished, scan, wit
 use Rattle.lookahead.specs.Elements.{total}
 use Rattle.semantics.specs.Valuations.{contains, derives, byRules, rounds, solution}
 use Rattle.semantics.specs.Productive.{unproductive, lowestUnproductive}
-use Rattle.semantics.proofs.Computing.{left-recursion-computes, tables-compute}
-use Rattle.families.specs.Lists.{listed}
+use Rattle.semantics.proofs.examples.Computing.{left-recursion-computes, tables-compute}
+use Rattle.base.specs.Lists.{listed}
 use Rattle.tabular_promises.specs.Spans.{solutionWord, rows, spanWords}
 use Rattle.tabular_promises.specs.Answers.{tabularFault, tabularVerdict, tabularWords}
 use Rattle.tabular_promises.specs.Rows.{worked, judged, lent}

@@ -12,9 +12,9 @@ use lib.Dec.{eqb, eqb→eq}
 use lib.ListN.{length, getD, drop, getElem?, set, replicate, length-set, length-replicate, drop-of-length-le}
 use lib.Seq.{getD-set-same, getD-set-other}
 use borrow.Author.Tests.{eq-eqb, ne-eqb, lt-ltb}
-use Rattle.booleans.specs.Choice.{choose}
-use Rattle.booleans.specs.Quantifiers.{anyOf}
-use Rattle.booleans.proofs.Booleans.{true-T}
+use Rattle.base.specs.Choice.{choose}
+use Rattle.base.specs.Quantifiers.{anyOf}
+use Rattle.base.proofs.Booleans.{true-T}
 use Rattle.word.specs.declared.Word.{Word}
 use Rattle.word.specs.Words.{decoded}
 use Rattle.grammar.specs.Limits.{maxNonterminals, maxRules}
@@ -34,7 +34,7 @@ use Rattle.semantics.specs.LeftRecursion.{leftReaches, rank}
 use Rattle.semantics.specs.Valuations.{derives, byRules}
 use Rattle.families.specs.Rules.{RuleWords, ruleFrom}
 use Rattle.families.specs.Sets.{reachNumber}
-use Rattle.families.proofs.Lists.{listed-at}
+use Rattle.base.proofs.Lists.{listed-at}
 use Rattle.families.proofs.RuleRanges.{till-next, till-end, rule-in, rule-is}
 use Rattle.tabular_promises.specs.Chart.{charted}
 use Rattle.tabular_promises.specs.Scanning.{Over, holds, Keeps}

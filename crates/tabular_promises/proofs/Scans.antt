@@ -1,14 +1,14 @@
 -- A word in front of words: what is known of a span.
-use mathlib.Core.Path.{_≡_, refl, sym}
+use mathlib.Core.Path.{_≡_, refl, sym, ap, ap₂, _∙_}
 use mathlib.Core.Bool.{Bool, true, false, not, _&&_, _||_, and-false}
-use mathlib.Core.List.{List, _∷_}
-use Prim.Native.Nat.{ℕ, suc, _+_, _-_, _/_, _^_, _≤_, _<_}
+use mathlib.Core.List.{List, [], _∷_}
+use Prim.Native.Nat.{ℕ, zero, suc, _+_, _-_, _≤_, _<_}
 use native.Mathlib.Omega.{arith}
-use lib.Bits.{bitAnd}
-use lib.ListN.{getD, drop}
-use borrow.Author.Tests.{ltb-true}
-use Rattle.booleans.specs.Choice.{choose}
-use Rattle.booleans.specs.Quantifiers.{anyOf, allOf}
+use lib.ListN.{length, getD, drop}
+use lib.Seq.{drop-cons, slice, slice-empty, slice-cons}
+use borrow.Author.Tests.{ltb-true, lt-ltb, le-ltb, le-leb, lt-leb}
+use Rattle.base.specs.Choice.{choose}
+use Rattle.base.specs.Quantifiers.{anyOf, allOf}
 use Rattle.word.specs.declared.Symbol.{Symbol as GrammarSymbol}
 use Rattle.word.specs.declared.Symbol.the-variants.{Terminal, Nonterminal}
 use Rattle.word.specs.declared.Word.{Word}
@@ -16,119 +16,81 @@ use Rattle.word.specs.declared.Word.the-variants.{Heading, Rule, Positive, Nega
 use Rattle.word.specs.Words.{decoded}
 use Rattle.grammar.specs.Limits.{maxNonterminals, maxTerminals}
 use Rattle.grammar.specs.Encoding.{Parsed, onWord, parse}
+use Rattle.grammar.specs.Syntax.{Body}
 use Rattle.grammar.specs.declared.reading.Sizes.{Sizes}
 use Rattle.grammar.specs.Reading.{inRange}
 use Rattle.grammar.proofs.EachIndex.{read-place}
 use Rattle.grammar.proofs.WellRead.{well-read}
-use Rattle.lookahead.specs.Elements.{has}
 use Rattle.semantics.specs.Valuations.{Valuation, contains}
 use Rattle.families.specs.Rules.{RuleWords}
-use Rattle.families.proofs.Words.{parse-before}
 use Rattle.tabular_promises.specs.declared.Scan.{Scan}
-use Rattle.tabular_promises.specs.Chart.{charted, Before, Span}
-use Rattle.tabular_promises.specs.Scanning.{Over, Reads, holds, Scanned, noneOpen, SymbolKnown, Known, SymbolOnto, Onto, Keeps}
-use Rattle.tabular_promises.proofs.Reaching.{nothing-reads, terminal-reads, nonterminal-reads}
+use Rattle.tabular_promises.specs.Places.{onePlace, hasPlace}
+use Rattle.tabular_promises.specs.Chart.{charted, Span}
+use Rattle.tabular_promises.specs.Scanning.{Over, Reads, holds, Scanned, noneOpen, beforeTerminal, beforeSymbol, scanOnto, scanned, keepsBy, SymbolKnown, Known, KeepsGiven, Keeps}
+use Rattle.tabular_promises.proofs.PlaceSets.{one-place, has-place}
+use Rattle.tabular_promises.proofs.Reaching.{nothing-reads, terminal-reads, nonterminal-reads, places-before}
 
-abbrev pub scanOf : ℕ → Bool → Scan
-scanOf s k = record { set = s; kept = k }
+-- a symbol in front of a body
+module _ {w stands chart : List ℕ} {start end : ℕ} (o : Over w stands chart end) (n : Span start end) where
+  symbol-reads : (X : GrammarSymbol) → SymbolKnown X → (b : Body) (set : ℕ) → Reads (charted chart) w b start end set
+      → Reads (charted chart) w (X ∷ b) start end (beforeSymbol stands chart start end X set)
+  unfolding beforeTerminal
+  symbol-reads (Terminal a) k b set h = terminal-reads o a b set start _ (rw (lt-ltb a maxTerminals k)) k h
+  symbol-reads (Nonterminal A) k b set h = nonterminal-reads o A b set start _ k n (places-before chart A set start end k n) h
 
-module _ (v : Valuation) (w : List ℕ) (start end : ℕ) (p : Parsed) (scan : Scan) (h : Scanned v w start end p scan) where
-  there : has (scan .set) start ≡ contains v w (p .body) start end
-  there = h .set start (omega arith)
+-- a word in front of words
+module _ (v : Valuation) (w : List ℕ) (start end : ℕ) (n : Span start end) where
+  -- nothing is left of a body
+  closed : Reads v w [] start end (onePlace end)
+  closed = nothing-reads v w start end (one-place end (n .short))
 
-  onto-symbol : (X : GrammarSymbol) (s : ℕ) → Reads v w (X ∷ p .body) start end s → Scanned v w start end (onWord (Symbol X) p) (scanOf s (scan .kept))
-  unfolding onWord holds
-  onto-symbol X s r = record { set = r; kept = h .kept }
+  module _ (p : Parsed) (scan : Scan) (h : Scanned v w start end p scan) where
+    there : hasPlace (scan .set) start ≡ contains v w (p .body) start end
+    there = has-place (scan .set) start (omega (arith, n .forward, n .short)) ∙ h .set start (omega arith)
 
-  onto-positive : Scanned v w start end (onWord Positive p) (scanOf (2 ^ end) (choose (has (scan .set) start) (scan .kept) false))
-  unfolding onWord holds allOf
-  onto-positive = record { set = nothing-reads v w start end refl; kept = rw (there, h .kept) (go (contains v w (p .body) start end)) }
-    where
-      go : (c : Bool) → choose c (holds v w start end p) false
-          ≡ ((c && allOf (λ b. contains v w b start end) (p .positives)) && not (anyOf (λ b. contains v w b start end) (p .negatives)))
-      go true = refl
-      go false = refl
+    onto-symbol : (X : GrammarSymbol) (s : ℕ) → Reads v w (X ∷ p .body) start end s
+        → Scanned v w start end (onWord (Symbol X) p) (record { set = s; kept = scan .kept })
+    unfolding onWord holds
+    onto-symbol X s r = record { set = r; kept = h .kept }
 
-  onto-negative : Scanned v w start end (onWord Negative p) (scanOf (2 ^ end) (choose (has (scan .set) start) false (scan .kept)))
-  unfolding onWord holds anyOf
-  onto-negative = record { set = nothing-reads v w start end refl; kept = rw (there, h .kept) (go (contains v w (p .body) start end)) }
-    where
-      go : (c : Bool) → choose c false (holds v w start end p)
-          ≡ (allOf (λ b. contains v w b start end) (p .positives) && not (c || anyOf (λ b. contains v w b start end) (p .negatives)))
-      go true = sym (and-false (allOf (λ b. contains v w b start end) (p .positives)))
-      go false = refl
+    onto-positive : Scanned v w start end (onWord Positive p) (record { set = onePlace end; kept = choose (hasPlace (scan .set) start) (scan .kept) false })
+    unfolding onWord holds allOf
+    onto-positive = record { set = closed; kept = rw (there, h .kept) (go (contains v w (p .body) start end)) }
+      where
+        go : (c : Bool) → choose c (holds v w start end p) false
+            ≡ ((c && allOf (λ b. contains v w b start end) (p .positives)) && not (anyOf (λ b. contains v w b start end) (p .negatives)))
+        go true = refl
+        go false = refl
 
-  onto-rule : (A : ℕ) → Scanned v w start end (onWord (Rule A) p) (noneOpen end)
-  unfolding onWord holds anyOf allOf
-  onto-rule A = record { set = nothing-reads v w start end refl; kept = refl }
+    onto-negative : Scanned v w start end (onWord Negative p) (record { set = onePlace end; kept = choose (hasPlace (scan .set) start) false (scan .kept) })
+    unfolding onWord holds anyOf
+    onto-negative = record { set = closed; kept = rw (there, h .kept) (go (contains v w (p .body) start end)) }
+      where
+        go : (c : Bool) → choose c false (holds v w start end p)
+            ≡ (allOf (λ b. contains v w b start end) (p .positives) && not (c || anyOf (λ b. contains v w b start end) (p .negatives)))
+        go true = sym (and-false (allOf (λ b. contains v w b start end) (p .positives)))
+        go false = refl
 
-  onto-end : Scanned v w start end (onWord End p) (noneOpen end)
-  unfolding onWord holds allOf anyOf
-  onto-end = record { set = nothing-reads v w start end refl; kept = refl }
+    onto-rule : (A : ℕ) → Scanned v w start end (onWord (Rule A) p) (noneOpen end)
+    unfolding onWord holds anyOf allOf
+    onto-rule A = record { set = closed; kept = refl }
 
--- the same of the values that the code gives, by the kind of word
-module _ {stands chart : List ℕ} {word : Word} {scan : Scan} {start end : ℕ} where
-  pub by-symbol : {X : GrammarSymbol} {s : ℕ} → word ≡ Symbol X → SymbolOnto stands chart X (scan .set) start end s
-      → Onto stands chart word scan start end (scanOf s (scan .kept))
-  by-symbol {X} {s} e g = record { onto = λ w o p h. rw e (onto-symbol (charted chart) w start end p scan h X s (g .onto w o (p .body) (h .set))) }
+    onto-end : Scanned v w start end (onWord End p) (noneOpen end)
+    unfolding onWord holds allOf anyOf
+    onto-end = record { set = closed; kept = refl }
 
-  pub by-positive : {last : ℕ} {there kept : Bool} → word ≡ Positive → last ≡ 2 ^ end → there ≡ has (scan .set) start → kept ≡ choose there (scan .kept) false
-      → Onto stands chart word scan start end (scanOf last kept)
-  by-positive e l t k = record { onto = λ w o p h. rw (e, l, k, t) (onto-positive (charted chart) w start end p scan h) }
-
-  pub by-negative : {last : ℕ} {there kept : Bool} → word ≡ Negative → last ≡ 2 ^ end → there ≡ has (scan .set) start → kept ≡ choose there false (scan .kept)
-      → Onto stands chart word scan start end (scanOf last kept)
-  by-negative e l t k = record { onto = λ w o p h. rw (e, l, k, t) (onto-negative (charted chart) w start end p scan h) }
-
-  pub by-rule : {A : ℕ} {r : Scan} → word ≡ Rule A → r ≡ noneOpen end → Onto stands chart word scan start end r
-  by-rule {A} e l = record { onto = λ w o p h. rw (e, l) (onto-rule (charted chart) w start end p scan h A) }
-
-  pub by-end : {r : Scan} → word ≡ End → r ≡ noneOpen end → Onto stands chart word scan start end r
-  by-end e l = record { onto = λ w o p h. rw (e, l) (onto-end (charted chart) w start end p scan h) }
-
-  pub by-heading : {n t : ℕ} → word ≡ Heading n t → Onto stands chart word scan start end scan
+module _ {w stands chart : List ℕ} {start end : ℕ} (o : Over w stands chart end) (n : Span start end) where
+  onto-scanned : (word : Word) → Known word → (p : Parsed) (scan : Scan) → Scanned (charted chart) w start end p scan
+      → Scanned (charted chart) w start end (onWord word p) (scanOnto stands chart start end word scan)
   unfolding onWord
-  by-heading e = record { onto = λ w o p h. rw e h }
-
-  pub by-invalid : word ≡ Invalid → Onto stands chart word scan start end scan
-  unfolding onWord
-  by-invalid e = record { onto = λ w o p h. rw e h }
-
-module _ {stands chart : List ℕ} {X : GrammarSymbol} {s start end r : ℕ} where
-  pub by-terminal : {a : ℕ} → X ≡ Terminal a → SymbolKnown X → r ≡ bitAnd (s / 2) (getD stands a 0) → SymbolOnto stands chart X s start end r
-  by-terminal {a} e l g = record { onto = λ w o b h. rw e (terminal-reads o a b s start r g (rw e at l) h) }
-
-  pub by-nonterminal : {A : ℕ} → X ≡ Nonterminal A → SymbolKnown X → Span start end → Before chart A s start end r → SymbolOnto stands chart X s start end r
-  by-nonterminal {A} e l n g = record { onto = λ w o b h. rw e (nonterminal-reads o A b s start r (rw e at l) n g h) }
-
--- the words of a rule from an index on have been gone through
-pub record Walk (words : List ℕ) (from to : ℕ) (stands chart : List ℕ) (start end : ℕ) (scan : Scan) (i : ℕ) : Type 0 where
-  pub low : from < i
-  pub high : i ≤ to
-  pub is : (w : List ℕ) → Over w stands chart end → Scanned (charted chart) w start end (parse (drop i words)) scan
-
-module _ {words : List ℕ} {from to : ℕ} (k : RuleWords words from to) {stands chart : List ℕ} {start end : ℕ} where
-  -- behind the rule nothing is open
-  pub walk-start : {scan : Scan} → scan ≡ noneOpen end → Walk words from to stands chart start end scan to
-  unfolding holds allOf anyOf
-  walk-start e = record {
-    low = k .some;
-    high = omega arith;
-    is = λ w o. rw e record { set = rw (k .ended .body) (nothing-reads (charted chart) w start end refl); kept = rw (k .ended .positives, k .ended .negatives) };
-  }
-
-  pub walk-on : {scan r : Scan} {i : ℕ} {word : Word} → Walk words from to stands chart start end scan i → from + 1 < i
-      → word ≡ decoded (getD words (i - 1) 0) → Onto stands chart word scan start end r → Walk words from to stands chart start end r (i - 1)
-  walk-on {scan} {r} {i} h l e g = record {
-    low = omega arith;
-    high = omega (arith, h .high);
-    is = λ w o. rw (parse-before words i (omega arith) (omega (arith, h .high, k .within)), ← e) (g .onto w o (parse (drop i words)) (h .is w o));
-  }
-
-  pub walked : {scan : Scan} {i : ℕ} → Walk words from to stands chart start end scan i → i ≤ from + 1 → Keeps words from stands chart start end (scan .kept)
-  walked {scan} {i} h l =
-      let d : i ≡ suc from = omega (arith, h .low) in
-      record { is = λ w o. let q = h .is w o .kept in rw d at q }
+  onto-scanned (Symbol X) k p scan h =
+      onto-symbol (charted chart) w start end n p scan h X (beforeSymbol stands chart start end X (scan .set)) (symbol-reads o n X k (p .body) (scan .set) (h .set))
+  onto-scanned (Rule A) k p scan h = onto-rule (charted chart) w start end n p scan h A
+  onto-scanned Positive k p scan h = onto-positive (charted chart) w start end n p scan h
+  onto-scanned Negative k p scan h = onto-negative (charted chart) w start end n p scan h
+  onto-scanned End k p scan h = onto-end (charted chart) w start end n p scan h
+  onto-scanned (Heading m t) k p scan h = h
+  onto-scanned Invalid k p scan h = h
 
 -- the words of a row that is read
 in-range-known : (word : Word) (z : Sizes) → z .nonterminals ≤ maxNonterminals → z .terminals ≤ maxTerminals → inRange word z ≡ true → Known word
@@ -141,9 +103,66 @@ in-range-known End z h k e = tt
 in-range-known (Heading n t) z h k e = tt
 in-range-known Invalid z h k e = tt
 
-pub word-known : {words : List ℕ} {from to : ℕ} → RuleWords words from to → {word : Word} {i : ℕ} → 0 < i → i ≤ to → word ≡ decoded (getD words (i - 1) 0)
-    → Known word
-word-known {words} {from} {to} r {word} {i} o h is =
+word-known : {words : List ℕ} {from to : ℕ} → RuleWords words from to → {i : ℕ} → i < to → Known (decoded (getD words i 0))
+word-known {words} {from} {to} r {i} h =
     let k = well-read words (r .sizes) (r .read) in
-    rw is (in-range-known (decoded (getD words (i - 1) 0)) (r .sizes) (k .fewNonterminals) (k .fewTerminals)
-    (read-place words (r .sizes) (r .read) (i - 1) (omega (arith, r .within)) .ranged))
+    in-range-known (decoded (getD words i 0)) (r .sizes) (k .fewNonterminals) (k .fewTerminals)
+    (read-place words (r .sizes) (r .read) i (omega (arith, r .within)) .ranged)
+
+-- the words of a rule, from its end: behind it nothing is open
+module _ {words : List ℕ} {from to start end : ℕ} (g : KeepsGiven words from to start end) {stands chart : List ℕ} where
+  rule-scanned : (w : List ℕ) → Over w stands chart end → (n i : ℕ) → i + n ≡ to
+      → Scanned (charted chart) w start end (parse (drop i words)) (scanned stands chart start end (slice i to words))
+  unfolding scanned holds allOf anyOf parse
+  rule-scanned w o zero i e =
+      let t : i ≡ to = omega arith in
+      let d = g .rule .ended in
+      rw (t, slice-empty to words)
+      record { set = rw (d .body) (closed (charted chart) w start end (g .span)); kept = rw (d .positives, d .negatives) }
+  rule-scanned w o (suc n) i e =
+      let l : i < to = omega arith in
+      let long = g .rule .within in
+      rw (slice-cons i to words 0 l long, drop-cons words i 0 (omega (arith, long)))
+      (onto-scanned o (g .span) (decoded (getD words i 0)) (word-known (g .rule) l) (parse (drop (suc i) words))
+      (scanned stands chart start end (slice (suc i) to words)) (rule-scanned w o n (suc i) (omega arith)))
+
+  pub keeps-right : {r : Bool} → r ≡ keepsBy words from to stands chart start end → Keeps words from stands chart start end r
+  unfolding keepsBy
+  keeps-right {r} e = record {
+    is = λ w o.
+        e ∙ rw (le-leb to (length words) (g .rule .within), lt-ltb from to (g .rule .some))
+        (rule-scanned w o (to - suc from) (suc from) (omega (arith, g .rule .some)) .kept);
+  }
+
+-- the same, as the code goes: from the end of the words on
+module _ (words : List ℕ) (to : ℕ) (stands chart : List ℕ) (start end : ℕ) (long : to ≤ length words) where
+  pub scan-start : {scan : Scan} → scan ≡ noneOpen end → scan ≡ scanned stands chart start end (slice to to words)
+  unfolding scanned
+  scan-start e = rw (slice-empty to words) e
+
+  pub scan-more : {scan r : Scan} {i : ℕ} {word : Word} → scan ≡ scanned stands chart start end (slice i to words) → 0 < i → i ≤ to
+      → word ≡ decoded (getD words (i - 1) 0) → r ≡ scanOnto stands chart start end word scan
+      → r ≡ scanned stands chart start end (slice (i - 1) to words)
+  unfolding scanned
+  scan-more {scan} {r} {i} {word} h o l e f =
+      let s : suc (i - 1) ≡ i = omega arith in
+      let behind = h ∙ ap (λ (k : ℕ). scanned stands chart start end (slice k to words)) (sym s) in
+      f ∙ ap₂ (scanOnto stands chart start end) e behind
+      ∙ sym (ap (scanned stands chart start end) (slice-cons (i - 1) to words 0 (omega arith) long))
+
+module _ (words : List ℕ) (from to : ℕ) (stands chart : List ℕ) (start end : ℕ) where
+  pub none-such : length words < to → false ≡ keepsBy words from to stands chart start end
+  unfolding keepsBy
+  none-such h = rw (lt-leb to (length words) h)
+
+  module _ (long : to ≤ length words) where
+    pub none-between : to ≤ from → false ≡ keepsBy words from to stands chart start end
+    unfolding keepsBy
+    none-between h = rw (le-leb to (length words) long, le-ltb from to h)
+
+    pub scan-end : {scan : Scan} {i : ℕ} → scan ≡ scanned stands chart start end (slice i to words) → from < i → i ≤ from + 1 → from < to
+        → scan .kept ≡ keepsBy words from to stands chart start end
+    unfolding keepsBy
+    scan-end {scan} {i} h l m b =
+        let s : i ≡ suc from = omega arith in
+        rw (le-leb to (length words) long, lt-ltb from to b, ← s) (ap (λ (x : Scan). x .kept) h)

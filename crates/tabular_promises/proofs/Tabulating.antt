@@ -6,17 +6,21 @@ use Prim.Native.Nat.{ℕ, _+_, _≤_}
 use native.Mathlib.Omega.{arith}
 use lib.ListN.{length, getD, drop}
 use Rattle.grammar.specs.Encoding.{grammarOf}
+use Rattle.grammar.specs.Limits.{maxTabularTokens, maxSpanWords}
 use Rattle.grammar.specs.Reading.{reading}
 use Rattle.grammar.specs.declared.reading.Sizes.{Sizes}
 use Rattle.grammar.specs.declared.reading.Outcome.the-variants.{Read}
 use Rattle.grammar.proofs.WellRead.{well-read}
 use Rattle.lookahead.specs.Elements.{has}
 use Rattle.semantics.specs.Valuations.{solution}
-use Rattle.tabular_promises.specs.Chart.{slot, charted, wordAt}
+use Rattle.tabular_promises.specs.Places.{hasPlace}
+use Rattle.tabular_promises.specs.Chart.{slot, charted, WordGiven, wordAt, spanWord}
 use Rattle.tabular_promises.specs.Filling.{Filled}
 use Rattle.tabular_promises.specs.Judging.{Tabulated}
-use Rattle.tabular_promises.specs.Spans.{spanCount, solutionWord, Spans}
-use Rattle.tabular_promises.proofs.Writing.{total-cong, words-cong}
+use Rattle.tabular_promises.specs.Spans.{spanCount, solutionWord, writtenSpans}
+use Rattle.tabular_promises.proofs.Writing.{total-cong, words-cong, were-written}
+use Rattle.tabular_promises.proofs.Charts.{span-word}
+use Rattle.tabular_promises.proofs.PlaceSets.{has-place}
 
 module _ {words w chart : List ℕ} {z : Sizes} (read : reading words ≡ Read z) (f : Filled words w chart) where
   verdict-right : {r : Bool} → r ≡ has (getD chart (length w) 0) 0 → r ≡ solution (grammarOf words) w 0 0 (length w)
@@ -27,16 +31,19 @@ module _ {words w chart : List ℕ} {z : Sizes} (read : reading words ≡ Read z
       e ∙ ap (λ (n : ℕ). has (getD chart n 0) 0) i
       ∙ f .right 0 0 (length w) (omega (arith, k .someNonterminal, k .nonterminals)) (omega arith) (omega arith)
 
-  word-right : (i j : ℕ) → i ≤ j → j ≤ length w → wordAt chart (z .nonterminals) i j ≡ solutionWord (grammarOf words) w i j
+  word-right : length w ≤ maxTabularTokens → (i j : ℕ) → i ≤ j → j ≤ length w → spanWord chart (z .nonterminals) i j ≡ solutionWord (grammarOf words) w i j
   unfolding wordAt solutionWord
-  word-right i j h k =
-      rw (well-read words z read .nonterminals)
+  word-right short i j h k =
+      let r = well-read words z read in
+      let given : WordGiven (z .nonterminals) i j = record { span = record { forward = h; short = omega arith }; few = r .fewNonterminals } in
+      span-word chart (z .nonterminals) i j given
+      ∙ rw (r .nonterminals)
       (total-cong (grammarOf words .nonterminals) (λ A. charted chart A i j) (λ A. solution (grammarOf words) w A i j) (λ A a. f .right A i j a h k))
 
-  pub tabulated : {tokens : ℕ} {before after : List ℕ} {r : Bool} → tokens ≡ length w → Spans tokens (wordAt chart (z .nonterminals)) before after
-      → r ≡ has (getD chart tokens 0) 0 → Tabulated words w before r after
-  tabulated {tokens} {before} {after} n m e = record {
-    verdict = verdict-right (rw n at e);
-    memory = rw n at m ∙ ap (_++ drop (spanCount (length w)) before)
-        (words-cong (length w) (wordAt chart (z .nonterminals)) (solutionWord (grammarOf words) w) word-right);
+  pub tabulated : {tokens : ℕ} {before after : List ℕ} {r : Bool} → length w ≤ maxTabularTokens → maxSpanWords ≤ length before → tokens ≡ length w
+      → after ≡ writtenSpans chart (z .nonterminals) tokens before → r ≡ hasPlace (getD chart tokens 0) 0 → Tabulated words w before r after
+  tabulated {tokens} {before} {after} short room n m e = record {
+    verdict = verdict-right (rw n at e ∙ has-place (getD chart (length w) 0) 0 (omega arith));
+    memory = were-written chart (z .nonterminals) (length w) before short room (rw n at m) ∙ ap (_++ drop (spanCount (length w)) before)
+        (words-cong (length w) (spanWord chart (z .nonterminals)) (solutionWord (grammarOf words) w) (word-right short));
   }

@@ -9,7 +9,7 @@ use native.Mathlib.Omega.{arith}
 use lib.Dec.{T, eqb, eqb→eq}
 use lib.ListN.{length, replicate}
 use borrow.Author.Tests.{eq-eqb, ne-eqb}
-use Rattle.booleans.proofs.Booleans.{and-l, or-cases, T-none}
+use Rattle.base.proofs.Booleans.{and-l, or-cases, T-none}
 use Rattle.grammar.specs.Limits.{maxNonterminals, maxTabularTokens, maxTabularPlaces}
 use Rattle.grammar.specs.Syntax.{Grammar, WellScoped}
 use Rattle.grammar.specs.Encoding.{grammarOf}
@@ -20,9 +20,9 @@ use Rattle.lookahead.proofs.Elements.{has-zero}
 use Rattle.semantics.specs.Valuations.{solution}
 use Rattle.semantics.specs.LeftRecursion.{rank, level}
 use Rattle.semantics.specs.Theorems.{AgreeBelow}
-use Rattle.semantics.proofs.Rank.{rank-below}
-use Rattle.semantics.proofs.Unique.{rules-lower, solution-solves, solution-null}
-use Rattle.families.proofs.Lists.{getD-zeros}
+use Rattle.semantics.proofs.meaning.Rank.{rank-below}
+use Rattle.semantics.proofs.meaning.Unique.{rules-lower, solution-solves, solution-null}
+use Rattle.base.proofs.Lists.{getD-zeros}
 use Rattle.tabular_promises.specs.Places.{Standing}
 use Rattle.tabular_promises.specs.Chart.{charted, Long, Span, Added}
 use Rattle.tabular_promises.specs.Scanning.{Over}

@@ -7,13 +7,15 @@ use native.Mathlib.Decide.{ℕ-discrete}
 use native.Mathlib.Omega.{arith}
 use lib.ListN.{length, drop, set, getD, length-append, length-set, List·getD-append}
 use lib.Seq.{take-all, getD-append-add}
-use Rattle.booleans.specs.Quantifiers.{one}
+use borrow.Author.Tests.{le-leb, lt-leb}
+use Rattle.base.specs.Quantifiers.{one}
 use Rattle.grammar.specs.Limits.{maxTabularTokens, maxTabularPlaces, maxSpanWords}
 use Rattle.lookahead.specs.Elements.{weight, total}
-use Rattle.families.specs.Lists.{listed}
-use Rattle.families.proofs.Lists.{listed-long, listed-at}
-use Rattle.recognizer.proofs.Front.{front, front-more}
-use Rattle.tabular_promises.specs.Spans.{spansBefore, spanCount, indexOf, rows, spanWords, Spans}
+use Rattle.base.specs.Lists.{listed}
+use Rattle.base.proofs.Lists.{listed-long, listed-at}
+use Rattle.base.proofs.Front.{front, front-more}
+use Rattle.tabular_promises.specs.Chart.{spanWord}
+use Rattle.tabular_promises.specs.Spans.{spansBefore, spanCount, indexOf, rows, spanWords, Spans, writtenSpans}
 
 -- the spans before a place
 before-up : (n i : ℕ) (d : ℕ) → spansBefore n i ≤ spansBefore n (i + d)
@@ -160,3 +162,24 @@ written {n} {f} {before} {spans} {at} {start} {end} h l =
     let s : start ≡ suc n = omega (arith, h .low, h .high) in
     let d : at ≡ spanCount n = h .index ∙ rw s (omega (arith, h .low, h .high)) in
     h .memory ∙ rw d (ap (_++ drop (spanCount n) before) (take-all (spanCount n) (spanWords n f) (omega (arith, words-long n f))))
+
+-- by the lengths of the input and of the memory
+module _ (chart : List ℕ) (N tokens : ℕ) (before : List ℕ) where
+  pub not-of-long : maxTabularTokens < tokens → before ≡ writtenSpans chart N tokens before
+  unfolding writtenSpans
+  not-of-long h = rw (lt-leb tokens maxTabularTokens h)
+
+  module _ (short : tokens ≤ maxTabularTokens) where
+    pub not-in-short : length before < maxSpanWords → before ≡ writtenSpans chart N tokens before
+    unfolding writtenSpans
+    not-in-short h = rw (le-leb tokens maxTabularTokens short, lt-leb maxSpanWords (length before) h)
+
+    pub all-written : {after : List ℕ} → maxSpanWords ≤ length before → Spans tokens (spanWord chart N) before after
+        → after ≡ writtenSpans chart N tokens before
+    unfolding writtenSpans
+    all-written h e = rw (le-leb tokens maxTabularTokens short, le-leb maxSpanWords (length before) h) e
+
+    pub were-written : {after : List ℕ} → maxSpanWords ≤ length before → after ≡ writtenSpans chart N tokens before
+        → Spans tokens (spanWord chart N) before after
+    unfolding writtenSpans
+    were-written {after} h e = rw (le-leb tokens maxTabularTokens short, le-leb maxSpanWords (length before) h) at e

@@ -1,14 +1,17 @@
 -- The chart: for each nonterminal and end, the set of the starts of the spans that it derives.
 use mathlib.Core.Path.{_≡_}
-use mathlib.Core.Bool.{_&&_, _||_}
+use mathlib.Core.Bool.{Bool, _&&_, _||_}
 use mathlib.Core.List.{List}
-use Prim.Native.Nat.{ℕ, suc, _+_, _*_, _≤_, _<_}
-use lib.Dec.{T, leb}
+use Prim.Native.Nat.{ℕ, zero, suc, _+_, _*_, _-_, _≤_, _<_}
+use lib.Bits.{bitOr}
+use lib.Dec.{T, leb, ltb}
 use lib.ListN.{length, getD}
-use Rattle.booleans.specs.Quantifiers.{anyBelow}
+use Rattle.base.specs.Choice.{choose}
+use Rattle.base.specs.Quantifiers.{anyBelow}
 use Rattle.grammar.specs.Limits.{maxNonterminals, maxTabularPlaces}
-use Rattle.lookahead.specs.Elements.{has, total}
+use Rattle.lookahead.specs.Elements.{weight, has, total}
 use Rattle.semantics.specs.Valuations.{Valuation}
+use Rattle.tabular_promises.specs.Places.{hasPlace}
 
 abbrev pub slot : ℕ → ℕ → ℕ
 slot A m = A * maxTabularPlaces + m
@@ -30,13 +33,26 @@ pub record Span (start end : ℕ) : Type 0 where
   pub forward : start ≤ end
   pub short : end < maxTabularPlaces
 
--- from which places the nonterminal leads to a place of the set, from the start on and up to the end
+-- from which places the nonterminal leads to a place of the set, of the n places from the start on
+unfoldable pub gathered : List ℕ → ℕ → ℕ → ℕ → ℕ → ℕ
+gathered chart A set start zero = 0
+gathered chart A set start (suc n) =
+    choose (hasPlace set (start + n)) (bitOr (gathered chart A set start n) (getD chart (slot A (start + n)) 0)) (gathered chart A set start n)
+
+-- the same up to the end; of a nonterminal or an end beyond the limits, none
+unfoldable pub placesBefore : List ℕ → ℕ → ℕ → ℕ → ℕ → ℕ
+placesBefore chart A set start end = choose (ltb A maxNonterminals && ltb end maxTabularPlaces) (gathered chart A set start (suc end - start)) 0
+
+-- which places these are
 pub record Before (chart : List ℕ) (A set start end r : ℕ) : Type 0 where
   pub member : (k : ℕ) → has r k ≡ anyBelow (suc end) (λ m. leb start m && (charted chart A k m && has set m))
 
-pub record BeforeGiven (A start end : ℕ) : Type 0 where
-  pub span : Span start end
-  pub nonterminal : A < maxNonterminals
+-- the nonterminals found, with one more where it is to be; beyond the limit there is none
+unfoldable pub oneNonterminal : ℕ → ℕ
+oneNonterminal A = choose (ltb A maxNonterminals) (weight A) 0
+
+unfoldable pub withNonterminal : ℕ → ℕ → Bool → ℕ
+withNonterminal found A there = choose there (bitOr found (oneNonterminal A)) found
 
 pub record WordGiven (N start end : ℕ) : Type 0 where
   pub span : Span start end
@@ -45,6 +61,13 @@ pub record WordGiven (N start end : ℕ) : Type 0 where
 -- the nonterminals that a chart gives a span to, A weighing 2^A
 unfoldable pub wordAt : List ℕ → ℕ → ℕ → ℕ → ℕ
 wordAt chart N start end = total N (λ A. charted chart A start end)
+
+-- the same where places beyond those of an input are in no set, and of any numbers: none beyond the limits
+unfoldable pub foundWord : List ℕ → ℕ → ℕ → ℕ → ℕ
+foundWord chart N start end = total N (λ A. hasPlace (getD chart (slot A end) 0) start)
+
+unfoldable pub spanWord : List ℕ → ℕ → ℕ → ℕ → ℕ
+spanWord chart N start end = choose (leb N maxNonterminals && ltb end maxTabularPlaces) (foundWord chart N start end) 0
 
 -- the chart after it gives a span to the nonterminals of a word, of those below N
 pub record Added (before : List ℕ) (N start end word : ℕ) (after : List ℕ) : Type 0 where

@@ -15,7 +15,7 @@ use Rattle.grammar.specs.Starts.{ruleStarts}
 use Rattle.lookahead.specs.Elements.{has}
 use Rattle.semantics.specs.Valuations.{byRules, solution}
 use Rattle.semantics.specs.LeftRecursion.{NoLeftRecursion, rank}
-use Rattle.families.specs.Lists.{listed}
+use Rattle.base.specs.Lists.{listed}
 use Rattle.families.specs.Rules.{ruleFrom}
 use Rattle.families.specs.Sets.{reachNumber}
 use Rattle.tabular_promises.specs.Places.{Standing, InputGiven}

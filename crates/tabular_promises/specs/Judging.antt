@@ -2,19 +2,17 @@
 use mathlib.Core.Path.{_≡_}
 use mathlib.Core.Bool.{Bool}
 use mathlib.Core.List.{List}
-use mathlib.Core.Option.{none}
 use Prim.Native.Nat.{ℕ, _≤_}
 use lib.ListN.{length}
-use Rattle.grammar.specs.Limits.{maxNonterminals, maxSpanWords}
+use Rattle.grammar.specs.Limits.{maxTabularTokens, maxSpanWords}
 use Rattle.grammar.specs.Encoding.{grammarOf}
-use Rattle.grammar.specs.Reading.{reading}
 use Rattle.grammar.specs.declared.reading.Sizes.{Sizes}
-use Rattle.grammar.specs.declared.reading.Outcome.the-variants.{Read}
 use Rattle.lookahead.specs.declared.Lookahead.the-variants.{One}
 use Rattle.semantics.specs.Valuations.{solution}
-use Rattle.families.specs.Analysis.{setsFault}
-use Rattle.families.specs.Lists.{listed}
-use Rattle.families.specs.Sets.{reachNumber}
+use Rattle.families.specs.declared.Finding.{Finding}
+use Rattle.families.specs.declared.Families.{Families}
+use Rattle.families.specs.Analysis.{familiesOf}
+use Rattle.promises.specs.Inputs.{withInputTo}
 use Rattle.tabular_promises.specs.Filling.{FillGiven}
 use Rattle.tabular_promises.specs.Spans.{Spans, solutionWord}
 
@@ -27,9 +25,10 @@ pub record Tabulated (words w before : List ℕ) (r : Bool) (after : List ℕ) :
   pub verdict : r ≡ solution (grammarOf words) w 0 0 (length w)
   pub memory : Spans (length w) (solutionWord (grammarOf words) w) before after
 
--- a grammar that is read and not left-recursive, and enough words lent
-pub record PassedGiven (words : List ℕ) (z : Sizes) (reaches spans : List ℕ) : Type 0 where
-  pub read : reading words ≡ Read z
-  pub faultless : setsFault One words ≡ none
-  pub reached : reaches ≡ listed maxNonterminals (reachNumber (grammarOf words))
+-- what is found of a grammar and then of an input, and enough words lent
+pub record FoundGiven (words : List ℕ) (f : Finding) (reaches input spans : List ℕ) : Type 0 where
+  pub families : Families
+  pub found : families ≡ familiesOf One words
+  pub finding : f ≡ withInputTo maxTabularTokens (families .finding) input
+  pub reached : reaches ≡ families .reaches
   pub room : maxSpanWords ≤ length spans

@@ -1,14 +1,28 @@
 -- Sets of places of the input: place p weighs 2^p.
 use mathlib.Core.Path.{_≡_}
-use mathlib.Core.Bool.{Bool, _&&_, _||_}
+use mathlib.Core.Bool.{Bool, false, _&&_, _||_}
 use mathlib.Core.List.{List}
 use Prim.Native.Nat.{ℕ, _≤_, _<_}
+use lib.Bits.{bitOr}
 use lib.Dec.{eqb, ltb}
 use lib.ListN.{length, getD}
-use Rattle.grammar.specs.Limits.{maxTerminals, maxTabularTokens}
-use Rattle.lookahead.specs.Elements.{has}
+use Rattle.base.specs.Choice.{choose}
+use Rattle.grammar.specs.Limits.{maxTerminals, maxTabularTokens, maxTabularPlaces}
+use Rattle.lookahead.specs.Elements.{weight, has}
 
--- a place is put in, where it is to be
+-- the set of one place; of a place that no input has, none
+unfoldable pub onePlace : ℕ → ℕ
+onePlace place = choose (ltb place maxTabularPlaces) (weight place) 0
+
+-- whether a place is in a set
+unfoldable pub hasPlace : ℕ → ℕ → Bool
+hasPlace set place = choose (ltb place maxTabularPlaces) (has set place) false
+
+-- the set with a place, where it is to be
+unfoldable pub withPlace : ℕ → ℕ → Bool → ℕ
+withPlace set place member = choose member (bitOr set (onePlace place)) set
+
+-- which places that has
 pub record Put (set place : ℕ) (member : Bool) (r : ℕ) : Type 0 where
   pub is : (k : ℕ) → has r k ≡ (has set k || (eqb k place && member))
 

@@ -10,7 +10,7 @@ use Rattle.answer.specs.Faults.{refusedOr, toldOr}
 use Rattle.answer.specs.declared.Answer.{Answer}
 use Rattle.answer.specs.declared.Answer.the-variants.{Refused, Accepted, Rejected}
 use Rattle.answer.specs.declared.Error.the-variants.{LeftRecursive, Unproductive, Conflict}
-use Rattle.grammar.specs.Limits.{maxWords, maxTableWords, maxMemoEntries, maxTabularTokens, maxSpanWords}
+use Rattle.grammar.specs.Limits.{maxWords, maxTabularTokens, maxSpanWords}
 use Rattle.grammar.specs.Syntax.{Grammar}
 use Rattle.grammar.specs.Encoding.{grammarOf}
 use Rattle.encoding.specs.Encode.{Encodes}
@@ -19,10 +19,10 @@ use Rattle.event.specs.Events.{inputOf}
 use Rattle.lookahead.specs.Elements.{has}
 use Rattle.semantics.specs.Valuations.{Valuation, Solves}
 use Rattle.semantics.specs.LeftRecursion.{NoLeftRecursion}
-use Rattle.semantics.specs.Strings.{Over}
+use Rattle.base.specs.Strings.{Over}
 use Rattle.semantics.specs.Theorems.{OneSolution}
-use Rattle.recognizer_promises.specs.Memory.{lentBack}
-use Rattle.recognizer_promises.specs.Properties.{AllProductive, PassedGrammar, LowestRecursive, LowestUnproductive, Judges}
+use Rattle.promises.specs.Memory.{lentBack}
+use Rattle.promises.specs.Places.{AllProductive, LowestRecursive, LowestUnproductive}
 use Rattle.tabular_promises.specs.Spans.{indexOf}
 use Rattle.tabular_promises.specs.Answers.{tabularFault, noCalls, tabularVerdict, tabularNumbers, tabularWords}
 
@@ -51,9 +51,6 @@ pub record Tabulates (words input : List ℕ) (r : Answer) (after : List ℕ) : 
       → has (getD after (indexOf (length input) i j) 0) A ≡ v A i j
   pub others : (i j : ℕ) → i ≤ j → j ≤ length input → (A : ℕ) → grammarOf words .nonterminals ≤ A
       → has (getD after (indexOf (length input) i j) 0) A ≡ false
-  -- where the table passes the grammar too, judging by recursive descent has the same verdict
-  pub descent : PassedGrammar words → (table memo table′ memo′ : List ℕ) (d : Answer) → Judges words input table memo d table′ memo′
-      → maxTableWords ≤ length table → maxMemoEntries ≤ length memo → numbers d .verdict ≡ numbers r .verdict
 
 -- judging an input with lent words for its spans. The input is what the events of the lent log are (`inputOf`)
 pub record TabularJudges (words input before : List ℕ) (r : Answer) (after : List ℕ) : Type 0 where

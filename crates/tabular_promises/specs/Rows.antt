@@ -6,7 +6,7 @@ use Rattle.answer.specs.Faults.{refusedOr}
 use Rattle.grammar.specs.Cards.{wordsR, wordsE}
 use Rattle.grammar.specs.Encoding.{grammarOf}
 use Rattle.grammar.specs.Limits.{maxSpanWords}
-use Rattle.recognizer_promises.specs.Memory.{lentBack}
+use Rattle.promises.specs.Memory.{lentBack}
 use Rattle.tabular_promises.specs.Answers.{tabularFault, tabularVerdict, tabularWords}
 
 -- S → a | a, which claims an entry twice

@@ -1,24 +1,29 @@
 -- What a pass over the words of a rule, from their end, knows at a span: the set of places from which the rest of a body leads to the span's end, and
 -- whether the conjuncts behind it hold.
 use mathlib.Core.Path.{_≡_}
-use mathlib.Core.Bool.{Bool, true, not, _&&_}
-use mathlib.Core.List.{List, _∷_}
-use Prim.Native.Nat.{ℕ, suc, _≤_, _<_}
-use lib.ListN.{length, drop}
-use Rattle.booleans.specs.Quantifiers.{anyOf, allOf}
+use mathlib.Core.Bool.{Bool, true, false, not, _&&_}
+use mathlib.Core.List.{List, [], _∷_}
+use Prim.Native.Nat.{ℕ, suc, _/_, _≤_, _<_}
+use lib.Bits.{bitAnd}
+use lib.Dec.{leb, ltb}
+use lib.ListN.{length, getD, drop}
+use lib.Seq.{slice}
+use Rattle.base.specs.Choice.{choose}
+use Rattle.base.specs.Quantifiers.{anyOf, allOf}
 use Rattle.word.specs.declared.Symbol.{Symbol as GrammarSymbol}
 use Rattle.word.specs.declared.Symbol.the-variants.{Terminal, Nonterminal}
 use Rattle.word.specs.declared.Word.{Word}
 use Rattle.word.specs.declared.Word.the-variants.{Heading, Rule, Positive, Negative, Symbol, End, Invalid}
+use Rattle.word.specs.Words.{decoded}
 use Rattle.grammar.specs.Limits.{maxNonterminals, maxTerminals}
 use Rattle.grammar.specs.Syntax.{Body}
-use Rattle.grammar.specs.Encoding.{Parsed, onWord, parse}
-use Rattle.lookahead.specs.Elements.{weight, has}
+use Rattle.grammar.specs.Encoding.{Parsed, parse}
+use Rattle.lookahead.specs.Elements.{has}
 use Rattle.semantics.specs.Valuations.{Valuation, contains}
 use Rattle.families.specs.Rules.{RuleWords}
 use Rattle.tabular_promises.specs.declared.Scan.{Scan}
-use Rattle.tabular_promises.specs.Places.{Standing}
-use Rattle.tabular_promises.specs.Chart.{charted, Forward, Span}
+use Rattle.tabular_promises.specs.Places.{onePlace, hasPlace, Standing}
+use Rattle.tabular_promises.specs.Chart.{placesBefore, charted, Forward, Span}
 
 -- the input w, by where its terminals stand, reaches to the end, and no span of the chart ends before it starts
 pub record Over (w stands chart : List ℕ) (end : ℕ) : Type 0 where
@@ -40,7 +45,35 @@ pub record Scanned (v : Valuation) (w : List ℕ) (start end : ℕ) (p : Parsed)
 
 -- where nothing of a rule is open: nothing is left of a body, and no conjunct is behind
 abbrev pub noneOpen : ℕ → Scan
-noneOpen end = record { set = weight end; kept = true }
+noneOpen end = record { set = onePlace end; kept = true }
+
+-- the places before a symbol: of a terminal where it stands, of a nonterminal by the chart; of a terminal beyond the limit none
+unfoldable pub beforeTerminal : List ℕ → ℕ → ℕ → ℕ
+beforeTerminal stands a set = choose (ltb a maxTerminals) (bitAnd (set / 2) (getD stands a 0)) 0
+
+abbrev pub beforeSymbol : (stands chart : List ℕ) (start end : ℕ) → GrammarSymbol → ℕ → ℕ
+beforeSymbol stands chart start end (Terminal a) set = beforeTerminal stands a set
+beforeSymbol stands chart start end (Nonterminal A) set = placesBefore chart A set start end
+
+-- what is known with a word in front
+abbrev pub scanOnto : (stands chart : List ℕ) (start end : ℕ) → Word → Scan → Scan
+scanOnto stands chart start end (Symbol X) scan = record { set = beforeSymbol stands chart start end X (scan .set); kept = scan .kept }
+scanOnto stands chart start end (Rule A) scan = noneOpen end
+scanOnto stands chart start end Positive scan = record { set = onePlace end; kept = choose (hasPlace (scan .set) start) (scan .kept) false }
+scanOnto stands chart start end Negative scan = record { set = onePlace end; kept = choose (hasPlace (scan .set) start) false (scan .kept) }
+scanOnto stands chart start end End scan = noneOpen end
+scanOnto stands chart start end (Heading n t) scan = scan
+scanOnto stands chart start end Invalid scan = scan
+
+-- and of words, from their end
+unfoldable pub scanned : (stands chart : List ℕ) (start end : ℕ) → List ℕ → Scan
+scanned stands chart start end [] = noneOpen end
+scanned stands chart start end (w ∷ ws) = scanOnto stands chart start end (decoded w) (scanned stands chart start end ws)
+
+-- whether the conjuncts hold of the words behind one index and before another; not, where there are no such words
+unfoldable pub keepsBy : (words : List ℕ) (from to : ℕ) (stands chart : List ℕ) (start end : ℕ) → Bool
+keepsBy words from to stands chart start end =
+    choose (leb to (length words) && ltb from to) (scanned stands chart start end (slice (suc from) to words) .kept) false
 
 -- a symbol's number is within the limits
 abbrev pub SymbolKnown : GrammarSymbol → Type 0
@@ -55,23 +88,6 @@ Known Negative = Unit {0}
 Known End = Unit {0}
 Known (Heading n t) = Unit {0}
 Known Invalid = Unit {0}
-
-pub record SymbolGiven (X : GrammarSymbol) (start end : ℕ) : Type 0 where
-  pub known : SymbolKnown X
-  pub span : Span start end
-
--- a symbol in front of a body
-pub record SymbolOnto (stands chart : List ℕ) (X : GrammarSymbol) (set start end r : ℕ) : Type 0 where
-  pub onto : (w : List ℕ) → Over w stands chart end → (b : Body) → Reads (charted chart) w b start end set → Reads (charted chart) w (X ∷ b) start end r
-
-pub record OntoGiven (word : Word) (start end : ℕ) : Type 0 where
-  pub known : Known word
-  pub span : Span start end
-
--- a word in front of words
-pub record Onto (stands chart : List ℕ) (word : Word) (scan : Scan) (start end : ℕ) (r : Scan) : Type 0 where
-  pub onto : (w : List ℕ) → Over w stands chart end → (p : Parsed) → Scanned (charted chart) w start end p scan
-      → Scanned (charted chart) w start end (onWord word p) r
 
 pub record KeepsGiven (words : List ℕ) (from to start end : ℕ) : Type 0 where
   pub rule : RuleWords words from to

@@ -1,13 +1,17 @@
 -- The words of the spans in lent memory: by start, then by end.
 use mathlib.Core.Path.{_≡_}
 use mathlib.Core.List.{List, [], _++_}
-use Prim.Native.Nat.{ℕ, zero, suc, _+_, _-_, _≤_}
+use mathlib.Core.Bool.{_&&_}
+use Prim.Native.Nat.{ℕ, zero, suc, _+_, _-_}
+use lib.Dec.{leb}
 use lib.ListN.{length, drop}
-use Rattle.grammar.specs.Limits.{maxNonterminals, maxTabularTokens, maxSpanWords}
+use Rattle.base.specs.Choice.{choose}
+use Rattle.grammar.specs.Limits.{maxTabularTokens, maxSpanWords}
 use Rattle.grammar.specs.Syntax.{Grammar}
 use Rattle.lookahead.specs.Elements.{total}
 use Rattle.semantics.specs.Valuations.{solution}
-use Rattle.families.specs.Lists.{listed}
+use Rattle.base.specs.Lists.{listed}
+use Rattle.tabular_promises.specs.Chart.{spanWord}
 
 -- the nonterminals that the one solution gives a span to, A weighing 2^A
 unfoldable pub solutionWord : Grammar → List ℕ → ℕ → ℕ → ℕ
@@ -38,7 +42,7 @@ spanWords n f = rows f (suc n) 0
 abbrev pub Spans : ℕ → (ℕ → ℕ → ℕ) → List ℕ → List ℕ → Type 0
 Spans n f before after = after ≡ spanWords n f ++ drop (spanCount n) before
 
-pub record WriteGiven (N tokens : ℕ) (spans : List ℕ) : Type 0 where
-  pub few : N ≤ maxNonterminals
-  pub short : tokens ≤ maxTabularTokens
-  pub room : maxSpanWords ≤ length spans
+-- the words of a chart's spans; for an input that is too long, or in memory that is too short, what was there
+unfoldable pub writtenSpans : List ℕ → ℕ → ℕ → List ℕ → List ℕ
+writtenSpans chart N tokens before =
+    choose (leb tokens maxTabularTokens && leb maxSpanWords (length before)) (spanWords tokens (spanWord chart N) ++ drop (spanCount tokens) before) before

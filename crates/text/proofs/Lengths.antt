@@ -9,7 +9,7 @@ use lib.ListN.{length, length-append}
 use borrow.Author.Tests.{lt-ltb}
 use Rattle.answer.specs.declared.Error.{Error}
 use Rattle.answer.specs.Numbers.{coded}
-use Rattle.booleans.specs.Choice.{choose}
+use Rattle.base.specs.Choice.{choose}
 use Rattle.text.specs.Ascii.{ascii}
 use Rattle.text.specs.Decimal.{digit, digits, decimal, labelled, orDash}
 use Rattle.text.specs.Refusal.{refusalText}

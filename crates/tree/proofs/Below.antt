@@ -12,16 +12,16 @@ use lib.ListN.{length, getD}
 use Rattle.word.specs.declared.Symbol.the-variants.{Terminal, Nonterminal}
 use Rattle.grammar.specs.Syntax.{Body, Rule, Grammar}
 use Rattle.semantics.specs.Valuations.{Valuation, Solves}
-use Rattle.semantics.specs.Strings.{look, Over}
+use Rattle.base.specs.Strings.{look, Over}
 use Rattle.semantics.specs.Choices.{tableChoice}
 use Rattle.semantics.specs.Descent.{Outcome, Failed, End, endsAt, guard, Outcomes, read, run, select}
 use Rattle.semantics.specs.ComesTo.{Call, callAt, InRange, measure, when, fromEnd, bodyComesTo, positivesComeTo, ruleComesTo, selectedComesTo, callComesTo}
 use Rattle.semantics.specs.Predictive.{Predictive}
-use Rattle.booleans.proofs.Booleans.{T-true, and-make}
-use Rattle.semantics.proofs.Measure.{measure-falls}
+use Rattle.base.proofs.Booleans.{T-true, and-make}
+use Rattle.semantics.proofs.descent.Measure.{measure-falls}
 use Rattle.semantics.proofs.Theorems.{theorems}
 use Rattle.tree.specs.Writing.{ruleCalls, below}
-use Rattle.semantics.proofs.FlatMaps.{flatMap-elim, flatMap-make}
+use Rattle.base.proofs.FlatMaps.{flatMap-elim, flatMap-make}
 use Rattle.tree.proofs.Reading.{outcomes, Found, Reads, Chosen, chosen}
 
 -- what a body comes to, step by step

@@ -12,20 +12,20 @@ use lib.ListN.{length, getD, getElem?}
 use Rattle.word.specs.declared.Symbol.{Symbol}
 use Rattle.word.specs.declared.Symbol.the-variants.{Terminal, Nonterminal}
 use Rattle.grammar.specs.Syntax.{Body, Rule, Grammar, bodies}
-use Rattle.booleans.specs.Quantifiers.{anyOf, allOf}
+use Rattle.base.specs.Quantifiers.{anyOf, allOf}
 use Rattle.semantics.specs.Valuations.{Valuation, contains, Solves}
-use Rattle.semantics.specs.Strings.{look, Over}
+use Rattle.base.specs.Strings.{look, Over}
 use Rattle.semantics.specs.FirstFollow.{Follow}
 use Rattle.semantics.specs.Choices.{tableChoice}
 use Rattle.semantics.specs.Descent.{Outcome, Failed, End, endsAt, guard, onward, Outcomes, read, run, agrees, conclude, obey, select, byChoice, descend}
 use Rattle.semantics.specs.ComesTo.{Call, callAt, InRange, when, fromEnd, bodyComesTo, negativesComeTo, positivesComeTo, ruleComesTo, selectedComesTo, callComesTo}
 use Rattle.semantics.specs.Predictive.{Predictive}
 use Rattle.semantics.specs.Theorems.{LocalVerdict}
-use Rattle.booleans.proofs.Booleans.{T-subst, T-true, and-l, and-r}
-use Rattle.booleans.proofs.Quantified.{all-elim, any-make}
-use Rattle.semantics.proofs.Outcomes.{ends-end, end-ends, onward-elim, guard-elim, obey-elim, select-elim, conclude-elim, nth-mem}
-use Rattle.semantics.proofs.Ends.{run-forward, selected, descend-forward}
-use Rattle.semantics.proofs.BodyVerdict.{below-rest}
+use Rattle.base.proofs.Booleans.{T-subst, T-true, and-l, and-r}
+use Rattle.base.proofs.Quantified.{all-elim, any-make}
+use Rattle.semantics.proofs.descent.Outcomes.{ends-end, end-ends, onward-elim, guard-elim, obey-elim, select-elim, conclude-elim, nth-mem}
+use Rattle.semantics.proofs.descent.Ends.{run-forward, selected, descend-forward}
+use Rattle.semantics.proofs.descent.BodyVerdict.{below-rest}
 use Rattle.semantics.proofs.Theorems.{theorems}
 use Rattle.tree.specs.Writing.{ruleCalls, below}
 

@@ -11,19 +11,20 @@ use lib.Dec.{T}
 use lib.ListN.{length, getElem?, length-map}
 use Rattle.grammar.specs.Syntax.{Body, Rule, Grammar}
 use Rattle.semantics.specs.Valuations.{Valuation, Solves, pairs}
-use Rattle.semantics.specs.Strings.{look, Over}
+use Rattle.base.specs.Strings.{look, Over}
 use Rattle.semantics.specs.FirstFollow.{Follow}
 use Rattle.semantics.specs.Choices.{Choice, tableChoice}
 use Rattle.semantics.specs.Descent.{End, descend, accepts}
 use Rattle.semantics.specs.ComesTo.{Call, callAt, measure, bodyComesTo}
-use Rattle.semantics.specs.Calls.{Called, Distinct, calls, callCount}
+use Rattle.semantics.specs.Calls.{Called, calls, callCount}
+use Rattle.base.specs.FiniteSets.{Distinct}
 use Rattle.semantics.specs.Calls as called
 use Rattle.semantics.specs.Predictive.{Predictive}
-use Rattle.semantics.proofs.Strings.{look-end}
-use Rattle.semantics.proofs.Outcomes.{ends-end, nth-below}
-use Rattle.semantics.proofs.Rank.{level-top}
-use Rattle.semantics.proofs.Predictive.{own-guides}
-use Rattle.semantics.proofs.Distinct.{distinct-length}
+use Rattle.base.proofs.Strings.{look-end}
+use Rattle.semantics.proofs.descent.Outcomes.{ends-end, nth-below}
+use Rattle.semantics.proofs.meaning.Rank.{level-top}
+use Rattle.semantics.proofs.descent.Predictive.{own-guides}
+use Rattle.base.proofs.Distinct.{distinct-length}
 use Rattle.semantics.proofs.Theorems.{theorems}
 use Rattle.tree.specs.ParseTrees.{Vertex, vertex, Node, Leaf, Inner, leaves, Tree, Pairwise, Corresponds, Cut, Conditions, Reaches, itself, ParseTree}
 use Rattle.tree.specs.ParseTrees as trees

@@ -7,14 +7,14 @@ use mathlib.Core.Path.{_≡_, refl, sym, ap, _∙_}
 use Prim.Native.Nat.{ℕ, zero, suc, _≤_, _<_}
 use native.Mathlib.Omega.{arith}
 use lib.Dec.{T}
-use Rattle.booleans.specs.Quantifiers.{anyOf}
-use Rattle.booleans.specs.Choice.{choose}
-use Rattle.semantics.specs.FiniteSets.{member}
+use Rattle.base.specs.Quantifiers.{anyOf}
+use Rattle.base.specs.Choice.{choose}
+use Rattle.base.specs.FiniteSets.{member, Distinct}
 use Rattle.semantics.specs.ComesTo.{Call}
-use Rattle.semantics.specs.Calls.{sameCall, Distinct}
-use Rattle.booleans.proofs.Booleans.{true-T, T-subst}
-use Rattle.semantics.proofs.FiniteSets.{member-mem, mem-member}
-use Rattle.semantics.proofs.Range.{calls-equality}
+use Rattle.semantics.specs.Calls.{sameCall}
+use Rattle.base.proofs.Booleans.{true-T, T-subst}
+use Rattle.base.proofs.FiniteSets.{member-mem, mem-member}
+use Rattle.semantics.proofs.descent.Range.{calls-equality}
 use Rattle.tree.specs.Writing.{each, visit}
 
 pub distinct-last : (l : List Call) (x : Call) → Distinct l → (List·Memᴰ x l → ⊥) → Distinct (l ++ (x ∷ []))

@@ -8,11 +8,12 @@ use lib.Dec.{T}
 use lib.ListN.{length, getElem?}
 use Rattle.grammar.specs.Syntax.{Rule, Grammar}
 use Rattle.semantics.specs.Valuations.{Valuation, Solves}
-use Rattle.semantics.specs.Strings.{Over}
+use Rattle.base.specs.Strings.{Over}
 use Rattle.semantics.specs.Choices.{Choice, tableChoice}
 use Rattle.semantics.specs.Descent.{End, descend, accepts}
 use Rattle.semantics.specs.ComesTo.{Call}
-use Rattle.semantics.specs.Calls.{Called, Distinct, callCount}
+use Rattle.semantics.specs.Calls.{Called, callCount}
+use Rattle.base.specs.FiniteSets.{Distinct}
 use Rattle.semantics.specs.Predictive.{Predictive}
 use Rattle.tree.specs.ParseTrees.{Vertex, ParseTree}
 use Rattle.tree.specs.Writing.{vertexAt, treeCalls, treeOf, vertexWord, InTree}

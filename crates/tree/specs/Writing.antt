@@ -5,8 +5,8 @@ use Prim.Native.Nat.{ℕ, zero, suc, _+_, _*_, _-_, _^_}
 use lib.ListN.{length, getElem?}
 use Rattle.word.specs.declared.Symbol.the-variants.{Terminal, Nonterminal}
 use Rattle.grammar.specs.Syntax.{Body, Rule, Grammar}
-use Rattle.booleans.specs.Choice.{choose}
-use Rattle.semantics.specs.FiniteSets.{member}
+use Rattle.base.specs.Choice.{choose}
+use Rattle.base.specs.FiniteSets.{member}
 use Rattle.semantics.specs.Valuations.{pairs}
 use Rattle.semantics.specs.Choices.{Choice}
 use Rattle.semantics.specs.Descent.{Outcome, Failed, End, Outcomes, select, descend, accepts}

@@ -1,15 +1,15 @@
 // Writing the parse tree of an accepted input into lent words: root first, each vertex once.
 ghost use Rattle.event.specs.Events.{inputOf};
 ghost use Rattle.tree_writer_promises.specs.Writer.{VertexRequires, VertexEnsures, TreeGiven, TreeDone};
-use super::labels::end_of;
 use super::labels::labels_of;
-use super::labels::rule_of;
 use grammar::limits::MEMO_ENTRIES;
 use grammar::limits::PLACES;
 use grammar::limits::RULES;
 use grammar::reading::Outcome;
 use reader::read;
 use reader::rule_starts;
+use vertex_words::end_of;
+use vertex_words::rule_of;
 use word::Symbol;
 use word::Word;
 use word::decode;

@@ -14,14 +14,14 @@ use lib.Seq.{getD-set-same, getD-set-other}
 use Rattle.grammar.specs.Limits.{maxNonterminals, maxTokens, maxPlaces, maxMemoEntries}
 use Rattle.grammar.specs.Syntax.{Grammar}
 use Rattle.grammar.specs.Encoding.{grammarOf}
-use Rattle.semantics.specs.FiniteSets.{member}
+use Rattle.base.specs.FiniteSets.{member, Distinct}
 use Rattle.semantics.specs.Valuations.{pairs}
 use Rattle.semantics.specs.ComesTo.{Call, InRange}
-use Rattle.semantics.specs.Calls.{Distinct, sameCall, allCalls}
-use Rattle.booleans.proofs.Booleans.{T-subst, T-true, both, true-T}
-use Rattle.semantics.proofs.FiniteSets.{member-mem, mem-member}
-use Rattle.semantics.proofs.Distinct.{distinct-length}
-use Rattle.semantics.proofs.Range.{calls-equality, all-range, all-length}
+use Rattle.semantics.specs.Calls.{sameCall, allCalls}
+use Rattle.base.proofs.Booleans.{T-subst, T-true, both, true-T}
+use Rattle.base.proofs.FiniteSets.{member-mem, mem-member}
+use Rattle.base.proofs.Distinct.{distinct-length}
+use Rattle.semantics.proofs.descent.Range.{calls-equality, all-range, all-length}
 use Rattle.tree.specs.Writing.{InTree}
 use Rattle.tree.proofs.Visiting.{distinct-last}
 use Rattle.tree.proofs.Trees.{call-same}

@@ -7,8 +7,8 @@ use Prim.Native.Nat.{ℕ, zero, suc, _+_, _*_, _-_, _%_, _≤_, _<_}
 use native.Mathlib.Numerals.{add-one}
 use native.Mathlib.Omega.{arith}
 use lib.ListN.{length, getD, drop, replicate, length-map, length-replicate}
-use Rattle.booleans.specs.Quantifiers.{anyOf}
-use Rattle.booleans.proofs.Booleans.{T-true}
+use Rattle.base.specs.Quantifiers.{anyOf}
+use Rattle.base.proofs.Booleans.{T-true}
 use Rattle.grammar.specs.Limits.{maxMemoEntries}
 use Rattle.grammar.specs.Syntax.{Grammar}
 use Rattle.grammar.specs.Encoding.{grammarOf}
@@ -19,14 +19,14 @@ use Rattle.grammar.specs.declared.reading.Outcome.{Outcome}
 use Rattle.grammar.specs.declared.reading.Outcome.the-variants.{Read}
 use Rattle.grammar.proofs.reading.Outcome.{the-type}
 use Rattle.grammar.proofs.WellRead.{well-read}
-use Rattle.semantics.specs.FiniteSets.{member}
+use Rattle.base.specs.FiniteSets.{member}
 use Rattle.semantics.specs.Valuations.{Valuation, Solves, solution, pairs}
 use Rattle.semantics.specs.Claims.{tableOf}
 use Rattle.semantics.specs.Descent.{accepts}
 use Rattle.semantics.specs.ComesTo.{Call, callAt, measure}
 use Rattle.semantics.specs.Memo.{encode}
-use Rattle.semantics.proofs.Outcomes.{nth-below}
-use Rattle.semantics.proofs.Rank.{level-top}
+use Rattle.semantics.proofs.descent.Outcomes.{nth-below}
+use Rattle.semantics.proofs.meaning.Rank.{level-top}
 use Rattle.semantics.proofs.Theorems.{theorems}
 use Rattle.lookahead.specs.declared.Lookahead.the-variants.{One}
 use Rattle.table.specs.Layout.{entryWord, entryAt}
@@ -60,17 +60,8 @@ module _ {words input table memo tree : List ℕ} (g : TreeGiven words input tab
   pub not-read : {o : Outcome} {n : ℕ} {tree′ : List ℕ} → o ≡ reading words → tagOf the-type o ≡ 1 → TreeDone words input tree n tree′
   not-read e t = let q : _≡_ {A = ℕ} 0 1 = rw (e ∙ g .accepted .read) at t in absurd (omega arith)
 
-  pub labels-given : {z : Sizes} → reading words ≡ Read z → LabelsGiven z input table memo
-  labels-given {z} e =
-      let k = well-read words z e in
-      record {
-        fewNonterminals = k .fewNonterminals;
-        fewTerminals = k .fewTerminals;
-        short = g .accepted .short;
-        tokens = rw (k .terminals) (g .accepted .tokens);
-        long-table = g .long-table;
-        long-memo = g .long-memo;
-      }
+  pub labels-given : {z : Sizes} → reading words ≡ Read z → LabelsGiven z input
+  labels-given {z} e = record { fewNonterminals = well-read words z e .fewNonterminals; short = g .accepted .short }
 
   abbrev meaning : Valuation
   meaning = solution G input

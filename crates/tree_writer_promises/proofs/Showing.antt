@@ -12,7 +12,7 @@ use native.Mathlib.Nat.{mul-le-mul}
 use native.Mathlib.Omega.{arith}
 use lib.Dec.{T}
 use lib.Arith.{digits-lt}
-use lib.ListN.{length, getD, drop, replicate, length-append, length-drop, length-map, List·getD-append}
+use lib.ListN.{length, getD, drop, length-append, length-drop, length-map, List·getD-append}
 use borrow.Author.Tests.{lt-ltb, le-ltb}
 use Rattle.answer.specs.Faults.{firstFault, refusedOr, toldOr}
 use Rattle.answer.specs.Numbers.{coded}
@@ -24,9 +24,9 @@ use Rattle.answer.specs.declared.Answer.the-variants.{Refused, Passed, Rejected
 use Rattle.answer.proofs.Answer.{the-type}
 use Rattle.answer.proofs.Apart.{answer-number, refusalNumber}
 use Rattle.answer.proofs.Faults.{none-some, each-none}
-use Rattle.booleans.specs.Choice.{choose}
-use Rattle.booleans.proofs.Booleans.{true-T}
-use Rattle.grammar.specs.Codes.{noEntry, uncalledCode}
+use Rattle.base.specs.Choice.{choose}
+use Rattle.base.proofs.Booleans.{true-T}
+use Rattle.grammar.specs.Codes.{uncalledCode}
 use Rattle.grammar.specs.Limits.{maxNonterminals, maxTokens, maxPlaces, maxTableWords, maxMemoEntries}
 use Rattle.grammar.specs.Syntax.{Grammar}
 use Rattle.grammar.specs.Encoding.{grammarOf}
@@ -35,22 +35,22 @@ use Rattle.event.specs.declared.Unknown.the-variants.{Absent, At}
 use Rattle.event.specs.Unknown.{unknownFrom, unknownFault}
 use Rattle.event.proofs.Known.{absent-known}
 use Rattle.semantics.specs.Valuations.{solution}
-use Rattle.semantics.specs.Strings.{Over}
+use Rattle.base.specs.Strings.{Over}
 use Rattle.semantics.specs.Descent.{accepts, descend}
 use Rattle.semantics.specs.ComesTo.{Call}
 use Rattle.semantics.specs.Calls.{Called}
 use Rattle.semantics.specs.Memo.{encode, indexOf}
 use Rattle.semantics.specs.Predictive.{Predictive}
-use Rattle.semantics.proofs.Called.{called-range}
-use Rattle.semantics.proofs.Range.{index-range}
+use Rattle.semantics.proofs.descent.Called.{called-range}
+use Rattle.semantics.proofs.descent.Range.{index-range}
 use Rattle.semantics.proofs.Theorems.{theorems}
 use Rattle.lookahead.specs.declared.Lookahead.the-variants.{One}
 use Rattle.columns.specs.Columns.{columns}
 use Rattle.table.specs.Layout.{tableWords}
-use Rattle.table.specs.Layout.{filled}
-use Rattle.table.proofs.Words.{filled-entries, table-length}
+use Rattle.table.proofs.Words.{table-entry, table-length}
 use Rattle.recognizer_promises.specs.Answers.{judgeFault, callsOf, verdictBy, verdictOf, verdictNumbers}
-use Rattle.recognizer_promises.specs.Memory.{lentBack, memoWords}
+use Rattle.promises.specs.Memory.{lentBack}
+use Rattle.recognizer_promises.specs.Memory.{memoWords}
 use Rattle.recognizer_promises.specs.Properties.{Judges, PassedGrammar}
 use Rattle.recognizer_promises.proofs.Checking.{passed-fault, passed-encodes, passed-read, no-clashes, not-left-recursive}
 use Rattle.recognizer_promises.proofs.JudgeFaults.{judgeRows, judged-rows, judged-readable, table-short, memo-short}
@@ -241,13 +241,11 @@ module _ (tree : List ℕ) {words input table memo : List ℕ} (long : maxTableW
 
     -- the lent table has the grammar's entries
     entries : Entries G table′
-    unfolding filled
     entries A k named low =
         let i : ℕ = 2 * G .nonterminals + A * columns One G + k in
         let within : A * columns One G + k < G .nonterminals * columns One G = digits-lt named low in
         let b : i < length (tableWords One G) = omega (arith, table-length One G) in
-        ap (λ l. getD l i 0) table-is ∙ List·getD-append (tableWords One G) (drop (length (tableWords One G)) table) 0 i b
-        ∙ sym (List·getD-append (tableWords One G) (replicate (maxTableWords - length (tableWords One G)) noEntry) 0 i b) ∙ filled-entries One G A k named low
+        ap (λ l. getD l i 0) table-is ∙ List·getD-append (tableWords One G) (drop (length (tableWords One G)) table) 0 i b ∙ table-entry One G A k named low
 
     -- the lent memo table has the outcomes of the calls
     recorded : (x : Call) → Called G (choiceOf words input) input x

@@ -31,22 +31,22 @@ use Rattle.grammar.specs.WellRead.{firstRule, Begun, WellRead}
 use Rattle.grammar.proofs.WellRead.{well-read}
 use Rattle.grammar.proofs.Suffixes.{Next, scan-next, read-reaches}
 use Rattle.grammar.proofs.WellFormed.{RestFits, reads}
-use Rattle.booleans.specs.Choice.{choose}
-use Rattle.semantics.specs.FiniteSets.{member}
+use Rattle.base.specs.Choice.{choose}
+use Rattle.base.specs.FiniteSets.{member, Distinct}
 use Rattle.semantics.specs.Valuations.{Valuation, Solves, solution, pairs}
 use Rattle.semantics.specs.Descent.{Outcomes, End, descend, accepts}
 use Rattle.semantics.specs.ComesTo.{Call, callAt, InRange, measure, bodyComesTo}
-use Rattle.semantics.specs.Calls.{Distinct, sameCall, allCalls}
+use Rattle.semantics.specs.Calls.{sameCall, allCalls}
 use Rattle.semantics.specs.LeftRecursion as semantics
 use Rattle.semantics.proofs.Theorems.{theorems}
 use Rattle.families.proofs.Words.{parse-over}
-use Rattle.recognizer.proofs.Bodies.{parse-here, symbol-reads}
-use Rattle.recognizer.proofs.Starting.{begin-next}
+use Rattle.recursive_descent.proofs.Bodies.{parse-here, symbol-reads}
+use Rattle.recursive_descent.proofs.Starting.{begin-next}
 use Rattle.tree.specs.Writing.{numberOf, vertexAt, below, each, visit, InTree, more}
 use Rattle.tree.specs.Writing.{start as root-in}
 use Rattle.tree.specs.Theorems.{Told}
 use Rattle.tree.proofs.Words.{told}
-use Rattle.semantics.proofs.Outcomes.{nth-below}
+use Rattle.semantics.proofs.descent.Outcomes.{nth-below}
 use Rattle.tree.proofs.Reading.{Found, Reads, Chosen, chosen}
 use Rattle.tree.proofs.Below.{comes-token, comes-name, below-chosen, below-make, below-falls}
 use Rattle.tree.proofs.Trees.{tree-sound}

@@ -2,11 +2,12 @@
 use mathlib.Core.Path.{_≡_}
 use mathlib.Core.List.{List}
 use Prim.Native.Nat.{ℕ, suc, _+_, _*_, _/_, _%_, _≤_, _<_}
+use lib.Dec.{ltb}
 use lib.ListN.{length, getD}
-use Rattle.grammar.specs.Limits.{maxNonterminals, maxTerminals, maxTokens, maxPlaces, maxTableWords, maxMemoEntries}
+use Rattle.base.specs.Choice.{choose}
+use Rattle.grammar.specs.Limits.{maxNonterminals, maxTokens, maxPlaces, maxMemoEntries}
 use Rattle.grammar.specs.declared.reading.Sizes.{Sizes}
 use Rattle.semantics.specs.ComesTo.{Call}
-use Rattle.semantics.specs.Strings.{Over}
 use Rattle.lookahead.specs.declared.Lookahead.the-variants.{One}
 use Rattle.columns.specs.Columns.{columnAt}
 use Rattle.tree.specs.ParseTrees.{vertex}
@@ -23,27 +24,18 @@ ruleOf word = word % 128
 abbrev pub endOf : ℕ → ℕ
 endOf word = word / 65536 % 512
 
-pub record FieldsGiven (rule start end : ℕ) : Type 0 where
-  pub rule-low : rule < 128
-  pub start-low : start < 512
-  pub end-low : end < 512
-
 -- the word for a call, from the entries of the lent table and of the lent memo table
 unfoldable pub labelWord : Sizes → (input table memo : List ℕ) (A i : ℕ) → ℕ
 labelWord z input table memo A i = vertexWord
     (vertex (ruleOf (getD table (2 * z .nonterminals + A * (z .terminals + 1) + columnAt One (z .terminals) input i) 0)) i (getD memo (A * (length input + 1) + i) 0 % 512))
 
-pub record LabelsGiven (z : Sizes) (input table memo : List ℕ) : Type 0 where
-  pub fewNonterminals : z .nonterminals ≤ maxNonterminals
-  pub fewTerminals : z .terminals ≤ maxTerminals
-  pub short : length input ≤ maxTokens
-  pub tokens : Over (z .terminals) input
-  pub long-table : maxTableWords ≤ length table
-  pub long-memo : maxMemoEntries ≤ length memo
+-- and of an input that is too long 0
+abbrev pub labelOf : Sizes → (input table memo : List ℕ) (A i : ℕ) → ℕ
+labelOf z input table memo A i = choose (ltb maxTokens (length input)) 0 (labelWord z input table memo A i)
 
-pub record IndexGiven (z : Sizes) (input table memo : List ℕ) (at : ℕ) : Type 0 where
-  pub given : LabelsGiven z input table memo
-  pub low : at < z .nonterminals * maxPlaces
+pub record LabelsGiven (z : Sizes) (input : List ℕ) : Type 0 where
+  pub fewNonterminals : z .nonterminals ≤ maxNonterminals
+  pub short : length input ≤ maxTokens
 
 -- the word at an index, where a call of the input has it
 pub record Labels (z : Sizes) (input table memo : List ℕ) (at r : ℕ) : Type 0 where

@@ -17,7 +17,8 @@ use Rattle.semantics.specs.Choices.{tableChoice}
 use Rattle.lookahead.specs.declared.Lookahead.the-variants.{One}
 use Rattle.table.specs.Layout.{tableWords}
 use Rattle.recognizer_promises.specs.Answers.{judgeFault, callsOf, verdictOf, verdictNumbers}
-use Rattle.recognizer_promises.specs.Memory.{lentBack, memoWords}
+use Rattle.promises.specs.Memory.{lentBack}
+use Rattle.recognizer_promises.specs.Memory.{memoWords}
 use Rattle.recognizer_promises.specs.Properties.{Judges}
 use Rattle.tree.specs.ParseTrees.{Vertex}
 use Rattle.tree.specs.Writing.{treeOf, treeWords}

@@ -12,13 +12,13 @@ use Rattle.grammar.specs.Reading.{reading}
 use Rattle.grammar.specs.Starts.{ruleStarts}
 use Rattle.grammar.specs.declared.reading.Sizes.{Sizes}
 use Rattle.grammar.specs.declared.reading.Outcome.the-variants.{Read}
-use Rattle.semantics.specs.FiniteSets.{member}
+use Rattle.base.specs.FiniteSets.{member, Distinct}
 use Rattle.semantics.specs.LeftRecursion.{level}
-use Rattle.semantics.specs.Strings.{Over}
+use Rattle.base.specs.Strings.{Over}
 use Rattle.semantics.specs.Choices.{Choice, tableChoice}
 use Rattle.semantics.specs.Descent.{descend, accepts}
 use Rattle.semantics.specs.ComesTo.{Call, callAt, InRange, measure}
-use Rattle.semantics.specs.Calls.{Called, Distinct, sameCall}
+use Rattle.semantics.specs.Calls.{Called, sameCall}
 use Rattle.semantics.specs.Memo.{encode, indexOf}
 use Rattle.semantics.specs.Predictive.{Predictive}
 use Rattle.lookahead.specs.declared.Lookahead.the-variants.{One}

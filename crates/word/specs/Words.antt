@@ -4,7 +4,7 @@ use lib.Dec.{eqb, ltb}
 use Rattle.word.specs.declared.Symbol.the-variants.{Terminal, Nonterminal}
 use Rattle.word.specs.declared.Word.{Word}
 use Rattle.word.specs.declared.Word.the-variants.{Heading, Rule, Positive, Negative, Symbol, End, Invalid}
-use Rattle.booleans.specs.Choice.{choose}
+use Rattle.base.specs.Choice.{choose}
 
 -- the top four bits, and the other 28
 abbrev pub kind : ℕ → ℕ

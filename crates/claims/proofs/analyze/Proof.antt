@@ -1,8 +1,8 @@
 -- An encoded grammar: by whether its families are found.
-use mathlib.Core.Path.{refl}
 use borrow.Author.Needs.{needs}
+use Rattle.families.proofs.ByRules.{by-rules-zeros}
 use Rattle.families.proofs.Findings.{families-told}
-use Rattle.claims.proofs.Findings.{given, refused-claims, words-indexed, all-claims}
+use Rattle.claims.proofs.Findings.{given, heads-given, refused-claims, all-claims}
 use Rattle.claims.proofs.analyze.Statement.{statement}
 use Rattle.claims.proofs.analyze.Tie as tie
 
@@ -17,26 +17,28 @@ enum-known-finding c = search needs
 
 keep-claims-requires : tie.Need-keep-claims-requires
 keep-claims-requires c κs =
-    let at-finding = c .before .before .before .before .before .before in
+    let at-finding = c .before .before .before .before .before .before .before in
     let at-analyze = at-finding .before .before in
     let found = families-told _ _ (at-analyze .analyze .ensures) (at-finding .finding .given .1) in
-    (given found, refl, refl)
+    (given found, by-rules-zeros _, by-rules-zeros _)
 
 overrunning-requires : tie.Need-overrunning-requires
 overrunning-requires c κs =
-    let at-finding = c .before .before .before .before .before .before .before .before .before .before .before in
+    let kept = c .before .before .before .before .before .before .before in
+    let at-finding = kept .before .before .before .before .before .before .before .before in
     let at-analyze = at-finding .before .before in
-    words-indexed (families-told _ _ (at-analyze .analyze .ensures) (at-finding .finding .given .1))
+    heads-given (families-told _ _ (at-analyze .analyze .ensures) (at-finding .finding .given .1)) (kept .keep-claims .ensures)
 
 returns : tie.Need-returns
-returns c = refused-claims _ _ (c .before .before .before .before .analyze .ensures) (c .before .before .enum-told .given .1)
+returns c = refused-claims _ _ (c .before .before .before .before .before .analyze .ensures) (c .before .before .before .enum-told .given .1)
 
 returns-2 : tie.Need-returns-2
 returns-2 c =
-    let at-finding = c .before .before .before .before .before .before .before .before .before .before .before .before in
+    let kept = c .before .before .before .before .before .before .before .before in
+    let at-finding = kept .before .before .before .before .before .before .before .before in
     let at-analyze = at-finding .before .before in
     let found = families-told _ _ (at-analyze .analyze .ensures) (at-finding .finding .given .1) in
-    all-claims found (c .before .before .before .before .before .keep-claims .ensures) (c .overrunning .ensures)
+    all-claims found (kept .keep-claims .ensures) (c .overrunning .ensures)
 
 pub analyze-spec : {M : Type 1} → statement M
 analyze-spec =

@@ -1,5 +1,5 @@
--- The answer of a check fits, and packed it is what is told.
-use Rattle.embed_promises.proofs.Fitting.{check-fits, check-exported}
+-- The answer of a check, packed, is what is told.
+use Rattle.embed_promises.proofs.Exporting.{check-exported}
 use borrow.Author.Needs.{needs}
 use Rattle.embed.proofs.vinegarspit_check.Statement.{statement}
 use Rattle.embed.proofs.vinegarspit_check.Tie as tie
@@ -8,7 +8,7 @@ check-requires : tie.Need-check-requires
 check-requires c κs = search needs
 
 pack-requires : tie.Need-pack-requires
-pack-requires c κs = check-fits (c .before .before .check .ensures)
+pack-requires c κs = search needs
 
 same-length : tie.Need-same-length
 same-length c = search needs

@@ -1,5 +1,5 @@
--- The answer of the plain judge fits, and packed it is what is told.
-use Rattle.embed_promises.proofs.Fitting.{tabular-fits, tabular-exported}
+-- The answer of the plain judge, packed, is what is told.
+use Rattle.embed_promises.proofs.Exporting.{tabular-exported}
 use borrow.Author.Needs.{needs}
 use Rattle.embed.proofs.vinegarspit_judge_plain.Statement.{statement}
 use Rattle.embed.proofs.vinegarspit_judge_plain.Tie as tie
@@ -8,7 +8,7 @@ judge-requires : tie.Need-judge-requires
 judge-requires c κs = search needs
 
 pack-requires : tie.Need-pack-requires
-pack-requires c κs = tabular-fits (c .before .before .judge .ensures)
+pack-requires c κs = search needs
 
 same-length : tie.Need-same-length
 same-length c = search needs

@@ -1,7 +1,7 @@
 -- The loop keeps the count of the rules passed.
 use Prim.Native.Nat.{_-_}
 use native.Mathlib.Omega.{arith}
-use Rattle.booleans.proofs.Quantified.{one-le}
+use Rattle.base.proofs.Quantified.{one-le}
 use Rattle.claims.specs.Claims.{claimant}
 use Rattle.gaps_text_promises.proofs.Lines.{Counting, counting-start, counting-next, counting-end}
 use Rattle.gaps_text.proofs.count_claimants.Statement.{statement}

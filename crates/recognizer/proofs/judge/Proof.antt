@@ -1,9 +1,9 @@
--- What judging answers, by the lengths of the memories and by what is found of the grammar and the input.
+-- What judging answers and leaves, by the table's length, by what judging in the memo table alone does, and by what is lent of the table.
 use Rattle.event.specs.Events.{inputOf}
 use Rattle.lookahead.specs.declared.Lookahead.the-variants.{One}
-use Rattle.recognizer_promises.proofs.Checking.{told-one, lend-given}
-use Rattle.recognizer_promises.proofs.JudgeFaults.{table-short-by, memo-short-by}
-use Rattle.recognizer_promises.proofs.Judged.{judge-refused, judge-found-refused, judge-found, passed-given, judge-done}
+use Rattle.recognizer_promises.proofs.JudgeFaults.{table-short-by}
+use Rattle.recognizer_promises.proofs.Judged.{judge-refused}
+use Rattle.recognizer.proofs.LentTable.{judge-lent}
 use borrow.Author.Needs.{needs}
 use Rattle.recognizer.proofs.judge.Statement.{statement}
 use Rattle.recognizer.proofs.judge.Tie as tie
@@ -13,52 +13,11 @@ returns c =
     let given = c .before .before .before .before .before .args in
     judge-refused (table-short-by One (given .words .now) (inputOf (given .events .now)) (given .table .now) (given .memo .now) (c .if1 .taken))
 
-returns-2 : tie.Need-returns-2
-returns-2 c =
-    let given = c .before .before .before .before .before .before .args in
-    judge-refused (memo-short-by One (given .words .now) (inputOf (given .events .now)) (given .table .now) (given .memo .now) (c .before .if1 .left) (c .if2 .taken))
-
-analyze-requires : tie.Need-analyze-requires
-analyze-requires c κs = search needs
-
-with-input-requires : tie.Need-with-input-requires
-with-input-requires c κs = search needs
-
-enum-known-finding : tie.Need-enum-known-finding
-enum-known-finding c = search needs
-
-enum-known-finding-2 : tie.Need-enum-known-finding-2
-enum-known-finding-2 c = search needs
+judge-words-requires : tie.Need-judge-words-requires
+judge-words-requires c κs = search needs
 
 lend-requires : tie.Need-lend-requires
-lend-requires c κs =
-    let passed = c .before .before .before .before in
-    let read = passed .before .before in
-    let room = read .before .before in
-    let long = room .before in
-    let given = long .before .before .before .before .before .args in
-    lend-given (given .words .now) (given .table .now) (long .if1 .left)
-    (judge-found (given .words .now) (inputOf (given .events .now)) (given .table .now) (given .memo .now) (long .if1 .left) (room .if2 .left)
-    (told-one (given .words .now) (read .before .analyze .ensures)) (read .with-input .ensures) (passed .finding2 .given .1))
-
-judge-passed-requires : tie.Need-judge-passed-requires
-judge-passed-requires c κs =
-    let passed = c .before .before .before .before .before .before .before .before .before .before in
-    let read = passed .before .before in
-    let room = read .before .before in
-    let long = room .before in
-    let given = long .before .before .before .before .before .args in
-    passed-given (given .words .now) (inputOf (given .events .now)) (given .table .now) (given .memo .now) (long .if1 .left) (room .if2 .left)
-    (told-one (given .words .now) (read .before .analyze .ensures)) (read .with-input .ensures) (passed .finding2 .given .1)
-
-returns-3 : tie.Need-returns-3
-returns-3 c =
-    let read = c .before .before .before in
-    let room = read .before .before in
-    let long = room .before in
-    let given = long .before .before .before .before .before .args in
-    judge-found-refused (given .words .now) (inputOf (given .events .now)) (given .table .now) (given .memo .now) (long .if1 .left) (room .if2 .left)
-    (told-one (given .words .now) (read .before .analyze .ensures)) (read .with-input .ensures) (c .before .finding .given .1)
+lend-requires c κs = search needs
 
 same-length : tie.Need-same-length
 same-length c = search needs
@@ -66,31 +25,14 @@ same-length c = search needs
 same-length-2 : tie.Need-same-length-2
 same-length-2 c = search needs
 
-returns-4 : tie.Need-returns-4
-returns-4 c =
-    let judged = c .before .before in
-    let lent = judged .before .before .before .before .before .before in
-    let passed = lent .before .before .before .before .before in
-    let read = passed .before .before in
-    let room = read .before .before in
-    let long = room .before in
+returns-2 : tie.Need-returns-2
+returns-2 c =
+    let lent = c .before .before in
+    let judged = lent .before .before .before .before .before in
+    let long = judged .before .before in
     let given = long .before .before .before .before .before .args in
-    judge-done (given .words .now) (inputOf (given .events .now)) (given .table .now) (given .memo .now) (long .if1 .left) (room .if2 .left)
-    (told-one (given .words .now) (read .before .analyze .ensures)) (read .with-input .ensures) (passed .finding2 .given .1) (lent .lend .ensures) (judged .judge-passed .ensures)
+    judge-lent One (given .words .now) (inputOf (given .events .now)) (given .table .now) (given .memo .now) (long .if1 .left) (judged .judge-words .ensures)
+    (lent .lend .ensures)
 
 pub judge-spec : {M : Type 1} → statement M
-judge-spec =
-    tie.close
-    (tie.spec
-    returns
-    returns-2
-    analyze-requires
-    with-input-requires
-    enum-known-finding
-    enum-known-finding-2
-    lend-requires
-    judge-passed-requires
-    returns-3
-    same-length
-    same-length-2
-    returns-4)
+judge-spec = tie.close (tie.spec returns judge-words-requires lend-requires same-length same-length-2 returns-2)

@@ -14,16 +14,16 @@ enum-known-loaded : tie.Need-enum-known-loaded
 enum-known-loaded c = search needs
 
 array-share-prefix-words : tie.Need-array-share-prefix-words
-array-share-prefix-words c = found (c .before .before .before .before .load .ensures) (c .before .before .loaded .given .1) (length-replicate {A = ℕ} maxWords 0) .few
+array-share-prefix-words c = found (c .before .before .before .load .ensures) (c .before .loaded .given .1) (length-replicate {A = ℕ} maxWords 0) .few
 
-slice-aggregate-put-gaps : tie.Need-slice-aggregate-put-gaps
-slice-aggregate-put-gaps c =
-    let at-loaded = c .before .before .before in
+slice-aggregate-put-claimed : tie.Need-slice-aggregate-put-claimed
+slice-aggregate-put-claimed c =
+    let at-loaded = c .before .before in
     let at-load = at-loaded .before .before in
     found (at-load .load .ensures) (at-loaded .loaded .given .1) (length-replicate {A = ℕ} maxWords 0) .part
 
-put-gaps-requires : tie.Need-put-gaps-requires
-put-gaps-requires c κs = search needs
+put-claimed-requires : tie.Need-put-claimed-requires
+put-claimed-requires c κs = search needs
 
 enum-told : tie.Need-enum-told
 enum-told c = search needs
@@ -36,13 +36,13 @@ same-length c = search needs
 
 returns : tie.Need-returns
 returns c =
-    let at-put-gaps = c .before .before in
-    let at-loaded = at-put-gaps .before .before .before .before in
+    let at-put-claimed = c .before .before in
+    let at-loaded = at-put-claimed .before .before .before .before in
     let at-load = at-loaded .before .before in
     let at-before = at-load .before .before .before in
     let s = at-before .before in
     gaps-told (found (at-load .load .ensures) (at-loaded .loaded .given .1) (length-replicate {A = ℕ} maxWords 0))
-    (at-put-gaps .put-gaps .ensures)
+    (at-put-claimed .put-claimed .ensures)
 
 same-length-2 : tie.Need-same-length-2
 same-length-2 c = search needs
@@ -63,8 +63,8 @@ gaps-spec =
     load-requires
     enum-known-loaded
     array-share-prefix-words
-    slice-aggregate-put-gaps
-    put-gaps-requires
+    slice-aggregate-put-claimed
+    put-claimed-requires
     enum-told
     put-refusal-requires
     same-length

@@ -1,35 +1,39 @@
--- What judging answers, by the length of the lent words and by what is found of the grammar.
+-- What judging answers, by the length of the lent words and by what is found of the grammar and the input.
+use mathlib.Core.Path.{refl}
 use native.Mathlib.Omega.{arith}
 use Rattle.event.specs.Events.{inputOf}
-use Rattle.lookahead.specs.declared.Lookahead.the-variants.{One}
-use Rattle.families.proofs.Findings.{families-told, families-refused}
-use Rattle.tabular_promises.proofs.Judged.{judge-short, judge-faulty, found-reaches}
+use Rattle.tabular_promises.proofs.Judged.{judge-short}
 use Rattle.tabular.proofs.judge.Statement.{statement}
 use Rattle.tabular.proofs.judge.Tie as tie
 
 returns : tie.Need-returns
-returns c = judge-short (c .before .before .before .before .args .words .now) (inputOf (c .before .before .before .before .args .events .now)) (c .before .before .before .before .args .spans .now) (omega (arith, c .if1 .taken))
+returns c =
+    let start = c .before .before .before .before in
+    judge-short (start .args .words .now) (inputOf (start .args .events .now)) (start .args .spans .now) (omega (arith, c .if1 .taken))
 
 analyze-requires : tie.Need-analyze-requires
 analyze-requires c κs = tt
 
-enum-known-finding : tie.Need-enum-known-finding
-enum-known-finding c = c .match .keys1
+with-input-requires : tie.Need-with-input-requires
+with-input-requires c κs = tt
 
-enum-known-finding-2 : tie.Need-enum-known-finding-2
-enum-known-finding-2 c = c .match .keys2
-
-judge-passed-requires : tie.Need-judge-passed-requires
-judge-passed-requires c κs = let found = families-told One (c .before .before .before .before .before .before .before .before .before .before .before .args .words .now) (c .before .before .before .before .before .before .analyze .ensures) (c .before .before .before .before .finding2 .given .1) in record { read = found .read; faultless = found .faultless; reached = found-reaches (c .before .before .before .before .before .before .before .before .before .before .before .args .words .now) (c .before .before .before .before .before .before .analyze .ensures) (found .faultless); room = omega (arith, c .before .before .before .before .before .before .before .if1 .left) }
-
-returns-2 : tie.Need-returns-2
-returns-2 c = judge-faulty (c .before .before .before .before .before .before .before .before .args .words .now) (inputOf (c .before .before .before .before .before .before .before .before .args .events .now)) (c .before .before .before .before .before .before .before .before .args .spans .now) (omega (arith, c .before .before .before .before .if1 .left)) (families-refused One (c .before .before .before .before .before .before .before .before .args .words .now) (c .before .before .before .analyze .ensures) (c .before .finding .given .1))
+judge-found-requires : tie.Need-judge-found-requires
+judge-found-requires c κs =
+    let at-input = c .before .before .before in
+    let at-analyze = at-input .before in
+    record {
+      families = _;
+      found = at-analyze .analyze .ensures;
+      finding = at-input .with-input .ensures;
+      reached = refl;
+      room = omega (arith, at-analyze .before .if1 .left);
+    }
 
 same-length : tie.Need-same-length
 same-length c = c .before .spans .given
 
-returns-3 : tie.Need-returns-3
-returns-3 c = c .before .before .judge-passed .ensures
+returns-2 : tie.Need-returns-2
+returns-2 c = c .before .before .judge-found .ensures
 
 pub judge-spec : {M : Type 1} → statement M
 judge-spec =
@@ -37,9 +41,7 @@ judge-spec =
     (tie.spec
     returns
     analyze-requires
-    enum-known-finding
-    enum-known-finding-2
-    judge-passed-requires
-    returns-2
+    with-input-requires
+    judge-found-requires
     same-length
-    returns-3)
+    returns-2)

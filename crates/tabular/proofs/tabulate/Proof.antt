@@ -2,7 +2,6 @@
 use mathlib.Core.Path.{sym}
 use native.Mathlib.Omega.{arith}
 use Rattle.event.proofs.Inputs.{input-length}
-use Rattle.grammar.proofs.WellRead.{well-read}
 use Rattle.tabular_promises.proofs.Tabulating.{tabulated}
 use Rattle.tabular.proofs.tabulate.Statement.{statement}
 use Rattle.tabular.proofs.tabulate.Tie as tie
@@ -11,7 +10,7 @@ fill-requires : tie.Need-fill-requires
 fill-requires c κs = c .before .before .before .pre .given
 
 write-requires : tie.Need-write-requires
-write-requires c κs = let g = c .before .before .before .before .before .before .pre in record { few = well-read _ _ (g .given .read) .fewNonterminals; short = omega (arith, g .given .input .short, input-length (c .before .before .before .before .before .before .args .events .now)); room = g .room }
+write-requires c κs = tt
 
 mul-contains : tie.Need-mul-contains
 mul-contains c = omega (arith, c .before .before .before .before .before .before .before .before .before .pre .given .input .short, input-length (c .before .before .before .before .before .before .before .before .before .args .events .now))
@@ -20,13 +19,19 @@ array-read-contains : tie.Need-array-read-contains
 array-read-contains c = omega (arith, c .before .before .before .before .before .before .before .before .before .pre .given .input .short, input-length (c .before .before .before .before .before .before .before .before .before .args .events .now))
 
 contains-requires : tie.Need-contains-requires
-contains-requires c κs = omega arith
+contains-requires c κs = tt
 
 same-length : tie.Need-same-length
 same-length c = c .before .before .spans .given
 
 returns : tie.Need-returns
-returns c = tabulated (c .before .before .before .before .before .before .before .before .before .before .pre .given .read) (c .before .before .before .before .before .before .fill .ensures) (sym (input-length (c .before .before .before .before .before .before .before .before .before .before .args .events .now))) (c .before .before .before .write .ensures) (c .contains .ensures)
+returns c =
+    let at-write = c .before .before .before in
+    let at-fill = at-write .before .before .before in
+    let start = at-fill .before .before .before .before in
+    let given = start .pre .given in
+    let length = input-length (start .args .events .now) in
+    tabulated (given .read) (at-fill .fill .ensures) (given .input .short) (start .pre .room) (sym length) (at-write .write .ensures) (c .contains .ensures)
 
 pub tabulate-spec : {M : Type 1} → statement M
 tabulate-spec =

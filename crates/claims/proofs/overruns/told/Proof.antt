@@ -1,7 +1,7 @@
 -- By whether more than the end can follow, and then by whether the rule has positives.
 use mathlib.Core.Path.{_∙_}
 use borrow.Author.Needs.{needs}
-use Rattle.claims.proofs.OverrunWalk.{told-ends, told-more}
+use Rattle.claims.proofs.OverrunRules.{told-ends, told-more}
 use Rattle.claims.proofs.overruns.told.Statement.{statement}
 use Rattle.claims.proofs.overruns.told.Tie as tie
 

@@ -1,6 +1,6 @@
--- The answer fits, and events and state are written back.
+-- The answer is packed, and events and state are written back.
 use mathlib.Core.Path.{refl}
-use Rattle.embed_promises.proofs.Keeping.{step-fits, step-exported}
+use Rattle.embed_promises.proofs.Keeping.{step-exported}
 use borrow.Author.Needs.{needs}
 use Rattle.embed.proofs.kept.vinegarspit_log_add.Statement.{statement}
 use Rattle.embed.proofs.kept.vinegarspit_log_add.Tie as tie
@@ -15,7 +15,7 @@ state-of-requires : tie.Need-state-of-requires
 state-of-requires c κs = search needs
 
 pack-requires : tie.Need-pack-requires
-pack-requires c κs = step-fits (c .before .before .before .before .add .ensures)
+pack-requires c κs = search needs
 
 returns : tie.Need-returns
 returns c =

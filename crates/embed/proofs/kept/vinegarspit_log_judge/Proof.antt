@@ -1,5 +1,4 @@
--- The answer of the judge fits, and packed it is what is told.
-use Rattle.embed_promises.proofs.Fitting.{judge-fits}
+-- The answer of the judge, packed, is what is told.
 use Rattle.embed_promises.proofs.Keeping.{kept-exported}
 use borrow.Author.Needs.{needs}
 use Rattle.embed.proofs.kept.vinegarspit_log_judge.Statement.{statement}
@@ -12,7 +11,7 @@ judge-kept-requires : tie.Need-judge-kept-requires
 judge-kept-requires c κs = search needs
 
 pack-requires : tie.Need-pack-requires
-pack-requires c κs = judge-fits (c .before .before .before .before .judge-kept .ensures .judges)
+pack-requires c κs = search needs
 
 same-length : tie.Need-same-length
 same-length c = search needs

@@ -1,6 +1,6 @@
--- The answer of the search fits.
+-- The answer of the search, packed, is what is told.
 use borrow.Author.Needs.{needs}
-use Rattle.embed_promises.proofs.Fitting.{costliest-fits, costliest-exported}
+use Rattle.embed_promises.proofs.Exporting.{costliest-exported}
 use Rattle.embed.proofs.searched.vinegarspit_costliest.Statement.{statement}
 use Rattle.embed.proofs.searched.vinegarspit_costliest.Tie as tie
 
@@ -8,7 +8,7 @@ judge-costliest-requires : tie.Need-judge-costliest-requires
 judge-costliest-requires c κs = search needs
 
 pack-requires : tie.Need-pack-requires
-pack-requires c κs = costliest-fits (c .before .before .before .before .before .before .judge-costliest .ensures)
+pack-requires c κs = search needs
 
 same-length : tie.Need-same-length
 same-length c = search needs

@@ -1,5 +1,5 @@
--- The row is read, the answer fits, and the row is written back.
-use Rattle.embed_promises.proofs.Fitting.{served-fits, served-exported}
+-- The row is read, the answer packed, and the row written back.
+use Rattle.embed_promises.proofs.Exporting.{served-exported}
 use borrow.Author.Needs.{needs}
 use Rattle.embed.proofs.served.vinegarspit_judge_for.Statement.{statement}
 use Rattle.embed.proofs.served.vinegarspit_judge_for.Tie as tie
@@ -14,7 +14,7 @@ row-of-requires : tie.Need-row-of-requires
 row-of-requires c κs = search needs
 
 pack-requires : tie.Need-pack-requires
-pack-requires c κs = served-fits (c .before .before .before .before .before .before .judge-for .ensures)
+pack-requires c κs = search needs
 
 same-length : tie.Need-same-length
 same-length c = search needs

@@ -1,8 +1,8 @@
--- The answer fits, and so does the number of words.
+-- The answer is packed, and the number of words fits its word.
 use mathlib.Core.Path.{refl}
 use native.Mathlib.Omega.{arith}
 use borrow.Author.Needs.{needs}
-use Rattle.embed_promises.proofs.Fitting.{tree-fits, tree-exported}
+use Rattle.embed_promises.proofs.Exporting.{tree-exported}
 use Rattle.embed.proofs.shown.vinegarspit_tree.Statement.{statement}
 use Rattle.embed.proofs.shown.vinegarspit_tree.Tie as tie
 
@@ -13,7 +13,7 @@ cast-written : tie.Need-cast-written
 cast-written c = omega (arith, c .before .before .before .before .before .before .before .judge-tree .ensures .few)
 
 pack-requires : tie.Need-pack-requires
-pack-requires c κs = tree-fits (c .before .before .before .before .before .before .before .judge-tree .ensures)
+pack-requires c κs = search needs
 
 same-length : tie.Need-same-length
 same-length c = search needs

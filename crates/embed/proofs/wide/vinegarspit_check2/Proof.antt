@@ -1,5 +1,5 @@
--- The answer of a check with two tokens of lookahead fits, and packed it is what is told.
-use Rattle.embed_promises.proofs.Fitting.{check-fits, check-exported}
+-- The answer of a check with two tokens of lookahead, packed, is what is told.
+use Rattle.embed_promises.proofs.Exporting.{check-exported}
 use borrow.Author.Needs.{needs}
 use Rattle.embed.proofs.wide.vinegarspit_check2.Statement.{statement}
 use Rattle.embed.proofs.wide.vinegarspit_check2.Tie as tie
@@ -8,7 +8,7 @@ check-wide-requires : tie.Need-check-wide-requires
 check-wide-requires c κs = search needs
 
 pack-requires : tie.Need-pack-requires
-pack-requires c κs = check-fits (c .before .before .check-wide .ensures)
+pack-requires c κs = search needs
 
 same-length : tie.Need-same-length
 same-length c = search needs

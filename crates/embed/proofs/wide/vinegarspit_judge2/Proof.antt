@@ -1,5 +1,5 @@
--- The answer of the judge with two tokens of lookahead fits, and packed it is what is told.
-use Rattle.embed_promises.proofs.Fitting.{judge-fits, judge-exported}
+-- The answer of the judge with two tokens of lookahead, packed, is what is told.
+use Rattle.embed_promises.proofs.Exporting.{judge-exported}
 use borrow.Author.Needs.{needs}
 use Rattle.embed.proofs.wide.vinegarspit_judge2.Statement.{statement}
 use Rattle.embed.proofs.wide.vinegarspit_judge2.Tie as tie
@@ -8,7 +8,7 @@ judge-wide-requires : tie.Need-judge-wide-requires
 judge-wide-requires c κs = search needs
 
 pack-requires : tie.Need-pack-requires
-pack-requires c κs = judge-fits (c .before .before .before .before .judge-wide .ensures)
+pack-requires c κs = search needs
 
 same-length : tie.Need-same-length
 same-length c = search needs

@@ -1,22 +1,22 @@
 -- As for lookahead sets.
-use borrow.Author.Needs.{needs}
+use native.Mathlib.Omega.{arith}
 use Rattle.sets.proofs.family.add_nonterminals.Statement.{statement}
 use Rattle.sets.proofs.family.add_nonterminals.Tie as tie
 
 mul-t7 : tie.Need-mul-t7
-mul-t7 c = search needs
+mul-t7 c = omega arith
 
 element-copy-out-t10 : tie.Need-element-copy-out-t10
-element-copy-out-t10 c = search needs
+element-copy-out-t10 c = omega arith
 
 join-requires : tie.Need-join-requires
-join-requires c κs = search needs
+join-requires c κs = tt
 
 mul-sets : tie.Need-mul-sets
-mul-sets c = search needs
+mul-sets c = omega arith
 
 element-write-sets : tie.Need-element-write-sets
-element-write-sets c = search needs
+element-write-sets c = omega arith
 
 returns : tie.Need-returns
 returns c = let joined = c .before .before .join .ensures .is in record { list = rw joined; told = rw joined }

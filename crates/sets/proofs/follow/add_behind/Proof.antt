@@ -1,21 +1,20 @@
 -- Only a nonterminal of a body has something behind it.
 use mathlib.Core.Path.{refl}
 use Rattle.families.proofs.NamedNonterminals.{no-name}
-use borrow.Author.Needs.{needs}
 use Rattle.sets.proofs.follow.add_behind.Statement.{statement}
 use Rattle.sets.proofs.follow.add_behind.Tie as tie
 
 enum-known-word : tie.Need-enum-known-word
-enum-known-word c = search needs
+enum-known-word c = c .match .keys1
 
 returns : tie.Need-returns
 returns c = rw (no-name (c .before .args .word) (c .match .keys2)) (refl, refl)
 
 enum-known-symbol : tie.Need-enum-known-symbol
-enum-known-symbol c = search needs
+enum-known-symbol c = c .match2 .keys1
 
 enum-told : tie.Need-enum-told
-enum-told c = search needs
+enum-told c = c .match2 .keys2
 
 returns-2 : tie.Need-returns-2
 returns-2 c = rw (c .before .before .before .word .given .1, c .enum-told .given .1) (refl, refl)

@@ -3,15 +3,14 @@ use mathlib.Core.Path.{ap, _∙_}
 use native.Mathlib.Omega.{arith}
 use lib.ListN.{length, length-set}
 use Rattle.families.proofs.FollowPasses.{follow-passes}
-use borrow.Author.Needs.{needs}
 use Rattle.sets.proofs.follow.follow_pass.Statement.{statement}
 use Rattle.sets.proofs.follow.follow_pass.Tie as tie
 
 end-requires : tie.Need-end-requires
-end-requires c κs = search needs
+end-requires c κs = tt
 
 add-requires : tie.Need-add-requires
-add-requires c κs = search needs
+add-requires c κs = omega arith
 
 follow-rules-requires : tie.Need-follow-rules-requires
 follow-rules-requires c κs =
@@ -19,7 +18,7 @@ follow-rules-requires c κs =
     (record { read = given .0 .read; begins = given .0 .begins; long = ap length (c .before .add .ensures .list) ∙ (simp length-set) ∙ given .0 .long }, given .1)
 
 either-requires : tie.Need-either-requires
-either-requires c κs = search needs
+either-requires c κs = tt
 
 returns : tie.Need-returns
 returns c =

@@ -8,7 +8,7 @@ use Rattle.lookahead.specs.Lookaheads.{alphabet}
 use Rattle.lookahead.specs.Operations.{full}
 use Rattle.families.specs.Least.{at as family}
 use Rattle.families.specs.Follow.{FollowNumbersClosed}
-use Rattle.families.proofs.Lists.{listed-long}
+use Rattle.base.proofs.Lists.{listed-long}
 use Rattle.families.proofs.LeastByPasses.{Below, below-none, missing, below-pass, least-pass, missing-falls}
 use Rattle.families.proofs.FewTerminals.{admitted-read}
 use Rattle.families.proofs.FollowTie.{full-closed, follow-listed}

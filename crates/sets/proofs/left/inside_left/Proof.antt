@@ -1,17 +1,16 @@
 -- By whether the word is a symbol.
 use Rattle.families.proofs.LeftPasses.{left-closed}
-use borrow.Author.Needs.{needs}
 use Rattle.sets.proofs.left.inside_left.Statement.{statement}
 use Rattle.sets.proofs.left.inside_left.Tie as tie
 
 enum-known-word : tie.Need-enum-known-word
-enum-known-word c = search needs
+enum-known-word c = c .match .keys1
 
 empty-requires : tie.Need-empty-requires
-empty-requires c κs = search needs
+empty-requires c κs = tt
 
 join-requires : tie.Need-join-requires
-join-requires c κs = search needs
+join-requires c κs = tt
 
 returns : tie.Need-returns
 returns c = left-closed _ _ (c .before .before .before .before .before .args .word) (c .before .before .match .keys2) (c .before .empty .ensures) (c .join .ensures)

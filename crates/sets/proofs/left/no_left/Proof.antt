@@ -1,13 +1,12 @@
 -- Both sets are empty.
-use borrow.Author.Needs.{needs}
 use Rattle.sets.proofs.left.no_left.Statement.{statement}
 use Rattle.sets.proofs.left.no_left.Tie as tie
 
 empty-requires : tie.Need-empty-requires
-empty-requires c κs = search needs
+empty-requires c κs = tt
 
 empty-requires-2 : tie.Need-empty-requires-2
-empty-requires-2 c κs = search needs
+empty-requires-2 c κs = tt
 
 returns : tie.Need-returns
 returns c = rw (c .before .empty .ensures .is, c .empty2 .ensures .is)

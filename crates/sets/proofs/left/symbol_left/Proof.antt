@@ -3,51 +3,50 @@ use mathlib.Core.Path.{refl, sym, ap, _∙_}
 use native.Mathlib.Omega.{arith}
 use Rattle.lookahead.specs.Elements.{has}
 use Rattle.families.proofs.LeftPasses.{left-terminal, left-on, left-stop}
-use borrow.Author.Needs.{needs}
 use Rattle.sets.proofs.left.symbol_left.Statement.{statement}
 use Rattle.sets.proofs.left.symbol_left.Tie as tie
 
 enum-known-symbol : tie.Need-enum-known-symbol
-enum-known-symbol c = search needs
+enum-known-symbol c = c .match .keys1
 
 enum-told : tie.Need-enum-told
-enum-told c = search needs
+enum-told c = c .match .keys2
 
 empty-requires : tie.Need-empty-requires
-empty-requires c κs = search needs
+empty-requires c κs = tt
 
 returns : tie.Need-returns
 returns c = left-terminal _ _ _ (c .before .enum-told .given .1) (c .empty .ensures)
 
 cast-at : tie.Need-cast-at
-cast-at c = search needs
+cast-at c = omega arith
 
 alone-requires : tie.Need-alone-requires
-alone-requires c κs = search needs
+alone-requires c κs = tt
 
 mul-contains : tie.Need-mul-contains
-mul-contains c = search needs
+mul-contains c = omega arith
 
 element-copy-out-contains : tie.Need-element-copy-out-contains
 element-copy-out-contains c = omega (arith, rw (c .before .before .symbol .given .1) at (c .before .before .before .before .pre))
 
 join-requires : tie.Need-join-requires
-join-requires c κs = search needs
+join-requires c κs = tt
 
 mul-t12 : tie.Need-mul-t12
-mul-t12 c = search needs
+mul-t12 c = omega arith
 
 element-copy-out-t18 : tie.Need-element-copy-out-t18
 element-copy-out-t18 c = omega (arith, rw (c .before .before .before .before .symbol .given .1) at (c .before .before .before .before .before .before .pre))
 
 nothing-requires : tie.Need-nothing-requires
-nothing-requires c κs = search needs
+nothing-requires c κs = tt
 
 contains-requires : tie.Need-contains-requires
-contains-requires c κs = search needs
+contains-requires c κs = tt
 
 join-requires-2 : tie.Need-join-requires-2
-join-requires-2 c κs = search needs
+join-requires-2 c κs = tt
 
 returns-2 : tie.Need-returns-2
 returns-2 c =

@@ -3,12 +3,11 @@ use native.Mathlib.Omega.{arith}
 use native.Mathlib.Numerals.{add-one}
 use Rattle.grammar.proofs.WellRead.{well-read}
 use Rattle.families.proofs.RuleRanges.{till-next, till-end}
-use borrow.Author.Needs.{needs}
 use Rattle.sets.proofs.rules.end_of.Statement.{statement}
 use Rattle.sets.proofs.rules.end_of.Tie as tie
 
 add-next : tie.Need-add-next
-add-next c = search needs
+add-next c = omega arith
 
 mul-result : tie.Need-mul-result
 mul-result c = omega (arith, well-read _ _ (c .before .before .pre .0) .fewRules)

@@ -5,7 +5,7 @@ use Rattle.sets.proofs.rules.head_of.Statement.{statement}
 use Rattle.sets.proofs.rules.head_of.Tie as tie
 
 enum-known-word : tie.Need-enum-known-word
-enum-known-word c = search needs
+enum-known-word c = c .match .keys1
 
 returns : tie.Need-returns
 returns c = rw (no-head-of (c .before .args .word) (c .match .keys2))

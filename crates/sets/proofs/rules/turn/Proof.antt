@@ -1,14 +1,13 @@
 -- From the last rule on, the number is counted down.
 use native.Mathlib.Omega.{arith}
-use borrow.Author.Needs.{needs}
 use Rattle.sets.proofs.rules.turn.Statement.{statement}
 use Rattle.sets.proofs.rules.turn.Tie as tie
 
 sub-result : tie.Need-sub-result
-sub-result c = search needs
+sub-result c = omega arith
 
 sub-result-2 : tie.Need-sub-result-2
-sub-result-2 c = search needs
+sub-result-2 c = omega arith
 
 returns : tie.Need-returns
 returns c = rw (c .if1 .taken)

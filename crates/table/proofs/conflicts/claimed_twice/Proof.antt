@@ -1,7 +1,7 @@
 -- The loop has noted the rules from the one that it stands at on.
 use Prim.Native.Nat.{_-_, _≤_}
 use native.Mathlib.Omega.{arith}
-use Rattle.semantics.specs.FiniteSets.{numbersFrom}
+use Rattle.base.specs.FiniteSets.{numbersFrom}
 use Rattle.table.proofs.ClaimedTwice.{Noting, noting-start, noting-turn, noting-end}
 use Rattle.table.proofs.conflicts.claimed_twice.Statement.{statement}
 use Rattle.table.proofs.conflicts.claimed_twice.Tie as tie

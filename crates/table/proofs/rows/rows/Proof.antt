@@ -5,7 +5,7 @@ use native.Mathlib.Omega.{arith}
 use lib.ListN.{length-replicate}
 use Rattle.grammar.specs.Codes.{noRule}
 use Rattle.grammar.specs.Limits.{maxEntries}
-use Rattle.semantics.specs.FiniteSets.{numbersFrom}
+use Rattle.base.specs.FiniteSets.{numbersFrom}
 use Rattle.columns.specs.Columns.{columnCount}
 use Rattle.claims.specs.Claims.{Headed}
 use Rattle.table.specs.Entries.{FilledRows, noRules, rowsOf}

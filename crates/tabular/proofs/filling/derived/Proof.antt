@@ -2,6 +2,8 @@
 use Prim.Native.Nat.{_-_}
 use native.Mathlib.Omega.{arith}
 use Rattle.grammar.proofs.WellRead.{well-read}
+use Rattle.tabular_promises.proofs.Charts.{with-nonterminal}
+use Rattle.tabular_promises.proofs.Scans.{keeps-right}
 use Rattle.tabular_promises.proofs.RuleRanks.{from-low, head-low, Asking, asking-start, asking-past, asking-more, asked}
 use Rattle.tabular.proofs.filling.derived.Statement.{statement}
 use Rattle.tabular.proofs.filling.derived.Tie as tie
@@ -31,7 +33,7 @@ element-copy-out-if1 : tie.Need-element-copy-out-if1 Inv-loop μ-loop
 element-copy-out-if1 c = omega (arith, c .before .loop-test .taken, c .before .before .loop .inv .high, well-read _ _ (c .before .before .before .before .pre .rules .read) .fewRules)
 
 keeps-requires : tie.Need-keeps-requires Inv-loop μ-loop
-keeps-requires c κs = record { rule = c .before .before .before .before .loop .inv .bound _ (omega (arith, c .before .before .before .loop-test .taken)); span = c .before .before .before .before .before .before .pre .span }
+keeps-requires c κs = tt
 
 mul-decode : tie.Need-mul-decode Inv-loop μ-loop
 mul-decode c = omega (arith, from-low (c .before .before .before .before .before .before .before .pre .rules) {q = c .before .before .before .before .before .loop .rule - 1} (omega (arith, c .before .before .before .before .loop-test .taken, c .before .before .before .before .before .loop .inv .high)))
@@ -46,13 +48,21 @@ head-of-requires : tie.Need-head-of-requires Inv-loop μ-loop
 head-of-requires c κs = tt
 
 found-by-requires : tie.Need-found-by-requires Inv-loop μ-loop
-found-by-requires c κs = head-low (c .before .before .before .before .before .before .before .before .before .before .pre .rules) (omega (arith, c .before .before .before .before .before .before .before .loop-test .taken, c .before .before .before .before .before .before .before .before .loop .inv .high)) (c .before .decode .ensures) (c .head-of .ensures)
+found-by-requires c κs = tt
 
 loop-less : tie.Need-loop-less Inv-loop μ-loop
 loop-less c = omega (arith, c .before .before .before .before .before .before .before .before .loop-test .taken)
 
 loop-again : tie.Need-loop-again Inv-loop μ-loop
-loop-again c = asking-more (c .before .before .before .before .before .before .before .before .before .before .before .pre .rules) (c .before .before .before .before .before .before .before .before .before .loop .inv) (c .before .before .before .before .before .before .before .before .loop-test .taken) (c .before .before .before .before .before .before .before .before .before .before .before .pre .ranked) (c .before .before .before .before .before .if1 .taken) (c .before .before .before .before .keeps .ensures) (c .before .before .decode .ensures) (c .before .head-of .ensures) (c .found-by .ensures)
+loop-again c =
+    let at-test = c .before .before .before .before .before .before .before .before in
+    let test = at-test .loop-test .taken in
+    let loop = at-test .before in
+    let given = loop .before .before .pre in
+    let kept = keeps-right record { rule = loop .loop .inv .bound _ (omega (arith, test)); span = given .span } (c .before .before .before .before .keeps .ensures) in
+    let head = head-low (given .rules) (omega (arith, test, loop .loop .inv .high)) (c .before .before .decode .ensures) (c .before .head-of .ensures) in
+    asking-more (given .rules) (loop .loop .inv) test (given .ranked) (c .before .before .before .before .before .if1 .taken) kept
+    (c .before .before .decode .ensures) (c .before .head-of .ensures) (with-nonterminal _ _ _ head (c .found-by .ensures))
 
 loop-less-2 : tie.Need-loop-less-2 Inv-loop μ-loop
 loop-less-2 c = omega (arith, c .before .before .before .loop-test .taken)

@@ -5,7 +5,7 @@ use native.Mathlib.Omega.{arith}
 use lib.ListN.{length}
 use Rattle.event.specs.Events.{inputOf}
 use Rattle.event.proofs.Inputs.{input-length}
-use Rattle.tabular_promises.proofs.PlaceSets.{StandingTo, standing-start, terminal-low, standing-more, standing-end}
+use Rattle.tabular_promises.proofs.PlaceSets.{with-place, StandingTo, standing-start, terminal-low, standing-more, standing-end}
 use Rattle.tabular.proofs.filling.standing.Statement.{statement}
 use Rattle.tabular.proofs.filling.standing.Tie as tie
 
@@ -34,7 +34,7 @@ array-read-put : tie.Need-array-read-put Inv-loop μ-loop
 array-read-put c = omega (arith, terminal-low (c .before .before .before .before .before .args .events .now) (c .before .before .before .before .before .pre) (c .before .before .loop-test .taken) (c .terminal-of .ensures), c .before .before .before .loop .inv .long)
 
 put-requires : tie.Need-put-requires Inv-loop μ-loop
-put-requires c κs = omega (arith, c .before .before .before .before .before .pre .short, c .before .before .loop-test .taken, input-length (c .before .before .before .before .before .args .events .now))
+put-requires c κs = tt
 
 mul-stands : tie.Need-mul-stands Inv-loop μ-loop
 mul-stands c = omega (arith, terminal-low (c .before .before .before .before .before .before .args .events .now) (c .before .before .before .before .before .before .pre) (c .before .before .before .loop-test .taken) (c .before .terminal-of .ensures))
@@ -49,7 +49,8 @@ loop-less : tie.Need-loop-less Inv-loop μ-loop
 loop-less c = omega (arith, c .before .before .before .loop-test .taken)
 
 loop-again : tie.Need-loop-again Inv-loop μ-loop
-loop-again c = standing-more (c .before .before .before .before .before .before .args .events .now) (c .before .before .before .before .before .before .pre) (c .before .before .before .loop-test .taken) (c .before .terminal-of .ensures) (c .before .before .before .before .loop .inv) (c .put .ensures) refl
+loop-again c = standing-more (c .before .before .before .before .before .before .args .events .now) (c .before .before .before .before .before .before .pre) (c .before .before .before .loop-test .taken) (c .before .terminal-of .ensures) (c .before .before .before .before .loop .inv)
+    (with-place (omega (arith, c .before .before .before .before .before .before .pre .short, c .before .before .before .loop-test .taken, input-length (c .before .before .before .before .before .before .args .events .now))) (c .put .ensures)) refl
 
 returns : tie.Need-returns Inv-loop μ-loop
 returns c = standing-end (c .before .loop .inv) (omega (arith, c .loop-test .left, input-length (c .before .before .before .args .events .now)))

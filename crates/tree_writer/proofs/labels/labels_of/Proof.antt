@@ -4,7 +4,7 @@ use native.Mathlib.Omega.{arith}
 use Rattle.grammar.specs.Limits.{maxPlaces}
 use Rattle.event.specs.Events.{inputOf}
 use Rattle.tree_writer_promises.specs.Labels.{LabelledBelow}
-use Rattle.tree_writer_promises.proofs.Labelling.{labels-start, labels-more, labels-all}
+use Rattle.tree_writer_promises.proofs.Labelling.{label-made, labels-start, labels-more, labels-all}
 use Rattle.tree_writer.proofs.labels.labels_of.Statement.{statement}
 use Rattle.tree_writer.proofs.labels.labels_of.Tie as tie
 
@@ -24,8 +24,14 @@ cast-if1 c = omega (arith, c .before .before .before .before .before .pre .fewNo
 mul-if1 : tie.Need-mul-if1 Inv-loop μ-loop
 mul-if1 c = omega (arith, c .before .before .before .before .before .pre .fewNonterminals)
 
+cast-nonterminal : tie.Need-cast-nonterminal Inv-loop μ-loop
+cast-nonterminal c = omega (arith, c .before .before .before .before .before .before .pre .fewNonterminals, c .if1 .taken)
+
+cast-place : tie.Need-cast-place Inv-loop μ-loop
+cast-place c = omega arith
+
 label-requires : tie.Need-label-requires Inv-loop μ-loop
-label-requires c κs = record { given = c .before .before .before .before .before .before .pre; low = c .if1 .taken }
+label-requires c κs = tt
 
 mul-labels : tie.Need-mul-labels Inv-loop μ-loop
 mul-labels c = omega (arith, c .before .before .before .before .before .before .before .pre .fewNonterminals, c .before .if1 .taken)
@@ -40,10 +46,13 @@ loop-less : tie.Need-loop-less Inv-loop μ-loop
 loop-less c = omega (arith, c .before .if1 .taken)
 
 loop-again : tie.Need-loop-again Inv-loop μ-loop
-loop-again c = (
-  omega (arith, c .before .if1 .taken),
-  labels-more (c .before .before .before .before .before .before .before .args .events .now) (omega (arith, c .before .before .before .before .before .before .before .pre .fewNonterminals, c .before .if1 .taken)) (c .before .before .before .loop .inv .1) (c .label .ensures),
-)
+loop-again c =
+    let start = c .before .before .before .before .before .before .before in
+    let low = c .before .if1 .taken in (
+      omega (arith, low),
+      labels-more (start .args .events .now) (omega (arith, start .pre .fewNonterminals, low)) (c .before .before .before .loop .inv .1)
+          (label-made (start .args .events .now) (start .pre) (c .label .ensures)),
+    )
 
 returns : tie.Need-returns Inv-loop μ-loop
 returns c = labels-all (c .before .before .before .before .before .before .args .events .now) (c .before .before .before .before .before .before .pre) (c .if1 .left) (c .before .before .loop .inv .1)
@@ -57,6 +66,8 @@ labels-of-spec =
     loop-holds
     cast-if1
     mul-if1
+    cast-nonterminal
+    cast-place
     label-requires
     mul-labels
     array-write-labels

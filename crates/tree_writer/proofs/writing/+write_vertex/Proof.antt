@@ -15,8 +15,8 @@ use borrow.Fn.PlainCycle.{Measures, is, falls, and}
 use Rattle.tree_writer.proofs.writing.write_vertex.Reads as write-vertex
 use Rattle.tree_writer.proofs.writing.write_vertex.Kinds as write-vertex-kinds
 use Rattle.tree_writer.proofs.writing.+write_vertex.Lts-write_vertex as write-vertex-lts
-use Rattle.tree_writer.proofs.labels.end_of.Reads as end-of-reads
-use Rattle.tree_writer.proofs.labels.rule_of.Reads as rule-of-reads
+use Rattle.vertex_words.proofs.end_of.Reads as end-of-reads
+use Rattle.vertex_words.proofs.rule_of.Reads as rule-of-reads
 use Rattle.word.proofs.decode.Reads as decode-reads
 use Rattle.tree_writer.proofs.writing.+write_vertex.{statement}
 use Rattle.tree_writer.proofs.writing.+write_vertex.Tie.{close}

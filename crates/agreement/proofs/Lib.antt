@@ -1,0 +1,5 @@
+pub mod Narrowing
+pub mod Enough
+pub mod Refusals
+pub mod Agreeing
+pub mod Theorems

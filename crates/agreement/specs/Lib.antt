@@ -1,0 +1,3 @@
+pub mod Widening
+pub mod Agreement
+pub mod Theorems

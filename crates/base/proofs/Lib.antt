@@ -1,0 +1,12 @@
+pub mod Booleans
+pub mod Quantified
+pub mod FiniteSets
+pub mod Rounds
+pub mod Strings
+pub mod FlatMaps
+pub mod CombinedAt
+pub mod Distinct
+pub mod Lowest
+pub mod Lists
+pub mod Front
+pub mod LookaheadStrings

@@ -1,0 +1,6 @@
+pub mod Choice
+pub mod Quantifiers
+pub mod FiniteSets
+pub mod Rounds
+pub mod Strings
+pub mod Lists

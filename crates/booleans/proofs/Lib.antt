@@ -1,2 +1,0 @@
-pub mod Booleans
-pub mod Quantified

@@ -1,1 +1,0 @@
-// Tests: definitions and laws alone, no code.

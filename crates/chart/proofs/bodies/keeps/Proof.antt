@@ -1,0 +1,81 @@
+-- The loop keeps what is known of the words gone through.
+use mathlib.Core.Path.{_≡_}
+use Prim.Native.Nat.{_≤_, _<_}
+use native.Mathlib.Omega.{arith}
+use lib.Seq.{slice}
+use Rattle.tabular_promises.specs.Scanning.{scanned}
+use Rattle.tabular_promises.proofs.Scans.{none-such, none-between, scan-start, scan-more, scan-end}
+use Rattle.chart.proofs.bodies.keeps.Statement.{statement}
+use Rattle.chart.proofs.bodies.keeps.Tie as tie
+
+abbrev Inv-loop : tie.InvT-loop
+Inv-loop words from to stands chart start end scan₀ at₀ scan at = (from < at) × (at ≤ to) × (scan ≡ scanned stands chart start end (slice at to words))
+
+abbrev μ-loop : tie.MeasureT-loop
+μ-loop words from to stands chart start end scan₀ at₀ scan at = at
+
+returns : tie.Need-returns Inv-loop μ-loop
+returns c = none-such _ _ _ _ _ _ _ (c .if1 .taken)
+
+returns-2 : tie.Need-returns-2 Inv-loop μ-loop
+returns-2 c = none-between _ _ _ _ _ _ _ (c .before .if1 .left) (c .if2 .taken)
+
+none-open-requires : tie.Need-none-open-requires Inv-loop μ-loop
+none-open-requires c κs = tt
+
+loop-holds : tie.Need-loop-holds Inv-loop μ-loop
+loop-holds c = (c .before .if2 .left, omega arith, scan-start _ _ _ _ _ _ (c .before .before .if1 .left) (c .none-open .ensures))
+
+add-loop : tie.Need-add-loop Inv-loop μ-loop
+add-loop c = omega (arith, c .loop .inv .0)
+
+sub-at : tie.Need-sub-at Inv-loop μ-loop
+sub-at c = omega (arith, c .loop-test .taken)
+
+mul-decode : tie.Need-mul-decode Inv-loop μ-loop
+mul-decode c = omega (arith, c .loop-test .taken, c .before .loop .inv .1, c .before .before .before .before .if1 .left)
+
+shared-slice-read-decode : tie.Need-shared-slice-read-decode Inv-loop μ-loop
+shared-slice-read-decode c = omega (arith, c .before .loop-test .taken, c .before .before .loop .inv .1, c .before .before .before .before .before .if1 .left)
+
+decode-requires : tie.Need-decode-requires Inv-loop μ-loop
+decode-requires c κs = tt
+
+onto-requires : tie.Need-onto-requires Inv-loop μ-loop
+onto-requires c κs = tt
+
+loop-less : tie.Need-loop-less Inv-loop μ-loop
+loop-less c = omega (arith, c .before .before .before .loop-test .taken)
+
+loop-again : tie.Need-loop-again Inv-loop μ-loop
+loop-again c =
+    let test = c .before .before .before .loop-test .taken in
+    let loop = c .before .before .before .before in
+    let inv = loop .loop .inv in
+    (omega (arith, test), omega (arith, inv .1), scan-more _ _ _ _ _ _ (loop .before .before .before .if1 .left) (inv .2) (omega (arith, test)) (inv .1) (c .before .decode .ensures) (c .onto .ensures))
+
+returns-3 : tie.Need-returns-3 Inv-loop μ-loop
+returns-3 c =
+    let within = c .before .before .before in
+    let inv = c .before .loop .inv in
+    scan-end _ _ _ _ _ _ _ (within .before .if1 .left) (inv .2) (inv .0) (c .loop-test .left) (within .if2 .left)
+
+pub keeps-spec : {M : Type 1} → statement M
+keeps-spec =
+    tie.close
+    (tie.spec
+    Inv-loop
+    μ-loop
+    returns
+    returns-2
+    none-open-requires
+    loop-holds
+    add-loop
+    sub-at
+    mul-decode
+    shared-slice-read-decode
+    decode-requires
+    onto-requires
+    loop-less
+    loop-again
+    returns-3)

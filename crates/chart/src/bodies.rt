@@ -1,0 +1,131 @@
+// A rule read at one span, by a pass over its words from their end.
+ghost use mathlib.Core.Path.{_≡_};
+ghost use mathlib.Core.Bool.{false};
+ghost use Rattle.base.specs.Choice.{choose};
+ghost use Rattle.tabular_promises.specs.Scanning.{noneOpen, beforeTerminal, beforeSymbol, scanOnto, keepsBy};
+use super::CHART;
+use super::before;
+use super::places::contains;
+use super::places::one_place;
+use grammar::limits::TERMINALS;
+use tabular_promises::Scan;
+use word::Symbol;
+use word::Word;
+use word::decode;
+
+// For each terminal, the places where it stands.
+pub const STANDS: usize = TERMINALS as usize;
+
+// Where nothing of a rule is open: nothing is left of a body, and no conjunct is behind.
+fn none_open(end: usize) -> Scan
+    ensures { λ r. ⌜ r ≡ noneOpen end ⌝ }
+{
+    Scan {
+        set: one_place(end),
+        kept: true,
+    }
+}
+
+// The places where the terminal stands, with a place of the set behind it.
+fn before_terminal(stands: &[u64; STANDS], terminal: u32, set: u64) -> u64
+    ensures { λ r. ⌜ r ≡ beforeTerminal (now (stands .entry)) terminal set ⌝ }
+{
+    if terminal < TERMINALS {
+        set / 2 & stands[terminal as usize]
+    } else {
+        0
+    }
+}
+
+fn before_symbol(
+    symbol: Symbol,
+    set: u64,
+    stands: &[u64; STANDS],
+    chart: &[u64; CHART],
+    start: usize,
+    end: usize,
+) -> u64
+    ensures { λ r. ⌜ r ≡ beforeSymbol (now (stands .entry)) (now (chart .entry)) start end symbol set ⌝ }
+{
+    match symbol {
+        Symbol::Terminal(number) => before_terminal(stands, number, set),
+        Symbol::Nonterminal(number) => before(chart, number, set, start, end),
+    }
+}
+
+// The conjuncts of a rule with one more: a positive one has to contain the span, a negative one not.
+fn kept_positive(there: bool, kept: bool) -> bool
+    ensures { λ r. ⌜ r ≡ choose there kept false ⌝ }
+{
+    if there { kept } else { false }
+}
+
+fn kept_negative(there: bool, kept: bool) -> bool
+    ensures { λ r. ⌜ r ≡ choose there false kept ⌝ }
+{
+    if there { false } else { kept }
+}
+
+// The scan with a word in front.
+fn onto(
+    word: Word,
+    scan: Scan,
+    stands: &[u64; STANDS],
+    chart: &[u64; CHART],
+    start: usize,
+    end: usize,
+) -> Scan
+    ensures { λ r. ⌜ r ≡ scanOnto (now (stands .entry)) (now (chart .entry)) start end word scan ⌝ }
+{
+    let set = scan.set;
+    let kept = scan.kept;
+    match word {
+        Word::Symbol(symbol) => Scan {
+            set: before_symbol(symbol, set, stands, chart, start, end),
+            kept,
+        },
+        Word::Positive => Scan {
+            set: one_place(end),
+            kept: kept_positive(contains(set, start), kept),
+        },
+        Word::Negative => Scan {
+            set: one_place(end),
+            kept: kept_negative(contains(set, start), kept),
+        },
+        Word::Rule(_) => none_open(end),
+        Word::End => none_open(end),
+        Word::Heading {
+            nonterminals: _,
+            terminals: _,
+        } => scan,
+        Word::Invalid => scan,
+    }
+}
+
+// Whether the rule whose words stand behind one index and before another holds at a span, where bodies are read by the chart.
+pub fn keeps(
+    words: &[u32],
+    from: usize,
+    to: usize,
+    stands: &[u64; STANDS],
+    chart: &[u64; CHART],
+    start: usize,
+    end: usize,
+) -> bool
+    ensures { λ r. ⌜ r ≡ keepsBy (now (words .entry)) from to (now (stands .entry)) (now (chart .entry)) start end ⌝ }
+{
+    if words.len() < to {
+        return false;
+    }
+    if to <= from {
+        return false;
+    }
+    let mut scan = none_open(end);
+    let mut at = to;
+    while from + 1 < at {
+        at = at - 1;
+        let word = decode(words[at]);
+        scan = onto(word, scan, stands, chart, start, end);
+    }
+    scan.kept
+}

@@ -1,0 +1,92 @@
+// The chart of the tabular judge, for each nonterminal and end the set of the starts of the spans that it derives: what is read off it. No
+// function requires anything of its numbers.
+ghost use mathlib.Core.Path.{_≡_};
+ghost use lib.Bits.{bitOr};
+ghost use Rattle.base.specs.Choice.{choose};
+ghost use Rattle.tabular_promises.specs.Chart.{placesBefore, oneNonterminal, withNonterminal, spanWord};
+use grammar::limits::NONTERMINALS;
+use grammar::limits::TABULAR_PLACES;
+use places::contains;
+
+pub mod bodies;
+pub mod places;
+pub mod spans;
+
+pub const CHART: usize = (NONTERMINALS as usize) * TABULAR_PLACES;
+
+// The places found, with more where there are.
+fn joined(there: bool, more: u64, found: u64) -> u64
+    ensures { λ r. ⌜ r ≡ choose there (bitOr found more) found ⌝ }
+{
+    if there { found | more } else { found }
+}
+
+// The places from which a nonterminal leads to a place of the set, between the span's start and its end.
+pub(crate) fn before(
+    chart: &[u64; CHART],
+    nonterminal: u32,
+    set: u64,
+    start: usize,
+    end: usize,
+) -> u64
+    ensures { λ r. ⌜ r ≡ placesBefore (now (chart .entry)) nonterminal set start end ⌝ }
+{
+    if NONTERMINALS <= nonterminal {
+        return 0;
+    }
+    if TABULAR_PLACES <= end {
+        return 0;
+    }
+    let mut found = 0u64;
+    let mut at = start;
+    while at <= end {
+        found = joined(
+            contains(set, at),
+            chart[nonterminal as usize * TABULAR_PLACES + at],
+            found,
+        );
+        at = at + 1;
+    }
+    found
+}
+
+fn one_nonterminal(nonterminal: u32) -> u32
+    ensures { λ r. ⌜ r ≡ oneNonterminal nonterminal ⌝ }
+{
+    if nonterminal < NONTERMINALS {
+        1u32 << nonterminal
+    } else {
+        0
+    }
+}
+
+// The nonterminals found, with one more where it is to be.
+pub fn found_by(nonterminal: u32, there: bool, found: u32) -> u32
+    ensures { λ r. ⌜ r ≡ withNonterminal found nonterminal there ⌝ }
+{
+    if there {
+        found | one_nonterminal(nonterminal)
+    } else {
+        found
+    }
+}
+
+// The nonterminals that the chart gives a span to.
+pub fn word_at(chart: &[u64; CHART], nonterminals: u32, start: usize, end: usize) -> u32
+    ensures { λ r. ⌜ r ≡ spanWord (now (chart .entry)) nonterminals start end ⌝ }
+{
+    if NONTERMINALS < nonterminals {
+        return 0;
+    }
+    if TABULAR_PLACES <= end {
+        return 0;
+    }
+    let mut word = 0u32;
+    let mut at = 0;
+    while at < nonterminals {
+        let there = contains(chart[at as usize * TABULAR_PLACES + end], start);
+        word = found_by(at, there, word);
+        at = at + 1;
+    }
+    word
+}

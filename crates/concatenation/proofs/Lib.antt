@@ -1,0 +1,4 @@
+pub mod PairRows
+pub mod Cases
+pub mod Parts
+pub mod FullSet

@@ -1,0 +1,167 @@
+// One lookahead set behind the other: what is looked at where a string of the first is followed by one of the second, and the set of all strings.
+ghost use mathlib.Core.Path.{_≡_};
+ghost use mathlib.Core.Bool.{_&&_};
+ghost use Prim.Native.Nat.{suc, _%_, _^_, _<_};
+ghost use lib.Dec.{eqb, ltb};
+ghost use Rattle.base.specs.Choice.{choose};
+ghost use Rattle.lookahead.specs.declared.Lookahead.the-variants.{Two};
+ghost use Rattle.lookahead.specs.Lookaheads.{elements, nothing};
+ghost use Rattle.lookahead.specs.Elements.{has};
+ghost use Rattle.lookahead.specs.Operations.{Full, Concatenated, behind};
+ghost use Rattle.concatenation.specs.Computing.{Has, Singles, isLong, begins, inRows};
+use grammar::limits::WIDE_TERMINALS;
+use lookahead::Lookahead;
+use lookahead::NOTHING;
+use lookahead::PAIRS;
+use lookahead::alphabet;
+use lookahead::element_count;
+use lookahead::nothing;
+use lookahead::single;
+use lookahead_sets::LookaheadSet;
+
+// Without the numbers that are no elements.
+fn strings(set: LookaheadSet, lookahead: Lookahead) -> LookaheadSet
+    ensures { λ r. ⌜ r .bits ≡ set .bits % 2 ^ elements lookahead ⌝ }
+{
+    LookaheadSet {
+        bits: set.bits & (1u64 << element_count(lookahead)) - 1,
+    }
+}
+
+// The strings of as many tokens as are looked at: whatever follows, they stay.
+fn long(set: LookaheadSet, lookahead: Lookahead) -> LookaheadSet
+    requires { ⌜ set .bits < 2 ^ elements lookahead ⌝ }
+    ensures { λ r. ⌜ Has (r .bits) (λ l. has (set .bits) l && isLong lookahead l) ⌝ }
+{
+    match lookahead {
+        Lookahead::One => LookaheadSet {
+            bits: set.bits & (1 << NOTHING) - 1,
+        },
+        Lookahead::Two => LookaheadSet {
+            bits: set.bits >> PAIRS << PAIRS,
+        },
+    }
+}
+
+// With two tokens, whether a string begins with a terminal.
+fn begins(set: LookaheadSet, terminal: u32) -> bool
+    requires { ⌜ terminal < 7 ⌝ }
+    ensures { λ r. ⌜ r ≡ begins (set .bits) terminal ⌝ }
+{
+    let pairs = set.bits >> PAIRS + WIDE_TERMINALS * terminal;
+    if set.contains(1 + terminal) {
+        true
+    } else {
+        pairs & (1 << WIDE_TERMINALS) - 1 != 0
+    }
+}
+
+// With two tokens, the terminal alone where a string begins with it, as a set for one token.
+fn first(set: LookaheadSet, terminal: u32) -> LookaheadSet
+    requires { ⌜ terminal < 7 ⌝ }
+    ensures { λ r. ⌜ Has (r .bits) (λ l. begins (set .bits) terminal && eqb l terminal) ⌝ }
+{
+    if begins(set, terminal) {
+        LookaheadSet::terminal(Lookahead::One, terminal)
+    } else {
+        LookaheadSet::empty()
+    }
+}
+
+// With two tokens, what the strings begin with, as a set for one token.
+fn firsts(set: LookaheadSet) -> LookaheadSet
+    ensures { λ r. ⌜ Has (r .bits) (λ l. ltb l 7 && begins (set .bits) l) ⌝ }
+{
+    let mut firsts = LookaheadSet::empty();
+    let mut terminal = 0u32;
+    while terminal < WIDE_TERMINALS {
+        firsts = first(set, terminal).join(firsts);
+        terminal = terminal + 1;
+    }
+    firsts
+}
+
+// With two tokens, what is looked at where terminal l alone, if it is in the set, is followed by a string of other, of which firsts has the
+// first tokens: l and one of them, or l alone before nothing.
+fn row(set: LookaheadSet, l: u32, other: LookaheadSet, firsts: LookaheadSet) -> LookaheadSet
+    requires { ⌜ (l < 7) × Has (firsts .bits) (λ r. ltb r 7 && begins (other .bits) r) ⌝ }
+    ensures { λ r. ⌜ Has (r .bits) (λ c. has (set .bits) (suc l) && behind Two (suc l) (other .bits) c) ⌝ }
+{
+    let alone = 1 + l;
+    if set.contains(alone) {
+        let ends = other.bits & 1;
+        LookaheadSet {
+            bits: firsts.bits << PAIRS + WIDE_TERMINALS * l | ends << alone,
+        }
+    } else {
+        LookaheadSet::empty()
+    }
+}
+
+// With two tokens, what is looked at where a terminal alone is followed by a string of other.
+fn rows(set: LookaheadSet, other: LookaheadSet) -> LookaheadSet
+    ensures { λ r. ⌜ Has (r .bits) (inRows (set .bits) (other .bits) 7) ⌝ }
+{
+    let firsts = firsts(other);
+    let mut rows = LookaheadSet::empty();
+    let mut l = 0u32;
+    while l < WIDE_TERMINALS {
+        rows = row(set, l, other, firsts).join(rows);
+        l = l + 1;
+    }
+    rows
+}
+
+// Other, where nothing can come before it.
+fn before(set: LookaheadSet, lookahead: Lookahead, other: LookaheadSet) -> LookaheadSet
+    ensures { λ r. ⌜ Has (r .bits) (λ l. has (set .bits) (nothing lookahead) && has (other .bits) l) ⌝ }
+{
+    if set.contains(nothing(lookahead)) {
+        other
+    } else {
+        LookaheadSet::empty()
+    }
+}
+
+// What is looked at where an element of the one set is followed by one of the other (document 01: strung together): the strings of the
+// first that are long enough, and shorter ones with what comes behind them. No pair, no element: empty where either set is.
+pub fn concat(set: LookaheadSet, lookahead: Lookahead, other: LookaheadSet) -> LookaheadSet
+    ensures { λ r. ⌜ Concatenated lookahead (set .bits) (other .bits) (r .bits) ⌝ }
+{
+    let first = strings(set, lookahead);
+    let second = strings(other, lookahead);
+    if second.is_empty() {
+        return second;
+    }
+    let both = long(first, lookahead).join(before(first, lookahead, second));
+    match lookahead {
+        Lookahead::One => both,
+        Lookahead::Two => both.join(rows(first, second)),
+    }
+}
+
+fn fewer(number: u32, most: u32) -> u32
+    ensures { λ r. ⌜ r ≡ choose (ltb number most) number most ⌝ }
+{
+    if number < most { number } else { most }
+}
+
+// Each terminal below terminals alone.
+fn singles(lookahead: Lookahead, terminals: u32) -> LookaheadSet
+    ensures { λ r. ⌜ Singles lookahead terminals (r .bits) ⌝ }
+{
+    let most = alphabet(lookahead);
+    let few = fewer(terminals, most);
+    LookaheadSet {
+        bits: (1u64 << few) - 1 << single(lookahead),
+    }
+}
+
+// Every string of terminals below terminals.
+pub fn full(lookahead: Lookahead, terminals: u32) -> LookaheadSet
+    ensures { λ r. ⌜ Full lookahead terminals (r .bits) ⌝ }
+{
+    let singles = singles(lookahead, terminals);
+    let longer = concat(singles, lookahead, singles);
+    LookaheadSet::end(lookahead).join(singles.join(longer))
+}

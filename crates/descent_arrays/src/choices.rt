@@ -1,0 +1,71 @@
+// A choice of rules as the descent reads it: a row for each nonterminal, by the columns of the table.
+ghost use mathlib.Core.Path.{_≡_};
+ghost use Prim.Native.Nat.{_+_};
+ghost use Rattle.descent_arrays.specs.Choices.{firstWord, choiceRows, choicesOf, RowGiven};
+use super::arrays::CHOICE_COLUMNS;
+use super::arrays::CHOICES;
+use super::arrays::END_COLUMN;
+use super::arrays::ROW_COLUMN;
+use super::arrays::fitting;
+use grammar::limits::ENTRIES;
+use grammar::limits::NONTERMINALS;
+use grammar::limits::RULES;
+use grammar::limits::TOKENS;
+use grammar::limits::WIDE_COLUMNS;
+use grammar::limits::WORDS;
+
+// Where the first conjunct of a rule stands, or 0 for a number that no rule has.
+fn first_conjunct(starts: &[usize; RULES], rule: u8) -> u16
+    ensures { λ r. ⌜ r ≡ firstWord (now (starts .entry)) rule ⌝ }
+{
+    if (rule as usize) < RULES {
+        (starts[rule as usize] % WORDS + 1) as u16
+    } else {
+        0
+    }
+}
+
+// Writes the row of one nonterminal.
+fn fill_row(
+    choices: &mut [u16; CHOICES],
+    starts: &[usize; RULES],
+    entries: &[u8; ENTRIES],
+    columns: usize,
+    nonterminal: usize,
+    tokens: usize,
+)
+    requires { ⌜ RowGiven (now starts) columns (now entries) tokens nonterminal (now choices) ⌝ }
+    ensures { λ _. ⌜ now (choices .exit) ≡ choiceRows (now (starts .entry)) columns (now (entries .entry)) tokens (nonterminal + 1) ⌝ }
+{
+    let from = nonterminal * columns;
+    let to = nonterminal * CHOICE_COLUMNS;
+    let mut column = 0;
+    while column < columns {
+        choices[to + column] = first_conjunct(starts, entries[from + column]);
+        column = column + 1;
+    }
+    choices[to + END_COLUMN] = tokens as u16;
+    choices[to + ROW_COLUMN] = (nonterminal * (tokens + 1)) as u16;
+}
+
+// The rows for an input of so many tokens, by the starts of the rules and the entries of the table.
+pub fn choices_of(
+    starts: &[usize; RULES],
+    nonterminals: usize,
+    columns: usize,
+    entries: &[u8; ENTRIES],
+    tokens: usize,
+) -> [u16; CHOICES]
+    ensures { λ r. ⌜ r ≡ choicesOf (now (starts .entry)) nonterminals columns (now (entries .entry)) tokens ⌝ }
+{
+    let rows = fitting(nonterminals, NONTERMINALS as usize);
+    let wide = fitting(columns, WIDE_COLUMNS);
+    let long = fitting(tokens, TOKENS);
+    let mut choices = [0u16; CHOICES];
+    let mut nonterminal = 0;
+    while nonterminal < rows {
+        fill_row(&mut choices, starts, entries, wide, nonterminal, long);
+        nonterminal = nonterminal + 1;
+    }
+    choices
+}

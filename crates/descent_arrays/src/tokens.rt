@@ -1,0 +1,40 @@
+// The tokens as the descent reads them: a word for each place.
+ghost use mathlib.Core.Path.{_≡_};
+ghost use Rattle.event.specs.Events.{inputOf};
+ghost use Rattle.descent_arrays.specs.Tokens.{tokenWord, tokensOf};
+use super::arrays::COLUMN_WEIGHT;
+use super::arrays::END_MARK;
+use super::arrays::fitting;
+use columns::column_at;
+use event::terminal_of;
+use grammar::limits::PLACES;
+use lookahead::Lookahead;
+
+// A terminal, or the mark of the end, with the column of its lookahead string, of which what fits is kept.
+fn word_of(column: u32, mark: u8) -> u16
+    ensures { λ r. ⌜ r ≡ tokenWord column mark ⌝ }
+{
+    (column % COLUMN_WEIGHT * COLUMN_WEIGHT + mark as u32) as u16
+}
+
+// The terminal of each event, and the column of the lookahead string there; behind the events, the end. Events that no place is left for
+// are ignored.
+pub fn tokens_of(events: &[u8], lookahead: Lookahead, terminals: u32) -> [u16; PLACES]
+    ensures { λ r. ⌜ r ≡ tokensOf lookahead terminals (inputOf (now (events .entry))) ⌝ }
+{
+    let end = word_of(
+        column_at(events, lookahead, terminals, events.len()),
+        END_MARK,
+    );
+    let mut tokens = [end; PLACES];
+    let count = fitting(events.len(), PLACES);
+    let mut place = 0;
+    while place < count {
+        let column = column_at(events, lookahead, terminals, place);
+        let event = events[place];
+        let terminal = terminal_of(event);
+        tokens[place] = word_of(column, terminal);
+        place = place + 1;
+    }
+    tokens
+}

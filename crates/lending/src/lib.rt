@@ -1,0 +1,148 @@
+// Lending the table back: the words of what is found of a grammar, two sets for each nonterminal and then a row of entries for each, are laid
+// out in the caller's memory.
+ghost use mathlib.Core.Path.{_≡_};
+ghost use Prim.Native.Nat.{_+_, _*_, _≤_, _<_};
+ghost use Rattle.grammar.specs.Limits.{maxNonterminals, maxEntries};
+ghost use Rattle.lookahead.specs.declared.Lookahead.the-variants.{One, Two};
+ghost use Rattle.lending.specs.Lending.{entryCode, wordAt, lentSizes, wordCount, SizesGiven, madeUp, lentOf};
+use columns::count;
+use families::Finding;
+use families::SETS;
+use grammar::codes::NO_ENTRY;
+use grammar::codes::NO_RULE;
+use grammar::limits::ENTRIES;
+use grammar::limits::NONTERMINALS;
+use grammar::limits::TABLE_WORDS;
+use grammar::limits::TERMINALS;
+use grammar::reading::Sizes;
+use lookahead::Lookahead;
+use table::Found;
+
+// The numbers that a word of 32 bits can be.
+const NARROW: u64 = 4294967296;
+
+// The sizes of the table that is lent: none where the grammar is refused, or where they are past the limits, as those of no grammar that passes
+// are.
+fn lent_sizes(finding: Finding) -> Sizes
+    ensures { λ r. ⌜ r ≡ lentSizes finding ⌝ }
+{
+    let none = Sizes {
+        nonterminals: 0,
+        terminals: 0,
+        rules: 0,
+    };
+    match finding {
+        Finding::Refused(_) => none,
+        Finding::Passed(sizes) => {
+            if NONTERMINALS < sizes.nonterminals {
+                return none;
+            }
+            if TERMINALS < sizes.terminals {
+                return none;
+            }
+            sizes
+        }
+    }
+}
+
+// An entry as a word.
+fn entry_word(entry: u8) -> u64
+    ensures { λ r. ⌜ r ≡ entryCode entry ⌝ }
+{
+    if entry == NO_RULE {
+        NO_ENTRY as u64
+    } else {
+        entry as u64
+    }
+}
+
+// The word at an index.
+fn word<'a>(
+    nonterminals: usize,
+    firsts: &'a [u64; SETS],
+    follows: &'a [u64; SETS],
+    entries: &'a [u8; ENTRIES],
+    at: usize,
+) -> u64
+    requires { ⌜ (nonterminals ≤ maxNonterminals) × (at < 2 * nonterminals + maxEntries) ⌝ }
+    ensures { λ r. ⌜ r ≡ wordAt nonterminals (now (firsts .entry)) (now (follows .entry)) (now (entries .entry)) at ⌝ }
+{
+    let sets = 2 * nonterminals;
+    if sets <= at {
+        return entry_word(entries[at - sets]);
+    }
+    if at % 2 == 0 {
+        firsts[at / 2]
+    } else {
+        follows[at / 2]
+    }
+}
+
+// How many words there are.
+fn word_count(sizes: Sizes, lookahead: Lookahead) -> usize
+    requires { ⌜ SizesGiven sizes ⌝ }
+    ensures { λ r. ⌜ r ≡ wordCount lookahead sizes ⌝ }
+{
+    sizes.nonterminals as usize * (2 + count(lookahead, sizes.terminals))
+}
+
+// All words with one token of lookahead, made up whole before any is lent back, and behind them no entries.
+fn words<'a>(
+    sizes: Sizes,
+    firsts: &'a [u64; SETS],
+    follows: &'a [u64; SETS],
+    entries: &'a [u8; ENTRIES],
+) -> [u32; TABLE_WORDS]
+    requires { ⌜ SizesGiven sizes ⌝ }
+    ensures { λ r. ⌜ r ≡ madeUp sizes (now (firsts .entry)) (now (follows .entry)) (now (entries .entry)) ⌝ }
+{
+    let nonterminals = sizes.nonterminals as usize;
+    let count = word_count(sizes, Lookahead::One);
+    let mut table = [NO_ENTRY; TABLE_WORDS];
+    let mut at = 0;
+    while at < count {
+        table[at] = (word(nonterminals, firsts, follows, entries, at) % NARROW) as u32;
+        at = at + 1;
+    }
+    table
+}
+
+// Lends the table of a grammar with one token of lookahead; nothing where the grammar is refused, or where there is no room.
+pub fn lend(found: Found, table: &mut [u32])
+    ensures { λ _. ⌜ now (table .exit) ≡ lentOf One found (now (table .entry)) ⌝ }
+{
+    let sizes = lent_sizes(found.finding);
+    let count = word_count(sizes, Lookahead::One);
+    if table.len() < count {
+        return;
+    }
+    let words = words(sizes, &found.firsts, &found.follows, &found.entries);
+    let mut copied = 0;
+    while copied < count {
+        table[copied] = words[copied];
+        copied = copied + 1;
+    }
+}
+
+// The same with two tokens.
+pub fn lend_wide(found: Found, table: &mut [u64])
+    ensures { λ _. ⌜ now (table .exit) ≡ lentOf Two found (now (table .entry)) ⌝ }
+{
+    let sizes = lent_sizes(found.finding);
+    let nonterminals = sizes.nonterminals as usize;
+    let count = word_count(sizes, Lookahead::Two);
+    if table.len() < count {
+        return;
+    }
+    let mut at = 0;
+    while at < count {
+        table[at] = word(
+            nonterminals,
+            &found.firsts,
+            &found.follows,
+            &found.entries,
+            at,
+        );
+        at = at + 1;
+    }
+}

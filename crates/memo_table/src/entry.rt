@@ -1,0 +1,25 @@
+// An outcome as an entry of the memo table, and back.
+ghost use mathlib.Core.Path.{_≡_};
+ghost use Rattle.semantics.specs.Memo.{encode, decode};
+ghost use Rattle.rule.specs.Rule.{meant};
+use grammar::codes::FAILED;
+use rule::Outcome;
+
+pub fn code(outcome: Outcome) -> u16
+    ensures { λ r. ⌜ r ≡ encode (meant outcome) ⌝ }
+{
+    match outcome {
+        Outcome::Failed => FAILED,
+        Outcome::End(end) => end,
+    }
+}
+
+pub fn recall(entry: u16) -> Outcome
+    ensures { λ r. ⌜ meant r ≡ decode entry ⌝ }
+{
+    if entry == FAILED {
+        Outcome::Failed
+    } else {
+        Outcome::End(entry)
+    }
+}

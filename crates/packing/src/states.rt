@@ -1,0 +1,42 @@
+// The state of a kept log in a row of nine numbers: its length and its eight checkpoints.
+ghost use mathlib.Core.Path.{_≡_};
+ghost use Rattle.embed_promises.specs.Kept.{stateOf, StateRead};
+use kept_input::CHECKPOINTS;
+use kept_input::Progress;
+
+pub const STATE: usize = CHECKPOINTS + 1;
+
+pub fn progress_in(state: [u16; STATE]) -> Progress
+    ensures { λ r. ⌜ StateRead state r ⌝ }
+{
+    Progress {
+        length: state[0],
+        checkpoints: [
+            state[1],
+            state[2],
+            state[3],
+            state[4],
+            state[5],
+            state[6],
+            state[7],
+            state[8],
+        ],
+    }
+}
+
+pub fn state_of(progress: Progress) -> [u16; STATE]
+    ensures { λ r. ⌜ r ≡ stateOf progress ⌝ }
+{
+    let set = progress.checkpoints;
+    [
+        progress.length,
+        set[0],
+        set[1],
+        set[2],
+        set[3],
+        set[4],
+        set[5],
+        set[6],
+        set[7],
+    ]
+}

@@ -1,4 +1,0 @@
-pub mod Arrays
-pub mod Descent
-pub mod Preparing
-pub mod Search

@@ -1,0 +1,330 @@
+-- Calling a nonterminal: the bodies of its rule agree on the end that the descent with a memo table gives.
+use mathlib.Core.Path.{_≡_, refl, sym, ap, _∙_}
+use mathlib.Core.Bool.{Bool, true, false, true≢false, false≢true}
+use mathlib.Core.List.{List, [], _∷_, List·Memᴰ, List·Memᴰ·head, List·Memᴰ·tail}
+use mathlib.Core.Option.{none, some}
+use Prim.Native.Nat.{ℕ, _+_, _-_, _≤_, _<_}
+use native.Mathlib.Omega.{arith}
+use native.Mathlib.Decide.{decLt}
+use lib.Dec.{ltb}
+use lib.ListN.{length, getD, drop}
+use borrow.Author.Tests.{lt-ltb}
+use Rattle.base.specs.Choice.{choose}
+use Rattle.word.specs.Words.{decoded}
+use Rattle.word.specs.declared.Symbol as grammar
+use Rattle.word.specs.declared.Word.{Word}
+use Rattle.word.specs.declared.Word.the-variants as word
+use Rattle.word.specs.declared.Word.the-variants.{Symbol}
+use Rattle.grammar.specs.Syntax.{Body, Rule, bodies}
+use Rattle.grammar.specs.Encoding.{Parsed, onWord, parse, grammarOf}
+use Rattle.grammar.specs.Reading.{allows, scan, reading}
+use Rattle.grammar.specs.declared.reading.State.{State}
+use Rattle.grammar.specs.declared.reading.State.the-variants as state
+use Rattle.grammar.specs.declared.reading.Progress.{Progress}
+use Rattle.grammar.proofs.Suffixes.{Next, scan-next}
+use Rattle.grammar.proofs.WellFormed.{RestFits, reads}
+use Rattle.semantics.specs.Choices.{Choice}
+use Rattle.semantics.specs.Descent.{Outcome, Failed, End, endsAt, select}
+use Rattle.semantics.specs.MemoDescent.{Memoized, memoized, andThen, MemoCalls, memoRun, memoNegatives, memoPositives, memoRule, memoObey}
+use Rattle.rule.specs.declared.Outcome as code
+use Rattle.rule.specs.declared.Sign.{Sign}
+use Rattle.rule.specs.declared.Sign.the-variants.{Positive, Negative, Neither}
+use Rattle.rule.specs.declared.Agreement.{Agreement}
+use Rattle.rule.specs.declared.Agreement.the-variants as agreement
+use Rattle.rule.specs.Rule.{meant, signOf, signAt, bodyEnd, beginsBody, goesOn, joinedBy, concluded}
+use Rattle.rule.proofs.Signs.{sign-number, sign-positive, sign-negative, sign-within}
+use Rattle.rule.proofs.Agreements.{opens-no-more, ends-joined}
+use Rattle.families.proofs.Words.{parse-over}
+use Rattle.recursive_descent.specs.declared.descent.Run.{Run}
+use Rattle.recursive_descent.specs.Descent.{MemoSound, CallGiven, RunGiven, RunDone}
+use Rattle.recursive_descent.proofs.Bodies.{parse-here, skipped-on, body-ended}
+use Rattle.recursive_descent.proofs.Running.{deep, level}
+
+-- what is left of a rule: of positives ps and negatives ns, where the bodies before them have agreed
+unfoldable pub memoRest : MemoCalls → List ℕ → ℕ → Agreement → List Body → List Body → List ℕ → Memoized
+memoRest M w i agreement.Open ps ns m = memoRule M w (length w) ps ns i m
+memoRest M w i (agreement.At e) ps ns m = memoPositives M w i e ps ns m
+memoRest M w i agreement.Failed ps ns m = memoized Failed m
+
+-- a rule that has come to an index: a conjunct begins there, or the rule ends
+pub record Calling (choice : Choice) (words input memo₀ : List ℕ) (A place : ℕ) (r : Rule) (memo : List ℕ) (at : ℕ) (sign : Sign) (agreed : Agreement) : Type 0 where
+  pub sound : MemoSound choice words input memo
+  pub within : at ≤ length words
+  pub signed : sign ≡ signAt words at
+  pub ends : (e : ℕ) → agreed ≡ agreement.At e → e ≤ length input
+  pub rest : (n : ℕ) → level words input A place ≤ n
+      → memoObey (deep choice words input n) input (some r) place memo₀ ≡ memoRest (deep choice words input n) input place agreed (parse (drop at words) .positives) (parse (drop at words) .negatives) memo
+  pub positives : (b : Body) → List·Memᴰ b (parse (drop at words) .positives) → List·Memᴰ b (bodies r)
+  pub negatives : (b : Body) → List·Memᴰ b (parse (drop at words) .negatives) → List·Memᴰ b (bodies r)
+  pub progress : Progress
+  pub reads : scan progress at (drop at words) ≡ reading words
+  pub opens : agreed ≡ agreement.Open → progress .state ≡ state.Opened
+  pub opened : agreed ≡ agreement.Open → sign ≡ Negative → ⊥
+  pub boundary : (X : grammar.Symbol) → at < length words → decoded (getD words at 0) ≡ Symbol X → ⊥
+
+-- one body more of what is left
+module _ (M : MemoCalls) (w : List ℕ) (i : ℕ) (b : Body) (ns : List Body) (m m′ : List ℕ) (o : Outcome) (run : memoRun M w b i m ≡ memoized o m′) where
+  positive-opens : (ps : List Body) → memoRest M w i agreement.Open (b ∷ ps) ns m ≡ memoRest M w i (joinedBy Positive agreement.Open o) ps ns m′
+  unfolding memoRest memoRule andThen
+  positive-opens ps = rw run (go o)
+    where
+      go : (x : Outcome) → andThen x m′ (λ e m″. memoPositives M w i e ps ns m″) ≡ memoRest M w i (joinedBy Positive agreement.Open x) ps ns m′
+      go Failed = refl
+      go (End e) = refl
+
+  positive-keeps : (e : ℕ) (ps : List Body)
+      → memoRest M w i (agreement.At e) (b ∷ ps) ns m ≡ memoRest M w i (joinedBy Positive (agreement.At e) o) ps ns m′
+  unfolding memoRest memoPositives
+  positive-keeps e ps = rw run (go (endsAt o e))
+    where
+      go : (x : Bool)
+          → choose x (memoPositives M w i e ps ns m′) (memoized Failed m′) ≡ memoRest M w i (choose x (agreement.At e) agreement.Failed) ps ns m′
+      go true = refl
+      go false = refl
+
+  negative-keeps : (e : ℕ) → memoRest M w i (agreement.At e) [] (b ∷ ns) m ≡ memoRest M w i (joinedBy Negative (agreement.At e) o) [] ns m′
+  unfolding memoRest memoPositives memoNegatives
+  negative-keeps e = rw run (go (endsAt o e))
+    where
+      go : (x : Bool)
+          → choose x (memoized Failed m′) (memoNegatives M w i e ns m′) ≡ memoRest M w i (choose x agreement.Failed (agreement.At e)) [] ns m′
+      go true = refl
+      go false = refl
+
+module _ {choice : Choice} {words choices tokens input memo₀ : List ℕ} {A place : ℕ} (g : CallGiven choice words choices tokens input memo₀ A place) (r : Rule)
+    (listed : List·Memᴰ r (grammarOf words .rules)) (heads : r .head ≡ A)
+    {memo : List ℕ} {at : ℕ} {sign : Sign} {agreed : Agreement} (v : Calling choice words input memo₀ A place r memo at sign agreed) where
+  -- the call with the memo as it is now
+  pub calling-given : CallGiven choice words choices tokens input memo A place
+  calling-given = record {
+    given = record {
+      sizes = g .given .sizes;
+      read = g .given .read;
+      free = g .given .free;
+      own = g .given .own;
+      rows = g .given .rows;
+      ends = g .given .ends;
+      columns = g .given .columns;
+      firsts = g .given .firsts;
+      terminals = g .given .terminals;
+      end = g .given .end;
+      short = g .given .short;
+      sound = v .sound;
+    };
+    named = g .named;
+    placed = g .placed;
+  }
+
+  -- the words behind the one at the index
+  abbrev Q : Parsed
+  Q = parse (drop (at + 1) words)
+
+  -- a conjunct begins at the index: its body is one of the rule's, and what is left behind it
+  pub record Conjunct : Type 0 where
+    pub low : at < length words
+    pub held : List·Memᴰ (Q .body) (bodies r)
+    pub positives : (b : Body) → List·Memᴰ b (Q .positives) → List·Memᴰ b (bodies r)
+    pub negatives : (b : Body) → List·Memᴰ b (Q .negatives) → List·Memᴰ b (bodies r)
+    pub progress : Progress
+    pub reads : scan progress (at + 1) (drop (at + 1) words) ≡ reading words
+    pub joins : (n : ℕ) (m′ : List ℕ) (o : Outcome) → memoRun (deep choice words input n) input (Q .body) place memo ≡ memoized o m′
+        → memoRest (deep choice words input n) input place agreed (parse (drop at words) .positives) (parse (drop at words) .negatives) memo
+        ≡ memoRest (deep choice words input n) input place (joinedBy sign agreed o) (Q .positives) (Q .negatives) m′
+
+  module _ (h : at < length words) where
+    next : Next words at (v .progress) (g .given .sizes)
+    next = scan-next words at (v .progress) (g .given .sizes) h (v .reads ∙ g .given .read)
+
+    next-reads : scan (next .progress) (at + 1) (drop (at + 1) words) ≡ reading words
+    next-reads = next .reads ∙ sym (g .given .read)
+
+    fits : RestFits (next .progress .state) (g .given .sizes) Q
+    fits = reads (next .progress) (at + 1) (drop (at + 1) words) (g .given .sizes) (next .reads) .fits
+
+    module _ (goes : goesOn sign agreed ≡ true) where
+      -- a positive conjunct
+      positive : decoded (getD words at 0) ≡ word.Positive → sign ≡ Positive → Conjunct
+      unfolding onWord
+      positive x s =
+          let p : parse (drop at words) ≡ onWord word.Positive Q = parse-here words at h ∙ ap (λ w. onWord w Q) x in
+          let ps : parse (drop at words) .positives ≡ Q .body ∷ Q .positives = ap (λ q. q .positives) p in
+          let ns : parse (drop at words) .negatives ≡ Q .negatives = ap (λ q. q .negatives) p in
+          record {
+            low = h;
+            held = v .positives (Q .body) (rw ps (List·Memᴰ·head refl));
+            positives = λ b k. v .positives b (rw ps (List·Memᴰ·tail k));
+            negatives = λ b k. v .negatives b (rw ns k);
+            progress = next .progress;
+            reads = next-reads;
+            joins = λ n m′ o run. rw (ps, ns, s) (join agreed (rw s at goes) n m′ o run);
+          }
+        where
+          join : (a : Agreement) → goesOn Positive a ≡ true → (n : ℕ) (m′ : List ℕ) (o : Outcome)
+              → memoRun (deep choice words input n) input (Q .body) place memo ≡ memoized o m′
+              → memoRest (deep choice words input n) input place a (Q .body ∷ Q .positives) (Q .negatives) memo
+              ≡ memoRest (deep choice words input n) input place (joinedBy Positive a o) (Q .positives) (Q .negatives) m′
+          join agreement.Open t n m′ o run = positive-opens (deep choice words input n) input place (Q .body) (Q .negatives) memo m′ o run (Q .positives)
+          join (agreement.At e) t n m′ o run = positive-keeps (deep choice words input n) input place (Q .body) (Q .negatives) memo m′ o run e (Q .positives)
+          join agreement.Failed t n m′ o run = absurd (false≢true t)
+
+      -- a negative conjunct: no positive one stands behind it
+      negative : decoded (getD words at 0) ≡ word.Negative → sign ≡ Negative → Conjunct
+      unfolding onWord
+      negative x s =
+          let p : parse (drop at words) ≡ onWord word.Negative Q = parse-here words at h ∙ ap (λ w. onWord w Q) x in
+          let allowed : allows word.Negative (v .progress .state) ≡ true = rw x at (next .passed .allowed) in
+          let after-negative : next .progress .state ≡ state.InNegative = rw x at (next .passed .state) in
+          let none : Q .positives ≡ [] = rw after-negative at (fits .shape) in
+          let ps : parse (drop at words) .positives ≡ Q .positives = ap (λ q. q .positives) p in
+          let ns : parse (drop at words) .negatives ≡ Q .body ∷ Q .negatives = ap (λ q. q .negatives) p in
+          record {
+            low = h;
+            held = v .negatives (Q .body) (rw ns (List·Memᴰ·head refl));
+            positives = λ b k. v .positives b (rw ps k);
+            negatives = λ b k. v .negatives b (rw ns (List·Memᴰ·tail k));
+            progress = next .progress;
+            reads = next-reads;
+            joins = λ n m′ o run. rw (ps, ns, s, none) (join agreed refl allowed (rw s at goes) n m′ o run);
+          }
+        where
+          join : (a : Agreement) → agreed ≡ a → allows word.Negative (v .progress .state) ≡ true → goesOn Negative a ≡ true
+              → (n : ℕ) (m′ : List ℕ) (o : Outcome) → memoRun (deep choice words input n) input (Q .body) place memo ≡ memoized o m′
+              → memoRest (deep choice words input n) input place a [] (Q .body ∷ Q .negatives) memo
+              ≡ memoRest (deep choice words input n) input place (joinedBy Negative a o) [] (Q .negatives) m′
+          join agreement.Open e w t n m′ o run = absurd (v .opened e s)
+          join (agreement.At x) e w t n m′ o run = negative-keeps (deep choice words input n) input place (Q .body) (Q .negatives) memo m′ o run x
+          join agreement.Failed e w t n m′ o run = absurd (false≢true t)
+
+  -- where the rule goes on a conjunct begins
+  pub conjunct : goesOn sign agreed ≡ true → Conjunct
+  conjunct goes = go sign refl
+    where
+      begins : (s : Sign) (a : Agreement) → goesOn s a ≡ true → s ≡ Neither → ⊥
+      begins s agreement.Open t e = false≢true (rw e at t)
+      begins s (agreement.At x) t e = false≢true (rw e at t)
+      begins s agreement.Failed t e = false≢true t
+
+      within : (sign ≡ Neither → ⊥) → (at < length words) × (sign ≡ signOf (decoded (getD words at 0)))
+      within n = let k = sign-within words at (λ e. n (v .signed ∙ e)) in (k .0, v .signed ∙ k .1)
+
+      go : (s : Sign) → sign ≡ s → Conjunct
+      go Positive e =
+          let k = within (begins sign agreed goes) in
+          positive (k .0) goes (sign-positive (decoded (getD words at 0)) (sym (k .1) ∙ e)) e
+      go Negative e =
+          let k = within (begins sign agreed goes) in
+          negative (k .0) goes (sign-negative (decoded (getD words at 0)) (sym (k .1) ∙ e)) e
+      go Neither e = absurd (begins sign agreed goes e)
+
+  -- the run of its body
+  pub calling-run : (k : Conjunct) → RunGiven choice words choices tokens input memo A (at + 1) place
+  calling-run k = record { call = calling-given; rule = r; listed = listed; heads = heads; inside = omega (arith, k .low); body = k .held; progress = k .progress; reads = k .reads }
+
+  -- one body more
+  pub calling-turn : goesOn sign agreed ≡ true → {o : Run} {memo′ : List ℕ} {at′ : ℕ} {sign′ : Sign} {agreed′ : Agreement}
+      → RunDone choice words input memo A (at + 1) place o memo′ → agreed′ ≡ joinedBy sign agreed (meant (o .outcome)) → at′ ≡ bodyEnd words (o .at)
+      → sign′ ≡ signAt words at′
+      → Calling choice words input memo₀ A place r memo′ at′ sign′ agreed′
+  calling-turn goes {o} {memo′} {at′} {sign′} {agreed′} d j b s =
+      let k = conjunct goes in
+      let end = body-ended (d .skipped .within) b in
+      let t = skipped-on (d .skipped) (end .skipped) in
+      record {
+        sound = d .sound;
+        within = t .within;
+        signed = s;
+        ends = λ e q. ends-joined (length input) sign agreed (meant (o .outcome)) (v .ends) (d .within) e (sym j ∙ q);
+        rest = λ n l. v .rest n l ∙ k .joins n memo′ (meant (o .outcome)) (d .model n l) ∙ sym (rw (j, t .positives, t .negatives));
+        positives = λ x m. k .positives x (rw (t .positives) at m);
+        negatives = λ x m. k .negatives x (rw (t .negatives) at m);
+        progress = k .progress;
+        reads = t .reads (k .progress) (g .given .sizes) (k .reads ∙ g .given .read) ∙ sym (g .given .read);
+        opens = λ q. absurd (opens-no-more sign agreed (meant (o .outcome)) goes (sym j ∙ q));
+        opened = λ q. absurd (opens-no-more sign agreed (meant (o .outcome)) goes (sym j ∙ q));
+        boundary = end .boundary;
+      }
+
+-- a word that begins no conjunct and is no symbol ends the rule
+ends-rule : (w : Word) (p : Parsed) (s : State) → allows w s ≡ true → signOf w ≡ Neither → ((X : grammar.Symbol) → w ≡ Symbol X → ⊥)
+    → (onWord w p .positives ≡ []) × (onWord w p .negatives ≡ [])
+unfolding onWord
+ends-rule (word.Heading n t) p s a e h = absurd (false≢true a)
+ends-rule (word.Rule A) p s a e h = (refl, refl)
+ends-rule word.Positive p s a e h = absurd (omega (arith, sign-number e))
+ends-rule word.Negative p s a e h = absurd (omega (arith, sign-number e))
+ends-rule (word.Symbol X) p s a e h = absurd (h X refl)
+ends-rule word.End p s a e h = (refl, refl)
+ends-rule word.Invalid p s a e h = absurd (false≢true a)
+
+nothing-left : (parse [] .positives ≡ []) × (parse [] .negatives ≡ [])
+unfolding parse
+nothing-left = (refl, refl)
+
+module _ {choice : Choice} {words choices tokens input memo₀ : List ℕ} {A place : ℕ} (g : CallGiven choice words choices tokens input memo₀ A place) {r : Rule}
+    {memo : List ℕ} {at : ℕ} {sign : Sign} {agreed : Agreement} (v : Calling choice words input memo₀ A place r memo at sign agreed) where
+  -- where no conjunct begins nothing is left of the rule
+  none-left : sign ≡ Neither → (parse (drop at words) .positives ≡ []) × (parse (drop at words) .negatives ≡ [])
+  unfolding signAt
+  none-left e = go (decLt at (length words))
+    where
+      go : Dec (at < length words) → (parse (drop at words) .positives ≡ []) × (parse (drop at words) .negatives ≡ [])
+      go (yes l) =
+          let n = scan-next words at (v .progress) (g .given .sizes) l (v .reads ∙ g .given .read) in
+          let s : signOf (decoded (getD words at 0)) ≡ Neither = (rw (lt-ltb at (length words) l) at (sym (v .signed))) ∙ e in
+          rw (parse-here words at l) (ends-rule (decoded (getD words at 0)) (parse (drop (at + 1) words)) (v .progress .state) (n .passed .allowed) s (λ X. v .boundary X l))
+      go (no l) = over (parse-over words at (omega arith))
+        where
+          over : parse (drop at words) ≡ parse [] → (parse (drop at words) .positives ≡ []) × (parse (drop at words) .negatives ≡ [])
+          over p = rw p nothing-left
+
+  -- the rule has run: its bodies agree, or it has failed
+  pub calling-done : goesOn sign agreed ≡ false → (n : ℕ) → level words input A place ≤ n
+      → memoObey (deep choice words input n) input (some r) place memo₀ ≡ memoized (concluded agreed) memo
+  unfolding memoRest memoPositives memoNegatives
+  calling-done stops n l = v .rest n l ∙ go agreed refl stops
+    where
+      neither : (s : Sign) → beginsBody s ≡ false → s ≡ Neither
+      neither Positive e = absurd (true≢false e)
+      neither Negative e = absurd (true≢false e)
+      neither Neither e = refl
+
+      go : (a : Agreement) → agreed ≡ a → goesOn sign a ≡ false
+          → memoRest (deep choice words input n) input place a (parse (drop at words) .positives) (parse (drop at words) .negatives) memo ≡ memoized (concluded a) memo
+      go agreement.Open e t =
+          let f = reads (v .progress) at (drop at words) (g .given .sizes) (v .reads ∙ g .given .read) .fits in
+          let k = none-left (neither sign t) in
+          absurd ((rw (v .opens e) at (f .shape)) .1 (rw (k .0, k .1)))
+      go (agreement.At x) e t = let k = none-left (neither sign t) in rw (k .0, k .1)
+      go agreement.Failed e t = refl
+
+-- a call that runs a rule
+pub record InRule (choice : Choice) (words input memo₀ : List ℕ) (A place : ℕ) (memo : List ℕ) (at : ℕ) (sign : Sign) (agreed : Agreement) : Type 0 where
+  pub rule : Rule
+  pub listed : List·Memᴰ rule (grammarOf words .rules)
+  pub heads : rule .head ≡ A
+  pub selected : select (grammarOf words) (choice A place) ≡ some rule
+  pub calling : Calling choice words input memo₀ A place rule memo at sign agreed
+
+module _ {choice : Choice} {words choices tokens input memo₀ : List ℕ} {A place : ℕ} (g : CallGiven choice words choices tokens input memo₀ A place)
+    {memo : List ℕ} {at : ℕ} {sign : Sign} {agreed : Agreement} (v : InRule choice words input memo₀ A place memo at sign agreed) where
+  pub rule-conjunct : goesOn sign agreed ≡ true → at < length words
+  rule-conjunct goes = conjunct g (v .rule) (v .listed) (v .heads) (v .calling) goes .low
+
+  pub rule-run : goesOn sign agreed ≡ true → RunGiven choice words choices tokens input memo A (at + 1) place
+  rule-run goes = calling-run g (v .rule) (v .listed) (v .heads) (v .calling) (conjunct g (v .rule) (v .listed) (v .heads) (v .calling) goes)
+
+  pub rule-turn : goesOn sign agreed ≡ true → {o : Run} {memo′ : List ℕ} {at′ : ℕ} {sign′ : Sign} {agreed′ : Agreement}
+      → RunDone choice words input memo A (at + 1) place o memo′ → agreed′ ≡ joinedBy sign agreed (meant (o .outcome)) → at′ ≡ bodyEnd words (o .at)
+      → sign′ ≡ signAt words at′
+      → InRule choice words input memo₀ A place memo′ at′ sign′ agreed′
+  rule-turn goes d j b s = record {
+    rule = v .rule;
+    listed = v .listed;
+    heads = v .heads;
+    selected = v .selected;
+    calling = calling-turn g (v .rule) (v .listed) (v .heads) (v .calling) goes d j b s;
+  }
+
+  pub rule-done : goesOn sign agreed ≡ false → (o : code.Outcome) → meant o ≡ concluded agreed
+      → (n : ℕ) → level words input A place ≤ n → memoObey (deep choice words input n) input (some (v .rule)) place memo₀ ≡ memoized (meant o) memo
+  rule-done stops o c n l = calling-done g (v .calling) stops n l ∙ ap (λ x. memoized x memo) (sym c)

@@ -1,0 +1,9 @@
+pub mod Bodies
+pub mod Running
+pub mod Calling
+pub mod Storing
+pub mod Starting
+pub mod Choosing
+pub mod TableChoices
+pub mod Deciding
+pub mod Searching

@@ -1,0 +1,112 @@
+-- A call is done: from what the descent with a memo table gives, for every depth that is enough, to what holds of its outcome.
+use mathlib.Core.Path.{_≡_, refl, sym, ap, _∙_}
+use mathlib.Core.List.{List}
+use mathlib.Core.Option.{Option}
+use Prim.Native.Nat.{ℕ, zero, suc, _+_, _≤_, _<_}
+use native.Mathlib.Omega.{arith}
+use lib.Dec.{T-not, not-T, eqb, eqb→eq}
+use lib.ListN.{length, getD, set}
+use borrow.Author.Tests.{ne-eqb}
+use Rattle.grammar.specs.Codes.{uncalledCode}
+use Rattle.grammar.specs.Syntax.{Rule, Grammar}
+use Rattle.grammar.specs.Encoding.{grammarOf}
+use Rattle.grammar.specs.WellRead.{WellRead}
+use Rattle.grammar.proofs.WellRead.{well-read}
+use Rattle.semantics.specs.Choices.{Choice}
+use Rattle.semantics.specs.Descent.{Outcome, select, descend}
+use Rattle.semantics.specs.ComesTo.{callAt}
+use Rattle.semantics.specs.Memo.{EndsFit, encode, decode, indexOf, entry}
+use Rattle.semantics.specs.MemoDescent.{memoized, memoObey, stored, memoCall}
+use Rattle.semantics.proofs.descent.Outcomes.{end-ends}
+use Rattle.semantics.proofs.descent.Ends.{descend-forward, descend-null}
+use Rattle.semantics.proofs.descent.Range.{index-range}
+use Rattle.semantics.proofs.descent.Written.{Sound}
+use Rattle.semantics.proofs.descent.Memo.{transparent}
+use Rattle.rule.specs.declared.Outcome as code
+use Rattle.rule.specs.declared.Outcome.the-variants as outcome
+use Rattle.rule.specs.Rule.{meant}
+use Rattle.memo_table.proofs.Entries.{getD-any}
+use Rattle.descent_arrays.specs.Arrays.{rowAt}
+use Rattle.recursive_descent.specs.Descent.{MemoSound, CallGiven, CallDone}
+use Rattle.recursive_descent.proofs.Running.{deep, level}
+
+pub memo-same : {choice : Choice} {words input memo memo′ : List ℕ} → MemoSound choice words input memo → MemoSound choice words input memo′
+    → length memo ≡ length memo′
+memo-same m m′ = m .size ∙ sym (m′ .size)
+
+-- the two ways to say that a memo table is sound
+sound-out : {choice : Choice} {words input memo : List ℕ} → MemoSound choice words input memo
+    → Sound (grammarOf words) input (descend (grammarOf words) choice input) (λ _. Unit {0}) memo
+sound-out {words = words} {input = input} {memo = memo} m = record {
+  size = m .size;
+  right = λ x h. (m .right x (h .0) (λ e. T-not (eqb (entry input memo x) uncalledCode) (h .1) (rw e tt)), tt);
+}
+
+sound-in : {choice : Choice} {words input memo : List ℕ} → Sound (grammarOf words) input (descend (grammarOf words) choice input) (λ _. Unit {0}) memo
+    → MemoSound choice words input memo
+sound-in {words = words} {input = input} {memo = memo} m = record {
+  size = m .size;
+  right = λ x r n. m .right x (r, not-T (eqb (entry input memo x) uncalledCode) (λ t. n (eqb→eq (entry input memo x) uncalledCode t))) .0;
+}
+
+module _ {choice : Choice} {words choices tokens input memo : List ℕ} {A place : ℕ} (g : CallGiven choice words choices tokens input memo A place) where
+  abbrev G : Grammar
+  G = grammarOf words
+
+  r : WellRead words (g .given .sizes)
+  r = well-read words (g .given .sizes) (g .given .read)
+
+  fits : EndsFit input
+  fits = omega (arith, g .given .short)
+
+  -- the model tells all that is asked of a call
+  pub call-done : {o : code.Outcome} {memo′ : List ℕ}
+      → ((n : ℕ) → level words input A place < n → deep choice words input n A place memo ≡ memoized (meant o) memo′)
+      → CallDone choice words input memo A place o memo′
+  call-done {o} {memo′} model =
+      let n = suc (level words input A place) in
+      let l : level words input A place < n = omega arith in
+      let k = transparent G choice input (r .formed .scoped) (g .given .free) (g .given .own) fits n A place memo (g .named) (g .placed) l (sound-out (g .given .sound)) in
+      let e = model n l in
+      let told : meant o ≡ descend G choice input A place = sym (ap (λ x. x .outcome) e) ∙ k .0 in
+      record {
+        model = model;
+        sound = sound-in (rw e at (k .1));
+        forward = λ x q. descend-forward G choice input (g .given .own) A place x (g .placed) (end-ends _ x (sym told ∙ q));
+        idle = λ q. descend-null G choice input (g .given .own) (r .formed .scoped) A place place (g .placed) refl (end-ends _ place (sym told ∙ q));
+      }
+
+module _ {choice : Choice} {words choices tokens input memo : List ℕ} {A place : ℕ} (g : CallGiven choice words choices tokens input memo A place) where
+  -- the index of the call's entry
+  module _ {x : ℕ} (e : x ≡ rowAt choices A + place) where
+    index-is : x ≡ indexOf input (callAt A place)
+    index-is = e ∙ ap (λ n. n + place) (g .given .rows A (g .named))
+
+    pub index-low : x < length memo
+    index-low = let l = index-range (grammarOf words) input (callAt A place) (g .named, g .placed) in omega (arith, index-is, g .given .sound .size)
+
+    entry-is : entry input memo (callAt A place) ≡ getD memo x 0
+    entry-is = getD-any memo (indexOf input (callAt A place)) uncalledCode 0 (omega (arith, index-low, index-is)) ∙ ap (λ i. getD memo i 0) (sym index-is)
+
+    -- an entry that is written is recalled
+    pub call-recalled : {o : code.Outcome} → (getD memo x 0 ≡ uncalledCode → ⊥) → meant o ≡ decode (getD memo x 0)
+        → CallDone choice words input memo A place o memo
+    unfolding memoCall
+    call-recalled {o} known d = call-done g model
+      where
+        model : (n : ℕ) → level words input A place < n → deep choice words input n A place memo ≡ memoized (meant o) memo
+        model zero l = absurd (omega arith)
+        model (suc n) l = rw (entry-is, ne-eqb (getD memo x 0) uncalledCode known, d)
+
+    module _ (fresh : getD memo x 0 ≡ uncalledCode) where
+      -- a rule, or none, has been run, and the outcome is stored
+      pub call-stored : (r : Option Rule) → select (grammarOf words) (choice A place) ≡ r
+          → {o : code.Outcome} {memo₁ : List ℕ} {v : ℕ}
+          → ((n : ℕ) → level words input A place ≤ n → memoObey (deep choice words input n) input r place memo ≡ memoized (meant o) memo₁)
+          → v ≡ encode (meant o) → CallDone choice words input memo A place o (set memo₁ x v)
+      unfolding memoCall stored
+      call-stored r s {o} {memo₁} {v} run c = call-done g model
+        where
+          model : (n : ℕ) → level words input A place < n → deep choice words input n A place memo ≡ memoized (meant o) (set memo₁ x v)
+          model zero l = absurd (omega arith)
+          model (suc n) l = rw (entry-is, fresh, s, run n (omega arith), index-is, c)

@@ -1,0 +1,159 @@
+// The descent: calling a nonterminal at a place and running a body call one another in turn.
+ghost use mathlib.Core.Path.{_≡_};
+ghost use Prim.Native.Nat.{_+_};
+ghost use Rattle.rule.specs.Rule.{openingBy};
+ghost use Rattle.descent_arrays.specs.Arrays.{rowAt, endAt, firstAt, matchesAt};
+ghost use Rattle.recursive_descent.specs.Descent.{TokenGiven, EntryGiven, EndGiven, ChosenGiven, CallRequires, CallEnsures, RunRequires, RunEnsures};
+use descent_arrays::arrays::CHOICE_COLUMNS;
+use descent_arrays::arrays::CHOICES;
+use descent_arrays::arrays::COLUMN_WEIGHT;
+use descent_arrays::arrays::END_COLUMN;
+use descent_arrays::arrays::ROW_COLUMN;
+use grammar::codes::FAILED;
+use grammar::codes::UNCALLED;
+use grammar::limits::PLACES;
+use memo_table::entry::code;
+use memo_table::entry::recall;
+use rule::Agreement;
+use rule::Outcome;
+use rule::Sign;
+use rule::body_end;
+use rule::conclude;
+use rule::goes_on;
+use rule::joined;
+use rule::opening;
+use rule::sign_at;
+use word::Symbol;
+use word::Word;
+use word::decode;
+
+// How a body ran, and the index where it stopped.
+pub struct Run {
+    pub outcome: Outcome,
+    pub at: usize,
+}
+
+// What the column of a lookahead string weighs in a token's word.
+const WEIGHT: usize = COLUMN_WEIGHT as usize;
+
+// Whether the token at a place is a terminal.
+fn matches(tokens: &[u16; PLACES], place: u16, terminal: u32) -> bool
+    requires { ⌜ TokenGiven (now tokens) place ⌝ }
+    ensures { λ r. ⌜ r ≡ matchesAt (now (tokens .entry)) place terminal ⌝ }
+{
+    tokens[place as usize] as u32 % COLUMN_WEIGHT == terminal
+}
+
+// The index of a call's entry in the memo table.
+fn entry_of(choices: &[u16; CHOICES], nonterminal: usize, place: u16) -> usize
+    requires { ⌜ EntryGiven (now choices) nonterminal ⌝ }
+    ensures { λ r. ⌜ r ≡ rowAt (now (choices .entry)) nonterminal + place ⌝ }
+{
+    choices[nonterminal * CHOICE_COLUMNS + ROW_COLUMN] as usize + place as usize
+}
+
+// Where the first conjunct stands of the rule that is chosen for a nonterminal at a place, or 0.
+fn chosen(choices: &[u16; CHOICES], tokens: &[u16; PLACES], nonterminal: usize, place: u16) -> usize
+    requires { ⌜ ChosenGiven (now choices) (now tokens) nonterminal place ⌝ }
+    ensures { λ r. ⌜ r ≡ firstAt (now (choices .entry)) (now (tokens .entry)) nonterminal place ⌝ }
+{
+    let column = tokens[place as usize] as usize / WEIGHT;
+    choices[nonterminal * CHOICE_COLUMNS + column] as usize
+}
+
+// Where the bodies of a rule agree to end before the first has run, by what its first conjunct is.
+fn first_agreement(choices: &[u16; CHOICES], nonterminal: usize, sign: Sign) -> Agreement
+    requires { ⌜ EndGiven (now choices) nonterminal ⌝ }
+    ensures { λ r. ⌜ r ≡ openingBy sign (endAt (now (choices .entry)) nonterminal) ⌝ }
+{
+    opening(sign, choices[nonterminal * CHOICE_COLUMNS + END_COLUMN])
+}
+
+// Runs the body at an index from a place on, for a call of the nonterminal there; the first symbol that fails stops it.
+fn run_body(
+    nonterminal: usize,
+    words: &[u32],
+    choices: &[u16; CHOICES],
+    tokens: &[u16; PLACES],
+    memo: &mut [u16],
+    from: usize,
+    start: u16,
+) -> Run
+    requires { ⌜ RunRequires (now words) (now choices) (now tokens) (now memo) nonterminal from start ⌝ }
+    ensures { λ r. ⌜ RunEnsures (now (words .entry)) (now (choices .entry)) (now (tokens .entry)) (now (memo .entry)) nonterminal from start r (now (memo .exit)) ⌝ }
+{
+    let mut at = from;
+    let mut place = start;
+    while at < words.len() {
+        let word = decode(words[at]);
+        let Word::Symbol(symbol) = word else {
+            return Run {
+                outcome: Outcome::End(place),
+                at,
+            };
+        };
+        match symbol {
+            Symbol::Terminal(terminal) => {
+                if !matches(tokens, place, terminal) {
+                    return Run {
+                        outcome: Outcome::Failed,
+                        at,
+                    };
+                }
+                place = place + 1;
+            }
+            Symbol::Nonterminal(called) => {
+                let outcome = call(called as usize, words, choices, tokens, memo, place);
+                let Outcome::End(end) = outcome else {
+                    return Run {
+                        outcome: Outcome::Failed,
+                        at,
+                    };
+                };
+                place = end;
+            }
+        }
+        at = at + 1;
+    }
+    Run {
+        outcome: Outcome::End(place),
+        at,
+    }
+}
+
+// Calls a nonterminal at a place: recalls its outcome, or runs the bodies of the rule that is chosen and records it.
+pub(crate) fn call(
+    nonterminal: usize,
+    words: &[u32],
+    choices: &[u16; CHOICES],
+    tokens: &[u16; PLACES],
+    memo: &mut [u16],
+    place: u16,
+) -> Outcome
+    requires { ⌜ CallRequires (now words) (now choices) (now tokens) (now memo) nonterminal place ⌝ }
+    ensures { λ r. ⌜ CallEnsures (now (words .entry)) (now (choices .entry)) (now (tokens .entry)) (now (memo .entry)) nonterminal place r (now (memo .exit)) ⌝ }
+{
+    let entry = entry_of(choices, nonterminal, place);
+    let known = memo[entry];
+    if known != UNCALLED {
+        return recall(known);
+    }
+    let mut at = chosen(choices, tokens, nonterminal, place);
+    if at == 0 {
+        memo[entry] = FAILED;
+        return Outcome::Failed;
+    }
+    let mut sign = sign_at(words, at);
+    let mut agreement = first_agreement(choices, nonterminal, sign);
+    while goes_on(sign, agreement) {
+        let run = run_body(nonterminal, words, choices, tokens, memo, at + 1, place);
+        let outcome = run.outcome;
+        agreement = joined(sign, agreement, outcome);
+        at = body_end(words, run.at);
+        sign = sign_at(words, at);
+    }
+    let outcome = conclude(agreement);
+    let recorded = code(outcome);
+    memo[entry] = recorded;
+    outcome
+}

@@ -1,0 +1,40 @@
+// Judging an input in a lent memo table alone, by memoized recursive descent.
+ghost use Rattle.event.specs.Events.{inputOf};
+ghost use Rattle.recognizer_promises.specs.Judging.{JudgesWords};
+use answer::Error;
+use families::Finding;
+use grammar::limits::MEMO_ENTRIES;
+use grammar::limits::TOKENS;
+use input_findings::with_input;
+use judging::judge_passed;
+use judging::refused;
+use lookahead::Lookahead;
+use recognizer_promises::Judgement;
+use table::find;
+
+mod descent;
+mod judging;
+pub mod search;
+
+// Judges the input that the events of a log are by an encoded grammar.
+pub fn judge_words(
+    words: &[u32],
+    lookahead: Lookahead,
+    events: &[u8],
+    memo: &mut [u16],
+) -> Judgement
+    ensures { λ r. ⌜ JudgesWords lookahead (now (words .entry)) (inputOf (now (events .entry))) (now (memo .entry)) r (now (memo .exit)) ⌝ }
+{
+    if memo.len() < MEMO_ENTRIES {
+        return refused(Error::MemoTooShort);
+    }
+    let found = find(words, lookahead);
+    let finding = with_input(found.finding, events, TOKENS);
+    match finding {
+        Finding::Refused(error) => refused(error),
+        Finding::Passed(sizes) => {
+            let answer = judge_passed(words, sizes, lookahead, &found.entries, events, memo);
+            Judgement { answer, found }
+        }
+    }
+}

@@ -1,0 +1,12 @@
+pub mod Outcomes
+pub mod Ends
+pub mod Results
+pub mod BodyVerdict
+pub mod Verdict
+pub mod Predictive
+pub mod Measure
+pub mod Range
+pub mod Called
+pub mod Plan
+pub mod Written
+pub mod Memo

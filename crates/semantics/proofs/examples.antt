@@ -1,0 +1,5 @@
+pub mod Check
+pub mod Computing
+pub mod ExamplesValuations
+pub mod ExamplesMemo
+pub mod ExamplesTables

@@ -1,0 +1,11 @@
+pub mod LookaheadSets
+pub mod First
+pub mod FirstNullable
+pub mod Productive
+pub mod Follow
+pub mod Concatenation
+pub mod FollowCuts
+pub mod Positions
+pub mod Claims
+pub mod Columns
+pub mod FirstSound

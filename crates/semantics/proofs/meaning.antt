@@ -1,0 +1,4 @@
+pub mod Nullable
+pub mod LeftRecursion
+pub mod Rank
+pub mod Unique

@@ -1,4 +1,0 @@
-pub mod Narrowing
-pub mod Enough
-pub mod Refusals
-pub mod Theorems

@@ -1,0 +1,3 @@
+pub mod Descents
+pub mod Tables
+pub mod Rows
