@@ -110,7 +110,8 @@ module _ {k : Lookahead} {words : List ℕ} {z : Sizes} {starts meets follows : 
       same : {x y : Rule} → some x ≡ some y → x ≡ y
       same e = cc
 
-      all : (f : Rule → ℕ) {l : List ℕ} → ByRules (z .rules) l → ((q : ℕ) → q < z .rules → getD l q 0 ≡ f (ruleNumbered words q)) → l ≡ byRule (map f (grammarOf words .rules))
+      all : (f : Rule → ℕ) {l : List ℕ} → ByRules (z .rules) l → ((q : ℕ) → q < z .rules → getD l q 0 ≡ f (ruleNumbered words q))
+          → l ≡ byRule (map f (grammarOf words .rules))
       all f room each =
           by-rule-is f (grammarOf words .rules) (omega (arith, known .rules, known .fewRules)) (rw (known .rules) at room)
           (λ q r s.

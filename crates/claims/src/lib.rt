@@ -16,8 +16,8 @@ use word::decode;
 
 mod overruns;
 
-// What is found of an encoded grammar: its sizes, or why it is refused; where its rules begin; its sets; for each rule its head and the set that it claims for
-// it; and for each nonterminal the first terminal's set where it overruns. Zeros stand elsewhere, and where the grammar is refused.
+// What is found of an encoded grammar: its sizes, or why it is refused; where its rules begin; its sets; for each rule its head and the set that it
+// claims for it; and for each nonterminal the first terminal's set where it overruns. Zeros stand elsewhere, and where the grammar is refused.
 pub struct Claims {
     pub finding: Finding,
     pub starts: [usize; RULES],
@@ -40,7 +40,8 @@ fn keep_claims<'a>(
     sets: &mut [u64; RULES],
     lookahead: Lookahead,
 )
-    requires { ⌜ FamiliesGiven lookahead (now words) sizes (now starts) (now meets) (now follows) × ByRules (sizes .rules) (now heads) × ByRules (sizes .rules) (now sets) ⌝ }
+    requires { ⌜ FamiliesGiven lookahead (now words) sizes (now starts) (now meets) (now follows)
+        × ByRules (sizes .rules) (now heads) × ByRules (sizes .rules) (now sets) ⌝ }
     ensures { λ _. ⌜ AllKept lookahead (grammarOf (now (words .entry))) (now (heads .exit)) (now (sets .exit)) ⌝ }
 {
     let mut rule = 0;

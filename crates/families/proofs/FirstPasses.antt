@@ -1,21 +1,20 @@
 -- What the positives of a rule can all begin with, by its words from their end, and the more the larger the family.
-use mathlib.Core.Path.{_≡_, refl, sym, ap, _∙_}
+use mathlib.Core.Path.{_≡_, refl, _∙_}
 use mathlib.Core.List.{List, [], _∷_}
-use Prim.Native.Nat.{ℕ, zero, suc, _+_, _-_, _≤_, _<_}
+use Prim.Native.Nat.{ℕ, _+_, _-_}
 use native.Mathlib.Omega.{arith}
 use denote.Enum.Declared.{tagOf}
 use types.Run.{OneOf, miss}
-use lib.ListN.{length, getD, take, drop, drop-of-length-le}
+use lib.ListN.{length, take, drop}
 use lib.Seq.{drop-cons}
 use Rattle.word.proofs.Word.{the-type}
 use Rattle.word.specs.declared.Symbol.{Symbol as GrammarSymbol}
 use Rattle.word.specs.declared.Symbol.the-variants.{Terminal, Nonterminal}
 use Rattle.word.specs.declared.Word.{Word}
 use Rattle.word.specs.declared.Word.the-variants.{Heading, Rule as RuleWord, Positive, Negative, Symbol, End, Invalid}
-use Rattle.word.specs.Words.{decoded}
 use Rattle.grammar.specs.Limits.{maxNonterminals}
 use Rattle.grammar.specs.Syntax.{Body, Rule}
-use Rattle.grammar.specs.Encoding.{Parsed, onWord, parse}
+use Rattle.grammar.specs.Encoding.{Parsed, onWord}
 use Rattle.grammar.specs.WellRead.{firstRule}
 use Rattle.grammar.proofs.EachIndex.{Behind}
 use Rattle.lookahead.specs.declared.Lookahead.{Lookahead}
@@ -25,11 +24,11 @@ use Rattle.lookahead.proofs.Order.{subset-refl, meet-mono}
 use Rattle.lookahead.proofs.Concat.{concat-mono}
 use Rattle.families.specs.declared.Rest.{Rest}
 use Rattle.families.specs.Least.{SetFamily, at, lookup, Under}
-use Rattle.families.specs.First.{symbolFirst, bodyFirst, ruleFirst, sets, restOf, noRest, closedMeet, insideWord, insideWords}
-use Rattle.families.specs.Rules.{ruleFrom, Inside, RuleWords}
+use Rattle.families.specs.First.{symbolFirst, bodyFirst, ruleFirst, sets, restOf, noRest, closedMeet, insideWord}
+use Rattle.families.specs.Rules.{fromEnd, ruleFrom, Inside, RuleWords}
 use Rattle.families.proofs.ArrayLookup.{lookup-at}
 use Rattle.families.proofs.HeadPasses.{Larger}
-use Rattle.families.proofs.Inner.{word-inside}
+use Rattle.families.proofs.Inner.{made-inside}
 
 -- larger families give larger first sets
 module _ (k : Lookahead) (F G : SetFamily) (u : Under F G) where
@@ -86,49 +85,17 @@ ruleGives k t F r = ruleFirst k t F (r .positives)
 pub rule-larger : (k : Lookahead) (t : ℕ) → Larger (ruleGives k t)
 rule-larger k t F G u r = rule-mono k F G u t (r .positives)
 
--- words are put in front one by one
-module _ (k : Lookahead) (F : SetFamily) (rest₀ : Rest) (words : List ℕ) where
-  pub none-inside : {rest : Rest} → rest ≡ rest₀ → rest ≡ insideWords k F rest₀ (drop (length words) words)
-  unfolding insideWords
-  none-inside e = rw (drop-of-length-le words {i = length words} (omega arith)) e
-
-  pub one-inside : {rest next : Rest} {i : ℕ} {w : Word} → rest ≡ insideWords k F rest₀ (drop i words) → 0 < i → i ≤ length words
-      → w ≡ decoded (getD words (i - 1) 0) → next ≡ insideWord k F w rest → next ≡ insideWords k F rest₀ (drop (i - 1) words)
-  unfolding insideWords
-  one-inside {i = i} {w} r h b e o =
-      let here : suc (i - 1) ≡ i = omega arith in
-      let front : drop (i - 1) words ≡ getD words (i - 1) 0 ∷ drop i words =
-      drop-cons words (i - 1) 0 (omega arith) ∙ ap (λ (n : ℕ). getD words (i - 1) 0 ∷ drop n words) here in
-      o ∙ ap (insideWord k F w) r ∙ ap (λ x. insideWord k F x (insideWords k F rest₀ (drop i words))) e ∙ sym (ap (insideWords k F rest₀) front)
-
-  pub all-inside : {rest : Rest} {i : ℕ} → rest ≡ insideWords k F rest₀ (drop i words) → i ≤ 0 → rest ≡ insideWords k F rest₀ words
-  all-inside {i = i} r h = let first : i ≡ 0 = omega arith in rw first at r
-
 -- the words of a rule, from their end
-module _ {words : List ℕ} {start end : ℕ} (g : RuleWords words start end) (k : Lookahead) (t : ℕ) (F : SetFamily) where
-  words-from : (n i : ℕ) → i + n ≡ end → start < i → insideWords k F (noRest k t) (take n (drop i words)) ≡ restOf k t F (parse (drop i words))
-  unfolding insideWords bodyFirst ruleFirst
-  words-from zero i e h =
-      let last : i ≡ end = omega arith in
-      rw (last, g .ended .body, g .ended .positives)
-  words-from (suc n) i e h =
-      let here : suc i - 1 ≡ i = omega arith in
-      let s = word-inside g (suc i) (omega arith) (omega arith) {w = decoded (getD words i 0)} (rw here refl) in
-      rw (drop-cons words i 0 (omega (arith, g .within)), words-from n (suc i) (omega arith) (omega arith))
-      (inside-word k t F (decoded (getD words i 0)) (parse (drop (suc i) words)) (s .inside) (s .behind)
-      ∙ ap (restOf k t F) (sym (rw (here, drop-cons words i 0 (omega (arith, g .within))) at (s .here))))
-
-  rule-words : insideWords k F (noRest k t) (take (end - (start + 1)) (drop (start + 1) words)) .meet .bits ≡ ruleGives k t F (ruleFrom words start)
-  unfolding firstRule
-  rule-words =
-      let next : start + 1 ≡ suc start = omega arith in
-      rw (
-        next,
-        words-from (end - suc start) (suc start) (omega (arith, g .some)) (omega arith),
-        drop-cons words start 0 (omega (arith, g .some, g .within)),
-      )
+rule-words : {words : List ℕ} {start end : ℕ} → RuleWords words start end → (k : Lookahead) (t : ℕ) (F : SetFamily)
+    → fromEnd (insideWord k F) (noRest k t) (take (end - (start + 1)) (drop (start + 1) words)) .meet .bits ≡ ruleGives k t F (ruleFrom words start)
+unfolding firstRule bodyFirst ruleFirst
+rule-words {words} {start} g k t F =
+    rw (
+      made-inside (insideWord k F) (restOf k t F) g (λ w p i n b. inside-word k t F w p i b) {x₀ = noRest k t} (rw (g .ended .body, g .ended .positives)),
+      drop-cons words start 0 (omega (arith, g .some, g .within)),
+    )
 
 -- what `rule_first` returns
 pub rule-given : {words : List ℕ} {start end : ℕ} → RuleWords words start end → (k : Lookahead) (t : ℕ) (l : List ℕ) {v : ℕ} → length l ≡ maxNonterminals
-    → v ≡ insideWords k (lookup l) (noRest k t) (take (end - (start + 1)) (drop (start + 1) words)) .meet .bits → v ≡ ruleGives k t (at l) (ruleFrom words start)
+    → v ≡ fromEnd (insideWord k (lookup l)) (noRest k t) (take (end - (start + 1)) (drop (start + 1) words)) .meet .bits → v ≡ ruleGives k t (at l) (ruleFrom words start)
 rule-given g k t l long e = e ∙ rw (lookup-at l long) (rule-words g k t (at l))

@@ -1,11 +1,10 @@
 -- The flaws that are found in the arrays of a grammar's sets are those of the grammar: left recursion, and empty first sets.
-use mathlib.Core.Path.{_≡_, sym, _∙_}
-use mathlib.Core.Bool.{true, false}
+use mathlib.Core.Path.{_≡_, _∙_}
 use mathlib.Core.List.{List}
 use Prim.Native.Nat.{ℕ, _≤_, _<_, min}
 use native.Mathlib.Nat.{min-eq-left}
 use native.Mathlib.Omega.{arith}
-use lib.Dec.{T, ltb, lt→ltb}
+use lib.Dec.{ltb, lt→ltb}
 use Rattle.base.specs.Quantifiers.{lowest}
 use Rattle.base.proofs.Booleans.{T-true, T-none, true-T, both}
 use Rattle.grammar.specs.Encoding.{grammarOf}

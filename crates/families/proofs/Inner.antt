@@ -1,15 +1,16 @@
 -- A word inside a rule, before an index: what stands there, and what stands behind it.
-use mathlib.Core.Path.{_≡_, sym, ap, _∙_}
+use mathlib.Core.Path.{_≡_, refl, sym, ap, _∙_}
 use mathlib.Core.List.{List}
-use Prim.Native.Nat.{ℕ, suc, _+_, _-_, _≤_, _<_}
+use Prim.Native.Nat.{ℕ, zero, suc, _+_, _-_, _≤_, _<_}
 use native.Mathlib.Omega.{arith}
-use lib.ListN.{length, getD, drop}
+use lib.ListN.{length, getD, take, drop}
+use lib.Seq.{drop-cons}
 use Rattle.word.specs.declared.Word.{Word}
 use Rattle.word.specs.Words.{decoded}
-use Rattle.grammar.specs.Encoding.{onWord, parse}
+use Rattle.grammar.specs.Encoding.{Parsed, onWord, parse}
 use Rattle.grammar.proofs.EachIndex.{Behind, read-place}
 use Rattle.families.specs.Naming.{Indexed}
-use Rattle.families.specs.Rules.{Inside, RuleWords}
+use Rattle.families.specs.Rules.{fromEnd, Inside, RuleWords}
 use Rattle.families.proofs.NamedNonterminals.{before-indexed}
 use Rattle.families.proofs.Words.{parse-before}
 
@@ -30,3 +31,20 @@ word-inside {words} k i h u {w} e =
       indexed = before-indexed words (k .read) (omega arith) (omega (arith, k .within)) e;
       behind = rw (← e, n) at (read-place words (k .sizes) (k .read) (i - 1) b .behind);
     }
+
+-- what is made of a rule's words from their end, step by step as the words are parsed
+module _ {X : Type 0} (f : Word → X → X) (made : Parsed → X) {words : List ℕ} {start end : ℕ} (k : RuleWords words start end)
+    (step : (w : Word) (p : Parsed) → Inside w → Indexed w → Behind w p → f w (made p) ≡ made (onWord w p)) where
+  made-from : {x₀ : X} → x₀ ≡ made (parse (drop end words)) → (n i : ℕ) → i + n ≡ end → start < i → fromEnd f x₀ (take n (drop i words)) ≡ made (parse (drop i words))
+  unfolding fromEnd
+  made-from e zero i s h = let last : i ≡ end = omega arith in rw last e
+  made-from e (suc n) i s h =
+      let w = decoded (getD words i 0) in
+      let front = drop-cons words i 0 (omega (arith, k .within)) in
+      let here : suc i - 1 ≡ i = omega arith in
+      let m = word-inside k (suc i) (omega arith) (omega arith) {w = decoded (getD words i 0)} (rw here refl) in
+      rw (front, made-from e n (suc i) (omega arith) (omega arith))
+      (step w (parse (drop (suc i) words)) (m .inside) (m .indexed) (m .behind) ∙ ap made (sym (rw (here, front) at (m .here))))
+
+  pub made-inside : {x₀ : X} → x₀ ≡ made (parse (drop end words)) → fromEnd f x₀ (take (end - (start + 1)) (drop (start + 1) words)) ≡ made (parse (drop (suc start) words))
+  made-inside e = let next : start + 1 ≡ suc start = omega arith in rw next (made-from e (end - suc start) (suc start) (omega (arith, k .some)) (omega arith))

@@ -2,23 +2,22 @@
 use mathlib.Core.Path.{_≡_, refl, ap, _∙_}
 use mathlib.Core.Bool.{Bool, true, false}
 use mathlib.Core.List.{List, [], _∷_, _++_}
-use Prim.Native.Nat.{ℕ, suc, _+_, _-_, _≤_, _<_}
+use Prim.Native.Nat.{ℕ, _+_, _-_, _≤_, _<_}
 use native.Mathlib.Omega.{arith}
 use denote.Enum.Declared.{tagOf}
 use types.Run.{OneOf, miss}
-use lib.ListN.{getD, drop}
+use lib.ListN.{take, drop}
 use lib.Seq.{drop-cons}
-use borrow.Author.Tests.{lt-ltb}
+use borrow.Author.Tests.{lt-ltb, le-ltb}
 use Rattle.word.proofs.Word.{the-type}
 use Rattle.word.specs.declared.Symbol.{Symbol as GrammarSymbol}
 use Rattle.word.specs.declared.Symbol.the-variants.{Terminal, Nonterminal}
 use Rattle.word.specs.declared.Word.{Word}
 use Rattle.word.specs.declared.Word.the-variants.{Heading, Rule as RuleWord, Positive, Negative, Symbol, End, Invalid}
 use Rattle.base.specs.Choice.{choose}
-use Rattle.word.specs.Words.{decoded}
 use Rattle.grammar.specs.Limits.{maxNonterminals}
 use Rattle.grammar.specs.Syntax.{Body, Rule, bodies}
-use Rattle.grammar.specs.Encoding.{Parsed, onWord, parse}
+use Rattle.grammar.specs.Encoding.{Parsed, onWord}
 use Rattle.grammar.specs.WellRead.{firstRule}
 use Rattle.grammar.proofs.EachIndex.{Behind}
 use Rattle.lookahead.specs.Elements.{weight, Subset}
@@ -27,11 +26,11 @@ use Rattle.lookahead.proofs.Order.{subset-refl, subset-antisym, join-left, join
 use Rattle.base.specs.Rounds.{NumberSet}
 use Rattle.families.specs.declared.Left.{Left}
 use Rattle.families.specs.Least.{SetFamily, Under}
-use Rattle.families.specs.Left.{symbolLeft, bodyLeft, bodiesLeft, lefts, leftOf, insideLeft}
-use Rattle.families.specs.Naming.{Indexed}
+use Rattle.families.specs.Left.{symbolLeft, bodyLeft, bodiesLeft, lefts, leftOf, ownLeft, insideLeft}
+use Rattle.families.specs.Naming.{IndexedSymbol, Indexed}
 use Rattle.families.specs.Nonterminals.{alone, Alone}
-use Rattle.families.specs.Rules.{ruleFrom, Inside, RuleWords}
-use Rattle.families.proofs.Inner.{word-inside}
+use Rattle.families.specs.Rules.{fromEnd, ruleFrom, Inside, RuleWords}
+use Rattle.families.proofs.Inner.{made-inside}
 use Rattle.families.proofs.HeadPasses.{Larger}
 
 -- larger families have more at the left
@@ -81,33 +80,41 @@ unfolding alone
 left-alone {A} a h = a .is ∙ rw (lt-ltb A maxNonterminals h)
 
 module _ (s : NumberSet) (R : SetFamily) {X : GrammarSymbol} (behind : ℕ) where
-  pub left-terminal : {a x : ℕ} → X ≡ Terminal a → Empty x → x ≡ symbolLeft s R X behind
-  unfolding symbolLeft
+  pub left-terminal : {a x : ℕ} → X ≡ Terminal a → Empty x → x ≡ ownLeft s R X behind
   left-terminal e n = n .is ∙ rw e
+
+  pub left-none : {A x : ℕ} → X ≡ Nonterminal A → maxNonterminals ≤ A → Empty x → x ≡ ownLeft s R X behind
+  left-none {A} e h n = n .is ∙ rw (e, le-ltb A maxNonterminals h)
 
   module _ {A a x own : ℕ} (e : X ≡ Nonterminal A) (i : A < maxNonterminals) (alone : Alone A a) (f : x ≡ R A) (j : Joined a x own) where
     is : own ≡ join (weight A) (R A)
     is = j .is ∙ rw (left-alone alone i, f)
 
-    pub left-on : {r : ℕ} → s A ≡ true → Joined own behind r → r ≡ symbolLeft s R X behind
+    pub left-on : {r : ℕ} → s A ≡ true → Joined own behind r → r ≡ ownLeft s R X behind
     unfolding symbolLeft
-    left-on t k = k .is ∙ rw (e, is, t)
+    left-on t k = k .is ∙ rw (e, lt-ltb A maxNonterminals i, is, t)
 
-    pub left-stop : s A ≡ false → own ≡ symbolLeft s R X behind
+    pub left-stop : s A ≡ false → own ≡ ownLeft s R X behind
     unfolding symbolLeft
-    left-stop t = is ∙ rw (e, t)
+    left-stop t = is ∙ rw (e, lt-ltb A maxNonterminals i, t)
+
+-- a symbol that is named has a set
+own-symbol : (s : NumberSet) (R : SetFamily) (X : GrammarSymbol) (behind : ℕ) → IndexedSymbol X → ownLeft s R X behind ≡ symbolLeft s R X behind
+unfolding symbolLeft
+own-symbol s R (Terminal a) behind i = refl
+own-symbol s R (Nonterminal A) behind i = rw (lt-ltb A maxNonterminals i)
 
 -- inside a rule it is enough to tell symbols
-pub inside-left : (s : NumberSet) (R : SetFamily) (w : Word) (p : Parsed) → Inside w → Behind w p
+inside-left : (s : NumberSet) (R : SetFamily) (w : Word) (p : Parsed) → Inside w → Indexed w → Behind w p
     → insideLeft s R w (leftOf s R p) ≡ leftOf s R (onWord w p)
 unfolding onWord bodyLeft bodiesLeft
-inside-left s R (Symbol X) p i b = refl
-inside-left s R Positive p i b = refl
-inside-left s R Negative p i b = ap (lefts 0) (bodies-between s R (p .positives) (p .body) (p .negatives))
-inside-left s R End p i b = rw (b .body, b .positives, b .negatives) (ap (lefts 0) (join-same empty empty (subset-refl empty)))
-inside-left s R (RuleWord A) p i b = absurd i
-inside-left s R (Heading m n) p i b = absurd i
-inside-left s R Invalid p i b = absurd i
+inside-left s R (Symbol X) p i n b = ap (λ x. lefts x (bodiesLeft s R (p .positives ++ p .negatives))) (own-symbol s R X (bodyLeft s R (p .body)) n)
+inside-left s R Positive p i x b = refl
+inside-left s R Negative p i x b = ap (lefts 0) (bodies-between s R (p .positives) (p .body) (p .negatives))
+inside-left s R End p i x b = rw (b .body, b .positives, b .negatives) (ap (lefts 0) (join-same empty empty (subset-refl empty)))
+inside-left s R (RuleWord A) p i x b = absurd i
+inside-left s R (Heading m n) p i x b = absurd i
+inside-left s R Invalid p i x b = absurd i
 
 -- what `inside_left` returns for a word that is no symbol
 pub left-closed : (s : NumberSet) (R : SetFamily) (w : Word) {left : Left} {x y : ℕ} → OneOf (0 ∷ 1 ∷ 2 ∷ 3 ∷ 5 ∷ 6 ∷ []) (tagOf the-type w) → Empty x
@@ -127,33 +134,12 @@ ruleLeft s R r = bodiesLeft s R (bodies r)
 pub rule-larger : (s : NumberSet) → Larger (ruleLeft s)
 rule-larger s F G u r = bodies-mono s F G u (bodies r)
 
--- the words of a rule, from their end: those from i on have been gone through
-pub record LeftWalk (s : NumberSet) (R : SetFamily) (words : List ℕ) (start end : ℕ) (left : Left) (i : ℕ) : Type 0 where
-  pub low : start < i
-  pub high : i ≤ end
-  pub is : left ≡ leftOf s R (parse (drop i words))
-
-module _ {words : List ℕ} {start end : ℕ} (k : RuleWords words start end) where
-  pub walk-start : (s : NumberSet) (R : SetFamily) {left : Left} → left ≡ lefts 0 0 → LeftWalk s R words start end left end
-  unfolding bodyLeft bodiesLeft
-  walk-start s R e = record { low = k .some; high = omega arith; is = rw (k .ended .body, k .ended .positives, k .ended .negatives) e }
-
-  module _ {s : NumberSet} {R : SetFamily} {left : Left} {i : ℕ} (v : LeftWalk s R words start end left i) where
-    pub walk-indexed : {w : Word} → start + 1 < i → w ≡ decoded (getD words (i - 1) 0) → Indexed w
-    walk-indexed h e = word-inside k i h (v .high) e .indexed
-
-    pub walk-turn : {next : Left} {w : Word} → start + 1 < i → w ≡ decoded (getD words (i - 1) 0) → next ≡ insideLeft s R w left
-        → LeftWalk s R words start end next (i - 1)
-    walk-turn {w = w} h e o =
-        let n = word-inside k i h (v .high) e in
-        record {
-          low = omega arith;
-          high = omega (arith, v .high);
-          is = rw (n .here) (o ∙ ap (insideLeft s R w) (v .is) ∙ inside-left s R w (parse (drop i words)) (n .inside) (n .behind));
-        }
-
-    pub walk-end : i ≤ start + 1 → left .rule .bits ≡ ruleLeft s R (ruleFrom words start)
-    unfolding firstRule
-    walk-end h =
-        let e : i ≡ suc start = omega (arith, v .low) in
-        rw (v .is, e, drop-cons words start 0 (omega (arith, k .some, k .within)))
+-- what `rule_left` returns: the words of a rule, from their end
+pub rule-given : {words : List ℕ} {start end : ℕ} → RuleWords words start end → (s : NumberSet) (R : SetFamily) {v : ℕ}
+    → v ≡ fromEnd (insideLeft s R) (lefts empty empty) (take (end - (start + 1)) (drop (start + 1) words)) .rule .bits → v ≡ ruleLeft s R (ruleFrom words start)
+unfolding firstRule bodyLeft bodiesLeft
+rule-given {words} {start} g s R e =
+    e ∙ rw (
+      made-inside (insideLeft s R) (leftOf s R) g (inside-left s R) {x₀ = lefts empty empty} (rw (g .ended .body, g .ended .positives, g .ended .negatives)),
+      drop-cons words start 0 (omega (arith, g .some, g .within)),
+    )

@@ -8,7 +8,6 @@ use Rattle.word.specs.declared.Symbol.{Symbol as GrammarSymbol}
 use Rattle.word.specs.declared.Symbol.the-variants.{Terminal, Nonterminal}
 use Rattle.word.specs.declared.Word.{Word}
 use Rattle.word.specs.declared.Word.the-variants.{Heading, Rule as RuleWord, Positive, Negative, Symbol, End, Invalid}
-use Rattle.word.specs.Words.{decoded}
 use Rattle.grammar.specs.Syntax.{Body, Rule}
 use Rattle.grammar.specs.Encoding.{Parsed}
 use Rattle.grammar.specs.Starts.{ruleStarts}
@@ -66,11 +65,6 @@ insideWord k F End rest = sets (end k) (rest .meet .bits)
 insideWord k F (RuleWord A) rest = sets (end k) (rest .meet .bits)
 insideWord k F (Heading m n) rest = sets (end k) (rest .meet .bits)
 insideWord k F Invalid rest = sets (end k) (rest .meet .bits)
-
--- the same with all words inside a rule, from their end
-unfoldable pub insideWords : Lookahead → SetFamily → Rest → List ℕ → Rest
-insideWords k F rest [] = rest
-insideWords k F rest (w ∷ ws) = insideWord k F (decoded w) (insideWords k F rest ws)
 
 -- what a pass leaves for n rules: where no set has grown, what the positives of each can all begin with
 pub record Met (k : Lookahead) (t : ℕ) (words : List ℕ) (n : ℕ) (firsts meets : List ℕ) (grown : Bool) : Type 0 where

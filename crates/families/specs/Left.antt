@@ -1,11 +1,13 @@
 -- Left recursion in numbers: what a nonterminal left-reaches is a set in which B weighs 2^B.
 use mathlib.Core.List.{List, [], _∷_, _++_, List·Memᴰ}
 use Prim.Native.Nat.{ℕ}
+use lib.Dec.{ltb}
 use Rattle.word.specs.declared.Symbol.{Symbol as GrammarSymbol}
 use Rattle.word.specs.declared.Symbol.the-variants.{Terminal, Nonterminal}
 use Rattle.word.specs.declared.Word.{Word}
 use Rattle.word.specs.declared.Word.the-variants.{Heading, Rule as RuleWord, Positive, Negative, Symbol, End, Invalid}
 use Rattle.base.specs.Choice.{choose}
+use Rattle.grammar.specs.Limits.{maxNonterminals}
 use Rattle.grammar.specs.Syntax.{Body, Rule, bodies}
 use Rattle.grammar.specs.Encoding.{Parsed}
 use Rattle.lookahead.specs.declared.Lookahead.{Lookahead}
@@ -44,9 +46,14 @@ lefts b r = record { body = record { bits = b }; rule = record { bits = r } }
 abbrev pub leftOf : NumberSet → SetFamily → Parsed → Left
 leftOf s R p = lefts (bodyLeft s R (p .body)) (bodiesLeft s R (p .positives ++ p .negatives))
 
--- the same with a word in front, inside a rule: a symbol, or what ends the body before it
+-- a symbol in front, where there is a set for it
+abbrev pub ownLeft : NumberSet → SetFamily → GrammarSymbol → ℕ → ℕ
+ownLeft s R (Terminal a) behind = empty
+ownLeft s R (Nonterminal A) behind = choose (ltb A maxNonterminals) (symbolLeft s R (Nonterminal A) behind) empty
+
+-- a word inside a rule in front: a symbol, or what ends the body before it
 abbrev pub insideLeft : NumberSet → SetFamily → Word → Left → Left
-insideLeft s R (Symbol X) left = lefts (symbolLeft s R X (left .body .bits)) (left .rule .bits)
+insideLeft s R (Symbol X) left = lefts (ownLeft s R X (left .body .bits)) (left .rule .bits)
 insideLeft s R Positive left = lefts empty (join (left .body .bits) (left .rule .bits))
 insideLeft s R Negative left = lefts empty (join (left .body .bits) (left .rule .bits))
 insideLeft s R End left = lefts empty (join (left .body .bits) (left .rule .bits))

@@ -1,7 +1,7 @@
 -- The rules of a grammar that has been read, as passes over them go: in which order, and where the words of each stand.
 use mathlib.Core.Path.{_≡_}
 use mathlib.Core.Bool.{Bool, true, false}
-use mathlib.Core.List.{List, []}
+use mathlib.Core.List.{List, [], _∷_}
 use Prim.Native.Nat.{ℕ, suc, _-_, _≤_, _<_}
 use lib.ListN.{length, getD, drop}
 use Rattle.word.specs.declared.Word.{Word}
@@ -24,6 +24,11 @@ turnOf false rules passed = rules - suc passed
 -- the rule that begins at an index
 abbrev pub ruleFrom : List ℕ → ℕ → Rule
 ruleFrom words start = firstRule (drop start words)
+
+-- a row of words gone through from its end
+unfoldable pub fromEnd : {X : Type 0} → (Word → X → X) → X → List ℕ → X
+fromEnd f x [] = x
+fromEnd f x (w ∷ ws) = f (decoded w) (fromEnd f x ws)
 
 -- of a rule that began before, nothing is left
 pub record Ended (p : Parsed) : Type 0 where

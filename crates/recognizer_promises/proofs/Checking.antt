@@ -16,6 +16,7 @@ use Rattle.answer.specs.declared.Answer.{Answer}
 use Rattle.answer.specs.declared.Answer.the-variants.{Refused, Passed}
 use Rattle.grammar.specs.Syntax.{Grammar}
 use Rattle.grammar.specs.Encoding.{grammarOf}
+use Rattle.grammar.specs.Starts.{ruleStarts}
 use Rattle.grammar.specs.Reading.{reading}
 use Rattle.grammar.specs.declared.reading.Sizes.{Sizes}
 use Rattle.grammar.specs.declared.reading.Outcome.{Outcome}
@@ -43,13 +44,14 @@ use Rattle.families.proofs.FewTerminals.{few-terminals}
 use Rattle.table.specs.declared.Found.{Found}
 use Rattle.table.specs.Layout.{tableWords, tableRoom}
 use Rattle.table.specs.Entries.{entriesOf}
-use Rattle.families.specs.Analysis.{readingFault, leftFault, unproductiveFault, findingOf}
+use Rattle.families.specs.Analysis.{readingFault, leftFault, unproductiveFault, setsFault, findingOf, startsIf}
 use Rattle.families.proofs.Findings.{read-some, told-passed, told-refused}
 use Rattle.table.specs.Analysis.{clashFault, grammarFaults, fault, entriesIf, foundOf}
 use Rattle.table.specs.Conflicts.{firstClash}
 use Rattle.table.specs.declared.conflicts.Conflict.{Conflict}
 use Rattle.table.specs.declared.conflicts.Conflict.the-variants.{Absent, At}
 use Rattle.table.proofs.FirstClash.{clash-absent}
+use Rattle.table.proofs.Analyzing.{none-sets}
 use Rattle.promises.specs.Memory.{lentBack}
 use Rattle.recognizer_promises.specs.Answers.{tableTooShort, checkFaultBy}
 use Rattle.recognizer_promises.specs.Judging.{EntriesFound}
@@ -199,22 +201,24 @@ module _ (k : Lookahead) where
   check-short {words} {before} h = checks (rw (lt-ltb (length before) (tableRoom k) h)) (rw (lt-ltb (length before) (tableRoom k) h))
 
 -- what is found of an encoded grammar tells
-pub record Told (k : Lookahead) (words : List ℕ) (f : Finding) (entries : List ℕ) : Type 0 where
+pub record Told (k : Lookahead) (words : List ℕ) (f : Finding) (starts entries : List ℕ) : Type 0 where
   pub finding : f ≡ findingOf (fault k words) (admission k words)
+  pub begins : starts ≡ startsIf (setsFault k words) (ruleStarts words)
   pub entered : entries ≡ entriesIf (fault k words) (entriesOf k (grammarOf words))
 
-pub told : (k : Lookahead) (words : List ℕ) {r : Found} → r ≡ foundOf k words → Told k words (r .finding) (r .entries)
+pub told : (k : Lookahead) (words : List ℕ) {r : Found} → r ≡ foundOf k words → Told k words (r .finding) (r .starts) (r .entries)
 unfolding foundOf
-told k words e = record { finding = ap (λ y. y .finding) e; entered = ap (λ y. y .entries) e }
+told k words e = record { finding = ap (λ y. y .finding) e; begins = ap (λ y. y .starts) e; entered = ap (λ y. y .entries) e }
 
-module _ {k : Lookahead} {words : List ℕ} {f : Finding} {entries : List ℕ} (t : Told k words f entries) where
-  -- where no fault is found, the sizes and the entries are
-  pub found : {z : Sizes} → f ≡ finding.Passed z → EntriesFound k words z entries
+module _ {k : Lookahead} {words : List ℕ} {f : Finding} {starts entries : List ℕ} (t : Told k words f starts entries) where
+  -- where no fault is found, the sizes, the starts of the rules and the entries are
+  pub found : {z : Sizes} → f ≡ finding.Passed z → EntriesFound k words z starts entries
   found q =
       let m = told-passed (fault k words) (admission k words) (sym (t .finding) ∙ q) in
       record {
         taken = m .1;
         faultless = m .0;
+        begins = t .begins ∙ ap (λ y. startsIf y (ruleStarts words)) (none-sets k words (m .0));
         entered = t .entered ∙ ap (λ y. entriesIf y (entriesOf k (grammarOf words))) (m .0);
       }
 

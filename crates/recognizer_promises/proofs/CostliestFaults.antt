@@ -113,7 +113,7 @@ module _ (words : List ℕ) (k : ℕ) (log memo : List ℕ) where
         abbrev faults : ℕ → List (Option Error)
         faults n = lengthFaults n k
 
-        abbrev known : Told One words (found .finding) (found .entries)
+        abbrev known : Told One words (found .finding) (found .starts) (found .entries)
         known = told One words e
 
         pub found-refused : {x : Error} → f ≡ finding.Refused x → {r : Judgement} → r ≡ refusedWith x → SearchesWords words k log memo r log memo
@@ -127,7 +127,7 @@ module _ (words : List ℕ) (k : ℕ) (log memo : List ℕ) where
           both : PassedWith (found .finding) faults z
           both = with-passed (found .finding) faults (sym q ∙ p)
 
-          entries-found : EntriesFound One words z (found .entries)
+          entries-found : EntriesFound One words z (found .starts) (found .entries)
           entries-found = found-entries known (both .grammar)
 
           read : WellRead words z
@@ -142,10 +142,11 @@ module _ (words : List ℕ) (k : ℕ) (log memo : List ℕ) where
           pub part-length : length (take k log) ≡ k
           part-length = length-take-le k log part-fits
 
-          pub search-given : SearchGiven words z (found .entries) (take k log) memo
+          pub search-given : SearchGiven words z (found .starts) (found .entries) (take k log) memo
           search-given = record {
             taken = entries-found .taken;
             free = passed-free words (passed-fault-for One words (entries-found .faultless));
+            begins = entries-found .begins;
             entered = entries-found .entered;
             short = omega (arith, part-length, fits .0);
             few = rw part-length (fits .1);

@@ -131,7 +131,7 @@ unfolding memoWordsBy
 memo-count n G input = length-map (allCalls G input) (memoWordBy n G input) ∙ all-length G input
 
 -- a grammar that has passed, and an input of its terminals
-module _ {k : Lookahead} {words entries memo : List ℕ} {z : Sizes} (events : List ℕ) (g : PassedGiven k words z entries (inputOf events) memo) where
+module _ {k : Lookahead} {words starts entries memo : List ℕ} {z : Sizes} (events : List ℕ) (g : PassedGiven k words z starts entries (inputOf events) memo) where
   abbrev input : List ℕ
   input = inputOf events
 
@@ -151,7 +151,7 @@ module _ {k : Lookahead} {words entries memo : List ℕ} {z : Sizes} (events : L
   needed : z .nonterminals * (length events + 1) ≡ pairs (grammarOf words) input
   needed = rw (r .nonterminals, sym (input-length events), add-one (length input))
 
-  pub descend-given : DescendGiven k words z entries input (take (z .nonterminals * (length events + 1)) memo)
+  pub descend-given : DescendGiven k words z starts entries input (take (z .nonterminals * (length events + 1)) memo)
   descend-given = record { ready = g .ready; size = length-take-le (z .nonterminals * (length events + 1)) memo needed-room ∙ needed }
 
   pub judged-passed : {part : List ℕ} {a : Answer} → Descended k words input a part
@@ -165,8 +165,8 @@ module _ {k : Lookahead} {words entries memo : List ℕ} {z : Sizes} (events : L
       }
 
 -- faults that go by the number of terminals are told by that which was found
-pub same-terminals : (k : Lookahead) (words : List ℕ) (faults : ℕ → List (Option Error)) {z : Sizes} {entries : List ℕ} {o : Option Error}
-    → EntriesFound k words z entries → firstFault (faults (z .terminals)) ≡ o → firstFault (faults (grammarOf words .terminals)) ≡ o
+pub same-terminals : (k : Lookahead) (words : List ℕ) (faults : ℕ → List (Option Error)) {z : Sizes} {starts entries : List ℕ} {o : Option Error}
+    → EntriesFound k words z starts entries → firstFault (faults (z .terminals)) ≡ o → firstFault (faults (grammarOf words .terminals)) ≡ o
 same-terminals k words faults {z} m h = rw (← well-read words z (admitted-read k words (m .taken)) .terminals) h
 
 -- judging in the memo table alone: a refusal
@@ -188,7 +188,7 @@ module _ (k : Lookahead) (words input memo : List ℕ) (room : maxMemoEntries �
   abbrev faults : ℕ → List (Option Error)
   faults n = inputFaults n input
 
-  abbrev known : Told k words (found .finding) (found .entries)
+  abbrev known : Told k words (found .finding) (found .starts) (found .entries)
   known = told k words e
 
   pub words-found-refused : {x : Error} → f ≡ finding.Refused x → {r : Judgement} → r ≡ refusedWith x → JudgesWords k words input memo r memo
@@ -204,13 +204,13 @@ module _ (k : Lookahead) (words input memo : List ℕ) (room : maxMemoEntries �
     both : PassedWith (found .finding) faults z
     both = with-passed (found .finding) faults (sym q ∙ p)
 
-    entries-found : EntriesFound k words z (found .entries)
+    entries-found : EntriesFound k words z (found .starts) (found .entries)
     entries-found = found-entries known (both .grammar)
 
     unfaulty : firstFault (inputFaults (grammarOf words .terminals) input) ≡ none
     unfaulty = same-terminals k words faults entries-found (both .faultless)
 
-    pub passed-given : PassedGiven k words z (found .entries) input memo
+    pub passed-given : PassedGiven k words z (found .starts) (found .entries) input memo
     passed-given =
         let m = entries-found in
         let s = faultless-readable (grammarOf words .terminals) input unfaulty in
@@ -218,6 +218,7 @@ module _ (k : Lookahead) (words input memo : List ℕ) (room : maxMemoEntries �
           ready = record {
             taken = m .taken;
             free = passed-free words (passed-fault-for k words (m .faultless));
+            begins = m .begins;
             entered = m .entered;
             tokens = s .1;
             short = s .0;

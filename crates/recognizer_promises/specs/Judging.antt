@@ -10,8 +10,9 @@ use Rattle.answer.specs.declared.Answer.the-variants as answer
 use Rattle.answer.specs.declared.Error.{Error}
 use Rattle.answer.specs.declared.Error.the-variants.{MemoTooShort}
 use Rattle.answer.specs.Faults.{faultIf, firstFault, refusedOr}
-use Rattle.grammar.specs.Limits.{maxNonterminals, maxTokens, maxMemoEntries}
+use Rattle.grammar.specs.Limits.{maxNonterminals, maxRules, maxTokens, maxMemoEntries}
 use Rattle.grammar.specs.Encoding.{grammarOf}
+use Rattle.grammar.specs.Starts.{ruleStarts}
 use Rattle.grammar.specs.declared.reading.Sizes.{Sizes}
 use Rattle.grammar.specs.declared.reading.Outcome.the-variants.{Read}
 use Rattle.lookahead.specs.declared.Lookahead.{Lookahead}
@@ -42,7 +43,7 @@ memoFaultBy k memo words input =
 
 -- what is found of a grammar, unless there is an error
 abbrev pub refusedFound : Error → Found
-refusedFound e = foundWith (Refused e) (replicate maxNonterminals 0) (replicate maxNonterminals 0) noRules
+refusedFound e = foundWith (Refused e) (replicate maxRules 0) (replicate maxNonterminals 0) (replicate maxNonterminals 0) noRules
 
 abbrev pub foundUnless : Option Error → Found → Found
 foundUnless none r = r
@@ -58,23 +59,25 @@ pub record JudgesWords (k : Lookahead) (words input memo : List ℕ) (r : Judgem
   pub grammar : r .found ≡ foundUnless (memoFaultBy k (length memo) words input) (foundOf k words)
   pub lent : memo′ ≡ lentBack (memoFaultBy k (length memo) words input) (memoWordsBy (tokens k) (grammarOf words) input) memo
 
--- what is found of a grammar that passes: its sizes, no fault, and its entries
-pub record EntriesFound (k : Lookahead) (words : List ℕ) (z : Sizes) (entries : List ℕ) : Type 0 where
+-- what is found of a grammar that passes: its sizes, no fault, where its rules begin, and its entries
+pub record EntriesFound (k : Lookahead) (words : List ℕ) (z : Sizes) (starts entries : List ℕ) : Type 0 where
   pub taken : admission k words ≡ Read z
   pub faultless : fault k words ≡ none
+  pub begins : starts ≡ ruleStarts words
   pub entered : entries ≡ entriesOf k (grammarOf words)
 
--- a grammar that passes, with its sizes and its entries, and an input of its terminals
-pub record Ready (k : Lookahead) (words : List ℕ) (z : Sizes) (entries input : List ℕ) : Type 0 where
+-- a grammar that passes, with its sizes, where its rules begin, and its entries; and an input of its terminals
+pub record Ready (k : Lookahead) (words : List ℕ) (z : Sizes) (starts entries input : List ℕ) : Type 0 where
   pub taken : admission k words ≡ Read z
   pub free : NoLeftRecursion (grammarOf words)
+  pub begins : starts ≡ ruleStarts words
   pub entered : entries ≡ entriesOf k (grammarOf words)
   pub tokens : Over (grammarOf words .terminals) input
   pub short : length input ≤ maxTokens
 
 -- and a memo table that is long enough
-pub record PassedGiven (k : Lookahead) (words : List ℕ) (z : Sizes) (entries input memo : List ℕ) : Type 0 where
-  pub ready : Ready k words z entries input
+pub record PassedGiven (k : Lookahead) (words : List ℕ) (z : Sizes) (starts entries input memo : List ℕ) : Type 0 where
+  pub ready : Ready k words z starts entries input
   pub room : maxMemoEntries ≤ length memo
 
 -- the answer is the verdict, and the memo table holds what is defined in front of what was there
@@ -83,8 +86,8 @@ pub record JudgedPassed (k : Lookahead) (words input memo : List ℕ) (r : Answe
   pub lent : memo′ ≡ memoWordsBy (tokens k) (grammarOf words) input ++ drop (length (memoWordsBy (tokens k) (grammarOf words) input)) memo
 
 -- the same in a memo table of just its entries
-pub record DescendGiven (k : Lookahead) (words : List ℕ) (z : Sizes) (entries input memo : List ℕ) : Type 0 where
-  pub ready : Ready k words z entries input
+pub record DescendGiven (k : Lookahead) (words : List ℕ) (z : Sizes) (starts entries input memo : List ℕ) : Type 0 where
+  pub ready : Ready k words z starts entries input
   pub size : length memo ≡ pairs (grammarOf words) input
 
 pub record Descended (k : Lookahead) (words input : List ℕ) (r : Answer) (memo : List ℕ) : Type 0 where

@@ -12,6 +12,7 @@ use Rattle.answer.specs.declared.Error.the-variants.{MemoTooShort, BufferTooSho
 use Rattle.answer.specs.Faults.{faultIf, firstFault, refusedOr}
 use Rattle.grammar.specs.Limits.{maxTokens, maxMemoEntries}
 use Rattle.grammar.specs.Encoding.{grammarOf}
+use Rattle.grammar.specs.Starts.{ruleStarts}
 use Rattle.grammar.specs.declared.reading.Sizes.{Sizes}
 use Rattle.grammar.specs.declared.reading.Outcome.the-variants.{Read}
 use Rattle.lookahead.specs.declared.Lookahead.the-variants.{One}
@@ -45,10 +46,12 @@ pub record SearchesWords (words : List ℕ) (k : ℕ) (log memo : List ℕ) (r :
   pub lent-memo : memo′
       ≡ lentBack (searchFault (length log) (length memo) words k) (memoWords (grammarOf words) (costliestInput (grammarOf words) k)) memo
 
--- a grammar that passes, with its sizes and its entries, room for an input of which there are not too many, and a memo table that is long enough
-pub record SearchGiven (words : List ℕ) (z : Sizes) (entries events memo : List ℕ) : Type 0 where
+-- a grammar that passes, with its sizes, where its rules begin, and its entries; room for an input of which there are not too many; and a memo table that
+-- is long enough
+pub record SearchGiven (words : List ℕ) (z : Sizes) (starts entries events memo : List ℕ) : Type 0 where
   pub taken : admission One words ≡ Read z
   pub free : NoLeftRecursion (grammarOf words)
+  pub begins : starts ≡ ruleStarts words
   pub entered : entries ≡ entriesOf One (grammarOf words)
   pub short : length events ≤ maxTokens
   pub few : z .terminals ^ length events ≤ maxInputs

@@ -55,7 +55,7 @@ blank-sound choice words input = record {
 }
 
 -- the start's call has been made in a blank memo table
-module _ {k : Lookahead} {words : List ℕ} {z : Sizes} {entries memo : List ℕ} (events : List ℕ) (g : DescendGiven k words z entries (inputOf events) memo) where
+module _ {k : Lookahead} {words : List ℕ} {z : Sizes} {starts entries memo : List ℕ} (events : List ℕ) (g : DescendGiven k words z starts entries (inputOf events) memo) where
   r : WellRead words z
   r = well-read words z (admitted-read k words (g .ready .taken))
 
@@ -82,11 +82,11 @@ module _ {k : Lookahead} {words : List ℕ} {z : Sizes} {entries memo : List ℕ
   tokens-given = record { short = g .ready .short; few = rw (r .terminals) (few-terminals k words (g .ready .taken)); known = rw (r .terminals) (g .ready .tokens) }
 
   -- with the arrays that are made before it
-  module _ {columns : ℕ} {starts choices tokens blanked : List ℕ} (m : columns ≡ columnCount k (z .terminals)) (s : starts ≡ ruleStarts words)
+  module _ {columns : ℕ} {choices tokens blanked : List ℕ} (m : columns ≡ columnCount k (z .terminals))
       (c : choices ≡ choicesOf starts (z .nonterminals) columns entries (length events)) (w : tokens ≡ tokensOf k (z .terminals) input)
       (b : blanked ≡ replicate (length memo) uncalledCode) where
     f : Filled (ruleStarts words) (z .nonterminals) (columnCount k (z .terminals)) entries (length input) choices
-    f = rw (c, s, m, long) (rows-filled (g .ready))
+    f = rw (c, g .ready .begins, m, long) (rows-filled (g .ready))
 
     t : TokensHold k (z .terminals) input tokens
     t = rw w (tokens-hold tokens-given)

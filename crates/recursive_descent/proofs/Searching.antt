@@ -49,7 +49,7 @@ verdict-count G w = go (accepts G (tableChoice G 1 w) w)
     go true = refl
     go false = refl
 
-module _ {words : List ℕ} {z : Sizes} {entries events memo : List ℕ} (g : SearchGiven words z entries events memo) where
+module _ {words : List ℕ} {z : Sizes} {starts entries events memo : List ℕ} (g : SearchGiven words z starts entries events memo) where
   abbrev n : ℕ
   n = grammarOf words .terminals
 
@@ -82,11 +82,12 @@ module _ {words : List ℕ} {z : Sizes} {entries events memo : List ℕ} (g : Se
     long : length e ≡ k
     long = ap length named ∙ at-long n k number
 
-    pub number-given : PassedGiven One words z entries (inputOf e) memo
+    pub number-given : PassedGiven One words z starts entries (inputOf e) memo
     number-given = record {
       ready = record {
         taken = g .taken;
         free = g .free;
+        begins = g .begins;
         entered = g .entered;
         tokens = rw own over;
         short = omega (arith, ap length own, long, g .short);
@@ -127,20 +128,20 @@ module _ {words : List ℕ} {z : Sizes} {entries events memo : List ℕ} (g : Se
   }
 
 -- the search, from the memory of before to that of now
-pub record Searching (words : List ℕ) (z : Sizes) (entries events₀ memo₀ events memo : List ℕ) (best : Candidate) (number : ℕ) : Type 0 where
-  pub given : SearchGiven words z entries events memo
+pub record Searching (words : List ℕ) (z : Sizes) (starts entries events₀ memo₀ events memo : List ℕ) (best : Candidate) (number : ℕ) : Type 0 where
+  pub given : SearchGiven words z starts entries events memo
   pub searched : Searched (callsOn (grammarOf words)) (grammarOf words .terminals) (length events₀) number (best .number) (best .calls)
   pub same-length : length events ≡ length events₀
   pub behind : Behind words (length events₀) memo₀ memo
 
-module _ {words : List ℕ} {z : Sizes} {entries events memo : List ℕ} (g : SearchGiven words z entries events memo) where
+module _ {words : List ℕ} {z : Sizes} {starts entries events memo : List ℕ} (g : SearchGiven words z starts entries events memo) where
   abbrev G : Grammar
   G = grammarOf words
 
   terminals-some : 0 < G .terminals
   terminals-some = omega (arith, some-terminal g, well-read words z (admitted-read One words (g .taken)) .terminals)
 
-  pub searching-start : Searching words z entries events memo events memo (record { number = 0; calls = 0 }) 0
+  pub searching-start : Searching words z starts entries events memo events memo (record { number = 0; calls = 0 }) 0
   searching-start = record {
     given = g;
     searched = searched-none (callsOn G) (G .terminals) terminals-some (length events);
@@ -154,14 +155,15 @@ module _ {words : List ℕ} {z : Sizes} {entries events memo : List ℕ} (g : Se
       e ∙ count-exact (z .terminals) (length events) (g .few)
       ∙ ap (λ t. t ^ length events) (well-read words z (admitted-read One words (g .taken)) .terminals)
 
-  module _ {events₁ memo₁ : List ℕ} {best : Candidate} {number inputs : ℕ} (s : Searching words z entries events memo events₁ memo₁ best number)
+  module _ {events₁ memo₁ : List ℕ} {best : Candidate} {number inputs : ℕ} (s : Searching words z starts entries events memo events₁ memo₁ best number)
       (e : inputs ≡ inputCount (z .terminals) (length events)) where
     pub searching-next : number < inputs → {next best′ : Candidate} {events₂ memo₂ : List ℕ} → Tried words number events₁ memo₁ next events₂ memo₂
-        → best′ ≡ choose (ltb (best .calls) (next .calls)) next best → Searching words z entries events memo events₂ memo₂ best′ (number + 1)
+        → best′ ≡ choose (ltb (best .calls) (next .calls)) next best → Searching words z starts entries events memo events₂ memo₂ best′ (number + 1)
     searching-next h {next} {best′} {events₂} {memo₂} t q = record {
       given = record {
         taken = g .taken;
         free = g .free;
+        begins = g .begins;
         entered = g .entered;
         short = omega (arith, t .same-length, s .given .short);
         few = rw (t .same-length) (s .given .few);
@@ -195,10 +197,11 @@ module _ {words : List ℕ} {z : Sizes} {entries events memo : List ℕ} (g : Se
 
   -- the costliest is judged last
   module _ {number : ℕ} {events₁ memo₁ : List ℕ} (f : Found words events memo number events₁ memo₁) where
-    pub best-given : SearchGiven words z entries events₁ memo₁
+    pub best-given : SearchGiven words z starts entries events₁ memo₁
     best-given = record {
       taken = g .taken;
       free = g .free;
+      begins = g .begins;
       entered = g .entered;
       short = omega (arith, f .same-length, g .short);
       few = rw (f .same-length) (g .few);

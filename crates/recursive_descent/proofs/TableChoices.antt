@@ -35,7 +35,7 @@ use Rattle.descent_arrays.proofs.ChoiceRows.{Filled, choices-filled}
 use Rattle.recognizer_promises.specs.Judging.{Ready}
 use Rattle.columns.proofs.Columns.{column-right}
 
-module _ {k : Lookahead} {words : List ℕ} {z : Sizes} {entries input : List ℕ} (g : Ready k words z entries input) where
+module _ {k : Lookahead} {words : List ℕ} {z : Sizes} {starts entries input : List ℕ} (g : Ready k words z starts entries input) where
   abbrev G : Grammar
   G = grammarOf words
 

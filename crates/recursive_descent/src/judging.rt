@@ -12,32 +12,32 @@ use families::Finding;
 use families::SETS;
 use grammar::codes::NO_RULE;
 use grammar::limits::ENTRIES;
+use grammar::limits::RULES;
 use grammar::reading::Sizes;
 use lookahead::Lookahead;
 use memo_table::clear;
 use memo_table::tally;
-use reader::rule_starts;
 use recognizer_promises::Judgement;
 use rule::ends_at;
 use table::Found;
 
 // Runs the descent in a memo table of just the entries that it needs.
-fn descend(
+fn descend<'a>(
     words: &[u32],
     sizes: Sizes,
     lookahead: Lookahead,
-    entries: &[u8; ENTRIES],
+    starts: &'a [usize; RULES],
+    entries: &'a [u8; ENTRIES],
     events: &[u8],
     memo: &mut [u16],
 ) -> Answer
-    requires { ⌜ DescendGiven lookahead (now words) sizes (now entries) (inputOf (now events)) (now memo) ⌝ }
+    requires { ⌜ DescendGiven lookahead (now words) sizes (now starts) (now entries) (inputOf (now events)) (now memo) ⌝ }
     ensures { λ r. ⌜ Descended lookahead (now (words .entry)) (inputOf (now (events .entry))) r (now (memo .exit)) ⌝ }
 {
     clear(memo);
     let nonterminals = sizes.nonterminals as usize;
     let columns = count(lookahead, sizes.terminals);
-    let starts = rule_starts(words);
-    let choices = choices_of(&starts, nonterminals, columns, entries, events.len());
+    let choices = choices_of(starts, nonterminals, columns, entries, events.len());
     let tokens = tokens_of(events, lookahead, sizes.terminals);
     let outcome = call(0, words, &choices, &tokens, memo, 0);
     let length = events.len() as u16;
@@ -50,15 +50,16 @@ fn descend(
 }
 
 // A grammar that has passed and an input of its terminals.
-pub(crate) fn judge_passed(
+pub(crate) fn judge_passed<'a>(
     words: &[u32],
     sizes: Sizes,
     lookahead: Lookahead,
-    entries: &[u8; ENTRIES],
+    starts: &'a [usize; RULES],
+    entries: &'a [u8; ENTRIES],
     events: &[u8],
     memo: &mut [u16],
 ) -> Answer
-    requires { ⌜ PassedGiven lookahead (now words) sizes (now entries) (inputOf (now events)) (now memo) ⌝ }
+    requires { ⌜ PassedGiven lookahead (now words) sizes (now starts) (now entries) (inputOf (now events)) (now memo) ⌝ }
     ensures { λ r. ⌜ JudgedPassed lookahead (now (words .entry)) (inputOf (now (events .entry))) (now (memo .entry)) r (now (memo .exit)) ⌝ }
 {
     let needed = sizes.nonterminals as usize * (events.len() + 1);
@@ -66,6 +67,7 @@ pub(crate) fn judge_passed(
         words,
         sizes,
         lookahead,
+        starts,
         entries,
         events,
         &mut memo[..needed],
@@ -80,6 +82,7 @@ pub(crate) fn refused(error: Error) -> Judgement
         answer: Answer::Refused(error),
         found: Found {
             finding: Finding::Refused(error),
+            starts: [0usize; RULES],
             firsts: [0u64; SETS],
             follows: [0u64; SETS],
             entries: [NO_RULE; ENTRIES],

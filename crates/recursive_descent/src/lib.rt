@@ -33,7 +33,15 @@ pub fn judge_words(
     match finding {
         Finding::Refused(error) => refused(error),
         Finding::Passed(sizes) => {
-            let answer = judge_passed(words, sizes, lookahead, &found.entries, events, memo);
+            let answer = judge_passed(
+                words,
+                sizes,
+                lookahead,
+                &found.starts,
+                &found.entries,
+                events,
+                memo,
+            );
             Judgement { answer, found }
         }
     }

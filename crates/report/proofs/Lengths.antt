@@ -7,7 +7,7 @@ use Prim.Native.Nat.{ℕ, zero, suc, _*_, _≤_, _<_}
 use native.Mathlib.Omega.{arith}
 use lib.ListN.{length, getD, drop, replicate, length-append}
 use Rattle.answer.specs.declared.Error.{Error}
-use Rattle.answer.specs.declared.Answer.the-variants.{Passed, Rejected, Accepted}
+use Rattle.answer.specs.declared.Answer.the-variants.{Rejected, Accepted}
 use Rattle.base.specs.Choice.{choose}
 use Rattle.grammar.specs.Codes.{uncalledCode}
 use Rattle.grammar.specs.Limits.{maxMemoEntries, maxTableWords}
@@ -34,7 +34,8 @@ use Rattle.recognizer_promises.specs.Memory.{memoWordBy, memoWord, memoWordsBy,
 use Rattle.recognizer_promises.proofs.Checking.{passed-fault, passed-encodes, passed-free}
 use Rattle.recognizer_promises.proofs.JudgeFaults.{judged-readable}
 use Rattle.text.proofs.Lengths.{refusal-most}
-use Rattle.sheet_text.specs.Sheet.{sheetText, checkText}
+use Rattle.families.specs.Analysis.{findingOf}
+use Rattle.sheet_text.specs.Sheet.{checkText}
 use Rattle.sheet_text.proofs.Lengths.{sheet-most}
 use Rattle.judgement_text.specs.Judgement.{callsText, verdictLine, judgementText}
 use Rattle.judgement_text.proofs.Lengths.{calls-most, verdict-most}
@@ -43,16 +44,16 @@ use Rattle.judgement_text.specs.Room.{callRoom, judgementRoom}
 use Rattle.report.specs.Report.{blankTable, blankMemo, checkedText, judgedText}
 
 pub checked-short : (words : List ℕ) → length (checkedText words) ≤ sheetRoom
-unfolding checkedText checkText sheetText
+unfolding checkedText
 checked-short words = go (checkFault maxTableWords words) (reading words) refl
   where
     table : Option Error → List ℕ
     table f = lentBack f (tableWords One (grammarOf words)) blankTable
 
-    go : (f : Option Error) (o : Outcome) → reading words ≡ o → length (checkText (refusedOr f Passed) o (table f)) ≤ sheetRoom
+    go : (f : Option Error) (o : Outcome) → reading words ≡ o → length (checkText (findingOf f o) (table f)) ≤ sheetRoom
     go (some e) o r = omega (arith, refusal-most e)
     go none (Faulty e) r = omega (arith, refusal-most e)
-    go none (Read z) r = let k = well-read words z r in omega (arith, sheet-most z (table none) (k .fewNonterminals) (k .fewTerminals))
+    go none (Read z) r = let k = well-read words z r in sheet-most (table none) (record { fewNonterminals = k .fewNonterminals; fewTerminals = k .fewTerminals })
 
 -- lists of numbers of at most five digits
 abbrev Each : List ℕ → Type 0

@@ -4,19 +4,19 @@ use mathlib.Core.List.{List}
 use Prim.Native.Nat.{ℕ, suc, _+_, _*_, _≤_, _<_}
 use lib.Dec.{leb}
 use lib.ListN.{length, take, replicate}
-use Rattle.answer.specs.declared.Answer.the-variants.{Passed}
 use Rattle.answer.specs.declared.Error.the-variants.{Length}
 use Rattle.base.specs.Choice.{choose}
 use Rattle.event.specs.Events.{inputOf}
 use Rattle.grammar.specs.Codes.{noEntry, uncalledCode}
-use Rattle.grammar.specs.declared.reading.Outcome.{Outcome}
-use Rattle.grammar.specs.declared.reading.Outcome.the-variants.{Read, Faulty}
 use Rattle.grammar.specs.Limits.{maxWords, maxTokens, maxMemoEntries, maxTableWords}
 use Rattle.grammar.specs.Encoding.{grammarOf}
 use Rattle.grammar.specs.Reading.{reading}
 use Rattle.lookahead.specs.declared.Lookahead.the-variants.{One}
 use Rattle.lookahead.specs.Elements.{size}
 use Rattle.semantics.specs.FirstFollow.{First, Follow}
+use Rattle.families.specs.declared.Finding.{Finding}
+use Rattle.families.specs.declared.Finding.the-variants.{Passed, Refused}
+use Rattle.families.specs.Analysis.{findingOf}
 use Rattle.families.specs.Sets.{firstNumber, followNumber, Members}
 use Rattle.table.specs.Layout.{tableWords}
 use Rattle.answer.specs.Faults.{refusedOr}
@@ -55,9 +55,9 @@ blankTable = replicate maxTableWords noEntry
 abbrev pub checkedTable : List ℕ → List ℕ
 checkedTable words = lentBack (checkFault maxTableWords words) (tableWords One (grammarOf words)) blankTable
 
--- what is printed of words that are checked, by the answer and the table that checking gives
+-- what is printed of words that are checked, by why they are refused, or else their sizes, and the table that checking gives
 unfoldable pub checkedText : List ℕ → List ℕ
-checkedText words = checkText (refusedOr (checkFault maxTableWords words) Passed) (reading words) (checkedTable words)
+checkedText words = checkText (findingOf (checkFault maxTableWords words) (reading words)) (checkedTable words)
 
 -- the sets of a nonterminal in the sheet of a passed grammar: FIRST and FOLLOW as numbers, and the size that is printed is how many strings they have
 pub record SetsTold (words : List ℕ) (A : ℕ) : Type 0 where
@@ -108,10 +108,10 @@ pub record Enough (r : Reads) : Type 0 where
   pub judgement : (bytes events : List ℕ) → judgementOf (take (r .file) bytes) (take (r .input) events) ≡ judgementOf bytes events
   pub gaps : (bytes : List ℕ) → gapsOf (take (r .file) bytes) ≡ gapsOf bytes
 
--- how many nonterminals words have that are read
-abbrev pub nonterminalsOf : Outcome → ℕ
-nonterminalsOf (Read z) = z .nonterminals
-nonterminalsOf (Faulty e) = 0
+-- how many nonterminals a grammar has that is found to pass
+abbrev pub nonterminalsOf : Finding → ℕ
+nonterminalsOf (Passed z) = z .nonterminals
+nonterminalsOf (Refused e) = 0
 
 -- how many tokens an input has that is not too long
 unfoldable pub tokenCount : List ℕ → ℕ

@@ -1,15 +1,14 @@
 // What the programs print: from the bytes of files to the bytes of the text.
 ghost use mathlib.Core.Path.{_≡_};
 ghost use Rattle.event.specs.Events.{inputOf};
-ghost use Rattle.grammar.specs.Reading.{reading};
 ghost use Rattle.sheet_text.specs.Room.{sheetRoom};
 ghost use Rattle.judgement_text.specs.Room.{judgementRoom};
 ghost use Rattle.gaps_text_promises.specs.Gaps.{GapsPut};
 ghost use Rattle.text.specs.Writing.{Put};
 ghost use Rattle.report.specs.Report.{Printed, SheetPrinted, GapsPrinted, Enough, enoughRoom, nonterminalsOf, tokenCount, checkedText, judgedText, judgementOf};
 use answer::Error;
-use checker::check;
 use claims::analyze;
+use families::Finding;
 use gaps_text::put_gaps;
 use grammar::codes::NO_ENTRY;
 use grammar::codes::UNCALLED;
@@ -17,12 +16,12 @@ use grammar::limits::MEMO_ENTRIES;
 use grammar::limits::TABLE_WORDS;
 use grammar::limits::TOKENS;
 use grammar::limits::WORDS;
-use grammar::reading::Outcome;
 use judgement_text::put_judgement;
+use lending::lend;
 use lookahead::Lookahead;
-use reader::read;
-use recognizer::judge;
+use recursive_descent::judge_words;
 use sheet_text::put_check;
+use table::find;
 use text::refusal::put_refusal;
 use text::words::Loaded;
 use text::words::WORD_BYTES;
@@ -112,17 +111,21 @@ fn put_checked(words: &[u32], out: &mut [u8]) -> usize
     ensures { λ r. ⌜ Put (now (out .entry)) 0 (checkedText (now (words .entry))) (now (out .exit)) r ⌝ }
 {
     let mut table = [NO_ENTRY; TABLE_WORDS];
-    let answer = check(words, &mut table);
-    put_check(out, answer, words, &table)
+    let found = find(words, Lookahead::One);
+    lend(found, &mut table);
+    let finding = found.finding;
+    put_check(out, finding, &table)
 }
 
 fn put_judged(words: &[u32], events: &[u8], out: &mut [u8]) -> usize
     ensures { λ r. ⌜ Put (now (out .entry)) 0 (judgedText (now (words .entry)) (inputOf (now (events .entry)))) (now (out .exit)) r ⌝ }
 {
-    let mut table = [NO_ENTRY; TABLE_WORDS];
     let mut memo = [UNCALLED; MEMO_ENTRIES];
-    let answer = judge(words, events, &mut table, &mut memo);
-    put_judgement(out, answer, nonterminals(words), tokens(events), &memo)
+    let judgement = judge_words(words, Lookahead::One, events, &mut memo);
+    let answer = judgement.answer;
+    let found = judgement.found;
+    let finding = found.finding;
+    put_judgement(out, answer, nonterminals(finding), tokens(events), &memo)
 }
 
 fn put_claimed(words: &[u32], out: &mut [u8]) -> usize
@@ -133,14 +136,13 @@ fn put_claimed(words: &[u32], out: &mut [u8]) -> usize
     put_gaps(out, finding, &claims.heads, &claims.sets, &claims.overruns)
 }
 
-// How many nonterminals words have that are read.
-fn nonterminals(words: &[u32]) -> u32
-    ensures { λ r. ⌜ r ≡ nonterminalsOf (reading (now (words .entry))) ⌝ }
+// How many nonterminals a grammar has that is found to pass.
+fn nonterminals(finding: Finding) -> u32
+    ensures { λ r. ⌜ r ≡ nonterminalsOf finding ⌝ }
 {
-    let outcome = read(words);
-    match outcome {
-        Outcome::Read(sizes) => sizes.nonterminals,
-        Outcome::Faulty(_) => 0,
+    match finding {
+        Finding::Passed(sizes) => sizes.nonterminals,
+        Finding::Refused(_) => 0,
     }
 }
 

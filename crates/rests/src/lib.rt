@@ -1,8 +1,9 @@
 // The first set of what is left of a body and of a rule, made longer by one word at a time from the end.
 ghost use mathlib.Core.Path.{_≡_};
-ghost use Rattle.families.specs.First.{symbolFirst, noRest, closedMeet, insideWord, insideWords};
+ghost use Rattle.families.specs.First.{symbolFirst, noRest, closedMeet, insideWord};
 ghost use Rattle.families.specs.Follow.{tailBefore};
 ghost use Rattle.families.specs.Least.{lookup};
+ghost use Rattle.families.specs.Rules.{fromEnd};
 use concatenation::concat;
 use concatenation::full;
 use families::Rest;
@@ -78,7 +79,7 @@ pub fn rule_first(
     terminals: u32,
     lookahead: Lookahead,
 ) -> LookaheadSet
-    ensures { λ r. ⌜ r .bits ≡ insideWords lookahead (lookup (now (firsts .entry))) (noRest lookahead terminals) (now (words .entry)) .meet .bits ⌝ }
+    ensures { λ r. ⌜ r .bits ≡ fromEnd (insideWord lookahead (lookup (now (firsts .entry)))) (noRest lookahead terminals) (now (words .entry)) .meet .bits ⌝ }
 {
     let mut rest = no_rest(terminals, lookahead);
     let mut at = words.len();

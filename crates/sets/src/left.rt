@@ -5,112 +5,23 @@ ghost use Rattle.grammar.specs.declared.reading.Outcome.the-variants.{Read};
 ghost use Rattle.grammar.specs.Encoding.{parse, grammarOf};
 ghost use Rattle.grammar.specs.Limits.{maxNonterminals};
 ghost use Rattle.grammar.specs.Starts.{ruleStarts};
-ghost use Rattle.grammar.specs.Syntax.{bodies};
 ghost use Rattle.admission.specs.Admission.{admission};
 ghost use Rattle.families.specs.Least.{at as family, Passes};
-ghost use Rattle.families.specs.Left.{emptyIn, symbolLeft, bodiesLeft, lefts, insideLeft, ReachClosed};
+ghost use Rattle.families.specs.Left.{emptyIn, ReachClosed};
 ghost use Rattle.base.specs.Lists.{listed};
-ghost use Rattle.families.specs.Naming.{IndexedSymbol, Indexed};
-ghost use Rattle.families.specs.Rules.{RuleWords, PassGiven, ruleFrom};
+ghost use Rattle.families.specs.Rules.{PassGiven};
 ghost use Rattle.families.specs.Sets.{firstNumber, reachNumber};
 use super::family::add_nonterminals;
 use super::family::either;
 use super::rules::end_of;
 use super::rules::head_of;
 use super::rules::turn;
-use families::Left;
 use families::SETS;
-use families::nonterminals::Nonterminals;
 use grammar::limits::RULES;
 use grammar::reading::Sizes;
+use lefts::rule_left;
 use lookahead::Lookahead;
-use lookahead::nothing;
-use lookahead_sets::LookaheadSet;
-use word::Symbol;
-use word::Word;
 use word::decode;
-
-fn no_left() -> Left
-    ensures { λ r. ⌜ r ≡ lefts 0 0 ⌝ }
-{
-    Left {
-        body: Nonterminals::empty(),
-        rule: Nonterminals::empty(),
-    }
-}
-
-// What is at the left of a body that begins with a symbol: the nonterminal and, if it is nullable, what is at the left behind it.
-fn symbol_left(
-    symbol: Symbol,
-    behind: Nonterminals,
-    firsts: &[u64; SETS],
-    reach: &[u32; SETS],
-    lookahead: Lookahead,
-) -> Nonterminals
-    requires { ⌜ IndexedSymbol symbol ⌝ }
-    ensures { λ r. ⌜ r .bits ≡ symbolLeft (emptyIn lookahead (family (now (firsts .entry)))) (family (now (reach .entry))) symbol (behind .bits) ⌝ }
-{
-    let Symbol::Nonterminal(number) = symbol else {
-        return Nonterminals::empty();
-    };
-    let at = number as usize;
-    let alone = Nonterminals::alone(number);
-    let reached = Nonterminals { bits: reach[at] };
-    let own = alone.join(reached);
-    let first = LookaheadSet { bits: firsts[at] };
-    if first.contains(nothing(lookahead)) {
-        own.join(behind)
-    } else {
-        own
-    }
-}
-
-// The same with a word inside a rule in front.
-fn inside_left(
-    word: Word,
-    left: Left,
-    firsts: &[u64; SETS],
-    reach: &[u32; SETS],
-    lookahead: Lookahead,
-) -> Left
-    requires { ⌜ Indexed word ⌝ }
-    ensures { λ r. ⌜ r ≡ insideLeft (emptyIn lookahead (family (now (firsts .entry)))) (family (now (reach .entry))) word left ⌝ }
-{
-    let body = left.body;
-    let rule = left.rule;
-    let Word::Symbol(symbol) = word else {
-        return Left {
-            body: Nonterminals::empty(),
-            rule: body.join(rule),
-        };
-    };
-    Left {
-        body: symbol_left(symbol, body, firsts, reach, lookahead),
-        rule,
-    }
-}
-
-// What is at the left of the bodies of a rule.
-fn rule_left(
-    words: &[u32],
-    start: usize,
-    end: usize,
-    firsts: &[u64; SETS],
-    reach: &[u32; SETS],
-    lookahead: Lookahead,
-) -> Nonterminals
-    requires { ⌜ RuleWords (now words) start end ⌝ }
-    ensures { λ r. ⌜ r .bits ≡ bodiesLeft (emptyIn lookahead (family (now (firsts .entry)))) (family (now (reach .entry))) (bodies (ruleFrom (now (words .entry)) start)) ⌝ }
-{
-    let mut left = no_left();
-    let mut at = end;
-    while start + 1 < at {
-        at = at - 1;
-        let word = decode(words[at]);
-        left = inside_left(word, left, firsts, reach, lookahead);
-    }
-    left.rule
-}
 
 // One pass over the rules, from the first on or from the last on; whether a set has grown.
 fn reach_pass(
@@ -131,7 +42,8 @@ fn reach_pass(
         let rule = turn(forward, sizes.rules, passed);
         let start = starts[rule];
         let end = end_of(words, starts, sizes, rule);
-        let left = rule_left(words, start, end, firsts, reach, lookahead);
+        let inside = start + 1;
+        let left = rule_left(&words[inside..end], firsts, reach, lookahead);
         let head = head_of(decode(words[start]));
         grown = either(grown, add_nonterminals(reach, head, left));
         passed = passed + 1;

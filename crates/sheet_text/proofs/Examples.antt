@@ -1,7 +1,6 @@
 -- A sheet, worked by computation.
 use mathlib.Core.Path.{_≡_, refl}
 use mathlib.Core.List.{[], _∷_}
-use Rattle.grammar.specs.declared.reading.Outcome.the-variants.{Read}
 use Rattle.grammar.specs.Encoding.{sizes}
 use Rattle.base.specs.Quantifiers.{countBelow}
 use Rattle.lookahead.specs.Elements.{has, size}
@@ -11,7 +10,7 @@ use Rattle.text.specs.Writing.{upTo}
 use Rattle.sheet_text.specs.Sheet.{sizesLine, setsLine, entryText, entriesLine, nonterminalText, sheetText}
 
 -- the text that document 01 shows of card R
-sheet-R : sheetText (Read (sizes 1 1 2)) (16777217 ∷ 16777216 ∷ 0 ∷ 1 ∷ [])
+sheet-R : sheetText (sizes 1 1 2) (16777217 ∷ 16777216 ∷ 0 ∷ 1 ∷ [])
     ≡ ascii "names 1 letters 1 rules 2\nname 0 first 16777217 2 follow 16777216 1\ncells 0 1\n"
 unfolding sheetText sizesLine nonterminalText setsLine entriesLine orDash upTo decimal digits size countBelow has
 sheet-R = refl

@@ -7,10 +7,10 @@ use lib.ListN.{length, length-append}
 use Rattle.grammar.specs.Codes.{noEntry}
 use Rattle.grammar.specs.Limits.{maxNonterminals, maxTerminals, maxColumns}
 use Rattle.grammar.specs.declared.reading.Sizes.{Sizes}
-use Rattle.grammar.specs.declared.reading.Outcome.the-variants.{Read}
 use Rattle.lookahead.specs.Elements.{size}
 use Rattle.text.specs.Writing.{upTo}
 use Rattle.text.proofs.Lengths.{decimal-most, dash-within, up-to-most}
+use Rattle.sheet_text.specs.Limited.{Limited}
 use Rattle.sheet_text.specs.Room.{sizesRoom, setsRoom, entryRoom, entriesRoom, sheetRoom}
 use Rattle.sheet_text.specs.Sheet.{wordAt, sizesLine, setsLine, entryText, entriesLine, nonterminalText, sheetText}
 
@@ -43,14 +43,13 @@ nonterminal-most z table A h =
       mul-le-mul-right {m = z .terminals + 1} {n = maxColumns} entryRoom (omega arith),
     )
 
-pub sheet-most : (z : Sizes) (table : List ℕ) → z .nonterminals ≤ maxNonterminals → z .terminals ≤ maxTerminals
-    → length (sheetText (Read z) table) ≤ sheetRoom
+pub sheet-most : {z : Sizes} (table : List ℕ) → Limited z → length (sheetText z table) ≤ sheetRoom
 unfolding sheetText
-sheet-most z table n t =
+sheet-most {z} table h =
     omega (
       arith,
       length-append (sizesLine z) (upTo (z .nonterminals) (nonterminalText z table)),
       sizes-most z,
-      up-to-most (z .nonterminals) (setsRoom + entriesRoom) (nonterminalText z table) (λ A h. nonterminal-most z table A t),
-      mul-le-mul-right {m = z .nonterminals} {n = maxNonterminals} (setsRoom + entriesRoom) n,
+      up-to-most (z .nonterminals) (setsRoom + entriesRoom) (nonterminalText z table) (λ A l. nonterminal-most z table A (h .fewTerminals)),
+      mul-le-mul-right {m = z .nonterminals} {n = maxNonterminals} (setsRoom + entriesRoom) (h .fewNonterminals),
     )

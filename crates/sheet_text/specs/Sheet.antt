@@ -1,15 +1,13 @@
 -- The sheet of a grammar (document 01: the sheet), line by line, from the words of its table.
-use mathlib.Core.List.{List, [], _++_}
+use mathlib.Core.List.{List, _++_}
 use Prim.Native.Nat.{ℕ, _+_, _*_}
 use Prim.Native.String.{String}
 use lib.ListN.{getD}
-use Rattle.answer.specs.declared.Answer.{Answer}
-use Rattle.answer.specs.declared.Answer.the-variants.{Refused, Passed, Rejected, Accepted}
 use Rattle.grammar.specs.Codes.{noEntry}
 use Rattle.grammar.specs.declared.reading.Sizes.{Sizes}
-use Rattle.grammar.specs.declared.reading.Outcome.{Outcome}
-use Rattle.grammar.specs.declared.reading.Outcome.the-variants.{Read, Faulty}
 use Rattle.lookahead.specs.Elements.{size}
+use Rattle.families.specs.declared.Finding.{Finding}
+use Rattle.families.specs.declared.Finding.the-variants.{Passed, Refused}
 use Rattle.text.specs.Ascii.{ascii}
 use Rattle.text.specs.Decimal.{labelled, orDash}
 use Rattle.text.specs.Refusal.{refusalText}
@@ -44,14 +42,11 @@ unfoldable pub nonterminalText : Sizes → List ℕ → ℕ → List ℕ
 nonterminalText z table A =
     setsLine table A ++ entriesLine table (2 * z .nonterminals + A * (z .terminals + 1)) (z .terminals + 1)
 
--- the sheet of words that are read, and the refusal of those that are not
-unfoldable pub sheetText : Outcome → List ℕ → List ℕ
-sheetText (Read z) table = sizesLine z ++ upTo (z .nonterminals) (nonterminalText z table)
-sheetText (Faulty e) table = refusalText e
+-- the sheet of a grammar of these sizes
+unfoldable pub sheetText : Sizes → List ℕ → List ℕ
+sheetText z table = sizesLine z ++ upTo (z .nonterminals) (nonterminalText z table)
 
--- what is printed of a check: the refusal, or the sheet; a check gives no verdict
-unfoldable pub checkText : Answer → Outcome → List ℕ → List ℕ
-checkText (Refused e) outcome table = refusalText e
-checkText Passed outcome table = sheetText outcome table
-checkText (Rejected c) outcome table = []
-checkText (Accepted c) outcome table = []
+-- what is printed of a check, by what is found: the refusal, or the sheet
+abbrev pub checkText : Finding → List ℕ → List ℕ
+checkText (Refused e) table = refusalText e
+checkText (Passed z) table = sheetText z table

@@ -2,20 +2,19 @@
 ghost use mathlib.Core.Path.{_≡_};
 ghost use mathlib.Core.List.{_++_};
 ghost use Prim.Native.Nat.{_+_, _*_, _≤_, _<_};
-ghost use Rattle.grammar.specs.Reading.{reading};
 ghost use Rattle.grammar.specs.Limits.{maxNonterminals, maxTerminals, maxTableWords};
 ghost use Rattle.lookahead.specs.Elements.{size as sizeOf};
 ghost use Rattle.text.specs.Decimal.{decimal, labelled};
 ghost use Rattle.text.specs.Writing.{Put, upTo};
+ghost use Rattle.sheet_text.specs.Limited.{Limited, limitedSizes, limited};
 ghost use Rattle.sheet_text.specs.Sheet.{wordAt, sizesLine, setsLine, entryText, entriesLine, nonterminalText, sheetText, checkText};
-use answer::Answer;
+use families::Finding;
 use grammar::codes::NO_ENTRY;
 use grammar::limits::COLUMNS;
 use grammar::limits::NONTERMINALS;
-use grammar::reading::Outcome;
+use grammar::limits::TERMINALS;
 use grammar::reading::Sizes;
 use lookahead_sets::LookaheadSet;
-use reader::read;
 use text::put::put_bytes;
 use text::put::put_labelled;
 use text::put::put_or_dash;
@@ -131,28 +130,38 @@ fn put_nonterminals(out: &mut [u8], at: usize, sizes: Sizes, table: &[u32]) -> u
     next
 }
 
-// The sheet of the grammar that the words are, by its table; of words that are no grammar, the refusal.
-pub fn put_sheet(out: &mut [u8], words: &[u32], table: &[u32]) -> usize
-    ensures { λ r. ⌜ Put (now (out .entry)) 0 (sheetText (reading (now (words .entry))) (now (table .entry))) (now (out .exit)) r ⌝ }
+fn put_sheet(out: &mut [u8], sizes: Sizes, table: &[u32]) -> usize
+    requires { ⌜ Limited sizes ⌝ }
+    ensures { λ r. ⌜ Put (now (out .entry)) 0 (sheetText sizes (now (table .entry))) (now (out .exit)) r ⌝ }
 {
-    let outcome = read(words);
-    match outcome {
-        Outcome::Read(sizes) => {
-            let at = put_sizes(out, 0, sizes);
-            put_nonterminals(out, at, sizes, table)
-        }
-        Outcome::Faulty(error) => put_refusal(out, 0, error),
-    }
+    let at = put_sizes(out, 0, sizes);
+    put_nonterminals(out, at, sizes, table)
 }
 
-// What is printed of a check: the refusal, or the sheet.
-pub fn put_check(out: &mut [u8], answer: Answer, words: &[u32], table: &[u32]) -> usize
-    ensures { λ r. ⌜ Put (now (out .entry)) 0 (checkText answer (reading (now (words .entry))) (now (table .entry))) (now (out .exit)) r ⌝ }
+// Sizes within the limits as they are; none for others, as those of no grammar that passes are.
+fn limited_sizes(sizes: Sizes) -> Sizes
+    ensures { λ r. ⌜ r ≡ limitedSizes sizes ⌝ }
 {
-    match answer {
-        Answer::Refused(error) => put_refusal(out, 0, error),
-        Answer::Passed => put_sheet(out, words, table),
-        Answer::Rejected(_) => 0,
-        Answer::Accepted(_) => 0,
+    let none = Sizes {
+        nonterminals: 0,
+        terminals: 0,
+        rules: 0,
+    };
+    if NONTERMINALS < sizes.nonterminals {
+        return none;
+    }
+    if TERMINALS < sizes.terminals {
+        return none;
+    }
+    sizes
+}
+
+// What is printed of a check, by what is found: the refusal, or the sheet.
+pub fn put_check(out: &mut [u8], finding: Finding, table: &[u32]) -> usize
+    ensures { λ r. ⌜ Put (now (out .entry)) 0 (checkText (limited finding) (now (table .entry))) (now (out .exit)) r ⌝ }
+{
+    match finding {
+        Finding::Refused(error) => put_refusal(out, 0, error),
+        Finding::Passed(sizes) => put_sheet(out, limited_sizes(sizes), table),
     }
 }

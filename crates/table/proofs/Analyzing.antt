@@ -10,6 +10,7 @@ use Rattle.answer.specs.declared.Error.{Error}
 use Rattle.answer.specs.Faults.{firstFault}
 use Rattle.answer.proofs.Faults.{none-some, each-none, first-nested}
 use Rattle.grammar.specs.Encoding.{grammarOf}
+use Rattle.grammar.specs.Starts.{ruleStarts}
 use Rattle.grammar.specs.Limits.{maxNonterminals}
 use Rattle.grammar.specs.Syntax.{Grammar}
 use Rattle.grammar.specs.declared.reading.Sizes.{Sizes}
@@ -25,7 +26,7 @@ use Rattle.base.specs.FiniteSets.{numbers}
 use Rattle.semantics.specs.Claims.{overruns, clashes}
 use Rattle.semantics.proofs.descent.Outcomes.{nth-mem}
 use Rattle.families.specs.declared.Finding.the-variants.{Passed, Refused}
-use Rattle.families.specs.Analysis.{readingFault, setsFaults, setsFault, setsIf}
+use Rattle.families.specs.Analysis.{readingFault, setsFaults, setsFault, startsIf, setsIf}
 use Rattle.base.specs.Lists.{listed}
 use Rattle.families.specs.Sets.{firstNumber, followNumber}
 use Rattle.base.proofs.Lists.{listed-at, listed-long}
@@ -79,7 +80,7 @@ fault-clashless k words e =
 
 module _ (k : Lookahead) (words : List ℕ) {r : Claims} (e : r ≡ claimsOf k words) where
   -- a refusal goes on
-  pub found-refused : {x : Error} → r .finding ≡ Refused x → foundWith (r .finding) (r .firsts) (r .follows) noRules ≡ foundOf k words
+  pub found-refused : {x : Error} → r .finding ≡ Refused x → foundWith (r .finding) (r .starts) (r .firsts) (r .follows) noRules ≡ foundOf k words
   unfolding claimsOf foundOf
   found-refused {x} q =
       let f : setsFault k words ≡ some x = told-refused (setsFault k words) (admission k words) (sets-first k words) (sym (ap (λ x. x .finding) e) ∙ q) in
@@ -120,30 +121,31 @@ module _ {k : Lookahead} {words : List ℕ} {z : Sizes} {r : Claims} (f : Claime
         ∙ clash-found k (grammarOf words) grammar-few (r .overruns) (f .own) (f .claims) each-told
 
     -- a clash refuses the grammar
-    pub found-clash : {A c : ℕ} {x : Error} → v ≡ conflict.At A c → x ≡ conflictError k A c → foundWith (Refused x) (r .firsts) (r .follows) noRules ≡ foundOf k words
+    pub found-clash : {A c : ℕ} {x : Error} → v ≡ conflict.At A c → x ≡ conflictError k A c → foundWith (Refused x) (r .starts) (r .firsts) (r .follows) noRules ≡ foundOf k words
     unfolding foundOf
-    found-clash t d = rw (d, fault-sets k words, f .read, f .faultless, ← clash, t, f .first, f .follow)
+    found-clash t d = rw (d, fault-sets k words, f .read, f .faultless, ← clash, t, f .begins, f .first, f .follow)
 
     -- else its entries are found
     pub found-passed : {entries : List ℕ} → v ≡ conflict.Absent
         → FilledRows (rowsOf k (z .nonterminals) (z .terminals)) (r .heads) (r .sets) 0 (numbers (z .rules)) noRules entries
-        → foundWith (Passed z) (r .firsts) (r .follows) entries ≡ foundOf k words
+        → foundWith (Passed z) (r .starts) (r .firsts) (r .follows) entries ≡ foundOf k words
     unfolding foundOf
     found-passed t w =
         let G = grammarOf words in
         let n : G .nonterminals ≤ maxNonterminals = omega (arith, known .fewNonterminals, known .nonterminals) in
         let l = entries-filled k G n grammar-few (f .own) (f .claims) (rw (known .nonterminals, known .terminals, known .rules) at w) in
-        rw (fault-sets k words, f .read, f .faultless, ← clash, t, f .first, f .follow, l)
+        rw (fault-sets k words, f .read, f .faultless, ← clash, t, f .begins, f .first, f .follow, l)
 
 -- what entries that are found tell
 pub record FoundEntries (k : Lookahead) (words : List ℕ) (z : Sizes) (r : Found) : Type 0 where
   pub read : admission k words ≡ Read z
   pub faultless : fault k words ≡ none
+  pub begins : r .starts ≡ ruleStarts words
   pub first : r .firsts ≡ listed maxNonterminals (firstNumber k (grammarOf words))
   pub follow : r .follows ≡ listed maxNonterminals (followNumber k (grammarOf words))
   pub entries : r .entries ≡ entriesOf k (grammarOf words)
 
-none-sets : (k : Lookahead) (words : List ℕ) → fault k words ≡ none → setsFault k words ≡ none
+pub none-sets : (k : Lookahead) (words : List ℕ) → fault k words ≡ none → setsFault k words ≡ none
 none-sets k words e = go (setsFault k words) refl
   where
     go : (o : Option Error) → setsFault k words ≡ o → setsFault k words ≡ none
@@ -160,6 +162,7 @@ module _ (k : Lookahead) (words : List ℕ) {r : Found} (e : r ≡ foundOf k wor
       record {
         read = p .1;
         faultless = p .0;
+        begins = ap (λ x. x .starts) e ∙ ap (λ f. startsIf f (ruleStarts words)) s;
         first = ap (λ x. x .firsts) e ∙ ap (λ f. setsIf f (listed maxNonterminals (firstNumber k G))) s;
         follow = ap (λ x. x .follows) e ∙ ap (λ f. setsIf f (listed maxNonterminals (followNumber k G))) s;
         entries = ap (λ x. x .entries) e ∙ ap (λ f. entriesIf f (entriesOf k G)) (p .0);

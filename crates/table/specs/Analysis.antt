@@ -1,4 +1,4 @@
--- What is found of an encoded grammar: the first fault among the errors 3 to 8, 13, 18 and 9, or its sizes, its sets and its entries.
+-- What is found of an encoded grammar: the first fault among the errors 3 to 8, 13, 18 and 9, or its sizes, where its rules begin, its sets and its entries.
 use mathlib.Core.List.{List, [], _∷_, _++_}
 use mathlib.Core.Option.{Option, none, some}
 use Prim.Native.Nat.{ℕ}
@@ -7,11 +7,12 @@ use Rattle.answer.specs.declared.Error.the-variants as error
 use Rattle.answer.specs.Faults.{firstFault}
 use Rattle.grammar.specs.Limits.{maxNonterminals}
 use Rattle.grammar.specs.Encoding.{grammarOf}
+use Rattle.grammar.specs.Starts.{ruleStarts}
 use Rattle.lookahead.specs.declared.Lookahead.{Lookahead}
 use Rattle.lookahead.specs.declared.Lookahead.the-variants.{One, Two}
 use Rattle.admission.specs.Admission.{admission}
 use Rattle.families.specs.declared.Finding.{Finding}
-use Rattle.families.specs.Analysis.{setsFaults, setsFault, findingOf, setsIf}
+use Rattle.families.specs.Analysis.{setsFaults, setsFault, findingOf, startsIf, setsIf}
 use Rattle.base.specs.Lists.{listed}
 use Rattle.families.specs.Sets.{firstNumber, followNumber}
 use Rattle.table.specs.declared.Found.{Found}
@@ -40,12 +41,12 @@ abbrev pub entriesIf : Option Error → List ℕ → List ℕ
 entriesIf none l = l
 entriesIf (some e) l = noRules
 
-abbrev pub foundWith : Finding → List ℕ → List ℕ → List ℕ → Found
-foundWith f firsts follows entries = record { finding = f; firsts = firsts; follows = follows; entries = entries }
+abbrev pub foundWith : Finding → List ℕ → List ℕ → List ℕ → List ℕ → Found
+foundWith f starts firsts follows entries = record { finding = f; starts = starts; firsts = firsts; follows = follows; entries = entries }
 
 unfoldable pub foundOf : Lookahead → List ℕ → Found
 foundOf k words =
-    foundWith (findingOf (fault k words) (admission k words))
+    foundWith (findingOf (fault k words) (admission k words)) (startsIf (setsFault k words) (ruleStarts words))
     (setsIf (setsFault k words) (listed maxNonterminals (firstNumber k (grammarOf words))))
     (setsIf (setsFault k words) (listed maxNonterminals (followNumber k (grammarOf words))))
     (entriesIf (fault k words) (entriesOf k (grammarOf words)))

@@ -8,15 +8,17 @@ use families::Finding;
 use families::SETS;
 use grammar::codes::NO_RULE;
 use grammar::limits::ENTRIES;
+use grammar::limits::RULES;
 use lookahead::Lookahead;
 
 pub mod conflicts;
 mod rows;
 
-// What is found of an encoded grammar: its sizes, or why it is refused; its sets; and its entries, by nonterminal, then column. Where it is
-// refused there is no rule in the entries.
+// What is found of an encoded grammar: its sizes, or why it is refused; where its rules begin; its sets; and its entries, by nonterminal, then column.
+// Where it is refused there is no rule in the entries.
 pub struct Found {
     pub finding: Finding,
+    pub starts: [usize; RULES],
     pub firsts: [u64; SETS],
     pub follows: [u64; SETS],
     pub entries: [u8; ENTRIES],
@@ -43,12 +45,14 @@ pub fn find(words: &[u32], lookahead: Lookahead) -> Found
 {
     let claims = claims::analyze(words, lookahead);
     let finding = claims.finding;
+    let starts = claims.starts;
     let firsts = claims.firsts;
     let follows = claims.follows;
     let none = [NO_RULE; ENTRIES];
     match finding {
         Finding::Refused(_) => Found {
             finding,
+            starts,
             firsts,
             follows,
             entries: none,
@@ -67,12 +71,14 @@ pub fn find(words: &[u32], lookahead: Lookahead) -> Found
                     column,
                 } => Found {
                     finding: Finding::Refused(conflict_error(nonterminal, column, lookahead)),
+                    starts,
                     firsts,
                     follows,
                     entries: none,
                 },
                 Conflict::Absent => Found {
                     finding,
+                    starts,
                     firsts,
                     follows,
                     entries: rows::rows(sizes, &claims.heads, &claims.sets, lookahead),

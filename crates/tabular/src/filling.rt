@@ -15,7 +15,6 @@ use families::SETS;
 use grammar::limits::RULES;
 use grammar::limits::TABULAR_PLACES;
 use grammar::reading::Sizes;
-use reader::rule_starts;
 use sets::rules::head_of;
 use word::decode;
 
@@ -150,25 +149,25 @@ fn fill_length(
     }
 }
 
-// The chart of the input that the events are, by a grammar without left recursion and what its nonterminals left-reach.
+// The chart of the input that the events are, by a grammar without left recursion, where its rules begin and what its nonterminals left-reach.
 pub(crate) fn fill(
     words: &[u32],
+    starts: &[usize; RULES],
     sizes: Sizes,
     reaches: &[u32; SETS],
     events: &[u8],
 ) -> [u64; CHART]
-    requires { ⌜ FillGiven (now words) sizes (now reaches) (inputOf (now events)) ⌝ }
+    requires { ⌜ FillGiven (now words) (now starts) sizes (now reaches) (inputOf (now events)) ⌝ }
     ensures { λ r. ⌜ Filled (now (words .entry)) (inputOf (now (events .entry))) r ⌝ }
 {
-    let starts = rule_starts(words);
-    let ranks = ranks_of(words, &starts, sizes, reaches);
+    let ranks = ranks_of(words, starts, sizes, reaches);
     let stands = standing(events);
     let mut chart = [0u64; CHART];
     let mut length = 0;
     while length <= events.len() {
         fill_length(
             words,
-            &starts,
+            starts,
             &ranks,
             sizes,
             &stands,

@@ -13,6 +13,7 @@ use chart::spans::write;
 use families::Finding;
 use families::SETS;
 use filling::fill;
+use grammar::limits::RULES;
 use grammar::limits::SPAN_WORDS;
 use grammar::limits::TABULAR_TOKENS;
 use grammar::reading::Sizes;
@@ -23,17 +24,18 @@ use sets::analyze;
 mod filling;
 
 // Fills the lent words with the nonterminals of every span; whether nonterminal 0 has the whole input.
-fn tabulate(
+fn tabulate<'a>(
     words: &[u32],
+    starts: &'a [usize; RULES],
     sizes: Sizes,
-    reaches: &[u32; SETS],
+    reaches: &'a [u32; SETS],
     events: &[u8],
     spans: &mut [u32],
 ) -> bool
-    requires { ⌜ TabulateGiven (now words) sizes (now reaches) (inputOf (now events)) (now spans) ⌝ }
+    requires { ⌜ TabulateGiven (now words) (now starts) sizes (now reaches) (inputOf (now events)) (now spans) ⌝ }
     ensures { λ r. ⌜ Tabulated (now (words .entry)) (inputOf (now (events .entry))) (now (spans .entry)) r (now (spans .exit)) ⌝ }
 {
-    let chart = fill(words, sizes, reaches, events);
+    let chart = fill(words, starts, sizes, reaches, events);
     write(&chart, sizes.nonterminals, events.len(), spans);
     contains(chart[events.len()], 0)
 }
@@ -53,19 +55,20 @@ fn verdict(accepted: bool) -> Answer
 }
 
 // By what is found of the grammar and the input: why they are refused, or the verdict.
-fn judge_found(
+fn judge_found<'a>(
     words: &[u32],
     finding: Finding,
-    reaches: &[u32; SETS],
+    starts: &'a [usize; RULES],
+    reaches: &'a [u32; SETS],
     events: &[u8],
     spans: &mut [u32],
 ) -> Answer
-    requires { ⌜ FoundGiven (now words) finding (now reaches) (inputOf (now events)) (now spans) ⌝ }
+    requires { ⌜ FoundGiven (now words) finding (now starts) (now reaches) (inputOf (now events)) (now spans) ⌝ }
     ensures { λ r. ⌜ TabularJudges (now (words .entry)) (inputOf (now (events .entry))) (now (spans .entry)) r (now (spans .exit)) ⌝ }
 {
     match finding {
         Finding::Refused(error) => Answer::Refused(error),
-        Finding::Passed(sizes) => verdict(tabulate(words, sizes, reaches, events, spans)),
+        Finding::Passed(sizes) => verdict(tabulate(words, starts, sizes, reaches, events, spans)),
     }
 }
 
@@ -78,5 +81,12 @@ pub fn judge(words: &[u32], events: &[u8], spans: &mut [u32]) -> Answer
     }
     let families = analyze(words, Lookahead::One);
     let finding = with_input(families.finding, events, TABULAR_TOKENS);
-    judge_found(words, finding, &families.reaches, events, spans)
+    judge_found(
+        words,
+        finding,
+        &families.starts,
+        &families.reaches,
+        events,
+        spans,
+    )
 }

@@ -209,7 +209,7 @@ pub judge-faulty : (words input before : List ℕ) {x : Error} → maxSpanWords 
 judge-faulty words input before room f = judge-refused (fault-long words input before room f)
 
 -- by what is found of the grammar and the input
-module _ {words input spans reaches : List ℕ} {f : Finding} (g : FoundGiven words f reaches input spans) where
+module _ {words input spans starts reaches : List ℕ} {f : Finding} (g : FoundGiven words f starts reaches input spans) where
   abbrev faults : ℕ → List (Option Error)
   faults n = inputFaultsTo maxTabularTokens n input
 
@@ -243,14 +243,14 @@ module _ {words input spans reaches : List ℕ} {f : Finding} (g : FoundGiven wo
     unfaulty : Faultless (faults (z .terminals))
     unfaulty = each-none (faults (z .terminals)) (both .faultless)
 
-    pub tabulate-given : TabulateGiven words z reaches input spans
+    pub tabulate-given : TabulateGiven words starts z reaches input spans
     tabulate-given =
         let read = told-sets (both .grammar) .read in
         let k = well-read words z read in
         let known = absent-known (z .terminals) 0 input (none-unknown (unknownFrom (z .terminals) 0 input) (unfaulty .1 .0)) in
         record {
           given = record {
-            read = read;
+            rules = record { read = read; begins = g .begins ∙ told-sets (both .grammar) .begins };
             free = faultless-free words z read (told-sets (both .grammar) .faultless);
             reached = found-reaches (both .grammar);
             input = record {

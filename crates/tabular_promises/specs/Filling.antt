@@ -77,8 +77,8 @@ pub record LengthGiven (words starts ranks : List ℕ) (z : Sizes) (chart : List
   pub short : tokens ≤ maxTabularTokens
   pub within : d ≤ tokens
 
-pub record FillGiven (words : List ℕ) (z : Sizes) (reaches w : List ℕ) : Type 0 where
-  pub read : reading words ≡ Read z
+pub record FillGiven (words starts : List ℕ) (z : Sizes) (reaches w : List ℕ) : Type 0 where
+  pub rules : RulesGiven words starts z
   pub free : NoLeftRecursion (grammarOf words)
   pub reached : reaches ≡ listed maxNonterminals (reachNumber (grammarOf words))
   pub input : InputGiven w

@@ -16,8 +16,8 @@ use Rattle.promises.specs.Inputs.{withInputTo}
 use Rattle.tabular_promises.specs.Filling.{FillGiven}
 use Rattle.tabular_promises.specs.Spans.{Spans, solutionWord}
 
-pub record TabulateGiven (words : List ℕ) (z : Sizes) (reaches w spans : List ℕ) : Type 0 where
-  pub given : FillGiven words z reaches w
+pub record TabulateGiven (words starts : List ℕ) (z : Sizes) (reaches w spans : List ℕ) : Type 0 where
+  pub given : FillGiven words starts z reaches w
   pub room : maxSpanWords ≤ length spans
 
 -- the verdict, and every word of the lent memory
@@ -26,9 +26,10 @@ pub record Tabulated (words w before : List ℕ) (r : Bool) (after : List ℕ) :
   pub memory : Spans (length w) (solutionWord (grammarOf words) w) before after
 
 -- what is found of a grammar and then of an input, and enough words lent
-pub record FoundGiven (words : List ℕ) (f : Finding) (reaches input spans : List ℕ) : Type 0 where
+pub record FoundGiven (words : List ℕ) (f : Finding) (starts reaches input spans : List ℕ) : Type 0 where
   pub families : Families
   pub found : families ≡ familiesOf One words
   pub finding : f ≡ withInputTo maxTabularTokens (families .finding) input
+  pub begins : starts ≡ families .starts
   pub reached : reaches ≡ families .reaches
   pub room : maxSpanWords ≤ length spans

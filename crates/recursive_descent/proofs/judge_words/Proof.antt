@@ -32,7 +32,7 @@ enum-known-finding-2 c = search needs
 
 judge-passed-requires : tie.Need-judge-passed-requires
 judge-passed-requires c κs =
-    let passed = c .before .before .before .before in
+    let passed = c .before .before .before .before .before in
     let looked = passed .before .before in
     let analyzed = looked .before in
     let room = analyzed .before in
@@ -56,7 +56,7 @@ same-length c = search needs
 returns-3 : tie.Need-returns-3
 returns-3 c =
     let judged = c .before .before in
-    let passed = judged .before .before .before .before .before in
+    let passed = judged .before .before .before .before .before .before in
     let looked = passed .before .before in
     let analyzed = looked .before in
     let room = analyzed .before in

@@ -1,4 +1,4 @@
--- What is printed follows from what the check answers and leaves.
+-- What is printed follows from what is found of the grammar and lent of its table.
 use Prim.Native.Nat.{ℕ}
 use lib.ListN.{length-replicate}
 use Rattle.grammar.specs.Codes.{noEntry}
@@ -9,11 +9,14 @@ use borrow.Author.Needs.{needs}
 use Rattle.report.proofs.put_checked.Statement.{statement}
 use Rattle.report.proofs.put_checked.Tie as tie
 
-slice-aggregate-check : tie.Need-slice-aggregate-check
-slice-aggregate-check c = search needs
+find-requires : tie.Need-find-requires
+find-requires c κs = search needs
 
-check-requires : tie.Need-check-requires
-check-requires c κs = search needs
+slice-aggregate-lend : tie.Need-slice-aggregate-lend
+slice-aggregate-lend c = search needs
+
+lend-requires : tie.Need-lend-requires
+lend-requires c κs = search needs
 
 slice-aggregate-put-check : tie.Need-slice-aggregate-put-check
 slice-aggregate-put-check c = search needs
@@ -28,15 +31,17 @@ returns : tie.Need-returns
 unfolding blankTable
 returns c =
     let at-put-check = c .before .before in
-    let at-check = at-put-check .before .before .before .before in
-    put-checked-text (length-replicate {A = ℕ} maxTableWords noEntry) (at-check .check .ensures) (at-put-check .put-check .ensures)
+    let at-lend = at-put-check .before .before .before .before in
+    let at-find = at-lend .before .before in
+    put-checked-text _ (length-replicate {A = ℕ} maxTableWords noEntry) (at-find .find .ensures) (at-lend .lend .ensures) (at-put-check .put-check .ensures)
 
 pub put-checked-spec : {M : Type 1} → statement M
 put-checked-spec =
     tie.close
     (tie.spec
-    slice-aggregate-check
-    check-requires
+    find-requires
+    slice-aggregate-lend
+    lend-requires
     slice-aggregate-put-check
     put-check-requires
     same-length

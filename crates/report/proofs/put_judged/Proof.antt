@@ -1,22 +1,19 @@
--- What is printed follows from what the judge answers and leaves.
+-- What is printed follows from what the judge answers, finds and leaves.
 use Prim.Native.Nat.{ℕ}
 use lib.ListN.{length-replicate}
-use Rattle.grammar.specs.Codes.{noEntry, uncalledCode}
-use Rattle.grammar.specs.Limits.{maxTableWords, maxMemoEntries}
+use Rattle.grammar.specs.Codes.{uncalledCode}
+use Rattle.grammar.specs.Limits.{maxMemoEntries}
 use Rattle.report.specs.Report.{blankMemo}
 use Rattle.report.proofs.Answers.{put-judged-text}
 use borrow.Author.Needs.{needs}
 use Rattle.report.proofs.put_judged.Statement.{statement}
 use Rattle.report.proofs.put_judged.Tie as tie
 
-slice-aggregate-judge : tie.Need-slice-aggregate-judge
-slice-aggregate-judge c = search needs
+slice-aggregate-judge-words : tie.Need-slice-aggregate-judge-words
+slice-aggregate-judge-words c = search needs
 
-slice-aggregate-judge-2 : tie.Need-slice-aggregate-judge-2
-slice-aggregate-judge-2 c = search needs
-
-judge-requires : tie.Need-judge-requires
-judge-requires c κs = search needs
+judge-words-requires : tie.Need-judge-words-requires
+judge-words-requires c κs = search needs
 
 nonterminals-requires : tie.Need-nonterminals-requires
 nonterminals-requires c κs = search needs
@@ -40,17 +37,16 @@ returns c =
     let at-tokens = at-put-judgement .before .before in
     let at-nonterminals = at-tokens .before in
     let at-judge = at-nonterminals .before .before .before .before in
-    let start = at-judge .before .before .before .before .before .before in
-    put-judged-text (start .args .events .now) (length-replicate {A = ℕ} maxTableWords noEntry) (length-replicate {A = ℕ} maxMemoEntries uncalledCode) (at-nonterminals .nonterminals .ensures)
-    (at-tokens .tokens .ensures) (at-judge .judge .ensures) (at-put-judgement .put-judgement .ensures)
+    let start = at-judge .before .before .before .before .before in
+    put-judged-text (start .args .events .now) (length-replicate {A = ℕ} maxMemoEntries uncalledCode) (at-nonterminals .nonterminals .ensures)
+    (at-tokens .tokens .ensures) (at-judge .judge-words .ensures) (at-put-judgement .put-judgement .ensures)
 
 pub put-judged-spec : {M : Type 1} → statement M
 put-judged-spec =
     tie.close
     (tie.spec
-    slice-aggregate-judge
-    slice-aggregate-judge-2
-    judge-requires
+    slice-aggregate-judge-words
+    judge-words-requires
     nonterminals-requires
     tokens-requires
     slice-aggregate-put-judgement

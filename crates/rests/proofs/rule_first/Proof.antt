@@ -3,15 +3,16 @@ use mathlib.Core.Path.{_≡_, ap}
 use Prim.Native.Nat.{_≤_}
 use native.Mathlib.Omega.{arith}
 use lib.ListN.{length, drop}
-use Rattle.families.specs.First.{noRest, insideWords}
+use Rattle.families.specs.First.{noRest, insideWord}
 use Rattle.families.specs.Least.{lookup}
-use Rattle.families.proofs.FirstPasses.{none-inside, one-inside, all-inside}
+use Rattle.families.specs.Rules.{fromEnd}
+use Rattle.families.proofs.Words.{end-none, end-one, end-all}
 use Rattle.rests.proofs.rule_first.Statement.{statement}
 use Rattle.rests.proofs.rule_first.Tie as tie
 
 abbrev Inv-loop : tie.InvT-loop
 Inv-loop words firsts terminals lookahead rest₀ at₀ rest at =
-    (at ≤ length words) × (rest ≡ insideWords lookahead (lookup firsts) (noRest lookahead terminals) (drop at words))
+    (at ≤ length words) × (rest ≡ fromEnd (insideWord lookahead (lookup firsts)) (noRest lookahead terminals) (drop at words))
 
 abbrev μ-loop : tie.MeasureT-loop
 μ-loop words firsts terminals lookahead rest₀ at₀ rest at = at
@@ -22,7 +23,7 @@ no-rest-requires c κs = tt
 loop-holds : tie.Need-loop-holds Inv-loop μ-loop
 loop-holds c =
     let start = c .before .before in
-    (omega arith, none-inside (start .args .lookahead) (lookup (start .args .firsts .now)) _ (start .args .words .now) (c .no-rest .ensures))
+    (omega arith, end-none (insideWord (start .args .lookahead) (lookup (start .args .firsts .now))) _ (start .args .words .now) (c .no-rest .ensures))
 
 sub-at : tie.Need-sub-at Inv-loop μ-loop
 sub-at c = omega arith
@@ -48,7 +49,7 @@ loop-again c =
     let loop = test .before in
     let start = loop .before .before .before in (
       omega (arith, test .loop-test .taken, loop .loop .inv .0),
-      one-inside (start .args .lookahead) (lookup (start .args .firsts .now)) _ (start .args .words .now) (loop .loop .inv .1) (test .loop-test .taken)
+      end-one (insideWord (start .args .lookahead) (lookup (start .args .firsts .now))) _ (start .args .words .now) (loop .loop .inv .1) (test .loop-test .taken)
           (loop .loop .inv .0) (c .before .decode .ensures) (c .inside .ensures),
     )
 
@@ -56,7 +57,7 @@ returns : tie.Need-returns Inv-loop μ-loop
 returns c =
     let loop = c .before .before in
     let start = loop .before .before .before in
-    let rest = all-inside (start .args .lookahead) (lookup (start .args .firsts .now)) _ (start .args .words .now) (loop .loop .inv .1) (c .before .loop-test .left) in
+    let rest = end-all (insideWord (start .args .lookahead) (lookup (start .args .firsts .now))) _ (start .args .words .now) (loop .loop .inv .1) (c .before .loop-test .left) in
     ap (λ x. x .meet .bits) rest
 
 pub rule-first-spec : {M : Type 1} → statement M

@@ -1,63 +1,49 @@
--- By the answer: a refusal, or the sheet.
-use Rattle.sheet_text.specs.Sheet.{checkText}
-use Rattle.text.proofs.Writing.{put-none}
+-- By what is found: a refusal, or the sheet of sizes within the limits.
+use Rattle.sheet_text.proofs.Limited.{limited-sizes}
 use borrow.Author.Needs.{needs}
 use Rattle.sheet_text.proofs.put_check.Statement.{statement}
 use Rattle.sheet_text.proofs.put_check.Tie as tie
 
-enum-known-answer : tie.Need-enum-known-answer
-enum-known-answer c = search needs
+enum-known-finding : tie.Need-enum-known-finding
+enum-known-finding c = search needs
 
 put-refusal-requires : tie.Need-put-refusal-requires
 put-refusal-requires c κs = search needs
 
-enum-told : tie.Need-enum-told
-enum-told c = search needs
+enum-known-finding-2 : tie.Need-enum-known-finding-2
+enum-known-finding-2 c = search needs
+
+limited-sizes-requires : tie.Need-limited-sizes-requires
+limited-sizes-requires c κs = search needs
 
 put-sheet-requires : tie.Need-put-sheet-requires
-put-sheet-requires c κs = search needs
-
-enum-told-2 : tie.Need-enum-told-2
-enum-told-2 c = search needs
-
-enum-told-3 : tie.Need-enum-told-3
-enum-told-3 c = search needs
+put-sheet-requires c κs = rw (c .limited-sizes .ensures) (limited-sizes _)
 
 same-length : tie.Need-same-length
 same-length c = search needs
 
 returns : tie.Need-returns
-unfolding checkText
-returns c = rw (c .before .before .before .before .before .answer .given .1) (c .before .before .put-refusal .ensures)
+returns c = rw (c .before .before .before .before .before .finding .given .1) (c .before .before .put-refusal .ensures)
 
 same-length-2 : tie.Need-same-length-2
 same-length-2 c = search needs
 
 returns-2 : tie.Need-returns-2
-unfolding checkText
-returns-2 c = rw (c .before .before .before .before .enum-told .given .1) (c .before .before .put-sheet .ensures)
-
-returns-3 : tie.Need-returns-3
-unfolding checkText
-returns-3 c = rw (c .enum-told2 .given .1) (put-none _ _)
-
-returns-4 : tie.Need-returns-4
-unfolding checkText
-returns-4 c = rw (c .enum-told3 .given .1) (put-none _ _)
+returns-2 c =
+    let at-sheet = c .before .before in
+    let at-sizes = at-sheet .before in
+    rw (at-sizes .before .before .before .finding2 .given .1, ← at-sizes .limited-sizes .ensures) (at-sheet .put-sheet .ensures)
 
 pub put-check-spec : {M : Type 1} → statement M
 put-check-spec =
     tie.close
     (tie.spec
-    enum-known-answer
+    enum-known-finding
     put-refusal-requires
-    enum-told
+    enum-known-finding-2
+    limited-sizes-requires
     put-sheet-requires
-    enum-told-2
-    enum-told-3
     same-length
     returns
     same-length-2
-    returns-2
-    returns-3
-    returns-4)
+    returns-2)

@@ -19,12 +19,13 @@ with-input-requires c κs = tt
 
 judge-found-requires : tie.Need-judge-found-requires
 judge-found-requires c κs =
-    let at-input = c .before .before .before in
+    let at-input = c .before .before .before .before in
     let at-analyze = at-input .before in
     record {
       families = _;
       found = at-analyze .analyze .ensures;
       finding = at-input .with-input .ensures;
+      begins = refl;
       reached = refl;
       room = omega (arith, at-analyze .before .if1 .left);
     }

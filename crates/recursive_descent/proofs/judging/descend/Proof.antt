@@ -15,9 +15,6 @@ cast-nonterminals c = search needs
 count-requires : tie.Need-count-requires
 count-requires c κs = search needs
 
-rule-starts-requires : tie.Need-rule-starts-requires
-rule-starts-requires c κs = search needs
-
 choices-of-requires : tie.Need-choices-of-requires
 choices-of-requires c κs = search needs
 
@@ -27,16 +24,15 @@ tokens-of-requires c κs = search needs
 call-requires : tie.Need-call-requires
 call-requires c κs =
     let made = c .before .before .before in
-    let sized = made .before .before .before in
-    let counted = sized .before in
+    let counted = made .before .before in
     let cleared = counted .before .before .before .before in
     let start = cleared .before .before .before .before .before in
-    start-given (start .args .events .now) (start .pre) (counted .count .ensures) (sized .rule-starts .ensures) (made .before .choices-of .ensures) (made .tokens-of .ensures)
+    start-given (start .args .events .now) (start .pre) (counted .count .ensures) (made .before .choices-of .ensures) (made .tokens-of .ensures)
     (cleared .clear .ensures)
 
 cast-length : tie.Need-cast-length
 cast-length c =
-    let start = c .before .before .before .before .before .before .before .before .before .before .before .before .before .before .before .before .before .before .before in
+    let start = c .before .before .before .before .before .before .before .before .before .before .before .before .before .before .before .before .before in
     omega (arith, start .pre .ready .short, input-length (start .args .events .now))
 
 tally-requires : tie.Need-tally-requires
@@ -52,11 +48,10 @@ returns : tie.Need-returns
 returns c =
     let called = c .before .before .before .before .before .before in
     let made = called .before .before .before .before in
-    let sized = made .before .before .before in
-    let counted = sized .before in
+    let counted = made .before .before in
     let cleared = counted .before .before .before .before in
     let start = cleared .before .before .before .before .before in
-    descended (start .args .events .now) (start .pre) (counted .count .ensures) (sized .rule-starts .ensures) (made .before .choices-of .ensures) (made .tokens-of .ensures)
+    descended (start .args .events .now) (start .pre) (counted .count .ensures) (made .before .choices-of .ensures) (made .tokens-of .ensures)
     (cleared .clear .ensures) (called .call .ensures) (c .before .before .tally .ensures) (c .before .ends-at .ensures) (rw (c .if1 .taken))
 
 same-length-2 : tie.Need-same-length-2
@@ -66,11 +61,10 @@ returns-2 : tie.Need-returns-2
 returns-2 c =
     let called = c .before .before .before .before .before .before in
     let made = called .before .before .before .before in
-    let sized = made .before .before .before in
-    let counted = sized .before in
+    let counted = made .before .before in
     let cleared = counted .before .before .before .before in
     let start = cleared .before .before .before .before .before in
-    descended (start .args .events .now) (start .pre) (counted .count .ensures) (sized .rule-starts .ensures) (made .before .choices-of .ensures) (made .tokens-of .ensures)
+    descended (start .args .events .now) (start .pre) (counted .count .ensures) (made .before .choices-of .ensures) (made .tokens-of .ensures)
     (cleared .clear .ensures) (called .call .ensures) (c .before .before .tally .ensures) (c .before .ends-at .ensures) (rw (c .if1 .left))
 
 pub descend-spec : {M : Type 1} → statement M
@@ -80,7 +74,6 @@ descend-spec =
     clear-requires
     cast-nonterminals
     count-requires
-    rule-starts-requires
     choices-of-requires
     tokens-of-requires
     call-requires

@@ -7,10 +7,10 @@ use Rattle.recursive_descent.proofs.search.costliest_number.Statement.{
 use Rattle.recursive_descent.proofs.search.costliest_number.Tie as tie
 
 abbrev Inv-loop : tie.InvT-loop
-Inv-loop words sizes entries events₀ memo₀ inputs best₀ number₀ events memo best number = Searching words sizes entries events₀ memo₀ events memo best number
+Inv-loop words sizes starts entries events₀ memo₀ inputs best₀ number₀ events memo best number = Searching words sizes starts entries events₀ memo₀ events memo best number
 
 abbrev μ-loop : tie.MeasureT-loop
-μ-loop words sizes entries events₀ memo₀ inputs best₀ number₀ events memo best number = inputs - number
+μ-loop words sizes starts entries events₀ memo₀ inputs best₀ number₀ events memo best number = inputs - number
 
 count-inputs-requires : tie.Need-count-inputs-requires Inv-loop μ-loop
 count-inputs-requires c κs = search needs

@@ -41,7 +41,7 @@ enum-known-finding-2 c = search needs
 
 slice-relend-prefix-judge-best : tie.Need-slice-relend-prefix-judge-best
 slice-relend-prefix-judge-best c =
-    let passed = c .before .before .before in
+    let passed = c .before .before .before .before in
     let looked = passed .before .before in
     let analyzed = looked .before in
     let space = analyzed .before in
@@ -52,7 +52,7 @@ slice-relend-prefix-judge-best c =
 
 slice-aggregate-judge-best : tie.Need-slice-aggregate-judge-best
 slice-aggregate-judge-best c =
-    let passed = c .before .before .before .before in
+    let passed = c .before .before .before .before .before in
     let looked = passed .before .before in
     let analyzed = looked .before in
     let space = analyzed .before in
@@ -63,7 +63,7 @@ slice-aggregate-judge-best c =
 
 judge-best-requires : tie.Need-judge-best-requires
 judge-best-requires c κs =
-    let passed = c .before .before .before .before .before in
+    let passed = c .before .before .before .before .before .before in
     let looked = passed .before .before in
     let analyzed = looked .before in
     let space = analyzed .before in
@@ -92,7 +92,7 @@ same-length-2 c = search needs
 returns-4 : tie.Need-returns-4
 returns-4 c =
     let judged = c .before .before .before .before in
-    let passed = judged .before .before .before .before .before .before in
+    let passed = judged .before .before .before .before .before .before .before in
     let looked = passed .before .before in
     let analyzed = looked .before in
     let space = analyzed .before in

@@ -5,13 +5,14 @@ use Rattle.grammar.proofs.WellRead.{well-read}
 use Rattle.families.specs.Least.{at as family}
 use Rattle.families.specs.Left.{emptyIn}
 use Rattle.families.proofs.RulePasses.{Turns, turns-start}
-use Rattle.families.proofs.HeadPasses.{Gives, its-turn, its-start, head-below, visit, visits-end}
-use Rattle.families.proofs.LeftPasses.{ruleLeft, rule-larger}
+use Rattle.families.proofs.HeadPasses.{Gives, its-turn, head-below, visit, visits-end}
+use Rattle.families.proofs.LeftPasses.{ruleLeft, rule-larger, rule-given}
 use Rattle.sets.proofs.left.reach_pass.Statement.{statement}
 use Rattle.sets.proofs.left.reach_pass.Tie as tie
 
 abbrev Inv-loop : tie.InvT-loop
-Inv-loop words starts sizes firsts reach₀ forward lookahead grown₀ passed₀ reach grown passed = Turns (Gives (ruleLeft (emptyIn lookahead (family firsts))) words) (sizes .rules) forward reach₀ reach grown passed
+Inv-loop words starts sizes firsts reach₀ forward lookahead grown₀ passed₀ reach grown passed =
+    Turns (Gives (ruleLeft (emptyIn lookahead (family firsts))) words) (sizes .rules) forward reach₀ reach grown passed
 
 abbrev μ-loop : tie.MeasureT-loop
 μ-loop words starts sizes firsts reach₀ forward lookahead grown₀ passed₀ reach grown passed = sizes .rules - passed
@@ -23,22 +24,48 @@ turn-requires : tie.Need-turn-requires Inv-loop μ-loop
 turn-requires c κs = c .if1 .taken
 
 mul-start : tie.Need-mul-start Inv-loop μ-loop
-mul-start c = omega (arith, its-turn (c .before .before .before .before .before .pre) (c .before .before .before .before .before .args .forward) (c .before .if1 .taken) (c .turn .ensures), well-read _ _ (c .before .before .before .before .before .pre .read) .fewRules)
+mul-start c =
+    let test = c .before in
+    let start = test .before .before .before .before in
+    omega (arith, its-turn (start .pre) (start .args .forward) (test .if1 .taken) (c .turn .ensures), well-read _ _ (start .pre .read) .fewRules)
 
 element-copy-out-start : tie.Need-element-copy-out-start Inv-loop μ-loop
-element-copy-out-start c = omega (arith, its-turn (c .before .before .before .before .before .pre) (c .before .before .before .before .before .args .forward) (c .before .if1 .taken) (c .turn .ensures), well-read _ _ (c .before .before .before .before .before .pre .read) .fewRules)
+element-copy-out-start c =
+    let test = c .before in
+    let start = test .before .before .before .before in
+    omega (arith, its-turn (start .pre) (start .args .forward) (test .if1 .taken) (c .turn .ensures), well-read _ _ (start .pre .read) .fewRules)
 
 end-of-requires : tie.Need-end-of-requires Inv-loop μ-loop
-end-of-requires c κs = (c .before .before .before .before .before .before .pre .read, c .before .before .before .before .before .before .pre .begins, its-turn (c .before .before .before .before .before .before .pre) (c .before .before .before .before .before .before .args .forward) (c .before .before .if1 .taken) (c .before .turn .ensures))
+end-of-requires c κs =
+    let turned = c .before in
+    let test = turned .before in
+    let start = test .before .before .before .before in
+    let given = start .pre in
+    (given .read, given .begins, its-turn given (start .args .forward) (test .if1 .taken) (turned .turn .ensures))
+
+add-inside : tie.Need-add-inside Inv-loop μ-loop
+add-inside c = let rule = c .end-of .ensures in omega (arith, rule .some, rule .within)
+
+mul-rule-left : tie.Need-mul-rule-left Inv-loop μ-loop
+mul-rule-left c = let rule = c .end-of .ensures in omega (arith, rule .some, rule .within)
+
+sub-rule-left : tie.Need-sub-rule-left Inv-loop μ-loop
+sub-rule-left c = let rule = c .end-of .ensures in omega (arith, rule .some, rule .within)
+
+part-rule-left-start : tie.Need-part-rule-left-start Inv-loop μ-loop
+part-rule-left-start c = let rule = c .end-of .ensures in omega (arith, rule .some, rule .within)
+
+part-rule-left-end : tie.Need-part-rule-left-end Inv-loop μ-loop
+part-rule-left-end c = let rule = c .end-of .ensures in omega (arith, rule .some, rule .within)
 
 rule-left-requires : tie.Need-rule-left-requires Inv-loop μ-loop
-rule-left-requires c κs = c .before .end-of .ensures
+rule-left-requires c κs = tt
 
 mul-decode : tie.Need-mul-decode Inv-loop μ-loop
-mul-decode c = omega (arith, its-start (c .before .before .before .before .before .before .before .before .before .pre) (c .before .before .before .before .before .before .before .before .before .args .forward) (c .before .before .before .before .before .if1 .taken) (c .before .before .before .before .turn .ensures))
+mul-decode c = let rule = c .before .before .before .end-of .ensures in omega (arith, rule .some, rule .within)
 
 shared-slice-read-decode : tie.Need-shared-slice-read-decode Inv-loop μ-loop
-shared-slice-read-decode c = omega (arith, its-start (c .before .before .before .before .before .before .before .before .before .before .pre) (c .before .before .before .before .before .before .before .before .before .before .args .forward) (c .before .before .before .before .before .before .if1 .taken) (c .before .before .before .before .before .turn .ensures))
+shared-slice-read-decode c = let rule = c .before .before .before .before .end-of .ensures in omega (arith, rule .some, rule .within)
 
 decode-requires : tie.Need-decode-requires Inv-loop μ-loop
 decode-requires c κs = tt
@@ -47,24 +74,42 @@ head-of-requires : tie.Need-head-of-requires Inv-loop μ-loop
 head-of-requires c κs = tt
 
 add-nonterminals-requires : tie.Need-add-nonterminals-requires Inv-loop μ-loop
-add-nonterminals-requires c κs = head-below (c .before .before .before .before .before .before .before .before .before .before .before .before .before .pre) (c .before .before .before .before .before .before .before .before .before .before .before .before .before .args .forward) (c .before .before .before .before .before .before .before .before .before .if1 .taken) (c .before .before .before .before .before .before .before .before .turn .ensures) (c .before .before .decode .ensures) (c .before .head-of .ensures)
+add-nonterminals-requires c κs =
+    let head-of = c .before in
+    let decode = head-of .before in
+    let turned = decode .before .before .before .before .before .before .before in
+    let test = turned .before in
+    let start = test .before .before .before .before in
+    head-below (start .pre) (start .args .forward) (test .if1 .taken) (turned .turn .ensures) (decode .decode .ensures) (head-of .head-of .ensures)
 
 either-requires : tie.Need-either-requires Inv-loop μ-loop
 either-requires c κs = tt
 
 add-passed : tie.Need-add-passed Inv-loop μ-loop
-add-passed c = omega (arith, c .before .before .before .before .before .before .before .before .before .before .before .if1 .taken)
+add-passed c = let test = c .before .before .before .before .before .before .before .before .before .before .before .before in omega (arith, test .if1 .taken)
 
 loop-less : tie.Need-loop-less Inv-loop μ-loop
-loop-less c = omega (arith, c .before .before .before .before .before .before .before .before .before .before .before .if1 .taken)
+loop-less c = let test = c .before .before .before .before .before .before .before .before .before .before .before .before in omega (arith, test .if1 .taken)
 
 loop-again : tie.Need-loop-again Inv-loop μ-loop
 loop-again c =
-    visit (c .before .before .before .before .before .before .before .before .before .before .before .before .before .before .before .pre) (ruleLeft _) (rule-larger _) (c .before .before .before .before .before .before .before .before .before .before .before .before .before .before .before .args .forward) _ (c .before .before .before .before .before .before .before .before .before .before .before .before .before .loop .inv) (c .before .before .before .before .before .before .before .before .before .before .before .if1 .taken) (c .before .before .before .before .before .before .before .before .before .before .turn .ensures) (c .before .before .before .before .before .before .rule-left .ensures)
-    (c .before .before .before .before .decode .ensures) (c .before .before .before .head-of .ensures) (c .before .add-nonterminals .ensures) (c .either .ensures)
+    let head-of = c .before .before .before in
+    let decode = head-of .before in
+    let left = decode .before .before in
+    let end-of = left .before .before .before in
+    let turned = end-of .before .before in
+    let test = turned .before in
+    let loop = test .before .before in
+    let start = loop .before .before in
+    visit (start .pre) (ruleLeft _) (rule-larger _) (start .args .forward) _ (loop .loop .inv) (test .if1 .taken) (turned .turn .ensures)
+    (rule-given (end-of .end-of .ensures) _ _ (left .rule-left .ensures)) (decode .decode .ensures) (head-of .head-of .ensures)
+    (c .before .add-nonterminals .ensures) (c .either .ensures)
 
 returns : tie.Need-returns Inv-loop μ-loop
-returns c = visits-end (c .before .before .before .before .pre) (ruleLeft _) (rule-larger _) (c .before .before .before .before .args .forward) (c .before .before .loop .inv) (c .if1 .left)
+returns c =
+    let loop = c .before .before in
+    let start = loop .before .before in
+    visits-end (start .pre) (ruleLeft _) (rule-larger _) (start .args .forward) (loop .loop .inv) (c .if1 .left)
 
 pub reach-pass-spec : {M : Type 1} → statement M
 reach-pass-spec =
@@ -77,6 +122,11 @@ reach-pass-spec =
     mul-start
     element-copy-out-start
     end-of-requires
+    add-inside
+    mul-rule-left
+    sub-rule-left
+    part-rule-left-start
+    part-rule-left-end
     rule-left-requires
     mul-decode
     shared-slice-read-decode

@@ -1,6 +1,6 @@
 -- Both sets are empty.
-use Rattle.sets.proofs.left.no_left.Statement.{statement}
-use Rattle.sets.proofs.left.no_left.Tie as tie
+use Rattle.lefts.proofs.no_left.Statement.{statement}
+use Rattle.lefts.proofs.no_left.Tie as tie
 
 empty-requires : tie.Need-empty-requires
 empty-requires c κs = tt

@@ -1,0 +1,95 @@
+// What is at the left of a body and of a rule, with all that this left-reaches, made longer by one word at a time from the end.
+ghost use mathlib.Core.Path.{_≡_};
+ghost use Rattle.families.specs.Least.{at as family};
+ghost use Rattle.families.specs.Left.{emptyIn, ownLeft, lefts, insideLeft};
+ghost use Rattle.families.specs.Rules.{fromEnd};
+use families::Left;
+use families::SETS;
+use families::nonterminals::Nonterminals;
+use lookahead::Lookahead;
+use lookahead::nothing;
+use lookahead_sets::LookaheadSet;
+use word::Symbol;
+use word::Word;
+use word::decode;
+
+fn no_left() -> Left
+    ensures { λ r. ⌜ r ≡ lefts 0 0 ⌝ }
+{
+    Left {
+        body: Nonterminals::empty(),
+        rule: Nonterminals::empty(),
+    }
+}
+
+// What is at the left of a body that begins with a symbol: the nonterminal and, if it is nullable, what is at the left behind it.
+fn symbol_left(
+    symbol: Symbol,
+    behind: Nonterminals,
+    firsts: &[u64; SETS],
+    reach: &[u32; SETS],
+    lookahead: Lookahead,
+) -> Nonterminals
+    ensures { λ r. ⌜ r .bits ≡ ownLeft (emptyIn lookahead (family (now (firsts .entry)))) (family (now (reach .entry))) symbol (behind .bits) ⌝ }
+{
+    let Symbol::Nonterminal(number) = symbol else {
+        return Nonterminals::empty();
+    };
+    let at = number as usize;
+    if SETS <= at {
+        return Nonterminals::empty();
+    }
+    let alone = Nonterminals::alone(number);
+    let reached = Nonterminals { bits: reach[at] };
+    let own = alone.join(reached);
+    let first = LookaheadSet { bits: firsts[at] };
+    if first.contains(nothing(lookahead)) {
+        own.join(behind)
+    } else {
+        own
+    }
+}
+
+// The same with a word inside a rule in front.
+fn inside_left(
+    word: Word,
+    left: Left,
+    firsts: &[u64; SETS],
+    reach: &[u32; SETS],
+    lookahead: Lookahead,
+) -> Left
+    ensures { λ r. ⌜ r ≡ insideLeft (emptyIn lookahead (family (now (firsts .entry)))) (family (now (reach .entry))) word left ⌝ }
+{
+    let body = left.body;
+    let rule = left.rule;
+    let Word::Symbol(symbol) = word else {
+        return Left {
+            body: Nonterminals::empty(),
+            rule: body.join(rule),
+        };
+    };
+    Left {
+        body: symbol_left(symbol, body, firsts, reach, lookahead),
+        rule,
+    }
+}
+
+// What is at the left of the bodies of a rule, by the words inside it.
+pub fn rule_left(
+    words: &[u32],
+    firsts: &[u64; SETS],
+    reach: &[u32; SETS],
+    lookahead: Lookahead,
+) -> Nonterminals
+    ensures { λ r. ⌜ r .bits ≡ fromEnd (insideLeft (emptyIn lookahead (family (now (firsts .entry)))) (family (now (reach .entry))))
+        (lefts 0 0) (now (words .entry)) .rule .bits ⌝ }
+{
+    let mut left = no_left();
+    let mut at = words.len();
+    while 0 < at {
+        at = at - 1;
+        let word = decode(words[at]);
+        left = inside_left(word, left, firsts, reach, lookahead);
+    }
+    left.rule
+}
