@@ -1,4 +1,4 @@
-// The words of all vertices, made before the tree is written.
+// The words of all vertices, made before the tree is written; places past the input's end have none.
 ghost use Rattle.event.specs.Events.{inputOf};
 ghost use Rattle.tree_writer_promises.specs.Labels.{LabelsGiven, Labelled};
 use grammar::limits::MEMO_ENTRIES;
@@ -18,10 +18,14 @@ pub(crate) fn labels_of(
     let mut labels = [0u32; MEMO_ENTRIES];
     let mut at = 0;
     while at < sizes.nonterminals as usize * PLACES {
-        let nonterminal = (at / PLACES) as u8;
-        let place = (at % PLACES) as u16;
-        labels[at] = label(sizes, events, table, memo, nonterminal, place);
-        at = at + 1;
+        let place = at % PLACES;
+        if events.len() < place {
+            at = at + (PLACES - place);
+        } else {
+            let nonterminal = (at / PLACES) as u8;
+            labels[at] = label(sizes, events, table, memo, nonterminal, place as u16);
+            at = at + 1;
+        }
     }
     labels
 }

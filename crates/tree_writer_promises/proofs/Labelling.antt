@@ -1,7 +1,7 @@
 -- The words of the vertices, one after the other: each index is that of one nonterminal and place.
 use mathlib.Core.Path.{_≡_, sym, ap, _∙_}
 use mathlib.Core.List.{List}
-use Prim.Native.Nat.{ℕ, suc, _+_, _*_, _/_, _%_, _≤_, _<_}
+use Prim.Native.Nat.{ℕ, suc, _+_, _-_, _*_, _/_, _%_, _≤_, _<_}
 use native.Mathlib.Decide.{ℕ-discrete}
 use native.Mathlib.Omega.{arith}
 use lib.ListN.{length, getD, set, replicate, length-set, length-replicate}
@@ -54,6 +54,11 @@ module _ (events : List ℕ) {z : Sizes} {table memo : List ℕ} where
       go A i l a p (yes e) =
           ap (λ k. getD (set labels at r) k 0) e ∙ getD-set-same labels at r 0 (omega (arith, b .long)) ∙ h .word A i (sym e) a p
       go A i l a p (no e) = getD-set-other labels at (A * maxPlaces + i) r 0 e ∙ b .word A i (omega (arith, e)) a p
+
+  -- and past the end of a row none
+  pub labels-past : {at : ℕ} {labels : List ℕ} → length events ≤ maxTokens → length events < at % maxPlaces → LabelledBelow z (inputOf events) table memo at labels
+      → LabelledBelow z (inputOf events) table memo (at + (maxPlaces - at % maxPlaces)) labels
+  labels-past {at} short h b = record { long = b .long; word = λ A i l a p. b .word A i (omega (arith, input-length events)) a p }
 
   pub labels-all : {at : ℕ} {labels : List ℕ} → LabelsGiven z (inputOf events) → z .nonterminals * maxPlaces ≤ at → LabelledBelow z (inputOf events) table memo at labels
       → Labelled z (inputOf events) table memo labels
