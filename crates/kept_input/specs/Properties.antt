@@ -9,8 +9,10 @@ use Rattle.answer.specs.Numbers.{numbers}
 use Rattle.answer.specs.Faults.{refusedOr, toldOr}
 use Rattle.grammar.specs.Limits.{maxTokens}
 use Rattle.event.specs.Events.{inputOf}
+use Rattle.lookahead.specs.declared.Lookahead.{Lookahead}
+use Rattle.lookahead.specs.declared.Lookahead.the-variants.{One}
 use Rattle.recognizer_promises.specs.Answers.{passedNumbers}
-use Rattle.recognizer_promises.specs.Properties.{Judges}
+use Rattle.recognizer_promises.specs.Properties.{JudgesBy}
 use Rattle.kept_input.specs.declared.Progress.{Progress}
 use Rattle.kept_input.specs.declared.KeptInput.{KeptInput}
 use Rattle.kept_input.specs.declared.Moved.{Moved}
@@ -43,13 +45,17 @@ pub record Moves (t : Step) (before : Progress) (r : Moved) : Type 0 where
   pub steps : (events : List ℕ) → length events ≡ maxTokens
       → Steps t (keptInput events before) (record { answer = r .answer; kept = keptInput events (r .progress) })
 
--- judging what is kept
-pub record JudgesKept (words : List ℕ) (kept : KeptInput) (table memo : List ℕ) (r : Answer) (table′ memo′ : List ℕ) : Type 0 where
+-- judging what is kept, with a lookahead
+pub record JudgesKeptBy (k : Lookahead) (words : List ℕ) (kept : KeptInput) (table memo : List ℕ) (r : Answer) (table′ memo′ : List ℕ) : Type 0 where
   -- all that judging promises of the events that the value holds, which are never too many for it
-  pub judges : Judges words (inputOf (held kept .events)) table memo r table′ memo′
+  pub judges : JudgesBy k words (inputOf (held kept .events)) table memo r table′ memo′
   pub short : length (inputOf (held kept .events)) ≤ maxTokens
   -- whichever history from an empty input without checkpoints left it, the judgement is that of the events which the history leaves, taken afresh
   -- with the same grammar and lent memory
   pub afresh : (history : List Step) → held kept ≡ ran history empty → (a : Answer) (table″ memo″ : List ℕ)
-      → Judges words (inputOf (ran history empty .events)) table memo a table″ memo″
+      → JudgesBy k words (inputOf (ran history empty .events)) table memo a table″ memo″
       → (r ≡ a) × (table′ ≡ table″) × (memo′ ≡ memo″)
+
+-- the same with one token of lookahead (document 01)
+abbrev pub JudgesKept : (words : List ℕ) (kept : KeptInput) (table memo : List ℕ) (r : Answer) (table′ memo′ : List ℕ) → Type 0
+JudgesKept = JudgesKeptBy One
