@@ -167,8 +167,8 @@ uint64_t vinegarspit_judge2(const uint32_t *card, size_t card_len, const uint8_t
                             uint64_t *table2, size_t table2_len, uint16_t *memo, size_t memo_len);
 
 /* A log that is kept between calls and grows event by event, with marks to return to. It stands in memory of the caller's: its events, as they came,
- * in events, and in state[0] its length, in state[1 + m] the length that mark m notes, or NOT_SET. The empty log without marks has state[0] 0 and
- * NOT_SET in all others; its events may be any.
+ * in events, and in state[0] its length, in state[1 + m] the length that mark m notes, or NOT_SET. Begin with the empty log without marks: state[0] is 0
+ * and NOT_SET in all others; its events may be any. A state of zeros alone is an empty log too, but all its marks are set, at 0.
  *
  * Any values may be passed: a length over 412 reads as 412, a mark beyond the length as not set. A call that passes writes the state as it was
  * read and changed. Events behind the log are kept as they are.
@@ -176,7 +176,7 @@ uint64_t vinegarspit_judge2(const uint32_t *card, size_t card_len, const uint8_t
  * log_add adds an event, log_mark has a mark note the length, which moves one that is set, and log_return cuts the log where a mark was set:
  * marks beyond that length are cleared, those at it stay, and what was cleared stays so until it is marked again. Each answers PASSED or REFUSED.
  *
- * REFUSED: nothing is written. The first of these that holds in its own call:
+ * REFUSED: nothing is changed. The first of these that holds in its own call:
  *   21  log_add: the log is full, with 412 events                    0
  *   19  log_mark and log_return: mark is over 7                      0
  *   20  log_return: the mark is not set                              0 */
@@ -187,6 +187,10 @@ uint64_t vinegarspit_log_return(uint16_t state[VINEGARSPIT_LOG_STATE], uint32_t 
 /* Judges a kept log: answer, table and memo are those of vinegarspit_judge on the events that it has. It is never refused with 10. */
 uint64_t vinegarspit_log_judge(const uint32_t *card, size_t card_len, const uint8_t events[VINEGARSPIT_LOG_EVENTS],
                                const uint16_t state[VINEGARSPIT_LOG_STATE], uint32_t *table, size_t table_len, uint16_t *memo, size_t memo_len);
+
+/* Judges a kept log with two events of lookahead: answer, table2 and memo are those of vinegarspit_judge2 on the events that it has. */
+uint64_t vinegarspit_log_judge2(const uint32_t *card, size_t card_len, const uint8_t events[VINEGARSPIT_LOG_EVENTS],
+                                const uint16_t state[VINEGARSPIT_LOG_STATE], uint64_t *table2, size_t table2_len, uint16_t *memo, size_t memo_len);
 
 /* Finds the costliest log of a length: of all logs of so many events the one with the greatest count, the first in the order of the letters (the
  * first event weighs most) where several have it. Writes it to log[0] and the bytes behind it, and judges it.
