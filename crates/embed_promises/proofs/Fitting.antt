@@ -34,7 +34,8 @@ use Rattle.recognizer_promises.proofs.Checking.{passed-fault, passed-encodes, p
 use Rattle.recognizer_promises.proofs.JudgeFaults.{judged-readable}
 use Rattle.recognizer_promises.proofs.Judged.{verdict-unrefused}
 use Rattle.recognizer_promises.proofs.CallErrors.{check-each, judge-each, costliest-each}
-use Rattle.recognizer_promises.specs.Costliest.{costliestInput, costliestFault, JudgesCostliest}
+use Rattle.recognizer_promises.specs.CostliestInput.{costliestInput, costliestFault}
+use Rattle.recognizer_promises.specs.Costliest.{JudgesCostliest}
 use Rattle.usage.specs.declared.Usage.{Usage}
 use Rattle.client_records.specs.declared.Served.{Served}
 use Rattle.client_records.specs.Usages.{clients, calledBy, sumBelow}

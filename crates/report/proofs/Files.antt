@@ -15,6 +15,8 @@ use Rattle.grammar.specs.Codes.{noEntry, uncalledCode}
 use Rattle.grammar.specs.Limits.{maxWords, maxTableWords, maxMemoEntries}
 use Rattle.lookahead.specs.declared.Lookahead.the-variants.{One}
 use Rattle.promises.proofs.Leaving.{leaves, leaves-alike}
+use Rattle.promises.proofs.Directions.{directions-ignored}
+use Rattle.base.specs.Choice.{choose}
 use Rattle.recognizer_promises.specs.Answers.{judgeFault}
 use Rattle.recognizer_promises.specs.Properties.{Judges}
 use Rattle.recognizer_promises.proofs.Judged.{judges}
@@ -68,12 +70,24 @@ not-found {bytes} {before} {after} {r} l told = go (areWords bytes) refl
     go false e = e
 
 -- what is printed is judged with blank memories
+blank-table : length blankTable ≡ maxTableWords
+unfolding blankTable
+blank-table = length-replicate {A = ℕ} maxTableWords noEntry
+
+blank-memo : length blankMemo ≡ maxMemoEntries
+unfolding blankMemo
+blank-memo = length-replicate {A = ℕ} maxMemoEntries uncalledCode
+
 judged-blank : (words input : List ℕ) → Judges One words input blankTable blankMemo (judgedAnswer words input) (judgedTable words input) (judgedMemo words input)
-judged-blank words input = judges (leaves-alike same (leaves refl (refl, (refl, tt))))
-  where
-    same : judgeFault One (length blankTable) (length blankMemo) words input ≡ judgedFault words input
-    unfolding blankTable blankMemo
-    same = ap₂ (λ a b. judgeFault One a b words input) (length-replicate {A = ℕ} maxTableWords noEntry) (length-replicate {A = ℕ} maxMemoEntries uncalledCode)
+judged-blank words input =
+    judges (leaves-alike (ap₂ (λ a b. judgeFault One a b words input) blank-table blank-memo) (leaves refl (refl, (refl, tt))))
+
+-- what is printed of a log goes by the input that its events are, so directions change nothing
+pub judgement-ignores : (bytes events turned : List ℕ) → inputOf events ≡ inputOf turned → judgementOf bytes events ≡ judgementOf bytes turned
+unfolding judgementOf
+judgement-ignores bytes events turned e =
+    directions-ignored (λ input text. text ≡ choose (areWords bytes) (judgedText (wordsOf bytes) input) (refusalText Length)) (λ w l m p q. p ∙ sym q)
+    events turned e _ _ refl refl
 
 module _ {l m : List ℕ} {k : ℕ} where
   pub printed : {room : ℕ} {text : List ℕ} → length text ≤ room → Put l 0 text m k → Printed room text l m k
