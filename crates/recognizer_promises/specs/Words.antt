@@ -17,7 +17,7 @@ use Rattle.admission.specs.Admission.{Fits, admission}
 use Rattle.table.specs.Layout.{tableWords, tableRoom}
 use Rattle.recognizer_promises.specs.LeastFamilies.{LeastFamilies, StrungFamilies}
 
--- need not be believed: reading, grammarOf (faithful); admission (admits)
+-- need not be believed: reading, grammarOf (faithful)
 pub record Understood (k : Lookahead) (words : List ℕ) : Type 0 where
   -- the refusals 3 to 7, and the grammar of the words, are told without the reading that finds them
   pub faithful : FaithfulReading words
