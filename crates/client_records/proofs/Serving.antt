@@ -6,7 +6,6 @@ use mathlib.Core.Logic.{_↔_}
 use mathlib.Core.Option.{Option, none, some}
 use Prim.Native.Nat.{ℕ, _≤_, _<_}
 use native.Mathlib.Omega.{arith}
-use lib.Dec.{leb}
 use lib.ListN.{length, set}
 use borrow.Author.Tests.{le-leb, lt-leb}
 use Rattle.answer.specs.declared.Error.{Error}
@@ -53,29 +52,29 @@ module _ (client share limit : ℕ) (f : ℕ → ℕ) (table memo : ℕ) (words 
     unfolding clientFault
     first-quota e = rw (lt-leb clients client h, e)
 
-    pub then-judged : reached ≡ false → fault ≡ judgeFault table memo words input
+    pub then-judged : reached ≡ false → fault ≡ judgeFault One table memo words input
     unfolding clientFault
-    then-judged e = rw (lt-leb clients client h, e) (alone (judgeFault table memo words input))
+    then-judged e = rw (lt-leb clients client h, e) (alone (judgeFault One table memo words input))
 
 -- the answer and the memories of a refusal
 answers-refused : {x : Error} {f : Option Error} (words input table memo : List ℕ) (us : List Usage) → f ≡ some x
     → Answers f words input table memo (record { answer = Refused x; usages = us }) table memo
 answers-refused words input table memo us e = record {
-  answer = sym (ap (λ g. refusedOr g (verdictOf (grammarOf words) input)) e);
-  told = sym (ap (λ g. toldOr g (verdictNumbers (grammarOf words) input)) e);
+  answer = sym (ap (λ g. refusedOr g (verdictOf One (grammarOf words) input)) e);
+  told = sym (ap (λ g. toldOr g (verdictNumbers One (grammarOf words) input)) e);
   lent-table = sym (ap (λ g. lentBack g (tableWords One (grammarOf words)) table) e);
-  lent-memo = sym (ap (λ g. lentBack g (memoWords (grammarOf words) input) memo) e);
+  lent-memo = sym (ap (λ g. lentBack g (memoWords One (grammarOf words) input) memo) e);
 }
 
 -- and of judging
 answers-judged : {f : Option Error} {words input table memo table′ memo′ : List ℕ} {a : Answer} (us : List Usage)
-    → f ≡ judgeFault (length table) (length memo) words input → Judges words input table memo a table′ memo′
+    → f ≡ judgeFault One (length table) (length memo) words input → Judges One words input table memo a table′ memo′
     → Answers f words input table memo (record { answer = a; usages = us }) table′ memo′
 answers-judged {words = words} {input} {table} {memo} us e j = record {
-  answer = j .answer ∙ sym (ap (λ g. refusedOr g (verdictOf (grammarOf words) input)) e);
-  told = j .told ∙ sym (ap (λ g. toldOr g (verdictNumbers (grammarOf words) input)) e);
+  answer = j .answer ∙ sym (ap (λ g. refusedOr g (verdictOf One (grammarOf words) input)) e);
+  told = j .told ∙ sym (ap (λ g. toldOr g (verdictNumbers One (grammarOf words) input)) e);
   lent-table = j .lent-table ∙ sym (ap (λ g. lentBack g (tableWords One (grammarOf words)) table) e);
-  lent-memo = j .lent-memo ∙ sym (ap (λ g. lentBack g (memoWords (grammarOf words) input) memo) e);
+  lent-memo = j .lent-memo ∙ sym (ap (λ g. lentBack g (memoWords One (grammarOf words) input) memo) e);
 }
 
 module _ (client share limit : ℕ) (us : List Usage) (eight : length us ≡ clients) (words input table memo : List ℕ) where
@@ -84,7 +83,7 @@ module _ (client share limit : ℕ) (us : List Usage) (eight : length us ≡ cli
 
   -- what follows from the answer and the record
   serves : {r : Served} {table′ memo′ : List ℕ} → Answers Before words input table memo r table′ memo′
-      → (client < clients → (UsedUp client share limit (calledBy us) → ⊥) → Judges words input table memo (r .answer) table′ memo′)
+      → (client < clients → (UsedUp client share limit (calledBy us) → ⊥) → Judges One words input table memo (r .answer) table′ memo′)
       → (r .answer ≡ Refused UnknownClient) ↔ (clients ≤ client)
       → (r .answer ≡ Refused QuotaReached) ↔ UsedUp client share limit (calledBy us)
       → r .usages ≡ charged client (r .answer) us
@@ -126,7 +125,7 @@ module _ (client share limit : ℕ) (us : List Usage) (eight : length us ≡ cli
         (λ _. used, λ _. refl)
         (charged-client client (Refused QuotaReached) us h c)
 
-    pub judged : {u : Usage} {a : Answer} {table′ memo′ : List ℕ} → b ≡ false → Judges words input table memo a table′ memo′
+    pub judged : {u : Usage} {a : Answer} {table′ memo′ : List ℕ} → b ≡ false → Judges One words input table memo a table′ memo′
         → u ≡ counted (usageOfClient us client) a
         → JudgesFor client share limit words input table memo us (record { answer = a; usages = set us client u }) table′ memo′
     judged {a = a} t j c = serves

@@ -2,6 +2,7 @@
 use mathlib.Core.Path.{_≡_, refl, ap, _∙_}
 use mathlib.Core.List.{List}
 use Prim.Native.Nat.{ℕ}
+use Rattle.lookahead.specs.declared.Lookahead.the-variants.{One}
 use Rattle.answer.specs.declared.Answer.{Answer}
 use Rattle.event.specs.Events.{inputOf}
 use Rattle.recognizer_promises.specs.Properties.{Judges}
@@ -19,7 +20,7 @@ run-holds (next {l = l} r s rest) = run-holds rest ∙ ap (ran l) (s .holds)
 
 run-judged : {first last : KeptInput} {l : List Step} → held first ≡ empty → Run first l last
     → {words table memo table′ memo′ table″ memo″ : List ℕ} {r a : Answer} → JudgesKept words last table memo r table′ memo′
-    → Judges words (inputOf (ran l empty .events)) table memo a table″ memo″
+    → Judges One words (inputOf (ran l empty .events)) table memo a table″ memo″
     → (r ≡ a) × (table′ ≡ table″) × (memo′ ≡ memo″)
 run-judged {l = l} e run j h = j .afresh l (run-holds run ∙ ap (ran l) e) _ _ _ h
 

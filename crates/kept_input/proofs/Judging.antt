@@ -18,11 +18,11 @@ use Rattle.kept_input.specs.Stored.{readLength, held}
 use Rattle.kept_input.specs.Properties.{JudgesKept}
 
 pub judges-kept : {words table memo table′ memo′ : List ℕ} {r : Answer} (kept : KeptInput) → length (kept .events) ≡ maxTokens → (n : ℕ) → n ≡ readLength (kept .progress)
-    → Judges words (inputOf (take n (kept .events))) table memo r table′ memo′
+    → Judges One words (inputOf (take n (kept .events))) table memo r table′ memo′
     → JudgesKept words kept table memo r table′ memo′
 unfolding held
 judges-kept {words} {table} {memo} {table′} {memo′} {r} kept whole n e j =
-    let judged : Judges words (inputOf (held kept .events)) table memo r table′ memo′ = rw (← e) j in
+    let judged : Judges One words (inputOf (held kept .events)) table memo r table′ memo′ = rw (← e) j in
     let events-length : length (take (readLength (kept .progress)) (kept .events)) ≡ readLength (kept .progress)
     = length-take-le (readLength (kept .progress)) (kept .events) (omega (arith, whole)) in
     record {

@@ -3,6 +3,7 @@ use mathlib.Core.Path.{_≡_}
 use mathlib.Core.List.{List}
 use Prim.Native.Nat.{ℕ, _≤_}
 use lib.ListN.{length, replicate}
+use Rattle.lookahead.specs.declared.Lookahead.the-variants.{One}
 use Rattle.answer.specs.declared.Answer.{Answer}
 use Rattle.answer.specs.declared.Answer.the-variants.{Passed}
 use Rattle.answer.specs.Numbers.{numbers}
@@ -41,10 +42,10 @@ pub record Moves (t : Step) (before : Progress) (r : Moved) : Type 0 where
 -- judging what is kept
 pub record JudgesKept (words : List ℕ) (kept : KeptInput) (table memo : List ℕ) (r : Answer) (table′ memo′ : List ℕ) : Type 0 where
   -- all that judging promises of the events that the value holds, which are never too many for it
-  pub judges : Judges words (inputOf (held kept .events)) table memo r table′ memo′
+  pub judges : Judges One words (inputOf (held kept .events)) table memo r table′ memo′
   pub short : length (inputOf (held kept .events)) ≤ maxTokens
   -- whichever history from an empty input without checkpoints left it, the judgement is that of the events which the history leaves, taken afresh
   -- with the same grammar and lent memory
   pub afresh : (history : List Step) → held kept ≡ ran history empty → (a : Answer) (table″ memo″ : List ℕ)
-      → Judges words (inputOf (ran history empty .events)) table memo a table″ memo″
+      → Judges One words (inputOf (ran history empty .events)) table memo a table″ memo″
       → (r ≡ a) × (table′ ≡ table″) × (memo′ ≡ memo″)

@@ -4,6 +4,7 @@ use mathlib.Core.List.{List, [], _∷_, _++_, List·Memᴰ}
 use mathlib.Core.Option.{none, some}
 use Prim.Native.Nat.{ℕ, _≤_, _<_}
 use lib.ListN.{length, take}
+use Rattle.lookahead.specs.declared.Lookahead.the-variants.{One}
 use Rattle.answer.specs.declared.Answer.{Answer}
 use Rattle.answer.specs.declared.Error.{Error}
 use Rattle.answer.specs.declared.Error.the-variants.{UnknownCheckpoint, CheckpointNotSet, InputFull}
@@ -34,7 +35,7 @@ pub record HistoriesKept : Type 0 where
   -- from an empty input without checkpoints a judgement is that of the events which the history leaves, taken afresh with the same grammar and memory
   pub judged : {first last : KeptInput} {l : List Step} → held first ≡ empty → Run first l last
       → {words table memo table′ memo′ table″ memo″ : List ℕ} {r a : Answer} → JudgesKept words last table memo r table′ memo′
-      → Judges words (inputOf (ran l empty .events)) table memo a table″ memo″
+      → Judges One words (inputOf (ran l empty .events)) table memo a table″ memo″
       → (r ≡ a) × (table′ ≡ table″) × (memo′ ≡ memo″)
   pub sound : (l : List Step) → Sound (ran l empty)
 

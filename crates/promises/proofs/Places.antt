@@ -20,11 +20,13 @@ use Rattle.event.specs.declared.Unknown.{Unknown}
 use Rattle.event.specs.declared.Unknown.the-variants.{Absent, At}
 use Rattle.event.specs.Unknown.{unknownFault}
 use Rattle.grammar.specs.Syntax.{Grammar, WellScoped}
+use Rattle.lookahead.specs.declared.Lookahead.{Lookahead}
+use Rattle.lookahead.specs.Lookaheads.{tokens}
 use Rattle.semantics.specs.LeftRecursion.{lowestLeftRecursive, NoLeftRecursion}
 use Rattle.semantics.specs.Productive.{lowestUnproductive}
 use Rattle.semantics.proofs.Theorems.{theorems}
 use Rattle.families.specs.Analysis.{leftFault, unproductiveFault}
-use Rattle.promises.specs.Places.{LowestRecursive, LowestUnproductiveBy}
+use Rattle.promises.specs.Places.{LowestRecursive, LowestUnproductive}
 
 -- not 10 and not 11, the refusals of an input
 pub record OfGrammar (e : Error) : Type 0 where
@@ -87,22 +89,22 @@ module _ (behind : List (Option Error)) (other : (e : Error) → firstFault behi
   unproductive-told (some B) u A = (λ e. absurd (omega (arith, fault-number e)), λ e. absurd (Option·some-ne-none B (e .0)))
 
   -- what an answer tells, in the words of the grammar
-  module _ (k : ℕ) (G : Grammar) (scoped : WellScoped G) {r : Answer} (t : Tells (faultBy behind (lowestLeftRecursive G) (lowestUnproductive G k)) r) where
+  module _ (k : Lookahead) (G : Grammar) (scoped : WellScoped G) {r : Answer} (t : Tells (faultBy behind (lowestLeftRecursive G) (lowestUnproductive G (tokens k))) r) where
     pub lowest-recursive : (A : ℕ) → (r ≡ Refused (LeftRecursive A)) ↔ LowestRecursive G A
     lowest-recursive A =
         let told = t (LeftRecursive A) record { length = omega arith; token = omega arith } in
-        let left = left-told (lowestLeftRecursive G) (lowestUnproductive G k) A in
+        let left = left-told (lowestLeftRecursive G) (lowestUnproductive G (tokens k)) A in
         let decided = theorems .left-recursion-decided G scoped .lowest A in (
           λ e. let h = decided .0 (left .0 (told .0 e)) in record { reaches = h .0; lowest = h .1 },
           λ h. told .1 (left .1 (decided .1 (h .reaches, h .lowest))),
         )
 
-    pub lowest-unproductive : (A : ℕ) → (r ≡ Refused (Unproductive A)) ↔ (NoLeftRecursion G × LowestUnproductiveBy k G A)
+    pub lowest-unproductive : (A : ℕ) → (r ≡ Refused (Unproductive A)) ↔ (NoLeftRecursion G × LowestUnproductive k G A)
     lowest-unproductive A =
         let told = t (Unproductive A) record { length = omega arith; token = omega arith } in
-        let empty = unproductive-told (lowestLeftRecursive G) (lowestUnproductive G k) A in
+        let empty = unproductive-told (lowestLeftRecursive G) (lowestUnproductive G (tokens k)) A in
         let free = theorems .left-recursion-decided G scoped .absent in
-        let decided = theorems .productive-decided G k .lowest A in (
+        let decided = theorems .productive-decided G (tokens k) .lowest A in (
           λ e.
               let h = empty .0 (told .0 e) in
               let d = decided .0 (h .1) in

@@ -1,5 +1,5 @@
 -- What judging the costliest input answers and leaves in the lent memories, by the first fault.
-use mathlib.Core.Path.{_≡_, refl, sym, ap, _∙_}
+use mathlib.Core.Path.{_≡_, sym, ap, _∙_}
 use mathlib.Core.List.{List, [], _∷_, _++_}
 use mathlib.Core.Option.{Option, none, some}
 use Prim.Native.Nat.{ℕ, _^_, _≤_, _<_}
@@ -10,7 +10,6 @@ use lib.Seq.{length-take-le}
 use borrow.Author.Tests.{lt-ltb, le-ltb, ltb-false}
 use Rattle.answer.specs.declared.Error.{Error}
 use Rattle.answer.specs.declared.Error.the-variants.{TableTooShort, MemoTooShort, BufferTooShort, InputTooLong, TooManyInputs}
-use Rattle.answer.specs.declared.Answer.{Answer}
 use Rattle.answer.specs.declared.Answer.the-variants.{Refused}
 use Rattle.answer.specs.Numbers.{numbers}
 use Rattle.answer.specs.Faults.{faultIf, firstFault, refusedOr, toldOr}
@@ -44,7 +43,7 @@ use Rattle.recognizer_promises.specs.Judging.{foundUnless, refusedWith, 
 use Rattle.recognizer_promises.specs.Properties.{Judges}
 use Rattle.recognizer_promises.specs.Costliest.{callsOn, costliestInput, lengthFaults, costliestFault, withLength, JudgesCostliest}
 use Rattle.recognizer_promises.specs.Search.{searchFault, SearchesWords, SearchGiven, BestJudged}
-use Rattle.recognizer_promises.proofs.Checking.{passed-fault-for, passed-encodes, passed-free, Told, told, found as found-entries, found-fault}
+use Rattle.recognizer_promises.proofs.Checking.{passed-fault, passed-encodes, passed-free, Told, told, found as found-entries, found-fault}
 use Rattle.recognizer_promises.proofs.JudgeFaults.{input-fault, readable-faultless}
 use Rattle.recognizer_promises.proofs.Judged.{verdict-told, judges, same-terminals}
 
@@ -90,10 +89,10 @@ module _ (words : List ℕ) (k : ℕ) (log memo : List ℕ) where
       let G = grammarOf words in
       let w = costliestInput G k in
       record {
-        verdict = ap (λ y. y .answer) e ∙ sym (ap (λ y. refusedOr y (verdictOf G w)) f);
+        verdict = ap (λ y. y .answer) e ∙ sym (ap (λ y. refusedOr y (verdictOf One G w)) f);
         grammar = ap (λ y. y .found) e ∙ sym (ap (λ y. foundUnless y (foundOf One words)) f);
         lent-log = sym (ap (λ y. lentBack y w log) f);
-        lent-memo = sym (ap (λ y. lentBack y (memoWords G w) memo) f);
+        lent-memo = sym (ap (λ y. lentBack y (memoWords One G w) memo) f);
       }
 
   pub memo-refused : length memo < maxMemoEntries → {r : Judgement} → r ≡ refusedWith MemoTooShort → SearchesWords words k log memo r log memo
@@ -145,7 +144,7 @@ module _ (words : List ℕ) (k : ℕ) (log memo : List ℕ) where
           pub search-given : SearchGiven words z (found .starts) (found .entries) (take k log) memo
           search-given = record {
             taken = entries-found .taken;
-            free = passed-free words (passed-fault-for One words (entries-found .faultless));
+            free = passed-free words (passed-fault One words (entries-found .faultless));
             begins = entries-found .begins;
             entered = entries-found .entered;
             short = omega (arith, part-length, fits .0);
@@ -165,11 +164,11 @@ module _ (words : List ℕ) (k : ℕ) (log memo : List ℕ) where
               let s : part ≡ w = d .written ∙ ap (costliestInput G) part-length in
               let judged : JudgedPassed One words w memo (r .answer) memo′ = rw s at (d .judged) in
               record {
-                verdict = judged .answer ∙ sym (ap (λ y. refusedOr y (verdictOf G w)) unrefused);
+                verdict = judged .answer ∙ sym (ap (λ y. refusedOr y (verdictOf One G w)) unrefused);
                 grammar = g ∙ e ∙ sym (ap (λ y. foundUnless y (foundOf One words)) unrefused);
                 lent-log =
                     ap (λ y. y ++ drop k log) s ∙ ap (λ i. w ++ drop i log) (sym (o .long)) ∙ sym (ap (λ y. lentBack y w log) unrefused);
-                lent-memo = judged .lent ∙ sym (ap (λ y. lentBack y (memoWords G w) memo) unrefused);
+                lent-memo = judged .lent ∙ sym (ap (λ y. lentBack y (memoWords One G w) memo) unrefused);
               }
 
 -- and with a table that is lent: too short
@@ -185,11 +184,11 @@ table-refused words k log table memo h =
     let w = costliestInput G k in
     let f = table-short words k log table memo h in
     record {
-      answer = sym (ap (λ y. refusedOr y (verdictOf G w)) f);
-      told = sym (ap (λ y. toldOr y (verdictNumbers G w)) f);
+      answer = sym (ap (λ y. refusedOr y (verdictOf One G w)) f);
+      told = sym (ap (λ y. toldOr y (verdictNumbers One G w)) f);
       lent-log = sym (ap (λ y. lentBack y w log) f);
       lent-table = sym (ap (λ y. lentBack y (tableWords One G) table) f);
-      lent-memo = sym (ap (λ y. lentBack y (memoWords G w) memo) f);
+      lent-memo = sym (ap (λ y. lentBack y (memoWords One G w) memo) f);
       judges = λ e. absurd (none-some (sym e ∙ f));
       costliest = λ e. absurd (none-some (sym e ∙ f));
       undirected = λ e. absurd (none-some (sym e ∙ f));
@@ -219,7 +218,7 @@ module _ (words : List ℕ) (k : ℕ) (log table memo : List ℕ) (long : maxTab
     room = ltb-false (length memo) maxMemoEntries (fault-none (ltb (length memo) maxMemoEntries) MemoTooShort (each .0))
 
     encoded : Encodes words G
-    encoded = passed-encodes words (passed-fault-for One words search-faultless)
+    encoded = passed-encodes words (passed-fault One words search-faultless)
 
     length-fits-k : (k ≤ maxTokens) × (G .terminals ^ k ≤ maxInputs)
     length-fits-k = faultless-length (G .terminals) k (first-none (lengthFaults (G .terminals) k) (each .1 .1 .1))
@@ -227,7 +226,7 @@ module _ (words : List ℕ) (k : ℕ) (log table memo : List ℕ) (long : maxTab
     costliest : CostliestOf (callsOn G) (G .terminals) k w
     costliest = costliest-of (callsOn G) (G .terminals) (encoded .limited .someTerminal) k
 
-    judged : judgeFault (length table) (length memo) words w ≡ none
+    judged : judgeFault One (length table) (length memo) words w ≡ none
     judged =
         input-fault One words w table memo long room search-faultless
         (readable-faultless (G .terminals) w (omega (arith, costliest .long, length-fits-k .0)) (costliest .tokens))
@@ -238,23 +237,23 @@ module _ (words : List ℕ) (k : ℕ) (log table memo : List ℕ) (long : maxTab
         (λ a _ h. lt→ltb a 128 (omega (arith, ltb→lt a (G .terminals) h, encoded .limited .fewTerminals))) (costliest .tokens)
 
     as-judged : {table′ : List ℕ} → table′ ≡ lentBack (searchFault (length log) (length memo) words k) (tableWords One G) table
-        → Judges words w table memo (r .answer) table′ memo′
+        → Judges One words w table memo (r .answer) table′ memo′
     as-judged t =
         let v = n ∙ sym judged in
-        judges (s .verdict ∙ ap (λ y. refusedOr y (verdictOf G w)) v) (t ∙ ap (λ y. lentBack y (tableWords One G) table) v)
-        (s .lent-memo ∙ ap (λ y. lentBack y (memoWords G w) memo) v)
+        judges (s .verdict ∙ ap (λ y. refusedOr y (verdictOf One G w)) v) (t ∙ ap (λ y. lentBack y (tableWords One G) table) v)
+        (s .lent-memo ∙ ap (λ y. lentBack y (memoWords One G w) memo) v)
 
   pub costliest-by-words : {table′ : List ℕ} → table′ ≡ lentBack (searchFault (length log) (length memo) words k) (tableWords One G) table
       → JudgesCostliest words k log table memo (r .answer) log′ table′ memo′
   costliest-by-words t =
       let f = sym same-fault in
-      let a = s .verdict ∙ ap (λ y. refusedOr y (verdictOf G w)) f in
+      let a = s .verdict ∙ ap (λ y. refusedOr y (verdictOf One G w)) f in
       record {
         answer = a;
-        told = ap numbers a ∙ numbers-told (costliestFault (length log) (length table) (length memo) words k) (verdictOf G w) ∙ ap (toldOr (costliestFault (length log) (length table) (length memo) words k)) (verdict-told 1 G w);
+        told = ap numbers a ∙ numbers-told (costliestFault (length log) (length table) (length memo) words k) (verdictOf One G w) ∙ ap (toldOr (costliestFault (length log) (length table) (length memo) words k)) (verdict-told One G w);
         lent-log = s .lent-log ∙ ap (λ y. lentBack y w log) f;
         lent-table = t ∙ ap (λ y. lentBack y (tableWords One G) table) f;
-        lent-memo = s .lent-memo ∙ ap (λ y. lentBack y (memoWords G w) memo) f;
+        lent-memo = s .lent-memo ∙ ap (λ y. lentBack y (memoWords One G w) memo) f;
         judges = λ e. as-judged (f ∙ e) t;
         costliest = λ e. costliest (f ∙ e);
         undirected = λ e. undirected (f ∙ e);

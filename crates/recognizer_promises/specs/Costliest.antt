@@ -28,7 +28,7 @@ use Rattle.recognizer_promises.specs.Properties.{Judges}
 
 -- how many calls the descent makes on an input (document 01: the count)
 abbrev pub callsOn : Grammar → List ℕ → ℕ
-callsOn G w = callsOf G w .count
+callsOn G w = callsOf One G w .count
 
 -- of all inputs of k terminals the first, in letter order, with the most calls (document 02: the most costly log)
 abbrev pub costliestInput : Grammar → ℕ → List ℕ
@@ -59,15 +59,15 @@ withLength f k = withFaults f (λ n. lengthFaults n k)
 pub record JudgesCostliest (words : List ℕ) (k : ℕ) (log table memo : List ℕ) (r : Answer) (log′ table′ memo′ : List ℕ) : Type 0 where
   -- the first refusal that holds decides, and a refusal changes nothing; else the costliest input stands in front of what the log held, and answer
   -- and memories are those of judging it
-  pub answer : r ≡ refusedOr (costliestFault (length log) (length table) (length memo) words k) (verdictOf (grammarOf words) (costliestInput (grammarOf words) k))
+  pub answer : r ≡ refusedOr (costliestFault (length log) (length table) (length memo) words k) (verdictOf One (grammarOf words) (costliestInput (grammarOf words) k))
   pub told : numbers r
-      ≡ toldOr (costliestFault (length log) (length table) (length memo) words k) (verdictNumbers (grammarOf words) (costliestInput (grammarOf words) k))
+      ≡ toldOr (costliestFault (length log) (length table) (length memo) words k) (verdictNumbers One (grammarOf words) (costliestInput (grammarOf words) k))
   pub lent-log : log′ ≡ lentBack (costliestFault (length log) (length table) (length memo) words k) (costliestInput (grammarOf words) k) log
   pub lent-table : table′ ≡ lentBack (costliestFault (length log) (length table) (length memo) words k) (tableWords One (grammarOf words)) table
   pub lent-memo : memo′
-      ≡ lentBack (costliestFault (length log) (length table) (length memo) words k) (memoWords (grammarOf words) (costliestInput (grammarOf words) k)) memo
+      ≡ lentBack (costliestFault (length log) (length table) (length memo) words k) (memoWords One (grammarOf words) (costliestInput (grammarOf words) k)) memo
   pub judges : costliestFault (length log) (length table) (length memo) words k ≡ none
-      → Judges words (costliestInput (grammarOf words) k) table memo r table′ memo′
+      → Judges One words (costliestInput (grammarOf words) k) table memo r table′ memo′
   -- it has k tokens, no input of so many makes more calls, and each that comes before it makes fewer
   pub costliest : costliestFault (length log) (length table) (length memo) words k ≡ none
       → CostliestOf (callsOn (grammarOf words)) (grammarOf words .terminals) k (costliestInput (grammarOf words) k)

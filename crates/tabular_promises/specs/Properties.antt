@@ -5,6 +5,7 @@ use mathlib.Core.List.{List}
 use mathlib.Core.Logic.{_↔_}
 use Prim.Native.Nat.{ℕ, _≤_, _<_}
 use lib.ListN.{length, getD}
+use Rattle.lookahead.specs.declared.Lookahead.the-variants.{One}
 use Rattle.answer.specs.Numbers.{numbers}
 use Rattle.answer.specs.Faults.{refusedOr, toldOr}
 use Rattle.answer.specs.declared.Answer.{Answer}
@@ -33,7 +34,7 @@ pub record FreeGrammar (words : List ℕ) : Type 0 where
   pub grammar : Grammar
   pub encodes : Encodes words grammar
   pub free : NoLeftRecursion grammar
-  pub productive : AllProductive grammar
+  pub productive : AllProductive One grammar
 
 -- an input of at most 48 tokens, all of which are terminals of the grammar
 pub record ShortInput (words input : List ℕ) : Type 0 where
@@ -64,7 +65,7 @@ pub record TabularJudges (words input before : List ℕ) (r : Answer) (after : L
   pub recursive : maxSpanWords ≤ length before → length words ≤ maxWords → (G : Grammar) → Encodes words G
       → (A : ℕ) → (r ≡ Refused (LeftRecursive A)) ↔ LowestRecursive G A
   pub unproductive : maxSpanWords ≤ length before → length words ≤ maxWords → (G : Grammar) → Encodes words G
-      → (A : ℕ) → (r ≡ Refused (Unproductive A)) ↔ (NoLeftRecursion G × LowestUnproductive G A)
+      → (A : ℕ) → (r ≡ Refused (Unproductive A)) ↔ (NoLeftRecursion G × LowestUnproductive One G A)
   pub conflictless : (A c : ℕ) → r ≡ Refused (Conflict A c) → ⊥
   -- where the lent words are enough, each grammar without left recursion and empty first sets and each input of its terminals that is short enough is judged by its one meaning
   pub tabulates : maxSpanWords ≤ length before → FreeGrammar words → ShortInput words input → Tabulates words input r after

@@ -48,7 +48,7 @@ use Rattle.lookahead.specs.declared.Lookahead.the-variants.{One}
 use Rattle.columns.specs.Columns.{columns}
 use Rattle.table.specs.Layout.{tableWords}
 use Rattle.table.proofs.Words.{table-entry, table-length}
-use Rattle.recognizer_promises.specs.Answers.{judgeFault, callsOf, verdictBy, verdictOf, verdictNumbers}
+use Rattle.recognizer_promises.specs.Answers.{judgeFault, callsOf, verdictOf, verdictNumbers}
 use Rattle.promises.specs.Memory.{lentBack}
 use Rattle.recognizer_promises.specs.Memory.{memoWords}
 use Rattle.recognizer_promises.specs.Properties.{Judges, PassedGrammar}
@@ -63,7 +63,6 @@ use Rattle.tree.proofs.Trees.{tree-right, vertex-within}
 use Rattle.tree.proofs.Words.{told as word-told}
 use Rattle.tree_writer_promises.specs.Writer as writer
 use Rattle.tree_writer_promises.specs.Writer.{choiceOf, wordsOf, Entries, TreeGiven, TreeDone}
-use Rattle.tree_writer_promises.specs.declared.Shown.{Shown}
 use Rattle.tree_writer_promises.specs.Properties.{treeFault, writtenOr, TreeTold, Shows}
 
 -- acceptance, by its tag
@@ -95,7 +94,7 @@ alone (some e) = refl
 -- the first fault of the call, by what holds
 module _ (words input table memo tree : List ℕ) where
   abbrev judged : Option Error
-  judged = judgeFault (length table) (length memo) words input
+  judged = judgeFault One (length table) (length memo) words input
 
   abbrev showing : Option Error
   showing = treeFault (length table) (length memo) (length tree) words input
@@ -133,10 +132,10 @@ module _ (words input table memo tree : List ℕ) where
   refused : {x : Error} → showing ≡ some x → (maxMemoEntries ≤ length tree → judged ≡ some x)
       → Shows words input table memo tree (record { answer = Refused x; written = 0 }) table memo tree
   refused e k = record {
-    answer = sym (ap (λ f. refusedOr f (verdictOf (grammarOf words) input)) e);
-    numbered = sym (ap (λ f. toldOr f (verdictNumbers (grammarOf words) input)) e);
+    answer = sym (ap (λ f. refusedOr f (verdictOf One (grammarOf words) input)) e);
+    numbered = sym (ap (λ f. toldOr f (verdictNumbers One (grammarOf words) input)) e);
     lent-table = sym (ap (λ f. lentBack f (tableWords One (grammarOf words)) table) e);
-    lent-memo = sym (ap (λ f. lentBack f (memoWords (grammarOf words) input) memo) e);
+    lent-memo = sym (ap (λ f. lentBack f (memoWords One (grammarOf words) input) memo) e);
     lent-tree = sym (ap (λ f. lentBack f (wordsOf words input) tree) e);
     written = sym (ap (λ f. writtenOr f (length (wordsOf words input))) e);
     few = omega arith;
@@ -145,11 +144,11 @@ module _ (words input table memo tree : List ℕ) where
   }
 
   pub short-table : length table < maxTableWords → Shows words input table memo tree (record { answer = Refused TableTooShort; written = 0 }) table memo tree
-  short-table h = refused (first-table h) (λ _. table-short words input table memo h)
+  short-table h = refused (first-table h) (λ _. table-short One words input table memo h)
 
   pub short-memo : maxTableWords ≤ length table → length memo < maxMemoEntries
       → Shows words input table memo tree (record { answer = Refused MemoTooShort; written = 0 }) table memo tree
-  short-memo long h = refused (first-memo long h) (λ _. memo-short words input table memo long h)
+  short-memo long h = refused (first-memo long h) (λ _. memo-short One words input table memo long h)
 
   pub short-tree : maxTableWords ≤ length table → maxMemoEntries ≤ length memo → length tree < maxMemoEntries
       → Shows words input table memo tree (record { answer = Refused TreeTooShort; written = 0 }) table memo tree
@@ -157,25 +156,25 @@ module _ (words input table memo tree : List ℕ) where
 
 -- memories that are long enough, and what judging promises
 module _ (tree : List ℕ) {words input table memo : List ℕ} (long : maxTableWords ≤ length table) (room : maxMemoEntries ≤ length memo) (high : maxMemoEntries ≤ length tree)
-    {a : Answer} {table′ memo′ : List ℕ} (j : Judges words input table memo a table′ memo′) where
+    {a : Answer} {table′ memo′ : List ℕ} (j : Judges One words input table memo a table′ memo′) where
   abbrev G : Grammar
   G = grammarOf words
 
   abbrev fault : Option Error
-  fault = judgeFault (length table) (length memo) words input
+  fault = judgeFault One (length table) (length memo) words input
 
   same : treeFault (length table) (length memo) (length tree) words input ≡ fault
   same = then-judged words input table memo tree long room high
 
   -- the promise from the words that are written
   shows : {n : ℕ} {tree′ : List ℕ} → n ≡ writtenOr fault (length (wordsOf words input)) → tree′ ≡ lentBack fault (wordsOf words input) tree → n ≤ maxMemoEntries
-      → (a ≡ Accepted (callsOf G input) → TreeTold words input)
+      → (a ≡ Accepted (callsOf One G input) → TreeTold words input)
       → Shows words input table memo tree (record { answer = a; written = n }) table′ memo′ tree′
   shows w l f t = record {
-    answer = j .answer ∙ sym (ap (λ f. refusedOr f (verdictOf G input)) same);
-    numbered = j .told ∙ sym (ap (λ f. toldOr f (verdictNumbers G input)) same);
+    answer = j .answer ∙ sym (ap (λ f. refusedOr f (verdictOf One G input)) same);
+    numbered = j .told ∙ sym (ap (λ f. toldOr f (verdictNumbers One G input)) same);
     lent-table = j .lent-table ∙ sym (ap (λ f. lentBack f (tableWords One G) table) same);
-    lent-memo = j .lent-memo ∙ sym (ap (λ f. lentBack f (memoWords G input) memo) same);
+    lent-memo = j .lent-memo ∙ sym (ap (λ f. lentBack f (memoWords One G input) memo) same);
     lent-tree = l ∙ sym (ap (λ f. lentBack f (wordsOf words input) tree) same);
     written = w ∙ sym (ap (λ f. writtenOr f (length (wordsOf words input))) same);
     few = f;
@@ -185,10 +184,10 @@ module _ (tree : List ℕ) {words input table memo : List ℕ} (long : maxTableW
 
   -- no word is written for an answer that is no acceptance
   pub shows-none : ((c : Calls) → a ≡ Accepted c → ⊥) → Shows words input table memo tree (record { answer = a; written = 0 }) table′ memo′ tree
-  unfolding verdictBy treeWords
+  unfolding verdictOf treeWords
   shows-none n =
-      let t = other-tells fault (accepts G (choiceOf words input) input) (callsOf G input) (λ e. n (callsOf G input) (j .answer ∙ sym e)) in
-      shows (count fault t) (back fault t) (omega arith) (λ q. absurd (n (callsOf G input) q))
+      let t = other-tells fault (accepts G (choiceOf words input) input) (callsOf One G input) (λ e. n (callsOf One G input) (j .answer ∙ sym e)) in
+      shows (count fault t) (back fault t) (omega arith) (λ q. absurd (n (callsOf One G input) q))
     where
       count : (f : Option Error) → (f ≡ none → accepts G (choiceOf words input) input ≡ false) → 0 ≡ writtenOr f (length (wordsOf words input))
       count (some e) h = refl
@@ -200,14 +199,14 @@ module _ (tree : List ℕ) {words input table memo : List ℕ} (long : maxTableW
 
   module _ (c : Calls) (q : a ≡ Accepted c) where
     told : (fault ≡ none) × (accepts G (choiceOf words input) input ≡ true)
-    unfolding verdictBy
-    told = accepted-tells fault (accepts G (choiceOf words input) input) (callsOf G input) c (sym q ∙ j .answer)
+    unfolding verdictOf
+    told = accepted-tells fault (accepts G (choiceOf words input) input) (callsOf One G input) c (sym q ∙ j .answer)
 
-    passed : PassedGrammar words
-    passed = passed-fault words (judged-readable words input (length table) (length memo) (told .0) .0)
+    passed : PassedGrammar One words
+    passed = passed-fault One words (judged-readable One words input (length table) (length memo) (told .0) .0)
 
     short : length input ≤ maxTokens
-    short = judged-readable words input (length table) (length memo) (told .0) .1
+    short = judged-readable One words input (length table) (length memo) (told .0) .1
 
     absent : (u : Unknown) → unknownFault u ≡ none → u ≡ Absent
     absent Absent e = refl
@@ -215,7 +214,7 @@ module _ (tree : List ℕ) {words input table memo : List ℕ} (long : maxTableW
 
     tokens : Over (G .terminals) input
     tokens =
-        let rows = each-none (judgeRows (length table) (length memo) words input) (sym (judged-rows (length table) (length memo) words input) ∙ told .0) in
+        let rows = each-none (judgeRows One (length table) (length memo) words input) (sym (judged-rows One (length table) (length memo) words input) ∙ told .0) in
         absent-known (G .terminals) 0 input (absent (unknownFrom (G .terminals) 0 input) (rows .1 .1 .1 .1 .0))
 
     predictive : Predictive G 1
@@ -236,8 +235,8 @@ module _ (tree : List ℕ) {words input table memo : List ℕ} (long : maxTableW
     table-is : table′ ≡ tableWords One G ++ drop (length (tableWords One G)) table
     table-is = j .lent-table ∙ ap (λ f. lentBack f (tableWords One G) table) (told .0)
 
-    memo-is : memo′ ≡ memoWords G input ++ drop (length (memoWords G input)) memo
-    memo-is = j .lent-memo ∙ ap (λ f. lentBack f (memoWords G input) memo) (told .0)
+    memo-is : memo′ ≡ memoWords One G input ++ drop (length (memoWords One G input)) memo
+    memo-is = j .lent-memo ∙ ap (λ f. lentBack f (memoWords One G input) memo) (told .0)
 
     -- the lent table has the grammar's entries
     entries : Entries G table′
@@ -254,9 +253,9 @@ module _ (tree : List ℕ) {words input table memo : List ℕ} (long : maxTableW
         let m = j .recognizes long room passed (record { short = short; tokens = tokens }) .memo in
         let own = theorems .own-rules G 1 input in
         let range = called-range G (choiceOf words input) input (predictive .scoped) (predictive .unrecursive) own (predictive .start) x k in
-        let b : indexOf input x < length (memoWords G input) = omega (arith, index-range G input x range, m .size) in
-        ap (λ l. getD l (indexOf input x) 0) memo-is ∙ List·getD-append (memoWords G input) (drop (length (memoWords G input)) memo) 0 (indexOf input x) b
-        ∙ getD-any (memoWords G input) (indexOf input x) 0 uncalledCode b ∙ m .called x k
+        let b : indexOf input x < length (memoWords One G input) = omega (arith, index-range G input x range, m .size) in
+        ap (λ l. getD l (indexOf input x) 0) memo-is ∙ List·getD-append (memoWords One G input) (drop (length (memoWords One G input)) memo) 0 (indexOf input x) b
+        ∙ getD-any (memoWords One G input) (indexOf input x) 0 uncalledCode b ∙ m .called x k
 
     as-long : (new old : List ℕ) → length old ≤ length (new ++ drop (length new) old)
     as-long new old = omega (arith, length-append new (drop (length new) old), length-drop (length new) old)
@@ -267,7 +266,7 @@ module _ (tree : List ℕ) {words input table memo : List ℕ} (long : maxTableW
       entries = entries;
       recorded = recorded;
       long-table = omega (arith, long, ap length table-is, as-long (tableWords One G) table);
-      long-memo = omega (arith, room, ap length memo-is, as-long (memoWords G input) memo);
+      long-memo = omega (arith, room, ap length memo-is, as-long (memoWords One G input) memo);
       long-tree = high;
     }
 

@@ -33,7 +33,7 @@ treeFault table memo tree words input =
     (faultIf (ltb table maxTableWords) TableTooShort
     ∷ faultIf (ltb memo maxMemoEntries) MemoTooShort
     ∷ faultIf (ltb tree maxMemoEntries) TreeTooShort
-    ∷ judgeFault table memo words input
+    ∷ judgeFault One table memo words input
     ∷ [])
 
 -- how many words are written: a refusal gives none
@@ -49,11 +49,11 @@ pub record TreeTold (words input : List ℕ) : Type 0 where
 
 pub record Shows (words input table memo tree : List ℕ) (r : Shown) (table′ memo′ tree′ : List ℕ) : Type 0 where
   -- the first refusal that holds decides, and a refusal changes nothing
-  pub answer : r .answer ≡ refusedOr (treeFault (length table) (length memo) (length tree) words input) (verdictOf (grammarOf words) input)
-  pub numbered : numbers (r .answer) ≡ toldOr (treeFault (length table) (length memo) (length tree) words input) (verdictNumbers (grammarOf words) input)
+  pub answer : r .answer ≡ refusedOr (treeFault (length table) (length memo) (length tree) words input) (verdictOf One (grammarOf words) input)
+  pub numbered : numbers (r .answer) ≡ toldOr (treeFault (length table) (length memo) (length tree) words input) (verdictNumbers One (grammarOf words) input)
   -- else all memories hold what is defined, and later words stay; the tree of a rejected log has no words
   pub lent-table : table′ ≡ lentBack (treeFault (length table) (length memo) (length tree) words input) (tableWords One (grammarOf words)) table
-  pub lent-memo : memo′ ≡ lentBack (treeFault (length table) (length memo) (length tree) words input) (memoWords (grammarOf words) input) memo
+  pub lent-memo : memo′ ≡ lentBack (treeFault (length table) (length memo) (length tree) words input) (memoWords One (grammarOf words) input) memo
   pub lent-tree : tree′
       ≡ lentBack (treeFault (length table) (length memo) (length tree) words input) (treeWords (grammarOf words) (tableChoice (grammarOf words) 1 input) input) tree
   pub written : r .written
@@ -61,6 +61,6 @@ pub record Shows (words input table memo tree : List ℕ) (r : Shown) (table′ 
       (length (treeWords (grammarOf words) (tableChoice (grammarOf words) 1 input) input))
   pub few : r .written ≤ maxMemoEntries
   -- all that judging promises of the same call, where the tree memory is long enough
-  pub judges : maxMemoEntries ≤ length tree → Judges words input table memo (r .answer) table′ memo′
+  pub judges : maxMemoEntries ≤ length tree → Judges One words input table memo (r .answer) table′ memo′
   -- of an accepted log
-  pub tells : r .answer ≡ Accepted (callsOf (grammarOf words) input) → TreeTold words input
+  pub tells : r .answer ≡ Accepted (callsOf One (grammarOf words) input) → TreeTold words input
