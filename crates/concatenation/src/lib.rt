@@ -8,7 +8,7 @@ ghost use Rattle.lookahead.specs.declared.Lookahead.the-variants.{Two};
 ghost use Rattle.lookahead.specs.Lookaheads.{elements, nothing};
 ghost use Rattle.lookahead.specs.Elements.{has};
 ghost use Rattle.lookahead.specs.Operations.{Full, Concatenated, behind};
-ghost use Rattle.concatenation.specs.Computing.{Has, Singles, isLong, begins, inRows};
+ghost use Rattle.concatenation.specs.Computing.{Has, Singles, isLong, begins, noSingle, inRows};
 use grammar::limits::WIDE_TERMINALS;
 use lookahead::Lookahead;
 use lookahead::NOTHING;
@@ -98,10 +98,20 @@ fn row(set: LookaheadSet, l: u32, other: LookaheadSet, firsts: LookaheadSet) -> 
     }
 }
 
+// With two tokens, whether no terminal alone is in the set.
+fn no_single(set: LookaheadSet) -> bool
+    ensures { λ r. ⌜ r ≡ noSingle (set .bits) ⌝ }
+{
+    set.bits >> 1 & (1 << WIDE_TERMINALS) - 1 == 0
+}
+
 // With two tokens, what is looked at where a terminal alone is followed by a string of other.
 fn rows(set: LookaheadSet, other: LookaheadSet) -> LookaheadSet
     ensures { λ r. ⌜ Has (r .bits) (inRows (set .bits) (other .bits) 7) ⌝ }
 {
+    if no_single(set) {
+        return LookaheadSet::empty();
+    }
     let firsts = firsts(other);
     let mut rows = LookaheadSet::empty();
     let mut l = 0u32;
