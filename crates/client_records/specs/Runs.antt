@@ -4,7 +4,6 @@ use mathlib.Core.List.{List, [], _∷_, map}
 use Prim.Native.Nat.{ℕ, _+_, _≤_}
 use lib.Dec.{eqb}
 use lib.ListN.{length}
-use Rattle.answer.specs.declared.Answer.{Answer}
 use Rattle.answer.specs.Faults.{refusedOr}
 use Rattle.base.specs.Choice.{choose}
 use Rattle.grammar.specs.Encoding.{grammarOf}

@@ -1,5 +1,4 @@
 // Checking and judging with two tokens of lookahead, with a table of 64-bit words.
-ghost use mathlib.Core.Path.{_≡_};
 ghost use Rattle.lookahead.specs.declared.Lookahead.the-variants.{Two};
 ghost use Rattle.event.specs.Events.{inputOf};
 ghost use Rattle.embed_promises.specs.Exports.{CheckExportedBy, JudgeExportedBy};

@@ -4,7 +4,6 @@ use mathlib.Core.List.{List}
 use mathlib.Core.Option.{Option, none, some}
 use Prim.Native.Nat.{ℕ, _≤_}
 use lib.ListN.{length}
-use Rattle.answer.specs.declared.Answer.{Answer}
 use Rattle.answer.specs.declared.Error.{Error}
 use Rattle.answer.proofs.Faults.{each-none}
 use Rattle.grammar.specs.Encoding.{grammarOf}

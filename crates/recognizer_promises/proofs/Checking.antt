@@ -3,11 +3,10 @@ use mathlib.Core.Path.{_≡_, refl, sym, ap, _∙_}
 use mathlib.Core.List.{List, [], _∷_, _++_, List·Memᴰ·head, List·Memᴰ·not-nil}
 use mathlib.Core.Option.{Option, none, some}
 use Prim.Native.Nat.{ℕ, _≤_, _<_}
-use native.Mathlib.Omega.{arith}
 use lib.Dec.{T}
 use lib.ListN.{length, drop}
 use borrow.Author.Tests.{lt-ltb, le-ltb}
-use Rattle.answer.proofs.Apart.{fault-number, refused-ne-passed}
+use Rattle.answer.proofs.Apart.{refused-ne-passed}
 use Rattle.answer.specs.declared.Error.{Error}
 use Rattle.answer.specs.Numbers.{coded, numbers}
 use Rattle.answer.specs.Faults.{refusedOr}
@@ -19,8 +18,7 @@ use Rattle.grammar.specs.Encoding.{grammarOf}
 use Rattle.grammar.specs.Starts.{ruleStarts}
 use Rattle.grammar.specs.Reading.{reading}
 use Rattle.grammar.specs.declared.reading.Sizes.{Sizes}
-use Rattle.grammar.specs.declared.reading.Outcome.{Outcome}
-use Rattle.grammar.specs.declared.reading.Outcome.the-variants.{Read, Faulty}
+use Rattle.grammar.specs.declared.reading.Outcome.the-variants.{Read}
 use Rattle.encoding.specs.Encode.{sizesOf, Encodes}
 use Rattle.encoding.proofs.Decoding.{encodes-grammar}
 use Rattle.encoding.proofs.ReadingEncodes.{read-encodes, encodes-read}
@@ -44,7 +42,7 @@ use Rattle.families.proofs.FewTerminals.{few-terminals}
 use Rattle.table.specs.declared.Found.{Found}
 use Rattle.table.specs.Layout.{tableWords, tableRoom}
 use Rattle.table.specs.Entries.{entriesOf}
-use Rattle.families.specs.Analysis.{readingFault, leftFault, unproductiveFault, setsFault, findingOf, startsIf}
+use Rattle.families.specs.Analysis.{setsFault, findingOf, startsIf}
 use Rattle.families.proofs.Findings.{read-some, told-passed, told-refused}
 use Rattle.table.specs.Analysis.{clashFault, grammarFaults, fault, entriesIf, foundOf}
 use Rattle.table.specs.Conflicts.{firstClash}

@@ -1,11 +1,7 @@
 -- What judging leaves is settled by the input, so directions change nothing.
-use mathlib.Core.Path.{_≡_, sym, ap, _∙_}
-use mathlib.Core.List.{List}
-use Prim.Native.Nat.{ℕ}
+use mathlib.Core.Path.{sym, ap, _∙_}
 use lib.ListN.{length}
 use Rattle.answer.specs.Faults.{refusedOr}
-use Rattle.answer.specs.declared.Answer.{Answer}
-use Rattle.event.specs.Events.{inputOf}
 use Rattle.grammar.specs.Encoding.{grammarOf}
 use Rattle.lookahead.specs.declared.Lookahead.{Lookahead}
 use Rattle.lookahead.specs.Lookaheads.{tokens}

@@ -1,23 +1,18 @@
 -- The order of the faults of judging: which is the first, by what holds; and what holds where there is none.
-use mathlib.Core.Path.{_≡_, refl, sym, ap, _∙_}
-use mathlib.Core.Bool.{Bool, true, false, _&&_}
+use mathlib.Core.Path.{_≡_, refl, sym, _∙_}
 use mathlib.Core.List.{List, [], _∷_}
 use mathlib.Core.Option.{Option, none, some}
-use Prim.Native.Nat.{ℕ, suc, _≤_, _<_}
-use native.Mathlib.Omega.{arith}
-use lib.Dec.{T, ltb}
+use Prim.Native.Nat.{ℕ, _≤_, _<_}
+use lib.Dec.{ltb}
 use lib.ListN.{length}
 use borrow.Author.Tests.{lt-ltb, le-ltb, ltb-false}
 use Rattle.answer.specs.declared.Error.{Error}
 use Rattle.answer.specs.declared.Error.the-variants.{TableTooShort, MemoTooShort, InputTooLong}
 use Rattle.answer.specs.Faults.{faultIf, firstFault}
 use Rattle.answer.proofs.Faults.{Faultless, none-some, fault-none, each-none, first-nested}
-use Rattle.base.specs.Choice.{choose}
 use Rattle.grammar.specs.Limits.{maxTableWords, maxMemoEntries, maxTokens}
 use Rattle.grammar.specs.Encoding.{grammarOf}
-use Rattle.base.specs.Quantifiers.{allOf}
 use Rattle.base.specs.Strings.{Over}
-use Rattle.base.proofs.Booleans.{T-true, and-l, and-r}
 use Rattle.lookahead.specs.declared.Lookahead.{Lookahead}
 use Rattle.lookahead.specs.declared.Lookahead.the-variants.{One}
 use Rattle.table.specs.Layout.{tableRoom}

@@ -13,7 +13,7 @@ use Rattle.answer.specs.Numbers.{numbers}
 use Rattle.answer.specs.declared.Answer.{Answer}
 use Rattle.answer.specs.declared.Answer.the-variants.{Accepted, Rejected}
 use Rattle.base.specs.Choice.{choose}
-use Rattle.grammar.specs.Limits.{maxTokens, maxMemoEntries, maxNonterminals, maxPlaces}
+use Rattle.grammar.specs.Limits.{maxNonterminals, maxPlaces}
 use Rattle.grammar.specs.Syntax.{Grammar}
 use Rattle.grammar.specs.Encoding.{grammarOf}
 use Rattle.grammar.specs.WellRead.{WellRead}
@@ -27,7 +27,6 @@ use Rattle.base.specs.Strings.{Over}
 use Rattle.event.specs.Events.{inputOf}
 use Rattle.event.proofs.Inputs.{input-own}
 use Rattle.inputs.specs.Inputs.{inputAt, inputCount}
-use Rattle.inputs.specs.Costliest.{costliest}
 use Rattle.inputs.proofs.Numbers.{at-long, at-over}
 use Rattle.inputs.proofs.Counting.{count-exact}
 use Rattle.inputs.proofs.Searching.{Searched, searched-none, searched-more, searched-less, searched-all}

@@ -6,7 +6,7 @@ use mathlib.Core.Logic.{⊎-elim}
 use mathlib.Core.Option.{Option, none, some}
 use denote.Enum.Declared.{tagOf}
 use types.Run.{OneOf}
-use Prim.Native.Nat.{ℕ, suc, _+_, _-_, _*_, _≤_, _<_}
+use Prim.Native.Nat.{ℕ, suc, _+_, _*_, _≤_, _<_}
 use native.Mathlib.Decide.{decLt}
 use native.Mathlib.Nat.{mul-le-mul}
 use native.Mathlib.Omega.{arith}
@@ -63,7 +63,6 @@ use Rattle.tree.proofs.Trees.{tree-right, vertex-within}
 use Rattle.tree.proofs.Words.{told as word-told}
 use Rattle.tree_writer_promises.specs.Writer as writer
 use Rattle.tree_writer_promises.specs.Writer.{choiceOf, wordsOf, Entries, TreeGiven, TreeDone}
-use Rattle.tree_writer_promises.specs.declared.Shown.{Shown}
 use Rattle.tree_writer_promises.specs.Properties.{treeFault, writtenOr, TreeTold, Shows}
 
 -- acceptance, by its tag

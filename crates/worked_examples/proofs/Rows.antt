@@ -2,7 +2,6 @@
 use mathlib.Core.Path.{_≡_, refl, ap, ap₂, _∙_}
 use mathlib.Core.List.{List, [], _∷_, map}
 use mathlib.Core.Option.{none}
-use Prim.Native.Nat.{ℕ}
 use Rattle.answer.specs.Faults.{firstFault, refusedOr}
 use Rattle.answer.specs.Numbers.{Numbers, numbers}
 use Rattle.word.specs.Words.{bare, heading, ofKind, decoded}
