@@ -8,7 +8,7 @@ use lib.Dec.{T, eqb}
 use lib.ListN.{length}
 use Rattle.base.specs.Quantifiers.{anyBelow}
 use Rattle.lookahead.specs.declared.Lookahead.{Lookahead}
-use Rattle.lookahead.specs.declared.Lookahead.the-variants.{One, Two}
+use Rattle.lookahead.specs.declared.Lookahead.the-variants.{Two}
 use Rattle.lookahead.specs.Lookaheads.{tokens, alphabet, elementOf, stringOf}
 use Rattle.lookahead.specs.Elements.{has}
 use Rattle.lookahead.specs.Operations.{behind}

@@ -1,24 +1,22 @@
 -- The descendants for a body that was read: each corresponds to its symbol, they cut the span, and the vertices among them are those of the body's calls.
-use mathlib.Core.List.{List, [], _∷_, _++_, map, flatten, List·Memᴰ, List·Memᴰ·head, List·Memᴰ·tail, List·Memᴰ·cases-cons, List·Memᴰ·not-nil}
+use mathlib.Core.List.{List, [], _∷_, map, flatten, List·Memᴰ, List·Memᴰ·head, List·Memᴰ·tail, List·Memᴰ·cases-cons, List·Memᴰ·not-nil}
 use mathlib.Core.Logic.{_⊎_, inl, inr}
-use mathlib.Core.Option.{Option, none, some}
-use mathlib.Core.Path.{_≡_, refl, sym, ap, _∙_}
-use Prim.Native.Nat.{ℕ, zero, suc, _+_, _-_, _≤_, _<_}
+use mathlib.Core.Option.{some}
+use mathlib.Core.Path.{_≡_, refl, ap}
+use Prim.Native.Nat.{ℕ, zero, suc, _+_, _≤_, _<_}
 use native.Mathlib.Decide.{decLt, ℕ-discrete}
 use native.Mathlib.Omega.{arith}
-use lib.ListN.{length, getD, getElem?, length-append}
+use lib.ListN.{length, getElem?, length-append}
 use Rattle.word.specs.declared.Symbol.the-variants.{Terminal, Nonterminal}
-use Rattle.grammar.specs.Syntax.{Body, Rule, Grammar}
+use Rattle.grammar.specs.Syntax.{Body, Grammar}
 use Rattle.semantics.specs.Valuations.{Valuation, Solves}
-use Rattle.base.specs.Strings.{look, Over}
+use Rattle.base.specs.Strings.{Over}
 use Rattle.semantics.specs.Choices.{tableChoice}
-use Rattle.semantics.specs.Descent.{End, descend}
 use Rattle.semantics.specs.ComesTo.{Call, callAt, bodyComesTo}
 use Rattle.semantics.specs.Predictive.{Predictive}
-use Rattle.tree.specs.ParseTrees.{Vertex, vertex, Node, Leaf, Inner, from, to, leaves, Pairwise, Corresponds, Cut}
-use Rattle.tree.specs.Writing.{numberOf, endOf, vertexAt, bodyNodes, conjunctNodes, ruleNodes, descendantsOf}
-use Rattle.tree.proofs.Lists.{map-elim}
-use Rattle.tree.proofs.Reading.{outcomes, Found, Reads, reads-forward, Chosen, chosen}
+use Rattle.tree.specs.ParseTrees.{Vertex, Node, Leaf, Inner, leaves, Pairwise, Corresponds, Cut}
+use Rattle.tree.specs.Writing.{vertexAt, bodyNodes}
+use Rattle.tree.proofs.Reading.{outcomes, Found, Reads, Chosen, chosen}
 use Rattle.tree.proofs.Below.{comes-token, comes-name}
 
 abbrev vertexOf : Vertex → Node → Vertex

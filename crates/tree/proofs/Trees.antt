@@ -1,23 +1,19 @@
 -- The tree that the descent finds for an accepted input is a parse tree of it, and its vertices are written once each.
-use mathlib.Core.Bool.{true}
-use mathlib.Core.List.{List, [], _∷_, _++_, map, flatten, List·Memᴰ, List·Memᴰ·head, List·Memᴰ·tail, List·Memᴰ·cases-cons, List·Memᴰ·not-nil}
-use mathlib.Core.List.{List·Memᴰ·eq-of-singleton}
+use mathlib.Core.List.{List, [], _∷_, map, List·Memᴰ, List·Memᴰ·head, List·Memᴰ·not-nil, List·Memᴰ·eq-of-singleton}
 use mathlib.Core.Logic.{_⊎_, inl, inr}
-use mathlib.Core.Option.{Option, none, some}
+use mathlib.Core.Option.{some}
 use mathlib.Core.Path.{_≡_, refl, sym, ap, _∙_}
-use Prim.Native.Nat.{ℕ, zero, suc, _+_, _-_, _≤_, _<_}
+use Prim.Native.Nat.{ℕ, zero, suc, _-_, _≤_, _<_}
 use native.Mathlib.Omega.{arith}
 use lib.Dec.{T}
 use lib.ListN.{length, getElem?, length-map}
 use Rattle.grammar.specs.Syntax.{Body, Rule, Grammar}
 use Rattle.semantics.specs.Valuations.{Valuation, Solves, pairs}
-use Rattle.base.specs.Strings.{look, Over}
-use Rattle.semantics.specs.FirstFollow.{Follow}
+use Rattle.base.specs.Strings.{Over}
 use Rattle.semantics.specs.Choices.{Choice, tableChoice}
-use Rattle.semantics.specs.Descent.{End, descend, accepts}
-use Rattle.semantics.specs.ComesTo.{Call, callAt, measure, bodyComesTo}
+use Rattle.semantics.specs.Descent.{accepts}
+use Rattle.semantics.specs.ComesTo.{Call, callAt, measure}
 use Rattle.semantics.specs.Calls.{Called, calls, callCount}
-use Rattle.base.specs.FiniteSets.{Distinct}
 use Rattle.semantics.specs.Calls as called
 use Rattle.semantics.specs.Predictive.{Predictive}
 use Rattle.base.proofs.Strings.{look-end}
@@ -26,15 +22,16 @@ use Rattle.semantics.proofs.meaning.Rank.{level-top}
 use Rattle.semantics.proofs.descent.Predictive.{own-guides}
 use Rattle.base.proofs.Distinct.{distinct-length}
 use Rattle.semantics.proofs.Theorems.{theorems}
-use Rattle.tree.specs.ParseTrees.{Vertex, vertex, Node, Leaf, Inner, leaves, Tree, Pairwise, Corresponds, Cut, Conditions, Reaches, itself, ParseTree}
+use Rattle.tree.specs.ParseTrees.{Vertex, Node, Leaf, Inner, leaves, Tree, Conditions, Reaches, itself, ParseTree}
 use Rattle.tree.specs.ParseTrees as trees
-use Rattle.tree.specs.Writing.{vertexAt, bodyNodes, conjunctNodes, ruleNodes, descendantsOf, below, visit, treeCalls, treeOf, InTree, start, more}
-use Rattle.tree.specs.Theorems.{Written, Derived, TreeRight}
+use Rattle.tree.specs.Writing.{vertexAt, bodyNodes, conjunctNodes, ruleNodes, descendantsOf, below, treeCalls, treeOf, InTree, start, more}
+use Rattle.tree.specs.Theorems.{Derived, TreeRight}
 use Rattle.tree.proofs.Lists.{map-elim, map-make, map-distinct}
 use Rattle.tree.proofs.Visiting.{Visited, visit-visited, visit-first}
-use Rattle.tree.proofs.Reading.{outcomes, Found, Reads, Chosen, chosen}
+use Rattle.tree.proofs.Reading.{Found, Chosen, chosen}
 use Rattle.tree.proofs.Below.{below-elim, below-make, below-falls}
-use Rattle.tree.proofs.Nodes.{inner-same, leaves-cut, leaves-have, leaves-only, conjuncts-length, at, vertex-end, nodes-cut, inner-node, node-inner, nodes-cover, vertex-rule, conjuncts-correspond}
+use Rattle.tree.proofs.Nodes.{leaves-cut, leaves-have, leaves-only, conjuncts-length, at, vertex-end, nodes-cut, inner-node, node-inner, nodes-cover}
+use Rattle.tree.proofs.Nodes.{vertex-rule, conjuncts-correspond}
 
 pub call-same : (x y : Call) → x .nonterminal ≡ y .nonterminal → x .place ≡ y .place → x ≡ y
 call-same x y a b = let s : callAt (x .nonterminal) (x .place) ≡ callAt (y .nonterminal) (y .place) = cc in s

@@ -1,6 +1,5 @@
 -- An empty second set, or the parts: with one token long strings and what comes behind nothing, with two what comes behind a terminal alone as well.
 use mathlib.Core.Path.{sym, _∙_}
-use Prim.Native.Nat.{_^_, _<_}
 use native.Mathlib.Nat.{mod-lt}
 use lib.Pow.{pow-pos}
 use borrow.Author.Needs.{needs}

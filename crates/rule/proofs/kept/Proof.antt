@@ -3,8 +3,6 @@ use borrow.Author.Tests.{not-true, not-false}
 use borrow.Author.Needs.{needs}
 use Rattle.rule.proofs.kept.Statement.{statement}
 use Rattle.rule.proofs.kept.Tie as tie
-use Rattle.rule.proofs.kept.Reads as reads
-use Rattle.rule.proofs.kept.Lts as lts
 
 enum-told : tie.Need-enum-told
 enum-told c = search needs
