@@ -3,6 +3,7 @@ ghost use Rattle.kept_input.specs.Histories.{Mark, Return};
 ghost use Rattle.embed_promises.specs.Kept.{AddExported, MoveExported, KeptExported};
 use grammar::limits::TOKENS;
 use kept_input::KeptInput;
+use kept_input::add_event;
 use kept_judge::judge_kept;
 use packing::pack;
 use packing::states::STATE;
@@ -19,18 +20,10 @@ pub extern "C" fn vinegarspit_log_add(
 {
     let old = *state;
     let progress = progress_in(old);
-    let old_events = *events;
-    let before = KeptInput {
-        events: old_events,
-        progress,
-    };
-    let changed = before.add(event);
-    let answer = changed.answer;
-    let kept = changed.kept;
-    let new_events = kept.events;
-    let next = kept.progress;
+    let moved = add_event(events, progress, event);
+    let answer = moved.answer;
+    let next = moved.progress;
     let new = state_of(next);
-    *events = new_events;
     *state = new;
     pack(answer)
 }

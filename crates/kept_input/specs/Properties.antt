@@ -16,7 +16,7 @@ use Rattle.kept_input.specs.declared.Progress.{Progress}
 use Rattle.kept_input.specs.declared.KeptInput.{KeptInput}
 use Rattle.kept_input.specs.declared.Moved.{Moved}
 use Rattle.kept_input.specs.declared.Changed.{Changed}
-use Rattle.kept_input.specs.Histories.{empty, Step, stepFault, done, unlessRefused, after, ran}
+use Rattle.kept_input.specs.Histories.{empty, Step, Add, stepFault, done, unlessRefused, after, ran}
 use Rattle.kept_input.specs.Stored.{keptInput, held, stored}
 
 -- the value that a history begins with
@@ -33,6 +33,11 @@ pub record Steps (t : Step) (before : KeptInput) (r : Changed) : Type 0 where
   pub kept : r .kept ≡ unlessRefused (stepFault t (held before)) (stored (before .events) (done t (held before))) before
   -- so it holds what document 02's step leaves
   pub holds : held (r .kept) ≡ after t (held before)
+
+-- an event added to events that stand in lent memory
+abbrev pub Adds : (event : ℕ) (events : List ℕ) (before : Progress) (events′ : List ℕ) (r : Moved) → Type 0
+Adds event events before events′ r =
+    Steps (Add event) (keptInput events before) (record { answer = r .answer; kept = keptInput events′ (r .progress) })
 
 -- a step that changes length and checkpoints alone, whatever the events are
 pub record Moves (t : Step) (before : Progress) (r : Moved) : Type 0 where

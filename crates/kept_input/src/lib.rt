@@ -4,8 +4,8 @@ ghost use mathlib.Core.List.{map};
 ghost use Prim.Native.Nat.{min};
 ghost use Rattle.grammar.specs.Limits.{maxTokens};
 ghost use Rattle.kept_input.specs.Histories.{empty, Add, Mark, Return};
-ghost use Rattle.kept_input.specs.Stored.{clearedBeyond, readProgress, progressOf};
-ghost use Rattle.kept_input.specs.Properties.{Begins, Steps, Moves};
+ghost use Rattle.kept_input.specs.Stored.{clearedBeyond, readProgress, Reads, progressOf};
+ghost use Rattle.kept_input.specs.Properties.{Begins, Steps, Adds, Moves};
 use answer::Answer;
 use answer::Error;
 use grammar::limits::TOKENS;
@@ -158,31 +158,25 @@ impl KeptInput {
         }
     }
 
+    // Whatever is handed in, as it is read. An array tells the proof its length where it is handed over by value, not where it is lent.
+    fn read(self) -> Progress
+        ensures { λ r. ⌜ Reads self r ⌝ }
+    {
+        let progress = self.progress;
+        progress.read()
+    }
+
     pub fn add(self, event: u8) -> Changed
         ensures { λ r. ⌜ Steps (Add event) self r ⌝ }
     {
         let old = self.progress;
-        let now = old.read();
-        let length = now.length;
-        if LIMIT <= length {
-            return Changed {
-                answer: Answer::Refused(Error::InputFull),
-                kept: self,
-            };
-        }
         let mut events = self.events;
-        events[length as usize] = event;
-        let longer = length + 1;
-        let checkpoints = now.checkpoints;
+        let moved = add_event(&mut events, old, event);
+        let answer = moved.answer;
+        let progress = moved.progress;
         Changed {
-            answer: Answer::Passed,
-            kept: KeptInput {
-                events,
-                progress: Progress {
-                    length: longer,
-                    checkpoints,
-                },
-            },
+            answer,
+            kept: KeptInput { events, progress },
         }
     }
 
@@ -212,5 +206,34 @@ impl KeptInput {
             answer,
             kept: KeptInput { events, progress },
         }
+    }
+}
+
+// Adds an event where the events stand, and writes no other.
+pub fn add_event(events: &mut [u8; TOKENS], progress: Progress, event: u8) -> Moved
+    ensures { λ r. ⌜ Adds event (now (events .entry)) progress (now (events .exit)) r ⌝ }
+{
+    let old = *events;
+    let before = KeptInput {
+        events: old,
+        progress,
+    };
+    let now = before.read();
+    let length = now.length;
+    if LIMIT <= length {
+        return Moved {
+            answer: Answer::Refused(Error::InputFull),
+            progress,
+        };
+    }
+    events[length as usize] = event;
+    let longer = length + 1;
+    let checkpoints = now.checkpoints;
+    Moved {
+        answer: Answer::Passed,
+        progress: Progress {
+            length: longer,
+            checkpoints,
+        },
     }
 }
