@@ -183,7 +183,8 @@ uint64_t vinegarspit_judge2(const uint32_t *card, size_t card_len, const uint8_t
 
 /* A kept log grows event by event and has marks to return to. It stands in two arrays of the caller: events has its
  * events as they came, state[0] its length, and state[1 + m] the length that mark m notes, or NOT_SET. The empty log
- * without marks has 0 in state[0] and NOT_SET in the others; its events may be anything.
+ * without marks has 0 in state[0] and NOT_SET in the others; its events may be anything. Begin with it. A state of
+ * zeros alone is an empty log too, but all its marks are set, at 0.
  *
  * Any values may be passed: a length over 412 reads as 412, and a mark beyond the length reads as not set. A step that
  * passes stores the state as it was read and changed. Events behind the log keep their contents.
@@ -205,6 +206,12 @@ uint64_t vinegarspit_log_return(uint16_t state[VINEGARSPIT_LOG_STATE], uint32_t 
 uint64_t vinegarspit_log_judge(const uint32_t *card, size_t card_len, const uint8_t events[VINEGARSPIT_LOG_EVENTS],
                                const uint16_t state[VINEGARSPIT_LOG_STATE],
                                uint32_t *table, size_t table_len, uint16_t *memo, size_t memo_len);
+
+/* Judges a kept log with two events of lookahead: answer, table2 and memo are those of vinegarspit_judge2 for its
+ * events. It is never refused with 10. */
+uint64_t vinegarspit_log_judge2(const uint32_t *card, size_t card_len, const uint8_t events[VINEGARSPIT_LOG_EVENTS],
+                                const uint16_t state[VINEGARSPIT_LOG_STATE],
+                                uint64_t *table2, size_t table2_len, uint16_t *memo, size_t memo_len);
 
 /* Finds the costliest log of a length: of all logs of so many events the one with the greatest count; of several, the
  * first in the order of their letters, in which the first event weighs most. Writes it to log[0] and the bytes behind,

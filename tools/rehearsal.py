@@ -19,10 +19,11 @@ LEAVING = ('quit', 'exit')
 
 
 class Rehearsal:
-    def __init__(self, card):
+    def __init__(self, card, lookahead=1):
         self.card = card
         self.events, self.state = vinegarspit.log_events(), vinegarspit.log_state()
-        self.lent = vinegarspit.table(), vinegarspit.memo()
+        self.call, table = (vinegarspit.log_judge, vinegarspit.table()) if lookahead == 1 else (vinegarspit.log_judge2, vinegarspit.table2())
+        self.lent = table, vinegarspit.memo()
 
     def log(self):
         """The events of the log as they are written."""
@@ -74,4 +75,4 @@ class Rehearsal:
         return HELP if command in ('help', 'judge', *LEAVING) else self.add(line.removeprefix('+'))
 
     def judge(self):
-        return vinegarspit.log_judge(self.card.words, self.events, self.state, *self.lent)
+        return self.call(self.card.words, self.events, self.state, *self.lent)

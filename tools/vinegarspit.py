@@ -233,6 +233,11 @@ def log_judge(card, events, state, table, memo):
     return call('log_judge', card, events, state, table, memo)
 
 
+def log_judge2(card, events, state, table2, memo):
+    """Judges a kept log by a card with two events of lookahead and fills the table for that and the memo table."""
+    return call('log_judge2', card, events, state, table2, memo)
+
+
 def costliest(card, length, log, table, memo):
     """Writes the log of that length with the greatest count into log, judges it, and fills the table and the memo table."""
     return call('costliest', card, length, log, table, memo)

@@ -2,7 +2,7 @@
 
 use super::{linked, Lengths, Pair};
 use compare::cards::{self, Random, WESTWARD};
-use compare::twin::{Log, Outcome, Refusal, MARKS, MAX_TOKENS, NOT_SET};
+use compare::twin::{Log, Outcome, Refusal, Verdict, MARKS, MAX_TOKENS, NOT_SET};
 
 /// The most steps of a history.
 const MOST_STEPS: usize = 40;
@@ -27,6 +27,8 @@ pub struct Seen {
     cleared: u64,
     stayed: u64,
     judged: u64,
+    /// Verdicts with two events of lookahead.
+    judged2: u64,
     /// Histories from a value that no history leaves.
     odd: u64,
 }
@@ -49,13 +51,13 @@ impl Seen {
     pub fn print(&self) {
         println!("  {} histories, {} of them from odd values", self.histories, self.odd);
         println!("  added, marked and returned {:?}; marks cleared by a return {}, stayed at its length {}", self.done, self.cleared, self.stayed);
-        println!("  refused 19 {:?}, 20 {}, 21 {}; judged {}", self.unknown, self.not_set, self.full, self.judged);
+        println!("  refused 19 {:?}, 20 {}, 21 {}; judged {}, with a verdict by two events {}", self.unknown, self.not_set, self.full, self.judged, self.judged2);
     }
 
     /// Whether every outcome of a step was seen.
     pub fn complete(&self) -> bool {
         let [a, b, c] = self.done;
-        [a, b, c, self.unknown[0], self.unknown[1], self.not_set, self.full, self.cleared, self.stayed, self.judged, self.odd].iter().all(|&times| times > 0)
+        [a, b, c, self.unknown[0], self.unknown[1], self.not_set, self.full, self.cleared, self.stayed, self.judged, self.judged2, self.odd].iter().all(|&times| times > 0)
     }
 }
 
@@ -117,6 +119,21 @@ fn judge(pair: &mut Pair, words: &[u32], log: &Log, stored: &linked::Stored, len
     pair.settle("log_judge", agree, expected, answer, words, &log.events, lengths);
 }
 
+/// The same with two events of lookahead; whether it is a verdict.
+fn judge2(pair: &mut Pair, words: &[u32], log: &Log, stored: &linked::Stored, lengths: Lengths) -> bool {
+    let fresh = &mut pair.twin.clone();
+    let (table, memo) = fresh.lend_wide(lengths);
+    let taken_afresh = linked::judge2(words, &log.events, table, memo);
+    let (table, memo) = pair.twin.lend_wide(lengths);
+    let expected = log.judge2(words, table, memo);
+    let (table, memo) = pair.proved.lend_wide(lengths);
+    let answer = stored.judge2(words, table, memo);
+    let agree = [linked::packed(expected), taken_afresh].iter().all(|&other| other == answer)
+        && [&pair.twin.table2, &fresh.table2].iter().all(|&other| *other == pair.proved.table2)
+        && [&pair.twin.memo, &fresh.memo].iter().all(|&other| *other == pair.proved.memo);
+    pair.settle("log_judge2", agree, expected, answer, words, &log.events, lengths).verdict != Verdict::Refused
+}
+
 /// A step of adding, marking or returning by each of the two, compared in answer, events and state.
 fn change(pair: &mut Pair, step: Step, log: &mut Log, stored: &mut linked::Stored, seen: &mut Seen) {
     let mut expected = stored.clone();
@@ -157,6 +174,7 @@ fn history(pair: &mut Pair, random: &mut Random, seen: &mut Seen) {
                 let lengths = Lengths::random(random);
                 pair.refill(random);
                 judge(pair, &words, &log, &stored, lengths);
+                seen.judged2 += u64::from(judge2(pair, &words, &log, &stored, lengths));
                 seen.add(Step::Judge, Ok(()));
             }
             step => change(pair, step, &mut log, &mut stored, seen),

@@ -130,6 +130,13 @@ REHEARSED = [
     ('a' * MAX_INPUT + 'bc\nback 1', f'refused 21 0: the log is full, 2 events cannot be added\n{MAX_INPUT} events: ...{"a" * 60}\nrefused 20 0: mark 1 is not set')]
 
 
+# The same with two events of lookahead, by examples/ladder.card.
+BY_TWO = ('l\nmark 0\nl\njudge\nback 0\na\njudge',
+          '1 event: l\n1 event: l; mark 0 at 1\n2 events: ll; mark 0 at 1\nrejected: the log of 2 events does not belong to Day\n'
+          '1 call, the farthest at place 0, before l\n1 event: l; mark 0 at 1\n2 events: la; mark 0 at 1\n'
+          'accepted: the log of 2 events belongs to Day\n7 calls, the farthest at place 2, the end of the log')
+
+
 def rehearsals():
     path = os.path.join(ROOT, 'examples', 'M.card')
     for typed, told in REHEARSED:
@@ -145,8 +152,13 @@ def rehearsals():
             file.write('letters a\nS -> a\n   | a')
         code, out, errors = run(CARD, 'rehearse', card, stdin=b'a\n')
         check(code == 2 and not out and 'refused 9 0' in errors, f'rehearsed by a refused card: {code} {out} {errors}')
+    ladder = os.path.join(ROOT, 'examples', 'ladder.card')
+    check(run(CARD, 'rehearse', ladder, stdin=b'la\n')[0] == 2, 'rehearsed by a card on which one event is too few')
+    typed, told = BY_TWO
+    got = run(CARD, 'rehearse', '--lookahead', '2', ladder, stdin=typed.encode() + b'\n')
+    check(got == (0, told.encode() + b'\n', ''), f'rehearsed with two events of lookahead: {got}')
     check(run(CARD, 'rehearse', '-', stdin=b'a\n')[0] == 2, 'a card and a log from standard input')
-    print(f'rehearsals: {len(REHEARSED)} are told')
+    print(f'rehearsals: {len(REHEARSED) + 1} are told')
 
 
 def first_costliest(words, letters, length):

@@ -72,6 +72,16 @@ extern "C" {
         memo: *mut u16,
         memo_len: usize,
     ) -> u64;
+    pub fn vinegarspit_log_judge2(
+        card: *const u32,
+        card_len: usize,
+        events: *const u8,
+        state: *const u16,
+        table2: *mut u64,
+        table2_len: usize,
+        memo: *mut u16,
+        memo_len: usize,
+    ) -> u64;
     pub fn vinegarspit_costliest(
         card: *const u32,
         card_len: usize,

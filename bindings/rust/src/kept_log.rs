@@ -54,4 +54,22 @@ impl KeptLog {
             )
         })
     }
+
+    /// The same with two events of lookahead.
+    #[inline]
+    pub fn judge2(&self, card: &[u32], table2: &mut [u64], memo: &mut [u16]) -> Answer {
+        // Sound: as above.
+        Answer::from_bits(unsafe {
+            vinegarspit_log_judge2(
+                card.as_ptr(),
+                card.len(),
+                self.events.as_ptr(),
+                self.state.as_ptr(),
+                table2.as_mut_ptr(),
+                table2.len(),
+                memo.as_mut_ptr(),
+                memo.len(),
+            )
+        })
+    }
 }

@@ -76,8 +76,10 @@ fn kept() {
     assert_eq!(log.mark(0).to_string(), "passed");
     assert_eq!(log.add(7).to_string(), "passed");
     assert_eq!(log.judge(&R, &mut table(), &mut memo()).to_string(), "refused 11 1");
+    assert_eq!(log.judge2(&R, &mut [], &mut memo()).to_string(), "refused 17 0");
     assert_eq!(log.return_to(0).to_string(), "passed");
     assert_eq!(log.judge(&R, &mut table(), &mut memo()).to_string(), "accepted 2 1");
+    assert_eq!(log.judge2(&R, &mut vec![0; TABLE2_WORDS], &mut memo()).to_string(), "accepted 2 1");
     assert_eq!(log.return_to(1).to_string(), "refused 20 0");
     assert_eq!(log.mark(8).to_string(), "refused 19 0");
 }

@@ -1,7 +1,7 @@
 //! A log that is kept and grows event by event, with marks to return to (request P11).
 
 use super::answers::{Outcome, Refusal};
-use super::calls::judge;
+use super::calls::{judge, judge2};
 use super::limits::{MARKS, MAX_TOKENS, NOT_SET};
 
 /// The events as they came, and for each mark the length that it notes.
@@ -41,6 +41,10 @@ impl Log {
 
     pub fn judge(&self, words: &[u32], table: &mut [u32], memo: &mut [u16]) -> Outcome {
         judge(words, &self.events, table, memo)
+    }
+
+    pub fn judge2(&self, words: &[u32], table: &mut [u64], memo: &mut [u16]) -> Outcome {
+        judge2(words, &self.events, table, memo)
     }
 
     /// The log of these events and this state, whatever they are: a length over the limit reads as the limit, a mark beyond the length as not

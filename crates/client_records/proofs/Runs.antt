@@ -88,7 +88,7 @@ unfolding repliesBy replyBy
 exact idle f e = refl
 exact (next {us = us} {c = c} {l = l} {h = h} r table′ memo′ j rest) f e =
     let same : reply (c .client) (r .answer) ≡ replyBy f c =
-    ap (reply (c .client)) (j .answers .answer ∙ ap (λ g. refusedOr g (verdictOf One (grammarOf (c .words)) (c .input))) (fault-alike (calledBy us) f e c)) in
+    ap (reply (c .client)) (j .leaves .answer ∙ ap (λ g. refusedOr g (verdictOf One (grammarOf (c .words)) (c .input))) (fault-alike (calledBy us) f e c)) in
     let behind : h ≡ repliesBy (calledWith f (reply (c .client) (r .answer))) l = exact rest _ (called-alike f e (j .charges)) in
     ap (λ (t : List Reply). reply (c .client) (r .answer) ∷ t) behind ∙ ap (λ (s : Reply). s ∷ repliesBy (calledWith f s) l) same
 

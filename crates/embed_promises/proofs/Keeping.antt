@@ -15,6 +15,7 @@ use Rattle.answer.specs.Faults.{refusedOr}
 use Rattle.answer.proofs.Apart.{refused-ne-passed}
 use Rattle.answer.proofs.Faults.{OfFault, of-none, of-some, of-if, first-each}
 use Rattle.grammar.specs.Limits.{maxTokens}
+use Rattle.lookahead.specs.declared.Lookahead.{Lookahead}
 use Rattle.kept_input.specs.declared.Progress.{Progress}
 use Rattle.kept_input.specs.declared.KeptInput.{KeptInput}
 use Rattle.kept_input.specs.declared.Moved.{Moved}
@@ -24,7 +25,7 @@ use Rattle.kept_input.specs.Stored.{keptInput, held, valuesOf}
 use Rattle.kept_input.specs.Properties.{Steps, Moves, JudgesKept}
 use Rattle.kept_input.proofs.Lists.{elements}
 use Rattle.embed_promises.specs.Packing.{NumbersFit, packed, cut}
-use Rattle.embed_promises.specs.Kept.{stateOf, StateRead, StepExported, MoveExported, KeptExported}
+use Rattle.embed_promises.specs.Kept.{stateOf, progressIn, StateRead, StepExported, MoveExported, KeptExported}
 use Rattle.embed_promises.proofs.Places.{Low}
 use Rattle.embed_promises.proofs.Fitting.{passed-fits, fits-by, judge-fits}
 use Rattle.embed_promises.proofs.Packed.{packs}
@@ -42,7 +43,7 @@ step-low (Return m) s =
     unset (some n) = of-none Low
 
 step-fits : {t : Step} {k : KeptInput} {c : Changed} → Steps t k c → NumbersFit (numbers (c .answer))
-step-fits {t} {k} s = fits-by (stepFault t (held k)) Passed (s .answer) (step-low t (held k)) (λ q. rw (s .answer, q) passed-fits)
+step-fits {t} {k} s = fits-by (stepFault t (held k)) Passed (s .leaves .answer) (step-low t (held k)) (λ q. rw (s .leaves .answer, q) passed-fits)
 
 -- the nine numbers of the state
 listed : (l : List ℕ) (n : ℕ) → length l ≡ n → valuesOf (λ m. getD l m 0) n ≡ l
@@ -65,7 +66,7 @@ state-read (x ∷ l) e =
 
 -- a refused step hands back what it was given
 refused-kept : {t : Step} {k : KeptInput} {c : Changed} → Steps t k c → (e : Error) → c .answer ≡ Refused e → c .kept ≡ k
-refused-kept {t} {k} {c} s e q = go (stepFault t (held k)) _ (s .answer) (s .kept)
+refused-kept {t} {k} {c} s e q = go (stepFault t (held k)) _ (s .leaves .answer) (s .kept)
   where
     go : (f : Option Error) (next : KeptInput) → c .answer ≡ refusedOr f Passed → c .kept ≡ unlessRefused f next k → c .kept ≡ k
     go none next a h = absurd (refused-ne-passed (sym q ∙ a))
@@ -93,12 +94,9 @@ pub move-exported : {t : Step} {state state′ : List ℕ} {p : Progress} {m : M
     → MoveExported t state r state′
 move-exported g m e left = record { of-any-events = λ events whole. step-exported g (m .steps events whole) e refl left }
 
-pub kept-exported : {words events state table memo table′ memo′ : List ℕ} {p : Progress} {a : Answer} {r : ℕ} → StateRead state p
-    → JudgesKept words (keptInput events p) table memo a table′ memo′
+pub kept-exported : {k : Lookahead} {words events state table memo table′ memo′ : List ℕ} {kept : KeptInput} {a : Answer} {r : ℕ}
+    → kept ≡ keptInput events (progressIn state)
+    → JudgesKept k words kept table memo a table′ memo′
     → r ≡ packed (cut (numbers a))
-    → KeptExported words events state table memo r table′ memo′
-kept-exported {words} {events} {state} {table} {memo} {table′} {memo′} {p} {a} g j e = record {
-  answer = a;
-  judges = subst (λ (q : Progress). JudgesKept words (keptInput events q) table memo a table′ memo′) (g .read) j;
-  packs = packs (judge-fits (j .judges)) e;
-}
+    → KeptExported k words events state table memo r table′ memo′
+kept-exported {a = a} g j e = record { answer = a; judges = rw g at j; packs = packs (judge-fits (j .judges)) e }

@@ -4,3 +4,4 @@ pub mod Packed
 pub mod Exporting
 pub mod RecordRows
 pub mod Keeping
+pub mod KeptCalls

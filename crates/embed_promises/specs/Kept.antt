@@ -7,6 +7,7 @@ use Rattle.answer.specs.declared.Answer.{Answer}
 use Rattle.answer.specs.declared.Answer.the-variants.{Refused}
 use Rattle.answer.specs.declared.Error.{Error}
 use Rattle.grammar.specs.Limits.{maxTokens}
+use Rattle.lookahead.specs.declared.Lookahead.{Lookahead}
 use Rattle.kept_input.specs.declared.Progress.{Progress}
 use Rattle.kept_input.specs.declared.Changed.{Changed}
 use Rattle.kept_input.specs.Histories.{Step, Add}
@@ -42,7 +43,7 @@ AddExported event = StepExported (Add event)
 pub record MoveExported (t : Step) (state : List ℕ) (r : ℕ) (state′ : List ℕ) : Type 0 where
   pub of-any-events : (events : List ℕ) → length events ≡ maxTokens → StepExported t events state r events state′
 
-pub record KeptExported (words events state table memo : List ℕ) (r : ℕ) (table′ memo′ : List ℕ) : Type 0 where
+pub record KeptExported (k : Lookahead) (words events state table memo : List ℕ) (r : ℕ) (table′ memo′ : List ℕ) : Type 0 where
   pub answer : Answer
-  pub judges : JudgesKept words (keptInput events (progressIn state)) table memo answer table′ memo′
+  pub judges : JudgesKept k words (keptInput events (progressIn state)) table memo answer table′ memo′
   pub packs : Packs r answer

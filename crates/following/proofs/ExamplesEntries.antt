@@ -77,7 +77,7 @@ A-called = more start (List·Memᴰ·head refl)
 ab-tells : (v : Valuation) → Solves grammarE ab v → v 1 0 1 ≡ true
 unfolding memo-computes
 ab-tells v s =
-    theorems .one-token grammarE ab (left grammarE 1 ab) (told grammarE 1 predictive-E ab tt (omega arith))
+    told grammarE 1 predictive-E ab tt (omega arith) .begun refl
     v s 1 0 1 A-called (omega arith) (omega arith) (1 ∷ [], b-follows-A, inl (omega arith, [], refl)) .0 refl
 
 -- S → A b c, A → B & ¬ b C, B → a | b, C → ε: with two tokens, bc alone may follow A

@@ -2,9 +2,9 @@
 use mathlib.Core.Path.{_≡_, refl, ap, _∙_}
 use mathlib.Core.List.{List}
 use Prim.Native.Nat.{ℕ}
-use Rattle.lookahead.specs.declared.Lookahead.the-variants.{One}
 use Rattle.answer.specs.declared.Answer.{Answer}
 use Rattle.event.specs.Events.{inputOf}
+use Rattle.lookahead.specs.declared.Lookahead.{Lookahead}
 use Rattle.recognizer_promises.specs.Properties.{Judges}
 use Rattle.kept_input.specs.declared.KeptInput.{KeptInput}
 use Rattle.kept_input.specs.Histories.{empty, Step, ran}
@@ -18,9 +18,9 @@ unfolding ran
 run-holds idle = refl
 run-holds (next {l = l} r s rest) = run-holds rest ∙ ap (ran l) (s .holds)
 
-run-judged : {first last : KeptInput} {l : List Step} → held first ≡ empty → Run first l last
-    → {words table memo table′ memo′ table″ memo″ : List ℕ} {r a : Answer} → JudgesKept words last table memo r table′ memo′
-    → Judges One words (inputOf (ran l empty .events)) table memo a table″ memo″
+run-judged : {k : Lookahead} {first last : KeptInput} {l : List Step} → held first ≡ empty → Run first l last
+    → {words table memo table′ memo′ table″ memo″ : List ℕ} {r a : Answer} → JudgesKept k words last table memo r table′ memo′
+    → Judges k words (inputOf (ran l empty .events)) table memo a table″ memo″
     → (r ≡ a) × (table′ ≡ table″) × (memo′ ≡ memo″)
 run-judged {l = l} e run j h = j .afresh l (run-holds run ∙ ap (ran l) e) _ _ _ h
 

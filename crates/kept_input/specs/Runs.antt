@@ -4,12 +4,12 @@ use mathlib.Core.List.{List, [], _∷_, _++_, List·Memᴰ}
 use mathlib.Core.Option.{none, some}
 use Prim.Native.Nat.{ℕ, _≤_, _<_}
 use lib.ListN.{length, take}
-use Rattle.lookahead.specs.declared.Lookahead.the-variants.{One}
 use Rattle.answer.specs.declared.Answer.{Answer}
 use Rattle.answer.specs.declared.Error.{Error}
 use Rattle.answer.specs.declared.Error.the-variants.{UnknownCheckpoint, CheckpointNotSet, InputFull}
 use Rattle.grammar.specs.Limits.{maxTokens}
 use Rattle.event.specs.Events.{inputOf}
+use Rattle.lookahead.specs.declared.Lookahead.{Lookahead}
 use Rattle.recognizer_promises.specs.Properties.{Judges}
 use Rattle.kept_input.specs.declared.KeptInput.{KeptInput}
 use Rattle.kept_input.specs.declared.Changed.{Changed}
@@ -32,10 +32,10 @@ pub record Sound (s : Kept) : Type 0 where
 pub record HistoriesKept : Type 0 where
   -- the last value holds what the steps make of what the first one held
   pub holds : {first last : KeptInput} {l : List Step} → Run first l last → held last ≡ ran l (held first)
-  -- from an empty input without checkpoints a judgement is that of the events which the history leaves, taken afresh with the same grammar and memory
-  pub judged : {first last : KeptInput} {l : List Step} → held first ≡ empty → Run first l last
-      → {words table memo table′ memo′ table″ memo″ : List ℕ} {r a : Answer} → JudgesKept words last table memo r table′ memo′
-      → Judges One words (inputOf (ran l empty .events)) table memo a table″ memo″
+  -- from an empty input without checkpoints a judgement is that of the events which the history leaves, taken afresh with the same grammar, lookahead and memory
+  pub judged : {k : Lookahead} {first last : KeptInput} {l : List Step} → held first ≡ empty → Run first l last
+      → {words table memo table′ memo′ table″ memo″ : List ℕ} {r a : Answer} → JudgesKept k words last table memo r table′ memo′
+      → Judges k words (inputOf (ran l empty .events)) table memo a table″ memo″
       → (r ≡ a) × (table′ ≡ table″) × (memo′ ≡ memo″)
   pub sound : (l : List Step) → Sound (ran l empty)
 

@@ -1,16 +1,41 @@
-// Judging an input that is kept between calls.
+// Judging an input that is kept between calls, with one token of lookahead and with two.
+ghost use mathlib.Core.Path.{_≡_};
+ghost use Rattle.lookahead.specs.declared.Lookahead.the-variants.{One, Two};
+ghost use Rattle.kept_input.specs.Stored.{readLength};
 ghost use Rattle.kept_input.specs.Properties.{JudgesKept};
 use answer::Answer;
 use kept_input::KeptInput;
+use kept_input::Progress;
 use kept_input::bounded;
 use recognizer::judge;
+use recognizer::judge_wide;
+
+// How many of the events are the input.
+fn input_length(progress: Progress) -> usize
+    ensures { λ r. ⌜ r ≡ readLength progress ⌝ }
+{
+    bounded(progress.length) as usize
+}
 
 // Judges the input as it stands.
 pub fn judge_kept(words: &[u32], kept: KeptInput, table: &mut [u32], memo: &mut [u16]) -> Answer
-    ensures { λ r. ⌜ JudgesKept (now (words .entry)) kept (now (table .entry)) (now (memo .entry)) r (now (table .exit)) (now (memo .exit)) ⌝ }
+    ensures { λ r. ⌜ JudgesKept One (now (words .entry)) kept (now (table .entry)) (now (memo .entry)) r (now (table .exit)) (now (memo .exit)) ⌝ }
 {
-    let progress = kept.progress;
-    let length = bounded(progress.length) as usize;
+    let length = input_length(kept.progress);
     let events = kept.events;
     judge(words, &events[..length], table, memo)
+}
+
+// The same with two tokens of lookahead, with a lent table of 64-bit words.
+pub fn judge_kept_wide(
+    words: &[u32],
+    kept: KeptInput,
+    table: &mut [u64],
+    memo: &mut [u16],
+) -> Answer
+    ensures { λ r. ⌜ JudgesKept Two (now (words .entry)) kept (now (table .entry)) (now (memo .entry)) r (now (table .exit)) (now (memo .exit)) ⌝ }
+{
+    let length = input_length(kept.progress);
+    let events = kept.events;
+    judge_wide(words, &events[..length], table, memo)
 }

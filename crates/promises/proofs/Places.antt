@@ -9,7 +9,7 @@ use native.Mathlib.Omega.{arith}
 use Rattle.answer.proofs.Apart.{answer-number, fault-number, refusalNumber}
 use Rattle.answer.proofs.Faults.{none-some}
 use Rattle.answer.specs.declared.Error.{Error}
-use Rattle.answer.specs.declared.Error.the-variants.{InputTooLong, LeftRecursive, Unproductive}
+use Rattle.answer.specs.declared.Error.the-variants.{InputTooLong, LeftRecursive, TooManyInputs, Unproductive}
 use Rattle.answer.specs.declared.Answer.{Answer}
 use Rattle.answer.specs.declared.Answer.the-variants.{Refused, Passed, Accepted, Rejected}
 use Rattle.answer.specs.declared.Calls.{Calls}
@@ -28,10 +28,11 @@ use Rattle.semantics.proofs.Theorems.{theorems}
 use Rattle.families.specs.Analysis.{leftFault, unproductiveFault}
 use Rattle.promises.specs.Places.{LowestRecursive, LowestUnproductive}
 
--- not 10 and not 11, the refusals of an input
+-- not 10, 11 or 22, the refusals of an input and of a length
 pub record OfGrammar (e : Error) : Type 0 where
   pub length : coded e .code ≡ 10 → ⊥
   pub token : coded e .code ≡ 11 → ⊥
+  pub inputs : coded e .code ≡ 22 → ⊥
 
 -- an answer refuses with an error of the grammar exactly when the grammar's fault is that one
 abbrev pub Tells : Option Error → Answer → Type 0
@@ -57,6 +58,15 @@ judge-tells none true u b c q = λ e g. (λ p. absurd (g .length (sym (answer-nu
 judge-tells none false (At i) b c q = λ e g. (λ p. absurd (g .token (sym (answer-number (sym q ∙ p)))), λ p. absurd (none-some p))
 judge-tells none false Absent true c q = silent q refl
 judge-tells none false Absent false c q = silent q refl
+
+-- what judging the costliest input of a length answers, by the grammar's fault and what is found of the length
+pub costliest-tells : (f : Option Error) (long many b : Bool) (c : Calls) {r : Answer}
+    → r ≡ refusedOr (firstFault (f ∷ faultIf long InputTooLong ∷ faultIf many TooManyInputs ∷ [])) (choose b (Accepted c) (Rejected c)) → Tells f r
+costliest-tells (some e) long many b c q = refused-tells q
+costliest-tells none true many b c q = λ e g. (λ p. absurd (g .length (sym (answer-number (sym q ∙ p)))), λ p. absurd (none-some p))
+costliest-tells none false true b c q = λ e g. (λ p. absurd (g .inputs (sym (answer-number (sym q ∙ p)))), λ p. absurd (none-some p))
+costliest-tells none false false true c q = silent q refl
+costliest-tells none false false false c q = silent q refl
 
 pub none-left : (o : Option ℕ) → leftFault o ≡ none → o ≡ none
 none-left none e = refl
@@ -92,7 +102,7 @@ module _ (behind : List (Option Error)) (other : (e : Error) → firstFault behi
   module _ (k : Lookahead) (G : Grammar) (scoped : WellScoped G) {r : Answer} (t : Tells (faultBy behind (lowestLeftRecursive G) (lowestUnproductive G (tokens k))) r) where
     pub lowest-recursive : (A : ℕ) → (r ≡ Refused (LeftRecursive A)) ↔ LowestRecursive G A
     lowest-recursive A =
-        let told = t (LeftRecursive A) record { length = omega arith; token = omega arith } in
+        let told = t (LeftRecursive A) record { length = omega arith; token = omega arith; inputs = omega arith } in
         let left = left-told (lowestLeftRecursive G) (lowestUnproductive G (tokens k)) A in
         let decided = theorems .left-recursion-decided G scoped .lowest A in (
           λ e. let h = decided .0 (left .0 (told .0 e)) in record { reaches = h .0; lowest = h .1 },
@@ -101,7 +111,7 @@ module _ (behind : List (Option Error)) (other : (e : Error) → firstFault behi
 
     pub lowest-unproductive : (A : ℕ) → (r ≡ Refused (Unproductive A)) ↔ (NoLeftRecursion G × LowestUnproductive k G A)
     lowest-unproductive A =
-        let told = t (Unproductive A) record { length = omega arith; token = omega arith } in
+        let told = t (Unproductive A) record { length = omega arith; token = omega arith; inputs = omega arith } in
         let empty = unproductive-told (lowestLeftRecursive G) (lowestUnproductive G (tokens k)) A in
         let free = theorems .left-recursion-decided G scoped .absent in
         let decided = theorems .productive-decided G (tokens k) .lowest A in (

@@ -68,7 +68,7 @@ module _ {k : Lookahead} {words : List ℕ} {P : Error → Type 0} where
   unfolding verdictOf
   refused-each each {input} {table} {memo} j x e =
       go (judgeFault k (length table) (length memo) words input) (judge-each each (length table) (length memo) input)
-      (accepts (grammarOf words) (tableChoice (grammarOf words) (tokens k) input) input) (sym (j .answer) ∙ e)
+      (accepts (grammarOf words) (tableChoice (grammarOf words) (tokens k) input) input) (sym (j .leaves .answer) ∙ e)
     where
       c : Calls
       c = callsOf k (grammarOf words) input

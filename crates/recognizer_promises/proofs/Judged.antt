@@ -1,7 +1,7 @@
 -- What judging answers and leaves in the lent memories, by the first fault.
-use mathlib.Core.Path.{_≡_, refl, sym, ap, subst, _∙_}
+use mathlib.Core.Path.{_≡_, refl, sym, ap, _∙_}
 use mathlib.Core.Bool.{Bool, true, false}
-use mathlib.Core.List.{List, _++_}
+use mathlib.Core.List.{List, [], _∷_, _++_}
 use mathlib.Core.Option.{Option, none, some}
 use Prim.Native.Nat.{ℕ, _+_, _*_, _≤_, _<_}
 use native.Mathlib.Nat.{mul-le-mul}
@@ -12,9 +12,8 @@ use lib.ListN.{length, take, drop, length-map}
 use lib.Seq.{length-take-le}
 use Rattle.answer.specs.declared.Error.{Error}
 use Rattle.answer.specs.declared.Error.the-variants.{MemoTooShort}
-use Rattle.answer.specs.Numbers.{accepted, rejected, answered, numbers}
-use Rattle.answer.specs.Faults.{firstFault, refusedOr, toldOr}
-use Rattle.answer.proofs.Faults.{numbers-told}
+use Rattle.answer.specs.Numbers.{Verdict, refused, passed, rejected, accepted, numbers}
+use Rattle.answer.specs.Faults.{firstFault, refusedOr}
 use Rattle.answer.specs.declared.Answer.{Answer}
 use Rattle.answer.specs.declared.Answer.the-variants.{Refused, Accepted, Rejected}
 use Rattle.base.specs.Choice.{choose}
@@ -24,104 +23,86 @@ use Rattle.grammar.specs.Encoding.{grammarOf}
 use Rattle.grammar.specs.WellRead.{WellRead}
 use Rattle.grammar.specs.declared.reading.Sizes.{Sizes}
 use Rattle.grammar.proofs.WellRead.{well-read}
-use Rattle.encoding.proofs.Faithful.{faithful}
 use Rattle.lookahead.specs.declared.Lookahead.{Lookahead}
 use Rattle.lookahead.specs.Lookaheads.{tokens}
-use Rattle.admission.proofs.Admitted.{admitted}
 use Rattle.families.proofs.FewTerminals.{admitted-read}
 use Rattle.semantics.specs.Valuations.{pairs}
 use Rattle.semantics.specs.Descent.{accepts}
-use Rattle.semantics.specs.Calls.{allCalls, callCount, farthest}
+use Rattle.semantics.specs.Calls.{allCalls}
 use Rattle.semantics.proofs.descent.Range.{all-length}
-use Rattle.following.specs.Theorems.{EntriesTell}
-use Rattle.following.proofs.Theorems.{theorems as following}
 use Rattle.table.specs.Layout.{tableWords, tableRoom}
 use Rattle.table.specs.Analysis.{fault, foundOf}
 use Rattle.table.specs.declared.Found.{Found}
 use Rattle.families.specs.declared.Finding.{Finding}
 use Rattle.families.specs.declared.Finding.the-variants as finding
 use Rattle.promises.specs.Memory.{lentBack}
+use Rattle.promises.specs.Leaving.{lent, Leaves}
+use Rattle.promises.proofs.Leaving.{leaves, leaves-alike, leaves-refused, unrefused}
 use Rattle.promises.proofs.Inputs.{PassedWith, RefusedWith, byGrammar, byFaults, with-passed, with-refused}
 use Rattle.promises.proofs.Places.{judge-tells}
 use Rattle.recognizer_promises.specs.Memory.{memoWord, memoWords}
 use Rattle.event.specs.Events.{inputOf}
 use Rattle.event.specs.Unknown.{unknownFrom}
 use Rattle.event.proofs.Inputs.{input-length}
-use Rattle.recognizer_promises.specs.Answers.{choiceOf, judgeFault, inputFaults, withInput, callsOf, verdictOf, verdictNumbers}
+use Rattle.recognizer_promises.specs.Answers.{choiceOf, judgeFault, inputFaults, withInput, callsOf, verdictOf}
 use Rattle.recognizer_promises.specs.Judging.{memoFault, foundUnless, refusedWith, JudgesWords, EntriesFound, PassedGiven, DescendGiven, Descended, JudgedPassed}
 use Rattle.recognizer_promises.specs.declared.Judgement.{Judgement}
-use Rattle.recognizer_promises.specs.Properties.{PassedGrammar, Readable, Recognizes, Judges}
-use Rattle.recognizer_promises.proofs.Checking.{fits-few, passed-fault, passed-free, passed-predictive, fault-passed, Told, told, found as found-entries, found-fault}
+use Rattle.recognizer_promises.specs.Properties.{Room, Judgeable, Judges}
+use Rattle.recognizer_promises.proofs.Words.{understood}
+use Rattle.recognizer_promises.proofs.Checking.{fits-few, passed-fault, passed-free, fault-passed, Told, told, found as found-entries, found-fault}
 use Rattle.recognizer_promises.proofs.Places.{fault-encoded, places}
 use Rattle.recognizer_promises.proofs.JudgeFaults.{judge-fault-long, input-fault, judge-table-long, memo-fault-short, memo-fault-long, judged-readable, readable-faultless, faultless-readable, judged-checked}
 use Rattle.recognizer_promises.proofs.Meaning.{meaning}
 
--- the numbers of what is answered
-pub verdict-told : (k : Lookahead) (G : Grammar) (w : List ℕ) → numbers (verdictOf k G w) ≡ verdictNumbers k G w
-unfolding verdictOf verdictNumbers
-verdict-told k G w = go (accepts G (choiceOf k G w) w)
+-- a verdict is no refusal
+pub verdict-unrefused : (k : Lookahead) (G : Grammar) (w : List ℕ) {r : Answer} → r ≡ verdictOf k G w → numbers r .verdict ≡ refused → ⊥
+unfolding verdictOf
+verdict-unrefused k G w {r} e = go (accepts G (choiceOf k G w) w) e
   where
-    go : (b : Bool) → numbers (choose b (Accepted (callsOf k G w)) (Rejected (callsOf k G w)))
-        ≡ answered (choose b accepted rejected) 0 0 (callCount G (choiceOf k G w) w) (farthest G (choiceOf k G w) w)
-    go true = refl
-    go false = refl
+    told-apart : Verdict → ℕ
+    told-apart refused = 0
+    told-apart passed = 1
+    told-apart rejected = 2
+    told-apart accepted = 3
 
--- a passed grammar and a readable input: what is answered has its meaning, and the memo table lent back begins with the entries that the descent records
-module _ (k : Lookahead) (words input table memo : List ℕ) (long : tableRoom k ≤ length table) (room : maxMemoEntries ≤ length memo)
-    (p : PassedGrammar k words) (h : Readable words input) where
-  abbrev G : Grammar
-  G = grammarOf words
+    go : (b : Bool) → r ≡ choose b (Accepted (callsOf k G w)) (Rejected (callsOf k G w)) → numbers r .verdict ≡ refused → ⊥
+    go true q h = absurd (omega (arith, ap told-apart (sym (ap (λ (a : Answer). numbers a .verdict) q) ∙ h)))
+    go false q h = absurd (omega (arith, ap told-apart (sym (ap (λ (a : Answer). numbers a .verdict) q) ∙ h)))
 
-  abbrev n : ℕ
-  n = tokens k
-
-  faultless : judgeFault k (length table) (length memo) words input ≡ none
-  faultless = input-fault k words input table memo long room (fault-passed words p) (readable-faultless (G .terminals) input (h .short) (h .tokens))
-
-  recognizes : (r : Answer) → r ≡ refusedOr (judgeFault k (length table) (length memo) words input) (verdictOf k G input)
-      → Recognizes k words input r
-  recognizes r a = meaning k words input r p h (a ∙ ap (λ y. refusedOr y (verdictOf k G input)) faultless)
-
-  entries : (memo′ : List ℕ) → memo′ ≡ lentBack (judgeFault k (length table) (length memo) words input) (memoWords k G input) memo
-      → EntriesTell G n input memo′
-  entries memo′ m =
-      let written = memoWords k G input in
-      let recorded = meaning k words input (verdictOf k G input) p h refl .memo in
-      subst (EntriesTell G n input) (sym (m ∙ ap (λ y. lentBack y written memo) faultless))
-      (following .entries G n (passed-predictive words p) input (h .tokens) (omega (arith, h .short)) written recorded (drop (length written) memo))
+-- memories that are long enough, a passed grammar and a readable input: there is no fault
+faultless : (k : Lookahead) (words input table memo : List ℕ) → Room k table memo → Judgeable k words input
+    → judgeFault k (length table) (length memo) words input ≡ none
+faultless k words input table memo room h =
+    input-fault k words input table memo (room .long-table) (room .long-memo) (fault-passed words (h .passed))
+    (readable-faultless (grammarOf words .terminals) input (h .short) (h .known))
 
 -- the promise from the answer and the memories
 pub judges : {k : Lookahead} {words input table memo table′ memo′ : List ℕ} {r : Answer}
-    → r ≡ refusedOr (judgeFault k (length table) (length memo) words input) (verdictOf k (grammarOf words) input)
-    → table′ ≡ lentBack (judgeFault k (length table) (length memo) words input) (tableWords k (grammarOf words)) table
-    → memo′ ≡ lentBack (judgeFault k (length table) (length memo) words input) (memoWords k (grammarOf words) input) memo
+    → Leaves (judgeFault k (length table) (length memo) words input) (verdictOf k (grammarOf words) input) r
+    (lent table (tableWords k (grammarOf words)) table′ ∷ lent memo (memoWords k (grammarOf words) input) memo′ ∷ [])
     → Judges k words input table memo r table′ memo′
 unfolding verdictOf
-judges {k} {words} {input} {table} {memo} {table′} {memo′} {r} a t m = record {
-  faithful = faithful words;
-  admits = admitted k words;
-  answer = a;
-  told =
-      let f = judgeFault k (length table) (length memo) words input in
-      ap numbers a ∙ numbers-told f (verdictOf k (grammarOf words) input) ∙ ap (toldOr f) (verdict-told k (grammarOf words) input);
-  lent-table = t;
-  lent-memo = m;
-  places = λ long room few G e fits.
+judges {k} {words} {input} {table} {memo} l = record {
+  understood = understood k words;
+  leaves = l;
+  places = λ room few G e fits.
       let H = grammarOf words in
       places k G (e .formed .scoped) (fits-few k G e fits)
       (judge-tells _ (ltb maxTokens (length input)) (unknownFrom (H .terminals) 0 input) (accepts H (choiceOf k H input) input) (callsOf k H input)
-      (a ∙ ap (λ f. refusedOr f (verdictOf k H input)) (judge-fault-long k words input table memo long room (fault-encoded k words G few e fits))));
-  as-checked = λ e c checked q.
-      t ∙ ap (λ y. lentBack y (tableWords k (grammarOf words)) table) (e ∙ sym (judged-checked k words input (length table) (length memo) e)) ∙ sym (q .table);
-  recognizes = λ long room p h. recognizes k words input table memo long room p h r a;
-  entries = λ long room p h. entries k words input table memo long room p h memo′ m;
+      (l .answer ∙ ap (λ f. refusedOr f (verdictOf k H input)) (judge-fault-long k words input table memo (room .long-table) (room .long-memo) (fault-encoded k words G few e fits))));
+  as-checked = λ n c checked q.
+      let e = unrefused l n in
+      l .memory .0 ∙ ap (λ y. lentBack y (tableWords k (grammarOf words)) table) (e ∙ sym (judged-checked k words input (length table) (length memo) e)) ∙ sym (q .leaves .memory .0);
+  recognizes = λ room h.
+      let f = faultless k words input table memo room h in
+      let written = memoWords k (grammarOf words) input in
+      meaning k words input h (drop (length written) memo) (l .answer ∙ ap (λ y. refusedOr y (verdictOf k (grammarOf words) input)) f)
+      (l .memory .1 .0 ∙ ap (λ y. lentBack y written memo) f);
 }
 
 pub judge-refused : {k : Lookahead} {words input table memo : List ℕ} {x : Error} → judgeFault k (length table) (length memo) words input ≡ some x
     → Judges k words input table memo (Refused x) table memo
-judge-refused {k} {words} {input} {table} {memo} f =
-    judges (sym (ap (λ y. refusedOr y (verdictOf k (grammarOf words) input)) f)) (sym (ap (λ y. lentBack y (tableWords k (grammarOf words)) table) f))
-    (sym (ap (λ y. lentBack y (memoWords k (grammarOf words) input) memo) f))
+judge-refused f = judges (leaves-refused f (refl, (refl, tt)))
 
 pub memo-count : (k : Lookahead) (G : Grammar) (input : List ℕ) → length (memoWords k G input) ≡ pairs G input
 unfolding memoWords
@@ -240,10 +221,7 @@ module _ {k : Lookahead} (words input table memo : List ℕ) (long : tableRoom k
 
   pub judged-by-words : {table′ : List ℕ} → table′ ≡ lentBack (memoFault k (length memo) words input) (tableWords k (grammarOf words)) table
       → Judges k words input table memo (r .answer) table′ memo′
-  judged-by-words t =
-      judges (j .verdict ∙ sym (ap (λ y. refusedOr y (verdictOf k (grammarOf words) input)) same-fault))
-      (t ∙ sym (ap (λ y. lentBack y (tableWords k (grammarOf words)) table) same-fault))
-      (j .lent ∙ sym (ap (λ y. lentBack y (memoWords k (grammarOf words) input) memo) same-fault))
+  judged-by-words t = judges (leaves-alike same-fault (leaves (j .verdict) (t, (j .lent, tt))))
 
   pub judged-faultless : memoFault k (length memo) words input ≡ none → fault k words ≡ none
   judged-faultless n = judged-readable k words input (length table) (length memo) (same-fault ∙ n) .0

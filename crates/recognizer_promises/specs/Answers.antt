@@ -8,7 +8,6 @@ use Rattle.answer.specs.declared.Error.the-variants.{TableTooShort, MemoTooShor
 use Rattle.answer.specs.declared.Calls.{Calls}
 use Rattle.answer.specs.declared.Answer.{Answer}
 use Rattle.answer.specs.declared.Answer.the-variants.{Rejected, Accepted}
-use Rattle.answer.specs.Numbers.{passed, rejected, accepted, Numbers, answered}
 use Rattle.answer.specs.Faults.{faultIf, firstFault}
 use Rattle.base.specs.Choice.{choose}
 use Rattle.grammar.specs.Limits.{maxTokens, maxMemoEntries}
@@ -51,10 +50,6 @@ judgeFault k table memo words input =
 abbrev pub withInput : Finding → List ℕ → Finding
 withInput = withInputTo maxTokens
 
--- of a check that passes
-abbrev pub passedNumbers : Numbers
-passedNumbers = answered passed 0 0 0 0
-
 -- which rule the table chooses at each call
 abbrev pub choiceOf : Lookahead → Grammar → List ℕ → Choice
 choiceOf k G w = tableChoice G (tokens k) w
@@ -66,8 +61,3 @@ callsOf k G w = record { count = callCount G (choiceOf k G w) w; farthest = fart
 -- its verdict
 unfoldable pub verdictOf : Lookahead → Grammar → List ℕ → Answer
 verdictOf k G w = choose (accepts G (choiceOf k G w) w) (Accepted (callsOf k G w)) (Rejected (callsOf k G w))
-
--- and the verdict's numbers
-unfoldable pub verdictNumbers : Lookahead → Grammar → List ℕ → Numbers
-verdictNumbers k G w =
-    answered (choose (accepts G (choiceOf k G w) w) accepted rejected) 0 0 (callCount G (choiceOf k G w) w) (farthest G (choiceOf k G w) w)

@@ -14,7 +14,7 @@ use Rattle.base.specs.Strings.{Over}
 use Rattle.semantics.specs.Choices.{tableChoice}
 use Rattle.semantics.specs.ComesTo.{Call, callAt, bodyComesTo}
 use Rattle.semantics.specs.Predictive.{Predictive}
-use Rattle.tree.specs.ParseTrees.{Vertex, Node, Leaf, Inner, leaves, Pairwise, Corresponds, Cut}
+use Rattle.tree.specs.ParseTrees.{Vertex, Node, Leaf, Inner, from, to, leaves, Pairwise, Corresponds, Cut}
 use Rattle.tree.specs.Writing.{vertexAt, bodyNodes}
 use Rattle.tree.proofs.Reading.{outcomes, Found, Reads, Chosen, chosen}
 use Rattle.tree.proofs.Below.{comes-token, comes-name}
@@ -32,6 +32,18 @@ code (Inner x) = 1
 
 pub inner-leaf : (x : Vertex) (p : ℕ) → Inner x ≡ Leaf p → ⊥
 inner-leaf x p e = absurd (omega (arith, ap code e))
+
+-- what is cut in order, and each piece, lies within the span
+cut-onward : (ns : List Node) (i j : ℕ) → Cut i j ns → i ≤ j
+cut-onward [] i j e = omega (arith, e)
+cut-onward (n ∷ ns) i j c = omega (arith, c .1, cut-onward ns (c .0) j (c .4))
+
+pub cut-within : (ns : List Node) (i j : ℕ) → Cut i j ns → (n : Node) → List·Memᴰ n ns → (i ≤ from n) × (to n ≤ j)
+cut-within [] i j c n u = absurd (List·Memᴰ·not-nil u)
+cut-within (x ∷ ns) i j c n u = elim (List·Memᴰ·cases-cons u) [
+  | inl e ↦ rw e (omega (arith, c .2), omega (arith, c .3, cut-onward ns (c .0) j (c .4)))
+  | inr t ↦ let r = cut-within ns (c .0) j (c .4) n t in (omega (arith, r .0, c .1), r .1)
+]
 
 -- leaves
 pub leaves-cut : (n i j : ℕ) → i + n ≡ j → Cut i j (leaves i n)

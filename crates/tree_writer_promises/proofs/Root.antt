@@ -36,7 +36,8 @@ use Rattle.tree.specs.Writing.{vertexAt, vertexWord, treeCalls, treeOf, treeWor
 use Rattle.tree.proofs.Reading.{chosen}
 use Rattle.tree.proofs.Trees.{tree-sound}
 use Rattle.tree_writer_promises.specs.Labels.{labelIndex, labelWord, LabelsGiven, Labelled}
-use Rattle.tree_writer_promises.specs.Writer.{choiceOf, wordAt, wordsOf, Holds, VertexGiven, VertexRequires, VertexEnsures, TreeGiven, TreeDone}
+use Rattle.tree_writer_promises.specs.Properties.{wordsOf}
+use Rattle.tree_writer_promises.specs.Writer.{choiceOf, wordAt, Holds, VertexGiven, VertexRequires, VertexEnsures, TreeGiven, TreeDone}
 
 map-twice : (f : Call → ℕ) {Z : Type 0} (g : Call → Z) (h : Z → ℕ) → ((x : Call) → h (g x) ≡ f x) → (l : List Call) → map h (map g l) ≡ map f l
 map-twice f g h e [] = refl

@@ -4,8 +4,8 @@ use borrow.Author.Needs.{needs}
 use Rattle.embed.proofs.kept.vinegarspit_log_judge.Statement.{statement}
 use Rattle.embed.proofs.kept.vinegarspit_log_judge.Tie as tie
 
-progress-in-requires : tie.Need-progress-in-requires
-progress-in-requires c κs = search needs
+kept-in-requires : tie.Need-kept-in-requires
+kept-in-requires c κs = search needs
 
 judge-kept-requires : tie.Need-judge-kept-requires
 judge-kept-requires c κs = search needs
@@ -22,15 +22,8 @@ same-length-2 c = search needs
 returns : tie.Need-returns
 returns c =
     let at-judge = c .before .before .before .before .before in
-    kept-exported (at-judge .before .before .before .before .progress-in .ensures) (at-judge .judge-kept .ensures) (c .pack .ensures)
+    kept-exported (at-judge .before .before .before .kept-in .ensures) (at-judge .judge-kept .ensures) (c .pack .ensures)
 
 pub vinegarspit-log-judge-spec : {M : Type 1} → statement M
 vinegarspit-log-judge-spec =
-    tie.close
-    (tie.spec
-    progress-in-requires
-    judge-kept-requires
-    pack-requires
-    same-length
-    same-length-2
-    returns)
+    tie.close (tie.spec kept-in-requires judge-kept-requires pack-requires same-length same-length-2 returns)
