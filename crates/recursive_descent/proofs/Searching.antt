@@ -34,7 +34,7 @@ use Rattle.inputs.specs.declared.Candidate.{Candidate}
 use Rattle.recognizer_promises.specs.Memory.{memoWords}
 use Rattle.recognizer_promises.specs.Answers.{callsOf, verdictOf}
 use Rattle.recognizer_promises.specs.Judging.{PassedGiven, JudgedPassed}
-use Rattle.recognizer_promises.specs.Costliest.{callsOn, costliestInput}
+use Rattle.recognizer_promises.specs.CostliestInput.{callsOn, costliestInput}
 use Rattle.recognizer_promises.specs.Search.{SearchGiven, BestJudged}
 use Rattle.recursive_descent.specs.Search.{NumberJudged, Behind, Tried, Found}
 use Rattle.recognizer_promises.proofs.Judged.{memo-count}

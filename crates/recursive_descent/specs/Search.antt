@@ -9,7 +9,7 @@ use Rattle.lookahead.specs.declared.Lookahead.the-variants.{One}
 use Rattle.inputs.specs.Inputs.{inputAt}
 use Rattle.inputs.specs.declared.Candidate.{Candidate}
 use Rattle.recognizer_promises.specs.Judging.{JudgedPassed}
-use Rattle.recognizer_promises.specs.Costliest.{callsOn, costliestInput}
+use Rattle.recognizer_promises.specs.CostliestInput.{callsOn, costliestInput}
 
 -- the input of a number is written and judged
 pub record NumberJudged (words : List ℕ) (number : ℕ) (events memo : List ℕ) (r : Answer) (events′ memo′ : List ℕ) : Type 0 where
