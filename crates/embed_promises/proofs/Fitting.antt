@@ -32,7 +32,7 @@ use Rattle.recognizer_promises.specs.Answers.{checkFaultBy, judgeFaultBy, calls
 use Rattle.recognizer_promises.specs.Properties.{ChecksBy, JudgesBy}
 use Rattle.recognizer_promises.proofs.Checking.{passed-fault-for, passed-encodes, passed-free}
 use Rattle.recognizer_promises.proofs.JudgeFaults.{judged-readable-by}
-use Rattle.recognizer_promises.proofs.CallErrors.{check-each, judge-each, costliest-each}
+use Rattle.recognizer_promises.proofs.RefusalErrors.{check-each, judge-each, costliest-each}
 use Rattle.recognizer_promises.specs.Costliest.{costliestInput, costliestFault, JudgesCostliest}
 use Rattle.usage.specs.declared.Usage.{Usage}
 use Rattle.client_records.specs.declared.Served.{Served}

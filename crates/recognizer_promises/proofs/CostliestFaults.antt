@@ -37,6 +37,7 @@ use Rattle.table.specs.Analysis.{grammarFaults, fault, foundOf}
 use Rattle.table.specs.declared.Found.{Found}
 use Rattle.promises.specs.Memory.{lentBack}
 use Rattle.promises.proofs.Inputs.{PassedWith, RefusedWith, byGrammar, byFaults, with-passed, with-refused}
+use Rattle.promises.proofs.Memory.{refused-stays}
 use Rattle.recognizer_promises.specs.Memory.{memoWords}
 use Rattle.recognizer_promises.specs.Answers.{judgeFault, verdictOf, verdictNumbers}
 use Rattle.recognizer_promises.specs.declared.Judgement.{Judgement}
@@ -187,9 +188,9 @@ table-refused words k log table memo h =
     record {
       answer = sym (ap (λ y. refusedOr y (verdictOf G w)) f);
       told = sym (ap (λ y. toldOr y (verdictNumbers G w)) f);
-      lent-log = sym (ap (λ y. lentBack y w log) f);
-      lent-table = sym (ap (λ y. lentBack y (tableWords One G) table) f);
-      lent-memo = sym (ap (λ y. lentBack y (memoWords G w) memo) f);
+      lent-log = refused-stays _ log f;
+      lent-table = refused-stays _ table f;
+      lent-memo = refused-stays _ memo f;
       judges = λ e. absurd (none-some (sym e ∙ f));
       costliest = λ e. absurd (none-some (sym e ∙ f));
       undirected = λ e. absurd (none-some (sym e ∙ f));
