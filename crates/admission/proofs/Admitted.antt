@@ -23,7 +23,7 @@ use Rattle.grammar.specs.Encoding.{declaredBy, grammarOf}
 use Rattle.grammar.specs.Limits.{maxWords, maxNonterminals, maxTerminals, maxWideTerminals}
 use Rattle.grammar.specs.Reading.{beginsRule, reading, opened, headed, scan, fresh, within}
 use Rattle.grammar.proofs.WellFormed.{Each, none-in, faulty}
-use Rattle.grammar.proofs.WellRead.{chosen, refused, both, Within, within-limits, heading-begins-none}
+use Rattle.grammar.proofs.WellRead.{chosen, refused, both, within-limits, heading-begins-none}
 use Rattle.admission.specs.declared.Alone.{Alone}
 use Rattle.admission.specs.declared.Alone.the-variants.{Absent, At}
 use Rattle.admission.proofs.WithoutPositives.{Positives, none-found, found-none}

@@ -14,7 +14,7 @@ use Rattle.lookahead.specs.declared.Lookahead.{Lookahead}
 use Rattle.lookahead.specs.Lookaheads.{tokens}
 use Rattle.lookahead.proofs.Strings.{some-token}
 use Rattle.semantics.specs.Valuations.{solution}
-use Rattle.recognizer_promises.specs.Properties.{PassedBy}
+use Rattle.recognizer_promises.specs.Properties.{PassedGrammar}
 use Rattle.tabular_promises.specs.Properties.{FreeGrammar}
 use Rattle.agreement.specs.Agreement.{SameVerdict, SameAsTabular}
 use Rattle.agreement.proofs.Narrowing.{narrows}
@@ -32,7 +32,7 @@ same-verdict k l words input r s a b =
     by-one-test (v 0 0 (length input)) (a .accepted v solves .1) (a .rejected v solves .1) (b .accepted v solves .1) (b .rejected v solves .1)
 
 -- a grammar that passes with a lookahead is taken by the tabular judge, whose first sets are of one token
-passed-free : (k : Lookahead) (words : List ℕ) → PassedBy k words → FreeGrammar words
+passed-free : (k : Lookahead) (words : List ℕ) → PassedGrammar k words → FreeGrammar words
 passed-free k words p = record {
   short = p .short;
   grammar = p .grammar;

@@ -7,7 +7,7 @@ use Rattle.grammar.specs.Encoding.{grammarOf}
 use Rattle.lookahead.specs.declared.Lookahead.the-variants.{One, Two}
 use Rattle.table.specs.declared.conflicts.Conflict.the-variants.{Absent, At}
 use Rattle.table.proofs.FirstClash.{clash-absent}
-use Rattle.recognizer_promises.specs.Properties.{PassedBy}
+use Rattle.recognizer_promises.specs.Properties.{PassedGrammar}
 use Rattle.recognizer_promises.proofs.Checking.{passed-predictive}
 use Rattle.recognizer_promises.proofs.GrammarErrors.{GrammarErrors}
 use Rattle.recognizer_promises.proofs.CallErrors.{JudgeErrors, check-each, judge-each}
@@ -18,7 +18,7 @@ use Rattle.agreement.proofs.Enough.{enough}
 at-absent : {A c : ℕ} → At A c ≡ Absent → ⊥
 at-absent q = let z : _≡_ {A = ℕ} 0 1 = cc in omega arith
 
-module _ (words : List ℕ) (passed : PassedBy One words) where
+module _ (words : List ℕ) (passed : PassedGrammar One words) where
   -- one token is enough for the grammar, so two are
   grammar-quiet : GrammarErrors Two words NoConflict
   grammar-quiet = record {

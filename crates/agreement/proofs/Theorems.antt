@@ -9,7 +9,7 @@ use Rattle.answer.proofs.Faults.{each-none, first-none}
 use Rattle.lookahead.specs.declared.Lookahead.the-variants.{One}
 use Rattle.table.specs.Analysis.{grammarFaults, fault}
 use Rattle.table.specs.Layout.{tableRoom}
-use Rattle.recognizer_promises.specs.Answers.{tableTooShort, checkFaultBy}
+use Rattle.recognizer_promises.specs.Answers.{tableTooShort, checkFault}
 use Rattle.recognizer_promises.proofs.Checking.{passed-fault}
 use Rattle.recognizer_promises.proofs.JudgeFaults.{judged-readable}
 use Rattle.agreement.specs.Theorems.{Theorems}
@@ -19,8 +19,8 @@ use Rattle.agreement.proofs.Refusals.{never-conflicts}
 use Rattle.agreement.proofs.Agreeing.{same-verdict, same-as-tabular}
 
 -- a check that passes finds no fault in the grammar
-checked-fault : (words : List ℕ) (table : ℕ) → checkFaultBy One table words ≡ none → fault One words ≡ none
-unfolding checkFaultBy fault
+checked-fault : (words : List ℕ) (table : ℕ) → checkFault One table words ≡ none → fault One words ≡ none
+unfolding checkFault fault
 checked-fault words table e =
     first-none (grammarFaults One words) (each-none (faultIf (ltb table (tableRoom One)) (tableTooShort One) ∷ grammarFaults One words) e .1)
 
@@ -28,8 +28,8 @@ pub theorems : Theorems
 theorems = record {
   narrows = λ G scoped terminals start j k shorter. narrows j k shorter G scoped terminals start;
   enough = enough;
-  passed = λ words table e. never-conflicts words (passed-fault words (checked-fault words table e));
-  judged = λ words table memo input e. never-conflicts words (passed-fault words (judged-readable words input table memo e .0));
+  passed = λ words table e. never-conflicts words (passed-fault One words (checked-fault words table e));
+  judged = λ words table memo input e. never-conflicts words (passed-fault One words (judged-readable One words input table memo e .0));
   lookaheads = same-verdict;
   tabular = same-as-tabular;
 }

@@ -10,7 +10,7 @@ use Rattle.grammar.specs.Syntax.{Grammar}
 use Rattle.lookahead.specs.declared.Lookahead.{Lookahead}
 use Rattle.semantics.specs.Families.{Claims, Overlap}
 use Rattle.semantics.specs.FirstFollow.{First, Follow}
-use Rattle.recognizer_promises.specs.Answers.{checkFaultBy, judgeFaultBy}
+use Rattle.recognizer_promises.specs.Answers.{checkFault, judgeFault}
 
 -- what k tokens tell, cut to j tokens, is told by j: of the sets, of what a rule claims, and so of the entries that two rules claim
 pub record Narrows (G : Grammar) (j k : ℕ) : Type 0 where
@@ -25,5 +25,5 @@ NoConflict e = coded e .code ≡ 9 → ⊥
 
 -- with a lookahead the words are never refused 9, whatever memory is lent and whatever is judged
 pub record NeverConflicts (k : Lookahead) (words : List ℕ) : Type 0 where
-  pub checked : (table : ℕ) (e : Error) → checkFaultBy k table words ≡ some e → NoConflict e
-  pub judged : (table memo : ℕ) (input : List ℕ) (e : Error) → judgeFaultBy k table memo words input ≡ some e → NoConflict e
+  pub checked : (table : ℕ) (e : Error) → checkFault k table words ≡ some e → NoConflict e
+  pub judged : (table memo : ℕ) (input : List ℕ) (e : Error) → judgeFault k table memo words input ≡ some e → NoConflict e

@@ -1,5 +1,5 @@
 -- What checking answers and leaves in a table that is long enough, by what is found of the grammar.
-use mathlib.Core.Path.{_≡_, refl, sym, ap, subst, _∙_}
+use mathlib.Core.Path.{_≡_, refl, ap, _∙_}
 use mathlib.Core.List.{List}
 use Prim.Native.Nat.{ℕ, _≤_}
 use lib.ListN.{length}
@@ -14,14 +14,14 @@ use Rattle.table.proofs.Analyzing.{entries-told}
 use Rattle.lending.specs.Lending.{lentOf}
 use Rattle.lending.proofs.WordsLaid.{lent-table, lent-nothing}
 use Rattle.recognizer_promises.specs.Judging.{answerOf}
-use Rattle.recognizer_promises.specs.Properties.{ChecksBy}
+use Rattle.recognizer_promises.specs.Properties.{Checks}
 use Rattle.recognizer_promises.proofs.Checking.{told, found-fault, check-passed, check-refused}
 
 pub checks-found : (k : Lookahead) (words before : List ℕ) → tableRoom k ≤ length before → {r : Found} → r ≡ foundOf k words → {after : List ℕ}
-    → after ≡ lentOf k r before → {a : Answer} → a ≡ answerOf (r .finding) → ChecksBy k words before a after
+    → after ≡ lentOf k r before → {a : Answer} → a ≡ answerOf (r .finding) → Checks k words before a after
 checks-found k words before long {r} e {after} l {a} s = go (r .finding) refl
   where
-    go : (f : Finding) → r .finding ≡ f → ChecksBy k words before a after
+    go : (f : Finding) → r .finding ≡ f → Checks k words before a after
     go (Passed z) p =
         let m = entries-told k words e p in
         rw (s ∙ ap answerOf p) (check-passed words before long (m .faultless) (l ∙ lent-table m before long p))

@@ -1,7 +1,7 @@
 // Checking an encoded grammar, and filling the lent table with its sets and its entries: with one token of lookahead, and with two.
 ghost use mathlib.Core.Path.{_≡_};
-ghost use Rattle.lookahead.specs.declared.Lookahead.the-variants.{Two};
-ghost use Rattle.recognizer_promises.specs.Properties.{Checks, ChecksBy};
+ghost use Rattle.lookahead.specs.declared.Lookahead.the-variants.{One, Two};
+ghost use Rattle.recognizer_promises.specs.Properties.{Checks};
 ghost use Rattle.recognizer_promises.specs.Judging.{answerOf};
 use answer::Answer;
 use answer::Error;
@@ -24,7 +24,7 @@ fn answer(finding: Finding) -> Answer
 }
 
 pub fn check(words: &[u32], table: &mut [u32]) -> Answer
-    ensures { λ r. ⌜ Checks (now (words .entry)) (now (table .entry)) r (now (table .exit)) ⌝ }
+    ensures { λ r. ⌜ Checks One (now (words .entry)) (now (table .entry)) r (now (table .exit)) ⌝ }
 {
     if table.len() < TABLE_WORDS {
         return Answer::Refused(Error::TableTooShort);
@@ -37,7 +37,7 @@ pub fn check(words: &[u32], table: &mut [u32]) -> Answer
 
 // The same with two tokens, for grammars of few terminals, with a lent table of 64-bit words.
 pub fn check_wide(words: &[u32], table: &mut [u64]) -> Answer
-    ensures { λ r. ⌜ ChecksBy Two (now (words .entry)) (now (table .entry)) r (now (table .exit)) ⌝ }
+    ensures { λ r. ⌜ Checks Two (now (words .entry)) (now (table .entry)) r (now (table .exit)) ⌝ }
 {
     if table.len() < WIDE_TABLE_WORDS {
         return Answer::Refused(Error::WideTableTooShort);

@@ -36,5 +36,5 @@ judge-low words = record {
 }
 
 pub never-judged : (x : Error) → 13 < coded x .code → {words input table memo table′ memo′ : List ℕ} {a : Answer}
-    → Judges words input table memo a table′ memo′ → a ≡ Refused x → ⊥
+    → Judges One words input table memo a table′ memo′ → a ≡ Refused x → ⊥
 never-judged x high {words} j e = omega (arith, refused-each (judge-low words) j x e)

@@ -1,15 +1,13 @@
 -- Any run of calls: each client's record is that of its own answers, and every answer is the one by exact sums.
-use mathlib.Core.Path.{_≡_, refl, sym, ap, _∙_}
+use mathlib.Core.Path.{_≡_, refl, ap, _∙_}
 use mathlib.Core.Bool.{Bool, true, false}
-use mathlib.Core.List.{List, [], _∷_, map}
-use mathlib.Core.Option.{Option}
+use mathlib.Core.List.{List, _∷_, map}
 use Prim.Native.Nat.{ℕ, zero, suc, _+_, _≤_, _<_}
 use native.Mathlib.Omega.{arith}
 use lib.Dec.{leb, ltb, eqb}
 use lib.ListN.{length}
 use borrow.Author.Tests.{le-leb, lt-leb, leb-true, leb-false, lt-ltb, le-ltb, ltb-true, ltb-false, eqb-true, eqb-false}
-use Rattle.answer.specs.declared.Error.{Error}
-use Rattle.answer.specs.declared.Error.the-variants.{UnknownClient}
+use Rattle.lookahead.specs.declared.Lookahead.the-variants.{One}
 use Rattle.answer.specs.declared.Answer.{Answer}
 use Rattle.answer.specs.Faults.{refusedOr}
 use Rattle.base.specs.Choice.{choose}
@@ -24,7 +22,6 @@ use Rattle.client_records.specs.Properties.{clientFault}
 use Rattle.client_records.specs.Runs.{Call, Run, idle, next, replyBy, calledWith, repliesBy, RunsCounted}
 use Rattle.client_records.proofs.Sums.{sum-alike, sums-stop}
 use Rattle.client_records.proofs.Histories.{continued, of-nobody, of-each}
-use Rattle.client_records.proofs.Serving.{first-unknown}
 
 -- counted one by one
 run-counts : {us vs : List Usage} {l : List Call} {h : List Reply} → Run us l h vs → (k : ℕ) → k < clients
@@ -91,7 +88,7 @@ unfolding repliesBy replyBy
 exact idle f e = refl
 exact (next {us = us} {c = c} {l = l} {h = h} r table′ memo′ j rest) f e =
     let same : reply (c .client) (r .answer) ≡ replyBy f c =
-    ap (reply (c .client)) (j .answers .answer ∙ ap (λ g. refusedOr g (verdictOf (grammarOf (c .words)) (c .input))) (fault-alike (calledBy us) f e c)) in
+    ap (reply (c .client)) (j .leaves .answer ∙ ap (λ g. refusedOr g (verdictOf One (grammarOf (c .words)) (c .input))) (fault-alike (calledBy us) f e c)) in
     let behind : h ≡ repliesBy (calledWith f (reply (c .client) (r .answer))) l = exact rest _ (called-alike f e (j .charges)) in
     ap (λ (t : List Reply). reply (c .client) (r .answer) ∷ t) behind ∙ ap (λ (s : Reply). s ∷ repliesBy (calledWith f s) l) same
 

@@ -1,22 +1,21 @@
--- The promise of judging for a client, on one page: what it answers, what lent memory holds, what the clients' records handed back hold, and whom
--- the allowance turns away.
+-- What judging for a client promises, on one page: what it answers, what lent memory and the clients' records handed back hold, and whom the allowance
+-- turns away.
 use mathlib.Core.Path.{_≡_}
 use mathlib.Core.List.{List, [], _∷_, _++_}
 use mathlib.Core.Logic.{_↔_}
-use mathlib.Core.Option.{Option, none, some}
+use mathlib.Core.Option.{Option}
 use Prim.Native.Nat.{ℕ, _≤_, _<_}
 use lib.Dec.{leb}
 use lib.ListN.{length}
 use Rattle.answer.specs.declared.Error.{Error}
 use Rattle.answer.specs.declared.Error.the-variants.{UnknownClient, QuotaReached}
 use Rattle.answer.specs.declared.Answer.the-variants.{Refused}
-use Rattle.answer.specs.Faults.{faultIf, firstFault, refusedOr, toldOr}
-use Rattle.answer.specs.Numbers.{numbers}
+use Rattle.answer.specs.Faults.{faultIf, firstFault}
 use Rattle.grammar.specs.Encoding.{grammarOf}
 use Rattle.lookahead.specs.declared.Lookahead.the-variants.{One}
 use Rattle.table.specs.Layout.{tableWords}
-use Rattle.recognizer_promises.specs.Answers.{judgeFault, verdictOf, verdictNumbers}
-use Rattle.promises.specs.Memory.{lentBack}
+use Rattle.recognizer_promises.specs.Answers.{judgeFault, verdictOf}
+use Rattle.promises.specs.Leaving.{lent, Leaves}
 use Rattle.recognizer_promises.specs.Memory.{memoWords}
 use Rattle.recognizer_promises.specs.Properties.{Judges}
 use Rattle.usage.specs.declared.Usage.{Usage}
@@ -32,20 +31,14 @@ clientFault client share limit called table memo words input =
     firstFault
     (faultIf (leb clients client) UnknownClient
     ∷ faultIf (exhausted (called client) share (sumBelow clients called) limit) QuotaReached
-    ∷ judgeFault table memo words input
+    ∷ judgeFault One table memo words input
     ∷ [])
 
--- the answer: the first refusal that holds decides, and a refusal changes no lent memory; else both memories hold what is defined
-pub record Answers (f : Option Error) (words input table memo : List ℕ) (r : Served) (table′ memo′ : List ℕ) : Type 0 where
-  pub answer : r .answer ≡ refusedOr f (verdictOf (grammarOf words) input)
-  pub told : numbers (r .answer) ≡ toldOr f (verdictNumbers (grammarOf words) input)
-  pub lent-table : table′ ≡ lentBack f (tableWords One (grammarOf words)) table
-  pub lent-memo : memo′ ≡ lentBack f (memoWords (grammarOf words) input) memo
-
 pub record JudgesFor (client share limit : ℕ) (words input table memo : List ℕ) (us : List Usage) (r : Served) (table′ memo′ : List ℕ) : Type 0 where
-  pub answers : Answers (clientFault client share limit (calledBy us) (length table) (length memo) words input) words input table memo r table′ memo′
+  pub leaves : Leaves (clientFault client share limit (calledBy us) (length table) (length memo) words input) (verdictOf One (grammarOf words) input) (r .answer)
+      (lent table (tableWords One (grammarOf words)) table′ ∷ lent memo (memoWords One (grammarOf words) input) memo′ ∷ [])
   -- of a call that is let through all that judging promises, property 3 with it, whatever line the call crosses
-  pub let-through : client < clients → (UsedUp client share limit (calledBy us) → ⊥) → Judges words input table memo (r .answer) table′ memo′
+  pub let-through : client < clients → (UsedUp client share limit (calledBy us) → ⊥) → Judges One words input table memo (r .answer) table′ memo′
   -- 15 exactly where there is no such client; 16 exactly where its own have reached its share and those of all the limit, before the call
   pub unknown : (r .answer ≡ Refused UnknownClient) ↔ (clients ≤ client)
   pub turned-away : (r .answer ≡ Refused QuotaReached) ↔ UsedUp client share limit (calledBy us)

@@ -4,7 +4,7 @@ use mathlib.Core.List.{List, [], _∷_, map}
 use Prim.Native.Nat.{ℕ, _+_, _≤_}
 use lib.Dec.{eqb}
 use lib.ListN.{length}
-use Rattle.answer.specs.declared.Answer.{Answer}
+use Rattle.lookahead.specs.declared.Lookahead.the-variants.{One}
 use Rattle.answer.specs.Faults.{refusedOr}
 use Rattle.base.specs.Choice.{choose}
 use Rattle.grammar.specs.Encoding.{grammarOf}
@@ -40,7 +40,7 @@ pub data Run : List Usage → List Call → List Reply → List Usage → Type 0
 unfoldable pub replyBy : (ℕ → ℕ) → Call → Reply
 replyBy called c =
     reply (c .client)
-    (refusedOr (clientFault (c .client) (c .share) (c .limit) called (length (c .table)) (length (c .memo)) (c .words) (c .input)) (verdictOf (grammarOf (c .words)) (c .input)))
+    (refusedOr (clientFault (c .client) (c .share) (c .limit) called (length (c .table)) (length (c .memo)) (c .words) (c .input)) (verdictOf One (grammarOf (c .words)) (c .input)))
 
 -- and how many they have called with it
 abbrev pub calledWith : (ℕ → ℕ) → Reply → ℕ → ℕ

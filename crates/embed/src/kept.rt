@@ -1,9 +1,9 @@
 // A kept input in memory of the caller's: its events, and nine numbers that are its length and its eight checkpoints.
 ghost use mathlib.Core.Path.{_≡_};
-ghost use Rattle.lookahead.specs.declared.Lookahead.the-variants.{Two};
+ghost use Rattle.lookahead.specs.declared.Lookahead.the-variants.{One, Two};
 ghost use Rattle.kept_input.specs.Histories.{Mark, Return};
 ghost use Rattle.kept_input.specs.Stored.{keptInput};
-ghost use Rattle.embed_promises.specs.Kept.{progressIn, AddExported, MoveExported, KeptExported, KeptExportedBy};
+ghost use Rattle.embed_promises.specs.Kept.{progressIn, AddExported, MoveExported, KeptExported};
 use grammar::limits::TOKENS;
 use kept_input::KeptInput;
 use kept_input::add_event;
@@ -81,7 +81,7 @@ pub extern "C" fn vinegarspit_log_judge(
     table: &mut [u32],
     memo: &mut [u16],
 ) -> u64
-    ensures { λ r. ⌜ KeptExported (now (card .entry)) (now (events .entry)) (now (state .entry)) (now (table .entry)) (now (memo .entry)) r (now (table .exit)) (now (memo .exit)) ⌝ }
+    ensures { λ r. ⌜ KeptExported One (now (card .entry)) (now (events .entry)) (now (state .entry)) (now (table .entry)) (now (memo .entry)) r (now (table .exit)) (now (memo .exit)) ⌝ }
 {
     let kept = kept_in(events, state);
     let answer = judge_kept(card, kept, table, memo);
@@ -96,7 +96,7 @@ pub extern "C" fn vinegarspit_log_judge2(
     table2: &mut [u64],
     memo: &mut [u16],
 ) -> u64
-    ensures { λ r. ⌜ KeptExportedBy Two (now (card .entry)) (now (events .entry)) (now (state .entry)) (now (table2 .entry)) (now (memo .entry)) r (now (table2 .exit)) (now (memo .exit)) ⌝ }
+    ensures { λ r. ⌜ KeptExported Two (now (card .entry)) (now (events .entry)) (now (state .entry)) (now (table2 .entry)) (now (memo .entry)) r (now (table2 .exit)) (now (memo .exit)) ⌝ }
 {
     let kept = kept_in(events, state);
     let answer = judge_kept_wide(card, kept, table2, memo);

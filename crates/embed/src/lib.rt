@@ -1,4 +1,5 @@
 // The public calls for programs in C and Rust: the library's answers, packed into one number.
+ghost use Rattle.lookahead.specs.declared.Lookahead.the-variants.{One};
 ghost use Rattle.event.specs.Events.{inputOf};
 ghost use Rattle.embed_promises.specs.Exports.{CheckExported, JudgeExported, TabularExported};
 use checker::check;
@@ -14,7 +15,7 @@ mod wide;
 
 #[no_mangle]
 pub extern "C" fn vinegarspit_check(card: &[u32], table: &mut [u32]) -> u64
-    ensures { λ r. ⌜ CheckExported (now (card .entry)) (now (table .entry)) r (now (table .exit)) ⌝ }
+    ensures { λ r. ⌜ CheckExported One (now (card .entry)) (now (table .entry)) r (now (table .exit)) ⌝ }
 {
     let answer = check(card, table);
     pack(answer)
@@ -27,7 +28,7 @@ pub extern "C" fn vinegarspit_judge(
     table: &mut [u32],
     memo: &mut [u16],
 ) -> u64
-    ensures { λ r. ⌜ JudgeExported (now (card .entry)) (inputOf (now (log .entry))) (now (table .entry)) (now (memo .entry)) r (now (table .exit)) (now (memo .exit)) ⌝ }
+    ensures { λ r. ⌜ JudgeExported One (now (card .entry)) (inputOf (now (log .entry))) (now (table .entry)) (now (memo .entry)) r (now (table .exit)) (now (memo .exit)) ⌝ }
 {
     let answer = judge(card, log, table, memo);
     pack(answer)

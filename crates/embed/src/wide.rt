@@ -1,15 +1,14 @@
 // Checking and judging with two tokens of lookahead, with a table of 64-bit words.
-ghost use mathlib.Core.Path.{_≡_};
 ghost use Rattle.lookahead.specs.declared.Lookahead.the-variants.{Two};
 ghost use Rattle.event.specs.Events.{inputOf};
-ghost use Rattle.embed_promises.specs.Exports.{CheckExportedBy, JudgeExportedBy};
+ghost use Rattle.embed_promises.specs.Exports.{CheckExported, JudgeExported};
 use checker::check_wide;
 use packing::pack;
 use recognizer::judge_wide;
 
 #[no_mangle]
 pub extern "C" fn vinegarspit_check2(card: &[u32], table2: &mut [u64]) -> u64
-    ensures { λ r. ⌜ CheckExportedBy Two (now (card .entry)) (now (table2 .entry)) r (now (table2 .exit)) ⌝ }
+    ensures { λ r. ⌜ CheckExported Two (now (card .entry)) (now (table2 .entry)) r (now (table2 .exit)) ⌝ }
 {
     let answer = check_wide(card, table2);
     pack(answer)
@@ -22,7 +21,7 @@ pub extern "C" fn vinegarspit_judge2(
     table2: &mut [u64],
     memo: &mut [u16],
 ) -> u64
-    ensures { λ r. ⌜ JudgeExportedBy Two (now (card .entry)) (inputOf (now (log .entry))) (now (table2 .entry)) (now (memo .entry)) r (now (table2 .exit)) (now (memo .exit)) ⌝ }
+    ensures { λ r. ⌜ JudgeExported Two (now (card .entry)) (inputOf (now (log .entry))) (now (table2 .entry)) (now (memo .entry)) r (now (table2 .exit)) (now (memo .exit)) ⌝ }
 {
     let answer = judge_wide(card, log, table2, memo);
     pack(answer)

@@ -5,7 +5,7 @@ use Prim.Native.Nat.{ℕ}
 use Rattle.answer.specs.declared.Answer.{Answer}
 use Rattle.answer.specs.Numbers.{numbers}
 use Rattle.lookahead.specs.declared.Lookahead.{Lookahead}
-use Rattle.recognizer_promises.specs.Properties.{ChecksBy, JudgesBy}
+use Rattle.recognizer_promises.specs.Properties.{Checks, Judges}
 use Rattle.recognizer_promises.specs.Costliest.{JudgesCostliest}
 use Rattle.usage.specs.declared.Usage.{Usage}
 use Rattle.client_records.specs.declared.Served.{Served}
@@ -17,17 +17,17 @@ use Rattle.tree_writer_promises.specs.Properties.{Shows}
 use Rattle.tabular_promises.specs.Properties.{TabularJudges}
 use Rattle.embed_promises.specs.Packing.{packed, cut}
 use Rattle.embed_promises.specs.Records.{usagesIn, totalsRow}
-use Rattle.embed_promises.specs.Exports.{CheckExportedBy, JudgeExportedBy, CostliestExported, ServedExported, TotalsExported, TreeExported, TabularExported}
+use Rattle.embed_promises.specs.Exports.{CheckExported, JudgeExported, CostliestExported, ServedExported, TotalsExported, TreeExported, TabularExported}
 use Rattle.embed_promises.proofs.Packed.{packs}
 use Rattle.embed_promises.proofs.Fitting.{check-fits, judge-fits, costliest-fits, served-fits, tabular-fits, tree-fits}
 
-pub check-exported : {k : Lookahead} {words before after : List ℕ} {a : Answer} {r : ℕ} → ChecksBy k words before a after → r ≡ packed (cut (numbers a))
-    → CheckExportedBy k words before r after
+pub check-exported : {k : Lookahead} {words before after : List ℕ} {a : Answer} {r : ℕ} → Checks k words before a after → r ≡ packed (cut (numbers a))
+    → CheckExported k words before r after
 check-exported {a = a} c e = record { answer = a; checks = c; packs = packs (check-fits c) e }
 
-pub judge-exported : {k : Lookahead} {words input table memo table′ memo′ : List ℕ} {a : Answer} {r : ℕ} → JudgesBy k words input table memo a table′ memo′
+pub judge-exported : {k : Lookahead} {words input table memo table′ memo′ : List ℕ} {a : Answer} {r : ℕ} → Judges k words input table memo a table′ memo′
     → r ≡ packed (cut (numbers a))
-    → JudgeExportedBy k words input table memo r table′ memo′
+    → JudgeExported k words input table memo r table′ memo′
 judge-exported {a = a} j e = record { answer = a; judges = j; packs = packs (judge-fits j) e }
 
 pub costliest-exported : {words : List ℕ} {k : ℕ} {log table memo log′ table′ memo′ : List ℕ} {a : Answer} {r : ℕ}

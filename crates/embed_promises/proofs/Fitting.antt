@@ -28,10 +28,10 @@ use Rattle.answer.proofs.Faults.{OfFault}
 use Rattle.lookahead.specs.declared.Lookahead.{Lookahead}
 use Rattle.lookahead.specs.declared.Lookahead.the-variants.{One}
 use Rattle.lookahead.specs.Lookaheads.{tokens}
-use Rattle.recognizer_promises.specs.Answers.{checkFaultBy, judgeFaultBy, callsBy, verdictBy, verdictOf}
-use Rattle.recognizer_promises.specs.Properties.{ChecksBy, JudgesBy}
-use Rattle.recognizer_promises.proofs.Checking.{passed-fault-for, passed-encodes, passed-free}
-use Rattle.recognizer_promises.proofs.JudgeFaults.{judged-readable-by}
+use Rattle.recognizer_promises.specs.Answers.{checkFault, judgeFault, callsOf, verdictOf}
+use Rattle.recognizer_promises.specs.Properties.{Checks, Judges}
+use Rattle.recognizer_promises.proofs.Checking.{passed-fault, passed-encodes, passed-free}
+use Rattle.recognizer_promises.proofs.JudgeFaults.{judged-readable}
 use Rattle.recognizer_promises.proofs.CallErrors.{check-each, judge-each, costliest-each}
 use Rattle.recognizer_promises.specs.Costliest.{costliestInput, costliestFault, JudgesCostliest}
 use Rattle.usage.specs.declared.Usage.{Usage}
@@ -85,19 +85,19 @@ fits-by none v e low h = h refl
 fits-by (some x) v e low h = rw e (refused-fits x (low x refl))
 
 -- a check
-pub check-fits : {k : Lookahead} {words before after : List ℕ} {a : Answer} → ChecksBy k words before a after → NumbersFit (numbers a)
+pub check-fits : {k : Lookahead} {words before after : List ℕ} {a : Answer} → Checks k words before a after → NumbersFit (numbers a)
 check-fits {k} {words} {before} c =
     let low = judge-low k words in
-    fits-by (checkFaultBy k (length before) words) Passed (c .answer) (check-each (low .shortTable) (low .grammar) (length before))
+    fits-by (checkFault k (length before) words) Passed (c .answer) (check-each (low .shortTable) (low .grammar) (length before))
     (λ q. rw (c .answer, q) passed-fits)
 
 -- the calls of a descent are few, and none is far
-calls-fit : (k : Lookahead) (words input : List ℕ) (table memo : ℕ) → judgeFaultBy k table memo words input ≡ none
-    → (callsBy (tokens k) (grammarOf words) input .count < 65536) × (callsBy (tokens k) (grammarOf words) input .farthest < 65536)
+calls-fit : (k : Lookahead) (words input : List ℕ) (table memo : ℕ) → judgeFault k table memo words input ≡ none
+    → (callsOf k (grammarOf words) input .count < 65536) × (callsOf k (grammarOf words) input .farthest < 65536)
 calls-fit k words input table memo e =
     let G = grammarOf words in
-    let h = judged-readable-by k words input table memo e in
-    let p = passed-fault-for k words (h .0) in
+    let h = judged-readable k words input table memo e in
+    let p = passed-fault k words (h .0) in
     let r = passed-encodes words p in
     let free = passed-free words p in
     let some-nonterminal : 0 < G .nonterminals = r .limited .someNonterminal in
@@ -114,19 +114,19 @@ verdict-fits true c h = record { verdict = omega arith; code = omega arith; posi
 verdict-fits false c h = record { verdict = omega arith; code = omega arith; position = omega arith; count = h .0; farthest = h .1 }
 
 -- a judgement
-pub judge-fits : {k : Lookahead} {words input table memo table′ memo′ : List ℕ} {a : Answer} → JudgesBy k words input table memo a table′ memo′
+pub judge-fits : {k : Lookahead} {words input table memo table′ memo′ : List ℕ} {a : Answer} → Judges k words input table memo a table′ memo′
     → NumbersFit (numbers a)
-unfolding verdictBy
+unfolding verdictOf
 judge-fits {k} {words} {input} {table} {memo} j =
     let G = grammarOf words in
-    fits-by (judgeFaultBy k (length table) (length memo) words input) (verdictBy (tokens k) G input) (j .answer) (judge-each (judge-low k words) (length table) (length memo) input)
-    (λ q. rw (j .answer, q) (verdict-fits (accepts G (tableChoice G (tokens k) input) input) (callsBy (tokens k) G input) (calls-fit k words input (length table) (length memo) q)))
+    fits-by (judgeFault k (length table) (length memo) words input) (verdictOf k G input) (j .answer) (judge-each (judge-low k words) (length table) (length memo) input)
+    (λ q. rw (j .answer, q) (verdict-fits (accepts G (tableChoice G (tokens k) input) input) (callsOf k G input) (calls-fit k words input (length table) (length memo) q)))
 
 -- one of the costliest input
 pub costliest-fits : {words : List ℕ} {k : ℕ} {log table memo log′ table′ memo′ : List ℕ} {a : Answer} → JudgesCostliest words k log table memo a log′ table′ memo′
     → NumbersFit (numbers a)
 costliest-fits {words} {k} {log} {table} {memo} j =
-    fits-by (costliestFault (length log) (length table) (length memo) words k) (verdictOf (grammarOf words) (costliestInput (grammarOf words) k)) (j .answer)
+    fits-by (costliestFault (length log) (length table) (length memo) words k) (verdictOf One (grammarOf words) (costliestInput (grammarOf words) k)) (j .answer)
     (costliest-each (judge-low One words) (omega arith) (omega arith) (length log) (length table) (length memo) k) (λ q. judge-fits (j .judges q))
 
 -- one for a client: turned away at place 0, or judged
@@ -155,5 +155,5 @@ tree-fits {words} {input} {table} {memo} {tree} {x = x} s = go (decLt (length tr
     go : Dec (length tree < maxMemoEntries) → NumbersFit (numbers (x .answer))
     go (yes h) =
         let k = short-refused words input table memo tree h in
-        rw (s .answer ∙ ap (λ f. refusedOr f (verdictOf (grammarOf words) input)) (k .1)) (refused-fits (k .0) (omega (arith, k .2)))
+        rw (s .answer ∙ ap (λ f. refusedOr f (verdictOf One (grammarOf words) input)) (k .1)) (refused-fits (k .0) (omega (arith, k .2)))
     go (no h) = judge-fits (s .judges (omega (arith, h)))

@@ -22,10 +22,10 @@ use Rattle.kept_input.specs.declared.Moved.{Moved}
 use Rattle.kept_input.specs.declared.Changed.{Changed}
 use Rattle.kept_input.specs.Histories.{checkpointCount, Kept, Step, Add, Mark, Return, notSet, stepFault, unlessRefused}
 use Rattle.kept_input.specs.Stored.{keptInput, held, valuesOf}
-use Rattle.kept_input.specs.Properties.{Steps, Moves, JudgesKeptBy}
+use Rattle.kept_input.specs.Properties.{Steps, Moves, JudgesKept}
 use Rattle.kept_input.proofs.Lists.{elements}
 use Rattle.embed_promises.specs.Packing.{NumbersFit, packed, cut}
-use Rattle.embed_promises.specs.Kept.{stateOf, progressIn, StateRead, StepExported, MoveExported, KeptExportedBy}
+use Rattle.embed_promises.specs.Kept.{stateOf, progressIn, StateRead, StepExported, MoveExported, KeptExported}
 use Rattle.embed_promises.proofs.Places.{Low}
 use Rattle.embed_promises.proofs.Fitting.{passed-fits, fits-by, judge-fits}
 use Rattle.embed_promises.proofs.Packed.{packs}
@@ -43,7 +43,7 @@ step-low (Return m) s =
     unset (some n) = of-none Low
 
 step-fits : {t : Step} {k : KeptInput} {c : Changed} → Steps t k c → NumbersFit (numbers (c .answer))
-step-fits {t} {k} s = fits-by (stepFault t (held k)) Passed (s .answer) (step-low t (held k)) (λ q. rw (s .answer, q) passed-fits)
+step-fits {t} {k} s = fits-by (stepFault t (held k)) Passed (s .leaves .answer) (step-low t (held k)) (λ q. rw (s .leaves .answer, q) passed-fits)
 
 -- the nine numbers of the state
 listed : (l : List ℕ) (n : ℕ) → length l ≡ n → valuesOf (λ m. getD l m 0) n ≡ l
@@ -66,7 +66,7 @@ state-read (x ∷ l) e =
 
 -- a refused step hands back what it was given
 refused-kept : {t : Step} {k : KeptInput} {c : Changed} → Steps t k c → (e : Error) → c .answer ≡ Refused e → c .kept ≡ k
-refused-kept {t} {k} {c} s e q = go (stepFault t (held k)) _ (s .answer) (s .kept)
+refused-kept {t} {k} {c} s e q = go (stepFault t (held k)) _ (s .leaves .answer) (s .kept)
   where
     go : (f : Option Error) (next : KeptInput) → c .answer ≡ refusedOr f Passed → c .kept ≡ unlessRefused f next k → c .kept ≡ k
     go none next a h = absurd (refused-ne-passed (sym q ∙ a))
@@ -96,7 +96,7 @@ move-exported g m e left = record { of-any-events = λ events whole. step-export
 
 pub kept-exported : {k : Lookahead} {words events state table memo table′ memo′ : List ℕ} {kept : KeptInput} {a : Answer} {r : ℕ}
     → kept ≡ keptInput events (progressIn state)
-    → JudgesKeptBy k words kept table memo a table′ memo′
+    → JudgesKept k words kept table memo a table′ memo′
     → r ≡ packed (cut (numbers a))
-    → KeptExportedBy k words events state table memo r table′ memo′
+    → KeptExported k words events state table memo r table′ memo′
 kept-exported {a = a} g j e = record { answer = a; judges = rw g at j; packs = packs (judge-fits (j .judges)) e }

@@ -1,6 +1,6 @@
 -- A history of calls is one of the library's steps, so what it leaves and what a judgement of it is are known.
 use mathlib.Core.Path.{_≡_, refl, sym, ap, _∙_}
-use mathlib.Core.List.{List, [], _∷_}
+use mathlib.Core.List.{List, []}
 use mathlib.Core.Option.{some}
 use Prim.Native.Nat.{ℕ, _<_}
 use lib.ListN.{getD-replicate}
@@ -14,8 +14,8 @@ use Rattle.kept_input.specs.Stored.{unsetCode, keptInput, readCheckpoint, held,
 use Rattle.kept_input.proofs.Storing.{held-stored}
 use Rattle.kept_input.proofs.Soundness.{empty-sound}
 use Rattle.embed_promises.specs.Packing.{packed}
-use Rattle.embed_promises.specs.Exports.{JudgeExportedBy}
-use Rattle.embed_promises.specs.Kept.{stateOf, progressIn, StepExported, KeptExportedBy}
+use Rattle.embed_promises.specs.Exports.{JudgeExported}
+use Rattle.embed_promises.specs.Kept.{stateOf, progressIn, StepExported, KeptExported}
 use Rattle.embed_promises.specs.KeptHistories.{heldIn, emptyState, zeroState, Calls, idle, next, HistoriesExported}
 
 empty-held : (events : List ℕ) → heldIn events emptyState ≡ empty
@@ -44,8 +44,8 @@ calls-hold idle = refl
 calls-hold (next {l = l} r s rest) = calls-hold rest ∙ ap (ran l) (call-holds s ∙ s .steps .holds)
 
 calls-judged : {k : Lookahead} {events events′ state′ : List ℕ} {l : List Step} → Calls events emptyState l events′ state′
-    → {words table memo table′ memo′ table″ memo″ : List ℕ} {r s : ℕ} → KeptExportedBy k words events′ state′ table memo r table′ memo′
-    → JudgeExportedBy k words (inputOf (ran l empty .events)) table memo s table″ memo″
+    → {words table memo table′ memo′ table″ memo″ : List ℕ} {r s : ℕ} → KeptExported k words events′ state′ table memo r table′ memo′
+    → JudgeExported k words (inputOf (ran l empty .events)) table memo s table″ memo″
     → (r ≡ s) × (table′ ≡ table″) × (memo′ ≡ memo″)
 calls-judged {events = events} {l = l} calls kept judged =
     let same = kept .judges .afresh l (calls-hold calls ∙ ap (ran l) (empty-held events)) _ _ _ (judged .judges) in

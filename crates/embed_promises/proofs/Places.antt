@@ -1,7 +1,7 @@
 -- The position that a refusal tells is a small number: an index of a word or a token, a nonterminal, or an entry of the table.
 use mathlib.Core.Path.{_≡_}
 use mathlib.Core.List.{List}
-use Prim.Native.Nat.{ℕ, _≤_, _<_}
+use Prim.Native.Nat.{ℕ, _≤_}
 use native.Mathlib.Omega.{arith}
 use Rattle.answer.specs.declared.Error.{Error}
 use Rattle.answer.specs.Numbers.{coded}

@@ -5,8 +5,7 @@ use mathlib.Core.List.{List}
 use Prim.Native.Nat.{ℕ}
 use Rattle.answer.specs.declared.Answer.{Answer}
 use Rattle.lookahead.specs.declared.Lookahead.{Lookahead}
-use Rattle.lookahead.specs.declared.Lookahead.the-variants.{One}
-use Rattle.recognizer_promises.specs.Properties.{ChecksBy, JudgesBy}
+use Rattle.recognizer_promises.specs.Properties.{Checks, Judges}
 use Rattle.recognizer_promises.specs.Costliest.{JudgesCostliest}
 use Rattle.client_records.specs.declared.Served.{Served}
 use Rattle.client_records.specs.declared.totals.Totals.{Totals}
@@ -18,22 +17,15 @@ use Rattle.tree_writer_promises.specs.Properties.{Shows}
 use Rattle.embed_promises.specs.Packing.{Packs}
 use Rattle.embed_promises.specs.Records.{usagesIn, totalsRow}
 
-pub record CheckExportedBy (k : Lookahead) (words before : List ℕ) (r : ℕ) (after : List ℕ) : Type 0 where
+pub record CheckExported (k : Lookahead) (words before : List ℕ) (r : ℕ) (after : List ℕ) : Type 0 where
   pub answer : Answer
-  pub checks : ChecksBy k words before answer after
+  pub checks : Checks k words before answer after
   pub packs : Packs r answer
 
-pub record JudgeExportedBy (k : Lookahead) (words input table memo : List ℕ) (r : ℕ) (table′ memo′ : List ℕ) : Type 0 where
+pub record JudgeExported (k : Lookahead) (words input table memo : List ℕ) (r : ℕ) (table′ memo′ : List ℕ) : Type 0 where
   pub answer : Answer
-  pub judges : JudgesBy k words input table memo answer table′ memo′
+  pub judges : Judges k words input table memo answer table′ memo′
   pub packs : Packs r answer
-
--- the same with one token of lookahead (document 01)
-abbrev pub CheckExported : (words before : List ℕ) (r : ℕ) (after : List ℕ) → Type 0
-CheckExported = CheckExportedBy One
-
-abbrev pub JudgeExported : (words input table memo : List ℕ) (r : ℕ) (table′ memo′ : List ℕ) → Type 0
-JudgeExported = JudgeExportedBy One
 
 pub record CostliestExported (words : List ℕ) (k : ℕ) (log table memo : List ℕ) (r : ℕ) (log′ table′ memo′ : List ℕ) : Type 0 where
   pub answer : Answer

@@ -8,12 +8,11 @@ use Rattle.answer.specs.declared.Answer.the-variants.{Refused}
 use Rattle.answer.specs.declared.Error.{Error}
 use Rattle.grammar.specs.Limits.{maxTokens}
 use Rattle.lookahead.specs.declared.Lookahead.{Lookahead}
-use Rattle.lookahead.specs.declared.Lookahead.the-variants.{One}
 use Rattle.kept_input.specs.declared.Progress.{Progress}
 use Rattle.kept_input.specs.declared.Changed.{Changed}
 use Rattle.kept_input.specs.Histories.{Step, Add}
 use Rattle.kept_input.specs.Stored.{keptInput}
-use Rattle.kept_input.specs.Properties.{Steps, JudgesKeptBy}
+use Rattle.kept_input.specs.Properties.{Steps, JudgesKept}
 use Rattle.embed_promises.specs.Packing.{Packs}
 
 -- the length, then the checkpoints
@@ -44,11 +43,7 @@ AddExported event = StepExported (Add event)
 pub record MoveExported (t : Step) (state : List ℕ) (r : ℕ) (state′ : List ℕ) : Type 0 where
   pub of-any-events : (events : List ℕ) → length events ≡ maxTokens → StepExported t events state r events state′
 
-pub record KeptExportedBy (k : Lookahead) (words events state table memo : List ℕ) (r : ℕ) (table′ memo′ : List ℕ) : Type 0 where
+pub record KeptExported (k : Lookahead) (words events state table memo : List ℕ) (r : ℕ) (table′ memo′ : List ℕ) : Type 0 where
   pub answer : Answer
-  pub judges : JudgesKeptBy k words (keptInput events (progressIn state)) table memo answer table′ memo′
+  pub judges : JudgesKept k words (keptInput events (progressIn state)) table memo answer table′ memo′
   pub packs : Packs r answer
-
--- the same with one token of lookahead (document 01)
-abbrev pub KeptExported : (words events state table memo : List ℕ) (r : ℕ) (table′ memo′ : List ℕ) → Type 0
-KeptExported = KeptExportedBy One

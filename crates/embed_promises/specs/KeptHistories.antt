@@ -8,8 +8,8 @@ use Rattle.lookahead.specs.declared.Lookahead.{Lookahead}
 use Rattle.event.specs.Events.{inputOf}
 use Rattle.kept_input.specs.Histories.{checkpointCount, Kept, empty, Step, ran}
 use Rattle.kept_input.specs.Stored.{unsetCode, keptInput, held}
-use Rattle.embed_promises.specs.Exports.{JudgeExportedBy}
-use Rattle.embed_promises.specs.Kept.{progressIn, StepExported, KeptExportedBy}
+use Rattle.embed_promises.specs.Exports.{JudgeExported}
+use Rattle.embed_promises.specs.Kept.{progressIn, StepExported, KeptExported}
 
 -- what events and a state hold
 abbrev pub heldIn : List ℕ → List ℕ → Kept
@@ -41,6 +41,6 @@ pub record HistoriesExported : Type 0 where
       → heldIn events′ state′ ≡ ran l (heldIn events state)
   -- and begun so, a judgement is that of the events which the history leaves, taken afresh with the same grammar, lookahead and memory
   pub judged : {k : Lookahead} {events events′ state′ : List ℕ} {l : List Step} → Calls events emptyState l events′ state′
-      → {words table memo table′ memo′ table″ memo″ : List ℕ} {r s : ℕ} → KeptExportedBy k words events′ state′ table memo r table′ memo′
-      → JudgeExportedBy k words (inputOf (ran l empty .events)) table memo s table″ memo″
+      → {words table memo table′ memo′ table″ memo″ : List ℕ} {r s : ℕ} → KeptExported k words events′ state′ table memo r table′ memo′
+      → JudgeExported k words (inputOf (ran l empty .events)) table memo s table″ memo″
       → (r ≡ s) × (table′ ≡ table″) × (memo′ ≡ memo″)

@@ -22,8 +22,7 @@ use Rattle.semantics.specs.Predictive.{Predictive}
 use Rattle.semantics.proofs.Theorems.{theorems as semantics}
 use Rattle.semantics.proofs.examples.Check.{belowTest, scopedTest, terminalsTest, ownTest, predictive}
 use Rattle.semantics.proofs.examples.Computing.{left-recursion-computes, tables-compute, descent-computes, calls-compute}
-use Rattle.following.specs.Following.{MayFollow, behind, Agrees, Begins}
-use Rattle.following.specs.Following.{start as nothing}
+use Rattle.following.specs.Following.{MayFollow, behind, Agrees, Begins, start as nothing}
 use Rattle.following.specs.Theorems.{EntriesTell}
 use Rattle.following.proofs.Theorems.{theorems}
 use Rattle.following.proofs.ExamplesFollowing.{solved, b-follows-A}
@@ -78,7 +77,7 @@ A-called = more start (List·Memᴰ·head refl)
 ab-tells : (v : Valuation) → Solves grammarE ab v → v 1 0 1 ≡ true
 unfolding memo-computes
 ab-tells v s =
-    theorems .one-token grammarE ab (left grammarE 1 ab) (told grammarE 1 predictive-E ab tt (omega arith))
+    told grammarE 1 predictive-E ab tt (omega arith) .begun refl
     v s 1 0 1 A-called (omega arith) (omega arith) (1 ∷ [], b-follows-A, inl (omega arith, [], refl)) .0 refl
 
 -- S → A b c, A → B & ¬ b C, B → a | b, C → ε: with two tokens, bc alone may follow A

@@ -2,9 +2,9 @@
 use mathlib.Core.Path.{_≡_, sym, ap, subst, _∙_}
 use mathlib.Core.List.{List, _++_}
 use mathlib.Core.Logic.{_↔_}
-use Prim.Native.Nat.{ℕ, _≤_, _<_}
+use Prim.Native.Nat.{ℕ, _<_}
 use native.Mathlib.Omega.{arith}
-use lib.ListN.{length, List·getD-append}
+use lib.ListN.{List·getD-append}
 use Rattle.grammar.specs.Codes.{failedCode, uncalledCode}
 use Rattle.grammar.specs.Syntax.{Grammar}
 use Rattle.base.specs.Strings.{Over, look}
@@ -17,6 +17,7 @@ use Rattle.semantics.specs.Predictive.{Predictive}
 use Rattle.semantics.proofs.Theorems.{theorems as semantics}
 use Rattle.semantics.proofs.descent.Called.{called-range}
 use Rattle.semantics.proofs.descent.Range.{index-range}
+use Rattle.following.specs.Following.{MayFollow, Agrees}
 use Rattle.following.specs.Theorems.{TellWhere, EntriesTell, Theorems}
 use Rattle.following.proofs.Agreeing.{agrees, begins}
 use Rattle.following.proofs.Following.{may-follow}
@@ -39,11 +40,16 @@ module _ (G : Grammar) (k : ℕ) (p : Predictive G k) (w : List ℕ) (over : Ove
       let is = List·getD-append m later uncalledCode (indexOf w x) (omega (arith, index-range G w x range, recorded .size)) ∙ recorded .called x called in
       (λ e. verdict .0 (ends .0 (sym is ∙ e)), λ e. is ∙ ends .1 (verdict .1 e))
 
+  by-agreeing : TellWhere G k w (m ++ later) (λ A j. (u : List ℕ) × MayFollow G A u × Agrees k w j u)
+  by-agreeing v solves A i j called ij jw f =
+      by-follow v solves A i j called ij jw (subst (Follow G k A) (agrees k w j (f .0) .0 (f .2)) (may-follow G k p A (f .0) (f .1)))
+
   pub entries : EntriesTell G k w (m ++ later)
   entries = record {
-    followed = λ v solves A i j called ij jw f.
-        by-follow v solves A i j called ij jw (subst (Follow G k A) (agrees k w j (f .0) .0 (f .2)) (may-follow G k p A (f .0) (f .1)));
+    followed = by-agreeing;
     tested = by-follow;
+    begun = λ e v solves A i j called ij jw f.
+        by-agreeing v solves A i j called ij jw (f .0, f .1, subst (λ n. Agrees n w j (f .0)) (sym e) (begins w j (f .0) jw .0 (f .2)));
   }
 
 pub theorems : Theorems
@@ -52,6 +58,4 @@ theorems = record {
   entries = entries;
   agrees = agrees;
   begins = begins;
-  one-token = λ G w m t v solves A i j called ij jw f.
-      t .followed v solves A i j called ij jw (f .0, f .1, begins w j (f .0) jw .0 (f .2));
 }

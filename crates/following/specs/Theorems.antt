@@ -27,6 +27,8 @@ TellWhere G k w m Next =
 pub record EntriesTell (G : Grammar) (k : ℕ) (w : List ℕ) (m : Memo) : Type 0 where
   pub followed : TellWhere G k w m (λ A j. (u : List ℕ) × MayFollow G A u × Agrees k w j u)
   pub tested : TellWhere G k w m (λ A j. Follow G k A (look k w j))
+  -- the same as `followed` with one token, in document 02's words
+  pub begun : k ≡ 1 → TellWhere G k w m (λ A j. (u : List ℕ) × MayFollow G A u × Begins w j u)
 
 pub record Theorems : Type 0 where
   -- what may follow a nonterminal begins with a string of its FOLLOW set
@@ -36,6 +38,5 @@ pub record Theorems : Type 0 where
       → (m : Memo) → Recorded G (tableChoice G k w) w m → (later : List ℕ) → EntriesTell G k w (m ++ later)
   -- to agree is to have the same lookahead string
   pub agrees : (k : ℕ) (w : List ℕ) (j : ℕ) (u : List ℕ) → Agrees k w j u ↔ (take k u ≡ look k w j)
-  -- with one token it is what document 02 says of that, and so the theorem holds in those words; of two tokens `Agrees` has its own
+  -- with one token it is what document 02 says of that; of two tokens `Agrees` has its own words
   pub begins : (w : List ℕ) (j : ℕ) (u : List ℕ) → j ≤ length w → Begins w j u ↔ Agrees 1 w j u
-  pub one-token : (G : Grammar) (w : List ℕ) (m : Memo) → EntriesTell G 1 w m → TellWhere G 1 w m (λ A j. (u : List ℕ) × MayFollow G A u × Begins w j u)

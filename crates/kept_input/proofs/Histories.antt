@@ -5,11 +5,11 @@ use Prim.Native.Nat.{ℕ}
 use Rattle.answer.specs.declared.Answer.{Answer}
 use Rattle.event.specs.Events.{inputOf}
 use Rattle.lookahead.specs.declared.Lookahead.{Lookahead}
-use Rattle.recognizer_promises.specs.Properties.{JudgesBy}
+use Rattle.recognizer_promises.specs.Properties.{Judges}
 use Rattle.kept_input.specs.declared.KeptInput.{KeptInput}
 use Rattle.kept_input.specs.Histories.{empty, Step, ran}
 use Rattle.kept_input.specs.Stored.{held}
-use Rattle.kept_input.specs.Properties.{JudgesKeptBy}
+use Rattle.kept_input.specs.Properties.{JudgesKept}
 use Rattle.kept_input.specs.Runs.{Run, idle, next, HistoriesKept}
 use Rattle.kept_input.proofs.Soundness.{empty-sound, ran-sound}
 
@@ -19,8 +19,8 @@ run-holds idle = refl
 run-holds (next {l = l} r s rest) = run-holds rest ∙ ap (ran l) (s .holds)
 
 run-judged : {k : Lookahead} {first last : KeptInput} {l : List Step} → held first ≡ empty → Run first l last
-    → {words table memo table′ memo′ table″ memo″ : List ℕ} {r a : Answer} → JudgesKeptBy k words last table memo r table′ memo′
-    → JudgesBy k words (inputOf (ran l empty .events)) table memo a table″ memo″
+    → {words table memo table′ memo′ table″ memo″ : List ℕ} {r a : Answer} → JudgesKept k words last table memo r table′ memo′
+    → Judges k words (inputOf (ran l empty .events)) table memo a table″ memo″
     → (r ≡ a) × (table′ ≡ table″) × (memo′ ≡ memo″)
 run-judged {l = l} e run j h = j .afresh l (run-holds run ∙ ap (ran l) e) _ _ _ h
 

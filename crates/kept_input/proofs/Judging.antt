@@ -10,12 +10,16 @@ use Rattle.grammar.specs.Limits.{maxTokens}
 use Rattle.event.specs.Events.{inputOf}
 use Rattle.event.proofs.Inputs.{input-length}
 use Rattle.lookahead.specs.declared.Lookahead.{Lookahead}
-use Rattle.recognizer_promises.specs.Properties.{JudgesBy}
-use Rattle.recognizer_promises.proofs.Directions.{directions-ignored}
+use Rattle.recognizer_promises.specs.Properties.{Judges}
+use Rattle.recognizer_promises.proofs.Directions.{judge-ignores}
 use Rattle.kept_input.specs.declared.KeptInput.{KeptInput}
 use Rattle.kept_input.specs.Histories.{Kept, empty, ran}
 use Rattle.kept_input.specs.Stored.{readLength, held}
-use Rattle.kept_input.specs.Properties.{JudgesKeptBy}
+use Rattle.kept_input.specs.Properties.{JudgesKept}
+
+-- the answer and both memories
+abbrev Left : Type 0
+Left = Answer × (List ℕ × List ℕ)
 
 module _ (kept : KeptInput) (whole : length (kept .events) ≡ maxTokens) (n : ℕ) (e : n ≡ readLength (kept .progress)) where
   pub among-events : n ≤ length (kept .events)
@@ -25,16 +29,23 @@ module _ (kept : KeptInput) (whole : length (kept .events) ≡ maxTokens) (n : �
   input-taken = sym (length-take-le n (kept .events) among-events)
 
   pub judges-kept : {k : Lookahead} {words table memo table′ memo′ : List ℕ} {r : Answer}
-      → JudgesBy k words (inputOf (take n (kept .events))) table memo r table′ memo′
-      → JudgesKeptBy k words kept table memo r table′ memo′
+      → Judges k words (inputOf (take n (kept .events))) table memo r table′ memo′
+      → JudgesKept k words kept table memo r table′ memo′
   unfolding held
   judges-kept {k} {words} {table} {memo} {table′} {memo′} {r} j =
-      let judged : JudgesBy k words (inputOf (held kept .events)) table memo r table′ memo′ = rw (← e) j in
+      let judged : Judges k words (inputOf (held kept .events)) table memo r table′ memo′ = rw (← e) j in
       let held-length : n ≡ length (held kept .events) = rw (← e) input-taken in
       record {
         judges = judged;
         short = omega (arith, input-length (held kept .events), held-length, e);
         afresh = λ history h a table″ memo″ other.
-            directions-ignored k words (held kept .events) (ran history empty .events) table memo r a table′ table″ memo′ memo″
-            (ap (λ (s : Kept). inputOf (s .events)) h) judged other;
+            let same = judge-ignores k words table memo (held kept .events) (ran history empty .events) (ap (λ (s : Kept). inputOf (s .events)) h)
+            (r, (table′, memo′)) (a, (table″, memo″)) judged other in
+            (ap (λ (l : Left). l .0) same, ap (λ (l : Left). l .1 .0) same, ap (λ (l : Left). l .1 .1) same);
       }
+
+-- two judgements alike but for the directions of the events that are kept leave the same
+pub kept-ignores : (k : Lookahead) (words table memo : List ℕ) (kept turned : KeptInput) → inputOf (held kept .events) ≡ inputOf (held turned .events)
+    → (l m : Left) → JudgesKept k words kept table memo (l .0) (l .1 .0) (l .1 .1) → JudgesKept k words turned table memo (m .0) (m .1 .0) (m .1 .1)
+    → l ≡ m
+kept-ignores k words table memo kept turned e l m i j = judge-ignores k words table memo (held kept .events) (held turned .events) e l m (i .judges) (j .judges)

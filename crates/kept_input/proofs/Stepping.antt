@@ -14,6 +14,7 @@ use Rattle.answer.specs.declared.Error.{Error}
 use Rattle.answer.specs.declared.Error.the-variants.{UnknownCheckpoint, CheckpointNotSet, InputFull}
 use Rattle.base.specs.Choice.{choose}
 use Rattle.grammar.specs.Limits.{maxTokens}
+use Rattle.promises.proofs.Leaving.{leaves, leaves-alike, leaves-refused}
 use Rattle.kept_input.specs.declared.Progress.{Progress}
 use Rattle.kept_input.specs.declared.KeptInput.{KeptInput}
 use Rattle.kept_input.specs.Histories.{checkpointCount, empty, Step, Add, Mark, Return, within, stepFault, done, after}
@@ -35,14 +36,13 @@ begin-stored e = ap (keptInput (replicate maxTokens 0)) e
 -- a step by whether it is refused
 step-refused : (t : Step) (k : KeptInput) (x : Error) → stepFault t (held k) ≡ some x → Steps t k (record { answer = Refused x; kept = k })
 unfolding after
-step-refused t k x q = record { answer = rw q; told = rw q; kept = rw q; holds = rw q }
+step-refused t k x q = record { leaves = leaves-refused q tt; kept = rw q; holds = rw q }
 
 step-done : (t : Step) (k next : KeptInput) → Sound (held k) → stepFault t (held k) ≡ none → next ≡ stored (k .events) (done t (held k))
     → Steps t k (record { answer = Passed; kept = next })
 unfolding after
 step-done t k next h q e = record {
-  answer = rw q;
-  told = rw q;
+  leaves = leaves-alike q (leaves refl tt);
   kept = rw q e;
   holds = rw q (ap held e ∙ held-stored (k .events) (done t (held k)) (done-sound (held k) h t q));
 }

@@ -1,18 +1,15 @@
--- The promises of a kept input, on one page: of each step, of the judgement, and of any value that is passed in.
+-- What a kept input promises, on one page: of each step and of a judgement, for any value that is passed in.
 use mathlib.Core.Path.{_≡_}
-use mathlib.Core.List.{List}
+use mathlib.Core.List.{List, []}
 use Prim.Native.Nat.{ℕ, _≤_}
 use lib.ListN.{length, replicate}
 use Rattle.answer.specs.declared.Answer.{Answer}
 use Rattle.answer.specs.declared.Answer.the-variants.{Passed}
-use Rattle.answer.specs.Numbers.{numbers}
-use Rattle.answer.specs.Faults.{refusedOr, toldOr}
 use Rattle.grammar.specs.Limits.{maxTokens}
 use Rattle.event.specs.Events.{inputOf}
 use Rattle.lookahead.specs.declared.Lookahead.{Lookahead}
-use Rattle.lookahead.specs.declared.Lookahead.the-variants.{One}
-use Rattle.recognizer_promises.specs.Answers.{passedNumbers}
-use Rattle.recognizer_promises.specs.Properties.{JudgesBy}
+use Rattle.promises.specs.Leaving.{Leaves}
+use Rattle.recognizer_promises.specs.Properties.{Judges}
 use Rattle.kept_input.specs.declared.Progress.{Progress}
 use Rattle.kept_input.specs.declared.KeptInput.{KeptInput}
 use Rattle.kept_input.specs.declared.Moved.{Moved}
@@ -28,8 +25,7 @@ pub record Begins (k : KeptInput) : Type 0 where
 -- a step, of any value
 pub record Steps (t : Step) (before : KeptInput) (r : Changed) : Type 0 where
   -- refused or passed by the events and checkpoints that the value holds
-  pub answer : r .answer ≡ refusedOr (stepFault t (held before)) Passed
-  pub told : numbers (r .answer) ≡ toldOr (stepFault t (held before)) passedNumbers
+  pub leaves : Leaves (stepFault t (held before)) Passed (r .answer) []
   -- refused, it is handed back as it was; else it stores what the step makes of them, and events behind the input stay as they were
   pub kept : r .kept ≡ unlessRefused (stepFault t (held before)) (stored (before .events) (done t (held before))) before
   -- so it holds what document 02's step leaves
@@ -45,17 +41,13 @@ pub record Moves (t : Step) (before : Progress) (r : Moved) : Type 0 where
   pub steps : (events : List ℕ) → length events ≡ maxTokens
       → Steps t (keptInput events before) (record { answer = r .answer; kept = keptInput events (r .progress) })
 
--- judging what is kept, with a lookahead
-pub record JudgesKeptBy (k : Lookahead) (words : List ℕ) (kept : KeptInput) (table memo : List ℕ) (r : Answer) (table′ memo′ : List ℕ) : Type 0 where
+-- judging what is kept
+pub record JudgesKept (k : Lookahead) (words : List ℕ) (kept : KeptInput) (table memo : List ℕ) (r : Answer) (table′ memo′ : List ℕ) : Type 0 where
   -- all that judging promises of the events that the value holds, which are never too many for it
-  pub judges : JudgesBy k words (inputOf (held kept .events)) table memo r table′ memo′
+  pub judges : Judges k words (inputOf (held kept .events)) table memo r table′ memo′
   pub short : length (inputOf (held kept .events)) ≤ maxTokens
   -- whichever history from an empty input without checkpoints left it, the judgement is that of the events which the history leaves, taken afresh
   -- with the same grammar and lent memory
   pub afresh : (history : List Step) → held kept ≡ ran history empty → (a : Answer) (table″ memo″ : List ℕ)
-      → JudgesBy k words (inputOf (ran history empty .events)) table memo a table″ memo″
+      → Judges k words (inputOf (ran history empty .events)) table memo a table″ memo″
       → (r ≡ a) × (table′ ≡ table″) × (memo′ ≡ memo″)
-
--- the same with one token of lookahead (document 01)
-abbrev pub JudgesKept : (words : List ℕ) (kept : KeptInput) (table memo : List ℕ) (r : Answer) (table′ memo′ : List ℕ) → Type 0
-JudgesKept = JudgesKeptBy One

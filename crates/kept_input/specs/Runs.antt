@@ -10,12 +10,12 @@ use Rattle.answer.specs.declared.Error.the-variants.{UnknownCheckpoint, Checkpo
 use Rattle.grammar.specs.Limits.{maxTokens}
 use Rattle.event.specs.Events.{inputOf}
 use Rattle.lookahead.specs.declared.Lookahead.{Lookahead}
-use Rattle.recognizer_promises.specs.Properties.{JudgesBy}
+use Rattle.recognizer_promises.specs.Properties.{Judges}
 use Rattle.kept_input.specs.declared.KeptInput.{KeptInput}
 use Rattle.kept_input.specs.declared.Changed.{Changed}
 use Rattle.kept_input.specs.Histories.{checkpointCount, Kept, empty, Step, Add, Mark, Return, stepFault, after, ran}
 use Rattle.kept_input.specs.Stored.{held}
-use Rattle.kept_input.specs.Properties.{Steps, JudgesKeptBy}
+use Rattle.kept_input.specs.Properties.{Steps, JudgesKept}
 
 -- by these steps from a value to a value
 pub data Run : KeptInput → List Step → KeptInput → Type 0 where
@@ -34,8 +34,8 @@ pub record HistoriesKept : Type 0 where
   pub holds : {first last : KeptInput} {l : List Step} → Run first l last → held last ≡ ran l (held first)
   -- from an empty input without checkpoints a judgement is that of the events which the history leaves, taken afresh with the same grammar, lookahead and memory
   pub judged : {k : Lookahead} {first last : KeptInput} {l : List Step} → held first ≡ empty → Run first l last
-      → {words table memo table′ memo′ table″ memo″ : List ℕ} {r a : Answer} → JudgesKeptBy k words last table memo r table′ memo′
-      → JudgesBy k words (inputOf (ran l empty .events)) table memo a table″ memo″
+      → {words table memo table′ memo′ table″ memo″ : List ℕ} {r a : Answer} → JudgesKept k words last table memo r table′ memo′
+      → Judges k words (inputOf (ran l empty .events)) table memo a table″ memo″
       → (r ≡ a) × (table′ ≡ table″) × (memo′ ≡ memo″)
   pub sound : (l : List Step) → Sound (ran l empty)
 

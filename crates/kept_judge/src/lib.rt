@@ -1,8 +1,8 @@
 // Judging an input that is kept between calls, with one token of lookahead and with two.
 ghost use mathlib.Core.Path.{_≡_};
-ghost use Rattle.lookahead.specs.declared.Lookahead.the-variants.{Two};
+ghost use Rattle.lookahead.specs.declared.Lookahead.the-variants.{One, Two};
 ghost use Rattle.kept_input.specs.Stored.{readLength};
-ghost use Rattle.kept_input.specs.Properties.{JudgesKept, JudgesKeptBy};
+ghost use Rattle.kept_input.specs.Properties.{JudgesKept};
 use answer::Answer;
 use kept_input::KeptInput;
 use kept_input::Progress;
@@ -19,7 +19,7 @@ fn input_length(progress: Progress) -> usize
 
 // Judges the input as it stands.
 pub fn judge_kept(words: &[u32], kept: KeptInput, table: &mut [u32], memo: &mut [u16]) -> Answer
-    ensures { λ r. ⌜ JudgesKept (now (words .entry)) kept (now (table .entry)) (now (memo .entry)) r (now (table .exit)) (now (memo .exit)) ⌝ }
+    ensures { λ r. ⌜ JudgesKept One (now (words .entry)) kept (now (table .entry)) (now (memo .entry)) r (now (table .exit)) (now (memo .exit)) ⌝ }
 {
     let length = input_length(kept.progress);
     let events = kept.events;
@@ -33,7 +33,7 @@ pub fn judge_kept_wide(
     table: &mut [u64],
     memo: &mut [u16],
 ) -> Answer
-    ensures { λ r. ⌜ JudgesKeptBy Two (now (words .entry)) kept (now (table .entry)) (now (memo .entry)) r (now (table .exit)) (now (memo .exit)) ⌝ }
+    ensures { λ r. ⌜ JudgesKept Two (now (words .entry)) kept (now (table .entry)) (now (memo .entry)) r (now (table .exit)) (now (memo .exit)) ⌝ }
 {
     let length = input_length(kept.progress);
     let events = kept.events;

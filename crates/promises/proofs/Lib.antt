@@ -1,4 +1,6 @@
 pub mod Memory
+pub mod Leaving
+pub mod Directions
 pub mod Places
 pub mod Inputs
 pub mod Verdicts

@@ -9,7 +9,7 @@ use native.Mathlib.Omega.{arith}
 use Rattle.answer.proofs.Apart.{answer-number, fault-number, refusalNumber}
 use Rattle.answer.proofs.Faults.{none-some}
 use Rattle.answer.specs.declared.Error.{Error}
-use Rattle.answer.specs.declared.Error.the-variants.{InputTooLong, LeftRecursive, Unproductive}
+use Rattle.answer.specs.declared.Error.the-variants.{InputTooLong, LeftRecursive, TooManyInputs, Unproductive}
 use Rattle.answer.specs.declared.Answer.{Answer}
 use Rattle.answer.specs.declared.Answer.the-variants.{Refused, Passed, Accepted, Rejected}
 use Rattle.answer.specs.declared.Calls.{Calls}
@@ -20,16 +20,19 @@ use Rattle.event.specs.declared.Unknown.{Unknown}
 use Rattle.event.specs.declared.Unknown.the-variants.{Absent, At}
 use Rattle.event.specs.Unknown.{unknownFault}
 use Rattle.grammar.specs.Syntax.{Grammar, WellScoped}
+use Rattle.lookahead.specs.declared.Lookahead.{Lookahead}
+use Rattle.lookahead.specs.Lookaheads.{tokens}
 use Rattle.semantics.specs.LeftRecursion.{lowestLeftRecursive, NoLeftRecursion}
 use Rattle.semantics.specs.Productive.{lowestUnproductive}
 use Rattle.semantics.proofs.Theorems.{theorems}
 use Rattle.families.specs.Analysis.{leftFault, unproductiveFault}
-use Rattle.promises.specs.Places.{LowestRecursive, LowestUnproductiveBy}
+use Rattle.promises.specs.Places.{LowestRecursive, LowestUnproductive}
 
--- not 10 and not 11, the refusals of an input
+-- not 10, 11 or 22, the refusals of an input and of a length
 pub record OfGrammar (e : Error) : Type 0 where
   pub length : coded e .code ≡ 10 → ⊥
   pub token : coded e .code ≡ 11 → ⊥
+  pub inputs : coded e .code ≡ 22 → ⊥
 
 -- an answer refuses with an error of the grammar exactly when the grammar's fault is that one
 abbrev pub Tells : Option Error → Answer → Type 0
@@ -55,6 +58,15 @@ judge-tells none true u b c q = λ e g. (λ p. absurd (g .length (sym (answer-nu
 judge-tells none false (At i) b c q = λ e g. (λ p. absurd (g .token (sym (answer-number (sym q ∙ p)))), λ p. absurd (none-some p))
 judge-tells none false Absent true c q = silent q refl
 judge-tells none false Absent false c q = silent q refl
+
+-- what judging the costliest input of a length answers, by the grammar's fault and what is found of the length
+pub costliest-tells : (f : Option Error) (long many b : Bool) (c : Calls) {r : Answer}
+    → r ≡ refusedOr (firstFault (f ∷ faultIf long InputTooLong ∷ faultIf many TooManyInputs ∷ [])) (choose b (Accepted c) (Rejected c)) → Tells f r
+costliest-tells (some e) long many b c q = refused-tells q
+costliest-tells none true many b c q = λ e g. (λ p. absurd (g .length (sym (answer-number (sym q ∙ p)))), λ p. absurd (none-some p))
+costliest-tells none false true b c q = λ e g. (λ p. absurd (g .inputs (sym (answer-number (sym q ∙ p)))), λ p. absurd (none-some p))
+costliest-tells none false false true c q = silent q refl
+costliest-tells none false false false c q = silent q refl
 
 pub none-left : (o : Option ℕ) → leftFault o ≡ none → o ≡ none
 none-left none e = refl
@@ -87,22 +99,22 @@ module _ (behind : List (Option Error)) (other : (e : Error) → firstFault behi
   unproductive-told (some B) u A = (λ e. absurd (omega (arith, fault-number e)), λ e. absurd (Option·some-ne-none B (e .0)))
 
   -- what an answer tells, in the words of the grammar
-  module _ (k : ℕ) (G : Grammar) (scoped : WellScoped G) {r : Answer} (t : Tells (faultBy behind (lowestLeftRecursive G) (lowestUnproductive G k)) r) where
+  module _ (k : Lookahead) (G : Grammar) (scoped : WellScoped G) {r : Answer} (t : Tells (faultBy behind (lowestLeftRecursive G) (lowestUnproductive G (tokens k))) r) where
     pub lowest-recursive : (A : ℕ) → (r ≡ Refused (LeftRecursive A)) ↔ LowestRecursive G A
     lowest-recursive A =
-        let told = t (LeftRecursive A) record { length = omega arith; token = omega arith } in
-        let left = left-told (lowestLeftRecursive G) (lowestUnproductive G k) A in
+        let told = t (LeftRecursive A) record { length = omega arith; token = omega arith; inputs = omega arith } in
+        let left = left-told (lowestLeftRecursive G) (lowestUnproductive G (tokens k)) A in
         let decided = theorems .left-recursion-decided G scoped .lowest A in (
           λ e. let h = decided .0 (left .0 (told .0 e)) in record { reaches = h .0; lowest = h .1 },
           λ h. told .1 (left .1 (decided .1 (h .reaches, h .lowest))),
         )
 
-    pub lowest-unproductive : (A : ℕ) → (r ≡ Refused (Unproductive A)) ↔ (NoLeftRecursion G × LowestUnproductiveBy k G A)
+    pub lowest-unproductive : (A : ℕ) → (r ≡ Refused (Unproductive A)) ↔ (NoLeftRecursion G × LowestUnproductive k G A)
     lowest-unproductive A =
-        let told = t (Unproductive A) record { length = omega arith; token = omega arith } in
-        let empty = unproductive-told (lowestLeftRecursive G) (lowestUnproductive G k) A in
+        let told = t (Unproductive A) record { length = omega arith; token = omega arith; inputs = omega arith } in
+        let empty = unproductive-told (lowestLeftRecursive G) (lowestUnproductive G (tokens k)) A in
         let free = theorems .left-recursion-decided G scoped .absent in
-        let decided = theorems .productive-decided G k .lowest A in (
+        let decided = theorems .productive-decided G (tokens k) .lowest A in (
           λ e.
               let h = empty .0 (told .0 e) in
               let d = decided .0 (h .1) in

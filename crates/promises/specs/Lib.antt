@@ -1,3 +1,5 @@
 pub mod Memory
+pub mod Leaving
+pub mod Directions
 pub mod Places
 pub mod Inputs

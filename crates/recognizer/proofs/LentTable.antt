@@ -4,7 +4,6 @@ use mathlib.Core.List.{List}
 use mathlib.Core.Option.{Option, none, some}
 use Prim.Native.Nat.{ℕ, _≤_}
 use lib.ListN.{length}
-use Rattle.answer.specs.declared.Answer.{Answer}
 use Rattle.answer.specs.declared.Error.{Error}
 use Rattle.answer.proofs.Faults.{each-none}
 use Rattle.grammar.specs.Encoding.{grammarOf}
@@ -22,9 +21,9 @@ use Rattle.lending.specs.Lending.{lentOf}
 use Rattle.lending.proofs.WordsLaid.{lent-table, lent-nothing}
 use Rattle.recognizer_promises.specs.declared.Judgement.{Judgement}
 use Rattle.promises.specs.Memory.{lentBack}
-use Rattle.recognizer_promises.specs.Judging.{memoFaultBy, foundUnless, JudgesWords}
+use Rattle.recognizer_promises.specs.Judging.{memoFault, foundUnless, JudgesWords}
 use Rattle.recognizer_promises.specs.Search.{searchFault, SearchesWords}
-use Rattle.recognizer_promises.specs.Properties.{JudgesBy}
+use Rattle.recognizer_promises.specs.Properties.{Judges}
 use Rattle.recognizer_promises.specs.Costliest.{JudgesCostliest}
 use Rattle.families.proofs.Findings.{read-some}
 use Rattle.recognizer_promises.proofs.Judged.{judged-by-words, judged-faultless}
@@ -48,10 +47,10 @@ lent-found k words none {r} e f table long =
 -- so what is promised of judging, and of judging the costliest input, holds
 pub judge-lent : (k : Lookahead) (words input table memo : List ℕ) → tableRoom k ≤ length table → {r : Judgement} {memo′ : List ℕ}
     → JudgesWords k words input memo r memo′ → {table′ : List ℕ} → table′ ≡ lentOf k (r .found) table
-    → JudgesBy k words input table memo (r .answer) table′ memo′
+    → Judges k words input table memo (r .answer) table′ memo′
 judge-lent k words input table memo long j t =
     judged-by-words words input table memo long j
-    (t ∙ lent-found k words (memoFaultBy k (length memo) words input) (j .grammar) (judged-faultless words input table memo long j) table long)
+    (t ∙ lent-found k words (memoFault k (length memo) words input) (j .grammar) (judged-faultless words input table memo long j) table long)
 
 pub costliest-lent : (words : List ℕ) (k : ℕ) (log table memo : List ℕ) → tableRoom One ≤ length table → {r : Judgement} {log′ memo′ : List ℕ}
     → SearchesWords words k log memo r log′ memo′ → {table′ : List ℕ} → table′ ≡ lentOf One (r .found) table

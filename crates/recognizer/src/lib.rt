@@ -1,7 +1,7 @@
 // Judging with memory that the caller lends: an input with one token of lookahead, with two, and the costliest of all inputs of a length.
 ghost use Rattle.event.specs.Events.{inputOf};
-ghost use Rattle.lookahead.specs.declared.Lookahead.the-variants.{Two};
-ghost use Rattle.recognizer_promises.specs.Properties.{Judges, JudgesBy};
+ghost use Rattle.lookahead.specs.declared.Lookahead.the-variants.{One, Two};
+ghost use Rattle.recognizer_promises.specs.Properties.{Judges};
 ghost use Rattle.recognizer_promises.specs.Costliest.{JudgesCostliest};
 use answer::Answer;
 use answer::Error;
@@ -15,7 +15,7 @@ use recursive_descent::search::judge_costliest_words;
 
 // Judges the input that the events of a log are by an encoded grammar, and fills the lent table and memo table.
 pub fn judge(words: &[u32], events: &[u8], table: &mut [u32], memo: &mut [u16]) -> Answer
-    ensures { λ r. ⌜ Judges (now (words .entry)) (inputOf (now (events .entry))) (now (table .entry)) (now (memo .entry)) r (now (table .exit)) (now (memo .exit)) ⌝ }
+    ensures { λ r. ⌜ Judges One (now (words .entry)) (inputOf (now (events .entry))) (now (table .entry)) (now (memo .entry)) r (now (table .exit)) (now (memo .exit)) ⌝ }
 {
     if table.len() < TABLE_WORDS {
         return Answer::Refused(Error::TableTooShort);
@@ -28,7 +28,7 @@ pub fn judge(words: &[u32], events: &[u8], table: &mut [u32], memo: &mut [u16]) 
 
 // The same with two tokens of lookahead, for grammars of few terminals, with a lent table of 64-bit words.
 pub fn judge_wide(words: &[u32], events: &[u8], table: &mut [u64], memo: &mut [u16]) -> Answer
-    ensures { λ r. ⌜ JudgesBy Two (now (words .entry)) (inputOf (now (events .entry))) (now (table .entry)) (now (memo .entry)) r (now (table .exit)) (now (memo .exit)) ⌝ }
+    ensures { λ r. ⌜ Judges Two (now (words .entry)) (inputOf (now (events .entry))) (now (table .entry)) (now (memo .entry)) r (now (table .exit)) (now (memo .exit)) ⌝ }
 {
     if table.len() < WIDE_TABLE_WORDS {
         return Answer::Refused(Error::WideTableTooShort);

@@ -26,8 +26,8 @@ use Rattle.semantics.specs.Descent.{accepts}
 use Rattle.inputs.specs.Inputs.{maxInputs}
 use Rattle.table.specs.Layout.{tableRoom}
 use Rattle.table.specs.Analysis.{grammarFaults}
-use Rattle.recognizer_promises.specs.Answers.{tableTooShort, checkFaultBy, inputFaults, judgeFaultBy, callsBy, verdictBy}
-use Rattle.recognizer_promises.specs.Properties.{JudgesBy}
+use Rattle.recognizer_promises.specs.Answers.{tableTooShort, checkFault, inputFaults, judgeFault, callsOf, verdictOf}
+use Rattle.recognizer_promises.specs.Properties.{Judges}
 use Rattle.recognizer_promises.specs.Costliest.{lengthFaults, costliestFault}
 use Rattle.recognizer_promises.proofs.GrammarErrors.{GrammarErrors, grammar-each}
 use Rattle.promises.proofs.InputErrors.{InputErrors, input-each}
@@ -40,14 +40,14 @@ pub record JudgeErrors (k : Lookahead) (words : List ℕ) (P : Error → Type 0)
   pub input : InputErrors P
 
 module _ {k : Lookahead} {words : List ℕ} {P : Error → Type 0} where
-  pub check-each : P (tableTooShort k) → GrammarErrors k words P → (table : ℕ) → OfFault P (checkFaultBy k table words)
-  unfolding checkFaultBy
+  pub check-each : P (tableTooShort k) → GrammarErrors k words P → (table : ℕ) → OfFault P (checkFault k table words)
+  unfolding checkFault
   check-each short each table =
       first-each P (faultIf (ltb table (tableRoom k)) (tableTooShort k) ∷ grammarFaults k words)
       (of-if P (ltb table (tableRoom k)) (tableTooShort k) short, λ _. grammar-each words each [] tt)
 
-  pub judge-each : JudgeErrors k words P → (table memo : ℕ) (input : List ℕ) → OfFault P (judgeFaultBy k table memo words input)
-  unfolding judgeFaultBy
+  pub judge-each : JudgeErrors k words P → (table memo : ℕ) (input : List ℕ) → OfFault P (judgeFault k table memo words input)
+  unfolding judgeFault
   judge-each each table memo input =
       let n = grammarOf words .terminals in
       first-each P
@@ -63,15 +63,15 @@ module _ {k : Lookahead} {words : List ℕ} {P : Error → Type 0} where
       )
 
   -- a judgement that is a refusal
-  pub refused-each : JudgeErrors k words P → {input table memo table′ memo′ : List ℕ} {a : Answer} → JudgesBy k words input table memo a table′ memo′ → (x : Error)
+  pub refused-each : JudgeErrors k words P → {input table memo table′ memo′ : List ℕ} {a : Answer} → Judges k words input table memo a table′ memo′ → (x : Error)
       → a ≡ Refused x → P x
-  unfolding verdictBy
+  unfolding verdictOf
   refused-each each {input} {table} {memo} j x e =
-      go (judgeFaultBy k (length table) (length memo) words input) (judge-each each (length table) (length memo) input)
-      (accepts (grammarOf words) (tableChoice (grammarOf words) (tokens k) input) input) (sym (j .answer) ∙ e)
+      go (judgeFault k (length table) (length memo) words input) (judge-each each (length table) (length memo) input)
+      (accepts (grammarOf words) (tableChoice (grammarOf words) (tokens k) input) input) (sym (j .leaves .answer) ∙ e)
     where
       c : Calls
-      c = callsBy (tokens k) (grammarOf words) input
+      c = callsOf k (grammarOf words) input
 
       go : (f : Option Error) → OfFault P f → (b : Bool) → refusedOr f (choose b (Accepted c) (Rejected c)) ≡ Refused x → P x
       go none h true q = absurd (omega (arith, ap refusalNumber q))

@@ -1,17 +1,15 @@
 -- What checking answers and leaves in the lent table, by what is found of the grammar; and what it means to pass.
 use mathlib.Core.Path.{_≡_, refl, sym, ap, _∙_}
-use mathlib.Core.List.{List, [], _∷_, _++_, List·Memᴰ·head, List·Memᴰ·not-nil}
+use mathlib.Core.List.{List, [], _∷_, _++_, List·Memᴰ·not-nil}
 use mathlib.Core.Option.{Option, none, some}
 use Prim.Native.Nat.{ℕ, _≤_, _<_}
-use native.Mathlib.Omega.{arith}
-use lib.Dec.{T}
 use lib.ListN.{length, drop}
 use borrow.Author.Tests.{lt-ltb, le-ltb}
-use Rattle.answer.proofs.Apart.{fault-number, refused-ne-passed}
+use Rattle.answer.proofs.Apart.{refused-ne-passed}
 use Rattle.answer.specs.declared.Error.{Error}
-use Rattle.answer.specs.Numbers.{coded, numbers}
+use Rattle.answer.specs.Numbers.{coded}
 use Rattle.answer.specs.Faults.{refusedOr}
-use Rattle.answer.proofs.Faults.{none-some, each-none, numbers-told}
+use Rattle.answer.proofs.Faults.{none-some, each-none}
 use Rattle.answer.specs.declared.Answer.{Answer}
 use Rattle.answer.specs.declared.Answer.the-variants.{Refused, Passed}
 use Rattle.grammar.specs.Syntax.{Grammar}
@@ -19,12 +17,10 @@ use Rattle.grammar.specs.Encoding.{grammarOf}
 use Rattle.grammar.specs.Starts.{ruleStarts}
 use Rattle.grammar.specs.Reading.{reading}
 use Rattle.grammar.specs.declared.reading.Sizes.{Sizes}
-use Rattle.grammar.specs.declared.reading.Outcome.{Outcome}
-use Rattle.grammar.specs.declared.reading.Outcome.the-variants.{Read, Faulty}
+use Rattle.grammar.specs.declared.reading.Outcome.the-variants.{Read}
 use Rattle.encoding.specs.Encode.{sizesOf, Encodes}
 use Rattle.encoding.proofs.Decoding.{encodes-grammar}
 use Rattle.encoding.proofs.ReadingEncodes.{read-encodes, encodes-read}
-use Rattle.encoding.proofs.Faithful.{faithful}
 use Rattle.lookahead.specs.declared.Lookahead.{Lookahead}
 use Rattle.lookahead.specs.declared.Lookahead.the-variants.{One, Two}
 use Rattle.lookahead.specs.Lookaheads.{tokens, alphabet}
@@ -32,11 +28,9 @@ use Rattle.lookahead.proofs.Strings.{some-token}
 use Rattle.admission.specs.Admission.{Fits, admission}
 use Rattle.admission.proofs.Admitted.{admitted}
 use Rattle.semantics.specs.LeftRecursion.{NoLeftRecursion, lowestLeftRecursive}
-use Rattle.semantics.specs.FirstFollow.{Entry}
 use Rattle.semantics.specs.Productive.{lowestUnproductive}
 use Rattle.semantics.specs.Claims.{clashes}
 use Rattle.semantics.specs.Predictive.{Predictive}
-use Rattle.semantics.specs.Theorems.{LeastSets}
 use Rattle.semantics.proofs.Theorems.{theorems}
 use Rattle.families.specs.declared.Finding.{Finding}
 use Rattle.families.specs.declared.Finding.the-variants as finding
@@ -44,7 +38,7 @@ use Rattle.families.proofs.FewTerminals.{few-terminals}
 use Rattle.table.specs.declared.Found.{Found}
 use Rattle.table.specs.Layout.{tableWords, tableRoom}
 use Rattle.table.specs.Entries.{entriesOf}
-use Rattle.families.specs.Analysis.{readingFault, leftFault, unproductiveFault, setsFault, findingOf, startsIf}
+use Rattle.families.specs.Analysis.{setsFault, findingOf, startsIf}
 use Rattle.families.proofs.Findings.{read-some, told-passed, told-refused}
 use Rattle.table.specs.Analysis.{clashFault, grammarFaults, fault, entriesIf, foundOf}
 use Rattle.table.specs.Conflicts.{firstClash}
@@ -52,35 +46,18 @@ use Rattle.table.specs.declared.conflicts.Conflict.{Conflict}
 use Rattle.table.specs.declared.conflicts.Conflict.the-variants.{Absent, At}
 use Rattle.table.proofs.FirstClash.{clash-absent}
 use Rattle.table.proofs.Analyzing.{none-sets}
-use Rattle.promises.specs.Memory.{lentBack}
-use Rattle.recognizer_promises.specs.Answers.{tableTooShort, checkFaultBy}
+use Rattle.promises.specs.Leaving.{lent, Leaves}
+use Rattle.promises.proofs.Leaving.{leaves, leaves-alike, leaves-refused}
+use Rattle.recognizer_promises.specs.Answers.{tableTooShort, checkFault}
 use Rattle.recognizer_promises.specs.Judging.{EntriesFound}
-use Rattle.recognizer_promises.specs.Properties.{PassedBy, PassedGrammar, LeastFamiliesBy, ChecksBy}
+use Rattle.recognizer_promises.specs.Properties.{PassedGrammar, Checks}
 use Rattle.promises.proofs.Places.{check-tells, none-left, none-unproductive}
+use Rattle.recognizer_promises.proofs.Words.{least-sets, clash-none, understood}
 use Rattle.recognizer_promises.proofs.Places.{encodes-taken, fault-encoded, places}
 
 none-clash : (k : Lookahead) (r : Conflict) → clashFault k r ≡ none → r ≡ Absent
 none-clash k Absent e = refl
 none-clash k (At A c) e = absurd (none-some (sym e))
-
--- the theorems of the semantics about an encoded grammar
-pub least-for : (n : ℕ) {words : List ℕ} (G : Grammar) → Encodes words G → LeastSets G n
-least-for n G e = theorems .least-sets G (e .formed .scoped) (e .formed .terminals) (e .limited .someNonterminal) n
-
-pub least : {words : List ℕ} (G : Grammar) → Encodes words G → LeastSets G 1
-least = least-for 1
-
-families : (n : ℕ) {words : List ℕ} (G : Grammar) → Encodes words G → LeastFamiliesBy n G
-families n G e =
-    let l = least-for n G e in
-    record {
-      first-closed = l .first .closed;
-      first-least = λ F c A x h. l .first .smallest (λ B y. T (F B y)) c A x h;
-      follow-closed = l .follow .closed;
-      follow-least = λ L c A x h. l .follow .smallest (λ B y. T (L B y)) c A x h;
-      claimed = l .claimed;
-      unclaimed = l .unclaimed;
-    }
 
 -- a grammar that fits has no more terminals than its lookahead allows
 pub fits-few : (k : Lookahead) {words : List ℕ} (G : Grammar) → Encodes words G → Fits k G → G .terminals ≤ alphabet k
@@ -88,9 +65,9 @@ fits-few One G e f = e .limited .fewTerminals
 fits-few Two G e f = f .0
 
 -- a grammar without a fault passes
-pub passed-fault-for : (k : Lookahead) (words : List ℕ) → fault k words ≡ none → PassedBy k words
+pub passed-fault : (k : Lookahead) (words : List ℕ) → fault k words ≡ none → PassedGrammar k words
 unfolding fault
-passed-fault-for k words e =
+passed-fault k words e =
     let G = grammarOf words in
     let n = tokens k in
     let f = each-none (grammarFaults k words) e in
@@ -106,14 +83,11 @@ passed-fault-for k words e =
       fits = t .1;
       free = theorems .left-recursion-decided G (r .1 .formed .scoped) .absent .0 (none-left (lowestLeftRecursive G) (f .1 .0));
       productive = theorems .productive-decided G n .absent .0 (none-unproductive (lowestUnproductive G n) (f .1 .1 .0));
-      clashless = λ A x c. List·Memᴰ·not-nil (rw none-clashes at (least-for n G (r .1) .clash A x .1 c));
+      clashless = λ A x c. List·Memᴰ·not-nil (rw none-clashes at (least-sets G (r .1) n .clash A x .1 c));
     }
 
-pub passed-fault : (words : List ℕ) → fault One words ≡ none → PassedGrammar words
-passed-fault = passed-fault-for One
-
 -- a grammar that passes is the one that is read, so its promises are about that
-module _ {k : Lookahead} (words : List ℕ) (p : PassedBy k words) where
+module _ {k : Lookahead} (words : List ℕ) (p : PassedGrammar k words) where
   abbrev n : ℕ
   n = tokens k
 
@@ -130,11 +104,7 @@ module _ {k : Lookahead} (words : List ℕ) (p : PassedBy k words) where
   passed-free = rw (← same-grammar) (p .free)
 
   pub no-clashes : clashes (grammarOf words) n ≡ []
-  no-clashes = rw (← same-grammar) (go (clashes (p .grammar) n) refl)
-    where
-      go : (l : List Entry) → clashes (p .grammar) n ≡ l → clashes (p .grammar) n ≡ []
-      go [] e = e
-      go (x ∷ l) e = absurd (p .clashless (x .0) (x .1) (least-for n (p .grammar) (p .encodes) .clash (x .0) (x .1) .0 (rw e (List·Memᴰ·head refl))))
+  no-clashes = rw (← same-grammar) (clash-none (p .grammar) (p .encodes) k (p .clashless))
 
   pub not-left-recursive : lowestLeftRecursive (grammarOf words) ≡ none
   not-left-recursive = theorems .left-recursion-decided (grammarOf words) (passed-encodes .formed .scoped) .absent .1 passed-free
@@ -163,8 +133,8 @@ module _ {k : Lookahead} (words : List ℕ) (p : PassedBy k words) where
       )
 
 -- with a table that is long enough only the grammar's faults are left
-pub check-fault-long : (k : Lookahead) (n : ℕ) (words : List ℕ) → tableRoom k ≤ n → checkFaultBy k n words ≡ fault k words
-unfolding checkFaultBy fault
+pub check-fault-long : (k : Lookahead) (n : ℕ) (words : List ℕ) → tableRoom k ≤ n → checkFault k n words ≡ fault k words
+unfolding checkFault fault
 check-fault-long k n words h = rw (le-ltb n (tableRoom k) h)
 
 refused-passed : (f : Option Error) → refusedOr f Passed ≡ Passed → f ≡ none
@@ -175,30 +145,32 @@ refused-passed (some x) e = absurd (refused-ne-passed e)
 pub short-told : (coded (tableTooShort One) .code ≡ 1) × (coded (tableTooShort Two) .code ≡ 17)
 short-told = (refl, refl)
 
+short-first : (k : Lookahead) (table : ℕ) (words : List ℕ) → table < tableRoom k → checkFault k table words ≡ some (tableTooShort k)
+unfolding checkFault
+short-first k table words h = rw (lt-ltb table (tableRoom k) h)
+
 module _ (k : Lookahead) where
   -- the promise from the answer and the table
-  checks : {words before after : List ℕ} {r : Answer} → r ≡ refusedOr (checkFaultBy k (length before) words) Passed
-      → after ≡ lentBack (checkFaultBy k (length before) words) (tableWords k (grammarOf words)) before → ChecksBy k words before r after
-  checks {words} {before} {after} {r} a t = record {
-    faithful = faithful words;
-    admits = admitted k words;
-    answer = a;
-    told = ap numbers a ∙ numbers-told (checkFaultBy k (length before) words) Passed;
-    table = t;
+  checks : {words table table′ : List ℕ} {r : Answer}
+      → Leaves (checkFault k (length table) words) Passed r (lent table (tableWords k (grammarOf words)) table′ ∷ []) → Checks k words table r table′
+  checks {words} {table} l = record {
+    understood = understood k words;
+    leaves = l;
     passed = λ long.
-        let f = check-fault-long k (length before) words long in (
-          λ p. passed-fault-for k words (sym f ∙ refused-passed (checkFaultBy k (length before) words) (sym a ∙ p)),
-          λ p. a ∙ rw (f, fault-passed words p),
+        let f = check-fault-long k (length table) words long in (
+          λ p. passed-fault k words (sym f ∙ refused-passed (checkFault k (length table) words) (sym (l .answer) ∙ p)),
+          λ p. l .answer ∙ rw (f, fault-passed words p),
         );
     places = λ long short G e fits.
         places k G (e .formed .scoped) (fits-few k G e fits)
-        (check-tells _ (a ∙ ap (λ f. refusedOr f Passed) (check-fault-long k (length before) words long ∙ fault-encoded k words G short e fits)));
-    least = families (tokens k);
+        (check-tells _ (l .answer ∙ ap (λ f. refusedOr f Passed) (check-fault-long k (length table) words long ∙ fault-encoded k words G short e fits)));
   }
 
-  pub check-short : {words before : List ℕ} → length before < tableRoom k → ChecksBy k words before (Refused (tableTooShort k)) before
-  unfolding checkFaultBy
-  check-short {words} {before} h = checks (rw (lt-ltb (length before) (tableRoom k) h)) (rw (lt-ltb (length before) (tableRoom k) h))
+  pub check-short : {words table : List ℕ} → length table < tableRoom k → Checks k words table (Refused (tableTooShort k)) table
+  check-short {words} {table} h = checks (leaves-refused first (refl, tt))
+    where
+      first : checkFault k (length table) words ≡ some (tableTooShort k)
+      first = short-first k (length table) words h
 
 -- what is found of an encoded grammar tells
 pub record Told (k : Lookahead) (words : List ℕ) (f : Finding) (starts entries : List ℕ) : Type 0 where
@@ -226,14 +198,10 @@ module _ {k : Lookahead} {words : List ℕ} {f : Finding} {starts entries : List
   unfolding fault
   found-fault q = told-refused (fault k words) (admission k words) (λ y e. rw e) (sym (t .finding) ∙ q)
 
-pub check-passed : {k : Lookahead} (words before : List ℕ) → tableRoom k ≤ length before → fault k words ≡ none → {after : List ℕ}
-    → after ≡ tableWords k (grammarOf words) ++ drop (length (tableWords k (grammarOf words))) before → ChecksBy k words before Passed after
-check-passed {k} words before long f l =
-    let c : checkFaultBy k (length before) words ≡ none = check-fault-long k (length before) words long ∙ f in
-    checks k (sym (ap (λ y. refusedOr y Passed) c)) (l ∙ sym (ap (λ y. lentBack y (tableWords k (grammarOf words)) before) c))
+pub check-passed : {k : Lookahead} (words table : List ℕ) → tableRoom k ≤ length table → fault k words ≡ none → {table′ : List ℕ}
+    → table′ ≡ tableWords k (grammarOf words) ++ drop (length (tableWords k (grammarOf words))) table → Checks k words table Passed table′
+check-passed {k} words table long f l = checks k (leaves-alike (check-fault-long k (length table) words long ∙ f) (leaves refl (l, tt)))
 
-pub check-refused : {k : Lookahead} (words before : List ℕ) → tableRoom k ≤ length before → {x : Error} → fault k words ≡ some x
-    → ChecksBy k words before (Refused x) before
-check-refused {k} words before long {x} f =
-    let c : checkFaultBy k (length before) words ≡ some x = check-fault-long k (length before) words long ∙ f in
-    checks k (sym (ap (λ y. refusedOr y Passed) c)) (sym (ap (λ y. lentBack y (tableWords k (grammarOf words)) before) c))
+pub check-refused : {k : Lookahead} (words table : List ℕ) → tableRoom k ≤ length table → {x : Error} → fault k words ≡ some x
+    → Checks k words table (Refused x) table
+check-refused {k} words table long f = checks k (leaves-refused (check-fault-long k (length table) words long ∙ f) (refl, tt))

@@ -12,9 +12,8 @@ use Rattle.answer.specs.declared.Error.{Error}
 use Rattle.answer.specs.declared.Error.the-variants.{TableTooShort, MemoTooShort, BufferTooShort, InputTooLong, TooManyInputs}
 use Rattle.answer.specs.declared.Answer.{Answer}
 use Rattle.answer.specs.declared.Answer.the-variants.{Refused}
-use Rattle.answer.specs.Numbers.{numbers}
-use Rattle.answer.specs.Faults.{faultIf, firstFault, refusedOr, toldOr}
-use Rattle.answer.proofs.Faults.{Faultless, none-some, fault-none, each-none, first-none, first-nested, numbers-told}
+use Rattle.answer.specs.Faults.{faultIf, firstFault, refusedOr}
+use Rattle.answer.proofs.Faults.{Faultless, fault-none, each-none, first-none, first-nested}
 use Rattle.base.proofs.Quantified.{all-map}
 use Rattle.grammar.specs.Limits.{maxTokens, maxTableWords, maxMemoEntries}
 use Rattle.grammar.specs.Syntax.{Grammar}
@@ -32,21 +31,28 @@ use Rattle.families.specs.declared.Finding.{Finding}
 use Rattle.families.specs.declared.Finding.the-variants as finding
 use Rattle.families.proofs.FewTerminals.{admitted-read}
 use Rattle.base.specs.Strings.{Over}
+use Rattle.semantics.specs.Descent.{accepts}
 use Rattle.table.specs.Layout.{tableWords}
 use Rattle.table.specs.Analysis.{grammarFaults, fault, foundOf}
 use Rattle.table.specs.declared.Found.{Found}
 use Rattle.promises.specs.Memory.{lentBack}
+use Rattle.promises.specs.Leaving.{lent, Leaves}
+use Rattle.promises.proofs.Leaving.{leaves, leaves-alike, leaves-refused, unrefused}
+use Rattle.promises.proofs.Places.{costliest-tells}
 use Rattle.promises.proofs.Inputs.{PassedWith, RefusedWith, byGrammar, byFaults, with-passed, with-refused}
 use Rattle.recognizer_promises.specs.Memory.{memoWords}
-use Rattle.recognizer_promises.specs.Answers.{judgeFault, verdictOf, verdictNumbers}
+use Rattle.recognizer_promises.specs.Answers.{choiceOf, judgeFault, callsOf, verdictOf}
 use Rattle.recognizer_promises.specs.declared.Judgement.{Judgement}
 use Rattle.recognizer_promises.specs.Judging.{foundUnless, refusedWith, EntriesFound, JudgedPassed}
-use Rattle.recognizer_promises.specs.Properties.{Judges}
-use Rattle.recognizer_promises.specs.Costliest.{callsOn, costliestInput, lengthFaults, costliestFault, withLength, JudgesCostliest}
+use Rattle.recognizer_promises.specs.Properties.{Room}
+use Rattle.recognizer_promises.specs.Costliest.{callsOn, costliestInput, lengthFaults, costliestFault, withLength, Searchable, JudgesCostliest}
 use Rattle.recognizer_promises.specs.Search.{searchFault, SearchesWords, SearchGiven, BestJudged}
-use Rattle.recognizer_promises.proofs.Checking.{passed-fault-for, passed-encodes, passed-free, Told, told, found as found-entries, found-fault}
+use Rattle.recognizer_promises.proofs.Words.{understood}
+use Rattle.recognizer_promises.proofs.Places.{fault-encoded, places}
+use Rattle.recognizer_promises.proofs.Checking.{fits-few, passed-fault, fault-passed, passed-encodes, passed-free, Told, told, found as found-entries}
+use Rattle.recognizer_promises.proofs.Checking.{found-fault}
 use Rattle.recognizer_promises.proofs.JudgeFaults.{input-fault, readable-faultless}
-use Rattle.recognizer_promises.proofs.Judged.{verdict-told, judges, same-terminals}
+use Rattle.recognizer_promises.proofs.Judged.{verdict-unrefused, judges, same-terminals}
 
 -- what is found of a grammar and a length, as the code finds it
 module _ {f : Finding} {z : Sizes} (p : f ≡ finding.Passed z) (k : ℕ) where
@@ -90,10 +96,10 @@ module _ (words : List ℕ) (k : ℕ) (log memo : List ℕ) where
       let G = grammarOf words in
       let w = costliestInput G k in
       record {
-        verdict = ap (λ y. y .answer) e ∙ sym (ap (λ y. refusedOr y (verdictOf G w)) f);
+        verdict = ap (λ y. y .answer) e ∙ sym (ap (λ y. refusedOr y (verdictOf One G w)) f);
         grammar = ap (λ y. y .found) e ∙ sym (ap (λ y. foundUnless y (foundOf One words)) f);
         lent-log = sym (ap (λ y. lentBack y w log) f);
-        lent-memo = sym (ap (λ y. lentBack y (memoWords G w) memo) f);
+        lent-memo = sym (ap (λ y. lentBack y (memoWords One G w) memo) f);
       }
 
   pub memo-refused : length memo < maxMemoEntries → {r : Judgement} → r ≡ refusedWith MemoTooShort → SearchesWords words k log memo r log memo
@@ -145,7 +151,7 @@ module _ (words : List ℕ) (k : ℕ) (log memo : List ℕ) where
           pub search-given : SearchGiven words z (found .starts) (found .entries) (take k log) memo
           search-given = record {
             taken = entries-found .taken;
-            free = passed-free words (passed-fault-for One words (entries-found .faultless));
+            free = passed-free words (passed-fault One words (entries-found .faultless));
             begins = entries-found .begins;
             entered = entries-found .entered;
             short = omega (arith, part-length, fits .0);
@@ -153,8 +159,8 @@ module _ (words : List ℕ) (k : ℕ) (log memo : List ℕ) where
             room = room;
           }
 
-          unrefused : fault-found ≡ none
-          unrefused = by-grammar (entries-found .faultless) ∙ same-terminals One words faults entries-found (both .faultless)
+          none-found : fault-found ≡ none
+          none-found = by-grammar (entries-found .faultless) ∙ same-terminals One words faults entries-found (both .faultless)
 
           pub search-done : {part memo′ : List ℕ} {r : Judgement} → BestJudged words (take k log) memo (r .answer) part memo′ → r .found ≡ found
               → SearchesWords words k log memo r (part ++ drop k log) memo′
@@ -165,97 +171,107 @@ module _ (words : List ℕ) (k : ℕ) (log memo : List ℕ) where
               let s : part ≡ w = d .written ∙ ap (costliestInput G) part-length in
               let judged : JudgedPassed One words w memo (r .answer) memo′ = rw s at (d .judged) in
               record {
-                verdict = judged .answer ∙ sym (ap (λ y. refusedOr y (verdictOf G w)) unrefused);
-                grammar = g ∙ e ∙ sym (ap (λ y. foundUnless y (foundOf One words)) unrefused);
+                verdict = judged .answer ∙ sym (ap (λ y. refusedOr y (verdictOf One G w)) none-found);
+                grammar = g ∙ e ∙ sym (ap (λ y. foundUnless y (foundOf One words)) none-found);
                 lent-log =
-                    ap (λ y. y ++ drop k log) s ∙ ap (λ i. w ++ drop i log) (sym (o .long)) ∙ sym (ap (λ y. lentBack y w log) unrefused);
-                lent-memo = judged .lent ∙ sym (ap (λ y. lentBack y (memoWords G w) memo) unrefused);
+                    ap (λ y. y ++ drop k log) s ∙ ap (λ i. w ++ drop i log) (sym (o .long)) ∙ sym (ap (λ y. lentBack y w log) none-found);
+                lent-memo = judged .lent ∙ sym (ap (λ y. lentBack y (memoWords One G w) memo) none-found);
               }
 
--- and with a table that is lent: too short
-table-short : (words : List ℕ) (k : ℕ) (log table memo : List ℕ) → length table < maxTableWords
-    → costliestFault (length log) (length table) (length memo) words k ≡ some TableTooShort
-unfolding costliestFault
-table-short words k log table memo h = rw (lt-ltb (length table) maxTableWords h)
+-- and with a table that is lent: the rows of the call
+abbrev costliestRows : ℕ → ℕ → ℕ → List ℕ → ℕ → List (Option Error)
+costliestRows log table memo words n = faultIf (ltb table maxTableWords) TableTooShort ∷ searchRows log memo words n
 
-pub table-refused : (words : List ℕ) (k : ℕ) (log table memo : List ℕ) → length table < maxTableWords
-    → JudgesCostliest words k log table memo (Refused TableTooShort) log table memo
-table-refused words k log table memo h =
-    let G = grammarOf words in
-    let w = costliestInput G k in
-    let f = table-short words k log table memo h in
-    record {
-      answer = sym (ap (λ y. refusedOr y (verdictOf G w)) f);
-      told = sym (ap (λ y. toldOr y (verdictNumbers G w)) f);
-      lent-log = sym (ap (λ y. lentBack y w log) f);
-      lent-table = sym (ap (λ y. lentBack y (tableWords One G) table) f);
-      lent-memo = sym (ap (λ y. lentBack y (memoWords G w) memo) f);
-      judges = λ e. absurd (none-some (sym e ∙ f));
-      costliest = λ e. absurd (none-some (sym e ∙ f));
-      undirected = λ e. absurd (none-some (sym e ∙ f));
-    }
+costliest-rows : (log table memo : ℕ) (words : List ℕ) (n : ℕ)
+    → costliestFault log table memo words n ≡ firstFault (costliestRows log table memo words n)
+unfolding costliestFault fault
+costliest-rows log table memo words n =
+    first-nested (faultIf (ltb table maxTableWords) TableTooShort ∷ faultIf (ltb memo maxMemoEntries) MemoTooShort ∷ faultIf (ltb log maxTokens) BufferTooShort ∷ [])
+    (grammarFaults One words) (lengthFaults (grammarOf words .terminals) n)
 
--- or long enough, with the words of what is found
-module _ (words : List ℕ) (k : ℕ) (log table memo : List ℕ) (long : maxTableWords ≤ length table) {r : Judgement} {log′ memo′ : List ℕ}
-    (s : SearchesWords words k log memo r log′ memo′) where
+module _ (words : List ℕ) (n : ℕ) (log table memo : List ℕ) where
   abbrev G : Grammar
   G = grammarOf words
 
   abbrev w : List ℕ
-  w = costliestInput G k
+  w = costliestInput G n
 
-  same-fault : costliestFault (length log) (length table) (length memo) words k ≡ searchFault (length log) (length memo) words k
-  unfolding costliestFault searchFault
-  same-fault = rw (le-ltb (length table) maxTableWords long)
+  abbrev why : Option Error
+  why = costliestFault (length log) (length table) (length memo) words n
 
-  module _ (n : searchFault (length log) (length memo) words k ≡ none) where
-    each : Faultless (searchRows (length log) (length memo) words k)
-    each = each-none (searchRows (length log) (length memo) words k) (sym (search-rows (length log) (length memo) words k) ∙ n)
+  -- with memories that are long enough, by the grammar and the length
+  long-fault : maxTokens ≤ length log → Room One table memo → {f : Option Error} → fault One words ≡ f → why ≡ firstFault (f ∷ lengthFaults (G .terminals) n)
+  long-fault space room e =
+      costliest-rows (length log) (length table) (length memo) words n
+      ∙ rw (le-ltb (length table) maxTableWords (room .long-table), le-ltb (length memo) maxMemoEntries (room .long-memo), le-ltb (length log) maxTokens space, e)
 
-    pub search-faultless : fault One words ≡ none
-    search-faultless = each .1 .1 .0
+  no-fault : maxTokens ≤ length log → Room One table memo → Searchable words n → why ≡ none
+  no-fault space room h = long-fault space room (fault-passed words (h .passed)) ∙ rw (le-ltb maxTokens n (h .short), le-ltb maxInputs (G .terminals ^ n) (h .few))
 
-    room : maxMemoEntries ≤ length memo
-    room = ltb-false (length memo) maxMemoEntries (fault-none (ltb (length memo) maxMemoEntries) MemoTooShort (each .0))
+  -- without a fault the costliest input is judged
+  module _ (e : why ≡ none) where
+    each : Faultless (costliestRows (length log) (length table) (length memo) words n)
+    each = each-none (costliestRows (length log) (length table) (length memo) words n) (sym (costliest-rows (length log) (length table) (length memo) words n) ∙ e)
 
     encoded : Encodes words G
-    encoded = passed-encodes words (passed-fault-for One words search-faultless)
+    encoded = passed-encodes words (passed-fault One words (each .1 .1 .1 .0))
 
-    length-fits-k : (k ≤ maxTokens) × (G .terminals ^ k ≤ maxInputs)
-    length-fits-k = faultless-length (G .terminals) k (first-none (lengthFaults (G .terminals) k) (each .1 .1 .1))
+    length-fits-n : (n ≤ maxTokens) × (G .terminals ^ n ≤ maxInputs)
+    length-fits-n = faultless-length (G .terminals) n (first-none (lengthFaults (G .terminals) n) (each .1 .1 .1 .1))
 
-    costliest : CostliestOf (callsOn G) (G .terminals) k w
-    costliest = costliest-of (callsOn G) (G .terminals) (encoded .limited .someTerminal) k
+    costliest : CostliestOf (callsOn G) (G .terminals) n w
+    costliest = costliest-of (callsOn G) (G .terminals) (encoded .limited .someTerminal) n
 
-    judged : judgeFault (length table) (length memo) words w ≡ none
+    judged : judgeFault One (length table) (length memo) words w ≡ none
     judged =
-        input-fault One words w table memo long room search-faultless
-        (readable-faultless (G .terminals) w (omega (arith, costliest .long, length-fits-k .0)) (costliest .tokens))
+        input-fault One words w table memo (ltb-false (length table) maxTableWords (fault-none (ltb (length table) maxTableWords) TableTooShort (each .0)))
+        (ltb-false (length memo) maxMemoEntries (fault-none (ltb (length memo) maxMemoEntries) MemoTooShort (each .1 .0))) (each .1 .1 .1 .0)
+        (readable-faultless (G .terminals) w (omega (arith, costliest .long, length-fits-n .0)) (costliest .tokens))
 
     undirected : Over 128 w
     undirected =
         all-map (λ a. ltb a (G .terminals)) (λ a. ltb a 128) w
         (λ a _ h. lt→ltb a 128 (omega (arith, ltb→lt a (G .terminals) h, encoded .limited .fewTerminals))) (costliest .tokens)
 
-    as-judged : {table′ : List ℕ} → table′ ≡ lentBack (searchFault (length log) (length memo) words k) (tableWords One G) table
-        → Judges words w table memo (r .answer) table′ memo′
-    as-judged t =
-        let v = n ∙ sym judged in
-        judges (s .verdict ∙ ap (λ y. refusedOr y (verdictOf G w)) v) (t ∙ ap (λ y. lentBack y (tableWords One G) table) v)
-        (s .lent-memo ∙ ap (λ y. lentBack y (memoWords G w) memo) v)
+  -- the promise from the answer and the memories
+  judges-costliest : {r : Answer} {log′ table′ memo′ : List ℕ}
+      → Leaves why (verdictOf One G w) r (lent log w log′ ∷ lent table (tableWords One G) table′ ∷ lent memo (memoWords One G w) memo′ ∷ [])
+      → JudgesCostliest words n log table memo r log′ table′ memo′
+  unfolding verdictOf
+  judges-costliest l = record {
+    understood = understood One words;
+    leaves = l;
+    places = λ space room few H e.
+        places One H (e .formed .scoped) (fits-few One H e tt)
+        (costliest-tells _ (ltb maxTokens n) (ltb maxInputs (G .terminals ^ n)) (accepts G (choiceOf One G w) w) (callsOf One G w)
+        (l .answer ∙ ap (λ f. refusedOr f (verdictOf One G w)) (long-fault space room (fault-encoded One words H few e tt))));
+    taken = λ space room h. verdict-unrefused One G w (l .answer ∙ ap (λ f. refusedOr f (verdictOf One G w)) (no-fault space room h));
+    searched = λ u.
+        let e = unrefused l u in
+        record {
+          judges = judges (leaves-alike (judged e ∙ sym e) (leaves (l .answer) (l .memory .1 .0, (l .memory .1 .1 .0, tt))));
+          costliest = costliest e;
+          undirected = undirected e;
+        };
+  }
 
-  pub costliest-by-words : {table′ : List ℕ} → table′ ≡ lentBack (searchFault (length log) (length memo) words k) (tableWords One G) table
-      → JudgesCostliest words k log table memo (r .answer) log′ table′ memo′
-  costliest-by-words t =
-      let f = sym same-fault in
-      let a = s .verdict ∙ ap (λ y. refusedOr y (verdictOf G w)) f in
-      record {
-        answer = a;
-        told = ap numbers a ∙ numbers-told (costliestFault (length log) (length table) (length memo) words k) (verdictOf G w) ∙ ap (toldOr (costliestFault (length log) (length table) (length memo) words k)) (verdict-told 1 G w);
-        lent-log = s .lent-log ∙ ap (λ y. lentBack y w log) f;
-        lent-table = t ∙ ap (λ y. lentBack y (tableWords One G) table) f;
-        lent-memo = s .lent-memo ∙ ap (λ y. lentBack y (memoWords G w) memo) f;
-        judges = λ e. as-judged (f ∙ e) t;
-        costliest = λ e. costliest (f ∙ e);
-        undirected = λ e. undirected (f ∙ e);
-      }
+  -- a table that is too short
+  short-first : length table < maxTableWords → why ≡ some TableTooShort
+  unfolding costliestFault
+  short-first h = rw (lt-ltb (length table) maxTableWords h)
+
+  pub table-refused : length table < maxTableWords → JudgesCostliest words n log table memo (Refused TableTooShort) log table memo
+  table-refused h = judges-costliest (leaves-refused (short-first h) (refl, (refl, (refl, tt))))
+
+  -- or long enough, with the words of what is found
+  module _ (long : maxTableWords ≤ length table) {r : Judgement} {log′ memo′ : List ℕ} (s : SearchesWords words n log memo r log′ memo′) where
+    same-fault : why ≡ searchFault (length log) (length memo) words n
+    unfolding costliestFault searchFault
+    same-fault = rw (le-ltb (length table) maxTableWords long)
+
+    pub search-faultless : searchFault (length log) (length memo) words n ≡ none → fault One words ≡ none
+    search-faultless e = each (same-fault ∙ e) .1 .1 .1 .0
+
+    pub costliest-by-words : {table′ : List ℕ} → table′ ≡ lentBack (searchFault (length log) (length memo) words n) (tableWords One G) table
+        → JudgesCostliest words n log table memo (r .answer) log′ table′ memo′
+    costliest-by-words t = judges-costliest (leaves-alike same-fault (leaves (s .verdict) (s .lent-log, (t, (s .lent-memo, tt)))))

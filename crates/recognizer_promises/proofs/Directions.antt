@@ -1,24 +1,25 @@
 -- What judging leaves is settled by the input, so directions change nothing.
-use mathlib.Core.Path.{_≡_, sym, ap, _∙_}
+use mathlib.Core.Path.{_≡_, sym, _∙_}
 use mathlib.Core.List.{List}
 use Prim.Native.Nat.{ℕ}
-use lib.ListN.{length}
-use Rattle.answer.specs.Faults.{refusedOr}
 use Rattle.answer.specs.declared.Answer.{Answer}
-use Rattle.event.specs.Events.{inputOf}
-use Rattle.grammar.specs.Encoding.{grammarOf}
 use Rattle.lookahead.specs.declared.Lookahead.{Lookahead}
-use Rattle.lookahead.specs.Lookaheads.{tokens}
-use Rattle.table.specs.Layout.{tableWords}
-use Rattle.recognizer_promises.specs.Answers.{judgeFaultBy, verdictBy}
-use Rattle.promises.specs.Memory.{lentBack}
-use Rattle.recognizer_promises.specs.Memory.{memoWordsBy}
-use Rattle.recognizer_promises.specs.Properties.{DirectionsIgnored}
+use Rattle.promises.specs.Directions.{DirectionsIgnored}
+use Rattle.promises.proofs.Directions.{pair-same, directions-ignored}
+use Rattle.recognizer_promises.specs.Properties.{Judges}
 
-pub directions-ignored : (k : Lookahead) → DirectionsIgnored k
-directions-ignored k words events turned table memo r s table′ table″ memo′ memo″ e i j = (
-  i .answer ∙ ap (λ w. refusedOr (judgeFaultBy k (length table) (length memo) words w) (verdictBy (tokens k) (grammarOf words) w)) e ∙ sym (j .answer),
-  i .lent-table ∙ ap (λ w. lentBack (judgeFaultBy k (length table) (length memo) words w) (tableWords k (grammarOf words)) table) e ∙ sym (j .lent-table),
-  i .lent-memo ∙ ap (λ w. lentBack (judgeFaultBy k (length table) (length memo) words w) (memoWordsBy (tokens k) (grammarOf words) w) memo) e
-      ∙ sym (j .lent-memo),
-)
+-- the answer and both memories
+abbrev Left : Type 0
+Left = Answer × (List ℕ × List ℕ)
+
+module _ (k : Lookahead) (words table memo : List ℕ) where
+  abbrev Promise : List ℕ → Left → Type 0
+  Promise input l = Judges k words input table memo (l .0) (l .1 .0) (l .1 .1)
+
+  settled : (w : List ℕ) (l m : Left) → Promise w l → Promise w m → l ≡ m
+  settled w l m p q =
+      pair-same (p .leaves .answer ∙ sym (q .leaves .answer))
+      (pair-same (p .leaves .memory .0 ∙ sym (q .leaves .memory .0)) (p .leaves .memory .1 .0 ∙ sym (q .leaves .memory .1 .0)))
+
+  pub judge-ignores : DirectionsIgnored Promise
+  judge-ignores = directions-ignored Promise settled

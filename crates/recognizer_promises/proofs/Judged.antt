@@ -1,7 +1,7 @@
 -- What judging answers and leaves in the lent memories, by the first fault.
-use mathlib.Core.Path.{_≡_, refl, sym, ap, subst, _∙_}
+use mathlib.Core.Path.{_≡_, refl, sym, ap, _∙_}
 use mathlib.Core.Bool.{Bool, true, false}
-use mathlib.Core.List.{List, _++_}
+use mathlib.Core.List.{List, [], _∷_, _++_}
 use mathlib.Core.Option.{Option, none, some}
 use Prim.Native.Nat.{ℕ, _+_, _*_, _≤_, _<_}
 use native.Mathlib.Nat.{mul-le-mul}
@@ -12,9 +12,8 @@ use lib.ListN.{length, take, drop, length-map}
 use lib.Seq.{length-take-le}
 use Rattle.answer.specs.declared.Error.{Error}
 use Rattle.answer.specs.declared.Error.the-variants.{MemoTooShort}
-use Rattle.answer.specs.Numbers.{accepted, rejected, answered, numbers}
-use Rattle.answer.specs.Faults.{firstFault, refusedOr, toldOr}
-use Rattle.answer.proofs.Faults.{numbers-told}
+use Rattle.answer.specs.Numbers.{Verdict, refused, passed, rejected, accepted, numbers}
+use Rattle.answer.specs.Faults.{firstFault, refusedOr}
 use Rattle.answer.specs.declared.Answer.{Answer}
 use Rattle.answer.specs.declared.Answer.the-variants.{Refused, Accepted, Rejected}
 use Rattle.base.specs.Choice.{choose}
@@ -24,111 +23,90 @@ use Rattle.grammar.specs.Encoding.{grammarOf}
 use Rattle.grammar.specs.WellRead.{WellRead}
 use Rattle.grammar.specs.declared.reading.Sizes.{Sizes}
 use Rattle.grammar.proofs.WellRead.{well-read}
-use Rattle.encoding.proofs.Faithful.{faithful}
 use Rattle.lookahead.specs.declared.Lookahead.{Lookahead}
 use Rattle.lookahead.specs.Lookaheads.{tokens}
-use Rattle.admission.proofs.Admitted.{admitted}
 use Rattle.families.proofs.FewTerminals.{admitted-read}
 use Rattle.semantics.specs.Valuations.{pairs}
-use Rattle.semantics.specs.Choices.{tableChoice}
 use Rattle.semantics.specs.Descent.{accepts}
-use Rattle.semantics.specs.Calls.{allCalls, callCount, farthest}
+use Rattle.semantics.specs.Calls.{allCalls}
 use Rattle.semantics.proofs.descent.Range.{all-length}
-use Rattle.following.specs.Theorems.{EntriesTell}
-use Rattle.following.proofs.Theorems.{theorems as following}
 use Rattle.table.specs.Layout.{tableWords, tableRoom}
 use Rattle.table.specs.Analysis.{fault, foundOf}
 use Rattle.table.specs.declared.Found.{Found}
 use Rattle.families.specs.declared.Finding.{Finding}
 use Rattle.families.specs.declared.Finding.the-variants as finding
 use Rattle.promises.specs.Memory.{lentBack}
+use Rattle.promises.specs.Leaving.{lent, Leaves}
+use Rattle.promises.proofs.Leaving.{leaves, leaves-alike, leaves-refused, unrefused}
 use Rattle.promises.proofs.Inputs.{PassedWith, RefusedWith, byGrammar, byFaults, with-passed, with-refused}
 use Rattle.promises.proofs.Places.{judge-tells}
-use Rattle.recognizer_promises.specs.Memory.{memoWordBy, memoWordsBy}
+use Rattle.recognizer_promises.specs.Memory.{memoWord, memoWords}
 use Rattle.event.specs.Events.{inputOf}
 use Rattle.event.specs.Unknown.{unknownFrom}
 use Rattle.event.proofs.Inputs.{input-length}
-use Rattle.recognizer_promises.specs.Answers.{judgeFaultBy, inputFaults, withInput, callsBy, verdictBy, verdictNumbersBy}
-use Rattle.recognizer_promises.specs.Judging.{memoFaultBy, foundUnless, refusedWith, JudgesWords, EntriesFound, PassedGiven, DescendGiven, Descended, JudgedPassed}
+use Rattle.recognizer_promises.specs.Answers.{choiceOf, judgeFault, inputFaults, withInput, callsOf, verdictOf}
+use Rattle.recognizer_promises.specs.Judging.{memoFault, foundUnless, refusedWith, JudgesWords, EntriesFound, PassedGiven, DescendGiven, Descended, JudgedPassed}
 use Rattle.recognizer_promises.specs.declared.Judgement.{Judgement}
-use Rattle.recognizer_promises.specs.Properties.{PassedBy, Readable, RecognizesBy, JudgesBy}
-use Rattle.recognizer_promises.proofs.Checking.{fits-few, passed-fault-for, passed-free, passed-predictive, fault-passed, Told, told, found as found-entries, found-fault}
+use Rattle.recognizer_promises.specs.Properties.{Room, Judgeable, Judges}
+use Rattle.recognizer_promises.proofs.Words.{understood}
+use Rattle.recognizer_promises.proofs.Checking.{fits-few, passed-fault, passed-free, fault-passed, Told, told, found as found-entries, found-fault}
 use Rattle.recognizer_promises.proofs.Places.{fault-encoded, places}
-use Rattle.recognizer_promises.proofs.JudgeFaults.{judge-fault-long, input-fault, judge-table-long, memo-fault-short, memo-fault-long, judged-readable-by, readable-faultless, faultless-readable, judged-checked}
+use Rattle.recognizer_promises.proofs.JudgeFaults.{judge-fault-long, input-fault, judge-table-long, memo-fault-short, memo-fault-long, judged-readable, readable-faultless, faultless-readable, judged-checked}
 use Rattle.recognizer_promises.proofs.Meaning.{meaning}
 
--- the numbers of what is answered
-pub verdict-told : (n : ℕ) (G : Grammar) (w : List ℕ) → numbers (verdictBy n G w) ≡ verdictNumbersBy n G w
-unfolding verdictBy verdictNumbersBy
-verdict-told n G w = go (accepts G (tableChoice G n w) w)
+-- a verdict is no refusal
+pub verdict-unrefused : (k : Lookahead) (G : Grammar) (w : List ℕ) {r : Answer} → r ≡ verdictOf k G w → numbers r .verdict ≡ refused → ⊥
+unfolding verdictOf
+verdict-unrefused k G w {r} e = go (accepts G (choiceOf k G w) w) e
   where
-    go : (b : Bool) → numbers (choose b (Accepted (callsBy n G w)) (Rejected (callsBy n G w)))
-        ≡ answered (choose b accepted rejected) 0 0 (callCount G (tableChoice G n w) w) (farthest G (tableChoice G n w) w)
-    go true = refl
-    go false = refl
+    told-apart : Verdict → ℕ
+    told-apart refused = 0
+    told-apart passed = 1
+    told-apart rejected = 2
+    told-apart accepted = 3
 
--- a passed grammar and a readable input: what is answered has its meaning, and the memo table lent back begins with the entries that the descent records
-module _ (k : Lookahead) (words input table memo : List ℕ) (long : tableRoom k ≤ length table) (room : maxMemoEntries ≤ length memo)
-    (p : PassedBy k words) (h : Readable words input) where
-  abbrev G : Grammar
-  G = grammarOf words
+    go : (b : Bool) → r ≡ choose b (Accepted (callsOf k G w)) (Rejected (callsOf k G w)) → numbers r .verdict ≡ refused → ⊥
+    go true q h = absurd (omega (arith, ap told-apart (sym (ap (λ (a : Answer). numbers a .verdict) q) ∙ h)))
+    go false q h = absurd (omega (arith, ap told-apart (sym (ap (λ (a : Answer). numbers a .verdict) q) ∙ h)))
 
-  abbrev n : ℕ
-  n = tokens k
-
-  faultless : judgeFaultBy k (length table) (length memo) words input ≡ none
-  faultless = input-fault k words input table memo long room (fault-passed words p) (readable-faultless (G .terminals) input (h .short) (h .tokens))
-
-  recognizes : (r : Answer) → r ≡ refusedOr (judgeFaultBy k (length table) (length memo) words input) (verdictBy n G input)
-      → RecognizesBy n words input r
-  recognizes r a = meaning k words input r p h (a ∙ ap (λ y. refusedOr y (verdictBy n G input)) faultless)
-
-  entries : (memo′ : List ℕ) → memo′ ≡ lentBack (judgeFaultBy k (length table) (length memo) words input) (memoWordsBy n G input) memo
-      → EntriesTell G n input memo′
-  entries memo′ m =
-      let written = memoWordsBy n G input in
-      let recorded = meaning k words input (verdictBy n G input) p h refl .memo in
-      subst (EntriesTell G n input) (sym (m ∙ ap (λ y. lentBack y written memo) faultless))
-      (following .entries G n (passed-predictive words p) input (h .tokens) (omega (arith, h .short)) written recorded (drop (length written) memo))
+-- memories that are long enough, a passed grammar and a readable input: there is no fault
+faultless : (k : Lookahead) (words input table memo : List ℕ) → Room k table memo → Judgeable k words input
+    → judgeFault k (length table) (length memo) words input ≡ none
+faultless k words input table memo room h =
+    input-fault k words input table memo (room .long-table) (room .long-memo) (fault-passed words (h .passed))
+    (readable-faultless (grammarOf words .terminals) input (h .short) (h .known))
 
 -- the promise from the answer and the memories
 pub judges : {k : Lookahead} {words input table memo table′ memo′ : List ℕ} {r : Answer}
-    → r ≡ refusedOr (judgeFaultBy k (length table) (length memo) words input) (verdictBy (tokens k) (grammarOf words) input)
-    → table′ ≡ lentBack (judgeFaultBy k (length table) (length memo) words input) (tableWords k (grammarOf words)) table
-    → memo′ ≡ lentBack (judgeFaultBy k (length table) (length memo) words input) (memoWordsBy (tokens k) (grammarOf words) input) memo
-    → JudgesBy k words input table memo r table′ memo′
-unfolding verdictBy
-judges {k} {words} {input} {table} {memo} {table′} {memo′} {r} a t m = record {
-  faithful = faithful words;
-  admits = admitted k words;
-  answer = a;
-  told =
-      let f = judgeFaultBy k (length table) (length memo) words input in
-      let n = tokens k in
-      ap numbers a ∙ numbers-told f (verdictBy n (grammarOf words) input) ∙ ap (toldOr f) (verdict-told n (grammarOf words) input);
-  lent-table = t;
-  lent-memo = m;
-  places = λ long room few G e fits.
+    → Leaves (judgeFault k (length table) (length memo) words input) (verdictOf k (grammarOf words) input) r
+    (lent table (tableWords k (grammarOf words)) table′ ∷ lent memo (memoWords k (grammarOf words) input) memo′ ∷ [])
+    → Judges k words input table memo r table′ memo′
+unfolding verdictOf
+judges {k} {words} {input} {table} {memo} l = record {
+  understood = understood k words;
+  leaves = l;
+  places = λ room few G e fits.
       let H = grammarOf words in
-      let n = tokens k in
       places k G (e .formed .scoped) (fits-few k G e fits)
-      (judge-tells _ (ltb maxTokens (length input)) (unknownFrom (H .terminals) 0 input) (accepts H (tableChoice H n input) input) (callsBy n H input)
-      (a ∙ ap (λ f. refusedOr f (verdictBy n H input)) (judge-fault-long k words input table memo long room (fault-encoded k words G few e fits))));
-  as-checked = λ e c checked q.
-      t ∙ ap (λ y. lentBack y (tableWords k (grammarOf words)) table) (e ∙ sym (judged-checked k words input (length table) (length memo) e)) ∙ sym (q .table);
-  recognizes = λ long room p h. recognizes k words input table memo long room p h r a;
-  entries = λ long room p h. entries k words input table memo long room p h memo′ m;
+      (judge-tells _ (ltb maxTokens (length input)) (unknownFrom (H .terminals) 0 input) (accepts H (choiceOf k H input) input) (callsOf k H input)
+      (l .answer ∙ ap (λ f. refusedOr f (verdictOf k H input)) (judge-fault-long k words input table memo (room .long-table) (room .long-memo) (fault-encoded k words G few e fits))));
+  as-checked = λ n c checked q.
+      let e = unrefused l n in
+      l .memory .0 ∙ ap (λ y. lentBack y (tableWords k (grammarOf words)) table) (e ∙ sym (judged-checked k words input (length table) (length memo) e)) ∙ sym (q .leaves .memory .0);
+  recognizes = λ room h.
+      let f = faultless k words input table memo room h in
+      let written = memoWords k (grammarOf words) input in
+      meaning k words input h (drop (length written) memo) (l .answer ∙ ap (λ y. refusedOr y (verdictOf k (grammarOf words) input)) f)
+      (l .memory .1 .0 ∙ ap (λ y. lentBack y written memo) f);
 }
 
-pub judge-refused : {k : Lookahead} {words input table memo : List ℕ} {x : Error} → judgeFaultBy k (length table) (length memo) words input ≡ some x
-    → JudgesBy k words input table memo (Refused x) table memo
-judge-refused {k} {words} {input} {table} {memo} f =
-    judges (sym (ap (λ y. refusedOr y (verdictBy (tokens k) (grammarOf words) input)) f)) (sym (ap (λ y. lentBack y (tableWords k (grammarOf words)) table) f))
-    (sym (ap (λ y. lentBack y (memoWordsBy (tokens k) (grammarOf words) input) memo) f))
+pub judge-refused : {k : Lookahead} {words input table memo : List ℕ} {x : Error} → judgeFault k (length table) (length memo) words input ≡ some x
+    → Judges k words input table memo (Refused x) table memo
+judge-refused f = judges (leaves-refused f (refl, (refl, tt)))
 
-pub memo-count : (n : ℕ) (G : Grammar) (input : List ℕ) → length (memoWordsBy n G input) ≡ pairs G input
-unfolding memoWordsBy
-memo-count n G input = length-map (allCalls G input) (memoWordBy n G input) ∙ all-length G input
+pub memo-count : (k : Lookahead) (G : Grammar) (input : List ℕ) → length (memoWords k G input) ≡ pairs G input
+unfolding memoWords
+memo-count k G input = length-map (allCalls G input) (memoWord k G input) ∙ all-length G input
 
 -- a grammar that has passed, and an input of its terminals
 module _ {k : Lookahead} {words starts entries memo : List ℕ} {z : Sizes} (events : List ℕ) (g : PassedGiven k words z starts entries (inputOf events) memo) where
@@ -157,8 +135,8 @@ module _ {k : Lookahead} {words starts entries memo : List ℕ} {z : Sizes} (eve
   pub judged-passed : {part : List ℕ} {a : Answer} → Descended k words input a part
       → JudgedPassed k words input memo a (part ++ drop (z .nonterminals * (length events + 1)) memo)
   judged-passed {part} d =
-      let written = memoWordsBy (tokens k) (grammarOf words) input in
-      let n : z .nonterminals * (length events + 1) ≡ length written = needed ∙ sym (memo-count (tokens k) (grammarOf words) input) in
+      let written = memoWords k (grammarOf words) input in
+      let n : z .nonterminals * (length events + 1) ≡ length written = needed ∙ sym (memo-count k (grammarOf words) input) in
       record {
         answer = d .answer;
         lent = ap (λ y. y ++ drop (z .nonterminals * (length events + 1)) memo) (d .entries) ∙ ap (λ y. written ++ drop y memo) n;
@@ -170,12 +148,12 @@ pub same-terminals : (k : Lookahead) (words : List ℕ) (faults : ℕ → List (
 same-terminals k words faults {z} m h = rw (← well-read words z (admitted-read k words (m .taken)) .terminals) h
 
 -- judging in the memo table alone: a refusal
-words-refused : (k : Lookahead) (words input memo : List ℕ) {x : Error} → memoFaultBy k (length memo) words input ≡ some x → {r : Judgement}
+words-refused : (k : Lookahead) (words input memo : List ℕ) {x : Error} → memoFault k (length memo) words input ≡ some x → {r : Judgement}
     → r ≡ refusedWith x → JudgesWords k words input memo r memo
 words-refused k words input memo f e = record {
-  verdict = ap (λ y. y .answer) e ∙ sym (ap (λ y. refusedOr y (verdictBy (tokens k) (grammarOf words) input)) f);
+  verdict = ap (λ y. y .answer) e ∙ sym (ap (λ y. refusedOr y (verdictOf k (grammarOf words) input)) f);
   grammar = ap (λ y. y .found) e ∙ sym (ap (λ y. foundUnless y (foundOf k words)) f);
-  lent = sym (ap (λ y. lentBack y (memoWordsBy (tokens k) (grammarOf words) input) memo) f);
+  lent = sym (ap (λ y. lentBack y (memoWords k (grammarOf words) input) memo) f);
 }
 
 pub words-short : (k : Lookahead) (words input memo : List ℕ) → length memo < maxMemoEntries → {r : Judgement} → r ≡ refusedWith MemoTooShort
@@ -194,7 +172,7 @@ module _ (k : Lookahead) (words input memo : List ℕ) (room : maxMemoEntries �
   pub words-found-refused : {x : Error} → f ≡ finding.Refused x → {r : Judgement} → r ≡ refusedWith x → JudgesWords k words input memo r memo
   words-found-refused {x} p = words-refused k words input memo (go (with-refused (found .finding) faults (sym q ∙ p)))
     where
-      go : RefusedWith (found .finding) faults x → memoFaultBy k (length memo) words input ≡ some x
+      go : RefusedWith (found .finding) faults x → memoFault k (length memo) words input ≡ some x
       go (byGrammar h) = memo-fault-long k words input memo room (found-fault known h)
       go (byFaults z h i) =
           let m = found-entries known h in
@@ -217,7 +195,7 @@ module _ (k : Lookahead) (words input memo : List ℕ) (room : maxMemoEntries �
         record {
           ready = record {
             taken = m .taken;
-            free = passed-free words (passed-fault-for k words (m .faultless));
+            free = passed-free words (passed-fault k words (m .faultless));
             begins = m .begins;
             entered = m .entered;
             tokens = s .1;
@@ -229,24 +207,21 @@ module _ (k : Lookahead) (words input memo : List ℕ) (room : maxMemoEntries �
     pub words-judged : {memo′ : List ℕ} {r : Judgement} → JudgedPassed k words input memo (r .answer) memo′ → r .found ≡ found
         → JudgesWords k words input memo r memo′
     words-judged d g =
-        let n : memoFaultBy k (length memo) words input ≡ none = memo-fault-long k words input memo room (entries-found .faultless) ∙ unfaulty in
+        let n : memoFault k (length memo) words input ≡ none = memo-fault-long k words input memo room (entries-found .faultless) ∙ unfaulty in
         record {
-          verdict = d .answer ∙ sym (ap (λ y. refusedOr y (verdictBy (tokens k) (grammarOf words) input)) n);
+          verdict = d .answer ∙ sym (ap (λ y. refusedOr y (verdictOf k (grammarOf words) input)) n);
           grammar = g ∙ e ∙ sym (ap (λ y. foundUnless y (foundOf k words)) n);
-          lent = d .lent ∙ sym (ap (λ y. lentBack y (memoWordsBy (tokens k) (grammarOf words) input) memo) n);
+          lent = d .lent ∙ sym (ap (λ y. lentBack y (memoWords k (grammarOf words) input) memo) n);
         }
 
 -- and with a table that is lent, and long enough, and holds the words of what is found
 module _ {k : Lookahead} (words input table memo : List ℕ) (long : tableRoom k ≤ length table) {r : Judgement} {memo′ : List ℕ} (j : JudgesWords k words input memo r memo′) where
-  same-fault : judgeFaultBy k (length table) (length memo) words input ≡ memoFaultBy k (length memo) words input
+  same-fault : judgeFault k (length table) (length memo) words input ≡ memoFault k (length memo) words input
   same-fault = judge-table-long k (length table) (length memo) words input long
 
-  pub judged-by-words : {table′ : List ℕ} → table′ ≡ lentBack (memoFaultBy k (length memo) words input) (tableWords k (grammarOf words)) table
-      → JudgesBy k words input table memo (r .answer) table′ memo′
-  judged-by-words t =
-      judges (j .verdict ∙ sym (ap (λ y. refusedOr y (verdictBy (tokens k) (grammarOf words) input)) same-fault))
-      (t ∙ sym (ap (λ y. lentBack y (tableWords k (grammarOf words)) table) same-fault))
-      (j .lent ∙ sym (ap (λ y. lentBack y (memoWordsBy (tokens k) (grammarOf words) input) memo) same-fault))
+  pub judged-by-words : {table′ : List ℕ} → table′ ≡ lentBack (memoFault k (length memo) words input) (tableWords k (grammarOf words)) table
+      → Judges k words input table memo (r .answer) table′ memo′
+  judged-by-words t = judges (leaves-alike same-fault (leaves (j .verdict) (t, (j .lent, tt))))
 
-  pub judged-faultless : memoFaultBy k (length memo) words input ≡ none → fault k words ≡ none
-  judged-faultless n = judged-readable-by k words input (length table) (length memo) (same-fault ∙ n) .0
+  pub judged-faultless : memoFault k (length memo) words input ≡ none → fault k words ≡ none
+  judged-faultless n = judged-readable k words input (length table) (length memo) (same-fault ∙ n) .0

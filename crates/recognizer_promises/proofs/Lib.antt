@@ -1,3 +1,4 @@
+pub mod Words
 pub mod Places
 pub mod Checking
 pub mod MemoWords

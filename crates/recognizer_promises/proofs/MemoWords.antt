@@ -12,7 +12,8 @@ use Rattle.grammar.specs.Codes.{uncalledCode}
 use Rattle.grammar.specs.Syntax.{Grammar, WellScoped}
 use Rattle.base.specs.FiniteSets.{member}
 use Rattle.semantics.specs.LeftRecursion.{NoLeftRecursion}
-use Rattle.semantics.specs.Choices.{tableChoice}
+use Rattle.lookahead.specs.declared.Lookahead.{Lookahead}
+use Rattle.lookahead.specs.Lookaheads.{tokens}
 use Rattle.semantics.specs.Descent.{descend}
 use Rattle.semantics.specs.ComesTo.{Call, callAt, InRange}
 use Rattle.semantics.specs.Calls.{Listing, sameCall, allCalls, calls}
@@ -21,28 +22,29 @@ use Rattle.base.proofs.FiniteSets.{member-mem, mem-member}
 use Rattle.semantics.proofs.descent.Range.{calls-equality, all-length, all-ordered}
 use Rattle.semantics.proofs.Theorems.{theorems}
 use Rattle.memo_table.proofs.Entries.{getD-any}
-use Rattle.recognizer_promises.specs.Memory.{memoWordBy, memoWordsBy}
+use Rattle.recognizer_promises.specs.Answers.{choiceOf}
+use Rattle.recognizer_promises.specs.Memory.{memoWord, memoWords}
 
 -- the entries of the calls in order are what the memo table records
-module _ (k : ℕ) (G : Grammar) (w : List ℕ) (scoped : WellScoped G) (free : NoLeftRecursion G) (nonempty : 0 < G .nonterminals) {m : List ℕ} (r : Recorded G (tableChoice G k w) w m) where
-  listing : Listing G (tableChoice G k w) w (calls G (tableChoice G k w) w)
-  listing = theorems .calls-counted G scoped free nonempty (tableChoice G k w) (theorems .own-rules G k w) w .listing
+module _ (k : Lookahead) (G : Grammar) (w : List ℕ) (scoped : WellScoped G) (free : NoLeftRecursion G) (nonempty : 0 < G .nonterminals) {m : List ℕ} (r : Recorded G (choiceOf k G w) w m) where
+  listing : Listing G (choiceOf k G w) w (calls G (choiceOf k G w) w)
+  listing = theorems .calls-counted G scoped free nonempty (choiceOf k G w) (theorems .own-rules G (tokens k) w) w .listing
 
-  word-is : (x : Call) → InRange G w x → entry w m x ≡ memoWordBy k G w x
-  unfolding memoWordBy
-  word-is x h = go (member sameCall (calls G (tableChoice G k w) w) x) refl
+  word-is : (x : Call) → InRange G w x → entry w m x ≡ memoWord k G w x
+  unfolding memoWord
+  word-is x h = go (member sameCall (calls G (choiceOf k G w) w) x) refl
     where
-      go : (b : Bool) → member sameCall (calls G (tableChoice G k w) w) x ≡ b
-          → entry w m x ≡ choose b (encode (descend G (tableChoice G k w) w (x .nonterminal) (x .place))) uncalledCode
-      go true e = r .called x (listing .sound x (member-mem sameCall calls-equality (calls G (tableChoice G k w) w) x (rw e tt)))
-      go false e = r .uncalled x h (λ c. rw e at (mem-member sameCall calls-equality (calls G (tableChoice G k w) w) x (listing .full x c)))
+      go : (b : Bool) → member sameCall (calls G (choiceOf k G w) w) x ≡ b
+          → entry w m x ≡ choose b (encode (descend G (choiceOf k G w) w (x .nonterminal) (x .place))) uncalledCode
+      go true e = r .called x (listing .sound x (member-mem sameCall calls-equality (calls G (choiceOf k G w) w) x (rw e tt)))
+      go false e = r .uncalled x h (λ c. rw e at (mem-member sameCall calls-equality (calls G (choiceOf k G w) w) x (listing .full x c)))
 
-  pub words-recorded : m ≡ memoWordsBy k G w
-  unfolding memoWordsBy
+  pub words-recorded : m ≡ memoWords k G w
+  unfolding memoWords
   words-recorded =
-      ext-getD uncalledCode m (map (memoWordBy k G w) (allCalls G w)) (r .size ∙ sym (length-map (allCalls G w) (memoWordBy k G w) ∙ all-length G w)) same
+      ext-getD uncalledCode m (map (memoWord k G w) (allCalls G w)) (r .size ∙ sym (length-map (allCalls G w) (memoWord k G w) ∙ all-length G w)) same
     where
-      same : (i : ℕ) → i < length m → getD m i uncalledCode ≡ getD (map (memoWordBy k G w) (allCalls G w)) i uncalledCode
+      same : (i : ℕ) → i < length m → getD m i uncalledCode ≡ getD (map (memoWord k G w) (allCalls G w)) i uncalledCode
       same i h =
           let n = suc (length w) in
           let x = callAt (i / n) (i % n) in
@@ -51,6 +53,6 @@ module _ (k : ℕ) (G : Grammar) (w : List ℕ) (scoped : WellScoped G) (free : 
           let low : i < G .nonterminals * n = omega (arith, r .size) in
           let inside : InRange G w x = (div-lt-iff-lt-mul z .1 low, omega (arith, mod-lt i z)) in
           let here : getD (allCalls G w) i x ≡ x = ap (λ j. getD (allCalls G w) j x) (sym d) ∙ all-ordered G w x x inside in
-          let short : i < length (map (memoWordBy k G w) (allCalls G w)) = omega (arith, length-map (allCalls G w) (memoWordBy k G w), all-length G w, r .size) in
-          ap (λ j. getD m j uncalledCode) (sym d) ∙ word-is x inside ∙ ap (memoWordBy k G w) (sym here) ∙ sym (List·getD-map (memoWordBy k G w) (allCalls G w) i x)
-          ∙ getD-any (map (memoWordBy k G w) (allCalls G w)) i (memoWordBy k G w x) uncalledCode short
+          let short : i < length (map (memoWord k G w) (allCalls G w)) = omega (arith, length-map (allCalls G w) (memoWord k G w), all-length G w, r .size) in
+          ap (λ j. getD m j uncalledCode) (sym d) ∙ word-is x inside ∙ ap (memoWord k G w) (sym here) ∙ sym (List·getD-map (memoWord k G w) (allCalls G w) i x)
+          ∙ getD-any (map (memoWord k G w) (allCalls G w)) i (memoWord k G w x) uncalledCode short

@@ -31,9 +31,9 @@ use Rattle.table.specs.declared.conflicts.Conflict.the-variants as conflict
 use Rattle.table.specs.Analysis.{conflictError, clashFault, fault}
 use Rattle.table.specs.Conflicts.{firstClash, FirstClash}
 use Rattle.table.proofs.FirstClash.{clash-first, first-clash}
-use Rattle.promises.specs.Places.{AllProductiveBy}
+use Rattle.promises.specs.Places.{AllProductive}
 use Rattle.promises.proofs.Places.{Tells, Other, faultBy, lowest-recursive, lowest-unproductive}
-use Rattle.recognizer_promises.specs.Properties.{PlacesBy}
+use Rattle.recognizer_promises.specs.Properties.{Places}
 
 -- the code of a clash is 9, whichever the lookahead
 clash-code : (k : Lookahead) (A c : ℕ) → coded (conflictError k A c) .code ≡ 9
@@ -82,7 +82,7 @@ module _ (k : Lookahead) (G : Grammar) (scoped : WellScoped G) (few : G .termina
   abbrev told : Option Error
   told = grammarFault k (lowestLeftRecursive G) (lowestUnproductive G n) (firstClash k G)
 
-  first-told : (A c : ℕ) → (told ≡ some (conflictError k A c)) ↔ (NoLeftRecursion G × AllProductiveBy n G × FirstClash k G A c)
+  first-told : (A c : ℕ) → (told ≡ some (conflictError k A c)) ↔ (NoLeftRecursion G × AllProductive k G × FirstClash k G A c)
   first-told A c =
       let free = theorems .left-recursion-decided G scoped .absent in
       let productive = theorems .productive-decided G n .absent in (
@@ -94,12 +94,12 @@ module _ (k : Lookahead) (G : Grammar) (scoped : WellScoped G) (few : G .termina
             ∙ ap (grammarFault k none none) (first-clash k G few (h .2)),
       )
 
-  pub places : {r : Answer} → Tells told r → PlacesBy k G r
+  pub places : {r : Answer} → Tells told r → Places k G r
   places {r} t = record {
-    recursive = lowest-recursive behind (clash-other k (firstClash k G)) n G scoped t;
-    unproductive = lowest-unproductive behind (clash-other k (firstClash k G)) n G scoped t;
+    recursive = lowest-recursive behind (clash-other k (firstClash k G)) k G scoped t;
+    unproductive = lowest-unproductive behind (clash-other k (firstClash k G)) k G scoped t;
     conflict = λ A c.
         let nine = clash-code k A c in
-        let clash = t (conflictError k A c) record { length = λ h. omega (arith, nine, h); token = λ h. omega (arith, nine, h) } in
+        let clash = t (conflictError k A c) record { length = λ h. omega (arith, nine, h); token = λ h. omega (arith, nine, h); inputs = λ h. omega (arith, nine, h) } in
         (λ e. first-told A c .0 (clash .0 e), λ h. clash .1 (first-told A c .1 h));
   }

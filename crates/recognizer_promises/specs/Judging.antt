@@ -28,8 +28,8 @@ use Rattle.table.specs.declared.Found.{Found}
 use Rattle.table.specs.Analysis.{grammarFaults, fault, foundWith, foundOf}
 use Rattle.recognizer_promises.specs.declared.Judgement.{Judgement}
 use Rattle.promises.specs.Memory.{lentBack}
-use Rattle.recognizer_promises.specs.Memory.{memoWordsBy}
-use Rattle.recognizer_promises.specs.Answers.{inputFaults, verdictBy}
+use Rattle.recognizer_promises.specs.Memory.{memoWords}
+use Rattle.recognizer_promises.specs.Answers.{inputFaults, verdictOf}
 
 -- what checking answers, by what is found of a grammar
 abbrev pub answerOf : Finding → Answer
@@ -37,8 +37,8 @@ answerOf (Passed z) = answer.Passed
 answerOf (Refused e) = answer.Refused e
 
 -- why it is refused: as judging is, but for the table's length
-unfoldable pub memoFaultBy : Lookahead → ℕ → List ℕ → List ℕ → Option Error
-memoFaultBy k memo words input =
+unfoldable pub memoFault : Lookahead → ℕ → List ℕ → List ℕ → Option Error
+memoFault k memo words input =
     firstFault (faultIf (ltb memo maxMemoEntries) MemoTooShort ∷ grammarFaults k words ++ inputFaults (grammarOf words .terminals) input)
 
 -- what is found of a grammar, unless there is an error
@@ -55,9 +55,9 @@ refusedWith e = record { answer = answer.Refused e; found = refusedFound e }
 -- the first refusal that holds decides, and a refusal changes nothing; else the verdict, what is found of the grammar, and the entries in front of
 -- what was there
 pub record JudgesWords (k : Lookahead) (words input memo : List ℕ) (r : Judgement) (memo′ : List ℕ) : Type 0 where
-  pub verdict : r .answer ≡ refusedOr (memoFaultBy k (length memo) words input) (verdictBy (tokens k) (grammarOf words) input)
-  pub grammar : r .found ≡ foundUnless (memoFaultBy k (length memo) words input) (foundOf k words)
-  pub lent : memo′ ≡ lentBack (memoFaultBy k (length memo) words input) (memoWordsBy (tokens k) (grammarOf words) input) memo
+  pub verdict : r .answer ≡ refusedOr (memoFault k (length memo) words input) (verdictOf k (grammarOf words) input)
+  pub grammar : r .found ≡ foundUnless (memoFault k (length memo) words input) (foundOf k words)
+  pub lent : memo′ ≡ lentBack (memoFault k (length memo) words input) (memoWords k (grammarOf words) input) memo
 
 -- what is found of a grammar that passes: its sizes, no fault, where its rules begin, and its entries
 pub record EntriesFound (k : Lookahead) (words : List ℕ) (z : Sizes) (starts entries : List ℕ) : Type 0 where
@@ -82,8 +82,8 @@ pub record PassedGiven (k : Lookahead) (words : List ℕ) (z : Sizes) (starts en
 
 -- the answer is the verdict, and the memo table holds what is defined in front of what was there
 pub record JudgedPassed (k : Lookahead) (words input memo : List ℕ) (r : Answer) (memo′ : List ℕ) : Type 0 where
-  pub answer : r ≡ verdictBy (tokens k) (grammarOf words) input
-  pub lent : memo′ ≡ memoWordsBy (tokens k) (grammarOf words) input ++ drop (length (memoWordsBy (tokens k) (grammarOf words) input)) memo
+  pub answer : r ≡ verdictOf k (grammarOf words) input
+  pub lent : memo′ ≡ memoWords k (grammarOf words) input ++ drop (length (memoWords k (grammarOf words) input)) memo
 
 -- the same in a memo table of just its entries
 pub record DescendGiven (k : Lookahead) (words : List ℕ) (z : Sizes) (starts entries input memo : List ℕ) : Type 0 where
@@ -91,5 +91,5 @@ pub record DescendGiven (k : Lookahead) (words : List ℕ) (z : Sizes) (starts e
   pub size : length memo ≡ pairs (grammarOf words) input
 
 pub record Descended (k : Lookahead) (words input : List ℕ) (r : Answer) (memo : List ℕ) : Type 0 where
-  pub answer : r ≡ verdictBy (tokens k) (grammarOf words) input
-  pub entries : memo ≡ memoWordsBy (tokens k) (grammarOf words) input
+  pub answer : r ≡ verdictOf k (grammarOf words) input
+  pub entries : memo ≡ memoWords k (grammarOf words) input

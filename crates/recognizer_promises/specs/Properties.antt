@@ -1,150 +1,94 @@
--- The promises of the public calls, on one page: what each answers, what lent memory holds, and what that means.
+-- What `check` and `judge` promise, with one token of lookahead and with two, on one page: read `Checks` and `Judges`, at the end, first. What goes in stands
+-- before the answer `r`, and what lent memory then holds behind it. A call of Rattle ends; no call here has a `requires`, so none relies on another.
 use mathlib.Core.Path.{_≡_}
-use mathlib.Core.Bool.{Bool, true, false}
-use mathlib.Core.List.{List, []}
+use mathlib.Core.Bool.{true, false}
+use mathlib.Core.List.{List, [], _∷_}
 use mathlib.Core.Logic.{_↔_}
-use mathlib.Core.Option.{none, some}
-use Prim.Native.Nat.{ℕ, _≤_}
-use lib.Dec.{T}
+use Prim.Native.Nat.{ℕ, suc, _*_, _≤_}
 use lib.ListN.{length}
-use Rattle.answer.specs.Numbers.{numbers}
-use Rattle.answer.specs.Faults.{refusedOr, toldOr}
 use Rattle.answer.specs.declared.Answer.{Answer}
 use Rattle.answer.specs.declared.Answer.the-variants.{Refused, Passed, Accepted, Rejected}
-use Rattle.answer.specs.declared.Error.the-variants.{LeftRecursive}
-use Rattle.answer.specs.declared.Error.the-variants as error
+use Rattle.answer.specs.declared.Error.the-variants.{LeftRecursive, Unproductive}
+use Rattle.answer.specs.Numbers.{refused, numbers}
 use Rattle.grammar.specs.Limits.{maxMemoEntries, maxTokens, maxWords}
 use Rattle.grammar.specs.Syntax.{Grammar}
 use Rattle.grammar.specs.Encoding.{grammarOf}
-use Rattle.grammar.specs.Reading.{reading}
-use Rattle.grammar.specs.declared.reading.Sizes.{Sizes}
-use Rattle.grammar.specs.declared.reading.Outcome.the-variants.{Read}
-use Rattle.lookahead.specs.declared.Lookahead.{Lookahead}
-use Rattle.lookahead.specs.declared.Lookahead.the-variants.{One}
-use Rattle.lookahead.specs.Lookaheads.{tokens}
-use Rattle.admission.specs.Admission.{Fits, admission}
 use Rattle.encoding.specs.Encode.{Encodes}
-use Rattle.encoding.specs.Faithful.{FaithfulReading}
-use Rattle.event.specs.Events.{inputOf}
+use Rattle.lookahead.specs.declared.Lookahead.{Lookahead}
+use Rattle.lookahead.specs.Lookaheads.{tokens}
+use Rattle.admission.specs.Admission.{Fits}
+use Rattle.base.specs.Strings.{Over}
 use Rattle.semantics.specs.Valuations.{Valuation, Solves}
 use Rattle.semantics.specs.LeftRecursion.{NoLeftRecursion}
-use Rattle.base.specs.Strings.{Over}
-use Rattle.semantics.specs.Families.{FirstClosed, FollowClosed, Claims}
-use Rattle.semantics.specs.FirstFollow.{First, Follow}
-use Rattle.semantics.specs.Claims.{clashes, tableOf}
-use Rattle.semantics.specs.Choices.{tableChoice}
 use Rattle.semantics.specs.Memo.{Recorded}
 use Rattle.semantics.specs.Theorems.{OneSolution, DescentEnds, CallsCounted}
 use Rattle.following.specs.Theorems.{EntriesTell}
-use Rattle.table.specs.Conflicts.{ClashAt, FirstClash}
+use Rattle.table.specs.Conflicts.{FirstClash}
 use Rattle.table.specs.Layout.{tableWords, tableRoom}
 use Rattle.table.specs.Analysis.{conflictError}
-use Rattle.promises.specs.Memory.{lentBack}
-use Rattle.promises.specs.Places.{AllProductiveBy, LowestRecursive, LowestUnproductiveBy}
-use Rattle.recognizer_promises.specs.Memory.{memoWordsBy}
-use Rattle.recognizer_promises.specs.Answers.{checkFaultBy, judgeFaultBy, callsBy, verdictBy, passedNumbers, verdictNumbersBy}
+use Rattle.promises.specs.Leaving.{lent, Leaves}
+use Rattle.promises.specs.Places.{AllProductive, LowestRecursive, LowestUnproductive}
+use Rattle.recognizer_promises.specs.LeastFamilies.{Clashless}
+use Rattle.recognizer_promises.specs.Words.{Understood}
+use Rattle.recognizer_promises.specs.Memory.{memoWords}
+use Rattle.recognizer_promises.specs.Answers.{choiceOf, checkFault, judgeFault, callsOf, verdictOf}
 
--- a grammar that passes with a lookahead (document 01: a passed card): at most 2,048 words that encode a well-formed grammar within the limits, also
--- those of the lookahead, not left-recursive, without an empty first set, and without a clash: no entry is claimed by two rules, and only the end can
--- follow a rule without positives
-pub record PassedBy (k : Lookahead) (words : List ℕ) : Type 0 where
+-- a grammar that passes (document 01: a passed card): at most 2,048 words that encode a well-formed grammar within the limits, also those of the
+-- lookahead, not left-recursive, without an empty first set and without a clash
+pub record PassedGrammar (k : Lookahead) (words : List ℕ) : Type 0 where
   pub short : length words ≤ maxWords
   pub grammar : Grammar
   pub encodes : Encodes words grammar
   pub fits : Fits k grammar
   pub free : NoLeftRecursion grammar
-  pub productive : AllProductiveBy (tokens k) grammar
-  pub clashless : (A : ℕ) (x : List ℕ) → ClashAt k grammar A x → ⊥
+  pub productive : AllProductive k grammar
+  pub clashless : Clashless k grammar
 
--- the sets and the entries of a grammar with k tokens of lookahead: no smaller than the rules ask, and no larger than any family of tests that they
--- close; of all families it is `LeastSets` of semantics/specs/Theorems.antt, which a promise of code cannot quantify over
-pub record LeastFamiliesBy (k : ℕ) (G : Grammar) : Type 0 where
-  pub first-closed : FirstClosed G k (First G k)
-  pub first-least : (F : ℕ → List ℕ → Bool) → FirstClosed G k (λ A x. T (F A x)) → (A : ℕ) (x : List ℕ) → First G k A x → T (F A x)
-  pub follow-closed : FollowClosed G k (First G k) (Follow G k)
-  pub follow-least : (L : ℕ → List ℕ → Bool) → FollowClosed G k (First G k) (λ A x. T (L A x)) → (A : ℕ) (x : List ℕ) → Follow G k A x → T (L A x)
-  pub claimed : clashes G k ≡ [] → (A : ℕ) (x : List ℕ) (q : ℕ) → (tableOf G k A x ≡ some q) ↔ Claims G k (First G k) (Follow G k) q A x
-  pub unclaimed : (A : ℕ) (x : List ℕ) → (tableOf G k A x ≡ none) ↔ ((q : ℕ) → Claims G k (First G k) (Follow G k) q A x → ⊥)
-
--- when a grammar that fits the lookahead is refused, and where: 8 comes before 13, and 13 before 9, the first clash by nonterminal, then column
-pub record PlacesBy (k : Lookahead) (G : Grammar) (r : Answer) : Type 0 where
+-- where a grammar that fits the lookahead is refused: 8 comes before 13, and 13 before 9, which names the first clash by nonterminal, then column
+-- need not be believed: lowestLeftRecursive (recursive); lowestUnproductive (unproductive); firstClash (conflict)
+pub record Places (k : Lookahead) (G : Grammar) (r : Answer) : Type 0 where
   pub recursive : (A : ℕ) → (r ≡ Refused (LeftRecursive A)) ↔ LowestRecursive G A
-  pub unproductive : (A : ℕ) → (r ≡ Refused (error.Unproductive A)) ↔ (NoLeftRecursion G × LowestUnproductiveBy (tokens k) G A)
-  pub conflict : (A c : ℕ) → (r ≡ Refused (conflictError k A c)) ↔ (NoLeftRecursion G × AllProductiveBy (tokens k) G × FirstClash k G A c)
+  pub unproductive : (A : ℕ) → (r ≡ Refused (Unproductive A)) ↔ (NoLeftRecursion G × LowestUnproductive k G A)
+  pub conflict : (A c : ℕ) → (r ≡ Refused (conflictError k A c)) ↔ (NoLeftRecursion G × AllProductive k G × FirstClash k G A c)
 
--- just the words that are read and whose grammar fits the lookahead are taken
-abbrev pub Admits : Lookahead → List ℕ → Type 0
-Admits k words = (z : Sizes) → (admission k words ≡ Read z) ↔ ((reading words ≡ Read z) × Fits k (grammarOf words))
+-- memories that are long enough; and a grammar that passes with an input that is short enough, all of whose tokens are its terminals
+pub record Room (k : Lookahead) (table memo : List ℕ) : Type 0 where
+  pub long-table : tableRoom k ≤ length table
+  pub long-memo : maxMemoEntries ≤ length memo
 
--- checking an encoded grammar with a lent table: properties 1 and 2
-pub record ChecksBy (k : Lookahead) (words before : List ℕ) (r : Answer) (after : List ℕ) : Type 0 where
-  -- the refusals 3 to 7, and the grammar of the words, are told without the reading that finds them
-  pub faithful : FaithfulReading words
-  pub admits : Admits k words
-  -- the first refusal that holds decides, and a refusal changes nothing; else the table's words are those of the grammar, and later ones stay
-  pub answer : r ≡ refusedOr (checkFaultBy k (length before) words) Passed
-  pub told : numbers r ≡ toldOr (checkFaultBy k (length before) words) passedNumbers
-  pub table : after ≡ lentBack (checkFaultBy k (length before) words) (tableWords k (grammarOf words)) before
-  -- passed exactly when well formed, not left-recursive, without an empty first set and without a clash, where the table is long enough
-  pub passed : tableRoom k ≤ length before → (r ≡ Passed) ↔ PassedBy k words
-  pub places : tableRoom k ≤ length before → length words ≤ maxWords → (G : Grammar) → Encodes words G → Fits k G → PlacesBy k G r
-  -- the sets and the entries of an encoded grammar are the least ones
-  pub least : (G : Grammar) → Encodes words G → LeastFamiliesBy (tokens k) G
-
--- an input that is not too long, all of whose tokens are terminals of the grammar
-pub record Readable (words input : List ℕ) : Type 0 where
+pub record Judgeable (k : Lookahead) (words input : List ℕ) : Type 0 where
+  pub passed : PassedGrammar k words
   pub short : length input ≤ maxTokens
-  pub tokens : Over (grammarOf words .terminals) input
+  pub known : Over (grammarOf words .terminals) input
 
--- property 3, of the answer for a grammar that passes with k tokens of lookahead and a readable input: exactly one valuation solves the grammar on
--- the input, the answer is acceptance exactly when it gives the whole input to the start, and the answer's numbers are those of the calls that the
--- descent makes, whose outcomes are the only ones that the rules give; the memo table's words are these outcomes, each at its call's index, and
--- nothing else
-pub record RecognizesBy (k : ℕ) (words input : List ℕ) (r : Answer) : Type 0 where
-  pub one-solution : OneSolution (grammarOf words) input
-  pub accepted : (v : Valuation) → Solves (grammarOf words) input v → (r ≡ Accepted (callsBy k (grammarOf words) input)) ↔ (v 0 0 (length input) ≡ true)
-  pub rejected : (v : Valuation) → Solves (grammarOf words) input v
-      → (r ≡ Rejected (callsBy k (grammarOf words) input)) ↔ (v 0 0 (length input) ≡ false)
-  pub descent : DescentEnds (grammarOf words) (tableChoice (grammarOf words) k input) input
-  pub calls : CallsCounted (grammarOf words) (tableChoice (grammarOf words) k input) input
-  pub memo : Recorded (grammarOf words) (tableChoice (grammarOf words) k input) input (memoWordsBy k (grammarOf words) input)
+-- property 3: exactly one valuation solves the grammar on the input, and the answer is acceptance just if it gives the whole input to the start; the
+-- answer's numbers are those of the descent's calls, whose outcomes are the only ones that the rules give; the memo table's words are these outcomes and
+-- nothing else, and tell which spans belong to a nonterminal, wherever what comes next may follow it
+-- need not be believed: solution (one-solution); descend (descent); calls, callCount, farthest (calls); memoWords (memo)
+pub record Recognizes (k : Lookahead) (G : Grammar) (input : List ℕ) (r : Answer) (memo′ : List ℕ) : Type 0 where
+  pub one-solution : OneSolution G input
+  pub accepted : (v : Valuation) → Solves G input v → (r ≡ Accepted (callsOf k G input)) ↔ (v 0 0 (length input) ≡ true)
+  pub rejected : (v : Valuation) → Solves G input v → (r ≡ Rejected (callsOf k G input)) ↔ (v 0 0 (length input) ≡ false)
+  pub calls : CallsCounted G (choiceOf k G input) input
+  pub few : callsOf k G input .count ≤ G .nonterminals * suc (length input)
+  pub descent : DescentEnds G (choiceOf k G input) input
+  pub memo : Recorded G (choiceOf k G input) input (memoWords k G input)
+  pub entries : EntriesTell G (tokens k) input memo′
 
--- judging an input with a lent table and a lent memo table: properties 1 and 3. The input is what the events of the lent log are (`inputOf`)
-pub record JudgesBy (k : Lookahead) (words input table memo : List ℕ) (r : Answer) (table′ memo′ : List ℕ) : Type 0 where
-  -- as in checking
-  pub faithful : FaithfulReading words
-  pub admits : Admits k words
-  -- the first refusal that holds decides, and a refusal changes nothing; else both memories hold what is defined, and later words stay
-  pub answer : r ≡ refusedOr (judgeFaultBy k (length table) (length memo) words input) (verdictBy (tokens k) (grammarOf words) input)
-  pub told : numbers r ≡ toldOr (judgeFaultBy k (length table) (length memo) words input) (verdictNumbersBy (tokens k) (grammarOf words) input)
-  pub lent-table : table′ ≡ lentBack (judgeFaultBy k (length table) (length memo) words input) (tableWords k (grammarOf words)) table
-  pub lent-memo : memo′ ≡ lentBack (judgeFaultBy k (length table) (length memo) words input) (memoWordsBy (tokens k) (grammarOf words) input) memo
-  pub places : tableRoom k ≤ length table → maxMemoEntries ≤ length memo → length words ≤ maxWords → (G : Grammar) → Encodes words G → Fits k G
-      → PlacesBy k G r
-  -- where judging is not refused, the table is as checking leaves it
-  pub as-checked : judgeFaultBy k (length table) (length memo) words input ≡ none → (c : Answer) (checked : List ℕ) → ChecksBy k words table c checked
-      → table′ ≡ checked
-  -- where the memories are long enough, each passed grammar and readable input is judged by its one meaning, whatever the memories held
-  pub recognizes : tableRoom k ≤ length table → maxMemoEntries ≤ length memo → PassedBy k words → Readable words input
-      → RecognizesBy (tokens k) words input r
-  -- and the entries of the memo table that is lent back tell which spans belong to a nonterminal, wherever what comes next may follow it
-  pub entries : tableRoom k ≤ length table → maxMemoEntries ≤ length memo → PassedBy k words → Readable words input
-      → EntriesTell (grammarOf words) (tokens k) input memo′
+-- checking a grammar's words with a lent table: properties 1 and 2
+pub record Checks (k : Lookahead) (words table : List ℕ) (r : Answer) (table′ : List ℕ) : Type 0 where
+  pub understood : Understood k words
+  pub leaves : Leaves (checkFault k (length table) words) Passed r (lent table (tableWords k (grammarOf words)) table′ ∷ [])
+  pub passed : tableRoom k ≤ length table → (r ≡ Passed) ↔ PassedGrammar k words
+  pub places : tableRoom k ≤ length table → length words ≤ maxWords → (G : Grammar) → Encodes words G → Fits k G → Places k G r
 
--- what is judged of events is the input that they are (`inputOf`), so two calls alike but for the directions in their events get the same answer and
--- leave the same table and the same memo table
-abbrev pub DirectionsIgnored : Lookahead → Type 0
-DirectionsIgnored k =
-    (words events turned table memo : List ℕ) (r s : Answer) (table′ table″ memo′ memo″ : List ℕ) → inputOf events ≡ inputOf turned
-    → JudgesBy k words (inputOf events) table memo r table′ memo′ → JudgesBy k words (inputOf turned) table memo s table″ memo″
-    → (r ≡ s) × (table′ ≡ table″) × (memo′ ≡ memo″)
-
--- with one token of lookahead (document 01)
-abbrev pub PassedGrammar : List ℕ → Type 0
-PassedGrammar = PassedBy One
-
-abbrev pub Checks : (words before : List ℕ) (r : Answer) (after : List ℕ) → Type 0
-Checks = ChecksBy One
-
-abbrev pub Judges : (words input table memo : List ℕ) (r : Answer) (table′ memo′ : List ℕ) → Type 0
-Judges = JudgesBy One
+-- judging an input with a lent table and a lent memo table: properties 1 and 3. The input is what a log's events are (`inputOf`), without their directions
+pub record Judges (k : Lookahead) (words input table memo : List ℕ) (r : Answer) (table′ memo′ : List ℕ) : Type 0 where
+  pub understood : Understood k words
+  pub leaves : Leaves (judgeFault k (length table) (length memo) words input) (verdictOf k (grammarOf words) input) r
+      (lent table (tableWords k (grammarOf words)) table′ ∷ lent memo (memoWords k (grammarOf words) input) memo′ ∷ [])
+  pub places : Room k table memo → length words ≤ maxWords → (G : Grammar) → Encodes words G → Fits k G → Places k G r
+  -- unless judging is refused, the table is as checking leaves it
+  pub as-checked : (numbers r .verdict ≡ refused → ⊥) → (c : Answer) (checked : List ℕ) → Checks k words table c checked → table′ ≡ checked
+  -- whatever the memories held
+  pub recognizes : Room k table memo → Judgeable k words input → Recognizes k (grammarOf words) input r memo′

@@ -40,11 +40,11 @@ searchFault log memo words k =
 -- the first refusal that holds decides, and a refusal changes nothing; else the verdict on the costliest input, what is found of the grammar, the input
 -- and the entries, each in front of what was there
 pub record SearchesWords (words : List ℕ) (k : ℕ) (log memo : List ℕ) (r : Judgement) (log′ memo′ : List ℕ) : Type 0 where
-  pub verdict : r .answer ≡ refusedOr (searchFault (length log) (length memo) words k) (verdictOf (grammarOf words) (costliestInput (grammarOf words) k))
+  pub verdict : r .answer ≡ refusedOr (searchFault (length log) (length memo) words k) (verdictOf One (grammarOf words) (costliestInput (grammarOf words) k))
   pub grammar : r .found ≡ foundUnless (searchFault (length log) (length memo) words k) (foundOf One words)
   pub lent-log : log′ ≡ lentBack (searchFault (length log) (length memo) words k) (costliestInput (grammarOf words) k) log
   pub lent-memo : memo′
-      ≡ lentBack (searchFault (length log) (length memo) words k) (memoWords (grammarOf words) (costliestInput (grammarOf words) k)) memo
+      ≡ lentBack (searchFault (length log) (length memo) words k) (memoWords One (grammarOf words) (costliestInput (grammarOf words) k)) memo
 
 -- a grammar that passes, with its sizes, where its rules begin, and its entries; room for an input of which there are not too many; and a memo table that
 -- is long enough

@@ -34,7 +34,7 @@ use Rattle.columns.specs.Columns.{columnCount}
 use Rattle.descent_arrays.specs.Arrays.{held, rowAt}
 use Rattle.recursive_descent.specs.Descent.{MemoSound, CallGiven, CallDone, CallRequires, CallEnsures}
 use Rattle.memo_table.specs.Tally.{tallyOf, recordedCalls}
-use Rattle.recognizer_promises.specs.Answers.{callsBy, verdictBy}
+use Rattle.recognizer_promises.specs.Answers.{callsOf, verdictOf}
 use Rattle.recognizer_promises.specs.Judging.{DescendGiven, Descended}
 use Rattle.descent_arrays.specs.Tokens.{tokensOf}
 use Rattle.descent_arrays.specs.Choices.{choicesOf}
@@ -137,11 +137,11 @@ module _ {k : Lookahead} {words : List ℕ} {z : Sizes} {starts entries memo : L
       pub descended : {c : Calls} {ended : Bool} {a : Answer} → c ≡ tallyOf (recordedCalls memo′ (length memo′ / (length events + 1)) (length events))
           → ended ≡ endsAt (meant o) (length events)
           → a ≡ choose ended (Accepted c) (Rejected c) → Descended k words input a memo′
-      unfolding verdictBy accepts
+      unfolding verdictOf accepts
       descended {c} {ended} {a} tallied told e =
           let d = done in
-          let counted : c ≡ callsBy n G input = tally-recorded (d .1) (tallied ∙ ap (λ n. tallyOf (recordedCalls memo′ (length memo′ / (n + 1)) n)) long) in
+          let counted : c ≡ callsOf k G input = tally-recorded (d .1) (tallied ∙ ap (λ n. tallyOf (recordedCalls memo′ (length memo′ / (n + 1)) n)) long) in
           record {
             answer = e ∙ rw (told, long, d .0, counted);
-            entries = words-recorded n G input (r .formed .scoped) (g .ready .free) some-nonterminal (d .1);
+            entries = words-recorded k G input (r .formed .scoped) (g .ready .free) some-nonterminal (d .1);
           }

@@ -13,7 +13,7 @@ use Rattle.answer.specs.Numbers.{numbers}
 use Rattle.answer.specs.declared.Answer.{Answer}
 use Rattle.answer.specs.declared.Answer.the-variants.{Accepted, Rejected}
 use Rattle.base.specs.Choice.{choose}
-use Rattle.grammar.specs.Limits.{maxTokens, maxMemoEntries, maxNonterminals, maxPlaces}
+use Rattle.grammar.specs.Limits.{maxNonterminals, maxPlaces}
 use Rattle.grammar.specs.Syntax.{Grammar}
 use Rattle.grammar.specs.Encoding.{grammarOf}
 use Rattle.grammar.specs.WellRead.{WellRead}
@@ -27,13 +27,12 @@ use Rattle.base.specs.Strings.{Over}
 use Rattle.event.specs.Events.{inputOf}
 use Rattle.event.proofs.Inputs.{input-own}
 use Rattle.inputs.specs.Inputs.{inputAt, inputCount}
-use Rattle.inputs.specs.Costliest.{costliest}
 use Rattle.inputs.proofs.Numbers.{at-long, at-over}
 use Rattle.inputs.proofs.Counting.{count-exact}
 use Rattle.inputs.proofs.Searching.{Searched, searched-none, searched-more, searched-less, searched-all}
 use Rattle.inputs.specs.declared.Candidate.{Candidate}
 use Rattle.recognizer_promises.specs.Memory.{memoWords}
-use Rattle.recognizer_promises.specs.Answers.{callsOf, verdictBy, verdictOf}
+use Rattle.recognizer_promises.specs.Answers.{callsOf, verdictOf}
 use Rattle.recognizer_promises.specs.Judging.{PassedGiven, JudgedPassed}
 use Rattle.recognizer_promises.specs.Costliest.{callsOn, costliestInput}
 use Rattle.recognizer_promises.specs.Search.{SearchGiven, BestJudged}
@@ -41,11 +40,11 @@ use Rattle.recursive_descent.specs.Search.{NumberJudged, Behind, Tried, 
 use Rattle.recognizer_promises.proofs.Judged.{memo-count}
 
 -- the calls that a verdict tells
-verdict-count : (G : Grammar) (w : List ℕ) → numbers (verdictOf G w) .count ≡ callsOn G w
-unfolding verdictBy
+verdict-count : (G : Grammar) (w : List ℕ) → numbers (verdictOf One G w) .count ≡ callsOn G w
+unfolding verdictOf
 verdict-count G w = go (accepts G (tableChoice G 1 w) w)
   where
-    go : (b : Bool) → numbers (choose b (Accepted (callsOf G w)) (Rejected (callsOf G w))) .count ≡ callsOn G w
+    go : (b : Bool) → numbers (choose b (Accepted (callsOf One G w)) (Rejected (callsOf One G w))) .count ≡ callsOn G w
     go true = refl
     go false = refl
 
@@ -108,8 +107,8 @@ module _ {words : List ℕ} {z : Sizes} {starts entries events memo : List ℕ} 
   judged-behind : {w memo′ : List ℕ} {r : Answer} → length w ≡ k → JudgedPassed One words w memo r memo′ → Behind words k memo memo′
   judged-behind {w} {memo′} e d =
       let p = grammarOf words .nonterminals * suc k in
-      let m = memoWords (grammarOf words) w in
-      let c : length m ≡ p = memo-count 1 (grammarOf words) w ∙ ap (λ j. grammarOf words .nonterminals * suc j) e in
+      let m = memoWords One (grammarOf words) w in
+      let c : length m ≡ p = memo-count One (grammarOf words) w ∙ ap (λ j. grammarOf words .nonterminals * suc j) e in
       let q : memo′ ≡ m ++ drop p memo = d .lent ∙ ap (λ j. m ++ drop j memo) c in
       record {
         same-length = ap length q ∙ length-append m (drop p memo) ∙ omega (arith, c, length-drop p memo, entries-few);
@@ -212,14 +211,14 @@ module _ {words : List ℕ} {z : Sizes} {starts entries events memo : List ℕ} 
     best-judged {r} {events₂} {memo₂} d =
         let w : events₂ ≡ costliestInput G (length events) = d .written ∙ ap (λ j. inputAt (G .terminals) j number) (f .same-length) ∙ f .best in
         let l : length events₂ ≡ length events = ap length (d .written) ∙ at-long (G .terminals) (length events₁) number ∙ f .same-length in
-        let c : length (memoWords G events₂) ≡ G .nonterminals * suc (length events) =
-        memo-count 1 G events₂ ∙ ap (λ j. G .nonterminals * suc j) l in
+        let c : length (memoWords One G events₂) ≡ G .nonterminals * suc (length events) =
+        memo-count One G events₂ ∙ ap (λ j. G .nonterminals * suc j) l in
         record {
           written = w;
           judged = record {
             answer = d .judged .answer;
             lent =
-                d .judged .lent ∙ ap (λ y. memoWords G events₂ ++ y)
+                d .judged .lent ∙ ap (λ y. memoWords One G events₂ ++ y)
                 (ap (λ j. drop j memo₁) c ∙ f .behind .same ∙ sym (ap (λ j. drop j memo) c));
           };
         }

@@ -23,7 +23,6 @@ use Rattle.semantics.proofs.descent.Range.{index-range}
 use Rattle.semantics.proofs.descent.Written.{Sound}
 use Rattle.semantics.proofs.descent.Memo.{transparent}
 use Rattle.rule.specs.declared.Outcome as code
-use Rattle.rule.specs.declared.Outcome.the-variants as outcome
 use Rattle.rule.specs.Rule.{meant}
 use Rattle.memo_table.proofs.Entries.{getD-any}
 use Rattle.descent_arrays.specs.Arrays.{rowAt}

@@ -29,7 +29,7 @@ use Rattle.lending.proofs.WordsLaid.{lent-table, lent-nothing}
 use Rattle.answer.specs.Faults.{refusedOr}
 use Rattle.recognizer_promises.specs.declared.Judgement.{Judgement}
 use Rattle.recognizer_promises.specs.Answers.{checkFault, judgeFault, verdictOf}
-use Rattle.recognizer_promises.specs.Judging.{memoFaultBy, foundUnless, JudgesWords}
+use Rattle.recognizer_promises.specs.Judging.{memoFault, foundUnless, JudgesWords}
 use Rattle.promises.specs.Memory.{lentBack}
 use Rattle.recognizer_promises.specs.Memory.{memoWords}
 use Rattle.recognizer_promises.proofs.JudgeFaults.{judge-table-long, judged-readable}
@@ -52,10 +52,10 @@ limited-found words f = go f (reading words) refl
 
 -- what checking finds and lends
 module _ (words : List ℕ) (size : length blankTable ≡ maxTableWords) {r : Found} (e : r ≡ foundOf One words) where
-  fault-long : checkFault maxTableWords words ≡ fault One words
+  fault-long : checkFault One maxTableWords words ≡ fault One words
   fault-long = check-fault-long One maxTableWords words (omega arith)
 
-  found-checked : r .finding ≡ findingOf (checkFault maxTableWords words) (reading words)
+  found-checked : r .finding ≡ findingOf (checkFault One maxTableWords words) (reading words)
   found-checked = told One words e .finding ∙ ap (λ f. findingOf f (reading words)) (sym fault-long)
 
   lent-by : {f : Option Error} → fault One words ≡ f → {table : List ℕ} → table ≡ lentBack f (tableWords One (grammarOf words)) blankTable
@@ -77,14 +77,14 @@ tokens-same events = rw (input-length events)
 -- the numbers of nonterminals and tokens are those printed, wherever judging is not refused
 found-nonterminals : (words : List ℕ) → fault One words ≡ none → nonterminalsOf (foundOf One words .finding) ≡ grammarOf words .nonterminals
 unfolding foundOf
-found-nonterminals words e = ap₂ (λ f o. nonterminalsOf (findingOf f o)) e (passed-read words (passed-fault words e))
+found-nonterminals words e = ap₂ (λ f o. nonterminalsOf (findingOf f o)) e (passed-read words (passed-fault One words e))
 
 abbrev judgedNonterminals : List ℕ → Option Error → ℕ
 judgedNonterminals words f = nonterminalsOf (foundUnless f (foundOf One words) .finding)
 
 module _ (words input memo : List ℕ) (v : Answer) where
   abbrev f : Option Error
-  f = judgeFault maxTableWords maxMemoEntries words input
+  f = judgeFault One maxTableWords maxMemoEntries words input
 
   same-sizes : (g : Option Error) → f ≡ g
       → judgementText (refusedOr f v) (judgedNonterminals words f) (tokenCount input) memo
@@ -92,7 +92,7 @@ module _ (words input memo : List ℕ) (v : Answer) where
   unfolding judgementText tokenCount
   same-sizes (some x) e = rw e
   same-sizes none e =
-      let k = judged-readable words input maxTableWords maxMemoEntries e in
+      let k = judged-readable One words input maxTableWords maxMemoEntries e in
       let n : judgedNonterminals words f ≡ grammarOf words .nonterminals = ap (judgedNonterminals words) e ∙ found-nonterminals words (k .0) in
       let t : tokenCount input ≡ length input = rw (le-leb (length input) maxTokens (k .1)) in
       ap₂ (λ a b. judgementText (refusedOr f v) a b memo) n t
@@ -102,7 +102,7 @@ module _ {l m : List ℕ} {k : ℕ} where
       → table ≡ lentOf One r blankTable → Put l 0 (checkText (limited (r .finding)) table) m k → Put l 0 (checkedText words) m k
   unfolding checkedText
   put-checked-text words size e t p =
-      let f = checkFault maxTableWords words in
+      let f = checkFault One maxTableWords words in
       let a = ap limited (found-checked words size e) ∙ limited-found words f in
       subst (λ x. Put l 0 x m k) (ap₂ checkText a (t ∙ lent-checked words size e)) p
 
@@ -113,13 +113,13 @@ module _ {l m : List ℕ} {k : ℕ} where
   put-judged-text {words} {memo} events {r} room n w j p =
       let input = inputOf events in
       let G = grammarOf words in
-      let g = judgeFault maxTableWords maxMemoEntries words input in
-      let same : memoFaultBy One (length blankMemo) words input ≡ g =
-      ap (λ b. memoFaultBy One b words input) room ∙ sym (judge-table-long One maxTableWords maxMemoEntries words input (omega arith)) in
-      let a : r .answer ≡ refusedOr g (verdictOf G input) = j .verdict ∙ ap (λ y. refusedOr y (verdictOf G input)) same in
-      let b : memo ≡ lentBack g (memoWords G input) blankMemo = j .lent ∙ ap (λ y. lentBack y (memoWords G input) blankMemo) same in
+      let g = judgeFault One maxTableWords maxMemoEntries words input in
+      let same : memoFault One (length blankMemo) words input ≡ g =
+      ap (λ b. memoFault One b words input) room ∙ sym (judge-table-long One maxTableWords maxMemoEntries words input (omega arith)) in
+      let a : r .answer ≡ refusedOr g (verdictOf One G input) = j .verdict ∙ ap (λ y. refusedOr y (verdictOf One G input)) same in
+      let b : memo ≡ lentBack g (memoWords One G input) blankMemo = j .lent ∙ ap (λ y. lentBack y (memoWords One G input) blankMemo) same in
       let c : r .found ≡ foundUnless g (foundOf One words) = j .grammar ∙ ap (λ y. foundUnless y (foundOf One words)) same in
       let n′ = n ∙ ap (λ y. nonterminalsOf (y .finding)) c in
       let t = ap₂ (λ x y. judgementText x (judgedNonterminals words g) (tokenCount input) y) a b
-      ∙ same-sizes words input (lentBack g (memoWords G input) blankMemo) (verdictOf G input) g refl in
+      ∙ same-sizes words input (lentBack g (memoWords One G input) blankMemo) (verdictOf One G input) g refl in
       subst (λ x. Put l 0 x m k) t (rw (n′, w ∙ tokens-same events) at p)

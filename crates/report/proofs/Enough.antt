@@ -48,9 +48,9 @@ orLong none = InputTooLong
 orLong (some e) = e
 
 long-fault : (words input : List ℕ) → maxTokens < length input → (f : Option Error) → fault One words ≡ f
-    → judgeFault maxTableWords maxMemoEntries words input ≡ some (orLong f)
-long-fault words input h (some x) e = rw (judged-rows maxTableWords maxMemoEntries words input, e)
-long-fault words input h none e = rw (judged-rows maxTableWords maxMemoEntries words input, e, lt-ltb maxTokens (length input) h)
+    → judgeFault One maxTableWords maxMemoEntries words input ≡ some (orLong f)
+long-fault words input h (some x) e = rw (judged-rows One maxTableWords maxMemoEntries words input, e)
+long-fault words input h none e = rw (judged-rows One maxTableWords maxMemoEntries words input, e, lt-ltb maxTokens (length input) h)
 
 long-text : (words events : List ℕ) → maxTokens < length events → judgedText words (inputOf events) ≡ refusalText (orLong (fault One words))
 unfolding judgedText judgementText

@@ -28,9 +28,9 @@ use Rattle.lookahead.specs.declared.Lookahead.the-variants.{One}
 use Rattle.semantics.proofs.Theorems.{theorems}
 use Rattle.table.specs.Layout.{tableWords}
 use Rattle.answer.specs.Faults.{refusedOr}
-use Rattle.recognizer_promises.specs.Answers.{checkFault, judgeFault, callsOf, verdictBy, verdictOf}
+use Rattle.recognizer_promises.specs.Answers.{checkFault, judgeFault, callsOf, verdictOf}
 use Rattle.promises.specs.Memory.{lentBack}
-use Rattle.recognizer_promises.specs.Memory.{memoWordBy, memoWord, memoWordsBy, memoWords}
+use Rattle.recognizer_promises.specs.Memory.{memoWord, memoWords}
 use Rattle.recognizer_promises.proofs.Checking.{passed-fault, passed-encodes, passed-free}
 use Rattle.recognizer_promises.proofs.JudgeFaults.{judged-readable}
 use Rattle.text.proofs.Lengths.{refusal-most}
@@ -45,7 +45,7 @@ use Rattle.report.specs.Report.{blankTable, blankMemo, checkedText, judg
 
 pub checked-short : (words : List ℕ) → length (checkedText words) ≤ sheetRoom
 unfolding checkedText
-checked-short words = go (checkFault maxTableWords words) (reading words) refl
+checked-short words = go (checkFault One maxTableWords words) (reading words) refl
   where
     table : Option Error → List ℕ
     table f = lentBack f (tableWords One (grammarOf words)) blankTable
@@ -83,12 +83,12 @@ each-at (x ∷ l) zero d h e = e .0
 each-at (x ∷ l) (suc k) d h e = each-at l k d h (e .1)
 
 -- the entries of a memo table are ends within the input, or codes
-module _ (words input : List ℕ) (table memo : ℕ) (e : judgeFault table memo words input ≡ none) where
+module _ (words input : List ℕ) (table memo : ℕ) (e : judgeFault One table memo words input ≡ none) where
   abbrev G : Grammar
   G = grammarOf words
 
-  entry-low : (x : Call) → List·Memᴰ x (allCalls G input) → memoWord G input x < 100000
-  unfolding memoWordBy encode
+  entry-low : (x : Call) → List·Memᴰ x (allCalls G input) → memoWord One G input x < 100000
+  unfolding memoWord encode
   entry-low x m = go (member sameCall (calls G (tableChoice G 1 input) input) x) (descend G (tableChoice G 1 input) input (x .nonterminal) (x .place)) refl
     where
       go : (b : Bool) (o : Ended) → descend G (tableChoice G 1 input) input (x .nonterminal) (x .place) ≡ o
@@ -96,47 +96,47 @@ module _ (words input : List ℕ) (table memo : ℕ) (e : judgeFault table memo 
       go false o q = omega arith
       go true Failed q = omega arith
       go true (End j) q =
-          let k = judged-readable words input table memo e in
-          let p = passed-fault words (k .0) in
+          let k = judged-readable One words input table memo e in
+          let p = passed-fault One words (k .0) in
           let r = passed-encodes words p in
           let within = all-range G input x .0 m in
           let f = theorems .descent-ends G (r .formed .scoped) (passed-free words p) (tableChoice G 1 input) (theorems .own-rules G 1 input) input .forward
           (x .nonterminal) (x .place) j (within .1) q in
           omega (arith, f .1, k .1)
 
-  memo-each : Each (lentBack none (memoWords G input) blankMemo)
-  unfolding memoWordsBy blankMemo
+  memo-each : Each (lentBack none (memoWords One G input) blankMemo)
+  unfolding memoWords blankMemo
   memo-each =
-      let front = map (memoWord G input) (allCalls G input) in
+      let front = map (memoWord One G input) (allCalls G input) in
       let behind = replicate maxMemoEntries uncalledCode in
-      each-append front (drop (length front) behind) (each-map (memoWord G input) (allCalls G input) entry-low)
+      each-append front (drop (length front) behind) (each-map (memoWord One G input) (allCalls G input) entry-low)
       (each-drop (length front) behind (each-replicate maxMemoEntries uncalledCode (omega arith)))
 
-  calls-short : length (callsText (G .nonterminals) (length input) (lentBack none (memoWords G input) blankMemo)) ≤ maxMemoEntries * callRoom
+  calls-short : length (callsText (G .nonterminals) (length input) (lentBack none (memoWords One G input) blankMemo)) ≤ maxMemoEntries * callRoom
   calls-short =
-      let k = judged-readable words input table memo e in
-      let r = passed-encodes words (passed-fault words (k .0)) in
-      calls-most (G .nonterminals) (length input) (lentBack none (memoWords G input) blankMemo) (r .limited .fewNonterminals) (k .1)
-      (λ i. each-at (lentBack none (memoWords G input) blankMemo) i uncalledCode (omega arith) memo-each)
+      let k = judged-readable One words input table memo e in
+      let r = passed-encodes words (passed-fault One words (k .0)) in
+      calls-most (G .nonterminals) (length input) (lentBack none (memoWords One G input) blankMemo) (r .limited .fewNonterminals) (k .1)
+      (λ i. each-at (lentBack none (memoWords One G input) blankMemo) i uncalledCode (omega arith) memo-each)
 
 pub judged-short : (words input : List ℕ) → length (judgedText words input) ≤ judgementRoom
-unfolding judgedText judgementText verdictBy
-judged-short words input = go (judgeFault maxTableWords maxMemoEntries words input) refl
+unfolding judgedText judgementText verdictOf
+judged-short words input = go (judgeFault One maxTableWords maxMemoEntries words input) refl
   where
     text : Option Error → List ℕ
     text f =
-        judgementText (refusedOr f (verdictOf (grammarOf words) input)) (grammarOf words .nonterminals) (length input)
-        (lentBack f (memoWords (grammarOf words) input) blankMemo)
+        judgementText (refusedOr f (verdictOf One (grammarOf words) input)) (grammarOf words .nonterminals) (length input)
+        (lentBack f (memoWords One (grammarOf words) input) blankMemo)
 
-    go : (f : Option Error) → judgeFault maxTableWords maxMemoEntries words input ≡ f → length (text f) ≤ judgementRoom
+    go : (f : Option Error) → judgeFault One maxTableWords maxMemoEntries words input ≡ f → length (text f) ≤ judgementRoom
     go (some x) e = omega (arith, refusal-most x)
     go none e = verdict (accepts (grammarOf words) (tableChoice (grammarOf words) 1 input) input) (calls-short words input maxTableWords maxMemoEntries e)
       where
         made : List ℕ
-        made = callsText (grammarOf words .nonterminals) (length input) (lentBack none (memoWords (grammarOf words) input) blankMemo)
+        made = callsText (grammarOf words .nonterminals) (length input) (lentBack none (memoWords One (grammarOf words) input) blankMemo)
 
         verdict : (b : Bool) → length made ≤ maxMemoEntries * callRoom
-            → length (judgementText (choose b (Accepted (callsOf (grammarOf words) input)) (Rejected (callsOf (grammarOf words) input))) (grammarOf words .nonterminals)
-            (length input) (lentBack none (memoWords (grammarOf words) input) blankMemo)) ≤ judgementRoom
-        verdict true h = omega (arith, length-append (verdictLine "accepted " (callsOf (grammarOf words) input)) made, verdict-most "accepted " (callsOf (grammarOf words) input))
-        verdict false h = omega (arith, length-append (verdictLine "rejected " (callsOf (grammarOf words) input)) made, verdict-most "rejected " (callsOf (grammarOf words) input))
+            → length (judgementText (choose b (Accepted (callsOf One (grammarOf words) input)) (Rejected (callsOf One (grammarOf words) input))) (grammarOf words .nonterminals)
+            (length input) (lentBack none (memoWords One (grammarOf words) input) blankMemo)) ≤ judgementRoom
+        verdict true h = omega (arith, length-append (verdictLine "accepted " (callsOf One (grammarOf words) input)) made, verdict-most "accepted " (callsOf One (grammarOf words) input))
+        verdict false h = omega (arith, length-append (verdictLine "rejected " (callsOf One (grammarOf words) input)) made, verdict-most "rejected " (callsOf One (grammarOf words) input))

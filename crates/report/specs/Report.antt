@@ -53,11 +53,11 @@ blankTable = replicate maxTableWords noEntry
 
 -- the same after checking words
 abbrev pub checkedTable : List ℕ → List ℕ
-checkedTable words = lentBack (checkFault maxTableWords words) (tableWords One (grammarOf words)) blankTable
+checkedTable words = lentBack (checkFault One maxTableWords words) (tableWords One (grammarOf words)) blankTable
 
 -- what is printed of words that are checked, by why they are refused, or else their sizes, and the table that checking gives
 unfoldable pub checkedText : List ℕ → List ℕ
-checkedText words = checkText (findingOf (checkFault maxTableWords words) (reading words)) (checkedTable words)
+checkedText words = checkText (findingOf (checkFault One maxTableWords words) (reading words)) (checkedTable words)
 
 -- the sets of a nonterminal in the sheet of a passed grammar: FIRST and FOLLOW as numbers, and the size that is printed is how many strings they have
 pub record SetsTold (words : List ℕ) (A : ℕ) : Type 0 where
@@ -72,7 +72,7 @@ sheetOf bytes = choose (areWords bytes) (checkedText (wordsOf bytes)) (refusalTe
 
 pub record SheetPrinted (bytes before after : List ℕ) (n : ℕ) : Type 0 where
   pub printed : Printed sheetRoom (sheetOf bytes) before after n
-  pub sets : PassedGrammar (wordsOf bytes) → (A : ℕ) → A < grammarOf (wordsOf bytes) .nonterminals → SetsTold (wordsOf bytes) A
+  pub sets : PassedGrammar One (wordsOf bytes) → (A : ℕ) → A < grammarOf (wordsOf bytes) .nonterminals → SetsTold (wordsOf bytes) A
 
 -- the memory that is lent for the memo table
 unfoldable pub blankMemo : List ℕ
@@ -81,9 +81,9 @@ blankMemo = replicate maxMemoEntries uncalledCode
 -- what is printed of an input that is judged by words, by the answer and the memo table that judging gives
 unfoldable pub judgedText : List ℕ → List ℕ → List ℕ
 judgedText words input =
-    let f = judgeFault maxTableWords maxMemoEntries words input in
-    judgementText (refusedOr f (verdictOf (grammarOf words) input)) (grammarOf words .nonterminals) (length input)
-    (lentBack f (memoWords (grammarOf words) input) blankMemo)
+    let f = judgeFault One maxTableWords maxMemoEntries words input in
+    judgementText (refusedOr f (verdictOf One (grammarOf words) input)) (grammarOf words .nonterminals) (length input)
+    (lentBack f (memoWords One (grammarOf words) input) blankMemo)
 
 -- (document 01: the second program) the judgement of a log's events by a file's words
 unfoldable pub judgementOf : List ℕ → List ℕ → List ℕ

@@ -1,11 +1,11 @@
 // What the programs print: from the bytes of files to the bytes of the text.
 ghost use mathlib.Core.Path.{_≡_};
 ghost use Rattle.event.specs.Events.{inputOf};
-ghost use Rattle.sheet_text.specs.Room.{sheetRoom};
 ghost use Rattle.judgement_text.specs.Room.{judgementRoom};
 ghost use Rattle.gaps_text_promises.specs.Gaps.{GapsPut};
 ghost use Rattle.text.specs.Writing.{Put};
-ghost use Rattle.report.specs.Report.{Printed, SheetPrinted, GapsPrinted, Enough, enoughRoom, nonterminalsOf, tokenCount, checkedText, judgedText, judgementOf};
+ghost use Rattle.report.specs.Report.{Printed, SheetPrinted, GapsPrinted, Enough, enoughRoom, nonterminalsOf, tokenCount, checkedText, judgedText};
+ghost use Rattle.report.specs.Report.{judgementOf};
 use answer::Error;
 use claims::analyze;
 use families::Finding;

@@ -10,6 +10,7 @@ use Rattle.semantics.proofs.meaning.Nullable.{nullable-closed, nullable
 use Rattle.semantics.proofs.meaning.LeftRecursion.{leftRecursive-iff, lowestLeftRecursive-some, lowestLeftRecursive-none}
 use Rattle.semantics.proofs.meaning.Rank.{rank-falls, rank-below}
 use Rattle.semantics.proofs.meaning.Unique.{rules-lower, solution-solves, solution-unique, solution-null}
+use Rattle.semantics.proofs.meaning.OneMore.{more-derived, more-meeting}
 use Rattle.semantics.proofs.families.First.{first-closed, first-least, first-lookahead, least-unique}
 use Rattle.semantics.proofs.families.FirstNullable.{first-none}
 use Rattle.semantics.proofs.families.Productive.{unproductive-iff, lowest-unproductive, all-productive}
@@ -64,6 +65,7 @@ theorems = record {
     columns = strings-columns (G .terminals);
     first-clash = first-clash G;
   };
+  one-more = λ r b. record { derived = more-derived r b; meeting = more-meeting r b };
   sound-first = λ G scoped free k w over v solves. record {
     nonterminal = first-sound G scoped free w v solves k (First G k) (first-closed G k scoped) over;
     body = λ b n i j ij jw. first-sound-body G scoped free w v solves k (First G k) (first-closed G k scoped) over b i j ij jw n;

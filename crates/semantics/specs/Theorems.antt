@@ -1,4 +1,4 @@
--- What this crate proves, on one page: twelve statements, and in the end what each of them needs. All of it is given in proofs/Theorems.
+-- What this crate proves, on one page: thirteen statements, and in the end what each of them needs. All of it is given in proofs/Theorems.
 use mathlib.Core.Path.{_≡_}
 use mathlib.Core.Bool.{true}
 use mathlib.Core.List.{List, [], _∷_, _++_, map, List·Memᴰ}
@@ -12,7 +12,7 @@ use Rattle.word.specs.declared.Symbol.the-variants.{Nonterminal}
 use Rattle.grammar.specs.Syntax.{Body, Rule, Grammar, bodies, NonterminalsBelow, WellScoped, WellFormed}
 use Rattle.base.specs.FiniteSets.{numbers}
 use Rattle.base.specs.Rounds.{NumberSet, _⊆ᵇ_}
-use Rattle.semantics.specs.Valuations.{Valuation, contains, byRules, Solves, solution}
+use Rattle.semantics.specs.Valuations.{Valuation, contains, derives, byRules, Solves, solution}
 use Rattle.semantics.specs.LeftRecursion.{nullStep, nullable, LeftDepends, LeftReaches, NoLeftRecursion, leftRecursive, lowestLeftRecursive, rank, level}
 use Rattle.base.specs.Strings.{span, look, Over, Lookahead, strings}
 use Rattle.semantics.specs.Families.{Family, Least, Short, FirstOf, FirstBody, Strung, Meeting, FirstClosed, FollowClosed, FollowStrung, Claims, Clash}
@@ -135,6 +135,16 @@ pub record MemoRight (G : Grammar) (choice : Choice) (w : List ℕ) : Type 0 whe
   pub recorded : Recorded G choice w (memoStart G choice w .memo)
   pub ordered : (x z : Call) → InRange G w x → getD (allCalls G w) (indexOf w x) z ≡ x
 
+-- a rule with one positive body more
+abbrev pub withPositive : Body → Rule → Rule
+withPositive b r = record { head = r .head; positives = b ∷ r .positives; negatives = r .negatives }
+
+-- 13. One positive body more that takes every span, and begins with every lookahead string, changes nothing; so a rule of negatives alone means what it
+-- would mean with such a body (document 02: a first must that takes every stretch)
+pub record OneMore (r : Rule) (b : Body) : Type 1 where
+  pub derived : (v : Valuation) (w : List ℕ) (A i j : ℕ) → contains v w b i j ≡ true → derives v w A i j (withPositive b r) ≡ derives v w A i j r
+  pub meeting : (G : Grammar) (k : ℕ) (F : Family) (x : List ℕ) → FirstBody k F b x → Meeting G k F (withPositive b r) x ↔ Meeting G k F r x
+
 -- The theorems, with what they need
 pub record Theorems : Type 1 where
   pub one-solution : (G : Grammar) → WellScoped G → NoLeftRecursion G → (w : List ℕ) → OneSolution G w
@@ -144,6 +154,7 @@ pub record Theorems : Type 1 where
   -- 12. Two families that are the least closed ones are one
   pub least-unique : (Closed : Family → Type 0) (F F′ : Family) → Least Closed F → Least Closed F′ → (A : ℕ) (x : List ℕ) → F A x ↔ F′ A x
   pub one-token : (G : Grammar) → OneToken G
+  pub one-more : (r : Rule) (b : Body) → OneMore r b
   pub sound-first : (G : Grammar) → WellScoped G → NoLeftRecursion G → (k : ℕ) (w : List ℕ) → Over (G .terminals) w
       → (v : Valuation) → Solves G w v → SoundFirst G k w v
   pub local-verdict : (G : Grammar) (k : ℕ) → Predictive G k → (w : List ℕ) → Over (G .terminals) w → (v : Valuation) → Solves G w v

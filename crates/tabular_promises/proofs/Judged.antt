@@ -10,16 +10,13 @@ use lib.Dec.{ltb}
 use lib.ListN.{length, getD, drop, List·getD-append}
 use borrow.Author.Tests.{lt-ltb, le-ltb, ltb-false}
 use Rattle.answer.specs.declared.Error.{Error}
-use Rattle.answer.specs.declared.Error.the-variants.{Conflict, InputTooLong, SpansTooShort}
+use Rattle.answer.specs.declared.Error.the-variants.{InputTooLong, SpansTooShort}
 use Rattle.answer.specs.declared.Answer.{Answer}
 use Rattle.answer.specs.declared.Answer.the-variants.{Accepted, Rejected}
 use Rattle.answer.specs.declared.Answer.the-variants as answer
-use Rattle.answer.specs.Numbers.{accepted, rejected, coded, numbers, answered}
+use Rattle.answer.specs.Numbers.{Numbers, coded, numbers}
 use Rattle.answer.specs.Faults.{firstFault, refusedOr, toldOr}
-use Rattle.answer.proofs.Apart.{answer-number}
-use Rattle.answer.proofs.Faults.{Faultless, none-some, fault-none, each-none, numbers-told}
-use Rattle.base.specs.Choice.{choose}
-use Rattle.event.specs.Events.{inputOf}
+use Rattle.answer.proofs.Faults.{Faultless, none-some, fault-none, each-none}
 use Rattle.event.specs.Unknown.{unknownFrom, unknownFault}
 use Rattle.event.specs.declared.Unknown.{Unknown}
 use Rattle.event.specs.declared.Unknown.the-variants.{Absent, At}
@@ -50,14 +47,17 @@ use Rattle.families.specs.declared.Finding.the-variants.{Passed, Refused}
 use Rattle.families.proofs.Findings.{FoundFamilies, families-told, families-refused}
 use Rattle.promises.specs.Inputs.{inputFaultsTo}
 use Rattle.promises.proofs.Inputs.{PassedWith, RefusedWith, byGrammar, byFaults, with-passed, with-refused}
-use Rattle.promises.specs.Memory.{lentBack}
-use Rattle.promises.proofs.Memory.{refused-stays, faultless-lends}
+use Rattle.promises.specs.Leaving.{lent, Leaves}
+use Rattle.promises.specs.Directions.{DirectionsIgnored}
+use Rattle.promises.proofs.Memory.{faultless-lends}
+use Rattle.promises.proofs.Leaving.{leaves, leaves-alike, leaves-refused}
+use Rattle.promises.proofs.Directions.{pair-same, directions-ignored}
 use Rattle.promises.proofs.Verdicts.{verdict-tells}
 use Rattle.promises.proofs.Places.{Tells, Other, judge-tells, none-left, faultBy, lowest-recursive, lowest-unproductive}
 use Rattle.tabular_promises.specs.Spans.{indexOf, spanWords, solutionWord}
-use Rattle.tabular_promises.specs.Answers.{tabularFault, noCalls, told, tabularVerdict, tabularNumbers, tabularWords}
+use Rattle.tabular_promises.specs.Answers.{tabularFault, noCalls, told, tabularVerdict, tabularWords}
 use Rattle.tabular_promises.specs.Judging.{TabulateGiven, Tabulated, FoundGiven}
-use Rattle.tabular_promises.specs.Properties.{FreeGrammar, ShortInput, Tabulates, TabularJudges, DirectionsIgnored}
+use Rattle.tabular_promises.specs.Properties.{FreeGrammar, Tabulates, TabularJudges}
 use Rattle.tabular_promises.proofs.TabularFaults.{spans-short, fault-long, no-fault, fault-other}
 use Rattle.tabular_promises.proofs.Writing.{index-low, words-long, words-at}
 
@@ -121,7 +121,7 @@ module _ (words input before : List ℕ) {after : List ℕ} (m : after ≡ tabul
       rw (word-of i j h k, has-total (grammarOf words .nonterminals) (λ B. solution (grammarOf words) input B i j) A, le-ltb A (grammarOf words .nonterminals) a)
 
 -- what the answer and the words mean
-module _ (words input before : List ℕ) {after : List ℕ} {r : Answer} (p : FreeGrammar words) (h : ShortInput words input)
+module _ (words input before : List ℕ) {after : List ℕ} {r : Answer} (p : FreeGrammar words)
     (a : r ≡ tabularVerdict (grammarOf words) input)
     (m : after ≡ tabularWords (grammarOf words) input ++ drop (length (tabularWords (grammarOf words) input)) before) where
   abbrev whole : Valuation → Bool
@@ -138,7 +138,7 @@ module _ (words input before : List ℕ) {after : List ℕ} {r : Answer} (p : Fr
   unfolding tabularVerdict
   tells v s = verdict-tells {r = r} (whole v) noCalls (a ∙ ap told (sym (one v s 0 0 (length input) start (omega arith) (omega arith))))
 
-  tabulates : Tabulates words input r after
+  tabulates : Tabulates (grammarOf words) input r after
   tabulates = record {
     one-solution = theorems .one-solution (grammarOf words) (free-encodes words p .formed .scoped) (free-free words p) input;
     accepted = λ v s. tells v s .0;
@@ -147,41 +147,37 @@ module _ (words input before : List ℕ) {after : List ℕ} {r : Answer} (p : Fr
     others = other-of words input before m;
   }
 
--- the numbers of what is answered
-verdict-told : (G : Grammar) (w : List ℕ) → numbers (tabularVerdict G w) ≡ tabularNumbers G w
-unfolding tabularVerdict tabularNumbers
-verdict-told G w = go (solution G w 0 0 (length w))
-  where
-    go : (b : Bool) → numbers (told b) ≡ answered (choose b accepted rejected) 0 0 0 0
-    go true = refl
-    go false = refl
-
--- an answer that is not a refusal for a conflict, nor a verdict that is one
-not-conflict : (f : Option Error) → ((e : Error) → f ≡ some e → coded e .code ≡ 9 → ⊥) → (b : Bool) {r : Answer} → r ≡ refusedOr f (told b)
-    → (A c : ℕ) → r ≡ answer.Refused (Conflict A c) → ⊥
-not-conflict (some x) h b e A c q = h x refl (answer-number (sym e ∙ q))
-not-conflict none h true e A c q = omega (arith, answer-number (sym e ∙ q))
-not-conflict none h false e A c q = omega (arith, answer-number (sym e ∙ q))
+-- a code that no row tells is not told, nor is it that of a verdict
+never-told : (f : Option Error) (b : Bool) (r : Answer) (c : ℕ) → 0 < c → ((e : Error) → f ≡ some e → coded e .code ≡ c → ⊥)
+    → numbers r ≡ toldOr f (numbers (told b)) → numbers r .code ≡ c → ⊥
+never-told (some x) b r c positive h e q = h x refl (sym (ap (λ (n : Numbers). n .code) e) ∙ q)
+never-told none true r c positive h e q = absurd (omega (arith, ap (λ (n : Numbers). n .code) e, q))
+never-told none false r c positive h e q = absurd (omega (arith, ap (λ (n : Numbers). n .code) e, q))
 
 -- the promise from the answer and the memory
-judges : {words input before after : List ℕ} {r : Answer} → r ≡ refusedOr (tabularFault (length before) words input) (tabularVerdict (grammarOf words) input)
-    → after ≡ lentBack (tabularFault (length before) words input) (tabularWords (grammarOf words) input) before → TabularJudges words input before r after
+judges : {words input spans spans′ : List ℕ} {r : Answer}
+    → Leaves (tabularFault (length spans) words input) (tabularVerdict (grammarOf words) input) r (lent spans (tabularWords (grammarOf words) input) spans′ ∷ [])
+    → TabularJudges words input spans r spans′
 unfolding tabularVerdict
-judges {words} {input} {before} {after} {r} a m = record {
+judges {words} {input} {spans} {spans′} {r} l = record {
   faithful = faithful words;
-  answer = a;
-  told =
-      let f = tabularFault (length before) words input in
-      ap numbers a ∙ numbers-told f (tabularVerdict (grammarOf words) input) ∙ ap (toldOr f) (verdict-told (grammarOf words) input);
-  spans = m;
-  recursive = λ room short G e. lowest-recursive [] none-behind 1 G (e .formed .scoped) (tells room short G e);
-  unproductive = λ room short G e. lowest-unproductive [] none-behind 1 G (e .formed .scoped) (tells room short G e);
-  conflictless = not-conflict (tabularFault (length before) words input) (fault-other (length before) words input)
-      (solution (grammarOf words) input 0 0 (length input)) a;
-  tabulates = λ room p h.
-      let f = no-fault words input before room (free-faultless words p) (h .short) (known-absent (grammarOf words .terminals) 0 input (h .tokens)) in
-      tabulates words input before p h (a ∙ ap (λ y. refusedOr y (tabularVerdict (grammarOf words) input)) f)
-      (m ∙ faultless-lends (tabularWords (grammarOf words) input) before f);
+  leaves = l;
+  places = λ room short G e. record {
+    recursive = lowest-recursive [] none-behind One G (e .formed .scoped) (tells room short G e);
+    unproductive = lowest-unproductive [] none-behind One G (e .formed .scoped) (tells room short G e);
+  };
+  never =
+      let why = tabularFault (length spans) words input in
+      let b = solution (grammarOf words) input 0 0 (length input) in
+      let o = fault-other (length spans) words input in (
+        never-told why b r 1 (omega arith) (λ e q. o e q .not-table) (l .told),
+        never-told why b r 2 (omega arith) (λ e q. o e q .not-memo) (l .told),
+        never-told why b r 9 (omega arith) (λ e q. o e q .not-entry) (l .told),
+      );
+  tabulates = λ room h.
+      let f = no-fault words input spans room (free-faultless words (h .taken)) (h .short) (known-absent (grammarOf words .terminals) 0 input (h .known)) in
+      tabulates words input spans (h .taken) (l .answer ∙ ap (λ y. refusedOr y (tabularVerdict (grammarOf words) input)) f)
+      (l .memory .0 ∙ faultless-lends (tabularWords (grammarOf words) input) spans f);
 }
   where
     -- behind 8 and 13 no fault of the grammar is told
@@ -189,17 +185,16 @@ judges {words} {input} {before} {after} {r} a m = record {
     none-behind e q = absurd (none-some q)
 
     -- where the lent words are enough, the answer tells the grammar's fault
-    tells : maxSpanWords ≤ length before → length words ≤ maxWords → (G : Grammar) → Encodes words G
+    tells : maxSpanWords ≤ length spans → length words ≤ maxWords → (G : Grammar) → Encodes words G
         → Tells (faultBy [] (lowestLeftRecursive G) (lowestUnproductive G 1)) r
     tells room short G e =
         judge-tells _ (ltb maxTabularTokens (length input)) (unknownFrom (grammarOf words .terminals) 0 input)
         (solution (grammarOf words) input 0 0 (length input)) noCalls
-        (a ∙ ap (λ y. refusedOr y (tabularVerdict (grammarOf words) input)) (fault-long words input before room (fault-encoded words G short e)))
+        (l .answer ∙ ap (λ y. refusedOr y (tabularVerdict (grammarOf words) input)) (fault-long words input spans room (fault-encoded words G short e)))
 
 pub judge-refused : {words input before : List ℕ} {x : Error} → tabularFault (length before) words input ≡ some x
     → TabularJudges words input before (answer.Refused x) before
-judge-refused {words} {input} {before} f =
-    judges (sym (ap (λ y. refusedOr y (tabularVerdict (grammarOf words) input)) f)) (refused-stays (tabularWords (grammarOf words) input) before f)
+judge-refused f = judges (leaves-refused f (refl, tt))
 
 pub judge-short : (words input before : List ℕ) → length before < maxSpanWords → TabularJudges words input before (answer.Refused SpansTooShort) before
 judge-short words input before h = judge-refused (spans-short words input before h)
@@ -265,16 +260,19 @@ module _ {words input spans starts reaches : List ℕ} {f : Finding} (g : FoundG
     unfolding tabularVerdict tabularWords
     judge-done {after} {b} {r} t e =
         let G = grammarOf words in
-        let written = tabularWords G input in
-        let none-found = by-input (both .grammar) (both .faultless) in
-        judges (e ∙ ap told (t .verdict) ∙ sym (ap (λ y. refusedOr y (tabularVerdict G input)) none-found))
-        (t .memory
-        ∙ ap (λ (n : ℕ). spanWords (length input) (solutionWord G input) ++ drop n spans) (sym (words-long (length input) (solutionWord G input)))
-        ∙ sym (faultless-lends written spans none-found))
+        judges (leaves-alike (by-input (both .grammar) (both .faultless)) (leaves (e ∙ ap told (t .verdict)) (t .memory
+        ∙ ap (λ (n : ℕ). spanWords (length input) (solutionWord G input) ++ drop n spans) (sym (words-long (length input) (solutionWord G input))), tt)))
 
--- what judging leaves is settled by the input
-pub directions-ignored : DirectionsIgnored
-directions-ignored words events turned spans r s spans′ spans″ e j k = (
-  j .answer ∙ ap (λ w. refusedOr (tabularFault (length spans) words w) (tabularVerdict (grammarOf words) w)) e ∙ sym (k .answer),
-  j .spans ∙ ap (λ w. lentBack (tabularFault (length spans) words w) (tabularWords (grammarOf words) w) spans) e ∙ sym (k .spans),
-)
+-- what judging leaves is settled by the input, so directions change nothing: the answer and the words of the spans
+module _ (words spans : List ℕ) where
+  abbrev Left : Type 0
+  Left = Answer × List ℕ
+
+  abbrev Promise : List ℕ → Left → Type 0
+  Promise input l = TabularJudges words input spans (l .0) (l .1)
+
+  settled : (w : List ℕ) (l m : Left) → Promise w l → Promise w m → l ≡ m
+  settled w l m p q = pair-same (p .leaves .answer ∙ sym (q .leaves .answer)) (p .leaves .memory .0 ∙ sym (q .leaves .memory .0))
+
+  pub tabular-ignores : DirectionsIgnored Promise
+  tabular-ignores = directions-ignored Promise settled

@@ -8,11 +8,11 @@ use lib.Dec.{ltb}
 use lib.ListN.{length}
 use borrow.Author.Tests.{lt-ltb, le-ltb}
 use Rattle.answer.specs.declared.Error.{Error}
-use Rattle.answer.specs.declared.Error.the-variants.{InputTooLong, UnknownToken, SpansTooShort}
+use Rattle.answer.specs.declared.Error.the-variants.{InputTooLong, SpansTooShort}
 use Rattle.answer.specs.Numbers.{coded}
 use Rattle.answer.specs.Faults.{faultIf, firstFault}
 use Rattle.answer.proofs.Faults.{first-nested, OfFault, of-if, first-each}
-use Rattle.event.specs.declared.Unknown.the-variants.{Absent, At}
+use Rattle.event.specs.declared.Unknown.the-variants.{Absent}
 use Rattle.event.specs.Unknown.{unknownFrom, unknownFault}
 use Rattle.grammar.specs.Limits.{maxTabularTokens, maxSpanWords}
 use Rattle.grammar.specs.Encoding.{grammarOf}
@@ -55,21 +55,29 @@ tabular-each {P} each short of-input spans words input =
       λ _. sets-each each words rows (λ _ _. input-each of-input maxTabularTokens n input (omega arith)),
     )
 
--- none is a conflict
-abbrev Other : Error → Type 0
-Other e = coded e .code ≡ 9 → ⊥
+-- none is of a table, of a memo table or of an entry: 1, 2 and 9
+pub record Other (e : Error) : Type 0 where
+  pub not-table : coded e .code ≡ 1 → ⊥
+  pub not-memo : coded e .code ≡ 2 → ⊥
+  pub not-entry : coded e .code ≡ 9 → ⊥
+
+abbrev other : {e : Error} → (coded e .code ≡ 1 → ⊥) → (coded e .code ≡ 2 → ⊥) → (coded e .code ≡ 9 → ⊥) → Other e
+other a b c = record { not-table = a; not-memo = b; not-entry = c }
 
 sets-other : SetsErrors One Other
 sets-other = record {
-  long = λ n. omega arith;
-  heading = λ n. omega arith;
-  unexpectedWord = λ i h n. omega arith;
-  outOfRange = λ i h n. omega arith;
-  tooManyRules = λ i h n. omega arith;
-  tooManyTerminals = λ two n. omega arith;
-  leftRecursive = λ A h n. omega arith;
-  unproductive = λ A h n. omega arith;
+  long = other (λ n. omega arith) (λ n. omega arith) (λ n. omega arith);
+  heading = other (λ n. omega arith) (λ n. omega arith) (λ n. omega arith);
+  unexpectedWord = λ i h. other (λ n. omega arith) (λ n. omega arith) (λ n. omega arith);
+  outOfRange = λ i h. other (λ n. omega arith) (λ n. omega arith) (λ n. omega arith);
+  tooManyRules = λ i h. other (λ n. omega arith) (λ n. omega arith) (λ n. omega arith);
+  tooManyTerminals = λ two. other (λ n. omega arith) (λ n. omega arith) (λ n. omega arith);
+  leftRecursive = λ A h. other (λ n. omega arith) (λ n. omega arith) (λ n. omega arith);
+  unproductive = λ A h. other (λ n. omega arith) (λ n. omega arith) (λ n. omega arith);
 }
 
-pub fault-other : (spans : ℕ) (words input : List ℕ) (e : Error) → tabularFault spans words input ≡ some e → coded e .code ≡ 9 → ⊥
-fault-other = tabular-each sets-other (λ n. omega arith) (record { tooLong = λ n. omega arith; unknownToken = λ i h n. omega arith })
+pub fault-other : (spans : ℕ) (words input : List ℕ) (e : Error) → tabularFault spans words input ≡ some e → Other e
+fault-other = tabular-each sets-other (other (λ n. omega arith) (λ n. omega arith) (λ n. omega arith)) (record {
+  tooLong = other (λ n. omega arith) (λ n. omega arith) (λ n. omega arith);
+  unknownToken = λ i h. other (λ n. omega arith) (λ n. omega arith) (λ n. omega arith);
+})

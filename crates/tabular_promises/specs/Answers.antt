@@ -10,7 +10,6 @@ use Rattle.answer.specs.declared.Error.the-variants.{InputTooLong, SpansTooShor
 use Rattle.answer.specs.declared.Calls.{Calls}
 use Rattle.answer.specs.declared.Answer.{Answer}
 use Rattle.answer.specs.declared.Answer.the-variants.{Accepted, Rejected}
-use Rattle.answer.specs.Numbers.{accepted, rejected, Numbers, answered}
 use Rattle.answer.specs.Faults.{faultIf, firstFault}
 use Rattle.base.specs.Choice.{choose}
 use Rattle.grammar.specs.Limits.{maxTabularTokens, maxSpanWords}
@@ -42,9 +41,6 @@ told b = choose b (Accepted noCalls) (Rejected noCalls)
 -- accepted exactly when the one solution gives the whole input to the start
 unfoldable pub tabularVerdict : Grammar → List ℕ → Answer
 tabularVerdict G w = told (solution G w 0 0 (length w))
-
-unfoldable pub tabularNumbers : Grammar → List ℕ → Numbers
-tabularNumbers G w = answered (choose (solution G w 0 0 (length w)) accepted rejected) 0 0 0 0
 
 -- the words of the spans, by start, then by end
 unfoldable pub tabularWords : Grammar → List ℕ → List ℕ

@@ -1,23 +1,19 @@
 -- The tree that the descent finds for an accepted input is a parse tree of it, and its vertices are written once each.
-use mathlib.Core.Bool.{true}
-use mathlib.Core.List.{List, [], _∷_, _++_, map, flatten, List·Memᴰ, List·Memᴰ·head, List·Memᴰ·tail, List·Memᴰ·cases-cons, List·Memᴰ·not-nil}
-use mathlib.Core.List.{List·Memᴰ·eq-of-singleton}
+use mathlib.Core.List.{List, [], _∷_, map, List·Memᴰ, List·Memᴰ·head, List·Memᴰ·not-nil, List·Memᴰ·eq-of-singleton}
 use mathlib.Core.Logic.{_⊎_, inl, inr}
-use mathlib.Core.Option.{Option, none, some}
+use mathlib.Core.Option.{some}
 use mathlib.Core.Path.{_≡_, refl, sym, ap, _∙_}
-use Prim.Native.Nat.{ℕ, zero, suc, _+_, _-_, _≤_, _<_}
+use Prim.Native.Nat.{ℕ, zero, suc, _-_, _≤_, _<_}
 use native.Mathlib.Omega.{arith}
 use lib.Dec.{T}
 use lib.ListN.{length, getElem?, length-map}
 use Rattle.grammar.specs.Syntax.{Body, Rule, Grammar}
 use Rattle.semantics.specs.Valuations.{Valuation, Solves, pairs}
-use Rattle.base.specs.Strings.{look, Over}
-use Rattle.semantics.specs.FirstFollow.{Follow}
+use Rattle.base.specs.Strings.{Over}
 use Rattle.semantics.specs.Choices.{Choice, tableChoice}
-use Rattle.semantics.specs.Descent.{End, descend, accepts}
-use Rattle.semantics.specs.ComesTo.{Call, callAt, measure, bodyComesTo}
+use Rattle.semantics.specs.Descent.{accepts}
+use Rattle.semantics.specs.ComesTo.{Call, callAt, measure}
 use Rattle.semantics.specs.Calls.{Called, calls, callCount}
-use Rattle.base.specs.FiniteSets.{Distinct}
 use Rattle.semantics.specs.Calls as called
 use Rattle.semantics.specs.Predictive.{Predictive}
 use Rattle.base.proofs.Strings.{look-end}
@@ -26,15 +22,16 @@ use Rattle.semantics.proofs.meaning.Rank.{level-top}
 use Rattle.semantics.proofs.descent.Predictive.{own-guides}
 use Rattle.base.proofs.Distinct.{distinct-length}
 use Rattle.semantics.proofs.Theorems.{theorems}
-use Rattle.tree.specs.ParseTrees.{Vertex, vertex, Node, Leaf, Inner, leaves, Tree, Pairwise, Corresponds, Cut, Conditions, Reaches, itself, ParseTree}
+use Rattle.tree.specs.ParseTrees.{Vertex, Node, Leaf, Inner, leaves, Tree, Conditions, Reaches, itself, ParseTree}
 use Rattle.tree.specs.ParseTrees as trees
-use Rattle.tree.specs.Writing.{vertexAt, bodyNodes, conjunctNodes, ruleNodes, descendantsOf, below, visit, treeCalls, treeOf, InTree, start, more}
-use Rattle.tree.specs.Theorems.{Written, Derived, TreeRight}
+use Rattle.tree.specs.Writing.{vertexAt, bodyNodes, conjunctNodes, ruleNodes, descendantsOf, below, treeCalls, treeOf, InTree, start, more}
+use Rattle.tree.specs.Theorems.{Derived, TreeRight}
 use Rattle.tree.proofs.Lists.{map-elim, map-make, map-distinct}
 use Rattle.tree.proofs.Visiting.{Visited, visit-visited, visit-first}
-use Rattle.tree.proofs.Reading.{outcomes, Found, Reads, Chosen, chosen}
+use Rattle.tree.proofs.Reading.{Found, Chosen, chosen}
 use Rattle.tree.proofs.Below.{below-elim, below-make, below-falls}
-use Rattle.tree.proofs.Nodes.{inner-same, leaves-cut, leaves-have, leaves-only, conjuncts-length, at, vertex-end, nodes-cut, inner-node, node-inner, nodes-cover, vertex-rule, conjuncts-correspond}
+use Rattle.tree.proofs.Nodes.{cut-within, leaves-cut, leaves-have, leaves-only, conjuncts-length, at, vertex-end, nodes-cut, inner-node, node-inner}
+use Rattle.tree.proofs.Nodes.{nodes-cover, vertex-rule, conjuncts-correspond}
 
 pub call-same : (x y : Call) → x .nonterminal ≡ y .nonterminal → x .place ≡ y .place → x ≡ y
 call-same x y a b = let s : callAt (x .nonterminal) (x .place) ≡ callAt (y .nonterminal) (y .place) = cc in s
@@ -271,6 +268,32 @@ module _ (G : Grammar) (k : ℕ) (w : List ℕ) (p : Predictive G k) (over : Ove
   unentered : (x : Call) → InTree G choice w x → List·Memᴰ root (below G choice w x) → ⊥
   unentered x h m = absurd (omega (arith, tree-low x h, sound-falls x (tree-sound x h) root m .1))
 
+  -- what a call's vertex reaches: vertices of calls that lie no deeper than it measures, and leaves, all within its span
+  abbrev ReachedFrom : Call → Node → Type 0
+  ReachedFrom x (Leaf q) = (at G k w x .start ≤ q) × (q < at G k w x .end)
+  ReachedFrom x (Inner y) = (z : Call) × InTree G choice w z × (y ≡ at G k w z) × (measure G w z ≤ measure G w x)
+      × (at G k w x .start ≤ y .start) × (y .end ≤ at G k w x .end)
+
+  conditions-of : (x : Call) → InTree G choice w x → Conditions G w v tree (at G k w x)
+  conditions-of x h = conditions x (ends x h) (λ z u. vertex-make z (more h u))
+
+  reached-below : (x z : Call) → InTree G choice w z → measure G w z ≤ measure G w x → at G k w x .start ≤ at G k w z .start
+      → at G k w z .end ≤ at G k w x .end → (ns : List Node) → List·Memᴰ ns (tree .descendants (at G k w z)) → (n : Node) → List·Memᴰ n ns
+      → ReachedFrom x n
+  reached-below x z h low from-x to-x ns m (Leaf q) u =
+      let c = cut-within ns (at G k w z .start) (at G k w z .end) (conditions-of z h .cut ns m) (Leaf q) u in
+      (omega (arith, c .0), omega (arith, c .1))
+  reached-below x z h low from-x to-x ns m (Inner y) u =
+      let c = cut-within ns (at G k w z .start) (at G k w z .end) (conditions-of z h .cut ns m) (Inner y) u in
+      let s = inner-below z (ends z h) ns m y u in
+      (s .0, more h (s .1), s .2, omega (arith, sound-falls z (tree-sound z h) (s .0) (s .1) .1), omega (arith, c .0), omega (arith, c .1))
+
+  reached-from : (x : Call) → InTree G choice w x → (n : Node) → Reaches tree (at G k w x) n → ReachedFrom x n
+  reached-from x h n itself = (x, h, refl, omega arith, omega arith, omega arith)
+  reached-from x h n (trees.below {y} {ns} r m u) =
+      let s = reached-from x h (Inner y) r in
+      reached-below x (s .0) (s .1) (s .3) (rw (s .2) at (s .4)) (rw (s .2) at (s .5)) ns (rw (s .2) at m) n u
+
   first : (others : List Call) × (treeCalls G choice w ≡ root ∷ others)
   unfolding treeCalls measure
   first = visit-first (below G choice w) Sound (measure G w) sound-falls (pairs G w) root (tree-sound root start)
@@ -294,6 +317,14 @@ module _ (G : Grammar) (k : ℕ) (w : List ℕ) (p : Predictive G k) (over : Ove
         unentered (r .0) (r .1) (rw e (s .1));
     reached = λ y m. let r = vertex-elim y m in rw (r .2) (reached (r .0) (r .1));
     leaf = λ q l. leaf (suc (measure G w root)) root start (omega arith) (length w) root-found q (omega arith) l;
+    acyclic = λ x m ns n y u r.
+        let c = vertex-elim x m in
+        let s = inner-below (c .0) (ends (c .0) (c .1)) ns (rw (c .2) at n) y u in
+        let low = sound-falls (c .0) (tree-sound (c .0) (c .1)) (s .0) (s .1) .1 in
+        let d = reached-from (s .0) (more (c .1) (s .1)) (Inner x) (rw (s .2) at r) in
+        let same : c .0 ≡ d .0 = vertex-call (c .0) (d .0) (ends (c .0) (c .1)) (ends (d .0) (d .1)) (sym (c .2) ∙ d .2) in
+        absurd (omega (arith, low, d .3, ap (measure G w) same));
+    own = λ x m q r. let c = vertex-elim x m in rw (c .2) (reached-from (c .0) (c .1) (Leaf q) (rw (c .2) at r));
   }
 
   pub tree-right : TreeRight G k w v

@@ -6,7 +6,7 @@ use mathlib.Core.Logic.{⊎-elim}
 use mathlib.Core.Option.{Option, none, some}
 use denote.Enum.Declared.{tagOf}
 use types.Run.{OneOf}
-use Prim.Native.Nat.{ℕ, suc, _+_, _-_, _*_, _≤_, _<_}
+use Prim.Native.Nat.{ℕ, suc, _+_, _*_, _≤_, _<_}
 use native.Mathlib.Decide.{decLt}
 use native.Mathlib.Nat.{mul-le-mul}
 use native.Mathlib.Omega.{arith}
@@ -14,8 +14,8 @@ use lib.Dec.{T}
 use lib.Arith.{digits-lt}
 use lib.ListN.{length, getD, drop, length-append, length-drop, length-map, List·getD-append}
 use borrow.Author.Tests.{lt-ltb, le-ltb}
-use Rattle.answer.specs.Faults.{firstFault, refusedOr, toldOr}
-use Rattle.answer.specs.Numbers.{coded}
+use Rattle.answer.specs.Faults.{firstFault, refusedOr}
+use Rattle.answer.specs.Numbers.{refused, coded, numbers}
 use Rattle.answer.specs.declared.Error.{Error}
 use Rattle.answer.specs.declared.Error.the-variants.{TableTooShort, MemoTooShort, TreeTooShort}
 use Rattle.answer.specs.declared.Calls.{Calls}
@@ -48,13 +48,14 @@ use Rattle.lookahead.specs.declared.Lookahead.the-variants.{One}
 use Rattle.columns.specs.Columns.{columns}
 use Rattle.table.specs.Layout.{tableWords}
 use Rattle.table.proofs.Words.{table-entry, table-length}
-use Rattle.recognizer_promises.specs.Answers.{judgeFault, callsOf, verdictBy, verdictOf, verdictNumbers}
+use Rattle.recognizer_promises.specs.Answers.{judgeFault, callsOf, verdictOf}
 use Rattle.promises.specs.Memory.{lentBack}
+use Rattle.promises.proofs.Leaving.{leaves, leaves-alike, leaves-refused, unrefused}
 use Rattle.recognizer_promises.specs.Memory.{memoWords}
 use Rattle.recognizer_promises.specs.Properties.{Judges, PassedGrammar}
 use Rattle.recognizer_promises.proofs.Checking.{passed-fault, passed-encodes, passed-read, no-clashes, not-left-recursive}
 use Rattle.recognizer_promises.proofs.JudgeFaults.{judgeRows, judged-rows, judged-readable, table-short, memo-short}
-use Rattle.recognizer_promises.proofs.Judged.{judge-refused}
+use Rattle.recognizer_promises.proofs.Judged.{verdict-unrefused, judge-refused}
 use Rattle.memo_table.proofs.Entries.{getD-any}
 use Rattle.tree.specs.Writing.{vertexAt, vertexWord, treeCalls, treeOf, treeWords, InTree}
 use Rattle.tree.specs.Theorems.{Told}
@@ -62,9 +63,8 @@ use Rattle.tree.proofs.Lists.{map-elim}
 use Rattle.tree.proofs.Trees.{tree-right, vertex-within}
 use Rattle.tree.proofs.Words.{told as word-told}
 use Rattle.tree_writer_promises.specs.Writer as writer
-use Rattle.tree_writer_promises.specs.Writer.{choiceOf, wordsOf, Entries, TreeGiven, TreeDone}
-use Rattle.tree_writer_promises.specs.declared.Shown.{Shown}
-use Rattle.tree_writer_promises.specs.Properties.{treeFault, writtenOr, TreeTold, Shows}
+use Rattle.tree_writer_promises.specs.Writer.{choiceOf, Entries, TreeGiven, TreeDone}
+use Rattle.tree_writer_promises.specs.Properties.{treeFault, wordsOf, TreeTold, Shows}
 
 -- acceptance, by its tag
 pub is-accepted : (a : Answer) → tagOf the-type a ≡ 3 → (c : Calls) × (a ≡ Accepted c)
@@ -88,6 +88,11 @@ other-tells (some e) b c n q = absurd (none-some (sym q))
 other-tells none true c n q = absurd (n refl)
 other-tells none false c n q = refl
 
+-- how many words are written: a refusal gives none
+abbrev writtenOr : Option Error → ℕ → ℕ
+writtenOr (some e) n = 0
+writtenOr none n = n
+
 alone : (f : Option Error) → firstFault (f ∷ []) ≡ f
 alone none = refl
 alone (some e) = refl
@@ -95,7 +100,7 @@ alone (some e) = refl
 -- the first fault of the call, by what holds
 module _ (words input table memo tree : List ℕ) where
   abbrev judged : Option Error
-  judged = judgeFault (length table) (length memo) words input
+  judged = judgeFault One (length table) (length memo) words input
 
   abbrev showing : Option Error
   showing = treeFault (length table) (length memo) (length tree) words input
@@ -130,65 +135,64 @@ module _ (words input table memo tree : List ℕ) where
       go (no t) (no m) = (TreeTooShort, first-tree (omega arith) (omega arith) h, refl)
 
   -- a refusal
-  refused : {x : Error} → showing ≡ some x → (maxMemoEntries ≤ length tree → judged ≡ some x)
+  refused-shows : {x : Error} → showing ≡ some x → (maxMemoEntries ≤ length tree → judged ≡ some x)
       → Shows words input table memo tree (record { answer = Refused x; written = 0 }) table memo tree
-  refused e k = record {
-    answer = sym (ap (λ f. refusedOr f (verdictOf (grammarOf words) input)) e);
-    numbered = sym (ap (λ f. toldOr f (verdictNumbers (grammarOf words) input)) e);
-    lent-table = sym (ap (λ f. lentBack f (tableWords One (grammarOf words)) table) e);
-    lent-memo = sym (ap (λ f. lentBack f (memoWords (grammarOf words) input) memo) e);
-    lent-tree = sym (ap (λ f. lentBack f (wordsOf words input) tree) e);
-    written = sym (ap (λ f. writtenOr f (length (wordsOf words input))) e);
+  refused-shows e k = record {
+    leaves = leaves-refused e (refl, (refl, (refl, tt)));
+    unwritten = λ _. refl;
+    written = λ u. absurd (u refl);
     few = omega arith;
     judges = λ h. judge-refused (k h);
     tells = λ q. absurd (omega (arith, ap refusalNumber q));
   }
 
   pub short-table : length table < maxTableWords → Shows words input table memo tree (record { answer = Refused TableTooShort; written = 0 }) table memo tree
-  short-table h = refused (first-table h) (λ _. table-short words input table memo h)
+  short-table h = refused-shows (first-table h) (λ _. table-short One words input table memo h)
 
   pub short-memo : maxTableWords ≤ length table → length memo < maxMemoEntries
       → Shows words input table memo tree (record { answer = Refused MemoTooShort; written = 0 }) table memo tree
-  short-memo long h = refused (first-memo long h) (λ _. memo-short words input table memo long h)
+  short-memo long h = refused-shows (first-memo long h) (λ _. memo-short One words input table memo long h)
 
   pub short-tree : maxTableWords ≤ length table → maxMemoEntries ≤ length memo → length tree < maxMemoEntries
       → Shows words input table memo tree (record { answer = Refused TreeTooShort; written = 0 }) table memo tree
-  short-tree long room h = refused (first-tree long room h) (λ l. absurd (omega arith))
+  short-tree long room h = refused-shows (first-tree long room h) (λ l. absurd (omega arith))
 
 -- memories that are long enough, and what judging promises
 module _ (tree : List ℕ) {words input table memo : List ℕ} (long : maxTableWords ≤ length table) (room : maxMemoEntries ≤ length memo) (high : maxMemoEntries ≤ length tree)
-    {a : Answer} {table′ memo′ : List ℕ} (j : Judges words input table memo a table′ memo′) where
+    {a : Answer} {table′ memo′ : List ℕ} (j : Judges One words input table memo a table′ memo′) where
   abbrev G : Grammar
   G = grammarOf words
 
   abbrev fault : Option Error
-  fault = judgeFault (length table) (length memo) words input
+  fault = judgeFault One (length table) (length memo) words input
 
   same : treeFault (length table) (length memo) (length tree) words input ≡ fault
   same = then-judged words input table memo tree long room high
 
   -- the promise from the words that are written
   shows : {n : ℕ} {tree′ : List ℕ} → n ≡ writtenOr fault (length (wordsOf words input)) → tree′ ≡ lentBack fault (wordsOf words input) tree → n ≤ maxMemoEntries
-      → (a ≡ Accepted (callsOf G input) → TreeTold words input)
+      → (a ≡ Accepted (callsOf One G input) → TreeTold words input)
       → Shows words input table memo tree (record { answer = a; written = n }) table′ memo′ tree′
   shows w l f t = record {
-    answer = j .answer ∙ sym (ap (λ f. refusedOr f (verdictOf G input)) same);
-    numbered = j .told ∙ sym (ap (λ f. toldOr f (verdictNumbers G input)) same);
-    lent-table = j .lent-table ∙ sym (ap (λ f. lentBack f (tableWords One G) table) same);
-    lent-memo = j .lent-memo ∙ sym (ap (λ f. lentBack f (memoWords G input) memo) same);
-    lent-tree = l ∙ sym (ap (λ f. lentBack f (wordsOf words input) tree) same);
-    written = w ∙ sym (ap (λ f. writtenOr f (length (wordsOf words input))) same);
+    leaves = leaves-alike same (leaves (j .leaves .answer) (j .leaves .memory .0, (j .leaves .memory .1 .0, (l, tt))));
+    unwritten = λ q. w ∙ none-written fault refl q;
+    written = λ u. w ∙ ap (λ f. writtenOr f (length (wordsOf words input))) (unrefused (j .leaves) u);
     few = f;
     judges = λ _. j;
     tells = t;
   }
 
+    where
+      none-written : (g : Option Error) → fault ≡ g → numbers a .verdict ≡ refused → writtenOr g (length (wordsOf words input)) ≡ 0
+      none-written (some e) h q = refl
+      none-written none h q = absurd (verdict-unrefused One G input (j .leaves .answer ∙ ap (λ f. refusedOr f (verdictOf One G input)) h) q)
+
   -- no word is written for an answer that is no acceptance
   pub shows-none : ((c : Calls) → a ≡ Accepted c → ⊥) → Shows words input table memo tree (record { answer = a; written = 0 }) table′ memo′ tree
-  unfolding verdictBy treeWords
+  unfolding verdictOf treeWords
   shows-none n =
-      let t = other-tells fault (accepts G (choiceOf words input) input) (callsOf G input) (λ e. n (callsOf G input) (j .answer ∙ sym e)) in
-      shows (count fault t) (back fault t) (omega arith) (λ q. absurd (n (callsOf G input) q))
+      let t = other-tells fault (accepts G (choiceOf words input) input) (callsOf One G input) (λ e. n (callsOf One G input) (j .leaves .answer ∙ sym e)) in
+      shows (count fault t) (back fault t) (omega arith) (λ q. absurd (n (callsOf One G input) q))
     where
       count : (f : Option Error) → (f ≡ none → accepts G (choiceOf words input) input ≡ false) → 0 ≡ writtenOr f (length (wordsOf words input))
       count (some e) h = refl
@@ -200,14 +204,14 @@ module _ (tree : List ℕ) {words input table memo : List ℕ} (long : maxTableW
 
   module _ (c : Calls) (q : a ≡ Accepted c) where
     told : (fault ≡ none) × (accepts G (choiceOf words input) input ≡ true)
-    unfolding verdictBy
-    told = accepted-tells fault (accepts G (choiceOf words input) input) (callsOf G input) c (sym q ∙ j .answer)
+    unfolding verdictOf
+    told = accepted-tells fault (accepts G (choiceOf words input) input) (callsOf One G input) c (sym q ∙ j .leaves .answer)
 
-    passed : PassedGrammar words
-    passed = passed-fault words (judged-readable words input (length table) (length memo) (told .0) .0)
+    passed : PassedGrammar One words
+    passed = passed-fault One words (judged-readable One words input (length table) (length memo) (told .0) .0)
 
     short : length input ≤ maxTokens
-    short = judged-readable words input (length table) (length memo) (told .0) .1
+    short = judged-readable One words input (length table) (length memo) (told .0) .1
 
     absent : (u : Unknown) → unknownFault u ≡ none → u ≡ Absent
     absent Absent e = refl
@@ -215,7 +219,7 @@ module _ (tree : List ℕ) {words input table memo : List ℕ} (long : maxTableW
 
     tokens : Over (G .terminals) input
     tokens =
-        let rows = each-none (judgeRows (length table) (length memo) words input) (sym (judged-rows (length table) (length memo) words input) ∙ told .0) in
+        let rows = each-none (judgeRows One (length table) (length memo) words input) (sym (judged-rows One (length table) (length memo) words input) ∙ told .0) in
         absent-known (G .terminals) 0 input (absent (unknownFrom (G .terminals) 0 input) (rows .1 .1 .1 .1 .0))
 
     predictive : Predictive G 1
@@ -234,10 +238,10 @@ module _ (tree : List ℕ) {words input table memo : List ℕ} (long : maxTableW
     }
 
     table-is : table′ ≡ tableWords One G ++ drop (length (tableWords One G)) table
-    table-is = j .lent-table ∙ ap (λ f. lentBack f (tableWords One G) table) (told .0)
+    table-is = j .leaves .memory .0 ∙ ap (λ f. lentBack f (tableWords One G) table) (told .0)
 
-    memo-is : memo′ ≡ memoWords G input ++ drop (length (memoWords G input)) memo
-    memo-is = j .lent-memo ∙ ap (λ f. lentBack f (memoWords G input) memo) (told .0)
+    memo-is : memo′ ≡ memoWords One G input ++ drop (length (memoWords One G input)) memo
+    memo-is = j .leaves .memory .1 .0 ∙ ap (λ f. lentBack f (memoWords One G input) memo) (told .0)
 
     -- the lent table has the grammar's entries
     entries : Entries G table′
@@ -251,12 +255,12 @@ module _ (tree : List ℕ) {words input table memo : List ℕ} (long : maxTableW
     recorded : (x : Call) → Called G (choiceOf words input) input x
         → getD memo′ (indexOf input x) 0 ≡ encode (descend G (choiceOf words input) input (x .nonterminal) (x .place))
     recorded x k =
-        let m = j .recognizes long room passed (record { short = short; tokens = tokens }) .memo in
+        let m = j .recognizes (record { long-table = long; long-memo = room }) (record { passed = passed; short = short; known = tokens }) .memo in
         let own = theorems .own-rules G 1 input in
         let range = called-range G (choiceOf words input) input (predictive .scoped) (predictive .unrecursive) own (predictive .start) x k in
-        let b : indexOf input x < length (memoWords G input) = omega (arith, index-range G input x range, m .size) in
-        ap (λ l. getD l (indexOf input x) 0) memo-is ∙ List·getD-append (memoWords G input) (drop (length (memoWords G input)) memo) 0 (indexOf input x) b
-        ∙ getD-any (memoWords G input) (indexOf input x) 0 uncalledCode b ∙ m .called x k
+        let b : indexOf input x < length (memoWords One G input) = omega (arith, index-range G input x range, m .size) in
+        ap (λ l. getD l (indexOf input x) 0) memo-is ∙ List·getD-append (memoWords One G input) (drop (length (memoWords One G input)) memo) 0 (indexOf input x) b
+        ∙ getD-any (memoWords One G input) (indexOf input x) 0 uncalledCode b ∙ m .called x k
 
     as-long : (new old : List ℕ) → length old ≤ length (new ++ drop (length new) old)
     as-long new old = omega (arith, length-append new (drop (length new) old), length-drop (length new) old)
@@ -267,7 +271,7 @@ module _ (tree : List ℕ) {words input table memo : List ℕ} (long : maxTableW
       entries = entries;
       recorded = recorded;
       long-table = omega (arith, long, ap length table-is, as-long (tableWords One G) table);
-      long-memo = omega (arith, room, ap length memo-is, as-long (memoWords G input) memo);
+      long-memo = omega (arith, room, ap length memo-is, as-long (memoWords One G input) memo);
       long-tree = high;
     }
 

@@ -1,3 +1,3 @@
 pub mod Labels
-pub mod Writer
 pub mod Properties
+pub mod Writer

@@ -2,7 +2,7 @@
 use mathlib.Core.Path.{_≡_}
 use mathlib.Core.Bool.{Bool, false}
 use mathlib.Core.List.{List, _++_, map, List·Memᴰ}
-use Prim.Native.Nat.{ℕ, suc, _+_, _*_, _-_, _≤_, _<_}
+use Prim.Native.Nat.{ℕ, _+_, _*_, _-_, _≤_, _<_}
 use lib.Dec.{T}
 use lib.ListN.{length, getD, drop}
 use Rattle.grammar.specs.Limits.{maxTokens, maxMemoEntries, maxTableWords}
@@ -24,7 +24,8 @@ use Rattle.semantics.specs.Predictive.{Predictive}
 use Rattle.lookahead.specs.declared.Lookahead.the-variants.{One}
 use Rattle.columns.specs.Columns.{columns}
 use Rattle.table.specs.Layout.{entryAt}
-use Rattle.tree.specs.Writing.{vertexAt, below, visit, vertexWord, treeWords, InTree}
+use Rattle.tree.specs.Writing.{vertexAt, below, visit, vertexWord, InTree}
+use Rattle.tree_writer_promises.specs.Properties.{wordsOf}
 use Rattle.tree_writer_promises.specs.Labels.{labelIndex, endOf}
 
 -- the choice by one token of lookahead
@@ -34,9 +35,6 @@ choiceOf words input = tableChoice (grammarOf words) 1 input
 -- the word of a call's vertex
 unfoldable pub wordAt : List ℕ → List ℕ → Call → ℕ
 wordAt words input x = vertexWord (vertexAt (grammarOf words) (choiceOf words input) input x)
-
-abbrev pub wordsOf : List ℕ → List ℕ → List ℕ
-wordsOf words input = treeWords (grammarOf words) (choiceOf words input) input
 
 -- the words of the calls in l stand in front of the words as they were lent, and just those calls are marked
 pub record Holds (words input lent : List ℕ) (l : List Call) (tree : List ℕ) (marks : List Bool) (written : ℕ) : Type 0 where

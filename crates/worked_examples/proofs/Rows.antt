@@ -2,7 +2,6 @@
 use mathlib.Core.Path.{_≡_, refl, ap, ap₂, _∙_}
 use mathlib.Core.List.{List, [], _∷_, map}
 use mathlib.Core.Option.{none}
-use Prim.Native.Nat.{ℕ}
 use Rattle.answer.specs.Faults.{firstFault, refusedOr}
 use Rattle.answer.specs.Numbers.{Numbers, numbers}
 use Rattle.word.specs.Words.{bare, heading, ofKind, decoded}
@@ -17,7 +16,7 @@ use Rattle.table.specs.Analysis.{fault}
 use Rattle.columns.specs.Columns.{columnString}
 use Rattle.table.specs.Conflicts.{rowConflict, conflictFrom, firstClash}
 use Rattle.event.specs.Unknown.{unknownFrom}
-use Rattle.recognizer_promises.specs.Answers.{inputFaults, verdictOf, verdictBy}
+use Rattle.recognizer_promises.specs.Answers.{inputFaults, verdictOf}
 use Rattle.worked_examples.specs.Rows.{Row, starred, judged}
 use Rattle.recognizer_promises.proofs.JudgeFaults.{judged-rows}
 
@@ -29,7 +28,7 @@ passes = (refl, refl, refl)
 
 -- what is told of an input once the card has passed
 abbrev told : Row → Numbers
-told r = numbers (refusedOr (firstFault (inputFaults (grammarOf (r .words) .terminals) (r .input))) (verdictOf (grammarOf (r .words)) (r .input)))
+told r = numbers (refusedOr (firstFault (inputFaults (grammarOf (r .words) .terminals) (r .input))) (verdictOf One (grammarOf (r .words)) (r .input)))
 
 abbrev AllPass : List Row → Type 0
 AllPass [] = Unit {0}
@@ -38,15 +37,15 @@ AllPass (r ∷ l) = (fault One (r .words) ≡ none) × AllPass l
 judged-told : (r : Row) → fault One (r .words) ≡ none → judged (r .words) (r .input) ≡ told r
 unfolding judged
 judged-told r p =
-    ap (λ f. numbers (refusedOr f (verdictOf (grammarOf (r .words)) (r .input))))
-    (judged-rows maxTableWords maxMemoEntries (r .words) (r .input) ∙ ap (λ f. firstFault (f ∷ inputFaults (grammarOf (r .words) .terminals) (r .input))) p)
+    ap (λ f. numbers (refusedOr f (verdictOf One (grammarOf (r .words)) (r .input))))
+    (judged-rows One maxTableWords maxMemoEntries (r .words) (r .input) ∙ ap (λ f. firstFault (f ∷ inputFaults (grammarOf (r .words) .terminals) (r .input))) p)
 
 all-told : (l : List Row) → AllPass l → map (λ r. judged (r .words) (r .input)) l ≡ map told l
 all-told [] h = refl
 all-told (r ∷ l) h = ap₂ _∷_ (judged-told r (h .0)) (all-told l (h .1))
 
 starred-told : map told starred ≡ map (λ r. r .told) starred
-unfolding verdictBy unknownFrom grammarOf parse onWord decoded ofKind heading bare tables-compute descent-computes calls-compute
+unfolding verdictOf unknownFrom grammarOf parse onWord decoded ofKind heading bare tables-compute descent-computes calls-compute
 starred-told = refl
 
 pub starred-rows : map (λ r. judged (r .words) (r .input)) starred ≡ map (λ r. r .told) starred

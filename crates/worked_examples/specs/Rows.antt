@@ -1,6 +1,7 @@
 -- The starred rows of document 01's table of judged logs: what judging by the words of a card tells in its numbers, where the memories are just long enough.
 use mathlib.Core.List.{List, [], _∷_}
 use Prim.Native.Nat.{ℕ}
+use Rattle.lookahead.specs.declared.Lookahead.the-variants.{One}
 use Rattle.answer.specs.Numbers.{Verdict, accepted, rejected, Numbers, answered, numbers}
 use Rattle.grammar.specs.Cards.{wordsR, wordsM, wordsE}
 use Rattle.grammar.specs.Limits.{maxTableWords, maxMemoEntries}
@@ -32,4 +33,4 @@ starred =
 
 -- what the promise of judging tells: the first refusal that holds, or else the verdict of the descent
 unfoldable pub judged : List ℕ → List ℕ → Numbers
-judged words w = numbers (refusedOr (judgeFault maxTableWords maxMemoEntries words w) (verdictOf (grammarOf words) w))
+judged words w = numbers (refusedOr (judgeFault One maxTableWords maxMemoEntries words w) (verdictOf One (grammarOf words) w))

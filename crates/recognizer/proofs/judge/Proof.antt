@@ -1,7 +1,7 @@
 -- What judging answers and leaves, by the table's length, by what judging in the memo table alone does, and by what is lent of the table.
 use Rattle.event.specs.Events.{inputOf}
 use Rattle.lookahead.specs.declared.Lookahead.the-variants.{One}
-use Rattle.recognizer_promises.proofs.JudgeFaults.{table-short-by}
+use Rattle.recognizer_promises.proofs.JudgeFaults.{table-short}
 use Rattle.recognizer_promises.proofs.Judged.{judge-refused}
 use Rattle.recognizer.proofs.LentTable.{judge-lent}
 use borrow.Author.Needs.{needs}
@@ -11,7 +11,7 @@ use Rattle.recognizer.proofs.judge.Tie as tie
 returns : tie.Need-returns
 returns c =
     let given = c .before .before .before .before .before .args in
-    judge-refused (table-short-by One (given .words .now) (inputOf (given .events .now)) (given .table .now) (given .memo .now) (c .if1 .taken))
+    judge-refused (table-short One (given .words .now) (inputOf (given .events .now)) (given .table .now) (given .memo .now) (c .if1 .taken))
 
 judge-words-requires : tie.Need-judge-words-requires
 judge-words-requires c κs = search needs

@@ -3,7 +3,7 @@
 use mathlib.Core.Path.{sym, ap, _∙_}
 use mathlib.Core.Logic.{⊎-elim}
 use mathlib.Core.Option.{none, some}
-use Prim.Native.Nat.{_+_, _-_, _*_}
+use Prim.Native.Nat.{_+_, _-_, _*_, ℕ, _<_}
 use native.Mathlib.Omega.{arith}
 use lib.ListN.{length, length-set}
 use borrow.Author.Tests.{not-true, not-false}
@@ -13,11 +13,11 @@ use Rattle.descent_arrays.specs.Arrays.{held}
 use Rattle.recursive_descent.specs.Descent.{CallGiven, RunGiven}
 use Rattle.rule.proofs.Bodies.{no-symbol}
 use Rattle.recursive_descent.proofs.Choosing.{token-given, entry-given, chosen-given}
-use Rattle.recursive_descent.proofs.Running.{level, Running, running-as, running-start, running-done, running-over, running-terminal, running-mismatch, running-given, running-small, running-falls, running-call, running-failed}
+use Rattle.recursive_descent.proofs.Running.{level, Running, running-as, running-start, running-done, running-over, running-terminal, running-mismatch}
+use Rattle.recursive_descent.proofs.Running.{running-given, running-small, running-falls, running-call, running-failed}
 use Rattle.recursive_descent.proofs.Calling.{InRule, rule-conjunct, rule-run, rule-turn, rule-done}
 use Rattle.recursive_descent.proofs.Storing.{memo-same, index-low, call-recalled, call-stored}
 use Rattle.recursive_descent.proofs.Starting.{no-rule, rule-chosen, start-rule, select-none, none-fails, encode-failed}
-use Prim.Native.Nat.{ℕ, _<_}
 use borrow.Fn.Kinds.{In}
 use borrow.Fn.PlainCycle.{Measures, is, falls, and}
 use Rattle.recursive_descent.proofs.descent.call.Reads as call
