@@ -12,7 +12,7 @@ use lib.Pow.{shl-exact}
 use borrow.Author.Tests.{eq-eqb, ne-eqb, lt-ltb, le-ltb}
 use Rattle.base.specs.Quantifiers.{anyBelow}
 use Rattle.base.proofs.Booleans.{both, and-l, and-r, and-make, or-l, or-r, or-cases}
-use Rattle.base.proofs.Quantified.{below-make, below-elim}
+use Rattle.base.proofs.Quantified.{below-cong, below-make, below-elim}
 use Rattle.lookahead.specs.declared.Lookahead.the-variants.{One, Two}
 use Rattle.lookahead.specs.Lookaheads.{after}
 use Rattle.lookahead.specs.Elements.{has, width}
