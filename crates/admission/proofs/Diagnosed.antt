@@ -1,8 +1,8 @@
 -- What is admitted is what there is to tell of a row of words: with one token what reading finds, with two by the terminals and the first negative of a
 -- rule without positives.
 use mathlib.Core.Path.{_≡_, refl, sym, subst, _∙_}
-use mathlib.Core.Bool.{true, false}
-use mathlib.Core.List.{List, [], _∷_, _++_}
+use mathlib.Core.Bool.{false}
+use mathlib.Core.List.{List, [], _∷_}
 use Prim.Native.Nat.{ℕ, suc, _≤_, _<_}
 use native.Mathlib.Omega.{arith}
 use native.Mathlib.Decide.{decLt}
@@ -10,7 +10,6 @@ use lib.ListN.{length, take, drop, take-append-drop}
 use Rattle.answer.specs.declared.Error.{Error}
 use Rattle.answer.specs.declared.Error.the-variants.{Length, Heading, UnexpectedWord, TooManyTerminals}
 use Rattle.answer.specs.Numbers.{coded}
-use Rattle.grammar.specs.declared.reading.Sizes.{Sizes}
 use Rattle.grammar.specs.declared.reading.Outcome.{Outcome}
 use Rattle.grammar.specs.declared.reading.Outcome.the-variants.{Read, Faulty}
 use Rattle.grammar.specs.Limits.{maxWords, maxWideTerminals}

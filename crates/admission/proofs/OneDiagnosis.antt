@@ -1,5 +1,5 @@
 -- With a lookahead, too, a row of words has at most one diagnosis; so what is admitted is the one that there is.
-use mathlib.Core.Path.{_≡_, refl, sym, ap, subst}
+use mathlib.Core.Path.{_≡_, refl, ap, subst}
 use mathlib.Core.List.{List}
 use Prim.Native.Nat.{ℕ}
 use native.Mathlib.Omega.{arith}
