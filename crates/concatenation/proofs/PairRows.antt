@@ -1,6 +1,6 @@
 -- With two tokens: what is looked at behind a terminal alone, as digits of a number.
 use mathlib.Core.Path.{_≡_, refl, sym, ap, ap₂, _∙_}
-use mathlib.Core.Bool.{true, false, not, _&&_, _||_, and-true, and-false, or-false}
+use mathlib.Core.Bool.{Bool, true, false, not, _&&_, _||_, and-true, and-false, or-false}
 use mathlib.Core.Logic.{_⊎_, inl, inr}
 use Prim.Native.Nat.{ℕ, suc, _+_, _-_, _*_, _/_, _%_, _^_, _≤_, _<_}
 use native.Mathlib.Numerals.{add-one}
@@ -12,7 +12,7 @@ use lib.Pow.{shl-exact}
 use borrow.Author.Tests.{eq-eqb, ne-eqb, lt-ltb, le-ltb}
 use Rattle.base.specs.Quantifiers.{anyBelow}
 use Rattle.base.proofs.Booleans.{both, and-l, and-r, and-make, or-l, or-r, or-cases}
-use Rattle.base.proofs.Quantified.{below-make, below-elim}
+use Rattle.base.proofs.Quantified.{below-cong, below-make, below-elim}
 use Rattle.lookahead.specs.declared.Lookahead.the-variants.{One, Two}
 use Rattle.lookahead.specs.Lookaheads.{after}
 use Rattle.lookahead.specs.Elements.{has, width}
