@@ -40,7 +40,7 @@ use Rattle.recognizer_promises.specs.Search.{SearchGiven, BestJudged}
 use Rattle.recognizer_promises.proofs.Judged.{memo-count}
 use Rattle.recursive_descent.specs.Descent.{StartDone}
 use Rattle.recursive_descent.specs.Judging.{JudgeGiven}
-use Rattle.recursive_descent.specs.Search.{TrialGiven, CostliestNumber, CostliestJudged}
+use Rattle.recursive_descent.specs.Search.{TrialGiven, CostliestJudged}
 
 module _ {words : List ℕ} {z : Sizes} {choices events memo : List ℕ} (g : TrialGiven words z choices events memo) where
   abbrev G : Grammar
@@ -66,20 +66,20 @@ module _ {words : List ℕ} {z : Sizes} {choices events memo : List ℕ} (g : Tr
 
   -- the input of a number, as it is written
   module _ (number : ℕ) {e : List ℕ} (w : e ≡ inputAt (z .terminals - 1 + 1) k number) where
-    named : e ≡ inputAt n k number
+    pub named : e ≡ inputAt n k number
     named = let q : z .terminals - 1 + 1 ≡ n = omega (arith, read .terminals, read .someTerminal) in w ∙ ap (λ m. inputAt m k number) q
 
     over : Over n e
     over = rw named (at-over n some-token k number)
 
-    own : inputOf e ≡ e
+    pub own : inputOf e ≡ e
     own = input-own n (omega (arith, read .terminals, read .fewTerminals)) e over
 
     long : length (inputOf e) ≡ k
     long = ap length own ∙ ap length named ∙ at-long n k number
 
-    pub number-given : {memo₁ : List ℕ} → length memo₁ ≡ length memo → JudgeGiven One words z choices (inputOf e) memo₁
-    number-given same = record {
+    pub number-given : JudgeGiven One words z choices (inputOf e) memo
+    number-given = record {
       given = record {
         ready = record {
           taken = g .taken;
@@ -89,7 +89,7 @@ module _ {words : List ℕ} {z : Sizes} {choices events memo : List ℕ} (g : Tr
           tokens = rw own over;
           short = omega (arith, long, g .short);
         };
-        size = same ∙ rw long (g .size);
+        size = rw long (g .size);
       };
       made = rw long (g .made);
     }
@@ -98,10 +98,6 @@ module _ {words : List ℕ} {z : Sizes} {choices events memo : List ℕ} (g : Tr
     pub calls-counted : {end r : ℕ} {memo′ : List ℕ} → StartDone (tableChoice G 1 (inputOf e)) words (inputOf e) end memo′
         → r ≡ recordedBelow memo′ (length memo′) → r ≡ callsOn G (inputAt n k number)
     calls-counted d c = count-recorded (d .recorded) c ∙ ap (callsOn G) (own ∙ named)
-
-    -- the costliest is judged last
-    pub costliest-judged : {r : Answer} {memo′ : List ℕ} → CostliestNumber words k number → Descended One words (inputOf e) r memo′ → CostliestJudged words k r e memo′
-    costliest-judged best d = record { written = named ∙ best; judged = rw own at d }
 
 -- the search, in the memory of now
 pub record Searching (words : List ℕ) (z : Sizes) (choices events₀ memo₀ events memo : List ℕ) (best : Candidate) (number : ℕ) : Type 0 where
@@ -154,8 +150,15 @@ module _ {words : List ℕ} {z : Sizes} {choices events memo : List ℕ} (g : Tr
         go true f = searched-more (callsOn (G g)) (n g) (some-token g) (length events) (s .searched) low counted (ltb-true (best .calls) calls f)
         go false f = searched-less (callsOn (G g)) (n g) (some-token g) (length events) (s .searched) low counted (ltb-false (best .calls) calls f)
 
-    pub searching-done : inputs ≤ number → CostliestNumber words (length events) (best .number)
-    searching-done h = searched-all (callsOn (G g)) (n g) (some-token g) (length events) (s .searched) (omega (arith, all-counted e))
+    -- the costliest is judged last
+    pub searching-done : inputs ≤ number → {e : List ℕ} {r : Answer} {memo′ : List ℕ} → e ≡ inputAt (z .terminals - 1 + 1) (length events₁) (best .number)
+        → Descended One words (inputOf e) r memo′ → CostliestJudged words (length events) r e memo′
+    searching-done h w d =
+        let found = searched-all (callsOn (G g)) (n g) (some-token g) (length events) (s .searched) (omega (arith, all-counted e)) in
+        record {
+          written = named searching-given (best .number) w ∙ ap (λ j. inputAt (n g) j (best .number)) (s .same-length) ∙ found;
+          judged = rw (own searching-given (best .number) w) at d;
+        }
 
 -- the front of a memo table that is long enough
 module _ {words : List ℕ} {z : Sizes} {starts entries events memo : List ℕ} (g : SearchGiven words z starts entries events memo) where

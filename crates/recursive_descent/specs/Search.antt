@@ -10,7 +10,7 @@ use Rattle.grammar.specs.declared.reading.Sizes.{Sizes}
 use Rattle.grammar.specs.declared.reading.Outcome.the-variants.{Read}
 use Rattle.lookahead.specs.declared.Lookahead.the-variants.{One}
 use Rattle.admission.specs.Admission.{admission}
-use Rattle.inputs.specs.Inputs.{maxInputs, inputAt}
+use Rattle.inputs.specs.Inputs.{maxInputs}
 use Rattle.semantics.specs.LeftRecursion.{NoLeftRecursion}
 use Rattle.recognizer_promises.specs.Judging.{Descended}
 use Rattle.recognizer_promises.specs.Costliest.{costliestInput}
@@ -25,11 +25,7 @@ pub record TrialGiven (words : List ℕ) (z : Sizes) (choices events memo : List
   pub short : length events ≤ maxTokens
   pub few : z .terminals ^ length events ≤ maxInputs
 
--- the number of the costliest input of k tokens
-abbrev pub CostliestNumber : (words : List ℕ) (k r : ℕ) → Type 0
-CostliestNumber words k r = inputAt (grammarOf words .terminals) k r ≡ costliestInput (grammarOf words) k
-
--- it is written and judged
+-- the costliest input of k tokens is written and judged
 pub record CostliestJudged (words : List ℕ) (k : ℕ) (r : Answer) (events′ memo′ : List ℕ) : Type 0 where
   pub written : events′ ≡ costliestInput (grammarOf words) k
   pub judged : Descended One words events′ r memo′

@@ -5,7 +5,7 @@ ghost use Rattle.grammar.specs.Encoding.{grammarOf};
 ghost use Rattle.inputs.specs.Inputs.{inputAt};
 ghost use Rattle.recognizer_promises.specs.Costliest.{callsOn};
 ghost use Rattle.recognizer_promises.specs.Search.{SearchGiven, BestJudged, SearchesWords};
-ghost use Rattle.recursive_descent.specs.Search.{TrialGiven, CostliestNumber, CostliestJudged};
+ghost use Rattle.recursive_descent.specs.Search.{TrialGiven, CostliestJudged};
 use super::judging::descend;
 use super::judging::judge_chosen;
 use super::judging::refused;
@@ -50,16 +50,16 @@ fn calls_on(
     count_calls(memo)
 }
 
-// The number of the costliest input, after the descent has run on all inputs of its length in the same memory.
-fn costliest_number(
+// Tries all inputs of a length in the same memory; writes the costliest, and judges it.
+fn judge_costliest(
     words: &[u32],
     sizes: Sizes,
     choices: &[u16; CHOICES],
     events: &mut [u8],
     memo: &mut [u16],
-) -> usize
+) -> Answer
     requires { ⌜ TrialGiven (now words) sizes (now choices) (now events) (now memo) ⌝ }
-    ensures { λ r. ⌜ CostliestNumber (now (words .entry)) (length (now (events .entry))) r ⌝ }
+    ensures { λ r. ⌜ CostliestJudged (now (words .entry)) (length (now (events .entry))) r (now (events .exit)) (now (memo .exit)) ⌝ }
 {
     let inputs = count_inputs(sizes.terminals, events.len());
     let mut best = Candidate {
@@ -73,23 +73,8 @@ fn costliest_number(
         best = costlier(best, next);
         number = number + 1;
     }
-    best.number
-}
-
-// Writes the costliest input, and judges it.
-fn judge_costliest(
-    words: &[u32],
-    sizes: Sizes,
-    choices: &[u16; CHOICES],
-    events: &mut [u8],
-    memo: &mut [u16],
-) -> Answer
-    requires { ⌜ TrialGiven (now words) sizes (now choices) (now events) (now memo) ⌝ }
-    ensures { λ r. ⌜ CostliestJudged (now (words .entry)) (length (now (events .entry))) r (now (events .exit)) (now (memo .exit)) ⌝ }
-{
-    let costliest = costliest_number(words, sizes, choices, events, memo);
     let last = sizes.terminals - 1;
-    write_input(events, last as u8, costliest);
+    write_input(events, last as u8, best.number);
     judge_chosen(words, sizes, Lookahead::One, choices, events, memo)
 }
 

@@ -1,5 +1,4 @@
 -- What is written is an input of the grammar's terminals, and its calls are counted in the memo table.
-use mathlib.Core.Path.{refl}
 use native.Mathlib.Omega.{arith}
 use Rattle.recursive_descent.proofs.Deciding.{start-given, started}
 use Rattle.recursive_descent.proofs.Searching.{some-terminal, few-terminals, number-given, calls-counted}
@@ -24,7 +23,7 @@ descend-requires c κs =
     let made = c .before .before in
     let written = made .before .before .before .before in
     let start = written .before .before .before .before .before .before in
-    start-given _ (number-given (start .pre) (start .args .number) (written .write-input .ensures) refl) (made .tokens-of .ensures)
+    start-given _ (number-given (start .pre) (start .args .number) (written .write-input .ensures)) (made .tokens-of .ensures)
 
 count-calls-requires : tie.Need-count-calls-requires
 count-calls-requires c κs = tt
@@ -41,7 +40,7 @@ returns c =
     let made = ran .before .before .before in
     let written = made .before .before .before .before in
     let start = written .before .before .before .before .before .before in
-    let given = number-given (start .pre) (start .args .number) (written .write-input .ensures) refl in
+    let given = number-given (start .pre) (start .args .number) (written .write-input .ensures) in
     calls-counted (start .pre) (start .args .number) (written .write-input .ensures) (started _ given (made .tokens-of .ensures) (ran .descend .ensures)) (c .count-calls .ensures)
 
 pub calls-on-spec : {M : Type 1} → statement M
