@@ -9,7 +9,7 @@ from notation import MAX_TERMINALS
 
 
 NOTHING = MAX_TERMINALS    # the place of "nothing" in a set for one event of lookahead; with two the places are those of the columns
-MARKED = "* what comes next is in the name's follow set, so the stretch belongs to the name; an end without a mark proves nothing"
+MARKED = '* the stretch belongs to the name: its follow set has what comes next. An end without a mark proves nothing'
 
 
 def trusted(follow, tokens, end, lookahead=1):

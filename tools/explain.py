@@ -95,7 +95,7 @@ def body_of(card, step):
     return shortened(('not ' if step.negative else '') + body_text(card.grammar, step.body))
 
 
-# Names that the start never comes to
+# Names that the start never reaches
 
 def unreached(card):
     """A line for each name that no row of bodies leads to from name 0: it has no say in any verdict."""
@@ -105,7 +105,7 @@ def unreached(card):
     while before != len(reached):
         before = len(reached)
         reached |= {step.to for step in found if step.name in reached}
-    return [f'{card.rule(number).split(":")[0]}: nothing comes to {grammar.nonterminals[name]} from {grammar.nonterminals[0]}'
+    return [f'{card.rule(number).split(":")[0]}: {grammar.nonterminals[name]} is not reached from {grammar.nonterminals[0]}'
             for name in range(len(grammar.nonterminals)) if name not in reached for number in rules_of(grammar, name)[:1]]
 
 
@@ -141,7 +141,7 @@ def step_text(card, step):
     names = card.grammar.nonterminals
     passed = list(dict.fromkeys(names[name] for name in step.passed))
     reason = f', since {" and ".join(passed)} may be empty' if passed else ''
-    return f"{card.where(step.word)}: {names[step.name]} comes to {names[step.to]} in '{body_of(card, step)}'{reason}"
+    return f"{card.where(step.word)}: {names[step.name]} reaches {names[step.to]} in '{body_of(card, step)}'{reason}"
 
 
 # Claims. A lookahead set is a set of rows of at most k letters, the empty row standing for the end.
@@ -300,8 +300,8 @@ def behind_text(card, step, letter, last):
     name, head = (card.grammar.nonterminals[at] for at in (step.to, step.name))
     where = f"{card.where(step.word)}: in '{body_of(card, step)}'"
     if last:
-        return f'{where} {card.grammar.terminals[letter]} may come behind {name}'
-    return f'{where} nothing need come behind {name}, so what follows {head} may follow {name}'
+        return f'{where} {card.grammar.terminals[letter]} may follow {name}'
+    return f'{where} {name} may be the last, so what follows {head} may follow {name}'
 
 
 # Refusals
@@ -409,10 +409,10 @@ def refusal(card, number, place, log=(), longest=MAX_INPUT, k=1):
     if number == 10:
         return [f'the log has {len(log)} events, and the limit is {longest}']
     if grammar is None or number not in (8, 9, 11, 13):
-        return ['README.md has a table of refusals']
+        return ['docs/REFERENCE.md has a table of refusals']
     if number == 8:
         name = grammar.nonterminals[place]
-        return [f'left-recursive: {name} comes to {name} again before any event is read'] + [
+        return [f'left-recursive: {name} reaches {name} again before any event is read'] + [
             step_text(card, step) for step in way_back(grammar, place) or ()]
     if number == 13:
         return nothing_begins(card, place, k)

@@ -49,7 +49,7 @@ class Rehearsal:
         found = [event_of(grammar, event) for event in written]
         if None in found:
             at = found.index(None)
-            return unknown_event(grammar, at, written[at]) + ': nothing is added; help tells what can be typed'
+            return unknown_event(grammar, at, written[at]) + ': nothing is added; help lists what can be typed'
         for at, event in enumerate(found):
             answer = vinegarspit.log_add(self.events, self.state, event)
             if answer.number:

@@ -14,7 +14,7 @@ import vinegarspit, workbench
 PAGE = {'/': ('index.html', 'text/html'), '/style.css': ('style.css', 'text/css'), '/workbench.js': ('workbench.js', 'text/javascript')}
 LONGEST = 1 << 16      # of a request and of a file, in bytes
 PASSED_OVER = 1 << 20  # of a request that is refused
-STACK = 16 << 20       # of a thread: judging the deepest cards takes 4 MiB to be safe
+STACK = 16 << 20       # of a thread: far more than judging the deepest cards takes
 PATIENCE = 10          # seconds that a request may take to arrive
 HEADERS = {'Content-Security-Policy': "default-src 'none'; script-src 'self'; style-src 'self'; connect-src 'self'; img-src data:; base-uri 'none'; "
                                       "form-action 'none'; frame-ancestors 'none'",

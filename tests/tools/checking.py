@@ -45,3 +45,9 @@ def library_there():
         print('the library is not built (tools/build_library): what needs it is passed over')
         check('--all' not in sys.argv, 'the library is not built')
     return there
+
+
+def finish():
+    """Says how many checks there were, and ends with a status that tells whether all hold."""
+    print(f'{sum(counts.values())} checks, {counts[False]} failed')
+    sys.exit(1 if counts[False] else 0)

@@ -68,7 +68,7 @@ TRIED = [
      f'  line 4: {"a" * 50} is to be accepted, and no judge that takes the card takes a log of 50 events'], 1, '1 card, 2 logs: 1 not as expected'),
     ('letters a\nS -> a S a | empty\naccept aa : 2 1', [': 1 of 1 log not as expected (plain)',
      '  line 3: aa is to have count 2 and far 1, and only the plain judge takes the card, which has neither'], 1, '1 card, 1 log: 1 not as expected'),
-    ('letters a\nS -> S a\naccept a', [': refused 8 0: left-recursive: S comes to S again before any event is read', "  line 2: S comes to S in 'S a'"], 2,
+    ('letters a\nS -> S a\naccept a', [': refused 8 0: left-recursive: S reaches S again before any event is read', "  line 2: S reaches S in 'S a'"], 2,
      '1 card, 1 log: 1 not as expected, 1 card faulty or refused'),
     ('letters a\nS -> a', [': no expected logs (one event, two events, plain)'], 0, '1 card, 0 logs: 1 card without expected logs'),
     ('letters a\nS -> b', [": line 2: 'b' is not among the letters"], 2, '1 card, 0 logs: 1 card faulty or refused'),
@@ -133,7 +133,7 @@ def each_line():
                                   ((M, '--lookahead', '2'), b'bc', 0, 'accepted 6 1     bc\n')):
         status, printed, errors = run(CARD, 'judge', '--each', *args, stdin=logs)
         check((status, printed.decode(), errors) == (code, out, ''), f'judge --each {args} {logs}: {status} {printed.decode()} {errors}')
-    for args, reason in (((M, 'a'), 'the lines of standard input'), (('-',), 'the lines of standard input'), ((M, '--calls'), 'no calls are told'),
+    for args, reason in (((M, 'a'), 'the lines of standard input'), (('-',), 'the lines of standard input'), ((M, '--calls'), 'no calls are listed'),
                          ((SPUR,), 'refused 9 0: two rules of Spur')):
         code, out, errors = run(CARD, 'judge', '--each', *args, stdin=b'a')
         check((code, out) == (2, b'') and reason in errors, f'judge --each {args}: {errors}')

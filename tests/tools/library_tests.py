@@ -30,7 +30,7 @@ def plainly():
     for args, stdin, reason in (
             ((spur, 'a' * 49), b'', 'refused 10 0: the log has 49 events, and the limit is 48'),
             ((m, 'abd'), b'', "refused 11 2: event 2, 'd', is not among the letters a b c"),
-            (('-', 'a'), b'letters a\nS -> a\n  & not S', 'refused 8 0: left-recursive: S comes to S again before any event is read'),
+            (('-', 'a'), b'letters a\nS -> a\n  & not S', 'refused 8 0: left-recursive: S reaches S again before any event is read'),
             (('-', 'a'), bytes.fromhex('01010010000000300000007000'), 'refused 3 0: the file is no row of 4-byte words'),
             (('-', 'a'), bytes.fromhex('010100100000003000000070'), 'refused 5 1: word 1 (30000000): a must before the first rule')):
         status, printed, errors = run(CARD, 'plain', *args, stdin=stdin)
@@ -78,8 +78,8 @@ WIDE = [
      ['line 3: T -> a b & a c: its musts have no beginning of two events in common']),
     ('letters a b\nS -> a\n   | not a', 'refused 5 5: line 3: a rule of must-nots alone, which is not taken with two events of lookahead', []),
     ('letters a b c d e f g h\nS -> not a', 'refused 18 0: 8 letters, and with two events of lookahead the limit is 7', []),
-    ('letters a\nS -> E S a\nE -> empty', 'refused 8 0: left-recursive: S comes to S again before any event is read',
-     ["line 2: S comes to S in 'E S a', since E may be empty"]),
+    ('letters a\nS -> E S a\nE -> empty', 'refused 8 0: left-recursive: S reaches S again before any event is read',
+     ["line 2: S reaches S in 'E S a', since E may be empty"]),
     (bytes.fromhex('01010010000000200000004000000070'), 'refused 5 2: word 2 (40000000): a rule of must-nots alone', []),
     (bytes.fromhex('010100100000002000000070'), 'refused 5 2: word 2 (70000000): the end where a must or a must-not has to begin', []),
     (bytes.fromhex('01010010000000300000007000'), 'refused 3 0: the file is no row', [])]
@@ -126,7 +126,7 @@ REHEARSED = [
     ('mark 8\nback 8\nback 0\nmark 99999999999', 'refused 19 0: there is no mark 8, marks are 0 to 7\nrefused 19 0: there is no mark 8, marks are 0 to 7\n'
      'refused 20 0: mark 0 is not set\nrefused 19 0: there is no mark 4294967295, marks are 0 to 7'),
     ('mark\nback x\nmark 1 2', 'mark takes the number of a mark, 0 to 7\nback takes the number of a mark, 0 to 7\nmark takes the number of a mark, 0 to 7'),
-    ('ad\n\n+ b', "event 1, 'd', is not among the letters a b c (the first event is event 0): nothing is added; help tells what can be typed\n0 events\n1 event: b"),
+    ('ad\n\n+ b', "event 1, 'd', is not among the letters a b c (the first event is event 0): nothing is added; help lists what can be typed\n0 events\n1 event: b"),
     ('a' * MAX_INPUT + 'bc\nback 1', f'refused 21 0: the log is full, 2 events cannot be added\n{MAX_INPUT} events: ...{"a" * 60}\nrefused 20 0: mark 1 is not set')]
 
 
@@ -189,7 +189,7 @@ def costliest():
     for args, stdin, reason in (
             ((m, '8'), b'', 'refused 22 0: there are 3^8 logs of 8 events, and the limit is 4,096'),
             ((m, str(longest + 1)), b'', f'refused 10 0: the log has {longest + 1} events, and the limit is {longest}'),
-            (('-', '600'), b'letters a b\nS -> a\n  & not S', 'refused 8 0: left-recursive: S comes to S again before any event is read'),
+            (('-', '600'), b'letters a b\nS -> a\n  & not S', 'refused 8 0: left-recursive: S reaches S again before any event is read'),
             (('-', '1'), bytes.fromhex('01010010000000300000007000'), 'refused 3 0: the file is no row of 4-byte words'),
             ((m, '-1'), b'', 'LENGTH'), ((m, 'ab'), b'', 'LENGTH'), ((m,), b'', 'LENGTH')):
         code, out, errors = run(CARD, 'costliest', *args, stdin=stdin)

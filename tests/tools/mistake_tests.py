@@ -78,7 +78,7 @@ def typed():
             check(str(error) == reason, f'{text!r}: {error}')
     code, out, errors = run(CARD, 'check', '-', stdin=b'letters a b\nDay -> a\nOrphan -> b\nOther -> Orphan')
     check((code, out) == (0, b'passed: 3 names, 2 letters, 3 rules\n') and errors.splitlines() ==
-          ['-: warning: line 3: nothing comes to Orphan from Day', '-: warning: line 4: nothing comes to Other from Day'], f'names that nothing comes to: {errors}')
+          ['-: warning: line 3: Orphan is not reached from Day', '-: warning: line 4: Other is not reached from Day'], f'names that nothing comes to: {errors}')
     for command in (['help'], ['--help'], ['help', 'judge']):
         code, out, errors = run(CARD, *command)
         check(code == 0 and out.startswith(b'usage: ') and not errors, f'{command}: {errors}')
@@ -87,7 +87,7 @@ def typed():
     for leave in (b'quit', b'exit'):
         check(run(CARD, 'rehearse', M, stdin=b'a\n' + leave + b'\nb\n') == (0, b'1 event: a\n', ''), f'{leave} leaves')
     out = run(CARD, 'rehearse', M, stdin=b'undo\nhelp\n')[1].decode()
-    check('help tells what can be typed' in out and 'Ctrl-D' in out, f'undo and help: {out}')
+    check('help lists what can be typed' in out and 'Ctrl-D' in out, f'undo and help: {out}')
     print(f'what is mistyped: {len(TYPED)} command lines, {len(FAULTY_TEXTS)} texts')
 
 

@@ -7,10 +7,10 @@ from recorded_cards import recorded
 
 
 REFUSED = [
-    ('letters a\nS -> a\n  & not S', 'refused 8 0: left-recursive: S comes', ["line 3: S comes to S in 'not S'"]),
+    ('letters a\nS -> a\n  & not S', 'refused 8 0: left-recursive: S reaches', ["line 3: S reaches S in 'not S'"]),
     ('letters a\nS -> a T\nT -> E\n   E U | a\nU -> V\nV -> a & not T a\nE -> empty', 'line 4: after', []),
-    ('letters a b\nS -> a T\nT -> E E U\nU -> V\nV -> a\n  & not T a\nE -> empty', 'refused 8 1: left-recursive: T comes to T',
-     ["line 3: T comes to U in 'E E U', since E may be empty", "line 4: U comes to V in 'V'", "line 6: V comes to T in 'not T a'"]),
+    ('letters a b\nS -> a T\nT -> E E U\nU -> V\nV -> a\n  & not T a\nE -> empty', 'refused 8 1: left-recursive: T reaches T',
+     ["line 3: T reaches U in 'E E U', since E may be empty", "line 4: U reaches V in 'V'", "line 6: V reaches T in 'not T a'"]),
     ('letters a b\nS -> a A\n\nA -> b\n   | a\n   | b S', 'refused 9 33: two rules of A may be meant where the next event is b',
      ['line 4: A -> b', 'line 6: A -> b S']),
     ('letters a b\nS -> A\nA -> empty | B\nB -> empty', 'refused 9 34: two rules of A may be meant at the end of the log',
@@ -18,22 +18,22 @@ REFUSED = [
     ('letters a\nS -> a | a & a | a', 'refused 9 0: 3 rules of S may be meant where the next event is a',
      ['line 2: S -> a', 'line 2: S -> a & a', 'line 2: S -> a']),
     ('letters a b\nS -> X b\nX -> not a', 'refused 9 32: X has a rule of must-nots alone, which takes all up to the end of the log, but b may follow X',
-     ['line 3: X -> not a', "line 2: in 'X b' b may come behind X"]),
+     ['line 3: X -> not a', "line 2: in 'X b' b may follow X"]),
     ('letters a b c\nS -> a T\n   | b T c\n  & not T Z b\nT -> a X\nX -> not a\n  & not b X\nZ -> a | empty',
      'refused 9 64: X has a rule of must-nots alone, which takes all up to the end of the log, but a, b, c may follow X',
-     ['line 6: X -> not a & not b X', "line 5: in 'a X' nothing need come behind X, so what follows T may follow X",
-      "line 4: in 'not T Z b' a may come behind T"]),
+     ['line 6: X -> not a & not b X', "line 5: in 'a X' X may be the last, so what follows T may follow X",
+      "line 4: in 'not T Z b' a may follow T"]),
     ('letters a b\nS -> X b\nX -> not a | a', 'refused 9 32: X has a rule of must-nots alone, which takes all up to the end of the log, but b may follow X',
-     ['line 3: X -> not a', "line 2: in 'X b' b may come behind X", 'two rules of X may be meant where the next event is a',
+     ['line 3: X -> not a', "line 2: in 'X b' b may follow X", 'two rules of X may be meant where the next event is a',
       'line 3: X -> not a', 'line 3: X -> a']),
     ('letters a b\nS -> not a | b', 'refused 9 1: two rules of S may be meant where the next event is b', ['line 2: S -> not a', 'line 2: S -> b']),
     ('letters a b\nS -> a\n   | not empty', 'refused 9 0: two rules of S may be meant where the next event is a', ['line 2: S -> a', 'line 3: S -> not empty']),
-    ('letters a\nS -> not X\nX -> not empty & not S', "refused 8 0: left-recursive: S comes to S again before any event is read",
-     ["line 2: S comes to X in 'not X'", "line 3: X comes to S in 'not S'"]),
+    ('letters a\nS -> not X\nX -> not empty & not S', "refused 8 0: left-recursive: S reaches S again before any event is read",
+     ["line 2: S reaches X in 'not X'", "line 3: X reaches S in 'not S'"]),
     ('letters a\nnames S T\nS -> a T', 'refused 13 0: nothing can begin S, so no log belongs to it',
      ['line 3: S -> a T: nothing can begin T', 'T has no rule']),
     ('letters a\nnames S T\nS -> a | a', 'refused 13 1: T has no rule, so no log belongs to it', []),
-    ('letters a\nnames T S\nS -> a & not S', 'refused 8 1: left-recursive: S comes', ["line 3: S comes to S in 'not S'"]),
+    ('letters a\nnames T S\nS -> a & not S', 'refused 8 1: left-recursive: S reaches', ["line 3: S reaches S in 'not S'"]),
     ('letters a\nS -> a S', 'refused 13 0: nothing can begin S, so no log belongs to it', ['line 2: S -> a S: nothing can begin S']),
     ('letters a b\nS -> a\nT -> a A\n   | b T & a A\nA -> b B\n   | a A\nB -> a & b',
      'refused 13 1: nothing can begin T, so no log belongs to it',
@@ -74,7 +74,7 @@ MENDED = [
      'two rules of S may be meant where the next event is a\n  line 2: S -> X b\n  line 3: S -> a\n'
      'no rule of S may be meant at the end of the log\nno rule of X may be meant at the end of the log\n'
      'X has a rule of must-nots alone, which takes all up to the end of the log, but b may follow X\n'
-     "  line 4: X -> not a\n  line 2: in 'X b' b may come behind X\n"
+     "  line 4: X -> not a\n  line 2: in 'X b' b may follow X\n"
      '2 gaps, 1 overlap, 1 name wrongly followed by a letter: the check refuses it (9)\n'),
     ('letters a\nS -> a | empty | a\n', 'two rules of S may be meant where the next event is a\n  line 2: S -> a\n  line 2: S -> a\n'
      '0 gaps, 1 overlap, 0 names wrongly followed by a letter: the check refuses it (9)\n'),

@@ -95,7 +95,7 @@ def same_as_the_tool():
             ('letters a\nS -> b', 'a', 'fault', {'line': 2, 'told': "line 2: 'b' is not among the letters"}),
             (example('spur.card'), 'abba', 'table', [[[0, 2], [1, 2], [2]]]),
             (example('ladder.card'), 'la', 'by', TWO), (example('loop.card'), 'abx', 'unknown', [2]), ('letters a\nS -> S a', 'a', 'verdicts', {}),
-            ('letters a\nS -> a S | empty', 'a' * 413, 'picture', None), ('letters a\nS -> a\nT -> a', 'a', 'warnings', ['line 3: nothing comes to T from S'])):
+            ('letters a\nS -> a S | empty', 'a' * 413, 'picture', None), ('letters a\nS -> a\nT -> a', 'a', 'warnings', ['line 3: T is not reached from S'])):
         answer = workbench.told(text, log)
         check(answer.get(key, answer.get('log', {}).get(key)) == expected, f'{key} of {text!r} {log!r}: {answer}')
     minidom.parseString(workbench.told("letters a'b\nS -> a'b", "a'b")['log']['picture'])

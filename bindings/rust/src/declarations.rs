@@ -1,4 +1,4 @@
-//! The calls of include/vinegarspit.h as they are exported; scripts/limits compares both with the exported calls.
+//! The calls of include/vinegarspit.h as they are exported; tests/limits compares both with the exported calls.
 
 extern "C" {
     pub fn vinegarspit_check(card: *const u32, card_len: usize, table: *mut u32, table_len: usize) -> u64;

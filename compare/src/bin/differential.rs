@@ -15,7 +15,7 @@ use std::{fmt::Debug, process::ExitCode, thread, time::Instant};
 
 /// How many words or entries lie before and behind what is lent, and must not change.
 const GUARD: usize = 64;
-/// The stack that both run on: what the library's header asks for.
+/// The stack that both run on, which the deepest descent of either must fit into.
 const STACK: usize = 4 << 20;
 /// The nonterminals, the terminals and the most words of the grammars that are tried without exception.
 const SMALL: [(u32, u32, usize); 4] = [(1, 1, 11), (1, 2, 10), (2, 1, 10), (2, 2, 9)];
@@ -638,7 +638,7 @@ fn run(seed: u64, count: u64) -> bool {
     let memory = Memory::random(&mut random);
     let mut pair = Pair { twin: memory.clone(), proved: memory, tally: Tally::default() };
 
-    println!("stated: the judged inputs and limits of document 01, and rows of the requests P1, P2, P5 to P10 and P14");
+    println!("stated: the judged inputs and limits of document 01, and rows of the requests");
     stated_cases(&mut pair);
     histories::stated_histories(&mut pair);
     stated_plain_cases(&mut pair);

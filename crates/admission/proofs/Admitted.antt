@@ -23,7 +23,7 @@ use Rattle.grammar.specs.Encoding.{declaredBy, grammarOf}
 use Rattle.grammar.specs.Limits.{maxWords, maxNonterminals, maxTerminals, maxWideTerminals}
 use Rattle.grammar.specs.Reading.{beginsRule, reading, opened, headed, scan, fresh, within}
 use Rattle.grammar.proofs.WellFormed.{Each, none-in, faulty}
-use Rattle.grammar.proofs.WellRead.{chosen, refused, both, Within, within-limits, heading-begins-none}
+use Rattle.grammar.proofs.WellRead.{chosen, refused, both, within-limits, heading-begins-none}
 use Rattle.admission.specs.declared.Alone.{Alone}
 use Rattle.admission.specs.declared.Alone.the-variants.{Absent, At}
 use Rattle.admission.proofs.WithoutPositives.{Positives, none-found, found-none}
@@ -88,26 +88,29 @@ record Headed (w : ℕ) (ws : List ℕ) (z : Sizes) : Type 0 where
   quiet : beginsRule (decoded w) ≡ false
   scanned : scan (fresh (declaredBy (decoded w))) 1 ws ≡ Read z
 
-behind-heading : (w : ℕ) (ws : List ℕ) (z : Sizes) → reading (w ∷ ws) ≡ Read z → Headed w ws z
-unfolding reading opened headed
+behind-heading : (w : ℕ) (ws : List ℕ) (z : Sizes) → opened (w ∷ ws) ≡ Read z → Headed w ws z
+unfolding opened headed
 behind-heading w ws z e =
     let y = declaredBy (decoded w) in
-    let a = refused (ltb maxWords (length (w ∷ ws))) (opened (w ∷ ws)) z e in
-    let b = chosen (within (y .nonterminals) maxNonterminals && within (y .terminals) maxTerminals) (scan (fresh y) 1 ws) z (a .1) in
+    let b = chosen (within (y .nonterminals) maxNonterminals && within (y .terminals) maxTerminals) (scan (fresh y) 1 ws) z e in
     let c = both (within (y .nonterminals) maxNonterminals) (within (y .terminals) maxTerminals) (b .0) in
     record { quiet = heading-begins-none (decoded w) (within-limits (y .nonterminals) maxNonterminals (c .0) .some); scanned = b .1 }
 
--- in a row that is read none is found exactly when each rule has a positive
-none-alone-positives : (words : List ℕ) (z : Sizes) → reading words ≡ Read z → firstAlone words ≡ Absent → Each Positives (grammarOf words .rules)
+-- in a row that is read, however long, none is found exactly when each rule has a positive
+pub none-alone-positives : (words : List ℕ) (z : Sizes) → opened words ≡ Read z → firstAlone words ≡ Absent → Each Positives (grammarOf words .rules)
 unfolding grammarOf aloneFrom
 none-alone-positives [] z e n = none-in Positives
 none-alone-positives (w ∷ ws) z e n = let h = behind-heading w ws z e in none-found (fresh (declaredBy (decoded w))) 1 ws z (h .scanned) (rw (h .quiet) at n) .0
 
-positives-none-alone : (words : List ℕ) (z : Sizes) → reading words ≡ Read z → Each Positives (grammarOf words .rules) → firstAlone words ≡ Absent
+pub positives-none-alone : (words : List ℕ) (z : Sizes) → opened words ≡ Read z → Each Positives (grammarOf words .rules) → firstAlone words ≡ Absent
 unfolding grammarOf aloneFrom
 positives-none-alone [] z e r = refl
 positives-none-alone (w ∷ ws) z e r =
     let h = behind-heading w ws z e in rw (h .quiet) (found-none (fresh (declaredBy (decoded w))) 1 ws z (h .scanned) r tt)
+
+opened-read : (words : List ℕ) (z : Sizes) → reading words ≡ Read z → opened words ≡ Read z
+unfolding reading
+opened-read words z e = refused (ltb maxWords (length words)) (opened words) z e .1
 
 fault-none : (f : Option Error) (o : Outcome) (z : Sizes) → faultyOr f o ≡ Read z → (f ≡ none) × (o ≡ Read z)
 fault-none none o z e = (refl, e)
@@ -137,7 +140,7 @@ admitted Two words z = (to, from)
     to e =
         let f = fault-none (twoTokensFault (reading words) words) (reading words) z e in
         let n = two-none words z (rw (f .1) at (f .0)) in
-        (f .1, (n .0, none-alone-positives words z (f .1) (n .1)))
+        (f .1, (n .0, none-alone-positives words z (opened-read words z (f .1)) (n .1)))
 
     from : (reading words ≡ Read z) × Fits Two (grammarOf words) → admission Two words ≡ Read z
-    from (e, f) = rw (e, none-two words z (f .0) (positives-none-alone words z e (f .1)))
+    from (e, f) = rw (e, none-two words z (f .0) (positives-none-alone words z (opened-read words z e) (f .1)))

@@ -5,7 +5,6 @@ use mathlib.Core.List.{List, [], _∷_, _++_}
 use mathlib.Core.Option.{Option, none, some, Option·some-ne-none}
 use Rattle.answer.specs.declared.Error.{Error}
 use Rattle.answer.specs.declared.Answer.{Answer}
-use Rattle.answer.specs.declared.Answer.the-variants.{Refused}
 use Rattle.answer.specs.Numbers.{numbers}
 use Rattle.answer.specs.Faults.{faultIf, firstFault, refusedOr, toldOr}
 

@@ -9,7 +9,6 @@ use native.Mathlib.Decide.{decLt, ℕ-discrete}
 use native.Mathlib.Omega.{arith}
 use lib.Dec.{T, T-not, not-T}
 use Rattle.base.specs.Quantifiers.{one, anyBelow, allOf, countBelow, anyOf, lowest}
-use Rattle.base.specs.Choice.{choose}
 use Rattle.base.proofs.Booleans.{T-true, T-false, or-r, or-cases, and-make, and-l, test, and-r, or-l}
 
 module _ {A : Type 0} where

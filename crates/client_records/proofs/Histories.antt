@@ -2,7 +2,6 @@
 use mathlib.Core.Path.{_≡_, refl, sym, ap, _∙_}
 use mathlib.Core.Bool.{Bool, true, false}
 use mathlib.Core.List.{List, [], _∷_, _++_}
-use mathlib.Core.Logic.{_↔_}
 use Prim.Native.Nat.{ℕ, _+_, _≤_, _<_}
 use native.Mathlib.Omega.{arith}
 use lib.Dec.{eqb}
@@ -12,9 +11,9 @@ use Rattle.answer.specs.declared.Answer.{Answer}
 use Rattle.base.specs.Choice.{choose}
 use Rattle.usage.specs.declared.Usage.{Usage}
 use Rattle.usage.specs.Counters.{counterLimit, saturated, unused, calledOf, eachCounter}
-use Rattle.usage.specs.Histories.{counted, recordOf, total, spent}
+use Rattle.usage.specs.Histories.{counted, recordOf, total}
 use Rattle.usage.proofs.Histories.{from-any, from-unused, record-append}
-use Rattle.client_records.specs.Usages.{clients, nobody, usageOfClient, calledBy, sumBelow, UsedUp, Charges}
+use Rattle.client_records.specs.Usages.{clients, nobody, usageOfClient, calledBy, UsedUp, Charges}
 use Rattle.client_records.specs.Histories.{Reply, reply, answersTo, Continues, OfTheDay, calledExactly}
 use Rattle.client_records.proofs.Sums.{sums-stop}
 

@@ -12,7 +12,7 @@ use Rattle.answer.specs.declared.Error.{Error}
 use Rattle.answer.specs.declared.Error.the-variants.{UnknownClient, QuotaReached}
 use Rattle.answer.specs.declared.Answer.{Answer}
 use Rattle.answer.specs.declared.Answer.the-variants.{Refused}
-use Rattle.answer.specs.Faults.{firstFault, refusedOr, toldOr}
+use Rattle.answer.specs.Faults.{firstFault}
 use Rattle.answer.proofs.Apart.{answer-number}
 use Rattle.grammar.specs.Encoding.{grammarOf}
 use Rattle.lookahead.specs.declared.Lookahead.the-variants.{One}

@@ -1,5 +1,5 @@
 -- Sums over the clients, one client more at a time: no sum of counters of 32 bits wraps.
-use mathlib.Core.Path.{_≡_, refl, ap, _∙_}
+use mathlib.Core.Path.{_≡_, refl, _∙_}
 use mathlib.Core.List.{List}
 use Prim.Native.Nat.{ℕ, zero, suc, _+_, _*_, _≤_, _<_}
 use native.Mathlib.Numerals.{add-one}
@@ -8,7 +8,7 @@ use Rattle.usage.specs.declared.Usage.{Usage}
 use Rattle.usage.specs.Counters.{counterLimit, saturated}
 use Rattle.client_records.specs.declared.totals.Totals.{Totals}
 use Rattle.client_records.specs.Usages.{clients, usageOfClient, sumBelow}
-use Rattle.client_records.specs.Sums.{totalsOf, summedBelow, TotalsSmall, Adds, SummedUp, Totalled}
+use Rattle.client_records.specs.Sums.{totalsOf, TotalsSmall, Adds, SummedUp, Totalled}
 
 pub nothing-summed : (us : List Usage) → SummedUp us 0 (totalsOf 0 0 0 0)
 unfolding sumBelow

@@ -10,8 +10,7 @@ use lib.ListN.{length}
 use Rattle.answer.specs.declared.Error.{Error}
 use Rattle.answer.specs.declared.Error.the-variants.{UnknownClient, QuotaReached}
 use Rattle.answer.specs.declared.Answer.the-variants.{Refused}
-use Rattle.answer.specs.Faults.{faultIf, firstFault, refusedOr, toldOr}
-use Rattle.answer.specs.Numbers.{numbers}
+use Rattle.answer.specs.Faults.{faultIf, firstFault}
 use Rattle.grammar.specs.Encoding.{grammarOf}
 use Rattle.lookahead.specs.declared.Lookahead.the-variants.{One}
 use Rattle.table.specs.Layout.{tableWords}

@@ -11,9 +11,8 @@ use Rattle.lookahead.specs.declared.Lookahead.the-variants.{One, Two}
 use Rattle.lookahead.specs.Lookaheads.{tokens, alphabet}
 use Rattle.base.specs.Strings.{look, Over, Lookahead as Looked}
 use Rattle.base.proofs.Strings.{all-take, all-drop, take-short}
-use Rattle.columns.specs.Columns.{columnCount, columnString, columnOf}
+use Rattle.columns.specs.Columns.{columnCount, columnString, columnOf, columnAt}
 use Rattle.columns.proofs.ColumnStrings.{column-in, string-column}
-use Rattle.columns.specs.Columns.{columnAt}
 
 module _ (n : ℕ) (w : List ℕ) (i : ℕ) where
   -- behind the last token nothing is left

@@ -2,19 +2,17 @@
 use mathlib.Core.Path.{_≡_, refl, sym, ap, _∙_}
 use mathlib.Core.Bool.{Bool, true, false, _&&_, and-true, and-false}
 use mathlib.Core.List.{[], _∷_}
-use Prim.Native.Nat.{ℕ, suc, _+_, _-_, _*_, _/_, _%_, _^_, _≤_, _<_}
+use Prim.Native.Nat.{ℕ, _+_, _-_, _*_, _/_, _%_, _^_, _≤_, _<_}
 use native.Mathlib.Omega.{arith}
 use native.Mathlib.Decide.{decLt, ℕ-discrete}
 use lib.Bits.{bitAnd, and-mask}
-use lib.Dec.{T, eqb, ltb, ltb→lt}
+use lib.Dec.{T, ltb, ltb→lt}
 use lib.Pow.{shl-exact, ones-lt}
-use borrow.Author.Tests.{eq-eqb, ne-eqb, lt-ltb, le-ltb}
+use borrow.Author.Tests.{lt-ltb, le-ltb}
 use Rattle.base.specs.Choice.{choose}
-use Rattle.base.specs.Quantifiers.{allOf}
-use Rattle.base.proofs.Booleans.{T-subst, true-T, T-true, both}
 use Rattle.lookahead.specs.declared.Lookahead.{Lookahead}
 use Rattle.lookahead.specs.declared.Lookahead.the-variants.{One, Two}
-use Rattle.lookahead.specs.Lookaheads.{tokens, alphabet, elements, elementOf, stringOf, single}
+use Rattle.lookahead.specs.Lookaheads.{alphabet, elements, elementOf, single}
 use Rattle.lookahead.specs.Elements.{has, width}
 use Rattle.lookahead.specs.Operations.{Empty}
 use Rattle.concatenation.specs.Computing.{Has, Singles, isLong}

@@ -1,22 +1,20 @@
 -- The full set is nothing, the single terminals, and these followed by one another.
 use mathlib.Core.Path.{_≡_, refl, sym, ap, ap₂, _∙_}
 use mathlib.Core.List.{List, [], _∷_, _++_}
-use mathlib.Core.Logic.{_↔_}
-use Prim.Native.Nat.{ℕ, suc, _≤_, _<_}
+use Prim.Native.Nat.{ℕ, _≤_, _<_}
 use native.Mathlib.Omega.{arith}
-use lib.Dec.{T, ltb, eqb-refl, ltb→lt}
+use lib.Dec.{T, eqb-refl}
 use lib.ListN.{length, take}
 use lib.Seq.{take-all}
-use Rattle.base.specs.Quantifiers.{allOf}
-use Rattle.base.proofs.Booleans.{and-l, and-r}
 use Rattle.base.specs.Strings.{Over}
 use Rattle.lookahead.specs.declared.Lookahead.{Lookahead}
 use Rattle.lookahead.specs.declared.Lookahead.the-variants.{One, Two}
-use Rattle.lookahead.specs.Lookaheads.{tokens, alphabet, elements, nothing, elementOf, stringOf, after}
+use Rattle.lookahead.specs.Lookaheads.{tokens, alphabet, nothing, elementOf, stringOf, after}
 use Rattle.lookahead.specs.Elements.{has, Subset, OverTerminals}
 use Rattle.lookahead.specs.Operations.{end, full, join, concatNumbers, End, Full, Joined, Concatenated}
 use Rattle.concatenation.specs.Computing.{Singles}
-use Rattle.lookahead.proofs.Strings.{element-string, string-same, string-short, string-over, string-terminal, single-looked, string-after, element-below, is-nothing, over-head, over-tail}
+use Rattle.lookahead.proofs.Strings.{element-string, string-same, string-short, string-over, string-terminal, single-looked, string-after, element-below}
+use Rattle.lookahead.proofs.Strings.{is-nothing, over-head, over-tail}
 use Rattle.lookahead.proofs.Operations.{has-end, is-full}
 use Rattle.lookahead.proofs.Order.{subset-antisym, join-left, join-right}
 use Rattle.lookahead.proofs.Concat.{paired}

@@ -7,19 +7,19 @@ use native.Mathlib.Numerals.{add-one}
 use native.Mathlib.Omega.{arith}
 use native.Mathlib.Decide.{decLt, ℕ-discrete}
 use lib.Bits.{bitAnd, bitOr, and-mask}
-use lib.Dec.{T, eqb, ltb, ltb→lt, lt→ltb}
+use lib.Dec.{T, T-not, eqb, ltb, ltb→lt, lt→ltb}
 use lib.Pow.{shl-exact}
 use borrow.Author.Tests.{eq-eqb, ne-eqb, lt-ltb, le-ltb}
 use Rattle.base.specs.Quantifiers.{anyBelow}
-use Rattle.base.proofs.Booleans.{T-subst, T-true, both, and-l, and-r, and-make, or-l, or-r, or-cases}
+use Rattle.base.proofs.Booleans.{both, and-l, and-r, and-make, or-l, or-r, or-cases}
 use Rattle.base.proofs.Quantified.{below-cong, below-make, below-elim}
 use Rattle.lookahead.specs.declared.Lookahead.the-variants.{One, Two}
-use Rattle.lookahead.specs.Lookaheads.{stringOf, after}
+use Rattle.lookahead.specs.Lookaheads.{after}
 use Rattle.lookahead.specs.Elements.{has, width}
 use Rattle.lookahead.specs.Operations.{Empty, Terminal, Joined, behind}
-use Rattle.concatenation.specs.Computing.{Has, begins, inRows}
+use Rattle.concatenation.specs.Computing.{Has, begins, noSingle, inRows}
 use Rattle.lookahead.proofs.Digits.{has-over, moved, some-digit, has-mask}
-use Rattle.lookahead.proofs.Elements.{has-or, has-zero, bound, bounded}
+use Rattle.lookahead.proofs.Elements.{has-or, bound}
 use Rattle.lookahead.proofs.Pairs.{behind-make, behind-elim}
 use Rattle.lookahead.proofs.Strings.{two-single, two-pair, after-nothing}
 
@@ -113,6 +113,27 @@ row-in x y f l h i e c = let d : has x (suc l) ≡ true = ap (has x) (omega arit
 
 pub row-out : (x y l : ℕ) {r : ℕ} → has x (1 + l) ≡ false → Empty r → Has r (λ c. has x (suc l) && behind Two (suc l) y c)
 row-out x y l e n c = let d : has x (suc l) ≡ false = ap (has x) (omega arith) ∙ e in n .member c ∙ sym (rw d refl)
+
+-- whether there is no row at all
+pub no-digit : (s : ℕ) → eqb (bitAnd (s / 2 ^ 1) (2 ^ 7 - 1)) 0 ≡ noSingle s
+unfolding noSingle
+no-digit s =
+    let e : anyBelow 7 (λ l. has s (suc l)) ≡ anyBelow 7 (λ l. has s (1 + l)) = below-cong 7 _ _ (λ l _. ap (has s) (omega arith)) in
+    sym (ap not (e ∙ some-digit s 1 7) ∙ twice (eqb (s / 2 ^ 1 % 2 ^ 7) 0) ∙ ap (λ (n : ℕ). eqb n 0) (sym (and-mask (s / 2 ^ 1) 7)))
+  where
+    twice : (b : Bool) → not (not b) ≡ b
+    twice true = refl
+    twice false = refl
+
+pub rows-skipped : (x y : ℕ) {r : ℕ} → noSingle x ≡ true → Empty r → Has r (inRows x y 7)
+unfolding inRows noSingle
+rows-skipped x y e n c = n .member c ∙ sym (both (inRows x y 7 c) false none (λ f. absurd f))
+  where
+    none : T (inRows x y 7 c) → T false
+    none t =
+        let l = below-elim 7 (λ l. has x (suc l) && behind Two (suc l) y c) t in
+        absurd (T-not (anyBelow 7 (λ l. has x (suc l))) (rw e tt)
+        (below-make 7 (λ l. has x (suc l)) (l .0) (l .1) (and-l (has x (suc (l .0))) (behind Two (suc (l .0)) y c) (l .2))))
 
 -- one terminal after the other
 pub rows-none : (x y : ℕ) {r : ℕ} → Empty r → Has r (inRows x y 0)

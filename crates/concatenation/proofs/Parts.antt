@@ -7,23 +7,20 @@ use mathlib.Core.Logic.{_⊎_, inl, inr}
 use Prim.Native.Nat.{ℕ, suc, _-_, _%_, _^_, _<_}
 use native.Mathlib.Omega.{arith}
 use native.Mathlib.Decide.{decLt, ℕ-discrete}
-use lib.Dec.{T, eqb, ltb, eqb→eq, lt→ltb, ltb→lt}
+use lib.Dec.{T, ltb, eqb→eq, lt→ltb, ltb→lt}
 use lib.ListN.{length, take}
-use lib.Seq.{take-length}
-use lib.Pow.{pow-pos}
-use native.Mathlib.Nat.{mod-lt}
-use Rattle.base.proofs.Booleans.{T-subst, true-T, T-true, T-none, both, and-l, and-r, and-make, or-l, or-r, or-cases}
+use Rattle.base.proofs.Booleans.{true-T, T-none, both, and-l, and-r, and-make, or-l, or-r, or-cases}
 use Rattle.base.proofs.Quantified.{below-make, below-elim}
 use Rattle.lookahead.specs.declared.Lookahead.{Lookahead}
 use Rattle.lookahead.specs.declared.Lookahead.the-variants.{One, Two}
 use Rattle.lookahead.specs.Lookaheads.{tokens, elements, nothing, elementOf, stringOf, after}
 use Rattle.lookahead.specs.Elements.{has}
-use Rattle.lookahead.specs.Operations.{empty, isEmpty, Joined, behind, inConcat, concatNumbers, Concatenated}
+use Rattle.lookahead.specs.Operations.{isEmpty, Joined, behind, inConcat, concatNumbers, Concatenated}
 use Rattle.concatenation.specs.Computing.{Has, isLong, inRows}
-use Rattle.lookahead.proofs.Elements.{same-elements, bounded}
-use Rattle.lookahead.proofs.Emptiness.{is-empty, empty-none, none-empty, some-element}
+use Rattle.lookahead.proofs.Elements.{same-elements}
+use Rattle.lookahead.proofs.Emptiness.{empty-none, some-element}
 use Rattle.lookahead.proofs.Digits.{has-mask}
-use Rattle.lookahead.proofs.Strings.{element-string, nothing-after, nothing-below}
+use Rattle.lookahead.proofs.Strings.{element-string, nothing-after}
 use Rattle.lookahead.proofs.Operations.{has-concat, is-concat}
 use Rattle.lookahead.proofs.Pairs.{Pair, behind-make, behind-elim, pair-in, in-pair}
 use Rattle.concatenation.proofs.Cases.{one-long, two-long}

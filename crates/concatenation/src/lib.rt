@@ -4,11 +4,11 @@ ghost use mathlib.Core.Bool.{_&&_};
 ghost use Prim.Native.Nat.{suc, _%_, _^_, _<_};
 ghost use lib.Dec.{eqb, ltb};
 ghost use Rattle.base.specs.Choice.{choose};
-ghost use Rattle.lookahead.specs.declared.Lookahead.the-variants.{Two};
+ghost use Rattle.lookahead.specs.declared.Lookahead.the-variants.{One, Two};
 ghost use Rattle.lookahead.specs.Lookaheads.{elements, nothing};
 ghost use Rattle.lookahead.specs.Elements.{has};
 ghost use Rattle.lookahead.specs.Operations.{Full, Concatenated, behind};
-ghost use Rattle.concatenation.specs.Computing.{Has, Singles, isLong, begins, inRows};
+ghost use Rattle.concatenation.specs.Computing.{Has, Singles, isLong, begins, noSingle, inRows};
 use grammar::limits::WIDE_TERMINALS;
 use lookahead::Lookahead;
 use lookahead::NOTHING;
@@ -98,10 +98,20 @@ fn row(set: LookaheadSet, l: u32, other: LookaheadSet, firsts: LookaheadSet) -> 
     }
 }
 
+// With two tokens, whether no terminal alone is in the set.
+fn no_single(set: LookaheadSet) -> bool
+    ensures { λ r. ⌜ r ≡ noSingle (set .bits) ⌝ }
+{
+    set.bits >> 1 & (1 << WIDE_TERMINALS) - 1 == 0
+}
+
 // With two tokens, what is looked at where a terminal alone is followed by a string of other.
 fn rows(set: LookaheadSet, other: LookaheadSet) -> LookaheadSet
     ensures { λ r. ⌜ Has (r .bits) (inRows (set .bits) (other .bits) 7) ⌝ }
 {
+    if no_single(set) {
+        return LookaheadSet::empty();
+    }
     let firsts = firsts(other);
     let mut rows = LookaheadSet::empty();
     let mut l = 0u32;
@@ -123,20 +133,39 @@ fn before(set: LookaheadSet, lookahead: Lookahead, other: LookaheadSet) -> Looka
     }
 }
 
+// One set behind the other with one token: the terminals of the first, and the second where the first has nothing.
+fn concat_one(set: LookaheadSet, other: LookaheadSet) -> LookaheadSet
+    ensures { λ r. ⌜ Concatenated One (set .bits) (other .bits) (r .bits) ⌝ }
+{
+    let first = strings(set, Lookahead::One);
+    let second = strings(other, Lookahead::One);
+    if second.is_empty() {
+        return second;
+    }
+    long(first, Lookahead::One).join(before(first, Lookahead::One, second))
+}
+
+// With two tokens: the pairs of the first, the second where the first has nothing, and what comes of the terminals alone.
+fn concat_two(set: LookaheadSet, other: LookaheadSet) -> LookaheadSet
+    ensures { λ r. ⌜ Concatenated Two (set .bits) (other .bits) (r .bits) ⌝ }
+{
+    let left = strings(set, Lookahead::Two);
+    let right = strings(other, Lookahead::Two);
+    if right.is_empty() {
+        return right;
+    }
+    let both = long(left, Lookahead::Two).join(before(left, Lookahead::Two, right));
+    both.join(rows(left, right))
+}
+
 // What is looked at where an element of the one set is followed by one of the other (document 01: strung together): the strings of the
 // first that are long enough, and shorter ones with what comes behind them. No pair, no element: empty where either set is.
 pub fn concat(set: LookaheadSet, lookahead: Lookahead, other: LookaheadSet) -> LookaheadSet
     ensures { λ r. ⌜ Concatenated lookahead (set .bits) (other .bits) (r .bits) ⌝ }
 {
-    let first = strings(set, lookahead);
-    let second = strings(other, lookahead);
-    if second.is_empty() {
-        return second;
-    }
-    let both = long(first, lookahead).join(before(first, lookahead, second));
     match lookahead {
-        Lookahead::One => both,
-        Lookahead::Two => both.join(rows(first, second)),
+        Lookahead::One => concat_one(set, other),
+        Lookahead::Two => concat_two(set, other),
     }
 }
 

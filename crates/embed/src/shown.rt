@@ -1,5 +1,4 @@
 // Judging with a parse tree, whose words stand in memory of the caller's and their number in a word of its own.
-ghost use mathlib.Core.Path.{_≡_};
 ghost use Rattle.event.specs.Events.{inputOf};
 ghost use Rattle.embed_promises.specs.Exports.{TreeExported};
 use packing::pack;

@@ -33,7 +33,7 @@ use Rattle.recognizer_promises.specs.Properties.{Checks, Judges}
 use Rattle.recognizer_promises.proofs.Checking.{passed-fault, passed-encodes, passed-free}
 use Rattle.recognizer_promises.proofs.JudgeFaults.{judged-readable}
 use Rattle.recognizer_promises.proofs.Judged.{verdict-unrefused}
-use Rattle.recognizer_promises.proofs.CallErrors.{check-each, judge-each, costliest-each}
+use Rattle.recognizer_promises.proofs.RefusalErrors.{check-each, judge-each, costliest-each}
 use Rattle.recognizer_promises.specs.CostliestInput.{costliestInput, costliestFault}
 use Rattle.recognizer_promises.specs.Costliest.{JudgesCostliest}
 use Rattle.usage.specs.declared.Usage.{Usage}

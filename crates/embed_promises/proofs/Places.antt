@@ -1,7 +1,7 @@
 -- The position that a refusal tells is a small number: an index of a word or a token, a nonterminal, or an entry of the table.
 use mathlib.Core.Path.{_≡_}
 use mathlib.Core.List.{List}
-use Prim.Native.Nat.{ℕ, _≤_, _<_}
+use Prim.Native.Nat.{ℕ, _≤_}
 use native.Mathlib.Omega.{arith}
 use Rattle.answer.specs.declared.Error.{Error}
 use Rattle.answer.specs.Numbers.{coded}
@@ -17,7 +17,7 @@ use Rattle.table.specs.Conflicts.{firstClash}
 use Rattle.table.proofs.FirstClash.{clash-at}
 use Rattle.recognizer_promises.specs.Answers.{tableTooShort}
 use Rattle.promises.proofs.SetsErrors.{SetsErrors}
-use Rattle.recognizer_promises.proofs.CallErrors.{JudgeErrors}
+use Rattle.recognizer_promises.proofs.RefusalErrors.{JudgeErrors}
 use Rattle.promises.proofs.InputErrors.{InputErrors}
 
 abbrev pub Low : Error → Type 0

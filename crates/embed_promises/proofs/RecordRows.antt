@@ -1,14 +1,13 @@
 -- The clients' records in a row of numbers: one client's four numbers written after the other's.
-use mathlib.Core.Path.{_≡_, refl, sym, ap, _∙_}
+use mathlib.Core.Path.{_≡_, refl, _∙_}
 use mathlib.Core.List.{List, [], _∷_}
-use mathlib.Core.Logic.{⊎-elim}
 use Prim.Native.Nat.{ℕ, _+_, _*_, _≤_, _<_}
 use native.Mathlib.Decide.{ℕ-discrete}
 use native.Mathlib.Omega.{arith}
 use lib.ListN.{length, getD, set, replicate, length-set, length-replicate}
 use lib.Seq.{getD-set-same, getD-set-other}
 use Rattle.usage.specs.declared.Usage.{Usage}
-use Rattle.usage.specs.Counters.{usageOf, unused}
+use Rattle.usage.specs.Counters.{usageOf}
 use Rattle.client_records.specs.Usages.{clients, usageOfClient}
 use Rattle.embed_promises.specs.Records.{usageAt, usagesIn, Written}
 

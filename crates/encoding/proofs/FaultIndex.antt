@@ -23,7 +23,7 @@ use Rattle.grammar.proofs.WellFormed.{never, step-passed, onward}
 use Rattle.encoding.proofs.Words.{decoded-end}
 use Rattle.encoding.proofs.EncodingRead.{Within, Between, within-between, goes-word, end-goes}
 use Rattle.encoding.proofs.ReadingEncodes.{opened-encodes, encodes-opened}
-use Rattle.encoding.proofs.Faults.{complete}
+use Rattle.encoding.proofs.Faults.{completion, complete}
 
 -- the index of a fault behind the heading
 pub record Place (words : List ℕ) (i : ℕ) (x : Error) : Type 0 where
@@ -42,7 +42,9 @@ begins ws rest z e = record { rest = rest; grammar = grammarOf (ws ++ rest); enc
 -- a fault at an index, by the words before it and the word at it
 module _ (words : List ℕ) (i : ℕ) (x : Error) (h : Place words i x) where
   pub begun : BeginsEncoding (take i words)
-  begun = let c = complete (h .come .state) (h .come .sizes) in begins (take i words) (c .rest) (c .sizes) (h .opens (c .rest) ∙ c .goes i)
+  begun =
+      let rest = completion (h .come .state) in
+      begins (take i words) rest (h .come .sizes) (h .opens rest ∙ complete (h .come .state) (h .come .sizes) i)
 
   -- the words before the index, and behind them others that make an encoding
   scanned : (us : List ℕ) (G : Grammar) → Encodes (take i words ++ us) G → scan (h .come) i us ≡ Read (sizesOf G)

@@ -27,22 +27,20 @@ use Rattle.grammar.proofs.WellFormed.{faulty, never, step-passed}
 use Rattle.encoding.proofs.Words.{decoded-positive}
 use Rattle.encoding.proofs.EncodingRead.{Goes, goes-word, closed-goes, end-goes}
 
--- from every index there is a way to the end
-pub record Completes (p : Progress) : Type 0 where
-  pub rest : List ℕ
-  pub sizes : Sizes
-  pub goes : Goes p rest sizes
+-- from every index there is a way to the end, of no more than a positive and the end
+abbrev pub completion : State → List ℕ
+completion Before = endWord ∷ []
+completion Opened = positiveWord ∷ endWord ∷ []
+completion InPositive = endWord ∷ []
+completion InNegative = endWord ∷ []
+completion Closed = []
 
-pub complete : (s : State) (y : Sizes) → Completes (progress s y)
-complete Before y = record { rest = endWord ∷ []; sizes = y; goes = end-goes Before y refl }
-complete Opened y = record {
-  rest = positiveWord ∷ endWord ∷ [];
-  sizes = y;
-  goes = goes-word positiveWord Positive Opened y y (endWord ∷ []) decoded-positive refl refl refl (end-goes InPositive y refl);
-}
-complete InPositive y = record { rest = endWord ∷ []; sizes = y; goes = end-goes InPositive y refl }
-complete InNegative y = record { rest = endWord ∷ []; sizes = y; goes = end-goes InNegative y refl }
-complete Closed y = record { rest = []; sizes = y; goes = closed-goes y }
+pub complete : (s : State) (y : Sizes) → Goes (progress s y) (completion s) y
+complete Before y = end-goes Before y refl
+complete Opened y = goes-word positiveWord Positive Opened y y (endWord ∷ []) decoded-positive refl refl refl (end-goes InPositive y refl)
+complete InPositive y = end-goes InPositive y refl
+complete InNegative y = end-goes InNegative y refl
+complete Closed y = closed-goes y
 
 pub stop-same : (x y : Error) → Stop x ≡ Stop y → y ≡ x
 stop-same x y e = cc
@@ -51,7 +49,7 @@ faulty-same : (x y : Error) → Faulty x ≡ Faulty y → y ≡ x
 faulty-same x y e = cc
 
 -- a word that goes on does so wherever it stands
-goes-anywhere : (w : Word) (p q : Progress) (at j : ℕ) → stepped w p at ≡ Go q → stepped w p j ≡ Go q
+pub goes-anywhere : (w : Word) (p q : Progress) (at j : ℕ) → stepped w p at ≡ Go q → stepped w p j ≡ Go q
 unfolding counted
 goes-anywhere w p q at j e = go (stepped w p at) (stepping w p at) e
   where

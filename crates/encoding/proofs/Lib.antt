@@ -8,3 +8,4 @@ pub mod Diagnosis
 pub mod OneDiagnosis
 pub mod Faithful
 pub mod Examples
+pub mod Completing

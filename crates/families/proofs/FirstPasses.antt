@@ -19,7 +19,7 @@ use Rattle.grammar.specs.WellRead.{firstRule}
 use Rattle.grammar.proofs.EachIndex.{Behind}
 use Rattle.lookahead.specs.declared.Lookahead.{Lookahead}
 use Rattle.lookahead.specs.Elements.{Subset}
-use Rattle.lookahead.specs.Operations.{end, terminal, full, meet}
+use Rattle.lookahead.specs.Operations.{end, terminal, full}
 use Rattle.lookahead.proofs.Order.{subset-refl, meet-mono}
 use Rattle.lookahead.proofs.Concat.{concat-mono}
 use Rattle.families.specs.declared.Rest.{Rest}

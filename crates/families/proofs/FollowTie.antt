@@ -11,7 +11,6 @@ use Rattle.grammar.specs.declared.reading.Outcome.the-variants.{Read}
 use Rattle.grammar.specs.Limits.{maxNonterminals}
 use Rattle.grammar.specs.Syntax.{Body, Rule, Grammar, WellFormed, TerminalsBelow}
 use Rattle.grammar.specs.Encoding.{parse, grammarOf}
-use Rattle.grammar.specs.Reading.{reading}
 use Rattle.grammar.proofs.EachIndex.{read-whole}
 use Rattle.grammar.proofs.WellRead.{well-read}
 use Rattle.semantics.specs.Families.{FirstBody, FollowBody, FollowClosed}
@@ -19,7 +18,7 @@ use Rattle.semantics.specs.FirstFollow.{first, follow, First, Follow}
 use Rattle.semantics.proofs.families.First.{first-lookahead}
 use Rattle.semantics.proofs.families.Follow.{follow-lookahead, follow-closed, follow-smallest}
 use Rattle.lookahead.specs.declared.Lookahead.{Lookahead}
-use Rattle.lookahead.specs.Lookaheads.{tokens, alphabet, elements, nothing, stringOf, after}
+use Rattle.lookahead.specs.Lookaheads.{tokens, alphabet, nothing, stringOf, after}
 use Rattle.lookahead.specs.Elements.{Subset}
 use Rattle.lookahead.specs.Operations.{end, full, concatNumbers}
 use Rattle.lookahead.proofs.Strings.{string-nothing, string-after, after-below, nothing-below}

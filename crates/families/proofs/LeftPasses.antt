@@ -4,12 +4,9 @@ use mathlib.Core.Bool.{Bool, true, false}
 use mathlib.Core.List.{List, [], _∷_, _++_}
 use Prim.Native.Nat.{ℕ, _+_, _-_, _≤_, _<_}
 use native.Mathlib.Omega.{arith}
-use denote.Enum.Declared.{tagOf}
-use types.Run.{OneOf, miss}
 use lib.ListN.{take, drop}
 use lib.Seq.{drop-cons}
 use borrow.Author.Tests.{lt-ltb, le-ltb}
-use Rattle.word.proofs.Word.{the-type}
 use Rattle.word.specs.declared.Symbol.{Symbol as GrammarSymbol}
 use Rattle.word.specs.declared.Symbol.the-variants.{Terminal, Nonterminal}
 use Rattle.word.specs.declared.Word.{Word}
@@ -24,7 +21,6 @@ use Rattle.lookahead.specs.Elements.{weight, Subset}
 use Rattle.lookahead.specs.Operations.{empty, join, Empty, Joined}
 use Rattle.lookahead.proofs.Order.{subset-refl, subset-antisym, join-left, join-right, join-least, join-mono, join-same}
 use Rattle.base.specs.Rounds.{NumberSet}
-use Rattle.families.specs.declared.Left.{Left}
 use Rattle.families.specs.Least.{SetFamily, Under}
 use Rattle.families.specs.Left.{symbolLeft, bodyLeft, bodiesLeft, lefts, leftOf, ownLeft, insideLeft}
 use Rattle.families.specs.Naming.{IndexedSymbol, Indexed}
@@ -115,17 +111,6 @@ inside-left s R End p i x b = rw (b .body, b .positives, b .negatives) (ap (left
 inside-left s R (RuleWord A) p i x b = absurd i
 inside-left s R (Heading m n) p i x b = absurd i
 inside-left s R Invalid p i x b = absurd i
-
--- what `inside_left` returns for a word that is no symbol
-pub left-closed : (s : NumberSet) (R : SetFamily) (w : Word) {left : Left} {x y : ℕ} → OneOf (0 ∷ 1 ∷ 2 ∷ 3 ∷ 5 ∷ 6 ∷ []) (tagOf the-type w) → Empty x
-    → Joined (left .body .bits) (left .rule .bits) y → lefts x y ≡ insideLeft s R w left
-left-closed s R (Symbol X) h n j = absurd (miss (0 ∷ 1 ∷ 2 ∷ 3 ∷ 5 ∷ 6 ∷ []) 4 tt h)
-left-closed s R Positive h n j = rw (n .is, j .is)
-left-closed s R Negative h n j = rw (n .is, j .is)
-left-closed s R End h n j = rw (n .is, j .is)
-left-closed s R (RuleWord A) h n j = rw (n .is, j .is)
-left-closed s R (Heading m t) h n j = rw (n .is, j .is)
-left-closed s R Invalid h n j = rw (n .is, j .is)
 
 -- what a rule gives, the more the larger the family
 abbrev pub ruleLeft : NumberSet → SetFamily → Rule → ℕ

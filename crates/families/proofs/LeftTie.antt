@@ -1,5 +1,5 @@
 -- The least family that left dependence closes is what the nonterminals left-reach, in numbers.
-use mathlib.Core.Path.{_≡_, refl, sym, subst, _∙_}
+use mathlib.Core.Path.{_≡_, refl, sym, subst}
 use mathlib.Core.Bool.{Bool, true, false}
 use mathlib.Core.List.{List, [], _∷_, List·Memᴰ, List·Memᴰ·head, List·Memᴰ·tail, List·Memᴰ·cases-cons, List·Memᴰ·not-nil}
 use mathlib.Core.Logic.{_↔_, _⊎_, inl, inr}
@@ -19,7 +19,7 @@ use Rattle.grammar.specs.Encoding.{parse, grammarOf}
 use Rattle.grammar.proofs.WellRead.{well-read}
 use Rattle.grammar.proofs.EachIndex.{read-whole}
 use Rattle.lookahead.specs.declared.Lookahead.{Lookahead}
-use Rattle.lookahead.specs.Lookaheads.{tokens, nothing, alphabet}
+use Rattle.lookahead.specs.Lookaheads.{tokens, nothing}
 use Rattle.lookahead.specs.Elements.{weight, has}
 use Rattle.lookahead.specs.Operations.{join}
 use Rattle.lookahead.proofs.Strings.{string-nothing, some-token, nothing-below}
@@ -39,7 +39,7 @@ use Rattle.base.specs.Lists.{listed}
 use Rattle.families.specs.Sets.{firstNumber, reachNumber}
 use Rattle.families.specs.Least.{SetFamily, at, LeastNumbers}
 use Rattle.families.specs.Left.{emptyIn, symbolLeft, bodyLeft, bodiesLeft, ReachClosed}
-use Rattle.base.proofs.Lists.{listed-is, listed-at}
+use Rattle.base.proofs.Lists.{listed-is}
 use Rattle.families.proofs.FewTerminals.{admitted-read, few-terminals}
 use Rattle.families.proofs.Numbers.{number-string, string-number, array-at}
 

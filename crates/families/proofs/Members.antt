@@ -1,20 +1,20 @@
 -- The size of a set's number is how many strings the set has.
 use mathlib.Core.Path.{_≡_, refl, sym, ap, _∙_}
 use mathlib.Core.Bool.{Bool, true, false}
-use mathlib.Core.List.{List, [], _∷_, map, List·Memᴰ, Memᴰ·map, Memᴰ·of-map, Memᴰ·cast}
-use Prim.Native.Nat.{ℕ, zero, suc, _+_, _≤_, _<_}
+use mathlib.Core.List.{List, [], _∷_, map, Memᴰ·map, Memᴰ·of-map, Memᴰ·cast}
+use Prim.Native.Nat.{ℕ, zero, suc, _+_, _≤_}
 use native.Mathlib.Omega.{arith}
 use lib.Dec.{T}
 use lib.ListN.{length, length-map}
 use borrow.Author.Tests.{lt-ltb}
 use Rattle.base.specs.FiniteSets.{Distinct, keep, numbersFrom, numbers}
 use Rattle.base.specs.Strings.{Lookahead as Looked}
-use Rattle.base.proofs.FiniteSets.{keep-make, keep-elim, numbers-make, numbers-elim}
+use Rattle.base.proofs.FiniteSets.{keep-make, keep-elim, numbers-make}
 use Rattle.base.proofs.Distinct.{distinct-keep, distinct-numbers}
 use Rattle.base.specs.Quantifiers.{one, countBelow}
 use Rattle.lookahead.specs.declared.Lookahead.{Lookahead}
 use Rattle.lookahead.specs.Lookaheads.{tokens, alphabet, elements, elementOf, stringOf}
-use Rattle.lookahead.specs.Elements.{has, size, width}
+use Rattle.lookahead.specs.Elements.{has, size}
 use Rattle.lookahead.proofs.Strings.{string-same}
 use Rattle.lookahead.proofs.Bounds.{elements-fit}
 use Rattle.lookahead.proofs.Size.{count-cong, count-first, size-below}

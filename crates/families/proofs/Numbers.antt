@@ -19,7 +19,7 @@ use Rattle.families.specs.Least.{SetFamily, at, LeastNumbers}
 use Rattle.base.specs.Lists.{listed}
 use Rattle.families.specs.Sets.{numberOf}
 use Rattle.base.proofs.Lists.{listed-long, listed-at}
-use Rattle.families.proofs.Strings.{lookahead-string, lookahead-bound, StringIn, string-in, in-string, number-has, has-number, number-element}
+use Rattle.families.proofs.Strings.{lookahead-string, lookahead-bound, StringIn, in-string, number-has, has-number}
 
 -- the sets of strings that pass, by nonterminal
 abbrev pub numbersOf : Lookahead → (Entry → Bool) → SetFamily

@@ -22,8 +22,7 @@ use Rattle.semantics.specs.Predictive.{Predictive}
 use Rattle.semantics.proofs.Theorems.{theorems as semantics}
 use Rattle.semantics.proofs.examples.Check.{belowTest, scopedTest, terminalsTest, ownTest, predictive}
 use Rattle.semantics.proofs.examples.Computing.{left-recursion-computes, tables-compute, descent-computes, calls-compute}
-use Rattle.following.specs.Following.{MayFollow, behind, Agrees, Begins}
-use Rattle.following.specs.Following.{start as nothing}
+use Rattle.following.specs.Following.{MayFollow, behind, Agrees, Begins, start as nothing}
 use Rattle.following.specs.Theorems.{EntriesTell}
 use Rattle.following.proofs.Theorems.{theorems}
 use Rattle.following.proofs.ExamplesFollowing.{solved, b-follows-A}

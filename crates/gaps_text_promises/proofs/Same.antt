@@ -20,7 +20,7 @@ use Rattle.grammar.proofs.WellRead.{well-read}
 use Rattle.lookahead.specs.declared.Lookahead.the-variants.{One}
 use Rattle.lookahead.specs.Lookaheads.{alphabet}
 use Rattle.lookahead.specs.Operations.{isEmpty, terminal}
-use Rattle.semantics.specs.Claims.{claims, overruns}
+use Rattle.semantics.specs.Claims.{overruns}
 use Rattle.families.specs.declared.Finding.{Finding}
 use Rattle.families.specs.declared.Finding.the-variants.{Passed, Refused}
 use Rattle.families.specs.Analysis.{setsFault, byRuleIf}
@@ -36,7 +36,8 @@ use Rattle.columns.proofs.ColumnStrings.{column-string, element-small}
 use Rattle.text.specs.Refusal.{refusalText}
 use Rattle.text.specs.Writing.{Put}
 use Rattle.gaps_text_promises.specs.Gaps.{claimsBy, gapsText, GapsPut}
-use Rattle.gaps_text_promises.specs.Steps.{claimantText, numbersText, claimantsText, entryLine, rowText, overrunLine, overrunsText, linesText, claimsAt, claimantAt, overrunsBy, overrunsIn, withinLimits, gapsBy, GapsPutBy}
+use Rattle.gaps_text_promises.specs.Steps.{claimantText, numbersText, claimantsText, entryLine, rowText, overrunLine, overrunsText, linesText, claimsAt}
+use Rattle.gaps_text_promises.specs.Steps.{claimantAt, overrunsBy, overrunsIn, withinLimits, gapsBy, GapsPutBy}
 use Rattle.gaps_text_promises.proofs.Entries.{up-to-same, lines-are}
 use Rattle.gaps_text_promises.proofs.Overlaps.{lines-tell}
 

@@ -1,7 +1,7 @@
 -- Inputs in letter order, how many there are, and the first of those that cost the most, by computation.
 use mathlib.Core.Path.{_≡_, refl}
 use mathlib.Core.Bool.{true}
-use mathlib.Core.List.{List, [], _∷_, _++_, map}
+use mathlib.Core.List.{List, [], _∷_}
 use Prim.Native.Nat.{ℕ, _+_, _%_}
 use lib.ListN.{getD}
 use Rattle.base.specs.FiniteSets.{numbersFrom, numbers, combine}

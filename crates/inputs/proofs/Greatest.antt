@@ -4,12 +4,11 @@ use mathlib.Core.Bool.{Bool, true, false}
 use mathlib.Core.List.{List, [], _∷_}
 use Prim.Native.Nat.{ℕ, zero, suc, _^_, _≤_, _<_}
 use native.Mathlib.Omega.{arith}
-use lib.Dec.{T, ltb}
+use lib.Dec.{ltb}
 use lib.ListN.{length, getD}
 use borrow.Author.Tests.{ltb-true, ltb-false}
 use Rattle.base.specs.Choice.{choose}
-use Rattle.base.specs.Strings.{Over}
-use Rattle.inputs.specs.Inputs.{inputs, inputAt, before}
+use Rattle.inputs.specs.Inputs.{inputs, inputAt}
 use Rattle.inputs.specs.Costliest.{costliestFrom, firstCostliest, costliest, CostliestOf}
 use Rattle.inputs.proofs.Numbers.{inputs-count, some-input, inputs-at, numberFrom, at-long, at-over, number-at, at-number, before-lower}
 

@@ -1,7 +1,6 @@
 // What is printed of a judgement: a refusal, or a verdict and the calls that the memo table holds.
 ghost use mathlib.Core.Path.{_≡_};
 ghost use mathlib.Core.List.{_++_};
-ghost use Prim.Native.Nat.{_+_, _/_, _%_};
 ghost use lib.ListN.{getD};
 ghost use Rattle.grammar.specs.Codes.{uncalledCode};
 ghost use Rattle.text.specs.Ascii.{ascii};

@@ -3,6 +3,7 @@ ghost use mathlib.Core.Path.{_≡_};
 ghost use Rattle.families.specs.Least.{at as family};
 ghost use Rattle.families.specs.Left.{emptyIn, ownLeft, lefts, insideLeft};
 ghost use Rattle.families.specs.Rules.{fromEnd};
+ghost use Rattle.lookahead.specs.Operations.{empty, join};
 use families::Left;
 use families::SETS;
 use families::nonterminals::Nonterminals;
@@ -50,7 +51,17 @@ fn symbol_left(
     }
 }
 
-// The same with a word inside a rule in front.
+// A body ends: what is at its left is at the left of the rule too.
+fn ended(body: Nonterminals, rule: Nonterminals) -> Left
+    ensures { λ r. ⌜ r ≡ lefts empty (join (body .bits) (rule .bits)) ⌝ }
+{
+    Left {
+        body: Nonterminals::empty(),
+        rule: body.join(rule),
+    }
+}
+
+// The same with a word inside a rule in front. Bodies of both signs count.
 fn inside_left(
     word: Word,
     left: Left,
@@ -62,15 +73,20 @@ fn inside_left(
 {
     let body = left.body;
     let rule = left.rule;
-    let Word::Symbol(symbol) = word else {
-        return Left {
-            body: Nonterminals::empty(),
-            rule: body.join(rule),
-        };
-    };
-    Left {
-        body: symbol_left(symbol, body, firsts, reach, lookahead),
-        rule,
+    match word {
+        Word::Symbol(symbol) => Left {
+            body: symbol_left(symbol, body, firsts, reach, lookahead),
+            rule,
+        },
+        Word::Positive => ended(body, rule),
+        Word::Negative => ended(body, rule),
+        Word::End => ended(body, rule),
+        Word::Rule(_) => ended(body, rule),
+        Word::Heading {
+            nonterminals: _,
+            terminals: _,
+        } => ended(body, rule),
+        Word::Invalid => ended(body, rule),
     }
 }
 

@@ -1,5 +1,4 @@
 -- What lending leaves of the caller's memory: the words of the table, as they are laid out from the arrays of sets and of entries that are found.
-use mathlib.Core.Path.{_≡_}
 use mathlib.Core.List.{List, _++_}
 use Prim.Native.Nat.{ℕ, _+_, _-_, _*_, _/_, _%_, _^_, _≤_}
 use lib.Dec.{eqb, ltb}

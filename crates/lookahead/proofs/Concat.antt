@@ -14,7 +14,7 @@ use Rattle.lookahead.proofs.Emptiness.{empty-none, none-empty, some-ele
 use Rattle.lookahead.proofs.Strings.{nothing-after, after-nothing, after-assoc, after-below, after-is-nothing, nothing-below}
 use Rattle.lookahead.proofs.Operations.{has-end}
 use Rattle.lookahead.proofs.Order.{subset-antisym}
-use Rattle.lookahead.proofs.Pairs.{Pair, pair-concat, concat-pair}
+use Rattle.lookahead.proofs.Pairs.{pair-concat, concat-pair}
 use Rattle.lookahead.proofs.Weights.{total-bound}
 
 module _ (k : Lookahead) where

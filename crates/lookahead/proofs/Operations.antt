@@ -6,7 +6,7 @@ use Prim.Native.Nat.{ℕ, _<_}
 use lib.Dec.{T, eqb, ltb, eqb→eq, lt→ltb}
 use mir.Facts.{and-yes, yes-and}
 use Rattle.base.specs.Choice.{choose}
-use Rattle.base.specs.Quantifiers.{allOf, anyBelow}
+use Rattle.base.specs.Quantifiers.{allOf}
 use Rattle.base.proofs.Booleans.{both}
 use Rattle.base.proofs.Quantified.{below-elim}
 use Rattle.lookahead.specs.declared.Lookahead.{Lookahead}

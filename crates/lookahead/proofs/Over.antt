@@ -1,20 +1,19 @@
 -- With t terminals, for any t: the operations on sets of strings over these terminals give such sets again.
-use mathlib.Core.Path.{_≡_, sym}
+use mathlib.Core.Path.{_≡_}
 use mathlib.Core.List.{[], _∷_}
 use mathlib.Core.Logic.{inl, inr}
-use Prim.Native.Nat.{ℕ, _^_, _≤_, _<_}
-use native.Mathlib.Omega.{arith}
-use lib.Dec.{T, ltb, eqb, eqb→eq, ltb→lt, lt→ltb}
+use Prim.Native.Nat.{ℕ, _^_, _<_}
+use lib.Dec.{ltb, eqb, eqb→eq, ltb→lt, lt→ltb}
 use mir.Facts.{and-yes, yes-and, or-yes}
 use Rattle.base.specs.Quantifiers.{allOf}
-use Rattle.base.specs.Strings.{Over}
 use Rattle.base.proofs.LookaheadStrings.{cut-lookahead}
 use Rattle.lookahead.specs.declared.Lookahead.{Lookahead}
-use Rattle.lookahead.specs.Lookaheads.{tokens, alphabet, elements, nothing, elementOf, stringOf, after}
+use Rattle.lookahead.specs.Lookaheads.{tokens, alphabet, elements, nothing, elementOf, stringOf}
 use Rattle.lookahead.specs.Elements.{has, Subset, OverTerminals}
 use Rattle.lookahead.specs.Operations.{empty, end, terminal, full, join, meet, concatNumbers}
 use Rattle.lookahead.proofs.Elements as of-numbers
-use Rattle.lookahead.proofs.Strings.{string-nothing, string-terminal, single-looked, string-over, string-after, after-below, element-below, nothing-below, over-none}
+use Rattle.lookahead.proofs.Strings.{string-nothing, string-terminal, single-looked, string-over, string-after, after-below, element-below}
+use Rattle.lookahead.proofs.Strings.{nothing-below, over-none}
 use Rattle.lookahead.proofs.Operations.{has-empty, has-end, has-terminal, has-full, has-join}
 use Rattle.lookahead.proofs.Order.{subset-refl, subset-antisym, meet-left, meet-greatest}
 use Rattle.lookahead.proofs.Pairs.{concat-pair}

@@ -2,11 +2,11 @@
 use mathlib.Core.Bool.{Bool, true, false}
 use mathlib.Core.List.{List, [], _∷_, _++_, map, append-nil, append-assoc}
 use mathlib.Core.Path.{_≡_, refl, sym, ap, _∙_}
-use Prim.Native.Nat.{ℕ, zero, suc, _+_, _≤_}
+use Prim.Native.Nat.{ℕ, zero, suc, _+_}
 use native.Mathlib.Omega.{arith}
 use lib.ListN.{length}
 use Rattle.base.specs.FiniteSets.{keep, numbersFrom, numbers, combine}
-use Rattle.base.proofs.FiniteSets.{keep-grows, keep-all}
+use Rattle.base.specs.Quantifiers.{one}
 
 module _ {X : Type 0} (p : X → Bool) where
   pub keep-append : (l l′ : List X) → keep p (l ++ l′) ≡ keep p l ++ keep p l′
@@ -20,8 +20,14 @@ module _ {X : Type 0} (p : X → Bool) where
       go true e = ap {B = List X} (λ r. x ∷ r) e
       go false e = e
 
-  pub keep-length : (l : List X) → length (keep p l) ≤ length l
-  keep-length l = omega (arith, keep-grows p (λ _. true) l (λ x m t. tt), ap (length {A = X}) (keep-all l))
+  -- of one element, it or nothing is kept
+  pub keep-one : (x : X) → length (keep p (x ∷ [])) ≡ one (p x)
+  unfolding keep
+  keep-one x = go (p x)
+    where
+      go : (b : Bool) → length {A = X} (elim b as (λ _. List X) [ true ↦ x ∷ [] | false ↦ [] ]) ≡ one b
+      go true = refl
+      go false = refl
 
 numbersFrom-more : (a n : ℕ) → numbersFrom a (suc n) ≡ numbersFrom a n ++ ((a + n) ∷ [])
 unfolding numbersFrom

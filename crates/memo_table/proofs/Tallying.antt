@@ -1,184 +1,175 @@
 -- The tally of a memo table, entry by entry and row by row; where the table records the calls of a descent, it is their tally.
-use mathlib.Core.Bool.{Bool, true, false, not, true≢false, false≢true}
-use mathlib.Core.List.{List, [], _∷_, _++_, map, map-append}
+use mathlib.Core.Bool.{true, false}
+use mathlib.Core.List.{List, [], _∷_, _++_, map, map-append, List·Memᴰ, List·Memᴰ·head, List·Memᴰ·tail}
 use mathlib.Core.Path.{_≡_, refl, sym, ap, _∙_}
-use Prim.Native.Nat.{ℕ, zero, suc, _+_, _*_, _/_, max, _≤_, _<_}
+use Prim.Native.Nat.{ℕ, zero, suc, _+_, _-_, _*_, _/_, _≤_, _<_}
 use native.Mathlib.Nat.{mul-add-div-right, div-eq-of-lt}
+use native.Mathlib.Decide.{decLt, ℕ-discrete}
 use native.Mathlib.Omega.{arith}
 use lib.Arith.{digits-lt}
-use lib.Dec.{eqb}
+use lib.Dec.{T}
 use borrow.Author.Tests.{eq-eqb, ne-eqb}
-use lib.ListN.{length, getD, length-append, length-map}
+use lib.ListN.{length, getD, length-append}
 use Rattle.answer.specs.declared.Calls.{Calls}
-use Rattle.base.specs.Choice.{choose}
 use Rattle.grammar.specs.Codes.{uncalledCode}
 use Rattle.grammar.specs.Syntax.{Grammar}
 use Rattle.base.specs.FiniteSets.{keep, numbersFrom, numbers, combine}
+use Rattle.base.specs.Quantifiers.{anyBelow, one, countBelow}
 use Rattle.semantics.specs.Choices.{Choice}
 use Rattle.semantics.specs.ComesTo.{Call, callAt}
 use Rattle.semantics.specs.Calls.{allCalls, callCount, greatestPlace, farthest}
 use Rattle.semantics.specs.Memo.{Memo, Recorded, written}
-use Rattle.base.proofs.FiniteSets.{numbers-length}
-use Rattle.base.proofs.Distinct.{combine-length}
-use Rattle.memo_table.specs.Tally.{tallyOf, together, writtenAmong, entryCount, recordedRow, recordedCalls}
-use Rattle.memo_table.proofs.JoinedLists.{keep-append, keep-length, numbers-more, combine-more}
+use Rattle.base.proofs.Booleans.{T-true}
+use Rattle.base.proofs.FiniteSets.{keep-make, keep-elim, numbers-make, numbers-elim, combine-make, combine-elim}
+use Rattle.base.proofs.Quantified.{below-make, below-elim, one-le, count-le}
+use Rattle.memo_table.specs.Tally.{tallyOf, records, recordsAt, recordedBelow, writtenAmong, recordedCalls, calledAt, RowsGiven}
+use Rattle.memo_table.proofs.JoinedLists.{keep-append, keep-one, numbers-more, combine-more}
 use Rattle.memo_table.proofs.Entries.{getD-any}
 
-calls-same : (a b : Calls) → a .count ≡ b .count → a .farthest ≡ b .farthest → a ≡ b
-calls-same a b e d =
-    let s : _≡_ {A = Calls} (record { count = a .count; farthest = a .farthest }) (record { count = b .count; farthest = b .farthest }) = cc in
-    s
-
-pub together-left : (a b : Calls) → b .farthest ≤ a .farthest → record { count = a .count + b .count; farthest = a .farthest } ≡ together a b
-unfolding together
-together-left a b h = calls-same _ _ refl (omega arith)
-
-pub together-right : (a b : Calls) → a .farthest < b .farthest → record { count = a .count + b .count; farthest = b .farthest } ≡ together a b
-unfolding together
-together-right a b h = calls-same _ _ refl (omega arith)
-
-greatest-append : (l l′ : List Call) → greatestPlace (l ++ l′) ≡ max (greatestPlace l) (greatestPlace l′)
+greatest-most : (l : List Call) (x : Call) → List·Memᴰ x l → x .place ≤ greatestPlace l
 unfolding greatestPlace
-greatest-append [] l′ = omega arith
-greatest-append (x ∷ l) l′ = omega (arith, greatest-append l l′)
+greatest-most (y ∷ l) x (List·Memᴰ·head e) = rw e (omega arith)
+greatest-most (y ∷ l) x (List·Memᴰ·tail m) = omega (arith, greatest-most l x m)
 
--- lists of calls put together have their tallies together
-tally-append : (l l′ : List Call) → together (tallyOf l) (tallyOf l′) ≡ tallyOf (l ++ l′)
-unfolding together tallyOf
-tally-append l l′ = calls-same _ _ (sym (length-append l l′)) (sym (greatest-append l l′))
+greatest-within : (l : List Call) (p : ℕ) → ((x : Call) → List·Memᴰ x l → x .place ≤ p) → greatestPlace l ≤ p
+unfolding greatestPlace
+greatest-within [] p h = omega arith
+greatest-within (y ∷ l) p h = omega (arith, h y (List·Memᴰ·head refl), greatest-within l p (λ x m. h x (List·Memᴰ·tail m)))
+
+-- entries counted one after the other
+module _ (m : Memo) where
+  pub count-none : 0 ≡ recordedBelow m 0
+  unfolding recordedBelow countBelow
+  count-none = refl
+
+  count-next : (i : ℕ) → recordedBelow m i + one (recordsAt m i) ≡ recordedBelow m (suc i)
+  unfolding recordedBelow countBelow
+  count-next i = omega arith
+
+  pub count-more : {k : ℕ} (i : ℕ) → i < length m → k ≡ one (records (getD m i 0)) → recordedBelow m i + k ≡ recordedBelow m (i + 1)
+  count-more {k} i h e =
+      let s : i + 1 ≡ suc i = omega arith in
+      let same : k ≡ one (recordsAt m i) = e ∙ ap (λ x. one (records x)) (getD-any m i 0 uncalledCode h) in
+      rw (s, same) (count-next i)
+
+  pub count-bound : (n : ℕ) → recordedBelow m n ≤ n
+  unfolding recordedBelow
+  count-bound n = count-le n (recordsAt m)
+
+-- an entry is counted at most once
+pub one-bound : {k : ℕ} (entry : ℕ) → k ≡ one (records entry) → k ≤ 1
+one-bound entry e = omega (arith, one-le (records entry))
 
 module _ (m : Memo) (tokens : ℕ) where
-  -- a row goes on by one entry: its call, if it is written
-  row-more : (A i : ℕ) → recordedRow m tokens A (i + 1) ≡ recordedRow m tokens A i ++ keep (writtenAmong tokens m) (callAt A i ∷ [])
-  unfolding recordedRow
-  row-more A i =
-      ap (keep (writtenAmong tokens m)) (ap (map (callAt A)) (numbers-more i) ∙ map-append (callAt A) (numbers i) (i ∷ []))
-      ∙ keep-append (writtenAmong tokens m) (map (callAt A) (numbers i)) (callAt A i ∷ [])
+  abbrev kept : List Call → List Call
+  kept = keep (writtenAmong tokens m)
 
-  entry-same : (A i : ℕ) → A * (tokens + 1) + i < length m → getD m (A * (tokens + 1) + i) 0 ≡ getD m (A * suc tokens + i) uncalledCode
-  entry-same A i h =
-      let e : A * (tokens + 1) + i ≡ A * suc tokens + i = omega arith in
-      getD-any m (A * (tokens + 1) + i) 0 uncalledCode h ∙ ap (λ j. getD m j uncalledCode) e
+  -- the entries of a row in front of a place are those of its calls
+  row-count : (A i : ℕ) → recordedBelow m (A * suc tokens) + length (kept (map (callAt A) (numbers i))) ≡ recordedBelow m (A * suc tokens + i)
+  unfolding keep numbers numbersFrom
+  row-count A zero = let e : A * suc tokens + 0 ≡ A * suc tokens = omega arith in rw e (omega arith)
+  row-count A (suc i) =
+      let s : suc i ≡ i + 1 = omega arith in
+      let b : A * suc tokens + suc i ≡ suc (A * suc tokens + i) = omega arith in
+      let more : kept (map (callAt A) (numbers (suc i))) ≡ kept (map (callAt A) (numbers i)) ++ kept (callAt A i ∷ []) =
+      ap kept (ap (map (callAt A)) (ap numbers s ∙ numbers-more i) ∙ map-append (callAt A) (numbers i) (i ∷ []))
+      ∙ keep-append (writtenAmong tokens m) (map (callAt A) (numbers i)) (callAt A i ∷ []) in
+      let long : length (kept (map (callAt A) (numbers (suc i)))) ≡ length (kept (map (callAt A) (numbers i))) + one (recordsAt m (A * suc tokens + i)) =
+      ap (length {A = Call}) more ∙ length-append (kept (map (callAt A) (numbers i))) (kept (callAt A i ∷ []))
+      ∙ ap (λ (c : ℕ). length (kept (map (callAt A) (numbers i))) + c) (keep-one (writtenAmong tokens m) (callAt A i)) in
+      rw b (omega (arith, long, row-count A i, count-next m (A * suc tokens + i)))
 
-  one-count : (A i : ℕ) → A * (tokens + 1) + i < length m
-      → length {A = Call} (keep (writtenAmong tokens m) (callAt A i ∷ [])) ≡ entryCount (getD m (A * (tokens + 1) + i) 0)
-  unfolding entryCount keep
-  one-count A i h = rw (entry-same A i h) (go (eqb (getD m (A * suc tokens + i) uncalledCode) uncalledCode))
-    where
-      go : (b : Bool) → length {A = Call} (elim (not b) as (λ _. List Call) [ true ↦ callAt A i ∷ [] | false ↦ [] ]) ≡ choose b 0 1
-      go true = refl
-      go false = refl
+  -- the entries of the first rows are those of their calls
+  rows-count : (N : ℕ) → recordedBelow m (N * suc tokens) ≡ length (recordedCalls m N tokens)
+  unfolding recordedCalls keep combine numbers numbersFrom recordedBelow countBelow
+  rows-count zero = let e : 0 * suc tokens ≡ 0 = omega arith in rw e refl
+  rows-count (suc N) =
+      let s : suc N ≡ N + 1 = omega arith in
+      let b : suc N * suc tokens ≡ N * suc tokens + suc tokens = omega arith in
+      let places = numbers (suc tokens) in
+      let more : kept (combine callAt (numbers (suc N)) places) ≡ kept (combine callAt (numbers N) places) ++ kept (map (callAt N) places) =
+      ap kept (ap (λ As. combine callAt As places) (ap numbers s ∙ numbers-more N) ∙ combine-more callAt places (numbers N) N)
+      ∙ keep-append (writtenAmong tokens m) (combine callAt (numbers N) places) (map (callAt N) places) in
+      let long : length (kept (combine callAt (numbers (suc N)) places)) ≡ length (kept (combine callAt (numbers N) places)) + length (kept (map (callAt N) places)) =
+      ap (length {A = Call}) more ∙ length-append (kept (combine callAt (numbers N) places)) (kept (map (callAt N) places)) in
+      rw b (omega (arith, long, rows-count N, row-count N (suc tokens)))
 
-  one-greatest : (A i : ℕ) → greatestPlace (keep (writtenAmong tokens m) (callAt A i ∷ [])) ≤ i
-  unfolding keep greatestPlace
-  one-greatest A i = go (writtenAmong tokens m (callAt A i))
-    where
-      go : (b : Bool) → greatestPlace (elim b as (λ _. List Call) [ true ↦ callAt A i ∷ [] | false ↦ [] ]) ≤ i
-      go true = omega arith
-      go false = omega arith
+  module _ {N : ℕ} where
+    -- the row of each of them lies within the table
+    pub row-within : {A i : ℕ} → A < N → RowsGiven m N tokens i → A * (tokens + 1) + tokens < length m
+    row-within {A} h g = let l : A * (tokens + 1) + tokens < N * (tokens + 1) = digits-lt h (omega arith) in omega (arith, g .room)
 
-  one-written : (A i : ℕ) → (getD m (A * suc tokens + i) uncalledCode ≡ uncalledCode → ⊥)
-      → greatestPlace (keep (writtenAmong tokens m) (callAt A i ∷ [])) ≡ i
-  unfolding keep greatestPlace
-  one-written A i h = go (eqb (getD m (A * suc tokens + i) uncalledCode) uncalledCode) (ne-eqb _ uncalledCode h)
-    where
-      go : (b : Bool) → b ≡ false → greatestPlace (elim (not b) as (λ _. List Call) [ true ↦ callAt A i ∷ [] | false ↦ [] ]) ≡ i
-      go true e = absurd (true≢false e)
-      go false e = omega arith
+    module _ {A i : ℕ} (h : A < N) (g : RowsGiven m N tokens i) where
+      entry-same : getD m (A * (tokens + 1) + i) 0 ≡ getD m (A * suc tokens + i) uncalledCode
+      entry-same =
+          let e : A * (tokens + 1) + i ≡ A * suc tokens + i = omega arith in
+          getD-any m (A * (tokens + 1) + i) 0 uncalledCode (omega (arith, row-within h g, g .placed)) ∙ ap (λ j. getD m j uncalledCode) e
 
-  one-unwritten : (A i : ℕ) → getD m (A * suc tokens + i) uncalledCode ≡ uncalledCode
-      → greatestPlace (keep (writtenAmong tokens m) (callAt A i ∷ [])) ≡ 0
-  unfolding keep greatestPlace
-  one-unwritten A i h = go (eqb (getD m (A * suc tokens + i) uncalledCode) uncalledCode) (eq-eqb _ uncalledCode h)
-    where
-      go : (b : Bool) → b ≡ true → greatestPlace (elim (not b) as (λ _. List Call) [ true ↦ callAt A i ∷ [] | false ↦ [] ]) ≡ 0
-      go true e = refl
-      go false e = absurd (false≢true e)
+      -- a call at the place is found, or not yet
+      pub called-here : (getD m (A * (tokens + 1) + i) 0 ≡ uncalledCode → ⊥) → true ≡ calledAt m N tokens i
+      unfolding calledAt
+      called-here n =
+          let t : T (writtenAmong tokens m (callAt A i)) = rw (ne-eqb (getD m (A * suc tokens + i) uncalledCode) uncalledCode (λ e. n (entry-same ∙ e))) tt in
+          sym (T-true _ (below-make N (λ B. writtenAmong tokens m (callAt B i)) A h t))
 
-  row-greatest : (A i : ℕ) → greatestPlace (recordedRow m tokens A (i + 1))
-      ≡ max (greatestPlace (recordedRow m tokens A i)) (greatestPlace (keep (writtenAmong tokens m) (callAt A i ∷ [])))
-  row-greatest A i = ap greatestPlace (row-more A i) ∙ greatest-append (recordedRow m tokens A i) (keep (writtenAmong tokens m) (callAt A i ∷ []))
+      pub called-not : getD m (A * (tokens + 1) + i) 0 ≡ uncalledCode → calledAt m A tokens i ≡ false → calledAt m (A + 1) tokens i ≡ false
+      unfolding calledAt anyBelow
+      called-not e before =
+          let s : A + 1 ≡ suc A = omega arith in
+          rw (s, eq-eqb (getD m (A * suc tokens + i) uncalledCode) uncalledCode (sym entry-same ∙ e), before)
 
-  row-none : (A : ℕ) → recordedRow m tokens A 0 ≡ []
-  unfolding recordedRow keep numbers numbersFrom
-  row-none A = refl
+  pub called-none : (i : ℕ) → calledAt m 0 tokens i ≡ false
+  unfolding calledAt anyBelow
+  called-none i = refl
 
-  greatest-none : greatestPlace [] ≡ 0
-  unfolding greatestPlace
-  greatest-none = refl
+  module _ (N : ℕ) where
+    -- no call behind a place
+    abbrev pub NoneBehind : ℕ → Type 0
+    NoneBehind p = (i : ℕ) → p < i → i ≤ tokens → calledAt m N tokens i ≡ false
 
-  -- a row's calls are at its places
-  row-low : (A i : ℕ) → greatestPlace (recordedRow m tokens A i) ≤ i
-  row-low A zero = omega (arith, ap greatestPlace (row-none A), greatest-none)
-  row-low A (suc i) =
-      let e : suc i ≡ i + 1 = omega arith in
-      rw e (omega (arith, row-greatest A i, one-greatest A i, row-low A i))
+    -- each recorded call is one of a first nonterminal at a place
+    within : {p : ℕ} → NoneBehind p → greatestPlace (recordedCalls m N tokens) ≤ p
+    unfolding recordedCalls calledAt
+    within {p} none = greatest-within (recordedCalls m N tokens) p (λ x k.
+        let held = keep-elim (writtenAmong tokens m) (combine callAt (numbers N) (numbers (suc tokens))) x k in
+        let at = combine-elim callAt (numbers N) (numbers (suc tokens)) x (held .0) in
+        let e : x ≡ callAt (at .0) (at .1) = at .4 in
+        let t : T (writtenAmong tokens m (callAt (at .0) (at .1))) = rw e at (held .1) in
+        let low = numbers-elim (suc tokens) (at .1) (at .3) in
+        go x (at .1) (ap (λ y. y .place) e) (omega (arith, low)) (below-make N (λ B. writtenAmong tokens m (callAt B (at .1))) (at .0) (numbers-elim N (at .0) (at .2)) t))
+      where
+        go : (x : Call) (i : ℕ) → x .place ≡ i → i ≤ tokens → T (calledAt m N tokens i) → x .place ≤ p
+        go x i e h t = elim (decLt p i) [
+          | yes l ↦ absurd (rw (none i l h) at t)
+          | no l ↦ omega arith
+        ]
 
-  pub count-none : (A : ℕ) → 0 ≡ length (recordedRow m tokens A 0)
-  count-none A = sym (ap {A = List Call} length (row-none A))
+    pub farthest-here : {p : ℕ} → p ≤ tokens → NoneBehind p → calledAt m N tokens p ≡ true → p ≡ greatestPlace (recordedCalls m N tokens)
+    unfolding recordedCalls calledAt
+    farthest-here {p} h none c =
+        let found = below-elim N (λ A. writtenAmong tokens m (callAt A p)) (rw c tt) in
+        let held = combine-make callAt (numbers N) (numbers (suc tokens)) (found .0) p (numbers-make N (found .0) (found .1)) (numbers-make (suc tokens) p (omega arith)) in
+        let high = greatest-most (recordedCalls m N tokens) (callAt (found .0) p) (keep-make (writtenAmong tokens m) _ (callAt (found .0) p) held (found .2)) in
+        omega (arith, within none)
 
-  row-bound : (A n : ℕ) → tallyOf (recordedRow m tokens A n) .count ≤ n
-  unfolding tallyOf recordedRow
-  row-bound A n = omega (arith, keep-length (writtenAmong tokens m) (map (callAt A) (numbers n)), length-map (numbers n) (callAt A), numbers-length n)
+    pub farthest-none : {p : ℕ} → p ≡ 0 → NoneBehind p → 0 ≡ greatestPlace (recordedCalls m N tokens)
+    farthest-none e none = omega (arith, within none)
 
-  rows-bound : (A : ℕ) → tallyOf (recordedCalls m A tokens) .count ≤ A * (tokens + 1)
-  unfolding tallyOf recordedCalls
-  rows-bound A =
-      let e : length (combine callAt (numbers A) (numbers (suc tokens))) ≡ A * suc tokens =
-      combine-length callAt (numbers A) (numbers (suc tokens)) ∙ rw (numbers-length A, numbers-length (suc tokens)) refl in
-      omega (arith, keep-length (writtenAmong tokens m) (combine callAt (numbers A) (numbers (suc tokens))), e)
+    -- one place less
+    pub none-behind : {p : ℕ} → NoneBehind p → calledAt m N tokens p ≡ false → NoneBehind (p - 1)
+    none-behind {p} none c i l h = go (ℕ-discrete i p)
+      where
+        go : Dec (i ≡ p) → calledAt m N tokens i ≡ false
+        go (yes e) = rw e c
+        go (no e) = none i (omega arith) h
 
-  -- one entry more is counted
-  module _ {n k : ℕ} (A i : ℕ) (low : A * (tokens + 1) + i < length m) (before : n ≡ length (recordedRow m tokens A i))
-      (next : k ≡ entryCount (getD m (A * (tokens + 1) + i) 0)) where
-    pub count-more : n + k ≡ length (recordedRow m tokens A (i + 1))
-    count-more =
-        rw (before, next) (sym (ap {A = List Call} length (row-more A i)
-        ∙ length-append (recordedRow m tokens A i) (keep (writtenAmong tokens m) (callAt A i ∷ [])) ∙ ap (λ (c : ℕ). length (recordedRow m tokens A i) + c) (one-count A i low)))
-
-    pub count-room : n + k ≤ i + 1
+    pub tallied : {count farthest : ℕ} → count ≡ recordedBelow m (N * (tokens + 1)) → farthest ≡ greatestPlace (recordedCalls m N tokens)
+        → record { count = count; farthest = farthest } ≡ tallyOf (recordedCalls m N tokens)
     unfolding tallyOf
-    count-room = omega (arith, count-more, row-bound A (i + 1))
-
-  -- the greatest place of a row, sought from its end
-  module _ (A i : ℕ) (low : A * (tokens + 1) + i < length m) where
-    pub farthest-here : (getD m (A * (tokens + 1) + i) 0 ≡ uncalledCode → ⊥) → i ≡ greatestPlace (recordedRow m tokens A (i + 1))
-    farthest-here h = omega (arith, row-greatest A i, row-low A i, one-written A i (λ e. h (entry-same A i low ∙ e)))
-
-    pub farthest-before : getD m (A * (tokens + 1) + i) 0 ≡ uncalledCode
-        → greatestPlace (recordedRow m tokens A (i + 1)) ≡ greatestPlace (recordedRow m tokens A i)
-    farthest-before h = omega (arith, row-greatest A i, one-unwritten A i (sym (entry-same A i low) ∙ h))
-
-  pub farthest-none : (A : ℕ) → 0 ≡ greatestPlace (recordedRow m tokens A 1)
-  farthest-none A = omega (arith, row-greatest A 0, one-greatest A 0, row-low A 0)
-
-  pub row-told : {n f : ℕ} (A i : ℕ) → n ≡ length (recordedRow m tokens A i) → f ≡ greatestPlace (recordedRow m tokens A i)
-      → record { count = n; farthest = f } ≡ tallyOf (recordedRow m tokens A i)
-  unfolding tallyOf
-  row-told A i e d = calls-same _ _ e d
-
-  -- the row of each nonterminal lies within the table
-  pub row-within : {A N : ℕ} → A < N → N * (tokens + 1) ≤ length m → A * (tokens + 1) + tokens < length m
-  row-within {A} {N} h e = let l : A * (tokens + 1) + tokens < N * (tokens + 1) = digits-lt h (omega arith) in omega arith
-
-  pub rows-none : record { count = 0; farthest = 0 } ≡ tallyOf (recordedCalls m 0 tokens)
-  unfolding tallyOf recordedCalls keep combine numbers numbersFrom greatestPlace
-  rows-none = refl
-
-  -- the table goes on by one row
-  module _ {a b : Calls} (A : ℕ) (before : a ≡ tallyOf (recordedCalls m A tokens)) (next : b ≡ tallyOf (recordedRow m tokens A (tokens + 1))) where
-    pub rows-room : a .count + b .count ≤ A * (tokens + 1) + (tokens + 1)
-    rows-room = rw (before, next) (omega (arith, rows-bound A, row-bound A (tokens + 1)))
-
-    pub rows-more : together a b ≡ tallyOf (recordedCalls m (A + 1) tokens)
-    unfolding recordedCalls recordedRow
-    rows-more =
-        let e : tokens + 1 ≡ suc tokens = omega arith in
-        let kept : List Call → Calls = λ l. tallyOf (keep (writtenAmong tokens m) l) in
-        let places = numbers (suc tokens) in
-        rw (before, next, e) (tally-append _ _
-        ∙ ap tallyOf (sym (keep-append (writtenAmong tokens m) (combine callAt (numbers A) places) (map (callAt A) places)))
-        ∙ ap kept (sym (combine-more callAt places (numbers A) A) ∙ ap (λ As. combine callAt As places) (sym (numbers-more A))))
+    tallied c f =
+        let e : N * (tokens + 1) ≡ N * suc tokens = omega arith in
+        let counted = c ∙ ap (recordedBelow m) e ∙ rows-count N in
+        rw (counted, f)
 
 -- for any grammar and input of these sizes, these are the calls whose entry is written
 pub recorded-written : (G : Grammar) (w : List ℕ) (m : Memo) → recordedCalls m (G .nonterminals) (length w) ≡ keep (written w m) (allCalls G w)
@@ -200,3 +191,8 @@ unfolding tallyOf callCount farthest
 tally-recorded {G} {choice} {w} {m} recorded e =
     let rows : length m / (length w + 1) ≡ G .nonterminals = rows-are (length m) (G .nonterminals) (length w) (recorded .size ∙ omega arith) in
     e ∙ ap (λ n. tallyOf (recordedCalls m n (length w))) rows ∙ ap tallyOf (recorded-written G w m ∙ recorded .scanned)
+
+pub count-recorded : {G : Grammar} {choice : Choice} {w : List ℕ} {m : Memo} {r : ℕ} → Recorded G choice w m → r ≡ recordedBelow m (length m) → r ≡ callCount G choice w
+unfolding callCount
+count-recorded {G} {choice} {w} {m} recorded e =
+    e ∙ ap (recordedBelow m) (recorded .size) ∙ rows-count m (length w) (G .nonterminals) ∙ ap length (recorded-written G w m ∙ recorded .scanned)

@@ -1,13 +1,13 @@
 -- The calls that a memo table records, over numbers and lists alone: how many there are, and the farthest place of one.
 use mathlib.Core.Bool.{Bool, not}
-use mathlib.Core.List.{List, map}
-use Prim.Native.Nat.{ℕ, suc, _+_, _*_, max}
+use mathlib.Core.List.{List}
+use Prim.Native.Nat.{ℕ, suc, _+_, _*_, _≤_}
 use lib.Dec.{eqb}
 use lib.ListN.{length, getD}
 use Rattle.grammar.specs.Codes.{uncalledCode}
-use Rattle.base.specs.Choice.{choose}
 use Rattle.answer.specs.declared.Calls.{Calls}
 use Rattle.base.specs.FiniteSets.{keep, numbers, combine}
+use Rattle.base.specs.Quantifiers.{anyBelow, countBelow}
 use Rattle.semantics.specs.ComesTo.{Call, callAt}
 use Rattle.semantics.specs.Calls.{greatestPlace}
 use Rattle.semantics.specs.Memo.{Memo}
@@ -16,22 +16,40 @@ use Rattle.semantics.specs.Memo.{Memo}
 unfoldable pub tallyOf : List Call → Calls
 tallyOf l = record { count = length l; farthest = greatestPlace l }
 
--- the tally of two lists of calls, from that of each
-unfoldable pub together : Calls → Calls → Calls
-together a b = record { count = a .count + b .count; farthest = max (a .farthest) (b .farthest) }
+-- an entry records a call
+abbrev pub records : ℕ → Bool
+records entry = not (eqb entry uncalledCode)
+
+abbrev pub recordsAt : Memo → ℕ → Bool
+recordsAt m i = records (getD m i uncalledCode)
+
+-- how many calls the first entries record
+unfoldable pub recordedBelow : Memo → ℕ → ℕ
+recordedBelow m n = countBelow n (recordsAt m)
 
 -- the call has an entry in the memo table for that many tokens
 abbrev pub writtenAmong : ℕ → Memo → Call → Bool
-writtenAmong tokens m x = not (eqb (getD m (x .nonterminal * suc tokens + x .place) uncalledCode) uncalledCode)
-
--- how many calls an entry records
-unfoldable pub entryCount : ℕ → ℕ
-entryCount entry = choose (eqb entry uncalledCode) 0 1
-
--- the calls of a nonterminal at the first places
-unfoldable pub recordedRow : (m : Memo) (tokens A places : ℕ) → List Call
-recordedRow m tokens A places = keep (writtenAmong tokens m) (map (callAt A) (numbers places))
+writtenAmong tokens m x = recordsAt m (x .nonterminal * suc tokens + x .place)
 
 -- the calls of the first nonterminals at every place, by nonterminal, then place (document 01: notebook order)
 unfoldable pub recordedCalls : (m : Memo) (nonterminals tokens : ℕ) → List Call
 recordedCalls m nonterminals tokens = keep (writtenAmong tokens m) (combine callAt (numbers nonterminals) (numbers (suc tokens)))
+
+-- one of the first nonterminals was called at a place
+unfoldable pub calledAt : (m : Memo) (nonterminals tokens place : ℕ) → Bool
+calledAt m nonterminals tokens place = anyBelow nonterminals (λ A. writtenAmong tokens m (callAt A place))
+
+-- as many entries as 16 bits can count
+abbrev pub blockEntries : ℕ
+blockEntries = 65535
+
+-- entries that one block holds
+pub record BlockGiven (m : Memo) (from to : ℕ) : Type 0 where
+  pub ordered : from ≤ to
+  pub short : to ≤ from + blockEntries
+  pub within : to ≤ length m
+
+-- rows for the first nonterminals, and one of their places
+pub record RowsGiven (m : Memo) (nonterminals tokens place : ℕ) : Type 0 where
+  pub room : nonterminals * (tokens + 1) ≤ length m
+  pub placed : place ≤ tokens

@@ -1,10 +1,11 @@
 // The memo table as a whole: cleared before a descent, and the calls that it made read off it afterwards.
 ghost use mathlib.Core.Path.{_≡_};
-ghost use Prim.Native.Nat.{_+_, _*_, _/_, _^_, _≤_, _<_};
+ghost use Prim.Native.Nat.{_+_, _*_, _/_, _≤_, min};
 ghost use lib.ListN.{length, replicate};
+ghost use Rattle.base.specs.Quantifiers.{one};
 ghost use Rattle.grammar.specs.Codes.{uncalledCode};
 ghost use Rattle.semantics.specs.Calls.{greatestPlace};
-ghost use Rattle.memo_table.specs.Tally.{tallyOf, together as togetherOf, entryCount, recordedRow, recordedCalls};
+ghost use Rattle.memo_table.specs.Tally.{tallyOf, records, recordedBelow, calledAt, recordedCalls, blockEntries, BlockGiven, RowsGiven};
 use answer::Calls;
 use grammar::codes::UNCALLED;
 
@@ -21,37 +22,82 @@ pub fn clear(memo: &mut [u16])
     }
 }
 
+// Entries are counted in blocks that 16 bits can count: the fewer the bits, the more entries the machine takes at once.
+const BLOCK: usize = 65535;
+
+// How many of the entries that are left the next block holds.
+fn block_of(left: usize) -> usize
+    ensures { λ r. ⌜ r ≡ min left blockEntries ⌝ }
+{
+    if left < BLOCK { left } else { BLOCK }
+}
+
 // How many calls an entry records.
-fn calls_of(entry: u16) -> usize
-    ensures { λ r. ⌜ r ≡ entryCount entry ⌝ }
+fn calls_of(entry: u16) -> u16
+    ensures { λ r. ⌜ r ≡ one (records entry) ⌝ }
 {
     if entry == UNCALLED { 0 } else { 1 }
 }
 
-// How many calls of a nonterminal are recorded.
-fn count_row(memo: &[u16], nonterminal: usize, tokens: usize) -> usize
-    requires { ⌜ nonterminal * (tokens + 1) + tokens < length (now memo) ⌝ }
-    ensures { λ r. ⌜ r ≡ length (recordedRow (now (memo .entry)) tokens nonterminal (tokens + 1)) ⌝ }
+// How many calls the entries from one index to another record.
+fn count_block(memo: &[u16], from: usize, to: usize) -> u16
+    requires { ⌜ BlockGiven (now memo) from to ⌝ }
+    ensures { λ r. ⌜ recordedBelow (now (memo .entry)) from + r ≡ recordedBelow (now (memo .entry)) to ⌝ }
 {
-    let row = nonterminal * (tokens + 1);
     let mut count = 0;
-    let mut place = 0;
-    while place <= tokens {
-        count = count + calls_of(memo[row + place]);
-        place = place + 1;
+    let mut at = from;
+    while at < to {
+        count = count + calls_of(memo[at]);
+        at = at + 1;
     }
     count
 }
 
-// The farthest place of one, or 0.
-fn farthest_row(memo: &[u16], nonterminal: usize, tokens: usize) -> usize
-    requires { ⌜ nonterminal * (tokens + 1) + tokens < length (now memo) ⌝ }
-    ensures { λ r. ⌜ r ≡ greatestPlace (recordedRow (now (memo .entry)) tokens nonterminal (tokens + 1)) ⌝ }
+// How many calls the first entries record.
+fn count_first(memo: &[u16], entries: usize) -> usize
+    requires { ⌜ entries ≤ length (now memo) ⌝ }
+    ensures { λ r. ⌜ r ≡ recordedBelow (now (memo .entry)) entries ⌝ }
 {
-    let row = nonterminal * (tokens + 1);
+    let mut count = 0;
+    let mut from = 0;
+    while from < entries {
+        let to = from + block_of(entries - from);
+        count = count + count_block(memo, from, to) as usize;
+        from = to;
+    }
+    count
+}
+
+// How many calls a memo table records.
+pub fn count_calls(memo: &[u16]) -> usize
+    ensures { λ r. ⌜ r ≡ recordedBelow (now (memo .entry)) (length (now (memo .entry))) ⌝ }
+{
+    count_first(memo, memo.len())
+}
+
+// Whether one of the first nonterminals was called at a place.
+fn called_at(memo: &[u16], nonterminals: usize, tokens: usize, place: usize) -> bool
+    requires { ⌜ RowsGiven (now memo) nonterminals tokens place ⌝ }
+    ensures { λ r. ⌜ r ≡ calledAt (now (memo .entry)) nonterminals tokens place ⌝ }
+{
+    let mut nonterminal = 0;
+    while nonterminal < nonterminals {
+        if memo[nonterminal * (tokens + 1) + place] != UNCALLED {
+            return true;
+        }
+        nonterminal = nonterminal + 1;
+    }
+    false
+}
+
+// The farthest place at which one was called, or 0.
+fn farthest(memo: &[u16], nonterminals: usize, tokens: usize) -> usize
+    requires { ⌜ nonterminals * (tokens + 1) ≤ length (now memo) ⌝ }
+    ensures { λ r. ⌜ r ≡ greatestPlace (recordedCalls (now (memo .entry)) nonterminals tokens) ⌝ }
+{
     let mut place = tokens;
     while 0 < place {
-        if memo[row + place] != UNCALLED {
+        if called_at(memo, nonterminals, tokens, place) {
             return place;
         }
         place = place - 1;
@@ -59,56 +105,13 @@ fn farthest_row(memo: &[u16], nonterminal: usize, tokens: usize) -> usize
     0
 }
 
-// How many calls both have, and the farther place.
-fn together(a: Calls, b: Calls) -> Calls
-    requires { ⌜ a .count + b .count < 2 ^ 64 ⌝ }
-    ensures { λ r. ⌜ r ≡ togetherOf a b ⌝ }
-{
-    let count = a.count + b.count;
-    if a.farthest < b.farthest {
-        Calls {
-            count,
-            farthest: b.farthest,
-        }
-    } else {
-        Calls {
-            count,
-            farthest: a.farthest,
-        }
-    }
-}
-
-// The calls of one nonterminal.
-fn tally_row(memo: &[u16], nonterminal: usize, tokens: usize) -> Calls
-    requires { ⌜ nonterminal * (tokens + 1) + tokens < length (now memo) ⌝ }
-    ensures { λ r. ⌜ r ≡ tallyOf (recordedRow (now (memo .entry)) tokens nonterminal (tokens + 1)) ⌝ }
-{
-    let count = count_row(memo, nonterminal, tokens);
-    let farthest = farthest_row(memo, nonterminal, tokens);
-    Calls { count, farthest }
-}
-
-// The calls of the first nonterminals.
-fn tally_rows(memo: &[u16], nonterminals: usize, tokens: usize) -> Calls
-    requires { ⌜ nonterminals * (tokens + 1) ≤ length (now memo) ⌝ }
-    ensures { λ r. ⌜ r ≡ tallyOf (recordedCalls (now (memo .entry)) nonterminals tokens) ⌝ }
-{
-    let mut calls = Calls {
-        count: 0,
-        farthest: 0,
-    };
-    let mut nonterminal = 0;
-    while nonterminal < nonterminals {
-        calls = together(calls, tally_row(memo, nonterminal, tokens));
-        nonterminal = nonterminal + 1;
-    }
-    calls
-}
-
 // The calls that a memo table for an input of so many tokens records: it has as many rows as there is room for.
 pub fn tally(memo: &[u16], tokens: u16) -> Calls
     ensures { λ r. ⌜ r ≡ tallyOf (recordedCalls (now (memo .entry)) (length (now (memo .entry)) / (tokens + 1)) tokens) ⌝ }
 {
-    let nonterminals = memo.len() / (tokens as usize + 1);
-    tally_rows(memo, nonterminals, tokens as usize)
+    let places = tokens as usize + 1;
+    let nonterminals = memo.len() / places;
+    let count = count_first(memo, nonterminals * places);
+    let farthest = farthest(memo, nonterminals, tokens as usize);
+    Calls { count, farthest }
 }

@@ -1,6 +1,5 @@
 -- What judging the costliest input answers and leaves in the lent memories, by the first fault.
 use mathlib.Core.Path.{_≡_, refl, sym, ap, _∙_}
-use mathlib.Core.Bool.{Bool, true, false}
 use mathlib.Core.List.{List, [], _∷_, _++_}
 use mathlib.Core.Option.{Option, none, some}
 use Prim.Native.Nat.{ℕ, _^_, _≤_, _<_}
@@ -12,8 +11,7 @@ use borrow.Author.Tests.{lt-ltb, le-ltb, ltb-false}
 use Rattle.answer.specs.declared.Error.{Error}
 use Rattle.answer.specs.declared.Error.the-variants.{TableTooShort, MemoTooShort, BufferTooShort, InputTooLong, TooManyInputs}
 use Rattle.answer.specs.declared.Answer.{Answer}
-use Rattle.answer.specs.declared.Answer.the-variants.{Refused, Accepted, Rejected}
-use Rattle.answer.specs.Numbers.{Verdict, refused, passed, rejected, accepted, numbers}
+use Rattle.answer.specs.declared.Answer.the-variants.{Refused}
 use Rattle.answer.specs.Faults.{faultIf, firstFault, refusedOr}
 use Rattle.answer.proofs.Faults.{Faultless, fault-none, each-none, first-none, first-nested}
 use Rattle.base.proofs.Quantified.{all-map}
@@ -32,7 +30,6 @@ use Rattle.inputs.proofs.Greatest.{costliest-of}
 use Rattle.families.specs.declared.Finding.{Finding}
 use Rattle.families.specs.declared.Finding.the-variants as finding
 use Rattle.families.proofs.FewTerminals.{admitted-read}
-use Rattle.base.specs.Choice.{choose}
 use Rattle.base.specs.Strings.{Over}
 use Rattle.semantics.specs.Descent.{accepts}
 use Rattle.table.specs.Layout.{tableWords}
@@ -53,7 +50,8 @@ use Rattle.recognizer_promises.specs.Costliest.{Searchable, JudgesCostli
 use Rattle.recognizer_promises.specs.Search.{searchFault, SearchesWords, SearchGiven, BestJudged}
 use Rattle.recognizer_promises.proofs.Words.{understood}
 use Rattle.recognizer_promises.proofs.Places.{fault-encoded, places}
-use Rattle.recognizer_promises.proofs.Checking.{fits-few, passed-fault, fault-passed, passed-encodes, passed-free, Told, told, found as found-entries, found-fault}
+use Rattle.recognizer_promises.proofs.Checking.{fits-few, passed-fault, fault-passed, passed-encodes, passed-free, Told, told, found as found-entries}
+use Rattle.recognizer_promises.proofs.Checking.{found-fault}
 use Rattle.recognizer_promises.proofs.JudgeFaults.{input-fault, readable-faultless}
 use Rattle.recognizer_promises.proofs.Judged.{verdict-unrefused, judges, same-terminals}
 

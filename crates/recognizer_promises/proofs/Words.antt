@@ -13,7 +13,7 @@ use Rattle.encoding.proofs.Faithful.{faithful}
 use Rattle.lookahead.specs.declared.Lookahead.{Lookahead}
 use Rattle.lookahead.specs.declared.Lookahead.the-variants.{One, Two}
 use Rattle.lookahead.specs.Lookaheads.{tokens}
-use Rattle.admission.proofs.Admitted.{admitted}
+use Rattle.admission.proofs.OneDiagnosis.{diagnosed}
 use Rattle.semantics.specs.FirstFollow.{Entry, Follow}
 use Rattle.semantics.specs.Claims.{clashes}
 use Rattle.semantics.specs.Theorems.{LeastSets}
@@ -69,7 +69,7 @@ module _ {words : List ℕ} (G : Grammar) (e : Encodes words G) where
 pub understood : (k : Lookahead) (words : List ℕ) → Understood k words
 understood k words = record {
   faithful = faithful words;
-  admits = admitted k words;
+  admits = diagnosed k words;
   least = λ G e. families G e k;
   strung = λ _ G e. strung G e;
   short = λ G e. table-fits G e k;

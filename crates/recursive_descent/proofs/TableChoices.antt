@@ -19,7 +19,7 @@ use Rattle.semantics.specs.Claims.{tableOf}
 use Rattle.semantics.specs.Choices.{tableChoice}
 use Rattle.semantics.proofs.descent.Outcomes.{nth-below}
 use Rattle.semantics.proofs.descent.Predictive.{table-own}
-use Rattle.columns.specs.Columns.{columnCount, columnString}
+use Rattle.columns.specs.Columns.{columnCount, columnString, columnAt}
 use Rattle.table.specs.Entries.{ruleByte, byteAt}
 use Rattle.columns.proofs.ColumnStrings.{column-count}
 use Rattle.table.proofs.EntriesFilled.{entries-at}
@@ -28,7 +28,6 @@ use Rattle.lookahead.specs.Lookaheads.{tokens}
 use Rattle.families.proofs.FewTerminals.{admitted-read, few-terminals}
 use Rattle.descent_arrays.specs.Arrays.{choiceColumns, firstAt}
 use Rattle.recursive_descent.specs.Descent.{firstConjunct}
-use Rattle.columns.specs.Columns.{columnAt}
 use Rattle.descent_arrays.specs.Choices.{entryOf, firstWord, choicesOf}
 use Rattle.descent_arrays.proofs.TokenWords.{TokensHold}
 use Rattle.descent_arrays.proofs.ChoiceRows.{Filled, choices-filled}

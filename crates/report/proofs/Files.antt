@@ -1,6 +1,6 @@
 -- What loading a file tells of its words, and what is printed by whether there are any.
 use mathlib.Core.Path.{_≡_, refl, sym, ap, ap₂, _∙_}
-use mathlib.Core.Bool.{Bool, true, false, _&&_}
+use mathlib.Core.Bool.{Bool, true, false}
 use mathlib.Core.List.{List}
 use Prim.Native.Nat.{ℕ, _+_, _*_, _/_, _%_, _≤_}
 use native.Mathlib.Omega.{arith}
@@ -32,7 +32,7 @@ use Rattle.sheet_text.specs.Room.{sheetRoom}
 use Rattle.gaps_text_promises.specs.Gaps.{GapsPut}
 use Rattle.gaps_text_promises.proofs.Lengths.{gaps-most}
 use Rattle.gaps_text_promises.proofs.Overlaps.{lines-tell}
-use Rattle.report.specs.Texts.{blankTable, checkedText, sheetOf, blankMemo, judgedFault, judgedAnswer, judgedTable, judgedMemo, judgedText, judgementOf, gapsOf}
+use Rattle.report.specs.Texts.{blankTable, checkedText, sheetOf, blankMemo, judgedAnswer, judgedTable, judgedMemo, judgedText, judgementOf, gapsOf}
 use Rattle.report.specs.Report.{Printed, JudgementPrinted, GapsPrinted}
 use Rattle.report.proofs.Lengths.{checked-short, judged-short}
 

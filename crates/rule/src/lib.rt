@@ -1,6 +1,7 @@
 // The bodies of a rule, run one after the other: what a word begins, and how the bodies come to agree on an end.
 ghost use mathlib.Core.Path.{_≡_};
 ghost use Rattle.semantics.specs.Descent.{endsAt};
+ghost use Rattle.rule.specs.declared.Sign.the-variants.{Positive, Negative};
 ghost use Rattle.rule.specs.Rule.{meant, signOf, signAt, bodyEnd, beginsBody, goesOn, openingBy, openedBy, keptBy, joinedBy, concluded};
 use word::Word;
 use word::decode;
@@ -118,25 +119,33 @@ fn opened(outcome: Outcome) -> Agreement
     }
 }
 
-// A later positive body has to end there, and a negative one must not.
+// A later positive body has to end there.
+fn kept_positive(end: u16, there: bool) -> Agreement
+    ensures { λ r. ⌜ r ≡ keptBy Positive end there ⌝ }
+{
+    if !there {
+        return Agreement::Failed;
+    }
+    Agreement::At(end)
+}
+
+// A negative body must not end there.
+fn kept_negative(end: u16, there: bool) -> Agreement
+    ensures { λ r. ⌜ r ≡ keptBy Negative end there ⌝ }
+{
+    if there {
+        Agreement::Failed
+    } else {
+        Agreement::At(end)
+    }
+}
+
 fn kept(sign: Sign, end: u16, there: bool) -> Agreement
     ensures { λ r. ⌜ r ≡ keptBy sign end there ⌝ }
 {
     match sign {
-        Sign::Positive => {
-            if there {
-                Agreement::At(end)
-            } else {
-                Agreement::Failed
-            }
-        }
-        Sign::Negative => {
-            if !there {
-                Agreement::At(end)
-            } else {
-                Agreement::Failed
-            }
-        }
+        Sign::Positive => kept_positive(end, there),
+        Sign::Negative => kept_negative(end, there),
         Sign::Neither => Agreement::Failed,
     }
 }

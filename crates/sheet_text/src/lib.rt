@@ -1,7 +1,7 @@
 // The sheet of a grammar, line by line, from the words of its table.
 ghost use mathlib.Core.Path.{_≡_};
 ghost use mathlib.Core.List.{_++_};
-ghost use Prim.Native.Nat.{_+_, _*_, _≤_, _<_};
+ghost use Prim.Native.Nat.{_+_, _≤_, _<_};
 ghost use Rattle.grammar.specs.Limits.{maxNonterminals, maxTerminals, maxTableWords};
 ghost use Rattle.lookahead.specs.Elements.{size as sizeOf};
 ghost use Rattle.text.specs.Decimal.{decimal, labelled};

@@ -3,7 +3,7 @@ use mathlib.Core.Path.{_≡_, refl, sym, ap, _∙_}
 use mathlib.Core.List.{List, [], _∷_}
 use mathlib.Core.Logic.{_↔_}
 use mathlib.Core.Option.{Option, none, some}
-use Prim.Native.Nat.{ℕ, suc, _≤_, _<_, _*_, _+_}
+use Prim.Native.Nat.{ℕ, _≤_, _<_}
 use native.Mathlib.Omega.{arith}
 use lib.ListN.{length, getD}
 use Rattle.answer.specs.declared.Error.{Error}
@@ -12,21 +12,18 @@ use Rattle.answer.proofs.Faults.{none-some, each-none, first-nested}
 use Rattle.grammar.specs.Encoding.{grammarOf}
 use Rattle.grammar.specs.Starts.{ruleStarts}
 use Rattle.grammar.specs.Limits.{maxNonterminals}
-use Rattle.grammar.specs.Syntax.{Grammar}
 use Rattle.grammar.specs.declared.reading.Sizes.{Sizes}
-use Rattle.grammar.specs.declared.reading.Outcome.{Outcome}
 use Rattle.grammar.specs.declared.reading.Outcome.the-variants.{Read, Faulty}
 use Rattle.grammar.specs.WellRead.{WellRead}
 use Rattle.grammar.proofs.WellRead.{well-read}
 use Rattle.lookahead.specs.declared.Lookahead.{Lookahead}
-use Rattle.lookahead.specs.declared.Lookahead.the-variants.{One, Two}
 use Rattle.lookahead.specs.Lookaheads.{tokens, alphabet}
 use Rattle.admission.specs.Admission.{admission}
 use Rattle.base.specs.FiniteSets.{numbers}
 use Rattle.semantics.specs.Claims.{overruns, clashes}
 use Rattle.semantics.proofs.descent.Outcomes.{nth-mem}
 use Rattle.families.specs.declared.Finding.the-variants.{Passed, Refused}
-use Rattle.families.specs.Analysis.{readingFault, setsFaults, setsFault, startsIf, setsIf}
+use Rattle.families.specs.Analysis.{setsFaults, setsFault, startsIf, setsIf}
 use Rattle.base.specs.Lists.{listed}
 use Rattle.families.specs.Sets.{firstNumber, followNumber}
 use Rattle.base.proofs.Lists.{listed-at, listed-long}

@@ -1,22 +1,20 @@
 -- The words of the table (documents 01 and 02: the plate): two sets for each nonterminal, then a row of entries for each.
-use mathlib.Core.Path.{_≡_}
 use mathlib.Core.List.{List, _++_}
 use mathlib.Core.Option.{Option, none, some}
-use Prim.Native.Nat.{ℕ, _+_, _-_, _*_, _/_, _%_, _^_, _≤_, _<_}
-use lib.Dec.{eqb, ltb}
-use lib.ListN.{length, getD, replicate}
+use Prim.Native.Nat.{ℕ, _-_, _*_, _/_, _%_}
+use lib.Dec.{eqb}
+use lib.ListN.{length, replicate}
 use Rattle.base.specs.Choice.{choose}
-use Rattle.grammar.specs.Codes.{noEntry, noRule}
-use Rattle.grammar.specs.Limits.{maxNonterminals, maxWideColumns, maxTableWords, maxWideTableWords}
+use Rattle.grammar.specs.Codes.{noEntry}
+use Rattle.grammar.specs.Limits.{maxTableWords, maxWideTableWords}
 use Rattle.grammar.specs.Syntax.{Grammar}
-use Rattle.grammar.specs.declared.reading.Sizes.{Sizes}
 use Rattle.lookahead.specs.declared.Lookahead.{Lookahead}
 use Rattle.lookahead.specs.declared.Lookahead.the-variants.{One, Two}
 use Rattle.lookahead.specs.Lookaheads.{tokens}
 use Rattle.semantics.specs.Claims.{tableOf}
 use Rattle.base.specs.Lists.{listed}
 use Rattle.families.specs.Sets.{firstNumber, followNumber}
-use Rattle.columns.specs.Columns.{columnCount, columnString, columns}
+use Rattle.columns.specs.Columns.{columnString, columns}
 
 abbrev pub entryWord : Option ℕ → ℕ
 entryWord none = noEntry

@@ -2,8 +2,8 @@
 use mathlib.Core.Path.{_≡_, refl, sym, ap, _∙_}
 use mathlib.Core.Bool.{Bool, true, false, _||_, or-false}
 use mathlib.Core.List.{List}
-use Prim.Native.Nat.{ℕ, suc, _+_, _*_, _^_, _≤_, _<_}
-use native.Mathlib.Decide.{ℕ-discrete}
+use Prim.Native.Nat.{ℕ, suc, _+_, _-_, _*_, _/_, _^_, _≤_, _<_}
+use native.Mathlib.Decide.{ℕ-discrete, decLt}
 use native.Mathlib.Numerals.{add-one}
 use native.Mathlib.Omega.{arith}
 use lib.Bits.{bitOr, or-shifted-r}
@@ -13,6 +13,7 @@ use borrow.Author.Tests.{eq-eqb, ne-eqb, lt-ltb, le-ltb, le-leb, lt-leb}
 use Rattle.base.specs.Choice.{choose}
 use Rattle.grammar.specs.Limits.{maxNonterminals, maxTabularPlaces}
 use Rattle.lookahead.specs.Elements.{weight, has, total}
+use Rattle.lookahead.proofs.Elements.{has-shift, has-zero}
 use Rattle.lookahead.proofs.Weights.{total-bound}
 use Rattle.tabular_promises.specs.Places.{hasPlace, Put}
 use Rattle.tabular_promises.specs.Chart.{slot, charted, Long, oneNonterminal, withNonterminal, WordGiven, wordAt, foundWord, spanWord, Added}
@@ -107,3 +108,19 @@ added-more {before} {chart} {chart′} {i} {start} {end} {word} {r} {t} h o q e 
         (rw s at (h .others A k m a b (λ _ z _. d low z same)))
     old A k m a b d (no s) =
         rw (getD-set-other chart (slot i end) (slot A m) r 0 s) (h .others A k m a b (λ l y z. d (omega arith) y z))
+
+-- behind the last nonterminal of the word there is none to put in
+pub added-rest : {before chart : List ℕ} {i N start end word : ℕ} → Added before i start end word chart → i ≤ N → N ≤ maxNonterminals
+    → end < maxTabularPlaces → word / 2 ^ i ≡ 0 → Added before N start end word chart
+added-rest {before} {chart} {i} {N} {start} {end} {word} h l few q e = record {
+  long = h .long;
+  here = λ A b. here A b (decLt A i);
+  others = λ A k m a b d. h .others A k m a b (λ o y z. d (omega arith) y z);
+}
+  where
+    here : (A : ℕ) → A < N → Dec (A < i) → charted chart A start end ≡ (charted before A start end || has word A)
+    here A b (yes o) = h .here A o
+    here A b (no o) =
+        let s : A ≡ i + (A - i) = omega arith in
+        rw (ap (has word) s ∙ sym (has-shift word i (A - i)) ∙ ap (λ (n : ℕ). has n (A - i)) e ∙ has-zero (A - i), or-false)
+        (h .others A start end (omega arith) q (λ p _ _. o p))

@@ -10,15 +10,13 @@ use lib.Dec.{ltb}
 use lib.ListN.{length, getD, drop, List·getD-append}
 use borrow.Author.Tests.{lt-ltb, le-ltb, ltb-false}
 use Rattle.answer.specs.declared.Error.{Error}
-use Rattle.answer.specs.declared.Error.the-variants.{Conflict, InputTooLong, SpansTooShort}
+use Rattle.answer.specs.declared.Error.the-variants.{InputTooLong, SpansTooShort}
 use Rattle.answer.specs.declared.Answer.{Answer}
 use Rattle.answer.specs.declared.Answer.the-variants.{Accepted, Rejected}
 use Rattle.answer.specs.declared.Answer.the-variants as answer
 use Rattle.answer.specs.Numbers.{Numbers, coded, numbers}
 use Rattle.answer.specs.Faults.{firstFault, refusedOr, toldOr}
-use Rattle.answer.proofs.Apart.{answer-number}
-use Rattle.answer.proofs.Faults.{Faultless, none-some, fault-none, each-none, numbers-told}
-use Rattle.base.specs.Choice.{choose}
+use Rattle.answer.proofs.Faults.{Faultless, none-some, fault-none, each-none}
 use Rattle.event.specs.Unknown.{unknownFrom, unknownFault}
 use Rattle.event.specs.declared.Unknown.{Unknown}
 use Rattle.event.specs.declared.Unknown.the-variants.{Absent, At}

@@ -5,6 +5,7 @@ use mathlib.Core.List.{List, [], _∷_}
 use mathlib.Core.Option.{some}
 use Prim.Native.Nat.{ℕ, zero, suc, _+_, _-_, _^_, _≤_, _<_}
 use native.Mathlib.Decide.{ℕ-discrete}
+use native.Mathlib.Numerals.{add-one}
 use native.Mathlib.Omega.{arith}
 use lib.Bits.{bitOr}
 use lib.Count.{ones}
@@ -18,9 +19,8 @@ use Rattle.base.proofs.Booleans.{true-T}
 use Rattle.word.specs.declared.Word.{Word}
 use Rattle.word.specs.Words.{decoded}
 use Rattle.grammar.specs.Limits.{maxNonterminals, maxRules}
-use Rattle.grammar.specs.Syntax.{Grammar, Rule}
+use Rattle.grammar.specs.Syntax.{Grammar}
 use Rattle.grammar.specs.Encoding.{parse, grammarOf}
-use Rattle.grammar.specs.Starts.{ruleStarts}
 use Rattle.grammar.specs.WellRead.{headOf}
 use Rattle.grammar.specs.declared.reading.Sizes.{Sizes}
 use Rattle.grammar.proofs.EachIndex.{read-whole}
@@ -32,17 +32,14 @@ use Rattle.lookahead.proofs.Size.{ones-count, count-cong}
 use Rattle.lookahead.proofs.Weights.{total-bound, has-total}
 use Rattle.semantics.specs.LeftRecursion.{leftReaches, rank}
 use Rattle.semantics.specs.Valuations.{derives, byRules}
-use Rattle.families.specs.Rules.{RuleWords, ruleFrom}
+use Rattle.semantics.proofs.meaning.Rank.{rank-below}
+use Rattle.families.specs.Rules.{RuleWords}
 use Rattle.families.specs.Sets.{reachNumber}
-use Rattle.base.proofs.Lists.{listed-at}
+use Rattle.base.proofs.Lists.{listed-at, getD-zeros}
 use Rattle.families.proofs.RuleRanges.{till-next, till-end, rule-in, rule-is}
 use Rattle.tabular_promises.specs.Chart.{charted}
 use Rattle.tabular_promises.specs.Scanning.{Over, holds, Keeps}
-use Rattle.tabular_promises.specs.Filling.{RulesGiven, RanksGiven, Ranked, Derived}
-
--- a rule, by its number
-abbrev ruleNumbered : List ℕ → ℕ → Rule
-ruleNumbered words q = ruleFrom words (getD (ruleStarts words) q 0)
+use Rattle.tabular_promises.specs.Filling.{RulesGiven, ruleNumbered, ruleRank, RanksGiven, LastOf, ByRank, AskGiven, Asked, Derived}
 
 module _ {words starts : List ℕ} {z : Sizes} (k : RulesGiven words starts z) {q : ℕ} (h : q < z .rules) where
   pub from-low : getD starts q 0 < length words
@@ -57,6 +54,14 @@ module _ {words starts : List ℕ} {z : Sizes} (k : RulesGiven words starts z) {
       let m = rw (← read-whole words z (k .read) .rules) at (rule-in words z (k .read) q h) in
       omega (arith, head-is e f, y .formed .scoped .heads _ m, y .fewNonterminals, y .nonterminals)
 
+-- where its words end
+module _ {words starts : List ℕ} {z : Sizes} (k : RulesGiven words starts z) (q : ℕ) (h : q < z .rules) where
+  pub end-next : q + 1 < z .rules → RuleWords words (getD starts q 0) (getD starts (q + 1) 0)
+  end-next n = rw (k .begins, add-one q) (till-next words z (k .read) q h (omega arith))
+
+  pub end-last : z .rules ≤ q + 1 → RuleWords words (getD starts q 0) (length words)
+  end-last n = rw (k .begins) (till-end words z (k .read) q h (omega arith))
+
 -- the ones of the set that a nonterminal left-reaches are its rank
 ones-rank : (G : Grammar) (A : ℕ) → ones (reachNumber G A) ≡ rank G A
 unfolding reachNumber rank
@@ -65,36 +70,67 @@ ones-rank G A =
     ∙ count-cong (G .nonterminals) (has (total (G .nonterminals) (leftReaches G A))) (leftReaches G A)
     (λ l b. has-total (G .nonterminals) (leftReaches G A) l ∙ rw (lt-ltb l (G .nonterminals) b))
 
--- the ranks of the first i rules have been stored
-pub record RankedTo (words ranks : List ℕ) (i : ℕ) : Type 0 where
-  pub long : length ranks ≡ maxRules
-  pub is : (q : ℕ) → q < i → getD ranks q 0 ≡ rank (grammarOf words) (ruleNumbered words q .head)
+-- the first i rules have been told by rank
+pub record RankedTo (words lasts befores : List ℕ) (i : ℕ) : Type 0 where
+  pub ranks : length lasts ≡ maxNonterminals
+  pub rules : length befores ≡ maxRules
+  pub last : (r : ℕ) → r < maxNonterminals → LastOf words r i (getD lasts r 0)
+  pub before : (q : ℕ) → q < i → LastOf words (ruleRank words q) q (getD befores q 0)
 
-pub ranked-start : (words : List ℕ) (n : ℕ) → n ≡ maxRules → RankedTo words (replicate n 0) 0
-ranked-start words n e = record { long = length-replicate {A = ℕ} n 0 ∙ e; is = λ q h. absurd (omega arith) }
-
-pub ranked-more : {words starts reaches ranks ranks′ : List ℕ} {z : Sizes} {i head : ℕ} {w : Word} → RanksGiven words starts z reaches → RankedTo words ranks i
-    → i < z .rules → w ≡ decoded (getD words (getD starts i 0) 0) → head ≡ headOf w → ranks′ ≡ set ranks i (ones (getD reaches head 0))
-    → RankedTo words ranks′ (i + 1)
-ranked-more {words} {starts} {reaches} {ranks} {ranks′} {z} {i} {head} g h l e f s = record {
-  long = rw (s, length-set ranks i (ones (getD reaches head 0))) (h .long);
-  is = λ q b. rw s (go q b (ℕ-discrete q i));
+pub ranked-start : (words : List ℕ) (m n : ℕ) → m ≡ maxNonterminals → n ≡ maxRules → RankedTo words (replicate m 0) (replicate n 0) 0
+ranked-start words m n d e = record {
+  ranks = length-replicate {A = ℕ} m 0 ∙ d;
+  rules = length-replicate {A = ℕ} n 0 ∙ e;
+  last = λ r h. rw (getD-zeros m r) record { within = omega arith; its = λ q f. absurd (omega arith); others = λ q l b f. absurd (omega arith) };
+  before = λ q h. absurd (omega arith);
 }
-  where
-    few : z .rules ≤ maxRules
-    few = well-read words z (g .rules .read) .fewRules
 
-    value : ones (getD reaches head 0) ≡ rank (grammarOf words) (ruleNumbered words i .head)
-    value =
-        ap ones (ap (λ (x : List ℕ). getD x head 0) (g .reached) ∙ listed-at maxNonterminals (reachNumber (grammarOf words)) head (head-low (g .rules) l e f))
-        ∙ ones-rank (grammarOf words) head ∙ ap (rank (grammarOf words)) (head-is (g .rules) l e f)
+-- one rule more
+module _ {words starts reaches : List ℕ} {z : Sizes} (g : RanksGiven words starts z reaches) {i head : ℕ} {w : Word} (l : i < z .rules)
+    (e : w ≡ decoded (getD words (getD starts i 0) 0)) (f : head ≡ headOf w) where
+  abbrev x : ℕ
+  x = ones (getD reaches head 0)
 
-    go : (q : ℕ) → q < i + 1 → Dec (q ≡ i) → getD (set ranks i (ones (getD reaches head 0))) q 0 ≡ rank (grammarOf words) (ruleNumbered words q .head)
-    go q b (yes d) = rw (d, getD-set-same ranks i (ones (getD reaches head 0)) 0 (omega (arith, h .long, few))) value
-    go q b (no d) = rw (getD-set-other ranks i q (ones (getD reaches head 0)) 0 d) (h .is q (omega arith))
+  rank-told : x ≡ ruleRank words i
+  rank-told =
+      ap ones (ap (λ (x : List ℕ). getD x head 0) (g .reached) ∙ listed-at maxNonterminals (reachNumber (grammarOf words)) head (head-low (g .rules) l e f))
+      ∙ ones-rank (grammarOf words) head ∙ ap (rank (grammarOf words)) (head-is (g .rules) l e f)
 
-pub ranked-end : {words ranks : List ℕ} {z : Sizes} {i : ℕ} → RankedTo words ranks i → z .rules ≤ i → Ranked words z ranks
-ranked-end h l = record { is = λ q b. h .is q (omega arith) }
+  pub rank-low : x < maxNonterminals
+  rank-low =
+      let y = well-read words z (g .rules .read) in
+      let m = rw (← read-whole words z (g .rules .read) .rules) at (rule-in words z (g .rules .read) i l) in
+      omega (arith, rank-told, rank-below (grammarOf words) (y .formed .scoped) (g .free) _ (y .formed .scoped .heads _ m), y .fewNonterminals, y .nonterminals)
+
+  pub ranked-more : {lasts befores lasts′ befores′ : List ℕ} → RankedTo words lasts befores i
+      → befores′ ≡ set befores i (getD lasts x 0) → lasts′ ≡ set lasts x (i + 1)
+      → RankedTo words lasts′ befores′ (i + 1)
+  ranked-more {lasts} {befores} {lasts′} {befores′} h c d = record {
+    ranks = rw (d, length-set lasts x (i + 1)) (h .ranks);
+    rules = rw (c, length-set befores i (getD lasts x 0)) (h .rules);
+    last = λ r b. rw d (last r b (ℕ-discrete r x));
+    before = λ q b. rw c (before q b (ℕ-discrete q i));
+  }
+    where
+      last : (r : ℕ) → r < maxNonterminals → Dec (r ≡ x) → LastOf words r (i + 1) (getD (set lasts x (i + 1)) r 0)
+      last r b (yes s) = rw (s, getD-set-same lasts x (i + 1) 0 (omega (arith, h .ranks, rank-low))) record {
+        within = omega arith;
+        its = λ q o. let t : q ≡ i = omega arith in rw t (sym rank-told);
+        others = λ q o p t. absurd (omega arith);
+      }
+      last r b (no s) = rw (getD-set-other lasts x r (i + 1) 0 s) (let o = h .last r b in record {
+        within = omega (arith, o .within);
+        its = o .its;
+        others = λ q u v t. elim (ℕ-discrete q i) [ yes n ↦ s (sym (rw n at t) ∙ sym rank-told) | no n ↦ o .others q u (omega arith) t ];
+      })
+
+      before : (q : ℕ) → q < i + 1 → Dec (q ≡ i) → LastOf words (ruleRank words q) q (getD (set befores i (getD lasts x 0)) q 0)
+      before q b (yes s) =
+          rw (s, getD-set-same befores i (getD lasts x 0) 0 (omega (arith, h .rules, well-read words z (g .rules .read) .fewRules)), ← rank-told) (h .last x rank-low)
+      before q b (no s) = rw (getD-set-other befores i q (getD lasts x 0) 0 s) (h .before q (omega arith))
+
+pub ranked-end : {words lasts befores : List ℕ} {z : Sizes} {i : ℕ} → RankedTo words lasts befores i → i ≤ z .rules → z .rules ≤ i → ByRank words z lasts befores
+ranked-end {z = z} {i} h l m = let e : i ≡ z .rules = omega arith in record { last = λ r b. rw e at (h .last r b); before = λ q b. h .before q (omega arith) }
 
 -- the list from an element on
 drop-at : {A : Type 0} (l : List A) (q : ℕ) (x : A) → getElem? l q ≡ some x → drop q l ≡ x ∷ drop (suc q) l
@@ -136,75 +172,106 @@ rank-out head A r rankOf there rest e = go (eqb head A) refl
         rw (ne-eqb (rankOf A) r s)
     go false d = refl
 
--- the rules from number i on have been asked, those of the rank
-pub record Asking (words starts : List ℕ) (n r : ℕ) (stands chart : List ℕ) (start end found to i : ℕ) : Type 0 where
+-- a rule is asked, or need not be, as its nonterminal is found already
+module _ {words starts : List ℕ} {z : Sizes} {q start end : ℕ} (g : AskGiven words starts z q start end) {head : ℕ} {w : Word}
+    (e : w ≡ decoded (getD words (getD starts q 0) 0)) (f : head ≡ headOf w) where
+  rule-says : (chart v : List ℕ) (A : ℕ) → derives (charted chart) v A start end (ruleNumbered words q)
+      ≡ (eqb head A && holds (charted chart) v start end (parse (drop (suc (getD starts q 0)) words)))
+  unfolding derives holds
+  rule-says chart v A = rw (head-is (g .rules) (g .numbered) e f, g .rules .begins, rule-is words z (g .rules .read) q (g .numbered))
+
+  pub known-already : {stands chart : List ℕ} {found : ℕ} → has found head ≡ true → Asked words q stands chart start end found found
+  known-already {stands} {chart} {found} there = record { member = λ v o A. rw (rule-says chart v A) (go A _ (eqb head A) refl) }
+    where
+      go : (A : ℕ) (b c : Bool) → eqb head A ≡ c → has found A ≡ (has found A || (c && b))
+      go A b true d = rw (ap (has found) (sym (eqb→eq head A (true-T (eqb head A) d))) ∙ there)
+      go A b false d = sym (or-false (has found A))
+
+  pub asked-now : {stands chart : List ℕ} {found found′ : ℕ} {there : Bool} → Keeps words (getD starts q 0) stands chart start end there
+      → found′ ≡ choose there (bitOr found (2 ^ head)) found → Asked words q stands chart start end found found′
+  asked-now {stands} {chart} {found} {found′} {there} t n =
+      record { member = λ v o A. rw (rule-says chart v A, n, found-more head found A there, t .is v o) }
+
+-- of the rules from number i on, those of the rank have been asked
+pub record Asking (words : List ℕ) (n r : ℕ) (stands chart : List ℕ) (start end found i : ℕ) : Type 0 where
   pub high : i ≤ n
-  pub bound : (q : ℕ) → suc q ≡ i → RuleWords words (getD starts q 0) to
   pub member : (w : List ℕ) → Over w stands chart end → (A : ℕ)
       → has found A ≡ (eqb (rank (grammarOf words) A) r && anyOf (derives (charted chart) w A start end) (drop i (grammarOf words .rules)))
 
-module _ {words starts : List ℕ} {z : Sizes} (k : RulesGiven words starts z) {r : ℕ} {stands chart : List ℕ} {start end : ℕ} where
-  pub asking-start : Asking words starts (z .rules) r stands chart start end 0 (length words) (z .rules)
+-- and the next one to ask is of the rank
+pub record AskingNext (words : List ℕ) (n r : ℕ) (stands chart : List ℕ) (start end found i : ℕ) : Type 0 where
+  pub asking : Asking words n r stands chart start end found i
+  pub its : (q : ℕ) → suc q ≡ i → ruleRank words q ≡ r
+
+-- what the rules from one on say of a nonterminal
+abbrev saidFrom : List ℕ → List ℕ → List ℕ → ℕ → ℕ → ℕ → ℕ → Bool
+saidFrom words chart w start end A q = anyOf (derives (charted chart) w A start end) (drop q (grammarOf words .rules))
+
+module _ {words starts : List ℕ} {z : Sizes} (k : RulesGiven words starts z) where
+  rules-say : (chart w : List ℕ) (start end A q : ℕ) → q < z .rules
+      → saidFrom words chart w start end A q ≡ (derives (charted chart) w A start end (ruleNumbered words q) || saidFrom words chart w start end A (suc q))
   unfolding anyOf
-  asking-start = record {
-    high = omega arith;
-    bound = λ q e. rw (k .begins) (till-end words z (k .read) q (omega arith) (omega arith));
-    member = λ w o A. rw (drop-of-length-le (grammarOf words .rules) all) (has-zero A ∙ sym (and-false (eqb (rank (grammarOf words) A) r)));
-  }
-    where
-      all : length (grammarOf words .rules) ≤ z .rules
-      all = omega (arith, well-read words z (k .read) .rules)
+  rules-say chart w start end A q l = rw (drop-at (grammarOf words .rules) q (ruleNumbered words q) (well-read words z (k .read) .begins q l))
 
-  module _ {found to i : ℕ} (h : Asking words starts (z .rules) r stands chart start end found to i) (l : 0 < i) where
-    rule : Rule
-    rule = ruleNumbered words (i - 1)
-
-    in-rules : i - 1 < z .rules
-    in-rules = omega (arith, h .high)
-
-    its-bound : (q : ℕ) → suc q ≡ i - 1 → RuleWords words (getD starts q 0) (getD starts (i - 1) 0)
-    its-bound q e = let s : i - 1 ≡ suc q = sym e in rw (k .begins, s) (till-next words z (k .read) q (omega (arith, h .high)) (omega (arith, h .high)))
-
-    from-rule : drop (i - 1) (grammarOf words .rules) ≡ rule ∷ drop i (grammarOf words .rules)
-    unfolding rule
-    from-rule =
-        let s : suc (i - 1) ≡ i = omega arith in
-        rw s at (drop-at (grammarOf words .rules) (i - 1) (ruleNumbered words (i - 1)) (well-read words z (k .read) .begins (i - 1) in-rules))
-
-    -- what the rule, and the rules from it on, say of a nonterminal
-    ruleSays : List ℕ → Bool
-    ruleSays w = holds (charted chart) w start end (parse (drop (suc (getD starts (i - 1) 0)) words))
-
-    rest : List ℕ → ℕ → Bool
-    rest w A = anyOf (derives (charted chart) w A start end) (drop i (grammarOf words .rules))
-
-    rules-say : (w : List ℕ) (A : ℕ) → anyOf (derives (charted chart) w A start end) (drop (i - 1) (grammarOf words .rules)) ≡ ((eqb (rule .head) A && ruleSays w) || rest w A)
-    unfolding anyOf derives holds rule ruleSays rest
-    rules-say w A = rw (from-rule, k .begins, rule-is words z (k .read) (i - 1) in-rules)
+  module _ {r : ℕ} {stands chart : List ℕ} {start end : ℕ} where
+    asking-start : Asking words (z .rules) r stands chart start end 0 (z .rules)
+    unfolding anyOf
+    asking-start = record {
+      high = omega arith;
+      member = λ w o A. rw (drop-of-length-le (grammarOf words .rules) all) (has-zero A ∙ sym (and-false (eqb (rank (grammarOf words) A) r)));
+    }
+      where
+        all : length (grammarOf words .rules) ≤ z .rules
+        all = omega (arith, well-read words z (k .read) .rules)
 
     -- a rule of another rank
-    pub asking-past : {x : List ℕ} → Ranked words z x → (getD x (i - 1) 0 ≡ r → ⊥) → Asking words starts (z .rules) r stands chart start end found (getD starts (i - 1) 0) (i - 1)
-    unfolding rule rest
-    asking-past {x} g ne = record {
-      high = omega (arith, h .high);
-      bound = its-bound;
-      member = λ w o A. rw (rules-say w A)
-          (h .member w o A ∙ rank-out (rule .head) A r (rank (grammarOf words)) (ruleSays w) (rest w A) (λ e. ne (g .is (i - 1) in-rules ∙ e)));
+    asking-past : (q : ℕ) {found : ℕ} → q < z .rules → Asking words (z .rules) r stands chart start end found (suc q) → (ruleRank words q ≡ r → ⊥)
+        → Asking words (z .rules) r stands chart start end found q
+    unfolding derives
+    asking-past q l h ne = record {
+      high = omega arith;
+      member = λ w o A. rw (rules-say chart w start end A q l)
+          (h .member w o A ∙ rank-out (ruleNumbered words q .head) A r (rank (grammarOf words)) _ (saidFrom words chart w start end A (suc q)) ne);
     }
+
+    asking-down : (x n : ℕ) {found : ℕ} → ((q : ℕ) → x ≤ q → q < x + n → ruleRank words q ≡ r → ⊥)
+        → Asking words (z .rules) r stands chart start end found (x + n) → Asking words (z .rules) r stands chart start end found x
+    asking-down x zero f h = let e : x + 0 ≡ x = omega arith in rw e at h
+    asking-down x (suc n) f h =
+        let e : x + suc n ≡ suc (x + n) = omega arith in
+        asking-down x n (λ q a b. f q a (omega arith))
+        (asking-past (x + n) (omega (arith, h .high)) (rw e at h) (f (x + n) (omega arith) (omega arith)))
 
     -- one of the rank
-    pub asking-more : {x : List ℕ} {found′ head : ℕ} {there : Bool} {w : Word} → Ranked words z x → getD x (i - 1) 0 ≡ r
-        → Keeps words (getD starts (i - 1) 0) stands chart start end there → w ≡ decoded (getD words (getD starts (i - 1) 0) 0) → head ≡ headOf w
-        → found′ ≡ choose there (bitOr found (2 ^ head)) found
-        → Asking words starts (z .rules) r stands chart start end found′ (getD starts (i - 1) 0) (i - 1)
-    unfolding rule ruleSays rest
-    asking-more {x} {found′} {head} {there} g same t e f n = record {
-      high = omega (arith, h .high);
-      bound = its-bound;
-      member = λ w o A. rw (rules-say w A, n, found-more head found A there, head-is k in-rules e f, t .is w o, h .member w o A)
-          (rank-in (rule .head) A r (rank (grammarOf words)) (ruleSays w) (rest w A) (sym (g .is (i - 1) in-rules) ∙ same));
+    asking-more : (q : ℕ) {found found′ : ℕ} → q < z .rules → Asking words (z .rules) r stands chart start end found (suc q) → ruleRank words q ≡ r
+        → Asked words q stands chart start end found found′ → Asking words (z .rules) r stands chart start end found′ q
+    unfolding derives
+    asking-more q l h same a = record {
+      high = omega arith;
+      member = λ w o A. rw (rules-say chart w start end A q l, a .member w o A, h .member w o A)
+          (rank-in (ruleNumbered words q .head) A r (rank (grammarOf words)) _ (saidFrom words chart w start end A (suc q)) same);
     }
 
-  pub asked : {found to i : ℕ} → Asking words starts (z .rules) r stands chart start end found to i → i ≤ 0 → Derived words r stands chart start end found
-  unfolding byRules
-  asked {found} {to} {i} h l = let e : i ≡ 0 = omega arith in record { member = λ w o A. let q = h .member w o A in rw e at q }
+    -- the rules of other ranks before the next one are passed over
+    asking-next : {found i x : ℕ} → Asking words (z .rules) r stands chart start end found i → LastOf words r i x
+        → AskingNext words (z .rules) r stands chart start end found x
+    asking-next {found} {i} {x} h o =
+        let e : x + (i - x) ≡ i = omega (arith, o .within) in
+        record { asking = asking-down x (i - x) (λ q a b. o .others q a (omega arith)) (rw e h); its = o .its }
+
+    pub rules-start : {lasts befores : List ℕ} → ByRank words z lasts befores → r < maxNonterminals
+        → AskingNext words (z .rules) r stands chart start end 0 (getD lasts r 0)
+    rules-start g h = asking-next asking-start (g .last r h)
+
+    pub rules-more : {lasts befores : List ℕ} {found found′ i : ℕ} → ByRank words z lasts befores
+        → AskingNext words (z .rules) r stands chart start end found i → 0 < i → Asked words (i - 1) stands chart start end found found′
+        → AskingNext words (z .rules) r stands chart start end found′ (getD befores (i - 1) 0)
+    rules-more {lasts} {befores} {found} {found′} {i} g h l a =
+        let s : suc (i - 1) ≡ i = omega arith in
+        let b : i - 1 < z .rules = omega (arith, h .asking .high) in
+        let c = h .its (i - 1) s in
+        asking-next (asking-more (i - 1) b (rw s (h .asking)) c a) (rw c at (g .before (i - 1) b))
+
+    pub rules-end : {found i : ℕ} → AskingNext words (z .rules) r stands chart start end found i → i ≤ 0 → Derived words r stands chart start end found
+    unfolding byRules
+    rules-end {found} {i} h l = let e : i ≡ 0 = omega arith in record { member = λ w o A. let q = h .asking .member w o A in rw e at q }

@@ -8,11 +8,11 @@ use lib.Dec.{ltb}
 use lib.ListN.{length}
 use borrow.Author.Tests.{lt-ltb, le-ltb}
 use Rattle.answer.specs.declared.Error.{Error}
-use Rattle.answer.specs.declared.Error.the-variants.{InputTooLong, UnknownToken, SpansTooShort}
+use Rattle.answer.specs.declared.Error.the-variants.{InputTooLong, SpansTooShort}
 use Rattle.answer.specs.Numbers.{coded}
 use Rattle.answer.specs.Faults.{faultIf, firstFault}
 use Rattle.answer.proofs.Faults.{first-nested, OfFault, of-if, first-each}
-use Rattle.event.specs.declared.Unknown.the-variants.{Absent, At}
+use Rattle.event.specs.declared.Unknown.the-variants.{Absent}
 use Rattle.event.specs.Unknown.{unknownFrom, unknownFault}
 use Rattle.grammar.specs.Limits.{maxTabularTokens, maxSpanWords}
 use Rattle.grammar.specs.Encoding.{grammarOf}

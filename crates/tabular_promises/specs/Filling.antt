@@ -1,19 +1,19 @@
 -- The chart filled from short spans to long ones, spans of one length by their start, and nonterminals at one span by their rank.
 use mathlib.Core.Path.{_≡_}
-use mathlib.Core.Bool.{_&&_}
+use mathlib.Core.Bool.{_&&_, _||_}
 use mathlib.Core.List.{List}
-use Prim.Native.Nat.{ℕ, _+_, _*_, _-_, _≤_, _<_}
+use Prim.Native.Nat.{ℕ, suc, _+_, _*_, _-_, _≤_, _<_}
 use lib.Dec.{T, eqb}
 use lib.ListN.{length, getD}
 use Rattle.grammar.specs.Limits.{maxNonterminals, maxTabularTokens, maxTabularPlaces}
-use Rattle.grammar.specs.Syntax.{Grammar}
+use Rattle.grammar.specs.Syntax.{Grammar, Rule}
 use Rattle.grammar.specs.Encoding.{grammarOf}
 use Rattle.grammar.specs.declared.reading.Sizes.{Sizes}
 use Rattle.grammar.specs.declared.reading.Outcome.the-variants.{Read}
 use Rattle.grammar.specs.Reading.{reading}
 use Rattle.grammar.specs.Starts.{ruleStarts}
 use Rattle.lookahead.specs.Elements.{has}
-use Rattle.semantics.specs.Valuations.{byRules, solution}
+use Rattle.semantics.specs.Valuations.{derives, byRules, solution}
 use Rattle.semantics.specs.LeftRecursion.{NoLeftRecursion, rank}
 use Rattle.base.specs.Lists.{listed}
 use Rattle.families.specs.Rules.{ruleFrom}
@@ -27,17 +27,43 @@ pub record RulesGiven (words starts : List ℕ) (z : Sizes) : Type 0 where
   pub read : reading words ≡ Read z
   pub begins : starts ≡ ruleStarts words
 
+-- a rule, by its number, and the rank of its nonterminal
+abbrev pub ruleNumbered : List ℕ → ℕ → Rule
+ruleNumbered words q = ruleFrom words (getD (ruleStarts words) q 0)
+
+abbrev pub ruleRank : List ℕ → ℕ → ℕ
+ruleRank words q = rank (grammarOf words) (ruleNumbered words q .head)
+
 pub record RanksGiven (words starts : List ℕ) (z : Sizes) (reaches : List ℕ) : Type 0 where
   pub rules : RulesGiven words starts z
+  pub free : NoLeftRecursion (grammarOf words)
   pub reached : reaches ≡ listed maxNonterminals (reachNumber (grammarOf words))
 
--- for each rule, the rank of its nonterminal
-pub record Ranked (words : List ℕ) (z : Sizes) (ranks : List ℕ) : Type 0 where
-  pub is : (q : ℕ) → q < z .rules → getD ranks q 0 ≡ rank (grammarOf words) (ruleFrom words (getD (ruleStarts words) q 0) .head)
+-- of the first i rules, x is the last one of the rank, counted from 1; 0 where there is none
+pub record LastOf (words : List ℕ) (r i x : ℕ) : Type 0 where
+  pub within : x ≤ i
+  pub its : (q : ℕ) → suc q ≡ x → ruleRank words q ≡ r
+  pub others : (q : ℕ) → x ≤ q → q < i → ruleRank words q ≡ r → ⊥
 
-pub record DerivedGiven (words starts ranks : List ℕ) (z : Sizes) (start end : ℕ) : Type 0 where
+-- for each rank its last rule, and for each rule the one of its rank before it
+pub record ByRank (words : List ℕ) (z : Sizes) (lasts befores : List ℕ) : Type 0 where
+  pub last : (r : ℕ) → r < maxNonterminals → LastOf words r (z .rules) (getD lasts r 0)
+  pub before : (q : ℕ) → q < z .rules → LastOf words (ruleRank words q) q (getD befores q 0)
+
+pub record AskGiven (words starts : List ℕ) (z : Sizes) (q start end : ℕ) : Type 0 where
   pub rules : RulesGiven words starts z
-  pub ranked : Ranked words z ranks
+  pub numbered : q < z .rules
+  pub span : Span start end
+
+-- the nonterminals found, and that of a rule where the rule gives it the span
+pub record Asked (words : List ℕ) (q : ℕ) (stands chart : List ℕ) (start end before after : ℕ) : Type 0 where
+  pub member : (w : List ℕ) → Over w stands chart end → (A : ℕ)
+      → has after A ≡ (has before A || derives (charted chart) w A start end (ruleNumbered words q))
+
+pub record DerivedGiven (words starts lasts befores : List ℕ) (z : Sizes) (r start end : ℕ) : Type 0 where
+  pub rules : RulesGiven words starts z
+  pub ranked : ByRank words z lasts befores
+  pub low : r < maxNonterminals
   pub span : Span start end
 
 -- the nonterminals of a rank that the rules give a span to
@@ -62,18 +88,18 @@ pub record Fills (words stands before : List ℕ) (low high x y : ℕ) (after : 
       → FilledTo (grammarOf words) w y after
 
 -- a grammar without left recursion, and its rules by rank
-pub record FillingGiven (words starts ranks : List ℕ) (z : Sizes) (chart : List ℕ) : Type 0 where
+pub record FillingGiven (words starts lasts befores : List ℕ) (z : Sizes) (chart : List ℕ) : Type 0 where
   pub rules : RulesGiven words starts z
-  pub ranked : Ranked words z ranks
+  pub ranked : ByRank words z lasts befores
   pub free : NoLeftRecursion (grammarOf words)
   pub long : Long chart
 
-pub record SettleGiven (words starts ranks : List ℕ) (z : Sizes) (chart : List ℕ) (start end : ℕ) : Type 0 where
-  pub given : FillingGiven words starts ranks z chart
+pub record SettleGiven (words starts lasts befores : List ℕ) (z : Sizes) (chart : List ℕ) (start end : ℕ) : Type 0 where
+  pub given : FillingGiven words starts lasts befores z chart
   pub span : Span start end
 
-pub record LengthGiven (words starts ranks : List ℕ) (z : Sizes) (chart : List ℕ) (tokens d : ℕ) : Type 0 where
-  pub given : FillingGiven words starts ranks z chart
+pub record LengthGiven (words starts lasts befores : List ℕ) (z : Sizes) (chart : List ℕ) (tokens d : ℕ) : Type 0 where
+  pub given : FillingGiven words starts lasts befores z chart
   pub short : tokens ≤ maxTabularTokens
   pub within : d ≤ tokens
 

@@ -1,21 +1,20 @@
 -- What is below a call that ends: calls that the descent makes and that end too, of a lower measure.
-use mathlib.Core.Bool.{Bool, true, false, not, _&&_}
-use mathlib.Core.List.{List, [], _∷_, _++_, List·Memᴰ, List·Memᴰ·head, List·Memᴰ·tail, List·Memᴰ·cases-cons, List·Memᴰ·not-nil}
-use mathlib.Core.List.{flatMap, List·Memᴰ·append-cases, Memᴰ·append-left, Memᴰ·append-right}
+use mathlib.Core.Bool.{true, _&&_}
+use mathlib.Core.List.{List, [], _∷_, List·Memᴰ, List·Memᴰ·head, List·Memᴰ·tail, List·Memᴰ·cases-cons, List·Memᴰ·not-nil}
+use mathlib.Core.List.{flatMap, Memᴰ·append-left, Memᴰ·append-right}
 use mathlib.Core.Logic.{inl, inr}
-use mathlib.Core.Option.{Option, none, some}
-use mathlib.Core.Path.{_≡_, refl, sym, ap, _∙_}
-use Prim.Native.Nat.{ℕ, zero, suc, _≤_, _<_}
+use mathlib.Core.Path.{_≡_, refl}
+use Prim.Native.Nat.{ℕ, suc, _<_}
 use native.Mathlib.Omega.{arith}
-use lib.Dec.{T, ltb, eqb, lt→ltb, eqb-refl}
+use lib.Dec.{ltb, eqb, lt→ltb, eqb-refl}
 use lib.ListN.{length, getD}
 use Rattle.word.specs.declared.Symbol.the-variants.{Terminal, Nonterminal}
-use Rattle.grammar.specs.Syntax.{Body, Rule, Grammar}
+use Rattle.grammar.specs.Syntax.{Body, Grammar}
 use Rattle.semantics.specs.Valuations.{Valuation, Solves}
-use Rattle.base.specs.Strings.{look, Over}
+use Rattle.base.specs.Strings.{Over}
 use Rattle.semantics.specs.Choices.{tableChoice}
-use Rattle.semantics.specs.Descent.{Outcome, Failed, End, endsAt, guard, Outcomes, read, run, select}
-use Rattle.semantics.specs.ComesTo.{Call, callAt, InRange, measure, when, fromEnd, bodyComesTo, positivesComeTo, ruleComesTo, selectedComesTo, callComesTo}
+use Rattle.semantics.specs.Descent.{End, endsAt, Outcomes, read, run, select}
+use Rattle.semantics.specs.ComesTo.{Call, callAt, InRange, measure, when, bodyComesTo, positivesComeTo, ruleComesTo, selectedComesTo, callComesTo}
 use Rattle.semantics.specs.Predictive.{Predictive}
 use Rattle.base.proofs.Booleans.{T-true, and-make}
 use Rattle.semantics.proofs.descent.Measure.{measure-falls}

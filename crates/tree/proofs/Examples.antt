@@ -7,9 +7,10 @@ use Rattle.grammar.specs.Syntax.{Grammar}
 use Rattle.grammar.specs.Cards.{grammarR, grammarM, grammarE}
 use Rattle.semantics.specs.Choices.{tableChoice}
 use Rattle.semantics.proofs.examples.Computing.{tables-compute, descent-computes, calls-compute}
-use Rattle.semantics.proofs.examples.ExamplesTables.{repeated, others}
+use Rattle.semantics.proofs.examples.ExamplesTables.{others}
 use Rattle.tree.specs.ParseTrees.{Vertex, Node, Leaf, Inner, vertex, leaves}
-use Rattle.tree.specs.Writing.{vertexAt, bodyNodes, conjunctNodes, ruleNodes, descendantsOf, ruleCalls, below, each, visit, treeCalls, treeOf, vertexWord, treeWords}
+use Rattle.tree.specs.Writing.{vertexAt, bodyNodes, conjunctNodes, ruleNodes, descendantsOf, ruleCalls, below, each, visit, treeCalls, treeOf, vertexWord}
+use Rattle.tree.specs.Writing.{treeWords}
 
 -- by one token of lookahead
 abbrev wordsOf : Grammar → List ℕ → List ℕ

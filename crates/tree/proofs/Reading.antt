@@ -1,15 +1,12 @@
 -- How a call that ends was read: the rule that the table chose, and each positive conjunct of it symbol by symbol.
 use mathlib.Core.Bool.{Bool, true, false, not, _&&_}
-use mathlib.Core.List.{List, [], _∷_, _++_, List·Memᴰ, List·Memᴰ·head, List·Memᴰ·tail, List·Memᴰ·cases-cons, List·Memᴰ·not-nil}
-use mathlib.Core.List.{flatMap, List·Memᴰ·append-cases, Memᴰ·append-left, Memᴰ·append-right, append-assoc}
-use mathlib.Core.Logic.{_⊎_, inl, inr}
-use mathlib.Core.Option.{Option, none, some}
-use mathlib.Core.Path.{_≡_, refl, sym, ap, _∙_}
-use Prim.Native.Nat.{ℕ, zero, suc, _≤_, _<_}
+use mathlib.Core.List.{List, [], _∷_, _++_, List·Memᴰ, Memᴰ·append-left, Memᴰ·append-right, append-assoc}
+use mathlib.Core.Option.{some}
+use mathlib.Core.Path.{_≡_, refl, sym, _∙_}
+use Prim.Native.Nat.{ℕ, suc, _≤_, _<_}
 use native.Mathlib.Omega.{arith}
-use lib.Dec.{T, ltb, eqb, ltb→lt, eqb→eq, eqb-refl, T-not}
+use lib.Dec.{T, ltb, eqb, ltb→lt, eqb→eq, T-not}
 use lib.ListN.{length, getD, getElem?}
-use Rattle.word.specs.declared.Symbol.{Symbol}
 use Rattle.word.specs.declared.Symbol.the-variants.{Terminal, Nonterminal}
 use Rattle.grammar.specs.Syntax.{Body, Rule, Grammar, bodies}
 use Rattle.base.specs.Quantifiers.{anyOf, allOf}
@@ -17,17 +14,15 @@ use Rattle.semantics.specs.Valuations.{Valuation, contains, Solves}
 use Rattle.base.specs.Strings.{look, Over}
 use Rattle.semantics.specs.FirstFollow.{Follow}
 use Rattle.semantics.specs.Choices.{tableChoice}
-use Rattle.semantics.specs.Descent.{Outcome, Failed, End, endsAt, guard, onward, Outcomes, read, run, agrees, conclude, obey, select, byChoice, descend}
-use Rattle.semantics.specs.ComesTo.{Call, callAt, InRange, when, fromEnd, bodyComesTo, negativesComeTo, positivesComeTo, ruleComesTo, selectedComesTo, callComesTo}
+use Rattle.semantics.specs.Descent.{End, endsAt, guard, onward, Outcomes, read, run, agrees, select, byChoice, descend}
 use Rattle.semantics.specs.Predictive.{Predictive}
 use Rattle.semantics.specs.Theorems.{LocalVerdict}
-use Rattle.base.proofs.Booleans.{T-subst, T-true, and-l, and-r}
+use Rattle.base.proofs.Booleans.{and-l, and-r}
 use Rattle.base.proofs.Quantified.{all-elim, any-make}
-use Rattle.semantics.proofs.descent.Outcomes.{ends-end, end-ends, onward-elim, guard-elim, obey-elim, select-elim, conclude-elim, nth-mem}
+use Rattle.semantics.proofs.descent.Outcomes.{ends-end, end-ends, onward-elim, guard-elim, obey-elim, select-elim, conclude-elim}
 use Rattle.semantics.proofs.descent.Ends.{run-forward, selected, descend-forward}
 use Rattle.semantics.proofs.descent.BodyVerdict.{below-rest}
 use Rattle.semantics.proofs.Theorems.{theorems}
-use Rattle.tree.specs.Writing.{ruleCalls, below}
 
 module _ (G : Grammar) (k : ℕ) (w : List ℕ) where
   abbrev pub outcomes : Outcomes

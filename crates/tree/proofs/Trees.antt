@@ -1,6 +1,5 @@
 -- The tree that the descent finds for an accepted input is a parse tree of it, and its vertices are written once each.
-use mathlib.Core.List.{List, [], _∷_, map, List·Memᴰ, List·Memᴰ·head, List·Memᴰ·not-nil}
-use mathlib.Core.List.{List·Memᴰ·eq-of-singleton}
+use mathlib.Core.List.{List, [], _∷_, map, List·Memᴰ, List·Memᴰ·head, List·Memᴰ·not-nil, List·Memᴰ·eq-of-singleton}
 use mathlib.Core.Logic.{_⊎_, inl, inr}
 use mathlib.Core.Option.{some}
 use mathlib.Core.Path.{_≡_, refl, sym, ap, _∙_}
@@ -31,7 +30,8 @@ use Rattle.tree.proofs.Lists.{map-elim, map-make, map-distinct}
 use Rattle.tree.proofs.Visiting.{Visited, visit-visited, visit-first}
 use Rattle.tree.proofs.Reading.{Found, Chosen, chosen}
 use Rattle.tree.proofs.Below.{below-elim, below-make, below-falls}
-use Rattle.tree.proofs.Nodes.{cut-within, leaves-cut, leaves-have, leaves-only, conjuncts-length, at, vertex-end, nodes-cut, inner-node, node-inner, nodes-cover, vertex-rule, conjuncts-correspond}
+use Rattle.tree.proofs.Nodes.{cut-within, leaves-cut, leaves-have, leaves-only, conjuncts-length, at, vertex-end, nodes-cut, inner-node, node-inner}
+use Rattle.tree.proofs.Nodes.{nodes-cover, vertex-rule, conjuncts-correspond}
 
 pub call-same : (x y : Call) → x .nonterminal ≡ y .nonterminal → x .place ≡ y .place → x ≡ y
 call-same x y a b = let s : callAt (x .nonterminal) (x .place) ≡ callAt (y .nonterminal) (y .place) = cc in s

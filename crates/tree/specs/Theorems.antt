@@ -1,7 +1,7 @@
 -- What this crate proves, on one page. All of it is given in proofs/Theorems.
 use mathlib.Core.Path.{_≡_}
 use mathlib.Core.Bool.{true}
-use mathlib.Core.List.{List, [], List·Memᴰ}
+use mathlib.Core.List.{List, List·Memᴰ}
 use mathlib.Core.Option.{some}
 use Prim.Native.Nat.{ℕ, _/_, _%_, _^_, _≤_, _<_}
 use lib.Dec.{T}
@@ -16,7 +16,7 @@ use Rattle.semantics.specs.Calls.{Called, callCount}
 use Rattle.base.specs.FiniteSets.{Distinct}
 use Rattle.semantics.specs.Predictive.{Predictive}
 use Rattle.tree.specs.ParseTrees.{Vertex, ParseTree}
-use Rattle.tree.specs.Writing.{vertexAt, treeCalls, treeOf, vertexWord, InTree}
+use Rattle.tree.specs.Writing.{treeCalls, treeOf, vertexWord, InTree}
 
 -- The written vertices are those of just the calls of the tree, each once; each of them is a call that the descent makes and that ends
 pub record Written (G : Grammar) (choice : Choice) (w : List ℕ) : Type 0 where

@@ -1,12 +1,12 @@
 -- Writing the tree from its root, by what judging left of an accepted input.
 use mathlib.Core.Path.{_≡_, refl, sym, ap, _∙_}
-use mathlib.Core.Bool.{Bool, true, false}
-use mathlib.Core.List.{List, [], _∷_, _++_, map, List·Memᴰ, List·Memᴰ·not-nil}
+use mathlib.Core.Bool.{Bool, false}
+use mathlib.Core.List.{List, [], _∷_, map, List·Memᴰ·not-nil}
 use denote.Enum.Declared.{tagOf}
 use Prim.Native.Nat.{ℕ, zero, suc, _+_, _*_, _-_, _%_, _≤_, _<_}
 use native.Mathlib.Numerals.{add-one}
 use native.Mathlib.Omega.{arith}
-use lib.ListN.{length, getD, drop, replicate, length-map, length-replicate}
+use lib.ListN.{length, getD, replicate, length-map, length-replicate}
 use Rattle.base.specs.Quantifiers.{anyOf}
 use Rattle.base.proofs.Booleans.{T-true}
 use Rattle.grammar.specs.Limits.{maxMemoEntries}
@@ -23,7 +23,7 @@ use Rattle.base.specs.FiniteSets.{member}
 use Rattle.semantics.specs.Valuations.{Valuation, Solves, solution, pairs}
 use Rattle.semantics.specs.Claims.{tableOf}
 use Rattle.semantics.specs.Descent.{accepts}
-use Rattle.semantics.specs.ComesTo.{Call, callAt, measure}
+use Rattle.semantics.specs.ComesTo.{Call, measure}
 use Rattle.semantics.specs.Memo.{encode}
 use Rattle.semantics.proofs.descent.Outcomes.{nth-below}
 use Rattle.semantics.proofs.meaning.Rank.{level-top}

@@ -6,7 +6,7 @@ use mathlib.Core.Logic.{⊎-elim}
 use mathlib.Core.Option.{Option, none, some}
 use denote.Enum.Declared.{tagOf}
 use types.Run.{OneOf}
-use Prim.Native.Nat.{ℕ, suc, _+_, _-_, _*_, _≤_, _<_}
+use Prim.Native.Nat.{ℕ, suc, _+_, _*_, _≤_, _<_}
 use native.Mathlib.Decide.{decLt}
 use native.Mathlib.Nat.{mul-le-mul}
 use native.Mathlib.Omega.{arith}
@@ -14,7 +14,7 @@ use lib.Dec.{T}
 use lib.Arith.{digits-lt}
 use lib.ListN.{length, getD, drop, length-append, length-drop, length-map, List·getD-append}
 use borrow.Author.Tests.{lt-ltb, le-ltb}
-use Rattle.answer.specs.Faults.{firstFault, refusedOr, toldOr}
+use Rattle.answer.specs.Faults.{firstFault, refusedOr}
 use Rattle.answer.specs.Numbers.{refused, coded, numbers}
 use Rattle.answer.specs.declared.Error.{Error}
 use Rattle.answer.specs.declared.Error.the-variants.{TableTooShort, MemoTooShort, TreeTooShort}

@@ -1,20 +1,19 @@
 -- Writing a vertex and what is below it: from what is given to each step of the loop, and to what is written.
 use mathlib.Core.Path.{_≡_, refl, sym, ap, subst, _∙_}
 use mathlib.Core.Bool.{Bool, true, false, false≢true}
-use mathlib.Core.List.{List, [], _∷_, _++_, map, flatMap, List·Memᴰ, List·Memᴰ·head, List·Memᴰ·tail, List·Memᴰ·not-nil, List·Memᴰ·cases-cons}
-use mathlib.Core.List.{List·Memᴰ·append-cases, Memᴰ·append-left, Memᴰ·append-right, List·Memᴰ·eq-of-singleton, append-nil, append-assoc}
-use mathlib.Core.Logic.{_⊎_, inl, inr, ⊎-elim}
+use mathlib.Core.List.{List, [], _∷_, _++_, flatMap, List·Memᴰ, List·Memᴰ·head, List·Memᴰ·tail, List·Memᴰ·not-nil}
+use mathlib.Core.Logic.{⊎-elim}
 use denote.Enum.Declared.{tagOf}
 use types.Run.{OneOf}
 use Rattle.word.proofs.Word.{the-type}
 use Rattle.word.proofs.Symbol.{the-type as symbol-type}
-use mathlib.Core.Option.{Option, none, some}
+use mathlib.Core.Option.{none, some}
 use Prim.Native.Nat.{ℕ, zero, suc, _+_, _*_, _-_, _≤_, _<_}
 use native.Mathlib.Omega.{arith}
 use native.Mathlib.Numerals.{add-one}
-use lib.Dec.{T, eqb→eq}
+use lib.Dec.{eqb→eq}
 use lib.Seq.{drop-cons}
-use lib.ListN.{length, getD, getElem?, drop, set}
+use lib.ListN.{length, getD, drop, set}
 use Rattle.word.specs.Words.{decoded}
 use Rattle.word.specs.declared.Symbol as symbol
 use Rattle.word.specs.declared.Symbol.the-variants.{Terminal, Nonterminal}
@@ -29,21 +28,19 @@ use Rattle.grammar.specs.declared.reading.Progress.{Progress}
 use Rattle.grammar.specs.Starts.{ruleStarts}
 use Rattle.grammar.specs.WellRead.{firstRule, Begun, WellRead}
 use Rattle.grammar.proofs.WellRead.{well-read}
-use Rattle.grammar.proofs.Suffixes.{Next, scan-next, read-reaches}
+use Rattle.grammar.proofs.Suffixes.{Next, scan-next}
 use Rattle.grammar.proofs.WellFormed.{RestFits, reads}
-use Rattle.base.specs.Choice.{choose}
-use Rattle.base.specs.FiniteSets.{member, Distinct}
-use Rattle.semantics.specs.Valuations.{Valuation, Solves, solution, pairs}
+use Rattle.base.specs.FiniteSets.{member}
+use Rattle.semantics.specs.Valuations.{Valuation, Solves, solution}
 use Rattle.semantics.specs.Descent.{Outcomes, End, descend, accepts}
 use Rattle.semantics.specs.ComesTo.{Call, callAt, InRange, measure, bodyComesTo}
-use Rattle.semantics.specs.Calls.{sameCall, allCalls}
+use Rattle.semantics.specs.Calls.{sameCall}
 use Rattle.semantics.specs.LeftRecursion as semantics
 use Rattle.semantics.proofs.Theorems.{theorems}
 use Rattle.families.proofs.Words.{parse-over}
 use Rattle.recursive_descent.proofs.Bodies.{parse-here, symbol-reads}
 use Rattle.recursive_descent.proofs.Starting.{begin-next}
-use Rattle.tree.specs.Writing.{numberOf, vertexAt, below, each, visit, InTree, more}
-use Rattle.tree.specs.Writing.{start as root-in}
+use Rattle.tree.specs.Writing.{numberOf, vertexAt, below, each, visit, InTree, more, start as root-in}
 use Rattle.tree.specs.Theorems.{Told}
 use Rattle.tree.proofs.Words.{told}
 use Rattle.semantics.proofs.descent.Outcomes.{nth-below}
@@ -52,7 +49,7 @@ use Rattle.tree.proofs.Below.{comes-token, comes-name, below-chosen, below-make
 use Rattle.tree.proofs.Trees.{tree-sound}
 use Rattle.tree_writer_promises.specs.Labels.{ruleOf as word-rule, endOf as word-end}
 use Rattle.tree_writer_promises.specs.Writer.{choiceOf, wordAt, Holds, VertexGiven, VertexDone, falling}
-use Rattle.tree_writer_promises.proofs.Marking.{holds-length, unseen, count-low, room, index-room, holds-more}
+use Rattle.tree_writer_promises.proofs.Marking.{holds-length, unseen, count-low, room, holds-more}
 
 abbrev pub level : List ℕ → List ℕ → ℕ → ℕ → ℕ
 level words input A place = measure (grammarOf words) input (callAt A place)

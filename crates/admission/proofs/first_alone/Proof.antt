@@ -1,10 +1,8 @@
 -- The loop keeps what the search finds from the index on.
 use mathlib.Core.Path.{_≡_, refl, sym, _∙_}
-use mathlib.Core.Bool.{false}
 use Prim.Native.Nat.{_-_}
 use native.Mathlib.Omega.{arith}
 use lib.ListN.{length, drop}
-use borrow.Author.Needs.{needs}
 use Rattle.admission.specs.Admission.{aloneFrom, firstAlone}
 use Rattle.admission.proofs.WithoutPositives.{alone-here, alone-next, alone-none}
 use Rattle.admission.proofs.first_alone.Statement.{statement}

@@ -1,6 +1,5 @@
 -- The number where it is below the other, else the other.
 use mathlib.Core.Path.{sym}
-use native.Mathlib.Omega.{arith}
 use borrow.Author.Tests.{lt-ltb, le-ltb}
 use Rattle.concatenation.proofs.fewer.Statement.{statement}
 use Rattle.concatenation.proofs.fewer.Tie as tie

@@ -1,10 +1,9 @@
--- One terminal after the other: the rows of those that were looked at.
+-- No terminal alone, no row; else one terminal after the other: the rows of those that were looked at.
 use Prim.Native.Nat.{_-_, _≤_}
-use mathlib.Core.Bool.{_&&_}
+use mathlib.Core.Path.{sym, _∙_}
 use native.Mathlib.Omega.{arith}
-use lib.Dec.{ltb}
 use borrow.Author.Needs.{needs}
-use Rattle.concatenation.specs.Computing.{Has, begins, inRows}
+use Rattle.concatenation.specs.Computing.{Has, inRows}
 use Rattle.concatenation.proofs.PairRows as laws
 use Rattle.concatenation.proofs.rows.Statement.{statement}
 use Rattle.concatenation.proofs.rows.Tie as tie
@@ -15,14 +14,25 @@ Inv-loop self other firsts rows₀ l₀ rows l = (l ≤ 7) × Has (rows .bits) (
 abbrev μ-loop : tie.MeasureT-loop
 μ-loop self other firsts rows₀ l₀ rows l = 7 - l
 
-firsts-requires : tie.Need-firsts-requires Inv-loop μ-loop
-firsts-requires c κs = search needs
+no-single-requires : tie.Need-no-single-requires Inv-loop μ-loop
+no-single-requires c κs = search needs
 
 empty-requires : tie.Need-empty-requires Inv-loop μ-loop
 empty-requires c κs = search needs
 
+returns : tie.Need-returns Inv-loop μ-loop
+returns c =
+    let at = c .before .before in
+    laws.rows-skipped (at .before .args .set .bits) (at .before .args .other .bits) (sym (at .no-single .ensures) ∙ c .before .if1 .taken) (c .empty .ensures)
+
+firsts-requires : tie.Need-firsts-requires Inv-loop μ-loop
+firsts-requires c κs = search needs
+
+empty-requires-2 : tie.Need-empty-requires-2 Inv-loop μ-loop
+empty-requires-2 c κs = search needs
+
 loop-holds : tie.Need-loop-holds Inv-loop μ-loop
-loop-holds c = let args = c .before .before .args in (omega arith, laws.rows-none (args .set .bits) (args .other .bits) (c .empty .ensures))
+loop-holds c = let args = c .before .before .before .before .args in (omega arith, laws.rows-none (args .set .bits) (args .other .bits) (c .empty2 .ensures))
 
 row-requires : tie.Need-row-requires Inv-loop μ-loop
 row-requires c κs = (c .loop-test .taken, c .before .before .before .firsts .ensures)
@@ -39,18 +49,32 @@ loop-less c = omega (arith, c .before .before .loop-test .taken)
 loop-again : tie.Need-loop-again Inv-loop μ-loop
 loop-again c =
     let at = c .before .before .before in
-    let args = at .before .before .before .args in (
+    let args = at .before .before .before .before .before .args in (
       omega (arith, c .before .before .loop-test .taken),
       laws.rows-more (args .set .bits) (args .other .bits) (at .loop .l) (at .loop .inv .1) (c .before .row .ensures) (c .join .ensures),
     )
 
-returns : tie.Need-returns Inv-loop μ-loop
-returns c =
+returns-2 : tie.Need-returns-2 Inv-loop μ-loop
+returns-2 c =
     let at = c .before in
-    let args = at .before .before .before .args in
+    let args = at .before .before .before .before .before .args in
     laws.rows-all (args .set .bits) (args .other .bits) (at .loop .l) (at .loop .rows .bits) (at .loop .inv .0) (c .loop-test .left) (at .loop .inv .1)
 
 pub rows-spec : {M : Type 1} → statement M
 rows-spec =
     tie.close
-    (tie.spec Inv-loop μ-loop firsts-requires empty-requires loop-holds row-requires join-requires add-l loop-less loop-again returns)
+    (tie.spec
+    Inv-loop
+    μ-loop
+    no-single-requires
+    empty-requires
+    returns
+    firsts-requires
+    empty-requires-2
+    loop-holds
+    row-requires
+    join-requires
+    add-l
+    loop-less
+    loop-again
+    returns-2)

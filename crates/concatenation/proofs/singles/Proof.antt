@@ -1,5 +1,4 @@
 -- Ones for the terminals, moved up to the elements of single terminals.
-use Prim.Native.Nat.{_≤_, _<_}
 use native.Mathlib.Omega.{arith}
 use lib.Pow.{pow-pos}
 use borrow.Author.Needs.{needs}

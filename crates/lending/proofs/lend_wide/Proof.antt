@@ -7,7 +7,7 @@ use Rattle.lookahead.specs.declared.Lookahead.the-variants.{Two}
 use Rattle.base.specs.Lists.{listed}
 use Rattle.lending.specs.Lending.{wordAt}
 use Rattle.base.proofs.Front.{front}
-use Rattle.lending.proofs.Laying.{lent-given, count-room, front-next, lent-short, lent-written}
+use Rattle.lending.proofs.Laying.{lent-given, front-next, lent-short, lent-written}
 use borrow.Author.Needs.{needs}
 use Rattle.lending.proofs.lend_wide.Statement.{statement}
 use Rattle.lending.proofs.lend_wide.Tie as tie

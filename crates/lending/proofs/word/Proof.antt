@@ -1,6 +1,5 @@
 -- By whether the index is one of a set, and of which.
 use mathlib.Core.Path.{_∙_}
-use native.Mathlib.Omega.{arith}
 use borrow.Author.Needs.{needs}
 use borrow.Author.Tests.{eq-eqb, ne-eqb, lt-ltb, le-ltb}
 use Rattle.lending.specs.Lending.{wordAt}

@@ -1,8 +1,6 @@
 use borrow.Author.Needs.{needs}
 use Rattle.rule.proofs.conclude.Statement.{statement}
 use Rattle.rule.proofs.conclude.Tie as tie
-use Rattle.rule.proofs.conclude.Reads as reads
-use Rattle.rule.proofs.conclude.Lts as lts
 
 enum-told : tie.Need-enum-told
 enum-told c = search needs

@@ -1,8 +1,6 @@
 use borrow.Author.Needs.{needs}
 use Rattle.rule.proofs.ends_at.Statement.{statement}
 use Rattle.rule.proofs.ends_at.Tie as tie
-use Rattle.rule.proofs.ends_at.Reads as reads
-use Rattle.rule.proofs.ends_at.Lts as lts
 
 enum-told : tie.Need-enum-told
 enum-told c = search needs

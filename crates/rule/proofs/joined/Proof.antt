@@ -1,11 +1,6 @@
 use borrow.Author.Needs.{needs}
 use Rattle.rule.proofs.joined.Statement.{statement}
 use Rattle.rule.proofs.joined.Tie as tie
-use Rattle.rule.proofs.joined.Reads as reads
-use Rattle.rule.proofs.joined.Lts as lts
-use Rattle.rule.proofs.ends_at.Reads as ends-at-reads
-use Rattle.rule.proofs.kept.Reads as kept-reads
-use Rattle.rule.proofs.opened.Reads as opened-reads
 
 enum-told : tie.Need-enum-told
 enum-told c = search needs

@@ -1,8 +1,6 @@
 use borrow.Author.Needs.{needs}
 use Rattle.rule.proofs.opened.Statement.{statement}
 use Rattle.rule.proofs.opened.Tie as tie
-use Rattle.rule.proofs.opened.Reads as reads
-use Rattle.rule.proofs.opened.Lts as lts
 
 enum-told : tie.Need-enum-told
 enum-told c = search needs

@@ -3,10 +3,6 @@ use Rattle.rule.specs.Rule.{signAt}
 use borrow.Author.Needs.{needs}
 use Rattle.rule.proofs.sign_at.Statement.{statement}
 use Rattle.rule.proofs.sign_at.Tie as tie
-use Rattle.rule.proofs.sign_at.Reads as reads
-use Rattle.rule.proofs.sign_at.Lts as lts
-use Rattle.word.proofs.decode.Reads as decode-reads
-use Rattle.rule.proofs.sign_of.Reads as sign-of-reads
 
 mul-decode : tie.Need-mul-decode
 mul-decode c = search needs

@@ -13,8 +13,7 @@ use Rattle.semantics.specs.Valuations.{pairs}
 use Rattle.semantics.specs.LeftRecursion.{NoLeftRecursion}
 use Rattle.semantics.specs.Choices.{Choice, OwnRules}
 use Rattle.semantics.specs.ComesTo.{Call, callAt, InRange, measure, callComesTo}
-use Rattle.semantics.specs.Calls.{Called, start, more, Listing, callsWithin, sameCall}
-use Rattle.semantics.specs.Calls.{allCalls, calls, callCount, greatestPlace, farthest}
+use Rattle.semantics.specs.Calls.{Called, start, more, Listing, callsWithin, sameCall, allCalls, calls, callCount, greatestPlace, farthest}
 use Rattle.base.proofs.FiniteSets.{member-mem, mem-member, keep-make, keep-elim}
 use Rattle.base.proofs.FlatMaps.{flatMap-elim, flatMap-make}
 use Rattle.semantics.proofs.meaning.Rank.{level-top}

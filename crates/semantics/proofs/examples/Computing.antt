@@ -1,7 +1,6 @@
 -- The definitions that things compute by, to be named together: `unfolding tables-compute` for sets, clashes and tables, and so on.
 use mathlib.Core.List.{flatMap}
 use Rattle.base.specs.Quantifiers.{anyOf, allOf, anyBelow, lowest}
-use Rattle.base.specs.Choice.{choose}
 use Rattle.base.specs.FiniteSets.{member, keep, distinct, numbersFrom, numbers, combine}
 use Rattle.base.specs.Rounds.{round, settle, members, least}
 use Rattle.semantics.specs.LeftRecursion.{allNullable, nullStep, nullable, leftIn, leftDepends, reachStep, leftReaches, leftRecursive}

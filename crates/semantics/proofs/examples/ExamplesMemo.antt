@@ -5,7 +5,6 @@ use mathlib.Core.Path.{_≡_, refl}
 use Prim.Native.Nat.{ℕ, zero, suc}
 use Rattle.word.specs.declared.Symbol.the-variants.{Terminal, Nonterminal}
 use Rattle.grammar.specs.Syntax.{Body}
-use Rattle.base.specs.Choice.{choose}
 use Rattle.base.specs.Strings.{look}
 use Rattle.semantics.specs.Families.{Table}
 use Rattle.semantics.specs.Choices.{byLookahead}

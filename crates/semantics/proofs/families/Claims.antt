@@ -1,6 +1,6 @@
 -- The computed claims are the ones defined, clashes are decided, and without clash the table has exactly the claiming rules.
 use mathlib.Core.Bool.{Bool, true, not, _&&_, _||_}
-use mathlib.Core.List.{List, [], _∷_, List·Memᴰ, List·Memᴰ·head, List·Memᴰ·not-nil, Memᴰ·cast}
+use mathlib.Core.List.{List, [], _∷_, List·Memᴰ, List·Memᴰ·not-nil, Memᴰ·cast}
 use mathlib.Core.Logic.{_↔_, _⊎_, inl, inr}
 use mathlib.Core.Option.{Option, none, some}
 use mathlib.Core.Path.{_≡_, refl, sym, ap, subst}
@@ -13,7 +13,7 @@ use Rattle.grammar.specs.Syntax.{Body, Rule, Grammar}
 use Rattle.base.specs.Quantifiers.{anyOf, allOf}
 use Rattle.semantics.specs.Families.{Claims, Overlap, Overrun, Clash, TableRight, EveryEnds}
 use Rattle.base.specs.Strings.{strings, sameString}
-use Rattle.semantics.specs.FirstFollow.{Entry, entries, firstSets, firstRule, First, followSets, Follow}
+use Rattle.semantics.specs.FirstFollow.{entries, firstSets, firstRule, First, followSets, Follow}
 use Rattle.semantics.specs.Claims.{several, meeting, claimed, claims, overruns, clashing, clashes, tableOf, without, everyEnds}
 use Rattle.base.proofs.Booleans.{and-l, and-r, and-make, or-cases, or-l, or-r}
 use Rattle.base.proofs.Quantified.{any-elim, any-make, all-elim, all-make}

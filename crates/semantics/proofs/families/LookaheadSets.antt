@@ -6,14 +6,13 @@ use Prim.Native.Nat.{ℕ, _<_}
 use lib.Dec.{T, eqb, eqb→eq, eqb-refl}
 use lib.ListN.{take}
 use Rattle.grammar.specs.Syntax.{Grammar}
-use Rattle.base.specs.FiniteSets.{numbers, combine}
+use Rattle.base.specs.FiniteSets.{numbers}
 use Rattle.base.specs.Rounds.{_⊆ᵇ_, least}
 use Rattle.base.specs.Strings.{Lookahead, strings, sameString}
 use Rattle.semantics.specs.Families.{Family}
 use Rattle.semantics.specs.FirstFollow.{concatStrings, Entry, sameEntry, entries, setsOf}
 use Rattle.base.proofs.Booleans.{and-l, and-r, and-make}
-use Rattle.base.proofs.FiniteSets.{Equality, distinct-make, distinct-elim, keep-make, keep-elim, numbers-make, numbers-elim}
-use Rattle.base.proofs.FiniteSets.{combine-make, combine-elim}
+use Rattle.base.proofs.FiniteSets.{Equality, distinct-make, distinct-elim, keep-make, keep-elim, numbers-make, numbers-elim, combine-make, combine-elim}
 use Rattle.base.proofs.Rounds.{least-kept, least-closed}
 use Rattle.base.proofs.LookaheadStrings.{string-equal, string-itself, strings-equality, strings-make, strings-elim}
 

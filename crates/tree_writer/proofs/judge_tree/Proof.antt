@@ -1,6 +1,4 @@
 -- A refusal and an answer that is no acceptance write nothing; after an acceptance the lent memories are what the tree is written by.
-use mathlib.Core.Path.{_≡_, sym}
-use native.Mathlib.Omega.{arith}
 use borrow.Author.Needs.{needs}
 use Rattle.event.specs.Events.{inputOf}
 use Rattle.tree_writer_promises.proofs.Showing.{is-accepted, not-accepted, short-table, short-memo, short-tree, shows-none, show-given, shows-tree}

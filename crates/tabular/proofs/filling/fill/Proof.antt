@@ -12,13 +12,13 @@ use Rattle.tabular.proofs.filling.fill.Statement.{statement}
 use Rattle.tabular.proofs.filling.fill.Tie as tie
 
 abbrev Inv-loop : tie.InvT-loop
-Inv-loop words starts sizes reaches events ranks stands chart₀ length₀ chart length = (length ≤ suc (List·length events)) × Long chart × FilledTo (grammarOf words) (inputOf events) (turn 0 length 0) chart
+Inv-loop words starts sizes reaches events ranked stands chart₀ length₀ chart length = (length ≤ suc (List·length events)) × Long chart × FilledTo (grammarOf words) (inputOf events) (turn 0 length 0) chart
 
 abbrev μ-loop : tie.MeasureT-loop
-μ-loop words starts sizes reaches events ranks stands chart₀ length₀ chart length = suc (List·length events) - length
+μ-loop words starts sizes reaches events ranked stands chart₀ length₀ chart length = suc (List·length events) - length
 
-ranks-of-requires : tie.Need-ranks-of-requires Inv-loop μ-loop
-ranks-of-requires c κs = let given = c .before .before .pre in record { rules = given .rules; reached = given .reached }
+by-rank-requires : tie.Need-by-rank-requires Inv-loop μ-loop
+by-rank-requires c κs = let given = c .before .before .pre in record { rules = given .rules; free = given .free; reached = given .reached }
 
 standing-requires : tie.Need-standing-requires Inv-loop μ-loop
 standing-requires c κs = c .before .before .before .pre .input
@@ -28,29 +28,29 @@ loop-holds c = (omega arith, length-replicate {A = ℕ} 1568 0, filled-start _ _
 
 fill-length-requires : tie.Need-fill-length-requires Inv-loop μ-loop
 fill-length-requires c κs =
-    let test = c .before .before .before in
+    let test = c .before .before .before .before .before in
     let loop = test .before in
     let start = loop .before .before .before .before .before in
     let given = start .pre in
     record {
-      given = record { rules = given .rules; ranked = loop .before .before .ranks-of .ensures; free = given .free; long = loop .loop .inv .1 };
+      given = record { rules = given .rules; ranked = loop .before .before .by-rank .ensures; free = given .free; long = loop .loop .inv .1 };
       short = omega (arith, given .input .short, input-length (start .args .events .now));
       within = omega (arith, test .loop-test .taken);
     }
 
 add-length : tie.Need-add-length Inv-loop μ-loop
 add-length c =
-    let test = c .before .before .before .before in
+    let test = c .before .before .before .before .before .before in
     let start = test .before .before .before .before .before .before in
     omega (arith, test .loop-test .taken, start .pre .input .short, input-length (start .args .events .now))
 
 loop-less : tie.Need-loop-less Inv-loop μ-loop
-loop-less c = omega (arith, c .before .before .before .before .loop-test .taken)
+loop-less c = omega (arith, c .before .before .before .before .before .before .loop-test .taken)
 
 loop-again : tie.Need-loop-again Inv-loop μ-loop
 loop-again c =
     let e = c .fill-length .ensures in
-    let test = c .before .before .before .before in
+    let test = c .before .before .before .before .before .before in
     let loop = test .before in
     let start = loop .before .before .before .before .before in
     let events = start .args .events .now in (
@@ -64,7 +64,7 @@ returns c =
     let loop = c .before in
     let start = loop .before .before .before .before .before in
     let given = start .pre in
-    filled (record { rules = given .rules; ranked = loop .before .before .ranks-of .ensures; free = given .free; long = loop .loop .inv .1 })
+    filled (record { rules = given .rules; ranked = loop .before .before .by-rank .ensures; free = given .free; long = loop .loop .inv .1 })
     (omega (arith, c .loop-test .left, input-length (start .args .events .now))) (given .input .short) (loop .loop .inv .2)
 
 pub fill-spec : {M : Type 1} → statement M
@@ -73,7 +73,7 @@ fill-spec =
     (tie.spec
     Inv-loop
     μ-loop
-    ranks-of-requires
+    by-rank-requires
     standing-requires
     loop-holds
     fill-length-requires

@@ -7,10 +7,10 @@ use Rattle.tabular.proofs.filling.fill_length.Statement.{statement}
 use Rattle.tabular.proofs.filling.fill_length.Tie as tie
 
 abbrev Inv-loop : tie.InvT-loop
-Inv-loop words starts ranks sizes stands chart₀ tokens length start₀ chart start = (start ≤ suc tokens) × Fills words stands chart₀ tokens tokens (turn 0 length 0) (turn start (start + length) 0) chart
+Inv-loop words starts lasts befores sizes stands chart₀ tokens length start₀ chart start = (start ≤ suc tokens) × Fills words stands chart₀ tokens tokens (turn 0 length 0) (turn start (start + length) 0) chart
 
 abbrev μ-loop : tie.MeasureT-loop
-μ-loop words starts ranks sizes stands chart₀ tokens length start₀ chart start = suc tokens - start
+μ-loop words starts lasts befores sizes stands chart₀ tokens length start₀ chart start = suc tokens - start
 
 loop-holds : tie.Need-loop-holds Inv-loop μ-loop
 loop-holds c = (omega arith, length-start (c .before .args .length) (c .before .pre .given .long))

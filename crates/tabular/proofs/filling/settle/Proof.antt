@@ -8,16 +8,16 @@ use Rattle.tabular.proofs.filling.settle.Statement.{statement}
 use Rattle.tabular.proofs.filling.settle.Tie as tie
 
 abbrev Inv-loop : tie.InvT-loop
-Inv-loop words starts ranks sizes stands chart₀ start end nonterminals rank₀ chart rank = (rank ≤ nonterminals) × Fills words stands chart₀ end maxTabularTokens (turn start end 0) (turn start end rank) chart
+Inv-loop words starts lasts befores sizes stands chart₀ start end nonterminals rank₀ chart rank = (rank ≤ nonterminals) × Fills words stands chart₀ end maxTabularTokens (turn start end 0) (turn start end rank) chart
 
 abbrev μ-loop : tie.MeasureT-loop
-μ-loop words starts ranks sizes stands chart₀ start end nonterminals rank₀ chart rank = nonterminals - rank
+μ-loop words starts lasts befores sizes stands chart₀ start end nonterminals rank₀ chart rank = nonterminals - rank
 
 loop-holds : tie.Need-loop-holds Inv-loop μ-loop
 loop-holds c = (omega arith, settling-start (c .before .pre .given .long))
 
 derived-requires : tie.Need-derived-requires Inv-loop μ-loop
-derived-requires c κs = record { rules = c .before .before .before .before .pre .given .rules; ranked = c .before .before .before .before .pre .given .ranked; span = c .before .before .before .before .pre .span }
+derived-requires c κs = let given = c .before .before .before .before .pre in record { rules = given .given .rules; ranked = given .given .ranked; low = omega (arith, c .before .loop-test .taken, few (given .given)); span = given .span }
 
 add-requires : tie.Need-add-requires Inv-loop μ-loop
 add-requires c κs = record { long = c .before .before .before .before .loop .inv .1 .long; given = record { span = c .before .before .before .before .before .before .pre .span; few = few (c .before .before .before .before .before .before .pre .given) } }

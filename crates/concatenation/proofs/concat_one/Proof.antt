@@ -1,0 +1,49 @@
+-- An empty second set, or the parts: long strings and what comes behind nothing.
+use mathlib.Core.Path.{refl, sym, _∙_}
+use native.Mathlib.Nat.{mod-lt}
+use lib.Pow.{pow-pos}
+use borrow.Author.Needs.{needs}
+use Rattle.lookahead.specs.declared.Lookahead.the-variants.{One}
+use Rattle.concatenation.proofs.Parts as parts
+use Rattle.concatenation.proofs.concat_one.Statement.{statement}
+use Rattle.concatenation.proofs.concat_one.Tie as tie
+
+strings-requires : tie.Need-strings-requires
+strings-requires c κs = search needs
+
+strings-requires-2 : tie.Need-strings-requires-2
+strings-requires-2 c κs = search needs
+
+is-empty-requires : tie.Need-is-empty-requires
+is-empty-requires c κs = search needs
+
+returns : tie.Need-returns
+returns c =
+    let at = c .before .before in
+    let args = at .before .before .args in
+    parts.concat-empty One (args .set .bits) (args .other .bits) (at .strings2 .ensures) (sym (c .before .is-empty .ensures) ∙ c .if1 .taken)
+
+long-requires : tie.Need-long-requires
+long-requires c κs =
+    let at = c .before .before .before in
+    rw (at .strings .ensures) (mod-lt (at .before .args .set .bits) (pow-pos 25))
+
+before-requires : tie.Need-before-requires
+before-requires c κs = search needs
+
+join-requires : tie.Need-join-requires
+join-requires c κs = search needs
+
+returns-2 : tie.Need-returns-2
+returns-2 c =
+    let long = c .before .before in
+    let second = long .before .before .before in
+    let args = second .before .before .args in
+    parts.concat-one One (args .set .bits) (args .other .bits) (second .before .strings .ensures) (second .strings2 .ensures)
+    (sym (long .before .before .is-empty .ensures) ∙ long .before .if1 .left)
+    (long .long .ensures) (c .before .before2 .ensures) refl (c .join .ensures)
+
+pub concat-one-spec : {M : Type 1} → statement M
+concat-one-spec =
+    tie.close
+    (tie.spec strings-requires strings-requires-2 is-empty-requires returns long-requires before-requires join-requires returns-2)
