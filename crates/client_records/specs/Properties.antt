@@ -34,8 +34,10 @@ clientFault client share limit called table memo words input =
     ∷ judgeFault One table memo words input
     ∷ [])
 
+-- need not be believed: exhausted (turned-away)
 pub record JudgesFor (client share limit : ℕ) (words input table memo : List ℕ) (us : List Usage) (r : Served) (table′ memo′ : List ℕ) : Type 0 where
-  pub leaves : Leaves (clientFault client share limit (calledBy us) (length table) (length memo) words input) (verdictOf One (grammarOf words) input) (r .answer)
+  pub leaves : Leaves (clientFault client share limit (calledBy us) (length table) (length memo) words input)
+      (verdictOf One (grammarOf words) input) (r .answer)
       (lent table (tableWords One (grammarOf words)) table′ ∷ lent memo (memoWords One (grammarOf words) input) memo′ ∷ [])
   -- of a call that is let through all that judging promises, property 3 with it, whatever line the call crosses
   pub let-through : client < clients → (UsedUp client share limit (calledBy us) → ⊥) → Judges One words input table memo (r .answer) table′ memo′
@@ -47,7 +49,8 @@ pub record JudgesFor (client share limit : ℕ) (words input table memo : List �
   -- the whole record: the answer, 16 and every other refusal too, is counted in the client's own; 15 is counted nowhere
   pub charges : Charges client (r .answer) us (r .usages)
   -- so, whichever history made the ones handed in of whichever first ones, those handed back are what it makes of them with this answer
-  pub continues : (first : List Usage) (history : List Reply) → Continues first history us → Continues first (history ++ reply client (r .answer) ∷ []) (r .usages)
+  pub continues : (first : List Usage) (history : List Reply) → Continues first history us
+      → Continues first (history ++ reply client (r .answer) ∷ []) (r .usages)
   pub of-the-day : (history : List Reply) → OfTheDay history us → OfTheDay (history ++ reply client (r .answer) ∷ []) (r .usages)
   -- that counters stop changes no decision: after any history it is the one by the exact sums, for a share and a limit of 32 bits
   pub by-exact-sums : (first : List Usage) (history : List Reply) → Continues first history us → share ≤ counterLimit → limit ≤ counterLimit

@@ -79,6 +79,7 @@ pub record NoneShown (G : Grammar) : Type 0 where
 
 -- what the lines of a grammar tell: each entry and each nonterminal is listed once; which rules claim an entry and which nonterminals
 -- overrun, by the FIRST and FOLLOW sets; and neither an overlap nor such a nonterminal is shown exactly when 9 would not be given
+-- need not be believed: claimsBy (claimed); overruns (overrun)
 pub record LinesTell (words : List ℕ) : Type 0 where
   pub entries-once : Distinct (listedEntries (grammarOf words))
   pub overruns-once : Distinct (listedOverruns (grammarOf words))

@@ -34,10 +34,12 @@ pub record Searched (words : List ℕ) (n : ℕ) (w table memo : List ℕ) (r : 
   pub undirected : Over 128 w
 
 -- for a grammar and a length n, with a lent log, a lent table and a lent memo table
+-- need not be believed: costliestInput (searched)
 pub record JudgesCostliest (words : List ℕ) (n : ℕ) (log table memo : List ℕ) (r : Answer) (log′ table′ memo′ : List ℕ) : Type 0 where
   pub understood : Understood One words
   -- the costliest input stands in front of what the log held, and answer and memories are those of judging it
-  pub leaves : Leaves (costliestFault (length log) (length table) (length memo) words n) (verdictOf One (grammarOf words) (costliestInput (grammarOf words) n)) r
+  pub leaves : Leaves (costliestFault (length log) (length table) (length memo) words n)
+      (verdictOf One (grammarOf words) (costliestInput (grammarOf words) n)) r
       (lent log (costliestInput (grammarOf words) n) log′
       ∷ lent table (tableWords One (grammarOf words)) table′
       ∷ lent memo (memoWords One (grammarOf words) (costliestInput (grammarOf words) n)) memo′

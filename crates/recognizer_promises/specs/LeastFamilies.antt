@@ -28,7 +28,8 @@ ClaimsAt k G = Claims G (tokens k) (First G (tokens k)) (Follow G (tokens k))
 
 -- no smaller than the rules ask, and no larger than any family of tests that they close; of all families it is `LeastSets` of
 -- semantics/specs/Theorems.antt, which a promise of code cannot quantify over
--- need not be believed: nullable, First, Follow, tableOf
+-- need not be believed: nullable (nullable-closed, nullable-least); First (first-closed, first-least); Follow (follow-closed, follow-least);
+-- tableOf (claimed, unclaimed)
 pub record LeastFamilies (k : Lookahead) (G : Grammar) : Type 0 where
   pub nullable-closed : nullStep G (nullable G) ⊆ᵇ nullable G
   pub nullable-least : (s : NumberSet) → nullStep G s ⊆ᵇ s → nullable G ⊆ᵇ s

@@ -39,7 +39,7 @@ use Rattle.sheet_text.specs.Sheet.{checkText}
 use Rattle.sheet_text.specs.Limited.{limited}
 use Rattle.sheet_text.proofs.Limited.{limited-same}
 use Rattle.judgement_text.specs.Judgement.{judgementText}
-use Rattle.report.specs.Report.{blankTable, checkedTable, blankMemo, checkedText, judgedText, nonterminalsOf, tokenCount}
+use Rattle.report.specs.Texts.{blankTable, checkedTable, blankMemo, checkedText, judgedText, nonterminalsOf, tokenCount}
 
 -- the sizes that are read are within the limits
 limited-found : (words : List ℕ) (f : Option Error) → limited (findingOf f (reading words)) ≡ findingOf f (reading words)

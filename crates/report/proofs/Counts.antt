@@ -25,7 +25,8 @@ use Rattle.memo_table.proofs.Entries.{getD-any}
 use Rattle.text.specs.Words.{wordsOf}
 use Rattle.sheet_text.specs.Room.{sheetRoom}
 use Rattle.sheet_text.specs.Sheet.{wordAt}
-use Rattle.report.specs.Report.{Printed, blankTable, checkedTable, sheetOf, SetsTold, SheetPrinted}
+use Rattle.report.specs.Texts.{blankTable, checkedTable, sheetOf}
+use Rattle.report.specs.Report.{Printed, SetsTold, SheetPrinted}
 
 -- a word of the sets in the table of a grammar
 set-at : (G : Grammar) (i : ℕ) (behind : List ℕ) → i < 2 * G .nonterminals → wordAt (tableWords One G ++ behind) i ≡ setWord One G i

@@ -22,7 +22,8 @@ use Rattle.table.specs.Analysis.{fault}
 use Rattle.judgement_text.specs.Judgement.{judgementText}
 use Rattle.recognizer_promises.specs.Answers.{judgeFault}
 use Rattle.recognizer_promises.proofs.JudgeFaults.{judged-rows}
-use Rattle.report.specs.Report.{sheetOf, judgedText, judgementOf, gapsOf, enoughRead, Enough}
+use Rattle.report.specs.Texts.{sheetOf, judgedText, judgementOf, gapsOf, enoughRead}
+use Rattle.report.specs.Report.{Enough}
 
 -- a function that does not tell lists longer than a limit apart is the same of a list cut past the limit
 cut : {B : Type 0} (f : List ℕ → B) (limit n : ℕ) → limit < n → ((l m : List ℕ) → limit < length l → limit < length m → f l ≡ f m)

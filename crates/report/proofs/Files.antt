@@ -32,8 +32,8 @@ use Rattle.sheet_text.specs.Room.{sheetRoom}
 use Rattle.gaps_text_promises.specs.Gaps.{GapsPut}
 use Rattle.gaps_text_promises.proofs.Lengths.{gaps-most}
 use Rattle.gaps_text_promises.proofs.Overlaps.{lines-tell}
-use Rattle.report.specs.Report.{Printed, blankTable, checkedText, sheetOf, blankMemo, judgedAnswer, judgedTable, judgedMemo, judgedText, judgementOf}
-use Rattle.report.specs.Report.{JudgementPrinted, gapsOf, GapsPrinted}
+use Rattle.report.specs.Texts.{blankTable, checkedText, sheetOf, blankMemo, judgedAnswer, judgedTable, judgedMemo, judgedText, judgementOf, gapsOf}
+use Rattle.report.specs.Report.{Printed, JudgementPrinted, GapsPrinted}
 use Rattle.report.proofs.Lengths.{checked-short, judged-short}
 
 -- the words of a file that was loaded

@@ -41,7 +41,7 @@ use Rattle.judgement_text.specs.Judgement.{callsText, verdictLine, judgementTex
 use Rattle.judgement_text.proofs.Lengths.{calls-most, verdict-most}
 use Rattle.sheet_text.specs.Room.{sheetRoom}
 use Rattle.judgement_text.specs.Room.{callRoom, judgementRoom}
-use Rattle.report.specs.Report.{blankTable, blankMemo, checkedText, judgedText}
+use Rattle.report.specs.Texts.{blankTable, blankMemo, checkedText, judgedText}
 
 pub checked-short : (words : List ℕ) → length (checkedText words) ≤ sheetRoom
 unfolding checkedText

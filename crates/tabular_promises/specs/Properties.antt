@@ -46,7 +46,7 @@ pub record Places (G : Grammar) (r : Answer) : Type 0 where
 
 -- exactly one valuation v solves the grammar on the input, the answer is acceptance just if v gives the whole input to the start, and each span has its word,
 -- in which the bits of the grammar's nonterminals are what v says of the span and the others are zero
--- need not be believed: solution (one-solution); tabularWords (span, others)
+-- need not be believed: solution (one-solution); tabularVerdict (accepted, rejected); solutionWord (span, others)
 pub record Tabulates (G : Grammar) (input : List ℕ) (r : Answer) (spans′ : List ℕ) : Type 0 where
   pub one-solution : OneSolution G input
   pub accepted : (v : Valuation) → Solves G input v → (r ≡ Accepted noCalls) ↔ (v 0 0 (length input) ≡ true)
@@ -56,8 +56,8 @@ pub record Tabulates (G : Grammar) (input : List ℕ) (r : Answer) (spans′ : L
   pub others : (i j : ℕ) → i ≤ j → j ≤ length input → (A : ℕ) → G .nonterminals ≤ A → has (getD spans′ (indexOf (length input) i j) 0) A ≡ false
 
 -- judging an input with lent words for its spans. The input is what a log's events are (`inputOf`), without their directions
+-- need not be believed: reading, grammarOf (faithful)
 pub record TabularJudges (words input spans : List ℕ) (r : Answer) (spans′ : List ℕ) : Type 0 where
-  -- need not be believed: reading, grammarOf (faithful)
   pub faithful : FaithfulReading words
   pub leaves : Leaves (tabularFault (length spans) words input) (tabularVerdict (grammarOf words) input) r
       (lent spans (tabularWords (grammarOf words) input) spans′ ∷ [])

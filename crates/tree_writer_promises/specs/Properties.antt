@@ -37,7 +37,6 @@ treeFault table memo tree words input =
 
 -- what the words of an accepted log's tree tell: each its vertex; and by the grammar's one meaning the tree is a parse tree of document 000,
 -- section 8, whose vertices are those of just the calls that are reached from the start through positive conjuncts, each once
--- need not be believed: treeOf (right)
 pub record TreeTold (words input : List ℕ) : Type 0 where
   pub told : (x : Vertex) → List·Memᴰ x (treeOf (grammarOf words) (choiceOf One (grammarOf words) input) input .vertices) → Told x
   pub right : (v : Valuation) → Solves (grammarOf words) input v → TreeRight (grammarOf words) 1 input v
@@ -48,7 +47,8 @@ wordsOf words input = treeWords (grammarOf words) (choiceOf One (grammarOf words
 
 pub record Shows (words input table memo tree : List ℕ) (r : Shown) (table′ memo′ tree′ : List ℕ) : Type 0 where
   pub leaves : Leaves (treeFault (length table) (length memo) (length tree) words input) (verdictOf One (grammarOf words) input) (r .answer)
-      (lent table (tableWords One (grammarOf words)) table′ ∷ lent memo (memoWords One (grammarOf words) input) memo′ ∷ lent tree (wordsOf words input) tree′ ∷ [])
+      (lent table (tableWords One (grammarOf words)) table′ ∷ lent memo (memoWords One (grammarOf words) input) memo′
+      ∷ lent tree (wordsOf words input) tree′ ∷ [])
   -- how many words are written: none where the call is refused
   pub unwritten : numbers (r .answer) .verdict ≡ refused → r .written ≡ 0
   pub written : (numbers (r .answer) .verdict ≡ refused → ⊥) → r .written ≡ length (wordsOf words input)

@@ -3,7 +3,7 @@ use Prim.Native.Nat.{ℕ}
 use lib.ListN.{length-replicate}
 use Rattle.grammar.specs.Codes.{noEntry}
 use Rattle.grammar.specs.Limits.{maxTableWords}
-use Rattle.report.specs.Report.{blankTable}
+use Rattle.report.specs.Texts.{blankTable}
 use Rattle.report.proofs.Answers.{put-checked-text}
 use borrow.Author.Needs.{needs}
 use Rattle.report.proofs.put_checked.Statement.{statement}
