@@ -28,7 +28,7 @@ def build(programs):
         fail(f"the programs {names} are not built, and rt, the Rattle toolchain that builds them, is not on the PATH")
     total, done = len(below(programs)), 0
     say(f"{names} are not all built yet. Building them, once: `{' '.join(command)}` proves {total} crates first;")
-    say('that takes about three minutes on two cores.')
+    say('that takes some minutes.')
     told = []
     with subprocess.Popen(command, cwd=ROOT, stdout=subprocess.PIPE, stderr=subprocess.STDOUT, text=True) as run:
         for line in run.stdout:

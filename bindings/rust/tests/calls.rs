@@ -1,4 +1,4 @@
-//! Each call on cards of document 01, against what README.md and the examples state.
+//! Each call on cards of document 01, against what the header and the examples state.
 
 use vinegarspit::*;
 

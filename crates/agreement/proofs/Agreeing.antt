@@ -26,8 +26,8 @@ by-one-test true x y u v = rw (x refl, u refl)
 by-one-test false x y u v = rw (y refl, v refl)
 
 pub same-verdict : SameVerdict
-same-verdict k l words input r s a b =
-    let v = solution (grammarOf words) input in
+same-verdict k l G input r s memo′ memo″ a b =
+    let v = solution G input in
     let solves = a .one-solution .solves in
     by-one-test (v 0 0 (length input)) (a .accepted v solves .1) (a .rejected v solves .1) (b .accepted v solves .1) (b .rejected v solves .1)
 
@@ -46,9 +46,9 @@ passed-free k words p = record {
 }
 
 pub same-as-tabular : SameAsTabular
-same-as-tabular k words input p h table memo table′ memo′ d long room j spans spans′ r enough t =
+same-as-tabular k words input h few table memo table′ memo′ d room j spans spans′ r enough t =
     let v = solution (grammarOf words) input in
-    let a = j .recognizes long room p record { short = omega (arith, h .short); tokens = h .tokens } in
-    let b = t .tabulates enough (passed-free k words p) h in
+    let a = j .recognizes room h in
+    let b = t .tabulates enough record { taken = passed-free k words (h .passed); short = few; known = h .known } in
     let solves = a .one-solution .solves in
     by-one-test (v 0 0 (length input)) (a .accepted v solves .1) (a .rejected v solves .1) (b .accepted v solves .1) (b .rejected v solves .1)

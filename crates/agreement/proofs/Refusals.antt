@@ -10,7 +10,7 @@ use Rattle.table.proofs.FirstClash.{clash-absent}
 use Rattle.recognizer_promises.specs.Properties.{PassedGrammar}
 use Rattle.recognizer_promises.proofs.Checking.{passed-predictive}
 use Rattle.recognizer_promises.proofs.GrammarErrors.{GrammarErrors}
-use Rattle.recognizer_promises.proofs.CallErrors.{JudgeErrors, check-each, judge-each}
+use Rattle.recognizer_promises.proofs.RefusalErrors.{JudgeErrors, check-each, judge-each}
 use Rattle.agreement.specs.Widening.{NoConflict, NeverConflicts}
 use Rattle.agreement.proofs.Enough.{enough}
 

@@ -10,7 +10,7 @@ use Rattle.answer.specs.Numbers.{coded}
 use Rattle.lookahead.specs.declared.Lookahead.the-variants.{One}
 use Rattle.lookahead.specs.Lookaheads.{tokens}
 use Rattle.recognizer_promises.specs.Properties.{Judges}
-use Rattle.recognizer_promises.proofs.CallErrors.{JudgeErrors, refused-each}
+use Rattle.recognizer_promises.proofs.RefusalErrors.{JudgeErrors, refused-each}
 
 abbrev LowCode : Error → Type 0
 LowCode e = coded e .code ≤ 13

@@ -23,16 +23,16 @@ use Rattle.embed_promises.proofs.Fitting.{check-fits, judge-fits, costl
 
 pub check-exported : {k : Lookahead} {words before after : List ℕ} {a : Answer} {r : ℕ} → Checks k words before a after → r ≡ packed (cut (numbers a))
     → CheckExported k words before r after
-check-exported {a = a} c e = record { answer = a; checks = c; packs = packs (check-fits c) e }
+check-exported {a = a} c e = record { result = a; promise = c; packs = packs (check-fits c) e }
 
 pub judge-exported : {k : Lookahead} {words input table memo table′ memo′ : List ℕ} {a : Answer} {r : ℕ} → Judges k words input table memo a table′ memo′
     → r ≡ packed (cut (numbers a))
     → JudgeExported k words input table memo r table′ memo′
-judge-exported {a = a} j e = record { answer = a; judges = j; packs = packs (judge-fits j) e }
+judge-exported {a = a} j e = record { result = a; promise = j; packs = packs (judge-fits j) e }
 
 pub costliest-exported : {words : List ℕ} {k : ℕ} {log table memo log′ table′ memo′ : List ℕ} {a : Answer} {r : ℕ}
     → JudgesCostliest words k log table memo a log′ table′ memo′ → r ≡ packed (cut (numbers a)) → CostliestExported words k log table memo r log′ table′ memo′
-costliest-exported {a = a} j e = record { answer = a; judges = j; packs = packs (costliest-fits j) e }
+costliest-exported {a = a} j e = record { result = a; promise = j; packs = packs (costliest-fits j) e }
 
 pub served-exported : {client share limit : ℕ} {words input table memo table′ memo′ row row′ : List ℕ} {us : List Usage} {x : Served} {r : ℕ} → us ≡ usagesIn row
     → JudgesFor client share limit words input table memo us x table′ memo′
@@ -40,10 +40,8 @@ pub served-exported : {client share limit : ℕ} {words input table memo table�
     → r ≡ packed (cut (numbers (x .answer)))
     → ServedExported client share limit words input table memo row r table′ memo′ row′
 served-exported {x = x} h j w e = record {
-  served = x;
-  judges = rw h at j;
+  exported = record { result = x; promise = rw h at j; packs = packs (served-fits j) e };
   written = w;
-  packs = packs (served-fits j) e;
 }
 
 pub totals-exported : {row totals′ : List ℕ} {us : List Usage} {t : Totals} → us ≡ usagesIn row → Totalled us t → totals′ ≡ totalsRow t
@@ -52,10 +50,10 @@ totals-exported {t = t} h s w = record { totals = t; sums = rw h at s; written =
 
 pub tabular-exported : {words input before after : List ℕ} {a : Answer} {r : ℕ} → TabularJudges words input before a after → r ≡ packed (cut (numbers a))
     → TabularExported words input before r after
-tabular-exported {a = a} j e = record { answer = a; judges = j; packs = packs (tabular-fits j) e }
+tabular-exported {a = a} j e = record { result = a; promise = j; packs = packs (tabular-fits j) e }
 
 pub tree-exported : {words input table memo tree table′ memo′ tree′ : List ℕ} {x : Shown} {r written′ : ℕ} → Shows words input table memo tree x table′ memo′ tree′
     → written′ ≡ x .written
     → r ≡ packed (cut (numbers (x .answer)))
     → TreeExported words input table memo tree r table′ memo′ tree′ written′
-tree-exported {x = x} s w e = record { shown = x; shows = s; number = w; packs = packs (tree-fits s) e }
+tree-exported {x = x} s w e = record { result = x; promise = (s, w); packs = packs (tree-fits s) e }

@@ -32,8 +32,10 @@ use Rattle.recognizer_promises.specs.Answers.{checkFault, judgeFault, callsOf, 
 use Rattle.recognizer_promises.specs.Properties.{Checks, Judges}
 use Rattle.recognizer_promises.proofs.Checking.{passed-fault, passed-encodes, passed-free}
 use Rattle.recognizer_promises.proofs.JudgeFaults.{judged-readable}
-use Rattle.recognizer_promises.proofs.CallErrors.{check-each, judge-each, costliest-each}
-use Rattle.recognizer_promises.specs.Costliest.{costliestInput, costliestFault, JudgesCostliest}
+use Rattle.recognizer_promises.proofs.Judged.{verdict-unrefused}
+use Rattle.recognizer_promises.proofs.RefusalErrors.{check-each, judge-each, costliest-each}
+use Rattle.recognizer_promises.specs.CostliestInput.{costliestInput, costliestFault}
+use Rattle.recognizer_promises.specs.Costliest.{JudgesCostliest}
 use Rattle.usage.specs.declared.Usage.{Usage}
 use Rattle.client_records.specs.declared.Served.{Served}
 use Rattle.client_records.specs.Usages.{clients, calledBy, sumBelow}
@@ -88,8 +90,8 @@ fits-by (some x) v e low h = rw e (refused-fits x (low x refl))
 pub check-fits : {k : Lookahead} {words before after : List ℕ} {a : Answer} → Checks k words before a after → NumbersFit (numbers a)
 check-fits {k} {words} {before} c =
     let low = judge-low k words in
-    fits-by (checkFault k (length before) words) Passed (c .answer) (check-each (low .shortTable) (low .grammar) (length before))
-    (λ q. rw (c .answer, q) passed-fits)
+    fits-by (checkFault k (length before) words) Passed (c .leaves .answer) (check-each (low .shortTable) (low .grammar) (length before))
+    (λ q. rw (c .leaves .answer, q) passed-fits)
 
 -- the calls of a descent are few, and none is far
 calls-fit : (k : Lookahead) (words input : List ℕ) (table memo : ℕ) → judgeFault k table memo words input ≡ none
@@ -119,15 +121,16 @@ pub judge-fits : {k : Lookahead} {words input table memo table′ memo′ : List
 unfolding verdictOf
 judge-fits {k} {words} {input} {table} {memo} j =
     let G = grammarOf words in
-    fits-by (judgeFault k (length table) (length memo) words input) (verdictOf k G input) (j .answer) (judge-each (judge-low k words) (length table) (length memo) input)
-    (λ q. rw (j .answer, q) (verdict-fits (accepts G (tableChoice G (tokens k) input) input) (callsOf k G input) (calls-fit k words input (length table) (length memo) q)))
+    fits-by (judgeFault k (length table) (length memo) words input) (verdictOf k G input) (j .leaves .answer) (judge-each (judge-low k words) (length table) (length memo) input)
+    (λ q. rw (j .leaves .answer, q) (verdict-fits (accepts G (tableChoice G (tokens k) input) input) (callsOf k G input) (calls-fit k words input (length table) (length memo) q)))
 
 -- one of the costliest input
 pub costliest-fits : {words : List ℕ} {k : ℕ} {log table memo log′ table′ memo′ : List ℕ} {a : Answer} → JudgesCostliest words k log table memo a log′ table′ memo′
     → NumbersFit (numbers a)
 costliest-fits {words} {k} {log} {table} {memo} j =
-    fits-by (costliestFault (length log) (length table) (length memo) words k) (verdictOf One (grammarOf words) (costliestInput (grammarOf words) k)) (j .answer)
-    (costliest-each (judge-low One words) (omega arith) (omega arith) (length log) (length table) (length memo) k) (λ q. judge-fits (j .judges q))
+    fits-by (costliestFault (length log) (length table) (length memo) words k) (verdictOf One (grammarOf words) (costliestInput (grammarOf words) k)) (j .leaves .answer)
+    (costliest-each (judge-low One words) (omega arith) (omega arith) (length log) (length table) (length memo) k)
+    (λ q. judge-fits (j .searched (verdict-unrefused One (grammarOf words) (costliestInput (grammarOf words) k) (j .leaves .answer ∙ ap (λ f. refusedOr f (verdictOf One (grammarOf words) (costliestInput (grammarOf words) k))) q)) .judges))
 
 -- one for a client: turned away at place 0, or judged
 pub served-fits : {client share limit : ℕ} {words input table memo table′ memo′ : List ℕ} {us : List Usage} {x : Served}
@@ -144,8 +147,8 @@ served-fits {client} {share} {limit} {us = us} {x = x} j = go (decLt client clie
 pub tabular-fits : {words input before after : List ℕ} {a : Answer} → TabularJudges words input before a after → NumbersFit (numbers a)
 unfolding tabularVerdict
 tabular-fits {words} {input} {before} j =
-    fits-by (tabularFault (length before) words input) (tabularVerdict (grammarOf words) input) (j .answer) (tabular-each (sets-low One) (omega arith) input-low (length before) words input)
-    (λ q. rw (j .answer, q) (verdict-fits (solution (grammarOf words) input 0 0 (length input)) noCalls (omega arith, omega arith)))
+    fits-by (tabularFault (length before) words input) (tabularVerdict (grammarOf words) input) (j .leaves .answer) (tabular-each (sets-low One) (omega arith) input-low (length before) words input)
+    (λ q. rw (j .leaves .answer, q) (verdict-fits (solution (grammarOf words) input 0 0 (length input)) noCalls (omega arith, omega arith)))
 
 -- a judgement with a tree
 pub tree-fits : {words input table memo tree table′ memo′ tree′ : List ℕ} {x : Shown} → Shows words input table memo tree x table′ memo′ tree′
@@ -155,5 +158,5 @@ tree-fits {words} {input} {table} {memo} {tree} {x = x} s = go (decLt (length tr
     go : Dec (length tree < maxMemoEntries) → NumbersFit (numbers (x .answer))
     go (yes h) =
         let k = short-refused words input table memo tree h in
-        rw (s .answer ∙ ap (λ f. refusedOr f (verdictOf One (grammarOf words) input)) (k .1)) (refused-fits (k .0) (omega (arith, k .2)))
+        rw (s .leaves .answer ∙ ap (λ f. refusedOr f (verdictOf One (grammarOf words) input)) (k .1)) (refused-fits (k .0) (omega (arith, k .2)))
     go (no h) = judge-fits (s .judges (omega (arith, h)))

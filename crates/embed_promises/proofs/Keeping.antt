@@ -99,4 +99,4 @@ pub kept-exported : {k : Lookahead} {words events state table memo table′ memo
     → JudgesKept k words kept table memo a table′ memo′
     → r ≡ packed (cut (numbers a))
     → KeptExported k words events state table memo r table′ memo′
-kept-exported {a = a} g j e = record { answer = a; judges = rw g at j; packs = packs (judge-fits (j .judges)) e }
+kept-exported {a = a} g j e = record { exported = record { result = a; promise = rw g at j; packs = packs (judge-fits (j .judges)) e } }

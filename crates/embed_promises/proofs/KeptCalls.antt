@@ -48,8 +48,8 @@ calls-judged : {k : Lookahead} {events events′ state′ : List ℕ} {l : List 
     → JudgeExported k words (inputOf (ran l empty .events)) table memo s table″ memo″
     → (r ≡ s) × (table′ ≡ table″) × (memo′ ≡ memo″)
 calls-judged {events = events} {l = l} calls kept judged =
-    let same = kept .judges .afresh l (calls-hold calls ∙ ap (ran l) (empty-held events)) _ _ _ (judged .judges) in
-    (kept .packs .number ∙ ap (λ (a : Answer). packed (numbers a)) (same .0) ∙ sym (judged .packs .number), same .1, same .2)
+    let same = kept .exported .promise .afresh l (calls-hold calls ∙ ap (ran l) (empty-held events)) _ _ _ (judged .promise) in
+    (kept .exported .packs .number ∙ ap (λ (a : Answer). packed (numbers a)) (same .0) ∙ sym (judged .packs .number), same .1, same .2)
 
 pub histories-exported : HistoriesExported
 histories-exported = record { begins = empty-held; zeroed = zero-held; zero-set = zero-checkpoints; holds = calls-hold; judged = calls-judged }

@@ -17,7 +17,7 @@ use Rattle.table.specs.Conflicts.{firstClash}
 use Rattle.table.proofs.FirstClash.{clash-at}
 use Rattle.recognizer_promises.specs.Answers.{tableTooShort}
 use Rattle.promises.proofs.SetsErrors.{SetsErrors}
-use Rattle.recognizer_promises.proofs.CallErrors.{JudgeErrors}
+use Rattle.recognizer_promises.proofs.RefusalErrors.{JudgeErrors}
 use Rattle.promises.proofs.InputErrors.{InputErrors}
 
 abbrev pub Low : Error → Type 0

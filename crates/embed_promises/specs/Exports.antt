@@ -17,42 +17,37 @@ use Rattle.tree_writer_promises.specs.Properties.{Shows}
 use Rattle.embed_promises.specs.Packing.{Packs}
 use Rattle.embed_promises.specs.Records.{usagesIn, totalsRow}
 
-pub record CheckExported (k : Lookahead) (words before : List ℕ) (r : ℕ) (after : List ℕ) : Type 0 where
-  pub answer : Answer
-  pub checks : Checks k words before answer after
-  pub packs : Packs r answer
+-- a call of the library keeps its promise of a result, and the number is the packed answer of that
+pub record Exported {Result : Type 0} (answerOf : Result → Answer) (Promise : Result → Type 0) (r : ℕ) : Type 0 where
+  pub result : Result
+  pub promise : Promise result
+  pub packs : Packs r (answerOf result)
 
-pub record JudgeExported (k : Lookahead) (words input table memo : List ℕ) (r : ℕ) (table′ memo′ : List ℕ) : Type 0 where
-  pub answer : Answer
-  pub judges : Judges k words input table memo answer table′ memo′
-  pub packs : Packs r answer
+abbrev pub CheckExported : Lookahead → (words table : List ℕ) (r : ℕ) (table′ : List ℕ) → Type 0
+CheckExported k words table r table′ = Exported {Result = Answer} (λ a. a) (λ a. Checks k words table a table′) r
 
-pub record CostliestExported (words : List ℕ) (k : ℕ) (log table memo : List ℕ) (r : ℕ) (log′ table′ memo′ : List ℕ) : Type 0 where
-  pub answer : Answer
-  pub judges : JudgesCostliest words k log table memo answer log′ table′ memo′
-  pub packs : Packs r answer
+abbrev pub JudgeExported : Lookahead → (words input table memo : List ℕ) (r : ℕ) (table′ memo′ : List ℕ) → Type 0
+JudgeExported k words input table memo r table′ memo′ = Exported {Result = Answer} (λ a. a) (λ a. Judges k words input table memo a table′ memo′) r
+
+abbrev pub CostliestExported : List ℕ → ℕ → (log table memo : List ℕ) (r : ℕ) (log′ table′ memo′ : List ℕ) → Type 0
+CostliestExported words n log table memo r log′ table′ memo′ =
+    Exported {Result = Answer} (λ a. a) (λ a. JudgesCostliest words n log table memo a log′ table′ memo′) r
+
+abbrev pub TabularExported : (words input spans : List ℕ) (r : ℕ) (spans′ : List ℕ) → Type 0
+TabularExported words input spans r spans′ = Exported {Result = Answer} (λ a. a) (λ a. TabularJudges words input spans a spans′) r
 
 -- the clients' records are read from a row of the caller's and written back into it, so that the next call reads what this one handed back
 pub record ServedExported (client share limit : ℕ) (words input table memo row : List ℕ) (r : ℕ) (table′ memo′ row′ : List ℕ) : Type 0 where
-  pub served : Served
-  pub judges : JudgesFor client share limit words input table memo (usagesIn row) served table′ memo′
-  pub written : usagesIn row′ ≡ served .usages
-  pub packs : Packs r (served .answer)
+  pub exported : Exported {Result = Served} (λ s. s .answer) (λ s. JudgesFor client share limit words input table memo (usagesIn row) s table′ memo′) r
+  pub written : usagesIn row′ ≡ exported .result .usages
+
+-- the number of words that are written stands in a word of the caller's
+abbrev pub TreeExported : (words input table memo tree : List ℕ) (r : ℕ) (table′ memo′ tree′ : List ℕ) (written′ : ℕ) → Type 0
+TreeExported words input table memo tree r table′ memo′ tree′ written′ =
+    Exported {Result = Shown} (λ s. s .answer) (λ s. Shows words input table memo tree s table′ memo′ tree′ × (written′ ≡ s .written)) r
 
 -- the totals of a row's records, in a row of the caller's
 pub record TotalsExported (row totals′ : List ℕ) : Type 0 where
   pub totals : Totals
   pub sums : Totalled (usagesIn row) totals
   pub written : totals′ ≡ totalsRow totals
-
-pub record TabularExported (words input before : List ℕ) (r : ℕ) (after : List ℕ) : Type 0 where
-  pub answer : Answer
-  pub judges : TabularJudges words input before answer after
-  pub packs : Packs r answer
-
--- the number of words that are written stands in a word of the caller's
-pub record TreeExported (words input table memo tree : List ℕ) (r : ℕ) (table′ memo′ tree′ : List ℕ) (written′ : ℕ) : Type 0 where
-  pub shown : Shown
-  pub shows : Shows words input table memo tree shown table′ memo′ tree′
-  pub number : written′ ≡ shown .written
-  pub packs : Packs r (shown .answer)

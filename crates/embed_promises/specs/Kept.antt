@@ -14,6 +14,7 @@ use Rattle.kept_input.specs.Histories.{Step, Add}
 use Rattle.kept_input.specs.Stored.{keptInput}
 use Rattle.kept_input.specs.Properties.{Steps, JudgesKept}
 use Rattle.embed_promises.specs.Packing.{Packs}
+use Rattle.embed_promises.specs.Exports.{Exported}
 
 -- the length, then the checkpoints
 abbrev pub stateOf : Progress → List ℕ
@@ -44,6 +45,4 @@ pub record MoveExported (t : Step) (state : List ℕ) (r : ℕ) (state′ : List
   pub of-any-events : (events : List ℕ) → length events ≡ maxTokens → StepExported t events state r events state′
 
 pub record KeptExported (k : Lookahead) (words events state table memo : List ℕ) (r : ℕ) (table′ memo′ : List ℕ) : Type 0 where
-  pub answer : Answer
-  pub judges : JudgesKept k words (keptInput events (progressIn state)) table memo answer table′ memo′
-  pub packs : Packs r answer
+  pub exported : Exported {Result = Answer} (λ a. a) (λ a. JudgesKept k words (keptInput events (progressIn state)) table memo a table′ memo′) r

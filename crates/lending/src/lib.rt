@@ -2,7 +2,9 @@
 // out in the caller's memory.
 ghost use mathlib.Core.Path.{_≡_};
 ghost use Prim.Native.Nat.{_+_, _*_, _≤_, _<_};
-ghost use Rattle.grammar.specs.Limits.{maxNonterminals, maxEntries};
+ghost use lib.ListN.{replicate};
+ghost use Rattle.grammar.specs.Codes.{noEntry};
+ghost use Rattle.grammar.specs.Limits.{maxNonterminals, maxEntries, maxTableWords};
 ghost use Rattle.lookahead.specs.declared.Lookahead.the-variants.{One, Two};
 ghost use Rattle.lending.specs.Lending.{entryCode, wordAt, lentSizes, wordCount, SizesGiven, madeUp, lentOf};
 use columns::count;
@@ -86,28 +88,28 @@ fn word_count(sizes: Sizes, lookahead: Lookahead) -> usize
     sizes.nonterminals as usize * (2 + count(lookahead, sizes.terminals))
 }
 
-// All words with one token of lookahead, made up whole before any is lent back, and behind them no entries.
-fn words<'a>(
+// Lays out all words with one token of lookahead where there are no entries yet.
+fn lay_out<'a>(
+    words: &mut [u32; TABLE_WORDS],
     sizes: Sizes,
     firsts: &'a [u64; SETS],
     follows: &'a [u64; SETS],
     entries: &'a [u8; ENTRIES],
-) -> [u32; TABLE_WORDS]
-    requires { ⌜ SizesGiven sizes ⌝ }
-    ensures { λ r. ⌜ r ≡ madeUp sizes (now (firsts .entry)) (now (follows .entry)) (now (entries .entry)) ⌝ }
+)
+    requires { ⌜ SizesGiven sizes × (now words ≡ replicate maxTableWords noEntry) ⌝ }
+    ensures { λ _. ⌜ now (words .exit) ≡ madeUp sizes (now (firsts .entry)) (now (follows .entry)) (now (entries .entry)) ⌝ }
 {
     let nonterminals = sizes.nonterminals as usize;
     let count = word_count(sizes, Lookahead::One);
-    let mut table = [NO_ENTRY; TABLE_WORDS];
     let mut at = 0;
     while at < count {
-        table[at] = (word(nonterminals, firsts, follows, entries, at) % NARROW) as u32;
+        words[at] = (word(nonterminals, firsts, follows, entries, at) % NARROW) as u32;
         at = at + 1;
     }
-    table
 }
 
-// Lends the table of a grammar with one token of lookahead; nothing where the grammar is refused, or where there is no room.
+// Lends the table of a grammar with one token of lookahead; nothing where the grammar is refused, or where there is no room. The words are
+// laid out whole before any is lent back.
 pub fn lend(found: Found, table: &mut [u32])
     ensures { λ _. ⌜ now (table .exit) ≡ lentOf One found (now (table .entry)) ⌝ }
 {
@@ -116,7 +118,14 @@ pub fn lend(found: Found, table: &mut [u32])
     if table.len() < count {
         return;
     }
-    let words = words(sizes, &found.firsts, &found.follows, &found.entries);
+    let mut words = [NO_ENTRY; TABLE_WORDS];
+    lay_out(
+        &mut words,
+        sizes,
+        &found.firsts,
+        &found.follows,
+        &found.entries,
+    );
     let mut copied = 0;
     while copied < count {
         table[copied] = words[copied];

@@ -191,3 +191,8 @@ unfolding tallyOf callCount farthest
 tally-recorded {G} {choice} {w} {m} recorded e =
     let rows : length m / (length w + 1) ≡ G .nonterminals = rows-are (length m) (G .nonterminals) (length w) (recorded .size ∙ omega arith) in
     e ∙ ap (λ n. tallyOf (recordedCalls m n (length w))) rows ∙ ap tallyOf (recorded-written G w m ∙ recorded .scanned)
+
+pub count-recorded : {G : Grammar} {choice : Choice} {w : List ℕ} {m : Memo} {r : ℕ} → Recorded G choice w m → r ≡ recordedBelow m (length m) → r ≡ callCount G choice w
+unfolding callCount
+count-recorded {G} {choice} {w} {m} recorded e =
+    e ∙ ap (recordedBelow m) (recorded .size) ∙ rows-count m (length w) (G .nonterminals) ∙ ap length (recorded-written G w m ∙ recorded .scanned)

@@ -45,7 +45,8 @@ use Rattle.recognizer_promises.specs.Answers.{choiceOf, judgeFault, call
 use Rattle.recognizer_promises.specs.declared.Judgement.{Judgement}
 use Rattle.recognizer_promises.specs.Judging.{foundUnless, refusedWith, EntriesFound, JudgedPassed}
 use Rattle.recognizer_promises.specs.Properties.{Room}
-use Rattle.recognizer_promises.specs.Costliest.{callsOn, costliestInput, lengthFaults, costliestFault, withLength, Searchable, JudgesCostliest}
+use Rattle.recognizer_promises.specs.CostliestInput.{callsOn, costliestInput, lengthFaults, costliestFault, withLength}
+use Rattle.recognizer_promises.specs.Costliest.{Searchable, JudgesCostliest}
 use Rattle.recognizer_promises.specs.Search.{searchFault, SearchesWords, SearchGiven, BestJudged}
 use Rattle.recognizer_promises.proofs.Words.{understood}
 use Rattle.recognizer_promises.proofs.Places.{fault-encoded, places}

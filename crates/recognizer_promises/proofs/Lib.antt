@@ -5,7 +5,7 @@ pub mod MemoWords
 pub mod Directions
 pub mod JudgeFaults
 pub mod GrammarErrors
-pub mod CallErrors
+pub mod RefusalErrors
 pub mod Meaning
 pub mod Judged
 pub mod CostliestFaults

@@ -4,5 +4,6 @@ pub mod Answers
 pub mod Memory
 pub mod Judging
 pub mod Properties
+pub mod CostliestInput
 pub mod Costliest
 pub mod Search

@@ -1,5 +1,6 @@
--- What `check` and `judge` promise, with one token of lookahead and with two, on one page: read `Checks` and `Judges`, at the end, first. What goes in stands
--- before the answer `r`, and what lent memory then holds behind it. A call of Rattle ends; no call here has a `requires`, so none relies on another.
+-- What `check` and `judge` promise, on one page, with one token of lookahead or two. Begin with `Checks` and `Judges`, at the end: what goes in stands before
+-- the answer `r`, and what lent memory holds afterwards has a prime. A call of Rattle ends, and every field is proved of it. No call here has a `requires`, so
+-- none relies on another.
 use mathlib.Core.Path.{_≡_}
 use mathlib.Core.Bool.{true, false}
 use mathlib.Core.List.{List, [], _∷_}
@@ -51,7 +52,7 @@ pub record Places (k : Lookahead) (G : Grammar) (r : Answer) : Type 0 where
   pub unproductive : (A : ℕ) → (r ≡ Refused (Unproductive A)) ↔ (NoLeftRecursion G × LowestUnproductive k G A)
   pub conflict : (A c : ℕ) → (r ≡ Refused (conflictError k A c)) ↔ (NoLeftRecursion G × AllProductive k G × FirstClash k G A c)
 
--- memories that are long enough; and a grammar that passes with an input that is short enough, all of whose tokens are its terminals
+-- what property 3 asks for: memories that are long enough; a grammar that passes, and an input that is short enough, of its terminals alone
 pub record Room (k : Lookahead) (table memo : List ℕ) : Type 0 where
   pub long-table : tableRoom k ≤ length table
   pub long-memo : maxMemoEntries ≤ length memo
@@ -64,7 +65,7 @@ pub record Judgeable (k : Lookahead) (words input : List ℕ) : Type 0 where
 -- property 3: exactly one valuation solves the grammar on the input, and the answer is acceptance just if it gives the whole input to the start; the
 -- answer's numbers are those of the descent's calls, whose outcomes are the only ones that the rules give; the memo table's words are these outcomes and
 -- nothing else, and tell which spans belong to a nonterminal, wherever what comes next may follow it
--- need not be believed: solution (one-solution); descend (descent); calls, callCount, farthest (calls); memoWords (memo)
+-- need not be believed: solution (one-solution); accepts, verdictOf (accepted, rejected); callCount, farthest (calls); descend (descent); memoWords (memo)
 pub record Recognizes (k : Lookahead) (G : Grammar) (input : List ℕ) (r : Answer) (memo′ : List ℕ) : Type 0 where
   pub one-solution : OneSolution G input
   pub accepted : (v : Valuation) → Solves G input v → (r ≡ Accepted (callsOf k G input)) ↔ (v 0 0 (length input) ≡ true)
@@ -75,14 +76,15 @@ pub record Recognizes (k : Lookahead) (G : Grammar) (input : List ℕ) (r : Answ
   pub memo : Recorded G (choiceOf k G input) input (memoWords k G input)
   pub entries : EntriesTell G (tokens k) input memo′
 
--- checking a grammar's words with a lent table: properties 1 and 2
+-- checking a grammar's words with a lent table: property 1 (`leaves`), and property 2: passed just if the grammar passes, else refused at its first fault
 pub record Checks (k : Lookahead) (words table : List ℕ) (r : Answer) (table′ : List ℕ) : Type 0 where
   pub understood : Understood k words
   pub leaves : Leaves (checkFault k (length table) words) Passed r (lent table (tableWords k (grammarOf words)) table′ ∷ [])
   pub passed : tableRoom k ≤ length table → (r ≡ Passed) ↔ PassedGrammar k words
   pub places : tableRoom k ≤ length table → length words ≤ maxWords → (G : Grammar) → Encodes words G → Fits k G → Places k G r
 
--- judging an input with a lent table and a lent memo table: properties 1 and 3. The input is what a log's events are (`inputOf`), without their directions
+-- judging an input with a lent table and a lent memo table: property 1 (`leaves`), and property 3, whatever the memories held. The input is what a log's
+-- events are (`inputOf`), without their directions
 pub record Judges (k : Lookahead) (words input table memo : List ℕ) (r : Answer) (table′ memo′ : List ℕ) : Type 0 where
   pub understood : Understood k words
   pub leaves : Leaves (judgeFault k (length table) (length memo) words input) (verdictOf k (grammarOf words) input) r
@@ -90,5 +92,4 @@ pub record Judges (k : Lookahead) (words input table memo : List ℕ) (r : Answe
   pub places : Room k table memo → length words ≤ maxWords → (G : Grammar) → Encodes words G → Fits k G → Places k G r
   -- unless judging is refused, the table is as checking leaves it
   pub as-checked : (numbers r .verdict ≡ refused → ⊥) → (c : Answer) (checked : List ℕ) → Checks k words table c checked → table′ ≡ checked
-  -- whatever the memories held
   pub recognizes : Room k table memo → Judgeable k words input → Recognizes k (grammarOf words) input r memo′

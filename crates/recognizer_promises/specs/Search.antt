@@ -26,7 +26,7 @@ use Rattle.recognizer_promises.specs.Memory.{memoWords}
 use Rattle.recognizer_promises.specs.Answers.{verdictOf}
 use Rattle.recognizer_promises.specs.declared.Judgement.{Judgement}
 use Rattle.recognizer_promises.specs.Judging.{foundUnless, JudgedPassed}
-use Rattle.recognizer_promises.specs.Costliest.{costliestInput, lengthFaults}
+use Rattle.recognizer_promises.specs.CostliestInput.{costliestInput, lengthFaults}
 
 -- why it is refused: as judging the costliest input is, but for the table's length
 unfoldable pub searchFault : ℕ → ℕ → List ℕ → ℕ → Option Error

@@ -1,16 +1,17 @@
 -- From a descent that has ended to its answer and to what the memo table then holds.
-use mathlib.Core.Path.{_≡_, sym, ap, subst, _∙_}
-use mathlib.Core.Bool.{Bool}
+use mathlib.Core.Path.{_≡_, refl, sym, ap, _∙_}
+use mathlib.Core.Bool.{true, false}
 use mathlib.Core.List.{List}
-use Prim.Native.Nat.{ℕ, suc, _+_, _*_, _/_, _<_}
+use Prim.Native.Nat.{ℕ, _+_, _*_, _/_, _<_}
 use native.Mathlib.Numerals.{add-one}
 use native.Mathlib.Omega.{arith}
-use lib.ListN.{length, replicate, length-replicate, getD-replicate}
+use lib.ListN.{length, take, length-replicate, getD-replicate}
+use borrow.Author.Tests.{eq-eqb, ne-eqb}
 use Rattle.answer.specs.declared.Answer.{Answer}
 use Rattle.answer.specs.declared.Answer.the-variants.{Rejected, Accepted}
 use Rattle.answer.specs.declared.Calls.{Calls}
 use Rattle.base.specs.Choice.{choose}
-use Rattle.grammar.specs.Codes.{uncalledCode}
+use Rattle.grammar.specs.Codes.{failedCode, uncalledCode}
 use Rattle.grammar.specs.Syntax.{Grammar}
 use Rattle.grammar.specs.Encoding.{grammarOf}
 use Rattle.grammar.specs.Starts.{ruleStarts}
@@ -19,33 +20,31 @@ use Rattle.grammar.specs.declared.reading.Sizes.{Sizes}
 use Rattle.grammar.proofs.WellRead.{well-read}
 use Rattle.semantics.specs.Valuations.{pairs}
 use Rattle.semantics.specs.Choices.{Choice, tableChoice}
-use Rattle.semantics.specs.Descent.{endsAt, descend, accepts}
-use Rattle.semantics.specs.Memo.{EndsFit, indexOf, blank, Recorded}
-use Rattle.semantics.specs.MemoDescent.{memoized, memoCall}
+use Rattle.semantics.specs.Descent.{Outcome, Failed, End, endsAt, descend, accepts}
+use Rattle.semantics.specs.Memo.{encode, indexOf, blank}
 use Rattle.semantics.proofs.descent.Range.{index-range}
-use Rattle.semantics.proofs.descent.Memo.{memo-recorded-within}
 use Rattle.semantics.proofs.Theorems.{theorems}
-use Rattle.rule.specs.declared.Outcome as code
-use Rattle.rule.specs.Rule.{meant}
 use Rattle.lookahead.specs.declared.Lookahead.{Lookahead}
 use Rattle.lookahead.specs.Lookaheads.{tokens}
 use Rattle.families.proofs.FewTerminals.{admitted-read, few-terminals}
 use Rattle.columns.specs.Columns.{columnCount}
-use Rattle.descent_arrays.specs.Arrays.{held, rowAt}
-use Rattle.recursive_descent.specs.Descent.{MemoSound, CallGiven, CallDone, CallRequires, CallEnsures}
+use Rattle.table.specs.Entries.{entriesOf}
 use Rattle.memo_table.specs.Tally.{tallyOf, recordedCalls}
+use Rattle.memo_table.proofs.Tallying.{tally-recorded}
 use Rattle.recognizer_promises.specs.Answers.{callsOf, verdictOf}
-use Rattle.recognizer_promises.specs.Judging.{DescendGiven, Descended}
-use Rattle.descent_arrays.specs.Tokens.{tokensOf}
-use Rattle.descent_arrays.specs.Choices.{choicesOf}
+use Rattle.recognizer_promises.specs.Judging.{Ready, PassedGiven, Descended}
+use Rattle.recognizer_promises.proofs.Judged.{descend-given}
+use Rattle.recognizer_promises.proofs.MemoWords.{words-recorded}
 use Rattle.event.specs.Events.{inputOf}
 use Rattle.event.proofs.Inputs.{input-length}
+use Rattle.descent_arrays.specs.Arrays.{held, rowAt}
+use Rattle.descent_arrays.specs.Choices.{choicesOf}
+use Rattle.descent_arrays.specs.Tokens.{tokensOf}
 use Rattle.descent_arrays.proofs.TokenWords.{TokensGiven, TokensHold, column-few, tokens-hold}
 use Rattle.descent_arrays.proofs.ChoiceRows.{Filled}
+use Rattle.recursive_descent.specs.Descent.{MemoSound, StartGiven, StartDone, StartRequires, StartEnsures}
+use Rattle.recursive_descent.specs.Judging.{JudgeGiven}
 use Rattle.recursive_descent.proofs.TableChoices.{rows-filled, choices-hold}
-use Rattle.recursive_descent.proofs.Running.{level}
-use Rattle.recognizer_promises.proofs.MemoWords.{words-recorded}
-use Rattle.memo_table.proofs.Tallying.{tally-recorded}
 
 -- a memo table in which no call is recorded is sound
 pub blank-sound : (choice : Choice) (words input : List ℕ) → MemoSound choice words input (blank (grammarOf words) input)
@@ -54,19 +53,30 @@ blank-sound choice words input = record {
   right = λ x h n. absurd (n (getD-replicate (pairs (grammarOf words) input) (indexOf input x) uncalledCode uncalledCode (index-range (grammarOf words) input x h)));
 }
 
--- the start's call has been made in a blank memo table
-module _ {k : Lookahead} {words : List ℕ} {z : Sizes} {starts entries memo : List ℕ} (events : List ℕ) (g : DescendGiven k words z starts entries (inputOf events) memo) where
-  r : WellRead words z
-  r = well-read words z (admitted-read k words (g .ready .taken))
+-- an entry below the codes is an end, and an outcome's entry is no other's
+entry-ends : (o : Outcome) (n : ℕ) → n < failedCode → {r : ℕ} → r ≡ encode o → r ≡ n → endsAt o n ≡ true
+unfolding encode
+entry-ends Failed n l e d = absurd (omega arith)
+entry-ends (End i) n l e d = eq-eqb i n (sym e ∙ d)
 
-  abbrev G : Grammar
-  G = grammarOf words
+entry-ends-not : (o : Outcome) (n : ℕ) {r : ℕ} → r ≡ encode o → (r ≡ n → ⊥) → endsAt o n ≡ false
+unfolding encode
+entry-ends-not Failed n e d = refl
+entry-ends-not (End i) n e d = ne-eqb i n (λ q. d (e ∙ q))
 
+-- an input and the choices for its length
+module _ {k : Lookahead} {words : List ℕ} {z : Sizes} {choices memo : List ℕ} (events : List ℕ) (g : JudgeGiven k words z choices (inputOf events) memo) where
   abbrev input : List ℕ
   input = inputOf events
 
-  long : length events ≡ length input
-  long = sym (input-length events)
+  ready : Ready k words z (ruleStarts words) (entriesOf k (grammarOf words)) input
+  ready = g .given .ready
+
+  r : WellRead words z
+  r = well-read words z (admitted-read k words (ready .taken))
+
+  abbrev G : Grammar
+  G = grammarOf words
 
   abbrev n : ℕ
   n = tokens k
@@ -79,69 +89,85 @@ module _ {k : Lookahead} {words : List ℕ} {z : Sizes} {starts entries memo : L
   some-nonterminal = omega (arith, r .nonterminals, r .someNonterminal)
 
   tokens-given : TokensGiven k input (z .terminals)
-  tokens-given = record { short = g .ready .short; few = rw (r .terminals) (few-terminals k words (g .ready .taken)); known = rw (r .terminals) (g .ready .tokens) }
+  tokens-given = record { short = ready .short; few = rw (r .terminals) (few-terminals k words (ready .taken)); known = rw (r .terminals) (ready .tokens) }
 
-  -- with the arrays that are made before it
-  module _ {columns : ℕ} {choices tokens blanked : List ℕ} (m : columns ≡ columnCount k (z .terminals))
-      (c : choices ≡ choicesOf starts (z .nonterminals) columns entries (length events)) (w : tokens ≡ tokensOf k (z .terminals) input)
-      (b : blanked ≡ replicate (length memo) uncalledCode) where
-    f : Filled (ruleStarts words) (z .nonterminals) (columnCount k (z .terminals)) entries (length input) choices
-    f = rw (c, g .ready .begins, m, long) (rows-filled (g .ready))
+  f : Filled (ruleStarts words) (z .nonterminals) (columnCount k (z .terminals)) (entriesOf k G) (length input) choices
+  f = rw (g .made) (rows-filled ready)
 
+  -- the arrays hold that choice and the input
+  module _ {tokens : List ℕ} (w : tokens ≡ tokensOf k (z .terminals) input) where
     t : TokensHold k (z .terminals) input tokens
     t = rw w (tokens-hold tokens-given)
 
-    begun : CallGiven choice words choices tokens input blanked 0 0
+    begun : StartGiven choice words choices tokens input memo
     unfolding rowAt
-    begun = rw (b, g .size) (record {
-      given = record {
-        sizes = z;
-        read = admitted-read k words (g .ready .taken);
-        free = g .ready .free;
-        own = theorems .own-rules G n input;
-        rows = λ A a. f .rows A (omega (arith, r .nonterminals)) ∙ ap (λ n. A * n) (add-one (length input));
-        ends = λ A a. f .ends A (omega (arith, r .nonterminals));
-        columns = λ i h. omega (arith, t .columns i h, column-few tokens-given i);
-        firsts = choices-hold (g .ready) f (rw (← r .terminals) t);
-        terminals = t .terminals;
-        end = t .end;
-        short = g .ready .short;
-        sound = blank-sound choice words input;
+    begun = record {
+      call = record {
+        given = record {
+          sizes = z;
+          read = admitted-read k words (ready .taken);
+          free = ready .free;
+          own = theorems .own-rules G n input;
+          rows = λ A a. f .rows A (omega (arith, r .nonterminals)) ∙ ap (λ n. A * n) (add-one (length input));
+          ends = λ A a. f .ends A (omega (arith, r .nonterminals));
+          columns = λ i h. omega (arith, t .columns i h, column-few tokens-given i);
+          firsts = choices-hold ready f (rw (← r .terminals) t);
+          terminals = t .terminals;
+          end = t .end;
+          short = ready .short;
+          sound = blank-sound choice words input;
+        };
+        named = some-nonterminal;
+        placed = omega arith;
       };
-      named = some-nonterminal;
-      placed = omega arith;
-    })
+      size = g .given .size;
+    }
 
-    begun-held : CallGiven choice words choices tokens (held tokens) blanked 0 0
+    begun-held : StartGiven choice words choices tokens (held tokens) memo
     begun-held = rw (t .input) begun
 
-    pub start-given : CallRequires words choices tokens blanked 0 0
+    pub start-given : StartRequires words choices tokens memo
     start-given = (choice, begun-held)
 
-    module _ {o : code.Outcome} {memo′ : List ℕ} (ensured : CallEnsures words choices tokens blanked 0 0 o memo′) where
-      d : CallDone choice words input blanked 0 0 o memo′
-      d = rw (t .input) at (ensured choice begun-held)
+    module _ {end : ℕ} {memo′ : List ℕ} (ensured : StartEnsures words choices tokens memo end memo′) where
+      pub started : StartDone choice words input end memo′
+      started = rw (t .input) at (ensured choice begun-held)
 
-      fits : EndsFit input
-      fits = omega (arith, g .ready .short)
-
-      done : (meant o ≡ descend G choice input 0 0) × Recorded G choice input memo′
-      done =
-          let deep = suc (level words input 0 0) in
-          let l : level words input 0 0 < deep = omega arith in
-          let m : memoCall G choice input deep 0 0 (blank G input) ≡ memoized (meant o) memo′ =
-          ap (λ x. memoCall G choice input deep 0 0 x) (sym (b ∙ ap (λ l. replicate l uncalledCode) (g .size))) ∙ d .model deep l in
-          let e = memo-recorded-within G choice input (r .formed .scoped) (g .ready .free) (theorems .own-rules G n input) fits some-nonterminal deep l in
-          (sym (ap (λ x. x .outcome) m) ∙ e .0, subst (λ x. Recorded G choice input x) (ap (λ x. x .memo) m) (e .1))
-
-      pub descended : {c : Calls} {ended : Bool} {a : Answer} → c ≡ tallyOf (recordedCalls memo′ (length memo′ / (length events + 1)) (length events))
-          → ended ≡ endsAt (meant o) (length events)
-          → a ≡ choose ended (Accepted c) (Rejected c) → Descended k words input a memo′
+      judged : {c : Calls} {a : Answer} → c ≡ tallyOf (recordedCalls memo′ (length memo′ / (length events + 1)) (length events))
+          → a ≡ choose (endsAt (descend G choice input 0 0) (length input)) (Accepted c) (Rejected c) → Descended k words input a memo′
       unfolding verdictOf accepts
-      descended {c} {ended} {a} tallied told e =
-          let d = done in
-          let counted : c ≡ callsOf k G input = tally-recorded (d .1) (tallied ∙ ap (λ n. tallyOf (recordedCalls memo′ (length memo′ / (n + 1)) n)) long) in
+      judged {c} tallied e =
+          let long : length events ≡ length input = sym (input-length events) in
+          let counted : c ≡ callsOf k G input = tally-recorded (started .recorded) (tallied ∙ ap (λ n. tallyOf (recordedCalls memo′ (length memo′ / (n + 1)) n)) long) in
           record {
-            answer = e ∙ rw (told, long, d .0, counted);
-            entries = words-recorded k G input (r .formed .scoped) (g .ready .free) some-nonterminal (d .1);
+            answer = e ∙ rw counted;
+            entries = words-recorded k G input (r .formed .scoped) (ready .free) some-nonterminal (started .recorded);
           }
+
+      module _ {c : Calls} (tallied : c ≡ tallyOf (recordedCalls memo′ (length memo′ / (length events + 1)) (length events))) where
+        pub judged-accepted : end ≡ length events → Descended k words input (Accepted c) memo′
+        judged-accepted e =
+            judged tallied (rw (entry-ends (descend G choice input 0 0) (length input) (omega (arith, ready .short)) (started .told) (e ∙ sym (input-length events))))
+
+        pub judged-rejected : (end ≡ length events → ⊥) → Descended k words input (Rejected c) memo′
+        judged-rejected d = judged tallied (rw (entry-ends-not (descend G choice input 0 0) (length input) (started .told) (λ e. d (e ∙ input-length events))))
+
+-- the choices made of what is found of a grammar that passes are those of its own table
+pub judge-given : {k : Lookahead} {words : List ℕ} {z : Sizes} {starts entries memo choices : List ℕ} {columns : ℕ} (events : List ℕ)
+    (g : PassedGiven k words z starts entries (inputOf events) memo) → columns ≡ columnCount k (z .terminals)
+    → choices ≡ choicesOf starts (z .nonterminals) columns entries (length events)
+    → JudgeGiven k words z choices (inputOf events) (take (z .nonterminals * (length events + 1)) memo)
+judge-given events g m c = record {
+  given = record {
+    ready = record {
+      taken = g .ready .taken;
+      free = g .ready .free;
+      begins = refl;
+      entered = refl;
+      tokens = g .ready .tokens;
+      short = g .ready .short;
+    };
+    size = descend-given events g .size;
+  };
+  made = rw (c, m, g .ready .begins, g .ready .entered, input-length events);
+}

@@ -6,4 +6,5 @@ pub mod Starting
 pub mod Choosing
 pub mod TableChoices
 pub mod Deciding
+pub mod Descending
 pub mod Searching

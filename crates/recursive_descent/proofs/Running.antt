@@ -6,7 +6,7 @@ use Prim.Native.Nat.{ℕ, _+_, _%_, _≤_, _<_}
 use native.Mathlib.Omega.{arith}
 use native.Mathlib.Decide.{decLt}
 use native.Mathlib.Numerals.{add-one}
-use lib.Dec.{ltb, eqb}
+use lib.Dec.{T, ltb, eqb}
 use lib.ListN.{length, getD, drop}
 use borrow.Author.Tests.{lt-ltb, le-ltb, ne-eqb, ltb-true}
 use Rattle.base.proofs.Booleans.{and-first}
@@ -15,6 +15,7 @@ use Rattle.word.specs.declared.Symbol as grammar
 use Rattle.word.specs.declared.Symbol.the-variants.{Terminal, Nonterminal}
 use Rattle.word.specs.declared.Word.{Word}
 use Rattle.word.specs.declared.Word.the-variants.{Heading, Rule, Positive, Negative, Symbol, End as EndWord, Invalid}
+use Rattle.grammar.specs.Codes.{failedCode}
 use Rattle.grammar.specs.Syntax.{Body, Grammar, NonterminalsBelow, TerminalsBelow}
 use Rattle.grammar.specs.Encoding.{Parsed, onWord, parse, grammarOf}
 use Rattle.grammar.specs.Reading.{allows, scan, reading}
@@ -25,10 +26,13 @@ use Rattle.grammar.proofs.Suffixes.{scan-next}
 use Rattle.grammar.proofs.WellRead.{well-read}
 use Rattle.semantics.specs.LeftRecursion.{nullable, LeftIn, here, there, LeftDepends}
 use Rattle.semantics.specs.Choices.{Choice}
-use Rattle.semantics.specs.Descent.{Outcome, Failed, End}
+use Rattle.semantics.specs.Descent.{Outcome, Failed, End, endsAt, descend}
 use Rattle.semantics.specs.ComesTo.{callAt, measure}
 use Rattle.semantics.specs.MemoDescent.{memoized, andThen, MemoCalls, memoRun, memoCall}
+use Rattle.semantics.specs.Memo.{encode, decode}
 use Rattle.semantics.proofs.meaning.Rank.{level-onward}
+use Rattle.semantics.proofs.descent.Outcomes.{end-ends}
+use Rattle.semantics.proofs.descent.Ends.{descend-forward, descend-null}
 use Rattle.rule.specs.declared.Outcome as code
 use Rattle.rule.specs.declared.Outcome.the-variants as outcome
 use Rattle.rule.specs.Rule.{meant}
@@ -113,6 +117,12 @@ end-same i j e = cc
 
 failed-end : (j : ℕ) → Failed ≡ End j → ⊥
 failed-end j e = let n : _≡_ {A = ℕ} 0 1 = cc in omega arith
+
+-- an entry tells its outcome, where the outcome's end is below the codes
+decode-encode : (n : ℕ) (o : Outcome) → n < failedCode → ((e : ℕ) → T (endsAt o e) → e ≤ n) → decode (encode o) ≡ o
+unfolding encode decode
+decode-encode n Failed s h = refl
+decode-encode n (End e) s h = rw (ne-eqb e failedCode (λ q. absurd (omega (arith, h e (end-ends (End e) e refl)))))
 
 -- the words that are no symbol end a body
 body-none : (w : Word) (p : Parsed) (s : State) → allows w s ≡ true → ((X : grammar.Symbol) → w ≡ Symbol X → ⊥) → onWord w p .body ≡ []
@@ -240,16 +250,26 @@ module _ {choice : Choice} {words choices tokens input memo₀ : List ℕ} {A fr
         level-onward (grammarOf words) (r g .formed .scoped) (g .call .given .free) A B (length input) start place
         (known-here (Nonterminal B) h x .0) (v .behind) (v .placed) (λ e. front-here (Nonterminal B) h x e B here)
 
-    module _ {o : code.Outcome} {memo′ : List ℕ} (d : CallDone choice words input memo B place o memo′) where
-      called : (n : ℕ) → level words input A start ≤ n → deep choice words input n B place memo ≡ memoized (meant o) memo′
+    abbrev came : Outcome
+    came = descend (grammarOf words) choice input B place
+
+    forward : (e : ℕ) → T (endsAt came e) → (place ≤ e) × (e ≤ length input)
+    forward e t = descend-forward (grammarOf words) choice input (g .call .given .own) B place e (v .placed) t
+
+    -- its outcome, recalled of the entry that the call returns
+    module _ {entry : ℕ} {memo′ : List ℕ} (d : CallDone choice words input memo B place entry memo′) (o : code.Outcome) (recalled : meant o ≡ decode entry) where
+      means : meant o ≡ came
+      means = recalled ∙ ap decode (d .told) ∙ decode-encode (length input) came (omega (arith, g .call .given .short)) (λ e t. forward e t .1)
+
+      called : (n : ℕ) → level words input A start ≤ n → deep choice words input n B place memo ≡ memoized came memo′
       called n l = d .model n (omega (arith, running-falls))
 
       -- one that ends
       pub running-call : (e : ℕ) → o ≡ outcome.End e → Running choice words input memo₀ A from start memo′ (at + 1) e
       unfolding memoRun andThen
       running-call e q =
-          let m : meant o ≡ End e = ap meant q in
-          let f = d .forward e m in
+          let m : came ≡ End e = sym means ∙ ap meant q in
+          let f = forward e (end-ends came e m) in
           record {
             behind = omega (arith, v .behind);
             placed = f .1;
@@ -260,7 +280,9 @@ module _ {choice : Choice} {words choices tokens input memo₀ : List ℕ} {A fr
             front = λ s C l.
                 let i : place ≡ start = omega (arith, v .behind) in
                 let j : e ≡ place = omega arith in
-                front-here (Nonterminal B) h x i C (there (d .idle (m ∙ ap End j)) l);
+                let idle : T (nullable (grammarOf words) B) =
+                descend-null (grammarOf words) choice input (g .call .given .own) (r g .formed .scoped) B place place (v .placed) refl (end-ends came place (m ∙ ap End j)) in
+                front-here (Nonterminal B) h x i C (there idle l);
             progress = v .progress;
             reads = next-reads (Nonterminal B) h x;
             skipped = next-skipped (Nonterminal B) h x;
@@ -270,7 +292,7 @@ module _ {choice : Choice} {words choices tokens input memo₀ : List ℕ} {A fr
       pub running-failed : o ≡ outcome.Failed → RunDone choice words input memo₀ A from start (stopped outcome.Failed at) memo′
       unfolding body-at memoRun andThen
       running-failed q = record {
-        model = λ n l. rest-here (Nonterminal B) h x n l ∙ rw (called n l, ap meant q);
+        model = λ n l. rest-here (Nonterminal B) h x n l ∙ rw (called n l, sym means ∙ ap meant q);
         sound = d .sound;
         within = λ e q. absurd (failed-end e q);
         skipped = v .skipped;

@@ -1,5 +1,5 @@
 -- A call is done: from what the descent with a memo table gives, for every depth that is enough, to what holds of its outcome.
-use mathlib.Core.Path.{_≡_, refl, sym, ap, _∙_}
+use mathlib.Core.Path.{_≡_, sym, ap, _∙_}
 use mathlib.Core.List.{List}
 use mathlib.Core.Option.{Option}
 use Prim.Native.Nat.{ℕ, zero, suc, _+_, _≤_, _<_}
@@ -17,13 +17,9 @@ use Rattle.semantics.specs.Descent.{Outcome, select, descend}
 use Rattle.semantics.specs.ComesTo.{callAt}
 use Rattle.semantics.specs.Memo.{EndsFit, encode, decode, indexOf, entry}
 use Rattle.semantics.specs.MemoDescent.{memoized, memoObey, stored, memoCall}
-use Rattle.semantics.proofs.descent.Outcomes.{end-ends}
-use Rattle.semantics.proofs.descent.Ends.{descend-forward, descend-null}
 use Rattle.semantics.proofs.descent.Range.{index-range}
 use Rattle.semantics.proofs.descent.Written.{Sound}
 use Rattle.semantics.proofs.descent.Memo.{transparent}
-use Rattle.rule.specs.declared.Outcome as code
-use Rattle.rule.specs.Rule.{meant}
 use Rattle.memo_table.proofs.Entries.{getD-any}
 use Rattle.descent_arrays.specs.Arrays.{rowAt}
 use Rattle.recursive_descent.specs.Descent.{MemoSound, CallGiven, CallDone}
@@ -58,21 +54,24 @@ module _ {choice : Choice} {words choices tokens input memo : List ℕ} {A place
   fits : EndsFit input
   fits = omega (arith, g .given .short)
 
-  -- the model tells all that is asked of a call
-  pub call-done : {o : code.Outcome} {memo′ : List ℕ}
-      → ((n : ℕ) → level words input A place < n → deep choice words input n A place memo ≡ memoized (meant o) memo′)
-      → CallDone choice words input memo A place o memo′
-  call-done {o} {memo′} model =
+  abbrev came : Outcome
+  came = descend G choice input A place
+
+  -- the model tells the outcome and what the memo table holds
+  call-done : {o : Outcome} {entry : ℕ} {memo′ : List ℕ}
+      → ((n : ℕ) → level words input A place < n → deep choice words input n A place memo ≡ memoized o memo′)
+      → (o ≡ came → entry ≡ encode came)
+      → CallDone choice words input memo A place entry memo′
+  call-done {o} {entry} {memo′} model told =
       let n = suc (level words input A place) in
       let l : level words input A place < n = omega arith in
       let k = transparent G choice input (r .formed .scoped) (g .given .free) (g .given .own) fits n A place memo (g .named) (g .placed) l (sound-out (g .given .sound)) in
       let e = model n l in
-      let told : meant o ≡ descend G choice input A place = sym (ap (λ x. x .outcome) e) ∙ k .0 in
+      let same : o ≡ came = sym (ap (λ x. x .outcome) e) ∙ k .0 in
       record {
-        model = model;
+        told = told same;
+        model = λ n l. model n l ∙ ap (λ x. memoized x memo′) same;
         sound = sound-in (rw e at (k .1));
-        forward = λ x q. descend-forward G choice input (g .given .own) A place x (g .placed) (end-ends _ x (sym told ∙ q));
-        idle = λ q. descend-null G choice input (g .given .own) (r .formed .scoped) A place place (g .placed) refl (end-ends _ place (sym told ∙ q));
       }
 
 module _ {choice : Choice} {words choices tokens input memo : List ℕ} {A place : ℕ} (g : CallGiven choice words choices tokens input memo A place) where
@@ -87,25 +86,24 @@ module _ {choice : Choice} {words choices tokens input memo : List ℕ} {A place
     entry-is : entry input memo (callAt A place) ≡ getD memo x 0
     entry-is = getD-any memo (indexOf input (callAt A place)) uncalledCode 0 (omega (arith, index-low, index-is)) ∙ ap (λ i. getD memo i 0) (sym index-is)
 
-    -- an entry that is written is recalled
-    pub call-recalled : {o : code.Outcome} → (getD memo x 0 ≡ uncalledCode → ⊥) → meant o ≡ decode (getD memo x 0)
-        → CallDone choice words input memo A place o memo
+    -- an entry that is written is returned
+    pub call-known : (getD memo x 0 ≡ uncalledCode → ⊥) → CallDone choice words input memo A place (getD memo x 0) memo
     unfolding memoCall
-    call-recalled {o} known d = call-done g model
+    call-known known = call-done g model (λ _. sym entry-is ∙ g .given .sound .right (callAt A place) (g .named, g .placed) (λ e. known (sym entry-is ∙ e)))
       where
-        model : (n : ℕ) → level words input A place < n → deep choice words input n A place memo ≡ memoized (meant o) memo
+        model : (n : ℕ) → level words input A place < n → deep choice words input n A place memo ≡ memoized (decode (getD memo x 0)) memo
         model zero l = absurd (omega arith)
-        model (suc n) l = rw (entry-is, ne-eqb (getD memo x 0) uncalledCode known, d)
+        model (suc n) l = rw (entry-is, ne-eqb (getD memo x 0) uncalledCode known)
 
     module _ (fresh : getD memo x 0 ≡ uncalledCode) where
-      -- a rule, or none, has been run, and the outcome is stored
+      -- a rule, or none, has been run, and its outcome's entry is stored
       pub call-stored : (r : Option Rule) → select (grammarOf words) (choice A place) ≡ r
-          → {o : code.Outcome} {memo₁ : List ℕ} {v : ℕ}
-          → ((n : ℕ) → level words input A place ≤ n → memoObey (deep choice words input n) input r place memo ≡ memoized (meant o) memo₁)
-          → v ≡ encode (meant o) → CallDone choice words input memo A place o (set memo₁ x v)
+          → {o : Outcome} {memo₁ : List ℕ} {v : ℕ}
+          → ((n : ℕ) → level words input A place ≤ n → memoObey (deep choice words input n) input r place memo ≡ memoized o memo₁)
+          → v ≡ encode o → CallDone choice words input memo A place v (set memo₁ x v)
       unfolding memoCall stored
-      call-stored r s {o} {memo₁} {v} run c = call-done g model
+      call-stored r s {o} {memo₁} {v} run c = call-done g model (λ e. c ∙ ap encode e)
         where
-          model : (n : ℕ) → level words input A place < n → deep choice words input n A place memo ≡ memoized (meant o) (set memo₁ x v)
+          model : (n : ℕ) → level words input A place < n → deep choice words input n A place memo ≡ memoized o (set memo₁ x v)
           model zero l = absurd (omega arith)
           model (suc n) l = rw (entry-is, fresh, s, run n (omega arith), index-is, c)

@@ -4,7 +4,6 @@ use mathlib.Core.Path.{_≡_}
 use mathlib.Core.List.{List, List·Memᴰ}
 use mathlib.Core.Option.{Option, none, some}
 use Prim.Native.Nat.{ℕ, suc, _+_, _*_, _/_, _%_, _≤_, _<_}
-use lib.Dec.{T}
 use lib.ListN.{length, getD, drop}
 use Rattle.grammar.specs.Codes.{uncalledCode}
 use Rattle.grammar.specs.Limits.{maxWords, maxNonterminals, maxTokens, maxMemoEntries}
@@ -16,13 +15,12 @@ use Rattle.grammar.specs.declared.reading.Sizes.{Sizes}
 use Rattle.grammar.specs.declared.reading.Progress.{Progress}
 use Rattle.grammar.specs.declared.reading.Outcome.the-variants.{Read}
 use Rattle.semantics.specs.Valuations.{pairs}
-use Rattle.semantics.specs.LeftRecursion.{nullable, NoLeftRecursion}
+use Rattle.semantics.specs.LeftRecursion.{NoLeftRecursion}
 use Rattle.semantics.specs.Choices.{Choice, OwnRules}
 use Rattle.semantics.specs.Descent.{End, descend}
 use Rattle.semantics.specs.ComesTo.{Call, callAt, InRange, measure}
-use Rattle.semantics.specs.Memo.{encode, entry}
+use Rattle.semantics.specs.Memo.{encode, entry, blank, Recorded}
 use Rattle.semantics.specs.MemoDescent.{memoized, memoRun, memoCall}
-use Rattle.rule.specs.declared.Outcome as code
 use Rattle.rule.specs.Rule.{meant}
 use Rattle.recursive_descent.specs.declared.descent.Run.{Run}
 use Rattle.descent_arrays.specs.Arrays.{rowColumn, endMark, columnWeight, held, rowAt, endAt, firstAt}
@@ -93,12 +91,12 @@ pub record RunGiven (choice : Choice) (words choices tokens input memo : List �
   pub progress : Progress
   pub reads : scan progress from (drop from words) ≡ reading words
 
-pub record CallDone (choice : Choice) (words input memo : List ℕ) (A place : ℕ) (r : code.Outcome) (memo′ : List ℕ) : Type 0 where
+-- what is returned is the entry of the call's outcome
+pub record CallDone (choice : Choice) (words input memo : List ℕ) (A place r : ℕ) (memo′ : List ℕ) : Type 0 where
+  pub told : r ≡ encode (descend (grammarOf words) choice input A place)
   pub model : (n : ℕ) → measure (grammarOf words) input (callAt A place) < n
-      → memoCall (grammarOf words) choice input n A place memo ≡ memoized (meant r) memo′
+      → memoCall (grammarOf words) choice input n A place memo ≡ memoized (descend (grammarOf words) choice input A place) memo′
   pub sound : MemoSound choice words input memo′
-  pub forward : (e : ℕ) → meant r ≡ End e → (place ≤ e) × (e ≤ length input)
-  pub idle : meant r ≡ End place → T (nullable (grammarOf words) A)
 
 pub record RunDone (choice : Choice) (words input memo : List ℕ) (A from start : ℕ) (r : Run) (memo′ : List ℕ) : Type 0 where
   pub model : (n : ℕ) → measure (grammarOf words) input (callAt A start) ≤ n
@@ -111,7 +109,7 @@ pub record RunDone (choice : Choice) (words input memo : List ℕ) (A from start
 abbrev pub CallRequires : (words choices tokens memo : List ℕ) (A place : ℕ) → Type 0
 CallRequires words choices tokens memo A place = (choice : Choice) × CallGiven choice words choices tokens (held tokens) memo A place
 
-abbrev pub CallEnsures : (words choices tokens memo : List ℕ) (A place : ℕ) (r : code.Outcome) (memo′ : List ℕ) → Type 0
+abbrev pub CallEnsures : (words choices tokens memo : List ℕ) (A place r : ℕ) (memo′ : List ℕ) → Type 0
 CallEnsures words choices tokens memo A place r memo′ =
     (choice : Choice) → CallGiven choice words choices tokens (held tokens) memo A place → CallDone choice words (held tokens) memo A place r memo′
 
@@ -121,3 +119,20 @@ RunRequires words choices tokens memo A from start = (choice : Choice) × RunGiv
 abbrev pub RunEnsures : (words choices tokens memo : List ℕ) (A from start : ℕ) (r : Run) (memo′ : List ℕ) → Type 0
 RunEnsures words choices tokens memo A from start r memo′ =
     (choice : Choice) → RunGiven choice words choices tokens (held tokens) memo A from start → RunDone choice words (held tokens) memo A from start r memo′
+
+-- the start's call at the input's begin, in a memo table of just the entries that there are
+pub record StartGiven (choice : Choice) (words choices tokens input memo : List ℕ) : Type 0 where
+  pub call : CallGiven choice words choices tokens input (blank (grammarOf words) input) 0 0
+  pub size : length memo ≡ pairs (grammarOf words) input
+
+-- the start's entry is returned, and the memo table holds those of the calls made and no others
+pub record StartDone (choice : Choice) (words input : List ℕ) (r : ℕ) (memo′ : List ℕ) : Type 0 where
+  pub told : r ≡ encode (descend (grammarOf words) choice input 0 0)
+  pub recorded : Recorded (grammarOf words) choice input memo′
+
+abbrev pub StartRequires : (words choices tokens memo : List ℕ) → Type 0
+StartRequires words choices tokens memo = (choice : Choice) × StartGiven choice words choices tokens (held tokens) memo
+
+abbrev pub StartEnsures : (words choices tokens memo : List ℕ) (r : ℕ) (memo′ : List ℕ) → Type 0
+StartEnsures words choices tokens memo r memo′ =
+    (choice : Choice) → StartGiven choice words choices tokens (held tokens) memo → StartDone choice words (held tokens) r memo′

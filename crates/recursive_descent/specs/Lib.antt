@@ -1,2 +1,3 @@
 pub mod Descent
+pub mod Judging
 pub mod Search

@@ -1,34 +1,31 @@
 -- What the steps of the search for the costliest input require and ensure.
 use mathlib.Core.Path.{_≡_}
 use mathlib.Core.List.{List}
-use Prim.Native.Nat.{ℕ, suc, _*_}
-use lib.ListN.{length, drop}
+use Prim.Native.Nat.{ℕ, suc, _*_, _^_, _≤_}
+use lib.ListN.{length}
 use Rattle.answer.specs.declared.Answer.{Answer}
+use Rattle.grammar.specs.Limits.{maxTokens}
 use Rattle.grammar.specs.Encoding.{grammarOf}
+use Rattle.grammar.specs.declared.reading.Sizes.{Sizes}
+use Rattle.grammar.specs.declared.reading.Outcome.the-variants.{Read}
 use Rattle.lookahead.specs.declared.Lookahead.the-variants.{One}
-use Rattle.inputs.specs.Inputs.{inputAt}
-use Rattle.inputs.specs.declared.Candidate.{Candidate}
-use Rattle.recognizer_promises.specs.Judging.{JudgedPassed}
-use Rattle.recognizer_promises.specs.Costliest.{callsOn, costliestInput}
+use Rattle.admission.specs.Admission.{admission}
+use Rattle.inputs.specs.Inputs.{maxInputs}
+use Rattle.semantics.specs.LeftRecursion.{NoLeftRecursion}
+use Rattle.recognizer_promises.specs.Judging.{Descended}
+use Rattle.recognizer_promises.specs.CostliestInput.{costliestInput}
+use Rattle.recursive_descent.specs.Judging.{tableRows}
 
--- the input of a number is written and judged
-pub record NumberJudged (words : List ℕ) (number : ℕ) (events memo : List ℕ) (r : Answer) (events′ memo′ : List ℕ) : Type 0 where
-  pub written : events′ ≡ inputAt (grammarOf words .terminals) (length events) number
-  pub judged : JudgedPassed One words events′ memo r memo′
+-- a grammar that passes, with its sizes; the choices and the entries for an input of that length, and not too many such inputs
+pub record TrialGiven (words : List ℕ) (z : Sizes) (choices events memo : List ℕ) : Type 0 where
+  pub taken : admission One words ≡ Read z
+  pub free : NoLeftRecursion (grammarOf words)
+  pub made : choices ≡ tableRows One words z (length events)
+  pub size : length memo ≡ grammarOf words .nonterminals * suc (length events)
+  pub short : length events ≤ maxTokens
+  pub few : z .terminals ^ length events ≤ maxInputs
 
--- memory in which an input of k tokens has been judged: behind its entries it is as before
-pub record Behind (words : List ℕ) (k : ℕ) (memo memo′ : List ℕ) : Type 0 where
-  pub same-length : length memo′ ≡ length memo
-  pub same : drop (grammarOf words .nonterminals * suc k) memo′ ≡ drop (grammarOf words .nonterminals * suc k) memo
-
-pub record Tried (words : List ℕ) (number : ℕ) (events memo : List ℕ) (r : Candidate) (events′ memo′ : List ℕ) : Type 0 where
-  pub itself : r .number ≡ number
-  pub counted : r .calls ≡ callsOn (grammarOf words) (inputAt (grammarOf words .terminals) (length events) number)
-  pub same-length : length events′ ≡ length events
-  pub behind : Behind words (length events) memo memo′
-
--- the number of the costliest input is found
-pub record Found (words events memo : List ℕ) (r : ℕ) (events′ memo′ : List ℕ) : Type 0 where
-  pub best : inputAt (grammarOf words .terminals) (length events) r ≡ costliestInput (grammarOf words) (length events)
-  pub same-length : length events′ ≡ length events
-  pub behind : Behind words (length events) memo memo′
+-- the costliest input of k tokens is written and judged
+pub record CostliestJudged (words : List ℕ) (k : ℕ) (r : Answer) (events′ memo′ : List ℕ) : Type 0 where
+  pub written : events′ ≡ costliestInput (grammarOf words) k
+  pub judged : Descended One words events′ r memo′

@@ -103,7 +103,8 @@ fn run_body(
                 place = place + 1;
             }
             Symbol::Nonterminal(called) => {
-                let outcome = call(called as usize, words, choices, tokens, memo, place);
+                let entry = call(called as usize, words, choices, tokens, memo, place);
+                let outcome = recall(entry);
                 let Outcome::End(end) = outcome else {
                     return Run {
                         outcome: Outcome::Failed,
@@ -121,7 +122,8 @@ fn run_body(
     }
 }
 
-// Calls a nonterminal at a place: recalls its outcome, or runs the bodies of the rule that is chosen and records it.
+// Calls a nonterminal at a place, and returns the entry of its outcome: the one that is there, or one that it records when the bodies of
+// the rule that is chosen have run. An outcome itself would be returned in memory, and each call would write it there.
 pub(crate) fn call(
     nonterminal: usize,
     words: &[u32],
@@ -129,19 +131,19 @@ pub(crate) fn call(
     tokens: &[u16; PLACES],
     memo: &mut [u16],
     place: u16,
-) -> Outcome
+) -> u16
     requires { ⌜ CallRequires (now words) (now choices) (now tokens) (now memo) nonterminal place ⌝ }
     ensures { λ r. ⌜ CallEnsures (now (words .entry)) (now (choices .entry)) (now (tokens .entry)) (now (memo .entry)) nonterminal place r (now (memo .exit)) ⌝ }
 {
     let entry = entry_of(choices, nonterminal, place);
     let known = memo[entry];
     if known != UNCALLED {
-        return recall(known);
+        return known;
     }
     let mut at = chosen(choices, tokens, nonterminal, place);
     if at == 0 {
         memo[entry] = FAILED;
-        return Outcome::Failed;
+        return FAILED;
     }
     let mut sign = sign_at(words, at);
     let mut agreement = first_agreement(choices, nonterminal, sign);
@@ -155,5 +157,5 @@ pub(crate) fn call(
     let outcome = conclude(agreement);
     let recorded = code(outcome);
     memo[entry] = recorded;
-    outcome
+    recorded
 }

@@ -1,48 +1,60 @@
 // Judging an input by a grammar that has passed.
 ghost use mathlib.Core.Path.{_≡_};
 ghost use Rattle.event.specs.Events.{inputOf};
-ghost use Rattle.recognizer_promises.specs.Judging.{refusedWith, PassedGiven, DescendGiven, Descended, JudgedPassed};
+ghost use Rattle.recognizer_promises.specs.Judging.{refusedWith, PassedGiven, Descended, JudgedPassed};
+ghost use Rattle.recursive_descent.specs.Descent.{StartRequires, StartEnsures};
+ghost use Rattle.recursive_descent.specs.Judging.{JudgeGiven};
 use super::descent::call;
 use answer::Answer;
 use answer::Error;
 use columns::count;
+use descent_arrays::arrays::CHOICES;
 use descent_arrays::choices::choices_of;
 use descent_arrays::tokens::tokens_of;
 use families::Finding;
 use families::SETS;
 use grammar::codes::NO_RULE;
 use grammar::limits::ENTRIES;
+use grammar::limits::PLACES;
 use grammar::limits::RULES;
 use grammar::reading::Sizes;
 use lookahead::Lookahead;
 use memo_table::clear;
 use memo_table::tally;
 use recognizer_promises::Judgement;
-use rule::ends_at;
 use table::Found;
 
-// Runs the descent in a memo table of just the entries that it needs.
-fn descend<'a>(
+// Calls the start at the input's begin, in a memo table of just the entries that there are.
+pub(crate) fn descend(
+    words: &[u32],
+    choices: &[u16; CHOICES],
+    tokens: &[u16; PLACES],
+    memo: &mut [u16],
+) -> u16
+    requires { ⌜ StartRequires (now words) (now choices) (now tokens) (now memo) ⌝ }
+    ensures { λ r. ⌜ StartEnsures (now (words .entry)) (now (choices .entry)) (now (tokens .entry)) (now (memo .entry)) r (now (memo .exit)) ⌝ }
+{
+    clear(memo);
+    call(0, words, choices, tokens, memo, 0)
+}
+
+// Judges an input by choices that are made for its length, in such a memo table.
+pub(crate) fn judge_chosen(
     words: &[u32],
     sizes: Sizes,
     lookahead: Lookahead,
-    starts: &'a [usize; RULES],
-    entries: &'a [u8; ENTRIES],
+    choices: &[u16; CHOICES],
     events: &[u8],
     memo: &mut [u16],
 ) -> Answer
-    requires { ⌜ DescendGiven lookahead (now words) sizes (now starts) (now entries) (inputOf (now events)) (now memo) ⌝ }
+    requires { ⌜ JudgeGiven lookahead (now words) sizes (now choices) (inputOf (now events)) (now memo) ⌝ }
     ensures { λ r. ⌜ Descended lookahead (now (words .entry)) (inputOf (now (events .entry))) r (now (memo .exit)) ⌝ }
 {
-    clear(memo);
-    let nonterminals = sizes.nonterminals as usize;
-    let columns = count(lookahead, sizes.terminals);
-    let choices = choices_of(starts, nonterminals, columns, entries, events.len());
     let tokens = tokens_of(events, lookahead, sizes.terminals);
-    let outcome = call(0, words, &choices, &tokens, memo, 0);
+    let end = descend(words, choices, &tokens, memo);
     let length = events.len() as u16;
     let calls = tally(memo, length);
-    if ends_at(outcome, length) {
+    if end == length {
         Answer::Accepted(calls)
     } else {
         Answer::Rejected(calls)
@@ -62,13 +74,15 @@ pub(crate) fn judge_passed<'a>(
     requires { ⌜ PassedGiven lookahead (now words) sizes (now starts) (now entries) (inputOf (now events)) (now memo) ⌝ }
     ensures { λ r. ⌜ JudgedPassed lookahead (now (words .entry)) (inputOf (now (events .entry))) (now (memo .entry)) r (now (memo .exit)) ⌝ }
 {
-    let needed = sizes.nonterminals as usize * (events.len() + 1);
-    descend(
+    let nonterminals = sizes.nonterminals as usize;
+    let columns = count(lookahead, sizes.terminals);
+    let choices = choices_of(starts, nonterminals, columns, entries, events.len());
+    let needed = nonterminals * (events.len() + 1);
+    judge_chosen(
         words,
         sizes,
         lookahead,
-        starts,
-        entries,
+        &choices,
         events,
         &mut memo[..needed],
     )

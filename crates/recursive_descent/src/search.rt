@@ -1,11 +1,20 @@
 // The costliest input of a length: the first in letter order of those on which the descent makes the most calls.
+ghost use mathlib.Core.Path.{_≡_};
+ghost use lib.ListN.{length};
+ghost use Rattle.grammar.specs.Encoding.{grammarOf};
+ghost use Rattle.inputs.specs.Inputs.{inputAt};
+ghost use Rattle.recognizer_promises.specs.CostliestInput.{callsOn};
 ghost use Rattle.recognizer_promises.specs.Search.{SearchGiven, BestJudged, SearchesWords};
-ghost use Rattle.recursive_descent.specs.Search.{NumberJudged, Tried, Found};
-use super::judging::judge_passed;
+ghost use Rattle.recursive_descent.specs.Search.{TrialGiven, CostliestJudged};
+use super::judging::descend;
+use super::judging::judge_chosen;
 use super::judging::refused;
 use answer::Answer;
 use answer::Error;
-use answer::calls_told;
+use columns::count;
+use descent_arrays::arrays::CHOICES;
+use descent_arrays::choices::choices_of;
+use descent_arrays::tokens::tokens_of;
 use families::Finding;
 use grammar::limits::ENTRIES;
 use grammar::limits::MEMO_ENTRIES;
@@ -18,55 +27,39 @@ use inputs::count_inputs;
 use inputs::write_input;
 use length_findings::with_length;
 use lookahead::Lookahead;
+use memo_table::count_calls;
 use recognizer_promises::Judgement;
 use table::find;
 
-// Writes the input of a number, and judges it.
-fn judge_number<'a>(
+// Writes the input of a number, and counts the calls that the descent makes on it.
+fn calls_on(
     words: &[u32],
     sizes: Sizes,
-    starts: &'a [usize; RULES],
-    entries: &'a [u8; ENTRIES],
+    choices: &[u16; CHOICES],
     number: usize,
-    events: &mut [u8],
-    memo: &mut [u16],
-) -> Answer
-    requires { ⌜ SearchGiven (now words) sizes (now starts) (now entries) (now events) (now memo) ⌝ }
-    ensures { λ r. ⌜ NumberJudged (now (words .entry)) number (now (events .entry)) (now (memo .entry)) r (now (events .exit)) (now (memo .exit)) ⌝ }
-{
-    let last = sizes.terminals - 1;
-    write_input(events, last as u8, number);
-    judge_passed(words, sizes, Lookahead::One, starts, entries, events, memo)
-}
-
-fn try_number<'a>(
-    words: &[u32],
-    sizes: Sizes,
-    starts: &'a [usize; RULES],
-    entries: &'a [u8; ENTRIES],
-    number: usize,
-    events: &mut [u8],
-    memo: &mut [u16],
-) -> Candidate
-    requires { ⌜ SearchGiven (now words) sizes (now starts) (now entries) (now events) (now memo) ⌝ }
-    ensures { λ r. ⌜ Tried (now (words .entry)) number (now (events .entry)) (now (memo .entry)) r (now (events .exit)) (now (memo .exit)) ⌝ }
-{
-    let answer = judge_number(words, sizes, starts, entries, number, events, memo);
-    let calls = calls_told(answer);
-    Candidate { number, calls }
-}
-
-// The number of the costliest input, after all inputs of its length have been judged in the same memory.
-fn costliest_number<'a>(
-    words: &[u32],
-    sizes: Sizes,
-    starts: &'a [usize; RULES],
-    entries: &'a [u8; ENTRIES],
     events: &mut [u8],
     memo: &mut [u16],
 ) -> usize
-    requires { ⌜ SearchGiven (now words) sizes (now starts) (now entries) (now events) (now memo) ⌝ }
-    ensures { λ r. ⌜ Found (now (words .entry)) (now (events .entry)) (now (memo .entry)) r (now (events .exit)) (now (memo .exit)) ⌝ }
+    requires { ⌜ TrialGiven (now words) sizes (now choices) (now events) (now memo) ⌝ }
+    ensures { λ r. ⌜ r ≡ callsOn (grammarOf (now (words .entry))) (inputAt (grammarOf (now (words .entry)) .terminals) (length (now (events .entry))) number) ⌝ }
+{
+    let last = sizes.terminals - 1;
+    write_input(events, last as u8, number);
+    let tokens = tokens_of(events, Lookahead::One, sizes.terminals);
+    descend(words, choices, &tokens, memo);
+    count_calls(memo)
+}
+
+// Tries all inputs of a length in the same memory; writes the costliest, and judges it.
+fn judge_costliest(
+    words: &[u32],
+    sizes: Sizes,
+    choices: &[u16; CHOICES],
+    events: &mut [u8],
+    memo: &mut [u16],
+) -> Answer
+    requires { ⌜ TrialGiven (now words) sizes (now choices) (now events) (now memo) ⌝ }
+    ensures { λ r. ⌜ CostliestJudged (now (words .entry)) (length (now (events .entry))) r (now (events .exit)) (now (memo .exit)) ⌝ }
 {
     let inputs = count_inputs(sizes.terminals, events.len());
     let mut best = Candidate {
@@ -75,14 +68,17 @@ fn costliest_number<'a>(
     };
     let mut number = 0;
     while number < inputs {
-        let next = try_number(words, sizes, starts, entries, number, events, memo);
+        let calls = calls_on(words, sizes, choices, number, events, memo);
+        let next = Candidate { number, calls };
         best = costlier(best, next);
         number = number + 1;
     }
-    best.number
+    let last = sizes.terminals - 1;
+    write_input(events, last as u8, best.number);
+    judge_chosen(words, sizes, Lookahead::One, choices, events, memo)
 }
 
-// Writes the costliest input, and judges it.
+// The choices are made once: they are those of every input of the length.
 fn judge_best<'a>(
     words: &[u32],
     sizes: Sizes,
@@ -94,8 +90,11 @@ fn judge_best<'a>(
     requires { ⌜ SearchGiven (now words) sizes (now starts) (now entries) (now events) (now memo) ⌝ }
     ensures { λ r. ⌜ BestJudged (now (words .entry)) (now (events .entry)) (now (memo .entry)) r (now (events .exit)) (now (memo .exit)) ⌝ }
 {
-    let number = costliest_number(words, sizes, starts, entries, events, memo);
-    judge_number(words, sizes, starts, entries, number, events, memo)
+    let nonterminals = sizes.nonterminals as usize;
+    let columns = count(Lookahead::One, sizes.terminals);
+    let choices = choices_of(starts, nonterminals, columns, entries, events.len());
+    let needed = nonterminals * (events.len() + 1);
+    judge_costliest(words, sizes, &choices, events, &mut memo[..needed])
 }
 
 // Finds the costliest input of a length for an encoded grammar, writes it into the lent log, and judges it.

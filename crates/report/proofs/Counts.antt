@@ -19,7 +19,8 @@ use Rattle.families.proofs.Members.{members}
 use Rattle.columns.specs.Columns.{columns}
 use Rattle.table.specs.Layout.{setWord, rowWord, tableWords}
 use Rattle.recognizer_promises.specs.Properties.{PassedGrammar}
-use Rattle.recognizer_promises.proofs.Checking.{passed-encodes, fault-passed, check-fault-long, least-sets}
+use Rattle.recognizer_promises.proofs.Words.{least-sets}
+use Rattle.recognizer_promises.proofs.Checking.{passed-encodes, fault-passed, check-fault-long}
 use Rattle.memo_table.proofs.Entries.{getD-any}
 use Rattle.text.specs.Words.{wordsOf}
 use Rattle.sheet_text.specs.Room.{sheetRoom}
@@ -60,11 +61,11 @@ module _ (words : List ℕ) (p : PassedGrammar One words) where
 
     first-size : Members (First G 1 A) (size (firstNumber One G A))
     unfolding firstNumber
-    first-size = members One (G .terminals) few (λ x. first G 1 (A, x)) (λ x t. least-sets 1 G (passed-encodes words p) .first-lookahead A x t .1)
+    first-size = members One (G .terminals) few (λ x. first G 1 (A, x)) (λ x t. least-sets G (passed-encodes words p) 1 .first-lookahead A x t .1)
 
     follow-size : Members (Follow G 1 A) (size (followNumber One G A))
     unfolding followNumber
-    follow-size = members One (G .terminals) few (λ x. follow G 1 (A, x)) (λ x t. least-sets 1 G (passed-encodes words p) .follow-lookahead A x t .1)
+    follow-size = members One (G .terminals) few (λ x. follow G 1 (A, x)) (λ x t. least-sets G (passed-encodes words p) 1 .follow-lookahead A x t .1)
 
     sets-told : A < G .nonterminals → SetsTold words A
     sets-told h =

@@ -1,17 +1,25 @@
 -- What loading a file tells of its words, and what is printed by whether there are any.
-use mathlib.Core.Path.{_≡_, refl, sym, ap, _∙_}
+use mathlib.Core.Path.{_≡_, refl, sym, ap, ap₂, _∙_}
 use mathlib.Core.Bool.{Bool, true, false}
 use mathlib.Core.List.{List}
 use Prim.Native.Nat.{ℕ, _+_, _*_, _/_, _%_, _≤_}
 use native.Mathlib.Omega.{arith}
 use lib.Dec.{leb, eqb}
-use lib.ListN.{length, take, drop}
+use lib.ListN.{length, take, drop, length-replicate}
 use lib.Seq.{sets, sets-eq, length-sets, take-at, length-take-le}
 use borrow.Author.Tests.{leb-true}
 use Rattle.base.proofs.Booleans.{and-first}
 use Rattle.answer.specs.declared.Error.the-variants.{Length}
 use Rattle.event.specs.Events.{inputOf}
-use Rattle.grammar.specs.Limits.{maxWords}
+use Rattle.grammar.specs.Codes.{noEntry, uncalledCode}
+use Rattle.grammar.specs.Limits.{maxWords, maxTableWords, maxMemoEntries}
+use Rattle.lookahead.specs.declared.Lookahead.the-variants.{One}
+use Rattle.promises.proofs.Leaving.{leaves, leaves-alike}
+use Rattle.promises.proofs.Directions.{directions-ignored}
+use Rattle.base.specs.Choice.{choose}
+use Rattle.recognizer_promises.specs.Answers.{judgeFault}
+use Rattle.recognizer_promises.specs.Properties.{Judges}
+use Rattle.recognizer_promises.proofs.Judged.{judges}
 use Rattle.text.specs.declared.words.Loaded.{Loaded}
 use Rattle.text.specs.declared.words.Loaded.the-variants.{Words, NotWords}
 use Rattle.text.specs.Words.{bytesOfWord, wordsOf, areWords, Loading}
@@ -21,11 +29,11 @@ use Rattle.text.proofs.Fours.{length-words}
 use Rattle.text.proofs.Lengths.{refusal-most}
 use Rattle.text.proofs.Writing.{put-length, put-whole}
 use Rattle.sheet_text.specs.Room.{sheetRoom}
-use Rattle.judgement_text.specs.Room.{judgementRoom}
 use Rattle.gaps_text_promises.specs.Gaps.{GapsPut}
 use Rattle.gaps_text_promises.proofs.Lengths.{gaps-most}
 use Rattle.gaps_text_promises.proofs.Overlaps.{lines-tell}
-use Rattle.report.specs.Report.{Printed, checkedText, sheetOf, judgedText, judgementOf, gapsOf, GapsPrinted}
+use Rattle.report.specs.Report.{Printed, blankTable, checkedText, sheetOf, blankMemo, judgedAnswer, judgedTable, judgedMemo, judgedText, judgementOf}
+use Rattle.report.specs.Report.{JudgementPrinted, gapsOf, GapsPrinted}
 use Rattle.report.proofs.Lengths.{checked-short, judged-short}
 
 -- the words of a file that was loaded
@@ -62,6 +70,26 @@ not-found {bytes} {before} {after} {r} l told = go (areWords bytes) refl
     go true e = let z : _≡_ {A = ℕ} 0 1 = cc (rw e at (l .told)) in absurd (omega arith)
     go false e = e
 
+-- what is printed is judged with blank memories
+blank-table : length blankTable ≡ maxTableWords
+unfolding blankTable
+blank-table = length-replicate {A = ℕ} maxTableWords noEntry
+
+blank-memo : length blankMemo ≡ maxMemoEntries
+unfolding blankMemo
+blank-memo = length-replicate {A = ℕ} maxMemoEntries uncalledCode
+
+judged-blank : (words input : List ℕ) → Judges One words input blankTable blankMemo (judgedAnswer words input) (judgedTable words input) (judgedMemo words input)
+judged-blank words input =
+    judges (leaves-alike (ap₂ (λ a b. judgeFault One a b words input) blank-table blank-memo) (leaves refl (refl, (refl, tt))))
+
+-- what is printed of a log goes by the input that its events are, so directions change nothing
+pub judgement-ignores : (bytes events turned : List ℕ) → inputOf events ≡ inputOf turned → judgementOf bytes events ≡ judgementOf bytes turned
+unfolding judgementOf
+judgement-ignores bytes events turned e =
+    directions-ignored (λ input text. text ≡ choose (areWords bytes) (judgedText (wordsOf bytes) input) (refusalText Length)) (λ w l m p q. p ∙ sym q)
+    events turned e _ _ refl refl
+
 module _ {l m : List ℕ} {k : ℕ} where
   pub printed : {room : ℕ} {text : List ℕ} → length text ≤ room → Put l 0 text m k → Printed room text l m k
   printed {room} {text} short p =
@@ -78,15 +106,20 @@ module _ {l m : List ℕ} {k : ℕ} where
   unfolding sheetOf
   sheet-checked f p = rw (f .are, ← f .words) (printed (checked-short _) p)
 
-  pub judgement-refused : (bytes events : List ℕ) → areWords bytes ≡ false → Put l 0 (refusalText Length) m k
-      → Printed judgementRoom (judgementOf bytes events) l m k
+  pub judgement-refused : (bytes events : List ℕ) → areWords bytes ≡ false → Put l 0 (refusalText Length) m k → JudgementPrinted bytes events l m k
   unfolding judgementOf
-  judgement-refused bytes events e p = rw e (printed (omega (arith, refusal-most Length)) p)
+  judgement-refused bytes events e p = record {
+    printed = rw e (printed (omega (arith, refusal-most Length)) p);
+    judges = judged-blank (wordsOf bytes) (inputOf events);
+  }
 
   pub judgement-judged : {bytes words : List ℕ} {n : ℕ} → FoundWords bytes words n → (events : List ℕ) → Put l 0 (judgedText (take n words) (inputOf events)) m k
-      → Printed judgementRoom (judgementOf bytes events) l m k
+      → JudgementPrinted bytes events l m k
   unfolding judgementOf
-  judgement-judged f events p = rw (f .are, ← f .words) (printed (judged-short _ (inputOf events)) p)
+  judgement-judged {bytes} f events p = record {
+    printed = rw (f .are, ← f .words) (printed (judged-short _ (inputOf events)) p);
+    judges = judged-blank (wordsOf bytes) (inputOf events);
+  }
 
   pub gaps-refused : (bytes : List ℕ) → areWords bytes ≡ false → Put l 0 (refusalText Length) m k → GapsPrinted bytes l m k
   unfolding gapsOf

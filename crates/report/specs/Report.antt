@@ -1,9 +1,12 @@
 -- What the programs print, from the bytes of files.
 use mathlib.Core.Path.{_≡_}
 use mathlib.Core.List.{List}
+use mathlib.Core.Option.{Option}
 use Prim.Native.Nat.{ℕ, suc, _+_, _*_, _≤_, _<_}
 use lib.Dec.{leb}
 use lib.ListN.{length, take, replicate}
+use Rattle.answer.specs.declared.Answer.{Answer}
+use Rattle.answer.specs.declared.Error.{Error}
 use Rattle.answer.specs.declared.Error.the-variants.{Length}
 use Rattle.base.specs.Choice.{choose}
 use Rattle.event.specs.Events.{inputOf}
@@ -23,7 +26,7 @@ use Rattle.answer.specs.Faults.{refusedOr}
 use Rattle.recognizer_promises.specs.Answers.{checkFault, judgeFault, verdictOf}
 use Rattle.promises.specs.Memory.{lentBack}
 use Rattle.recognizer_promises.specs.Memory.{memoWords}
-use Rattle.recognizer_promises.specs.Properties.{PassedGrammar}
+use Rattle.recognizer_promises.specs.Properties.{PassedGrammar, Judges}
 use Rattle.report.specs.declared.Rooms.{Rooms}
 use Rattle.report.specs.declared.Reads.{Reads}
 use Rattle.text.specs.Words.{bytesOfWord, wordsOf, areWords}
@@ -78,16 +81,32 @@ pub record SheetPrinted (bytes before after : List ℕ) (n : ℕ) : Type 0 where
 unfoldable pub blankMemo : List ℕ
 blankMemo = replicate maxMemoEntries uncalledCode
 
--- what is printed of an input that is judged by words, by the answer and the memo table that judging gives
+-- the answer to an input that is judged by words, and both memories afterwards
+abbrev pub judgedFault : List ℕ → List ℕ → Option Error
+judgedFault words input = judgeFault One maxTableWords maxMemoEntries words input
+
+abbrev pub judgedAnswer : List ℕ → List ℕ → Answer
+judgedAnswer words input = refusedOr (judgedFault words input) (verdictOf One (grammarOf words) input)
+
+abbrev pub judgedTable : List ℕ → List ℕ → List ℕ
+judgedTable words input = lentBack (judgedFault words input) (tableWords One (grammarOf words)) blankTable
+
+abbrev pub judgedMemo : List ℕ → List ℕ → List ℕ
+judgedMemo words input = lentBack (judgedFault words input) (memoWords One (grammarOf words) input) blankMemo
+
+-- what is printed of it
 unfoldable pub judgedText : List ℕ → List ℕ → List ℕ
-judgedText words input =
-    let f = judgeFault One maxTableWords maxMemoEntries words input in
-    judgementText (refusedOr f (verdictOf One (grammarOf words) input)) (grammarOf words .nonterminals) (length input)
-    (lentBack f (memoWords One (grammarOf words) input) blankMemo)
+judgedText words input = judgementText (judgedAnswer words input) (grammarOf words .nonterminals) (length input) (judgedMemo words input)
 
 -- (document 01: the second program) the judgement of a log's events by a file's words
 unfoldable pub judgementOf : List ℕ → List ℕ → List ℕ
 judgementOf bytes events = choose (areWords bytes) (judgedText (wordsOf bytes) (inputOf events)) (refusalText Length)
+
+-- the answer and the memo table of which it is printed are those of judging, with all that judging promises of them
+pub record JudgementPrinted (bytes events before after : List ℕ) (n : ℕ) : Type 0 where
+  pub printed : Printed judgementRoom (judgementOf bytes events) before after n
+  pub judges : Judges One (wordsOf bytes) (inputOf events) blankTable blankMemo (judgedAnswer (wordsOf bytes) (inputOf events))
+      (judgedTable (wordsOf bytes) (inputOf events)) (judgedMemo (wordsOf bytes) (inputOf events))
 
 -- (document 02, P3: the third program) the gaps and overlaps of a file's words
 unfoldable pub gapsOf : List ℕ → List ℕ

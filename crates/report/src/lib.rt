@@ -1,11 +1,9 @@
 // What the programs print: from the bytes of files to the bytes of the text.
 ghost use mathlib.Core.Path.{_≡_};
 ghost use Rattle.event.specs.Events.{inputOf};
-ghost use Rattle.judgement_text.specs.Room.{judgementRoom};
 ghost use Rattle.gaps_text_promises.specs.Gaps.{GapsPut};
 ghost use Rattle.text.specs.Writing.{Put};
-ghost use Rattle.report.specs.Report.{Printed, SheetPrinted, GapsPrinted, Enough, enoughRoom, nonterminalsOf, tokenCount, checkedText, judgedText};
-ghost use Rattle.report.specs.Report.{judgementOf};
+ghost use Rattle.report.specs.Report.{SheetPrinted, JudgementPrinted, GapsPrinted, Enough, enoughRoom, nonterminalsOf, tokenCount, checkedText, judgedText};
 use answer::Error;
 use claims::analyze;
 use families::Finding;
@@ -85,7 +83,7 @@ pub fn sheet(bytes: &[u8], out: &mut [u8]) -> usize
 
 // The judgement of a log's events by the grammar that a file's bytes are, or why there is none.
 pub fn judgement(bytes: &[u8], events: &[u8], out: &mut [u8]) -> usize
-    ensures { λ r. ⌜ Printed judgementRoom (judgementOf (now (bytes .entry)) (now (events .entry))) (now (out .entry)) (now (out .exit)) r ⌝ }
+    ensures { λ r. ⌜ JudgementPrinted (now (bytes .entry)) (now (events .entry)) (now (out .entry)) (now (out .exit)) r ⌝ }
 {
     let mut words = [0u32; WORDS];
     let loaded = load(bytes, &mut words);

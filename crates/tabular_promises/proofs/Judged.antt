@@ -260,8 +260,11 @@ module _ {words input spans starts reaches : List ℕ} {f : Finding} (g : FoundG
     unfolding tabularVerdict tabularWords
     judge-done {after} {b} {r} t e =
         let G = grammarOf words in
-        judges (leaves-alike (by-input (both .grammar) (both .faultless)) (leaves (e ∙ ap told (t .verdict)) (t .memory
-        ∙ ap (λ (n : ℕ). spanWords (length input) (solutionWord G input) ++ drop n spans) (sym (words-long (length input) (solutionWord G input))), tt)))
+        judges (leaves-alike (by-input (both .grammar) (both .faultless)) (leaves (e ∙ ap told (t .verdict)) (
+          t .memory
+              ∙ ap (λ (n : ℕ). spanWords (length input) (solutionWord G input) ++ drop n spans) (sym (words-long (length input) (solutionWord G input))),
+          tt,
+        )))
 
 -- what judging leaves is settled by the input, so directions change nothing: the answer and the words of the spans
 module _ (words spans : List ℕ) where

@@ -16,15 +16,16 @@ pub(crate) fn labels_of(
     ensures { λ r. ⌜ Labelled sizes (inputOf (now (events .entry))) (now (table .entry)) (now (memo .entry)) r ⌝ }
 {
     let mut labels = [0u32; MEMO_ENTRIES];
-    let mut at = 0;
-    while at < sizes.nonterminals as usize * PLACES {
-        let place = at % PLACES;
-        if events.len() < place {
-            at = at + (PLACES - place);
+    let mut nonterminal = 0;
+    let mut place = 0;
+    while nonterminal < sizes.nonterminals {
+        let at = nonterminal as usize * PLACES + place;
+        labels[at] = label(sizes, events, table, memo, nonterminal as u8, place as u16);
+        if place < events.len() {
+            place = place + 1;
         } else {
-            let nonterminal = (at / PLACES) as u8;
-            labels[at] = label(sizes, events, table, memo, nonterminal, place as u16);
-            at = at + 1;
+            nonterminal = nonterminal + 1;
+            place = 0;
         }
     }
     labels

@@ -1,7 +1,7 @@
 -- The words of the vertices, one after the other: each index is that of one nonterminal and place.
 use mathlib.Core.Path.{_≡_, sym, ap, _∙_}
 use mathlib.Core.List.{List}
-use Prim.Native.Nat.{ℕ, _+_, _-_, _*_, _/_, _%_, _≤_, _<_}
+use Prim.Native.Nat.{ℕ, _+_, _*_, _%_, _≤_, _<_}
 use native.Mathlib.Decide.{ℕ-discrete}
 use native.Mathlib.Omega.{arith}
 use lib.ListN.{length, getD, set, replicate, length-set, length-replicate}
@@ -32,13 +32,13 @@ module _ (z : Sizes) (events table memo : List ℕ) (A i : ℕ) where
 
 module _ (events : List ℕ) {z : Sizes} {table memo : List ℕ} where
   -- an index is that of one nonterminal and place
-  pub label-made : {at r : ℕ} → LabelsGiven z (inputOf events) → r ≡ labelOf z (inputOf events) table memo (at / maxPlaces) (at % maxPlaces)
-      → Labels z (inputOf events) table memo at r
-  label-made {at} g e = record {
-    word = λ A i q a l.
-        let d : at / maxPlaces ≡ A = omega (arith, g .short) in
-        let m : at % maxPlaces ≡ i = omega (arith, g .short) in
-        e ∙ rw (d, m, le-ltb maxTokens (length (inputOf events)) (g .short));
+  pub label-made : (B k : ℕ) {r : ℕ} → LabelsGiven z (inputOf events) → k ≤ maxTokens → r ≡ labelOf z (inputOf events) table memo B k
+      → Labels z (inputOf events) table memo (B * maxPlaces + k) r
+  label-made B k g l e = record {
+    word = λ A i d a h.
+        let m : B ≡ A = omega (arith, g .short) in
+        let n : k ≡ i = omega (arith, g .short) in
+        e ∙ rw (m, n, le-ltb maxTokens (length (inputOf events)) (g .short));
   }
 
   -- one label after the other
@@ -55,10 +55,14 @@ module _ (events : List ℕ) {z : Sizes} {table memo : List ℕ} where
           ap (λ k. getD (set labels at r) k 0) e ∙ getD-set-same labels at r 0 (omega (arith, b .long)) ∙ h .word A i (sym e) a p
       go A i l a p (no e) = getD-set-other labels at (A * maxPlaces + i) r 0 e ∙ b .word A i (omega (arith, e)) a p
 
-  -- and past the end of a row none
-  pub labels-past : {at : ℕ} {labels : List ℕ} → length events ≤ maxTokens → length events < at % maxPlaces → LabelledBelow z (inputOf events) table memo at labels
-      → LabelledBelow z (inputOf events) table memo (at + (maxPlaces - at % maxPlaces)) labels
-  labels-past {at} short h b = record { long = b .long; word = λ A i l a p. b .word A i (omega (arith, input-length events)) a p }
+  -- the next place, and behind the last one the next row
+  pub labels-place : (B k : ℕ) {labels : List ℕ} → LabelledBelow z (inputOf events) table memo (B * maxPlaces + k + 1) labels
+      → LabelledBelow z (inputOf events) table memo (B * maxPlaces + (k + 1)) labels
+  labels-place B k b = record { long = b .long; word = λ A i l a p. b .word A i (omega arith) a p }
+
+  pub labels-row : (B k : ℕ) {labels : List ℕ} → length events ≤ k → k ≤ maxTokens → LabelledBelow z (inputOf events) table memo (B * maxPlaces + k + 1) labels
+      → LabelledBelow z (inputOf events) table memo ((B + 1) * maxPlaces + 0) labels
+  labels-row B k h m b = record { long = b .long; word = λ A i l a p. b .word A i (omega (arith, input-length events)) a p }
 
   pub labels-all : {at : ℕ} {labels : List ℕ} → LabelsGiven z (inputOf events) → z .nonterminals * maxPlaces ≤ at → LabelledBelow z (inputOf events) table memo at labels
       → Labelled z (inputOf events) table memo labels

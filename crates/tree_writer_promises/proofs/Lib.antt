@@ -3,3 +3,4 @@ pub mod Marking
 pub mod Vertices
 pub mod Root
 pub mod Showing
+pub mod Directions

@@ -181,7 +181,6 @@ module _ (tree : List ℕ) {words input table memo : List ℕ} (long : maxTableW
     judges = λ _. j;
     tells = t;
   }
-
     where
       none-written : (g : Option Error) → fault ≡ g → numbers a .verdict ≡ refused → writtenOr g (length (wordsOf words input)) ≡ 0
       none-written (some e) h q = refl

@@ -31,39 +31,39 @@ returns c =
     let short = rw (counted .word-count .ensures, sized .lent-sizes .ensures) at (c .if1 .taken) in
     lent-short One _ (found .firsts) (found .follows) (found .entries) (start .args .table .now) short
 
-words-requires : tie.Need-words-requires Inv-loop μ-loop
-words-requires c κs = lent-given _ (c .before .before .before .before .before .before .lent-sizes .ensures)
+lay-out-requires : tie.Need-lay-out-requires Inv-loop μ-loop
+lay-out-requires c κs = (lent-given _ (c .before .before .before .before .before .before .before .lent-sizes .ensures), refl)
 
 loop-holds : tie.Need-loop-holds Inv-loop μ-loop
 loop-holds c = (omega arith, refl, refl)
 
 mul-table : tie.Need-mul-table Inv-loop μ-loop
 mul-table c =
-    let room = c .before .before .before .before .before .before .before in
+    let room = c .before .before .before .before .before .before .before .before in
     let counted = room .before in
     omega (arith, counted .word-count .ensures, count-room One _ (lent-given _ (counted .before .lent-sizes .ensures)))
 
 array-read-table : tie.Need-array-read-table Inv-loop μ-loop
 array-read-table c =
-    let room = c .before .before .before .before .before .before .before in
+    let room = c .before .before .before .before .before .before .before .before in
     let counted = room .before in
     omega (arith, counted .word-count .ensures, count-room One _ (lent-given _ (counted .before .lent-sizes .ensures)))
 
 mul-table-2 : tie.Need-mul-table-2 Inv-loop μ-loop
 mul-table-2 c =
-    let room = c .before .before .before .before .before .before .before in
+    let room = c .before .before .before .before .before .before .before .before in
     let counted = room .before in
     omega (arith, counted .word-count .ensures, count-room One _ (lent-given _ (counted .before .lent-sizes .ensures)))
 
 slice-write-table : tie.Need-slice-write-table Inv-loop μ-loop
 slice-write-table c =
     let loop = c .before in
-    let room = loop .before .before .before .before .before .before in
+    let room = loop .before .before .before .before .before .before .before in
     omega (arith, room .if1 .left, loop .loop .inv .1)
 
 add-copied : tie.Need-add-copied Inv-loop μ-loop
 add-copied c =
-    let room = c .before .before .before .before .before .before .before in
+    let room = c .before .before .before .before .before .before .before .before in
     let counted = room .before in
     omega (arith, counted .word-count .ensures, count-room One _ (lent-given _ (counted .before .lent-sizes .ensures)))
 
@@ -74,12 +74,12 @@ loop-again : tie.Need-loop-again Inv-loop μ-loop
 loop-again c =
     let loop = c .before in
     let laid = loop .before in
-    let room = laid .before .before .before .before .before in
+    let room = laid .before .before .before .before .before .before in
     let counted = room .before in
     let start = counted .before .before .before in (
       omega arith,
       simp length-set (loop .loop .inv .1),
-      front-more _ (start .args .table .now) _ _ (loop .loop .inv .2) (made-room _ _ _ _ (laid .words .ensures) (counted .word-count .ensures) (c .loop-test .taken)) (omega (arith, room .if1 .left)),
+      front-more _ (start .args .table .now) _ _ (loop .loop .inv .2) (made-room _ _ _ _ (laid .lay-out .ensures) (counted .word-count .ensures) (c .loop-test .taken)) (omega (arith, room .if1 .left)),
     )
 
 same-length : tie.Need-same-length Inv-loop μ-loop
@@ -89,14 +89,14 @@ returns-2 : tie.Need-returns-2 Inv-loop μ-loop
 returns-2 c =
     let loop = c .before in
     let laid = loop .before in
-    let room = laid .before .before .before .before .before in
+    let room = laid .before .before .before .before .before .before in
     let counted = room .before in
     let sized = counted .before in
     let start = sized .before .before in
     let found = start .args .t1 in
     rw (← sized .lent-sizes .ensures)
     (lent-copied _ (found .firsts) (found .follows) (found .entries) (loop .loop .inv .0) (c .loop-test .left) (start .args .table .now) (room .if1 .left)
-    (counted .word-count .ensures) (laid .words .ensures) (loop .loop .inv .2))
+    (counted .word-count .ensures) (laid .lay-out .ensures) (loop .loop .inv .2))
 
 pub lend-spec : {M : Type 1} → statement M
 lend-spec =
@@ -107,7 +107,7 @@ lend-spec =
     lent-sizes-requires
     word-count-requires
     returns
-    words-requires
+    lay-out-requires
     loop-holds
     mul-table
     array-read-table

@@ -16,7 +16,7 @@ use Rattle.recursive_descent.proofs.Choosing.{token-given, entry-given,
 use Rattle.recursive_descent.proofs.Running.{level, Running, running-as, running-start, running-done, running-over, running-terminal, running-mismatch}
 use Rattle.recursive_descent.proofs.Running.{running-given, running-small, running-falls, running-call, running-failed}
 use Rattle.recursive_descent.proofs.Calling.{InRule, rule-conjunct, rule-run, rule-turn, rule-done}
-use Rattle.recursive_descent.proofs.Storing.{memo-same, index-low, call-recalled, call-stored}
+use Rattle.recursive_descent.proofs.Storing.{memo-same, index-low, call-known, call-stored}
 use Rattle.recursive_descent.proofs.Starting.{no-rule, rule-chosen, start-rule, select-none, none-fails, encode-failed}
 use borrow.Fn.Kinds.{In}
 use borrow.Fn.PlainCycle.{Measures, is, falls, and}
@@ -65,8 +65,6 @@ abbrev call-claims : ℕ → call-lts.Claims
 call-claims t = (
   entry-of-reads.Asked,
   entry-of-reads.Learnt,
-  recall-reads.Asked,
-  recall-reads.Learnt,
   chosen-reads.Asked,
   chosen-reads.Learnt,
   sign-at-reads.Asked,
@@ -95,6 +93,8 @@ run-body-claims t = (
   matches-reads.Learnt,
   call-below t,
   call.Post,
+  recall-reads.Asked,
+  recall-reads.Learnt,
 )
 
 abbrev call-Inv-loop : call-lts.InvT-loop
@@ -115,11 +115,8 @@ call-mul-known t c = omega (arith, index-low (c .before .before .before .pre .1 
 call-slice-read-known : (t : ℕ) → call-lts.Need-slice-read-known (call-claims t) (call-at t) call.Post call-Inv-loop call-μ-loop
 call-slice-read-known t c = index-low (c .before .before .before .before .pre .1 .1) (c .before .entry-of .ensures)
 
-call-recall-requires : (t : ℕ) → call-lts.Need-recall-requires (call-claims t) (call-at t) call.Post call-Inv-loop call-μ-loop
-call-recall-requires t c κs = tt
-
 call-returns : (t : ℕ) → call-lts.Need-returns (call-claims t) (call-at t) call.Post call-Inv-loop call-μ-loop
-call-returns t c = λ choice g. call-recalled g (c .before .before .before .entry-of .ensures) (c .before .if1 .taken) (c .recall .ensures)
+call-returns t c = λ choice g. call-known g (c .before .before .entry-of .ensures) (c .if1 .taken)
 
 call-chosen-requires : (t : ℕ) → call-lts.Need-chosen-requires (call-claims t) (call-at t) call.Post call-Inv-loop call-μ-loop
 call-chosen-requires t c κs = chosen-given (c .before .before .before .before .before .pre .1 .1)
@@ -356,6 +353,9 @@ run-body-call-requires t c κs =
       (_, running-given (start .pre .1 .1) run _ (at-loop-test .loop-test .taken) word),
     )
 
+run-body-recall-requires : (t : ℕ) → run-body-lts.Need-recall-requires (run-body-claims t) (run-body-at t) run-body.Post run-body-Inv-loop run-body-μ-loop
+run-body-recall-requires t c κs = tt
+
 run-body-enum-known-outcome : (t : ℕ)
     → run-body-lts.Need-enum-known-outcome (run-body-claims t) (run-body-at t) run-body.Post run-body-Inv-loop run-body-μ-loop
 run-body-enum-known-outcome t c = c .match3 .keys1
@@ -365,7 +365,7 @@ run-body-enum-told t c = c .match3 .keys2
 
 run-body-same-length-3 : (t : ℕ) → run-body-lts.Need-same-length-3 (run-body-claims t) (run-body-at t) run-body.Post run-body-Inv-loop run-body-μ-loop
 run-body-same-length-3 t c =
-    let at-call = c .before .before .before .before in
+    let at-call = c .before .before .before .before .before in
     let at-symbol2 = at-call .before .before .before in
     let at-word = at-symbol2 .before .before .before in
     let at-decode = at-word .before .before in
@@ -379,7 +379,8 @@ run-body-same-length-3 t c =
 
 run-body-returns-3 : (t : ℕ) → run-body-lts.Need-returns-3 (run-body-claims t) (run-body-at t) run-body.Post run-body-Inv-loop run-body-μ-loop
 run-body-returns-3 t c =
-    let at-call = c .before .before .before .before in
+    let at-recall = c .before .before in
+    let at-call = at-recall .before .before .before in
     let at-symbol2 = at-call .before .before .before in
     let at-word = at-symbol2 .before .before .before in
     let at-decode = at-word .before .before in
@@ -387,8 +388,8 @@ run-body-returns-3 t c =
     let at-loop = at-loop-test .before in
     λ choice g.
     let word = sym (at-decode .decode .ensures) ∙ at-word .word .given .1 ∙ ap Symbol (at-symbol2 .symbol2 .given .1) in
-    running-failed g (at-loop .loop .inv choice g) _ (at-loop-test .loop-test .taken) word (at-call .call .ensures choice (running-given g (at-loop .loop .inv choice g) _ (at-loop-test .loop-test .taken) word))
-    (c .enum-told .given .1)
+    running-failed g (at-loop .loop .inv choice g) _ (at-loop-test .loop-test .taken) word (at-call .call .ensures choice (running-given g (at-loop .loop .inv choice g) _ (at-loop-test .loop-test .taken) word)) _
+    (at-recall .recall .ensures) (c .enum-told .given .1)
 
 run-body-add-at : (t : ℕ) → run-body-lts.Need-add-at (run-body-claims t) (run-body-at t) run-body.Post run-body-Inv-loop run-body-μ-loop
 run-body-add-at t c = omega arith
@@ -406,8 +407,8 @@ run-body-loop-again t c =
     (λ w.
     running-as (w .5) (w .6)
     (running-terminal given run _ low (word ∙ ap Symbol (w .1 .given .1)) (sym (w .3 .ensures) ∙ not-false _ (w .4 .left))))
-    (λ w. running-as (w .10) (w .11) (running-call given run _ low (word ∙ ap Symbol (w .1 .given .1))
-    (w .4 .ensures choice (running-given given run _ low (word ∙ ap Symbol (w .1 .given .1)))) _ (w .8 .given .1)))
+    (λ w. running-as (w .11) (w .12) (running-call given run _ low (word ∙ ap Symbol (w .1 .given .1))
+    (w .4 .ensures choice (running-given given run _ low (word ∙ ap Symbol (w .1 .given .1)))) _ (w .7 .ensures) _ (w .9 .given .1)))
     (c .match2 .came)
 
 run-body-same-length-4 : (t : ℕ) → run-body-lts.Need-same-length-4 (run-body-claims t) (run-body-at t) run-body.Post run-body-Inv-loop run-body-μ-loop
@@ -427,7 +428,6 @@ pub +call+run-body-spec : {M : Type 1} → statement M
     (call-entry-of-requires t)
     (call-mul-known t)
     (call-slice-read-known t)
-    (call-recall-requires t)
     (call-returns t)
     (call-chosen-requires t)
     (call-mul-memo t)
@@ -458,6 +458,8 @@ pub +call+run-body-spec : {M : Type 1} → statement M
       matches-reads.Learnt,
       call-below t,
       call.Post,
+      recall-reads.Asked,
+      recall-reads.Learnt,
     )
     (run-body-at t)
     run-body.Post
@@ -478,6 +480,7 @@ pub +call+run-body-spec : {M : Type 1} → statement M
     (run-body-enum-known-symbol-2 t)
     (run-body-cast-call t)
     (run-body-call-requires t)
+    (run-body-recall-requires t)
     (run-body-enum-known-outcome t)
     (run-body-enum-told t)
     (run-body-same-length-3 t)

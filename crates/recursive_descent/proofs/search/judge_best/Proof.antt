@@ -1,16 +1,42 @@
--- The input of the number that is found is judged in the memory that the search leaves.
-use Rattle.recursive_descent.proofs.Searching.{best-given, best-judged}
+-- The search goes on in just the entries that it needs; later ones stay.
+use mathlib.Core.Path.{sym}
+use Prim.Native.Nat.{_+_, _*_}
+use native.Mathlib.Omega.{arith}
+use lib.ListN.{length}
+use lib.Seq.{length-take-le}
+use Rattle.recursive_descent.proofs.Searching.{entries-few, entries-room, trial-given, best-judged}
 use borrow.Author.Needs.{needs}
 use Rattle.recursive_descent.proofs.search.judge_best.Statement.{statement}
 use Rattle.recursive_descent.proofs.search.judge_best.Tie as tie
 
-costliest-number-requires : tie.Need-costliest-number-requires
-costliest-number-requires c κs = search needs
+cast-nonterminals : tie.Need-cast-nonterminals
+cast-nonterminals c = search needs
 
-judge-number-requires : tie.Need-judge-number-requires
-judge-number-requires c κs =
-    let found = c .before .before .before .before .before .before in
-    best-given (found .before .before .before .before .before .before .pre) (found .costliest-number .ensures)
+count-requires : tie.Need-count-requires
+count-requires c κs = tt
+
+choices-of-requires : tie.Need-choices-of-requires
+choices-of-requires c κs = tt
+
+add-needed : tie.Need-add-needed
+add-needed c = search needs
+
+mul-needed : tie.Need-mul-needed
+mul-needed c = omega (arith, entries-few (c .before .before .before .before .before .before .pre))
+
+slice-relend-prefix-judge-costliest : tie.Need-slice-relend-prefix-judge-costliest
+slice-relend-prefix-judge-costliest c = entries-room (c .before .before .before .before .before .before .before .before .pre)
+
+slice-aggregate-judge-costliest : tie.Need-slice-aggregate-judge-costliest
+slice-aggregate-judge-costliest c =
+    let start = c .before .before .before .before .before .before .before .before .before in
+    sym (length-take-le (start .args .sizes .nonterminals * (length (start .args .events .now) + 1)) (start .args .memo .now) (entries-room (start .pre)))
+
+judge-costliest-requires : tie.Need-judge-costliest-requires
+judge-costliest-requires c κs =
+    let made = c .before .before .before in
+    let counted = made .before in
+    trial-given (counted .before .before .before .before .before .pre) (counted .count .ensures) (made .choices-of .ensures)
 
 same-length : tie.Need-same-length
 same-length c = search needs
@@ -20,11 +46,23 @@ same-length-2 c = search needs
 
 returns : tie.Need-returns
 returns c =
-    let judged = c .before .before .before .before in
-    let found = judged .before .before .before .before .before .before .before in
-    best-judged (found .before .before .before .before .before .before .pre) (found .costliest-number .ensures) (judged .judge-number .ensures)
+    let written = c .before .before .before in
+    let judged = written .before in
+    let start = judged .before .before .before .before .before .before .before .before .before .before in
+    best-judged (start .pre) (judged .judge-costliest .ensures) (written .events .given)
 
 pub judge-best-spec : {M : Type 1} → statement M
 judge-best-spec =
     tie.close
-    (tie.spec costliest-number-requires judge-number-requires same-length same-length-2 returns)
+    (tie.spec
+    cast-nonterminals
+    count-requires
+    choices-of-requires
+    add-needed
+    mul-needed
+    slice-relend-prefix-judge-costliest
+    slice-aggregate-judge-costliest
+    judge-costliest-requires
+    same-length
+    same-length-2
+    returns)

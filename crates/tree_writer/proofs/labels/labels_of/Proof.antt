@@ -1,77 +1,87 @@
--- The loop keeps: the words of the indices passed are made, but those past the end of a row, which no call has.
-use Prim.Native.Nat.{_*_, _-_, _≤_}
+-- The loop keeps: the words of the calls before the nonterminal and the place that it stands at are made.
+use Prim.Native.Nat.{_+_, _*_, _-_, _≤_}
 use native.Mathlib.Omega.{arith}
+use lib.ListN.{length}
 use Rattle.grammar.specs.Limits.{maxPlaces}
 use Rattle.event.specs.Events.{inputOf}
 use Rattle.event.proofs.Inputs.{input-length}
 use Rattle.tree_writer_promises.specs.Labels.{LabelledBelow}
-use Rattle.tree_writer_promises.proofs.Labelling.{label-made, labels-start, labels-more, labels-past, labels-all}
+use Rattle.tree_writer_promises.proofs.Labelling.{label-made, labels-start, labels-more, labels-place, labels-row, labels-all}
 use Rattle.tree_writer.proofs.labels.labels_of.Statement.{statement}
 use Rattle.tree_writer.proofs.labels.labels_of.Tie as tie
 
 abbrev Inv-loop : tie.InvT-loop
-Inv-loop sizes events table memo labels₀ at₀ labels at =
-    (at ≤ sizes .nonterminals * maxPlaces) × LabelledBelow sizes (inputOf events) table memo at labels
+Inv-loop sizes events table memo labels₀ nonterminal₀ place₀ labels nonterminal place =
+    (nonterminal ≤ sizes .nonterminals) × (place ≤ length events) × LabelledBelow sizes (inputOf events) table memo (nonterminal * maxPlaces + place) labels
 
 abbrev μ-loop : tie.MeasureT-loop
-μ-loop sizes events table memo labels₀ at₀ labels at = sizes .nonterminals * maxPlaces - at
+μ-loop sizes events table memo labels₀ nonterminal₀ place₀ labels nonterminal place = sizes .nonterminals * maxPlaces - (nonterminal * maxPlaces + place)
 
 loop-holds : tie.Need-loop-holds Inv-loop μ-loop
-loop-holds c = (omega arith, labels-start (c .before .before .before .args .events .now))
+loop-holds c = (omega arith, omega arith, labels-start (c .before .before .before .args .events .now))
 
-cast-if1 : tie.Need-cast-if1 Inv-loop μ-loop
-cast-if1 c = omega (arith, c .before .before .before .before .before .pre .fewNonterminals)
+cast-at : tie.Need-cast-at Inv-loop μ-loop
+cast-at c = omega (arith, c .if1 .taken, c .before .before .before .before .before .before .pre .fewNonterminals, c .before .before .before .before .before .before .pre .short, input-length (c .before .before .before .before .before .before .args .events .now))
 
-mul-if1 : tie.Need-mul-if1 Inv-loop μ-loop
-mul-if1 c = omega (arith, c .before .before .before .before .before .pre .fewNonterminals)
-
-sub-at : tie.Need-sub-at Inv-loop μ-loop
-sub-at c = omega arith
+mul-at : tie.Need-mul-at Inv-loop μ-loop
+mul-at c = omega (arith, c .if1 .taken, c .before .before .before .before .before .before .pre .fewNonterminals, c .before .before .before .before .before .before .pre .short, input-length (c .before .before .before .before .before .before .args .events .now))
 
 add-at : tie.Need-add-at Inv-loop μ-loop
-add-at c = omega (arith, c .before .before .before .before .before .before .before .pre .fewNonterminals, c .before .if1 .taken)
-
-loop-less : tie.Need-loop-less Inv-loop μ-loop
-loop-less c = omega (arith, c .before .if1 .taken)
-
-loop-again : tie.Need-loop-again Inv-loop μ-loop
-loop-again c =
-    let at = c .before in
-    let start = at .before .before .before .before .before .before in
-    (omega (arith, at .if1 .taken), labels-past (start .args .events .now) (omega (arith, start .pre .short, input-length (start .args .events .now))) (c .if2 .taken) (at .before .before .loop .inv .1))
-
-cast-nonterminal : tie.Need-cast-nonterminal Inv-loop μ-loop
-cast-nonterminal c = omega (arith, c .before .before .before .before .before .before .before .pre .fewNonterminals, c .before .if1 .taken)
+add-at c = omega (arith, c .if1 .taken, c .before .before .loop .inv .1, c .before .before .before .before .before .before .pre .fewNonterminals, c .before .before .before .before .before .before .pre .short, input-length (c .before .before .before .before .before .before .args .events .now))
 
 cast-label : tie.Need-cast-label Inv-loop μ-loop
-cast-label c = omega arith
+cast-label c = omega (arith, c .if1 .taken, c .before .before .before .before .before .before .pre .fewNonterminals, c .before .before .before .before .before .before .pre .short, input-length (c .before .before .before .before .before .before .args .events .now))
+
+cast-label-2 : tie.Need-cast-label-2 Inv-loop μ-loop
+cast-label-2 c = omega (arith, c .before .before .loop .inv .1, c .before .before .before .before .before .before .pre .fewNonterminals, c .before .before .before .before .before .before .pre .short, input-length (c .before .before .before .before .before .before .args .events .now))
 
 label-requires : tie.Need-label-requires Inv-loop μ-loop
 label-requires c κs = tt
 
 mul-labels : tie.Need-mul-labels Inv-loop μ-loop
-mul-labels c = omega (arith, c .before .before .before .before .before .before .before .before .pre .fewNonterminals, c .before .before .if1 .taken)
+mul-labels c = omega (arith, c .before .if1 .taken, c .before .before .before .loop .inv .1, c .before .before .before .before .before .before .before .pre .fewNonterminals, c .before .before .before .before .before .before .before .pre .short, input-length (c .before .before .before .before .before .before .before .args .events .now))
 
 array-write-labels : tie.Need-array-write-labels Inv-loop μ-loop
-array-write-labels c = omega (arith, c .before .before .before .before .before .before .before .before .pre .fewNonterminals, c .before .before .if1 .taken)
+array-write-labels c = omega (arith, c .before .if1 .taken, c .before .before .before .loop .inv .1, c .before .before .before .loop .inv .2 .long, c .before .before .before .before .before .before .before .pre .fewNonterminals, c .before .before .before .before .before .before .before .pre .short, input-length (c .before .before .before .before .before .before .before .args .events .now))
 
-add-at-2 : tie.Need-add-at-2 Inv-loop μ-loop
-add-at-2 c = omega (arith, c .before .before .before .before .before .before .before .before .pre .fewNonterminals, c .before .before .if1 .taken)
+add-place : tie.Need-add-place Inv-loop μ-loop
+add-place c = omega (arith, c .if2 .taken)
+
+loop-less : tie.Need-loop-less Inv-loop μ-loop
+loop-less c = omega (arith, c .before .before .if1 .taken, c .if2 .taken, c .before .before .before .before .before .before .before .before .pre .fewNonterminals, c .before .before .before .before .before .before .before .before .pre .short, input-length (c .before .before .before .before .before .before .before .before .args .events .now))
+
+loop-again : tie.Need-loop-again Inv-loop μ-loop
+loop-again c =
+    let loop = c .before .before .before .before in
+    let start = loop .before .before .before .before in
+    let events = start .args .events .now in (
+      loop .loop .inv .0,
+      omega (arith, c .if2 .taken),
+      labels-place events (loop .loop .nonterminal) (loop .loop .place)
+          (labels-more events (omega (arith, c .before .before .if1 .taken, loop .loop .inv .1, c .before .before .before .before .before .before .before .before .pre .fewNonterminals, c .before .before .before .before .before .before .before .before .pre .short, input-length (c .before .before .before .before .before .before .before .before .args .events .now))) (loop .loop .inv .2)
+          (label-made events (loop .loop .nonterminal) (loop .loop .place) (start .pre) (omega (arith, loop .loop .inv .1, c .before .before .before .before .before .before .before .before .pre .fewNonterminals, c .before .before .before .before .before .before .before .before .pre .short, input-length (c .before .before .before .before .before .before .before .before .args .events .now))) (c .before .label .ensures))),
+    )
+
+add-nonterminal : tie.Need-add-nonterminal Inv-loop μ-loop
+add-nonterminal c = omega (arith, c .before .before .if1 .taken, c .before .before .before .before .before .before .before .before .pre .fewNonterminals, c .before .before .before .before .before .before .before .before .pre .short, input-length (c .before .before .before .before .before .before .before .before .args .events .now))
 
 loop-less-2 : tie.Need-loop-less-2 Inv-loop μ-loop
-loop-less-2 c = omega (arith, c .before .before .if1 .taken)
+loop-less-2 c = omega (arith, c .before .before .if1 .taken, c .before .before .before .before .loop .inv .1, c .before .before .before .before .before .before .before .before .pre .fewNonterminals, c .before .before .before .before .before .before .before .before .pre .short, input-length (c .before .before .before .before .before .before .before .before .args .events .now))
 
 loop-again-2 : tie.Need-loop-again-2 Inv-loop μ-loop
 loop-again-2 c =
-    let at = c .before .before in
-    let start = at .before .before .before .before .before .before in (
-      omega (arith, at .if1 .taken),
-      labels-more (start .args .events .now) (omega (arith, start .pre .fewNonterminals, at .if1 .taken)) (at .before .before .loop .inv .1)
-          (label-made (start .args .events .now) (start .pre) (c .label .ensures)),
+    let loop = c .before .before .before .before in
+    let start = loop .before .before .before .before in
+    let events = start .args .events .now in (
+      omega (arith, c .before .before .if1 .taken),
+      omega arith,
+      labels-row events (loop .loop .nonterminal) (loop .loop .place) (c .if2 .left) (omega (arith, loop .loop .inv .1, c .before .before .before .before .before .before .before .before .pre .fewNonterminals, c .before .before .before .before .before .before .before .before .pre .short, input-length (c .before .before .before .before .before .before .before .before .args .events .now)))
+          (labels-more events (omega (arith, c .before .before .if1 .taken, loop .loop .inv .1, c .before .before .before .before .before .before .before .before .pre .fewNonterminals, c .before .before .before .before .before .before .before .before .pre .short, input-length (c .before .before .before .before .before .before .before .before .args .events .now))) (loop .loop .inv .2)
+          (label-made events (loop .loop .nonterminal) (loop .loop .place) (start .pre) (omega (arith, loop .loop .inv .1, c .before .before .before .before .before .before .before .before .pre .fewNonterminals, c .before .before .before .before .before .before .before .before .pre .short, input-length (c .before .before .before .before .before .before .before .before .args .events .now))) (c .before .label .ensures))),
     )
 
 returns : tie.Need-returns Inv-loop μ-loop
-returns c = labels-all (c .before .before .before .before .before .before .args .events .now) (c .before .before .before .before .before .before .pre) (c .if1 .left) (c .before .before .loop .inv .1)
+returns c = labels-all (c .before .before .before .before .before .before .args .events .now) (c .before .before .before .before .before .before .pre) (omega (arith, c .if1 .left)) (c .before .before .loop .inv .2)
 
 pub labels-of-spec : {M : Type 1} → statement M
 labels-of-spec =
@@ -80,18 +90,18 @@ labels-of-spec =
     Inv-loop
     μ-loop
     loop-holds
-    cast-if1
-    mul-if1
-    sub-at
+    cast-at
+    mul-at
     add-at
-    loop-less
-    loop-again
-    cast-nonterminal
     cast-label
+    cast-label-2
     label-requires
     mul-labels
     array-write-labels
-    add-at-2
+    add-place
+    loop-less
+    loop-again
+    add-nonterminal
     loop-less-2
     loop-again-2
     returns)
