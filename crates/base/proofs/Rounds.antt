@@ -49,7 +49,7 @@ module _ {X : Type 0} (same : X → X → Bool) (eq : Equality same) (U : List X
   -- induction on the rounds
   pub least-kept : (P : X → Type 0) → Kept P → (x : X) → T (least same U Φ x) → P x
   unfolding least members member anyOf
-  least-kept P h = settle-kept P h (length U) [] (λ x t. absurd t)
+  least-kept P h = settle-kept P h _ [] (λ x t. absurd t)
 
   module _ (mono : (s s′ : X → Bool) → s ⊆ᵇ s′ → Φ s ⊆ᵇ Φ s′) where
     -- contained in every set that is closed under the operator

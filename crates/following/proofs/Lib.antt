@@ -1,5 +1,5 @@
-pub mod ExamplesFollowing
+pub mod WorkedFollowing
 pub mod Agreeing
 pub mod Following
 pub mod Theorems
-pub mod ExamplesEntries
+pub mod WorkedEntries

@@ -5,4 +5,4 @@ pub mod Stepping
 pub mod Judging
 pub mod Sentences
 pub mod Histories
-pub mod Examples
+pub mod Worked

@@ -61,13 +61,13 @@ module _ (k : ℕ) (s : Sets) where
       let r = concat-elim k (firstOfSymbol k s X) (firstBody k s b) x m in
       (r .0, r .1, firstOf-elim X (r .0) (r .2), firstBody-elim b (r .1) (r .3), r .4)
 
-  pub firstRule-make : (r : Rule) (x : List ℕ) → FirstRule k (In s) r x → T (firstRule k s r x)
-  unfolding firstRule
-  firstRule-make r x f = all-make _ (r .positives) (λ b m. mem-member sameString strings-equality (firstBody k s b) x (firstBody-make b x (f b m)))
-
   pub firstRule-elim : (r : Rule) (x : List ℕ) → T (firstRule k s r x) → FirstRule k (In s) r x
   unfolding firstRule
   firstRule-elim r x t b m = firstBody-elim b x (member-mem sameString strings-equality (firstBody k s b) x (all-elim _ (r .positives) t b m))
+
+  pub firstRule-make : (r : Rule) (x : List ℕ) → FirstRule k (In s) r x → T (firstRule k s r x)
+  unfolding firstRule
+  firstRule-make r x f = all-make _ (r .positives) (λ b m. mem-member sameString strings-equality (firstBody k s b) x (firstBody-make b x (f b m)))
 
 module _ (G : Grammar) (k : ℕ) where
   firstStep-make : (p : Entry → Bool) (r : Rule) (x : List ℕ) → List·Memᴰ r (G .rules) → FirstRule k (In (setsOf G k p)) r x

@@ -77,12 +77,12 @@ pub sets-mono : (G : Grammar) (k : ℕ) (p q : Entry → Bool) → p ⊆ᵇ q �
 sets-mono G k p q h A x m = let s = sets-elim G k p A x m in sets-make G k q A x (s .0) (h (A, x) (s .1))
 
 -- one string of each set, one after the other, and the first k of that
-pub concat-make : (k : ℕ) (us ys : List (List ℕ)) (u y : List ℕ) → List·Memᴰ u us → List·Memᴰ y ys
-    → List·Memᴰ (take k (u ++ y)) (concatStrings k us ys)
-unfolding concatStrings
-concat-make k us ys u y m n = distinct-make sameString strings-equality _ _ (combine-make (λ u y. take k (u ++ y)) us ys u y m n)
-
 pub concat-elim : (k : ℕ) (us ys : List (List ℕ)) (x : List ℕ) → List·Memᴰ x (concatStrings k us ys)
     → (u : List ℕ) × (y : List ℕ) × List·Memᴰ u us × List·Memᴰ y ys × (x ≡ take k (u ++ y))
 unfolding concatStrings
 concat-elim k us ys x m = combine-elim (λ u y. take k (u ++ y)) us ys x (distinct-elim sameString strings-equality _ x m)
+
+pub concat-make : (k : ℕ) (us ys : List (List ℕ)) (u y : List ℕ) → List·Memᴰ u us → List·Memᴰ y ys
+    → List·Memᴰ (take k (u ++ y)) (concatStrings k us ys)
+unfolding concatStrings
+concat-make k us ys u y m n = distinct-make sameString strings-equality _ _ (combine-make (λ u y. take k (u ++ y)) us ys u y m n)

@@ -25,8 +25,8 @@ module _ (G : Grammar) where
   nullStep-mono : (s s′ : NumberSet) → s ⊆ᵇ s′ → nullStep G s ⊆ᵇ nullStep G s′
   unfolding nullStep
   nullStep-mono s s′ h A t = any-map _ _ (G .rules) (λ r m u.
-      and-make (eqb (r .head) A) (allOf (allNullable s′) (r .positives)) (and-l (eqb (r .head) A) _ u)
-      (all-map (allNullable s) (allNullable s′) (r .positives) (λ b _. allNullable-mono s s′ h b) (and-r (eqb (r .head) A) _ u))) t
+      and-make (eqb (r .head) A) _ (and-l (eqb (r .head) A) _ u)
+      (all-map (allNullable s) (allNullable s′) _ (λ b _. allNullable-mono s s′ h b) (and-r (eqb (r .head) A) _ u))) t
 
   -- the least set: any set that is closed holds it
   pub nullable-least : (s : NumberSet) → nullStep G s ⊆ᵇ s → nullable G ⊆ᵇ s

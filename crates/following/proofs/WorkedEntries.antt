@@ -25,7 +25,7 @@ use Rattle.semantics.proofs.examples.Computing.{left-recursion-computes, tables
 use Rattle.following.specs.Following.{MayFollow, behind, Agrees, Begins, start as nothing}
 use Rattle.following.specs.Theorems.{EntriesTell}
 use Rattle.following.proofs.Theorems.{theorems}
-use Rattle.following.proofs.ExamplesFollowing.{solved, b-follows-A}
+use Rattle.following.proofs.WorkedFollowing.{solved, b-follows-A}
 
 -- the memo table of a descent, with more behind it
 abbrev left : Grammar → ℕ → List ℕ → Memo
