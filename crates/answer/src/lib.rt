@@ -128,15 +128,3 @@ pub fn position(error: Error) -> usize
         Error::TooManyInputs => 0,
     }
 }
-
-// How many calls an answer tells.
-pub fn calls_told(answer: Answer) -> usize
-    ensures { λ r. ⌜ r ≡ numbers answer .count ⌝ }
-{
-    match answer {
-        Answer::Refused(_) => 0,
-        Answer::Passed => 0,
-        Answer::Rejected(calls) => calls.count,
-        Answer::Accepted(calls) => calls.count,
-    }
-}
