@@ -5,7 +5,6 @@ use Prim.Native.Nat.{ℕ, _<_}
 use lib.Dec.{T, eqb, eqb→eq}
 use Rattle.word.specs.declared.Symbol.the-variants.{Terminal, Nonterminal}
 use Rattle.grammar.specs.Syntax.{Body, Grammar, WellScoped}
-use Rattle.base.specs.Quantifiers.{allOf}
 use Rattle.base.specs.FiniteSets.{numbers}
 use Rattle.base.specs.Rounds.{NumberSet, _⊆ᵇ_}
 use Rattle.semantics.specs.LeftRecursion.{allNullable, nullStep, nullable}
