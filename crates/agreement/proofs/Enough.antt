@@ -6,7 +6,8 @@ use Prim.Native.Nat.{ℕ, _≤_}
 use native.Mathlib.Omega.{arith}
 use lib.ListN.{take}
 use Rattle.grammar.specs.Syntax.{Grammar}
-use Rattle.semantics.specs.Families.{Clash, EveryEnds}
+use Rattle.semantics.specs.Families.{Clash}
+use Rattle.semantics.specs.contracts.Families.{EveryEnds}
 use Rattle.semantics.specs.FirstFollow.{First, Follow, Entry}
 use Rattle.semantics.specs.Claims.{clashes}
 use Rattle.semantics.specs.Predictive.{Predictive}

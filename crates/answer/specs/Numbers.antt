@@ -1,8 +1,10 @@
 -- The numbers that documents 01 and 02 give to each answer: one row for each case.
 use Prim.Native.Nat.{ℕ, _+_, _*_}
 use Rattle.answer.specs.declared.Error.{Error}
-use Rattle.answer.specs.declared.Error.the-variants.{TableTooShort, MemoTooShort, Length, Heading, UnexpectedWord, OutOfRange, TooManyRules, LeftRecursive, Unproductive, Conflict, WideConflict, InputTooLong, UnknownToken}
-use Rattle.answer.specs.declared.Error.the-variants.{SpansTooShort, TreeTooShort, WideTableTooShort, BufferTooShort, UnknownClient, QuotaReached, TooManyTerminals, UnknownCheckpoint, CheckpointNotSet, InputFull, TooManyInputs}
+use Rattle.answer.specs.declared.Error.the-variants.{TableTooShort, MemoTooShort, Length, Heading, UnexpectedWord, OutOfRange, TooManyRules}
+use Rattle.answer.specs.declared.Error.the-variants.{LeftRecursive, Unproductive, Conflict, WideConflict, InputTooLong, UnknownToken}
+use Rattle.answer.specs.declared.Error.the-variants.{SpansTooShort, TreeTooShort, WideTableTooShort, BufferTooShort, UnknownClient, QuotaReached}
+use Rattle.answer.specs.declared.Error.the-variants.{TooManyTerminals, UnknownCheckpoint, CheckpointNotSet, InputFull, TooManyInputs}
 use Rattle.answer.specs.declared.Answer.{Answer}
 use Rattle.answer.specs.declared.Answer.the-variants.{Refused, Passed, Rejected, Accepted}
 

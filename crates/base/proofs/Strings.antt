@@ -8,7 +8,8 @@ use lib.Dec.{T}
 use lib.ListN.{length, getD, take, drop, length-take, length-drop, take-append-drop}
 use lib.Seq.{take-take, take-nil, take-add, drop-drop, drop-cons, drop-length}
 use Rattle.base.specs.Quantifiers.{allOf}
-use Rattle.base.specs.Strings.{span, look}
+use Rattle.base.specs.contracts.Strings.{span}
+use Rattle.base.specs.Strings.{look}
 use Rattle.base.proofs.Booleans.{and-l, and-r, and-make}
 
 -- to cut the parts to at least n does not change the first n of the whole

@@ -1,15 +1,11 @@
--- The tokens of a span, the lookahead string at a place, and the strings that a lookahead string can be.
+-- The lookahead string at a place, and the strings that a lookahead string can be.
 use mathlib.Core.List.{List, [], _∷_, _++_}
 use mathlib.Core.Bool.{Bool, true, false, _&&_}
-use Prim.Native.Nat.{ℕ, zero, suc, _-_, _≤_}
+use Prim.Native.Nat.{ℕ, zero, suc, _≤_}
 use lib.ListN.{length, take, drop}
 use lib.Dec.{T, eqb, ltb}
 use Rattle.base.specs.Quantifiers.{allOf}
 use Rattle.base.specs.FiniteSets.{numbers, combine}
-
--- from i to j (document 01: the events of a stretch)
-unfoldable pub span : List ℕ → ℕ → ℕ → List ℕ
-span w i j = take (j - i) (drop i w)
 
 -- the first k tokens from i on, fewer at the end
 unfoldable pub look : ℕ → List ℕ → ℕ → List ℕ

@@ -2,7 +2,7 @@
 ghost use mathlib.Core.Path.{_≡_};
 ghost use mathlib.Core.Bool.{false};
 ghost use Rattle.base.specs.Choice.{choose};
-ghost use Rattle.tabular_promises.specs.Scanning.{noneOpen, beforeTerminal, beforeSymbol, scanOnto, keepsBy};
+ghost use Rattle.tabular_promises.specs.contracts.Scanning.{noneOpen, beforeTerminal, beforeSymbol, scanOnto, keepsBy};
 use super::CHART;
 use super::before;
 use super::places::contains;

@@ -3,7 +3,7 @@
 ghost use mathlib.Core.Path.{_≡_};
 ghost use lib.Bits.{bitOr};
 ghost use Rattle.base.specs.Choice.{choose};
-ghost use Rattle.tabular_promises.specs.Chart.{placesBefore, oneNonterminal, withNonterminal, spanWord};
+ghost use Rattle.tabular_promises.specs.contracts.Chart.{placesBefore, oneNonterminal, withNonterminal, spanWord};
 use grammar::limits::NONTERMINALS;
 use grammar::limits::TABULAR_PLACES;
 use places::contains;

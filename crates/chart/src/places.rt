@@ -1,6 +1,6 @@
 // Sets of places of the input: place p weighs 2^p, and a place that no input has is in no set.
 ghost use mathlib.Core.Path.{_≡_};
-ghost use Rattle.tabular_promises.specs.Places.{onePlace, hasPlace, withPlace};
+ghost use Rattle.tabular_promises.specs.contracts.Places.{onePlace, hasPlace, withPlace};
 use grammar::limits::TABULAR_PLACES;
 
 pub(crate) fn one_place(place: usize) -> u64

@@ -1,6 +1,6 @@
 // The words of the spans in lent memory: by start, then by end.
 ghost use mathlib.Core.Path.{_≡_};
-ghost use Rattle.tabular_promises.specs.Spans.{writtenSpans};
+ghost use Rattle.tabular_promises.specs.contracts.Spans.{writtenSpans};
 use super::CHART;
 use super::word_at;
 use grammar::limits::SPAN_WORDS;

@@ -9,11 +9,11 @@ use Rattle.families.specs.declared.Finding.{Finding}
 use Rattle.families.specs.declared.Finding.the-variants.{Passed, Refused}
 use Rattle.table.specs.declared.Found.{Found}
 use Rattle.table.specs.Layout.{tableRoom}
-use Rattle.table.specs.Analysis.{foundOf}
+use Rattle.table.specs.contracts.Analysis.{foundOf}
 use Rattle.table.proofs.Analyzing.{entries-told}
-use Rattle.lending.specs.Lending.{lentOf}
+use Rattle.lending.specs.contracts.Lending.{lentOf}
 use Rattle.lending.proofs.WordsLaid.{lent-table, lent-nothing}
-use Rattle.recognizer_promises.specs.Judging.{answerOf}
+use Rattle.recognizer_promises.specs.contracts.Judging.{answerOf}
 use Rattle.recognizer_promises.specs.Properties.{Checks}
 use Rattle.recognizer_promises.proofs.Checking.{told, found-fault, check-passed, check-refused}
 

@@ -2,7 +2,7 @@
 ghost use mathlib.Core.Path.{_≡_};
 ghost use Rattle.lookahead.specs.declared.Lookahead.the-variants.{One, Two};
 ghost use Rattle.recognizer_promises.specs.Properties.{Checks};
-ghost use Rattle.recognizer_promises.specs.Judging.{answerOf};
+ghost use Rattle.recognizer_promises.specs.contracts.Judging.{answerOf};
 use answer::Answer;
 use answer::Error;
 use families::Finding;

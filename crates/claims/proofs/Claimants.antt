@@ -16,9 +16,9 @@ use Rattle.base.specs.Quantifiers.{anyOf}
 use Rattle.base.specs.FiniteSets.{member, numbersFrom, numbers}
 use Rattle.base.specs.Strings.{sameString}
 use Rattle.semantics.specs.Claims.{several, position, claimed, claims, tableOf}
-use Rattle.families.specs.RuleLists.{byRule}
+use Rattle.families.specs.contracts.RuleLists.{byRule}
 use Rattle.families.proofs.ByRules.{by-rule-at}
-use Rattle.claims.specs.Claims.{claimNumber, headsOf, claimNumbers, claimant}
+use Rattle.claims.specs.contracts.Claims.{claimNumber, headsOf, claimNumbers, claimant}
 use Rattle.claims.proofs.RuleClaims.{claim-has}
 
 -- a rule claims what its claim has, for its head alone

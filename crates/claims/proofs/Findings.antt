@@ -7,23 +7,24 @@ use lib.ListN.{replicate}
 use Rattle.answer.specs.declared.Error.{Error}
 use Rattle.grammar.specs.Encoding.{grammarOf}
 use Rattle.grammar.specs.Limits.{maxNonterminals, maxRules}
-use Rattle.grammar.specs.Starts.{ruleStarts}
+use Rattle.grammar.specs.contracts.Starts.{ruleStarts}
 use Rattle.grammar.specs.declared.reading.Sizes.{Sizes}
 use Rattle.grammar.specs.declared.reading.Outcome.the-variants.{Read}
 use Rattle.lookahead.specs.declared.Lookahead.{Lookahead}
 use Rattle.admission.specs.Admission.{admission}
 use Rattle.families.specs.declared.Finding.the-variants.{Passed, Refused}
 use Rattle.families.specs.declared.Families.{Families}
-use Rattle.families.specs.Analysis.{setsFault, startsIf, byRuleIf, setsIf, familiesOf}
+use Rattle.families.specs.Analysis.{setsFault}
+use Rattle.families.specs.contracts.Analysis.{startsIf, byRuleIf, setsIf, familiesOf}
 use Rattle.base.specs.Lists.{listed}
-use Rattle.families.specs.RuleLists.{byRule}
+use Rattle.families.specs.contracts.RuleLists.{byRule}
 use Rattle.families.specs.Sets.{firstNumber, followNumber}
 use Rattle.base.proofs.Lists.{listed-is}
 use Rattle.families.proofs.FewTerminals.{admitted-read}
 use Rattle.families.proofs.Findings.{FoundFamilies, told-passed, families-refused}
 use Rattle.claims.specs.declared.Claims.{Claims}
-use Rattle.claims.specs.Claims.{headsOf, claimNumbers, overrunsOf, overrunsIf, claimsWith, claimsOf, FamiliesGiven, AllKept}
-use Rattle.claims.specs.Overruns.{HeadsGiven, Overrunning}
+use Rattle.claims.specs.contracts.Claims.{headsOf, claimNumbers, overrunsOf, overrunsIf, claimsWith, claimsOf, FamiliesGiven, AllKept}
+use Rattle.claims.specs.contracts.Overruns.{HeadsGiven, Overrunning}
 use Rattle.claims.proofs.OverrunSets.{overruns-told}
 
 -- the families that are found: a grammar to go on with, or a refusal

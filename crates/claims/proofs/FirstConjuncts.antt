@@ -16,7 +16,7 @@ use Rattle.grammar.specs.declared.reading.Sizes.{Sizes}
 use Rattle.grammar.specs.declared.reading.Outcome.the-variants.{Read}
 use Rattle.grammar.specs.Encoding.{Parsed, onWord, parse}
 use Rattle.grammar.specs.Reading.{allows, beginsRule, after, reading}
-use Rattle.grammar.specs.Starts.{ruleStarts}
+use Rattle.grammar.specs.contracts.Starts.{ruleStarts}
 use Rattle.grammar.proofs.Suffixes.{Reached, scan-next, read-reaches}
 use Rattle.grammar.proofs.WellFormed.{Shape, reads}
 use Rattle.grammar.proofs.WellRead.{well-read}

@@ -14,23 +14,25 @@ use Rattle.grammar.specs.Limits.{maxNonterminals, maxRules}
 use Rattle.grammar.specs.Syntax.{Rule}
 use Rattle.grammar.specs.Encoding.{grammarOf}
 use Rattle.grammar.specs.Reading.{reading}
-use Rattle.grammar.specs.WellRead.{headOf, WellRead}
+use Rattle.grammar.specs.contracts.WellRead.{headOf, WellRead}
 use Rattle.grammar.proofs.WellRead.{well-read}
 use Rattle.lookahead.specs.declared.Lookahead.{Lookahead}
-use Rattle.lookahead.specs.Lookaheads.{tokens, alphabet}
-use Rattle.lookahead.specs.Operations.{concatNumbers}
+use Rattle.lookahead.specs.Lookaheads.{tokens}
+use Rattle.lookahead.specs.contracts.Lookaheads.{alphabet}
+use Rattle.lookahead.specs.contracts.Operations.{concatNumbers}
 use Rattle.semantics.specs.FirstFollow.{follow}
 use Rattle.semantics.proofs.families.Follow.{follow-lookahead}
 use Rattle.semantics.proofs.descent.Outcomes.{nth-below, nth-mem}
-use Rattle.families.specs.RuleLists.{byRule}
-use Rattle.families.specs.Rules.{ByRules, PassGiven}
-use Rattle.families.specs.Sets.{followNumber, meetNumber}
+use Rattle.families.specs.contracts.RuleLists.{byRule}
+use Rattle.families.specs.contracts.Rules.{ByRules, PassGiven}
+use Rattle.families.specs.Sets.{followNumber}
+use Rattle.families.specs.contracts.Sets.{meetNumber}
 use Rattle.families.proofs.ByRules.{FilledTo, filled-none, filled-next, filled-each, by-rule-is, by-rule-at}
 use Rattle.families.proofs.FewTerminals.{admitted-read, few-terminals}
 use Rattle.families.proofs.HeadPasses.{ruleNumbered, its-head as pass-head, its-start, head-below}
 use Rattle.base.proofs.Lists.{listed-long}
 use Rattle.families.proofs.Numbers.{array-at}
-use Rattle.claims.specs.Claims.{claimNumber, FamiliesGiven, AllKept}
+use Rattle.claims.specs.contracts.Claims.{claimNumber, FamiliesGiven, AllKept}
 use Rattle.claims.proofs.RuleClaims.{claim-found}
 
 -- what is kept of rule q

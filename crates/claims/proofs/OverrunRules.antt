@@ -17,17 +17,17 @@ use Rattle.grammar.specs.declared.reading.Sizes.{Sizes}
 use Rattle.grammar.specs.Limits.{maxNonterminals, maxRules}
 use Rattle.grammar.specs.Syntax.{Rule}
 use Rattle.grammar.specs.Encoding.{grammarOf}
-use Rattle.grammar.specs.WellRead.{WellRead}
+use Rattle.grammar.specs.contracts.WellRead.{WellRead}
 use Rattle.grammar.proofs.WellRead.{well-read}
 use Rattle.admission.specs.Admission.{beginsNegative}
 use Rattle.lookahead.specs.declared.Lookahead.{Lookahead}
-use Rattle.lookahead.specs.Operations.{end, terminal, join}
+use Rattle.lookahead.specs.contracts.Operations.{end, terminal, join}
 use Rattle.semantics.specs.Claims.{without}
 use Rattle.semantics.proofs.descent.Outcomes.{nth-mem}
 use Rattle.families.proofs.ByRules.{by-rule-at}
 use Rattle.families.proofs.HeadPasses.{ruleNumbered}
 use Rattle.base.proofs.Lists.{getD-zeros}
-use Rattle.claims.specs.Overruns.{beyondEnd, aloneIn, overrunSet, HeadsGiven, Overrunning}
+use Rattle.claims.specs.contracts.Overruns.{beyondEnd, aloneIn, overrunSet, HeadsGiven, Overrunning}
 use Rattle.claims.proofs.FirstConjuncts.{first-conjunct}
 
 -- what is told of a nonterminal by one rule

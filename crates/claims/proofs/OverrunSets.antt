@@ -13,9 +13,11 @@ use Rattle.grammar.specs.Encoding.{grammarOf}
 use Rattle.grammar.specs.Syntax.{Grammar, WellFormed}
 use Rattle.grammar.proofs.WellRead.{well-read}
 use Rattle.lookahead.specs.declared.Lookahead.{Lookahead}
-use Rattle.lookahead.specs.Lookaheads.{tokens, alphabet, elements, nothing, stringOf}
-use Rattle.lookahead.specs.Elements.{has, Subset}
-use Rattle.lookahead.specs.Operations.{end, join}
+use Rattle.lookahead.specs.Lookaheads.{tokens, elements, nothing, stringOf}
+use Rattle.lookahead.specs.contracts.Lookaheads.{alphabet}
+use Rattle.lookahead.specs.Elements.{has}
+use Rattle.lookahead.specs.contracts.Elements.{Subset}
+use Rattle.lookahead.specs.contracts.Operations.{end, join}
 use Rattle.lookahead.proofs.Operations.{has-end}
 use Rattle.lookahead.proofs.Order.{join-same, same-join}
 use Rattle.lookahead.proofs.Strings.{string-nothing, is-nothing}
@@ -25,8 +27,8 @@ use Rattle.semantics.specs.Claims.{overruns}
 use Rattle.base.proofs.LookaheadStrings.{strings-equality}
 use Rattle.families.specs.Sets.{followNumber}
 use Rattle.families.proofs.Strings.{string-in, number-element}
-use Rattle.claims.specs.Claims.{FamiliesGiven}
-use Rattle.claims.specs.Overruns.{beyondEnd, aloneIn, overrunSet, Overrunning}
+use Rattle.claims.specs.contracts.Claims.{FamiliesGiven}
+use Rattle.claims.specs.contracts.Overruns.{beyondEnd, aloneIn, overrunSet, Overrunning}
 use Rattle.claims.proofs.RuleClaims.{follow-lists}
 use Rattle.claims.proofs.KeptClaims.{read, follow-is, few}
 

@@ -7,9 +7,10 @@ use lib.Dec.{T}
 use lib.ListN.{take}
 use Rattle.grammar.specs.Syntax.{Rule, Grammar, WellFormed}
 use Rattle.lookahead.specs.declared.Lookahead.{Lookahead}
-use Rattle.lookahead.specs.Lookaheads.{tokens, alphabet, elements, stringOf, after}
+use Rattle.lookahead.specs.Lookaheads.{tokens, elements, stringOf}
+use Rattle.lookahead.specs.contracts.Lookaheads.{alphabet, after}
 use Rattle.lookahead.specs.Elements.{has}
-use Rattle.lookahead.specs.Operations.{concatNumbers}
+use Rattle.lookahead.specs.contracts.Operations.{concatNumbers}
 use Rattle.lookahead.proofs.Strings.{string-after, after-below}
 use Rattle.lookahead.proofs.Pairs.{Pair, pair-concat, concat-pair}
 use Rattle.lookahead.proofs.Weights.{has-total}
@@ -19,11 +20,12 @@ use Rattle.semantics.specs.FirstFollow.{concatStrings, follow, followSets}
 use Rattle.semantics.specs.Claims.{meeting, claimed}
 use Rattle.semantics.proofs.families.LookaheadSets.{sets-make, sets-elim, concat-make, concat-elim}
 use Rattle.semantics.proofs.families.Follow.{follow-lookahead}
-use Rattle.families.specs.Sets.{numberOf, followNumber, meetNumber}
+use Rattle.families.specs.Sets.{numberOf, followNumber}
+use Rattle.families.specs.contracts.Sets.{meetNumber}
 use Rattle.families.proofs.Strings.{string-in}
 use Rattle.families.proofs.Numbers.{number-string, in-number}
 use Rattle.families.proofs.StringLists.{Lists, lists-number, meeting-lists, meet-number}
-use Rattle.claims.specs.Claims.{claimNumber}
+use Rattle.claims.specs.contracts.Claims.{claimNumber}
 
 -- a concatenation lists what the concatenation of the numbers has
 concat-lists : (k : Lookahead) (us ys : List (List ℕ)) (s t : ℕ) → Lists k us s → Lists k ys t

@@ -1,2 +1,1 @@
-pub mod Overruns
-pub mod Claims
+pub mod contracts

@@ -1,8 +1,8 @@
 // What each rule claims, and which nonterminals overrun, found once: conflicts and the table are read off it.
 ghost use mathlib.Core.Path.{_≡_};
-ghost use Rattle.families.specs.Rules.{ByRules};
+ghost use Rattle.families.specs.contracts.Rules.{ByRules};
 ghost use Rattle.grammar.specs.Encoding.{grammarOf};
-ghost use Rattle.claims.specs.Claims.{claimsOf, FamiliesGiven, AllKept};
+ghost use Rattle.claims.specs.contracts.Claims.{claimsOf, FamiliesGiven, AllKept};
 use concatenation::concat;
 use families::Finding;
 use families::SETS;

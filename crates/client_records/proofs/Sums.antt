@@ -8,7 +8,8 @@ use Rattle.usage.specs.declared.Usage.{Usage}
 use Rattle.usage.specs.Counters.{counterLimit, saturated}
 use Rattle.client_records.specs.declared.totals.Totals.{Totals}
 use Rattle.client_records.specs.Usages.{clients, usageOfClient, sumBelow}
-use Rattle.client_records.specs.Sums.{totalsOf, TotalsSmall, Adds, SummedUp, Totalled}
+use Rattle.client_records.specs.Sums.{totalsOf, Totalled}
+use Rattle.client_records.specs.contracts.Sums.{TotalsSmall, Adds, SummedUp}
 
 pub nothing-summed : (us : List Usage) → SummedUp us 0 (totalsOf 0 0 0 0)
 unfolding sumBelow

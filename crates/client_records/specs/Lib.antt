@@ -3,3 +3,4 @@ pub mod Sums
 pub mod Histories
 pub mod Properties
 pub mod Runs
+pub mod contracts

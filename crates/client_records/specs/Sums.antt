@@ -1,7 +1,7 @@
 -- The totals: the sums of the clients' counters, each of which is of 32 bits, so that 64 bits hold them.
 use mathlib.Core.Path.{_≡_}
 use mathlib.Core.List.{List}
-use Prim.Native.Nat.{ℕ, _+_, _*_, _≤_}
+use Prim.Native.Nat.{ℕ, _*_, _≤_}
 use Rattle.usage.specs.declared.Usage.{Usage}
 use Rattle.usage.specs.Counters.{counterLimit}
 use Rattle.client_records.specs.declared.totals.Totals.{Totals}
@@ -29,18 +29,3 @@ pub record TotalsWithin (n : ℕ) (t : Totals) : Type 0 where
 pub record Totalled (us : List Usage) (t : Totals) : Type 0 where
   pub sums : t ≡ summedBelow clients us
   pub within : TotalsWithin (clients * counterLimit) t
-
--- the sums of seven clients
-abbrev pub TotalsSmall : Totals → Type 0
-TotalsSmall t = TotalsWithin (7 * counterLimit) t
-
--- one client's counters added
-pub record Adds (t : Totals) (u : Usage) (r : Totals) : Type 0 where
-  pub sums : r ≡ totalsOf (t .calls + u .calls) (t .refusals + u .refusals) (t .acceptances + u .acceptances) (t .called + u .called)
-  pub within : (n : ℕ) → TotalsWithin n t → TotalsWithin (n + counterLimit) r
-
--- a loop over the clients: the sums so far
-pub record SummedUp (us : List Usage) (n : ℕ) (t : Totals) : Type 0 where
-  pub few : n ≤ clients
-  pub sums : t ≡ summedBelow n us
-  pub within : TotalsWithin (n * counterLimit) t

@@ -1,5 +1,6 @@
 // The sums of all clients' counters, in numbers of 64 bits.
-ghost use Rattle.client_records.specs.Sums.{TotalsSmall, Adds, Totalled};
+ghost use Rattle.client_records.specs.contracts.Sums.{TotalsSmall, Adds};
+ghost use Rattle.client_records.specs.Sums.{Totalled};
 use super::CLIENTS;
 use usage::Usage;
 

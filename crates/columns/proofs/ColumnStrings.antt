@@ -12,13 +12,15 @@ use Rattle.base.proofs.Booleans.{and-l}
 use Rattle.grammar.specs.Limits.{maxWideColumns}
 use Rattle.lookahead.specs.declared.Lookahead.{Lookahead}
 use Rattle.lookahead.specs.declared.Lookahead.the-variants.{One, Two}
-use Rattle.lookahead.specs.Lookaheads.{tokens, alphabet, elements, nothing, stringOf}
+use Rattle.lookahead.specs.Lookaheads.{tokens, elements, nothing, stringOf}
+use Rattle.lookahead.specs.contracts.Lookaheads.{alphabet}
 use Rattle.lookahead.proofs.Strings.{element-string, string-element, element-below, over-wider}
 use Rattle.base.specs.FiniteSets.{numbersFrom, numbers}
 use Rattle.base.specs.Strings.{strings, Lookahead as Looked}
 use Rattle.semantics.specs.Claims.{column}
 use Rattle.semantics.proofs.families.Columns.{strings-columns}
-use Rattle.columns.specs.Columns.{columnCount, columnString, columnElement, columnOf}
+use Rattle.columns.specs.Columns.{columnCount, columnString, columnOf}
+use Rattle.columns.specs.contracts.Columns.{columnElement}
 
 -- a row has columns, and no more than there is room for
 pub some-column : (k : Lookahead) (t : ℕ) → 0 < columnCount k t

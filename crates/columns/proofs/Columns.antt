@@ -8,10 +8,12 @@ use lib.ListN.{length, getD, take, drop, drop-of-length-le}
 use lib.Seq.{drop-cons, take-nil}
 use Rattle.lookahead.specs.declared.Lookahead.{Lookahead}
 use Rattle.lookahead.specs.declared.Lookahead.the-variants.{One, Two}
-use Rattle.lookahead.specs.Lookaheads.{tokens, alphabet}
+use Rattle.lookahead.specs.Lookaheads.{tokens}
+use Rattle.lookahead.specs.contracts.Lookaheads.{alphabet}
 use Rattle.base.specs.Strings.{look, Over, Lookahead as Looked}
 use Rattle.base.proofs.Strings.{all-take, all-drop, take-short}
-use Rattle.columns.specs.Columns.{columnCount, columnString, columnOf, columnAt}
+use Rattle.columns.specs.Columns.{columnCount, columnString, columnOf}
+use Rattle.columns.specs.contracts.Columns.{columnAt}
 use Rattle.columns.proofs.ColumnStrings.{column-in, string-column}
 
 module _ (n : ℕ) (w : List ℕ) (i : ℕ) where

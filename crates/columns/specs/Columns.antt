@@ -8,8 +8,7 @@ use Rattle.grammar.specs.Limits.{maxWideColumns}
 use Rattle.grammar.specs.Syntax.{Grammar}
 use Rattle.lookahead.specs.declared.Lookahead.{Lookahead}
 use Rattle.lookahead.specs.declared.Lookahead.the-variants.{One, Two}
-use Rattle.lookahead.specs.Lookaheads.{tokens, nothing, elementOf, stringOf}
-use Rattle.base.specs.Strings.{look}
+use Rattle.lookahead.specs.Lookaheads.{elementOf, stringOf}
 use Rattle.semantics.specs.Claims.{column}
 
 -- how many there are
@@ -25,16 +24,7 @@ unfoldable pub columnString : Lookahead → ℕ → ℕ → List ℕ
 columnString One terminals c = choose (eqb c terminals) [] (c ∷ [])
 columnString Two terminals c = stringOf Two c
 
--- its element
-unfoldable pub columnElement : Lookahead → ℕ → ℕ → ℕ
-columnElement One terminals c = choose (eqb c terminals) (nothing One) c
-columnElement Two terminals c = c
-
 -- and the column of a string
 abbrev pub columnOf : Lookahead → ℕ → List ℕ → ℕ
 columnOf One terminals x = column terminals x
 columnOf Two terminals x = elementOf Two x
-
--- the column of the lookahead string at a place, for n terminals
-unfoldable pub columnAt : Lookahead → ℕ → List ℕ → ℕ → ℕ
-columnAt k n w i = columnOf k n (look (tokens k) w i)

@@ -3,7 +3,8 @@
 ghost use mathlib.Core.Path.{_≡_};
 ghost use Rattle.event.specs.Events.{inputOf};
 ghost use Rattle.lookahead.specs.declared.Lookahead.the-variants.{One, Two};
-ghost use Rattle.columns.specs.Columns.{columnCount, columnElement, columnAt};
+ghost use Rattle.columns.specs.Columns.{columnCount};
+ghost use Rattle.columns.specs.contracts.Columns.{columnElement, columnAt};
 use event::terminal_of;
 use grammar::limits::WIDE_COLUMNS;
 use grammar::limits::WIDE_TERMINALS;

@@ -12,10 +12,11 @@ use borrow.Author.Tests.{lt-ltb, le-ltb}
 use Rattle.base.specs.Choice.{choose}
 use Rattle.lookahead.specs.declared.Lookahead.{Lookahead}
 use Rattle.lookahead.specs.declared.Lookahead.the-variants.{One, Two}
-use Rattle.lookahead.specs.Lookaheads.{alphabet, elements, elementOf, single}
+use Rattle.lookahead.specs.contracts.Lookaheads.{alphabet, single}
+use Rattle.lookahead.specs.Lookaheads.{elements, elementOf}
 use Rattle.lookahead.specs.Elements.{has, width}
-use Rattle.lookahead.specs.Operations.{Empty}
-use Rattle.concatenation.specs.Computing.{Has, Singles, isLong}
+use Rattle.lookahead.specs.contracts.Operations.{Empty}
+use Rattle.concatenation.specs.contracts.Computing.{Has, Singles, isLong}
 use Rattle.lookahead.proofs.Elements.{has-above, has-shift}
 use Rattle.lookahead.proofs.Powers.{has-ones}
 use Rattle.lookahead.proofs.Digits.{shifted, has-mask, has-under, has-over, moved}

@@ -9,10 +9,12 @@ use lib.Seq.{take-all}
 use Rattle.base.specs.Strings.{Over}
 use Rattle.lookahead.specs.declared.Lookahead.{Lookahead}
 use Rattle.lookahead.specs.declared.Lookahead.the-variants.{One, Two}
-use Rattle.lookahead.specs.Lookaheads.{tokens, alphabet, nothing, elementOf, stringOf, after}
-use Rattle.lookahead.specs.Elements.{has, Subset, OverTerminals}
-use Rattle.lookahead.specs.Operations.{end, full, join, concatNumbers, End, Full, Joined, Concatenated}
-use Rattle.concatenation.specs.Computing.{Singles}
+use Rattle.lookahead.specs.Lookaheads.{tokens, nothing, elementOf, stringOf}
+use Rattle.lookahead.specs.contracts.Lookaheads.{alphabet, after}
+use Rattle.lookahead.specs.Elements.{has}
+use Rattle.lookahead.specs.contracts.Elements.{Subset, OverTerminals}
+use Rattle.lookahead.specs.contracts.Operations.{end, full, join, concatNumbers, End, Full, Joined, Concatenated}
+use Rattle.concatenation.specs.contracts.Computing.{Singles}
 use Rattle.lookahead.proofs.Strings.{element-string, string-same, string-short, string-over, string-terminal, single-looked, string-after, element-below}
 use Rattle.lookahead.proofs.Strings.{is-nothing, over-head, over-tail}
 use Rattle.lookahead.proofs.Operations.{has-end, is-full}

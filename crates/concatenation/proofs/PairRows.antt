@@ -14,10 +14,10 @@ use Rattle.base.specs.Quantifiers.{anyBelow}
 use Rattle.base.proofs.Booleans.{both, and-l, and-r, and-make, or-l, or-r, or-cases}
 use Rattle.base.proofs.Quantified.{below-cong, below-make, below-elim}
 use Rattle.lookahead.specs.declared.Lookahead.the-variants.{One, Two}
-use Rattle.lookahead.specs.Lookaheads.{after}
+use Rattle.lookahead.specs.contracts.Lookaheads.{after}
 use Rattle.lookahead.specs.Elements.{has, width}
-use Rattle.lookahead.specs.Operations.{Empty, Terminal, Joined, behind}
-use Rattle.concatenation.specs.Computing.{Has, begins, noSingle, inRows}
+use Rattle.lookahead.specs.contracts.Operations.{Empty, Terminal, Joined, behind}
+use Rattle.concatenation.specs.contracts.Computing.{Has, begins, noSingle, inRows}
 use Rattle.lookahead.proofs.Digits.{has-over, moved, some-digit, has-mask}
 use Rattle.lookahead.proofs.Elements.{has-or, bound}
 use Rattle.lookahead.proofs.Pairs.{behind-make, behind-elim}

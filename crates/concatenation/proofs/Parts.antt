@@ -13,10 +13,11 @@ use Rattle.base.proofs.Booleans.{true-T, T-none, both, and-l, and-r, and-make, 
 use Rattle.base.proofs.Quantified.{below-make, below-elim}
 use Rattle.lookahead.specs.declared.Lookahead.{Lookahead}
 use Rattle.lookahead.specs.declared.Lookahead.the-variants.{One, Two}
-use Rattle.lookahead.specs.Lookaheads.{tokens, elements, nothing, elementOf, stringOf, after}
+use Rattle.lookahead.specs.Lookaheads.{tokens, elements, nothing, elementOf, stringOf}
+use Rattle.lookahead.specs.contracts.Lookaheads.{after}
 use Rattle.lookahead.specs.Elements.{has}
-use Rattle.lookahead.specs.Operations.{isEmpty, Joined, behind, inConcat, concatNumbers, Concatenated}
-use Rattle.concatenation.specs.Computing.{Has, isLong, inRows}
+use Rattle.lookahead.specs.contracts.Operations.{isEmpty, Joined, behind, inConcat, concatNumbers, Concatenated}
+use Rattle.concatenation.specs.contracts.Computing.{Has, isLong, inRows}
 use Rattle.lookahead.proofs.Elements.{same-elements}
 use Rattle.lookahead.proofs.Emptiness.{empty-none, some-element}
 use Rattle.lookahead.proofs.Digits.{has-mask}

@@ -1,1 +1,1 @@
-pub mod Computing
+pub mod contracts

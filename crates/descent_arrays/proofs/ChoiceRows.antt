@@ -10,10 +10,11 @@ use lib.ListN.{length, getD, set, replicate, length-set, length-replicate}
 use lib.Seq.{getD-set-same, getD-set-other}
 use borrow.Author.Tests.{lt-ltb, le-ltb, ne-eqb}
 use Rattle.base.specs.Choice.{choose}
-use Rattle.grammar.specs.Limits.{maxNonterminals, maxWideColumns, maxEntries, maxTokens, maxMemoEntries}
+use Rattle.grammar.specs.Limits.{maxNonterminals, maxWideColumns, maxTokens, maxMemoEntries}
+use Rattle.grammar.specs.contracts.Limits.{maxEntries}
 use Rattle.base.proofs.Lists.{listed-long, listed-at, getD-zeros}
-use Rattle.descent_arrays.specs.Arrays.{choiceColumns, rowColumn, endColumn, choiceWords, rowAt, endAt}
-use Rattle.descent_arrays.specs.Choices.{entryOf, firstWord, rowWord, choiceRows, choicesOf, RowGiven}
+use Rattle.descent_arrays.specs.contracts.Arrays.{choiceColumns, rowColumn, endColumn, choiceWords, rowAt, endAt}
+use Rattle.descent_arrays.specs.contracts.Choices.{entryOf, firstWord, rowWord, choiceRows, choicesOf, RowGiven}
 use Rattle.descent_arrays.proofs.Listing.{listed-by}
 
 -- the word at an index, where the rows of the first n nonterminals are written

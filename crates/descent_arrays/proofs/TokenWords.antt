@@ -12,13 +12,13 @@ use Rattle.grammar.specs.Limits.{maxTokens, maxPlaces}
 use Rattle.base.specs.Strings.{Over}
 use Rattle.lookahead.specs.declared.Lookahead.{Lookahead}
 use Rattle.lookahead.specs.declared.Lookahead.the-variants.{One, Two}
-use Rattle.lookahead.specs.Lookaheads.{alphabet}
+use Rattle.lookahead.specs.contracts.Lookaheads.{alphabet}
 use Rattle.base.proofs.Lists.{listed-long, listed-at}
-use Rattle.columns.specs.Columns.{columnAt}
+use Rattle.columns.specs.contracts.Columns.{columnAt}
 use Rattle.columns.proofs.Columns.{one-end, two-end, column-right}
 use Rattle.columns.proofs.ColumnStrings.{column-count}
-use Rattle.descent_arrays.specs.Arrays.{endColumn, endMark, columnWeight, held}
-use Rattle.descent_arrays.specs.Tokens.{tokenWord, markAt, tokensOf}
+use Rattle.descent_arrays.specs.contracts.Arrays.{endColumn, endMark, columnWeight, held}
+use Rattle.descent_arrays.specs.contracts.Tokens.{tokenWord, markAt, tokensOf}
 use Rattle.descent_arrays.proofs.Listing.{listed-by}
 
 -- the word of a place, and that of the end

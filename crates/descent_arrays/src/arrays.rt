@@ -1,7 +1,7 @@
 // The arrays that the descent reads, made before it starts: their sizes, and how the word of a token is made up.
 ghost use mathlib.Core.Path.{_≡_};
 ghost use Prim.Native.Nat.{min};
-ghost use Rattle.descent_arrays.specs.Arrays.{arrays};
+ghost use Rattle.descent_arrays.specs.contracts.Arrays.{arrays};
 use grammar::limits::NONTERMINALS;
 
 // A row of choices for each nonterminal: where the first conjunct stands of the rule to run for each column of the table, 0 for

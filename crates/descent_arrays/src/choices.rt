@@ -1,7 +1,7 @@
 // A choice of rules as the descent reads it: a row for each nonterminal, by the columns of the table.
 ghost use mathlib.Core.Path.{_≡_};
 ghost use Prim.Native.Nat.{_+_};
-ghost use Rattle.descent_arrays.specs.Choices.{firstWord, choiceRows, choicesOf, RowGiven};
+ghost use Rattle.descent_arrays.specs.contracts.Choices.{firstWord, choiceRows, choicesOf, RowGiven};
 use super::arrays::CHOICE_COLUMNS;
 use super::arrays::CHOICES;
 use super::arrays::END_COLUMN;

@@ -1,7 +1,7 @@
 // The tokens as the descent reads them: a word for each place.
 ghost use mathlib.Core.Path.{_≡_};
 ghost use Rattle.event.specs.Events.{inputOf};
-ghost use Rattle.descent_arrays.specs.Tokens.{tokenWord, tokensOf};
+ghost use Rattle.descent_arrays.specs.contracts.Tokens.{tokenWord, tokensOf};
 use super::arrays::COLUMN_WEIGHT;
 use super::arrays::END_MARK;
 use super::arrays::fitting;

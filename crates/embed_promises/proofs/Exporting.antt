@@ -15,7 +15,8 @@ use Rattle.client_records.specs.Properties.{JudgesFor}
 use Rattle.tree_writer_promises.specs.declared.Shown.{Shown}
 use Rattle.tree_writer_promises.specs.Properties.{Shows}
 use Rattle.tabular_promises.specs.Properties.{TabularJudges}
-use Rattle.embed_promises.specs.Packing.{packed, cut}
+use Rattle.embed_promises.specs.Packing.{packed}
+use Rattle.embed_promises.specs.contracts.Packing.{cut}
 use Rattle.embed_promises.specs.Records.{usagesIn, totalsRow}
 use Rattle.embed_promises.specs.Exports.{CheckExported, JudgeExported, CostliestExported, ServedExported, TotalsExported, TreeExported, TabularExported}
 use Rattle.embed_promises.proofs.Packed.{packs}

@@ -9,8 +9,10 @@ use native.Mathlib.Nat.{mul-le-mul}
 use native.Mathlib.Omega.{arith}
 use lib.ListN.{length}
 use Rattle.answer.specs.declared.Error.{Error}
-use Rattle.answer.specs.declared.Error.the-variants.{TableTooShort, MemoTooShort, Length, Heading, UnexpectedWord, OutOfRange, TooManyRules, LeftRecursive, Unproductive, Conflict, WideConflict, InputTooLong, UnknownToken}
-use Rattle.answer.specs.declared.Error.the-variants.{SpansTooShort, TreeTooShort, WideTableTooShort, BufferTooShort, UnknownClient, QuotaReached, TooManyTerminals, UnknownCheckpoint, CheckpointNotSet, InputFull, TooManyInputs}
+use Rattle.answer.specs.declared.Error.the-variants.{TableTooShort, MemoTooShort, Length, Heading, UnexpectedWord, OutOfRange, TooManyRules, LeftRecursive}
+use Rattle.answer.specs.declared.Error.the-variants.{Unproductive, Conflict, WideConflict, InputTooLong, UnknownToken}
+use Rattle.answer.specs.declared.Error.the-variants.{SpansTooShort, TreeTooShort, WideTableTooShort, BufferTooShort, UnknownClient, QuotaReached}
+use Rattle.answer.specs.declared.Error.the-variants.{TooManyTerminals, UnknownCheckpoint, CheckpointNotSet, InputFull, TooManyInputs}
 use Rattle.answer.specs.declared.Calls.{Calls}
 use Rattle.answer.specs.declared.Answer.{Answer}
 use Rattle.answer.specs.declared.Answer.the-variants.{Refused, Passed, Rejected, Accepted}
@@ -43,7 +45,7 @@ use Rattle.client_records.specs.Properties.{JudgesFor}
 use Rattle.tree_writer_promises.specs.declared.Shown.{Shown}
 use Rattle.tree_writer_promises.specs.Properties.{Shows}
 use Rattle.tree_writer_promises.proofs.Showing.{short-refused}
-use Rattle.embed_promises.specs.Packing.{NumbersFit}
+use Rattle.embed_promises.specs.contracts.Packing.{NumbersFit}
 use Rattle.tabular_promises.specs.Answers.{tabularFault, noCalls, tabularVerdict}
 use Rattle.tabular_promises.specs.Properties.{TabularJudges}
 use Rattle.tabular_promises.proofs.TabularFaults.{tabular-each}

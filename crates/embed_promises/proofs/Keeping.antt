@@ -24,8 +24,10 @@ use Rattle.kept_input.specs.Histories.{checkpointCount, Kept, Step, Add, Mark, 
 use Rattle.kept_input.specs.Stored.{keptInput, held, valuesOf}
 use Rattle.kept_input.specs.Properties.{Steps, Moves, JudgesKept}
 use Rattle.kept_input.proofs.Lists.{elements}
-use Rattle.embed_promises.specs.Packing.{NumbersFit, packed, cut}
-use Rattle.embed_promises.specs.Kept.{stateOf, progressIn, StateRead, StepExported, MoveExported, KeptExported}
+use Rattle.embed_promises.specs.contracts.Packing.{NumbersFit, cut}
+use Rattle.embed_promises.specs.Packing.{packed}
+use Rattle.embed_promises.specs.Kept.{stateOf, progressIn, StepExported, MoveExported, KeptExported}
+use Rattle.embed_promises.specs.contracts.Kept.{StateRead}
 use Rattle.embed_promises.proofs.Places.{Low}
 use Rattle.embed_promises.proofs.Fitting.{passed-fits, fits-by, judge-fits}
 use Rattle.embed_promises.proofs.Packed.{packs}

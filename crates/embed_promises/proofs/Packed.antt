@@ -7,7 +7,8 @@ use Rattle.answer.specs.declared.Calls.{Calls}
 use Rattle.answer.specs.declared.Answer.{Answer}
 use Rattle.answer.specs.declared.Answer.the-variants.{Refused, Passed, Rejected, Accepted}
 use Rattle.answer.specs.Numbers.{coded, Numbers, numbers}
-use Rattle.embed_promises.specs.Packing.{joined, packed, cut, NumbersFit, Unpacks, Packs}
+use Rattle.embed_promises.specs.Packing.{joined, packed, Unpacks, Packs}
+use Rattle.embed_promises.specs.contracts.Packing.{cut, NumbersFit}
 
 module _ {a : Answer} {r : ℕ} where
   pub refused-packed : {e : Error} {n p : ℕ} → a ≡ Refused e → n ≡ coded e .code → p ≡ coded e .position → r ≡ joined 0 (n % 256) (p % 65536) 0 0

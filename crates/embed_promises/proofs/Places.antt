@@ -10,7 +10,7 @@ use Rattle.grammar.specs.Syntax.{Grammar}
 use Rattle.grammar.specs.Encoding.{grammarOf}
 use Rattle.lookahead.specs.declared.Lookahead.{Lookahead}
 use Rattle.lookahead.specs.declared.Lookahead.the-variants.{One, Two}
-use Rattle.lookahead.specs.Lookaheads.{alphabet}
+use Rattle.lookahead.specs.contracts.Lookaheads.{alphabet}
 use Rattle.table.specs.declared.conflicts.Conflict.the-variants.{At}
 use Rattle.table.specs.Analysis.{conflictError}
 use Rattle.table.specs.Conflicts.{firstClash}

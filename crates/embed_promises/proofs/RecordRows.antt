@@ -9,7 +9,8 @@ use lib.Seq.{getD-set-same, getD-set-other}
 use Rattle.usage.specs.declared.Usage.{Usage}
 use Rattle.usage.specs.Counters.{usageOf}
 use Rattle.client_records.specs.Usages.{clients, usageOfClient}
-use Rattle.embed_promises.specs.Records.{usageAt, usagesIn, Written}
+use Rattle.embed_promises.specs.Records.{usageAt, usagesIn}
+use Rattle.embed_promises.specs.contracts.Records.{Written}
 
 same-usage : {c c′ r r′ a a′ d d′ : ℕ} → c ≡ c′ → r ≡ r′ → a ≡ a′ → d ≡ d′ → usageOf c r a d ≡ usageOf c′ r′ a′ d′
 same-usage e f g h = cc

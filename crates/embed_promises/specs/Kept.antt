@@ -23,10 +23,6 @@ stateOf p = p .length ∷ p .checkpoints
 abbrev pub progressIn : List ℕ → Progress
 progressIn l = record { length = getD l 0 0; checkpoints = drop 1 l }
 
-pub record StateRead (state : List ℕ) (p : Progress) : Type 0 where
-  pub read : p ≡ progressIn state
-  pub whole : stateOf p ≡ state
-
 -- a step on these events and this state
 pub record StepExported (t : Step) (events state : List ℕ) (r : ℕ) (events′ state′ : List ℕ) : Type 0 where
   pub changed : Changed

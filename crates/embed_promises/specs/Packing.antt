@@ -1,9 +1,9 @@
 -- An answer as one number of 64 bits: bits 0 to 7 the verdict, 8 to 15 the code of an error, 16 to 31 its position, 32 to 47 the count, 48 to 63 the
 -- farthest place.
 use mathlib.Core.Path.{_≡_}
-use Prim.Native.Nat.{ℕ, _+_, _*_, _/_, _%_, _<_}
+use Prim.Native.Nat.{ℕ, _+_, _*_, _/_, _%_}
 use Rattle.answer.specs.declared.Answer.{Answer}
-use Rattle.answer.specs.Numbers.{Verdict, refused, passed, rejected, accepted, Numbers, answered, numbers}
+use Rattle.answer.specs.Numbers.{Verdict, refused, passed, rejected, accepted, Numbers, numbers}
 
 abbrev pub verdictNumber : Verdict → ℕ
 verdictNumber refused = 0
@@ -16,21 +16,6 @@ joined verdict code position count farthest = verdict + code * 256 + position * 
 
 unfoldable pub packed : Numbers → ℕ
 packed n = joined (verdictNumber (n .verdict)) (n .code) (n .position) (n .count) (n .farthest)
-
--- each number cut to the bits of its field
-abbrev pub cut : Numbers → Numbers
-cut n = answered (n .verdict) (n .code % 256) (n .position % 65536) (n .count % 65536) (n .farthest % 65536)
-
--- each field is within its bits
-pub record Fit (v n p c f : ℕ) : Type 0 where
-  pub verdict : v < 256
-  pub code : n < 256
-  pub position : p < 65536
-  pub count : c < 65536
-  pub farthest : f < 65536
-
-abbrev pub NumbersFit : Numbers → Type 0
-NumbersFit n = Fit (verdictNumber (n .verdict)) (n .code) (n .position) (n .count) (n .farthest)
 
 -- the bits of a packed answer give it back
 pub record Unpacks (r : ℕ) (n : Numbers) : Type 0 where

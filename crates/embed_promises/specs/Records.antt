@@ -1,11 +1,9 @@
 -- The records of all clients in a row of numbers: client c's calls, refusals, acceptances and called pairs stand at 4c to 4c + 3.
-use mathlib.Core.Path.{_≡_}
 use mathlib.Core.List.{List, [], _∷_}
-use Prim.Native.Nat.{ℕ, _+_, _*_, _≤_, _<_}
-use lib.ListN.{length, getD}
+use Prim.Native.Nat.{ℕ, _+_, _*_}
+use lib.ListN.{getD}
 use Rattle.usage.specs.declared.Usage.{Usage}
 use Rattle.usage.specs.Counters.{usageOf}
-use Rattle.client_records.specs.Usages.{clients, usageOfClient}
 use Rattle.client_records.specs.declared.totals.Totals.{Totals}
 
 -- the four numbers of a client
@@ -15,12 +13,6 @@ usageAt l c = usageOf (getD l (c * 4) 0) (getD l (c * 4 + 1) 0) (getD l (c * 4 +
 -- the records of the eight clients: of a row of 32 numbers they tell all
 abbrev pub usagesIn : List ℕ → List Usage
 usagesIn l = usageAt l 0 ∷ usageAt l 1 ∷ usageAt l 2 ∷ usageAt l 3 ∷ usageAt l 4 ∷ usageAt l 5 ∷ usageAt l 6 ∷ usageAt l 7 ∷ []
-
--- a loop over the clients: those below a bound have their numbers in the row
-pub record Written (us : List Usage) (n : ℕ) (row : List ℕ) : Type 0 where
-  pub few : n ≤ clients
-  pub long : length row ≡ 32
-  pub same : (k : ℕ) → k < n → usageAt row k ≡ usageOfClient us k
 
 -- the totals in the same order
 abbrev pub totalsRow : Totals → List ℕ

@@ -9,7 +9,8 @@ use Rattle.word.specs.declared.Word.the-variants.{Symbol}
 use Rattle.word.specs.Words.{decoded}
 use Rattle.grammar.specs.Syntax.{Body, Rule, Grammar, WellFormed}
 use Rattle.grammar.specs.Encoding.{Parsed, parsed, onWord, parse, sizes, grammarOf}
-use Rattle.encoding.specs.Encode.{symbolWord, positiveWord, negativeWord, endWord, bodyWords, conjunctWords, ruleWords, rulesWords, encode, WithinLimits, Encodes}
+use Rattle.encoding.specs.Encode.{symbolWord, positiveWord, negativeWord, endWord, bodyWords, conjunctWords, ruleWords, rulesWords, encode, WithinLimits}
+use Rattle.encoding.specs.Encode.{Encodes}
 use Rattle.grammar.proofs.WellFormed.{Each, InRange, RuleFits}
 use Rattle.encoding.proofs.Words.{decoded-heading, decoded-rule, decoded-positive, decoded-negative, decoded-symbol, decoded-end}
 

@@ -1,6 +1,6 @@
 -- The words of document 01's cards are those of their grammars, by computation.
 use mathlib.Core.Path.{_≡_, refl}
-use Rattle.grammar.specs.Cards.{grammarR, wordsR, grammarM, wordsM, grammarE, wordsE}
+use Rattle.grammar.specs.examples.Cards.{grammarR, wordsR, grammarM, wordsM, grammarE, wordsE}
 use Rattle.encoding.specs.Encode.{bodyWords, conjunctWords, ruleWords, rulesWords, encode}
 
 pub record CardWords : Type 0 where

@@ -21,7 +21,8 @@ use Rattle.grammar.specs.Limits.{maxWords, maxNonterminals, maxTerminals}
 use Rattle.grammar.specs.Syntax.{Grammar}
 use Rattle.grammar.specs.Encoding.{Parsed, onWord, parse, sizes, declaredBy, grammarOf}
 use Rattle.grammar.specs.Reading.{row, allows, after, stepped, scan, fresh, within, headed, opened, reading}
-use Rattle.encoding.specs.Encode.{headingWord, positiveWord, negativeWord, endWord, bodyWords, conjunctWords, ruleWords, rulesWords, encode, sizesOf, Encodes}
+use Rattle.encoding.specs.Encode.{headingWord, positiveWord, negativeWord, endWord, bodyWords, conjunctWords, ruleWords, rulesWords, encode, sizesOf}
+use Rattle.encoding.specs.Encode.{Encodes}
 use Rattle.grammar.proofs.WellFormed.{faulty, finished-read, Empty, Shape, Reads, reads, step-passed, onward}
 use Rattle.grammar.proofs.WellRead.{chosen, refused, both, Within, within-limits, fit-formed, declares-no-rules}
 use Rattle.encoding.proofs.Words.{WrittenAs, written-as}

@@ -9,7 +9,7 @@ use lib.ListN.{length, getD, List·getD-eq-default}
 use borrow.Author.Tests.{lt-ltb, le-ltb}
 use Rattle.base.specs.Choice.{choose}
 use Rattle.grammar.specs.Limits.{maxNonterminals}
-use Rattle.families.specs.Least.{at, lookup}
+use Rattle.families.specs.contracts.Least.{at, lookup}
 
 lookup-each : (l : List ℕ) → length l ≡ maxNonterminals → (n : ℕ) → lookup l n ≡ at l n
 unfolding lookup

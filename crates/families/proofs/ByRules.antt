@@ -10,8 +10,8 @@ use lib.ListN.{length, getD, getElem?, set, replicate, length-set, length-map, l
 use lib.Seq.{getD-set-same, getD-set-other}
 use Rattle.grammar.specs.Limits.{maxRules}
 use Rattle.grammar.specs.Syntax.{Rule}
-use Rattle.families.specs.RuleLists.{byRule}
-use Rattle.families.specs.Rules.{turnOf, ByRules}
+use Rattle.families.specs.contracts.RuleLists.{byRule}
+use Rattle.families.specs.contracts.Rules.{turnOf, ByRules}
 use Rattle.base.proofs.Lists.{getD-zeros}
 use Rattle.families.proofs.RulePasses.{turn-below, turn-of}
 

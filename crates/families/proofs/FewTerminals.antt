@@ -10,7 +10,7 @@ use Rattle.grammar.specs.Reading.{reading}
 use Rattle.grammar.proofs.WellRead.{well-read}
 use Rattle.lookahead.specs.declared.Lookahead.{Lookahead}
 use Rattle.lookahead.specs.declared.Lookahead.the-variants.{One, Two}
-use Rattle.lookahead.specs.Lookaheads.{alphabet}
+use Rattle.lookahead.specs.contracts.Lookaheads.{alphabet}
 use Rattle.admission.specs.Admission.{admission, Fits}
 use Rattle.admission.proofs.Admitted.{admitted}
 

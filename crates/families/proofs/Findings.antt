@@ -10,7 +10,7 @@ use Rattle.answer.proofs.Faults.{none-some}
 use Rattle.base.specs.Quantifiers.{lowest}
 use Rattle.grammar.specs.Limits.{maxNonterminals}
 use Rattle.grammar.specs.Encoding.{grammarOf}
-use Rattle.grammar.specs.Starts.{ruleStarts}
+use Rattle.grammar.specs.contracts.Starts.{ruleStarts}
 use Rattle.lookahead.specs.declared.Lookahead.{Lookahead}
 use Rattle.admission.specs.Admission.{admission}
 use Rattle.grammar.specs.declared.reading.Sizes.{Sizes}
@@ -23,10 +23,12 @@ use Rattle.families.specs.declared.Lowest.{Lowest}
 use Rattle.families.specs.declared.Lowest.the-variants as told
 use Rattle.families.specs.declared.Flaw.the-variants as flaw
 use Rattle.base.specs.Lists.{listed}
-use Rattle.families.specs.RuleLists.{byRule}
-use Rattle.families.specs.Flaws.{flawIn, lowestOf, findingIn}
-use Rattle.families.specs.Sets.{firstNumber, followNumber, meetNumbers, reachNumber}
-use Rattle.families.specs.Analysis.{readingFault, setsFault, findingOf, startsIf, byRuleIf, setsIf, families, refusedBy, familiesOf}
+use Rattle.families.specs.contracts.RuleLists.{byRule}
+use Rattle.families.specs.contracts.Flaws.{flawIn, lowestOf, findingIn}
+use Rattle.families.specs.Sets.{firstNumber, followNumber}
+use Rattle.families.specs.contracts.Sets.{meetNumbers, reachNumber}
+use Rattle.families.specs.Analysis.{readingFault, setsFault, findingOf}
+use Rattle.families.specs.contracts.Analysis.{startsIf, byRuleIf, setsIf, families, refusedBy, familiesOf}
 
 -- a reading without a fault is read
 pub read-some : (o : Outcome) → readingFault o ≡ none → (z : Sizes) × (o ≡ Read z)

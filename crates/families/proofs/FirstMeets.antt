@@ -11,7 +11,7 @@ use Rattle.grammar.specs.declared.reading.Outcome.the-variants.{Read}
 use Rattle.grammar.specs.Limits.{maxNonterminals, maxRules}
 use Rattle.grammar.specs.Syntax.{Rule}
 use Rattle.grammar.specs.Encoding.{grammarOf}
-use Rattle.grammar.specs.WellRead.{WellRead}
+use Rattle.grammar.specs.contracts.WellRead.{WellRead}
 use Rattle.grammar.proofs.WellRead.{well-read}
 use Rattle.admission.specs.Admission.{admission}
 use Rattle.lookahead.specs.declared.Lookahead.{Lookahead}
@@ -19,12 +19,13 @@ use Rattle.lookahead.specs.Lookaheads.{tokens}
 use Rattle.semantics.specs.FirstFollow.{first}
 use Rattle.semantics.proofs.families.First.{first-lookahead}
 use Rattle.semantics.proofs.descent.Outcomes.{nth-below, nth-mem}
-use Rattle.families.specs.First.{ruleFirst, Met}
-use Rattle.families.specs.Least.{at}
+use Rattle.families.specs.contracts.First.{ruleFirst, Met}
+use Rattle.families.specs.contracts.Least.{at}
 use Rattle.base.specs.Lists.{listed}
-use Rattle.families.specs.RuleLists.{byRule}
-use Rattle.families.specs.Rules.{turnOf, ruleFrom, ByRules, PassGiven}
-use Rattle.families.specs.Sets.{firstNumber, meetNumber, meetNumbers}
+use Rattle.families.specs.contracts.RuleLists.{byRule}
+use Rattle.families.specs.contracts.Rules.{turnOf, ruleFrom, ByRules, PassGiven}
+use Rattle.families.specs.Sets.{firstNumber}
+use Rattle.families.specs.contracts.Sets.{meetNumber, meetNumbers}
 use Rattle.families.proofs.ByRules.{FilledTo, filled-none, filled-next, filled-each, store-room, by-rule-is}
 use Rattle.families.proofs.FewTerminals.{admitted-read, few-terminals}
 use Rattle.families.proofs.FirstPasses.{ruleGives}

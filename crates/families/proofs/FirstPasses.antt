@@ -15,17 +15,17 @@ use Rattle.word.specs.declared.Word.the-variants.{Heading, Rule as RuleWord, Po
 use Rattle.grammar.specs.Limits.{maxNonterminals}
 use Rattle.grammar.specs.Syntax.{Body, Rule}
 use Rattle.grammar.specs.Encoding.{Parsed, onWord}
-use Rattle.grammar.specs.WellRead.{firstRule}
+use Rattle.grammar.specs.contracts.WellRead.{firstRule}
 use Rattle.grammar.proofs.EachIndex.{Behind}
 use Rattle.lookahead.specs.declared.Lookahead.{Lookahead}
-use Rattle.lookahead.specs.Elements.{Subset}
-use Rattle.lookahead.specs.Operations.{end, terminal, full}
+use Rattle.lookahead.specs.contracts.Elements.{Subset}
+use Rattle.lookahead.specs.contracts.Operations.{end, terminal, full}
 use Rattle.lookahead.proofs.Order.{subset-refl, meet-mono}
 use Rattle.lookahead.proofs.Concat.{concat-mono}
 use Rattle.families.specs.declared.Rest.{Rest}
-use Rattle.families.specs.Least.{SetFamily, at, lookup, Under}
-use Rattle.families.specs.First.{symbolFirst, bodyFirst, ruleFirst, sets, restOf, noRest, closedMeet, insideWord}
-use Rattle.families.specs.Rules.{fromEnd, ruleFrom, Inside, RuleWords}
+use Rattle.families.specs.contracts.Least.{SetFamily, at, lookup, Under}
+use Rattle.families.specs.contracts.First.{symbolFirst, bodyFirst, ruleFirst, sets, restOf, noRest, closedMeet, insideWord}
+use Rattle.families.specs.contracts.Rules.{fromEnd, ruleFrom, Inside, RuleWords}
 use Rattle.families.proofs.ArrayLookup.{lookup-at}
 use Rattle.families.proofs.HeadPasses.{Larger}
 use Rattle.families.proofs.Inner.{made-inside}

@@ -19,16 +19,17 @@ use Rattle.semantics.specs.Families.{FirstBody, FirstRule, FirstClosed}
 use Rattle.semantics.specs.FirstFollow.{first, First}
 use Rattle.semantics.proofs.families.First.{firstBody-mono, first-lookahead, first-closed, first-smallest}
 use Rattle.lookahead.specs.declared.Lookahead.{Lookahead}
-use Rattle.lookahead.specs.Lookaheads.{tokens, alphabet, elements, elementOf, stringOf}
+use Rattle.lookahead.specs.Lookaheads.{tokens, elements, elementOf, stringOf}
+use Rattle.lookahead.specs.contracts.Lookaheads.{alphabet}
 use Rattle.lookahead.specs.Elements.{has}
-use Rattle.lookahead.specs.Operations.{full}
+use Rattle.lookahead.specs.contracts.Operations.{full}
 use Rattle.lookahead.proofs.Operations.{has-meet}
 use Rattle.lookahead.proofs.Order.{meet-left, meet-right}
 use Rattle.lookahead.proofs.Over.{over-full}
-use Rattle.families.specs.Least.{SetFamily, at, LeastNumbers}
+use Rattle.families.specs.contracts.Least.{SetFamily, at, LeastNumbers}
 use Rattle.base.specs.Lists.{listed}
 use Rattle.families.specs.Sets.{firstNumber}
-use Rattle.families.specs.First.{bodyFirst, ruleFirst, FirstNumbersClosed}
+use Rattle.families.specs.contracts.First.{bodyFirst, ruleFirst, FirstNumbersClosed}
 use Rattle.base.proofs.Lists.{listed-is}
 use Rattle.families.proofs.FewTerminals.{admitted-read, few-terminals}
 use Rattle.families.proofs.Strings.{lookahead-string, lookahead-full, full-has, StringIn, stringsOf, string-in, in-element, body-in, in-body}

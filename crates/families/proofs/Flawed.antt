@@ -15,9 +15,10 @@ use Rattle.grammar.specs.declared.reading.Sizes.{Sizes}
 use Rattle.grammar.specs.declared.reading.Outcome.the-variants.{Read}
 use Rattle.grammar.proofs.WellRead.{well-read}
 use Rattle.lookahead.specs.declared.Lookahead.{Lookahead}
-use Rattle.lookahead.specs.Lookaheads.{tokens, alphabet, stringOf}
+use Rattle.lookahead.specs.Lookaheads.{tokens, stringOf}
+use Rattle.lookahead.specs.contracts.Lookaheads.{alphabet}
 use Rattle.lookahead.specs.Elements.{has}
-use Rattle.lookahead.specs.Operations.{isEmpty}
+use Rattle.lookahead.specs.contracts.Operations.{isEmpty}
 use Rattle.lookahead.proofs.Emptiness.{empty-none, none-empty}
 use Rattle.lookahead.proofs.Weights.{has-total}
 use Rattle.semantics.specs.FirstFollow.{first}
@@ -28,9 +29,10 @@ use Rattle.semantics.proofs.families.Productive.{unproductive-iff}
 use Rattle.families.specs.declared.Flaw.the-variants.{LeftRecursive, Unproductive}
 use Rattle.families.specs.declared.Finding.{Finding}
 use Rattle.base.specs.Lists.{listed}
-use Rattle.families.specs.Sets.{firstNumber, reachNumber}
+use Rattle.families.specs.Sets.{firstNumber}
+use Rattle.families.specs.contracts.Sets.{reachNumber}
 use Rattle.families.specs.Analysis.{setsFault, findingOf}
-use Rattle.families.specs.Flaws.{flawIn, findingIn}
+use Rattle.families.specs.contracts.Flaws.{flawIn, findingIn}
 use Rattle.families.proofs.FewTerminals.{admitted-read, few-terminals}
 use Rattle.base.proofs.Lists.{listed-at}
 use Rattle.families.proofs.Numbers.{in-number, element-passes}

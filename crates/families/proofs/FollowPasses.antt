@@ -19,21 +19,21 @@ use Rattle.grammar.specs.Limits.{maxNonterminals}
 use Rattle.grammar.specs.Syntax.{Body, Rule, bodies}
 use Rattle.grammar.specs.Encoding.{Parsed, ruleOf, onWord, parse}
 use Rattle.grammar.specs.Reading.{beginsRule}
-use Rattle.grammar.specs.Starts.{ruleStarts}
-use Rattle.grammar.specs.WellRead.{headOf, Begun}
+use Rattle.grammar.specs.contracts.Starts.{ruleStarts}
+use Rattle.grammar.specs.contracts.WellRead.{headOf, Begun}
 use Rattle.grammar.proofs.WellFormed.{none-in, more-in}
 use Rattle.grammar.proofs.WellRead.{well-read}
 use Rattle.grammar.proofs.EachIndex.{Behind, read-place}
 use Rattle.lookahead.specs.declared.Lookahead.{Lookahead}
-use Rattle.lookahead.specs.Elements.{Subset}
-use Rattle.lookahead.specs.Operations.{end as endSet, concatNumbers, End as EndSet, Concatenated}
+use Rattle.lookahead.specs.contracts.Elements.{Subset}
+use Rattle.lookahead.specs.contracts.Operations.{end as endSet, concatNumbers, End as EndSet, Concatenated}
 use Rattle.lookahead.proofs.Order.{subset-refl}
 use Rattle.lookahead.proofs.Concat.{concat-mono, concat-assoc}
-use Rattle.families.specs.Naming.{nonterminalOf, Indexed}
-use Rattle.families.specs.Least.{SetFamily, at, Under, Adds, AddsTo, Passing, Passes}
-use Rattle.families.specs.First.{symbolFirst, bodyFirst}
-use Rattle.families.specs.Follow.{FollowNumbersBody, FollowRules, FollowNumbersClosed, tailBefore, Asked}
-use Rattle.families.specs.Rules.{turnOf, Ended, Inside, RuleWords, PassGiven}
+use Rattle.families.specs.contracts.Naming.{nonterminalOf, Indexed}
+use Rattle.families.specs.contracts.Least.{SetFamily, at, Under, Adds, AddsTo, Passing, Passes}
+use Rattle.families.specs.contracts.First.{symbolFirst, bodyFirst}
+use Rattle.families.specs.contracts.Follow.{FollowNumbersBody, FollowRules, FollowNumbersClosed, tailBefore, Asked}
+use Rattle.families.specs.contracts.Rules.{turnOf, Ended, Inside, RuleWords, PassGiven}
 use Rattle.families.proofs.Words.{parse-here}
 use Rattle.families.proofs.NamedNonterminals.{IndexedName, name-indexed}
 use Rattle.families.proofs.Inner.{Inner, word-inside}

@@ -18,20 +18,21 @@ use Rattle.semantics.specs.FirstFollow.{first, follow, First, Follow}
 use Rattle.semantics.proofs.families.First.{first-lookahead}
 use Rattle.semantics.proofs.families.Follow.{follow-lookahead, follow-closed, follow-smallest}
 use Rattle.lookahead.specs.declared.Lookahead.{Lookahead}
-use Rattle.lookahead.specs.Lookaheads.{tokens, alphabet, nothing, stringOf, after}
-use Rattle.lookahead.specs.Elements.{Subset}
-use Rattle.lookahead.specs.Operations.{end, full, concatNumbers}
+use Rattle.lookahead.specs.Lookaheads.{tokens, nothing, stringOf}
+use Rattle.lookahead.specs.contracts.Lookaheads.{alphabet, after}
+use Rattle.lookahead.specs.contracts.Elements.{Subset}
+use Rattle.lookahead.specs.contracts.Operations.{end, full, concatNumbers}
 use Rattle.lookahead.proofs.Strings.{string-nothing, string-after, after-below, nothing-below}
 use Rattle.lookahead.proofs.Operations.{has-end}
 use Rattle.lookahead.proofs.Over.{bound-over, over-end, full-greatest}
 use Rattle.lookahead.proofs.Pairs.{concat-pair}
 use Rattle.lookahead.proofs.Concat.{paired, concat-bound}
 use Rattle.admission.specs.Admission.{admission}
-use Rattle.families.specs.Least.{SetFamily, at, LeastNumbers}
+use Rattle.families.specs.contracts.Least.{SetFamily, at, LeastNumbers}
 use Rattle.base.specs.Lists.{listed}
 use Rattle.families.specs.Sets.{firstNumber, followNumber}
-use Rattle.families.specs.First.{bodyFirst}
-use Rattle.families.specs.Follow.{FollowNumbersBody, FollowNumbersClosed}
+use Rattle.families.specs.contracts.First.{bodyFirst}
+use Rattle.families.specs.contracts.Follow.{FollowNumbersBody, FollowNumbersClosed}
 use Rattle.families.proofs.FewTerminals.{admitted-read, few-terminals}
 use Rattle.base.proofs.Lists.{listed-is}
 use Rattle.families.proofs.Strings.{StringIn, stringsOf}

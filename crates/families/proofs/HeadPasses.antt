@@ -11,13 +11,13 @@ use Rattle.grammar.specs.declared.reading.Sizes.{Sizes}
 use Rattle.grammar.specs.Limits.{maxNonterminals}
 use Rattle.grammar.specs.Syntax.{Rule}
 use Rattle.grammar.specs.Encoding.{parse}
-use Rattle.grammar.specs.Starts.{ruleStarts}
-use Rattle.grammar.specs.WellRead.{headOf}
+use Rattle.grammar.specs.contracts.Starts.{ruleStarts}
+use Rattle.grammar.specs.contracts.WellRead.{headOf}
 use Rattle.grammar.proofs.EachIndex.{read-whole}
 use Rattle.grammar.proofs.WellRead.{well-read}
-use Rattle.lookahead.specs.Elements.{Subset}
-use Rattle.families.specs.Least.{SetFamily, at, Under, Adds, Passes}
-use Rattle.families.specs.Rules.{turnOf, ruleFrom, PassGiven}
+use Rattle.lookahead.specs.contracts.Elements.{Subset}
+use Rattle.families.specs.contracts.Least.{SetFamily, at, Under, Adds, Passes}
+use Rattle.families.specs.contracts.Rules.{turnOf, ruleFrom, PassGiven}
 use Rattle.families.proofs.LeastByPasses.{passing-add}
 use Rattle.families.proofs.RuleRanges.{rule-in, in-rules, rule-is}
 use Rattle.families.proofs.RulePasses.{turn-below, Turns, turns-next, turns-end}

@@ -9,8 +9,8 @@ use Rattle.word.specs.declared.Word.{Word}
 use Rattle.word.specs.Words.{decoded}
 use Rattle.grammar.specs.Encoding.{Parsed, onWord, parse}
 use Rattle.grammar.proofs.EachIndex.{Behind, read-place}
-use Rattle.families.specs.Naming.{Indexed}
-use Rattle.families.specs.Rules.{fromEnd, Inside, RuleWords}
+use Rattle.families.specs.contracts.Naming.{Indexed}
+use Rattle.families.specs.contracts.Rules.{fromEnd, Inside, RuleWords}
 use Rattle.families.proofs.NamedNonterminals.{before-indexed}
 use Rattle.families.proofs.Words.{parse-before}
 

@@ -9,10 +9,10 @@ use native.Mathlib.Decide.{ℕ-discrete}
 use lib.ListN.{length, getD, set, replicate, length-set}
 use lib.Seq.{getD-set-same, getD-set-other, set-getD}
 use borrow.Author.Tests.{eq-eqb, ne-eqb}
-use Rattle.lookahead.specs.Elements.{Subset}
-use Rattle.lookahead.specs.Operations.{join}
+use Rattle.lookahead.specs.contracts.Elements.{Subset}
+use Rattle.lookahead.specs.contracts.Operations.{join}
 use Rattle.lookahead.proofs.Order.{subset-refl, join-left, empty-least, join-least, join-grows, same-join, subset-le}
-use Rattle.families.specs.Least.{SetFamily, at, Under, LeastNumbers, Adds, sum, Passing, Passes}
+use Rattle.families.specs.contracts.Least.{SetFamily, at, Under, LeastNumbers, Adds, sum, Passing, Passes}
 
 -- the sum rises by what is stored
 sum-set : (l : List ℕ) (n v : ℕ) → n < length l → sum (set l n v) + at l n ≡ sum l + v

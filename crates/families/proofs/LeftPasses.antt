@@ -15,17 +15,18 @@ use Rattle.base.specs.Choice.{choose}
 use Rattle.grammar.specs.Limits.{maxNonterminals}
 use Rattle.grammar.specs.Syntax.{Body, Rule, bodies}
 use Rattle.grammar.specs.Encoding.{Parsed, onWord}
-use Rattle.grammar.specs.WellRead.{firstRule}
+use Rattle.grammar.specs.contracts.WellRead.{firstRule}
 use Rattle.grammar.proofs.EachIndex.{Behind}
-use Rattle.lookahead.specs.Elements.{weight, Subset}
-use Rattle.lookahead.specs.Operations.{empty, join, Empty, Joined}
+use Rattle.lookahead.specs.Elements.{weight}
+use Rattle.lookahead.specs.contracts.Elements.{Subset}
+use Rattle.lookahead.specs.contracts.Operations.{empty, join, Empty, Joined}
 use Rattle.lookahead.proofs.Order.{subset-refl, subset-antisym, join-left, join-right, join-least, join-mono, join-same}
 use Rattle.base.specs.Rounds.{NumberSet}
-use Rattle.families.specs.Least.{SetFamily, Under}
-use Rattle.families.specs.Left.{symbolLeft, bodyLeft, bodiesLeft, lefts, leftOf, ownLeft, insideLeft}
-use Rattle.families.specs.Naming.{IndexedSymbol, Indexed}
-use Rattle.families.specs.Nonterminals.{alone, Alone}
-use Rattle.families.specs.Rules.{fromEnd, ruleFrom, Inside, RuleWords}
+use Rattle.families.specs.contracts.Least.{SetFamily, Under}
+use Rattle.families.specs.contracts.Left.{symbolLeft, bodyLeft, bodiesLeft, lefts, leftOf, ownLeft, insideLeft}
+use Rattle.families.specs.contracts.Naming.{IndexedSymbol, Indexed}
+use Rattle.families.specs.contracts.Nonterminals.{alone, Alone}
+use Rattle.families.specs.contracts.Rules.{fromEnd, ruleFrom, Inside, RuleWords}
 use Rattle.families.proofs.Inner.{made-inside}
 use Rattle.families.proofs.HeadPasses.{Larger}
 

@@ -21,7 +21,7 @@ use Rattle.grammar.proofs.EachIndex.{read-whole}
 use Rattle.lookahead.specs.declared.Lookahead.{Lookahead}
 use Rattle.lookahead.specs.Lookaheads.{tokens, nothing}
 use Rattle.lookahead.specs.Elements.{weight, has}
-use Rattle.lookahead.specs.Operations.{join}
+use Rattle.lookahead.specs.contracts.Operations.{join}
 use Rattle.lookahead.proofs.Strings.{string-nothing, some-token, nothing-below}
 use Rattle.lookahead.proofs.Elements.{bound}
 use Rattle.lookahead.proofs.Operations.{has-empty, has-join}
@@ -36,9 +36,10 @@ use Rattle.semantics.proofs.families.First.{first-lookahead}
 use Rattle.semantics.proofs.families.FirstNullable.{first-none}
 use Rattle.semantics.proofs.meaning.LeftRecursion.{reaches-then, target-below, leftReaches-iff}
 use Rattle.base.specs.Lists.{listed}
-use Rattle.families.specs.Sets.{firstNumber, reachNumber}
-use Rattle.families.specs.Least.{SetFamily, at, LeastNumbers}
-use Rattle.families.specs.Left.{emptyIn, symbolLeft, bodyLeft, bodiesLeft, ReachClosed}
+use Rattle.families.specs.Sets.{firstNumber}
+use Rattle.families.specs.contracts.Sets.{reachNumber}
+use Rattle.families.specs.contracts.Least.{SetFamily, at, LeastNumbers}
+use Rattle.families.specs.contracts.Left.{emptyIn, symbolLeft, bodyLeft, bodiesLeft, ReachClosed}
 use Rattle.base.proofs.Lists.{listed-is}
 use Rattle.families.proofs.FewTerminals.{admitted-read, few-terminals}
 use Rattle.families.proofs.Numbers.{number-string, string-number, array-at}

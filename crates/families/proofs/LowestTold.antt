@@ -9,7 +9,7 @@ use Rattle.base.specs.Quantifiers.{lowest}
 use Rattle.base.proofs.Booleans.{true-T}
 use Rattle.base.proofs.Quantified.{NoneBelow, below-cong, lowest-some, lowest-none}
 use Rattle.families.specs.declared.Lowest.the-variants.{Absent, At}
-use Rattle.families.specs.Flaws.{lowestOf}
+use Rattle.families.specs.contracts.Flaws.{lowestOf}
 
 -- none below a number passes, and so none below the next where it does not
 pub none-more : (n : ℕ) (p : ℕ → Bool) → NoneBelow n p → p n ≡ false → NoneBelow (n + 1) p

@@ -13,7 +13,8 @@ use Rattle.base.proofs.FiniteSets.{keep-make, keep-elim, numbers-make}
 use Rattle.base.proofs.Distinct.{distinct-keep, distinct-numbers}
 use Rattle.base.specs.Quantifiers.{one, countBelow}
 use Rattle.lookahead.specs.declared.Lookahead.{Lookahead}
-use Rattle.lookahead.specs.Lookaheads.{tokens, alphabet, elements, elementOf, stringOf}
+use Rattle.lookahead.specs.Lookaheads.{tokens, elements, elementOf, stringOf}
+use Rattle.lookahead.specs.contracts.Lookaheads.{alphabet}
 use Rattle.lookahead.specs.Elements.{has, size}
 use Rattle.lookahead.proofs.Strings.{string-same}
 use Rattle.lookahead.proofs.Bounds.{elements-fit}

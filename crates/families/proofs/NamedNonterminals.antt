@@ -18,10 +18,10 @@ use Rattle.grammar.specs.declared.reading.Sizes.{Sizes}
 use Rattle.grammar.specs.declared.reading.Outcome.the-variants.{Read}
 use Rattle.grammar.specs.Limits.{maxNonterminals}
 use Rattle.grammar.specs.Reading.{inRange, reading}
-use Rattle.grammar.specs.WellRead.{headOf}
+use Rattle.grammar.specs.contracts.WellRead.{headOf}
 use Rattle.grammar.proofs.EachIndex.{read-place}
 use Rattle.grammar.proofs.WellRead.{well-read}
-use Rattle.families.specs.Naming.{nonterminalOf, Indexed}
+use Rattle.families.specs.contracts.Naming.{nonterminalOf, Indexed}
 
 -- every kind of word but a rule's begin has no head
 pub no-head-of : (w : Word) → OneOf (0 ∷ 2 ∷ 3 ∷ 4 ∷ 5 ∷ 6 ∷ []) (tagOf the-type w) → headOf w ≡ 0

@@ -8,10 +8,10 @@ use lib.Pow.{shl-exact}
 use borrow.Author.Tests.{lt-ltb, le-ltb}
 use Rattle.grammar.specs.Limits.{maxNonterminals}
 use Rattle.lookahead.specs.Elements.{weight}
-use Rattle.lookahead.specs.Operations.{Empty}
+use Rattle.lookahead.specs.contracts.Operations.{Empty}
 use Rattle.lookahead.proofs.Operations.{has-choose}
 use Rattle.lookahead.proofs.Powers.{has-pow}
-use Rattle.families.specs.Nonterminals.{alone, Alone}
+use Rattle.families.specs.contracts.Nonterminals.{alone, Alone}
 
 is-alone : {A r : ℕ} → r ≡ alone A → Alone A r
 unfolding alone

@@ -12,10 +12,11 @@ use Rattle.grammar.specs.Syntax.{Grammar}
 use Rattle.base.specs.Strings.{Lookahead as Looked}
 use Rattle.semantics.specs.FirstFollow.{Entry}
 use Rattle.lookahead.specs.declared.Lookahead.{Lookahead}
-use Rattle.lookahead.specs.Lookaheads.{tokens, alphabet, elementOf, stringOf}
+use Rattle.lookahead.specs.Lookaheads.{tokens, elementOf, stringOf}
+use Rattle.lookahead.specs.contracts.Lookaheads.{alphabet}
 use Rattle.lookahead.specs.Elements.{has}
 use Rattle.lookahead.proofs.Order.{subset-antisym, empty-least}
-use Rattle.families.specs.Least.{SetFamily, at, LeastNumbers}
+use Rattle.families.specs.contracts.Least.{SetFamily, at, LeastNumbers}
 use Rattle.base.specs.Lists.{listed}
 use Rattle.families.specs.Sets.{numberOf}
 use Rattle.base.proofs.Lists.{listed-long, listed-at}

@@ -6,8 +6,8 @@ use Prim.Native.Nat.{ℕ, suc, _+_, _-_, _≤_, _<_}
 use native.Mathlib.Decide.{ℕ-discrete}
 use native.Mathlib.Numerals.{add-one}
 use native.Mathlib.Omega.{arith}
-use Rattle.families.specs.Least.{SetFamily, at, Passing, Passes}
-use Rattle.families.specs.Rules.{turnOf}
+use Rattle.families.specs.contracts.Least.{SetFamily, at, Passing, Passes}
+use Rattle.families.specs.contracts.Rules.{turnOf}
 use Rattle.families.proofs.LeastByPasses.{passing-none, passing-on, passing-then}
 
 -- every rule has its turn

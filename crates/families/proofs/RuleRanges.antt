@@ -18,14 +18,14 @@ use Rattle.grammar.specs.Limits.{maxRules}
 use Rattle.grammar.specs.Syntax.{Rule}
 use Rattle.grammar.specs.Encoding.{Parsed, ruleOf, onWord, parse, grammarOf}
 use Rattle.grammar.specs.Reading.{allows, beginsRule, reading}
-use Rattle.grammar.specs.Starts.{starts, ruleStarts}
-use Rattle.grammar.specs.WellRead.{headOf, firstRule, WellRead}
+use Rattle.grammar.specs.contracts.Starts.{starts, ruleStarts}
+use Rattle.grammar.specs.contracts.WellRead.{headOf, firstRule, WellRead}
 use Rattle.grammar.proofs.Begins.{begins, as-many}
 use Rattle.grammar.proofs.EachIndex.{read-whole}
 use Rattle.grammar.proofs.Suffixes.{scan-next, read-reaches}
 use Rattle.grammar.proofs.WellRead.{well-read}
 use Rattle.semantics.proofs.descent.Outcomes.{nth-below, nth-mem, mem-nth}
-use Rattle.families.specs.Rules.{ruleFrom, Ended, Inside, RuleWords}
+use Rattle.families.specs.contracts.Rules.{ruleFrom, Ended, Inside, RuleWords}
 use Rattle.families.proofs.Words.{parse-here, parse-over}
 
 -- the rules begin one behind the other

@@ -6,7 +6,8 @@ use Prim.Native.Nat.{ℕ, _≤_, _<_}
 use lib.Dec.{T}
 use Rattle.grammar.specs.Syntax.{Rule, Grammar, WellFormed}
 use Rattle.lookahead.specs.declared.Lookahead.{Lookahead}
-use Rattle.lookahead.specs.Lookaheads.{tokens, alphabet, elements, stringOf}
+use Rattle.lookahead.specs.Lookaheads.{tokens, elements, stringOf}
+use Rattle.lookahead.specs.contracts.Lookaheads.{alphabet}
 use Rattle.lookahead.specs.Elements.{has}
 use Rattle.lookahead.proofs.Order.{subset-antisym}
 use Rattle.base.specs.Strings.{Lookahead as Looked, strings, sameString}
@@ -17,8 +18,9 @@ use Rattle.semantics.specs.Claims.{meeting}
 use Rattle.base.proofs.FiniteSets.{member-mem, mem-member, keep-make, keep-elim}
 use Rattle.base.proofs.LookaheadStrings.{strings-equality, strings-make, strings-elim}
 use Rattle.semantics.proofs.families.First.{In, firstBody-mono, firstRule-make, firstRule-elim, first-in, in-first}
-use Rattle.families.specs.Sets.{numberOf, firstNumber, meetNumber}
-use Rattle.families.specs.First.{ruleFirst}
+use Rattle.families.specs.Sets.{numberOf, firstNumber}
+use Rattle.families.specs.contracts.Sets.{meetNumber}
+use Rattle.families.specs.contracts.First.{ruleFirst}
 use Rattle.families.proofs.Strings.{lookahead-bound, StringIn, string-in, in-string, number-has, has-number}
 use Rattle.families.proofs.FirstTie.{rule-begins, begins-rule}
 

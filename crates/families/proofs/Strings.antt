@@ -15,9 +15,11 @@ use Rattle.grammar.specs.Syntax.{Body, TerminalsBelow}
 use Rattle.base.specs.Strings.{Over, Lookahead as Looked}
 use Rattle.semantics.specs.Families.{Family, FirstOf, FirstBody}
 use Rattle.lookahead.specs.declared.Lookahead.{Lookahead}
-use Rattle.lookahead.specs.Lookaheads.{tokens, alphabet, elements, nothing, elementOf, stringOf, after}
-use Rattle.lookahead.specs.Elements.{weight, has, OverTerminals}
-use Rattle.lookahead.specs.Operations.{full}
+use Rattle.lookahead.specs.Lookaheads.{tokens, elements, nothing, elementOf, stringOf}
+use Rattle.lookahead.specs.contracts.Lookaheads.{alphabet, after}
+use Rattle.lookahead.specs.Elements.{weight, has}
+use Rattle.lookahead.specs.contracts.Elements.{OverTerminals}
+use Rattle.lookahead.specs.contracts.Operations.{full}
 use Rattle.lookahead.proofs.Strings.{element-string, string-element, element-below, string-short, string-nothing, string-terminal, string-after, after-below}
 use Rattle.lookahead.proofs.Strings.{single-looked, some-token, nothing-below, over-wider}
 use Rattle.lookahead.proofs.Elements.{bounded}
@@ -26,9 +28,9 @@ use Rattle.lookahead.proofs.Over.{over-full, bound-over}
 use Rattle.lookahead.proofs.Pairs.{concat-pair}
 use Rattle.lookahead.proofs.Concat.{paired}
 use Rattle.lookahead.proofs.Weights.{total-bound, has-total}
-use Rattle.families.specs.Least.{SetFamily}
+use Rattle.families.specs.contracts.Least.{SetFamily}
 use Rattle.families.specs.Sets.{numberOf}
-use Rattle.families.specs.First.{symbolFirst, bodyFirst}
+use Rattle.families.specs.contracts.First.{symbolFirst, bodyFirst}
 
 -- a string over t terminals, of which there may be so many, has an element
 pub record Stands (k : Lookahead) (x : List ℕ) : Type 0 where

@@ -8,7 +8,7 @@ use lib.Seq.{drop-cons}
 use Rattle.word.specs.declared.Word.{Word}
 use Rattle.word.specs.Words.{decoded}
 use Rattle.grammar.specs.Encoding.{onWord, parse}
-use Rattle.families.specs.Rules.{fromEnd}
+use Rattle.families.specs.contracts.Rules.{fromEnd}
 
 module _ (words : List ℕ) (i : ℕ) where
   -- the word at an index, in front of what the words behind it say

@@ -1,15 +1,11 @@
--- What is found of an encoded grammar before its table is made: the first fault among the errors 3 to 8, 13 and 18, or its sizes, where
--- its rules begin, its sets, and what the positives of each rule can all begin with.
+-- The faults of an encoded grammar that are found before its table is made, in the papers' order, and what is found by them.
 use mathlib.Core.List.{List, [], _∷_}
 use mathlib.Core.Option.{Option, none, some}
 use Prim.Native.Nat.{ℕ}
-use lib.ListN.{replicate}
 use Rattle.answer.specs.declared.Error.{Error}
 use Rattle.answer.specs.declared.Error.the-variants.{LeftRecursive, Unproductive}
 use Rattle.answer.specs.Faults.{firstFault}
-use Rattle.grammar.specs.Limits.{maxNonterminals, maxRules}
 use Rattle.grammar.specs.Encoding.{grammarOf}
-use Rattle.grammar.specs.Starts.{ruleStarts}
 use Rattle.grammar.specs.declared.reading.Outcome.{Outcome}
 use Rattle.grammar.specs.declared.reading.Outcome.the-variants.{Read, Faulty}
 use Rattle.lookahead.specs.declared.Lookahead.{Lookahead}
@@ -19,10 +15,6 @@ use Rattle.semantics.specs.LeftRecursion.{lowestLeftRecursive}
 use Rattle.semantics.specs.Productive.{lowestUnproductive}
 use Rattle.families.specs.declared.Finding.{Finding}
 use Rattle.families.specs.declared.Finding.the-variants.{Passed, Refused}
-use Rattle.families.specs.declared.Families.{Families}
-use Rattle.base.specs.Lists.{listed}
-use Rattle.families.specs.RuleLists.{byRule}
-use Rattle.families.specs.Sets.{firstNumber, followNumber, meetNumbers, reachNumber}
 
 -- 3 to 7 and 18
 abbrev pub readingFault : Outcome → Option Error
@@ -51,35 +43,3 @@ abbrev pub findingOf : Option Error → Outcome → Finding
 findingOf (some e) o = Refused e
 findingOf none (Read z) = Passed z
 findingOf none (Faulty e) = Refused e
-
--- where rules begin, or zeros
-abbrev pub startsIf : Option Error → List ℕ → List ℕ
-startsIf none l = l
-startsIf (some e) l = replicate maxRules 0
-
--- a number for each rule, or zeros
-abbrev pub byRuleIf : Option Error → List ℕ → List ℕ
-byRuleIf none l = byRule l
-byRuleIf (some e) l = replicate maxRules 0
-
--- a family of sets, or empty ones
-abbrev pub setsIf : Option Error → List ℕ → List ℕ
-setsIf none l = l
-setsIf (some e) l = replicate maxNonterminals 0
-
-abbrev pub families : Finding → List ℕ → List ℕ → List ℕ → List ℕ → List ℕ → Families
-families f starts firsts meets follows reaches =
-    record { finding = f; starts = starts; firsts = firsts; meets = meets; follows = follows; reaches = reaches }
-
-abbrev pub refusedBy : Error → Families
-refusedBy e =
-    families (Refused e) (replicate maxRules 0) (replicate maxNonterminals 0) (replicate maxRules 0) (replicate maxNonterminals 0)
-    (replicate maxNonterminals 0)
-
-unfoldable pub familiesOf : Lookahead → List ℕ → Families
-familiesOf k words =
-    families (findingOf (setsFault k words) (admission k words)) (startsIf (setsFault k words) (ruleStarts words))
-    (setsIf (setsFault k words) (listed maxNonterminals (firstNumber k (grammarOf words))))
-    (byRuleIf (setsFault k words) (meetNumbers k (grammarOf words)))
-    (setsIf (setsFault k words) (listed maxNonterminals (followNumber k (grammarOf words))))
-    (setsIf (setsFault k words) (listed maxNonterminals (reachNumber (grammarOf words))))

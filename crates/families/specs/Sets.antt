@@ -1,19 +1,16 @@
 -- A lookahead string is an element of a lookahead set, and a set of strings is a number.
 use mathlib.Core.Path.{_≡_}
 use mathlib.Core.Bool.{Bool}
-use mathlib.Core.List.{List, List·Memᴰ, map}
+use mathlib.Core.List.{List, List·Memᴰ}
 use mathlib.Core.Logic.{_↔_}
 use Prim.Native.Nat.{ℕ}
 use lib.ListN.{length}
-use Rattle.grammar.specs.Syntax.{Rule, Grammar}
+use Rattle.grammar.specs.Syntax.{Grammar}
 use Rattle.lookahead.specs.declared.Lookahead.{Lookahead}
 use Rattle.lookahead.specs.Lookaheads.{tokens, elements, stringOf}
 use Rattle.lookahead.specs.Elements.{total}
-use Rattle.base.specs.FiniteSets.{member, Distinct}
-use Rattle.base.specs.Strings.{sameString}
+use Rattle.base.specs.FiniteSets.{Distinct}
 use Rattle.semantics.specs.FirstFollow.{first, follow}
-use Rattle.semantics.specs.Claims.{meeting}
-use Rattle.semantics.specs.LeftRecursion.{leftReaches}
 
 -- the weights of a set's elements together
 unfoldable pub numberOf : Lookahead → (List ℕ → Bool) → ℕ
@@ -26,20 +23,9 @@ firstNumber k G A = numberOf k (λ x. first G (tokens k) (A, x))
 unfoldable pub followNumber : Lookahead → Grammar → ℕ → ℕ
 followNumber k G A = numberOf k (λ x. follow G (tokens k) (A, x))
 
--- what the positives of a rule can all begin with, as a number
-unfoldable pub meetNumber : Lookahead → Grammar → Rule → ℕ
-meetNumber k G r = numberOf k (member sameString (meeting G (tokens k) r))
-
-abbrev pub meetNumbers : Lookahead → Grammar → List ℕ
-meetNumbers k G = map (meetNumber k G) (G .rules)
-
 -- a set of strings has n members: they are listed, each once
 pub record Members (P : List ℕ → Type 0) (n : ℕ) : Type 0 where
   pub list : List (List ℕ)
   pub once : Distinct list
   pub just : (x : List ℕ) → List·Memᴰ x list ↔ P x
   pub long : length list ≡ n
-
--- the nonterminals that A left-reaches, B weighing 2^B
-unfoldable pub reachNumber : Grammar → ℕ → ℕ
-reachNumber G A = total (G .nonterminals) (leftReaches G A)

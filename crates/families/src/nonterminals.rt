@@ -1,8 +1,8 @@
 // A set of nonterminals by value.
 ghost use mathlib.Core.Path.{_≡_};
 ghost use Rattle.lookahead.specs.Elements.{has};
-ghost use Rattle.lookahead.specs.Operations.{Empty, Joined};
-ghost use Rattle.families.specs.Nonterminals.{Alone};
+ghost use Rattle.lookahead.specs.contracts.Operations.{Empty, Joined};
+ghost use Rattle.families.specs.contracts.Nonterminals.{Alone};
 use grammar::limits::NONTERMINALS;
 
 // Nonterminal B weighs 2^B.

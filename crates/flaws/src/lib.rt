@@ -3,7 +3,7 @@ ghost use mathlib.Core.Path.{_≡_};
 ghost use Prim.Native.Nat.{_≤_, _<_, min};
 ghost use Rattle.base.specs.Quantifiers.{lowest};
 ghost use Rattle.grammar.specs.Limits.{maxNonterminals};
-ghost use Rattle.families.specs.Flaws.{flawIn, lowestOf, findingIn};
+ghost use Rattle.families.specs.contracts.Flaws.{flawIn, lowestOf, findingIn};
 use answer::Error;
 use families::Finding;
 use families::Flaw;

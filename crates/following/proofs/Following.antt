@@ -9,7 +9,7 @@ use Rattle.word.specs.declared.Symbol.the-variants.{Nonterminal}
 use Rattle.grammar.specs.Syntax.{Body, Grammar}
 use Rattle.base.proofs.Booleans.{true-T}
 use Rattle.semantics.specs.Valuations.{solution}
-use Rattle.base.specs.Strings.{span}
+use Rattle.base.specs.contracts.Strings.{span}
 use Rattle.semantics.specs.FirstFollow.{First, Follow}
 use Rattle.semantics.specs.Predictive.{Predictive}
 use Rattle.semantics.proofs.Theorems.{theorems}

@@ -12,13 +12,15 @@ use Rattle.semantics.specs.FirstFollow.{Follow}
 use Rattle.semantics.specs.Choices.{tableChoice}
 use Rattle.semantics.specs.Descent.{Outcome, Failed, End, descend}
 use Rattle.semantics.specs.ComesTo.{callAt}
-use Rattle.semantics.specs.Memo.{Memo, EndsFit, encode, indexOf, Recorded}
+use Rattle.semantics.specs.Memo.{Memo, encode, indexOf, Recorded}
+use Rattle.semantics.specs.contracts.Memo.{EndsFit}
 use Rattle.semantics.specs.Predictive.{Predictive}
 use Rattle.semantics.proofs.Theorems.{theorems as semantics}
 use Rattle.semantics.proofs.descent.Called.{called-range}
 use Rattle.semantics.proofs.descent.Range.{index-range}
 use Rattle.following.specs.Following.{MayFollow, Agrees}
-use Rattle.following.specs.Theorems.{TellWhere, EntriesTell, Theorems}
+use Rattle.following.specs.Theorems.{TellWhere, EntriesTell}
+use Rattle.following.specs.contracts.Theorems.{Theorems}
 use Rattle.following.proofs.Agreeing.{agrees, begins}
 use Rattle.following.proofs.Following.{may-follow}
 

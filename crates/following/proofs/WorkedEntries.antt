@@ -7,7 +7,7 @@ use Prim.Native.Nat.{ℕ}
 use native.Mathlib.Omega.{arith}
 use Rattle.word.specs.declared.Symbol.the-variants.{Terminal, Nonterminal}
 use Rattle.grammar.specs.Syntax.{Grammar}
-use Rattle.grammar.specs.Cards.{grammarE}
+use Rattle.grammar.specs.examples.Cards.{grammarE}
 use Rattle.base.specs.Quantifiers.{anyOf, allOf, anyBelow}
 use Rattle.semantics.specs.Valuations.{Valuation, contains, derives, byRules, rounds, Solves, solution}
 use Rattle.base.specs.Strings.{look, Over}
@@ -16,8 +16,9 @@ use Rattle.semantics.specs.Choices.{tableChoice}
 use Rattle.semantics.specs.Descent.{select}
 use Rattle.semantics.specs.ComesTo.{callAt}
 use Rattle.semantics.specs.Calls.{Called, start, more}
-use Rattle.semantics.specs.Memo.{Memo, EndsFit, encode, decode}
-use Rattle.semantics.specs.MemoDescent.{memoStart, memoCall, memoObey, memoRule, memoPositives, memoNegatives, memoRun, andThen, stored}
+use Rattle.semantics.specs.Memo.{Memo, encode}
+use Rattle.semantics.specs.contracts.Memo.{EndsFit, decode}
+use Rattle.semantics.specs.contracts.MemoDescent.{memoStart, memoCall, memoObey, memoRule, memoPositives, memoNegatives, memoRun, andThen, stored}
 use Rattle.semantics.specs.Predictive.{Predictive}
 use Rattle.semantics.proofs.Theorems.{theorems as semantics}
 use Rattle.semantics.proofs.examples.Check.{belowTest, scopedTest, terminalsTest, ownTest, predictive}

@@ -8,7 +8,7 @@ use lib.Dec.{leb, le→leb, eqb-refl}
 use lib.ListN.{length}
 use Rattle.word.specs.declared.Symbol.the-variants.{Terminal, Nonterminal}
 use Rattle.grammar.specs.Syntax.{Grammar}
-use Rattle.grammar.specs.Cards.{grammarM, grammarE}
+use Rattle.grammar.specs.examples.Cards.{grammarM, grammarE}
 use Rattle.base.specs.Quantifiers.{anyOf, allOf, anyBelow}
 use Rattle.base.proofs.Booleans.{T-true, true-T, and-make}
 use Rattle.base.proofs.Quantified.{below-make}

@@ -25,7 +25,8 @@ use Rattle.text.specs.Ascii.{ascii}
 use Rattle.text.specs.Decimal.{labelled}
 use Rattle.text.specs.Writing.{upTo}
 use Rattle.gaps_text_promises.specs.Gaps.{claimants, rulesText, entryText, overrunText, isListed, listedEntries, listedOverruns, gapsLines}
-use Rattle.gaps_text_promises.specs.Steps.{claimantText, numbersText, claimantsText, entryLine, rowText, overrunLine, overrunsText, linesText, claimsAt}
+use Rattle.gaps_text_promises.specs.contracts.Steps.{claimantText, numbersText, claimantsText, entryLine, rowText, overrunLine, overrunsText, linesText}
+use Rattle.gaps_text_promises.specs.contracts.Steps.{claimsAt}
 
 -- texts of numbers in order that agree
 pub up-to-same : (n : ℕ) (f g : ℕ → List ℕ) → ((i : ℕ) → i < n → f i ≡ g i) → upTo n f ≡ upTo n g

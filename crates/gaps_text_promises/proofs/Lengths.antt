@@ -32,7 +32,8 @@ use Rattle.text.specs.Writing.{upTo}
 use Rattle.text.proofs.Lengths.{choose-most, decimal-few, up-to-most, refusal-most}
 use Rattle.gaps_text_promises.specs.Room.{ruleRoom, entryRoom, overrunRoom, gapsRoom}
 use Rattle.gaps_text_promises.specs.Gaps.{onRule, claimsBy, overrunText, foundText, gapsText}
-use Rattle.gaps_text_promises.specs.Steps.{claimantText, numbersText, claimantsText, entryLine, rowText, overrunLine, overrunsText, linesText, claimsAt}
+use Rattle.gaps_text_promises.specs.contracts.Steps.{claimantText, numbersText, claimantsText, entryLine, rowText, overrunLine, overrunsText, linesText}
+use Rattle.gaps_text_promises.specs.contracts.Steps.{claimsAt}
 use Rattle.gaps_text_promises.proofs.Entries.{lines-are}
 
 claimant-most : (b : Bool) (q : ℕ) → q < 1000 → length (claimantText b q) ≤ one b * ruleRoom

@@ -14,7 +14,7 @@ use Rattle.families.specs.declared.Finding.the-variants.{Passed, Refused}
 use Rattle.text.specs.Refusal.{refusalText}
 use Rattle.text.specs.Writing.{Put}
 use Rattle.text.proofs.Writing.{put-none}
-use Rattle.gaps_text_promises.specs.Steps.{linesText, claimantAt, overrunsIn, withinLimits, GapsPutBy}
+use Rattle.gaps_text_promises.specs.contracts.Steps.{linesText, claimantAt, overrunsIn, withinLimits, GapsPutBy}
 
 -- test by test
 module _ (z : Sizes) where

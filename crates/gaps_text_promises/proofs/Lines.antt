@@ -11,16 +11,16 @@ use Rattle.base.specs.Quantifiers.{one, countBelow}
 use Rattle.base.proofs.Quantified.{one-le}
 use Rattle.lookahead.specs.Elements.{has}
 use Rattle.lookahead.specs.declared.Lookahead.the-variants.{One}
-use Rattle.lookahead.specs.Operations.{isEmpty}
-use Rattle.claims.specs.Claims.{claimant}
-use Rattle.columns.specs.Columns.{columnElement}
+use Rattle.lookahead.specs.contracts.Operations.{isEmpty}
+use Rattle.claims.specs.contracts.Claims.{claimant}
+use Rattle.columns.specs.contracts.Columns.{columnElement}
 use Rattle.claims.proofs.Claimants.{claimant-own}
 use Rattle.text.specs.Ascii.{ascii}
 use Rattle.text.specs.Decimal.{decimal, labelled}
 use Rattle.text.specs.Writing.{Put}
 use Rattle.text.proofs.Writing.{put-none}
 use Rattle.gaps_text_promises.specs.Gaps.{overrunText}
-use Rattle.gaps_text_promises.specs.Steps.{claimantText, numbersText, claimantsText, entryLine, overrunLine, claimantAt, overrunsBy}
+use Rattle.gaps_text_promises.specs.contracts.Steps.{claimantText, numbersText, claimantsText, entryLine, overrunLine, claimantAt, overrunsBy}
 
 -- a rule of the nonterminal claims what its claim has
 pub claimant-head : (heads sets : List ℕ) (A l q : ℕ) {b : Bool} → getD heads q 0 ≡ A → b ≡ has (getD sets q 0) l → b ≡ claimant heads sets A l q

@@ -15,29 +15,31 @@ use Rattle.grammar.specs.declared.reading.Sizes.{Sizes}
 use Rattle.grammar.specs.declared.reading.Outcome.the-variants.{Read}
 use Rattle.grammar.specs.Reading.{reading}
 use Rattle.grammar.specs.Syntax.{Rule, Grammar}
-use Rattle.grammar.specs.WellRead.{WellRead}
+use Rattle.grammar.specs.contracts.WellRead.{WellRead}
 use Rattle.grammar.proofs.WellRead.{well-read}
 use Rattle.lookahead.specs.declared.Lookahead.the-variants.{One}
-use Rattle.lookahead.specs.Lookaheads.{alphabet}
-use Rattle.lookahead.specs.Operations.{isEmpty, terminal}
+use Rattle.lookahead.specs.contracts.Lookaheads.{alphabet}
+use Rattle.lookahead.specs.contracts.Operations.{isEmpty, terminal}
 use Rattle.semantics.specs.Claims.{overruns}
 use Rattle.families.specs.declared.Finding.{Finding}
 use Rattle.families.specs.declared.Finding.the-variants.{Passed, Refused}
-use Rattle.families.specs.Analysis.{setsFault, byRuleIf}
-use Rattle.families.specs.RuleLists.{byRule}
+use Rattle.families.specs.Analysis.{setsFault}
+use Rattle.families.specs.contracts.Analysis.{byRuleIf}
+use Rattle.families.specs.contracts.RuleLists.{byRule}
 use Rattle.families.proofs.Findings.{told-passed, told-refused}
 use Rattle.base.proofs.Lists.{listed-at}
 use Rattle.claims.specs.declared.Claims.{Claims}
-use Rattle.claims.specs.Claims.{headsOf, claimNumbers, overrunsOf, overrunsIf, claimsOf}
-use Rattle.columns.specs.Columns.{columnElement}
-use Rattle.claims.specs.Overruns.{overrunSet}
+use Rattle.claims.specs.contracts.Claims.{headsOf, claimNumbers, overrunsOf, overrunsIf, claimsOf}
+use Rattle.columns.specs.contracts.Columns.{columnElement}
+use Rattle.claims.specs.contracts.Overruns.{overrunSet}
 use Rattle.claims.proofs.Claimants.{claims-alike, told as rules-told}
 use Rattle.columns.proofs.ColumnStrings.{column-string, element-small}
 use Rattle.text.specs.Refusal.{refusalText}
 use Rattle.text.specs.Writing.{Put}
-use Rattle.gaps_text_promises.specs.Gaps.{claimsBy, gapsText, GapsPut}
-use Rattle.gaps_text_promises.specs.Steps.{claimantText, numbersText, claimantsText, entryLine, rowText, overrunLine, overrunsText, linesText, claimsAt}
-use Rattle.gaps_text_promises.specs.Steps.{claimantAt, overrunsBy, overrunsIn, withinLimits, gapsBy, GapsPutBy}
+use Rattle.gaps_text_promises.specs.Gaps.{claimsBy, gapsText}
+use Rattle.gaps_text_promises.specs.contracts.Gaps.{GapsPut}
+use Rattle.gaps_text_promises.specs.contracts.Steps.{claimantText, numbersText, claimantsText, entryLine, rowText, overrunLine, overrunsText, linesText}
+use Rattle.gaps_text_promises.specs.contracts.Steps.{claimsAt, claimantAt, overrunsBy, overrunsIn, withinLimits, gapsBy, GapsPutBy}
 use Rattle.gaps_text_promises.proofs.Entries.{up-to-same, lines-are}
 use Rattle.gaps_text_promises.proofs.Overlaps.{lines-tell}
 

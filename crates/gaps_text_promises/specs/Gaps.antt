@@ -23,7 +23,6 @@ use Rattle.table.specs.Analysis.{fault}
 use Rattle.text.specs.Ascii.{ascii}
 use Rattle.text.specs.Decimal.{decimal, labelled}
 use Rattle.text.specs.Refusal.{refusalText}
-use Rattle.text.specs.Writing.{Put}
 
 abbrev pub onRule : Option Rule → (Rule → Bool) → Bool
 onRule none p = false
@@ -87,7 +86,3 @@ pub record LinesTell (words : List ℕ) : Type 0 where
       ↔ Claims (grammarOf words) 1 (First (grammarOf words) 1) (Follow (grammarOf words) 1) q (e .0) (e .1)
   pub overrun : (A : ℕ) → T (overruns (grammarOf words) 1 A) ↔ Overrun (grammarOf words) (Follow (grammarOf words) 1) A
   pub nine : setsFault One words ≡ none → NoneShown (grammarOf words) ↔ (fault One words ≡ none)
-
-pub record GapsPut (words before after : List ℕ) (n : ℕ) : Type 0 where
-  pub put : Put before 0 (gapsText words) after n
-  pub tells : LinesTell words

@@ -13,8 +13,8 @@ use Rattle.word.specs.Words.{decoded}
 use Rattle.grammar.specs.Syntax.{Rule}
 use Rattle.grammar.specs.Encoding.{Parsed, ruleOf, onWord, parse}
 use Rattle.grammar.specs.Reading.{beginsRule}
-use Rattle.grammar.specs.Starts.{starts}
-use Rattle.grammar.specs.WellRead.{headOf, firstRule}
+use Rattle.grammar.specs.contracts.Starts.{starts}
+use Rattle.grammar.specs.contracts.WellRead.{headOf, firstRule}
 
 rules-on : (w : Word) (p : Parsed) → onWord w p .rules ≡ choose (beginsRule w) (ruleOf (headOf w) p ∷ p .rules) (p .rules)
 unfolding onWord

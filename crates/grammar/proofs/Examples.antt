@@ -4,9 +4,9 @@ use mathlib.Core.List.{[], _∷_, map}
 use Rattle.word.specs.Words.{bare, heading, ofKind, decoded}
 use Rattle.grammar.specs.Encoding.{onWord, parse, grammarOf}
 use Rattle.grammar.specs.Reading.{counted, stepped, onStep, finished, scan, within, headed, opened, reading}
-use Rattle.grammar.specs.Starts.{starts}
-use Rattle.grammar.specs.Cards.{grammarR, wordsR, grammarM, wordsM, grammarE, wordsE}
-use Rattle.grammar.specs.Examples.{emptyRules, examples}
+use Rattle.grammar.specs.contracts.Starts.{starts}
+use Rattle.grammar.specs.examples.Cards.{grammarR, wordsR, grammarM, wordsM, grammarE, wordsE}
+use Rattle.grammar.specs.examples.Rows.{emptyRules, examples}
 
 -- each row has the outcome that stands beside it
 pub examples-read : map (λ e. reading (e .words)) examples ≡ map (λ e. e .outcome) examples

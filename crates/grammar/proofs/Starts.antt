@@ -14,7 +14,7 @@ use Rattle.base.specs.Choice.{choose}
 use Rattle.word.specs.Words.{decoded}
 use Rattle.grammar.specs.Limits.{maxRules}
 use Rattle.grammar.specs.Reading.{beginsRule}
-use Rattle.grammar.specs.Starts.{starts, ruleStarts, Noted}
+use Rattle.grammar.specs.contracts.Starts.{starts, ruleStarts, Noted}
 
 -- `note`, by its tests
 module _ {before : List ℕ} {rules at : ℕ} (w : Word) where

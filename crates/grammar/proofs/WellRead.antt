@@ -21,8 +21,8 @@ use Rattle.grammar.specs.Limits.{maxWords, maxNonterminals, maxTerminals
 use Rattle.grammar.specs.Syntax.{Grammar, WellFormed}
 use Rattle.grammar.specs.Encoding.{declaredBy, parse, grammarOf}
 use Rattle.grammar.specs.Reading.{beginsRule, fresh, scan, within, headed, opened, reading}
-use Rattle.grammar.specs.Starts.{starts, ruleStarts}
-use Rattle.grammar.specs.WellRead.{firstRule, Begun, WellRead}
+use Rattle.grammar.specs.contracts.Starts.{starts, ruleStarts}
+use Rattle.grammar.specs.contracts.WellRead.{firstRule, Begun, WellRead}
 use Rattle.grammar.proofs.WellFormed.{Each, RuleFits, faulty, Reads, reads}
 use Rattle.grammar.proofs.Begins.{Begins, begins, as-many}
 

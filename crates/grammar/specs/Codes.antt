@@ -5,10 +5,6 @@ use Prim.Native.Nat.{ℕ}
 abbrev pub noEntry : ℕ
 noEntry = 4294967295
 
--- the same where rules are bytes
-abbrev pub noRule : ℕ
-noRule = 255
-
 -- an entry of the memo table: the call failed
 abbrev pub failedCode : ℕ
 failedCode = 65534

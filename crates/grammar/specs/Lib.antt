@@ -3,7 +3,5 @@ pub mod Codes
 pub mod Syntax
 pub mod Encoding
 pub mod Reading
-pub mod Starts
-pub mod WellRead
-pub mod Cards
-pub mod Examples
+pub mod contracts
+pub mod examples

@@ -1,6 +1,5 @@
 -- The limits of documents 01 and 02.
 use Prim.Native.Nat.{ℕ, _+_, _*_, _/_}
-use Rattle.grammar.specs.declared.limits.Limits.{Limits}
 
 -- how long an encoded grammar may be, and how many nonterminals, terminals and rules it may have
 abbrev pub maxWords : ℕ
@@ -31,10 +30,6 @@ maxWideTerminals = 7
 abbrev pub maxWideColumns : ℕ
 maxWideColumns = 1 + maxWideTerminals + maxWideTerminals * maxWideTerminals
 
--- the entries of all rows, whichever the lookahead
-abbrev pub maxEntries : ℕ
-maxEntries = maxNonterminals * maxWideColumns
-
 -- an input has a place before each token and one at its end
 abbrev pub maxPlaces : ℕ
 maxPlaces = maxTokens + 1
@@ -62,23 +57,3 @@ maxTabularPlaces = maxTabularTokens + 1
 -- the lent words of the spans are one for each span of such an input: from each place to itself and to each behind it
 abbrev pub maxSpanWords : ℕ
 maxSpanWords = maxTabularPlaces * (maxTabularPlaces + 1) / 2
-
-abbrev pub limited : Limits
-limited = record {
-  words = maxWords;
-  nonterminals = maxNonterminals;
-  terminals = maxTerminals;
-  rules = maxRules;
-  tokens = maxTokens;
-  columns = maxColumns;
-  «wide_terminals» = maxWideTerminals;
-  «wide_columns» = maxWideColumns;
-  entries = maxEntries;
-  places = maxPlaces;
-  «table_words» = maxTableWords;
-  «wide_table_words» = maxWideTableWords;
-  «memo_entries» = maxMemoEntries;
-  «tabular_tokens» = maxTabularTokens;
-  «tabular_places» = maxTabularPlaces;
-  «span_words» = maxSpanWords;
-}

@@ -1,6 +1,6 @@
 // The limits of documents 01 and 02, each once.
 ghost use mathlib.Core.Path.{_≡_};
-ghost use Rattle.grammar.specs.Limits.{limited};
+ghost use Rattle.grammar.specs.contracts.Limits.{limited};
 
 pub const WORDS: usize = 2048;
 

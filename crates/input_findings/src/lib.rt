@@ -1,7 +1,7 @@
 // What is found of a grammar and then of an input of at most so many tokens: its length, and its tokens.
 ghost use mathlib.Core.Path.{_≡_};
 ghost use Rattle.event.specs.Events.{inputOf};
-ghost use Rattle.promises.specs.Inputs.{withInputTo};
+ghost use Rattle.promises.specs.contracts.Inputs.{withInputTo};
 use answer::Error;
 use event::Unknown;
 use event::first_unknown;

@@ -8,7 +8,8 @@ use native.Mathlib.Omega.{arith}
 use lib.Dec.{ltb}
 use borrow.Author.Tests.{lt-ltb, le-ltb, ltb-true}
 use Rattle.base.specs.Choice.{choose}
-use Rattle.inputs.specs.Inputs.{maxInputs, inputCount}
+use Rattle.inputs.specs.Inputs.{maxInputs}
+use Rattle.inputs.specs.contracts.Inputs.{inputCount}
 
 pub record Counting (terminals tokens inputs at : ℕ) : Type 0 where
   pub within : at ≤ tokens

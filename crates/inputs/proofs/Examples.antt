@@ -5,7 +5,8 @@ use mathlib.Core.List.{List, [], _∷_}
 use Prim.Native.Nat.{ℕ, _+_, _%_}
 use lib.ListN.{getD}
 use Rattle.base.specs.FiniteSets.{numbersFrom, numbers, combine}
-use Rattle.inputs.specs.Inputs.{inputs, inputAt, inputCount, before}
+use Rattle.inputs.specs.Inputs.{inputs, before}
+use Rattle.inputs.specs.contracts.Inputs.{inputAt, inputCount}
 use Rattle.inputs.specs.Costliest.{costliestFrom, costliest}
 
 unfoldable inputs-compute : Unit {0}

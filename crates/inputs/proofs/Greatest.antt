@@ -8,7 +8,8 @@ use lib.Dec.{ltb}
 use lib.ListN.{length, getD}
 use borrow.Author.Tests.{ltb-true, ltb-false}
 use Rattle.base.specs.Choice.{choose}
-use Rattle.inputs.specs.Inputs.{inputs, inputAt}
+use Rattle.inputs.specs.Inputs.{inputs}
+use Rattle.inputs.specs.contracts.Inputs.{inputAt}
 use Rattle.inputs.specs.Costliest.{costliestFrom, firstCostliest, costliest, CostliestOf}
 use Rattle.inputs.proofs.Numbers.{inputs-count, some-input, inputs-at, numberFrom, at-long, at-over, number-at, at-number, before-lower}
 

@@ -16,7 +16,8 @@ use Rattle.base.specs.Strings.{Over}
 use Rattle.base.proofs.FiniteSets.{numbers-length}
 use Rattle.base.proofs.CombinedAt.{combine-at}
 use Rattle.base.proofs.Distinct.{combine-length}
-use Rattle.inputs.specs.Inputs.{inputs, inputAt, before}
+use Rattle.inputs.specs.Inputs.{inputs, before}
+use Rattle.inputs.specs.contracts.Inputs.{inputAt}
 
 pub inputs-count : (n k : ℕ) → length (inputs n k) ≡ n ^ k
 unfolding inputs

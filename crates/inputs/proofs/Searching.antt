@@ -11,7 +11,8 @@ use lib.ListN.{length, getD, drop, drop-of-length-le}
 use lib.Seq.{drop-cons}
 use borrow.Author.Tests.{lt-ltb, le-ltb}
 use Rattle.base.specs.Choice.{choose}
-use Rattle.inputs.specs.Inputs.{inputs, inputAt}
+use Rattle.inputs.specs.Inputs.{inputs}
+use Rattle.inputs.specs.contracts.Inputs.{inputAt}
 use Rattle.inputs.specs.Costliest.{costliestFrom, firstCostliest, costliest}
 use Rattle.inputs.proofs.Numbers.{inputs-count, some-input, inputs-at}
 

@@ -6,7 +6,7 @@ use Prim.Native.Nat.{ℕ, suc, _-_, _/_, _%_, _≤_, _<_}
 use native.Mathlib.Omega.{arith}
 use lib.ListN.{length, take, drop, set, length-set, drop-of-length-le}
 use lib.Seq.{set-split, drop-at, length-take-le}
-use Rattle.inputs.specs.Inputs.{inputAt}
+use Rattle.inputs.specs.contracts.Inputs.{inputAt}
 
 pub record Writing (n number : ℕ) (entry now : List ℕ) (rest at : ℕ) : Type 0 where
   pub same-length : length now ≡ length entry

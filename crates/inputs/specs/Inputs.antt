@@ -1,9 +1,8 @@
--- All inputs of one length in letter order, how many there are, and each by its number.
+-- All inputs of one length in letter order, and among how many a search goes.
 use mathlib.Core.Bool.{Bool, false, _&&_, _||_}
 use mathlib.Core.List.{List, [], _∷_, _++_}
-use Prim.Native.Nat.{ℕ, zero, suc, _/_, _%_, _^_}
+use Prim.Native.Nat.{ℕ, zero, suc}
 use lib.Dec.{eqb, ltb}
-use Rattle.base.specs.Choice.{choose}
 use Rattle.base.specs.FiniteSets.{numbers, combine}
 
 -- every string of k terminals below n: those of one terminal less, in order, each followed by each terminal (document 02: letter order)
@@ -17,15 +16,6 @@ before [] y = false
 before (a ∷ x) [] = false
 before (a ∷ x) (b ∷ y) = ltb a b || (eqb a b && before x y)
 
--- k digits of a number to the base n, the first weighing most
-unfoldable pub inputAt : ℕ → ℕ → ℕ → List ℕ
-inputAt n zero i = []
-inputAt n (suc k) i = inputAt n k (i / n) ++ i % n ∷ []
-
 -- among how many inputs a search goes
 abbrev pub maxInputs : ℕ
 maxInputs = 4096
-
--- how many inputs there are, or one more than are searched where there are more
-unfoldable pub inputCount : ℕ → ℕ → ℕ
-inputCount n k = choose (ltb maxInputs (n ^ k)) (suc maxInputs) (n ^ k)

@@ -4,7 +4,7 @@ ghost use Prim.Native.Nat.{_+_};
 ghost use lib.Dec.{ltb};
 ghost use lib.ListN.{length};
 ghost use Rattle.base.specs.Choice.{choose};
-ghost use Rattle.inputs.specs.Inputs.{inputAt, inputCount};
+ghost use Rattle.inputs.specs.contracts.Inputs.{inputAt, inputCount};
 
 // Among how many inputs a search goes.
 pub const INPUTS: usize = 4096;

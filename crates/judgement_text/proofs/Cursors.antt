@@ -9,7 +9,7 @@ use Rattle.grammar.specs.Codes.{uncalledCode}
 use Rattle.text.specs.Writing.{Put, upTo}
 use Rattle.text.proofs.Writing.{put-none, put-next}
 use Rattle.judgement_text.specs.declared.cursor.Cursor.{Cursor}
-use Rattle.judgement_text.specs.Cursors.{Stands, EntryPut}
+use Rattle.judgement_text.specs.contracts.Cursors.{Stands, EntryPut}
 use Rattle.judgement_text.specs.Judgement.{callText}
 
 module _ (tokens : ℕ) (c : Cursor) (s : Stands tokens c) where

@@ -1,3 +1,3 @@
-pub mod Cursors
 pub mod Judgement
 pub mod Room
+pub mod contracts

@@ -1,7 +1,7 @@
 // The entry of the memo table that is printed next: its index, and the nonterminal and the place that it is of.
 ghost use mathlib.Core.Path.{_≡_};
 ghost use Prim.Native.Nat.{ℕ, _+_, _^_, _<_};
-ghost use Rattle.judgement_text.specs.Cursors.{Stands};
+ghost use Rattle.judgement_text.specs.contracts.Cursors.{Stands};
 
 // The nonterminal and the place are carried along, so that no index is divided by the length of a row.
 pub struct Cursor {

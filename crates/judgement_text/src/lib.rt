@@ -6,7 +6,7 @@ ghost use Rattle.grammar.specs.Codes.{uncalledCode};
 ghost use Rattle.text.specs.Ascii.{ascii};
 ghost use Rattle.text.specs.Decimal.{decimal, labelled};
 ghost use Rattle.text.specs.Writing.{Put};
-ghost use Rattle.judgement_text.specs.Cursors.{EntryPut};
+ghost use Rattle.judgement_text.specs.contracts.Cursors.{EntryPut};
 ghost use Rattle.judgement_text.specs.Judgement.{endText, callText, callsText, judgementText};
 use answer::Answer;
 use answer::Calls;

@@ -18,7 +18,8 @@ use Rattle.promises.proofs.Leaving.{leaves, leaves-alike, leaves-refused}
 use Rattle.kept_input.specs.declared.Progress.{Progress}
 use Rattle.kept_input.specs.declared.KeptInput.{KeptInput}
 use Rattle.kept_input.specs.Histories.{checkpointCount, empty, Step, Add, Mark, Return, within, stepFault, done, after}
-use Rattle.kept_input.specs.Stored.{unsetCode, keptInput, readLength, readCheckpoint, held, valuesOf, codeOf, progressOf, stored, clearedBeyond, readProgress}
+use Rattle.kept_input.specs.Stored.{unsetCode, keptInput, readLength, readCheckpoint, held, valuesOf, codeOf, progressOf, stored}
+use Rattle.kept_input.specs.contracts.Stored.{clearedBeyond, readProgress}
 use Rattle.kept_input.specs.Properties.{Begins, Steps}
 use Rattle.kept_input.specs.Runs.{Sound}
 use Rattle.kept_input.proofs.Lists.{map-map, values-same, values-list, values-set}

@@ -13,7 +13,8 @@ use borrow.Author.Tests.{le-leb, lt-leb}
 use Rattle.base.specs.Choice.{choose}
 use Rattle.grammar.specs.Limits.{maxTokens}
 use Rattle.kept_input.specs.Histories.{checkpointCount, Kept, within}
-use Rattle.kept_input.specs.Stored.{unsetCode, readCheckpoint, held, valuesOf, codeOf, progressOf, stored, clearedBeyond}
+use Rattle.kept_input.specs.Stored.{unsetCode, readCheckpoint, held, valuesOf, codeOf, progressOf, stored}
+use Rattle.kept_input.specs.contracts.Stored.{clearedBeyond}
 use Rattle.kept_input.specs.Runs.{Sound}
 use Rattle.kept_input.proofs.Lists.{values-length, values-at}
 

@@ -2,7 +2,7 @@
 use mathlib.Core.Path.{refl}
 use Rattle.kept_input.specs.Histories.{stepFault, done, after, ran}
 use Rattle.kept_input.specs.Stored.{valuesOf, progressOf}
-use Rattle.kept_input.specs.Examples.{rehearsed, undone, Worked}
+use Rattle.kept_input.specs.examples.Rows.{rehearsed, undone, Worked}
 
 pub worked : Worked
 unfolding rehearsed undone stepFault done after ran valuesOf progressOf

@@ -2,4 +2,5 @@ pub mod Histories
 pub mod Stored
 pub mod Properties
 pub mod Runs
-pub mod Examples
+pub mod contracts
+pub mod examples

@@ -1,6 +1,5 @@
 -- A kept input as it is stored, and what any stored value is read as.
-use mathlib.Core.Path.{_≡_}
-use mathlib.Core.List.{List, [], _∷_, _++_, map}
+use mathlib.Core.List.{List, [], _∷_, _++_}
 use mathlib.Core.Option.{Option, none, some}
 use Prim.Native.Nat.{ℕ, zero, suc, min}
 use lib.Dec.{leb}
@@ -47,16 +46,3 @@ progressOf s = record { length = length (s .events); checkpoints = valuesOf (λ 
 
 unfoldable pub stored : List ℕ → Kept → KeptInput
 stored old s = keptInput (s .events ++ drop (length (s .events)) old) (progressOf s)
-
--- a stored value as it is read, stored again
-abbrev pub clearedBeyond : ℕ → ℕ → ℕ
-clearedBeyond n x = choose (leb x n) x unsetCode
-
-abbrev pub readProgress : Progress → Progress
-readProgress p = record { length = readLength p; checkpoints = map (clearedBeyond (readLength p)) (p .checkpoints) }
-
--- so the code reads a value, whose arrays are as long as their types tell
-pub record Reads (k : KeptInput) (now : Progress) : Type 0 where
-  pub progress : now ≡ readProgress (k .progress)
-  pub whole : length (k .events) ≡ maxTokens
-  pub eight : length (k .progress .checkpoints) ≡ checkpointCount

@@ -1,9 +1,9 @@
 // What is at the left of a body and of a rule, with all that this left-reaches, made longer by one word at a time from the end.
 ghost use mathlib.Core.Path.{_≡_};
-ghost use Rattle.families.specs.Least.{at as family};
-ghost use Rattle.families.specs.Left.{emptyIn, ownLeft, lefts, insideLeft};
-ghost use Rattle.families.specs.Rules.{fromEnd};
-ghost use Rattle.lookahead.specs.Operations.{empty, join};
+ghost use Rattle.families.specs.contracts.Least.{at as family};
+ghost use Rattle.families.specs.contracts.Left.{emptyIn, ownLeft, lefts, insideLeft};
+ghost use Rattle.families.specs.contracts.Rules.{fromEnd};
+ghost use Rattle.lookahead.specs.contracts.Operations.{empty, join};
 use families::Left;
 use families::SETS;
 use families::nonterminals::Nonterminals;

@@ -12,10 +12,10 @@ use lib.ListN.{length, getD, drop}
 use lib.Seq.{ext-getD}
 use borrow.Author.Tests.{ne-eqb, lt-ltb, le-ltb}
 use Rattle.base.specs.Choice.{choose}
-use Rattle.grammar.specs.Codes.{noRule}
+use Rattle.grammar.specs.contracts.Codes.{noRule}
 use Rattle.grammar.specs.Encoding.{grammarOf}
 use Rattle.grammar.specs.Limits.{maxNonterminals, maxRules}
-use Rattle.grammar.specs.WellRead.{WellRead}
+use Rattle.grammar.specs.contracts.WellRead.{WellRead}
 use Rattle.grammar.proofs.WellRead.{well-read}
 use Rattle.grammar.specs.Syntax.{Grammar}
 use Rattle.grammar.specs.declared.reading.Sizes.{Sizes}
@@ -36,9 +36,9 @@ use Rattle.base.proofs.Lists.{listed-long, listed-at}
 use Rattle.families.proofs.Strings.{number-below}
 use Rattle.columns.specs.Columns.{columnString, columns}
 use Rattle.table.specs.Layout.{entryWord, entryAt, setWord, rowWord, tableWords, tableRoom}
-use Rattle.lending.specs.Lending.{entryCode, wordAt, stored, wordCount, laid, noSizes, lentSizes, lentOf, lentBy, SizesGiven}
+use Rattle.lending.specs.contracts.Lending.{entryCode, wordAt, stored, wordCount, laid, noSizes, lentSizes, lentOf, lentBy, SizesGiven}
 use Rattle.lending.proofs.Laying.{lent-sizes, count-room, lent-long}
-use Rattle.table.specs.Entries.{ruleByte, byteAt, entriesOf}
+use Rattle.table.specs.contracts.Entries.{ruleByte, byteAt, entriesOf}
 use Rattle.table.proofs.EntriesFilled.{entries-in}
 use Rattle.table.proofs.Words.{table-length, table-long, table-set, table-row}
 use Rattle.table.proofs.Analyzing.{FoundEntries}

@@ -1,6 +1,6 @@
 // What is found of a grammar and then of a length, all inputs of which are to be judged by it.
 ghost use mathlib.Core.Path.{_≡_};
-ghost use Rattle.recognizer_promises.specs.CostliestInput.{withLength};
+ghost use Rattle.recognizer_promises.specs.contracts.CostliestInput.{withLength};
 use answer::Error;
 use families::Finding;
 use grammar::limits::TOKENS;

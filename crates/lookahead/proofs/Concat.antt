@@ -6,9 +6,11 @@ use lib.Dec.{T, eqb→eq, eqb-refl}
 use mir.Facts.{and-yes, yes-and}
 use Rattle.base.proofs.Booleans.{both, T-none}
 use Rattle.lookahead.specs.declared.Lookahead.{Lookahead}
-use Rattle.lookahead.specs.Lookaheads.{elements, nothing, after}
-use Rattle.lookahead.specs.Elements.{has, Subset}
-use Rattle.lookahead.specs.Operations.{isEmpty, end, concatNumbers}
+use Rattle.lookahead.specs.Lookaheads.{elements, nothing}
+use Rattle.lookahead.specs.contracts.Lookaheads.{after}
+use Rattle.lookahead.specs.Elements.{has}
+use Rattle.lookahead.specs.contracts.Elements.{Subset}
+use Rattle.lookahead.specs.contracts.Operations.{isEmpty, end, concatNumbers}
 use Rattle.lookahead.proofs.Elements.{bounded}
 use Rattle.lookahead.proofs.Emptiness.{empty-none, none-empty, some-element, element-some}
 use Rattle.lookahead.proofs.Strings.{nothing-after, after-nothing, after-assoc, after-below, after-is-nothing, nothing-below}

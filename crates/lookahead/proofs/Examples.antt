@@ -4,9 +4,10 @@ use mathlib.Core.Path.{_≡_, refl}
 use native.Mathlib.Omega.{arith}
 use Rattle.base.specs.Quantifiers.{allOf, anyBelow, countBelow}
 use Rattle.lookahead.specs.declared.Lookahead.the-variants.{One, Two}
-use Rattle.lookahead.specs.Lookaheads.{stringOf, after}
+use Rattle.lookahead.specs.Lookaheads.{stringOf}
+use Rattle.lookahead.specs.contracts.Lookaheads.{after}
 use Rattle.lookahead.specs.Elements.{has, total, width, size}
-use Rattle.lookahead.specs.Operations.{join, meet, full, behind, inConcat, concatNumbers}
+use Rattle.lookahead.specs.contracts.Operations.{join, meet, full, behind, inConcat, concatNumbers}
 use Rattle.lookahead.proofs.Operations.{has-join, has-meet}
 use Rattle.lookahead.proofs.Bounds.{join-bound, meet-bound}
 use Rattle.lookahead.proofs.Weights.{total-of}

@@ -10,10 +10,11 @@ use Rattle.base.specs.Quantifiers.{allOf}
 use Rattle.base.proofs.Booleans.{both}
 use Rattle.base.proofs.Quantified.{below-elim}
 use Rattle.lookahead.specs.declared.Lookahead.{Lookahead}
-use Rattle.lookahead.specs.Lookaheads.{alphabet, elements, nothing, elementOf, stringOf, after}
+use Rattle.lookahead.specs.contracts.Lookaheads.{alphabet, after}
+use Rattle.lookahead.specs.Lookaheads.{elements, nothing, elementOf, stringOf}
 use Rattle.lookahead.specs.Elements.{weight, has}
-use Rattle.lookahead.specs.Operations.{empty, end, terminal, full, join, meet, behind, inConcat, concatNumbers}
-use Rattle.lookahead.specs.Operations.{Empty, End, Terminal, Full, Joined, Met, Concatenated}
+use Rattle.lookahead.specs.contracts.Operations.{empty, end, terminal, full, join, meet, behind, inConcat, concatNumbers}
+use Rattle.lookahead.specs.contracts.Operations.{Empty, End, Terminal, Full, Joined, Met, Concatenated}
 use Rattle.lookahead.proofs.Elements as of-numbers
 use Rattle.lookahead.proofs.Powers as powers
 use Rattle.lookahead.proofs.Strings.{after-below}

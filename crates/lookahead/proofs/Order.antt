@@ -6,8 +6,9 @@ use native.Mathlib.Omega.{arith}
 use native.Mathlib.Decide.{ℕ-discrete}
 use lib.Bits.{or-add-and, and-le-l, and-le-r}
 use mir.Facts.{and-yes, yes-and, or-yes}
-use Rattle.lookahead.specs.Elements.{has, Subset}
-use Rattle.lookahead.specs.Operations.{empty, join, meet}
+use Rattle.lookahead.specs.Elements.{has}
+use Rattle.lookahead.specs.contracts.Elements.{Subset}
+use Rattle.lookahead.specs.contracts.Operations.{empty, join, meet}
 use Rattle.base.proofs.Booleans.{both, or-l, or-r}
 use Rattle.lookahead.proofs.Elements as elements
 use Rattle.lookahead.proofs.Operations.{has-empty, has-join, has-meet}

@@ -8,9 +8,11 @@ use mir.Facts.{and-yes, yes-and, or-yes}
 use Rattle.base.specs.Quantifiers.{allOf}
 use Rattle.base.proofs.LookaheadStrings.{cut-lookahead}
 use Rattle.lookahead.specs.declared.Lookahead.{Lookahead}
-use Rattle.lookahead.specs.Lookaheads.{tokens, alphabet, elements, nothing, elementOf, stringOf}
-use Rattle.lookahead.specs.Elements.{has, Subset, OverTerminals}
-use Rattle.lookahead.specs.Operations.{empty, end, terminal, full, join, meet, concatNumbers}
+use Rattle.lookahead.specs.Lookaheads.{tokens, elements, nothing, elementOf, stringOf}
+use Rattle.lookahead.specs.contracts.Lookaheads.{alphabet}
+use Rattle.lookahead.specs.Elements.{has}
+use Rattle.lookahead.specs.contracts.Elements.{Subset, OverTerminals}
+use Rattle.lookahead.specs.contracts.Operations.{empty, end, terminal, full, join, meet, concatNumbers}
 use Rattle.lookahead.proofs.Elements as of-numbers
 use Rattle.lookahead.proofs.Strings.{string-nothing, string-terminal, single-looked, string-over, string-after, after-below, element-below}
 use Rattle.lookahead.proofs.Strings.{nothing-below, over-none}

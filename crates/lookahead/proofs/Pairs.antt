@@ -6,9 +6,10 @@ use lib.Dec.{T, eqb, eqb→eq, eqb-refl}
 use mir.Facts.{and-yes, yes-and}
 use Rattle.base.proofs.Quantified.{below-elim, below-make}
 use Rattle.lookahead.specs.declared.Lookahead.{Lookahead}
-use Rattle.lookahead.specs.Lookaheads.{elements, after}
+use Rattle.lookahead.specs.Lookaheads.{elements}
+use Rattle.lookahead.specs.contracts.Lookaheads.{after}
 use Rattle.lookahead.specs.Elements.{has}
-use Rattle.lookahead.specs.Operations.{behind, inConcat, concatNumbers}
+use Rattle.lookahead.specs.contracts.Operations.{behind, inConcat, concatNumbers}
 use Rattle.lookahead.proofs.Operations.{has-concat}
 
 -- l is looked at in some pair of an element of x and one of y

@@ -16,7 +16,8 @@ use Rattle.base.proofs.Strings.{take-cut}
 use Rattle.base.proofs.LookaheadStrings.{cut-lookahead, cut-none}
 use Rattle.lookahead.specs.declared.Lookahead.{Lookahead}
 use Rattle.lookahead.specs.declared.Lookahead.the-variants.{One, Two}
-use Rattle.lookahead.specs.Lookaheads.{tokens, alphabet, elements, nothing, elementOf, stringOf, after}
+use Rattle.lookahead.specs.Lookaheads.{tokens, elements, nothing, elementOf, stringOf}
+use Rattle.lookahead.specs.contracts.Lookaheads.{alphabet, after}
 
 -- with two tokens: a terminal alone, and a pair
 pub two-single : (l : ℕ) → 0 < l → l < 8 → stringOf Two l ≡ (l - 1) ∷ []

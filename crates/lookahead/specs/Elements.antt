@@ -1,11 +1,8 @@
 -- A lookahead set (document 01: event set) is a number, the sum of its elements' weights.
 use mathlib.Core.Bool.{Bool}
-use Prim.Native.Nat.{ℕ, zero, suc, _+_, _*_, _/_, _%_, _^_, _<_}
-use lib.Dec.{T, eqb}
+use Prim.Native.Nat.{ℕ, zero, suc, _+_, _*_, _/_, _%_, _^_}
+use lib.Dec.{eqb}
 use Rattle.base.specs.Quantifiers.{one, countBelow}
-use Rattle.base.specs.Strings.{Over}
-use Rattle.lookahead.specs.declared.Lookahead.{Lookahead}
-use Rattle.lookahead.specs.Lookaheads.{elements, stringOf}
 
 abbrev pub weight : ℕ → ℕ
 weight l = 2 ^ l
@@ -13,14 +10,6 @@ weight l = 2 ^ l
 -- l is an element of the set s
 unfoldable pub has : ℕ → ℕ → Bool
 has s l = eqb (s / weight l % 2) 1
-
--- every element of x is one of y
-abbrev pub Subset : ℕ → ℕ → Type 0
-Subset x y = (l : ℕ) → T (has x l) → T (has y l)
-
--- the elements of s stand for strings over the first t terminals: a set over a grammar with t terminals
-abbrev pub OverTerminals : Lookahead → ℕ → ℕ → Type 0
-OverTerminals k t s = (l : ℕ) → T (has s l) → (l < elements k) × Over t (stringOf k l)
 
 -- the weights of the numbers below k that pass the test, added up
 unfoldable pub total : ℕ → (ℕ → Bool) → ℕ

@@ -1,21 +1,15 @@
 -- How many tokens are looked at, and the strings of at most so many terminals as elements of lookahead sets.
-use mathlib.Core.List.{List, [], _∷_, _++_}
+use mathlib.Core.List.{List, [], _∷_}
 use Prim.Native.Nat.{ℕ, _+_, _-_, _*_, _/_, _%_}
 use lib.Dec.{eqb, ltb}
-use lib.ListN.{take}
 use Rattle.base.specs.Choice.{choose}
-use Rattle.grammar.specs.Limits.{maxTerminals, maxColumns, maxWideTerminals, maxWideColumns}
+use Rattle.grammar.specs.Limits.{maxColumns, maxWideColumns}
 use Rattle.lookahead.specs.declared.Lookahead.{Lookahead}
 use Rattle.lookahead.specs.declared.Lookahead.the-variants.{One, Two}
 
 abbrev pub tokens : Lookahead → ℕ
 tokens One = 1
 tokens Two = 2
-
--- the most terminals that there may be
-abbrev pub alphabet : Lookahead → ℕ
-alphabet One = maxTerminals
-alphabet Two = maxWideTerminals
 
 -- the elements of sets are the numbers below it
 abbrev pub elements : Lookahead → ℕ
@@ -39,11 +33,3 @@ elementOf Two (a ∷ b ∷ x) = 8 + 7 * a + b
 unfoldable pub stringOf : Lookahead → ℕ → List ℕ
 stringOf One l = choose (eqb l (nothing One)) [] (l ∷ [])
 stringOf Two l = choose (eqb l (nothing Two)) [] (choose (ltb l 8) ((l - 1) ∷ []) (((l - 8) / 7) ∷ ((l - 8) % 7) ∷ []))
-
--- the element of the tokens that are looked at where the string of a is followed by that of b
-unfoldable pub after : Lookahead → ℕ → ℕ → ℕ
-after k a b = elementOf k (take (tokens k) (stringOf k a ++ stringOf k b))
-
--- the element for terminal 0 alone
-abbrev pub single : Lookahead → ℕ
-single k = elementOf k (0 ∷ [])

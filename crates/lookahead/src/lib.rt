@@ -1,6 +1,7 @@
 // How many tokens are looked at, and the strings of at most so many terminals as numbers: the elements of lookahead sets.
 ghost use mathlib.Core.Path.{_≡_};
-ghost use Rattle.lookahead.specs.Lookaheads.{alphabet, elements, nothing, single};
+ghost use Rattle.lookahead.specs.contracts.Lookaheads.{alphabet, single};
+ghost use Rattle.lookahead.specs.Lookaheads.{elements, nothing};
 use grammar::limits::WIDE_TERMINALS;
 
 // How many tokens are looked at.

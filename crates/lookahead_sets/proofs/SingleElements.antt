@@ -6,9 +6,10 @@ use native.Mathlib.Omega.{arith}
 use borrow.Author.Tests.{lt-ltb, le-ltb}
 use Rattle.lookahead.specs.declared.Lookahead.{Lookahead}
 use Rattle.lookahead.specs.declared.Lookahead.the-variants.{One, Two}
-use Rattle.lookahead.specs.Lookaheads.{alphabet, elements, nothing, elementOf, single}
+use Rattle.lookahead.specs.contracts.Lookaheads.{alphabet, single}
+use Rattle.lookahead.specs.Lookaheads.{elements, nothing, elementOf}
 use Rattle.lookahead.specs.Elements.{width}
-use Rattle.lookahead.specs.Operations.{terminal, Empty, End, Terminal}
+use Rattle.lookahead.specs.contracts.Operations.{terminal, Empty, End, Terminal}
 use Rattle.lookahead.proofs.Bounds.{elements-fit}
 use Rattle.lookahead.proofs.Digits.{shifted}
 use Rattle.lookahead.proofs.Operations.{is-end, is-terminal}

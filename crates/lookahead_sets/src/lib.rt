@@ -1,7 +1,7 @@
 // Lookahead sets: the strings of one or two tokens that may come next, shorter ones before the end of the input.
 ghost use mathlib.Core.Path.{_≡_};
 ghost use Rattle.lookahead.specs.Elements.{has, size};
-ghost use Rattle.lookahead.specs.Operations.{isEmpty, Empty, End, Terminal, Joined, Met};
+ghost use Rattle.lookahead.specs.contracts.Operations.{isEmpty, Empty, End, Terminal, Joined, Met};
 use lookahead::Lookahead;
 use lookahead::alphabet;
 use lookahead::nothing;

@@ -22,7 +22,7 @@ use Rattle.semantics.specs.Memo.{Memo, Recorded, written}
 use Rattle.base.proofs.Booleans.{T-true}
 use Rattle.base.proofs.FiniteSets.{keep-make, keep-elim, numbers-make, numbers-elim, combine-make, combine-elim}
 use Rattle.base.proofs.Quantified.{below-make, below-elim, one-le, count-le}
-use Rattle.memo_table.specs.Tally.{tallyOf, records, recordsAt, recordedBelow, writtenAmong, recordedCalls, calledAt, RowsGiven}
+use Rattle.memo_table.specs.contracts.Tally.{tallyOf, records, recordsAt, recordedBelow, writtenAmong, recordedCalls, calledAt, RowsGiven}
 use Rattle.memo_table.proofs.JoinedLists.{keep-append, keep-one, numbers-more, combine-more}
 use Rattle.memo_table.proofs.Entries.{getD-any}
 

@@ -1,7 +1,8 @@
 // An outcome as an entry of the memo table, and back.
 ghost use mathlib.Core.Path.{_≡_};
-ghost use Rattle.semantics.specs.Memo.{encode, decode};
-ghost use Rattle.rule.specs.Rule.{meant};
+ghost use Rattle.semantics.specs.Memo.{encode};
+ghost use Rattle.semantics.specs.contracts.Memo.{decode};
+ghost use Rattle.rule.specs.contracts.Rule.{meant};
 use grammar::codes::FAILED;
 use rule::Outcome;
 

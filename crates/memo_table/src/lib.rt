@@ -5,7 +5,7 @@ ghost use lib.ListN.{length, replicate};
 ghost use Rattle.base.specs.Quantifiers.{one};
 ghost use Rattle.grammar.specs.Codes.{uncalledCode};
 ghost use Rattle.semantics.specs.Calls.{greatestPlace};
-ghost use Rattle.memo_table.specs.Tally.{tallyOf, records, recordedBelow, calledAt, recordedCalls, blockEntries, BlockGiven, RowsGiven};
+ghost use Rattle.memo_table.specs.contracts.Tally.{tallyOf, records, recordedBelow, calledAt, recordedCalls, blockEntries, BlockGiven, RowsGiven};
 use answer::Calls;
 use grammar::codes::UNCALLED;
 

@@ -2,7 +2,8 @@
 ghost use mathlib.Core.Path.{_≡_};
 ghost use Prim.Native.Nat.{_%_};
 ghost use Rattle.answer.specs.Numbers.{numbers};
-ghost use Rattle.embed_promises.specs.Packing.{joined, packed, cut};
+ghost use Rattle.embed_promises.specs.Packing.{joined, packed};
+ghost use Rattle.embed_promises.specs.contracts.Packing.{cut};
 use answer::Answer;
 use answer::code;
 use answer::position;

@@ -1,6 +1,7 @@
 // The state of a kept log in a row of nine numbers: its length and its eight checkpoints.
 ghost use mathlib.Core.Path.{_≡_};
-ghost use Rattle.embed_promises.specs.Kept.{stateOf, StateRead};
+ghost use Rattle.embed_promises.specs.Kept.{stateOf};
+ghost use Rattle.embed_promises.specs.contracts.Kept.{StateRead};
 use kept_input::CHECKPOINTS;
 use kept_input::Progress;
 

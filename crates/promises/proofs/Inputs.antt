@@ -17,7 +17,7 @@ use Rattle.event.proofs.Inputs.{input-length}
 use Rattle.families.specs.declared.Finding.{Finding}
 use Rattle.families.specs.declared.Finding.the-variants.{Passed, Refused}
 use Rattle.grammar.specs.declared.reading.Sizes.{Sizes}
-use Rattle.promises.specs.Inputs.{passedUnless, withFaults, withInputTo}
+use Rattle.promises.specs.contracts.Inputs.{passedUnless, withFaults, withInputTo}
 
 -- by what is found of the grammar
 pub record PassedWith (f : Finding) (faults : ℕ → List (Option Error)) (z : Sizes) : Type 0 where

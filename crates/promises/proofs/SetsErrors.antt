@@ -20,7 +20,8 @@ use Rattle.encoding.specs.Diagnosis.{Diagnosis, long, heading, behind, encoding
 use Rattle.encoding.proofs.Faithful.{reading-diagnosed}
 use Rattle.lookahead.specs.declared.Lookahead.{Lookahead}
 use Rattle.lookahead.specs.declared.Lookahead.the-variants.{Two}
-use Rattle.lookahead.specs.Lookaheads.{tokens, alphabet}
+use Rattle.lookahead.specs.Lookaheads.{tokens}
+use Rattle.lookahead.specs.contracts.Lookaheads.{alphabet}
 use Rattle.admission.specs.Admission.{admission}
 use Rattle.admission.proofs.AdmissionErrors.{OfOutcome, of-read, of-faulty, admission-each}
 use Rattle.semantics.specs.LeftRecursion.{leftRecursive, lowestLeftRecursive}

@@ -3,3 +3,4 @@ pub mod Leaving
 pub mod Directions
 pub mod Places
 pub mod Inputs
+pub mod contracts

@@ -3,7 +3,7 @@ ghost use mathlib.Core.Path.{_≡_};
 ghost use lib.ListN.{drop};
 ghost use Rattle.grammar.specs.Encoding.{declaredBy};
 ghost use Rattle.grammar.specs.Reading.{stepped, finished, fresh, scan, within as withinOf, reading};
-ghost use Rattle.grammar.specs.Starts.{Noted, ruleStarts};
+ghost use Rattle.grammar.specs.contracts.Starts.{Noted, ruleStarts};
 use answer::Error;
 use grammar::limits::NONTERMINALS;
 use grammar::limits::RULES;

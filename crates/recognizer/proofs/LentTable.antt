@@ -15,14 +15,15 @@ use Rattle.families.specs.declared.Finding.the-variants.{Passed}
 use Rattle.families.specs.Analysis.{findingOf}
 use Rattle.table.specs.declared.Found.{Found}
 use Rattle.table.specs.Layout.{tableWords, tableRoom}
-use Rattle.table.specs.Analysis.{grammarFaults, fault, foundOf}
+use Rattle.table.specs.Analysis.{grammarFaults, fault}
+use Rattle.table.specs.contracts.Analysis.{foundOf}
 use Rattle.table.proofs.Analyzing.{entries-told}
-use Rattle.lending.specs.Lending.{lentOf}
+use Rattle.lending.specs.contracts.Lending.{lentOf}
 use Rattle.lending.proofs.WordsLaid.{lent-table, lent-nothing}
 use Rattle.recognizer_promises.specs.declared.Judgement.{Judgement}
 use Rattle.promises.specs.Memory.{lentBack}
-use Rattle.recognizer_promises.specs.Judging.{memoFault, foundUnless, JudgesWords}
-use Rattle.recognizer_promises.specs.Search.{searchFault, SearchesWords}
+use Rattle.recognizer_promises.specs.contracts.Judging.{memoFault, foundUnless, JudgesWords}
+use Rattle.recognizer_promises.specs.contracts.Search.{searchFault, SearchesWords}
 use Rattle.recognizer_promises.specs.Properties.{Judges}
 use Rattle.recognizer_promises.specs.Costliest.{JudgesCostliest}
 use Rattle.families.proofs.Findings.{read-some}

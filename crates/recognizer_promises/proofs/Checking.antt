@@ -14,7 +14,7 @@ use Rattle.answer.specs.declared.Answer.{Answer}
 use Rattle.answer.specs.declared.Answer.the-variants.{Refused, Passed}
 use Rattle.grammar.specs.Syntax.{Grammar}
 use Rattle.grammar.specs.Encoding.{grammarOf}
-use Rattle.grammar.specs.Starts.{ruleStarts}
+use Rattle.grammar.specs.contracts.Starts.{ruleStarts}
 use Rattle.grammar.specs.Reading.{reading}
 use Rattle.grammar.specs.declared.reading.Sizes.{Sizes}
 use Rattle.grammar.specs.declared.reading.Outcome.the-variants.{Read}
@@ -23,7 +23,8 @@ use Rattle.encoding.proofs.Decoding.{encodes-grammar}
 use Rattle.encoding.proofs.ReadingEncodes.{read-encodes, encodes-read}
 use Rattle.lookahead.specs.declared.Lookahead.{Lookahead}
 use Rattle.lookahead.specs.declared.Lookahead.the-variants.{One, Two}
-use Rattle.lookahead.specs.Lookaheads.{tokens, alphabet}
+use Rattle.lookahead.specs.Lookaheads.{tokens}
+use Rattle.lookahead.specs.contracts.Lookaheads.{alphabet}
 use Rattle.lookahead.proofs.Strings.{some-token}
 use Rattle.admission.specs.Admission.{Fits, admission}
 use Rattle.admission.proofs.Admitted.{admitted}
@@ -37,10 +38,12 @@ use Rattle.families.specs.declared.Finding.the-variants as finding
 use Rattle.families.proofs.FewTerminals.{few-terminals}
 use Rattle.table.specs.declared.Found.{Found}
 use Rattle.table.specs.Layout.{tableWords, tableRoom}
-use Rattle.table.specs.Entries.{entriesOf}
-use Rattle.families.specs.Analysis.{setsFault, findingOf, startsIf}
+use Rattle.table.specs.contracts.Entries.{entriesOf}
+use Rattle.families.specs.Analysis.{setsFault, findingOf}
+use Rattle.families.specs.contracts.Analysis.{startsIf}
 use Rattle.families.proofs.Findings.{read-some, told-passed, told-refused}
-use Rattle.table.specs.Analysis.{clashFault, grammarFaults, fault, entriesIf, foundOf}
+use Rattle.table.specs.Analysis.{clashFault, grammarFaults, fault}
+use Rattle.table.specs.contracts.Analysis.{entriesIf, foundOf}
 use Rattle.table.specs.Conflicts.{firstClash}
 use Rattle.table.specs.declared.conflicts.Conflict.{Conflict}
 use Rattle.table.specs.declared.conflicts.Conflict.the-variants.{Absent, At}
@@ -49,7 +52,7 @@ use Rattle.table.proofs.Analyzing.{none-sets}
 use Rattle.promises.specs.Leaving.{lent, Leaves}
 use Rattle.promises.proofs.Leaving.{leaves, leaves-alike, leaves-refused}
 use Rattle.recognizer_promises.specs.Answers.{tableTooShort, checkFault}
-use Rattle.recognizer_promises.specs.Judging.{EntriesFound}
+use Rattle.recognizer_promises.specs.contracts.Judging.{EntriesFound}
 use Rattle.recognizer_promises.specs.Properties.{PassedGrammar, Checks}
 use Rattle.promises.proofs.Places.{check-tells, none-left, none-unproductive}
 use Rattle.recognizer_promises.proofs.Words.{least-sets, clash-none, understood}

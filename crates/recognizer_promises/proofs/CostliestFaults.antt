@@ -19,11 +19,12 @@ use Rattle.grammar.specs.Limits.{maxTokens, maxTableWords, maxMemoEntries}
 use Rattle.grammar.specs.Syntax.{Grammar}
 use Rattle.grammar.specs.Encoding.{grammarOf}
 use Rattle.encoding.specs.Encode.{Encodes}
-use Rattle.grammar.specs.WellRead.{WellRead}
+use Rattle.grammar.specs.contracts.WellRead.{WellRead}
 use Rattle.grammar.specs.declared.reading.Sizes.{Sizes}
 use Rattle.grammar.proofs.WellRead.{well-read}
 use Rattle.lookahead.specs.declared.Lookahead.the-variants.{One}
-use Rattle.inputs.specs.Inputs.{maxInputs, inputCount}
+use Rattle.inputs.specs.Inputs.{maxInputs}
+use Rattle.inputs.specs.contracts.Inputs.{inputCount}
 use Rattle.inputs.specs.Costliest.{CostliestOf}
 use Rattle.inputs.proofs.Counting.{count-over, count-few}
 use Rattle.inputs.proofs.Greatest.{costliest-of}
@@ -33,7 +34,8 @@ use Rattle.families.proofs.FewTerminals.{admitted-read}
 use Rattle.base.specs.Strings.{Over}
 use Rattle.semantics.specs.Descent.{accepts}
 use Rattle.table.specs.Layout.{tableWords}
-use Rattle.table.specs.Analysis.{grammarFaults, fault, foundOf}
+use Rattle.table.specs.Analysis.{grammarFaults, fault}
+use Rattle.table.specs.contracts.Analysis.{foundOf}
 use Rattle.table.specs.declared.Found.{Found}
 use Rattle.promises.specs.Memory.{lentBack}
 use Rattle.promises.specs.Leaving.{lent, Leaves}
@@ -43,11 +45,12 @@ use Rattle.promises.proofs.Inputs.{PassedWith, RefusedWith, byGrammar, byFaults
 use Rattle.recognizer_promises.specs.Memory.{memoWords}
 use Rattle.recognizer_promises.specs.Answers.{choiceOf, judgeFault, callsOf, verdictOf}
 use Rattle.recognizer_promises.specs.declared.Judgement.{Judgement}
-use Rattle.recognizer_promises.specs.Judging.{foundUnless, refusedWith, EntriesFound, JudgedPassed}
+use Rattle.recognizer_promises.specs.contracts.Judging.{foundUnless, refusedWith, EntriesFound, JudgedPassed}
 use Rattle.recognizer_promises.specs.Properties.{Room}
-use Rattle.recognizer_promises.specs.CostliestInput.{callsOn, costliestInput, lengthFaults, costliestFault, withLength}
+use Rattle.recognizer_promises.specs.CostliestInput.{callsOn, costliestInput, lengthFaults, costliestFault}
+use Rattle.recognizer_promises.specs.contracts.CostliestInput.{withLength}
 use Rattle.recognizer_promises.specs.Costliest.{Searchable, JudgesCostliest}
-use Rattle.recognizer_promises.specs.Search.{searchFault, SearchesWords, SearchGiven, BestJudged}
+use Rattle.recognizer_promises.specs.contracts.Search.{searchFault, SearchesWords, SearchGiven, BestJudged}
 use Rattle.recognizer_promises.proofs.Words.{understood}
 use Rattle.recognizer_promises.proofs.Places.{fault-encoded, places}
 use Rattle.recognizer_promises.proofs.Checking.{fits-few, passed-fault, fault-passed, passed-encodes, passed-free, Told, told, found as found-entries}

@@ -8,7 +8,7 @@ use Rattle.answer.proofs.Faults.{OfFault, of-none, of-some, EachFault}
 use Rattle.grammar.specs.Limits.{maxNonterminals}
 use Rattle.grammar.specs.Encoding.{grammarOf}
 use Rattle.lookahead.specs.declared.Lookahead.{Lookahead}
-use Rattle.lookahead.specs.Lookaheads.{alphabet}
+use Rattle.lookahead.specs.contracts.Lookaheads.{alphabet}
 use Rattle.table.specs.declared.conflicts.Conflict.{Conflict}
 use Rattle.table.specs.declared.conflicts.Conflict.the-variants.{Absent, At}
 use Rattle.table.specs.Analysis.{conflictError, clashFault, grammarFaults}

@@ -21,7 +21,7 @@ use Rattle.event.specs.declared.Unknown.{Unknown}
 use Rattle.event.specs.declared.Unknown.the-variants.{Absent, At}
 use Rattle.event.specs.Unknown.{unknownFrom, unknownFault}
 use Rattle.recognizer_promises.specs.Answers.{tableTooShort, checkFault, judgeFault, inputFaults}
-use Rattle.recognizer_promises.specs.Judging.{memoFault}
+use Rattle.recognizer_promises.specs.contracts.Judging.{memoFault}
 
 -- the rows of judging, with the grammar's faults as one
 abbrev pub judgeRows : Lookahead → ℕ → ℕ → List ℕ → List ℕ → List (Option Error)

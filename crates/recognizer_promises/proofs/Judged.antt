@@ -20,7 +20,7 @@ use Rattle.base.specs.Choice.{choose}
 use Rattle.grammar.specs.Limits.{maxMemoEntries, maxTokens, maxNonterminals, maxPlaces}
 use Rattle.grammar.specs.Syntax.{Grammar}
 use Rattle.grammar.specs.Encoding.{grammarOf}
-use Rattle.grammar.specs.WellRead.{WellRead}
+use Rattle.grammar.specs.contracts.WellRead.{WellRead}
 use Rattle.grammar.specs.declared.reading.Sizes.{Sizes}
 use Rattle.grammar.proofs.WellRead.{well-read}
 use Rattle.lookahead.specs.declared.Lookahead.{Lookahead}
@@ -31,7 +31,8 @@ use Rattle.semantics.specs.Descent.{accepts}
 use Rattle.semantics.specs.Calls.{allCalls}
 use Rattle.semantics.proofs.descent.Range.{all-length}
 use Rattle.table.specs.Layout.{tableWords, tableRoom}
-use Rattle.table.specs.Analysis.{fault, foundOf}
+use Rattle.table.specs.Analysis.{fault}
+use Rattle.table.specs.contracts.Analysis.{foundOf}
 use Rattle.table.specs.declared.Found.{Found}
 use Rattle.families.specs.declared.Finding.{Finding}
 use Rattle.families.specs.declared.Finding.the-variants as finding
@@ -44,14 +45,17 @@ use Rattle.recognizer_promises.specs.Memory.{memoWord, memoWords}
 use Rattle.event.specs.Events.{inputOf}
 use Rattle.event.specs.Unknown.{unknownFrom}
 use Rattle.event.proofs.Inputs.{input-length}
-use Rattle.recognizer_promises.specs.Answers.{choiceOf, judgeFault, inputFaults, withInput, callsOf, verdictOf}
-use Rattle.recognizer_promises.specs.Judging.{memoFault, foundUnless, refusedWith, JudgesWords, EntriesFound, PassedGiven, DescendGiven, Descended, JudgedPassed}
+use Rattle.recognizer_promises.specs.Answers.{choiceOf, judgeFault, inputFaults, callsOf, verdictOf}
+use Rattle.recognizer_promises.specs.contracts.Answers.{withInput}
+use Rattle.recognizer_promises.specs.contracts.Judging.{memoFault, foundUnless, refusedWith, JudgesWords, EntriesFound, PassedGiven, DescendGiven}
+use Rattle.recognizer_promises.specs.contracts.Judging.{Descended, JudgedPassed}
 use Rattle.recognizer_promises.specs.declared.Judgement.{Judgement}
 use Rattle.recognizer_promises.specs.Properties.{Room, Judgeable, Judges}
 use Rattle.recognizer_promises.proofs.Words.{understood}
 use Rattle.recognizer_promises.proofs.Checking.{fits-few, passed-fault, passed-free, fault-passed, Told, told, found as found-entries, found-fault}
 use Rattle.recognizer_promises.proofs.Places.{fault-encoded, places}
-use Rattle.recognizer_promises.proofs.JudgeFaults.{judge-fault-long, input-fault, judge-table-long, memo-fault-short, memo-fault-long, judged-readable, readable-faultless, faultless-readable, judged-checked}
+use Rattle.recognizer_promises.proofs.JudgeFaults.{judge-fault-long, input-fault, judge-table-long, memo-fault-short, memo-fault-long, judged-readable}
+use Rattle.recognizer_promises.proofs.JudgeFaults.{readable-faultless, faultless-readable, judged-checked}
 use Rattle.recognizer_promises.proofs.Meaning.{meaning}
 
 -- a verdict is no refusal

@@ -16,7 +16,8 @@ use Rattle.grammar.specs.Syntax.{Grammar, WellScoped}
 use Rattle.grammar.specs.Limits.{maxWords}
 use Rattle.lookahead.specs.declared.Lookahead.{Lookahead}
 use Rattle.lookahead.specs.declared.Lookahead.the-variants.{One, Two}
-use Rattle.lookahead.specs.Lookaheads.{tokens, alphabet}
+use Rattle.lookahead.specs.Lookaheads.{tokens}
+use Rattle.lookahead.specs.contracts.Lookaheads.{alphabet}
 use Rattle.admission.specs.Admission.{Fits, admission}
 use Rattle.admission.proofs.Admitted.{admitted}
 use Rattle.grammar.specs.declared.reading.Outcome.the-variants.{Read}

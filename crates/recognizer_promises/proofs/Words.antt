@@ -16,7 +16,7 @@ use Rattle.lookahead.specs.Lookaheads.{tokens}
 use Rattle.admission.proofs.OneDiagnosis.{diagnosed}
 use Rattle.semantics.specs.FirstFollow.{Entry, Follow}
 use Rattle.semantics.specs.Claims.{clashes}
-use Rattle.semantics.specs.Theorems.{LeastSets}
+use Rattle.semantics.specs.contracts.Theorems.{LeastSets}
 use Rattle.semantics.proofs.Theorems.{theorems}
 use Rattle.table.specs.Layout.{tableWords, tableRoom}
 use Rattle.table.proofs.Words.{table-long}

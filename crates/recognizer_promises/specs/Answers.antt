@@ -16,13 +16,12 @@ use Rattle.grammar.specs.Encoding.{grammarOf}
 use Rattle.semantics.specs.Choices.{Choice, tableChoice}
 use Rattle.semantics.specs.Descent.{accepts}
 use Rattle.semantics.specs.Calls.{callCount, farthest}
-use Rattle.families.specs.declared.Finding.{Finding}
 use Rattle.lookahead.specs.declared.Lookahead.{Lookahead}
 use Rattle.lookahead.specs.declared.Lookahead.the-variants.{One, Two}
 use Rattle.lookahead.specs.Lookaheads.{tokens}
 use Rattle.table.specs.Layout.{tableRoom}
 use Rattle.table.specs.Analysis.{grammarFaults}
-use Rattle.promises.specs.Inputs.{inputFaultsTo, withInputTo}
+use Rattle.promises.specs.Inputs.{inputFaultsTo}
 
 -- the lent table is too short: 17 stands in the place of 1
 abbrev pub tableTooShort : Lookahead → Error
@@ -45,10 +44,6 @@ judgeFault k table memo words input =
     ∷ faultIf (ltb memo maxMemoEntries) MemoTooShort
     ∷ grammarFaults k words
     ++ inputFaults (grammarOf words .terminals) input)
-
--- what is found of a grammar and then of an input
-abbrev pub withInput : Finding → List ℕ → Finding
-withInput = withInputTo maxTokens
 
 -- which rule the table chooses at each call
 abbrev pub choiceOf : Lookahead → Grammar → List ℕ → Choice

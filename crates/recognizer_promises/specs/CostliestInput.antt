@@ -12,9 +12,7 @@ use Rattle.grammar.specs.Encoding.{grammarOf}
 use Rattle.lookahead.specs.declared.Lookahead.the-variants.{One}
 use Rattle.inputs.specs.Inputs.{maxInputs}
 use Rattle.inputs.specs.Costliest.{costliest}
-use Rattle.families.specs.declared.Finding.{Finding}
 use Rattle.table.specs.Analysis.{grammarFaults}
-use Rattle.promises.specs.Inputs.{withFaults}
 use Rattle.recognizer_promises.specs.Answers.{callsOf}
 
 -- how many calls the descent makes on an input (document 01: the count)
@@ -41,7 +39,3 @@ costliestFault log table memo words n =
     ∷ faultIf (ltb log maxTokens) BufferTooShort
     ∷ grammarFaults One words
     ++ lengthFaults (grammarOf words .terminals) n)
-
--- what is found of a grammar, and then of a length
-abbrev pub withLength : Finding → ℕ → Finding
-withLength f n = withFaults f (λ terminals. lengthFaults terminals n)

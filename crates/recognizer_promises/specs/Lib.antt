@@ -2,8 +2,7 @@ pub mod LeastFamilies
 pub mod Words
 pub mod Answers
 pub mod Memory
-pub mod Judging
 pub mod Properties
 pub mod CostliestInput
 pub mod Costliest
-pub mod Search
+pub mod contracts

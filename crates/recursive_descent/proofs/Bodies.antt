@@ -16,9 +16,9 @@ use Rattle.grammar.specs.Encoding.{onWord, parse}
 use Rattle.grammar.specs.Reading.{scan}
 use Rattle.grammar.proofs.Suffixes.{scan-next}
 use Rattle.families.proofs.Words.{parse-here as parse-first}
-use Rattle.rule.specs.Rule.{isSymbol, bodyEnd}
+use Rattle.rule.specs.contracts.Rule.{isSymbol, bodyEnd}
 use Rattle.rule.proofs.Bodies.{tested-symbol, body-on, body-stops, body-over}
-use Rattle.recursive_descent.specs.Descent.{Skipped}
+use Rattle.recursive_descent.specs.contracts.Descent.{Skipped}
 
 -- the row from an index on: its first word, and the rest
 pub parse-here : (words : List ℕ) (at : ℕ) → at < length words

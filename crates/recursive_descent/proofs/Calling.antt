@@ -24,18 +24,18 @@ use Rattle.grammar.proofs.Suffixes.{Next, scan-next}
 use Rattle.grammar.proofs.WellFormed.{RestFits, reads}
 use Rattle.semantics.specs.Choices.{Choice}
 use Rattle.semantics.specs.Descent.{Outcome, Failed, End, endsAt, select}
-use Rattle.semantics.specs.MemoDescent.{Memoized, memoized, andThen, MemoCalls, memoRun, memoNegatives, memoPositives, memoRule, memoObey}
+use Rattle.semantics.specs.contracts.MemoDescent.{Memoized, memoized, andThen, MemoCalls, memoRun, memoNegatives, memoPositives, memoRule, memoObey}
 use Rattle.rule.specs.declared.Outcome as code
 use Rattle.rule.specs.declared.Sign.{Sign}
 use Rattle.rule.specs.declared.Sign.the-variants.{Positive, Negative, Neither}
 use Rattle.rule.specs.declared.Agreement.{Agreement}
 use Rattle.rule.specs.declared.Agreement.the-variants as agreement
-use Rattle.rule.specs.Rule.{meant, signOf, signAt, bodyEnd, beginsBody, goesOn, joinedBy, concluded}
+use Rattle.rule.specs.contracts.Rule.{meant, signOf, signAt, bodyEnd, beginsBody, goesOn, joinedBy, concluded}
 use Rattle.rule.proofs.Signs.{sign-number, sign-positive, sign-negative, sign-within}
 use Rattle.rule.proofs.Agreements.{opens-no-more, ends-joined}
 use Rattle.families.proofs.Words.{parse-over}
 use Rattle.recursive_descent.specs.declared.descent.Run.{Run}
-use Rattle.recursive_descent.specs.Descent.{MemoSound, CallGiven, RunGiven, RunDone}
+use Rattle.recursive_descent.specs.contracts.Descent.{MemoSound, CallGiven, RunGiven, RunDone}
 use Rattle.recursive_descent.proofs.Bodies.{parse-here, skipped-on, body-ended}
 use Rattle.recursive_descent.proofs.Running.{deep, level}
 

@@ -8,10 +8,10 @@ use native.Mathlib.Omega.{arith}
 use lib.ListN.{length}
 use Rattle.grammar.specs.Limits.{maxWords, maxNonterminals, maxPlaces}
 use Rattle.grammar.specs.Encoding.{grammarOf}
-use Rattle.grammar.specs.WellRead.{WellRead}
+use Rattle.grammar.specs.contracts.WellRead.{WellRead}
 use Rattle.grammar.proofs.WellRead.{well-read}
 use Rattle.semantics.specs.Choices.{Choice}
-use Rattle.recursive_descent.specs.Descent.{firstConjunct, TokenGiven, EntryGiven, ChosenGiven, ArraysGiven, CallGiven}
+use Rattle.recursive_descent.specs.contracts.Descent.{firstConjunct, TokenGiven, EntryGiven, ChosenGiven, ArraysGiven, CallGiven}
 use Rattle.semantics.proofs.descent.Outcomes.{nth-below}
 
 pub token-given : {choice : Choice} {words choices tokens input memo : List ℕ} → ArraysGiven choice words choices tokens input memo

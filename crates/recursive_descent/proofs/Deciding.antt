@@ -14,36 +14,37 @@ use Rattle.base.specs.Choice.{choose}
 use Rattle.grammar.specs.Codes.{failedCode, uncalledCode}
 use Rattle.grammar.specs.Syntax.{Grammar}
 use Rattle.grammar.specs.Encoding.{grammarOf}
-use Rattle.grammar.specs.Starts.{ruleStarts}
-use Rattle.grammar.specs.WellRead.{WellRead}
+use Rattle.grammar.specs.contracts.Starts.{ruleStarts}
+use Rattle.grammar.specs.contracts.WellRead.{WellRead}
 use Rattle.grammar.specs.declared.reading.Sizes.{Sizes}
 use Rattle.grammar.proofs.WellRead.{well-read}
 use Rattle.semantics.specs.Valuations.{pairs}
 use Rattle.semantics.specs.Choices.{Choice, tableChoice}
 use Rattle.semantics.specs.Descent.{Outcome, Failed, End, endsAt, descend, accepts}
-use Rattle.semantics.specs.Memo.{encode, indexOf, blank}
+use Rattle.semantics.specs.Memo.{encode, indexOf}
+use Rattle.semantics.specs.contracts.Memo.{blank}
 use Rattle.semantics.proofs.descent.Range.{index-range}
 use Rattle.semantics.proofs.Theorems.{theorems}
 use Rattle.lookahead.specs.declared.Lookahead.{Lookahead}
 use Rattle.lookahead.specs.Lookaheads.{tokens}
 use Rattle.families.proofs.FewTerminals.{admitted-read, few-terminals}
 use Rattle.columns.specs.Columns.{columnCount}
-use Rattle.table.specs.Entries.{entriesOf}
-use Rattle.memo_table.specs.Tally.{tallyOf, recordedCalls}
+use Rattle.table.specs.contracts.Entries.{entriesOf}
+use Rattle.memo_table.specs.contracts.Tally.{tallyOf, recordedCalls}
 use Rattle.memo_table.proofs.Tallying.{tally-recorded}
 use Rattle.recognizer_promises.specs.Answers.{callsOf, verdictOf}
-use Rattle.recognizer_promises.specs.Judging.{Ready, PassedGiven, Descended}
+use Rattle.recognizer_promises.specs.contracts.Judging.{Ready, PassedGiven, Descended}
 use Rattle.recognizer_promises.proofs.Judged.{descend-given}
 use Rattle.recognizer_promises.proofs.MemoWords.{words-recorded}
 use Rattle.event.specs.Events.{inputOf}
 use Rattle.event.proofs.Inputs.{input-length}
-use Rattle.descent_arrays.specs.Arrays.{held, rowAt}
-use Rattle.descent_arrays.specs.Choices.{choicesOf}
-use Rattle.descent_arrays.specs.Tokens.{tokensOf}
+use Rattle.descent_arrays.specs.contracts.Arrays.{held, rowAt}
+use Rattle.descent_arrays.specs.contracts.Choices.{choicesOf}
+use Rattle.descent_arrays.specs.contracts.Tokens.{tokensOf}
 use Rattle.descent_arrays.proofs.TokenWords.{TokensGiven, TokensHold, column-few, tokens-hold}
 use Rattle.descent_arrays.proofs.ChoiceRows.{Filled}
-use Rattle.recursive_descent.specs.Descent.{MemoSound, StartGiven, StartDone, StartRequires, StartEnsures}
-use Rattle.recursive_descent.specs.Judging.{JudgeGiven}
+use Rattle.recursive_descent.specs.contracts.Descent.{MemoSound, StartGiven, StartDone, StartRequires, StartEnsures}
+use Rattle.recursive_descent.specs.contracts.Judging.{JudgeGiven}
 use Rattle.recursive_descent.proofs.TableChoices.{rows-filled, choices-hold}
 
 -- a memo table in which no call is recorded is sound

@@ -7,14 +7,15 @@ use lib.ListN.{length, replicate}
 use Rattle.grammar.specs.Codes.{uncalledCode}
 use Rattle.grammar.specs.Syntax.{Grammar}
 use Rattle.grammar.specs.Encoding.{grammarOf}
-use Rattle.grammar.specs.WellRead.{WellRead}
+use Rattle.grammar.specs.contracts.WellRead.{WellRead}
 use Rattle.grammar.proofs.WellRead.{well-read}
 use Rattle.semantics.specs.Choices.{Choice}
 use Rattle.semantics.specs.Descent.{descend}
-use Rattle.semantics.specs.Memo.{EndsFit, blank, Recorded}
-use Rattle.semantics.specs.MemoDescent.{memoized, memoCall}
+use Rattle.semantics.specs.contracts.Memo.{EndsFit, blank}
+use Rattle.semantics.specs.Memo.{Recorded}
+use Rattle.semantics.specs.contracts.MemoDescent.{memoized, memoCall}
 use Rattle.semantics.proofs.descent.Memo.{memo-recorded-within}
-use Rattle.recursive_descent.specs.Descent.{CallGiven, CallDone, StartGiven, StartDone}
+use Rattle.recursive_descent.specs.contracts.Descent.{CallGiven, CallDone, StartGiven, StartDone}
 use Rattle.recursive_descent.proofs.Running.{level}
 
 module _ {choice : Choice} {words choices tokens input memo : List ℕ} (g : StartGiven choice words choices tokens input memo) {blanked : List ℕ}

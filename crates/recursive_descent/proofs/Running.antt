@@ -19,7 +19,7 @@ use Rattle.grammar.specs.Codes.{failedCode}
 use Rattle.grammar.specs.Syntax.{Body, Grammar, NonterminalsBelow, TerminalsBelow}
 use Rattle.grammar.specs.Encoding.{Parsed, onWord, parse, grammarOf}
 use Rattle.grammar.specs.Reading.{allows, scan, reading}
-use Rattle.grammar.specs.WellRead.{WellRead}
+use Rattle.grammar.specs.contracts.WellRead.{WellRead}
 use Rattle.grammar.specs.declared.reading.State.{State}
 use Rattle.grammar.specs.declared.reading.Progress.{Progress}
 use Rattle.grammar.proofs.Suffixes.{scan-next}
@@ -27,20 +27,22 @@ use Rattle.grammar.proofs.WellRead.{well-read}
 use Rattle.semantics.specs.LeftRecursion.{nullable, LeftIn, here, there, LeftDepends}
 use Rattle.semantics.specs.Choices.{Choice}
 use Rattle.semantics.specs.Descent.{Outcome, Failed, End, endsAt, descend}
-use Rattle.semantics.specs.ComesTo.{callAt, measure}
-use Rattle.semantics.specs.MemoDescent.{memoized, andThen, MemoCalls, memoRun, memoCall}
-use Rattle.semantics.specs.Memo.{encode, decode}
+use Rattle.semantics.specs.ComesTo.{callAt}
+use Rattle.semantics.specs.contracts.ComesTo.{measure}
+use Rattle.semantics.specs.contracts.MemoDescent.{memoized, andThen, MemoCalls, memoRun, memoCall}
+use Rattle.semantics.specs.Memo.{encode}
+use Rattle.semantics.specs.contracts.Memo.{decode}
 use Rattle.semantics.proofs.meaning.Rank.{level-onward}
 use Rattle.semantics.proofs.descent.Outcomes.{end-ends}
 use Rattle.semantics.proofs.descent.Ends.{descend-forward, descend-null}
 use Rattle.rule.specs.declared.Outcome as code
 use Rattle.rule.specs.declared.Outcome.the-variants as outcome
-use Rattle.rule.specs.Rule.{meant}
+use Rattle.rule.specs.contracts.Rule.{meant}
 use Rattle.families.proofs.Words.{parse-over}
 use Rattle.grammar.specs.Limits.{maxNonterminals}
 use Rattle.recursive_descent.specs.declared.descent.Run.{Run}
-use Rattle.descent_arrays.specs.Arrays.{endMark, columnWeight, matchesAt}
-use Rattle.recursive_descent.specs.Descent.{Skipped, MemoSound, CallGiven, RunGiven, CallDone, RunDone}
+use Rattle.descent_arrays.specs.contracts.Arrays.{endMark, columnWeight, matchesAt}
+use Rattle.recursive_descent.specs.contracts.Descent.{Skipped, MemoSound, CallGiven, RunGiven, CallDone, RunDone}
 use Rattle.recursive_descent.proofs.Bodies.{parse-here, symbol-reads, skipped-none, skipped-symbol}
 
 -- the calls at most n deep, on the words' grammar

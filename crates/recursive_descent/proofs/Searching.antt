@@ -15,7 +15,7 @@ use Rattle.base.specs.Choice.{choose}
 use Rattle.grammar.specs.Limits.{maxMemoEntries, maxNonterminals, maxPlaces}
 use Rattle.grammar.specs.Syntax.{Grammar}
 use Rattle.grammar.specs.Encoding.{grammarOf}
-use Rattle.grammar.specs.WellRead.{WellRead}
+use Rattle.grammar.specs.contracts.WellRead.{WellRead}
 use Rattle.grammar.specs.declared.reading.Sizes.{Sizes}
 use Rattle.grammar.proofs.WellRead.{well-read}
 use Rattle.lookahead.specs.declared.Lookahead.the-variants.{One}
@@ -24,23 +24,23 @@ use Rattle.semantics.specs.Choices.{tableChoice}
 use Rattle.base.specs.Strings.{Over}
 use Rattle.event.specs.Events.{inputOf}
 use Rattle.event.proofs.Inputs.{input-own}
-use Rattle.inputs.specs.Inputs.{inputAt, inputCount}
+use Rattle.inputs.specs.contracts.Inputs.{inputAt, inputCount}
 use Rattle.inputs.proofs.Numbers.{at-long, at-over}
 use Rattle.inputs.proofs.Counting.{count-exact}
 use Rattle.inputs.proofs.Searching.{Searched, searched-none, searched-more, searched-less, searched-all}
 use Rattle.inputs.specs.declared.Candidate.{Candidate}
 use Rattle.columns.specs.Columns.{columnCount}
-use Rattle.memo_table.specs.Tally.{recordedBelow}
+use Rattle.memo_table.specs.contracts.Tally.{recordedBelow}
 use Rattle.memo_table.proofs.Tallying.{count-recorded}
-use Rattle.descent_arrays.specs.Choices.{choicesOf}
+use Rattle.descent_arrays.specs.contracts.Choices.{choicesOf}
 use Rattle.recognizer_promises.specs.Memory.{memoWords}
-use Rattle.recognizer_promises.specs.Judging.{Descended}
+use Rattle.recognizer_promises.specs.contracts.Judging.{Descended}
 use Rattle.recognizer_promises.specs.CostliestInput.{callsOn}
-use Rattle.recognizer_promises.specs.Search.{SearchGiven, BestJudged}
+use Rattle.recognizer_promises.specs.contracts.Search.{SearchGiven, BestJudged}
 use Rattle.recognizer_promises.proofs.Judged.{memo-count}
-use Rattle.recursive_descent.specs.Descent.{StartDone}
-use Rattle.recursive_descent.specs.Judging.{JudgeGiven}
-use Rattle.recursive_descent.specs.Search.{TrialGiven, CostliestJudged}
+use Rattle.recursive_descent.specs.contracts.Descent.{StartDone}
+use Rattle.recursive_descent.specs.contracts.Judging.{JudgeGiven}
+use Rattle.recursive_descent.specs.contracts.Search.{TrialGiven, CostliestJudged}
 
 module _ {words : List ℕ} {z : Sizes} {choices events memo : List ℕ} (g : TrialGiven words z choices events memo) where
   abbrev G : Grammar

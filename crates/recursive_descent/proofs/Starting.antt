@@ -15,8 +15,8 @@ use Rattle.grammar.specs.Codes.{failedCode}
 use Rattle.grammar.specs.Syntax.{Body, Rule, Grammar}
 use Rattle.grammar.specs.Encoding.{onWord, parse, grammarOf}
 use Rattle.grammar.specs.Reading.{allows, after, beginsRule, scan, reading}
-use Rattle.grammar.specs.Starts.{ruleStarts}
-use Rattle.grammar.specs.WellRead.{firstRule, Begun, WellRead}
+use Rattle.grammar.specs.contracts.Starts.{ruleStarts}
+use Rattle.grammar.specs.contracts.WellRead.{firstRule, Begun, WellRead}
 use Rattle.grammar.specs.declared.reading.State.{State}
 use Rattle.grammar.specs.declared.reading.State.the-variants as state
 use Rattle.grammar.specs.declared.reading.Progress.{Progress}
@@ -27,7 +27,7 @@ use Rattle.grammar.proofs.WellRead.{well-read}
 use Rattle.semantics.specs.Choices.{Choice}
 use Rattle.semantics.specs.Descent.{Failed, select}
 use Rattle.semantics.specs.Memo.{encode}
-use Rattle.semantics.specs.MemoDescent.{MemoCalls, memoized, memoPositives, memoRule, memoObey}
+use Rattle.semantics.specs.contracts.MemoDescent.{MemoCalls, memoized, memoPositives, memoRule, memoObey}
 use Rattle.semantics.proofs.descent.Outcomes.{nth-below, nth-mem}
 use Rattle.rule.specs.declared.Sign.{Sign}
 use Rattle.rule.specs.declared.Agreement.{Agreement}
@@ -37,9 +37,9 @@ use Rattle.rule.proofs.Agreements.{opening-ends, opening-open}
 use Rattle.recursive_descent.proofs.Bodies.{parse-here}
 use Rattle.recursive_descent.proofs.Running.{deep}
 use Rattle.grammar.proofs.WellFormed.{reads}
-use Rattle.rule.specs.Rule.{signAt, openingBy}
-use Rattle.descent_arrays.specs.Arrays.{endAt, firstAt}
-use Rattle.recursive_descent.specs.Descent.{firstConjunct, CallGiven}
+use Rattle.rule.specs.contracts.Rule.{signAt, openingBy}
+use Rattle.descent_arrays.specs.contracts.Arrays.{endAt, firstAt}
+use Rattle.recursive_descent.specs.contracts.Descent.{firstConjunct, CallGiven}
 use Rattle.recursive_descent.proofs.Calling.{memoRest, Calling, InRule}
 
 rule-opens : (w : Word) (s : State) → beginsRule w ≡ true → after w s ≡ state.Opened

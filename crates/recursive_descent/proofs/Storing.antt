@@ -10,19 +10,20 @@ use borrow.Author.Tests.{ne-eqb}
 use Rattle.grammar.specs.Codes.{uncalledCode}
 use Rattle.grammar.specs.Syntax.{Rule, Grammar}
 use Rattle.grammar.specs.Encoding.{grammarOf}
-use Rattle.grammar.specs.WellRead.{WellRead}
+use Rattle.grammar.specs.contracts.WellRead.{WellRead}
 use Rattle.grammar.proofs.WellRead.{well-read}
 use Rattle.semantics.specs.Choices.{Choice}
 use Rattle.semantics.specs.Descent.{Outcome, select, descend}
 use Rattle.semantics.specs.ComesTo.{callAt}
-use Rattle.semantics.specs.Memo.{EndsFit, encode, decode, indexOf, entry}
-use Rattle.semantics.specs.MemoDescent.{memoized, memoObey, stored, memoCall}
+use Rattle.semantics.specs.contracts.Memo.{EndsFit, decode}
+use Rattle.semantics.specs.Memo.{encode, indexOf, entry}
+use Rattle.semantics.specs.contracts.MemoDescent.{memoized, memoObey, stored, memoCall}
 use Rattle.semantics.proofs.descent.Range.{index-range}
 use Rattle.semantics.proofs.descent.Written.{Sound}
 use Rattle.semantics.proofs.descent.Memo.{transparent}
 use Rattle.memo_table.proofs.Entries.{getD-any}
-use Rattle.descent_arrays.specs.Arrays.{rowAt}
-use Rattle.recursive_descent.specs.Descent.{MemoSound, CallGiven, CallDone}
+use Rattle.descent_arrays.specs.contracts.Arrays.{rowAt}
+use Rattle.recursive_descent.specs.contracts.Descent.{MemoSound, CallGiven, CallDone}
 use Rattle.recursive_descent.proofs.Running.{deep, level}
 
 pub memo-same : {choice : Choice} {words input memo memo′ : List ℕ} → MemoSound choice words input memo → MemoSound choice words input memo′

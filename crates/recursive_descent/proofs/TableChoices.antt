@@ -11,27 +11,28 @@ use Rattle.base.specs.Choice.{choose}
 use Rattle.grammar.specs.Limits.{maxWords, maxRules}
 use Rattle.grammar.specs.Syntax.{Grammar}
 use Rattle.grammar.specs.Encoding.{grammarOf}
-use Rattle.grammar.specs.Starts.{ruleStarts}
-use Rattle.grammar.specs.WellRead.{WellRead}
+use Rattle.grammar.specs.contracts.Starts.{ruleStarts}
+use Rattle.grammar.specs.contracts.WellRead.{WellRead}
 use Rattle.grammar.specs.declared.reading.Sizes.{Sizes}
 use Rattle.grammar.proofs.WellRead.{well-read}
 use Rattle.semantics.specs.Claims.{tableOf}
 use Rattle.semantics.specs.Choices.{tableChoice}
 use Rattle.semantics.proofs.descent.Outcomes.{nth-below}
 use Rattle.semantics.proofs.descent.Predictive.{table-own}
-use Rattle.columns.specs.Columns.{columnCount, columnString, columnAt}
-use Rattle.table.specs.Entries.{ruleByte, byteAt}
+use Rattle.columns.specs.Columns.{columnCount, columnString}
+use Rattle.columns.specs.contracts.Columns.{columnAt}
+use Rattle.table.specs.contracts.Entries.{ruleByte, byteAt}
 use Rattle.columns.proofs.ColumnStrings.{column-count}
 use Rattle.table.proofs.EntriesFilled.{entries-at}
 use Rattle.lookahead.specs.declared.Lookahead.{Lookahead}
 use Rattle.lookahead.specs.Lookaheads.{tokens}
 use Rattle.families.proofs.FewTerminals.{admitted-read, few-terminals}
-use Rattle.descent_arrays.specs.Arrays.{choiceColumns, firstAt}
-use Rattle.recursive_descent.specs.Descent.{firstConjunct}
-use Rattle.descent_arrays.specs.Choices.{entryOf, firstWord, choicesOf}
+use Rattle.descent_arrays.specs.contracts.Arrays.{choiceColumns, firstAt}
+use Rattle.recursive_descent.specs.contracts.Descent.{firstConjunct}
+use Rattle.descent_arrays.specs.contracts.Choices.{entryOf, firstWord, choicesOf}
 use Rattle.descent_arrays.proofs.TokenWords.{TokensHold}
 use Rattle.descent_arrays.proofs.ChoiceRows.{Filled, choices-filled}
-use Rattle.recognizer_promises.specs.Judging.{Ready}
+use Rattle.recognizer_promises.specs.contracts.Judging.{Ready}
 use Rattle.columns.proofs.Columns.{column-right}
 
 module _ {k : Lookahead} {words : List ℕ} {z : Sizes} {starts entries input : List ℕ} (g : Ready k words z starts entries input) where

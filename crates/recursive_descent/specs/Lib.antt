@@ -1,3 +1,1 @@
-pub mod Descent
-pub mod Judging
-pub mod Search
+pub mod contracts

@@ -1,9 +1,10 @@
 // The descent: calling a nonterminal at a place and running a body call one another in turn.
 ghost use mathlib.Core.Path.{_≡_};
 ghost use Prim.Native.Nat.{_+_};
-ghost use Rattle.rule.specs.Rule.{openingBy};
-ghost use Rattle.descent_arrays.specs.Arrays.{rowAt, endAt, firstAt, matchesAt};
-ghost use Rattle.recursive_descent.specs.Descent.{TokenGiven, EntryGiven, EndGiven, ChosenGiven, CallRequires, CallEnsures, RunRequires, RunEnsures};
+ghost use Rattle.rule.specs.contracts.Rule.{openingBy};
+ghost use Rattle.descent_arrays.specs.contracts.Arrays.{rowAt, endAt, firstAt, matchesAt};
+ghost use Rattle.recursive_descent.specs.contracts.Descent.{TokenGiven, EntryGiven, EndGiven, ChosenGiven, CallRequires, CallEnsures, RunRequires};
+ghost use Rattle.recursive_descent.specs.contracts.Descent.{RunEnsures};
 use descent_arrays::arrays::CHOICE_COLUMNS;
 use descent_arrays::arrays::CHOICES;
 use descent_arrays::arrays::COLUMN_WEIGHT;

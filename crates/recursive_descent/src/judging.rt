@@ -1,9 +1,9 @@
 // Judging an input by a grammar that has passed.
 ghost use mathlib.Core.Path.{_≡_};
 ghost use Rattle.event.specs.Events.{inputOf};
-ghost use Rattle.recognizer_promises.specs.Judging.{refusedWith, PassedGiven, Descended, JudgedPassed};
-ghost use Rattle.recursive_descent.specs.Descent.{StartRequires, StartEnsures};
-ghost use Rattle.recursive_descent.specs.Judging.{JudgeGiven};
+ghost use Rattle.recognizer_promises.specs.contracts.Judging.{refusedWith, PassedGiven, Descended, JudgedPassed};
+ghost use Rattle.recursive_descent.specs.contracts.Descent.{StartRequires, StartEnsures};
+ghost use Rattle.recursive_descent.specs.contracts.Judging.{JudgeGiven};
 use super::descent::call;
 use answer::Answer;
 use answer::Error;

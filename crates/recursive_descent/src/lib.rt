@@ -1,6 +1,6 @@
 // Judging an input in a lent memo table alone, by memoized recursive descent.
 ghost use Rattle.event.specs.Events.{inputOf};
-ghost use Rattle.recognizer_promises.specs.Judging.{JudgesWords};
+ghost use Rattle.recognizer_promises.specs.contracts.Judging.{JudgesWords};
 use answer::Error;
 use families::Finding;
 use grammar::limits::MEMO_ENTRIES;

@@ -2,10 +2,10 @@
 ghost use mathlib.Core.Path.{_≡_};
 ghost use lib.ListN.{length};
 ghost use Rattle.grammar.specs.Encoding.{grammarOf};
-ghost use Rattle.inputs.specs.Inputs.{inputAt};
+ghost use Rattle.inputs.specs.contracts.Inputs.{inputAt};
 ghost use Rattle.recognizer_promises.specs.CostliestInput.{callsOn};
-ghost use Rattle.recognizer_promises.specs.Search.{SearchGiven, BestJudged, SearchesWords};
-ghost use Rattle.recursive_descent.specs.Search.{TrialGiven, CostliestJudged};
+ghost use Rattle.recognizer_promises.specs.contracts.Search.{SearchGiven, BestJudged, SearchesWords};
+ghost use Rattle.recursive_descent.specs.contracts.Search.{TrialGiven, CostliestJudged};
 use super::judging::descend;
 use super::judging::judge_chosen;
 use super::judging::refused;

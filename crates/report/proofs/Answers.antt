@@ -21,25 +21,27 @@ use Rattle.families.specs.declared.Finding.{Finding}
 use Rattle.families.specs.declared.Finding.the-variants.{Passed, Refused}
 use Rattle.families.specs.Analysis.{findingOf}
 use Rattle.table.specs.declared.Found.{Found}
-use Rattle.table.specs.Analysis.{fault, foundOf}
+use Rattle.table.specs.Analysis.{fault}
+use Rattle.table.specs.contracts.Analysis.{foundOf}
 use Rattle.table.specs.Layout.{tableWords}
 use Rattle.table.proofs.Analyzing.{entries-told}
-use Rattle.lending.specs.Lending.{lentOf}
+use Rattle.lending.specs.contracts.Lending.{lentOf}
 use Rattle.lending.proofs.WordsLaid.{lent-table, lent-nothing}
 use Rattle.answer.specs.Faults.{refusedOr}
 use Rattle.recognizer_promises.specs.declared.Judgement.{Judgement}
 use Rattle.recognizer_promises.specs.Answers.{checkFault, judgeFault, verdictOf}
-use Rattle.recognizer_promises.specs.Judging.{memoFault, foundUnless, JudgesWords}
+use Rattle.recognizer_promises.specs.contracts.Judging.{memoFault, foundUnless, JudgesWords}
 use Rattle.promises.specs.Memory.{lentBack}
 use Rattle.recognizer_promises.specs.Memory.{memoWords}
 use Rattle.recognizer_promises.proofs.JudgeFaults.{judge-table-long, judged-readable}
 use Rattle.recognizer_promises.proofs.Checking.{told, found-fault, check-fault-long, passed-fault, passed-read}
 use Rattle.text.specs.Writing.{Put}
 use Rattle.sheet_text.specs.Sheet.{checkText}
-use Rattle.sheet_text.specs.Limited.{limited}
+use Rattle.sheet_text.specs.contracts.Limited.{limited}
 use Rattle.sheet_text.proofs.Limited.{limited-same}
 use Rattle.judgement_text.specs.Judgement.{judgementText}
-use Rattle.report.specs.Texts.{blankTable, checkedTable, blankMemo, checkedText, judgedText, nonterminalsOf, tokenCount}
+use Rattle.report.specs.Texts.{blankTable, checkedTable, blankMemo, checkedText, judgedText}
+use Rattle.report.specs.contracts.Texts.{nonterminalsOf, tokenCount}
 
 -- the sizes that are read are within the limits
 limited-found : (words : List ℕ) (f : Option Error) → limited (findingOf f (reading words)) ≡ findingOf f (reading words)

@@ -22,14 +22,15 @@ use Rattle.recognizer_promises.specs.Properties.{Judges}
 use Rattle.recognizer_promises.proofs.Judged.{judges}
 use Rattle.text.specs.declared.words.Loaded.{Loaded}
 use Rattle.text.specs.declared.words.Loaded.the-variants.{Words, NotWords}
-use Rattle.text.specs.Words.{bytesOfWord, wordsOf, areWords, Loading}
+use Rattle.text.specs.Words.{bytesOfWord, wordsOf, areWords}
+use Rattle.text.specs.contracts.Words.{Loading}
 use Rattle.text.specs.Writing.{Put}
 use Rattle.text.specs.Refusal.{refusalText}
 use Rattle.text.proofs.Fours.{length-words}
 use Rattle.text.proofs.Lengths.{refusal-most}
 use Rattle.text.proofs.Writing.{put-length, put-whole}
 use Rattle.sheet_text.specs.Room.{sheetRoom}
-use Rattle.gaps_text_promises.specs.Gaps.{GapsPut}
+use Rattle.gaps_text_promises.specs.contracts.Gaps.{GapsPut}
 use Rattle.gaps_text_promises.proofs.Lengths.{gaps-most}
 use Rattle.gaps_text_promises.proofs.Overlaps.{lines-tell}
 use Rattle.report.specs.Texts.{blankTable, checkedText, sheetOf, blankMemo, judgedAnswer, judgedTable, judgedMemo, judgedText, judgementOf, gapsOf}

@@ -2,7 +2,6 @@
 use mathlib.Core.List.{List}
 use mathlib.Core.Option.{Option}
 use Prim.Native.Nat.{ℕ, suc, _*_}
-use lib.Dec.{leb}
 use lib.ListN.{length, replicate}
 use Rattle.answer.specs.declared.Answer.{Answer}
 use Rattle.answer.specs.declared.Error.{Error}
@@ -14,8 +13,6 @@ use Rattle.grammar.specs.Limits.{maxWords, maxTokens, maxMemoEntries, maxTableW
 use Rattle.grammar.specs.Encoding.{grammarOf}
 use Rattle.grammar.specs.Reading.{reading}
 use Rattle.lookahead.specs.declared.Lookahead.the-variants.{One}
-use Rattle.families.specs.declared.Finding.{Finding}
-use Rattle.families.specs.declared.Finding.the-variants.{Passed, Refused}
 use Rattle.families.specs.Analysis.{findingOf}
 use Rattle.table.specs.Layout.{tableWords}
 use Rattle.answer.specs.Faults.{refusedOr}
@@ -85,12 +82,3 @@ gapsOf bytes = choose (areWords bytes) (gapsText (wordsOf bytes)) (refusalText L
 -- one byte more than the longest file of words has, and one token more than the longest input
 abbrev pub enoughRead : Reads
 enoughRead = record { file = suc (bytesOfWord * maxWords); input = suc maxTokens }
-
--- how many nonterminals a grammar has that is found to pass
-abbrev pub nonterminalsOf : Finding → ℕ
-nonterminalsOf (Passed z) = z .nonterminals
-nonterminalsOf (Refused e) = 0
-
--- how many tokens an input has that is not too long
-unfoldable pub tokenCount : List ℕ → ℕ
-tokenCount input = choose (leb (length input) maxTokens) (length input) 0

@@ -1,9 +1,10 @@
 // What the programs print: from the bytes of files to the bytes of the text.
 ghost use mathlib.Core.Path.{_≡_};
 ghost use Rattle.event.specs.Events.{inputOf};
-ghost use Rattle.gaps_text_promises.specs.Gaps.{GapsPut};
+ghost use Rattle.gaps_text_promises.specs.contracts.Gaps.{GapsPut};
 ghost use Rattle.text.specs.Writing.{Put};
-ghost use Rattle.report.specs.Texts.{enoughRoom, nonterminalsOf, tokenCount, checkedText, judgedText};
+ghost use Rattle.report.specs.Texts.{enoughRoom, checkedText, judgedText};
+ghost use Rattle.report.specs.contracts.Texts.{nonterminalsOf, tokenCount};
 ghost use Rattle.report.specs.Report.{SheetPrinted, JudgementPrinted, GapsPrinted, Enough};
 use answer::Error;
 use claims::analyze;

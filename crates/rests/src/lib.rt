@@ -1,9 +1,9 @@
 // The first set of what is left of a body and of a rule, made longer by one word at a time from the end.
 ghost use mathlib.Core.Path.{_≡_};
-ghost use Rattle.families.specs.First.{symbolFirst, noRest, closedMeet, insideWord};
-ghost use Rattle.families.specs.Follow.{tailBefore};
-ghost use Rattle.families.specs.Least.{lookup};
-ghost use Rattle.families.specs.Rules.{fromEnd};
+ghost use Rattle.families.specs.contracts.First.{symbolFirst, noRest, closedMeet, insideWord};
+ghost use Rattle.families.specs.contracts.Follow.{tailBefore};
+ghost use Rattle.families.specs.contracts.Least.{lookup};
+ghost use Rattle.families.specs.contracts.Rules.{fromEnd};
 use concatenation::concat;
 use concatenation::full;
 use families::Rest;

@@ -10,7 +10,7 @@ use Rattle.rule.specs.declared.Sign.{Sign}
 use Rattle.rule.specs.declared.Sign.the-variants.{Positive, Negative, Neither}
 use Rattle.rule.specs.declared.Agreement.{Agreement}
 use Rattle.rule.specs.declared.Agreement.the-variants.{Open, At, Failed}
-use Rattle.rule.specs.Rule.{openingBy, goesOn, joinedBy}
+use Rattle.rule.specs.contracts.Rule.{openingBy, goesOn, joinedBy}
 
 -- agreements are told apart by a number
 abbrev agreementNumber : Agreement → ℕ

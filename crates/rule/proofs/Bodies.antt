@@ -15,7 +15,7 @@ use Rattle.word.specs.Words.{decoded}
 use Rattle.word.specs.declared.Symbol as grammar
 use Rattle.word.specs.declared.Word.{Word}
 use Rattle.word.specs.declared.Word.the-variants.{Heading, Rule, Positive, Negative, Symbol, End, Invalid}
-use Rattle.rule.specs.Rule.{isSymbol, symbolsFirst, bodyEnd}
+use Rattle.rule.specs.contracts.Rule.{isSymbol, symbolsFirst, bodyEnd}
 
 -- the symbol that a word is, by its tag or by the test
 pub is-symbol : (w : Word) → tagOf the-type w ≡ 4 → (X : grammar.Symbol) × (w ≡ Symbol X)

@@ -13,7 +13,7 @@ use Rattle.word.specs.declared.Word.{Word}
 use Rattle.word.specs.declared.Word.the-variants as word
 use Rattle.rule.specs.declared.Sign.{Sign}
 use Rattle.rule.specs.declared.Sign.the-variants.{Positive, Negative, Neither}
-use Rattle.rule.specs.Rule.{signOf, signAt}
+use Rattle.rule.specs.contracts.Rule.{signOf, signAt}
 
 -- signs are told apart by a number
 abbrev pub signNumber : Sign → ℕ

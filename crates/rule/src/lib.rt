@@ -2,7 +2,7 @@
 ghost use mathlib.Core.Path.{_≡_};
 ghost use Rattle.semantics.specs.Descent.{endsAt};
 ghost use Rattle.rule.specs.declared.Sign.the-variants.{Positive, Negative};
-ghost use Rattle.rule.specs.Rule.{meant, signOf, signAt, bodyEnd, beginsBody, goesOn, openingBy, openedBy, keptBy, joinedBy, concluded};
+ghost use Rattle.rule.specs.contracts.Rule.{meant, signOf, signAt, bodyEnd, beginsBody, goesOn, openingBy, openedBy, keptBy, joinedBy, concluded};
 use word::Word;
 use word::decode;
 

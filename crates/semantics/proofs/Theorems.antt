@@ -5,7 +5,7 @@ use Rattle.semantics.specs.Valuations.{solution}
 use Rattle.base.specs.Strings.{look}
 use Rattle.semantics.specs.FirstFollow.{First}
 use Rattle.semantics.specs.Descent.{descend}
-use Rattle.semantics.specs.Theorems.{Theorems}
+use Rattle.semantics.specs.contracts.Theorems.{Theorems}
 use Rattle.semantics.proofs.meaning.Nullable.{nullable-closed, nullable-least}
 use Rattle.semantics.proofs.meaning.LeftRecursion.{leftRecursive-iff, lowestLeftRecursive-some, lowestLeftRecursive-none}
 use Rattle.semantics.proofs.meaning.Rank.{rank-falls, rank-below}

@@ -1,10 +1,8 @@
 -- Which rule a call runs: a choice for each nonterminal and place, and the one that k tokens of lookahead make.
-use mathlib.Core.Path.{_≡_}
 use mathlib.Core.List.{List}
-use mathlib.Core.Option.{Option, some}
+use mathlib.Core.Option.{Option}
 use Prim.Native.Nat.{ℕ}
-use lib.ListN.{getElem?}
-use Rattle.grammar.specs.Syntax.{Rule, Grammar}
+use Rattle.grammar.specs.Syntax.{Grammar}
 use Rattle.base.specs.Strings.{look}
 use Rattle.semantics.specs.Families.{Table}
 use Rattle.semantics.specs.Claims.{tableOf}
@@ -12,10 +10,6 @@ use Rattle.semantics.specs.Claims.{tableOf}
 -- for a nonterminal and a place the number of a rule, or none
 abbrev pub Choice : Type 0
 Choice = ℕ → ℕ → Option ℕ
-
--- each rule that is chosen for a nonterminal is one of its own
-abbrev pub OwnRules : Grammar → Choice → Type 0
-OwnRules G choice = (A i q : ℕ) → choice A i ≡ some q → (r : Rule) × (getElem? (G .rules) q ≡ some r) × (r .head ≡ A)
 
 -- by the entry of a table for the first k tokens from the place on
 abbrev pub byLookahead : Table → ℕ → List ℕ → Choice

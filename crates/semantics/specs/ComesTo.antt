@@ -2,12 +2,11 @@
 use mathlib.Core.Bool.{Bool, true, false, not}
 use mathlib.Core.List.{List, [], _∷_, _++_}
 use mathlib.Core.Option.{Option, none, some}
-use Prim.Native.Nat.{ℕ, _-_, _≤_, _<_}
+use Prim.Native.Nat.{ℕ, _≤_, _<_}
 use lib.ListN.{length}
 use Rattle.word.specs.declared.Symbol.{Symbol}
 use Rattle.word.specs.declared.Symbol.the-variants.{Terminal, Nonterminal}
 use Rattle.grammar.specs.Syntax.{Body, Rule, Grammar}
-use Rattle.semantics.specs.LeftRecursion.{level}
 use Rattle.semantics.specs.Choices.{Choice}
 use Rattle.semantics.specs.Descent.{Outcome, Failed, End, endsAt, Outcomes, read, run, select, descend}
 
@@ -62,7 +61,3 @@ selectedComesTo c w (some r) i = ruleComesTo c w (length w) (r .positives) (r .n
 -- what the running of a call's rule comes to
 unfoldable pub callComesTo : Grammar → Choice → List ℕ → Call → List Call
 callComesTo G choice w x = selectedComesTo (descend G choice w) w (select G (choice (x .nonterminal) (x .place))) (x .place)
-
--- the tokens left, then the rank: what falls from a call to those that it makes
-unfoldable pub measure : Grammar → List ℕ → Call → ℕ
-measure G w x = level G (length w - x .place) (x .nonterminal)

@@ -14,11 +14,6 @@ use Rattle.base.specs.Strings.{Lookahead}
 abbrev pub Family : Type 1
 Family = ℕ → List ℕ → Type 0
 
--- closed under a condition, and contained in every family that is
-pub record Least (Closed : Family → Type 0) (F : Family) : Type 1 where
-  pub closed : Closed F
-  pub smallest : (F′ : Family) → Closed F′ → (A : ℕ) (x : List ℕ) → F A x → F′ A x
-
 -- of strings that are at most k long
 abbrev pub Short : ℕ → Family → Type 0
 Short k F = (A : ℕ) (x : List ℕ) → F A x → length x ≤ k
@@ -32,7 +27,7 @@ abbrev pub FirstBody : ℕ → Family → Body → List ℕ → Type 0
 FirstBody k F [] x = x ≡ []
 FirstBody k F (X ∷ b) x = (u : List ℕ) × (y : List ℕ) × FirstOf k F X u × FirstBody k F b y × (x ≡ take k (u ++ y))
 
--- with one token of lookahead the same in document 01's words, stringing: nothing where the second set is empty, else the terminals of the first and,
+-- two sets strung together (document 01: stringing), as bodies are with one token: nothing where the second set is empty, else the terminals of the first and,
 -- where the first has the empty string, all of the second
 abbrev pub Strung : (List ℕ → Type 0) → (List ℕ → Type 0) → List ℕ → Type 0
 Strung P Q x = ((y : List ℕ) × Q y) × ((P x × ((x ≡ []) → ⊥)) ⊎ (P [] × Q x))
@@ -58,7 +53,7 @@ pub record FollowClosed (G : Grammar) (k : ℕ) (F L : Family) : Type 0 where
   pub start : L 0 []
   pub follows : (r : Rule) → List·Memᴰ r (G .rules) → (b : Body) → List·Memᴰ b (bodies r) → (y : List ℕ) → L (r .head) y → FollowBody k F L y b
 
--- with one token of lookahead the same by stringing: for each nonterminal in a body, what comes after it strung with what can follow the head
+-- what `FollowClosed` is with one token of lookahead, by stringing: for each nonterminal in a body, what comes after it strung with what can follow the head
 pub record FollowStrung (G : Grammar) (F L : Family) : Type 0 where
   pub start : L 0 []
   pub follows : (r : Rule) → List·Memᴰ r (G .rules) → (front : Body) (A : ℕ) (b : Body) → List·Memᴰ (front ++ (Nonterminal A ∷ b)) (bodies r)
@@ -71,10 +66,6 @@ OwnTerminals G = (r : Rule) → List·Memᴰ r (G .rules) → (b : Body) → Lis
 -- for a nonterminal and a lookahead string the number of a rule, or none (document 01: the cells)
 abbrev pub Table : Type 0
 Table = ℕ → List ℕ → Option ℕ
-
--- each entry of a nonterminal is the number of one of its rules
-abbrev pub OwnEntries : Grammar → Table → Type 0
-OwnEntries G t = (A : ℕ) (x : List ℕ) (q : ℕ) → t A x ≡ some q → (r : Rule) × (getElem? (G .rules) q ≡ some r) × (r .head ≡ A)
 
 -- rule q of A claims the string: one that all its positive bodies can begin with, then one that can follow A, cut to k
 -- (document 01: a rule claims columns)
@@ -110,12 +101,3 @@ pub record Overrun (G : Grammar) (L : Family) (A : ℕ) : Type 0 where
 -- an overlap, or such a nonterminal, which is told as a clash in the entry of the first terminal
 abbrev pub Clash : Grammar → ℕ → Family → Family → ℕ → List ℕ → Type 0
 Clash G k F L A x = Overlap G k F L A x ⊎ (Overrun G L A × (x ≡ 0 ∷ []))
-
--- the table has each rule wherever the rule claims an entry; of an entry that none claims it is only asked that a rule there be the nonterminal's own
-pub record TableRight (G : Grammar) (k : ℕ) (F L : Family) (t : Table) : Type 0 where
-  pub chooses : (q A : ℕ) (x : List ℕ) → Claims G k F L q A x → t A x ≡ some q
-  pub chosen : OwnEntries G t
-
--- a rule without positive bodies takes all that is left: only the end may follow its head, and it takes a token of lookahead to see that
-abbrev pub EveryEnds : Grammar → ℕ → Family → Type 0
-EveryEnds G k L = (r : Rule) → List·Memᴰ r (G .rules) → r .positives ≡ [] → (0 < k) × ((y : List ℕ) → L (r .head) y → y ≡ [])

@@ -10,5 +10,5 @@ pub mod Descent
 pub mod ComesTo
 pub mod Calls
 pub mod Memo
-pub mod MemoDescent
 pub mod Theorems
+pub mod contracts

@@ -2,22 +2,17 @@
 use mathlib.Core.Path.{_≡_}
 use mathlib.Core.Bool.{Bool, not}
 use mathlib.Core.List.{List}
-use Prim.Native.Nat.{ℕ, suc, _+_, _*_, _<_}
-use lib.ListN.{length, getD, replicate}
+use Prim.Native.Nat.{ℕ, suc, _+_, _*_}
+use lib.ListN.{length, getD}
 use lib.Dec.{eqb}
 use Rattle.grammar.specs.Codes.{failedCode, uncalledCode}
 use Rattle.grammar.specs.Syntax.{Grammar}
-use Rattle.base.specs.Choice.{choose}
 use Rattle.base.specs.FiniteSets.{keep}
 use Rattle.semantics.specs.Valuations.{pairs}
 use Rattle.semantics.specs.Choices.{Choice}
 use Rattle.semantics.specs.Descent.{Outcome, Failed, End, descend}
 use Rattle.semantics.specs.ComesTo.{Call, InRange}
 use Rattle.semantics.specs.Calls.{Called, allCalls, calls}
-
--- every place of the input is below the two codes
-abbrev pub EndsFit : List ℕ → Type 0
-EndsFit w = length w < failedCode
 
 -- an entry for each pair of a nonterminal and a place
 abbrev pub Memo : Type 0
@@ -27,19 +22,12 @@ unfoldable pub encode : Outcome → ℕ
 encode Failed = failedCode
 encode (End e) = e
 
-unfoldable pub decode : ℕ → Outcome
-decode v = choose (eqb v failedCode) Failed (End v)
-
 -- a row for each nonterminal, with an entry for each place (document 01: name × (events + 1) + place)
 abbrev pub indexOf : List ℕ → Call → ℕ
 indexOf w x = x .nonterminal * suc (length w) + x .place
 
 abbrev pub entry : List ℕ → Memo → Call → ℕ
 entry w m x = getD m (indexOf w x) uncalledCode
-
--- before the first call
-abbrev pub blank : Grammar → List ℕ → Memo
-blank G w = replicate (pairs G w) uncalledCode
 
 -- the call has an entry
 abbrev pub written : List ℕ → Memo → Call → Bool

@@ -3,7 +3,7 @@ ghost use mathlib.Core.Path.{_≡_};
 ghost use mathlib.Core.Bool.{_||_};
 ghost use Prim.Native.Nat.{_<_};
 ghost use Rattle.grammar.specs.Limits.{maxNonterminals};
-ghost use Rattle.families.specs.Least.{Adds};
+ghost use Rattle.families.specs.contracts.Least.{Adds};
 use families::SETS;
 use families::nonterminals::Nonterminals;
 use lookahead_sets::LookaheadSet;

@@ -2,7 +2,7 @@
 ghost use mathlib.Core.Path.{_≡_};
 ghost use Rattle.grammar.specs.declared.reading.Outcome.the-variants.{Read};
 ghost use Rattle.admission.specs.Admission.{admission};
-ghost use Rattle.families.specs.Analysis.{refusedBy, familiesOf};
+ghost use Rattle.families.specs.contracts.Analysis.{refusedBy, familiesOf};
 use admission::admit;
 use answer::Error;
 use families::Families;

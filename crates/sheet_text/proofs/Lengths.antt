@@ -10,7 +10,7 @@ use Rattle.grammar.specs.declared.reading.Sizes.{Sizes}
 use Rattle.lookahead.specs.Elements.{size}
 use Rattle.text.specs.Writing.{upTo}
 use Rattle.text.proofs.Lengths.{decimal-most, dash-within, up-to-most}
-use Rattle.sheet_text.specs.Limited.{Limited}
+use Rattle.sheet_text.specs.contracts.Limited.{Limited}
 use Rattle.sheet_text.specs.Room.{sizesRoom, setsRoom, entryRoom, entriesRoom, sheetRoom}
 use Rattle.sheet_text.specs.Sheet.{wordAt, sizesLine, setsLine, entryText, entriesLine, nonterminalText, sheetText}
 

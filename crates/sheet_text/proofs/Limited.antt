@@ -9,7 +9,7 @@ use Rattle.grammar.specs.Encoding.{sizes}
 use Rattle.grammar.specs.Limits.{maxNonterminals, maxTerminals}
 use Rattle.grammar.specs.declared.reading.Sizes.{Sizes}
 use Rattle.families.specs.declared.Finding.the-variants.{Passed}
-use Rattle.sheet_text.specs.Limited.{Limited, limitedSizes, limited}
+use Rattle.sheet_text.specs.contracts.Limited.{Limited, limitedSizes, limited}
 
 pub limited-sizes : (z : Sizes) → Limited (limitedSizes z)
 unfolding limitedSizes

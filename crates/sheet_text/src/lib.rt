@@ -6,7 +6,7 @@ ghost use Rattle.grammar.specs.Limits.{maxNonterminals, maxTerminals, maxTableW
 ghost use Rattle.lookahead.specs.Elements.{size as sizeOf};
 ghost use Rattle.text.specs.Decimal.{decimal, labelled};
 ghost use Rattle.text.specs.Writing.{Put, upTo};
-ghost use Rattle.sheet_text.specs.Limited.{Limited, limitedSizes, limited};
+ghost use Rattle.sheet_text.specs.contracts.Limited.{Limited, limitedSizes, limited};
 ghost use Rattle.sheet_text.specs.Sheet.{wordAt, sizesLine, setsLine, entryText, entriesLine, nonterminalText, sheetText, checkText};
 use families::Finding;
 use grammar::codes::NO_ENTRY;

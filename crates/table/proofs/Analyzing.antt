@@ -10,20 +10,22 @@ use Rattle.answer.specs.declared.Error.{Error}
 use Rattle.answer.specs.Faults.{firstFault}
 use Rattle.answer.proofs.Faults.{none-some, each-none, first-nested}
 use Rattle.grammar.specs.Encoding.{grammarOf}
-use Rattle.grammar.specs.Starts.{ruleStarts}
+use Rattle.grammar.specs.contracts.Starts.{ruleStarts}
 use Rattle.grammar.specs.Limits.{maxNonterminals}
 use Rattle.grammar.specs.declared.reading.Sizes.{Sizes}
 use Rattle.grammar.specs.declared.reading.Outcome.the-variants.{Read, Faulty}
-use Rattle.grammar.specs.WellRead.{WellRead}
+use Rattle.grammar.specs.contracts.WellRead.{WellRead}
 use Rattle.grammar.proofs.WellRead.{well-read}
 use Rattle.lookahead.specs.declared.Lookahead.{Lookahead}
-use Rattle.lookahead.specs.Lookaheads.{tokens, alphabet}
+use Rattle.lookahead.specs.Lookaheads.{tokens}
+use Rattle.lookahead.specs.contracts.Lookaheads.{alphabet}
 use Rattle.admission.specs.Admission.{admission}
 use Rattle.base.specs.FiniteSets.{numbers}
 use Rattle.semantics.specs.Claims.{overruns, clashes}
 use Rattle.semantics.proofs.descent.Outcomes.{nth-mem}
 use Rattle.families.specs.declared.Finding.the-variants.{Passed, Refused}
-use Rattle.families.specs.Analysis.{setsFaults, setsFault, startsIf, setsIf}
+use Rattle.families.specs.Analysis.{setsFaults, setsFault}
+use Rattle.families.specs.contracts.Analysis.{startsIf, setsIf}
 use Rattle.base.specs.Lists.{listed}
 use Rattle.families.specs.Sets.{firstNumber, followNumber}
 use Rattle.base.proofs.Lists.{listed-at, listed-long}
@@ -32,11 +34,13 @@ use Rattle.table.specs.declared.conflicts.Conflict.{Conflict}
 use Rattle.table.specs.declared.conflicts.Conflict.the-variants as conflict
 use Rattle.claims.specs.declared.Claims.{Claims}
 use Rattle.table.specs.declared.Found.{Found}
-use Rattle.claims.specs.Claims.{claimsOf, Headed}
-use Rattle.claims.specs.Overruns.{overrunSet}
-use Rattle.table.specs.Conflicts.{firstClash, conflictOf}
-use Rattle.table.specs.Entries.{rowsOf, FilledRows, noRules, entriesOf}
-use Rattle.table.specs.Analysis.{conflictError, clashFault, fault, entriesIf, foundWith, foundOf}
+use Rattle.claims.specs.contracts.Claims.{claimsOf, Headed}
+use Rattle.claims.specs.contracts.Overruns.{overrunSet}
+use Rattle.table.specs.Conflicts.{firstClash}
+use Rattle.table.specs.contracts.Conflicts.{conflictOf}
+use Rattle.table.specs.contracts.Entries.{rowsOf, FilledRows, noRules, entriesOf}
+use Rattle.table.specs.Analysis.{conflictError, clashFault, fault}
+use Rattle.table.specs.contracts.Analysis.{entriesIf, foundWith, foundOf}
 use Rattle.claims.proofs.Claimants.{heads-own}
 use Rattle.families.proofs.FewTerminals.{admitted-read, few-terminals}
 use Rattle.claims.proofs.Findings.{Claimed}

@@ -9,14 +9,14 @@ use lib.ListN.{length, getD, set, replicate, length-set, length-replicate}
 use lib.Seq.{getD-set-same, getD-set-other}
 use Rattle.grammar.specs.Limits.{maxNonterminals}
 use Rattle.lookahead.specs.Elements.{has}
-use Rattle.lookahead.specs.Operations.{join, meet}
+use Rattle.lookahead.specs.contracts.Operations.{join, meet}
 use Rattle.lookahead.proofs.Operations.{has-empty, has-join, has-meet}
 use Rattle.base.specs.Quantifiers.{anyOf}
 use Rattle.base.specs.FiniteSets.{numbersFrom, numbers}
 use Rattle.semantics.specs.Claims.{several}
 use Rattle.base.proofs.Lists.{getD-zeros}
-use Rattle.claims.specs.Claims.{claimant}
-use Rattle.table.specs.Conflicts.{Noted, Twice}
+use Rattle.claims.specs.contracts.Claims.{claimant}
+use Rattle.table.specs.contracts.Conflicts.{Noted, Twice}
 use Rattle.claims.proofs.Claimants.{claimant-own, claimant-other, numbers-before}
 
 -- these rules have been gone through

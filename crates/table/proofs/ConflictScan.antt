@@ -10,17 +10,20 @@ use types.Run.{OneOf, miss}
 use lib.ListN.{length, getD}
 use Rattle.grammar.specs.Syntax.{Grammar}
 use Rattle.lookahead.specs.declared.Lookahead.{Lookahead}
-use Rattle.lookahead.specs.Lookaheads.{tokens, alphabet}
-use Rattle.lookahead.specs.Operations.{isEmpty}
+use Rattle.lookahead.specs.Lookaheads.{tokens}
+use Rattle.lookahead.specs.contracts.Lookaheads.{alphabet}
+use Rattle.lookahead.specs.contracts.Operations.{isEmpty}
 use Rattle.lookahead.proofs.Emptiness.{empty-none}
 use Rattle.semantics.specs.Claims.{several, claims, overruns, clashing}
 use Rattle.table.specs.declared.conflicts.Conflict.{Conflict}
 use Rattle.table.specs.declared.conflicts.Conflict.the-variants.{Absent, At}
-use Rattle.columns.specs.Columns.{columnString, columnElement, columns}
-use Rattle.claims.specs.Claims.{headsOf, claimNumbers}
-use Rattle.families.specs.RuleLists.{byRule}
-use Rattle.claims.specs.Overruns.{overrunSet}
-use Rattle.table.specs.Conflicts.{rowConflict, orLater, conflictFrom, firstClash, inSet, inSets, claimedTwice, Twice}
+use Rattle.columns.specs.Columns.{columnString, columns}
+use Rattle.columns.specs.contracts.Columns.{columnElement}
+use Rattle.claims.specs.contracts.Claims.{headsOf, claimNumbers}
+use Rattle.families.specs.contracts.RuleLists.{byRule}
+use Rattle.claims.specs.contracts.Overruns.{overrunSet}
+use Rattle.table.specs.Conflicts.{rowConflict, orLater, conflictFrom, firstClash}
+use Rattle.table.specs.contracts.Conflicts.{inSet, inSets, claimedTwice, Twice}
 use Rattle.columns.proofs.ColumnStrings.{column-string, element-small}
 use Rattle.claims.proofs.Claimants.{several-claims, told as rules-told}
 use Rattle.table.proofs.OverrunColumns.{overrun-column}

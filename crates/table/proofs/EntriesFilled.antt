@@ -7,19 +7,22 @@ use native.Mathlib.Nat.{mul-le-mul, mod-lt, div-add-mod', div-lt-iff-lt-mul}
 use native.Mathlib.Omega.{arith}
 use lib.Arith.{digits-lt, digits-div, digits-mod}
 use lib.ListN.{length, getD, length-replicate, getD-replicate}
-use Rattle.grammar.specs.Codes.{noRule}
-use Rattle.grammar.specs.Limits.{maxNonterminals, maxEntries}
+use Rattle.grammar.specs.contracts.Codes.{noRule}
+use Rattle.grammar.specs.Limits.{maxNonterminals}
+use Rattle.grammar.specs.contracts.Limits.{maxEntries}
 use Rattle.grammar.specs.Syntax.{Grammar}
 use Rattle.lookahead.specs.declared.Lookahead.{Lookahead}
-use Rattle.lookahead.specs.Lookaheads.{tokens, alphabet}
+use Rattle.lookahead.specs.Lookaheads.{tokens}
+use Rattle.lookahead.specs.contracts.Lookaheads.{alphabet}
 use Rattle.base.specs.FiniteSets.{numbers}
 use Rattle.semantics.specs.Claims.{tableOf}
 use Rattle.base.specs.Lists.{listed}
-use Rattle.families.specs.RuleLists.{byRule}
+use Rattle.families.specs.contracts.RuleLists.{byRule}
 use Rattle.base.proofs.Lists.{listed-long, listed-at}
-use Rattle.columns.specs.Columns.{columnElement, columnString, columns}
-use Rattle.claims.specs.Claims.{headsOf, claimNumbers}
-use Rattle.table.specs.Entries.{ruleByte, byteAt, entriesOf, noRules, entryOver, rowsOf, FilledRows}
+use Rattle.columns.specs.contracts.Columns.{columnElement}
+use Rattle.columns.specs.Columns.{columnString, columns}
+use Rattle.claims.specs.contracts.Claims.{headsOf, claimNumbers}
+use Rattle.table.specs.contracts.Entries.{ruleByte, byteAt, entriesOf, noRules, entryOver, rowsOf, FilledRows}
 use Rattle.claims.proofs.Claimants.{first-claim, told}
 use Rattle.columns.proofs.ColumnStrings.{some-column, column-count, column-string, element-small}
 use Rattle.table.proofs.Padded.{padded-in, padded-is}

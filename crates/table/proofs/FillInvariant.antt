@@ -10,14 +10,15 @@ use native.Mathlib.Nat.{suc-mul, mul-le-mul, mul-le-mul-right}
 use native.Mathlib.Omega.{arith}
 use lib.ListN.{getD}
 use Rattle.base.specs.Choice.{choose}
-use Rattle.grammar.specs.Limits.{maxNonterminals, maxWideColumns, maxEntries}
+use Rattle.grammar.specs.Limits.{maxNonterminals, maxWideColumns}
+use Rattle.grammar.specs.contracts.Limits.{maxEntries}
 use Rattle.grammar.specs.declared.reading.Sizes.{Sizes}
 use Rattle.lookahead.specs.declared.Lookahead.{Lookahead}
 use Rattle.base.specs.FiniteSets.{numbersFrom, numbers}
 use Rattle.semantics.specs.Claims.{position}
 use Rattle.columns.specs.Columns.{columnCount}
-use Rattle.claims.specs.Claims.{claimant}
-use Rattle.table.specs.Entries.{Rows, indexOf, entryOver, FilledRow, FilledRows, RowsGiven}
+use Rattle.claims.specs.contracts.Claims.{claimant}
+use Rattle.table.specs.contracts.Entries.{Rows, indexOf, entryOver, FilledRow, FilledRows, RowsGiven}
 use Rattle.columns.proofs.ColumnStrings.{column-count}
 use Rattle.claims.proofs.Claimants.{claimant-own, claimant-other, numbers-before}
 

@@ -9,7 +9,7 @@ use lib.ListN.{length, getD, set, length-set}
 use lib.Seq.{getD-set-same, getD-set-other}
 use Rattle.base.specs.Choice.{choose}
 use Rattle.lookahead.specs.Elements.{has}
-use Rattle.table.specs.Entries.{FilledRow}
+use Rattle.table.specs.contracts.Entries.{FilledRow}
 
 -- the columns of a row
 pub row-none : (table : List ℕ) (row : ℕ) (element : ℕ → ℕ) (claim rule : ℕ) → FilledRow table row element 0 claim rule table

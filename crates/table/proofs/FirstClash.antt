@@ -10,7 +10,8 @@ use lib.Dec.{T}
 use Rattle.base.specs.Choice.{choose}
 use Rattle.grammar.specs.Syntax.{Grammar}
 use Rattle.lookahead.specs.declared.Lookahead.{Lookahead}
-use Rattle.lookahead.specs.Lookaheads.{tokens, alphabet}
+use Rattle.lookahead.specs.Lookaheads.{tokens}
+use Rattle.lookahead.specs.contracts.Lookaheads.{alphabet}
 use Rattle.semantics.specs.FirstFollow.{Entry, entries}
 use Rattle.base.specs.Strings.{Lookahead as Looked}
 use Rattle.semantics.specs.Claims.{clashing, clashes}

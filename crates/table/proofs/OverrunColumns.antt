@@ -8,15 +8,17 @@ use lib.Dec.{T, eqb, ltb, eqb→eq, eqb-refl, lt→ltb}
 use Rattle.base.proofs.Booleans.{and-r, and-make, both}
 use Rattle.lookahead.specs.declared.Lookahead.{Lookahead}
 use Rattle.lookahead.specs.declared.Lookahead.the-variants.{One, Two}
-use Rattle.lookahead.specs.Lookaheads.{alphabet, elementOf, stringOf}
+use Rattle.lookahead.specs.contracts.Lookaheads.{alphabet}
+use Rattle.lookahead.specs.Lookaheads.{elementOf, stringOf}
 use Rattle.lookahead.specs.Elements.{has}
-use Rattle.lookahead.specs.Operations.{terminal}
+use Rattle.lookahead.specs.contracts.Operations.{terminal}
 use Rattle.lookahead.proofs.Operations.{has-choose, has-terminal}
 use Rattle.lookahead.proofs.Strings.{element-string, string-terminal}
 use Rattle.base.specs.Strings.{sameString}
 use Rattle.base.proofs.LookaheadStrings.{strings-equality}
-use Rattle.claims.specs.Overruns.{overrunSet}
-use Rattle.columns.specs.Columns.{columnCount, columnString, columnElement}
+use Rattle.claims.specs.contracts.Overruns.{overrunSet}
+use Rattle.columns.specs.Columns.{columnCount, columnString}
+use Rattle.columns.specs.contracts.Columns.{columnElement}
 use Rattle.columns.proofs.ColumnStrings.{column-string}
 
 some-terminal : (k : Lookahead) → 0 < alphabet k

@@ -6,7 +6,7 @@ use native.Mathlib.Decide.{decLt}
 use native.Mathlib.Omega.{arith}
 use lib.ListN.{length, getD, replicate, length-append, length-replicate, getD-replicate, List·getD-append}
 use lib.Seq.{ext-getD, getD-append-add}
-use Rattle.table.specs.Layout.{padded}
+use Rattle.table.specs.contracts.Layout.{padded}
 
 module _ (n v : ℕ) (l : List ℕ) where
   pub padded-long : length l ≤ n → length (padded n v l) ≡ n

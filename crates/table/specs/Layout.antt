@@ -1,9 +1,8 @@
 -- The words of the table (documents 01 and 02: the plate): two sets for each nonterminal, then a row of entries for each.
 use mathlib.Core.List.{List, _++_}
 use mathlib.Core.Option.{Option, none, some}
-use Prim.Native.Nat.{ℕ, _-_, _*_, _/_, _%_}
+use Prim.Native.Nat.{ℕ, _*_, _/_, _%_}
 use lib.Dec.{eqb}
-use lib.ListN.{length, replicate}
 use Rattle.base.specs.Choice.{choose}
 use Rattle.grammar.specs.Codes.{noEntry}
 use Rattle.grammar.specs.Limits.{maxTableWords, maxWideTableWords}
@@ -38,7 +37,3 @@ tableWords k G = listed (2 * G .nonterminals) (setWord k G) ++ listed (G .nonter
 abbrev pub tableRoom : Lookahead → ℕ
 tableRoom One = maxTableWords
 tableRoom Two = maxWideTableWords
-
--- a list in an array of n, and v behind it
-abbrev pub padded : ℕ → ℕ → List ℕ → List ℕ
-padded n v l = l ++ replicate (n - length l) v

@@ -1,4 +1,4 @@
 pub mod Layout
-pub mod Entries
 pub mod Conflicts
 pub mod Analysis
+pub mod contracts

@@ -1,6 +1,7 @@
 // The LL(1) and the LL(2) table of an encoded grammar.
 ghost use mathlib.Core.Path.{_≡_};
-ghost use Rattle.table.specs.Analysis.{conflictError, foundOf};
+ghost use Rattle.table.specs.Analysis.{conflictError};
+ghost use Rattle.table.specs.contracts.Analysis.{foundOf};
 use answer::Error;
 use conflicts::Conflict;
 use conflicts::first_conflict;

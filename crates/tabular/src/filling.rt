@@ -1,12 +1,13 @@
 // The chart filled from short spans to long ones, and at each span in the order of rank.
-ghost use Rattle.tabular_promises.specs.Places.{Standing, InputGiven};
-ghost use Rattle.tabular_promises.specs.Chart.{AddGiven, Added};
+ghost use Rattle.tabular_promises.specs.contracts.Places.{Standing, InputGiven};
+ghost use Rattle.tabular_promises.specs.contracts.Chart.{AddGiven, Added};
 ghost use Prim.Native.Nat.{_+_, _<_};
 ghost use lib.ListN.{getD};
 ghost use Rattle.event.specs.Events.{inputOf};
 ghost use Rattle.grammar.specs.Limits.{maxTabularTokens};
-ghost use Rattle.families.specs.Rules.{RuleWords};
-ghost use Rattle.tabular_promises.specs.Filling.{RulesGiven, RanksGiven, ByRank, AskGiven, Asked, DerivedGiven, Derived, turn, Fills, SettleGiven, LengthGiven, FillGiven, Filled};
+ghost use Rattle.families.specs.contracts.Rules.{RuleWords};
+ghost use Rattle.tabular_promises.specs.contracts.Filling.{RulesGiven, RanksGiven, ByRank, AskGiven, Asked, DerivedGiven, Derived, turn, Fills, SettleGiven};
+ghost use Rattle.tabular_promises.specs.contracts.Filling.{LengthGiven, FillGiven, Filled};
 use chart::CHART;
 use chart::bodies::STANDS;
 use chart::bodies::keeps;

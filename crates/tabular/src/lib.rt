@@ -3,7 +3,7 @@
 ghost use mathlib.Core.Path.{_≡_};
 ghost use Rattle.event.specs.Events.{inputOf};
 ghost use Rattle.tabular_promises.specs.Answers.{told};
-ghost use Rattle.tabular_promises.specs.Judging.{TabulateGiven, Tabulated, FoundGiven};
+ghost use Rattle.tabular_promises.specs.contracts.Judging.{TabulateGiven, Tabulated, FoundGiven};
 ghost use Rattle.tabular_promises.specs.Properties.{TabularJudges};
 use answer::Answer;
 use answer::Calls;

@@ -15,8 +15,8 @@ use Rattle.grammar.specs.Limits.{maxNonterminals, maxTabularPlaces}
 use Rattle.lookahead.specs.Elements.{weight, has, total}
 use Rattle.lookahead.proofs.Elements.{has-shift, has-zero}
 use Rattle.lookahead.proofs.Weights.{total-bound}
-use Rattle.tabular_promises.specs.Places.{hasPlace, Put}
-use Rattle.tabular_promises.specs.Chart.{slot, charted, Long, oneNonterminal, withNonterminal, WordGiven, wordAt, foundWord, spanWord, Added}
+use Rattle.tabular_promises.specs.contracts.Places.{hasPlace, Put}
+use Rattle.tabular_promises.specs.contracts.Chart.{slot, charted, Long, oneNonterminal, withNonterminal, WordGiven, wordAt, foundWord, spanWord, Added}
 use Rattle.tabular_promises.proofs.PlaceSets.{has-place}
 use Rattle.tabular_promises.proofs.Writing.{total-cong}
 

@@ -39,9 +39,10 @@ use Rattle.semantics.specs.Valuations.{Valuation, Solves, solution}
 use Rattle.semantics.specs.LeftRecursion.{NoLeftRecursion, lowestLeftRecursive}
 use Rattle.semantics.specs.Productive.{lowestUnproductive}
 use Rattle.semantics.proofs.Theorems.{theorems}
-use Rattle.families.specs.Analysis.{setsFaults, setsFault, setsIf, familiesOf}
+use Rattle.families.specs.Analysis.{setsFaults, setsFault}
+use Rattle.families.specs.contracts.Analysis.{setsIf, familiesOf}
 use Rattle.base.specs.Lists.{listed}
-use Rattle.families.specs.Sets.{reachNumber}
+use Rattle.families.specs.contracts.Sets.{reachNumber}
 use Rattle.families.specs.declared.Finding.{Finding}
 use Rattle.families.specs.declared.Finding.the-variants.{Passed, Refused}
 use Rattle.families.proofs.Findings.{FoundFamilies, families-told, families-refused}
@@ -56,7 +57,7 @@ use Rattle.promises.proofs.Verdicts.{verdict-tells}
 use Rattle.promises.proofs.Places.{Tells, Other, judge-tells, none-left, faultBy, lowest-recursive, lowest-unproductive}
 use Rattle.tabular_promises.specs.Spans.{indexOf, spanWords, solutionWord}
 use Rattle.tabular_promises.specs.Answers.{tabularFault, noCalls, told, tabularVerdict, tabularWords}
-use Rattle.tabular_promises.specs.Judging.{TabulateGiven, Tabulated, FoundGiven}
+use Rattle.tabular_promises.specs.contracts.Judging.{TabulateGiven, Tabulated, FoundGiven}
 use Rattle.tabular_promises.specs.Properties.{FreeGrammar, Tabulates, TabularJudges}
 use Rattle.tabular_promises.proofs.TabularFaults.{spans-short, fault-long, no-fault, fault-other}
 use Rattle.tabular_promises.proofs.Writing.{index-low, words-long, words-at}

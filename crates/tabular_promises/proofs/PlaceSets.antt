@@ -19,7 +19,7 @@ use Rattle.lookahead.proofs.Elements.{has-or, has-zero}
 use Rattle.lookahead.proofs.Powers.{has-pow}
 use Rattle.event.specs.Events.{terminalOf, inputOf}
 use Rattle.event.proofs.Inputs.{input-length, input-at}
-use Rattle.tabular_promises.specs.Places.{onePlace, hasPlace, withPlace, Put, Standing, InputGiven}
+use Rattle.tabular_promises.specs.contracts.Places.{onePlace, hasPlace, withPlace, Put, Standing, InputGiven}
 
 -- a place's weight, and a nonterminal's
 pub weight-64 : (k : ℕ) → k < maxTabularPlaces → 1 * 2 ^ k % 2 ^ 64 ≡ 2 ^ k

@@ -20,9 +20,9 @@ use Rattle.lookahead.specs.Elements.{has}
 use Rattle.lookahead.proofs.Elements.{has-or, has-and, has-suc, has-zero}
 use Rattle.lookahead.proofs.Powers.{has-pow}
 use Rattle.semantics.specs.Valuations.{Valuation, contains}
-use Rattle.tabular_promises.specs.Places.{hasPlace}
-use Rattle.tabular_promises.specs.Chart.{slot, charted, gathered, placesBefore, Before, Span}
-use Rattle.tabular_promises.specs.Scanning.{Over, Reads}
+use Rattle.tabular_promises.specs.contracts.Places.{hasPlace}
+use Rattle.tabular_promises.specs.contracts.Chart.{slot, charted, gathered, placesBefore, Before, Span}
+use Rattle.tabular_promises.specs.contracts.Scanning.{Over, Reads}
 use Rattle.tabular_promises.proofs.PlaceSets.{has-place}
 
 below-none : (n : ℕ) (p : ℕ → Bool) → ((m : ℕ) → m < n → p m ≡ false) → anyBelow n p ≡ false

@@ -13,7 +13,7 @@ use Rattle.semantics.proofs.examples.Computing.{left-recursion-computes, tables
 use Rattle.base.specs.Lists.{listed}
 use Rattle.tabular_promises.specs.Spans.{solutionWord, rows, spanWords}
 use Rattle.tabular_promises.specs.Answers.{tabularFault, tabularVerdict, tabularWords}
-use Rattle.tabular_promises.specs.Rows.{worked, judged, lent}
+use Rattle.tabular_promises.specs.examples.Rows.{worked, judged, lent}
 
 pub worked-answers : map (λ r. judged (r .words) (r .input)) worked ≡ map (λ r. r .told) worked
 unfolding judged tabularFault tabularVerdict unknownFrom reading opened headed within scan finished onStep stepped counted

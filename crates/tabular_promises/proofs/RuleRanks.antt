@@ -21,7 +21,7 @@ use Rattle.word.specs.Words.{decoded}
 use Rattle.grammar.specs.Limits.{maxNonterminals, maxRules}
 use Rattle.grammar.specs.Syntax.{Grammar}
 use Rattle.grammar.specs.Encoding.{parse, grammarOf}
-use Rattle.grammar.specs.WellRead.{headOf}
+use Rattle.grammar.specs.contracts.WellRead.{headOf}
 use Rattle.grammar.specs.declared.reading.Sizes.{Sizes}
 use Rattle.grammar.proofs.EachIndex.{read-whole}
 use Rattle.grammar.proofs.WellRead.{well-read}
@@ -33,13 +33,13 @@ use Rattle.lookahead.proofs.Weights.{total-bound, has-total}
 use Rattle.semantics.specs.LeftRecursion.{leftReaches, rank}
 use Rattle.semantics.specs.Valuations.{derives, byRules}
 use Rattle.semantics.proofs.meaning.Rank.{rank-below}
-use Rattle.families.specs.Rules.{RuleWords}
-use Rattle.families.specs.Sets.{reachNumber}
+use Rattle.families.specs.contracts.Rules.{RuleWords}
+use Rattle.families.specs.contracts.Sets.{reachNumber}
 use Rattle.base.proofs.Lists.{listed-at, getD-zeros}
 use Rattle.families.proofs.RuleRanges.{till-next, till-end, rule-in, rule-is}
-use Rattle.tabular_promises.specs.Chart.{charted}
-use Rattle.tabular_promises.specs.Scanning.{Over, holds, Keeps}
-use Rattle.tabular_promises.specs.Filling.{RulesGiven, ruleNumbered, ruleRank, RanksGiven, LastOf, ByRank, AskGiven, Asked, Derived}
+use Rattle.tabular_promises.specs.contracts.Chart.{charted}
+use Rattle.tabular_promises.specs.contracts.Scanning.{Over, holds, Keeps}
+use Rattle.tabular_promises.specs.contracts.Filling.{RulesGiven, ruleNumbered, ruleRank, RanksGiven, LastOf, ByRank, AskGiven, Asked, Derived}
 
 module _ {words starts : List ℕ} {z : Sizes} (k : RulesGiven words starts z) {q : ℕ} (h : q < z .rules) where
   pub from-low : getD starts q 0 < length words

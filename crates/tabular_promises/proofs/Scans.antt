@@ -22,11 +22,12 @@ use Rattle.grammar.specs.Reading.{inRange}
 use Rattle.grammar.proofs.EachIndex.{read-place}
 use Rattle.grammar.proofs.WellRead.{well-read}
 use Rattle.semantics.specs.Valuations.{Valuation, contains}
-use Rattle.families.specs.Rules.{RuleWords}
+use Rattle.families.specs.contracts.Rules.{RuleWords}
 use Rattle.tabular_promises.specs.declared.Scan.{Scan}
-use Rattle.tabular_promises.specs.Places.{onePlace, hasPlace}
-use Rattle.tabular_promises.specs.Chart.{charted, Span}
-use Rattle.tabular_promises.specs.Scanning.{Over, Reads, holds, Scanned, noneOpen, beforeTerminal, beforeSymbol, scanOnto, scanned, keepsBy, SymbolKnown, Known, KeepsGiven, Keeps}
+use Rattle.tabular_promises.specs.contracts.Places.{onePlace, hasPlace}
+use Rattle.tabular_promises.specs.contracts.Chart.{charted, Span}
+use Rattle.tabular_promises.specs.contracts.Scanning.{Over, Reads, holds, Scanned, noneOpen, beforeTerminal, beforeSymbol, scanOnto, scanned, keepsBy}
+use Rattle.tabular_promises.specs.contracts.Scanning.{SymbolKnown, Known, KeepsGiven, Keeps}
 use Rattle.tabular_promises.proofs.PlaceSets.{one-place, has-place}
 use Rattle.tabular_promises.proofs.Reaching.{nothing-reads, terminal-reads, nonterminal-reads, places-before}
 

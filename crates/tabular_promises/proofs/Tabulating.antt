@@ -13,11 +13,12 @@ use Rattle.grammar.specs.declared.reading.Outcome.the-variants.{Read}
 use Rattle.grammar.proofs.WellRead.{well-read}
 use Rattle.lookahead.specs.Elements.{has}
 use Rattle.semantics.specs.Valuations.{solution}
-use Rattle.tabular_promises.specs.Places.{hasPlace}
-use Rattle.tabular_promises.specs.Chart.{slot, charted, WordGiven, wordAt, spanWord}
-use Rattle.tabular_promises.specs.Filling.{Filled}
-use Rattle.tabular_promises.specs.Judging.{Tabulated}
-use Rattle.tabular_promises.specs.Spans.{spanCount, solutionWord, writtenSpans}
+use Rattle.tabular_promises.specs.contracts.Places.{hasPlace}
+use Rattle.tabular_promises.specs.contracts.Chart.{slot, charted, WordGiven, wordAt, spanWord}
+use Rattle.tabular_promises.specs.contracts.Filling.{Filled}
+use Rattle.tabular_promises.specs.contracts.Judging.{Tabulated}
+use Rattle.tabular_promises.specs.contracts.Spans.{spanCount, writtenSpans}
+use Rattle.tabular_promises.specs.Spans.{solutionWord}
 use Rattle.tabular_promises.proofs.Writing.{total-cong, words-cong, were-written}
 use Rattle.tabular_promises.proofs.Charts.{span-word}
 use Rattle.tabular_promises.proofs.PlaceSets.{has-place}

@@ -23,10 +23,10 @@ use Rattle.semantics.specs.Theorems.{AgreeBelow}
 use Rattle.semantics.proofs.meaning.Rank.{rank-below}
 use Rattle.semantics.proofs.meaning.Unique.{rules-lower, solution-solves, solution-null}
 use Rattle.base.proofs.Lists.{getD-zeros}
-use Rattle.tabular_promises.specs.Places.{Standing}
-use Rattle.tabular_promises.specs.Chart.{charted, Long, Span, Added}
-use Rattle.tabular_promises.specs.Scanning.{Over}
-use Rattle.tabular_promises.specs.Filling.{turn, FilledTo, Fills, Derived, FillingGiven, SettleGiven, LengthGiven, Filled}
+use Rattle.tabular_promises.specs.contracts.Places.{Standing}
+use Rattle.tabular_promises.specs.contracts.Chart.{charted, Long, Span, Added}
+use Rattle.tabular_promises.specs.contracts.Scanning.{Over}
+use Rattle.tabular_promises.specs.contracts.Filling.{turn, FilledTo, Fills, Derived, FillingGiven, SettleGiven, LengthGiven, Filled}
 
 -- an empty chart is filled up to the first turn
 pub filled-start : (G : Grammar) (w : List ℕ) (n : ℕ) → FilledTo G w 0 (replicate n 0)

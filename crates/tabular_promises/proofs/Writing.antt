@@ -14,8 +14,9 @@ use Rattle.lookahead.specs.Elements.{weight, total}
 use Rattle.base.specs.Lists.{listed}
 use Rattle.base.proofs.Lists.{listed-long, listed-at}
 use Rattle.base.proofs.Front.{front, front-more}
-use Rattle.tabular_promises.specs.Chart.{spanWord}
-use Rattle.tabular_promises.specs.Spans.{spansBefore, spanCount, indexOf, rows, spanWords, Spans, writtenSpans}
+use Rattle.tabular_promises.specs.contracts.Chart.{spanWord}
+use Rattle.tabular_promises.specs.Spans.{spansBefore, indexOf, rows, spanWords}
+use Rattle.tabular_promises.specs.contracts.Spans.{spanCount, Spans, writtenSpans}
 
 -- the spans before a place
 before-up : (n i : ℕ) (d : ℕ) → spansBefore n i ≤ spansBefore n (i + d)

@@ -1,9 +1,5 @@
-pub mod Places
-pub mod Chart
-pub mod Scanning
-pub mod Filling
 pub mod Spans
 pub mod Answers
-pub mod Rows
 pub mod Properties
-pub mod Judging
+pub mod contracts
+pub mod examples

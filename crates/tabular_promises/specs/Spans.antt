@@ -1,17 +1,10 @@
 -- The words of the spans in lent memory: by start, then by end.
-use mathlib.Core.Path.{_≡_}
 use mathlib.Core.List.{List, [], _++_}
-use mathlib.Core.Bool.{_&&_}
 use Prim.Native.Nat.{ℕ, zero, suc, _+_, _-_}
-use lib.Dec.{leb}
-use lib.ListN.{length, drop}
-use Rattle.base.specs.Choice.{choose}
-use Rattle.grammar.specs.Limits.{maxTabularTokens, maxSpanWords}
 use Rattle.grammar.specs.Syntax.{Grammar}
 use Rattle.lookahead.specs.Elements.{total}
 use Rattle.semantics.specs.Valuations.{solution}
 use Rattle.base.specs.Lists.{listed}
-use Rattle.tabular_promises.specs.Chart.{spanWord}
 
 -- the nonterminals that the one solution gives a span to, A weighing 2^A
 unfoldable pub solutionWord : Grammar → List ℕ → ℕ → ℕ → ℕ
@@ -21,9 +14,6 @@ solutionWord G w i j = total (G .nonterminals) (λ A. solution G w A i j)
 unfoldable pub spansBefore : ℕ → ℕ → ℕ
 spansBefore n zero = 0
 spansBefore n (suc i) = spansBefore n i + (suc n - i)
-
-abbrev pub spanCount : ℕ → ℕ
-spanCount n = spansBefore n (suc n)
 
 -- where a span's word stands
 abbrev pub indexOf : ℕ → ℕ → ℕ → ℕ
@@ -37,12 +27,3 @@ rows f (suc c) i = listed (suc c) (λ d. f i (i + d)) ++ rows f c (suc i)
 -- all spans' words
 unfoldable pub spanWords : ℕ → (ℕ → ℕ → ℕ) → List ℕ
 spanWords n f = rows f (suc n) 0
-
--- memory that holds them, and unchanged words behind them
-abbrev pub Spans : ℕ → (ℕ → ℕ → ℕ) → List ℕ → List ℕ → Type 0
-Spans n f before after = after ≡ spanWords n f ++ drop (spanCount n) before
-
--- the words of a chart's spans; for an input that is too long, or in memory that is too short, what was there
-unfoldable pub writtenSpans : List ℕ → ℕ → ℕ → List ℕ → List ℕ
-writtenSpans chart N tokens before =
-    choose (leb tokens maxTabularTokens && leb maxSpanWords (length before)) (spanWords tokens (spanWord chart N) ++ drop (spanCount tokens) before) before

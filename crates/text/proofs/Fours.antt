@@ -9,7 +9,8 @@ use lib.Seq.{sets, take-suc, take-all, length-take-le}
 use borrow.Author.Tests.{lt-leb, le-leb, eq-eqb, ne-eqb}
 use Rattle.grammar.specs.Limits.{maxWords}
 use Rattle.text.specs.declared.words.Loaded.the-variants.{Words, NotWords}
-use Rattle.text.specs.Words.{bytesOfWord, wordsOf, fourAt, areWords, Loading}
+use Rattle.text.specs.Words.{bytesOfWord, wordsOf, areWords}
+use Rattle.text.specs.contracts.Words.{fourAt, Loading}
 use Rattle.text.proofs.Writing.{sets-append}
 
 pub length-words : (bytes : List ℕ) → length (wordsOf bytes) ≡ length bytes / bytesOfWord

@@ -3,3 +3,4 @@ pub mod Decimal
 pub mod Refusal
 pub mod Words
 pub mod Writing
+pub mod contracts

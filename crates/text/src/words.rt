@@ -2,7 +2,8 @@
 ghost use mathlib.Core.Path.{_≡_};
 ghost use Prim.Native.Nat.{_+_, _<_};
 ghost use lib.ListN.{length};
-ghost use Rattle.text.specs.Words.{word as wordOf, fourAt, Loading};
+ghost use Rattle.text.specs.Words.{word as wordOf};
+ghost use Rattle.text.specs.contracts.Words.{fourAt, Loading};
 use grammar::limits::WORDS;
 
 // Whether a file's bytes are words, and how many.

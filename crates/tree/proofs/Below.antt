@@ -14,7 +14,8 @@ use Rattle.semantics.specs.Valuations.{Valuation, Solves}
 use Rattle.base.specs.Strings.{Over}
 use Rattle.semantics.specs.Choices.{tableChoice}
 use Rattle.semantics.specs.Descent.{End, endsAt, Outcomes, read, run, select}
-use Rattle.semantics.specs.ComesTo.{Call, callAt, InRange, measure, when, bodyComesTo, positivesComeTo, ruleComesTo, selectedComesTo, callComesTo}
+use Rattle.semantics.specs.ComesTo.{Call, callAt, InRange, when, bodyComesTo, positivesComeTo, ruleComesTo, selectedComesTo, callComesTo}
+use Rattle.semantics.specs.contracts.ComesTo.{measure}
 use Rattle.semantics.specs.Predictive.{Predictive}
 use Rattle.base.proofs.Booleans.{T-true, and-make}
 use Rattle.semantics.proofs.descent.Measure.{measure-falls}

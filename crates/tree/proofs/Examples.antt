@@ -4,7 +4,7 @@ use mathlib.Core.Path.{_≡_, refl}
 use Prim.Native.Nat.{ℕ}
 use Rattle.word.specs.declared.Symbol.the-variants.{Terminal, Nonterminal}
 use Rattle.grammar.specs.Syntax.{Grammar}
-use Rattle.grammar.specs.Cards.{grammarR, grammarM, grammarE}
+use Rattle.grammar.specs.examples.Cards.{grammarR, grammarM, grammarE}
 use Rattle.semantics.specs.Choices.{tableChoice}
 use Rattle.semantics.proofs.examples.Computing.{tables-compute, descent-computes, calls-compute}
 use Rattle.semantics.proofs.examples.ExamplesTables.{others}

@@ -16,7 +16,7 @@ use Rattle.semantics.specs.FirstFollow.{Follow}
 use Rattle.semantics.specs.Choices.{tableChoice}
 use Rattle.semantics.specs.Descent.{End, endsAt, guard, onward, Outcomes, read, run, agrees, select, byChoice, descend}
 use Rattle.semantics.specs.Predictive.{Predictive}
-use Rattle.semantics.specs.Theorems.{LocalVerdict}
+use Rattle.semantics.specs.contracts.Theorems.{LocalVerdict}
 use Rattle.base.proofs.Booleans.{and-l, and-r}
 use Rattle.base.proofs.Quantified.{all-elim, any-make}
 use Rattle.semantics.proofs.descent.Outcomes.{ends-end, end-ends, onward-elim, guard-elim, obey-elim, select-elim, conclude-elim}

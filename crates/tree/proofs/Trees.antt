@@ -12,7 +12,8 @@ use Rattle.semantics.specs.Valuations.{Valuation, Solves, pairs}
 use Rattle.base.specs.Strings.{Over}
 use Rattle.semantics.specs.Choices.{Choice, tableChoice}
 use Rattle.semantics.specs.Descent.{accepts}
-use Rattle.semantics.specs.ComesTo.{Call, callAt, measure}
+use Rattle.semantics.specs.ComesTo.{Call, callAt}
+use Rattle.semantics.specs.contracts.ComesTo.{measure}
 use Rattle.semantics.specs.Calls.{Called, calls, callCount}
 use Rattle.semantics.specs.Calls as called
 use Rattle.semantics.specs.Predictive.{Predictive}

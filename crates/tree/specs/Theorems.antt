@@ -1,20 +1,17 @@
--- What this crate proves, on one page. All of it is given in proofs/Theorems.
+-- What is proved of the tree that an accepted input is given, and of the word of a vertex.
 use mathlib.Core.Path.{_≡_}
 use mathlib.Core.Bool.{true}
 use mathlib.Core.List.{List, List·Memᴰ}
 use mathlib.Core.Option.{some}
-use Prim.Native.Nat.{ℕ, _/_, _%_, _^_, _≤_, _<_}
-use lib.Dec.{T}
+use Prim.Native.Nat.{ℕ, _/_, _%_, _^_, _≤_}
 use lib.ListN.{length, getElem?}
 use Rattle.grammar.specs.Syntax.{Rule, Grammar}
-use Rattle.semantics.specs.Valuations.{Valuation, Solves}
-use Rattle.base.specs.Strings.{Over}
+use Rattle.semantics.specs.Valuations.{Valuation}
 use Rattle.semantics.specs.Choices.{Choice, tableChoice}
-use Rattle.semantics.specs.Descent.{End, descend, accepts}
+use Rattle.semantics.specs.Descent.{End, descend}
 use Rattle.semantics.specs.ComesTo.{Call}
 use Rattle.semantics.specs.Calls.{Called, callCount}
 use Rattle.base.specs.FiniteSets.{Distinct}
-use Rattle.semantics.specs.Predictive.{Predictive}
 use Rattle.tree.specs.ParseTrees.{Vertex, ParseTree}
 use Rattle.tree.specs.Writing.{treeCalls, treeOf, vertexWord, InTree}
 
@@ -45,8 +42,3 @@ pub record Told (x : Vertex) : Type 0 where
   pub end : vertexWord x / 2 ^ 16 % 2 ^ 9 ≡ x .end
   pub start : vertexWord x / 2 ^ 7 % 2 ^ 9 ≡ x .start
   pub rule : vertexWord x % 2 ^ 7 ≡ x .rule
-
-pub record Theorems : Type 0 where
-  pub tree-right : (G : Grammar) (k : ℕ) → Predictive G k → (w : List ℕ) → Over (G .terminals) w → (v : Valuation) → Solves G w v
-      → T (accepts G (tableChoice G k w) w) → TreeRight G k w v
-  pub told : (x : Vertex) → x .rule < 2 ^ 7 → x .start < 2 ^ 9 → x .end < 2 ^ 9 → Told x

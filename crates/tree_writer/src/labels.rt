@@ -1,6 +1,6 @@
 // The words of all vertices, made before the tree is written; places past the input's end have none.
 ghost use Rattle.event.specs.Events.{inputOf};
-ghost use Rattle.tree_writer_promises.specs.Labels.{LabelsGiven, Labelled};
+ghost use Rattle.tree_writer_promises.specs.contracts.Labels.{LabelsGiven, Labelled};
 use grammar::limits::MEMO_ENTRIES;
 use grammar::limits::PLACES;
 use grammar::reading::Sizes;

@@ -7,11 +7,10 @@ use grammar::limits::MEMO_ENTRIES;
 use grammar::limits::TABLE_WORDS;
 use recognizer::judge;
 use tree_writer_promises::Shown;
+use writing::write_tree;
 
 mod labels;
 mod writing;
-
-use writing::write_tree;
 
 // Judges a log as `judge` does, and writes the parse tree of an accepted one into the front of the tree memory.
 pub fn judge_tree(

@@ -1,6 +1,6 @@
 // Writing the parse tree of an accepted input into lent words: root first, each vertex once.
 ghost use Rattle.event.specs.Events.{inputOf};
-ghost use Rattle.tree_writer_promises.specs.Writer.{VertexRequires, VertexEnsures, TreeGiven, TreeDone};
+ghost use Rattle.tree_writer_promises.specs.contracts.Writer.{VertexRequires, VertexEnsures, TreeGiven, TreeDone};
 use super::labels::labels_of;
 use grammar::limits::MEMO_ENTRIES;
 use grammar::limits::PLACES;

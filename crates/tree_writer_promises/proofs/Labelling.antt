@@ -12,10 +12,10 @@ use Rattle.grammar.specs.declared.reading.Sizes.{Sizes}
 use Rattle.event.specs.Events.{inputOf}
 use Rattle.event.proofs.Inputs.{input-length}
 use Rattle.lookahead.specs.declared.Lookahead.the-variants.{One}
-use Rattle.columns.specs.Columns.{columnAt}
+use Rattle.columns.specs.contracts.Columns.{columnAt}
 use Rattle.tree.specs.ParseTrees.{vertex}
 use Rattle.tree.specs.Writing.{vertexWord}
-use Rattle.tree_writer_promises.specs.Labels.{ruleOf, labelWord, labelOf, LabelsGiven, Labels, LabelledBelow, Labelled}
+use Rattle.tree_writer_promises.specs.contracts.Labels.{ruleOf, labelWord, labelOf, LabelsGiven, Labels, LabelledBelow, Labelled}
 
 -- the word for a call
 module _ (z : Sizes) (events table memo : List ℕ) (A i : ℕ) where

@@ -23,8 +23,8 @@ use Rattle.semantics.proofs.descent.Range.{calls-equality, all-range, all-lengt
 use Rattle.tree.specs.Writing.{InTree}
 use Rattle.tree.proofs.Visiting.{distinct-last}
 use Rattle.tree.proofs.Trees.{call-same}
-use Rattle.tree_writer_promises.specs.Labels.{labelIndex}
-use Rattle.tree_writer_promises.specs.Writer.{choiceOf, wordAt, Holds}
+use Rattle.tree_writer_promises.specs.contracts.Labels.{labelIndex}
+use Rattle.tree_writer_promises.specs.contracts.Writer.{choiceOf, wordAt, Holds}
 
 set-behind : (f : Call → ℕ) (l : List Call) (x : Call) (lent : List ℕ) → length l < length lent
     → set (map f l ++ drop (length l) lent) (length l) (f x) ≡ map f (l ++ (x ∷ [])) ++ drop (length (l ++ (x ∷ []))) lent

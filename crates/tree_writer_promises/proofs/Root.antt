@@ -13,7 +13,7 @@ use Rattle.grammar.specs.Limits.{maxMemoEntries}
 use Rattle.grammar.specs.Syntax.{Grammar}
 use Rattle.grammar.specs.Encoding.{grammarOf}
 use Rattle.grammar.specs.Reading.{reading}
-use Rattle.grammar.specs.Starts.{ruleStarts}
+use Rattle.grammar.specs.contracts.Starts.{ruleStarts}
 use Rattle.grammar.specs.declared.reading.Sizes.{Sizes}
 use Rattle.grammar.specs.declared.reading.Outcome.{Outcome}
 use Rattle.grammar.specs.declared.reading.Outcome.the-variants.{Read}
@@ -23,21 +23,22 @@ use Rattle.base.specs.FiniteSets.{member}
 use Rattle.semantics.specs.Valuations.{Valuation, Solves, solution, pairs}
 use Rattle.semantics.specs.Claims.{tableOf}
 use Rattle.semantics.specs.Descent.{accepts}
-use Rattle.semantics.specs.ComesTo.{Call, measure}
+use Rattle.semantics.specs.ComesTo.{Call}
+use Rattle.semantics.specs.contracts.ComesTo.{measure}
 use Rattle.semantics.specs.Memo.{encode}
 use Rattle.semantics.proofs.descent.Outcomes.{nth-below}
 use Rattle.semantics.proofs.meaning.Rank.{level-top}
 use Rattle.semantics.proofs.Theorems.{theorems}
 use Rattle.lookahead.specs.declared.Lookahead.the-variants.{One}
 use Rattle.table.specs.Layout.{entryWord, entryAt}
-use Rattle.columns.specs.Columns.{columnAt}
+use Rattle.columns.specs.contracts.Columns.{columnAt}
 use Rattle.columns.proofs.Columns.{column-right}
 use Rattle.tree.specs.Writing.{vertexAt, vertexWord, treeCalls, treeOf, treeWords, InTree, start}
 use Rattle.tree.proofs.Reading.{chosen}
 use Rattle.tree.proofs.Trees.{tree-sound}
-use Rattle.tree_writer_promises.specs.Labels.{labelIndex, labelWord, LabelsGiven, Labelled}
+use Rattle.tree_writer_promises.specs.contracts.Labels.{labelIndex, labelWord, LabelsGiven, Labelled}
 use Rattle.tree_writer_promises.specs.Properties.{wordsOf}
-use Rattle.tree_writer_promises.specs.Writer.{choiceOf, wordAt, Holds, VertexGiven, VertexRequires, VertexEnsures, TreeGiven, TreeDone}
+use Rattle.tree_writer_promises.specs.contracts.Writer.{choiceOf, wordAt, Holds, VertexGiven, VertexRequires, VertexEnsures, TreeGiven, TreeDone}
 
 map-twice : (f : Call → ℕ) {Z : Type 0} (g : Call → Z) (h : Z → ℕ) → ((x : Call) → h (g x) ≡ f x) → (l : List Call) → map h (map g l) ≡ map f l
 map-twice f g h e [] = refl

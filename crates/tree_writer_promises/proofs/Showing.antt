@@ -62,8 +62,8 @@ use Rattle.tree.specs.Theorems.{Told}
 use Rattle.tree.proofs.Lists.{map-elim}
 use Rattle.tree.proofs.Trees.{tree-right, vertex-within}
 use Rattle.tree.proofs.Words.{told as word-told}
-use Rattle.tree_writer_promises.specs.Writer as writer
-use Rattle.tree_writer_promises.specs.Writer.{choiceOf, Entries, TreeGiven, TreeDone}
+use Rattle.tree_writer_promises.specs.contracts.Writer as writer
+use Rattle.tree_writer_promises.specs.contracts.Writer.{choiceOf, Entries, TreeGiven, TreeDone}
 use Rattle.tree_writer_promises.specs.Properties.{treeFault, wordsOf, TreeTold, Shows}
 
 -- acceptance, by its tag

@@ -25,15 +25,16 @@ use Rattle.grammar.specs.Encoding.{Parsed, onWord, parse, grammarOf}
 use Rattle.grammar.specs.Reading.{allows, scan, reading}
 use Rattle.grammar.specs.declared.reading.State.the-variants as state
 use Rattle.grammar.specs.declared.reading.Progress.{Progress}
-use Rattle.grammar.specs.Starts.{ruleStarts}
-use Rattle.grammar.specs.WellRead.{firstRule, Begun, WellRead}
+use Rattle.grammar.specs.contracts.Starts.{ruleStarts}
+use Rattle.grammar.specs.contracts.WellRead.{firstRule, Begun, WellRead}
 use Rattle.grammar.proofs.WellRead.{well-read}
 use Rattle.grammar.proofs.Suffixes.{Next, scan-next}
 use Rattle.grammar.proofs.WellFormed.{RestFits, reads}
 use Rattle.base.specs.FiniteSets.{member}
 use Rattle.semantics.specs.Valuations.{Valuation, Solves, solution}
 use Rattle.semantics.specs.Descent.{Outcomes, End, descend, accepts}
-use Rattle.semantics.specs.ComesTo.{Call, callAt, InRange, measure, bodyComesTo}
+use Rattle.semantics.specs.ComesTo.{Call, callAt, InRange, bodyComesTo}
+use Rattle.semantics.specs.contracts.ComesTo.{measure}
 use Rattle.semantics.specs.Calls.{sameCall}
 use Rattle.semantics.specs.LeftRecursion as semantics
 use Rattle.semantics.proofs.Theorems.{theorems}
@@ -47,8 +48,8 @@ use Rattle.semantics.proofs.descent.Outcomes.{nth-below}
 use Rattle.tree.proofs.Reading.{Found, Reads, Chosen, chosen}
 use Rattle.tree.proofs.Below.{comes-token, comes-name, below-chosen, below-make, below-falls}
 use Rattle.tree.proofs.Trees.{tree-sound}
-use Rattle.tree_writer_promises.specs.Labels.{ruleOf as word-rule, endOf as word-end}
-use Rattle.tree_writer_promises.specs.Writer.{choiceOf, wordAt, Holds, VertexGiven, VertexDone, falling}
+use Rattle.tree_writer_promises.specs.contracts.Labels.{ruleOf as word-rule, endOf as word-end}
+use Rattle.tree_writer_promises.specs.contracts.Writer.{choiceOf, wordAt, Holds, VertexGiven, VertexDone, falling}
 use Rattle.tree_writer_promises.proofs.Marking.{holds-length, unseen, count-low, room, holds-more}
 
 abbrev pub level : List ℕ → List ℕ → ℕ → ℕ → ℕ

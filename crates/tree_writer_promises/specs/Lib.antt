@@ -1,3 +1,2 @@
-pub mod Labels
 pub mod Properties
-pub mod Writer
+pub mod contracts

@@ -2,7 +2,7 @@
 use mathlib.Core.Path.{refl}
 use Rattle.usage.specs.Counters.{eachCounter}
 use Rattle.usage.specs.Histories.{counted, recordOf}
-use Rattle.usage.specs.Examples.{Worked}
+use Rattle.usage.specs.examples.Rows.{Worked}
 
 pub worked : Worked
 unfolding recordOf counted eachCounter

@@ -1,5 +1,5 @@
 -- The four counters of a record, what one answer counts in each, and where a counter stops.
-use Prim.Native.Nat.{ℕ, _+_, min}
+use Prim.Native.Nat.{ℕ, min}
 use Rattle.answer.specs.declared.Answer.{Answer}
 use Rattle.answer.specs.declared.Answer.the-variants.{Refused, Passed, Rejected, Accepted}
 use Rattle.answer.specs.Numbers.{numbers}
@@ -19,10 +19,6 @@ usageOf c r a d = record { calls = c; refusals = r; acceptances = a; called = d 
 -- the empty record
 abbrev pub unused : Usage
 unused = usageOf 0 0 0 0
-
--- four numbers added, each sum cut
-abbrev pub added : Usage → ℕ → ℕ → ℕ → ℕ → Usage
-added u c r a d = usageOf (saturated (u .calls + c)) (saturated (u .refusals + r)) (saturated (u .acceptances + a)) (saturated (u .called + d))
 
 -- what one answer adds to a counter
 abbrev pub Measure : Type 0

@@ -1,3 +1,4 @@
 pub mod Counters
 pub mod Histories
-pub mod Examples
+pub mod contracts
+pub mod examples

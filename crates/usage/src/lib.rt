@@ -1,7 +1,8 @@
 // A record of how a judge has been used: four counters, each of which stops at the largest number of 32 bits.
 ghost use mathlib.Core.Path.{_≡_};
 ghost use Prim.Native.Nat.{_+_};
-ghost use Rattle.usage.specs.Counters.{saturated, unused, added};
+ghost use Rattle.usage.specs.Counters.{saturated, unused};
+ghost use Rattle.usage.specs.contracts.Counters.{added};
 ghost use Rattle.usage.specs.Histories.{counted};
 use answer::Answer;
 

@@ -5,7 +5,7 @@ ghost use lib.ListN.{getD};
 ghost use Rattle.event.specs.Events.{inputOf};
 ghost use Rattle.tree.specs.ParseTrees.{vertex};
 ghost use Rattle.tree.specs.Writing.{vertexWord};
-ghost use Rattle.tree_writer_promises.specs.Labels.{ruleOf, endOf, labelOf};
+ghost use Rattle.tree_writer_promises.specs.contracts.Labels.{ruleOf, endOf, labelOf};
 use columns::column_at;
 use grammar::limits::TOKENS;
 use grammar::reading::Sizes;

@@ -12,7 +12,7 @@ use Rattle.semantics.specs.Descent.{Failed, End, descend, accepts}
 use Rattle.semantics.specs.ComesTo.{callAt}
 use Rattle.semantics.specs.Calls.{callsWithin, callCount, farthest}
 use Rattle.semantics.specs.Predictive.{Predictive}
-use Rattle.grammar.specs.Cards.{grammarR, grammarM, grammarE}
+use Rattle.grammar.specs.examples.Cards.{grammarR, grammarM, grammarE}
 use Rattle.semantics.proofs.examples.Check.{belowTest, scopedTest, terminalsTest, ownTest, predictive}
 use Rattle.semantics.proofs.examples.Computing.{left-recursion-computes, tables-compute, descent-computes, calls-compute}
 use Rattle.semantics.proofs.examples.ExamplesTables.{repeated, others}

@@ -5,7 +5,7 @@ use mathlib.Core.Option.{none}
 use Rattle.answer.specs.Faults.{firstFault, refusedOr}
 use Rattle.answer.specs.Numbers.{Numbers, numbers}
 use Rattle.word.specs.Words.{bare, heading, ofKind, decoded}
-use Rattle.grammar.specs.Cards.{wordsR, wordsM, wordsE}
+use Rattle.grammar.specs.examples.Cards.{wordsR, wordsM, wordsE}
 use Rattle.grammar.specs.Encoding.{onWord, parse, grammarOf}
 use Rattle.grammar.specs.Limits.{maxTableWords, maxMemoEntries}
 use Rattle.grammar.specs.Reading.{counted, stepped, onStep, finished, scan, within, headed, opened, reading}
@@ -17,7 +17,7 @@ use Rattle.columns.specs.Columns.{columnString}
 use Rattle.table.specs.Conflicts.{rowConflict, conflictFrom, firstClash}
 use Rattle.event.specs.Unknown.{unknownFrom}
 use Rattle.recognizer_promises.specs.Answers.{inputFaults, verdictOf}
-use Rattle.worked_examples.specs.Rows.{Row, starred, judged}
+use Rattle.worked_examples.specs.examples.Rows.{Row, starred, judged}
 use Rattle.recognizer_promises.proofs.JudgeFaults.{judged-rows}
 
 -- the three cards pass

@@ -9,7 +9,7 @@ use Rattle.answer.specs.declared.Error.the-variants.{LeftRecursive}
 use Rattle.word.specs.declared.Symbol.{Symbol}
 use Rattle.word.specs.declared.Symbol.the-variants.{Terminal, Nonterminal}
 use Rattle.grammar.specs.Codes.{noEntry}
-use Rattle.grammar.specs.Cards.{grammarR, grammarM, grammarE}
+use Rattle.grammar.specs.examples.Cards.{grammarR, grammarM, grammarE}
 use Rattle.grammar.specs.Syntax.{Body, Rule, Grammar}
 use Rattle.lookahead.specs.Elements.{total}
 use Rattle.base.specs.Choice.{choose}

@@ -2,7 +2,7 @@
 use mathlib.Core.Path.{_≡_, refl}
 use Prim.Native.Nat.{suc, _-_, _≤_}
 use native.Mathlib.Omega.{arith}
-use Rattle.tabular_promises.specs.Chart.{gathered}
+use Rattle.tabular_promises.specs.contracts.Chart.{gathered}
 use Rattle.tabular_promises.proofs.Reaching.{gathered-start, gathered-more, none-before, none-beyond, all-before}
 use Rattle.chart.proofs.before.Statement.{statement}
 use Rattle.chart.proofs.before.Tie as tie

@@ -1,5 +1,5 @@
 -- By the test.
-use Rattle.tabular_promises.specs.Chart.{withNonterminal}
+use Rattle.tabular_promises.specs.contracts.Chart.{withNonterminal}
 use Rattle.chart.proofs.found_by.Statement.{statement}
 use Rattle.chart.proofs.found_by.Tie as tie
 

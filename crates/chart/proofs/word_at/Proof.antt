@@ -2,7 +2,7 @@
 use mathlib.Core.Path.{_≡_, _∙_}
 use Prim.Native.Nat.{_-_, _≤_}
 use native.Mathlib.Omega.{arith}
-use Rattle.tabular_promises.specs.Chart.{foundWord}
+use Rattle.tabular_promises.specs.contracts.Chart.{foundWord}
 use Rattle.tabular_promises.proofs.Charts.{word-start, word-more, word-of-many, word-beyond, word-within}
 use Rattle.chart.proofs.word_at.Statement.{statement}
 use Rattle.chart.proofs.word_at.Tie as tie

@@ -1,7 +1,7 @@
 -- Each lookahead has its columns.
 use mathlib.Core.Path.{sym, ap, _∙_}
 use Rattle.event.specs.Events.{inputOf}
-use Rattle.columns.specs.Columns.{columnAt}
+use Rattle.columns.specs.contracts.Columns.{columnAt}
 use borrow.Author.Needs.{needs}
 use Rattle.columns.proofs.column_at.Statement.{statement}
 use Rattle.columns.proofs.column_at.Tie as tie

@@ -1,7 +1,7 @@
 -- By the lookahead, and then by whether the column is the last.
 use borrow.Author.Needs.{needs}
 use borrow.Author.Tests.{eq-eqb, ne-eqb}
-use Rattle.columns.specs.Columns.{columnElement}
+use Rattle.columns.specs.contracts.Columns.{columnElement}
 use Rattle.columns.proofs.element.Statement.{statement}
 use Rattle.columns.proofs.element.Tie as tie
 

@@ -2,7 +2,7 @@
 use mathlib.Core.Path.{sym, _∙_}
 use borrow.Author.Needs.{needs}
 use lib.Dec.{eqb}
-use Rattle.concatenation.specs.Computing.{begins}
+use Rattle.concatenation.specs.contracts.Computing.{begins}
 use Rattle.concatenation.proofs.Cases as cases
 use Rattle.concatenation.proofs.PairRows as rows
 use Rattle.concatenation.proofs.first.Statement.{statement}

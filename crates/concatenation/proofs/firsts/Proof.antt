@@ -4,7 +4,7 @@ use native.Mathlib.Omega.{arith}
 use mathlib.Core.Bool.{_&&_}
 use lib.Dec.{ltb}
 use borrow.Author.Needs.{needs}
-use Rattle.concatenation.specs.Computing.{Has, begins}
+use Rattle.concatenation.specs.contracts.Computing.{Has, begins}
 use Rattle.concatenation.proofs.PairRows as rows
 use Rattle.concatenation.proofs.firsts.Statement.{statement}
 use Rattle.concatenation.proofs.firsts.Tie as tie

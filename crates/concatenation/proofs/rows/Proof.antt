@@ -3,7 +3,7 @@ use Prim.Native.Nat.{_-_, _≤_}
 use mathlib.Core.Path.{sym, _∙_}
 use native.Mathlib.Omega.{arith}
 use borrow.Author.Needs.{needs}
-use Rattle.concatenation.specs.Computing.{Has, inRows}
+use Rattle.concatenation.specs.contracts.Computing.{Has, inRows}
 use Rattle.concatenation.proofs.PairRows as laws
 use Rattle.concatenation.proofs.rows.Statement.{statement}
 use Rattle.concatenation.proofs.rows.Tie as tie

@@ -3,7 +3,7 @@ use mathlib.Core.Path.{sym, _∙_}
 use Prim.Native.Nat.{_-_, _≤_}
 use native.Mathlib.Omega.{arith}
 use Rattle.base.proofs.Quantified.{NoneBelow}
-use Rattle.families.specs.Flaws.{flawIn}
+use Rattle.families.specs.contracts.Flaws.{flawIn}
 use Rattle.families.proofs.LowestTold.{lowest-found, lowest-absent, none-more}
 use Rattle.flaws.proofs.lowest_with.Statement.{statement}
 use Rattle.flaws.proofs.lowest_with.Tie as tie

@@ -2,7 +2,7 @@
 use Prim.Native.Nat.{_-_}
 use native.Mathlib.Omega.{arith}
 use Rattle.base.proofs.Quantified.{one-le}
-use Rattle.claims.specs.Claims.{claimant}
+use Rattle.claims.specs.contracts.Claims.{claimant}
 use Rattle.gaps_text_promises.proofs.Lines.{Counting, counting-start, counting-next, counting-end}
 use Rattle.gaps_text.proofs.count_claimants.Statement.{statement}
 use Rattle.gaps_text.proofs.count_claimants.Tie as tie

@@ -3,7 +3,7 @@ use mathlib.Core.Path.{_∙_, sym}
 use borrow.Author.Needs.{needs}
 use borrow.Author.Tests.{not-true, not-false}
 use Rattle.text.proofs.Writing.{put-then}
-use Rattle.gaps_text_promises.specs.Steps.{linesText}
+use Rattle.gaps_text_promises.specs.contracts.Steps.{linesText}
 use Rattle.gaps_text_promises.proofs.Limits.{limits, refusal-is-put, nothing-is-put, lines-are-put}
 use Rattle.gaps_text.proofs.put_gaps.Statement.{statement}
 use Rattle.gaps_text.proofs.put_gaps.Tie as tie

@@ -2,10 +2,10 @@
 use mathlib.Core.Path.{ap}
 use Prim.Native.Nat.{_≤_, _-_}
 use native.Mathlib.Omega.{arith}
-use Rattle.claims.specs.Claims.{claimant}
+use Rattle.claims.specs.contracts.Claims.{claimant}
 use Rattle.text.specs.Writing.{Put, upTo}
 use Rattle.text.proofs.Writing.{put-length, put-none, put-next, put-last}
-use Rattle.gaps_text_promises.specs.Steps.{claimantText, numbersText}
+use Rattle.gaps_text_promises.specs.contracts.Steps.{claimantText, numbersText}
 use Rattle.gaps_text.proofs.put_numbers.Statement.{statement}
 use Rattle.gaps_text.proofs.put_numbers.Tie as tie
 

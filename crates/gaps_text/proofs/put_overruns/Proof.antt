@@ -4,7 +4,7 @@ use Prim.Native.Nat.{_≤_, _-_}
 use native.Mathlib.Omega.{arith}
 use Rattle.text.specs.Writing.{Put, upTo}
 use Rattle.text.proofs.Writing.{put-length, put-none, put-next, put-last}
-use Rattle.gaps_text_promises.specs.Steps.{overrunLine, overrunsText, overrunsIn}
+use Rattle.gaps_text_promises.specs.contracts.Steps.{overrunLine, overrunsText, overrunsIn}
 use Rattle.gaps_text.proofs.put_overruns.Statement.{statement}
 use Rattle.gaps_text.proofs.put_overruns.Tie as tie
 

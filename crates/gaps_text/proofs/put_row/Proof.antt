@@ -2,7 +2,7 @@
 use mathlib.Core.Path.{refl}
 use Prim.Native.Nat.{_≤_, _-_}
 use native.Mathlib.Omega.{arith}
-use Rattle.gaps_text_promises.specs.Steps.{claimantAt, entryLine, rowText}
+use Rattle.gaps_text_promises.specs.contracts.Steps.{claimantAt, entryLine, rowText}
 use Rattle.text.specs.Writing.{Put, upTo}
 use Rattle.text.proofs.Writing.{put-length, put-none, put-next, put-last}
 use Rattle.gaps_text.proofs.put_row.Statement.{statement}

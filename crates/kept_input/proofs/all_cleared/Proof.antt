@@ -5,7 +5,7 @@ use native.Mathlib.Omega.{arith}
 use borrow.Author.Needs.{needs}
 use lib.ListN
 use Rattle.kept_input.specs.Histories.{checkpointCount}
-use Rattle.kept_input.specs.Stored.{clearedBeyond}
+use Rattle.kept_input.specs.contracts.Stored.{clearedBeyond}
 use Rattle.kept_input.proofs.Lists.{appliedTo, applied-none, applied-more, applied-all}
 use Rattle.kept_input.proofs.all_cleared.Statement.{statement}
 use Rattle.kept_input.proofs.all_cleared.Tie as tie

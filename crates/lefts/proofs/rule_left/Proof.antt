@@ -3,9 +3,9 @@ use mathlib.Core.Path.{_≡_, ap}
 use Prim.Native.Nat.{_≤_}
 use native.Mathlib.Omega.{arith}
 use lib.ListN.{length, drop}
-use Rattle.families.specs.Least.{at as family}
-use Rattle.families.specs.Left.{emptyIn, lefts, insideLeft}
-use Rattle.families.specs.Rules.{fromEnd}
+use Rattle.families.specs.contracts.Least.{at as family}
+use Rattle.families.specs.contracts.Left.{emptyIn, lefts, insideLeft}
+use Rattle.families.specs.contracts.Rules.{fromEnd}
 use Rattle.families.proofs.Words.{end-none, end-one, end-all}
 use Rattle.lefts.proofs.rule_left.Statement.{statement}
 use Rattle.lefts.proofs.rule_left.Tie as tie

@@ -1,7 +1,7 @@
 -- By whether there is a rule.
 use borrow.Author.Needs.{needs}
 use borrow.Author.Tests.{eq-eqb, ne-eqb}
-use Rattle.lending.specs.Lending.{entryCode}
+use Rattle.lending.specs.contracts.Lending.{entryCode}
 use Rattle.lending.proofs.entry_word.Statement.{statement}
 use Rattle.lending.proofs.entry_word.Tie as tie
 

@@ -7,7 +7,7 @@ use Rattle.grammar.specs.Codes.{noEntry}
 use Rattle.grammar.specs.Limits.{maxTableWords}
 use Rattle.lookahead.specs.declared.Lookahead.the-variants.{One}
 use Rattle.base.specs.Lists.{listed}
-use Rattle.lending.specs.Lending.{wordAt}
+use Rattle.lending.specs.contracts.Lending.{wordAt}
 use Rattle.base.proofs.Front.{front}
 use Rattle.lending.proofs.Laying.{count-room, front-next, words-made}
 use Rattle.lending.proofs.lay_out.Statement.{statement}

@@ -5,7 +5,7 @@ use native.Mathlib.Omega.{arith}
 use lib.ListN.{length, length-set}
 use Rattle.lookahead.specs.declared.Lookahead.the-variants.{Two}
 use Rattle.base.specs.Lists.{listed}
-use Rattle.lending.specs.Lending.{wordAt}
+use Rattle.lending.specs.contracts.Lending.{wordAt}
 use Rattle.base.proofs.Front.{front}
 use Rattle.lending.proofs.Laying.{lent-given, front-next, lent-short, lent-written}
 use borrow.Author.Needs.{needs}

@@ -1,7 +1,7 @@
 -- By what is found, and by the limits.
 use borrow.Author.Needs.{needs}
 use borrow.Author.Tests.{lt-ltb, le-ltb}
-use Rattle.lending.specs.Lending.{lentSizes}
+use Rattle.lending.specs.contracts.Lending.{lentSizes}
 use Rattle.lending.proofs.lent_sizes.Statement.{statement}
 use Rattle.lending.proofs.lent_sizes.Tie as tie
 

@@ -2,7 +2,7 @@
 use mathlib.Core.Path.{_∙_}
 use borrow.Author.Needs.{needs}
 use borrow.Author.Tests.{eq-eqb, ne-eqb, lt-ltb, le-ltb}
-use Rattle.lending.specs.Lending.{wordAt}
+use Rattle.lending.specs.contracts.Lending.{wordAt}
 use Rattle.lending.proofs.word.Statement.{statement}
 use Rattle.lending.proofs.word.Tie as tie
 

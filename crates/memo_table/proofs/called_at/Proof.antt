@@ -3,7 +3,7 @@ use mathlib.Core.Path.{_≡_, sym, ap, _∙_}
 use mathlib.Core.Bool.{false}
 use Prim.Native.Nat.{_-_, _≤_}
 use native.Mathlib.Omega.{arith}
-use Rattle.memo_table.specs.Tally.{calledAt}
+use Rattle.memo_table.specs.contracts.Tally.{calledAt}
 use Rattle.memo_table.proofs.Tallying.{row-within, called-here, called-not, called-none}
 use Rattle.memo_table.proofs.called_at.Statement.{statement}
 use Rattle.memo_table.proofs.called_at.Tie as tie

@@ -3,7 +3,7 @@ use mathlib.Core.Path.{_≡_, ap, _∙_}
 use Prim.Native.Nat.{_+_, _-_, _≤_}
 use native.Mathlib.Omega.{arith}
 use lib.ListN.{getD}
-use Rattle.memo_table.specs.Tally.{recordedBelow}
+use Rattle.memo_table.specs.contracts.Tally.{recordedBelow}
 use Rattle.memo_table.proofs.Tallying.{count-more, one-bound}
 use Rattle.memo_table.proofs.count_block.Statement.{statement}
 use Rattle.memo_table.proofs.count_block.Tie as tie

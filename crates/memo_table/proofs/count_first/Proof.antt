@@ -2,7 +2,7 @@
 use mathlib.Core.Path.{_≡_, ap, _∙_}
 use Prim.Native.Nat.{_+_, _-_, _≤_}
 use native.Mathlib.Omega.{arith}
-use Rattle.memo_table.specs.Tally.{recordedBelow}
+use Rattle.memo_table.specs.contracts.Tally.{recordedBelow}
 use Rattle.memo_table.proofs.Tallying.{count-none, count-bound}
 use Rattle.memo_table.proofs.count_first.Statement.{statement}
 use Rattle.memo_table.proofs.count_first.Tie as tie

@@ -1,6 +1,6 @@
 -- By whether the input is too long.
 use borrow.Author.Tests.{le-leb, lt-leb}
-use Rattle.report.specs.Texts.{tokenCount}
+use Rattle.report.specs.contracts.Texts.{tokenCount}
 use borrow.Author.Needs.{needs}
 use Rattle.report.proofs.tokens.Statement.{statement}
 use Rattle.report.proofs.tokens.Tie as tie

@@ -1,5 +1,5 @@
 -- By whether the word is a symbol.
-use Rattle.families.specs.Least.{lookup}
+use Rattle.families.specs.contracts.Least.{lookup}
 use Rattle.families.proofs.FirstPasses.{first-closed}
 use borrow.Author.Needs.{needs}
 use Rattle.rests.proofs.inside.Statement.{statement}

@@ -3,9 +3,9 @@ use mathlib.Core.Path.{_≡_, ap}
 use Prim.Native.Nat.{_≤_}
 use native.Mathlib.Omega.{arith}
 use lib.ListN.{length, drop}
-use Rattle.families.specs.First.{noRest, insideWord}
-use Rattle.families.specs.Least.{lookup}
-use Rattle.families.specs.Rules.{fromEnd}
+use Rattle.families.specs.contracts.First.{noRest, insideWord}
+use Rattle.families.specs.contracts.Least.{lookup}
+use Rattle.families.specs.contracts.Rules.{fromEnd}
 use Rattle.families.proofs.Words.{end-none, end-one, end-all}
 use Rattle.rests.proofs.rule_first.Statement.{statement}
 use Rattle.rests.proofs.rule_first.Tie as tie

@@ -1,6 +1,6 @@
 -- By whether the array has a set there.
 use borrow.Author.Tests.{lt-ltb, le-ltb}
-use Rattle.families.specs.Least.{lookup}
+use Rattle.families.specs.contracts.Least.{lookup}
 use borrow.Author.Needs.{needs}
 use Rattle.rests.proofs.set_of.Statement.{statement}
 use Rattle.rests.proofs.set_of.Tie as tie

@@ -1,5 +1,5 @@
 -- A terminal by itself, a nonterminal by its set.
-use Rattle.families.specs.First.{symbolFirst}
+use Rattle.families.specs.contracts.First.{symbolFirst}
 use borrow.Author.Needs.{needs}
 use Rattle.rests.proofs.symbol_first.Statement.{statement}
 use Rattle.rests.proofs.symbol_first.Tie as tie

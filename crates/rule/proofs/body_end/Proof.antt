@@ -3,7 +3,7 @@ use mathlib.Core.Path.{_≡_, refl, sym, ap, _∙_}
 use Prim.Native.Nat.{_-_}
 use native.Mathlib.Omega.{arith}
 use lib.ListN.{length}
-use Rattle.rule.specs.Rule.{isSymbol, bodyEnd}
+use Rattle.rule.specs.contracts.Rule.{isSymbol, bodyEnd}
 use Rattle.rule.proofs.Bodies.{is-symbol, no-symbol, symbol-test, body-on, body-stops, body-over}
 use Rattle.rule.proofs.body_end.Statement.{statement}
 use Rattle.rule.proofs.body_end.Tie as tie

@@ -1,5 +1,5 @@
 use borrow.Author.Tests.{lt-ltb, le-ltb}
-use Rattle.rule.specs.Rule.{signAt}
+use Rattle.rule.specs.contracts.Rule.{signAt}
 use borrow.Author.Needs.{needs}
 use Rattle.rule.proofs.sign_at.Statement.{statement}
 use Rattle.rule.proofs.sign_at.Tie as tie

@@ -11,7 +11,8 @@ use Rattle.grammar.specs.Syntax.{Body, Grammar, NonterminalsBelow}
 use Rattle.base.specs.Quantifiers.{anyBelow}
 use Rattle.semantics.specs.Valuations.{Valuation, contains}
 use Rattle.semantics.specs.LeftRecursion.{nullable, LeftIn, here, there}
-use Rattle.base.specs.Strings.{span, look}
+use Rattle.base.specs.contracts.Strings.{span}
+use Rattle.base.specs.Strings.{look}
 use Rattle.semantics.specs.Families.{Family, FollowBody}
 use Rattle.semantics.specs.Descent.{Outcome, endsAt, onward, Outcomes, read, run}
 use Rattle.base.proofs.Booleans.{T-subst, both, and-l, and-r, and-make, and-cong, and-twist}

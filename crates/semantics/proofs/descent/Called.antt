@@ -11,8 +11,10 @@ use Rattle.grammar.specs.Syntax.{Grammar, WellScoped}
 use Rattle.base.specs.FiniteSets.{member}
 use Rattle.semantics.specs.Valuations.{pairs}
 use Rattle.semantics.specs.LeftRecursion.{NoLeftRecursion}
-use Rattle.semantics.specs.Choices.{Choice, OwnRules}
-use Rattle.semantics.specs.ComesTo.{Call, callAt, InRange, measure, callComesTo}
+use Rattle.semantics.specs.Choices.{Choice}
+use Rattle.semantics.specs.contracts.Choices.{OwnRules}
+use Rattle.semantics.specs.ComesTo.{Call, callAt, InRange, callComesTo}
+use Rattle.semantics.specs.contracts.ComesTo.{measure}
 use Rattle.semantics.specs.Calls.{Called, start, more, Listing, callsWithin, sameCall, allCalls, calls, callCount, greatestPlace, farthest}
 use Rattle.base.proofs.FiniteSets.{member-mem, mem-member, keep-make, keep-elim}
 use Rattle.base.proofs.FlatMaps.{flatMap-elim, flatMap-make}

@@ -12,7 +12,8 @@ use Rattle.grammar.specs.Syntax.{Body, Rule, Grammar, WellScoped}
 use Rattle.base.specs.Quantifiers.{allOf}
 use Rattle.semantics.specs.Valuations.{pairs}
 use Rattle.semantics.specs.LeftRecursion.{allNullable, nullStep, nullable}
-use Rattle.semantics.specs.Choices.{Choice, OwnRules}
+use Rattle.semantics.specs.Choices.{Choice}
+use Rattle.semantics.specs.contracts.Choices.{OwnRules}
 use Rattle.semantics.specs.Descent.{endsAt, guard, Outcomes, read, run, agrees, obey, select, byChoice, within, descend}
 use Rattle.base.proofs.Booleans.{and-l, and-make}
 use Rattle.base.proofs.Quantified.{all-map, any-make}

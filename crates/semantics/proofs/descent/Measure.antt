@@ -11,9 +11,11 @@ use lib.ListN.{length, getD}
 use Rattle.word.specs.declared.Symbol.the-variants.{Terminal, Nonterminal}
 use Rattle.grammar.specs.Syntax.{Body, Rule, Grammar, bodies, NonterminalsBelow, WellScoped}
 use Rattle.semantics.specs.LeftRecursion.{nullable, LeftIn, here, there, LeftDepends, NoLeftRecursion, rank}
-use Rattle.semantics.specs.Choices.{Choice, OwnRules}
+use Rattle.semantics.specs.Choices.{Choice}
+use Rattle.semantics.specs.contracts.Choices.{OwnRules}
 use Rattle.semantics.specs.Descent.{Outcome, Failed, End, endsAt, guard, Outcomes, read, run, select, descend}
-use Rattle.semantics.specs.ComesTo.{Call, InRange, measure, fromEnd, when, bodyComesTo, negativesComeTo, positivesComeTo, ruleComesTo}
+use Rattle.semantics.specs.ComesTo.{Call, InRange, fromEnd, when, bodyComesTo, negativesComeTo, positivesComeTo, ruleComesTo}
+use Rattle.semantics.specs.contracts.ComesTo.{measure}
 use Rattle.semantics.specs.ComesTo.{selectedComesTo, callComesTo}
 use Rattle.base.proofs.Booleans.{and-l}
 use Rattle.semantics.proofs.meaning.Rank.{rank-falls, level-onward}

@@ -12,12 +12,15 @@ use Rattle.grammar.specs.Syntax.{Grammar, WellScoped}
 use Rattle.base.specs.FiniteSets.{keep}
 use Rattle.semantics.specs.Valuations.{pairs}
 use Rattle.semantics.specs.LeftRecursion.{NoLeftRecursion}
-use Rattle.semantics.specs.Choices.{Choice, OwnRules}
+use Rattle.semantics.specs.Choices.{Choice}
+use Rattle.semantics.specs.contracts.Choices.{OwnRules}
 use Rattle.semantics.specs.Descent.{descend}
-use Rattle.semantics.specs.ComesTo.{Call, callAt, measure}
+use Rattle.semantics.specs.ComesTo.{Call, callAt}
+use Rattle.semantics.specs.contracts.ComesTo.{measure}
 use Rattle.semantics.specs.Calls.{Called, start, more, allCalls, calls}
-use Rattle.semantics.specs.Memo.{Memo, indexOf, entry, blank, Recorded, EndsFit}
-use Rattle.semantics.specs.MemoDescent.{memoCall, memoStart}
+use Rattle.semantics.specs.Memo.{Memo, indexOf, entry, Recorded}
+use Rattle.semantics.specs.contracts.Memo.{blank, EndsFit}
+use Rattle.semantics.specs.contracts.MemoDescent.{memoCall, memoStart}
 use Rattle.base.proofs.Booleans.{both, test}
 use Rattle.semantics.proofs.meaning.Rank.{level-top}
 use Rattle.semantics.proofs.descent.Range.{index-range, all-range}

@@ -13,7 +13,7 @@ use Rattle.base.specs.Choice.{choose}
 use Rattle.semantics.specs.Descent.{Outcome, Failed, End, endsAt, onward, guard, Outcomes, read, run, agrees, confirm, conclude, obey}
 use Rattle.semantics.specs.ComesTo.{Call, callAt, fromEnd, when, bodyComesTo, negativesComeTo, positivesComeTo, ruleComesTo, selectedComesTo}
 use Rattle.semantics.specs.Memo.{Memo}
-use Rattle.semantics.specs.MemoDescent.{Memoized, memoized, andThen, MemoCalls, memoRun, memoNegatives, memoPositives, memoRule, memoObey}
+use Rattle.semantics.specs.contracts.MemoDescent.{Memoized, memoized, andThen, MemoCalls, memoRun, memoNegatives, memoPositives, memoRule, memoObey}
 
 pub data Plan : Type 0 where
   Done : Outcome → Plan

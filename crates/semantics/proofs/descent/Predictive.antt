@@ -6,10 +6,11 @@ use mathlib.Core.Path.{_≡_}
 use Prim.Native.Nat.{ℕ, _<_}
 use Rattle.grammar.specs.Syntax.{Grammar, WellFormed}
 use Rattle.semantics.specs.LeftRecursion.{lowestLeftRecursive}
-use Rattle.semantics.specs.Families.{OwnEntries}
+use Rattle.semantics.specs.contracts.Families.{OwnEntries}
 use Rattle.semantics.specs.FirstFollow.{First, Follow}
 use Rattle.semantics.specs.Claims.{clashes, tableOf}
-use Rattle.semantics.specs.Predictive.{Guides, Predictive}
+use Rattle.semantics.specs.contracts.Predictive.{Guides}
+use Rattle.semantics.specs.Predictive.{Predictive}
 use Rattle.semantics.proofs.meaning.LeftRecursion.{lowestLeftRecursive-none}
 use Rattle.semantics.proofs.families.First.{first-closed}
 use Rattle.semantics.proofs.families.Follow.{follow-closed}

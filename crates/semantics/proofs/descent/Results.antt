@@ -10,7 +10,8 @@ use Rattle.word.specs.declared.Symbol.the-variants.{Terminal, Nonterminal}
 use Rattle.grammar.specs.Syntax.{Body, Grammar, NonterminalsBelow, WellScoped}
 use Rattle.semantics.specs.Valuations.{pairs}
 use Rattle.semantics.specs.LeftRecursion.{nullable, LeftIn, here, there, LeftDepends, NoLeftRecursion, level}
-use Rattle.semantics.specs.Choices.{Choice, OwnRules}
+use Rattle.semantics.specs.Choices.{Choice}
+use Rattle.semantics.specs.contracts.Choices.{OwnRules}
 use Rattle.semantics.specs.Descent.{onward, guard, Outcomes, read, run, select, byChoice, Results, within, descend}
 use Rattle.base.proofs.Booleans.{and-l}
 use Rattle.semantics.proofs.meaning.Rank.{level-onward, level-top}

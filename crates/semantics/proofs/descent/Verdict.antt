@@ -13,11 +13,13 @@ use Rattle.grammar.specs.Syntax.{Body, Rule, Grammar, bodies, NonterminalsBelow
 use Rattle.base.specs.Quantifiers.{anyOf, allOf}
 use Rattle.semantics.specs.Valuations.{Valuation, contains, derives, byRules, Solves, pairs}
 use Rattle.semantics.specs.LeftRecursion.{LeftDepends, NoLeftRecursion, level}
-use Rattle.base.specs.Strings.{span, look, Over}
+use Rattle.base.specs.contracts.Strings.{span}
+use Rattle.base.specs.Strings.{look, Over}
 use Rattle.semantics.specs.Families.{Family, FollowBody, Table}
-use Rattle.semantics.specs.Predictive.{Guides}
-use Rattle.semantics.specs.Choices.{Choice, OwnRules, byLookahead}
-use Rattle.semantics.specs.Theorems.{Piece}
+use Rattle.semantics.specs.contracts.Predictive.{Guides}
+use Rattle.semantics.specs.Choices.{Choice, byLookahead}
+use Rattle.semantics.specs.contracts.Choices.{OwnRules}
+use Rattle.semantics.specs.contracts.Theorems.{Piece}
 use Rattle.semantics.specs.Descent.{End, endsAt, onward, Outcomes, read, run, agrees, byChoice, descend, accepts}
 use Rattle.base.proofs.Booleans.{T-subst, both, and-l, and-r, and-make}
 use Rattle.base.proofs.Quantified.{any-cong, all-cong, any-make, any-elim}

@@ -15,11 +15,14 @@ use Rattle.grammar.specs.Syntax.{Rule, Grammar, WellScoped}
 use Rattle.base.specs.Choice.{choose}
 use Rattle.semantics.specs.Valuations.{pairs}
 use Rattle.semantics.specs.LeftRecursion.{NoLeftRecursion}
-use Rattle.semantics.specs.Choices.{Choice, OwnRules}
+use Rattle.semantics.specs.Choices.{Choice}
+use Rattle.semantics.specs.contracts.Choices.{OwnRules}
 use Rattle.semantics.specs.Descent.{Outcome, Failed, End, endsAt, Outcomes, select, byChoice, descend}
-use Rattle.semantics.specs.ComesTo.{Call, callAt, InRange, measure, callComesTo}
-use Rattle.semantics.specs.Memo.{Memo, encode, decode, indexOf, entry, written, EndsFit}
-use Rattle.semantics.specs.MemoDescent.{Memoized, memoized, memoObey, memoCall, stored}
+use Rattle.semantics.specs.ComesTo.{Call, callAt, InRange, callComesTo}
+use Rattle.semantics.specs.contracts.ComesTo.{measure}
+use Rattle.semantics.specs.Memo.{Memo, encode, indexOf, entry, written}
+use Rattle.semantics.specs.contracts.Memo.{decode, EndsFit}
+use Rattle.semantics.specs.contracts.MemoDescent.{Memoized, memoized, memoObey, memoCall, stored}
 use Rattle.base.proofs.Booleans.{T-true, T-false, test}
 use Rattle.semantics.proofs.descent.Plan.{Plan, Done, Ask, value, asked, through, plan, plan-value, plan-asked, plan-through}
 use Rattle.semantics.proofs.descent.Ends.{descend-forward}

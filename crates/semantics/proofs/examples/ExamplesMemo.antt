@@ -10,8 +10,10 @@ use Rattle.semantics.specs.Families.{Table}
 use Rattle.semantics.specs.Choices.{byLookahead}
 use Rattle.semantics.specs.Descent.{Failed, End, Outcomes, read, run, select}
 use Rattle.semantics.specs.ComesTo.{callAt, when, bodyComesTo, negativesComeTo, positivesComeTo, ruleComesTo}
-use Rattle.semantics.specs.Memo.{encode, decode}
-use Rattle.semantics.specs.MemoDescent.{memoized, andThen, memoRun, memoNegatives, memoPositives, memoRule, memoObey, memoCall, memoStart, stored}
+use Rattle.semantics.specs.Memo.{encode}
+use Rattle.semantics.specs.contracts.Memo.{decode}
+use Rattle.semantics.specs.contracts.MemoDescent.{memoized, andThen, memoRun, memoNegatives, memoPositives, memoRule, memoObey, memoCall, memoStart}
+use Rattle.semantics.specs.contracts.MemoDescent.{stored}
 use Rattle.semantics.proofs.examples.ExamplesValuations.{balanced}
 
 -- aⁿbⁿ but for ab, with one token

@@ -12,7 +12,7 @@ use Rattle.base.specs.Rounds.{settle}
 use Rattle.base.specs.Strings.{strings}
 use Rattle.semantics.specs.FirstFollow.{sameEntry, entries, firstStep, firstSets, followSets}
 use Rattle.semantics.specs.Claims.{clashes, tableOf, everyEnds}
-use Rattle.grammar.specs.Cards.{grammarR, grammarM, grammarE}
+use Rattle.grammar.specs.examples.Cards.{grammarR, grammarM, grammarE}
 use Rattle.semantics.specs.Productive.{lowestUnproductive}
 use Rattle.semantics.proofs.examples.Computing.{tables-compute, productive-computes}
 

@@ -11,7 +11,8 @@ use lib.ListN.{length}
 use lib.Dec.{T, T-not, not-T, eqb, ltb, eqb→eq, eqb-refl, ltb→lt, lt→ltb}
 use Rattle.grammar.specs.Syntax.{Body, Rule, Grammar}
 use Rattle.base.specs.Quantifiers.{anyOf, allOf}
-use Rattle.semantics.specs.Families.{Claims, Overlap, Overrun, Clash, TableRight, EveryEnds}
+use Rattle.semantics.specs.Families.{Claims, Overlap, Overrun, Clash}
+use Rattle.semantics.specs.contracts.Families.{TableRight, EveryEnds}
 use Rattle.base.specs.Strings.{strings, sameString}
 use Rattle.semantics.specs.FirstFollow.{entries, firstSets, firstRule, First, followSets, Follow}
 use Rattle.semantics.specs.Claims.{several, meeting, claimed, claims, overruns, clashing, clashes, tableOf, without, everyEnds}

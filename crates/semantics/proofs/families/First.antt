@@ -10,7 +10,8 @@ use Rattle.word.specs.declared.Symbol.the-variants.{Terminal, Nonterminal}
 use Rattle.grammar.specs.Syntax.{Body, Rule, Grammar, WellScoped}
 use Rattle.base.specs.Rounds.{_⊆ᵇ_}
 use Rattle.base.specs.Strings.{Lookahead, sameString}
-use Rattle.semantics.specs.Families.{Family, Least, FirstOf, FirstBody, FirstRule, FirstClosed}
+use Rattle.semantics.specs.Families.{Family, FirstOf, FirstBody, FirstRule, FirstClosed}
+use Rattle.semantics.specs.contracts.Families.{Least}
 use Rattle.semantics.specs.FirstFollow.{Entry, Sets, setsOf, firstOfSymbol, firstBody, firstRule, firstStep, first, firstSets, First}
 use Rattle.base.proofs.Booleans.{and-l, and-r, and-make}
 use Rattle.base.proofs.Quantified.{any-elim, any-make, all-elim, all-make}

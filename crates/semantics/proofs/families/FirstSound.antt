@@ -12,7 +12,8 @@ use Rattle.grammar.specs.Syntax.{Body, Rule, Grammar, NonterminalsBelow, WellSc
 use Rattle.base.specs.Quantifiers.{allOf}
 use Rattle.semantics.specs.Valuations.{Valuation, contains, derives, byRules, rounds, Solves, solution}
 use Rattle.semantics.specs.LeftRecursion.{NoLeftRecursion}
-use Rattle.base.specs.Strings.{span, Over}
+use Rattle.base.specs.contracts.Strings.{span}
+use Rattle.base.specs.Strings.{Over}
 use Rattle.semantics.specs.Families.{Family, FirstBody, FirstRule, FirstClosed}
 use Rattle.base.proofs.Booleans.{T-subst, and-l, and-r}
 use Rattle.base.proofs.Quantified.{all-elim, any-elim, below-elim}

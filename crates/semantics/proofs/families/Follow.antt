@@ -12,7 +12,8 @@ use Rattle.grammar.specs.Syntax.{Body, Rule, Grammar, bodies, NonterminalsBelow
 use Rattle.base.specs.Quantifiers.{allOf}
 use Rattle.base.specs.Rounds.{_⊆ᵇ_}
 use Rattle.base.specs.Strings.{Over, Lookahead, sameString}
-use Rattle.semantics.specs.Families.{Family, Least, FirstBody, FollowBody, FollowClosed, OwnTerminals}
+use Rattle.semantics.specs.Families.{Family, FirstBody, FollowBody, FollowClosed, OwnTerminals}
+use Rattle.semantics.specs.contracts.Families.{Least}
 use Rattle.semantics.specs.FirstFollow.{concatStrings, Entry, sameEntry, Sets, setsOf, firstBody, firstSets, First}
 use Rattle.semantics.specs.FirstFollow.{behind, followStep, follow, followSets, Follow}
 use Rattle.base.proofs.Booleans.{true-T, and-make, or-cases, or-l, or-r}

@@ -8,7 +8,7 @@ use Rattle.grammar.specs.Syntax.{Body, Rule, Grammar}
 use Rattle.base.specs.Quantifiers.{allOf}
 use Rattle.semantics.specs.Valuations.{Valuation, contains, derives}
 use Rattle.semantics.specs.Families.{Family, FirstBody, Meeting}
-use Rattle.semantics.specs.Theorems.{withPositive}
+use Rattle.semantics.specs.contracts.Theorems.{withPositive}
 
 module _ (r : Rule) (b : Body) where
   pub more-derived : (v : Valuation) (w : List ℕ) (A i j : ℕ) → contains v w b i j ≡ true → derives v w A i j (withPositive b r) ≡ derives v w A i j r

@@ -1,6 +1,6 @@
 -- By the limits.
 use borrow.Author.Tests.{lt-ltb, le-ltb}
-use Rattle.sheet_text.specs.Limited.{limitedSizes}
+use Rattle.sheet_text.specs.contracts.Limited.{limitedSizes}
 use Rattle.sheet_text.proofs.limited_sizes.Statement.{statement}
 use Rattle.sheet_text.proofs.limited_sizes.Tie as tie
 

@@ -2,7 +2,7 @@
 use native.Mathlib.Omega.{arith}
 use borrow.Author.Tests.{lt-ltb, le-ltb}
 use Rattle.grammar.specs.Limits.{maxTerminals}
-use Rattle.tabular_promises.specs.Scanning.{beforeTerminal}
+use Rattle.tabular_promises.specs.contracts.Scanning.{beforeTerminal}
 use Rattle.chart.proofs.bodies.before_terminal.Statement.{statement}
 use Rattle.chart.proofs.bodies.before_terminal.Tie as tie
 

@@ -3,7 +3,7 @@ use mathlib.Core.Path.{_≡_}
 use Prim.Native.Nat.{_≤_, _<_}
 use native.Mathlib.Omega.{arith}
 use lib.Seq.{slice}
-use Rattle.tabular_promises.specs.Scanning.{scanned}
+use Rattle.tabular_promises.specs.contracts.Scanning.{scanned}
 use Rattle.tabular_promises.proofs.Scans.{none-such, none-between, scan-start, scan-more, scan-end}
 use Rattle.chart.proofs.bodies.keeps.Statement.{statement}
 use Rattle.chart.proofs.bodies.keeps.Tie as tie

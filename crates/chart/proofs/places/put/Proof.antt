@@ -1,5 +1,5 @@
 -- By whether the place is to be in the set.
-use Rattle.tabular_promises.specs.Places.{withPlace}
+use Rattle.tabular_promises.specs.contracts.Places.{withPlace}
 use Rattle.chart.proofs.places.put.Statement.{statement}
 use Rattle.chart.proofs.places.put.Tie as tie
 

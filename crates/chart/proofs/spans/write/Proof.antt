@@ -2,9 +2,10 @@
 use Prim.Native.Nat.{_-_}
 use native.Mathlib.Omega.{arith}
 use mathlib.Core.Path.{refl}
-use Rattle.tabular_promises.specs.Chart.{spanWord}
-use Rattle.tabular_promises.specs.Spans.{spanCount}
-use Rattle.tabular_promises.proofs.Writing.{count-low, Writing, writing-start, at-low, at-room, row-on, row-end, written, not-of-long, not-in-short, all-written}
+use Rattle.tabular_promises.specs.contracts.Chart.{spanWord}
+use Rattle.tabular_promises.specs.contracts.Spans.{spanCount}
+use Rattle.tabular_promises.proofs.Writing.{count-low, Writing, writing-start, at-low, at-room, row-on, row-end, written, not-of-long, not-in-short}
+use Rattle.tabular_promises.proofs.Writing.{all-written}
 use Rattle.chart.proofs.spans.write.Statement.{statement}
 use Rattle.chart.proofs.spans.write.Tie as tie
 

@@ -3,7 +3,7 @@ use Prim.Native.Nat.{_-_}
 use native.Mathlib.Omega.{arith}
 use borrow.Author.Needs.{needs}
 use Rattle.client_records.specs.Usages.{clients}
-use Rattle.client_records.specs.Sums.{SummedUp}
+use Rattle.client_records.specs.contracts.Sums.{SummedUp}
 use Rattle.client_records.proofs.Sums.{nothing-summed, small, one-more, all-summed}
 use Rattle.client_records.proofs.totals.total.Statement.{statement}
 use Rattle.client_records.proofs.totals.total.Tie as tie

@@ -2,7 +2,7 @@
 use mathlib.Core.Path.{_≡_}
 use Prim.Native.Nat.{_-_, _≤_}
 use native.Mathlib.Omega.{arith}
-use Rattle.descent_arrays.specs.Choices.{choiceRows}
+use Rattle.descent_arrays.specs.contracts.Choices.{choiceRows}
 use Rattle.descent_arrays.proofs.ChoiceRows.{rows-none, rows-all}
 use borrow.Author.Needs.{needs}
 use Rattle.descent_arrays.proofs.choices.choices_of.Statement.{statement}

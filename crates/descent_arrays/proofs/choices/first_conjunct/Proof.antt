@@ -1,6 +1,6 @@
 use borrow.Author.Needs.{needs}
 use borrow.Author.Tests.{lt-ltb, le-ltb}
-use Rattle.descent_arrays.specs.Choices.{firstWord}
+use Rattle.descent_arrays.specs.contracts.Choices.{firstWord}
 use Rattle.descent_arrays.proofs.choices.first_conjunct.Statement.{statement}
 use Rattle.descent_arrays.proofs.choices.first_conjunct.Tie as tie
 

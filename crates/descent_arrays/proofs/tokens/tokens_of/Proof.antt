@@ -4,9 +4,9 @@ use Prim.Native.Nat.{_-_, _≤_}
 use native.Mathlib.Omega.{arith}
 use Rattle.event.specs.Events.{inputOf}
 use Rattle.event.proofs.Inputs.{input-length, input-at}
-use Rattle.columns.specs.Columns.{columnAt}
-use Rattle.descent_arrays.specs.Arrays.{endMark}
-use Rattle.descent_arrays.specs.Tokens.{tokenWord}
+use Rattle.columns.specs.contracts.Columns.{columnAt}
+use Rattle.descent_arrays.specs.contracts.Arrays.{endMark}
+use Rattle.descent_arrays.specs.contracts.Tokens.{tokenWord}
 use Rattle.descent_arrays.proofs.TokenWords.{Written, written-none, written-more, written-all}
 use Rattle.descent_arrays.proofs.tokens.tokens_of.Statement.{statement}
 use Rattle.descent_arrays.proofs.tokens.tokens_of.Tie as tie

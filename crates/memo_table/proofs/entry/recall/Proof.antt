@@ -1,5 +1,5 @@
 use borrow.Author.Tests.{eq-eqb, ne-eqb}
-use Rattle.semantics.specs.Memo.{decode}
+use Rattle.semantics.specs.contracts.Memo.{decode}
 use Rattle.memo_table.proofs.entry.recall.Statement.{statement}
 use Rattle.memo_table.proofs.entry.recall.Tie as tie
 

@@ -5,7 +5,7 @@ use native.Mathlib.Omega.{arith}
 use borrow.Author.Needs.{needs}
 use lib.ListN.{length}
 use Rattle.client_records.specs.Usages.{clients}
-use Rattle.embed_promises.specs.Records.{Written}
+use Rattle.embed_promises.specs.contracts.Records.{Written}
 use Rattle.embed_promises.proofs.RecordRows.{nothing-written, one-written, all-written}
 use Rattle.packing.proofs.records.row_of.Statement.{statement}
 use Rattle.packing.proofs.records.row_of.Tie as tie

@@ -9,8 +9,8 @@ use lib.ListN.{length, length-set}
 use borrow.Author.Tests.{not-true, not-false}
 use Rattle.word.specs.declared.Word.the-variants.{Symbol}
 use Rattle.semantics.specs.Choices.{Choice}
-use Rattle.descent_arrays.specs.Arrays.{held}
-use Rattle.recursive_descent.specs.Descent.{CallGiven, RunGiven}
+use Rattle.descent_arrays.specs.contracts.Arrays.{held}
+use Rattle.recursive_descent.specs.contracts.Descent.{CallGiven, RunGiven}
 use Rattle.rule.proofs.Bodies.{no-symbol}
 use Rattle.recursive_descent.proofs.Choosing.{token-given, entry-given, chosen-given}
 use Rattle.recursive_descent.proofs.Running.{level, Running, running-as, running-start, running-done, running-over, running-terminal, running-mismatch}

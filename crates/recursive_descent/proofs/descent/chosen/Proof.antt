@@ -1,6 +1,6 @@
 use mathlib.Core.Path.{refl}
 use native.Mathlib.Omega.{arith}
-use Rattle.descent_arrays.specs.Arrays.{firstAt}
+use Rattle.descent_arrays.specs.contracts.Arrays.{firstAt}
 use borrow.Author.Needs.{needs}
 use Rattle.recursive_descent.proofs.descent.chosen.Statement.{statement}
 use Rattle.recursive_descent.proofs.descent.chosen.Tie as tie

@@ -1,6 +1,6 @@
 use mathlib.Core.Path.{refl}
 use native.Mathlib.Omega.{arith}
-use Rattle.descent_arrays.specs.Arrays.{rowAt}
+use Rattle.descent_arrays.specs.contracts.Arrays.{rowAt}
 use borrow.Author.Needs.{needs}
 use Rattle.recursive_descent.proofs.descent.entry_of.Statement.{statement}
 use Rattle.recursive_descent.proofs.descent.entry_of.Tie as tie

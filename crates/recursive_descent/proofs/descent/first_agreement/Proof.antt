@@ -1,6 +1,6 @@
 -- One look at the choices.
 use borrow.Author.Needs.{needs}
-use Rattle.descent_arrays.specs.Arrays.{endAt}
+use Rattle.descent_arrays.specs.contracts.Arrays.{endAt}
 use Rattle.recursive_descent.proofs.descent.first_agreement.Statement.{statement}
 use Rattle.recursive_descent.proofs.descent.first_agreement.Tie as tie
 

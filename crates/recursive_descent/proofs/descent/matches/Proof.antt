@@ -1,6 +1,6 @@
 use mathlib.Core.Path.{refl}
 use native.Mathlib.Omega.{arith}
-use Rattle.descent_arrays.specs.Arrays.{matchesAt}
+use Rattle.descent_arrays.specs.contracts.Arrays.{matchesAt}
 use borrow.Author.Needs.{needs}
 use Rattle.recursive_descent.proofs.descent.matches.Statement.{statement}
 use Rattle.recursive_descent.proofs.descent.matches.Tie as tie

@@ -2,7 +2,8 @@
 use mathlib.Core.Path.{_∙_}
 use Prim.Native.Nat.{_-_}
 use native.Mathlib.Omega.{arith}
-use Rattle.recursive_descent.proofs.Searching.{Searching, some-terminal, few-terminals, number-given, searching-start, searching-given, searching-next, searching-done}
+use Rattle.recursive_descent.proofs.Searching.{Searching, some-terminal, few-terminals, number-given, searching-start, searching-given, searching-next}
+use Rattle.recursive_descent.proofs.Searching.{searching-done}
 use Rattle.recursive_descent.proofs.search.judge_costliest.Statement.{statement}
 use Rattle.recursive_descent.proofs.search.judge_costliest.Tie as tie
 

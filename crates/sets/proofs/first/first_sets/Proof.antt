@@ -4,9 +4,9 @@ use native.Mathlib.Omega.{arith}
 use lib.ListN.{length}
 use Rattle.grammar.specs.Limits.{maxNonterminals}
 use Rattle.grammar.specs.Encoding.{parse}
-use Rattle.lookahead.specs.Operations.{full}
-use Rattle.families.specs.First.{FirstNumbersClosed}
-use Rattle.families.specs.Rules.{ByRules}
+use Rattle.lookahead.specs.contracts.Operations.{full}
+use Rattle.families.specs.contracts.First.{FirstNumbersClosed}
+use Rattle.families.specs.contracts.Rules.{ByRules}
 use Rattle.families.proofs.LeastByPasses.{Below, below-none, missing, below-pass, least-pass, missing-falls}
 use Rattle.families.proofs.FewTerminals.{admitted-read}
 use Rattle.families.proofs.FirstTie.{full-closed, first-listed}

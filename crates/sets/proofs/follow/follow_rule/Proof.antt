@@ -1,6 +1,6 @@
 -- The loop keeps `FollowWalk`: the words from `at` on have been gone through.
 use native.Mathlib.Omega.{arith}
-use Rattle.families.specs.Least.{at as family}
+use Rattle.families.specs.contracts.Least.{at as family}
 use Rattle.families.proofs.ArrayLookup.{lookup-at}
 use Rattle.families.proofs.FollowPasses.{FollowWalk, behind-body, follow-start, word-here, follow-turn, follow-end}
 use Rattle.sets.proofs.follow.follow_rule.Statement.{statement}

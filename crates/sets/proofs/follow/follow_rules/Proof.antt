@@ -3,7 +3,7 @@ use Prim.Native.Nat.{_-_}
 use mathlib.Core.Path.{_∙_}
 use native.Mathlib.Omega.{arith}
 use Rattle.grammar.proofs.WellRead.{well-read}
-use Rattle.families.specs.Least.{at as family}
+use Rattle.families.specs.contracts.Least.{at as family}
 use Rattle.families.proofs.RulePasses.{Turns, turns-start}
 use Rattle.families.proofs.HeadPasses.{its-turn, its-start, head-below}
 use Rattle.families.proofs.FollowPasses.{Asks, follow-visit, follows-end}

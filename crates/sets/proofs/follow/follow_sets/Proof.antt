@@ -4,10 +4,10 @@ use native.Mathlib.Omega.{arith}
 use lib.ListN.{length}
 use Rattle.grammar.specs.Limits.{maxNonterminals}
 use Rattle.grammar.specs.Encoding.{parse}
-use Rattle.lookahead.specs.Lookaheads.{alphabet}
-use Rattle.lookahead.specs.Operations.{full}
-use Rattle.families.specs.Least.{at as family}
-use Rattle.families.specs.Follow.{FollowNumbersClosed}
+use Rattle.lookahead.specs.contracts.Lookaheads.{alphabet}
+use Rattle.lookahead.specs.contracts.Operations.{full}
+use Rattle.families.specs.contracts.Least.{at as family}
+use Rattle.families.specs.contracts.Follow.{FollowNumbersClosed}
 use Rattle.base.proofs.Lists.{listed-long}
 use Rattle.families.proofs.LeastByPasses.{Below, below-none, missing, below-pass, least-pass, missing-falls}
 use Rattle.families.proofs.FewTerminals.{admitted-read}

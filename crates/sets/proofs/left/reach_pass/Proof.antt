@@ -2,8 +2,8 @@
 use Prim.Native.Nat.{_-_}
 use native.Mathlib.Omega.{arith}
 use Rattle.grammar.proofs.WellRead.{well-read}
-use Rattle.families.specs.Least.{at as family}
-use Rattle.families.specs.Left.{emptyIn}
+use Rattle.families.specs.contracts.Least.{at as family}
+use Rattle.families.specs.contracts.Left.{emptyIn}
 use Rattle.families.proofs.RulePasses.{Turns, turns-start}
 use Rattle.families.proofs.HeadPasses.{Gives, its-turn, head-below, visit, visits-end}
 use Rattle.families.proofs.LeftPasses.{ruleLeft, rule-larger, rule-given}

@@ -4,8 +4,8 @@ use Prim.Native.Nat.{_^_}
 use lib.ListN.{length}
 use Rattle.grammar.specs.Limits.{maxNonterminals}
 use Rattle.grammar.specs.Encoding.{parse}
-use Rattle.families.specs.Least.{at as family}
-use Rattle.families.specs.Left.{emptyIn, ReachClosed}
+use Rattle.families.specs.contracts.Least.{at as family}
+use Rattle.families.specs.contracts.Left.{emptyIn, ReachClosed}
 use Rattle.families.proofs.LeastByPasses.{Below, below-none, missing, below-pass, least-pass, missing-falls}
 use Rattle.families.proofs.FewTerminals.{admitted-read}
 use Rattle.families.proofs.LeftTie.{reach-closed, reach-small, reach-listed}

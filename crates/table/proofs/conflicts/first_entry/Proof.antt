@@ -2,8 +2,10 @@
 use mathlib.Core.Path.{_≡_, sym, _∙_}
 use Prim.Native.Nat.{_-_, _≤_}
 use native.Mathlib.Omega.{arith}
-use Rattle.columns.specs.Columns.{columnCount, columnElement}
-use Rattle.table.specs.Conflicts.{conflictFrom, inSets}
+use Rattle.columns.specs.Columns.{columnCount}
+use Rattle.columns.specs.contracts.Columns.{columnElement}
+use Rattle.table.specs.Conflicts.{conflictFrom}
+use Rattle.table.specs.contracts.Conflicts.{inSets}
 use Rattle.table.proofs.ConflictScan.{rows-all, row-here, row-later, rows-none}
 use Rattle.table.proofs.conflicts.first_entry.Statement.{statement}
 use Rattle.table.proofs.conflicts.first_entry.Tie as tie

@@ -2,8 +2,9 @@
 use mathlib.Core.Path.{_≡_}
 use Prim.Native.Nat.{_-_, _≤_}
 use native.Mathlib.Omega.{arith}
-use Rattle.columns.specs.Columns.{columnCount, columnElement}
-use Rattle.table.specs.Entries.{FilledRow}
+use Rattle.columns.specs.Columns.{columnCount}
+use Rattle.columns.specs.contracts.Columns.{columnElement}
+use Rattle.table.specs.contracts.Entries.{FilledRow}
 use Rattle.columns.proofs.ColumnStrings.{column-count}
 use Rattle.table.proofs.FillSteps.{row-none, row-more}
 use Rattle.table.proofs.rows.fill_row.Statement.{statement}

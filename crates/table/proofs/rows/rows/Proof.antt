@@ -3,12 +3,12 @@ use mathlib.Core.Path.{_≡_, _∙_}
 use Prim.Native.Nat.{ℕ, _-_, _≤_}
 use native.Mathlib.Omega.{arith}
 use lib.ListN.{length-replicate}
-use Rattle.grammar.specs.Codes.{noRule}
-use Rattle.grammar.specs.Limits.{maxEntries}
+use Rattle.grammar.specs.contracts.Codes.{noRule}
+use Rattle.grammar.specs.contracts.Limits.{maxEntries}
 use Rattle.base.specs.FiniteSets.{numbersFrom}
 use Rattle.columns.specs.Columns.{columnCount}
-use Rattle.claims.specs.Claims.{Headed}
-use Rattle.table.specs.Entries.{FilledRows, noRules, rowsOf}
+use Rattle.claims.specs.contracts.Claims.{Headed}
+use Rattle.table.specs.contracts.Entries.{FilledRows, noRules, rowsOf}
 use Rattle.table.proofs.FillInvariant.{row-room, rows-start, rows-turn, rows-end}
 use Rattle.table.proofs.rows.rows.Statement.{statement}
 use Rattle.table.proofs.rows.rows.Tie as tie

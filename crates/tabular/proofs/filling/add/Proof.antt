@@ -2,7 +2,7 @@
 use mathlib.Core.Path.{_≡_, refl}
 use Prim.Native.Nat.{_≤_, _-_}
 use native.Mathlib.Omega.{arith}
-use Rattle.tabular_promises.specs.Chart.{Added}
+use Rattle.tabular_promises.specs.contracts.Chart.{Added}
 use Rattle.tabular_promises.proofs.PlaceSets.{digit, with-place}
 use Rattle.tabular_promises.proofs.Charts.{added-start, added-more, added-rest}
 use Rattle.tabular.proofs.filling.add.Statement.{statement}

@@ -5,8 +5,8 @@ use lib.ListN.{length as List·length, length-replicate}
 use Rattle.event.specs.Events.{inputOf}
 use Rattle.event.proofs.Inputs.{input-length}
 use Rattle.grammar.specs.Encoding.{grammarOf}
-use Rattle.tabular_promises.specs.Chart.{Long}
-use Rattle.tabular_promises.specs.Filling.{turn, FilledTo}
+use Rattle.tabular_promises.specs.contracts.Chart.{Long}
+use Rattle.tabular_promises.specs.contracts.Filling.{turn, FilledTo}
 use Rattle.tabular_promises.proofs.Turns.{filled-start, filled}
 use Rattle.tabular.proofs.filling.fill.Statement.{statement}
 use Rattle.tabular.proofs.filling.fill.Tie as tie

@@ -1,7 +1,7 @@
 -- The loop keeps the chart filled up to the turn of the start.
 use Prim.Native.Nat.{suc, _+_, _-_, _≤_}
 use native.Mathlib.Omega.{arith}
-use Rattle.tabular_promises.specs.Filling.{turn, Fills}
+use Rattle.tabular_promises.specs.contracts.Filling.{turn, Fills}
 use Rattle.tabular_promises.proofs.Turns.{length-start, length-more, length-end}
 use Rattle.tabular.proofs.filling.fill_length.Statement.{statement}
 use Rattle.tabular.proofs.filling.fill_length.Tie as tie

@@ -2,7 +2,7 @@
 use Prim.Native.Nat.{_-_, _≤_}
 use native.Mathlib.Omega.{arith}
 use Rattle.grammar.specs.Limits.{maxTabularTokens}
-use Rattle.tabular_promises.specs.Filling.{turn, Fills}
+use Rattle.tabular_promises.specs.contracts.Filling.{turn, Fills}
 use Rattle.tabular_promises.proofs.Turns.{few, settling-start, settling-more, settled}
 use Rattle.tabular.proofs.filling.settle.Statement.{statement}
 use Rattle.tabular.proofs.filling.settle.Tie as tie

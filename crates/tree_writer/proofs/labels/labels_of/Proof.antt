@@ -5,7 +5,7 @@ use lib.ListN.{length}
 use Rattle.grammar.specs.Limits.{maxPlaces}
 use Rattle.event.specs.Events.{inputOf}
 use Rattle.event.proofs.Inputs.{input-length}
-use Rattle.tree_writer_promises.specs.Labels.{LabelledBelow}
+use Rattle.tree_writer_promises.specs.contracts.Labels.{LabelledBelow}
 use Rattle.tree_writer_promises.proofs.Labelling.{label-made, labels-start, labels-more, labels-place, labels-row, labels-all}
 use Rattle.tree_writer.proofs.labels.labels_of.Statement.{statement}
 use Rattle.tree_writer.proofs.labels.labels_of.Tie as tie

@@ -6,9 +6,9 @@ use Prim.Native.Nat.{ℕ, _-_, _<_}
 use native.Mathlib.Omega.{arith}
 use lib.ListN.{length}
 use Rattle.word.specs.declared.Word.the-variants.{Symbol}
-use Rattle.tree_writer_promises.specs.Writer.{VertexGiven, falling}
-use Rattle.tree_writer_promises.proofs.Vertices.{Onward, Going, going-as, neither, is-terminal, entry-low, names, index-small, label-end, vertex-seen}
-use Rattle.tree_writer_promises.proofs.Vertices.{rule-low, begin-low, written-low, tree-room, going-start, going-over, going-ended, going-positive, going-terminal}
+use Rattle.tree_writer_promises.specs.contracts.Writer.{VertexGiven, falling}
+use Rattle.tree_writer_promises.proofs.Vertices.{Onward, Going, going-as, neither, is-terminal, entry-low, names, index-small, label-end, vertex-seen, rule-low}
+use Rattle.tree_writer_promises.proofs.Vertices.{begin-low, written-low, tree-room, going-start, going-over, going-ended, going-positive, going-terminal}
 use Rattle.tree_writer_promises.proofs.Vertices.{terminal-low, called-found, called-in, called-falling, called-given, going-nonterminal, going-length}
 use borrow.Fn.Kinds.{In}
 use borrow.Fn.PlainCycle.{Measures, is, falls, and}

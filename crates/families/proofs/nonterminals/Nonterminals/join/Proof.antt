@@ -1,6 +1,6 @@
 -- A join is the numbers' disjunction.
 use mathlib.Core.Path.{refl}
-use Rattle.lookahead.specs.Operations.{join}
+use Rattle.lookahead.specs.contracts.Operations.{join}
 use Rattle.lookahead.proofs.Operations.{is-join}
 use Rattle.families.proofs.nonterminals.Nonterminals.join.Statement.{statement}
 use Rattle.families.proofs.nonterminals.Nonterminals.join.Tie as tie

@@ -1,0 +1,19 @@
+-- The element of a column, and the column of the lookahead string at a place.
+use mathlib.Core.List.{List}
+use Prim.Native.Nat.{ℕ}
+use lib.Dec.{eqb}
+use Rattle.base.specs.Choice.{choose}
+use Rattle.lookahead.specs.declared.Lookahead.{Lookahead}
+use Rattle.lookahead.specs.declared.Lookahead.the-variants.{One, Two}
+use Rattle.lookahead.specs.Lookaheads.{tokens, nothing}
+use Rattle.base.specs.Strings.{look}
+use Rattle.columns.specs.Columns.{columnOf}
+
+-- the element of a column
+unfoldable pub columnElement : Lookahead → ℕ → ℕ → ℕ
+columnElement One terminals c = choose (eqb c terminals) (nothing One) c
+columnElement Two terminals c = c
+
+-- the column of the lookahead string at a place, for n terminals
+unfoldable pub columnAt : Lookahead → ℕ → List ℕ → ℕ → ℕ
+columnAt k n w i = columnOf k n (look (tokens k) w i)

@@ -1,0 +1,4 @@
+pub mod Packing
+pub mod Records
+pub mod Kept
+pub mod KeptHistories

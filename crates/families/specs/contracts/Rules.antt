@@ -1,0 +1,67 @@
+-- The rules of a grammar that has been read, as passes over them go: in which order, and where the words of each stand.
+use mathlib.Core.Path.{_≡_}
+use mathlib.Core.Bool.{Bool, true, false}
+use mathlib.Core.List.{List, [], _∷_}
+use Prim.Native.Nat.{ℕ, suc, _-_, _≤_, _<_}
+use lib.ListN.{length, getD, drop}
+use Rattle.word.specs.declared.Word.{Word}
+use Rattle.word.specs.declared.Word.the-variants.{Heading, Rule as RuleWord, Positive, Negative, Symbol, End, Invalid}
+use Rattle.word.specs.Words.{decoded}
+use Rattle.grammar.specs.declared.reading.Sizes.{Sizes}
+use Rattle.grammar.specs.declared.reading.Outcome.the-variants.{Read}
+use Rattle.grammar.specs.Limits.{maxNonterminals, maxRules}
+use Rattle.grammar.specs.Syntax.{Rule}
+use Rattle.grammar.specs.Encoding.{Parsed, parse}
+use Rattle.grammar.specs.Reading.{reading}
+use Rattle.grammar.specs.contracts.Starts.{ruleStarts}
+use Rattle.grammar.specs.contracts.WellRead.{firstRule}
+
+-- the rule that a pass comes to behind others, from the first on or from the last on
+abbrev pub turnOf : Bool → ℕ → ℕ → ℕ
+turnOf true rules passed = passed
+turnOf false rules passed = rules - suc passed
+
+-- the rule that begins at an index
+abbrev pub ruleFrom : List ℕ → ℕ → Rule
+ruleFrom words start = firstRule (drop start words)
+
+-- a row of words gone through from its end
+unfoldable pub fromEnd : {X : Type 0} → (Word → X → X) → X → List ℕ → X
+fromEnd f x [] = x
+fromEnd f x (w ∷ ws) = f (decoded w) (fromEnd f x ws)
+
+-- of a rule that began before, nothing is left
+pub record Ended (p : Parsed) : Type 0 where
+  pub body : p .body ≡ []
+  pub positives : p .positives ≡ []
+  pub negatives : p .negatives ≡ []
+
+-- behind the begin of a rule stand symbols, the begins of conjuncts and, in the end, the end
+abbrev pub Inside : Word → Type 0
+Inside (Symbol X) = Unit {0}
+Inside Positive = Unit {0}
+Inside Negative = Unit {0}
+Inside End = Unit {0}
+Inside (RuleWord A) = ⊥
+Inside (Heading n t) = ⊥
+Inside Invalid = ⊥
+
+-- the words of the rule that begins at an index
+pub record RuleWords (words : List ℕ) (start end : ℕ) : Type 0 where
+  pub sizes : Sizes
+  pub read : reading words ≡ Read sizes
+  pub some : start < end
+  pub within : end ≤ length words
+  pub ended : Ended (parse (drop end words))
+  pub inside : (i : ℕ) → start < i → i < end → Inside (decoded (getD words i 0))
+
+-- an array of a number for each of n rules: zeros stand behind them
+pub record ByRules (n : ℕ) (l : List ℕ) : Type 0 where
+  pub long : length l ≡ maxRules
+  pub behind : (q : ℕ) → n ≤ q → getD l q 0 ≡ 0
+
+-- what a pass over the rules of a grammar that has been read needs
+pub record PassGiven (words starts : List ℕ) (z : Sizes) (sets : List ℕ) : Type 0 where
+  pub read : reading words ≡ Read z
+  pub begins : starts ≡ ruleStarts words
+  pub long : length sets ≡ maxNonterminals

@@ -1,0 +1,4 @@
+pub mod Limits
+pub mod Codes
+pub mod Starts
+pub mod WellRead

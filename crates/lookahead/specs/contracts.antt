@@ -1,0 +1,3 @@
+pub mod Lookaheads
+pub mod Elements
+pub mod Operations

@@ -1,0 +1,4 @@
+pub mod Answers
+pub mod Judging
+pub mod CostliestInput
+pub mod Search

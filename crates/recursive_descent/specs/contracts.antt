@@ -1,0 +1,3 @@
+pub mod Descent
+pub mod Judging
+pub mod Search

@@ -1,0 +1,141 @@
+-- What calling a nonterminal and running a body require and ensure: they are the descent with a memo table, for every depth that is enough, by
+-- any choice of rules that two arrays hold.
+use mathlib.Core.Path.{_≡_}
+use mathlib.Core.List.{List, List·Memᴰ}
+use mathlib.Core.Option.{Option, none, some}
+use Prim.Native.Nat.{ℕ, suc, _+_, _*_, _/_, _%_, _≤_, _<_}
+use lib.ListN.{length, getD, drop}
+use Rattle.grammar.specs.Codes.{uncalledCode}
+use Rattle.grammar.specs.Limits.{maxWords, maxNonterminals, maxTokens, maxMemoEntries}
+use Rattle.grammar.specs.Syntax.{Rule, bodies}
+use Rattle.grammar.specs.Encoding.{parse, grammarOf}
+use Rattle.grammar.specs.Reading.{scan, reading}
+use Rattle.grammar.specs.contracts.Starts.{ruleStarts}
+use Rattle.grammar.specs.declared.reading.Sizes.{Sizes}
+use Rattle.grammar.specs.declared.reading.Progress.{Progress}
+use Rattle.grammar.specs.declared.reading.Outcome.the-variants.{Read}
+use Rattle.semantics.specs.Valuations.{pairs}
+use Rattle.semantics.specs.LeftRecursion.{NoLeftRecursion}
+use Rattle.semantics.specs.Choices.{Choice}
+use Rattle.semantics.specs.contracts.Choices.{OwnRules}
+use Rattle.semantics.specs.Descent.{End, descend}
+use Rattle.semantics.specs.ComesTo.{Call, callAt, InRange}
+use Rattle.semantics.specs.contracts.ComesTo.{measure}
+use Rattle.semantics.specs.Memo.{encode, entry, Recorded}
+use Rattle.semantics.specs.contracts.Memo.{blank}
+use Rattle.semantics.specs.contracts.MemoDescent.{memoized, memoRun, memoCall}
+use Rattle.rule.specs.contracts.Rule.{meant}
+use Rattle.recursive_descent.specs.declared.descent.Run.{Run}
+use Rattle.descent_arrays.specs.contracts.Arrays.{rowColumn, endMark, columnWeight, held, rowAt, endAt, firstAt}
+
+-- where the first conjunct stands of a rule by its number, or 0
+abbrev pub firstConjunct : List ℕ → Option ℕ → ℕ
+firstConjunct words none = 0
+firstConjunct words (some q) = getD (ruleStarts words) q 0 + 1
+
+pub record TokenGiven (tokens : List ℕ) (place : ℕ) : Type 0 where
+  pub placed : place ≤ maxTokens
+  pub column : getD tokens place 0 / columnWeight < rowColumn
+
+pub record EntryGiven (choices : List ℕ) (A : ℕ) : Type 0 where
+  pub named : A < maxNonterminals
+  pub low : rowAt choices A < maxMemoEntries
+
+pub record EndGiven (choices : List ℕ) (A : ℕ) : Type 0 where
+  pub named : A < maxNonterminals
+
+pub record ChosenGiven (choices tokens : List ℕ) (A place : ℕ) : Type 0 where
+  pub named : A < maxNonterminals
+  pub token : TokenGiven tokens place
+  pub low : firstAt choices tokens A place ≤ maxWords
+
+-- the words from an index to another are symbols of one body: the rest of the rule is the same from there on, and so is what a reading makes of it
+pub record Skipped (words : List ℕ) (from at : ℕ) : Type 0 where
+  pub on : from ≤ at
+  pub within : at ≤ length words
+  pub positives : parse (drop at words) .positives ≡ parse (drop from words) .positives
+  pub negatives : parse (drop at words) .negatives ≡ parse (drop from words) .negatives
+  pub reads : (p : Progress) (z : Sizes) → scan p from (drop from words) ≡ Read z → scan p at (drop at words) ≡ Read z
+
+-- each entry that is written holds the outcome of its call
+pub record MemoSound (choice : Choice) (words input memo : List ℕ) : Type 0 where
+  pub size : length memo ≡ pairs (grammarOf words) input
+  pub right : (x : Call) → InRange (grammarOf words) input x → (entry input memo x ≡ uncalledCode → ⊥)
+      → entry input memo x ≡ encode (descend (grammarOf words) choice input (x .nonterminal) (x .place))
+
+-- the arrays hold a choice of rules, each of its own nonterminal, and the tokens of the input
+pub record ArraysGiven (choice : Choice) (words choices tokens input memo : List ℕ) : Type 0 where
+  pub sizes : Sizes
+  pub read : reading words ≡ Read sizes
+  pub free : NoLeftRecursion (grammarOf words)
+  pub own : OwnRules (grammarOf words) choice
+  pub rows : (A : ℕ) → A < grammarOf words .nonterminals → rowAt choices A ≡ A * suc (length input)
+  pub ends : (A : ℕ) → A < grammarOf words .nonterminals → endAt choices A ≡ length input
+  pub columns : (i : ℕ) → i ≤ length input → getD tokens i 0 / columnWeight < rowColumn
+  pub firsts : (A i : ℕ) → A < grammarOf words .nonterminals → i ≤ length input → firstAt choices tokens A i ≡ firstConjunct words (choice A i)
+  pub terminals : (i : ℕ) → i < length input → getD tokens i 0 % columnWeight ≡ getD input i 0
+  pub end : getD tokens (length input) 0 % columnWeight ≡ endMark
+  pub short : length input ≤ maxTokens
+  pub sound : MemoSound choice words input memo
+
+pub record CallGiven (choice : Choice) (words choices tokens input memo : List ℕ) (A place : ℕ) : Type 0 where
+  pub given : ArraysGiven choice words choices tokens input memo
+  pub named : A < grammarOf words .nonterminals
+  pub placed : place ≤ length input
+
+-- the body at an index is one of a rule of the nonterminal
+pub record RunGiven (choice : Choice) (words choices tokens input memo : List ℕ) (A from start : ℕ) : Type 0 where
+  pub call : CallGiven choice words choices tokens input memo A start
+  pub rule : Rule
+  pub listed : List·Memᴰ rule (grammarOf words .rules)
+  pub heads : rule .head ≡ A
+  pub inside : from ≤ length words
+  pub body : List·Memᴰ (parse (drop from words) .body) (bodies rule)
+  pub progress : Progress
+  pub reads : scan progress from (drop from words) ≡ reading words
+
+-- what is returned is the entry of the call's outcome
+pub record CallDone (choice : Choice) (words input memo : List ℕ) (A place r : ℕ) (memo′ : List ℕ) : Type 0 where
+  pub told : r ≡ encode (descend (grammarOf words) choice input A place)
+  pub model : (n : ℕ) → measure (grammarOf words) input (callAt A place) < n
+      → memoCall (grammarOf words) choice input n A place memo ≡ memoized (descend (grammarOf words) choice input A place) memo′
+  pub sound : MemoSound choice words input memo′
+
+pub record RunDone (choice : Choice) (words input memo : List ℕ) (A from start : ℕ) (r : Run) (memo′ : List ℕ) : Type 0 where
+  pub model : (n : ℕ) → measure (grammarOf words) input (callAt A start) ≤ n
+      → memoRun (memoCall (grammarOf words) choice input n) input (parse (drop from words) .body) start memo ≡ memoized (meant (r .outcome)) memo′
+  pub sound : MemoSound choice words input memo′
+  pub within : (e : ℕ) → meant (r .outcome) ≡ End e → e ≤ length input
+  pub skipped : Skipped words from (r .at)
+
+-- a call and a run require that the arrays hold some choice, and ensure what they do for each that they hold
+abbrev pub CallRequires : (words choices tokens memo : List ℕ) (A place : ℕ) → Type 0
+CallRequires words choices tokens memo A place = (choice : Choice) × CallGiven choice words choices tokens (held tokens) memo A place
+
+abbrev pub CallEnsures : (words choices tokens memo : List ℕ) (A place r : ℕ) (memo′ : List ℕ) → Type 0
+CallEnsures words choices tokens memo A place r memo′ =
+    (choice : Choice) → CallGiven choice words choices tokens (held tokens) memo A place → CallDone choice words (held tokens) memo A place r memo′
+
+abbrev pub RunRequires : (words choices tokens memo : List ℕ) (A from start : ℕ) → Type 0
+RunRequires words choices tokens memo A from start = (choice : Choice) × RunGiven choice words choices tokens (held tokens) memo A from start
+
+abbrev pub RunEnsures : (words choices tokens memo : List ℕ) (A from start : ℕ) (r : Run) (memo′ : List ℕ) → Type 0
+RunEnsures words choices tokens memo A from start r memo′ =
+    (choice : Choice) → RunGiven choice words choices tokens (held tokens) memo A from start → RunDone choice words (held tokens) memo A from start r memo′
+
+-- the start's call at the input's begin, in a memo table of just the entries that there are
+pub record StartGiven (choice : Choice) (words choices tokens input memo : List ℕ) : Type 0 where
+  pub call : CallGiven choice words choices tokens input (blank (grammarOf words) input) 0 0
+  pub size : length memo ≡ pairs (grammarOf words) input
+
+-- the start's entry is returned, and the memo table holds those of the calls made and no others
+pub record StartDone (choice : Choice) (words input : List ℕ) (r : ℕ) (memo′ : List ℕ) : Type 0 where
+  pub told : r ≡ encode (descend (grammarOf words) choice input 0 0)
+  pub recorded : Recorded (grammarOf words) choice input memo′
+
+abbrev pub StartRequires : (words choices tokens memo : List ℕ) → Type 0
+StartRequires words choices tokens memo = (choice : Choice) × StartGiven choice words choices tokens (held tokens) memo
+
+abbrev pub StartEnsures : (words choices tokens memo : List ℕ) (r : ℕ) (memo′ : List ℕ) → Type 0
+StartEnsures words choices tokens memo r memo′ =
+    (choice : Choice) → StartGiven choice words choices tokens (held tokens) memo → StartDone choice words (held tokens) r memo′

@@ -1,0 +1,31 @@
+-- What the steps of the search for the costliest input require and ensure.
+use mathlib.Core.Path.{_≡_}
+use mathlib.Core.List.{List}
+use Prim.Native.Nat.{ℕ, suc, _*_, _^_, _≤_}
+use lib.ListN.{length}
+use Rattle.answer.specs.declared.Answer.{Answer}
+use Rattle.grammar.specs.Limits.{maxTokens}
+use Rattle.grammar.specs.Encoding.{grammarOf}
+use Rattle.grammar.specs.declared.reading.Sizes.{Sizes}
+use Rattle.grammar.specs.declared.reading.Outcome.the-variants.{Read}
+use Rattle.lookahead.specs.declared.Lookahead.the-variants.{One}
+use Rattle.admission.specs.Admission.{admission}
+use Rattle.inputs.specs.Inputs.{maxInputs}
+use Rattle.semantics.specs.LeftRecursion.{NoLeftRecursion}
+use Rattle.recognizer_promises.specs.contracts.Judging.{Descended}
+use Rattle.recognizer_promises.specs.CostliestInput.{costliestInput}
+use Rattle.recursive_descent.specs.contracts.Judging.{tableRows}
+
+-- a grammar that passes, with its sizes; the choices and the entries for an input of that length, and not too many such inputs
+pub record TrialGiven (words : List ℕ) (z : Sizes) (choices events memo : List ℕ) : Type 0 where
+  pub taken : admission One words ≡ Read z
+  pub free : NoLeftRecursion (grammarOf words)
+  pub made : choices ≡ tableRows One words z (length events)
+  pub size : length memo ≡ grammarOf words .nonterminals * suc (length events)
+  pub short : length events ≤ maxTokens
+  pub few : z .terminals ^ length events ≤ maxInputs
+
+-- the costliest input of k tokens is written and judged
+pub record CostliestJudged (words : List ℕ) (k : ℕ) (r : Answer) (events′ memo′ : List ℕ) : Type 0 where
+  pub written : events′ ≡ costliestInput (grammarOf words) k
+  pub judged : Descended One words events′ r memo′

@@ -1,0 +1,51 @@
+-- The words of the vertices as they are made before the tree is written: one for each call, of what judging left in the lent memories.
+use mathlib.Core.Path.{_≡_}
+use mathlib.Core.List.{List}
+use Prim.Native.Nat.{ℕ, _+_, _*_, _/_, _%_, _≤_, _<_}
+use lib.Dec.{ltb}
+use lib.ListN.{length, getD}
+use Rattle.base.specs.Choice.{choose}
+use Rattle.grammar.specs.Limits.{maxNonterminals, maxTokens, maxPlaces, maxMemoEntries}
+use Rattle.grammar.specs.declared.reading.Sizes.{Sizes}
+use Rattle.semantics.specs.ComesTo.{Call}
+use Rattle.lookahead.specs.declared.Lookahead.the-variants.{One}
+use Rattle.columns.specs.contracts.Columns.{columnAt}
+use Rattle.tree.specs.ParseTrees.{vertex}
+use Rattle.tree.specs.Writing.{vertexWord}
+
+-- where a call's label stands: a row for each nonterminal, each as long as the longest input's
+abbrev pub labelIndex : Call → ℕ
+labelIndex x = x .nonterminal * maxPlaces + x .place
+
+-- the fields of a word
+abbrev pub ruleOf : ℕ → ℕ
+ruleOf word = word % 128
+
+abbrev pub endOf : ℕ → ℕ
+endOf word = word / 65536 % 512
+
+-- the word for a call, from the entries of the lent table and of the lent memo table
+unfoldable pub labelWord : Sizes → (input table memo : List ℕ) (A i : ℕ) → ℕ
+labelWord z input table memo A i = vertexWord
+    (vertex (ruleOf (getD table (2 * z .nonterminals + A * (z .terminals + 1) + columnAt One (z .terminals) input i) 0)) i (getD memo (A * (length input + 1) + i) 0 % 512))
+
+-- and of an input that is too long 0
+abbrev pub labelOf : Sizes → (input table memo : List ℕ) (A i : ℕ) → ℕ
+labelOf z input table memo A i = choose (ltb maxTokens (length input)) 0 (labelWord z input table memo A i)
+
+pub record LabelsGiven (z : Sizes) (input : List ℕ) : Type 0 where
+  pub fewNonterminals : z .nonterminals ≤ maxNonterminals
+  pub short : length input ≤ maxTokens
+
+-- the word at an index, where a call of the input has it
+pub record Labels (z : Sizes) (input table memo : List ℕ) (at r : ℕ) : Type 0 where
+  pub word : (A i : ℕ) → at ≡ A * maxPlaces + i → A < z .nonterminals → i ≤ length input → r ≡ labelWord z input table memo A i
+
+-- the words of the calls whose index is below a bound
+pub record LabelledBelow (z : Sizes) (input table memo : List ℕ) (bound : ℕ) (labels : List ℕ) : Type 0 where
+  pub long : length labels ≡ maxMemoEntries
+  pub word : (A i : ℕ) → A * maxPlaces + i < bound → A < z .nonterminals → i ≤ length input → getD labels (A * maxPlaces + i) 0 ≡ labelWord z input table memo A i
+
+-- and of all
+pub record Labelled (z : Sizes) (input table memo labels : List ℕ) : Type 0 where
+  pub word : (A i : ℕ) → A < z .nonterminals → i ≤ length input → getD labels (A * maxPlaces + i) 0 ≡ labelWord z input table memo A i

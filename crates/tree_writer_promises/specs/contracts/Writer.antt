@@ -1,0 +1,102 @@
+-- What writing the tree requires and ensures: the words are those of the visit, for every depth that is enough.
+use mathlib.Core.Path.{_≡_}
+use mathlib.Core.Bool.{Bool, false}
+use mathlib.Core.List.{List, _++_, map, List·Memᴰ}
+use Prim.Native.Nat.{ℕ, _+_, _*_, _-_, _≤_, _<_}
+use lib.Dec.{T}
+use lib.ListN.{length, getD, drop}
+use Rattle.grammar.specs.Limits.{maxTokens, maxMemoEntries, maxTableWords}
+use Rattle.grammar.specs.Syntax.{Grammar}
+use Rattle.grammar.specs.Encoding.{grammarOf}
+use Rattle.grammar.specs.Reading.{reading}
+use Rattle.grammar.specs.contracts.Starts.{ruleStarts}
+use Rattle.grammar.specs.declared.reading.Sizes.{Sizes}
+use Rattle.grammar.specs.declared.reading.Outcome.the-variants.{Read}
+use Rattle.base.specs.FiniteSets.{member, Distinct}
+use Rattle.semantics.specs.LeftRecursion.{level}
+use Rattle.base.specs.Strings.{Over}
+use Rattle.semantics.specs.Choices.{Choice, tableChoice}
+use Rattle.semantics.specs.Descent.{descend, accepts}
+use Rattle.semantics.specs.ComesTo.{Call, callAt, InRange}
+use Rattle.semantics.specs.contracts.ComesTo.{measure}
+use Rattle.semantics.specs.Calls.{Called, sameCall}
+use Rattle.semantics.specs.Memo.{encode, indexOf}
+use Rattle.semantics.specs.Predictive.{Predictive}
+use Rattle.lookahead.specs.declared.Lookahead.the-variants.{One}
+use Rattle.columns.specs.Columns.{columns}
+use Rattle.table.specs.Layout.{entryAt}
+use Rattle.tree.specs.Writing.{vertexAt, below, visit, vertexWord, InTree}
+use Rattle.tree_writer_promises.specs.Properties.{wordsOf}
+use Rattle.tree_writer_promises.specs.contracts.Labels.{labelIndex, endOf}
+
+-- the choice by one token of lookahead
+abbrev pub choiceOf : List ℕ → List ℕ → Choice
+choiceOf words input = tableChoice (grammarOf words) 1 input
+
+-- the word of a call's vertex
+unfoldable pub wordAt : List ℕ → List ℕ → Call → ℕ
+wordAt words input x = vertexWord (vertexAt (grammarOf words) (choiceOf words input) input x)
+
+-- the words of the calls in l stand in front of the words as they were lent, and just those calls are marked
+pub record Holds (words input lent : List ℕ) (l : List Call) (tree : List ℕ) (marks : List Bool) (written : ℕ) : Type 0 where
+  pub long : maxMemoEntries ≤ length lent
+  pub count : written ≡ length l
+  pub front : tree ≡ map (wordAt words input) l ++ drop (length l) lent
+  pub whole : length marks ≡ maxMemoEntries
+  pub marked : (x : Call) → InRange (grammarOf words) input x → getD marks (labelIndex x) false ≡ member sameCall l x
+  pub distinct : Distinct l
+  pub sound : (x : Call) → List·Memᴰ x l → InTree (grammarOf words) (choiceOf words input) input x
+
+-- an input that a grammar accepts
+pub record Accepted (words input : List ℕ) : Type 0 where
+  pub sizes : Sizes
+  pub read : reading words ≡ Read sizes
+  pub predictive : Predictive (grammarOf words) 1
+  pub tokens : Over (grammarOf words .terminals) input
+  pub short : length input ≤ maxTokens
+  pub accepted : T (accepts (grammarOf words) (choiceOf words input) input)
+
+-- a call of the tree of an accepted input, and the words of the calls of that tree
+pub record VertexGiven (input words starts labels tree : List ℕ) (marks : List Bool) (A start written : ℕ) : Type 0 where
+  pub accepted : Accepted words input
+  pub begins : starts ≡ ruleStarts words
+  pub labelled : (x : Call) → InTree (grammarOf words) (choiceOf words input) input x → getD labels (labelIndex x) 0 ≡ wordAt words input x
+  pub inTree : InTree (grammarOf words) (choiceOf words input) input (callAt A start)
+  pub lent : List ℕ
+  pub seen : List Call
+  pub holds : Holds words input lent seen tree marks written
+
+pub record VertexDone (words input tree : List ℕ) (marks : List Bool) (A start written r : ℕ) (tree′ : List ℕ) (marks′ : List Bool) : Type 0 where
+  pub holds : (lent : List ℕ) (l : List Call) → Holds words input lent l tree marks written → (n : ℕ) → measure (grammarOf words) input (callAt A start) < n
+      → Holds words input lent (visit (below (grammarOf words) (choiceOf words input) input) n (callAt A start) l) tree′ marks′ r
+
+-- it is required that there is such an input, and ensured what is written for each that there is
+abbrev pub VertexRequires : (words starts labels tree : List ℕ) (marks : List Bool) (A start written : ℕ) → Type 0
+VertexRequires words starts labels tree marks A start written = (input : List ℕ) × VertexGiven input words starts labels tree marks A start written
+
+abbrev pub VertexEnsures : (words starts labels tree : List ℕ) (marks : List Bool) (A start written r : ℕ) (tree′ : List ℕ) (marks′ : List Bool) → Type 0
+VertexEnsures words starts labels tree marks A start written r tree′ marks′ =
+    (input : List ℕ) → VertexGiven input words starts labels tree marks A start written → VertexDone words input tree marks A start written r tree′ marks′
+
+-- what falls from a call to those below it: the tokens left, for the input ends where the root does, then the rank
+abbrev pub falling : (words labels : List ℕ) (A start : ℕ) → ℕ
+falling words labels A start = level (grammarOf words) (endOf (getD labels 0 0) - start) A
+
+-- the table holds the entries of the grammar
+abbrev pub Entries : Grammar → List ℕ → Type 0
+Entries G table = (A c : ℕ) → A < G .nonterminals → c < columns One G → getD table (2 * G .nonterminals + A * columns One G + c) 0 ≡ entryAt One G A c
+
+-- what judging leaves of an accepted input: the entries of its table, and the outcomes of its calls
+pub record TreeGiven (words input table memo tree : List ℕ) : Type 0 where
+  pub accepted : Accepted words input
+  pub entries : Entries (grammarOf words) table
+  pub recorded : (x : Call) → Called (grammarOf words) (choiceOf words input) input x
+      → getD memo (indexOf input x) 0 ≡ encode (descend (grammarOf words) (choiceOf words input) input (x .nonterminal) (x .place))
+  pub long-table : maxTableWords ≤ length table
+  pub long-memo : maxMemoEntries ≤ length memo
+  pub long-tree : maxMemoEntries ≤ length tree
+
+-- the tree's words in front of the words as they were lent, and their number
+pub record TreeDone (words input tree : List ℕ) (r : ℕ) (tree′ : List ℕ) : Type 0 where
+  pub number : r ≡ length (wordsOf words input)
+  pub written : tree′ ≡ wordsOf words input ++ drop r tree
