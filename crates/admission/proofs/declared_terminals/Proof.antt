@@ -21,8 +21,10 @@ declared-requires c κs = search needs
 
 returns-2 : tie.Need-returns-2
 returns-2 c =
-    ap (λ z. z .terminals) (c .declared .ensures ∙ ap declaredBy (c .before .decode .ensures))
-    ∙ terminals-declared (c .before .before .before .before .before .args .words .now) (omega arith)
+    let at-decode = c .before in
+    let start = at-decode .before .before .before .before in
+    ap (λ z. z .terminals) (c .declared .ensures ∙ ap declaredBy (at-decode .decode .ensures))
+    ∙ terminals-declared (start .args .words .now) (omega arith)
 
 pub declared-terminals-spec : {M : Type 1} → statement M
 declared-terminals-spec =

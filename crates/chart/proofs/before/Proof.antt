@@ -41,7 +41,10 @@ joined-requires : tie.Need-joined-requires Inv-loop μ-loop
 joined-requires c κs = tt
 
 add-at : tie.Need-add-at Inv-loop μ-loop
-add-at c = omega (arith, c .before .before .before .before .before .if2 .left, c .before .before .before .loop-test .taken)
+add-at c =
+    let at-loop-test = c .before .before .before in
+    let at-if2 = at-loop-test .before .before in
+    omega (arith, at-if2 .if2 .left, at-loop-test .loop-test .taken)
 
 loop-less : tie.Need-loop-less Inv-loop μ-loop
 loop-less c = omega (arith, c .before .before .before .loop-test .taken)

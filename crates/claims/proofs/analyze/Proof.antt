@@ -30,7 +30,10 @@ overrunning-requires c κs =
     heads-given (families-told _ _ (at-analyze .analyze .ensures) (at-finding .finding .given .1)) (kept .keep-claims .ensures)
 
 returns : tie.Need-returns
-returns c = refused-claims _ _ (c .before .before .before .before .before .analyze .ensures) (c .before .before .before .enum-told .given .1)
+returns c =
+    let at-enum-told = c .before .before .before in
+    let at-analyze = at-enum-told .before .before in
+    refused-claims _ _ (at-analyze .analyze .ensures) (at-enum-told .enum-told .given .1)
 
 returns-2 : tie.Need-returns-2
 returns-2 c =

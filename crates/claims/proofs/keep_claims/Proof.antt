@@ -86,10 +86,14 @@ element-write-sets c =
     omega (arith, test .if1 .taken, few-rules (test .before .before .before .before .pre .0))
 
 add-rule : tie.Need-add-rule Inv-loop μ-loop
-add-rule c = let test = c .before .before .before .before .before .before .before in omega (arith, test .if1 .taken)
+add-rule c =
+    let test = c .before .before .before .before .before .before .before in
+    omega (arith, test .if1 .taken)
 
 loop-less : tie.Need-loop-less Inv-loop μ-loop
-loop-less c = let test = c .before .before .before .before .before .before .before in omega (arith, test .if1 .taken)
+loop-less c =
+    let test = c .before .before .before .before .before .before .before in
+    omega (arith, test .if1 .taken)
 
 loop-again : tie.Need-loop-again Inv-loop μ-loop
 loop-again c =

@@ -48,16 +48,20 @@ loop-less c = omega (arith, c .before .before .loop-test .taken)
 
 loop-again : tie.Need-loop-again Inv-loop μ-loop
 loop-again c =
-    let at = c .before .before .before in
-    let args = at .before .before .before .before .before .args in (
-      omega (arith, c .before .before .loop-test .taken),
-      laws.rows-more (args .set .bits) (args .other .bits) (at .loop .l) (at .loop .inv .1) (c .before .row .ensures) (c .join .ensures),
+    let at-row = c .before in
+    let at-loop-test = at-row .before in
+    let at = at-loop-test .before in
+    let start = at .before .before .before .before .before in
+    let args = start .args in (
+      omega (arith, at-loop-test .loop-test .taken),
+      laws.rows-more (args .set .bits) (args .other .bits) (at .loop .l) (at .loop .inv .1) (at-row .row .ensures) (c .join .ensures),
     )
 
 returns-2 : tie.Need-returns-2 Inv-loop μ-loop
 returns-2 c =
     let at = c .before in
-    let args = at .before .before .before .before .before .args in
+    let start = at .before .before .before .before .before in
+    let args = start .args in
     laws.rows-all (args .set .bits) (args .other .bits) (at .loop .l) (at .loop .rows .bits) (at .loop .inv .0) (c .loop-test .left) (at .loop .inv .1)
 
 pub rows-spec : {M : Type 1} → statement M

@@ -14,7 +14,10 @@ same-length : tie.Need-same-length
 same-length c = search needs
 
 returns : tie.Need-returns
-returns c = claimant-put _ (c .before .before .before .before .before .if1 .taken) (c .before .before .put-labelled .ensures)
+returns c =
+    let at-put-labelled = c .before .before in
+    let at-if1 = at-put-labelled .before .before .before in
+    claimant-put _ (at-if1 .if1 .taken) (at-put-labelled .put-labelled .ensures)
 
 returns-2 : tie.Need-returns-2
 returns-2 c = nobody-put _ _ _ (c .if1 .left)

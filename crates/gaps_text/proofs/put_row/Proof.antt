@@ -22,7 +22,9 @@ unfolding upTo
 loop-holds c = (omega arith, put-none _ _)
 
 put-entry-requires : tie.Need-put-entry-requires Inv-loop μ-loop
-put-entry-requires c κs = c .before .before .before .before .before .pre .0
+put-entry-requires c κs =
+    let start = c .before .before .before .before .before in
+    start .pre .0
 
 add-column : tie.Need-add-column Inv-loop μ-loop
 add-column c = omega arith

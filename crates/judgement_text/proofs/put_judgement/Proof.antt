@@ -43,7 +43,10 @@ same-length c = search needs
 
 returns : tie.Need-returns
 unfolding judgementText
-returns c = rw (c .before .before .before .before .before .answer .given .1) (c .before .before .put-refusal .ensures)
+returns c =
+    let at-put-refusal = c .before .before in
+    let at-answer = at-put-refusal .before .before .before in
+    rw (at-answer .answer .given .1) (at-put-refusal .put-refusal .ensures)
 
 returns-2 : tie.Need-returns-2
 unfolding judgementText

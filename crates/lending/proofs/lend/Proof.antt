@@ -32,7 +32,9 @@ returns c =
     lent-short One _ (found .firsts) (found .follows) (found .entries) (start .args .table .now) short
 
 lay-out-requires : tie.Need-lay-out-requires Inv-loop μ-loop
-lay-out-requires c κs = (lent-given _ (c .before .before .before .before .before .before .before .lent-sizes .ensures), refl)
+lay-out-requires c κs =
+    let at-lent-sizes = c .before .before .before .before .before .before .before in
+    (lent-given _ (at-lent-sizes .lent-sizes .ensures), refl)
 
 loop-holds : tie.Need-loop-holds Inv-loop μ-loop
 loop-holds c = (omega arith, refl, refl)

@@ -69,10 +69,12 @@ loop-less c = omega arith
 
 loop-again : tie.Need-loop-again Inv-loop μ-loop
 loop-again c =
-    let loop = c .before .before .before .before .before .before in (
+    let at-loop-test = c .before .before .before .before .before in
+    let loop = at-loop-test .before in
+    let at-if1 = loop .before in (
       omega arith,
       simp length-set (loop .loop .inv .1),
-      front-next _ _ _ _ _ _ (loop .loop .inv .2) (c .before .before .before .before .before .loop-test .taken) (omega (arith, loop .before .if1 .left)) (c .word .ensures),
+      front-next _ _ _ _ _ _ (loop .loop .inv .2) (at-loop-test .loop-test .taken) (omega (arith, at-if1 .if1 .left)) (c .word .ensures),
     )
 
 same-length : tie.Need-same-length Inv-loop μ-loop

@@ -7,7 +7,8 @@ use Rattle.recognizer.proofs.judge_costliest.Tie as tie
 
 returns : tie.Need-returns
 returns c =
-    let given = c .before .before .before .before .before .args in
+    let start = c .before .before .before .before .before in
+    let given = start .args in
     table-refused (given .words .now) (given .tokens) (given .log .now) (given .table .now) (given .memo .now) (c .if1 .taken)
 
 judge-costliest-words-requires : tie.Need-judge-costliest-words-requires
@@ -30,7 +31,8 @@ returns-2 c =
     let lent = c .before .before in
     let judged = lent .before .before .before .before .before .before .before in
     let long = judged .before .before .before in
-    let given = long .before .before .before .before .before .args in
+    let start = long .before .before .before .before .before in
+    let given = start .args in
     costliest-lent (given .words .now) (given .tokens) (given .log .now) (given .table .now) (given .memo .now) (long .if1 .left)
     (judged .judge-costliest-words .ensures) (lent .lend .ensures)
 

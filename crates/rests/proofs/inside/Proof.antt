@@ -15,7 +15,11 @@ closed-requires : tie.Need-closed-requires
 closed-requires c κs = search needs
 
 returns : tie.Need-returns
-returns c = rw (c .before .end .ensures .is, c .closed .ensures) (first-closed (c .before .before .before .before .before .args .lookahead) (lookup (c .before .before .before .before .before .args .firsts .now)) (c .before .before .before .before .before .args .word) (c .before .before .before .before .before .args .rest) (c .before .before .match .keys2))
+returns c =
+    let at-end = c .before in
+    let at-match = at-end .before in
+    let start = at-match .before .before .before in
+    rw (at-end .end .ensures .is, c .closed .ensures) (first-closed (start .args .lookahead) (lookup (start .args .firsts .now)) (start .args .word) (start .args .rest) (at-match .match .keys2))
 
 symbol-first-requires : tie.Need-symbol-first-requires
 symbol-first-requires c κs = search needs

@@ -15,7 +15,9 @@ first-sets-requires c κs = (c .before .before .before .before .pre, c .before .
 reached-requires : tie.Need-reached-requires
 reached-requires c κs =
     let firsts = c .before .before in
-    (firsts .before .before .before .before .before .pre, firsts .before .before .before .rule-starts .ensures, firsts .first-sets .ensures .0)
+    let at-rule-starts = firsts .before .before .before in
+    let start = at-rule-starts .before .before in
+    (start .pre, at-rule-starts .rule-starts .ensures, firsts .first-sets .ensures .0)
 
 finding-of-requires : tie.Need-finding-of-requires
 finding-of-requires c κs = tt
@@ -32,7 +34,9 @@ enum-told c = c .match .keys2
 follow-sets-requires : tie.Need-follow-sets-requires
 follow-sets-requires c κs =
     let firsts = c .before .before .before .before .before .before .before .before .before .before in
-    (firsts .before .before .before .before .before .pre, firsts .before .before .before .rule-starts .ensures, firsts .first-sets .ensures .0)
+    let at-rule-starts = firsts .before .before .before in
+    let start = at-rule-starts .before .before in
+    (start .pre, at-rule-starts .rule-starts .ensures, firsts .first-sets .ensures .0)
 
 returns : tie.Need-returns
 returns c =

@@ -23,7 +23,10 @@ same-length : tie.Need-same-length
 same-length c = search needs
 
 returns : tie.Need-returns
-returns c = rw (c .before .before .before .before .before .finding .given .1) (c .before .before .put-refusal .ensures)
+returns c =
+    let at-put-refusal = c .before .before in
+    let at-finding = at-put-refusal .before .before .before in
+    rw (at-finding .finding .given .1) (at-put-refusal .put-refusal .ensures)
 
 same-length-2 : tie.Need-same-length-2
 same-length-2 c = search needs

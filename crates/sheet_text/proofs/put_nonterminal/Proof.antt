@@ -42,7 +42,10 @@ same-length c = search needs
 
 returns : tie.Need-returns
 unfolding nonterminalText
-returns c = put-then (c .before .before .before .before .before .before .put-sets .ensures) (c .before .before .put-entries .ensures)
+returns c =
+    let at-put-entries = c .before .before in
+    let at-put-sets = at-put-entries .before .before .before .before in
+    put-then (at-put-sets .put-sets .ensures) (at-put-entries .put-entries .ensures)
 
 pub put-nonterminal-spec : {M : Type 1} → statement M
 put-nonterminal-spec =

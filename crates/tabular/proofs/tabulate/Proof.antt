@@ -13,10 +13,14 @@ write-requires : tie.Need-write-requires
 write-requires c κs = tt
 
 mul-contains : tie.Need-mul-contains
-mul-contains c = omega (arith, c .before .before .before .before .before .before .before .before .before .pre .given .input .short, input-length (c .before .before .before .before .before .before .before .before .before .args .events .now))
+mul-contains c =
+    let start = c .before .before .before .before .before .before .before .before .before in
+    omega (arith, start .pre .given .input .short, input-length (start .args .events .now))
 
 array-read-contains : tie.Need-array-read-contains
-array-read-contains c = omega (arith, c .before .before .before .before .before .before .before .before .before .pre .given .input .short, input-length (c .before .before .before .before .before .before .before .before .before .args .events .now))
+array-read-contains c =
+    let start = c .before .before .before .before .before .before .before .before .before in
+    omega (arith, start .pre .given .input .short, input-length (start .args .events .now))
 
 contains-requires : tie.Need-contains-requires
 contains-requires c κs = tt

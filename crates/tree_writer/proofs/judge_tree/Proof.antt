@@ -6,13 +6,22 @@ use Rattle.tree_writer.proofs.judge_tree.Statement.{statement}
 use Rattle.tree_writer.proofs.judge_tree.Tie as tie
 
 returns : tie.Need-returns
-returns c = short-table (c .before .before .before .before .before .before .args .words .now) (inputOf (c .before .before .before .before .before .before .args .events .now)) (c .before .before .before .before .before .before .args .table .now) (c .before .before .before .before .before .before .args .memo .now) (c .before .before .before .before .before .before .args .tree .now) (c .if1 .taken)
+returns c =
+    let start = c .before .before .before .before .before .before in
+    short-table (start .args .words .now) (inputOf (start .args .events .now)) (start .args .table .now) (start .args .memo .now) (start .args .tree .now) (c .if1 .taken)
 
 returns-2 : tie.Need-returns-2
-returns-2 c = short-memo (c .before .before .before .before .before .before .before .args .words .now) (inputOf (c .before .before .before .before .before .before .before .args .events .now)) (c .before .before .before .before .before .before .before .args .table .now) (c .before .before .before .before .before .before .before .args .memo .now) (c .before .before .before .before .before .before .before .args .tree .now) (c .before .if1 .left) (c .if2 .taken)
+returns-2 c =
+    let at-if1 = c .before in
+    let start = at-if1 .before .before .before .before .before .before in
+    short-memo (start .args .words .now) (inputOf (start .args .events .now)) (start .args .table .now) (start .args .memo .now) (start .args .tree .now) (at-if1 .if1 .left) (c .if2 .taken)
 
 returns-3 : tie.Need-returns-3
-returns-3 c = short-tree (c .before .before .before .before .before .before .before .before .args .words .now) (inputOf (c .before .before .before .before .before .before .before .before .args .events .now)) (c .before .before .before .before .before .before .before .before .args .table .now) (c .before .before .before .before .before .before .before .before .args .memo .now) (c .before .before .before .before .before .before .before .before .args .tree .now) (c .before .before .if1 .left) (c .before .if2 .left) (c .if3 .taken)
+returns-3 c =
+    let at-if2 = c .before in
+    let at-if1 = at-if2 .before in
+    let start = at-if1 .before .before .before .before .before .before in
+    short-tree (start .args .words .now) (inputOf (start .args .events .now)) (start .args .table .now) (start .args .memo .now) (start .args .tree .now) (at-if1 .if1 .left) (at-if2 .if2 .left) (c .if3 .taken)
 
 judge-requires : tie.Need-judge-requires
 judge-requires c κs = search needs
@@ -27,12 +36,24 @@ same-length-2 : tie.Need-same-length-2
 same-length-2 c = search needs
 
 returns-4 : tie.Need-returns-4
-returns-4 c = shows-none (c .before .before .before .before .before .before .before .before .before .before .before .before .before .before .before .before .args .tree .now) (c .before .before .before .before .before .before .before .before .before .before .if1 .left) (c .before .before .before .before .before .before .before .before .before .if2 .left) (c .before .before .before .before .before .before .before .before .if3 .left) (c .before .before .before .before .before .judge .ensures) (not-accepted _ (c .match .keys2))
+returns-4 c =
+    let at-judge = c .before .before .before .before .before in
+    let at-if3 = at-judge .before .before .before in
+    let at-if2 = at-if3 .before in
+    let at-if1 = at-if2 .before in
+    let start = at-if1 .before .before .before .before .before .before in
+    shows-none (start .args .tree .now) (at-if1 .if1 .left) (at-if2 .if2 .left) (at-if3 .if3 .left) (at-judge .judge .ensures) (not-accepted _ (c .match .keys2))
 
 write-tree-requires : tie.Need-write-tree-requires
 write-tree-requires c κs =
-    let a = is-accepted _ (c .before .before .before .before .match .keys1) in
-    show-given (c .before .before .before .before .before .before .before .before .before .before .before .before .before .before .before .before .before .before .before .before .args .tree .now) (c .before .before .before .before .before .before .before .before .before .before .before .before .before .before .if1 .left) (c .before .before .before .before .before .before .before .before .before .before .before .before .before .if2 .left) (c .before .before .before .before .before .before .before .before .before .before .before .before .if3 .left) (c .before .before .before .before .before .before .before .before .before .judge .ensures) (a .0) (a .1)
+    let at-match = c .before .before .before .before in
+    let at-judge = at-match .before .before .before .before .before in
+    let at-if3 = at-judge .before .before .before in
+    let at-if2 = at-if3 .before in
+    let at-if1 = at-if2 .before in
+    let start = at-if1 .before .before .before .before .before .before in
+    let a = is-accepted _ (at-match .match .keys1) in
+    show-given (start .args .tree .now) (at-if1 .if1 .left) (at-if2 .if2 .left) (at-if3 .if3 .left) (at-judge .judge .ensures) (a .0) (a .1)
 
 same-length-3 : tie.Need-same-length-3
 same-length-3 c = search needs
@@ -45,8 +66,15 @@ same-length-5 c = search needs
 
 returns-5 : tie.Need-returns-5
 returns-5 c =
-    let a = is-accepted _ (c .before .before .before .before .before .before .before .match .keys1) in
-    shows-tree (c .before .before .before .before .before .before .before .before .before .before .before .before .before .before .before .before .before .before .before .before .before .before .before .args .tree .now) (c .before .before .before .before .before .before .before .before .before .before .before .before .before .before .before .before .before .if1 .left) (c .before .before .before .before .before .before .before .before .before .before .before .before .before .before .before .before .if2 .left) (c .before .before .before .before .before .before .before .before .before .before .before .before .before .before .before .if3 .left) (c .before .before .before .before .before .before .before .before .before .before .before .before .judge .ensures) (a .0) (a .1) (c .before .before .write-tree .ensures)
+    let at-write-tree = c .before .before in
+    let at-match = at-write-tree .before .before .before .before .before in
+    let at-judge = at-match .before .before .before .before .before in
+    let at-if3 = at-judge .before .before .before in
+    let at-if2 = at-if3 .before in
+    let at-if1 = at-if2 .before in
+    let start = at-if1 .before .before .before .before .before .before in
+    let a = is-accepted _ (at-match .match .keys1) in
+    shows-tree (start .args .tree .now) (at-if1 .if1 .left) (at-if2 .if2 .left) (at-if3 .if3 .left) (at-judge .judge .ensures) (a .0) (a .1) (at-write-tree .write-tree .ensures)
 
 pub judge-tree-spec : {M : Type 1} → statement M
 judge-tree-spec =

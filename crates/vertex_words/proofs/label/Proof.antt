@@ -30,13 +30,15 @@ add-row c = search needs
 
 mul-row-2 : tie.Need-mul-row-2
 mul-row-2 c =
-    let a = c .before .before .before .before .before .before .before .args in
+    let start = c .before .before .before .before .before .before .before in
+    let a = start .args in
     let few : a .nonterminal ≤ 255 = search needs in
     omega (arith, mul-le-mul-right (a .sizes .terminals + 1) few)
 
 add-row-2 : tie.Need-add-row-2
 add-row-2 c =
-    let a = c .before .before .before .before .before .before .before .args in
+    let start = c .before .before .before .before .before .before .before in
+    let a = start .args in
     let few : a .nonterminal ≤ 255 = search needs in
     omega (arith, mul-le-mul-right (a .sizes .terminals + 1) few)
 
@@ -45,7 +47,8 @@ cast-word-at c = search needs
 
 add-word-at : tie.Need-add-word-at
 add-word-at c =
-    let a = c .before .before .before .before .before .before .before .args in
+    let start = c .before .before .before .before .before .before .before in
+    let a = start .args in
     let few : a .nonterminal ≤ 255 = search needs in
     omega (arith, mul-le-mul-right (a .sizes .terminals + 1) few)
 
@@ -57,15 +60,19 @@ add-entry-at c = search needs
 
 mul-entry-at : tie.Need-mul-entry-at
 mul-entry-at c =
-    let a = c .before .before .before .before .before .before .before .before .args in
+    let at-if1 = c .before .before .before .before in
+    let start = at-if1 .before .before .before .before in
+    let a = start .args in
     let few : a .nonterminal ≤ 255 = search needs in
-    omega (arith, mul-le-mul-right (length (a .events .now) + 1) few, c .before .before .before .before .if1 .left)
+    omega (arith, mul-le-mul-right (length (a .events .now) + 1) few, at-if1 .if1 .left)
 
 add-entry-at-2 : tie.Need-add-entry-at-2
 add-entry-at-2 c =
-    let a = c .before .before .before .before .before .before .before .before .args in
+    let at-if1 = c .before .before .before .before in
+    let start = at-if1 .before .before .before .before in
+    let a = start .args in
     let few : a .nonterminal ≤ 255 = search needs in
-    omega (arith, mul-le-mul-right (length (a .events .now) + 1) few, c .before .before .before .before .if1 .left)
+    omega (arith, mul-le-mul-right (length (a .events .now) + 1) few, at-if1 .if1 .left)
 
 entry-at-requires : tie.Need-entry-at-requires
 entry-at-requires c κs = search needs

@@ -36,7 +36,11 @@ mul-decode : tie.Need-mul-decode Inv-loop μ-loop
 mul-decode c = omega (arith, c .loop-test .taken, c .before .loop .inv .1, c .before .before .before .before .if1 .left)
 
 shared-slice-read-decode : tie.Need-shared-slice-read-decode Inv-loop μ-loop
-shared-slice-read-decode c = omega (arith, c .before .loop-test .taken, c .before .before .loop .inv .1, c .before .before .before .before .before .if1 .left)
+shared-slice-read-decode c =
+    let at-loop-test = c .before in
+    let at-loop = at-loop-test .before in
+    let at-if1 = at-loop .before .before .before in
+    omega (arith, at-loop-test .loop-test .taken, at-loop .loop .inv .1, at-if1 .if1 .left)
 
 decode-requires : tie.Need-decode-requires Inv-loop μ-loop
 decode-requires c κs = tt

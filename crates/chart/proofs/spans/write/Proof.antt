@@ -44,7 +44,9 @@ add-at c =
     omega (arith, at-room (c .before .before .loop .inv) (room .before .if1 .left) (room .if2 .left) (c .before .loop-test .taken))
 
 add-end : tie.Need-add-end Inv-loop μ-loop
-add-end c = omega (arith, c .if3 .taken, c .before .before .before .before .before .if1 .left)
+add-end c =
+    let at-if1 = c .before .before .before .before .before in
+    omega (arith, c .if3 .taken, at-if1 .if1 .left)
 
 loop-less : tie.Need-loop-less Inv-loop μ-loop
 loop-less c =
@@ -58,7 +60,10 @@ loop-again c =
     row-on (c .before .before .before .loop .inv) (room .before .if1 .left) (room .if2 .left) test (c .before .word-at .ensures) refl (c .if3 .taken)
 
 add-start : tie.Need-add-start Inv-loop μ-loop
-add-start c = omega (arith, c .before .before .loop-test .taken, c .before .before .before .before .before .if1 .left)
+add-start c =
+    let at-loop-test = c .before .before in
+    let at-if1 = at-loop-test .before .before .before in
+    omega (arith, at-loop-test .loop-test .taken, at-if1 .if1 .left)
 
 loop-less-2 : tie.Need-loop-less-2 Inv-loop μ-loop
 loop-less-2 c =

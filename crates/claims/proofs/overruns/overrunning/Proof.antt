@@ -100,7 +100,9 @@ array-write-overruns c =
     omega (arith, head-few (loop .before .before .pre) (test .loop-test .taken) (loop .loop .inv .0))
 
 loop-less : tie.Need-loop-less Inv-loop μ-loop
-loop-less c = let test = c .before .before .before .before .before .before .before in omega (arith, test .loop-test .taken)
+loop-less c =
+    let test = c .before .before .before .before .before .before .before in
+    omega (arith, test .loop-test .taken)
 
 loop-again : tie.Need-loop-again Inv-loop μ-loop
 loop-again c =

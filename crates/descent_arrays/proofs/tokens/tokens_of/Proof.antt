@@ -48,13 +48,22 @@ word-of-requires-2 : tie.Need-word-of-requires-2 Inv-loop μ-loop
 word-of-requires-2 c κs = tt
 
 mul-tokens : tie.Need-mul-tokens Inv-loop μ-loop
-mul-tokens c = omega (arith, c .before .before .before .before .loop-test .taken, c .before .before .before .before .before .before .fitting .ensures)
+mul-tokens c =
+    let at-loop-test = c .before .before .before .before in
+    let at-fitting = at-loop-test .before .before in
+    omega (arith, at-loop-test .loop-test .taken, at-fitting .fitting .ensures)
 
 array-write-tokens : tie.Need-array-write-tokens Inv-loop μ-loop
-array-write-tokens c = omega (arith, c .before .before .before .before .loop-test .taken, c .before .before .before .before .before .before .fitting .ensures)
+array-write-tokens c =
+    let at-loop-test = c .before .before .before .before in
+    let at-fitting = at-loop-test .before .before in
+    omega (arith, at-loop-test .loop-test .taken, at-fitting .fitting .ensures)
 
 add-place : tie.Need-add-place Inv-loop μ-loop
-add-place c = omega (arith, c .before .before .before .before .loop-test .taken, c .before .before .before .before .before .before .fitting .ensures)
+add-place c =
+    let at-loop-test = c .before .before .before .before in
+    let at-fitting = at-loop-test .before .before in
+    omega (arith, at-loop-test .loop-test .taken, at-fitting .fitting .ensures)
 
 loop-less : tie.Need-loop-less Inv-loop μ-loop
 loop-less c = omega (arith, c .before .before .before .before .loop-test .taken)

@@ -20,7 +20,9 @@ same-length-3 : tie.Need-same-length-3
 same-length-3 c = search needs
 
 returns : tie.Need-returns
-returns c = costliest-exported (c .before .before .before .before .before .before .before .judge-costliest .ensures) (c .pack .ensures)
+returns c =
+    let at-judge-costliest = c .before .before .before .before .before .before .before in
+    costliest-exported (at-judge-costliest .judge-costliest .ensures) (c .pack .ensures)
 
 pub vinegarspit-costliest-spec : {M : Type 1} → statement M
 vinegarspit-costliest-spec =

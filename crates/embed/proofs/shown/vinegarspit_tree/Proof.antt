@@ -10,7 +10,9 @@ judge-tree-requires : tie.Need-judge-tree-requires
 judge-tree-requires c κs = search needs
 
 cast-written : tie.Need-cast-written
-cast-written c = omega (arith, c .before .before .before .before .before .before .before .judge-tree .ensures .few)
+cast-written c =
+    let at-judge-tree = c .before .before .before .before .before .before .before in
+    omega (arith, at-judge-tree .judge-tree .ensures .few)
 
 pack-requires : tie.Need-pack-requires
 pack-requires c κs = search needs
@@ -25,7 +27,9 @@ same-length-3 : tie.Need-same-length-3
 same-length-3 c = search needs
 
 returns : tie.Need-returns
-returns c = tree-exported (c .before .before .before .before .before .before .before .before .judge-tree .ensures) refl (c .pack .ensures)
+returns c =
+    let at-judge-tree = c .before .before .before .before .before .before .before .before in
+    tree-exported (at-judge-tree .judge-tree .ensures) refl (c .pack .ensures)
 
 pub vinegarspit-tree-spec : {M : Type 1} → statement M
 vinegarspit-tree-spec =

@@ -119,13 +119,21 @@ call-returns : (t : ℕ) → call-lts.Need-returns (call-claims t) (call-at t) c
 call-returns t c = λ choice g. call-known g (c .before .before .entry-of .ensures) (c .if1 .taken)
 
 call-chosen-requires : (t : ℕ) → call-lts.Need-chosen-requires (call-claims t) (call-at t) call.Post call-Inv-loop call-μ-loop
-call-chosen-requires t c κs = chosen-given (c .before .before .before .before .before .pre .1 .1)
+call-chosen-requires t c κs =
+    let start = c .before .before .before .before .before in
+    chosen-given (start .pre .1 .1)
 
 call-mul-memo : (t : ℕ) → call-lts.Need-mul-memo (call-claims t) (call-at t) call.Post call-Inv-loop call-μ-loop
-call-mul-memo t c = omega (arith, index-low (c .before .before .before .before .before .before .before .pre .1 .1) (c .before .before .before .before .entry-of .ensures))
+call-mul-memo t c =
+    let at-entry-of = c .before .before .before .before in
+    let start = at-entry-of .before .before .before in
+    omega (arith, index-low (start .pre .1 .1) (at-entry-of .entry-of .ensures))
 
 call-slice-write-memo : (t : ℕ) → call-lts.Need-slice-write-memo (call-claims t) (call-at t) call.Post call-Inv-loop call-μ-loop
-call-slice-write-memo t c = index-low (c .before .before .before .before .before .before .before .pre .1 .1) (c .before .before .before .before .entry-of .ensures)
+call-slice-write-memo t c =
+    let at-entry-of = c .before .before .before .before in
+    let start = at-entry-of .before .before .before in
+    index-low (start .pre .1 .1) (at-entry-of .entry-of .ensures)
 
 call-same-length : (t : ℕ) → call-lts.Need-same-length (call-claims t) (call-at t) call.Post call-Inv-loop call-μ-loop
 call-same-length t c = simp length-set
@@ -140,7 +148,9 @@ call-sign-at-requires t c κs = tt
 
 call-first-agreement-requires : (t : ℕ)
     → call-lts.Need-first-agreement-requires (call-claims t) (call-at t) call.Post call-Inv-loop call-μ-loop
-call-first-agreement-requires t c κs = record { named = entry-given (c .before .before .before .before .before .before .before .before .pre .1 .1) .named }
+call-first-agreement-requires t c κs =
+    let start = c .before .before .before .before .before .before .before .before in
+    record { named = entry-given (start .pre .1 .1) .named }
 
 call-loop-holds : (t : ℕ) → call-lts.Need-loop-holds (call-claims t) (call-at t) call.Post call-Inv-loop call-μ-loop
 call-loop-holds t c =
@@ -181,7 +191,9 @@ call-sign-at-requires-2 t c κs = tt
 
 call-loop-less : (t : ℕ) → call-lts.Need-loop-less (call-claims t) (call-at t) call.Post call-Inv-loop call-μ-loop
 call-loop-less t c =
-    let at-then = c .before .before .before .before .before .before .before in
+    let at-body-end = c .before in
+    let at-run-body = at-body-end .before .before .before .before in
+    let at-then = at-run-body .before .before in
     let at-goes-on = at-then .before in
     let at-loop = at-goes-on .before in
     let start = at-loop .before .before .before .before .before .before .before .before .before .before in
@@ -190,8 +202,8 @@ call-loop-less t c =
     omega (
       arith,
       rule-conjunct (start .pre .1 .1) rule goes,
-      c .before .before .before .before .before .run-body .ensures _ (rule-run (start .pre .1 .1) rule goes) .skipped .on,
-      c .before .body-end .ensures,
+      at-run-body .run-body .ensures _ (rule-run (start .pre .1 .1) rule goes) .skipped .on,
+      at-body-end .body-end .ensures,
     )
 
 call-loop-again : (t : ℕ) → call-lts.Need-loop-again (call-claims t) (call-at t) call.Post call-Inv-loop call-μ-loop
@@ -215,14 +227,18 @@ call-code-requires : (t : ℕ) → call-lts.Need-code-requires (call-claims t) (
 call-code-requires t c κs = tt
 
 call-mul-memo-2 : (t : ℕ) → call-lts.Need-mul-memo-2 (call-claims t) (call-at t) call.Post call-Inv-loop call-μ-loop
-call-mul-memo-2 t c = omega (arith, index-low (c .before .before .before .before .before .before .before .before .before .before .before .before .before .before .pre .1 .1) (c .before .before .before .before .before .before .before .before .before .before .before .entry-of .ensures))
+call-mul-memo-2 t c =
+    let at-entry-of = c .before .before .before .before .before .before .before .before .before .before .before in
+    let start = at-entry-of .before .before .before in
+    omega (arith, index-low (start .pre .1 .1) (at-entry-of .entry-of .ensures))
 
 call-slice-write-memo-2 : (t : ℕ) → call-lts.Need-slice-write-memo-2 (call-claims t) (call-at t) call.Post call-Inv-loop call-μ-loop
 call-slice-write-memo-2 t c =
     let at-loop = c .before .before .before .before in
-    let start = at-loop .before .before .before .before .before .before .before .before .before .before in
+    let at-entry-of = at-loop .before .before .before .before .before .before .before in
+    let start = at-entry-of .before .before .before in
     let rule = at-loop .loop .inv _ (start .pre .1 .1) in
-    omega (arith, index-low (c .before .before .before .before .before .before .before .before .before .before .before .before .before .before .pre .1 .1) (c .before .before .before .before .before .before .before .before .before .before .before .entry-of .ensures), memo-same (rule .calling .sound) (start .pre .1 .1 .given .sound))
+    omega (arith, index-low (start .pre .1 .1) (at-entry-of .entry-of .ensures), memo-same (rule .calling .sound) (start .pre .1 .1 .given .sound))
 
 call-same-length-2 : (t : ℕ) → call-lts.Need-same-length-2 (call-claims t) (call-at t) call.Post call-Inv-loop call-μ-loop
 call-same-length-2 t c =
@@ -399,10 +415,14 @@ run-body-loop-less t c = omega arith
 
 run-body-loop-again : (t : ℕ) → run-body-lts.Need-loop-again (run-body-claims t) (run-body-at t) run-body.Post run-body-Inv-loop run-body-μ-loop
 run-body-loop-again t c =
+    let at-word = c .before .before in
+    let at-decode = at-word .before .before in
+    let at-loop-test = at-decode .before .before in
+    let at-loop = at-loop-test .before in
     λ choice given.
-    let run = c .before .before .before .before .before .before .before .loop .inv choice given in
-    let low = c .before .before .before .before .before .before .loop-test .taken in
-    let word = sym (c .before .before .before .before .decode .ensures) ∙ c .before .before .word .given .1 in
+    let run = at-loop .loop .inv choice given in
+    let low = at-loop-test .loop-test .taken in
+    let word = sym (at-decode .decode .ensures) ∙ at-word .word .given .1 in
     ⊎-elim
     (λ w.
     running-as (w .5) (w .6)

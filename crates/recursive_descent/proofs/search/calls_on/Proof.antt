@@ -10,7 +10,9 @@ sub-last : tie.Need-sub-last
 sub-last c = omega (arith, some-terminal (c .before .before .before .before .pre))
 
 cast-write-input : tie.Need-cast-write-input
-cast-write-input c = omega (arith, few-terminals (c .before .before .before .before .before .pre))
+cast-write-input c =
+    let start = c .before .before .before .before .before in
+    omega (arith, few-terminals (start .pre))
 
 write-input-requires : tie.Need-write-input-requires
 write-input-requires c κs = tt

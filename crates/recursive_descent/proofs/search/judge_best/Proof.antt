@@ -22,10 +22,14 @@ add-needed : tie.Need-add-needed
 add-needed c = search needs
 
 mul-needed : tie.Need-mul-needed
-mul-needed c = omega (arith, entries-few (c .before .before .before .before .before .before .pre))
+mul-needed c =
+    let start = c .before .before .before .before .before .before in
+    omega (arith, entries-few (start .pre))
 
 slice-relend-prefix-judge-costliest : tie.Need-slice-relend-prefix-judge-costliest
-slice-relend-prefix-judge-costliest c = entries-room (c .before .before .before .before .before .before .before .before .pre)
+slice-relend-prefix-judge-costliest c =
+    let start = c .before .before .before .before .before .before .before .before in
+    entries-room (start .pre)
 
 slice-aggregate-judge-costliest : tie.Need-slice-aggregate-judge-costliest
 slice-aggregate-judge-costliest c =
@@ -36,7 +40,8 @@ judge-costliest-requires : tie.Need-judge-costliest-requires
 judge-costliest-requires c κs =
     let made = c .before .before .before in
     let counted = made .before in
-    trial-given (counted .before .before .before .before .before .pre) (counted .count .ensures) (made .choices-of .ensures)
+    let start = counted .before .before .before .before .before in
+    trial-given (start .pre) (counted .count .ensures) (made .choices-of .ensures)
 
 same-length : tie.Need-same-length
 same-length c = search needs

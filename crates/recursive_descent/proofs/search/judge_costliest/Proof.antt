@@ -29,10 +29,14 @@ costlier-requires : tie.Need-costlier-requires Inv-loop μ-loop
 costlier-requires c κs = tt
 
 add-number : tie.Need-add-number Inv-loop μ-loop
-add-number c = omega (arith, c .before .before .before .before .before .before .before .before .loop-test .taken)
+add-number c =
+    let at-loop-test = c .before .before .before .before .before .before .before .before in
+    omega (arith, at-loop-test .loop-test .taken)
 
 loop-less : tie.Need-loop-less Inv-loop μ-loop
-loop-less c = omega (arith, c .before .before .before .before .before .before .before .before .loop-test .taken)
+loop-less c =
+    let at-loop-test = c .before .before .before .before .before .before .before .before in
+    omega (arith, at-loop-test .loop-test .taken)
 
 loop-again : tie.Need-loop-again Inv-loop μ-loop
 loop-again c =
@@ -45,10 +49,14 @@ loop-again c =
     (written .events .given) (kept .memo .given) (c .costlier .ensures)
 
 sub-last : tie.Need-sub-last Inv-loop μ-loop
-sub-last c = omega (arith, some-terminal (c .before .before .before .before .before .before .before .pre))
+sub-last c =
+    let start = c .before .before .before .before .before .before .before in
+    omega (arith, some-terminal (start .pre))
 
 cast-write-input : tie.Need-cast-write-input Inv-loop μ-loop
-cast-write-input c = omega (arith, few-terminals (c .before .before .before .before .before .before .before .before .pre))
+cast-write-input c =
+    let start = c .before .before .before .before .before .before .before .before in
+    omega (arith, few-terminals (start .pre))
 
 write-input-requires : tie.Need-write-input-requires Inv-loop μ-loop
 write-input-requires c κs = tt
@@ -63,7 +71,8 @@ judge-chosen-requires c κs =
 same-length : tie.Need-same-length Inv-loop μ-loop
 same-length c =
     let rewritten = c .before .before .before .before .before .before in
-    rewritten .events2 .given ∙ rewritten .before .before .before .before .before .loop .inv .same-length
+    let at-loop = rewritten .before .before .before .before .before in
+    rewritten .events2 .given ∙ at-loop .loop .inv .same-length
 
 same-length-2 : tie.Need-same-length-2 Inv-loop μ-loop
 same-length-2 c =

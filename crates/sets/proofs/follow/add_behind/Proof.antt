@@ -20,10 +20,17 @@ returns-2 : tie.Need-returns-2
 returns-2 c = rw (c .before .before .before .word .given .1, c .enum-told .given .1) (refl, refl)
 
 add-requires : tie.Need-add-requires
-add-requires c κs = rw (c .before .before .before .before .before .word .given .1, c .before .before .symbol .given .1) at (c .before .before .before .before .before .before .before .pre)
+add-requires c κs =
+    let at-symbol = c .before .before in
+    let at-word = at-symbol .before .before .before in
+    let start = at-word .before .before in
+    rw (at-word .word .given .1, at-symbol .symbol .given .1) at (start .pre)
 
 returns-3 : tie.Need-returns-3
-returns-3 c = rw (c .before .before .before .before .before .before .word .given .1, c .before .before .before .symbol .given .1) (c .add .ensures)
+returns-3 c =
+    let at-symbol = c .before .before .before in
+    let at-word = at-symbol .before .before .before in
+    rw (at-word .word .given .1, at-symbol .symbol .given .1) (c .add .ensures)
 
 pub add-behind-spec : {M : Type 1} → statement M
 add-behind-spec =

@@ -14,16 +14,22 @@ add-requires c κs = omega arith
 
 follow-rules-requires : tie.Need-follow-rules-requires
 follow-rules-requires c κs =
-    let given = c .before .before .before .before .before .pre in
-    (record { read = given .0 .read; begins = given .0 .begins; long = ap length (c .before .add .ensures .list) ∙ (simp length-set) ∙ given .0 .long }, given .1)
+    let at-add = c .before in
+    let start = at-add .before .before .before .before in
+    let given = start .pre in
+    (record { read = given .0 .read; begins = given .0 .begins; long = ap length (at-add .add .ensures .list) ∙ (simp length-set) ∙ given .0 .long }, given .1)
 
 either-requires : tie.Need-either-requires
 either-requires c κs = tt
 
 returns : tie.Need-returns
 returns c =
-    let given = c .before .before .before .before .before .before .before .pre in
-    rw (c .either .ensures) (follow-passes _ _ _ (omega (arith, given .0 .long)) (rw (c .before .before .before .before .end .ensures .is) at (c .before .before .before .add .ensures)) (c .before .follow-rules .ensures))
+    let at-follow-rules = c .before in
+    let at-add = at-follow-rules .before .before in
+    let at-end = at-add .before in
+    let start = at-end .before .before .before in
+    let given = start .pre in
+    rw (c .either .ensures) (follow-passes _ _ _ (omega (arith, given .0 .long)) (rw (at-end .end .ensures .is) at (at-add .add .ensures)) (at-follow-rules .follow-rules .ensures))
 
 pub follow-pass-spec : {M : Type 1} → statement M
 follow-pass-spec =

@@ -36,16 +36,27 @@ sub-at : tie.Need-sub-at Inv-loop μ-loop
 sub-at c = omega arith
 
 mul-decode : tie.Need-mul-decode Inv-loop μ-loop
-mul-decode c = omega (arith, c .before .loop .inv .high, c .before .before .before .before .before .before .pre .0 .within)
+mul-decode c =
+    let at-loop = c .before in
+    let start = at-loop .before .before .before .before .before in
+    omega (arith, at-loop .loop .inv .high, start .pre .0 .within)
 
 shared-slice-read-decode : tie.Need-shared-slice-read-decode Inv-loop μ-loop
-shared-slice-read-decode c = omega (arith, c .before .before .loop .inv .high, c .before .before .before .before .before .before .before .pre .0 .within)
+shared-slice-read-decode c =
+    let at-loop = c .before .before in
+    let start = at-loop .before .before .before .before .before in
+    omega (arith, at-loop .loop .inv .high, start .pre .0 .within)
 
 decode-requires : tie.Need-decode-requires Inv-loop μ-loop
 decode-requires c κs = tt
 
 add-behind-requires : tie.Need-add-behind-requires Inv-loop μ-loop
-add-behind-requires c κs = word-here (c .before .before .before .before .before .before .before .before .before .pre .0) _ (c .before .before .before .before .loop .inv) (c .before .before .before .loop-test .taken) (c .before .decode .ensures)
+add-behind-requires c κs =
+    let at-decode = c .before in
+    let at-loop-test = at-decode .before .before in
+    let at-loop = at-loop-test .before in
+    let start = at-loop .before .before .before .before .before in
+    word-here (start .pre .0) _ (at-loop .loop .inv) (at-loop-test .loop-test .taken) (at-decode .decode .ensures)
 
 either-requires : tie.Need-either-requires Inv-loop μ-loop
 either-requires c κs = tt
@@ -54,18 +65,29 @@ tail-before-requires : tie.Need-tail-before-requires Inv-loop μ-loop
 tail-before-requires c κs = tt
 
 loop-less : tie.Need-loop-less Inv-loop μ-loop
-loop-less c = omega (arith, c .before .before .before .before .before .before .loop-test .taken)
+loop-less c =
+    let at-loop-test = c .before .before .before .before .before .before in
+    omega (arith, at-loop-test .loop-test .taken)
 
 loop-again : tie.Need-loop-again Inv-loop μ-loop
 loop-again c =
-    let behind = c .before .before .before .before .before .before .before .before in
-    let start = behind .before .before .before .before in
-    follow-turn (start .pre .0) _ (c .before .before .before .before .before .before .before .loop .inv) (c .before .before .before .before .before .before .loop-test .taken) (c .before .before .before .before .decode .ensures) _ (start .pre .3)
-    (c .before .before .add-behind .ensures) (c .before .either .ensures) (behind-body (start .args .lookahead) (behind .before .end .ensures) (behind .concat .ensures))
+    let at-either = c .before in
+    let at-add-behind = at-either .before in
+    let at-decode = at-add-behind .before .before in
+    let at-loop-test = at-decode .before .before in
+    let at-loop = at-loop-test .before in
+    let behind = at-loop .before in
+    let at-end = behind .before in
+    let start = at-end .before .before .before in
+    follow-turn (start .pre .0) _ (at-loop .loop .inv) (at-loop-test .loop-test .taken) (at-decode .decode .ensures) _ (start .pre .3)
+    (at-add-behind .add-behind .ensures) (at-either .either .ensures) (behind-body (start .args .lookahead) (at-end .end .ensures) (behind .concat .ensures))
     (rw (lookup-at (start .args .firsts .now) (start .pre .2)) at (c .tail-before .ensures))
 
 returns : tie.Need-returns Inv-loop μ-loop
-returns c = follow-end (c .before .before .before .before .before .before .pre .0) (c .before .loop .inv) (c .loop-test .left)
+returns c =
+    let at-loop = c .before in
+    let start = at-loop .before .before .before .before .before in
+    follow-end (start .pre .0) (at-loop .loop .inv) (c .loop-test .left)
 
 pub follow-rule-spec : {M : Type 1} → statement M
 follow-rule-spec =

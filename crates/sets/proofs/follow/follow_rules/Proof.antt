@@ -23,19 +23,37 @@ turn-requires : tie.Need-turn-requires Inv-loop μ-loop
 turn-requires c κs = c .if1 .taken
 
 mul-start : tie.Need-mul-start Inv-loop μ-loop
-mul-start c = omega (arith, its-turn (c .before .before .before .before .before .pre .0) (c .before .before .before .before .before .args .forward) (c .before .if1 .taken) (c .turn .ensures), well-read _ _ (c .before .before .before .before .before .pre .0 .read) .fewRules)
+mul-start c =
+    let at-if1 = c .before in
+    let start = at-if1 .before .before .before .before in
+    omega (arith, its-turn (start .pre .0) (start .args .forward) (at-if1 .if1 .taken) (c .turn .ensures), well-read _ _ (start .pre .0 .read) .fewRules)
 
 element-copy-out-start : tie.Need-element-copy-out-start Inv-loop μ-loop
-element-copy-out-start c = omega (arith, its-turn (c .before .before .before .before .before .pre .0) (c .before .before .before .before .before .args .forward) (c .before .if1 .taken) (c .turn .ensures), well-read _ _ (c .before .before .before .before .before .pre .0 .read) .fewRules)
+element-copy-out-start c =
+    let at-if1 = c .before in
+    let start = at-if1 .before .before .before .before in
+    omega (arith, its-turn (start .pre .0) (start .args .forward) (at-if1 .if1 .taken) (c .turn .ensures), well-read _ _ (start .pre .0 .read) .fewRules)
 
 end-of-requires : tie.Need-end-of-requires Inv-loop μ-loop
-end-of-requires c κs = (c .before .before .before .before .before .before .pre .0 .read, c .before .before .before .before .before .before .pre .0 .begins, its-turn (c .before .before .before .before .before .before .pre .0) (c .before .before .before .before .before .before .args .forward) (c .before .before .if1 .taken) (c .before .turn .ensures))
+end-of-requires c κs =
+    let at-turn = c .before in
+    let at-if1 = at-turn .before in
+    let start = at-if1 .before .before .before .before in
+    (start .pre .0 .read, start .pre .0 .begins, its-turn (start .pre .0) (start .args .forward) (at-if1 .if1 .taken) (at-turn .turn .ensures))
 
 mul-decode : tie.Need-mul-decode Inv-loop μ-loop
-mul-decode c = omega (arith, its-start (c .before .before .before .before .before .before .before .pre .0) (c .before .before .before .before .before .before .before .args .forward) (c .before .before .before .if1 .taken) (c .before .before .turn .ensures))
+mul-decode c =
+    let at-turn = c .before .before in
+    let at-if1 = at-turn .before in
+    let start = at-if1 .before .before .before .before in
+    omega (arith, its-start (start .pre .0) (start .args .forward) (at-if1 .if1 .taken) (at-turn .turn .ensures))
 
 shared-slice-read-decode : tie.Need-shared-slice-read-decode Inv-loop μ-loop
-shared-slice-read-decode c = omega (arith, its-start (c .before .before .before .before .before .before .before .before .pre .0) (c .before .before .before .before .before .before .before .before .args .forward) (c .before .before .before .before .if1 .taken) (c .before .before .before .turn .ensures))
+shared-slice-read-decode c =
+    let at-turn = c .before .before .before in
+    let at-if1 = at-turn .before in
+    let start = at-if1 .before .before .before .before in
+    omega (arith, its-start (start .pre .0) (start .args .forward) (at-if1 .if1 .taken) (at-turn .turn .ensures))
 
 decode-requires : tie.Need-decode-requires Inv-loop μ-loop
 decode-requires c κs = tt
@@ -45,26 +63,43 @@ head-of-requires c κs = tt
 
 follow-rule-requires : tie.Need-follow-rule-requires Inv-loop μ-loop
 follow-rule-requires c κs =
-    let start = c .before .before .before .before .before .before .before .before .before .before .before in (
-      c .before .before .before .before .end-of .ensures,
-      head-below (start .pre .0) (start .args .forward) (c .before .before .before .before .before .before .before .if1 .taken) (c .before .before .before .before .before .before .turn .ensures) (c .before .before .decode .ensures) (c .before .head-of .ensures),
+    let at-head-of = c .before in
+    let at-decode = at-head-of .before in
+    let at-end-of = at-decode .before .before in
+    let at-turn = at-end-of .before .before in
+    let at-if1 = at-turn .before in
+    let at-loop = at-if1 .before .before in
+    let start = at-loop .before .before in (
+      at-end-of .end-of .ensures,
+      head-below (start .pre .0) (start .args .forward) (at-if1 .if1 .taken) (at-turn .turn .ensures) (at-decode .decode .ensures) (at-head-of .head-of .ensures),
       start .pre .1,
-      c .before .before .before .before .before .before .before .before .before .loop .inv .long ∙ start .pre .0 .long,
+      at-loop .loop .inv .long ∙ start .pre .0 .long,
     )
 
 either-requires : tie.Need-either-requires Inv-loop μ-loop
 either-requires c κs = tt
 
 add-passed : tie.Need-add-passed Inv-loop μ-loop
-add-passed c = omega (arith, c .before .before .before .before .before .before .before .before .before .if1 .taken)
+add-passed c =
+    let at-if1 = c .before .before .before .before .before .before .before .before .before in
+    omega (arith, at-if1 .if1 .taken)
 
 loop-less : tie.Need-loop-less Inv-loop μ-loop
-loop-less c = omega (arith, c .before .before .before .before .before .before .before .before .before .if1 .taken)
+loop-less c =
+    let at-if1 = c .before .before .before .before .before .before .before .before .before in
+    omega (arith, at-if1 .if1 .taken)
 
 loop-again : tie.Need-loop-again Inv-loop μ-loop
 loop-again c =
-    follow-visit (c .before .before .before .before .before .before .before .before .before .before .before .before .before .pre .0) _ _ (c .before .before .before .before .before .before .before .before .before .before .before .before .before .args .forward) _ (c .before .before .before .before .before .before .before .before .before .before .before .loop .inv) (c .before .before .before .before .before .before .before .before .before .if1 .taken) (c .before .before .before .before .before .before .before .before .turn .ensures) (c .before .before .before .before .decode .ensures) (c .before .before .before .head-of .ensures)
-    (c .before .follow-rule .ensures) (c .either .ensures)
+    let at-follow-rule = c .before in
+    let at-head-of = at-follow-rule .before .before in
+    let at-decode = at-head-of .before in
+    let at-turn = at-decode .before .before .before .before in
+    let at-if1 = at-turn .before in
+    let at-loop = at-if1 .before .before in
+    let start = at-loop .before .before in
+    follow-visit (start .pre .0) _ _ (start .args .forward) _ (at-loop .loop .inv) (at-if1 .if1 .taken) (at-turn .turn .ensures) (at-decode .decode .ensures) (at-head-of .head-of .ensures)
+    (at-follow-rule .follow-rule .ensures) (c .either .ensures)
 
 returns : tie.Need-returns Inv-loop μ-loop
 returns c = follows-end (c .before .before .before .before .pre .0) _ _ (c .before .before .before .before .args .forward) (c .before .before .loop .inv) (c .if1 .left)

@@ -86,10 +86,14 @@ either-requires : tie.Need-either-requires Inv-loop μ-loop
 either-requires c κs = tt
 
 add-passed : tie.Need-add-passed Inv-loop μ-loop
-add-passed c = let test = c .before .before .before .before .before .before .before .before .before .before .before .before in omega (arith, test .if1 .taken)
+add-passed c =
+    let test = c .before .before .before .before .before .before .before .before .before .before .before .before in
+    omega (arith, test .if1 .taken)
 
 loop-less : tie.Need-loop-less Inv-loop μ-loop
-loop-less c = let test = c .before .before .before .before .before .before .before .before .before .before .before .before in omega (arith, test .if1 .taken)
+loop-less c =
+    let test = c .before .before .before .before .before .before .before .before .before .before .before .before in
+    omega (arith, test .if1 .taken)
 
 loop-again : tie.Need-loop-again Inv-loop μ-loop
 loop-again c =

@@ -25,13 +25,21 @@ element-copy-out-t13 : tie.Need-element-copy-out-t13 Inv-loop μ-loop
 element-copy-out-t13 c = omega (arith, c .before .before .pre .0 .few)
 
 element-copy-out-note : tie.Need-element-copy-out-note Inv-loop μ-loop
-element-copy-out-note c = omega (arith, c .before .before .before .before .before .pre .0 .few)
+element-copy-out-note c =
+    let start = c .before .before .before .before .before in
+    omega (arith, start .pre .0 .few)
 
 cast-note : tie.Need-cast-note Inv-loop μ-loop
-cast-note c = omega (arith, c .before .before .before .before .before .before .pre .0 .own (c .before .before .before .before .before .loop .rule - 1) (omega arith), c .before .before .before .before .before .before .pre .0 .allowed)
+cast-note c =
+    let at-loop = c .before .before .before .before .before in
+    let start = at-loop .before in
+    omega (arith, start .pre .0 .own (at-loop .loop .rule - 1) (omega arith), start .pre .0 .allowed)
 
 note-requires : tie.Need-note-requires Inv-loop μ-loop
-note-requires c κs = omega (arith, c .before .before .before .before .before .before .pre .0 .own (c .before .before .before .before .before .loop .rule - 1) (omega arith), c .before .before .before .before .before .before .pre .0 .allowed)
+note-requires c κs =
+    let at-loop = c .before .before .before .before .before in
+    let start = at-loop .before in
+    omega (arith, start .pre .0 .own (at-loop .loop .rule - 1) (omega arith), start .pre .0 .allowed)
 
 loop-less : tie.Need-loop-less Inv-loop μ-loop
 loop-less c = omega arith

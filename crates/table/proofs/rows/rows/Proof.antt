@@ -53,7 +53,9 @@ element-copy-out-t18 : tie.Need-element-copy-out-t18 Inv-loop μ-loop
 element-copy-out-t18 c = omega (arith, c .before .before .before .before .pre .headed .few)
 
 cast-fill-row : tie.Need-cast-fill-row Inv-loop μ-loop
-cast-fill-row c = omega (arith, c .before .before .before .before .before .before .pre .headed .few)
+cast-fill-row c =
+    let start = c .before .before .before .before .before .before in
+    omega (arith, start .pre .headed .few)
 
 fill-row-requires : tie.Need-fill-row-requires Inv-loop μ-loop
 fill-row-requires c κs =

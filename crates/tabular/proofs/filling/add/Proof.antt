@@ -42,10 +42,17 @@ put-requires : tie.Need-put-requires Inv-loop μ-loop
 put-requires c κs = tt
 
 mul-chart : tie.Need-mul-chart Inv-loop μ-loop
-mul-chart c = omega (arith, c .before .before .before .loop-test .taken, c .before .before .before .before .before .pre .given .few, c .before .before .before .before .before .pre .given .span .short)
+mul-chart c =
+    let at-loop-test = c .before .before .before in
+    let start = at-loop-test .before .before in
+    omega (arith, at-loop-test .loop-test .taken, start .pre .given .few, start .pre .given .span .short)
 
 element-write-chart : tie.Need-element-write-chart Inv-loop μ-loop
-element-write-chart c = omega (arith, c .before .before .before .before .before .pre .given .few, c .before .before .before .before .before .pre .given .span .short, c .before .before .before .loop-test .taken, c .before .before .before .before .loop .inv .1 .long)
+element-write-chart c =
+    let at-loop-test = c .before .before .before in
+    let at-loop = at-loop-test .before in
+    let start = at-loop .before in
+    omega (arith, start .pre .given .few, start .pre .given .span .short, at-loop-test .loop-test .taken, at-loop .loop .inv .1 .long)
 
 add-at : tie.Need-add-at Inv-loop μ-loop
 add-at c = omega (arith, c .before .before .before .loop-test .taken)

@@ -30,10 +30,17 @@ contains-requires : tie.Need-contains-requires
 contains-requires c κs = tt
 
 returns : tie.Need-returns
-returns c = known-already (c .before .before .before .before .before .before .before .pre) (c .before .before .before .decode .ensures) (c .before .before .head-of .ensures) (sym (c .before .contains .ensures) ∙ c .if1 .taken)
+returns c =
+    let at-contains = c .before in
+    let at-head-of = at-contains .before in
+    let at-decode = at-head-of .before in
+    let start = at-decode .before .before .before .before in
+    known-already (start .pre) (at-decode .decode .ensures) (at-head-of .head-of .ensures) (sym (at-contains .contains .ensures) ∙ c .if1 .taken)
 
 rule-end-requires : tie.Need-rule-end-requires
-rule-end-requires c κs = (c .before .before .before .before .before .before .before .pre .rules, c .before .before .before .before .before .before .before .pre .numbered)
+rule-end-requires c κs =
+    let start = c .before .before .before .before .before .before .before in
+    (start .pre .rules, start .pre .numbered)
 
 keeps-requires : tie.Need-keeps-requires
 keeps-requires c κs = tt
@@ -43,10 +50,15 @@ found-by-requires c κs = tt
 
 returns-2 : tie.Need-returns-2
 returns-2 c =
-    let given = c .before .before .before .before .before .before .before .before .before .before .pre in
-    let word = c .before .before .before .before .before .before .decode .ensures in
-    let head = c .before .before .before .before .before .head-of .ensures in
-    asked-now given word head (keeps-right record { rule = c .before .before .rule-end .ensures; span = given .span } (c .before .keeps .ensures))
+    let at-keeps = c .before in
+    let at-rule-end = at-keeps .before in
+    let at-head-of = at-rule-end .before .before .before in
+    let at-decode = at-head-of .before in
+    let start = at-decode .before .before .before .before in
+    let given = start .pre in
+    let word = at-decode .decode .ensures in
+    let head = at-head-of .head-of .ensures in
+    asked-now given word head (keeps-right record { rule = at-rule-end .rule-end .ensures; span = given .span } (at-keeps .keeps .ensures))
     (with-nonterminal _ _ _ (head-low (given .rules) (given .numbered) word head) (c .found-by .ensures))
 
 pub ask-spec : {M : Type 1} → statement M

@@ -28,18 +28,34 @@ ask-requires : tie.Need-ask-requires Inv-loop μ-loop
 ask-requires c κs = let given = c .before .before .before .before .pre in record { rules = given .rules; numbered = omega (arith, c .loop-test .taken, c .before .loop .inv .asking .high); span = given .span }
 
 mul-rule-2 : tie.Need-mul-rule-2 Inv-loop μ-loop
-mul-rule-2 c = omega (arith, c .before .loop-test .taken, c .before .before .loop .inv .asking .high, well-read _ _ (c .before .before .before .before .before .pre .rules .read) .fewRules)
+mul-rule-2 c =
+    let at-loop-test = c .before in
+    let at-loop = at-loop-test .before in
+    let start = at-loop .before .before .before in
+    omega (arith, at-loop-test .loop-test .taken, at-loop .loop .inv .asking .high, well-read _ _ (start .pre .rules .read) .fewRules)
 
 element-copy-out-rule-2 : tie.Need-element-copy-out-rule-2 Inv-loop μ-loop
-element-copy-out-rule-2 c = omega (arith, c .before .loop-test .taken, c .before .before .loop .inv .asking .high, well-read _ _ (c .before .before .before .before .before .pre .rules .read) .fewRules)
+element-copy-out-rule-2 c =
+    let at-loop-test = c .before in
+    let at-loop = at-loop-test .before in
+    let start = at-loop .before .before .before in
+    omega (arith, at-loop-test .loop-test .taken, at-loop .loop .inv .asking .high, well-read _ _ (start .pre .rules .read) .fewRules)
 
 loop-less : tie.Need-loop-less Inv-loop μ-loop
 loop-less c =
-    let test = c .before .before .loop-test .taken in
-    omega (arith, test, c .before .before .before .before .before .before .pre .ranked .before (c .before .before .before .loop .rule - 1) (omega (arith, test, c .before .before .before .loop .inv .asking .high)) .within)
+    let at-loop-test = c .before .before in
+    let at-loop = at-loop-test .before in
+    let start = at-loop .before .before .before in
+    let test = at-loop-test .loop-test .taken in
+    omega (arith, test, start .pre .ranked .before (at-loop .loop .rule - 1) (omega (arith, test, at-loop .loop .inv .asking .high)) .within)
 
 loop-again : tie.Need-loop-again Inv-loop μ-loop
-loop-again c = rules-more (c .before .before .before .before .before .before .pre .rules) (c .before .before .before .before .before .before .pre .ranked) (c .before .before .before .loop .inv) (c .before .before .loop-test .taken) (c .before .ask .ensures)
+loop-again c =
+    let at-ask = c .before in
+    let at-loop-test = at-ask .before in
+    let at-loop = at-loop-test .before in
+    let start = at-loop .before .before .before in
+    rules-more (start .pre .rules) (start .pre .ranked) (at-loop .loop .inv) (at-loop-test .loop-test .taken) (at-ask .ask .ensures)
 
 returns : tie.Need-returns Inv-loop μ-loop
 returns c = rules-end (c .before .before .before .before .pre .rules) (c .before .loop .inv) (c .loop-test .left)

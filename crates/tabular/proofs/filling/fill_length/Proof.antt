@@ -25,13 +25,20 @@ settle-requires : tie.Need-settle-requires Inv-loop μ-loop
 settle-requires c κs = let g = c .before .before .before .before .pre .given in record { given = record { rules = g .rules; ranked = g .ranked; free = g .free; long = c .before .before .loop .inv .1 .long }; span = record { forward = omega arith; short = omega (arith, c .before .loop-test .taken, c .before .before .before .before .pre .short) } }
 
 add-start : tie.Need-add-start Inv-loop μ-loop
-add-start c = omega (arith, c .before .before .loop-test .taken, c .before .before .before .before .before .pre .short)
+add-start c =
+    let at-loop-test = c .before .before in
+    let start = at-loop-test .before .before .before in
+    omega (arith, at-loop-test .loop-test .taken, start .pre .short)
 
 loop-less : tie.Need-loop-less Inv-loop μ-loop
 loop-less c = omega (arith, c .before .before .loop-test .taken)
 
 loop-again : tie.Need-loop-again Inv-loop μ-loop
-loop-again c = (omega (arith, c .before .before .loop-test .taken), length-more (c .before .before .before .loop .start) (c .before .before .before .before .before .args .length) (c .before .before .loop-test .taken) (c .before .before .before .before .before .pre .short) (c .before .before .before .loop .inv .1) (c .settle .ensures))
+loop-again c =
+    let at-loop-test = c .before .before in
+    let at-loop = at-loop-test .before in
+    let start = at-loop .before .before in
+    (omega (arith, at-loop-test .loop-test .taken), length-more (at-loop .loop .start) (start .args .length) (at-loop-test .loop-test .taken) (start .pre .short) (at-loop .loop .inv .1) (c .settle .ensures))
 
 returns : tie.Need-returns Inv-loop μ-loop
 returns c = length-end (c .before .loop .start) (c .before .before .before .args .length) (c .before .before .before .pre) (c .loop-test .left) (c .before .loop .inv .0) (c .before .loop .inv .1)

@@ -20,16 +20,27 @@ derived-requires : tie.Need-derived-requires Inv-loop μ-loop
 derived-requires c κs = let given = c .before .before .before .before .pre in record { rules = given .given .rules; ranked = given .given .ranked; low = omega (arith, c .before .loop-test .taken, few (given .given)); span = given .span }
 
 add-requires : tie.Need-add-requires Inv-loop μ-loop
-add-requires c κs = record { long = c .before .before .before .before .loop .inv .1 .long; given = record { span = c .before .before .before .before .before .before .pre .span; few = few (c .before .before .before .before .before .before .pre .given) } }
+add-requires c κs =
+    let at-loop = c .before .before .before .before in
+    let start = at-loop .before .before in
+    record { long = at-loop .loop .inv .1 .long; given = record { span = start .pre .span; few = few (start .pre .given) } }
 
 add-rank : tie.Need-add-rank Inv-loop μ-loop
-add-rank c = omega (arith, c .before .before .before .before .loop-test .taken, few (c .before .before .before .before .before .before .before .pre .given))
+add-rank c =
+    let at-loop-test = c .before .before .before .before in
+    let start = at-loop-test .before .before .before in
+    omega (arith, at-loop-test .loop-test .taken, few (start .pre .given))
 
 loop-less : tie.Need-loop-less Inv-loop μ-loop
 loop-less c = omega (arith, c .before .before .before .before .loop-test .taken)
 
 loop-again : tie.Need-loop-again Inv-loop μ-loop
-loop-again c = (omega (arith, c .before .before .before .before .loop-test .taken), settling-more (c .before .before .before .before .before .before .before .pre) (c .before .before .before .before .loop-test .taken) (c .before .before .before .before .before .loop .inv .1) (c .before .before .derived .ensures) (c .add .ensures))
+loop-again c =
+    let at-derived = c .before .before in
+    let at-loop-test = at-derived .before .before in
+    let at-loop = at-loop-test .before in
+    let start = at-loop .before .before in
+    (omega (arith, at-loop-test .loop-test .taken), settling-more (start .pre) (at-loop-test .loop-test .taken) (at-loop .loop .inv .1) (at-derived .derived .ensures) (c .add .ensures))
 
 returns : tie.Need-returns Inv-loop μ-loop
 returns c = settled (c .before .before .before .pre) (c .before .loop .inv .0) (c .loop-test .left) (c .before .loop .inv .1)

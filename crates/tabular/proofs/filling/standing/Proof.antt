@@ -25,22 +25,41 @@ terminal-of-requires : tie.Need-terminal-of-requires Inv-loop μ-loop
 terminal-of-requires c κs = tt
 
 cast-terminal : tie.Need-cast-terminal Inv-loop μ-loop
-cast-terminal c = omega (arith, terminal-low (c .before .before .before .before .before .args .events .now) (c .before .before .before .before .before .pre) (c .before .before .loop-test .taken) (c .terminal-of .ensures))
+cast-terminal c =
+    let at-loop-test = c .before .before in
+    let start = at-loop-test .before .before .before in
+    omega (arith, terminal-low (start .args .events .now) (start .pre) (at-loop-test .loop-test .taken) (c .terminal-of .ensures))
 
 mul-put : tie.Need-mul-put Inv-loop μ-loop
-mul-put c = omega (arith, terminal-low (c .before .before .before .before .before .args .events .now) (c .before .before .before .before .before .pre) (c .before .before .loop-test .taken) (c .terminal-of .ensures))
+mul-put c =
+    let at-loop-test = c .before .before in
+    let start = at-loop-test .before .before .before in
+    omega (arith, terminal-low (start .args .events .now) (start .pre) (at-loop-test .loop-test .taken) (c .terminal-of .ensures))
 
 array-read-put : tie.Need-array-read-put Inv-loop μ-loop
-array-read-put c = omega (arith, terminal-low (c .before .before .before .before .before .args .events .now) (c .before .before .before .before .before .pre) (c .before .before .loop-test .taken) (c .terminal-of .ensures), c .before .before .before .loop .inv .long)
+array-read-put c =
+    let at-loop-test = c .before .before in
+    let at-loop = at-loop-test .before in
+    let start = at-loop .before .before in
+    omega (arith, terminal-low (start .args .events .now) (start .pre) (at-loop-test .loop-test .taken) (c .terminal-of .ensures), at-loop .loop .inv .long)
 
 put-requires : tie.Need-put-requires Inv-loop μ-loop
 put-requires c κs = tt
 
 mul-stands : tie.Need-mul-stands Inv-loop μ-loop
-mul-stands c = omega (arith, terminal-low (c .before .before .before .before .before .before .args .events .now) (c .before .before .before .before .before .before .pre) (c .before .before .before .loop-test .taken) (c .before .terminal-of .ensures))
+mul-stands c =
+    let at-terminal-of = c .before in
+    let at-loop-test = at-terminal-of .before .before in
+    let start = at-loop-test .before .before .before in
+    omega (arith, terminal-low (start .args .events .now) (start .pre) (at-loop-test .loop-test .taken) (at-terminal-of .terminal-of .ensures))
 
 array-write-stands : tie.Need-array-write-stands Inv-loop μ-loop
-array-write-stands c = omega (arith, terminal-low (c .before .before .before .before .before .before .args .events .now) (c .before .before .before .before .before .before .pre) (c .before .before .before .loop-test .taken) (c .before .terminal-of .ensures), c .before .before .before .before .loop .inv .long)
+array-write-stands c =
+    let at-terminal-of = c .before in
+    let at-loop-test = at-terminal-of .before .before in
+    let at-loop = at-loop-test .before in
+    let start = at-loop .before .before in
+    omega (arith, terminal-low (start .args .events .now) (start .pre) (at-loop-test .loop-test .taken) (at-terminal-of .terminal-of .ensures), at-loop .loop .inv .long)
 
 add-at : tie.Need-add-at Inv-loop μ-loop
 add-at c = omega (arith, c .before .before .before .loop-test .taken)
@@ -49,8 +68,13 @@ loop-less : tie.Need-loop-less Inv-loop μ-loop
 loop-less c = omega (arith, c .before .before .before .loop-test .taken)
 
 loop-again : tie.Need-loop-again Inv-loop μ-loop
-loop-again c = standing-more (c .before .before .before .before .before .before .args .events .now) (c .before .before .before .before .before .before .pre) (c .before .before .before .loop-test .taken) (c .before .terminal-of .ensures) (c .before .before .before .before .loop .inv)
-    (with-place (omega (arith, c .before .before .before .before .before .before .pre .short, c .before .before .before .loop-test .taken, input-length (c .before .before .before .before .before .before .args .events .now))) (c .put .ensures)) refl
+loop-again c =
+    let at-terminal-of = c .before in
+    let at-loop-test = at-terminal-of .before .before in
+    let at-loop = at-loop-test .before in
+    let start = at-loop .before .before in
+    standing-more (start .args .events .now) (start .pre) (at-loop-test .loop-test .taken) (at-terminal-of .terminal-of .ensures) (at-loop .loop .inv)
+    (with-place (omega (arith, start .pre .short, at-loop-test .loop-test .taken, input-length (start .args .events .now))) (c .put .ensures)) refl
 
 returns : tie.Need-returns Inv-loop μ-loop
 returns c = standing-end (c .before .loop .inv) (omega (arith, c .loop-test .left, input-length (c .before .before .before .args .events .now)))

@@ -20,13 +20,19 @@ same-length : tie.Need-same-length
 same-length c = search needs
 
 returns : tie.Need-returns
-returns c = dash-put _ (c .before .before .before .before .before .if1 .taken) (c .before .before .put-bytes .ensures)
+returns c =
+    let at-put-bytes = c .before .before in
+    let at-if1 = at-put-bytes .before .before .before in
+    dash-put _ (at-if1 .if1 .taken) (at-put-bytes .put-bytes .ensures)
 
 same-length-2 : tie.Need-same-length-2
 same-length-2 c = search needs
 
 returns-2 : tie.Need-returns-2
-returns-2 c = number-put _ (c .before .before .before .before .before .if1 .left) (c .before .before .put-labelled .ensures)
+returns-2 c =
+    let at-put-labelled = c .before .before in
+    let at-if1 = at-put-labelled .before .before .before in
+    number-put _ (at-if1 .if1 .left) (at-put-labelled .put-labelled .ensures)
 
 pub put-or-dash-spec : {M : Type 1} → statement M
 put-or-dash-spec =

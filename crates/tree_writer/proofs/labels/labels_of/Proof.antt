@@ -21,67 +21,104 @@ loop-holds : tie.Need-loop-holds Inv-loop μ-loop
 loop-holds c = (omega arith, omega arith, labels-start (c .before .before .before .args .events .now))
 
 cast-at : tie.Need-cast-at Inv-loop μ-loop
-cast-at c = omega (arith, c .if1 .taken, c .before .before .before .before .before .before .pre .fewNonterminals, c .before .before .before .before .before .before .pre .short, input-length (c .before .before .before .before .before .before .args .events .now))
+cast-at c =
+    let start = c .before .before .before .before .before .before in
+    omega (arith, c .if1 .taken, start .pre .fewNonterminals, start .pre .short, input-length (start .args .events .now))
 
 mul-at : tie.Need-mul-at Inv-loop μ-loop
-mul-at c = omega (arith, c .if1 .taken, c .before .before .before .before .before .before .pre .fewNonterminals, c .before .before .before .before .before .before .pre .short, input-length (c .before .before .before .before .before .before .args .events .now))
+mul-at c =
+    let start = c .before .before .before .before .before .before in
+    omega (arith, c .if1 .taken, start .pre .fewNonterminals, start .pre .short, input-length (start .args .events .now))
 
 add-at : tie.Need-add-at Inv-loop μ-loop
-add-at c = omega (arith, c .if1 .taken, c .before .before .loop .inv .1, c .before .before .before .before .before .before .pre .fewNonterminals, c .before .before .before .before .before .before .pre .short, input-length (c .before .before .before .before .before .before .args .events .now))
+add-at c =
+    let at-loop = c .before .before in
+    let start = at-loop .before .before .before .before in
+    omega (arith, c .if1 .taken, at-loop .loop .inv .1, start .pre .fewNonterminals, start .pre .short, input-length (start .args .events .now))
 
 cast-label : tie.Need-cast-label Inv-loop μ-loop
-cast-label c = omega (arith, c .if1 .taken, c .before .before .before .before .before .before .pre .fewNonterminals, c .before .before .before .before .before .before .pre .short, input-length (c .before .before .before .before .before .before .args .events .now))
+cast-label c =
+    let start = c .before .before .before .before .before .before in
+    omega (arith, c .if1 .taken, start .pre .fewNonterminals, start .pre .short, input-length (start .args .events .now))
 
 cast-label-2 : tie.Need-cast-label-2 Inv-loop μ-loop
-cast-label-2 c = omega (arith, c .before .before .loop .inv .1, c .before .before .before .before .before .before .pre .fewNonterminals, c .before .before .before .before .before .before .pre .short, input-length (c .before .before .before .before .before .before .args .events .now))
+cast-label-2 c =
+    let at-loop = c .before .before in
+    let start = at-loop .before .before .before .before in
+    omega (arith, at-loop .loop .inv .1, start .pre .fewNonterminals, start .pre .short, input-length (start .args .events .now))
 
 label-requires : tie.Need-label-requires Inv-loop μ-loop
 label-requires c κs = tt
 
 mul-labels : tie.Need-mul-labels Inv-loop μ-loop
-mul-labels c = omega (arith, c .before .if1 .taken, c .before .before .before .loop .inv .1, c .before .before .before .before .before .before .before .pre .fewNonterminals, c .before .before .before .before .before .before .before .pre .short, input-length (c .before .before .before .before .before .before .before .args .events .now))
+mul-labels c =
+    let at-if1 = c .before in
+    let at-loop = at-if1 .before .before in
+    let start = at-loop .before .before .before .before in
+    omega (arith, at-if1 .if1 .taken, at-loop .loop .inv .1, start .pre .fewNonterminals, start .pre .short, input-length (start .args .events .now))
 
 array-write-labels : tie.Need-array-write-labels Inv-loop μ-loop
-array-write-labels c = omega (arith, c .before .if1 .taken, c .before .before .before .loop .inv .1, c .before .before .before .loop .inv .2 .long, c .before .before .before .before .before .before .before .pre .fewNonterminals, c .before .before .before .before .before .before .before .pre .short, input-length (c .before .before .before .before .before .before .before .args .events .now))
+array-write-labels c =
+    let at-if1 = c .before in
+    let at-loop = at-if1 .before .before in
+    let start = at-loop .before .before .before .before in
+    omega (arith, at-if1 .if1 .taken, at-loop .loop .inv .1, at-loop .loop .inv .2 .long, start .pre .fewNonterminals, start .pre .short, input-length (start .args .events .now))
 
 add-place : tie.Need-add-place Inv-loop μ-loop
 add-place c = omega (arith, c .if2 .taken)
 
 loop-less : tie.Need-loop-less Inv-loop μ-loop
-loop-less c = omega (arith, c .before .before .if1 .taken, c .if2 .taken, c .before .before .before .before .before .before .before .before .pre .fewNonterminals, c .before .before .before .before .before .before .before .before .pre .short, input-length (c .before .before .before .before .before .before .before .before .args .events .now))
+loop-less c =
+    let at-if1 = c .before .before in
+    let start = at-if1 .before .before .before .before .before .before in
+    omega (arith, at-if1 .if1 .taken, c .if2 .taken, start .pre .fewNonterminals, start .pre .short, input-length (start .args .events .now))
 
 loop-again : tie.Need-loop-again Inv-loop μ-loop
 loop-again c =
-    let loop = c .before .before .before .before in
+    let at-label = c .before in
+    let at-if1 = at-label .before in
+    let loop = at-if1 .before .before in
     let start = loop .before .before .before .before in
     let events = start .args .events .now in (
       loop .loop .inv .0,
       omega (arith, c .if2 .taken),
       labels-place events (loop .loop .nonterminal) (loop .loop .place)
-          (labels-more events (omega (arith, c .before .before .if1 .taken, loop .loop .inv .1, c .before .before .before .before .before .before .before .before .pre .fewNonterminals, c .before .before .before .before .before .before .before .before .pre .short, input-length (c .before .before .before .before .before .before .before .before .args .events .now))) (loop .loop .inv .2)
-          (label-made events (loop .loop .nonterminal) (loop .loop .place) (start .pre) (omega (arith, loop .loop .inv .1, c .before .before .before .before .before .before .before .before .pre .fewNonterminals, c .before .before .before .before .before .before .before .before .pre .short, input-length (c .before .before .before .before .before .before .before .before .args .events .now))) (c .before .label .ensures))),
+          (labels-more events (omega (arith, at-if1 .if1 .taken, loop .loop .inv .1, start .pre .fewNonterminals, start .pre .short, input-length (start .args .events .now))) (loop .loop .inv .2)
+          (label-made events (loop .loop .nonterminal) (loop .loop .place) (start .pre) (omega (arith, loop .loop .inv .1, start .pre .fewNonterminals, start .pre .short, input-length (start .args .events .now))) (at-label .label .ensures))),
     )
 
 add-nonterminal : tie.Need-add-nonterminal Inv-loop μ-loop
-add-nonterminal c = omega (arith, c .before .before .if1 .taken, c .before .before .before .before .before .before .before .before .pre .fewNonterminals, c .before .before .before .before .before .before .before .before .pre .short, input-length (c .before .before .before .before .before .before .before .before .args .events .now))
+add-nonterminal c =
+    let at-if1 = c .before .before in
+    let start = at-if1 .before .before .before .before .before .before in
+    omega (arith, at-if1 .if1 .taken, start .pre .fewNonterminals, start .pre .short, input-length (start .args .events .now))
 
 loop-less-2 : tie.Need-loop-less-2 Inv-loop μ-loop
-loop-less-2 c = omega (arith, c .before .before .if1 .taken, c .before .before .before .before .loop .inv .1, c .before .before .before .before .before .before .before .before .pre .fewNonterminals, c .before .before .before .before .before .before .before .before .pre .short, input-length (c .before .before .before .before .before .before .before .before .args .events .now))
+loop-less-2 c =
+    let at-if1 = c .before .before in
+    let at-loop = at-if1 .before .before in
+    let start = at-loop .before .before .before .before in
+    omega (arith, at-if1 .if1 .taken, at-loop .loop .inv .1, start .pre .fewNonterminals, start .pre .short, input-length (start .args .events .now))
 
 loop-again-2 : tie.Need-loop-again-2 Inv-loop μ-loop
 loop-again-2 c =
-    let loop = c .before .before .before .before in
+    let at-label = c .before in
+    let at-if1 = at-label .before in
+    let loop = at-if1 .before .before in
     let start = loop .before .before .before .before in
     let events = start .args .events .now in (
-      omega (arith, c .before .before .if1 .taken),
+      omega (arith, at-if1 .if1 .taken),
       omega arith,
-      labels-row events (loop .loop .nonterminal) (loop .loop .place) (c .if2 .left) (omega (arith, loop .loop .inv .1, c .before .before .before .before .before .before .before .before .pre .fewNonterminals, c .before .before .before .before .before .before .before .before .pre .short, input-length (c .before .before .before .before .before .before .before .before .args .events .now)))
-          (labels-more events (omega (arith, c .before .before .if1 .taken, loop .loop .inv .1, c .before .before .before .before .before .before .before .before .pre .fewNonterminals, c .before .before .before .before .before .before .before .before .pre .short, input-length (c .before .before .before .before .before .before .before .before .args .events .now))) (loop .loop .inv .2)
-          (label-made events (loop .loop .nonterminal) (loop .loop .place) (start .pre) (omega (arith, loop .loop .inv .1, c .before .before .before .before .before .before .before .before .pre .fewNonterminals, c .before .before .before .before .before .before .before .before .pre .short, input-length (c .before .before .before .before .before .before .before .before .args .events .now))) (c .before .label .ensures))),
+      labels-row events (loop .loop .nonterminal) (loop .loop .place) (c .if2 .left) (omega (arith, loop .loop .inv .1, start .pre .fewNonterminals, start .pre .short, input-length (start .args .events .now)))
+          (labels-more events (omega (arith, at-if1 .if1 .taken, loop .loop .inv .1, start .pre .fewNonterminals, start .pre .short, input-length (start .args .events .now))) (loop .loop .inv .2)
+          (label-made events (loop .loop .nonterminal) (loop .loop .place) (start .pre) (omega (arith, loop .loop .inv .1, start .pre .fewNonterminals, start .pre .short, input-length (start .args .events .now))) (at-label .label .ensures))),
     )
 
 returns : tie.Need-returns Inv-loop μ-loop
-returns c = labels-all (c .before .before .before .before .before .before .args .events .now) (c .before .before .before .before .before .before .pre) (omega (arith, c .if1 .left)) (c .before .before .loop .inv .2)
+returns c =
+    let at-loop = c .before .before in
+    let start = at-loop .before .before .before .before in
+    labels-all (start .args .events .now) (start .pre) (omega (arith, c .if1 .left)) (at-loop .loop .inv .2)
 
 pub labels-of-spec : {M : Type 1} → statement M
 labels-of-spec =

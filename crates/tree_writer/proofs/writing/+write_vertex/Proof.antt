@@ -63,7 +63,8 @@ Loop t = write-vertex-lts.At-loop (write-vertex-claims t) (write-vertex-at t) wr
 -- the vertex that the call is to write, for an input
 abbrev Given : (t : ℕ) → Loop t → List ℕ → Type 0
 Given t c input =
-    let a = c .before .before .before .before .before .before .before .before .args in
+    let start = c .before .before .before .before .before .before .before .before in
+    let a = start .args in
     VertexGiven input (a .words .now) (a .starts .now) (a .labels .now) (a .tree .now) (a .marks .now) (a .nonterminal) (a .start) (a .written)
 
 -- what the loop has come to
@@ -93,25 +94,41 @@ write-vertex-element-copy-out-vertex : (t : ℕ) → write-vertex-lts.Need-eleme
 write-vertex-element-copy-out-vertex t c = entry-low (c .before .before .before .before .pre .1 .1)
 
 write-vertex-mul-tree : (t : ℕ) → write-vertex-lts.Need-mul-tree (write-vertex-claims t) (write-vertex-at t) write-vertex.Post write-vertex-Inv-loop write-vertex-μ-loop
-write-vertex-mul-tree t c = omega (arith, written-low (c .before .before .before .before .before .pre .1 .1) refl (c .before .if1 .left))
+write-vertex-mul-tree t c =
+    let at-if1 = c .before in
+    let start = at-if1 .before .before .before .before in
+    omega (arith, written-low (start .pre .1 .1) refl (at-if1 .if1 .left))
 
 write-vertex-slice-write-tree : (t : ℕ) → write-vertex-lts.Need-slice-write-tree (write-vertex-claims t) (write-vertex-at t) write-vertex.Post write-vertex-Inv-loop write-vertex-μ-loop
-write-vertex-slice-write-tree t c = tree-room (c .before .before .before .before .before .pre .1 .1) refl (c .before .if1 .left)
+write-vertex-slice-write-tree t c =
+    let at-if1 = c .before in
+    let start = at-if1 .before .before .before .before in
+    tree-room (start .pre .1 .1) refl (at-if1 .if1 .left)
 
 write-vertex-add-count : (t : ℕ) → write-vertex-lts.Need-add-count (write-vertex-claims t) (write-vertex-at t) write-vertex.Post write-vertex-Inv-loop write-vertex-μ-loop
-write-vertex-add-count t c = omega (arith, written-low (c .before .before .before .before .before .pre .1 .1) refl (c .before .if1 .left))
+write-vertex-add-count t c =
+    let at-if1 = c .before in
+    let start = at-if1 .before .before .before .before in
+    omega (arith, written-low (start .pre .1 .1) refl (at-if1 .if1 .left))
 
 write-vertex-rule-of-requires : (t : ℕ) → write-vertex-lts.Need-rule-of-requires (write-vertex-claims t) (write-vertex-at t) write-vertex.Post write-vertex-Inv-loop write-vertex-μ-loop
 write-vertex-rule-of-requires t c κs = tt
 
 write-vertex-mul-at : (t : ℕ) → write-vertex-lts.Need-mul-at (write-vertex-claims t) (write-vertex-at t) write-vertex.Post write-vertex-Inv-loop write-vertex-μ-loop
-write-vertex-mul-at t c = omega (arith, rule-low (c .before .before .before .before .before .before .pre .1 .1) (c .rule-of .ensures))
+write-vertex-mul-at t c =
+    let start = c .before .before .before .before .before .before in
+    omega (arith, rule-low (start .pre .1 .1) (c .rule-of .ensures))
 
 write-vertex-element-copy-out-at : (t : ℕ) → write-vertex-lts.Need-element-copy-out-at (write-vertex-claims t) (write-vertex-at t) write-vertex.Post write-vertex-Inv-loop write-vertex-μ-loop
-write-vertex-element-copy-out-at t c = rule-low (c .before .before .before .before .before .before .pre .1 .1) (c .rule-of .ensures)
+write-vertex-element-copy-out-at t c =
+    let start = c .before .before .before .before .before .before in
+    rule-low (start .pre .1 .1) (c .rule-of .ensures)
 
 write-vertex-add-at : (t : ℕ) → write-vertex-lts.Need-add-at (write-vertex-claims t) (write-vertex-at t) write-vertex.Post write-vertex-Inv-loop write-vertex-μ-loop
-write-vertex-add-at t c = omega (arith, begin-low (c .before .before .before .before .before .before .before .pre .1 .1) (c .before .rule-of .ensures))
+write-vertex-add-at t c =
+    let at-rule-of = c .before in
+    let start = at-rule-of .before .before .before .before .before .before in
+    omega (arith, begin-low (start .pre .1 .1) (at-rule-of .rule-of .ensures))
 
 write-vertex-loop-holds : (t : ℕ) → write-vertex-lts.Need-loop-holds (write-vertex-claims t) (write-vertex-at t) write-vertex.Post write-vertex-Inv-loop write-vertex-μ-loop
 write-vertex-loop-holds t c = λ _ _ _ g u. u
@@ -136,12 +153,17 @@ write-vertex-enum-told-2 t c = c .match2 .keys1
 
 write-vertex-add-place : (t : ℕ) → write-vertex-lts.Need-add-place (write-vertex-claims t) (write-vertex-at t) write-vertex.Post write-vertex-Inv-loop write-vertex-μ-loop
 write-vertex-add-place t c =
-    let s = c .before .before .before .before .before .before .before .before .before .before .before .before .before .before .before .before in
+    let at-match2 = c .before in
+    let at-word = at-match2 .before .before in
+    let at-decode = at-word .before .before in
+    let at-loop-test = at-decode .before .before in
+    let loop = at-loop-test .before in
+    let s = loop .before .before .before .before .before .before .before .before in
     let g = s .pre .1 .1 in
-    let u = going t (c .before .before .before .before .before .before .before .before) _ g in
-    let h = c .before .before .before .before .before .before .before .loop-test .taken in
-    let e = sym (c .before .before .before .before .before .decode .ensures) ∙ c .before .before .before .word .given .1 in
-    let a = is-terminal (c .before .before .before .word .given .0 .0) (c .before .match2 .keys1) in
+    let u = going t loop _ g in
+    let h = at-loop-test .loop-test .taken in
+    let e = sym (at-decode .decode .ensures) ∙ at-word .word .given .1 in
+    let a = is-terminal (at-word .word .given .0 .0) (at-match2 .match2 .keys1) in
     omega (arith, terminal-low g u h (a .0) (e ∙ ap Symbol (a .1)), g .accepted .short)
 
 write-vertex-enum-known-symbol : (t : ℕ) → write-vertex-lts.Need-enum-known-symbol (write-vertex-claims t) (write-vertex-at t) write-vertex.Post write-vertex-Inv-loop write-vertex-μ-loop
@@ -149,74 +171,109 @@ write-vertex-enum-known-symbol t c = c .match2 .keys2
 
 write-vertex-cast-write-vertex : (t : ℕ) → write-vertex-lts.Need-cast-write-vertex (write-vertex-claims t) (write-vertex-at t) write-vertex.Post write-vertex-Inv-loop write-vertex-μ-loop
 write-vertex-cast-write-vertex t c =
-    let s = c .before .before .before .before .before .before .before .before .before .before .before .before .before .before .before .before .before in
+    let at-symbol = c .before in
+    let at-word = at-symbol .before .before .before in
+    let at-decode = at-word .before .before in
+    let at-loop-test = at-decode .before .before in
+    let loop = at-loop-test .before in
+    let s = loop .before .before .before .before .before .before .before .before in
     let g = s .pre .1 .1 in
-    let u = going t (c .before .before .before .before .before .before .before .before .before) _ g in
-    let h = c .before .before .before .before .before .before .before .before .loop-test .taken in
-    let e = sym (c .before .before .before .before .before .before .decode .ensures) ∙ c .before .before .before .before .word .given .1 in
-    let e′ = e ∙ ap Symbol (c .before .symbol .given .1) in
+    let u = going t loop _ g in
+    let h = at-loop-test .loop-test .taken in
+    let e = sym (at-decode .decode .ensures) ∙ at-word .word .given .1 in
+    let e′ = e ∙ ap Symbol (at-symbol .symbol .given .1) in
     omega (arith, called-found g u h _ e′ .named, names g)
 
 write-vertex-write-vertex-requires : (t : ℕ) → write-vertex-lts.Need-write-vertex-requires (write-vertex-claims t) (write-vertex-at t) write-vertex.Post write-vertex-Inv-loop write-vertex-μ-loop
 write-vertex-write-vertex-requires t c κs =
-    let s = c .before .before .before .before .before .before .before .before .before .before .before .before .before .before .before .before .before .before .before in
+    let at-symbol = c .before .before .before in
+    let at-word = at-symbol .before .before .before in
+    let at-decode = at-word .before .before in
+    let at-loop-test = at-decode .before .before in
+    let loop = at-loop-test .before in
+    let s = loop .before .before .before .before .before .before .before .before in
     let g = s .pre .1 .1 in
-    let u = going t (c .before .before .before .before .before .before .before .before .before .before .before) _ g in
-    let h = c .before .before .before .before .before .before .before .before .before .before .loop-test .taken in
-    let e = sym (c .before .before .before .before .before .before .before .before .decode .ensures) ∙ c .before .before .before .before .before .before .word .given .1 in
-    let e′ = e ∙ ap Symbol (c .before .before .before .symbol .given .1) in (
+    let u = going t loop _ g in
+    let h = at-loop-test .loop-test .taken in
+    let e = sym (at-decode .decode .ensures) ∙ at-word .word .given .1 in
+    let e′ = e ∙ ap Symbol (at-symbol .symbol .given .1) in (
       omega (arith, called-falling g u h _ e′, s .pre .0),
       (s .pre .1 .0, called-given g u h _ e′),
     )
 
 write-vertex-cast-end-of : (t : ℕ) → write-vertex-lts.Need-cast-end-of (write-vertex-claims t) (write-vertex-at t) write-vertex.Post write-vertex-Inv-loop write-vertex-μ-loop
 write-vertex-cast-end-of t c =
-    let s = c .before .before .before .before .before .before .before .before .before .before .before .before .before .before .before .before .before .before .before .before .before .before in
+    let at-symbol = c .before .before .before .before .before .before in
+    let at-word = at-symbol .before .before .before in
+    let at-decode = at-word .before .before in
+    let at-loop-test = at-decode .before .before in
+    let loop = at-loop-test .before in
+    let s = loop .before .before .before .before .before .before .before .before in
     let g = s .pre .1 .1 in
-    let u = going t (c .before .before .before .before .before .before .before .before .before .before .before .before .before .before) _ g in
-    let h = c .before .before .before .before .before .before .before .before .before .before .before .before .before .loop-test .taken in
-    let e = sym (c .before .before .before .before .before .before .before .before .before .before .before .decode .ensures) ∙ c .before .before .before .before .before .before .before .before .before .word .given .1 in
-    let e′ = e ∙ ap Symbol (c .before .before .before .before .before .before .symbol .given .1) in
+    let u = going t loop _ g in
+    let h = at-loop-test .loop-test .taken in
+    let e = sym (at-decode .decode .ensures) ∙ at-word .word .given .1 in
+    let e′ = e ∙ ap Symbol (at-symbol .symbol .given .1) in
     omega (arith, called-found g u h _ e′ .named, names g)
 
 write-vertex-mul-end-of : (t : ℕ) → write-vertex-lts.Need-mul-end-of (write-vertex-claims t) (write-vertex-at t) write-vertex.Post write-vertex-Inv-loop write-vertex-μ-loop
 write-vertex-mul-end-of t c =
-    let s = c .before .before .before .before .before .before .before .before .before .before .before .before .before .before .before .before .before .before .before .before .before .before in
+    let at-symbol = c .before .before .before .before .before .before in
+    let at-word = at-symbol .before .before .before in
+    let at-decode = at-word .before .before in
+    let at-loop-test = at-decode .before .before in
+    let loop = at-loop-test .before in
+    let s = loop .before .before .before .before .before .before .before .before in
     let g = s .pre .1 .1 in
-    let u = going t (c .before .before .before .before .before .before .before .before .before .before .before .before .before .before) _ g in
-    let h = c .before .before .before .before .before .before .before .before .before .before .before .before .before .loop-test .taken in
-    let e = sym (c .before .before .before .before .before .before .before .before .before .before .before .decode .ensures) ∙ c .before .before .before .before .before .before .before .before .before .word .given .1 in
-    let e′ = e ∙ ap Symbol (c .before .before .before .before .before .before .symbol .given .1) in
+    let u = going t loop _ g in
+    let h = at-loop-test .loop-test .taken in
+    let e = sym (at-decode .decode .ensures) ∙ at-word .word .given .1 in
+    let e′ = e ∙ ap Symbol (at-symbol .symbol .given .1) in
     omega (arith, index-small g (called-found g u h _ e′))
 
 write-vertex-add-end-of : (t : ℕ) → write-vertex-lts.Need-add-end-of (write-vertex-claims t) (write-vertex-at t) write-vertex.Post write-vertex-Inv-loop write-vertex-μ-loop
 write-vertex-add-end-of t c =
-    let s = c .before .before .before .before .before .before .before .before .before .before .before .before .before .before .before .before .before .before .before .before .before .before in
+    let at-symbol = c .before .before .before .before .before .before in
+    let at-word = at-symbol .before .before .before in
+    let at-decode = at-word .before .before in
+    let at-loop-test = at-decode .before .before in
+    let loop = at-loop-test .before in
+    let s = loop .before .before .before .before .before .before .before .before in
     let g = s .pre .1 .1 in
-    let u = going t (c .before .before .before .before .before .before .before .before .before .before .before .before .before .before) _ g in
-    let h = c .before .before .before .before .before .before .before .before .before .before .before .before .before .loop-test .taken in
-    let e = sym (c .before .before .before .before .before .before .before .before .before .before .before .decode .ensures) ∙ c .before .before .before .before .before .before .before .before .before .word .given .1 in
-    let e′ = e ∙ ap Symbol (c .before .before .before .before .before .before .symbol .given .1) in
+    let u = going t loop _ g in
+    let h = at-loop-test .loop-test .taken in
+    let e = sym (at-decode .decode .ensures) ∙ at-word .word .given .1 in
+    let e′ = e ∙ ap Symbol (at-symbol .symbol .given .1) in
     omega (arith, index-small g (called-found g u h _ e′))
 
 write-vertex-mul-end-of-2 : (t : ℕ) → write-vertex-lts.Need-mul-end-of-2 (write-vertex-claims t) (write-vertex-at t) write-vertex.Post write-vertex-Inv-loop write-vertex-μ-loop
 write-vertex-mul-end-of-2 t c =
-    let s = c .before .before .before .before .before .before .before .before .before .before .before .before .before .before .before .before .before .before .before .before .before .before in
+    let at-symbol = c .before .before .before .before .before .before in
+    let at-word = at-symbol .before .before .before in
+    let at-decode = at-word .before .before in
+    let at-loop-test = at-decode .before .before in
+    let loop = at-loop-test .before in
+    let s = loop .before .before .before .before .before .before .before .before in
     let g = s .pre .1 .1 in
-    let u = going t (c .before .before .before .before .before .before .before .before .before .before .before .before .before .before) _ g in
-    let h = c .before .before .before .before .before .before .before .before .before .before .before .before .before .loop-test .taken in
-    let e = sym (c .before .before .before .before .before .before .before .before .before .before .before .decode .ensures) ∙ c .before .before .before .before .before .before .before .before .before .word .given .1 in
-    let e′ = e ∙ ap Symbol (c .before .before .before .before .before .before .symbol .given .1) in
+    let u = going t loop _ g in
+    let h = at-loop-test .loop-test .taken in
+    let e = sym (at-decode .decode .ensures) ∙ at-word .word .given .1 in
+    let e′ = e ∙ ap Symbol (at-symbol .symbol .given .1) in
     omega (arith, index-small g (called-found g u h _ e′))
 
 write-vertex-element-copy-out-end-of : (t : ℕ) → write-vertex-lts.Need-element-copy-out-end-of (write-vertex-claims t) (write-vertex-at t) write-vertex.Post write-vertex-Inv-loop write-vertex-μ-loop
 write-vertex-element-copy-out-end-of t c =
-    let s = c .before .before .before .before .before .before .before .before .before .before .before .before .before .before .before .before .before .before .before .before .before .before in
+    let at-symbol = c .before .before .before .before .before .before in
+    let at-word = at-symbol .before .before .before in
+    let at-decode = at-word .before .before in
+    let at-loop-test = at-decode .before .before in
+    let loop = at-loop-test .before in
+    let s = loop .before .before .before .before .before .before .before .before in
     let g = s .pre .1 .1 in
-    let u = going t (c .before .before .before .before .before .before .before .before .before .before .before .before .before .before) _ g in
-    let h = c .before .before .before .before .before .before .before .before .before .before .before .before .before .loop-test .taken in
-    let e = sym (c .before .before .before .before .before .before .before .before .before .before .before .decode .ensures) ∙ c .before .before .before .before .before .before .before .before .before .word .given .1 in
-    let e′ = e ∙ ap Symbol (c .before .before .before .before .before .before .symbol .given .1) in
+    let u = going t loop _ g in
+    let h = at-loop-test .loop-test .taken in
+    let e = sym (at-decode .decode .ensures) ∙ at-word .word .given .1 in
+    let e′ = e ∙ ap Symbol (at-symbol .symbol .given .1) in
     index-small g (called-found g u h _ e′)
 
 write-vertex-end-of-requires : (t : ℕ) → write-vertex-lts.Need-end-of-requires (write-vertex-claims t) (write-vertex-at t) write-vertex.Post write-vertex-Inv-loop write-vertex-μ-loop
@@ -224,8 +281,10 @@ write-vertex-end-of-requires t c κs = tt
 
 write-vertex-same-length : (t : ℕ) → write-vertex-lts.Need-same-length (write-vertex-claims t) (write-vertex-at t) write-vertex.Post write-vertex-Inv-loop write-vertex-μ-loop
 write-vertex-same-length t c =
-    let g = c .before .before .before .before .before .before .before .before .before .before .before .before .pre .1 .1 in
-    going-length g (going t (c .before .before .before .before) _ g)
+    let loop = c .before .before .before .before in
+    let start = loop .before .before .before .before .before .before .before .before in
+    let g = start .pre .1 .1 in
+    going-length g (going t loop _ g)
 
 write-vertex-returns-2 : (t : ℕ) → write-vertex-lts.Need-returns-2 (write-vertex-claims t) (write-vertex-at t) write-vertex.Post write-vertex-Inv-loop write-vertex-μ-loop
 write-vertex-returns-2 t c = λ input g.
@@ -259,8 +318,10 @@ write-vertex-loop-again t c = λ input tree₀ marks₀ g s.
 
 write-vertex-same-length-2 : (t : ℕ) → write-vertex-lts.Need-same-length-2 (write-vertex-claims t) (write-vertex-at t) write-vertex.Post write-vertex-Inv-loop write-vertex-μ-loop
 write-vertex-same-length-2 t c =
-    let g = c .before .before .before .before .before .before .before .before .before .pre .1 .1 in
-    going-length g (going t (c .before) _ g)
+    let loop = c .before in
+    let start = loop .before .before .before .before .before .before .before .before in
+    let g = start .pre .1 .1 in
+    going-length g (going t loop _ g)
 
 write-vertex-returns-3 : (t : ℕ) → write-vertex-lts.Need-returns-3 (write-vertex-claims t) (write-vertex-at t) write-vertex.Post write-vertex-Inv-loop write-vertex-μ-loop
 write-vertex-returns-3 t c = λ input g. going-over g (going t (c .before) input g) (c .loop-test .left)
