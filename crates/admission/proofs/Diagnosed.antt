@@ -131,7 +131,9 @@ module _ (words : List ℕ) (short : length words ≤ maxWords) where
     where
       go : Dec (maxWideTerminals < grammarOf words .terminals) → DiagnosisBy Two words (faultyOr (twoTokensFault o words) o)
       go (yes l) = subst (DiagnosisBy Two words) (many-terminals o words h l) (too-many l b)
-      go (no l) = let few : grammarOf words .terminals ≤ maxWideTerminals = omega (arith, l) in subst (DiagnosisBy Two words) (words-then o words h few) (words-tell few)
+      go (no l) =
+          let few : grammarOf words .terminals ≤ maxWideTerminals = omega (arith, l) in
+          subst (DiagnosisBy Two words) (words-then o words h few) (words-tell few)
 
 two-diagnosed : (words : List ℕ) (o : Outcome) → Diagnosis words o → DiagnosisBy Two words (faultyOr (twoTokensFault o words) o)
 two-diagnosed words _ (Diagnosis.long l) = subst (DiagnosisBy Two words) (heading-first (Faulty Length) words refl) (DiagnosisBy.long l)

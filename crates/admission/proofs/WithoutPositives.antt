@@ -138,7 +138,8 @@ and-false false = refl
 behind-word : (w : Word) (s : State) (p : Parsed) → allows w s ≡ true → Shape (after w s) p → Each Positives (onWord w p .rules)
     → Open s (onWord w p) → Behind w s p
 unfolding onWord
-behind-word (RuleWord A) s p a h r o = record { quiet = and-false (isOpened s); each = λ x m. r x (List·Memᴰ·tail m); rest = r (ruleOf A p) (List·Memᴰ·head refl) }
+behind-word (RuleWord A) s p a h r o =
+    record { quiet = and-false (isOpened s); each = λ x m. r x (List·Memᴰ·tail m); rest = r (ruleOf A p) (List·Memᴰ·head refl) }
 behind-word Positive s p a h r o = record { quiet = and-false (isOpened s); each = r; rest = tt }
 behind-word Negative s p a h r o = record { quiet = go s o; each = r; rest = tt }
   where

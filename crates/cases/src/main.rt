@@ -1,5 +1,5 @@
-// Document 01's limit cases and those of requests P1, P7, P8, P10 and P14. Each grammar is a file; behind its name stands what the program sheet prints of it, or, for
-// each input, the first line of what the program judge prints.
+// Document 01's limit cases and those of requests P1, P7, P8, P10 and P14. Each grammar is a file; behind its name stands what the program sheet
+// prints of it, or, for each input, the first line of what the program judge prints.
 ghost use Rattle.io.specs.Counts.{Counts};
 use grammar::limits::MEMO_ENTRIES;
 use grammar::limits::PLACES;

@@ -28,11 +28,13 @@ use Rattle.claims.specs.contracts.Overruns.{HeadsGiven, Overrunning}
 use Rattle.claims.proofs.OverrunSets.{overruns-told}
 
 -- the families that are found: a grammar to go on with, or a refusal
-pub given : {k : Lookahead} {words : List ℕ} {z : Sizes} {r : Families} → FoundFamilies k words z r → FamiliesGiven k words z (r .starts) (r .meets) (r .follows)
+pub given : {k : Lookahead} {words : List ℕ} {z : Sizes} {r : Families} → FoundFamilies k words z r
+    → FamiliesGiven k words z (r .starts) (r .meets) (r .follows)
 given f = record { read = f .read; begins = f .begins; met = f .met; follow = f .follow }
 
 pub refused-claims : (k : Lookahead) (words : List ℕ) {r : Families} {x : Error} → r ≡ familiesOf k words → r .finding ≡ Refused x
-    → claimsWith (r .finding) (r .starts) (r .firsts) (r .follows) (replicate maxRules 0) (replicate maxRules 0) (replicate maxNonterminals 0) ≡ claimsOf k words
+    → claimsWith (r .finding) (r .starts) (r .firsts) (r .follows) (replicate maxRules 0) (replicate maxRules 0) (replicate maxNonterminals 0)
+    ≡ claimsOf k words
 unfolding claimsOf familiesOf
 refused-claims k words {r} e q = rw (e, families-refused k words e q)
 

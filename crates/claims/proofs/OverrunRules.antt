@@ -50,7 +50,8 @@ unfolding aloneIn anyOf
 overrun-none k follows = record { long = length-replicate {A = ℕ} maxNonterminals 0; each = λ A. getD-zeros maxNonterminals A }
 
 -- one rule more
-one-more : (k : Lookahead) (alone more others : Bool) → choose (alone && more) (terminal k 0) (overrunSet k (others && more)) ≡ overrunSet k ((alone || others) && more)
+one-more : (k : Lookahead) (alone more others : Bool)
+    → choose (alone && more) (terminal k 0) (overrunSet k (others && more)) ≡ overrunSet k ((alone || others) && more)
 one-more k true true others = refl
 one-more k true false true = refl
 one-more k true false false = refl

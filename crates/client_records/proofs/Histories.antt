@@ -57,10 +57,13 @@ module _ {us vs : List Usage} {client : ℕ} {x : Answer} (charges : Charges cli
       go false q = charges .others k (eqb-false client k q)
 
   pub continues-with : (first : List Usage) (h : List Reply) → Continues first h us → Continues first (h ++ reply client x ∷ []) vs
-  continues-with first h c = continued (λ k b. of-each k b ∙ go k (eqb client k) (c .one-by-one k b) ∙ ap (recordOf (usageOfClient first k)) (sym (answers-append k h (reply client x))))
+  continues-with first h c =
+      continued (λ k b. of-each k b ∙ go k (eqb client k) (c .one-by-one k b)
+      ∙ ap (recordOf (usageOfClient first k)) (sym (answers-append k h (reply client x))))
     where
       go : (k : ℕ) (b : Bool) → usageOfClient us k ≡ recordOf (usageOfClient first k) (answersTo k h)
-          → choose b (counted (usageOfClient us k) x) (usageOfClient us k) ≡ recordOf (usageOfClient first k) (choose b (answersTo k h ++ x ∷ []) (answersTo k h))
+          → choose b (counted (usageOfClient us k) x) (usageOfClient us k)
+          ≡ recordOf (usageOfClient first k) (choose b (answersTo k h ++ x ∷ []) (answersTo k h))
       go k true e = ap (λ (u : Usage). counted u x) e ∙ sym (record-append (usageOfClient first k) (answersTo k h) x)
       go k false e = e
 

@@ -133,7 +133,8 @@ all-called idle = refl
 all-called (next {us = us} {c = c} {h = h} r table′ memo′ j rest) =
     let s : Reply = reply (c .client) (r .answer) in
     let g : ℕ → ℕ = λ k. total calledOf (answersTo k h) in
-    let more = sum-alike clients (λ k. total calledOf (answersTo k (s ∷ h))) (λ k. choose (eqb (c .client) k) (calledOf (r .answer) + g k) (g k)) (exact-more s h) in
+    let more = sum-alike clients (λ k. total calledOf (answersTo k (s ∷ h)))
+    (λ k. choose (eqb (c .client) k) (calledOf (r .answer) + g k) (g k)) (exact-more s h) in
     omega (arith, more, added-once clients (c .client) (calledOf (r .answer)) g, counts (ltb (c .client) clients) refl, all-called rest)
   where
     -- an answer to no client has no calls

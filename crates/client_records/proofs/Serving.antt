@@ -89,7 +89,8 @@ module _ (client share limit : ℕ) (us : List Usage) (eight : length us ≡ cli
         );
       }
 
-  pub unknown-client : clients ≤ client → JudgesFor client share limit words input table memo us (record { answer = Refused UnknownClient; usages = us }) table memo
+  pub unknown-client : clients ≤ client
+      → JudgesFor client share limit words input table memo us (record { answer = Refused UnknownClient; usages = us }) table memo
   unknown-client h = serves
       (leaves-refused (first-unknown client share limit (calledBy us) (length table) (length memo) words input h) (refl, (refl, tt)))
       (λ b _. absurd (omega arith))

@@ -40,7 +40,8 @@ pub data Run : List Usage → List Call → List Reply → List Usage → Type 0
 unfoldable pub replyBy : (ℕ → ℕ) → Call → Reply
 replyBy called c =
     reply (c .client)
-    (refusedOr (clientFault (c .client) (c .share) (c .limit) called (length (c .table)) (length (c .memo)) (c .words) (c .input)) (verdictOf One (grammarOf (c .words)) (c .input)))
+    (refusedOr (clientFault (c .client) (c .share) (c .limit) called (length (c .table)) (length (c .memo)) (c .words) (c .input))
+    (verdictOf One (grammarOf (c .words)) (c .input)))
 
 -- and how many they have called with it
 abbrev pub calledWith : (ℕ → ℕ) → Reply → ℕ → ℕ

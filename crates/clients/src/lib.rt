@@ -20,7 +20,8 @@ pub fn judge_for(
     memo: &mut [u16],
     usages: [Usage; CLIENTS],
 ) -> Served
-    ensures { λ r. ⌜ JudgesFor client share limit (now (words .entry)) (inputOf (now (events .entry))) (now (table .entry)) (now (memo .entry)) usages r (now (table .exit)) (now (memo .exit)) ⌝ }
+    ensures { λ r. ⌜ JudgesFor client share limit (now (words .entry)) (inputOf (now (events .entry))) (now (table .entry)) (now (memo .entry)) usages r
+        (now (table .exit)) (now (memo .exit)) ⌝ }
 {
     if CLIENTS <= client as usize {
         return Served {

@@ -103,7 +103,8 @@ two-digits s b l = ap (λ (n : ℕ). has n l) (shl-exact {a = s / 2 ^ 8} 49 8 wi
     go (yes h) = rw (has-under (s / 2 ^ 8) 8 l h, two-short l h) (sym (and-false (has s l)))
     go (no h) =
         let e : l ≡ 8 + (l - 8) = omega arith in
-        rw (two-long l (omega arith)) (ap (has (s / 2 ^ 8 * 2 ^ 8)) e ∙ has-over (s / 2 ^ 8) 8 (l - 8) ∙ has-shift s 8 (l - 8) ∙ ap (has s) (sym e) ∙ sym (and-true (has s l)))
+        rw (two-long l (omega arith))
+        (ap (has (s / 2 ^ 8 * 2 ^ 8)) e ∙ has-over (s / 2 ^ 8) 8 (l - 8) ∙ has-shift s 8 (l - 8) ∙ ap (has s) (sym e) ∙ sym (and-true (has s l)))
 
 pub long-one : {k : Lookahead} (s : ℕ) → k ≡ One → s < 2 ^ elements k → Has (bitAnd s (2 ^ 24 - 1)) (λ l. has s l && isLong k l)
 long-one s o h l = let b : s < 2 ^ 25 = rw o at h in rw o (one-digits s b l)

@@ -140,7 +140,8 @@ pub rows-none : (x y : ℕ) {r : ℕ} → Empty r → Has r (inRows x y 0)
 unfolding inRows anyBelow
 rows-none x y e c = e .member c
 
-pub rows-more : (x y n : ℕ) {v r r′ : ℕ} → Has r (inRows x y n) → Has v (λ c. has x (suc n) && behind Two (suc n) y c) → Joined v r r′ → Has r′ (inRows x y (n + 1))
+pub rows-more : (x y n : ℕ) {v r r′ : ℕ} → Has r (inRows x y n) → Has v (λ c. has x (suc n) && behind Two (suc n) y c)
+    → Joined v r r′ → Has r′ (inRows x y (n + 1))
 unfolding inRows anyBelow
 rows-more x y n h i j c = rw (add-one n) (j .member c ∙ ap₂ _||_ (i c) (h c))
 
@@ -158,7 +159,8 @@ firsts-more y n h i j l = j .member l ∙ ap₂ _||_ (i l) (h l) ∙ go (decLt l
     go : Dec (l < n) → Dec (l ≡ n) → ((begins y n && eqb l n) || (ltb l n && begins y l)) ≡ (ltb l (n + 1) && begins y l)
     go (yes b) (yes e) = absurd (omega arith)
     go (yes b) (no e) = rw (lt-ltb l n b, ne-eqb l n e, lt-ltb l (n + 1) (omega arith), and-false (begins y n))
-    go (no b) (yes e) = rw (le-ltb l n (omega arith), eq-eqb l n e, lt-ltb l (n + 1) (omega arith), and-true (begins y n), or-false (begins y n)) (ap (begins y) (sym e))
+    go (no b) (yes e) =
+        rw (le-ltb l n (omega arith), eq-eqb l n e, lt-ltb l (n + 1) (omega arith), and-true (begins y n), or-false (begins y n)) (ap (begins y) (sym e))
     go (no b) (no e) = rw (le-ltb l n (omega arith), ne-eqb l n e, le-ltb l (n + 1) (omega arith), and-false (begins y n))
 
 pub firsts-all : (y n r : ℕ) → n ≤ 7 → 7 ≤ n → Has r (λ l. ltb l n && begins y l) → Has r (λ l. ltb l 7 && begins y l)

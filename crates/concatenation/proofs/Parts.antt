@@ -109,7 +109,8 @@ module _ (k : Lookahead) (x y : ℕ) where
           let a = low x l (and-l (has first l) (isLong k l) v) in
           let e = some-element second ne in
           let b = low y (e .0) (e .1) in
-          pair-in k x y l (record { a = l; b = e .0; a-below = a .0; b-below = b .0; a-in = a .1; b-in = b .1; is-after = long-after k l (e .0) (and-r (has first l) (isLong k l) v) })
+          pair-in k x y l (record
+          { a = l; b = e .0; a-below = a .0; b-below = b .0; a-in = a .1; b-in = b .1; is-after = long-after k l (e .0) (and-r (has first l) (isLong k l) v) })
       | inr v ↦
           let a = low x (nothing k) (and-l (has first (nothing k)) (has second l) v) in
           let b = low y l (and-r (has first (nothing k)) (has second l) v) in
@@ -117,7 +118,16 @@ module _ (k : Lookahead) (x y : ℕ) where
     ]
     | inr u ↦
         let p = middle-elim k first second l u in
-        pair-in k x y l (record { a = p .a; b = p .b; a-below = p .a-below; b-below = p .b-below; a-in = low x (p .a) (p .a-in) .1; b-in = low y (p .b) (p .b-in) .1; is-after = p .is-after })
+        pair-in k x y l (record {
+          a = p .a;
+          b = p .b;
+          a-below = p .a-below;
+          b-below = p .b-below;
+          a-in = low x (p .a) (p .a-in) .1;
+          b-in =
+              low y (p .b) (p .b-in) .1;
+          is-after = p .is-after;
+        })
   ]
 
   from : (l : ℕ) → T (inConcat k x y l) → T (parts l)
@@ -137,7 +147,8 @@ module _ (k : Lookahead) (x y : ℕ) where
           (and-make (has first (nothing k)) (has second l) (rw u at (high x (p .a) (p .a-below) (p .a-in))) (rw e at (high y (p .b) (p .b-below) (p .b-in)))))
       go p (inr (inr u)) =
           or-r ((has first l && isLong k l) || (has first (nothing k) && has second l)) (inMiddle k first second l)
-          (middle-make k first second l (p .a) (p .b) u (p .b-below) (high x (p .a) (p .a-below) (p .a-in)) (high y (p .b) (p .b-below) (p .b-in)) (p .is-after))
+          (middle-make k first second l (p .a) (p .b) u (p .b-below) (high x (p .a) (p .a-below) (p .a-in))
+          (high y (p .b) (p .b-below) (p .b-in)) (p .is-after))
 
   -- what has the parts' elements is the concatenation
   concat-made : isEmpty second ≡ false → {r : ℕ} → Has r parts → Concatenated k x y r

@@ -127,7 +127,8 @@ module _ {starts : List ℕ} {columns : ℕ} {entries : List ℕ} {tokens A : �
             ∙ sym (rw (lt-ltb c columns k))
         go (no k) (yes e) r =
             rw (e, le-ltb endColumn columns (omega arith))
-            (getD-set-other ended row end (A * (tokens + 1)) 0 (λ q. absurd (omega arith)) ∙ getD-set-same now end tokens 0 (omega (arith, now-long, placed .to)))
+            (getD-set-other ended row end (A * (tokens + 1)) 0 (λ q. absurd (omega arith))
+            ∙ getD-set-same now end tokens 0 (omega (arith, now-long, placed .to)))
         go (no k) (no e) (yes r) =
             rw (r, le-ltb rowColumn columns (omega arith)) (getD-set-same ended row (A * (tokens + 1)) 0 (omega (arith, ended-long, placed .to)))
         go (no k) (no e) (no r) =

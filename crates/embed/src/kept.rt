@@ -81,7 +81,8 @@ pub extern "C" fn vinegarspit_log_judge(
     table: &mut [u32],
     memo: &mut [u16],
 ) -> u64
-    ensures { λ r. ⌜ KeptExported One (now (card .entry)) (now (events .entry)) (now (state .entry)) (now (table .entry)) (now (memo .entry)) r (now (table .exit)) (now (memo .exit)) ⌝ }
+    ensures { λ r. ⌜ KeptExported One (now (card .entry)) (now (events .entry)) (now (state .entry)) (now (table .entry)) (now (memo .entry)) r
+        (now (table .exit)) (now (memo .exit)) ⌝ }
 {
     let kept = kept_in(events, state);
     let answer = judge_kept(card, kept, table, memo);
@@ -96,7 +97,8 @@ pub extern "C" fn vinegarspit_log_judge2(
     table2: &mut [u64],
     memo: &mut [u16],
 ) -> u64
-    ensures { λ r. ⌜ KeptExported Two (now (card .entry)) (now (events .entry)) (now (state .entry)) (now (table2 .entry)) (now (memo .entry)) r (now (table2 .exit)) (now (memo .exit)) ⌝ }
+    ensures { λ r. ⌜ KeptExported Two (now (card .entry)) (now (events .entry)) (now (state .entry)) (now (table2 .entry)) (now (memo .entry)) r
+        (now (table2 .exit)) (now (memo .exit)) ⌝ }
 {
     let kept = kept_in(events, state);
     let answer = judge_kept_wide(card, kept, table2, memo);

@@ -28,7 +28,8 @@ pub extern "C" fn vinegarspit_judge(
     table: &mut [u32],
     memo: &mut [u16],
 ) -> u64
-    ensures { λ r. ⌜ JudgeExported One (now (card .entry)) (inputOf (now (log .entry))) (now (table .entry)) (now (memo .entry)) r (now (table .exit)) (now (memo .exit)) ⌝ }
+    ensures { λ r. ⌜ JudgeExported One (now (card .entry)) (inputOf (now (log .entry))) (now (table .entry)) (now (memo .entry)) r
+        (now (table .exit)) (now (memo .exit)) ⌝ }
 {
     let answer = judge(card, log, table, memo);
     pack(answer)

@@ -11,7 +11,8 @@ pub extern "C" fn vinegarspit_costliest(
     table: &mut [u32],
     memo: &mut [u16],
 ) -> u64
-    ensures { λ r. ⌜ CostliestExported (now (card .entry)) tokens (now (log .entry)) (now (table .entry)) (now (memo .entry)) r (now (log .exit)) (now (table .exit)) (now (memo .exit)) ⌝ }
+    ensures { λ r. ⌜ CostliestExported (now (card .entry)) tokens (now (log .entry)) (now (table .entry)) (now (memo .entry)) r (now (log .exit))
+        (now (table .exit)) (now (memo .exit)) ⌝ }
 {
     let answer = judge_costliest(card, tokens, log, table, memo);
     pack(answer)

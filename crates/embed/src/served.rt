@@ -20,7 +20,8 @@ pub extern "C" fn vinegarspit_judge_for(
     memo: &mut [u16],
     usage: &mut [u32; ROW],
 ) -> u64
-    ensures { λ r. ⌜ ServedExported client share limit (now (card .entry)) (inputOf (now (log .entry))) (now (table .entry)) (now (memo .entry)) (now (usage .entry)) r (now (table .exit)) (now (memo .exit)) (now (usage .exit)) ⌝ }
+    ensures { λ r. ⌜ ServedExported client share limit (now (card .entry)) (inputOf (now (log .entry))) (now (table .entry)) (now (memo .entry))
+        (now (usage .entry)) r (now (table .exit)) (now (memo .exit)) (now (usage .exit)) ⌝ }
 {
     let old = *usage;
     let before = usages_in(old);

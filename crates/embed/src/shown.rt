@@ -13,7 +13,8 @@ pub extern "C" fn vinegarspit_tree(
     tree: &mut [u32],
     written: &mut u32,
 ) -> u64
-    ensures { λ r. ⌜ TreeExported (now (card .entry)) (inputOf (now (log .entry))) (now (table .entry)) (now (memo .entry)) (now (tree .entry)) r (now (table .exit)) (now (memo .exit)) (now (tree .exit)) (now (written .exit)) ⌝ }
+    ensures { λ r. ⌜ TreeExported (now (card .entry)) (inputOf (now (log .entry))) (now (table .entry)) (now (memo .entry)) (now (tree .entry)) r
+        (now (table .exit)) (now (memo .exit)) (now (tree .exit)) (now (written .exit)) ⌝ }
 {
     let shown = judge_tree(card, log, table, memo, tree);
     let answer = shown.answer;

@@ -21,7 +21,8 @@ pub extern "C" fn vinegarspit_judge2(
     table2: &mut [u64],
     memo: &mut [u16],
 ) -> u64
-    ensures { λ r. ⌜ JudgeExported Two (now (card .entry)) (inputOf (now (log .entry))) (now (table2 .entry)) (now (memo .entry)) r (now (table2 .exit)) (now (memo .exit)) ⌝ }
+    ensures { λ r. ⌜ JudgeExported Two (now (card .entry)) (inputOf (now (log .entry))) (now (table2 .entry)) (now (memo .entry)) r
+        (now (table2 .exit)) (now (memo .exit)) ⌝ }
 {
     let answer = judge_wide(card, log, table2, memo);
     pack(answer)

@@ -35,7 +35,8 @@ pub costliest-exported : {words : List ℕ} {k : ℕ} {log table memo log′ tab
     → JudgesCostliest words k log table memo a log′ table′ memo′ → r ≡ packed (cut (numbers a)) → CostliestExported words k log table memo r log′ table′ memo′
 costliest-exported {a = a} j e = record { result = a; promise = j; packs = packs (costliest-fits j) e }
 
-pub served-exported : {client share limit : ℕ} {words input table memo table′ memo′ row row′ : List ℕ} {us : List Usage} {x : Served} {r : ℕ} → us ≡ usagesIn row
+pub served-exported : {client share limit : ℕ} {words input table memo table′ memo′ row row′ : List ℕ} {us : List Usage} {x : Served} {r : ℕ}
+    → us ≡ usagesIn row
     → JudgesFor client share limit words input table memo us x table′ memo′
     → usagesIn row′ ≡ x .usages
     → r ≡ packed (cut (numbers (x .answer)))
@@ -53,7 +54,8 @@ pub tabular-exported : {words input before after : List ℕ} {a : Answer} {r : �
     → TabularExported words input before r after
 tabular-exported {a = a} j e = record { result = a; promise = j; packs = packs (tabular-fits j) e }
 
-pub tree-exported : {words input table memo tree table′ memo′ tree′ : List ℕ} {x : Shown} {r written′ : ℕ} → Shows words input table memo tree x table′ memo′ tree′
+pub tree-exported : {words input table memo tree table′ memo′ tree′ : List ℕ} {x : Shown} {r written′ : ℕ}
+    → Shows words input table memo tree x table′ memo′ tree′
     → written′ ≡ x .written
     → r ≡ packed (cut (numbers (x .answer)))
     → TreeExported words input table memo tree r table′ memo′ tree′ written′

@@ -107,7 +107,8 @@ calls-fit k words input table memo e =
     let some-nonterminal : 0 < G .nonterminals = r .limited .someNonterminal in
     let own = theorems .own-rules G (tokens k) input in
     let c = theorems .calls-counted G (r .formed .scoped) free some-nonterminal (tableChoice G (tokens k) input) own input in
-    let m = mul-le-mul {n₁ = G .nonterminals} {m₁ = suc (length input)} {n₂ = maxNonterminals} {m₂ = maxPlaces} (r .limited .fewNonterminals) (omega (arith, h .1)) in
+    let m = mul-le-mul {n₁ = G .nonterminals} {m₁ = suc (length input)} {n₂ = maxNonterminals} {m₂ = maxPlaces}
+    (r .limited .fewNonterminals) (omega (arith, h .1)) in
     let far = c .farthest-called in
     let within = called-range G (tableChoice G (tokens k) input) input (r .formed .scoped) free own some-nonterminal (far .0) (far .1) in
     (omega (arith, c .bounded), omega (arith, far .2, within .1, h .1))
@@ -123,21 +124,28 @@ pub judge-fits : {k : Lookahead} {words input table memo table′ memo′ : List
 unfolding verdictOf
 judge-fits {k} {words} {input} {table} {memo} j =
     let G = grammarOf words in
-    fits-by (judgeFault k (length table) (length memo) words input) (verdictOf k G input) (j .leaves .answer) (judge-each (judge-low k words) (length table) (length memo) input)
-    (λ q. rw (j .leaves .answer, q) (verdict-fits (accepts G (tableChoice G (tokens k) input) input) (callsOf k G input) (calls-fit k words input (length table) (length memo) q)))
+    fits-by (judgeFault k (length table) (length memo) words input) (verdictOf k G input) (j .leaves .answer)
+    (judge-each (judge-low k words) (length table) (length memo) input)
+    (λ q. rw (j .leaves .answer, q)
+    (verdict-fits (accepts G (tableChoice G (tokens k) input) input) (callsOf k G input) (calls-fit k words input (length table) (length memo) q)))
 
 -- one of the costliest input
-pub costliest-fits : {words : List ℕ} {k : ℕ} {log table memo log′ table′ memo′ : List ℕ} {a : Answer} → JudgesCostliest words k log table memo a log′ table′ memo′
+pub costliest-fits : {words : List ℕ} {k : ℕ} {log table memo log′ table′ memo′ : List ℕ} {a : Answer}
+    → JudgesCostliest words k log table memo a log′ table′ memo′
     → NumbersFit (numbers a)
 costliest-fits {words} {k} {log} {table} {memo} j =
-    fits-by (costliestFault (length log) (length table) (length memo) words k) (verdictOf One (grammarOf words) (costliestInput (grammarOf words) k)) (j .leaves .answer)
+    fits-by (costliestFault (length log) (length table) (length memo) words k)
+    (verdictOf One (grammarOf words) (costliestInput (grammarOf words) k)) (j .leaves .answer)
     (costliest-each (judge-low One words) (omega arith) (omega arith) (length log) (length table) (length memo) k)
-    (λ q. judge-fits (j .searched (verdict-unrefused One (grammarOf words) (costliestInput (grammarOf words) k) (j .leaves .answer ∙ ap (λ f. refusedOr f (verdictOf One (grammarOf words) (costliestInput (grammarOf words) k))) q)) .judges))
+    (λ q. judge-fits (j .searched
+    (verdict-unrefused One (grammarOf words) (costliestInput (grammarOf words) k)
+    (j .leaves .answer ∙ ap (λ f. refusedOr f (verdictOf One (grammarOf words) (costliestInput (grammarOf words) k))) q)) .judges))
 
 -- one for a client: turned away at place 0, or judged
 pub served-fits : {client share limit : ℕ} {words input table memo table′ memo′ : List ℕ} {us : List Usage} {x : Served}
     → JudgesFor client share limit words input table memo us x table′ memo′ → NumbersFit (numbers (x .answer))
-served-fits {client} {share} {limit} {us = us} {x = x} j = go (decLt client clients) (decLe share (calledBy us client)) (decLe limit (sumBelow clients (calledBy us)))
+served-fits {client} {share} {limit} {us =
+    us} {x = x} j = go (decLt client clients) (decLe share (calledBy us client)) (decLe limit (sumBelow clients (calledBy us)))
   where
     go : Dec (client < clients) → Dec (share ≤ calledBy us client) → Dec (limit ≤ sumBelow clients (calledBy us)) → NumbersFit (numbers (x .answer))
     go (no h) s l = rw (j .unknown .1 (omega (arith, h))) (refused-fits UnknownClient (omega arith))
@@ -149,7 +157,8 @@ served-fits {client} {share} {limit} {us = us} {x = x} j = go (decLt client clie
 pub tabular-fits : {words input before after : List ℕ} {a : Answer} → TabularJudges words input before a after → NumbersFit (numbers a)
 unfolding tabularVerdict
 tabular-fits {words} {input} {before} j =
-    fits-by (tabularFault (length before) words input) (tabularVerdict (grammarOf words) input) (j .leaves .answer) (tabular-each (sets-low One) (omega arith) input-low (length before) words input)
+    fits-by (tabularFault (length before) words input) (tabularVerdict (grammarOf words) input) (j .leaves .answer)
+    (tabular-each (sets-low One) (omega arith) input-low (length before) words input)
     (λ q. rw (j .leaves .answer, q) (verdict-fits (solution (grammarOf words) input 0 0 (length input)) noCalls (omega arith, omega arith)))
 
 -- a judgement with a tree

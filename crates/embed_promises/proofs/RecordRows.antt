@@ -98,7 +98,8 @@ module _ {us : List Usage} {n : ℕ} {row : List ℕ} (w : Written us n row) (h 
 
 -- eight elements, one by one
 eight : (l : List Usage) → length l ≡ 8
-    → usageOfClient l 0 ∷ usageOfClient l 1 ∷ usageOfClient l 2 ∷ usageOfClient l 3 ∷ usageOfClient l 4 ∷ usageOfClient l 5 ∷ usageOfClient l 6 ∷ usageOfClient l 7 ∷ [] ≡ l
+    → usageOfClient l 0 ∷ usageOfClient l 1 ∷ usageOfClient l 2 ∷ usageOfClient l 3 ∷ usageOfClient l 4 ∷ usageOfClient l 5
+    ∷ usageOfClient l 6 ∷ usageOfClient l 7 ∷ [] ≡ l
 eight [] h = absurd (omega arith)
 eight (a ∷ []) h = absurd (omega arith)
 eight (a ∷ b ∷ []) h = absurd (omega arith)
@@ -113,4 +114,13 @@ eight (a ∷ b ∷ c ∷ e ∷ g ∷ i ∷ j ∷ k ∷ m ∷ l) h = absurd (omeg
 pub all-written : {us : List Usage} {n : ℕ} {row : List ℕ} → Written us n row → clients ≤ n → length us ≡ clients → usagesIn row ≡ us
 all-written {us} {n} {row} w h long =
     let each : (k : ℕ) → k < clients → usageAt row k ≡ usageOfClient us k = λ k b. w .same k (omega arith) in
-    rw (each 0 (omega arith), each 1 (omega arith), each 2 (omega arith), each 3 (omega arith), each 4 (omega arith), each 5 (omega arith), each 6 (omega arith), each 7 (omega arith)) (eight us long)
+    rw (
+      each 0 (omega arith),
+      each 1 (omega arith),
+      each 2 (omega arith),
+      each 3 (omega arith),
+      each 4 (omega arith),
+      each 5 (omega arith),
+      each 6 (omega arith),
+      each 7 (omega arith),
+    ) (eight us long)

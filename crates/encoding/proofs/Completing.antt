@@ -33,7 +33,8 @@ passes p at (w ∷ ws) us z e =
     let h = passes (g .0) (suc at) ws us z (g .2) in
     record {
       come = h .come;
-      through = λ vs j. let n : j + suc (length ws) ≡ suc j + length ws = omega arith in rw (n, goes-anywhere (decoded w) p (g .0) at j (g .1)) (h .through vs (suc j));
+      through = λ vs j. let n : j + suc (length ws) ≡ suc j + length ws = omega arith in
+          rw (n, goes-anywhere (decoded w) p (g .0) at j (g .1)) (h .through vs (suc j));
     }
 
 pub record Completed (words : List ℕ) : Type 0 where

@@ -78,7 +78,10 @@ unfolding grammarOf encode
 encoded G f l =
     let n : G .nonterminals < 2 ^ 8 = omega (arith, l .fewNonterminals) in
     let t : G .terminals < 2 ^ 8 = omega (arith, l .fewTerminals) in
-    rw (decoded-heading (G .nonterminals) (G .terminals) n t, rules-parsed (G .nonterminals) (G .terminals) n t (G .rules) (endWord ∷ []) (rules-fit G f) end-parsed)
+    rw (
+      decoded-heading (G .nonterminals) (G .terminals) n t,
+      rules-parsed (G .nonterminals) (G .terminals) n t (G .rules) (endWord ∷ []) (rules-fit G f) end-parsed,
+    )
 
 pub encodes-grammar : (words : List ℕ) (G : Grammar) → Encodes words G → grammarOf words ≡ G
 encodes-grammar words G e = ap grammarOf (e .encoded) ∙ encoded G (e .formed) (e .limited)

@@ -49,7 +49,8 @@ module _ (words : List ℕ) (i : ℕ) (x : Error) (h : Place words i x) where
       let s = may-stand words i x h (Terminal 0) (decoded-symbol (Terminal 0) (omega arith)) a (lt-ltb 0 (h .come .sizes .terminals) (h .someTerminal)) in
       OutOfRangeAt.terminal (o .0) (s .0) (omega (arith, ltb-false t (h .come .sizes .terminals) r, o .1, ap (λ (z : Sizes). z .terminals) (s .1)))
   out-of-range (Symbol (Nonterminal A)) o a r =
-      let s = may-stand words i x h (Nonterminal 0) (decoded-symbol (Nonterminal 0) (omega arith)) a (lt-ltb 0 (h .come .sizes .nonterminals) (h .someNonterminal)) in
+      let s = may-stand words i x h (Nonterminal 0) (decoded-symbol (Nonterminal 0) (omega arith)) a
+      (lt-ltb 0 (h .come .sizes .nonterminals) (h .someNonterminal)) in
       OutOfRangeAt.nonterminal (o .0) (s .0) (omega (arith, ltb-false A (h .come .sizes .nonterminals) r, o .1, ap (λ (z : Sizes). z .nonterminals) (s .1)))
   out-of-range Positive o a r = absurd (false≢true (sym r))
   out-of-range Negative o a r = absurd (false≢true (sym r))
@@ -107,7 +108,14 @@ diagnosed-place : (words : List ℕ) (i : ℕ) (x : Error) → length words ≤ 
 diagnosed-place words i x short e h = go (decLt i (length words))
   where
     first : FirstFault words i
-    first = record { among = h .among; before = begun words i x h; here = stuck words i x h; whole = λ G c. faulty x (sizesOf G) (sym e ∙ encodes-opened words G c) }
+    first =
+        record {
+          among = h .among;
+          before = begun words i x h;
+          here = stuck words i x h;
+          whole =
+              λ G c. faulty x (sizesOf G) (sym e ∙ encodes-opened words G c);
+        }
 
     why : (t : Step) → Stepped (decoded (getD words i 0)) (h .come) i t → t ≡ Stop x → WordFault words i x
     why _ (Stepped.unexpected a) s = rw (stop-same (UnexpectedWord i) x s) (WordFault.unexpected (not-ranged words i x h a) (not-many words i x h a))
@@ -119,7 +127,9 @@ diagnosed-place words i x short e h = go (decLt i (length words))
     why _ (Stepped.other a r b) s = absurd (never x _ (sym s))
 
     go : Dec (i < length words) → Diagnosis words (Faulty x)
-    go (yes l) = Diagnosis.behind short (h .behind) first (why (stepped (decoded (getD words i 0)) (h .come) i) (stepping (decoded (getD words i 0)) (h .come) i) (h .word l))
+    go (yes l) =
+        Diagnosis.behind short (h .behind) first
+        (why (stepped (decoded (getD words i 0)) (h .come) i) (stepping (decoded (getD words i 0)) (h .come) i) (h .word l))
     go (no l) =
         let n : length words ≤ i = omega arith in
         rw (h .end (omega (arith, h .among))) (Diagnosis.behind short (h .behind) first (WordFault.unexpected (over-ranged words i n) (over-many words i n)))
@@ -132,7 +142,9 @@ begins-nothing = begins [] (headingWord 1 1 ∷ endWord ∷ []) (sizes 1 1 0) re
 diagnosed-heading : (words : List ℕ) → length words ≤ maxWords → opened words ≡ Faulty HeadingFault
     → (0 < length words → BeginsEncoding (take 1 words) → ⊥)
     → Diagnosis words (Faulty HeadingFault)
-diagnosed-heading words short e n = Diagnosis.heading short (record { among = omega arith; before = begins-nothing; here = n; whole = λ G c. faulty HeadingFault (sizesOf G) (sym e ∙ encodes-opened words G c) })
+diagnosed-heading words short e n =
+    Diagnosis.heading short
+    (record { among = omega arith; before = begins-nothing; here = n; whole = λ G c. faulty HeadingFault (sizesOf G) (sym e ∙ encodes-opened words G c) })
 
 -- by the first word
 diagnosed-opened : (words : List ℕ) → length words ≤ maxWords → Diagnosis words (opened words)

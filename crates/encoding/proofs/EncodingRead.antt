@@ -120,7 +120,8 @@ module _ (n t : ℕ) (fewNonterminals : n < 2 ^ 8) (fewTerminals : t < 2 ^ 8) wh
       → ((s : State) → Between s → Goes (progress s (sizes n t (k + 1))) ws z) → Goes (progress s (sizes n t k)) (ruleWords r ws) z
   unfolding ruleWords
   rule-goes r s k z ws b l h g =
-      goes-rule (ruleWord (r .head)) (RuleWord (r .head)) s (sizes n t k) z _ (decoded-rule (r .head) (omega (arith, h .head))) b (lt-ltb (r .head) n (h .head)) refl l
+      goes-rule (ruleWord (r .head)) (RuleWord (r .head)) s (sizes n t k) z _
+      (decoded-rule (r .head) (omega (arith, h .head))) b (lt-ltb (r .head) n (h .head)) refl l
       (conjuncts-go (r .positives) (r .negatives) (k + 1) z ws (h .conjunct)
       (λ x m. h .inRange x (Memᴰ·append-left (r .negatives) m)) (λ x m. h .inRange x (Memᴰ·append-right (r .positives) m))
       (λ s w. g s (within-between s w)))

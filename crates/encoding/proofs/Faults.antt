@@ -115,7 +115,8 @@ faults p at (w ∷ ws) x e = go (stepped (decoded w) p at) refl e (λ q. faults 
         record {
           before = suc (h .before);
           come = h .come;
-          through = λ us j. let n : j + suc (h .before) ≡ suc j + h .before = omega arith in rw (n, goes-anywhere (decoded w) p q at j t) (h .through us (suc j));
+          through = λ us j. let n : j + suc (h .before) ≡ suc j + h .before = omega arith in
+              rw (n, goes-anywhere (decoded w) p q at j t) (h .through us (suc j));
           nonterminals = h .nonterminals ∙ k .nonterminals;
           terminals = h .terminals ∙ k .terminals;
           among = omega (arith, h .among);

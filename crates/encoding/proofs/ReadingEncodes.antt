@@ -84,7 +84,8 @@ unparsed p at (w ∷ ws) z e =
     let k = step-passed (decoded w) p (g .0) at (g .1) in
     let r = reads (g .0) (suc at) ws z (g .2) in
     unparsed-allowed (decoded w) (p .state) (w ∷ ws) (k .allowed)
-    (unparsed-word (decoded w) w (p .state) ws (written-as w) (k .allowed) (rw (k .state) at (r .fits .shape)) (rw (k .state) at (unparsed (g .0) (suc at) ws z (g .2))))
+    (unparsed-word (decoded w) w (p .state) ws (written-as w) (k .allowed) (rw (k .state) at (r .fits .shape))
+    (rw (k .state) at (unparsed (g .0) (suc at) ws z (g .2))))
 
 -- a word that declares nonterminals is the heading of what it declares
 heading-written : (v : Word) (w : ℕ) → 0 < declaredBy v .nonterminals → WrittenAs v w
@@ -118,7 +119,12 @@ module _ (w : ℕ) (ws : List ℕ) (z : Sizes)
 
   words-encoded : w ∷ ws ≡ encode (grammarOf (w ∷ ws))
   unfolding encode grammarOf
-  words-encoded = cc (heading-written (decoded w) w (n .some) (written-as w), unparsed (fresh (declaredBy (decoded w))) 1 ws z e, unparse-empty (parse ws) (told .fits .shape))
+  words-encoded =
+      cc (
+        heading-written (decoded w) w (n .some) (written-as w),
+        unparsed (fresh (declaredBy (decoded w))) 1 ws z e,
+        unparse-empty (parse ws) (told .fits .shape),
+      )
 
   headed-encodes : Encodes (w ∷ ws) (grammarOf (w ∷ ws))
   unfolding grammarOf

@@ -26,7 +26,8 @@ pub record FirstFault (words : List ℕ) (i : ℕ) : Type 0 where
   pub here : i < length words → BeginsEncoding (take (suc i) words) → ⊥
   pub whole : (G : Grammar) → Encodes words G → ⊥
 
--- a word of its kind may stand at i, but its number is not below the heading's: a rule may begin where the grammar may end, and a symbol may stand where the one of its kind with number 0 may
+-- a word of its kind may stand at i, but its number is not below the heading's: a rule may begin where the grammar may end, and a symbol may stand
+-- where the one of its kind with number 0 may
 pub data OutOfRangeAt (words : List ℕ) (i : ℕ) : Type 0 where
   head : {G : Grammar} → kind (getD words i 0) ≡ 2 → Encodes (take i words ++ (endWord ∷ [])) G → G .nonterminals ≤ payload (getD words i 0)
       → OutOfRangeAt words i

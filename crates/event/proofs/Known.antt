@@ -44,7 +44,8 @@ token-below n (x ∷ w) h (suc i) l = token-below n w (and-r (ltb x n) _ h) i (o
 -- the search for an unknown token, by the event at an index
 module _ (n : ℕ) (events : List ℕ) (at : ℕ) where
   unknown-at : at < length events
-      → unknownFrom n at (drop at (inputOf events)) ≡ choose (ltb (terminalOf (getD events at 0)) n) (unknownFrom n (suc at) (drop (suc at) (inputOf events))) (At at)
+      → unknownFrom n at (drop at (inputOf events))
+      ≡ choose (ltb (terminalOf (getD events at 0)) n) (unknownFrom n (suc at) (drop (suc at) (inputOf events))) (At at)
   unfolding unknownFrom
   unknown-at h = rw (drop-cons (inputOf events) at 0 (omega (arith, input-length events)), input-at events at)
 

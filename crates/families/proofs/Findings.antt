@@ -106,7 +106,8 @@ found-fault : (k : Lookahead) (words : List ℕ) {x : Error} → findingOf (sets
 unfolding setsFault
 found-fault k words q = told-refused (setsFault k words) (admission k words) (λ y f. rw f) q
 
-pub families-refused : (k : Lookahead) (words : List ℕ) {r : Families} {x : Error} → r ≡ familiesOf k words → r .finding ≡ Refused x → setsFault k words ≡ some x
+pub families-refused : (k : Lookahead) (words : List ℕ) {r : Families} {x : Error} → r ≡ familiesOf k words
+    → r .finding ≡ Refused x → setsFault k words ≡ some x
 unfolding familiesOf
 families-refused k words e q = found-fault k words (sym (ap (λ x. x .finding) e) ∙ q)
 

@@ -51,7 +51,8 @@ module _ {words starts : List ℕ} {z : Sizes} {l₀ : List ℕ} (p : PassGiven 
   few : z .rules ≤ maxRules
   few = well-read words z (p .read) .fewRules
 
-  pub meeting-next : {k : Lookahead} {t : ℕ} {l meets meets′ : List ℕ} (g g′ : Bool) {r : Bool} {i rule v : ℕ} → Meeting k t words (z .rules) forward l₀ meets g i
+  pub meeting-next : {k : Lookahead} {t : ℕ} {l meets meets′ : List ℕ} (g g′ : Bool) {r : Bool} {i rule v : ℕ}
+      → Meeting k t words (z .rules) forward l₀ meets g i
       → (g ≡ false → l ≡ l₀) → i < z .rules → rule ≡ turnOf forward (z .rules) i → v ≡ ruleGives k t (at l) (ruleFrom words (getD starts rule 0))
       → meets′ ≡ set meets rule v → r ≡ (g || g′) → Meeting k t words (z .rules) forward l₀ meets′ r (i + 1)
   meeting-next {k} {t} {l} {meets} {meets′} g g′ {r} {i} {rule} {v} m same h turn e store told =

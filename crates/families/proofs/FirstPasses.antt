@@ -48,7 +48,8 @@ module _ (k : Lookahead) (F G : SetFamily) (u : Under F G) where
   rule-mono t (b ∷ bs) = meet-mono (bodyFirst k F b) (ruleFirst k t F bs) (bodyFirst k G b) (ruleFirst k t G bs) (body-mono b) (rule-mono t bs)
 
 -- inside a rule it is enough to tell symbols and positives
-pub inside-word : (k : Lookahead) (t : ℕ) (F : SetFamily) (w : Word) (p : Parsed) → Inside w → Behind w p → insideWord k F w (restOf k t F p) ≡ restOf k t F (onWord w p)
+pub inside-word : (k : Lookahead) (t : ℕ) (F : SetFamily) (w : Word) (p : Parsed) → Inside w → Behind w p
+    → insideWord k F w (restOf k t F p) ≡ restOf k t F (onWord w p)
 unfolding onWord bodyFirst ruleFirst
 inside-word k t F (Symbol X) p i b = refl
 inside-word k t F Positive p i b = refl
@@ -97,5 +98,6 @@ rule-words {words} {start} g k t F =
 
 -- what `rule_first` returns
 pub rule-given : {words : List ℕ} {start end : ℕ} → RuleWords words start end → (k : Lookahead) (t : ℕ) (l : List ℕ) {v : ℕ} → length l ≡ maxNonterminals
-    → v ≡ fromEnd (insideWord k (lookup l)) (noRest k t) (take (end - (start + 1)) (drop (start + 1) words)) .meet .bits → v ≡ ruleGives k t (at l) (ruleFrom words start)
+    → v ≡ fromEnd (insideWord k (lookup l)) (noRest k t) (take (end - (start + 1)) (drop (start + 1) words)) .meet .bits
+    → v ≡ ruleGives k t (at l) (ruleFrom words start)
 rule-given g k t l long e = e ∙ rw (lookup-at l long) (rule-words g k t (at l))

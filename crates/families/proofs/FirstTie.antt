@@ -78,10 +78,12 @@ module _ (k : Lookahead) (G : Grammar) (formed : WellFormed G) (few : G .termina
   strings-closed F c r m x l f = let i = rule-in F r m x l f in (i .0, i .1, c r m (i .0) (i .2), i .3)
 
   -- the set of a body under the numbers of FIRST holds the strings that the body can begin with
-  pub body-begins : (b : Body) (l : ℕ) → l < elements k → T (has (bodyFirst k (firstNumber k G) b) l) → FirstBody (tokens k) (First G (tokens k)) b (stringOf k l)
+  pub body-begins : (b : Body) (l : ℕ) → l < elements k → T (has (bodyFirst k (firstNumber k G) b) l)
+      → FirstBody (tokens k) (First G (tokens k)) b (stringOf k l)
   unfolding firstNumber
   body-begins b l e h =
-      firstBody-mono (tokens k) (stringsOf k (firstNumber k G)) (First G (tokens k)) (number-string k G few (first G (tokens k)) (first-lookahead G (tokens k))) b (stringOf k l)
+      firstBody-mono (tokens k) (stringsOf k (firstNumber k G)) (First G (tokens k))
+      (number-string k G few (first G (tokens k)) (first-lookahead G (tokens k))) b (stringOf k l)
       (in-body k (firstNumber k G) (G .terminals) few b (stringOf k l) (string-in k (bodyFirst k (firstNumber k G) b) l e h))
 
   pub begins-body : (b : Body) → TerminalsBelow (G .terminals) b → (x : List ℕ) → FirstBody (tokens k) (First G (tokens k)) b x
@@ -89,14 +91,16 @@ module _ (k : Lookahead) (G : Grammar) (formed : WellFormed G) (few : G .termina
   unfolding firstNumber
   begins-body b t x f =
       body-in k (firstNumber k G) (G .terminals) few b t x
-      (firstBody-mono (tokens k) (First G (tokens k)) (stringsOf k (firstNumber k G)) (in-number k G few (first G (tokens k)) (first-lookahead G (tokens k))) b x f)
+      (firstBody-mono (tokens k) (First G (tokens k)) (stringsOf k (firstNumber k G))
+      (in-number k G few (first G (tokens k)) (first-lookahead G (tokens k))) b x f)
 
   -- and that of a rule the strings that all its positive bodies can begin with
   pub rule-begins : (r : Rule) (l : ℕ) → T (has (ruleFirst k (G .terminals) (firstNumber k G) (r .positives)) l)
       → Looked (tokens k) (G .terminals) (stringOf k l) × FirstRule (tokens k) (First G (tokens k)) r (stringOf k l)
   rule-begins r l s = (
     lookahead-full k (G .terminals) l (has-full-rule k (G .terminals) (firstNumber k G) l (r .positives) s),
-    λ b n. body-begins b l (over-full k (G .terminals) l (has-full-rule k (G .terminals) (firstNumber k G) l (r .positives) s) .0) (has-rule k (G .terminals) (firstNumber k G) l (r .positives) s b n),
+    λ b n. body-begins b l (over-full k (G .terminals) l (has-full-rule k (G .terminals) (firstNumber k G) l (r .positives) s) .0)
+        (has-rule k (G .terminals) (firstNumber k G) l (r .positives) s b n),
   )
 
   pub begins-rule : (r : Rule) → List·Memᴰ r (G .rules) → (x : List ℕ) → Looked (tokens k) (G .terminals) x → FirstRule (tokens k) (First G (tokens k)) r x
@@ -104,14 +108,16 @@ module _ (k : Lookahead) (G : Grammar) (formed : WellFormed G) (few : G .termina
   unfolding firstNumber
   begins-rule r m x l f =
       rule-in (firstNumber k G) r m x l
-      (λ b n. firstBody-mono (tokens k) (First G (tokens k)) (stringsOf k (firstNumber k G)) (in-number k G few (first G (tokens k)) (first-lookahead G (tokens k))) b x (f b n))
+      (λ b n. firstBody-mono (tokens k) (First G (tokens k)) (stringsOf k (firstNumber k G))
+      (in-number k G few (first G (tokens k)) (first-lookahead G (tokens k))) b x (f b n))
 
   -- so these numbers are a closed family
   numbers-closed : FirstNumbersClosed k (G .terminals) (G .rules) (firstNumber k G)
   unfolding firstNumber
   numbers-closed r m l s =
       let i = rule-begins r l s in
-      string-number k G few (first G (tokens k)) (first-lookahead G (tokens k)) (r .head) l (first-closed G (tokens k) (formed .scoped) r m (stringOf k l) (i .0) (i .1))
+      string-number k G few (first G (tokens k)) (first-lookahead G (tokens k)) (r .head) l
+      (first-closed G (tokens k) (formed .scoped) r m (stringOf k l) (i .0) (i .1))
 
   -- the least closed array of a well-formed grammar holds its FIRST
   pub first-numbers : (l : List ℕ) → LeastNumbers (FirstNumbersClosed k (G .terminals) (G .rules)) l → (A : ℕ) → at l A ≡ firstNumber k G A

@@ -66,8 +66,11 @@ module _ (k : Lookahead) (words : List ℕ) {firsts reaches : List ℕ} {z : Siz
       let set = firstNumber k G A in
       let test = unproductive-iff G (tokens k) A in
       both (isEmpty set) (unproductive G (tokens k) A)
-      (λ t. test .1 (λ x b. let i = in-number k G few (first G (tokens k)) (first-lookahead G (tokens k)) A x b in absurd (rw (empty-none set (i .0) (T-true (isEmpty set) t)) at (i .2))))
-      (λ t. true-T (isEmpty set) (none-empty set (λ l. T-none (has set l) (λ e. test .0 t (stringOf k l) (element-passes k G few (first G (tokens k)) (first-lookahead G (tokens k)) A l e)))))
+      (λ t. test .1 (λ x b. let i = in-number k G few (first G (tokens k)) (first-lookahead G (tokens k)) A x b in
+      absurd (rw (empty-none set (i .0) (T-true (isEmpty set) t)) at (i .2))))
+      (λ t. true-T (isEmpty set)
+      (none-empty set (λ l. T-none (has set l)
+      (λ e. test .0 t (stringOf k l) (element-passes k G few (first G (tokens k)) (first-lookahead G (tokens k)) A l e)))))
 
   empty-found : (A : ℕ) → A < grammarOf words .nonterminals → flawIn Unproductive firsts reaches A ≡ unproductive (grammarOf words) (tokens k) A
   empty-found A h = rw (f, listed-at maxNonterminals (firstNumber k (grammarOf words)) A (omega (arith, many))) (empty-first A)

@@ -121,7 +121,8 @@ tail-word k F v (Heading m n) p i = absurd i
 tail-word k F v Invalid p i = absurd i
 
 -- what `tail_before` returns for a word that is no symbol
-pub tail-closed : (k : Lookahead) (F : SetFamily) (v : ℕ) (w : Word) (tail : ℕ) → OneOf (0 ∷ 1 ∷ 2 ∷ 3 ∷ 5 ∷ 6 ∷ []) (tagOf the-type w) → v ≡ tailBefore k F v w tail
+pub tail-closed : (k : Lookahead) (F : SetFamily) (v : ℕ) (w : Word) (tail : ℕ)
+    → OneOf (0 ∷ 1 ∷ 2 ∷ 3 ∷ 5 ∷ 6 ∷ []) (tagOf the-type w) → v ≡ tailBefore k F v w tail
 tail-closed k F v (Symbol X) tail h = absurd (miss (0 ∷ 1 ∷ 2 ∷ 3 ∷ 5 ∷ 6 ∷ []) 4 tt h)
 tail-closed k F v Positive tail h = refl
 tail-closed k F v Negative tail h = refl
@@ -159,7 +160,8 @@ module _ {words : List ℕ} {start end : ℕ} (given : RuleWords words start end
     passing = passing-none l (asked-none k F B (parse (drop end words)) (at l) (given .ended));
   }
 
-  module _ {k : Lookahead} {F : SetFamily} {B : ℕ} {l₀ l : List ℕ} (g : Bool) {tail i : ℕ} (v : FollowWalk k F B words l₀ l start end g tail i) (h : start + 1 < i)
+  module _ {k : Lookahead} {F : SetFamily} {B : ℕ} {l₀ l : List ℕ} (g : Bool) {tail i : ℕ}
+      (v : FollowWalk k F B words l₀ l start end g tail i) (h : start + 1 < i)
       {w : Word} (e : w ≡ decoded (getD words (i - 1) 0)) where
     abbrev p : Parsed
     p = parse (drop i words)

@@ -76,14 +76,16 @@ module _ (k : Lookahead) (G : Grammar) (formed : WellFormed G) (few : G .termina
           let p = concat-pair k (bodyFirst k (firstNumber k G) b) (followNumber k G B) l s in
           let y = element-passes k G few (follow G (tokens k)) (follow-lookahead G (tokens k)) B (p .b) (p .b-in) in
           let x = f (stringOf k (p .b)) y .0 (stringOf k (p .a)) (body-begins k G formed few b (p .a) (p .a-below) (p .a-in)) in
-          string-number k G few (follow G (tokens k)) (follow-lookahead G (tokens k)) A l (rw (string-after k (p .a) (p .b) (p .a-below) (p .b-below), p .is-after) at x)
+          string-number k G few (follow G (tokens k)) (follow-lookahead G (tokens k)) A l
+          (rw (string-after k (p .a) (p .b) (p .a-below) (p .b-below), p .is-after) at x)
 
   numbers-closed : FollowNumbersClosed k (firstNumber k G) (G .rules) (followNumber k G)
   unfolding followNumber
   numbers-closed =
       let c = follow-closed G (tokens k) (formed .scoped) (formed .terminals) some in
       record {
-        start = λ l s. string-number k G few (follow G (tokens k)) (follow-lookahead G (tokens k)) 0 l (rw (eqb→eq l (nothing k) (rw (has-end k l) at s), string-nothing k) (c .start));
+        start = λ l s. string-number k G few (follow G (tokens k)) (follow-lookahead G (tokens k)) 0 l
+            (rw (eqb→eq l (nothing k) (rw (has-end k l) at s), string-nothing k) (c .start));
         follows = λ r m b n. numbers-body (r .head) b (c .follows r m b n);
       }
 

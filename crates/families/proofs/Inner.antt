@@ -35,7 +35,8 @@ word-inside {words} k i h u {w} e =
 -- what is made of a rule's words from their end, step by step as the words are parsed
 module _ {X : Type 0} (f : Word → X → X) (made : Parsed → X) {words : List ℕ} {start end : ℕ} (k : RuleWords words start end)
     (step : (w : Word) (p : Parsed) → Inside w → Indexed w → Behind w p → f w (made p) ≡ made (onWord w p)) where
-  made-from : {x₀ : X} → x₀ ≡ made (parse (drop end words)) → (n i : ℕ) → i + n ≡ end → start < i → fromEnd f x₀ (take n (drop i words)) ≡ made (parse (drop i words))
+  made-from : {x₀ : X} → x₀ ≡ made (parse (drop end words)) → (n i : ℕ) → i + n ≡ end → start < i
+      → fromEnd f x₀ (take n (drop i words)) ≡ made (parse (drop i words))
   unfolding fromEnd
   made-from e zero i s h = let last : i ≡ end = omega arith in rw last e
   made-from e (suc n) i s h =
@@ -46,5 +47,6 @@ module _ {X : Type 0} (f : Word → X → X) (made : Parsed → X) {words : List
       rw (front, made-from e n (suc i) (omega arith) (omega arith))
       (step w (parse (drop (suc i) words)) (m .inside) (m .indexed) (m .behind) ∙ ap made (sym (rw (here, front) at (m .here))))
 
-  pub made-inside : {x₀ : X} → x₀ ≡ made (parse (drop end words)) → fromEnd f x₀ (take (end - (start + 1)) (drop (start + 1) words)) ≡ made (parse (drop (suc start) words))
+  pub made-inside : {x₀ : X} → x₀ ≡ made (parse (drop end words))
+      → fromEnd f x₀ (take (end - (start + 1)) (drop (start + 1) words)) ≡ made (parse (drop (suc start) words))
   made-inside e = let next : start + 1 ≡ suc start = omega arith in rw next (made-from e (end - suc start) (suc start) (omega (arith, k .some)) (omega arith))

@@ -62,12 +62,14 @@ module _ (k : Lookahead) (t : ℕ) (few : t ≤ alphabet k) (p : List ℕ → Bo
   pub members : Members (λ x. T (p x)) (size (numberOf k p))
   members = record {
     list = map (stringOf k) (keep passes (numbers (elements k)));
-    once = distinct-map (stringOf k) (string-same k) (keep passes (numbers (elements k))) (distinct-keep passes (numbers (elements k)) (distinct-numbers (elements k)));
+    once = distinct-map (stringOf k) (string-same k) (keep passes (numbers (elements k)))
+        (distinct-keep passes (numbers (elements k)) (distinct-numbers (elements k)));
     just = λ x. (
       λ m. let n = Memᴰ·of-map (stringOf k) (keep passes (numbers (elements k))) m in rw (n .2) at (keep-elim passes (numbers (elements k)) (n .0) (n .1) .1),
       λ h.
           let s = lookahead-string k t x few (within x h) in
-          Memᴰ·cast (s .is) (Memᴰ·map (stringOf k) (keep-make passes (numbers (elements k)) (elementOf k x) (numbers-make (elements k) (elementOf k x) (s .below)) (rw (s .is) at h))),
+          Memᴰ·cast (s .is) (Memᴰ·map (stringOf k)
+          (keep-make passes (numbers (elements k)) (elementOf k x) (numbers-make (elements k) (elementOf k x) (s .below)) (rw (s .is) at h))),
     );
     long = length-map (keep passes (numbers (elements k))) (stringOf k) ∙ sym size-strings;
   }

@@ -125,7 +125,8 @@ module _ (words : List ℕ) (z : Sizes) (read : reading words ≡ Read z) where
   plain zero p h b = absurd (omega arith)
   plain (suc i) p h b =
       let r = read-reaches words z read i (omega arith) in
-      let n = scan-next words (suc i) (r .progress) z h (r .reads) in allowed-inside (decoded (getD words (suc i) 0)) (r .progress .state) (n .passed .allowed) b
+      let n = scan-next words (suc i) (r .progress) z h (r .reads) in
+      allowed-inside (decoded (getD words (suc i) 0)) (r .progress .state) (n .passed .allowed) b
 
   -- what `end_of` returns
   module _ (q : ℕ) (h : q < z .rules) where
@@ -138,7 +139,8 @@ module _ (words : List ℕ) (z : Sizes) (read : reading words ≡ Read z) where
           some = rw (kept q h, kept (suc q) n) (rising 0 words q (omega (arith, many)));
           within = omega (arith, b .high);
           ended = rw (parse-here words (getD (ruleStarts words) (suc q) 0) (b .high)) (begin-ended _ _ (b .word));
-          inside = λ i l u. plain i (omega arith) (omega (arith, b .high)) (between 0 words q i (omega (arith, many)) (omega (arith, b .high)) (omega (arith, kept q h)) (λ s. omega (arith, kept (suc q) n)));
+          inside = λ i l u. plain i (omega arith) (omega (arith, b .high))
+              (between 0 words q i (omega (arith, many)) (omega (arith, b .high)) (omega (arith, kept q h)) (λ s. omega (arith, kept (suc q) n)));
         }
 
     pub till-end : z .rules ≤ suc q → RuleWords words (getD (ruleStarts words) q 0) (length words)

@@ -102,7 +102,8 @@ fn put_numbers(
     element: u32,
 ) -> usize
     requires { ⌜ rules ≤ maxRules ⌝ }
-    ensures { λ r. ⌜ Put (now (out .entry)) at (numbersText rules (claimant (now (heads .entry)) (now (sets .entry)) nonterminal element)) (now (out .exit)) r ⌝ }
+    ensures { λ r. ⌜ Put (now (out .entry)) at
+        (numbersText rules (claimant (now (heads .entry)) (now (sets .entry)) nonterminal element)) (now (out .exit)) r ⌝ }
 {
     let mut next = at;
     let mut rule = 0;
@@ -126,7 +127,8 @@ fn put_claimants(
     number: usize,
 ) -> usize
     requires { ⌜ (rules ≤ maxRules) × (number ≡ countBelow rules (claimant (now heads) (now sets) nonterminal element)) ⌝ }
-    ensures { λ r. ⌜ Put (now (out .entry)) at (claimantsText rules (claimant (now (heads .entry)) (now (sets .entry)) nonterminal element)) (now (out .exit)) r ⌝ }
+    ensures { λ r. ⌜ Put (now (out .entry)) at
+        (claimantsText rules (claimant (now (heads .entry)) (now (sets .entry)) nonterminal element)) (now (out .exit)) r ⌝ }
 {
     if number == 0 {
         put_bytes(out, at, b" -")
@@ -146,7 +148,9 @@ fn put_entry(
     column: u32,
 ) -> usize
     requires { ⌜ sizes .rules ≤ maxRules ⌝ }
-    ensures { λ r. ⌜ Put (now (out .entry)) at (entryLine (sizes .rules) (claimantAt (now (heads .entry)) (now (sets .entry)) (sizes .terminals) nonterminal column) nonterminal column) (now (out .exit)) r ⌝ }
+    ensures { λ r. ⌜ Put (now (out .entry)) at
+        (entryLine (sizes .rules) (claimantAt (now (heads .entry)) (now (sets .entry)) (sizes .terminals) nonterminal column) nonterminal column)
+        (now (out .exit)) r ⌝ }
 {
     let rules = sizes.rules;
     let element = element(Lookahead::One, sizes.terminals, column);
@@ -169,7 +173,8 @@ fn put_row(
     nonterminal: u8,
 ) -> usize
     requires { ⌜ (sizes .rules ≤ maxRules) × (sizes .terminals ≤ maxTerminals) ⌝ }
-    ensures { λ r. ⌜ Put (now (out .entry)) at (rowText sizes (claimantAt (now (heads .entry)) (now (sets .entry)) (sizes .terminals)) nonterminal) (now (out .exit)) r ⌝ }
+    ensures { λ r. ⌜ Put (now (out .entry)) at
+        (rowText sizes (claimantAt (now (heads .entry)) (now (sets .entry)) (sizes .terminals)) nonterminal) (now (out .exit)) r ⌝ }
 {
     let columns = sizes.terminals + 1;
     let mut next = at;
@@ -189,7 +194,8 @@ fn put_rows<'a>(
     sizes: Sizes,
 ) -> usize
     requires { ⌜ (sizes .nonterminals ≤ maxNonterminals) × (sizes .rules ≤ maxRules) × (sizes .terminals ≤ maxTerminals) ⌝ }
-    ensures { λ r. ⌜ Put (now (out .entry)) at (upTo (sizes .nonterminals) (rowText sizes (claimantAt (now (heads .entry)) (now (sets .entry)) (sizes .terminals)))) (now (out .exit)) r ⌝ }
+    ensures { λ r. ⌜ Put (now (out .entry)) at
+        (upTo (sizes .nonterminals) (rowText sizes (claimantAt (now (heads .entry)) (now (sets .entry)) (sizes .terminals)))) (now (out .exit)) r ⌝ }
 {
     let nonterminals = sizes.nonterminals;
     let mut next = at;

@@ -69,7 +69,8 @@ module _ {l m : List ℕ} {at next : ℕ} where
     line-put A c z k = rw (ne-eqb (countBelow rules p) 1 (λ d. z (e ∙ d))) k
 
   -- the line by a column's element is the line by the column
-  pub column-line : (heads sets : List ℕ) (rules t A c : ℕ) {x : ℕ} → x ≡ columnElement One t c → Put l at (entryLine rules (claimant heads sets A x) A c) m next
+  pub column-line : (heads sets : List ℕ) (rules t A c : ℕ) {x : ℕ} → x ≡ columnElement One t c
+      → Put l at (entryLine rules (claimant heads sets A x) A c) m next
       → Put l at (entryLine rules (claimantAt heads sets t A c) A c) m next
   column-line heads sets rules t A c e k = rw e at k
 

@@ -58,7 +58,8 @@ begins at (w ∷ ws) q h = rw (rules-on (decoded w) (parse ws)) (go (beginsRule 
 
     go : (b : Bool) → beginsRule (decoded w) ≡ b → (q : ℕ) → q < length (choose b (at ∷ starts (suc at) ws) (starts (suc at) ws))
         → ((q : ℕ) → q < length (starts (suc at) ws) → Begins (suc at) (getD (starts (suc at) ws) q 0) ws (getElem? later q))
-        → Begins at (getD (choose b (at ∷ starts (suc at) ws) (starts (suc at) ws)) q 0) (w ∷ ws) (getElem? (choose b (ruleOf (headOf (decoded w)) (parse ws) ∷ later) later) q)
+        → Begins at (getD (choose b (at ∷ starts (suc at) ws) (starts (suc at) ws)) q 0) (w ∷ ws)
+        (getElem? (choose b (ruleOf (headOf (decoded w)) (parse ws) ∷ later) later) q)
     go true b zero h f = begins-here at w ws _ b refl
     go true b (suc q) h f = begins-later at _ w ws _ (f q (omega arith))
     go false b q h f = begins-later at _ w ws _ (f q h)
@@ -69,6 +70,7 @@ as-many at [] = refl
 as-many at (w ∷ ws) = rw (rules-on (decoded w) (parse ws)) (go (beginsRule (decoded w)) (as-many (suc at) ws))
   where
     go : (b : Bool) → length (starts (suc at) ws) ≡ length (parse ws .rules)
-        → length (choose b (at ∷ starts (suc at) ws) (starts (suc at) ws)) ≡ length (choose b (ruleOf (headOf (decoded w)) (parse ws) ∷ parse ws .rules) (parse ws .rules))
+        → length (choose b (at ∷ starts (suc at) ws) (starts (suc at) ws))
+        ≡ length (choose b (ruleOf (headOf (decoded w)) (parse ws) ∷ parse ws .rules) (parse ws .rules))
     go true e = ap suc e
     go false e = e

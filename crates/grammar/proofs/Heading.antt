@@ -23,7 +23,8 @@ use Rattle.grammar.specs.Reading.{fresh, scan, within, headed, opened, r
 -- every kind of word but a heading declares nothing
 pub declares-none : (w : Word) → OneOf (1 ∷ 2 ∷ 3 ∷ 4 ∷ 5 ∷ 6 ∷ []) (tagOf the-type w) → sizes 0 0 0 ≡ declaredBy w
 declares-none (Heading n t) h =
-    absurd (⊎-elim (λ e. omega arith) (⊎-elim (λ e. omega arith) (⊎-elim (λ e. omega arith) (⊎-elim (λ e. omega arith) (⊎-elim (λ e. omega arith) (λ e. omega arith))))) h)
+    absurd (⊎-elim (λ e. omega arith)
+    (⊎-elim (λ e. omega arith) (⊎-elim (λ e. omega arith) (⊎-elim (λ e. omega arith) (⊎-elim (λ e. omega arith) (λ e. omega arith))))) h)
 declares-none (Rule A) h = refl
 declares-none Positive h = refl
 declares-none Negative h = refl

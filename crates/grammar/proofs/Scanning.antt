@@ -27,7 +27,8 @@ pub scan-here : (words : List ℕ) (p : Progress) (at : ℕ) → at < length wor
 unfolding scan
 scan-here words p at h = rw (drop-cons words at 0 h)
 
-module _ (words : List ℕ) (p : Progress) (at : ℕ) {w : Word} {r : Step} (h : at < length words) (e : w ≡ decoded (getD words at 0)) (s : r ≡ stepped w p at) where
+module _ (words : List ℕ) (p : Progress) (at : ℕ) {w : Word} {r : Step} (h : at < length words)
+    (e : w ≡ decoded (getD words at 0)) (s : r ≡ stepped w p at) where
   pub scan-go : {q : Progress} → r ≡ Go q → scan p at (drop at words) ≡ scan q (at + 1) (drop (at + 1) words)
   unfolding onStep
   scan-go g = rw (scan-here words p at h, ← e, ← s, g, add-one at)
@@ -70,7 +71,9 @@ stepping w p at = go (allows w (p .state)) refl (inRange w (p .sizes)) refl (beg
 
     go : (a : Bool) → allows w (p .state) ≡ a → (i : Bool) → inRange w (p .sizes) ≡ i → (b : Bool) → beginsRule w ≡ b → (f : Bool)
         → leb maxRules (p .sizes .rules) ≡ f
-        → Stepped w p at (choose a (choose i (choose b (choose f (Stop (TooManyRules at)) (Go (progress next (oneMore (p .sizes))))) (Go (progress next (p .sizes)))) (Stop (OutOfRange at))) (Stop (UnexpectedWord at)))
+        → Stepped w p at (choose a
+        (choose i (choose b (choose f (Stop (TooManyRules at)) (Go (progress next (oneMore (p .sizes))))) (Go (progress next (p .sizes))))
+        (Stop (OutOfRange at))) (Stop (UnexpectedWord at)))
     go false ea i ei b eb f ef = Stepped.unexpected ea
     go true ea false ei b eb f ef = Stepped.outOfRange ea ei
     go true ea true ei true eb true ef = Stepped.tooMany ea ei eb (leb-true maxRules (p .sizes .rules) ef)

@@ -88,7 +88,8 @@ module _ {words found : List ℕ} {rules at : ℕ} (v : Noting words found rules
     room = omega arith;
     size = length-set found rules at ∙ v .size;
     zeros =
-        let d : drop (rules + 1) (set found rules at) ≡ drop 1 (drop rules found) = drop-set-lt (rules + 1) found rules at (omega arith) ∙ sym (drop-drop 1 rules found) in
+        let d : drop (rules + 1) (set found rules at) ≡ drop 1 (drop rules found) =
+        drop-set-lt (rules + 1) found rules at (omega arith) ∙ sym (drop-drop 1 rules found) in
         let n : maxRules - rules - 1 ≡ maxRules - (rules + 1) = omega arith in
         rw (d, v .zeros, drop-replicate, n);
     whole =

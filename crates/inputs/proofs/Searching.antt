@@ -31,7 +31,8 @@ module _ (cost : List ℕ → ℕ) (n : ℕ) (some-terminal : 0 < n) (k : ℕ) w
   unfolding costliest costliestFrom
   searched-none = record {
     within = omega arith;
-    rest = rw (← inputs-at n some-terminal k 0 (some-input n some-terminal k)) (go (inputs n k) (omega (arith, inputs-count n k, some-input n some-terminal k)));
+    rest = rw (← inputs-at n some-terminal k 0 (some-input n some-terminal k))
+        (go (inputs n k) (omega (arith, inputs-count n k, some-input n some-terminal k)));
     kept = inl (refl, refl, refl);
   }
     where
@@ -44,7 +45,8 @@ module _ (cost : List ℕ → ℕ) (n : ℕ) (some-terminal : 0 < n) (k : ℕ) w
         ≡ costliest cost n k
     unfolding costliestFrom
     next =
-        let d = drop-cons (inputs n k) number [] (omega (arith, inputs-count n k)) ∙ ap (λ x. x ∷ drop (suc number) (inputs n k)) (inputs-at n some-terminal k number h) in
+        let d = drop-cons (inputs n k) number [] (omega (arith, inputs-count n k))
+        ∙ ap (λ x. x ∷ drop (suc number) (inputs n k)) (inputs-at n some-terminal k number h) in
         rw (e, add-one number) (sym (ap (costliestFrom cost (inputAt n k best)) d) ∙ s .rest)
 
     -- it costs more than the one that is kept
@@ -56,7 +58,8 @@ module _ (cost : List ℕ → ℕ) (n : ℕ) (some-terminal : 0 < n) (k : ℕ) w
         go (inl z) =
             let q : best ≡ number = z .1 ∙ sym (z .0) in
             ap (λ x. costliestFrom cost x (drop (number + 1) (inputs n k)))
-            (sym (choose-same (ltb (cost (inputAt n k best)) count) (inputAt n k number)) ∙ ap (λ b. choose (ltb (cost (inputAt n k best)) count) (inputAt n k number) (inputAt n k b)) (sym q))
+            (sym (choose-same (ltb (cost (inputAt n k best)) count) (inputAt n k number))
+            ∙ ap (λ b. choose (ltb (cost (inputAt n k best)) count) (inputAt n k number) (inputAt n k b)) (sym q))
             ∙ next
         go (inr z) =
             ap (λ b. costliestFrom cost (choose b (inputAt n k number) (inputAt n k best)) (drop (number + 1) (inputs n k)))
@@ -74,7 +77,8 @@ module _ (cost : List ℕ → ℕ) (n : ℕ) (some-terminal : 0 < n) (k : ℕ) w
               within = omega arith;
               rest =
                   ap (λ x. costliestFrom cost x (drop (number + 1) (inputs n k)))
-                  (sym (choose-same (ltb (cost (inputAt n k best)) count) (inputAt n k best)) ∙ ap (λ b. choose (ltb (cost (inputAt n k best)) count) (inputAt n k b) (inputAt n k best)) q)
+                  (sym (choose-same (ltb (cost (inputAt n k best)) count) (inputAt n k best))
+                  ∙ ap (λ b. choose (ltb (cost (inputAt n k best)) count) (inputAt n k b) (inputAt n k best)) q)
                   ∙ next;
               kept = inr (let m : most ≡ count = omega (arith, z .2) in m ∙ e ∙ ap (λ b. cost (inputAt n k b)) (sym q));
             }

@@ -17,7 +17,8 @@ pub writing-start : (n number : ℕ) (input : List ℕ) → Writing n number inp
 writing-start n number input = record {
   same-length = refl;
   within = omega arith;
-  written = ap (λ y. inputAt n (length input) number ++ y) (drop-of-length-le input {i = length input} (omega arith)) ∙ append-nil (inputAt n (length input) number);
+  written = ap (λ y. inputAt n (length input) number ++ y) (drop-of-length-le input {i = length input} (omega arith))
+      ∙ append-nil (inputAt n (length input) number);
 }
 
 drop-set : (l : List ℕ) (i v : ℕ) → i < length l → drop i (set l i v) ≡ v ∷ drop (suc i) l

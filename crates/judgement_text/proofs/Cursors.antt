@@ -15,13 +15,15 @@ use Rattle.judgement_text.specs.Judgement.{callText}
 module _ (tokens : ℕ) (c : Cursor) (s : Stands tokens c) where
   row : c .nonterminal ≡ c .index / (tokens + 1)
   row =
-      let split : (c .nonterminal * (tokens + 1) + c .place) / (tokens + 1) ≡ c .nonterminal + c .place / (tokens + 1) = mul-add-div-right (omega arith) (c .nonterminal) (c .place) in
+      let split : (c .nonterminal * (tokens + 1) + c .place) / (tokens + 1) ≡ c .nonterminal + c .place / (tokens + 1) =
+      mul-add-div-right (omega arith) (c .nonterminal) (c .place) in
       let rest : c .place / (tokens + 1) ≡ 0 = div-eq-of-lt (omega (arith, s .in-row)) in
       cc (split, rest, add-zero (c .nonterminal), s .stands-at)
 
   column : c .place ≡ c .index % (tokens + 1)
   column =
-      let split : (c .nonterminal * (tokens + 1) + c .place) % (tokens + 1) ≡ c .place % (tokens + 1) = mul-add-mod-self-right (c .nonterminal) (tokens + 1) (c .place) in
+      let split : (c .nonterminal * (tokens + 1) + c .place) % (tokens + 1) ≡ c .place % (tokens + 1) =
+      mul-add-mod-self-right (c .nonterminal) (tokens + 1) (c .place) in
       let rest : c .place % (tokens + 1) ≡ c .place = mod-eq-of-lt (omega (arith, s .in-row)) in
       cc (split, rest, s .stands-at)
 

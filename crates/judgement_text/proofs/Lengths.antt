@@ -20,7 +20,8 @@ call-most : (A place entry : ℕ) → A < 100 → place < 1000 → entry < 10000
 unfolding callText
 call-most A place entry a p e =
     let line = decimal A ++ labelled " " place ++ endText entry ++ ascii "\n" in
-    let short : length line ≤ callRoom = simp length-append (omega (arith, decimal-few 1 A a, decimal-few 2 place p, dash-within failedCode entry 5 (decimal-few 4 entry e) (omega arith))) in
+    let short : length line ≤ callRoom =
+    simp length-append (omega (arith, decimal-few 1 A a, decimal-few 2 place p, dash-within failedCode entry 5 (decimal-few 4 entry e) (omega arith))) in
     choose-most (eqb entry uncalledCode) [] line callRoom (omega arith) short
 
 -- entries of at most five digits

@@ -81,7 +81,8 @@ fn put_calls(out: &mut [u8], at: usize, nonterminals: u32, tokens: u16, memo: &[
 }
 
 fn put_verdict(out: &mut [u8], at: usize, verdict: &[u8], calls: Calls) -> usize
-    ensures { λ r. ⌜ Put (now (out .entry)) at ((now (verdict .entry) ++ decimal (calls .count)) ++ labelled " " (calls .farthest) ++ ascii "\n") (now (out .exit)) r ⌝ }
+    ensures { λ r. ⌜ Put (now (out .entry)) at
+        ((now (verdict .entry) ++ decimal (calls .count)) ++ labelled " " (calls .farthest) ++ ascii "\n") (now (out .exit)) r ⌝ }
 {
     let at = put_labelled(out, at, verdict, calls.count);
     let at = put_labelled(out, at, b" ", calls.farthest);

@@ -76,6 +76,7 @@ values-set x f zero (suc n) =
     cc
 values-set x f (suc m) (suc n) =
     let here : choose (eqb 0 (suc m)) x (f 0) ≡ f 0 = rw (eqb·zero-suc m) in
-    let same : valuesOf (λ k. choose (eqb (suc k) (suc m)) x (f (suc k))) n ≡ valuesOf (λ k. choose (eqb k m) x (f (suc k))) n = values-same (λ k. rw (eqb·suc-suc k m)) n in
+    let same : valuesOf (λ k. choose (eqb (suc k) (suc m)) x (f (suc k))) n ≡ valuesOf (λ k. choose (eqb k m) x (f (suc k))) n =
+    values-same (λ k. rw (eqb·suc-suc k m)) n in
     let behind : valuesOf (λ k. choose (eqb k m) x (f (suc k))) n ≡ set (valuesOf (λ k. f (suc k)) n) m x = values-set x (λ k. f (suc k)) m n in
     cc

@@ -82,7 +82,8 @@ codes-marked : (cs : List ℕ) (n m x c : ℕ) → length cs ≡ c
     → set (map (clearedBeyond n) cs) m x ≡ valuesOf (λ k. codeOf (choose (eqb k m) (some x) (readCheckpoint n (getD cs k unsetCode)))) c
 codes-marked cs n m x c e =
     ap (λ (l : List ℕ). set l m x) (codes-read cs n c e)
-    ∙ sym (values-same (λ k. chosen (eqb k m) (readCheckpoint n (getD cs k unsetCode))) c ∙ values-set x (λ k. codeOf (readCheckpoint n (getD cs k unsetCode))) m c)
+    ∙ sym (values-same (λ k. chosen (eqb k m) (readCheckpoint n (getD cs k unsetCode))) c
+    ∙ values-set x (λ k. codeOf (readCheckpoint n (getD cs k unsetCode))) m c)
   where
     chosen : (b : Bool) (o : Option ℕ) → codeOf (choose b (some x) o) ≡ choose b x (codeOf o)
     chosen true o = refl
@@ -120,7 +121,8 @@ module _ (events : List ℕ) (p : Progress) (whole : length events ≡ maxTokens
     read-length : now .length ≡ readLength p
     read-length = ap (λ (q : Progress). q .length) e
 
-    pub add-full : (event : ℕ) → maxTokens ≤ now .length → Steps (Add event) (keptInput events p) (record { answer = Refused InputFull; kept = keptInput events p })
+    pub add-full : (event : ℕ) → maxTokens ≤ now .length
+        → Steps (Add event) (keptInput events p) (record { answer = Refused InputFull; kept = keptInput events p })
     unfolding stepFault held
     add-full event h = step-refused (Add event) (keptInput events p) InputFull (rw (taken, le-leb maxTokens (readLength p) (omega (arith, read-length))))
 
@@ -134,7 +136,8 @@ module _ (events : List ℕ) (p : Progress) (whole : length events ≡ maxTokens
         let n = readLength p in
         let room : n < maxTokens = omega (arith, read-length) in
         let fits : stepFault (Add event) (held (keptInput events p)) ≡ none = rw (taken, lt-leb maxTokens n room) in
-        let there : set events n event ≡ (take n events ++ event ∷ []) ++ drop (length (take n events ++ event ∷ [])) events = add-events events n event (omega (arith, whole)) in
+        let there : set events n event ≡ (take n events ++ event ∷ []) ++ drop (length (take n events ++ event ∷ [])) events =
+        add-events events n event (omega (arith, whole)) in
         let longer : n + 1 ≡ length (take n events ++ event ∷ []) = omega (arith, length-append (take n events) (event ∷ []), taken) in
         step-done (Add event) (keptInput events p) _ (held-sound events p whole eight) fits
         (rw e (same-input there (same-progress longer (codes-read (p .checkpoints) n checkpointCount eight))))
@@ -155,14 +158,16 @@ module _ (events : List ℕ) (p : Progress) (whole : length events ≡ maxTokens
       code-at : getD (now .checkpoints) m 0 ≡ clearedBeyond (readLength p) (getD (p .checkpoints) m unsetCode)
       code-at = rw e (map-at (clearedBeyond (readLength p)) (p .checkpoints) m 0 unsetCode (omega (arith, eight, h)))
 
-      pub return-unset : now .length < getD (now .checkpoints) m 0 → Steps (Return m) (keptInput events p) (record { answer = Refused CheckpointNotSet; kept = keptInput events p })
+      pub return-unset : now .length < getD (now .checkpoints) m 0
+          → Steps (Return m) (keptInput events p) (record { answer = Refused CheckpointNotSet; kept = keptInput events p })
       unfolding stepFault held
       return-unset u =
           let unset : readCheckpoint (readLength p) (getD (p .checkpoints) m unsetCode) ≡ none
           = cleared-unset (readLength p) (getD (p .checkpoints) m unsetCode) (omega (arith, u, code-at, read-length)) in
           step-refused (Return m) (keptInput events p) CheckpointNotSet (rw (lt-leb checkpointCount m h, unset))
 
-      pub return-done : getD (now .checkpoints) m 0 ≤ now .length → {checkpoints : List ℕ} → checkpoints ≡ map (clearedBeyond (getD (now .checkpoints) m 0)) (now .checkpoints)
+      pub return-done : getD (now .checkpoints) m 0 ≤ now .length → {checkpoints : List ℕ}
+          → checkpoints ≡ map (clearedBeyond (getD (now .checkpoints) m 0)) (now .checkpoints)
           → Steps (Return m) (keptInput events p) (record {
             answer = Passed;
             kept = keptInput events (record { length = getD (now .checkpoints) m 0; checkpoints = checkpoints });

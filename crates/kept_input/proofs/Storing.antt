@@ -18,7 +18,8 @@ use Rattle.kept_input.specs.contracts.Stored.{clearedBeyond}
 use Rattle.kept_input.specs.Runs.{Sound}
 use Rattle.kept_input.proofs.Lists.{values-length, values-at}
 
-pub same-kept : {a b : List ℕ} {c d : ℕ → Option ℕ} → a ≡ b → c ≡ d → _≡_ {A = Kept} (record { events = a; checkpoints = c }) (record { events = b; checkpoints = d })
+pub same-kept : {a b : List ℕ} {c d : ℕ → Option ℕ} → a ≡ b → c ≡ d
+    → _≡_ {A = Kept} (record { events = a; checkpoints = c }) (record { events = b; checkpoints = d })
 same-kept p q i = record { events = p i; checkpoints = q i }
 
 -- one checkpoint

@@ -32,7 +32,8 @@ pub record Sound (s : Kept) : Type 0 where
 pub record HistoriesKept : Type 0 where
   -- the last value holds what the steps make of what the first one held
   pub holds : {first last : KeptInput} {l : List Step} → Run first l last → held last ≡ ran l (held first)
-  -- from an empty input without checkpoints a judgement is that of the events which the history leaves, taken afresh with the same grammar, lookahead and memory
+  -- from an empty input without checkpoints a judgement is that of the events which the history leaves, taken afresh with the same grammar, lookahead
+  -- and memory
   pub judged : {k : Lookahead} {first last : KeptInput} {l : List Step} → held first ≡ empty → Run first l last
       → {words table memo table′ memo′ table″ memo″ : List ℕ} {r a : Answer} → JudgesKept k words last table memo r table′ memo′
       → Judges k words (inputOf (ran l empty .events)) table memo a table″ memo″

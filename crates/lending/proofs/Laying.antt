@@ -91,7 +91,8 @@ module _ (k : Lookahead) (z : Sizes) (firsts follows entries : List ℕ) where
 pub made-up : (z : Sizes) (firsts follows entries : List ℕ) → take (wordCount One z) (madeUp z firsts follows entries) ≡ laid One z firsts follows entries
 unfolding madeUp
 made-up z firsts follows entries =
-    take-at (laid One z firsts follows entries) (drop (wordCount One z) (replicate maxTableWords noEntry)) (wordCount One z) (laid-long One z firsts follows entries)
+    take-at (laid One z firsts follows entries) (drop (wordCount One z) (replicate maxTableWords noEntry)) (wordCount One z)
+    (laid-long One z firsts follows entries)
 
 made-long : (z : Sizes) (firsts follows entries : List ℕ) → wordCount One z ≤ length (madeUp z firsts follows entries)
 unfolding madeUp
@@ -119,7 +120,8 @@ module _ (z : Sizes) (firsts follows entries : List ℕ) {n at : ℕ} {table : L
     lent-copied {words} e w t =
         let d : at ≡ wordCount One z = omega arith in
         let l : take (wordCount One z) words ≡ laid One z firsts follows entries = ap (take (wordCount One z)) w ∙ made-up z firsts follows entries in
-        t ∙ ap (λ i. front words i before) d ∙ ap (λ x. x ++ drop (wordCount One z) before) l ∙ sym (lent-long One z firsts follows entries before (omega arith))
+        t ∙ ap (λ i. front words i before) d ∙ ap (λ x. x ++ drop (wordCount One z) before) l
+        ∙ sym (lent-long One z firsts follows entries before (omega arith))
 
     pub lent-written : n ≡ wordCount Two z → table ≡ front (listed n (wordAt (z .nonterminals) firsts follows entries)) at before
         → table ≡ lentBy Two z firsts follows entries before

@@ -63,7 +63,8 @@ module _ (k : Lookahead) (G : Grammar) (fewRules : length (G .rules) ≤ maxRule
   unfolding tableOf
   rule-small A x q e = let p = position-some (claims G (tokens k) (A, x)) (G .rules) q e in omega (arith, nth-below (G .rules) q (p .0) (p .1))
 
-  module _ (few : G .nonterminals ≤ maxNonterminals) {firsts follows entries : List ℕ} (f : firsts ≡ listed maxNonterminals (firstNumber k G)) (g : follows ≡ listed maxNonterminals (followNumber k G))
+  module _ (few : G .nonterminals ≤ maxNonterminals) {firsts follows entries : List ℕ} (f : firsts ≡ listed maxNonterminals (firstNumber k G))
+      (g : follows ≡ listed maxNonterminals (followNumber k G))
       (h : entries ≡ entriesOf k G) where
     abbrev sets : ℕ
     sets = 2 * G .nonterminals
@@ -168,7 +169,8 @@ module _ {k : Lookahead} {words : List ℕ} {z : Sizes} {r : Found} (f : FoundEn
   unfolding laid as-stored
   laid-table = listed-table (tableWords k G) (wordCount k z) as-stored counted each
 
-  pub lent-table : (before : List ℕ) → tableRoom k ≤ length before → r .finding ≡ Passed z → lentOf k r before ≡ tableWords k G ++ drop (length (tableWords k G)) before
+  pub lent-table : (before : List ℕ) → tableRoom k ≤ length before → r .finding ≡ Passed z
+      → lentOf k r before ≡ tableWords k G ++ drop (length (tableWords k G)) before
   lent-table before room p =
       rw (p, lent-sizes z given)
       (lent-long k z (r .firsts) (r .follows) (r .entries) before (omega (arith, count-room k z given)) ∙ rw (laid-table, counted))

@@ -41,7 +41,8 @@ unfolding has
 has-under f k c h =
     let j : ℕ = k - suc c in
     let e : k ≡ suc j + c = omega arith in
-    let a : f * 2 ^ k ≡ f * 2 ^ suc j * 2 ^ c = ap (λ (m : ℕ). f * 2 ^ m) e ∙ ap (λ (m : ℕ). f * m) (pow-add 2 (suc j) c) ∙ sym (mul-assoc f (2 ^ suc j) (2 ^ c)) in
+    let a : f * 2 ^ k ≡ f * 2 ^ suc j * 2 ^ c =
+    ap (λ (m : ℕ). f * 2 ^ m) e ∙ ap (λ (m : ℕ). f * m) (pow-add 2 (suc j) c) ∙ sym (mul-assoc f (2 ^ suc j) (2 ^ c)) in
     let b : f * 2 ^ k / 2 ^ c ≡ f * 2 ^ suc j = ap (λ (m : ℕ). m / 2 ^ c) a ∙ shl-shr (f * 2 ^ suc j) c in
     let i : suc j ≡ j + 1 = omega arith in
     let d : f * 2 ^ suc j ≡ f * 2 ^ j * 2 = ap (λ (m : ℕ). f * 2 ^ m) i ∙ ap (λ (m : ℕ). f * m) (pow-add 2 j 1) ∙ sym (mul-assoc f (2 ^ j) 2) in
@@ -73,7 +74,8 @@ some-digit t c k = go (ℕ-discrete (t / 2 ^ c % 2 ^ k) 0)
 
     go : Dec (n % 2 ^ k ≡ 0) → anyBelow k (λ q. has t (c + q)) ≡ not (eqb (n % 2 ^ k) 0)
     go (yes e) = rw (eq-eqb (n % 2 ^ k) 0 e) (both _ false
-        (λ b. let r = below-elim k (λ q. has t (c + q)) b in T-subst (ap (λ m. has m (r .0)) e ∙ has-zero (r .0)) (T-subst (sym (digit (r .0) (r .1))) (r .2))) (λ f. absurd f))
+        (λ b. let r = below-elim k (λ q. has t (c + q)) b in T-subst (ap (λ m. has m (r .0)) e ∙ has-zero (r .0)) (T-subst (sym (digit (r .0) (r .1))) (r .2)))
+        (λ f. absurd f))
     go (no e) = rw (ne-eqb (n % 2 ^ k) 0 e) (both _ true (λ b. tt) (λ _.
         let r = some-element (n % 2 ^ k) e in
         let l = bounded k (n % 2 ^ k) (r .0) (mod-lt n (pow-pos k)) (r .1) in

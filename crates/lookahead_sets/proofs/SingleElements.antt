@@ -37,7 +37,8 @@ end-is k {n} e = is-end k (rw (← e) (shifted n (omega (arith, nothing-fits k))
 pub terminal-some : (k : Lookahead) {a s : ℕ} → a < alphabet k → s ≡ single k → Terminal k a (1 * 2 ^ (s + a) % 2 ^ width)
 unfolding terminal
 terminal-some k {a} {s} h e =
-    is-terminal k (shifted (s + a) (omega (arith, singles-fit k, elements-fit k, single-small k)) ∙ ap (λ (n : ℕ). 2 ^ n) (ap (λ (n : ℕ). n + a) e ∙ sym (single-of k a))
+    is-terminal k (shifted (s + a) (omega (arith, singles-fit k, elements-fit k, single-small k))
+    ∙ ap (λ (n : ℕ). 2 ^ n) (ap (λ (n : ℕ). n + a) e ∙ sym (single-of k a))
     ∙ sym (rw (lt-ltb a (alphabet k) h)))
 
 pub terminal-none : (k : Lookahead) {a r : ℕ} → alphabet k ≤ a → Empty r → Terminal k a r

@@ -90,7 +90,8 @@ module _ (m : Memo) (tokens : ℕ) where
       let more : kept (combine callAt (numbers (suc N)) places) ≡ kept (combine callAt (numbers N) places) ++ kept (map (callAt N) places) =
       ap kept (ap (λ As. combine callAt As places) (ap numbers s ∙ numbers-more N) ∙ combine-more callAt places (numbers N) N)
       ∙ keep-append (writtenAmong tokens m) (combine callAt (numbers N) places) (map (callAt N) places) in
-      let long : length (kept (combine callAt (numbers (suc N)) places)) ≡ length (kept (combine callAt (numbers N) places)) + length (kept (map (callAt N) places)) =
+      let long : length (kept (combine callAt (numbers (suc N)) places))
+      ≡ length (kept (combine callAt (numbers N) places)) + length (kept (map (callAt N) places)) =
       ap (length {A = Call}) more ∙ length-append (kept (combine callAt (numbers N) places)) (kept (map (callAt N) places)) in
       rw b (omega (arith, long, rows-count N, row-count N (suc tokens)))
 
@@ -136,7 +137,8 @@ module _ (m : Memo) (tokens : ℕ) where
         let e : x ≡ callAt (at .0) (at .1) = at .4 in
         let t : T (writtenAmong tokens m (callAt (at .0) (at .1))) = rw e at (held .1) in
         let low = numbers-elim (suc tokens) (at .1) (at .3) in
-        go x (at .1) (ap (λ y. y .place) e) (omega (arith, low)) (below-make N (λ B. writtenAmong tokens m (callAt B (at .1))) (at .0) (numbers-elim N (at .0) (at .2)) t))
+        go x (at .1) (ap (λ y. y .place) e) (omega (arith, low))
+        (below-make N (λ B. writtenAmong tokens m (callAt B (at .1))) (at .0) (numbers-elim N (at .0) (at .2)) t))
       where
         go : (x : Call) (i : ℕ) → x .place ≡ i → i ≤ tokens → T (calledAt m N tokens i) → x .place ≤ p
         go x i e h t = elim (decLt p i) [
@@ -148,7 +150,8 @@ module _ (m : Memo) (tokens : ℕ) where
     unfolding recordedCalls calledAt
     farthest-here {p} h none c =
         let found = below-elim N (λ A. writtenAmong tokens m (callAt A p)) (rw c tt) in
-        let held = combine-make callAt (numbers N) (numbers (suc tokens)) (found .0) p (numbers-make N (found .0) (found .1)) (numbers-make (suc tokens) p (omega arith)) in
+        let held = combine-make callAt (numbers N) (numbers (suc tokens)) (found .0) p (numbers-make N (found .0) (found .1))
+        (numbers-make (suc tokens) p (omega arith)) in
         let high = greatest-most (recordedCalls m N tokens) (callAt (found .0) p) (keep-make (writtenAmong tokens m) _ (callAt (found .0) p) held (found .2)) in
         omega (arith, within none)
 
@@ -192,7 +195,8 @@ tally-recorded {G} {choice} {w} {m} recorded e =
     let rows : length m / (length w + 1) ≡ G .nonterminals = rows-are (length m) (G .nonterminals) (length w) (recorded .size ∙ omega arith) in
     e ∙ ap (λ n. tallyOf (recordedCalls m n (length w))) rows ∙ ap tallyOf (recorded-written G w m ∙ recorded .scanned)
 
-pub count-recorded : {G : Grammar} {choice : Choice} {w : List ℕ} {m : Memo} {r : ℕ} → Recorded G choice w m → r ≡ recordedBelow m (length m) → r ≡ callCount G choice w
+pub count-recorded : {G : Grammar} {choice : Choice} {w : List ℕ} {m : Memo} {r : ℕ} → Recorded G choice w m
+    → r ≡ recordedBelow m (length m) → r ≡ callCount G choice w
 unfolding callCount
 count-recorded {G} {choice} {w} {m} recorded e =
     e ∙ ap (recordedBelow m) (recorded .size) ∙ rows-count m (length w) (G .nonterminals) ∙ ap length (recorded-written G w m ∙ recorded .scanned)

@@ -99,7 +99,8 @@ module _ (behind : List (Option Error)) (other : (e : Error) → firstFault behi
   unproductive-told (some B) u A = (λ e. absurd (omega (arith, fault-number e)), λ e. absurd (Option·some-ne-none B (e .0)))
 
   -- what an answer tells, in the words of the grammar
-  module _ (k : Lookahead) (G : Grammar) (scoped : WellScoped G) {r : Answer} (t : Tells (faultBy behind (lowestLeftRecursive G) (lowestUnproductive G (tokens k))) r) where
+  module _ (k : Lookahead) (G : Grammar) (scoped : WellScoped G) {r : Answer}
+      (t : Tells (faultBy behind (lowestLeftRecursive G) (lowestUnproductive G (tokens k))) r) where
     pub lowest-recursive : (A : ℕ) → (r ≡ Refused (LeftRecursive A)) ↔ LowestRecursive G A
     lowest-recursive A =
         let told = t (LeftRecursive A) record { length = omega arith; token = omega arith; inputs = omega arith } in

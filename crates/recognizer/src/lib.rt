@@ -15,7 +15,8 @@ use recursive_descent::search::judge_costliest_words;
 
 // Judges the input that the events of a log are by an encoded grammar, and fills the lent table and memo table.
 pub fn judge(words: &[u32], events: &[u8], table: &mut [u32], memo: &mut [u16]) -> Answer
-    ensures { λ r. ⌜ Judges One (now (words .entry)) (inputOf (now (events .entry))) (now (table .entry)) (now (memo .entry)) r (now (table .exit)) (now (memo .exit)) ⌝ }
+    ensures { λ r. ⌜ Judges One (now (words .entry)) (inputOf (now (events .entry))) (now (table .entry)) (now (memo .entry)) r
+        (now (table .exit)) (now (memo .exit)) ⌝ }
 {
     if table.len() < TABLE_WORDS {
         return Answer::Refused(Error::TableTooShort);
@@ -28,7 +29,8 @@ pub fn judge(words: &[u32], events: &[u8], table: &mut [u32], memo: &mut [u16]) 
 
 // The same with two tokens of lookahead, for grammars of few terminals, with a lent table of 64-bit words.
 pub fn judge_wide(words: &[u32], events: &[u8], table: &mut [u64], memo: &mut [u16]) -> Answer
-    ensures { λ r. ⌜ Judges Two (now (words .entry)) (inputOf (now (events .entry))) (now (table .entry)) (now (memo .entry)) r (now (table .exit)) (now (memo .exit)) ⌝ }
+    ensures { λ r. ⌜ Judges Two (now (words .entry)) (inputOf (now (events .entry))) (now (table .entry)) (now (memo .entry)) r
+        (now (table .exit)) (now (memo .exit)) ⌝ }
 {
     if table.len() < WIDE_TABLE_WORDS {
         return Answer::Refused(Error::WideTableTooShort);
@@ -47,7 +49,8 @@ pub fn judge_costliest(
     table: &mut [u32],
     memo: &mut [u16],
 ) -> Answer
-    ensures { λ r. ⌜ JudgesCostliest (now (words .entry)) tokens (now (log .entry)) (now (table .entry)) (now (memo .entry)) r (now (log .exit)) (now (table .exit)) (now (memo .exit)) ⌝ }
+    ensures { λ r. ⌜ JudgesCostliest (now (words .entry)) tokens (now (log .entry)) (now (table .entry)) (now (memo .entry)) r (now (log .exit))
+        (now (table .exit)) (now (memo .exit)) ⌝ }
 {
     if table.len() < TABLE_WORDS {
         return Answer::Refused(Error::TableTooShort);

@@ -87,8 +87,10 @@ search-rows log memo words k =
 -- a length without a fault is not too great, and of so many inputs there are not too many
 faultless-length : (n k : ℕ) → firstFault (lengthFaults n k) ≡ none → (k ≤ maxTokens) × (n ^ k ≤ maxInputs)
 faultless-length n k e =
-    let f = each-none (lengthFaults n k) e in
-    (ltb-false maxTokens k (fault-none (ltb maxTokens k) InputTooLong (f .0)), ltb-false maxInputs (n ^ k) (fault-none (ltb maxInputs (n ^ k)) TooManyInputs (f .1 .0)))
+    let f = each-none (lengthFaults n k) e in (
+      ltb-false maxTokens k (fault-none (ltb maxTokens k) InputTooLong (f .0)),
+      ltb-false maxInputs (n ^ k) (fault-none (ltb maxInputs (n ^ k)) TooManyInputs (f .1 .0)),
+    )
 
 -- the search in the log and the memo table alone: the first fault, by what holds
 module _ (words : List ℕ) (k : ℕ) (log memo : List ℕ) where
@@ -190,7 +192,8 @@ costliest-rows : (log table memo : ℕ) (words : List ℕ) (n : ℕ)
     → costliestFault log table memo words n ≡ firstFault (costliestRows log table memo words n)
 unfolding costliestFault fault
 costliest-rows log table memo words n =
-    first-nested (faultIf (ltb table maxTableWords) TableTooShort ∷ faultIf (ltb memo maxMemoEntries) MemoTooShort ∷ faultIf (ltb log maxTokens) BufferTooShort ∷ [])
+    first-nested (faultIf (ltb table maxTableWords) TableTooShort ∷ faultIf (ltb memo maxMemoEntries) MemoTooShort
+    ∷ faultIf (ltb log maxTokens) BufferTooShort ∷ [])
     (grammarFaults One words) (lengthFaults (grammarOf words .terminals) n)
 
 module _ (words : List ℕ) (n : ℕ) (log table memo : List ℕ) where
@@ -207,15 +210,22 @@ module _ (words : List ℕ) (n : ℕ) (log table memo : List ℕ) where
   long-fault : maxTokens ≤ length log → Room One table memo → {f : Option Error} → fault One words ≡ f → why ≡ firstFault (f ∷ lengthFaults (G .terminals) n)
   long-fault space room e =
       costliest-rows (length log) (length table) (length memo) words n
-      ∙ rw (le-ltb (length table) maxTableWords (room .long-table), le-ltb (length memo) maxMemoEntries (room .long-memo), le-ltb (length log) maxTokens space, e)
+      ∙ rw (
+        le-ltb (length table) maxTableWords (room .long-table),
+        le-ltb (length memo) maxMemoEntries (room .long-memo),
+        le-ltb (length log) maxTokens space,
+        e,
+      )
 
   no-fault : maxTokens ≤ length log → Room One table memo → Searchable words n → why ≡ none
-  no-fault space room h = long-fault space room (fault-passed words (h .passed)) ∙ rw (le-ltb maxTokens n (h .short), le-ltb maxInputs (G .terminals ^ n) (h .few))
+  no-fault space room h =
+      long-fault space room (fault-passed words (h .passed)) ∙ rw (le-ltb maxTokens n (h .short), le-ltb maxInputs (G .terminals ^ n) (h .few))
 
   -- without a fault the costliest input is judged
   module _ (e : why ≡ none) where
     each : Faultless (costliestRows (length log) (length table) (length memo) words n)
-    each = each-none (costliestRows (length log) (length table) (length memo) words n) (sym (costliest-rows (length log) (length table) (length memo) words n) ∙ e)
+    each =
+        each-none (costliestRows (length log) (length table) (length memo) words n) (sym (costliest-rows (length log) (length table) (length memo) words n) ∙ e)
 
     encoded : Encodes words G
     encoded = passed-encodes words (passed-fault One words (each .1 .1 .1 .0))

@@ -31,7 +31,8 @@ judgeRows k table memo words input =
     ∷ fault k words
     ∷ inputFaults (grammarOf words .terminals) input
 
-pub judged-rows : (k : Lookahead) (table memo : ℕ) (words input : List ℕ) → judgeFault k table memo words input ≡ firstFault (judgeRows k table memo words input)
+pub judged-rows : (k : Lookahead) (table memo : ℕ) (words input : List ℕ)
+    → judgeFault k table memo words input ≡ firstFault (judgeRows k table memo words input)
 unfolding judgeFault fault
 judged-rows k table memo words input =
     first-nested (faultIf (ltb table (tableRoom k)) (tableTooShort k) ∷ faultIf (ltb memo maxMemoEntries) MemoTooShort ∷ []) (grammarFaults k words)
@@ -44,9 +45,11 @@ unfolding judgeFault memoFault
 judge-table-long k table memo words input h = rw (le-ltb table (tableRoom k) h)
 
 memo-rows : (k : Lookahead) (memo : ℕ) (words input : List ℕ)
-    → memoFault k memo words input ≡ firstFault (faultIf (ltb memo maxMemoEntries) MemoTooShort ∷ fault k words ∷ inputFaults (grammarOf words .terminals) input)
+    → memoFault k memo words input
+    ≡ firstFault (faultIf (ltb memo maxMemoEntries) MemoTooShort ∷ fault k words ∷ inputFaults (grammarOf words .terminals) input)
 unfolding memoFault fault
-memo-rows k memo words input = first-nested (faultIf (ltb memo maxMemoEntries) MemoTooShort ∷ []) (grammarFaults k words) (inputFaults (grammarOf words .terminals) input)
+memo-rows k memo words input =
+    first-nested (faultIf (ltb memo maxMemoEntries) MemoTooShort ∷ []) (grammarFaults k words) (inputFaults (grammarOf words .terminals) input)
 
 pub memo-fault-short : (k : Lookahead) (words input memo : List ℕ) → length memo < maxMemoEntries → memoFault k (length memo) words input ≡ some MemoTooShort
 unfolding memoFault
@@ -62,8 +65,10 @@ readable-faultless n input short known = rw (le-ltb maxTokens (length input) sho
 
 pub faultless-readable : (n : ℕ) (input : List ℕ) → firstFault (inputFaults n input) ≡ none → (length input ≤ maxTokens) × Over n input
 faultless-readable n input e =
-    let f = each-none (inputFaults n input) e in
-    (ltb-false maxTokens (length input) (fault-none (ltb maxTokens (length input)) InputTooLong (f .0)), absent-known n 0 input (none-unknown (unknownFrom n 0 input) (f .1 .0)))
+    let f = each-none (inputFaults n input) e in (
+      ltb-false maxTokens (length input) (fault-none (ltb maxTokens (length input)) InputTooLong (f .0)),
+      absent-known n 0 input (none-unknown (unknownFrom n 0 input) (f .1 .0)),
+    )
   where
     none-unknown : (u : Unknown) → unknownFault u ≡ none → u ≡ Absent
     none-unknown Absent q = refl

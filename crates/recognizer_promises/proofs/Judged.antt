@@ -93,10 +93,12 @@ judges {k} {words} {input} {table} {memo} l = record {
       let H = grammarOf words in
       places k G (e .formed .scoped) (fits-few k G e fits)
       (judge-tells _ (ltb maxTokens (length input)) (unknownFrom (H .terminals) 0 input) (accepts H (choiceOf k H input) input) (callsOf k H input)
-      (l .answer ∙ ap (λ f. refusedOr f (verdictOf k H input)) (judge-fault-long k words input table memo (room .long-table) (room .long-memo) (fault-encoded k words G few e fits))));
+      (l .answer ∙ ap (λ f. refusedOr f (verdictOf k H input))
+      (judge-fault-long k words input table memo (room .long-table) (room .long-memo) (fault-encoded k words G few e fits))));
   as-checked = λ n c checked q.
       let e = unrefused l n in
-      l .memory .0 ∙ ap (λ y. lentBack y (tableWords k (grammarOf words)) table) (e ∙ sym (judged-checked k words input (length table) (length memo) e)) ∙ sym (q .leaves .memory .0);
+      l .memory .0 ∙ ap (λ y. lentBack y (tableWords k (grammarOf words)) table) (e ∙ sym (judged-checked k words input (length table) (length memo) e))
+      ∙ sym (q .leaves .memory .0);
   recognizes = λ room h.
       let f = faultless k words input table memo room h in
       let written = memoWords k (grammarOf words) input in
@@ -113,7 +115,8 @@ unfolding memoWords
 memo-count k G input = length-map (allCalls G input) (memoWord k G input) ∙ all-length G input
 
 -- a grammar that has passed, and an input of its terminals
-module _ {k : Lookahead} {words starts entries memo : List ℕ} {z : Sizes} (events : List ℕ) (g : PassedGiven k words z starts entries (inputOf events) memo) where
+module _ {k : Lookahead} {words starts entries memo : List ℕ} {z : Sizes} (events : List ℕ)
+    (g : PassedGiven k words z starts entries (inputOf events) memo) where
   abbrev input : List ℕ
   input = inputOf events
 
@@ -219,7 +222,8 @@ module _ (k : Lookahead) (words input memo : List ℕ) (room : maxMemoEntries �
         }
 
 -- and with a table that is lent, and long enough, and holds the words of what is found
-module _ {k : Lookahead} (words input table memo : List ℕ) (long : tableRoom k ≤ length table) {r : Judgement} {memo′ : List ℕ} (j : JudgesWords k words input memo r memo′) where
+module _ {k : Lookahead} (words input table memo : List ℕ) (long : tableRoom k ≤ length table) {r : Judgement} {memo′ : List ℕ}
+    (j : JudgesWords k words input memo r memo′) where
   same-fault : judgeFault k (length table) (length memo) words input ≡ memoFault k (length memo) words input
   same-fault = judge-table-long k (length table) (length memo) words input long
 

@@ -36,9 +36,11 @@ meaning k words input h {r} {memo′} later e m =
     let encodes = passed-encodes words p in
     let free = passed-free words p in
     let some-nonterminal : 0 < G .nonterminals = encodes .limited .someNonterminal in
-    let tells : (v : Valuation) → Solves G input v → ((r ≡ Accepted (callsOf k G input)) ↔ (v 0 0 (length input) ≡ true)) × ((r ≡ Rejected (callsOf k G input)) ↔ (v 0 0 (length input) ≡ false)) =
+    let tells : (v : Valuation) → Solves G input v
+    → ((r ≡ Accepted (callsOf k G input)) ↔ (v 0 0 (length input) ≡ true)) × ((r ≡ Rejected (callsOf k G input)) ↔ (v 0 0 (length input) ≡ false)) =
     λ v s. verdict-tells {r = r} (v 0 0 (length input)) (callsOf k G input)
-    (e ∙ ap (λ b. choose b (Accepted (callsOf k G input)) (Rejected (callsOf k G input))) (theorems .verdict G n (passed-predictive words p) input (h .known) v s)) in
+    (e ∙ ap (λ b. choose b (Accepted (callsOf k G input)) (Rejected (callsOf k G input)))
+    (theorems .verdict G n (passed-predictive words p) input (h .known) v s)) in
     let choice = tableChoice G n input in
     let own = theorems .own-rules G n input in
     let counted = theorems .calls-counted G (encodes .formed .scoped) free some-nonterminal choice own input in

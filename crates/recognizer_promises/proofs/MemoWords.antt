@@ -26,7 +26,8 @@ use Rattle.recognizer_promises.specs.Answers.{choiceOf}
 use Rattle.recognizer_promises.specs.Memory.{memoWord, memoWords}
 
 -- the entries of the calls in order are what the memo table records
-module _ (k : Lookahead) (G : Grammar) (w : List ℕ) (scoped : WellScoped G) (free : NoLeftRecursion G) (nonempty : 0 < G .nonterminals) {m : List ℕ} (r : Recorded G (choiceOf k G w) w m) where
+module _ (k : Lookahead) (G : Grammar) (w : List ℕ) (scoped : WellScoped G) (free : NoLeftRecursion G) (nonempty : 0 < G .nonterminals) {m : List ℕ}
+    (r : Recorded G (choiceOf k G w) w m) where
   listing : Listing G (choiceOf k G w) w (calls G (choiceOf k G w) w)
   listing = theorems .calls-counted G scoped free nonempty (choiceOf k G w) (theorems .own-rules G (tokens k) w) w .listing
 

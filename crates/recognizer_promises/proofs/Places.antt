@@ -101,6 +101,7 @@ module _ (k : Lookahead) (G : Grammar) (scoped : WellScoped G) (few : G .termina
     unproductive = lowest-unproductive behind (clash-other k (firstClash k G)) k G scoped t;
     conflict = λ A c.
         let nine = clash-code k A c in
-        let clash = t (conflictError k A c) record { length = λ h. omega (arith, nine, h); token = λ h. omega (arith, nine, h); inputs = λ h. omega (arith, nine, h) } in
+        let clash = t (conflictError k A c) record
+        { length = λ h. omega (arith, nine, h); token = λ h. omega (arith, nine, h); inputs = λ h. omega (arith, nine, h) } in
         (λ e. first-told A c .0 (clash .0 e), λ h. clash .1 (first-told A c .1 h));
   }

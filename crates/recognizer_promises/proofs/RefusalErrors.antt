@@ -63,7 +63,8 @@ module _ {k : Lookahead} {words : List ℕ} {P : Error → Type 0} where
       )
 
   -- a judgement that is a refusal
-  pub refused-each : JudgeErrors k words P → {input table memo table′ memo′ : List ℕ} {a : Answer} → Judges k words input table memo a table′ memo′ → (x : Error)
+  pub refused-each : JudgeErrors k words P → {input table memo table′ memo′ : List ℕ} {a : Answer}
+      → Judges k words input table memo a table′ memo′ → (x : Error)
       → a ≡ Refused x → P x
   unfolding verdictOf
   refused-each each {input} {table} {memo} j x e =

@@ -34,7 +34,11 @@ symbol-reads words at p z X h x e =
     let k = rw x at (n .passed) in
     let r : n .progress .sizes .rules ≡ p .sizes .rules = omega (arith, k .rules) in
     let same : _≡_ {A = Progress}
-    (record { state = n .progress .state; sizes = record { nonterminals = n .progress .sizes .nonterminals; terminals = n .progress .sizes .terminals; rules = n .progress .sizes .rules } })
+    (record {
+      state = n .progress .state;
+      sizes =
+          record { nonterminals = n .progress .sizes .nonterminals; terminals = n .progress .sizes .terminals; rules = n .progress .sizes .rules };
+    })
     (record { state = p .state; sizes = record { nonterminals = p .sizes .nonterminals; terminals = p .sizes .terminals; rules = p .sizes .rules } }) =
     cc (k .state, k .nonterminals, k .terminals, r) in
     rw (same) at (n .reads)
@@ -46,7 +50,8 @@ module _ {words : List ℕ} {from at : ℕ} (s : Skipped words from at) where
   pub skipped-symbol : {X : grammar.Symbol} → at < length words → decoded (getD words at 0) ≡ Symbol X → Skipped words from (at + 1)
   unfolding onWord
   skipped-symbol {X} h x =
-      let here : parse (drop at words) ≡ onWord (Symbol X) (parse (drop (at + 1) words)) = parse-here words at h ∙ ap (λ y. onWord y (parse (drop (at + 1) words))) x in
+      let here : parse (drop at words) ≡ onWord (Symbol X) (parse (drop (at + 1) words)) =
+      parse-here words at h ∙ ap (λ y. onWord y (parse (drop (at + 1) words))) x in
       record {
         on = omega (arith, s .on);
         within = omega arith;

@@ -46,13 +46,15 @@ memoRest M w i (agreement.At e) ps ns m = memoPositives M w i e ps ns m
 memoRest M w i agreement.Failed ps ns m = memoized Failed m
 
 -- a rule that has come to an index: a conjunct begins there, or the rule ends
-pub record Calling (choice : Choice) (words input memo₀ : List ℕ) (A place : ℕ) (r : Rule) (memo : List ℕ) (at : ℕ) (sign : Sign) (agreed : Agreement) : Type 0 where
+pub record Calling (choice : Choice) (words input memo₀ : List ℕ) (A place : ℕ) (r : Rule) (memo : List ℕ) (at : ℕ)
+    (sign : Sign) (agreed : Agreement) : Type 0 where
   pub sound : MemoSound choice words input memo
   pub within : at ≤ length words
   pub signed : sign ≡ signAt words at
   pub ends : (e : ℕ) → agreed ≡ agreement.At e → e ≤ length input
   pub rest : (n : ℕ) → level words input A place ≤ n
-      → memoObey (deep choice words input n) input (some r) place memo₀ ≡ memoRest (deep choice words input n) input place agreed (parse (drop at words) .positives) (parse (drop at words) .negatives) memo
+      → memoObey (deep choice words input n) input (some r) place memo₀
+      ≡ memoRest (deep choice words input n) input place agreed (parse (drop at words) .positives) (parse (drop at words) .negatives) memo
   pub positives : (b : Body) → List·Memᴰ b (parse (drop at words) .positives) → List·Memᴰ b (bodies r)
   pub negatives : (b : Body) → List·Memᴰ b (parse (drop at words) .negatives) → List·Memᴰ b (bodies r)
   pub progress : Progress
@@ -217,7 +219,17 @@ module _ {choice : Choice} {words choices tokens input memo₀ : List ℕ} {A pl
 
   -- the run of its body
   pub calling-run : (k : Conjunct) → RunGiven choice words choices tokens input memo A (at + 1) place
-  calling-run k = record { call = calling-given; rule = r; listed = listed; heads = heads; inside = omega (arith, k .low); body = k .held; progress = k .progress; reads = k .reads }
+  calling-run k =
+      record {
+        call = calling-given;
+        rule = r;
+        listed = listed;
+        heads = heads;
+        inside = omega (arith, k .low);
+        body = k .held;
+        progress = k .progress;
+        reads = k .reads;
+      }
 
   -- one body more
   pub calling-turn : goesOn sign agreed ≡ true → {o : Run} {memo′ : List ℕ} {at′ : ℕ} {sign′ : Sign} {agreed′ : Agreement}
@@ -270,7 +282,8 @@ module _ {choice : Choice} {words choices tokens input memo₀ : List ℕ} {A pl
       go (yes l) =
           let n = scan-next words at (v .progress) (g .given .sizes) l (v .reads ∙ g .given .read) in
           let s : signOf (decoded (getD words at 0)) ≡ Neither = (rw (lt-ltb at (length words) l) at (sym (v .signed))) ∙ e in
-          rw (parse-here words at l) (ends-rule (decoded (getD words at 0)) (parse (drop (at + 1) words)) (v .progress .state) (n .passed .allowed) s (λ X. v .boundary X l))
+          rw (parse-here words at l)
+          (ends-rule (decoded (getD words at 0)) (parse (drop (at + 1) words)) (v .progress .state) (n .passed .allowed) s (λ X. v .boundary X l))
       go (no l) = over (parse-over words at (omega arith))
         where
           over : parse (drop at words) ≡ parse [] → (parse (drop at words) .positives ≡ []) × (parse (drop at words) .negatives ≡ [])
@@ -288,7 +301,8 @@ module _ {choice : Choice} {words choices tokens input memo₀ : List ℕ} {A pl
       neither Neither e = refl
 
       go : (a : Agreement) → agreed ≡ a → goesOn sign a ≡ false
-          → memoRest (deep choice words input n) input place a (parse (drop at words) .positives) (parse (drop at words) .negatives) memo ≡ memoized (concluded a) memo
+          → memoRest (deep choice words input n) input place a (parse (drop at words) .positives) (parse (drop at words) .negatives) memo
+          ≡ memoized (concluded a) memo
       go agreement.Open e t =
           let f = reads (v .progress) at (drop at words) (g .given .sizes) (v .reads ∙ g .given .read) .fits in
           let k = none-left (neither sign t) in

@@ -51,7 +51,8 @@ use Rattle.recursive_descent.proofs.TableChoices.{rows-filled, choices-
 pub blank-sound : (choice : Choice) (words input : List ℕ) → MemoSound choice words input (blank (grammarOf words) input)
 blank-sound choice words input = record {
   size = length-replicate (pairs (grammarOf words) input) uncalledCode;
-  right = λ x h n. absurd (n (getD-replicate (pairs (grammarOf words) input) (indexOf input x) uncalledCode uncalledCode (index-range (grammarOf words) input x h)));
+  right = λ x h n. absurd
+      (n (getD-replicate (pairs (grammarOf words) input) (indexOf input x) uncalledCode uncalledCode (index-range (grammarOf words) input x h)));
 }
 
 -- an entry below the codes is an end, and an outcome's entry is no other's
@@ -139,7 +140,8 @@ module _ {k : Lookahead} {words : List ℕ} {z : Sizes} {choices memo : List ℕ
       unfolding verdictOf accepts
       judged {c} tallied e =
           let long : length events ≡ length input = sym (input-length events) in
-          let counted : c ≡ callsOf k G input = tally-recorded (started .recorded) (tallied ∙ ap (λ n. tallyOf (recordedCalls memo′ (length memo′ / (n + 1)) n)) long) in
+          let counted : c ≡ callsOf k G input =
+          tally-recorded (started .recorded) (tallied ∙ ap (λ n. tallyOf (recordedCalls memo′ (length memo′ / (n + 1)) n)) long) in
           record {
             answer = e ∙ rw counted;
             entries = words-recorded k G input (r .formed .scoped) (ready .free) some-nonterminal (started .recorded);
@@ -148,7 +150,8 @@ module _ {k : Lookahead} {words : List ℕ} {z : Sizes} {choices memo : List ℕ
       module _ {c : Calls} (tallied : c ≡ tallyOf (recordedCalls memo′ (length memo′ / (length events + 1)) (length events))) where
         pub judged-accepted : end ≡ length events → Descended k words input (Accepted c) memo′
         judged-accepted e =
-            judged tallied (rw (entry-ends (descend G choice input 0 0) (length input) (omega (arith, ready .short)) (started .told) (e ∙ sym (input-length events))))
+            judged tallied (rw (entry-ends (descend G choice input 0 0) (length input) (omega (arith, ready .short))
+            (started .told) (e ∙ sym (input-length events))))
 
         pub judged-rejected : (end ≡ length events → ⊥) → Descended k words input (Rejected c) memo′
         judged-rejected d = judged tallied (rw (entry-ends-not (descend G choice input 0 0) (length input) (started .told) (λ e. d (e ∙ input-length events))))

@@ -79,7 +79,8 @@ pub running-as : {choice : Choice} {words input memo₀ : List ℕ} {A from star
     → Running choice words input memo₀ A from start memo at place → Running choice words input memo₀ A from start memo′ at place′
 running-as m p v = rw (m, p) v
 
-module _ {choice : Choice} {words choices tokens input memo₀ : List ℕ} {A from start : ℕ} (g : RunGiven choice words choices tokens input memo₀ A from start) where
+module _ {choice : Choice} {words choices tokens input memo₀ : List ℕ} {A from start : ℕ}
+    (g : RunGiven choice words choices tokens input memo₀ A from start) where
   abbrev G : Grammar
   G = grammarOf words
 
@@ -155,7 +156,8 @@ module _ {choice : Choice} {words choices tokens input memo₀ : List ℕ} {A fr
   running-done w h e n =
       let s = scan-next words at (v .progress) (g .call .given .sizes) h (v .reads ∙ g .call .given .read) in
       let k = parse-here words at h in
-      done (ap (λ p. p .body) k ∙ body-none (decoded (getD words at 0)) (parse (drop (at + 1) words)) (v .progress .state) (s .passed .allowed) (λ X x. n X (e ∙ x)))
+      done (ap (λ p. p .body) k
+      ∙ body-none (decoded (getD words at 0)) (parse (drop (at + 1) words)) (v .progress .state) (s .passed .allowed) (λ X x. n X (e ∙ x)))
 
   pub running-over : length words ≤ at → RunDone choice words input memo₀ A from start (stopped (outcome.End place) at) memo
   unfolding body-at parse
@@ -185,7 +187,8 @@ module _ {choice : Choice} {words choices tokens input memo₀ : List ℕ} {A fr
     front-here = rw body-here at (v .front)
 
     rest-here : (n : ℕ) → level words input A start ≤ n
-        → memoRun (deep choice words input n) input (body-at words from) start memo₀ ≡ memoRun (deep choice words input n) input (X ∷ body-at words (at + 1)) place memo
+        → memoRun (deep choice words input n) input (body-at words from) start memo₀
+        ≡ memoRun (deep choice words input n) input (X ∷ body-at words (at + 1)) place memo
     rest-here n l = v .rest n l ∙ ap (λ b. memoRun (deep choice words input n) input b place memo) body-here
 
   module _ (a : ℕ) (h : at < length words) (x : decoded (getD words at 0) ≡ Symbol (Terminal a)) where
@@ -259,7 +262,8 @@ module _ {choice : Choice} {words choices tokens input memo₀ : List ℕ} {A fr
     forward e t = descend-forward (grammarOf words) choice input (g .call .given .own) B place e (v .placed) t
 
     -- its outcome, recalled of the entry that the call returns
-    module _ {entry : ℕ} {memo′ : List ℕ} (d : CallDone choice words input memo B place entry memo′) (o : code.Outcome) (recalled : meant o ≡ decode entry) where
+    module _ {entry : ℕ} {memo′ : List ℕ} (d : CallDone choice words input memo B place entry memo′) (o : code.Outcome)
+        (recalled : meant o ≡ decode entry) where
       means : meant o ≡ came
       means = recalled ∙ ap decode (d .told) ∙ decode-encode (length input) came (omega (arith, g .call .given .short)) (λ e t. forward e t .1)
 
@@ -283,7 +287,8 @@ module _ {choice : Choice} {words choices tokens input memo₀ : List ℕ} {A fr
                 let i : place ≡ start = omega (arith, v .behind) in
                 let j : e ≡ place = omega arith in
                 let idle : T (nullable (grammarOf words) B) =
-                descend-null (grammarOf words) choice input (g .call .given .own) (r g .formed .scoped) B place place (v .placed) refl (end-ends came place (m ∙ ap End j)) in
+                descend-null (grammarOf words) choice input (g .call .given .own) (r g .formed .scoped) B place place (v .placed)
+                refl (end-ends came place (m ∙ ap End j)) in
                 front-here (Nonterminal B) h x i C (there idle l);
             progress = v .progress;
             reads = next-reads (Nonterminal B) h x;

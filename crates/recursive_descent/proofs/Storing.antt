@@ -66,7 +66,8 @@ module _ {choice : Choice} {words choices tokens input memo : List ℕ} {A place
   call-done {o} {entry} {memo′} model told =
       let n = suc (level words input A place) in
       let l : level words input A place < n = omega arith in
-      let k = transparent G choice input (r .formed .scoped) (g .given .free) (g .given .own) fits n A place memo (g .named) (g .placed) l (sound-out (g .given .sound)) in
+      let k = transparent G choice input (r .formed .scoped) (g .given .free) (g .given .own) fits n A place memo (g .named)
+      (g .placed) l (sound-out (g .given .sound)) in
       let e = model n l in
       let same : o ≡ came = sym (ap (λ x. x .outcome) e) ∙ k .0 in
       record {

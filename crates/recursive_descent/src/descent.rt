@@ -81,7 +81,8 @@ fn run_body(
     start: u16,
 ) -> Run
     requires { ⌜ RunRequires (now words) (now choices) (now tokens) (now memo) nonterminal from start ⌝ }
-    ensures { λ r. ⌜ RunEnsures (now (words .entry)) (now (choices .entry)) (now (tokens .entry)) (now (memo .entry)) nonterminal from start r (now (memo .exit)) ⌝ }
+    ensures { λ r. ⌜ RunEnsures (now (words .entry)) (now (choices .entry)) (now (tokens .entry)) (now (memo .entry))
+        nonterminal from start r (now (memo .exit)) ⌝ }
 {
     let mut at = from;
     let mut place = start;
@@ -134,7 +135,8 @@ pub(crate) fn call(
     place: u16,
 ) -> u16
     requires { ⌜ CallRequires (now words) (now choices) (now tokens) (now memo) nonterminal place ⌝ }
-    ensures { λ r. ⌜ CallEnsures (now (words .entry)) (now (choices .entry)) (now (tokens .entry)) (now (memo .entry)) nonterminal place r (now (memo .exit)) ⌝ }
+    ensures { λ r. ⌜ CallEnsures (now (words .entry)) (now (choices .entry)) (now (tokens .entry)) (now (memo .entry))
+        nonterminal place r (now (memo .exit)) ⌝ }
 {
     let entry = entry_of(choices, nonterminal, place);
     let known = memo[entry];

@@ -41,7 +41,8 @@ fn calls_on(
     memo: &mut [u16],
 ) -> usize
     requires { ⌜ TrialGiven (now words) sizes (now choices) (now events) (now memo) ⌝ }
-    ensures { λ r. ⌜ r ≡ callsOn (grammarOf (now (words .entry))) (inputAt (grammarOf (now (words .entry)) .terminals) (length (now (events .entry))) number) ⌝ }
+    ensures { λ r. ⌜ r ≡ callsOn (grammarOf (now (words .entry)))
+        (inputAt (grammarOf (now (words .entry)) .terminals) (length (now (events .entry))) number) ⌝ }
 {
     let last = sizes.terminals - 1;
     write_input(events, last as u8, number);

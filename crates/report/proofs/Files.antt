@@ -53,7 +53,8 @@ found {bytes} {before} {after} {r} {n} l told size = go (areWords bytes) refl
     go true e =
         let m : n ≡ length bytes / bytesOfWord = cc (rw e at (l .told)) in
         let w : after ≡ sets before 0 (wordsOf bytes) = rw e at (l .words) in
-        let k : length bytes ≤ bytesOfWord * maxWords = leb-true _ _ (and-first (leb (length bytes) (bytesOfWord * maxWords)) (eqb (length bytes % bytesOfWord) 0) e) in
+        let k : length bytes ≤ bytesOfWord * maxWords =
+        leb-true _ _ (and-first (leb (length bytes) (bytesOfWord * maxWords)) (eqb (length bytes % bytesOfWord) 0) e) in
         let j : length (wordsOf bytes) ≡ n = length-words bytes ∙ sym m in
         let a : length after ≡ length before = ap length w ∙ length-sets before 0 (wordsOf bytes) in
         record {
@@ -80,7 +81,8 @@ blank-memo : length blankMemo ≡ maxMemoEntries
 unfolding blankMemo
 blank-memo = length-replicate {A = ℕ} maxMemoEntries uncalledCode
 
-judged-blank : (words input : List ℕ) → Judges One words input blankTable blankMemo (judgedAnswer words input) (judgedTable words input) (judgedMemo words input)
+judged-blank : (words input : List ℕ)
+    → Judges One words input blankTable blankMemo (judgedAnswer words input) (judgedTable words input) (judgedMemo words input)
 judged-blank words input =
     judges (leaves-alike (ap₂ (λ a b. judgeFault One a b words input) blank-table blank-memo) (leaves refl (refl, (refl, tt))))
 
@@ -114,7 +116,8 @@ module _ {l m : List ℕ} {k : ℕ} where
     judges = judged-blank (wordsOf bytes) (inputOf events);
   }
 
-  pub judgement-judged : {bytes words : List ℕ} {n : ℕ} → FoundWords bytes words n → (events : List ℕ) → Put l 0 (judgedText (take n words) (inputOf events)) m k
+  pub judgement-judged : {bytes words : List ℕ} {n : ℕ} → FoundWords bytes words n → (events : List ℕ)
+      → Put l 0 (judgedText (take n words) (inputOf events)) m k
       → JudgementPrinted bytes events l m k
   unfolding judgementOf
   judgement-judged {bytes} f events p = record {

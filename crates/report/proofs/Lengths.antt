@@ -53,7 +53,8 @@ checked-short words = go (checkFault One maxTableWords words) (reading words) re
     go : (f : Option Error) (o : Outcome) → reading words ≡ o → length (checkText (findingOf f o) (table f)) ≤ sheetRoom
     go (some e) o r = omega (arith, refusal-most e)
     go none (Faulty e) r = omega (arith, refusal-most e)
-    go none (Read z) r = let k = well-read words z r in sheet-most (table none) (record { fewNonterminals = k .fewNonterminals; fewTerminals = k .fewTerminals })
+    go none (Read z) r =
+        let k = well-read words z r in sheet-most (table none) (record { fewNonterminals = k .fewNonterminals; fewTerminals = k .fewTerminals })
 
 -- lists of numbers of at most five digits
 abbrev Each : List ℕ → Type 0
@@ -136,7 +137,18 @@ judged-short words input = go (judgeFault One maxTableWords maxMemoEntries words
         made = callsText (grammarOf words .nonterminals) (length input) (lentBack none (memoWords One (grammarOf words) input) blankMemo)
 
         verdict : (b : Bool) → length made ≤ maxMemoEntries * callRoom
-            → length (judgementText (choose b (Accepted (callsOf One (grammarOf words) input)) (Rejected (callsOf One (grammarOf words) input))) (grammarOf words .nonterminals)
+            → length (judgementText (choose b (Accepted (callsOf One (grammarOf words) input)) (Rejected (callsOf One (grammarOf words) input)))
+            (grammarOf words .nonterminals)
             (length input) (lentBack none (memoWords One (grammarOf words) input) blankMemo)) ≤ judgementRoom
-        verdict true h = omega (arith, length-append (verdictLine "accepted " (callsOf One (grammarOf words) input)) made, verdict-most "accepted " (callsOf One (grammarOf words) input))
-        verdict false h = omega (arith, length-append (verdictLine "rejected " (callsOf One (grammarOf words) input)) made, verdict-most "rejected " (callsOf One (grammarOf words) input))
+        verdict true h =
+            omega (
+              arith,
+              length-append (verdictLine "accepted " (callsOf One (grammarOf words) input)) made,
+              verdict-most "accepted " (callsOf One (grammarOf words) input),
+            )
+        verdict false h =
+            omega (
+              arith,
+              length-append (verdictLine "rejected " (callsOf One (grammarOf words) input)) made,
+              verdict-most "rejected " (callsOf One (grammarOf words) input),
+            )

@@ -28,7 +28,9 @@ is-symbol End e = absurd (omega arith)
 is-symbol Invalid e = absurd (omega arith)
 
 pub no-symbol : (w : Word) → OneOf (0 ∷ 1 ∷ 2 ∷ 3 ∷ 5 ∷ 6 ∷ []) (tagOf the-type w) → (X : grammar.Symbol) → w ≡ Symbol X → ⊥
-no-symbol w t X e = ⊎-elim (λ e. omega arith) (⊎-elim (λ e. omega arith) (⊎-elim (λ e. omega arith) (⊎-elim (λ e. omega arith) (⊎-elim (λ e. omega arith) (λ e. omega arith))))) (rw e at t)
+no-symbol w t X e =
+    ⊎-elim (λ e. omega arith) (⊎-elim (λ e. omega arith) (⊎-elim (λ e. omega arith) (⊎-elim (λ e. omega arith) (⊎-elim (λ e. omega arith) (λ e. omega arith)))))
+    (rw e at t)
 
 pub tested-symbol : (w : Word) → isSymbol w ≡ true → (X : grammar.Symbol) × (w ≡ Symbol X)
 tested-symbol (Heading n t) e = absurd (false≢true e)

@@ -53,8 +53,10 @@ fn follow_rule(
     follows: &mut [u64; SETS],
     lookahead: Lookahead,
 ) -> bool
-    requires { ⌜ RuleWords (now words) start end × (head < maxNonterminals) × (length (now firsts) ≡ maxNonterminals) × (length (now follows) ≡ maxNonterminals) ⌝ }
-    ensures { λ r. ⌜ Passes (Asked lookahead (family (now (firsts .entry))) head (parse (drop (suc start) (now (words .entry))))) (now (follows .entry)) (now (follows .exit)) r ⌝ }
+    requires { ⌜ RuleWords (now words) start end × (head < maxNonterminals) × (length (now firsts) ≡ maxNonterminals)
+        × (length (now follows) ≡ maxNonterminals) ⌝ }
+    ensures { λ r. ⌜ Passes (Asked lookahead (family (now (firsts .entry))) head (parse (drop (suc start) (now (words .entry)))))
+        (now (follows .entry)) (now (follows .exit)) r ⌝ }
 {
     let follow = LookaheadSet {
         bits: follows[head as usize],
@@ -83,7 +85,8 @@ fn follow_rules(
     lookahead: Lookahead,
 ) -> bool
     requires { ⌜ PassGiven (now words) (now starts) sizes (now follows) × (length (now firsts) ≡ maxNonterminals) ⌝ }
-    ensures { λ r. ⌜ Passes (FollowRules lookahead (family (now (firsts .entry))) (parse (now (words .entry)) .rules)) (now (follows .entry)) (now (follows .exit)) r ⌝ }
+    ensures { λ r. ⌜ Passes (FollowRules lookahead (family (now (firsts .entry))) (parse (now (words .entry)) .rules))
+        (now (follows .entry)) (now (follows .exit)) r ⌝ }
 {
     let mut grown = false;
     let mut passed = 0;
@@ -112,7 +115,8 @@ fn follow_pass(
     lookahead: Lookahead,
 ) -> bool
     requires { ⌜ PassGiven (now words) (now starts) sizes (now follows) × (length (now firsts) ≡ maxNonterminals) ⌝ }
-    ensures { λ r. ⌜ Passes (FollowNumbersClosed lookahead (family (now (firsts .entry))) (parse (now (words .entry)) .rules)) (now (follows .entry)) (now (follows .exit)) r ⌝ }
+    ensures { λ r. ⌜ Passes (FollowNumbersClosed lookahead (family (now (firsts .entry))) (parse (now (words .entry)) .rules))
+        (now (follows .entry)) (now (follows .exit)) r ⌝ }
 {
     let began = add(follows, 0, LookaheadSet::end(lookahead));
     either(
@@ -129,7 +133,8 @@ pub(crate) fn follow_sets(
     firsts: &[u64; SETS],
     lookahead: Lookahead,
 ) -> [u64; SETS]
-    requires { ⌜ (admission lookahead (now words) ≡ Read sizes) × (now starts ≡ ruleStarts (now words)) × (now firsts ≡ listed maxNonterminals (firstNumber lookahead (grammarOf (now words)))) ⌝ }
+    requires { ⌜ (admission lookahead (now words) ≡ Read sizes) × (now starts ≡ ruleStarts (now words))
+        × (now firsts ≡ listed maxNonterminals (firstNumber lookahead (grammarOf (now words)))) ⌝ }
     ensures { λ r. ⌜ r ≡ listed maxNonterminals (followNumber lookahead (grammarOf (now (words .entry)))) ⌝ }
 {
     let mut follows = [0u64; SETS];

@@ -35,7 +35,8 @@ fn reach_pass(
     lookahead: Lookahead,
 ) -> bool
     requires { ⌜ PassGiven (now words) (now starts) sizes (now reach) ⌝ }
-    ensures { λ r. ⌜ Passes (ReachClosed (emptyIn lookahead (family (now (firsts .entry)))) (parse (now (words .entry)) .rules)) (now (reach .entry)) (now (reach .exit)) r ⌝ }
+    ensures { λ r. ⌜ Passes (ReachClosed (emptyIn lookahead (family (now (firsts .entry)))) (parse (now (words .entry)) .rules))
+        (now (reach .entry)) (now (reach .exit)) r ⌝ }
 {
     let mut grown = false;
     let mut passed = 0;
@@ -60,7 +61,8 @@ pub(crate) fn reached(
     firsts: &[u64; SETS],
     lookahead: Lookahead,
 ) -> [u32; SETS]
-    requires { ⌜ (admission lookahead (now words) ≡ Read sizes) × (now starts ≡ ruleStarts (now words)) × (now firsts ≡ listed maxNonterminals (firstNumber lookahead (grammarOf (now words)))) ⌝ }
+    requires { ⌜ (admission lookahead (now words) ≡ Read sizes) × (now starts ≡ ruleStarts (now words))
+        × (now firsts ≡ listed maxNonterminals (firstNumber lookahead (grammarOf (now words)))) ⌝ }
     ensures { λ r. ⌜ r ≡ listed maxNonterminals (reachNumber (grammarOf (now (words .entry)))) ⌝ }
 {
     let mut reach = [0u32; SETS];

@@ -28,7 +28,8 @@ sets-most table A =
 entries-most : (table : List ℕ) (start columns : ℕ) → length (entriesLine table start columns) ≤ columns * entryRoom + 6
 unfolding entriesLine
 entries-most table start columns =
-    let cells = up-to-most columns entryRoom (λ c. entryText (wordAt table (start + c))) (λ k h. dash-within noEntry (wordAt table (start + k)) 20 (decimal-most (wordAt table (start + k))) (omega arith)) in
+    let cells = up-to-most columns entryRoom (λ c. entryText (wordAt table (start + c)))
+    (λ k h. dash-within noEntry (wordAt table (start + k)) 20 (decimal-most (wordAt table (start + k))) (omega arith)) in
     simp length-append (omega (arith, cells))
 
 nonterminal-most : (z : Sizes) (table : List ℕ) (A : ℕ) → z .terminals ≤ maxTerminals → length (nonterminalText z table A) ≤ setsRoom + entriesRoom

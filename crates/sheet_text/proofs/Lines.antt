@@ -13,7 +13,8 @@ use Rattle.sheet_text.specs.Sheet.{wordAt, setText, setsLine}
 
 -- the row of a nonterminal stands within the table
 pub row-within : (n A t : ℕ) → n ≤ maxNonterminals → A < maxNonterminals → t ≤ maxTerminals → 2 * n + A * (t + 1) + (t + 1) ≤ maxTableWords
-row-within n A t few h k = let m = mul-le-mul {n₁ = suc A} {m₁ = t + 1} {n₂ = maxNonterminals} {m₂ = maxColumns} h (omega arith) in omega (arith, suc-mul A (t + 1))
+row-within n A t few h k =
+    let m = mul-le-mul {n₁ = suc A} {m₁ = t + 1} {n₂ = maxNonterminals} {m₂ = maxColumns} h (omega arith) in omega (arith, suc-mul A (t + 1))
 
 module _ {l m : List ℕ} {at next : ℕ} where
   pub set-put : (label : List ℕ) (bits : ℕ) {n : ℕ} → n ≡ size bits →

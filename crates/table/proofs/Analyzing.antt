@@ -122,7 +122,8 @@ module _ {k : Lookahead} {words : List ℕ} {z : Sizes} {r : Claims} (f : Claime
         ∙ clash-found k (grammarOf words) grammar-few (r .overruns) (f .own) (f .claims) each-told
 
     -- a clash refuses the grammar
-    pub found-clash : {A c : ℕ} {x : Error} → v ≡ conflict.At A c → x ≡ conflictError k A c → foundWith (Refused x) (r .starts) (r .firsts) (r .follows) noRules ≡ foundOf k words
+    pub found-clash : {A c : ℕ} {x : Error} → v ≡ conflict.At A c → x ≡ conflictError k A c
+        → foundWith (Refused x) (r .starts) (r .firsts) (r .follows) noRules ≡ foundOf k words
     unfolding foundOf
     found-clash t d = rw (d, fault-sets k words, f .read, f .faultless, ← clash, t, f .begins, f .first, f .follow)
 

@@ -114,7 +114,8 @@ pub noting-start : (heads sets told : List ℕ) (n : ℕ) → length told ≡ ma
 unfolding numbersFrom
 noting-start heads sets told n long = let e : n - n ≡ 0 = omega arith in rw e (noting-none heads sets told long)
 
-pub noting-end : {heads sets told once twice : List ℕ} (q n : ℕ) → Noting heads sets told (numbersFrom q (n - q)) once twice → q ≤ 0 → Twice heads sets told n twice
+pub noting-end : {heads sets told once twice : List ℕ} (q n : ℕ)
+    → Noting heads sets told (numbersFrom q (n - q)) once twice → q ≤ 0 → Twice heads sets told n twice
 unfolding numbers
 noting-end q n f h =
     let e : q ≡ 0 = omega arith in

@@ -139,7 +139,8 @@ module _ (k : Lookahead) (G : Grammar) where
         go Absent e =
             let d = clash-entry (A, f .string) (clashes-make G n A (f .string) (f .clash)) in
             let s = rw e at scan in
-            absurd (s A (columnOf k t (f .string)) (omega arith) (omega (arith, d .0)) (column-in k t (f .string) few (d .1)) (in-column A (f .string) (d .1) (d .2)))
+            absurd (s A (columnOf k t (f .string)) (omega arith) (omega (arith, d .0)) (column-in k t (f .string) few (d .1))
+            (in-column A (f .string) (d .1) (d .2)))
         go (At B d) e =
             let g = clash-first e in
             let p : NotBefore A c B d = subst (λ m. NotBefore A c B m) (g .stands) (f .first B (g .string) (g .clash)) in
@@ -156,7 +157,8 @@ module _ (k : Lookahead) (G : Grammar) where
         none (x ∷ l) e a =
             let d = clash-entry x (rw e (List·Memᴰ·head refl)) in
             let s = rw a at scan in
-            absurd (s (x .0) (columnOf k t (x .1)) (omega arith) (omega (arith, d .0)) (column-in k t (x .1) few (d .1)) (in-column (x .0) (x .1) (d .1) (d .2)))
+            absurd (s (x .0) (columnOf k t (x .1)) (omega arith) (omega (arith, d .0)) (column-in k t (x .1) few (d .1))
+            (in-column (x .0) (x .1) (d .1) (d .2)))
 
         absent : (r : Conflict) → firstClash k G ≡ r → clashes G n ≡ [] → firstClash k G ≡ Absent
         absent Absent e z = e

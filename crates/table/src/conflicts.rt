@@ -85,7 +85,8 @@ fn first_column(
 // The first entry whose element is in the set of its nonterminal.
 fn first_entry(sets: &[u64; SETS], sizes: Sizes, lookahead: Lookahead) -> Conflict
     requires { ⌜ (sizes .nonterminals ≤ maxNonterminals) × (sizes .terminals ≤ alphabet lookahead) ⌝ }
-    ensures { λ r. ⌜ r ≡ conflictFrom (inSets (columnElement lookahead (sizes .terminals)) (now (sets .entry))) (columnCount lookahead (sizes .terminals)) 0 (sizes .nonterminals) ⌝ }
+    ensures { λ r. ⌜ r ≡ conflictFrom (inSets (columnElement lookahead (sizes .terminals)) (now (sets .entry)))
+        (columnCount lookahead (sizes .terminals)) 0 (sizes .nonterminals) ⌝ }
 {
     let nonterminals = sizes.nonterminals;
     let terminals = sizes.terminals;

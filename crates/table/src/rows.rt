@@ -36,7 +36,8 @@ fn fill_row(
     lookahead: Lookahead,
 )
     requires { ⌜ (length (now entries) ≡ maxEntries) × (terminals ≤ alphabet lookahead) × (row + columnCount lookahead terminals ≤ maxEntries) ⌝ }
-    ensures { λ _. ⌜ FilledRow (now (entries .entry)) row (columnElement lookahead terminals) (columnCount lookahead terminals) (claim .bits) rule (now (entries .exit)) ⌝ }
+    ensures { λ _. ⌜ FilledRow (now (entries .entry)) row (columnElement lookahead terminals) (columnCount lookahead terminals)
+        (claim .bits) rule (now (entries .exit)) ⌝ }
 {
     let columns = count(lookahead, terminals);
     let mut column = 0;
@@ -60,7 +61,8 @@ pub(crate) fn rows<'a>(
     lookahead: Lookahead,
 ) -> [u8; ENTRIES]
     requires { ⌜ RowsGiven lookahead sizes (now heads) ⌝ }
-    ensures { λ r. ⌜ FilledRows (rowsOf lookahead (sizes .nonterminals) (sizes .terminals)) (now (heads .entry)) (now (sets .entry)) 0 (numbers (sizes .rules)) noRules r ⌝ }
+    ensures { λ r. ⌜ FilledRows (rowsOf lookahead (sizes .nonterminals) (sizes .terminals)) (now (heads .entry)) (now (sets .entry))
+        0 (numbers (sizes .rules)) noRules r ⌝ }
 {
     let terminals = sizes.terminals;
     let columns = count(lookahead, terminals);

@@ -172,7 +172,8 @@ fn settle<'a>(
     end: usize,
 )
     requires { ⌜ SettleGiven (now words) (now starts) (now lasts) (now befores) sizes (now chart) start end ⌝ }
-    ensures { λ _. ⌜ Fills (now (words .entry)) (now (stands .entry)) (now (chart .entry)) end maxTabularTokens (turn start end 0) (turn (start + 1) (end + 1) 0) (now (chart .exit)) ⌝ }
+    ensures { λ _. ⌜ Fills (now (words .entry)) (now (stands .entry)) (now (chart .entry)) end maxTabularTokens (turn start end 0)
+        (turn (start + 1) (end + 1) 0) (now (chart .exit)) ⌝ }
 {
     let nonterminals = sizes.nonterminals;
     let mut rank = 0;
@@ -207,7 +208,8 @@ fn fill_length<'a>(
     length: usize,
 )
     requires { ⌜ LengthGiven (now words) (now starts) (now lasts) (now befores) sizes (now chart) tokens length ⌝ }
-    ensures { λ _. ⌜ Fills (now (words .entry)) (now (stands .entry)) (now (chart .entry)) tokens tokens (turn 0 length 0) (turn 0 (length + 1) 0) (now (chart .exit)) ⌝ }
+    ensures { λ _. ⌜ Fills (now (words .entry)) (now (stands .entry)) (now (chart .entry)) tokens tokens (turn 0 length 0)
+        (turn 0 (length + 1) 0) (now (chart .exit)) ⌝ }
 {
     let mut start = 0;
     while start + length <= tokens {

@@ -40,7 +40,8 @@ pub no-nonterminal : (A : ℕ) → maxNonterminals ≤ A → 0 ≡ oneNontermina
 unfolding oneNonterminal
 no-nonterminal A h = rw (le-ltb A maxNonterminals h)
 
-pub with-nonterminal : (found A : ℕ) (there : Bool) {r : ℕ} → A < maxNonterminals → r ≡ withNonterminal found A there → r ≡ choose there (bitOr found (weight A)) found
+pub with-nonterminal : (found A : ℕ) (there : Bool) {r : ℕ} → A < maxNonterminals → r ≡ withNonterminal found A there
+    → r ≡ choose there (bitOr found (weight A)) found
 unfolding withNonterminal
 with-nonterminal found A there h e = e ∙ ap (λ (n : ℕ). choose there (bitOr found n) found) (one-nonterminal A h)
 

@@ -100,7 +100,8 @@ unfolding setsFault
 fault-encoded words G short e = rw (encodes-read words G short e, encodes-grammar words G e)
 
 -- the lent words of the spans
-module _ (words input before : List ℕ) {after : List ℕ} (m : after ≡ tabularWords (grammarOf words) input ++ drop (length (tabularWords (grammarOf words) input)) before) where
+module _ (words input before : List ℕ) {after : List ℕ}
+    (m : after ≡ tabularWords (grammarOf words) input ++ drop (length (tabularWords (grammarOf words) input)) before) where
   word-of : (i j : ℕ) → i ≤ j → j ≤ length input → getD after (indexOf (length input) i j) 0 ≡ solutionWord (grammarOf words) input i j
   unfolding tabularWords
   word-of i j h k =
@@ -113,13 +114,21 @@ module _ (words input before : List ℕ) {after : List ℕ} (m : after ≡ tabul
       → has (getD after (indexOf (length input) i j) 0) A ≡ solution (grammarOf words) input A i j
   unfolding solutionWord
   bit-of i j h k A a =
-      rw (word-of i j h k, has-total (grammarOf words .nonterminals) (λ B. solution (grammarOf words) input B i j) A, lt-ltb A (grammarOf words .nonterminals) a)
+      rw (
+        word-of i j h k,
+        has-total (grammarOf words .nonterminals) (λ B. solution (grammarOf words) input B i j) A,
+        lt-ltb A (grammarOf words .nonterminals) a,
+      )
 
   other-of : (i j : ℕ) → i ≤ j → j ≤ length input → (A : ℕ) → grammarOf words .nonterminals ≤ A
       → has (getD after (indexOf (length input) i j) 0) A ≡ false
   unfolding solutionWord
   other-of i j h k A a =
-      rw (word-of i j h k, has-total (grammarOf words .nonterminals) (λ B. solution (grammarOf words) input B i j) A, le-ltb A (grammarOf words .nonterminals) a)
+      rw (
+        word-of i j h k,
+        has-total (grammarOf words .nonterminals) (λ B. solution (grammarOf words) input B i j) A,
+        le-ltb A (grammarOf words .nonterminals) a,
+      )
 
 -- what the answer and the words mean
 module _ (words input before : List ℕ) {after : List ℕ} {r : Answer} (p : FreeGrammar words)
@@ -157,7 +166,8 @@ never-told none false r c positive h e q = absurd (omega (arith, ap (λ (n : Num
 
 -- the promise from the answer and the memory
 judges : {words input spans spans′ : List ℕ} {r : Answer}
-    → Leaves (tabularFault (length spans) words input) (tabularVerdict (grammarOf words) input) r (lent spans (tabularWords (grammarOf words) input) spans′ ∷ [])
+    → Leaves (tabularFault (length spans) words input) (tabularVerdict (grammarOf words) input) r
+    (lent spans (tabularWords (grammarOf words) input) spans′ ∷ [])
     → TabularJudges words input spans r spans′
 unfolding tabularVerdict
 judges {words} {input} {spans} {spans′} {r} l = record {

@@ -140,7 +140,8 @@ module _ {w stands chart : List ℕ} {end : ℕ} (o : Over w stands chart end) w
       → Reads (charted chart) w b start end set → Reads (charted chart) w (Terminal a ∷ b) start end r
   unfolding contains
   terminal-reads a b set start r e l h k s =
-      rw e (has-and (set / 2) (getD stands a 0) k ∙ rw (← has-suc set k, h (suc k) (omega arith), o .standing .at a k l) (go (contains (charted chart) w b (suc k) end) refl))
+      rw e (has-and (set / 2) (getD stands a 0) k
+      ∙ rw (← has-suc set k, h (suc k) (omega arith), o .standing .at a k l) (go (contains (charted chart) w b (suc k) end) refl))
     where
       go : (c : Bool) → contains (charted chart) w b (suc k) end ≡ c
           → (c && (ltb k (length w) && eqb (getD w k 0) a)) ≡ (ltb k end && (eqb (getD w k 0) a && c))

@@ -126,10 +126,12 @@ module _ {words starts reaches : List ℕ} {z : Sizes} (g : RanksGiven words sta
 
       before : (q : ℕ) → q < i + 1 → Dec (q ≡ i) → LastOf words (ruleRank words q) q (getD (set befores i (getD lasts x 0)) q 0)
       before q b (yes s) =
-          rw (s, getD-set-same befores i (getD lasts x 0) 0 (omega (arith, h .rules, well-read words z (g .rules .read) .fewRules)), ← rank-told) (h .last x rank-low)
+          rw (s, getD-set-same befores i (getD lasts x 0) 0 (omega (arith, h .rules, well-read words z (g .rules .read) .fewRules)), ← rank-told)
+          (h .last x rank-low)
       before q b (no s) = rw (getD-set-other befores i q (getD lasts x 0) 0 s) (h .before q (omega arith))
 
-pub ranked-end : {words lasts befores : List ℕ} {z : Sizes} {i : ℕ} → RankedTo words lasts befores i → i ≤ z .rules → z .rules ≤ i → ByRank words z lasts befores
+pub ranked-end : {words lasts befores : List ℕ} {z : Sizes} {i : ℕ} → RankedTo words lasts befores i → i ≤ z .rules
+    → z .rules ≤ i → ByRank words z lasts befores
 ranked-end {z = z} {i} h l m = let e : i ≡ z .rules = omega arith in record { last = λ r b. rw e at (h .last r b); before = λ q b. h .before q (omega arith) }
 
 -- the list from an element on

@@ -85,7 +85,8 @@ module _ {w stands chart : List ℕ} {start end : ℕ} (o : Over w stands chart 
       → Scanned (charted chart) w start end (onWord word p) (scanOnto stands chart start end word scan)
   unfolding onWord
   onto-scanned (Symbol X) k p scan h =
-      onto-symbol (charted chart) w start end n p scan h X (beforeSymbol stands chart start end X (scan .set)) (symbol-reads o n X k (p .body) (scan .set) (h .set))
+      onto-symbol (charted chart) w start end n p scan h X (beforeSymbol stands chart start end X (scan .set))
+      (symbol-reads o n X k (p .body) (scan .set) (h .set))
   onto-scanned (Rule A) k p scan h = onto-rule (charted chart) w start end n p scan h A
   onto-scanned Positive k p scan h = onto-positive (charted chart) w start end n p scan h
   onto-scanned Negative k p scan h = onto-negative (charted chart) w start end n p scan h

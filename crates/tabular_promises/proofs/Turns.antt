@@ -100,7 +100,8 @@ module _ {words starts lasts befores chart : List ℕ} {z : Sizes} (g : FillingG
     told-rank A t = eqb→eq (rank (grammarOf words) A) r (and-l (eqb (rank (grammarOf words) A) r) _ (rw (d .member w over A) at t))
 
     -- at the span itself
-    here-right : (A : ℕ) → A < grammarOf words .nonterminals → rank (grammarOf words) A < r + 1 → charted chart₂ A start end ≡ solution (grammarOf words) w A start end
+    here-right : (A : ℕ) → A < grammarOf words .nonterminals → rank (grammarOf words) A < r + 1
+        → charted chart₂ A start end ≡ solution (grammarOf words) w A start end
     here-right A a o = n .here A (omega (arith, counted)) ∙ go (ℕ-discrete (rank (grammarOf words) A) r)
       where
         unfilled : rank (grammarOf words) A ≡ r → charted chart₁ A start end ≡ false
@@ -162,14 +163,16 @@ module _ {words starts lasts befores chart : List ℕ} {z : Sizes} (g : FillingG
 pub settling-start : {words stands chart : List ℕ} {low high x : ℕ} → Long chart → Fills words stands chart low high x x chart
 settling-start l = record { long = l; filled = λ w s b c f. f }
 
-pub settling-more : {words starts lasts befores stands before chart chart′ : List ℕ} {z : Sizes} {start end r found : ℕ} → SettleGiven words starts lasts befores z before start end
+pub settling-more : {words starts lasts befores stands before chart chart′ : List ℕ} {z : Sizes} {start end r found : ℕ}
+    → SettleGiven words starts lasts befores z before start end
     → r < z .nonterminals → Fills words stands before end maxTabularTokens (turn start end 0) (turn start end r) chart
     → Derived words r stands chart start end found → Added chart (z .nonterminals) start end found chart′
     → Fills words stands before end maxTabularTokens (turn start end 0) (turn start end (r + 1)) chart′
 settling-more g l f d n =
     record { long = n .long; filled = λ w s b c h. filled-rank (g .given) (g .span) l d n w s b c (f .filled w s b c h) }
 
-pub settled : {words starts lasts befores stands before chart : List ℕ} {z : Sizes} {start end r : ℕ} → SettleGiven words starts lasts befores z before start end
+pub settled : {words starts lasts befores stands before chart : List ℕ} {z : Sizes} {start end r : ℕ}
+    → SettleGiven words starts lasts befores z before start end
     → r ≤ z .nonterminals → z .nonterminals ≤ r → Fills words stands before end maxTabularTokens (turn start end 0) (turn start end r) chart
     → Fills words stands before end maxTabularTokens (turn start end 0) (turn (start + 1) (end + 1) 0) chart
 settled {start = start} {end = end} {r = r} g l o f = record {
@@ -194,7 +197,8 @@ length-more start d l h f n = record {
       rw e at (n .filled w s (omega arith) (omega arith) (f .filled w s b c k));
 }
 
-pub length-end : (start d : ℕ) {words starts lasts befores stands before chart : List ℕ} {z : Sizes} {tokens : ℕ} → LengthGiven words starts lasts befores z before tokens d
+pub length-end : (start d : ℕ) {words starts lasts befores stands before chart : List ℕ} {z : Sizes} {tokens : ℕ}
+    → LengthGiven words starts lasts befores z before tokens d
     → tokens < start + d → start ≤ suc tokens → Fills words stands before tokens tokens (turn 0 d 0) (turn start (start + d) 0) chart
     → Fills words stands before tokens tokens (turn 0 d 0) (turn 0 (d + 1) 0) chart
 length-end start d g l u f = record {
@@ -204,6 +208,7 @@ length-end start d g l u f = record {
 }
 
 -- all lengths
-pub filled : {words starts lasts befores chart w : List ℕ} {z : Sizes} {d : ℕ} → FillingGiven words starts lasts befores z chart → length w < d → length w ≤ maxTabularTokens
+pub filled : {words starts lasts befores chart w : List ℕ} {z : Sizes} {d : ℕ} → FillingGiven words starts lasts befores z chart
+    → length w < d → length w ≤ maxTabularTokens
     → FilledTo (grammarOf words) w (turn 0 d 0) chart → Filled words w chart
 filled g l s f = record { right = λ A k m a km mw. f .right A k m a km mw (omega (arith, low-rank g A a, few g, counted g)) }

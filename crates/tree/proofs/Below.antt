@@ -105,5 +105,8 @@ module _ (G : Grammar) (k : ℕ) (w : List ℕ) where
     below-falls x j f y m =
         let c = chosen G k w p over v solves (x .nonterminal) (x .place) j f in
         let u = below-comes (x .nonterminal) (x .place) j c y m in
-        let r : InRange G w x = (f .named, omega (arith, f .onward, f .within)) in
-        (u, below-found (x .nonterminal) (x .place) j c y m, measure-falls G (tableChoice G k w) w (p .scoped) (theorems .own-rules G k w) (p .unrecursive) x r y u .1)
+        let r : InRange G w x = (f .named, omega (arith, f .onward, f .within)) in (
+          u,
+          below-found (x .nonterminal) (x .place) j c y m,
+          measure-falls G (tableChoice G k w) w (p .scoped) (theorems .own-rules G k w) (p .unrecursive) x r y u .1,
+        )

@@ -20,7 +20,8 @@ abbrev descendsOf : Grammar → List ℕ → Vertex → List (List Node)
 descendsOf G w = descendantsOf G (tableChoice G 1 w) w
 
 unfoldable trees-compute : Unit {0}
-unfolding tables-compute descent-computes calls-compute vertexAt bodyNodes conjunctNodes ruleNodes descendantsOf ruleCalls below each visit treeCalls treeOf vertexWord treeWords leaves
+unfolding tables-compute descent-computes calls-compute vertexAt bodyNodes conjunctNodes ruleNodes descendantsOf ruleCalls below each visit
+    treeCalls treeOf vertexWord treeWords leaves
 trees-compute = tt
 
 -- S → a S | ε on a: rule 0 over the whole, rule 1 over nothing

@@ -79,7 +79,13 @@ module _ (at : Call → Vertex) where
   unfolding flatten
   conjuncts-length [] i = refl
   conjuncts-length (b ∷ ps) i =
-      omega (arith, length-append (bodyNodes at b i) (flatten (map (λ b. bodyNodes at b i) ps)), length-append b (flatten ps), nodes-length b i, conjuncts-length ps i)
+      omega (
+        arith,
+        length-append (bodyNodes at b i) (flatten (map (λ b. bodyNodes at b i) ps)),
+        length-append b (flatten ps),
+        nodes-length b i,
+        conjuncts-length ps i,
+      )
 
 module _ (G : Grammar) (k : ℕ) (w : List ℕ) where
   abbrev pub at : Call → Vertex
@@ -98,7 +104,8 @@ module _ (G : Grammar) (k : ℕ) (w : List ℕ) where
       (h .0, h .1 .onward, refl, e, rw e (nodes-cut b (h .0) j (h .2)))
 
   -- the vertices among them
-  pub inner-node : (b : Body) (i j : ℕ) → Reads G k w j b i → (y : Call) → List·Memᴰ y (bodyComesTo (outcomes G k w) w b i) → List·Memᴰ (Inner (at y)) (bodyNodes at b i)
+  pub inner-node : (b : Body) (i j : ℕ) → Reads G k w j b i → (y : Call) → List·Memᴰ y (bodyComesTo (outcomes G k w) w b i)
+      → List·Memᴰ (Inner (at y)) (bodyNodes at b i)
   unfolding bodyNodes bodyComesTo
   inner-node [] i j h y m = absurd (List·Memᴰ·not-nil m)
   inner-node (Terminal a ∷ b) i j h y m =

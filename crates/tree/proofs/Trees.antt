@@ -226,7 +226,8 @@ module _ (G : Grammar) (k : ℕ) (w : List ℕ) (p : Predictive G k) (over : Ove
       rule = picked x e .rule;
       labelled = labelled;
       derived = rw (vertex-start x, ended, picked x e .heads)
-          (theorems .local-verdict G k p w over v solves .nonterminal (x .nonterminal) (x .place) (e .0) (e .1 .named) (e .1 .onward) (e .1 .within) (e .1 .follow) .0
+          (theorems .local-verdict G k p w over v solves .nonterminal (x .nonterminal) (x .place) (e .0) (e .1 .named)
+          (e .1 .onward) (e .1 .within) (e .1 .follow) .0
           (e .1 .ends));
     }
 
@@ -246,8 +247,11 @@ module _ (G : Grammar) (k : ℕ) (w : List ℕ) (p : Predictive G k) (over : Ove
       → (at G k w x .rule < length (G .rules)) × (at G k w x .start ≤ length w) × (at G k w x .end ≤ length w)
   vertex-within x h =
       let e = ends x h in
-      let f = e .1 in
-      (nth-below (G .rules) (at G k w x .rule) (picked x e .rule) (labelled x e), omega (arith, vertex-start x, f .onward, f .within), omega (arith, ended x e, f .within))
+      let f = e .1 in (
+        nth-below (G .rules) (at G k w x .rule) (picked x e .rule) (labelled x e),
+        omega (arith, vertex-start x, f .onward, f .within),
+        omega (arith, ended x e, f .within),
+      )
 
   tree-low : (x : Call) → InTree G choice w x → measure G w x ≤ measure G w root
   tree-low x start = omega arith

@@ -20,7 +20,8 @@ pub fn judge_tree(
     memo: &mut [u16],
     tree: &mut [u32],
 ) -> Shown
-    ensures { λ r. ⌜ Shows (now (words .entry)) (inputOf (now (events .entry))) (now (table .entry)) (now (memo .entry)) (now (tree .entry)) r (now (table .exit)) (now (memo .exit)) (now (tree .exit)) ⌝ }
+    ensures { λ r. ⌜ Shows (now (words .entry)) (inputOf (now (events .entry))) (now (table .entry)) (now (memo .entry)) (now (tree .entry)) r
+        (now (table .exit)) (now (memo .exit)) (now (tree .exit)) ⌝ }
 {
     if table.len() < TABLE_WORDS {
         return Shown {

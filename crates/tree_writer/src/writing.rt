@@ -26,7 +26,8 @@ fn write_vertex(
     written: usize,
 ) -> usize
     requires { ⌜ VertexRequires (now words) (now starts) (now labels) (now tree) (now marks) nonterminal start written ⌝ }
-    ensures { λ r. ⌜ VertexEnsures (now (words .entry)) (now (starts .entry)) (now (labels .entry)) (now (tree .entry)) (now (marks .entry)) nonterminal start written r (now (tree .exit)) (now (marks .exit)) ⌝ }
+    ensures { λ r. ⌜ VertexEnsures (now (words .entry)) (now (starts .entry)) (now (labels .entry)) (now (tree .entry)) (now (marks .entry)) nonterminal start
+        written r (now (tree .exit)) (now (marks .exit)) ⌝ }
 {
     let entry = nonterminal * PLACES + start;
     if marks[entry] {

@@ -45,9 +45,11 @@ module _ (events : List ℕ) {z : Sizes} {table memo : List ℕ} where
   pub labels-start : LabelledBelow z (inputOf events) table memo 0 (replicate maxMemoEntries 0)
   labels-start = record { long = length-replicate {A = ℕ} maxMemoEntries 0; word = λ A i h a l. absurd (omega (arith, h)) }
 
-  pub labels-more : {at r : ℕ} {labels : List ℕ} → at < maxMemoEntries → LabelledBelow z (inputOf events) table memo at labels → Labels z (inputOf events) table memo at r
+  pub labels-more : {at r : ℕ} {labels : List ℕ} → at < maxMemoEntries → LabelledBelow z (inputOf events) table memo at labels
+      → Labels z (inputOf events) table memo at r
       → LabelledBelow z (inputOf events) table memo (at + 1) (set labels at r)
-  labels-more {at} {r} {labels} low b h = record { long = length-set labels at r ∙ b .long; word = λ A i l a p. go A i l a p (ℕ-discrete (A * maxPlaces + i) at) }
+  labels-more {at} {r} {labels} low b h =
+      record { long = length-set labels at r ∙ b .long; word = λ A i l a p. go A i l a p (ℕ-discrete (A * maxPlaces + i) at) }
     where
       go : (A i : ℕ) → A * maxPlaces + i < at + 1 → A < z .nonterminals → i ≤ length (inputOf events) → Dec (A * maxPlaces + i ≡ at)
           → getD (set labels at r) (A * maxPlaces + i) 0 ≡ labelWord z (inputOf events) table memo A i
@@ -64,6 +66,7 @@ module _ (events : List ℕ) {z : Sizes} {table memo : List ℕ} where
       → LabelledBelow z (inputOf events) table memo ((B + 1) * maxPlaces + 0) labels
   labels-row B k h m b = record { long = b .long; word = λ A i l a p. b .word A i (omega (arith, input-length events)) a p }
 
-  pub labels-all : {at : ℕ} {labels : List ℕ} → LabelsGiven z (inputOf events) → z .nonterminals * maxPlaces ≤ at → LabelledBelow z (inputOf events) table memo at labels
+  pub labels-all : {at : ℕ} {labels : List ℕ} → LabelsGiven z (inputOf events)
+      → z .nonterminals * maxPlaces ≤ at → LabelledBelow z (inputOf events) table memo at labels
       → Labelled z (inputOf events) table memo labels
   labels-all g h b = record { word = λ A i a l. b .word A i (omega (arith, g .short)) a l }

@@ -42,7 +42,8 @@ module _ {words input lent : List ℕ} {l : List Call} {tree : List ℕ} {marks 
     (ranged : (y : Call) → InTree (grammarOf words) (choiceOf words input) input y → InRange (grammarOf words) input y)
     (names : grammarOf words .nonterminals ≤ maxNonterminals) (short : length input ≤ maxTokens) where
   few-pairs : pairs (grammarOf words) input ≤ maxMemoEntries
-  few-pairs = omega (arith, mul-le-mul {n₁ = grammarOf words .nonterminals} {m₁ = suc (length input)} {n₂ = maxNonterminals} {m₂ = maxPlaces} names (omega arith))
+  few-pairs =
+      omega (arith, mul-le-mul {n₁ = grammarOf words .nonterminals} {m₁ = suc (length input)} {n₂ = maxNonterminals} {m₂ = maxPlaces} names (omega arith))
 
   few : length l ≤ length lent
   few =
@@ -52,7 +53,14 @@ module _ {words input lent : List ℕ} {l : List Call} {tree : List ℕ} {marks 
   -- as many words as were lent
   pub holds-length : length tree ≡ length lent
   holds-length =
-      omega (arith, ap length (h .front), length-append (map (wordAt words input) l) (drop (length l) lent), length-map l (wordAt words input), length-drop (length l) lent, few)
+      omega (
+        arith,
+        ap length (h .front),
+        length-append (map (wordAt words input) l) (drop (length l) lent),
+        length-map l (wordAt words input),
+        length-drop (length l) lent,
+        few,
+      )
 
   -- a call that is not marked
   module _ (x : Call) (inTree : InTree (grammarOf words) (choiceOf words input) input x) (fresh : getD marks (labelIndex x) false ≡ false) where
@@ -73,7 +81,8 @@ module _ {words input lent : List ℕ} {l : List Call} {tree : List ℕ} {marks 
 
     pub count-low : written < maxMemoEntries
     count-low =
-        let a = distinct-length (l ++ (x ∷ [])) (allCalls (grammarOf words) input) distinct-more (λ y m. all-range (grammarOf words) input y .1 (ranged y (sound-more y m))) in
+        let a = distinct-length (l ++ (x ∷ [])) (allCalls (grammarOf words) input) distinct-more
+        (λ y m. all-range (grammarOf words) input y .1 (ranged y (sound-more y m))) in
         omega (arith, few-pairs, all-length (grammarOf words) input, length-append l (x ∷ []), h .count)
 
     pub room : written < length lent

@@ -113,7 +113,8 @@ module _ {words input table memo tree : List ℕ} (g : TreeGiven words input tab
       begins = s;
       labelled = λ x h.
           let f = tree-sound G 1 input (g .accepted .predictive) (g .accepted .tokens) meaning solves (g .accepted .accepted) x h .2 .1 in
-          l .word (x .nonterminal) (x .place) (omega (arith, f .named, well-read words z read .nonterminals)) (omega (arith, f .onward, f .within)) ∙ label-right read x h;
+          l .word (x .nonterminal) (x .place) (omega (arith, f .named, well-read words z read .nonterminals)) (omega (arith, f .onward, f .within))
+          ∙ label-right read x h;
       inTree = start;
       lent = tree;
       seen = [];
@@ -123,11 +124,13 @@ module _ {words input table memo tree : List ℕ} (g : TreeGiven words input tab
     pub tree-start : VertexRequires words starts labels tree (replicate maxMemoEntries false) 0 0 0
     tree-start = (input, given)
 
-    module _ {marks′ : List Bool} {n : ℕ} {tree′ : List ℕ} (d : VertexEnsures words starts labels tree (replicate maxMemoEntries false) 0 0 0 n tree′ marks′) where
+    module _ {marks′ : List Bool} {n : ℕ} {tree′ : List ℕ}
+        (d : VertexEnsures words starts labels tree (replicate maxMemoEntries false) 0 0 0 n tree′ marks′) where
       last : Holds words input tree (treeCalls G (choiceOf words input) input) tree′ marks′ n
       unfolding treeCalls measure
       last = d input given .holds tree [] blank (pairs G input)
-          (level-top G (g .accepted .predictive .scoped) (g .accepted .predictive .unrecursive) input 0 (length input - 0) (g .accepted .predictive .start) (omega arith))
+          (level-top G (g .accepted .predictive .scoped) (g .accepted .predictive .unrecursive) input 0 (length input - 0)
+          (g .accepted .predictive .start) (omega arith))
 
       the-words : wordsOf words input ≡ map (wordAt words input) (treeCalls G (choiceOf words input) input)
       unfolding treeWords treeOf wordAt

@@ -158,7 +158,8 @@ module _ (words input table memo tree : List ℕ) where
   short-tree long room h = refused-shows (first-tree long room h) (λ l. absurd (omega arith))
 
 -- memories that are long enough, and what judging promises
-module _ (tree : List ℕ) {words input table memo : List ℕ} (long : maxTableWords ≤ length table) (room : maxMemoEntries ≤ length memo) (high : maxMemoEntries ≤ length tree)
+module _ (tree : List ℕ) {words input table memo : List ℕ} (long : maxTableWords ≤ length table)
+    (room : maxMemoEntries ≤ length memo) (high : maxMemoEntries ≤ length tree)
     {a : Answer} {table′ memo′ : List ℕ} (j : Judges One words input table memo a table′ memo′) where
   abbrev G : Grammar
   G = grammarOf words
@@ -218,7 +219,8 @@ module _ (tree : List ℕ) {words input table memo : List ℕ} (long : maxTableW
 
     tokens : Over (G .terminals) input
     tokens =
-        let rows = each-none (judgeRows One (length table) (length memo) words input) (sym (judged-rows One (length table) (length memo) words input) ∙ told .0) in
+        let rows = each-none (judgeRows One (length table) (length memo) words input)
+        (sym (judged-rows One (length table) (length memo) words input) ∙ told .0) in
         absent-known (G .terminals) 0 input (absent (unknownFrom (G .terminals) 0 input) (rows .1 .1 .1 .1 .0))
 
     predictive : Predictive G 1
@@ -258,7 +260,8 @@ module _ (tree : List ℕ) {words input table memo : List ℕ} (long : maxTableW
         let own = theorems .own-rules G 1 input in
         let range = called-range G (choiceOf words input) input (predictive .scoped) (predictive .unrecursive) own (predictive .start) x k in
         let b : indexOf input x < length (memoWords One G input) = omega (arith, index-range G input x range, m .size) in
-        ap (λ l. getD l (indexOf input x) 0) memo-is ∙ List·getD-append (memoWords One G input) (drop (length (memoWords One G input)) memo) 0 (indexOf input x) b
+        ap (λ l. getD l (indexOf input x) 0) memo-is
+        ∙ List·getD-append (memoWords One G input) (drop (length (memoWords One G input)) memo) 0 (indexOf input x) b
         ∙ getD-any (memoWords One G input) (indexOf input x) 0 uncalledCode b ∙ m .called x k
 
     as-long : (new old : List ℕ) → length old ≤ length (new ++ drop (length new) old)
@@ -303,7 +306,8 @@ module _ (tree : List ℕ) {words input table memo : List ℕ} (long : maxTableW
         let v = theorems .one-solution G (predictive .scoped) (predictive .unrecursive) input .solves in
         let vertices = treeOf G (choiceOf words input) input .vertices in
         let a = tells .right (solution G input) v .written .few in
-        let b = theorems .calls-counted G (predictive .scoped) (predictive .unrecursive) (predictive .start) (choiceOf words input) (theorems .own-rules G 1 input) input .bounded in
+        let b = theorems .calls-counted G (predictive .scoped) (predictive .unrecursive) (predictive .start) (choiceOf words input)
+        (theorems .own-rules G 1 input) input .bounded in
         let k = mul-le-mul {n₁ = G .nonterminals} {m₁ = suc (length input)} {n₂ = maxNonterminals} {m₂ = maxPlaces}
         (passed-encodes words passed .limited .fewNonterminals) (omega (arith, short)) in
         rw (told .1) (omega (arith, length-map vertices vertexWord))

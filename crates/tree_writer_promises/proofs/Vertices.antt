@@ -201,7 +201,8 @@ module _ {input words starts labels tree₀ : List ℕ} {marks₀ : List Bool} {
     positives-are =
         let i : ℕ = getD (ruleStarts words) (choice .number) 0 in
         let f : choice .rule ≡ firstRule (drop i words) = some-same (choice .rule) _ (sym (choice .numbered) ∙ r .begins (choice .number) numbered) in
-        let e : choice .rule ≡ firstRule (getD words i 0 ∷ drop (i + 1) words) = f ∙ (rw (add-one i) (ap firstRule (drop-cons words i 0 (r .begun (choice .number) numbered .high)))) in
+        let e : choice .rule ≡ firstRule (getD words i 0 ∷ drop (i + 1) words) =
+        f ∙ (rw (add-one i) (ap firstRule (drop-cons words i 0 (r .begun (choice .number) numbered .high)))) in
         let p : choice .rule .positives ≡ parse (drop (i + 1) words) .positives = ap (λ (z : Rule). z .positives) e in
         p ∙ ap (λ (n : ℕ). parse (drop (n + 1) words) .positives) (sym begin-is)
       where
@@ -220,7 +221,8 @@ module _ {input words starts labels tree₀ : List ℕ} {marks₀ : List Bool} {
         holds-length (g .holds) ranged names (g .accepted .short),
       )
 
-      pub going-start : Going (set tree₀ written (getD labels (A * maxPlaces + start) 0)) (set marks₀ (A * maxPlaces + start) true) (written + 1) (getD starts q 0 + 1) start
+      pub going-start : Going (set tree₀ written (getD labels (A * maxPlaces + start) 0)) (set marks₀ (A * maxPlaces + start) true)
+          (written + 1) (getD starts q 0 + 1) start
       unfolding left bodyComesTo visit
       going-start =
           let at = getD starts q 0 + 1 in
@@ -433,7 +435,8 @@ Onward words starts labels A start written tree marks count at place tree′ mar
     → Going g tree marks count at place → Going g tree′ marks′ count′ at′ place′
 
 -- where ways meet
-pub going-as : {input words starts labels tree₀ : List ℕ} {marks₀ : List Bool} {A start written : ℕ} (g : VertexGiven input words starts labels tree₀ marks₀ A start written)
+pub going-as : {input words starts labels tree₀ : List ℕ} {marks₀ : List Bool} {A start written : ℕ}
+    (g : VertexGiven input words starts labels tree₀ marks₀ A start written)
     {tree tree′ : List ℕ} {marks marks′ : List Bool} {count count′ at place place′ : ℕ} → tree′ ≡ tree → marks′ ≡ marks → count′ ≡ count → place′ ≡ place
     → Going g tree marks count at place → Going g tree′ marks′ count′ at place′
 going-as g a b c d u = rw (a, b, c, d) u

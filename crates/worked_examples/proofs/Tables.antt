@@ -145,7 +145,8 @@ one-refuses = refl
 
 two-takes : (firstClash Two secondTells ≡ Absent)
     × (tableWords Two secondTells ≡ 1536 ∷ 1 ∷ (replicate 9 noEntry ++ 0 ∷ 1 ∷ replicate 46 noEntry))
-unfolding tables-compute rowConflict conflictFrom firstClash listed total stringOf numberOf firstNumber followNumber first follow tableWords setWord rowWord entryAt columnString tableOf
+unfolding tables-compute rowConflict conflictFrom firstClash listed total stringOf numberOf firstNumber followNumber first follow tableWords
+    setWord rowWord entryAt columnString tableOf
 two-takes = (refl, refl)
 
 -- and the first clash is that of terminal 0 at the end, before that of terminals 0 and 1, though strings are listed the other way round

@@ -35,7 +35,8 @@ returns c =
     let decoded = told .before in
     let turn = decoded .before .before in
     let at-loop = turn .before in
-    sym (alone-here (at-loop .before .before .args .words .now) (at-loop .loop .opened) (at-loop .loop .at) (turn .loop-test .taken) (decoded .decode .ensures) (sym (told .stands-alone .ensures) ∙ c .if1 .taken)) ∙ at-loop .loop .inv
+    sym (alone-here (at-loop .before .before .args .words .now) (at-loop .loop .opened) (at-loop .loop .at) (turn .loop-test .taken) (decoded .decode .ensures)
+    (sym (told .stands-alone .ensures) ∙ c .if1 .taken)) ∙ at-loop .loop .inv
 
 begins-rule-requires : tie.Need-begins-rule-requires Inv-loop μ-loop
 begins-rule-requires c κs = tt
@@ -52,7 +53,8 @@ loop-again c =
     let decoded = told .before in
     let turn = decoded .before .before in
     let at-loop = turn .before in
-    sym (alone-next (at-loop .before .before .args .words .now) (at-loop .loop .opened) (at-loop .loop .at) (turn .loop-test .taken) (decoded .decode .ensures) (sym (told .stands-alone .ensures) ∙ c .before .if1 .left) (c .begins-rule .ensures)) ∙ at-loop .loop .inv
+    sym (alone-next (at-loop .before .before .args .words .now) (at-loop .loop .opened) (at-loop .loop .at) (turn .loop-test .taken) (decoded .decode .ensures)
+    (sym (told .stands-alone .ensures) ∙ c .before .if1 .left) (c .begins-rule .ensures)) ∙ at-loop .loop .inv
 
 returns-2 : tie.Need-returns-2 Inv-loop μ-loop
 returns-2 c =

@@ -8,7 +8,8 @@ use Rattle.chart.proofs.before.Statement.{statement}
 use Rattle.chart.proofs.before.Tie as tie
 
 abbrev Inv-loop : tie.InvT-loop
-Inv-loop chart nonterminal set start end found₀ at₀ found at = (start ≤ at) × (at - start ≤ suc end - start) × (found ≡ gathered chart nonterminal set start (at - start))
+Inv-loop chart nonterminal set start end found₀ at₀ found at =
+    (start ≤ at) × (at - start ≤ suc end - start) × (found ≡ gathered chart nonterminal set start (at - start))
 
 abbrev μ-loop : tie.MeasureT-loop
 μ-loop chart nonterminal set start end found₀ at₀ found at = suc end - at
@@ -52,8 +53,11 @@ loop-less c = omega (arith, c .before .before .before .loop-test .taken)
 loop-again : tie.Need-loop-again Inv-loop μ-loop
 loop-again c =
     let inv = c .before .before .before .before .loop .inv in
-    let test = c .before .before .before .loop-test .taken in
-    (omega (arith, inv .0), omega (arith, inv .0, test), gathered-more _ _ _ _ _ _ _ _ _ (inv .0) (inv .2) (c .before .before .contains .ensures) refl (c .joined .ensures))
+    let test = c .before .before .before .loop-test .taken in (
+      omega (arith, inv .0),
+      omega (arith, inv .0, test),
+      gathered-more _ _ _ _ _ _ _ _ _ (inv .0) (inv .2) (c .before .before .contains .ensures) refl (c .joined .ensures),
+    )
 
 returns-3 : tie.Need-returns-3 Inv-loop μ-loop
 returns-3 c =

@@ -52,8 +52,10 @@ loop-less c = omega (arith, c .before .before .before .loop-test .taken)
 loop-again : tie.Need-loop-again Inv-loop μ-loop
 loop-again c =
     let loop = c .before .before .before .before in
-    let test = c .before .before .before .loop-test .taken in
-    (omega (arith, test), word-more _ _ _ _ _ _ _ (omega (arith, test, loop .before .before .if1 .left)) (loop .loop .inv .1) (c .before .contains .ensures) (c .found-by .ensures))
+    let test = c .before .before .before .loop-test .taken in (
+      omega (arith, test),
+      word-more _ _ _ _ _ _ _ (omega (arith, test, loop .before .before .if1 .left)) (loop .loop .inv .1) (c .before .contains .ensures) (c .found-by .ensures),
+    )
 
 returns-3 : tie.Need-returns-3 Inv-loop μ-loop
 returns-3 c =

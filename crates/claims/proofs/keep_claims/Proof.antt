@@ -37,7 +37,8 @@ mul-t15 : tie.Need-mul-t15 Inv-loop μ-loop
 mul-t15 c = let test = c .before .before .before .before in omega (arith, test .if1 .taken, few-rules (test .before .before .before .before .pre .0))
 
 element-copy-out-t24 : tie.Need-element-copy-out-t24 Inv-loop μ-loop
-element-copy-out-t24 c = let test = c .before .before .before .before in omega (arith, test .if1 .taken, few-rules (test .before .before .before .before .pre .0))
+element-copy-out-t24 c =
+    let test = c .before .before .before .before in omega (arith, test .if1 .taken, few-rules (test .before .before .before .before .pre .0))
 
 cast-t18 : tie.Need-cast-t18 Inv-loop μ-loop
 cast-t18 c =
@@ -101,7 +102,8 @@ loop-again c =
     let decode = head .before in
     let test = decode .before .before .before in
     let loop = test .before .before in
-    keeping-next (loop .before .before .pre .0) (test .if1 .taken) (decode .decode .ensures) (head .head-of .ensures) (loop .loop .inv) (c .concat .ensures .is) refl refl
+    keeping-next (loop .before .before .pre .0) (test .if1 .taken) (decode .decode .ensures) (head .head-of .ensures)
+    (loop .loop .inv) (c .concat .ensures .is) refl refl
 
 returns : tie.Need-returns Inv-loop μ-loop
 returns c =

@@ -49,10 +49,11 @@ overrunsIf none l = l
 overrunsIf (some e) l = replicate maxNonterminals 0
 
 abbrev pub claimsWith : Finding → List ℕ → List ℕ → List ℕ → List ℕ → List ℕ → List ℕ → Claims
-claimsWith f starts firsts follows heads sets told = record { finding = f; starts = starts; firsts = firsts; follows = follows; heads = heads; sets = sets; overruns = told }
+claimsWith f starts firsts follows heads sets told =
+    record { finding = f; starts = starts; firsts = firsts; follows = follows; heads = heads; sets = sets; overruns = told }
 
--- what is found of an encoded grammar: the first fault among the errors 3 to 8, 13 and 18, or its sizes, where its rules begin, its sets, the head and the claim of
--- each rule, and the nonterminals that overrun
+-- what is found of an encoded grammar: the first fault among the errors 3 to 8, 13 and 18, or its sizes, where its rules begin, its sets, the head
+-- and the claim of each rule, and the nonterminals that overrun
 unfoldable pub claimsOf : Lookahead → List ℕ → Claims
 claimsOf k words =
     claimsWith (findingOf (setsFault k words) (admission k words)) (startsIf (setsFault k words) (ruleStarts words))

@@ -13,7 +13,8 @@ returns c =
     let start = c .before .before .before .before .before in
     let given = start .args in
     let eight : length (given .t8) ≡ clients = start .good .1 .1 .1 .1 .1 .1 .1 .0 .1 .0 .1 in
-    unknown-client (given .client) (given .share) (given .limit) (given .t8) eight (given .words .now) (inputOf (given .events .now)) (given .table .now) (given .memo .now) (c .if1 .taken)
+    unknown-client (given .client) (given .share) (given .limit) (given .t8) eight (given .words .now) (inputOf (given .events .now))
+    (given .table .now) (given .memo .now) (c .if1 .taken)
 
 mul-own : tie.Need-mul-own
 mul-own c = search needs
@@ -41,7 +42,8 @@ returns-2 c =
     let start = at-client .before .before .before .before .before in
     let given = start .args in
     let eight : length (given .t8) ≡ clients = start .good .1 .1 .1 .1 .1 .1 .1 .0 .1 .0 .1 in
-    quota-reached (given .client) (given .share) (given .limit) (given .t8) eight (given .words .now) (inputOf (given .events .now)) (given .table .now) (given .memo .now) (at-client .if1 .left) (at-quota .is-exhausted .ensures) (at-test .if2 .taken) (c .after .ensures)
+    quota-reached (given .client) (given .share) (given .limit) (given .t8) eight (given .words .now) (inputOf (given .events .now)) (given .table .now)
+    (given .memo .now) (at-client .if1 .left) (at-quota .is-exhausted .ensures) (at-test .if2 .taken) (c .after .ensures)
 
 judge-requires : tie.Need-judge-requires
 judge-requires c κs = search needs
@@ -70,7 +72,8 @@ returns-3 c =
     let start = at-client .before .before .before .before .before in
     let given = start .args in
     let eight : length (given .t8) ≡ clients = start .good .1 .1 .1 .1 .1 .1 .1 .0 .1 .0 .1 in
-    judged (given .client) (given .share) (given .limit) (given .t8) eight (given .words .now) (inputOf (given .events .now)) (given .table .now) (given .memo .now) (at-client .if1 .left) (at-quota .is-exhausted .ensures) (at-test .if2 .left) (at-judge .judge .ensures) (c .after2 .ensures)
+    judged (given .client) (given .share) (given .limit) (given .t8) eight (given .words .now) (inputOf (given .events .now)) (given .table .now)
+    (given .memo .now) (at-client .if1 .left) (at-quota .is-exhausted .ensures) (at-test .if2 .left) (at-judge .judge .ensures) (c .after2 .ensures)
 
 pub judge-for-spec : {M : Type 1} → statement M
 judge-for-spec =

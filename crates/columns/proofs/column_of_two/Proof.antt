@@ -13,7 +13,8 @@ use Rattle.columns.proofs.column_of_two.Tie as tie
 returns : tie.Need-returns
 returns c =
     let start = c .before .before in
-    sym (two-end (start .args .terminals) (inputOf (start .args .events .now)) (start .args .place) (omega (arith, c .if1 .taken, input-length (start .args .events .now))))
+    sym (two-end (start .args .terminals) (inputOf (start .args .events .now)) (start .args .place)
+    (omega (arith, c .if1 .taken, input-length (start .args .events .now))))
 
 shared-slice-read-event : tie.Need-shared-slice-read-event
 shared-slice-read-event c = search needs

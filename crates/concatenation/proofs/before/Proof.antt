@@ -20,13 +20,15 @@ returns : tie.Need-returns
 returns c =
     let tested = c .before in
     let args = tested .before .before .args in
-    cases.if-passed (has (args .set .bits) (nothing (args .lookahead))) (args .other .bits) (rw (tested .before .nothing .ensures) at (sym (tested .contains .ensures) ∙ c .if1 .taken))
+    cases.if-passed (has (args .set .bits) (nothing (args .lookahead))) (args .other .bits)
+    (rw (tested .before .nothing .ensures) at (sym (tested .contains .ensures) ∙ c .if1 .taken))
 
 returns-2 : tie.Need-returns-2
 returns-2 c =
     let tested = c .before .before in
     let args = tested .before .before .args in
-    cases.if-failed (has (args .set .bits) (nothing (args .lookahead))) (has (args .other .bits)) (rw (tested .before .nothing .ensures) at (sym (tested .contains .ensures) ∙ c .before .if1 .left)) (c .empty .ensures)
+    cases.if-failed (has (args .set .bits) (nothing (args .lookahead))) (has (args .other .bits))
+    (rw (tested .before .nothing .ensures) at (sym (tested .contains .ensures) ∙ c .before .if1 .left)) (c .empty .ensures)
 
 pub before-spec : {M : Type 1} → statement M
 before-spec = tie.close (tie.spec nothing-requires contains-requires empty-requires returns returns-2)

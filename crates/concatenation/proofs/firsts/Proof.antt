@@ -35,11 +35,16 @@ loop-less c = search needs
 
 loop-again : tie.Need-loop-again Inv-loop μ-loop
 loop-again c =
-    let at = c .before .before .before in
-    (omega (arith, c .before .before .loop-test .taken), rows.firsts-more (at .before .before .args .set .bits) (at .loop .terminal) (at .loop .inv .1) (c .before .first .ensures) (c .join .ensures))
+    let at = c .before .before .before in (
+      omega (arith, c .before .before .loop-test .taken),
+      rows.firsts-more (at .before .before .args .set .bits) (at .loop .terminal) (at .loop .inv .1) (c .before .first .ensures) (c .join .ensures),
+    )
 
 returns : tie.Need-returns Inv-loop μ-loop
-returns c = let at = c .before in rows.firsts-all (at .before .before .args .set .bits) (at .loop .terminal) (at .loop .firsts .bits) (at .loop .inv .0) (c .loop-test .left) (at .loop .inv .1)
+returns c =
+    let at = c .before in
+    rows.firsts-all (at .before .before .args .set .bits) (at .loop .terminal) (at .loop .firsts .bits)
+    (at .loop .inv .0) (c .loop-test .left) (at .loop .inv .1)
 
 pub firsts-spec : {M : Type 1} → statement M
 firsts-spec =

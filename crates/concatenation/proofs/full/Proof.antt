@@ -24,7 +24,8 @@ returns c =
     let end = c .before .before in
     let singles = end .before .before in
     let args = singles .before .args in
-    full-set.full-is (args .lookahead) (args .terminals) (singles .singles .result .bits) (singles .singles .ensures) (end .end .ensures) (end .before .concat .ensures)
+    full-set.full-is (args .lookahead) (args .terminals) (singles .singles .result .bits) (singles .singles .ensures)
+    (end .end .ensures) (end .before .concat .ensures)
     (c .before .join .ensures) (c .join2 .ensures)
 
 pub full-spec : {M : Type 1} → statement M

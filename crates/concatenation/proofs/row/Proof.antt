@@ -36,12 +36,14 @@ returns : tie.Need-returns
 returns c =
     let at = c .before .before in
     let start = at .before .before in
-    rows.row-in (start .args .set .bits) (start .args .other .bits) (start .args .firsts .bits) (start .args .l) (start .pre .0) (start .pre .1) (sym (at .before .contains .ensures) ∙ at .if1 .taken)
+    rows.row-in (start .args .set .bits) (start .args .other .bits) (start .args .firsts .bits) (start .args .l) (start .pre .0) (start .pre .1)
+    (sym (at .before .contains .ensures) ∙ at .if1 .taken)
 
 returns-2 : tie.Need-returns-2
 returns-2 c =
     let start = c .before .before .before in
-    rows.row-out (start .args .set .bits) (start .args .other .bits) (start .args .l) (sym (c .before .before .contains .ensures) ∙ c .before .if1 .left) (c .empty .ensures)
+    rows.row-out (start .args .set .bits) (start .args .other .bits) (start .args .l)
+    (sym (c .before .before .contains .ensures) ∙ c .before .if1 .left) (c .empty .ensures)
 
 pub row-spec : {M : Type 1} → statement M
 row-spec =

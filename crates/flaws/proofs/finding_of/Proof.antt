@@ -38,7 +38,8 @@ returns-2 c =
     let second = c .before .before .before .before .before in
     let first = second .before in
     let start = first .before .before in
-    found-unproductive (start .args .sizes) (start .args .firsts .now) (start .args .reaches .now) (first .before .at-most .ensures) (first .lowest-with .ensures)
+    found-unproductive (start .args .sizes) (start .args .firsts .now) (start .args .reaches .now)
+    (first .before .at-most .ensures) (first .lowest-with .ensures)
     (second .lowest-with2 .ensures) (c .before .before .before .enum-told .given .1) (c .before .unproductive .given .1)
 
 returns-3 : tie.Need-returns-3

@@ -27,7 +27,14 @@ add-n c =
     let at-one = c in
     let at-claimed = at-one .before in
     let at-test = at-claimed .before in
-    omega (arith, one-le (at-claimed .claims-element .result), at-one .one .ensures, at-test .before .loop .inv .few, at-test .loop-test .taken, at-test .before .before .pre)
+    omega (
+      arith,
+      one-le (at-claimed .claims-element .result),
+      at-one .one .ensures,
+      at-test .before .loop .inv .few,
+      at-test .loop-test .taken,
+      at-test .before .before .pre,
+    )
 
 add-rule : tie.Need-add-rule Inv-loop μ-loop
 add-rule c = omega arith

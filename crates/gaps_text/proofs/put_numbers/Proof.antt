@@ -10,7 +10,8 @@ use Rattle.gaps_text.proofs.put_numbers.Statement.{statement}
 use Rattle.gaps_text.proofs.put_numbers.Tie as tie
 
 abbrev Inv-loop : tie.InvT-loop
-Inv-loop out₀ at heads sets rules nonterminal element next₀ rule₀ out next rule = (rule ≤ rules) × Put out₀ at (upTo rule (λ q. claimantText (claimant heads sets nonterminal element q) q)) out next
+Inv-loop out₀ at heads sets rules nonterminal element next₀ rule₀ out next rule =
+    (rule ≤ rules) × Put out₀ at (upTo rule (λ q. claimantText (claimant heads sets nonterminal element q) q)) out next
 
 abbrev μ-loop : tie.MeasureT-loop
 μ-loop out₀ at heads sets rules nonterminal element next₀ rule₀ out next rule = rules - rule
@@ -35,8 +36,11 @@ loop-again : tie.Need-loop-again Inv-loop μ-loop
 loop-again c =
     let at-put = c .before .before in
     let at-claimed = at-put .before .before in
-    let at-loop = at-claimed .before .before in
-    (omega arith, put-next _ _ (ap (λ b. claimantText b (at-loop .loop .rule)) (at-claimed .claims-element .ensures)) (at-loop .loop .inv .1) (at-put .put-claimant .ensures))
+    let at-loop = at-claimed .before .before in (
+      omega arith,
+      put-next _ _ (ap (λ b. claimantText b (at-loop .loop .rule)) (at-claimed .claims-element .ensures))
+          (at-loop .loop .inv .1) (at-put .put-claimant .ensures),
+    )
 
 same-length : tie.Need-same-length Inv-loop μ-loop
 same-length c = put-length (c .before .loop .inv .1)

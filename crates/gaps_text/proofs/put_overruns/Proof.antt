@@ -9,7 +9,8 @@ use Rattle.gaps_text.proofs.put_overruns.Statement.{statement}
 use Rattle.gaps_text.proofs.put_overruns.Tie as tie
 
 abbrev Inv-loop : tie.InvT-loop
-Inv-loop out₀ at overruns nonterminals next₀ nonterminal₀ out next nonterminal = (nonterminal ≤ nonterminals) × Put out₀ at (upTo nonterminal (λ A. overrunLine (overrunsIn overruns A) A)) out next
+Inv-loop out₀ at overruns nonterminals next₀ nonterminal₀ out next nonterminal =
+    (nonterminal ≤ nonterminals) × Put out₀ at (upTo nonterminal (λ A. overrunLine (overrunsIn overruns A) A)) out next
 
 abbrev μ-loop : tie.MeasureT-loop
 μ-loop out₀ at overruns nonterminals next₀ nonterminal₀ out next nonterminal = nonterminals - nonterminal

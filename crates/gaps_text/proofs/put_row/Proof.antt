@@ -9,7 +9,9 @@ use Rattle.gaps_text.proofs.put_row.Statement.{statement}
 use Rattle.gaps_text.proofs.put_row.Tie as tie
 
 abbrev Inv-loop : tie.InvT-loop
-Inv-loop out₀ at heads sets sizes nonterminal columns next₀ column₀ out next column = (column ≤ columns) × Put out₀ at (upTo column (λ c. entryLine (sizes .rules) (claimantAt heads sets (sizes .terminals) nonterminal c) nonterminal c)) out next
+Inv-loop out₀ at heads sets sizes nonterminal columns next₀ column₀ out next column =
+    (column ≤ columns) × Put out₀ at (upTo column (λ c. entryLine (sizes .rules) (claimantAt heads sets (sizes .terminals) nonterminal c) nonterminal c)) out
+    next
 
 abbrev μ-loop : tie.MeasureT-loop
 μ-loop out₀ at heads sets sizes nonterminal columns next₀ column₀ out next column = columns - column

@@ -9,7 +9,8 @@ use Rattle.gaps_text.proofs.put_rows.Statement.{statement}
 use Rattle.gaps_text.proofs.put_rows.Tie as tie
 
 abbrev Inv-loop : tie.InvT-loop
-Inv-loop out₀ at heads sets sizes nonterminals next₀ nonterminal₀ out next nonterminal = (nonterminal ≤ nonterminals) × Put out₀ at (upTo nonterminal (rowText sizes (claimantAt heads sets (sizes .terminals)))) out next
+Inv-loop out₀ at heads sets sizes nonterminals next₀ nonterminal₀ out next nonterminal =
+    (nonterminal ≤ nonterminals) × Put out₀ at (upTo nonterminal (rowText sizes (claimantAt heads sets (sizes .terminals)))) out next
 
 abbrev μ-loop : tie.MeasureT-loop
 μ-loop out₀ at heads sets sizes nonterminals next₀ nonterminal₀ out next nonterminal = nonterminals - nonterminal

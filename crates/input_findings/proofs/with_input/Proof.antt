@@ -32,14 +32,16 @@ returns-3 c =
     let searched = c .before .before .before in
     let short = searched .before in
     let start = short .before .before .before .before .before in
-    with-unknown (start .args .most) (start .args .events .now) (short .before .before .finding .given .1) (short .if1 .left) (searched .first-unknown .ensures) (c .before .unknown .given .1)
+    with-unknown (start .args .most) (start .args .events .now) (short .before .before .finding .given .1) (short .if1 .left)
+    (searched .first-unknown .ensures) (c .before .unknown .given .1)
 
 returns-4 : tie.Need-returns-4
 returns-4 c =
     let searched = c .before .before in
     let short = searched .before in
     let start = short .before .before .before .before .before in
-    with-known (start .args .most) (start .args .events .now) (short .before .before .finding .given .1) (short .if1 .left) (searched .first-unknown .ensures) (c .enum-told2 .given .1)
+    with-known (start .args .most) (start .args .events .now) (short .before .before .finding .given .1) (short .if1 .left)
+    (searched .first-unknown .ensures) (c .enum-told2 .given .1)
 
 pub with-input-spec : {M : Type 1} → statement M
 with-input-spec =

@@ -43,7 +43,8 @@ loop-again c =
     let at-entry = c .before .before .before in
     let at-loop = at-entry .before .before .before .before in
     let start = at-loop .before .before .before .before in
-    passing-step _ _ (start .args .memo .now) _ _ _ _ (at-loop .loop .inv) (omega arith) (at-entry .put-entry .ensures) (c .step .ensures .0) (c .step .ensures .1)
+    passing-step _ _ (start .args .memo .now) _ _ _ _ (at-loop .loop .inv) (omega arith) (at-entry .put-entry .ensures)
+    (c .step .ensures .0) (c .step .ensures .1)
 
 same-length : tie.Need-same-length Inv-loop μ-loop
 same-length c = put-length (c .before .before .loop .inv .2)

@@ -22,8 +22,11 @@ no-left-requires c κs = tt
 
 loop-holds : tie.Need-loop-holds Inv-loop μ-loop
 loop-holds c =
-    let start = c .before .before in
-    (omega arith, end-none (insideLeft (emptyIn (start .args .lookahead) (family (start .args .firsts .now))) (family (start .args .reach .now))) _ (start .args .words .now) (c .no-left .ensures))
+    let start = c .before .before in (
+      omega arith,
+      end-none (insideLeft (emptyIn (start .args .lookahead) (family (start .args .firsts .now))) (family (start .args .reach .now))) _
+          (start .args .words .now) (c .no-left .ensures),
+    )
 
 sub-at : tie.Need-sub-at Inv-loop μ-loop
 sub-at c = omega arith
@@ -49,7 +52,8 @@ loop-again c =
     let loop = test .before in
     let start = loop .before .before .before in (
       omega (arith, test .loop-test .taken, loop .loop .inv .0),
-      end-one (insideLeft (emptyIn (start .args .lookahead) (family (start .args .firsts .now))) (family (start .args .reach .now))) _ (start .args .words .now) (loop .loop .inv .1) (test .loop-test .taken)
+      end-one (insideLeft (emptyIn (start .args .lookahead) (family (start .args .firsts .now))) (family (start .args .reach .now))) _ (start .args .words .now)
+          (loop .loop .inv .1) (test .loop-test .taken)
           (loop .loop .inv .0) (c .before .decode .ensures) (c .inside-left .ensures),
     )
 
@@ -57,7 +61,8 @@ returns : tie.Need-returns Inv-loop μ-loop
 returns c =
     let loop = c .before .before in
     let start = loop .before .before .before in
-    let left = end-all (insideLeft (emptyIn (start .args .lookahead) (family (start .args .firsts .now))) (family (start .args .reach .now))) _ (start .args .words .now) (loop .loop .inv .1) (c .before .loop-test .left) in
+    let left = end-all (insideLeft (emptyIn (start .args .lookahead) (family (start .args .firsts .now))) (family (start .args .reach .now))) _
+    (start .args .words .now) (loop .loop .inv .1) (c .before .loop-test .left) in
     ap (λ x. x .rule .bits) left
 
 pub rule-left-spec : {M : Type 1} → statement M

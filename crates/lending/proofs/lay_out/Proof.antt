@@ -62,14 +62,16 @@ loop-again c =
     let room = count-room One (start .args .sizes) (start .pre .0) in (
       omega arith,
       front-next _ _ _ _ _ _ (loop .loop .inv .1) (c .before .loop-test .taken)
-          (omega (arith, loop .before .word-count .ensures, room, ap length (start .pre .1), length-replicate {A = ℕ} maxTableWords noEntry)) (rw (c .word .ensures)),
+          (omega (arith, loop .before .word-count .ensures, room, ap length (start .pre .1), length-replicate {A = ℕ} maxTableWords noEntry))
+          (rw (c .word .ensures)),
     )
 
 returns : tie.Need-returns Inv-loop μ-loop
 returns c =
     let loop = c .before in
     let start = loop .before .before .before in
-    words-made (start .args .sizes) _ _ _ (loop .loop .inv .0) (c .loop-test .left) (loop .before .word-count .ensures) (rw (start .pre .1) at (loop .loop .inv .1))
+    words-made (start .args .sizes) _ _ _ (loop .loop .inv .0) (c .loop-test .left) (loop .before .word-count .ensures)
+    (rw (start .pre .1) at (loop .loop .inv .1))
 
 pub lay-out-spec : {M : Type 1} → statement M
 lay-out-spec =

@@ -81,7 +81,8 @@ loop-again c =
     let start = counted .before .before .before in (
       omega arith,
       simp length-set (loop .loop .inv .1),
-      front-more _ (start .args .table .now) _ _ (loop .loop .inv .2) (made-room _ _ _ _ (laid .lay-out .ensures) (counted .word-count .ensures) (c .loop-test .taken)) (omega (arith, room .if1 .left)),
+      front-more _ (start .args .table .now) _ _ (loop .loop .inv .2)
+          (made-room _ _ _ _ (laid .lay-out .ensures) (counted .word-count .ensures) (c .loop-test .taken)) (omega (arith, room .if1 .left)),
     )
 
 same-length : tie.Need-same-length Inv-loop μ-loop

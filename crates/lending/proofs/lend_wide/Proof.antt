@@ -88,7 +88,8 @@ returns-2 c =
     let start = sized .before .before in
     let found = start .args .t1 in
     rw (← sized .lent-sizes .ensures)
-    (lent-written _ (found .firsts) (found .follows) (found .entries) (loop .loop .inv .0) (c .loop-test .left) (start .args .table .now) (loop .before .if1 .left)
+    (lent-written _ (found .firsts) (found .follows) (found .entries) (loop .loop .inv .0) (c .loop-test .left)
+    (start .args .table .now) (loop .before .if1 .left)
     (counted .word-count .ensures) (loop .loop .inv .2))
 
 pub lend-wide-spec : {M : Type 1} → statement M

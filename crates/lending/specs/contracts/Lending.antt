@@ -23,7 +23,8 @@ entryCode b = choose (eqb b noRule) noEntry b
 -- the word at an index
 unfoldable pub wordAt : ℕ → List ℕ → List ℕ → List ℕ → ℕ → ℕ
 wordAt nonterminals firsts follows entries i =
-    choose (ltb i (2 * nonterminals)) (choose (eqb (i % 2) 0) (getD firsts (i / 2) 0) (getD follows (i / 2) 0)) (entryCode (getD entries (i - 2 * nonterminals) 0))
+    choose (ltb i (2 * nonterminals)) (choose (eqb (i % 2) 0) (getD firsts (i / 2) 0) (getD follows (i / 2) 0))
+    (entryCode (getD entries (i - 2 * nonterminals) 0))
 
 -- as it is stored: in 32 bits with one token of lookahead, in 64 with two
 abbrev pub stored : Lookahead → ℕ → ℕ

@@ -51,8 +51,10 @@ loop-less c = let blocked = c .before in omega (arith, blocked .block-of .ensure
 loop-again : tie.Need-loop-again Inv-loop μ-loop
 loop-again c =
     let blocked = c .before in
-    let loop = blocked .before .before .loop in
-    (omega (arith, blocked .block-of .ensures, blocked .before .loop-test .taken), ap (λ n. n + c .count-block .result) (loop .inv .1) ∙ c .count-block .ensures)
+    let loop = blocked .before .before .loop in (
+      omega (arith, blocked .block-of .ensures, blocked .before .loop-test .taken),
+      ap (λ n. n + c .count-block .result) (loop .inv .1) ∙ c .count-block .ensures,
+    )
 
 returns : tie.Need-returns Inv-loop μ-loop
 returns c =

@@ -19,7 +19,8 @@ returns c =
     let at-end = c .before in
     let at-match = at-end .before in
     let start = at-match .before .before .before in
-    rw (at-end .end .ensures .is, c .closed .ensures) (first-closed (start .args .lookahead) (lookup (start .args .firsts .now)) (start .args .word) (start .args .rest) (at-match .match .keys2))
+    rw (at-end .end .ensures .is, c .closed .ensures)
+    (first-closed (start .args .lookahead) (lookup (start .args .firsts .now)) (start .args .word) (start .args .rest) (at-match .match .keys2))
 
 symbol-first-requires : tie.Need-symbol-first-requires
 symbol-first-requires c κs = search needs

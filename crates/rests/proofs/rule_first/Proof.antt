@@ -49,7 +49,8 @@ loop-again c =
     let loop = test .before in
     let start = loop .before .before .before in (
       omega (arith, test .loop-test .taken, loop .loop .inv .0),
-      end-one (insideWord (start .args .lookahead) (lookup (start .args .firsts .now))) _ (start .args .words .now) (loop .loop .inv .1) (test .loop-test .taken)
+      end-one (insideWord (start .args .lookahead) (lookup (start .args .firsts .now))) _ (start .args .words .now)
+          (loop .loop .inv .1) (test .loop-test .taken)
           (loop .loop .inv .0) (c .before .decode .ensures) (c .inside .ensures),
     )
 
@@ -57,7 +58,8 @@ returns : tie.Need-returns Inv-loop μ-loop
 returns c =
     let loop = c .before .before in
     let start = loop .before .before .before in
-    let rest = end-all (insideWord (start .args .lookahead) (lookup (start .args .firsts .now))) _ (start .args .words .now) (loop .loop .inv .1) (c .before .loop-test .left) in
+    let rest = end-all (insideWord (start .args .lookahead) (lookup (start .args .firsts .now))) _ (start .args .words .now)
+    (loop .loop .inv .1) (c .before .loop-test .left) in
     ap (λ x. x .meet .bits) rest
 
 pub rule-first-spec : {M : Type 1} → statement M

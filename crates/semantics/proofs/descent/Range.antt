@@ -67,5 +67,6 @@ index-injective w x y h h′ e = call-same x y
 pub all-ordered : (G : Grammar) (w : List ℕ) (x z : Call) → InRange G w x → getD (allCalls G w) (indexOf w x) z ≡ x
 unfolding allCalls
 all-ordered G w x z h =
-    combine-at callAt (suc (length w)) (numbers (G .nonterminals)) (x .nonterminal) (x .place) z 0 (omega (arith, h .0, numbers-length (G .nonterminals))) (omega (arith, h .1))
+    combine-at callAt (suc (length w)) (numbers (G .nonterminals)) (x .nonterminal) (x .place) z 0
+    (omega (arith, h .0, numbers-length (G .nonterminals))) (omega (arith, h .1))
     ∙ call-same (callAt (getD (numbers (G .nonterminals)) (x .nonterminal) 0) (x .place)) x (numbers-at (G .nonterminals) (x .nonterminal) 0 (h .0)) refl

@@ -16,7 +16,8 @@ use Rattle.semantics.specs.Calls.{callsWithin, allCalls, calls, callCoun
 
 unfoldable pub tables-compute : Unit {0}
 unfolding anyOf allOf member keep distinct numbersFrom numbers combine round settle members least strings sameString concatStrings sameEntry entries setsOf
-    firstOfSymbol firstBody firstRule firstStep first firstSets behind followStep follow followSets several position meeting claimed claims overruns clashes tableOf everyEnds
+    firstOfSymbol firstBody firstRule firstStep first firstSets behind followStep follow followSets several position meeting claimed
+    claims overruns clashes tableOf everyEnds
 tables-compute = tt
 
 unfoldable pub productive-computes : Unit {0}
@@ -33,6 +34,7 @@ unfolding anyOf allOf look read run agrees confirm conclude obey select byChoice
 descent-computes = tt
 
 unfoldable pub calls-compute : Unit {0}
-unfolding anyOf member keep numbersFrom numbers combine when bodyComesTo negativesComeTo positivesComeTo ruleComesTo selectedComesTo callComesTo flatMap callsWithin
+unfolding anyOf member keep numbersFrom numbers combine when bodyComesTo negativesComeTo positivesComeTo ruleComesTo
+    selectedComesTo callComesTo flatMap callsWithin
     allCalls calls callCount greatestPlace farthest
 calls-compute = tt

@@ -137,13 +137,15 @@ module _ (G : Grammar) (k : ℕ) where
       let one = claims-make (c .one) A x (c .claimsOne) in
       let other = claims-make (c .other) A x (c .claimsOther) in
       keep-make _ (entries G k) (A, x) (claims-entry (c .one) A x (c .claimsOne))
-      (or-l (several (claims G k (A, x)) (G .rules)) (overruns G k A && sameString (0 ∷ []) x) (several-make (claims G k (A, x)) (G .rules) (c .one) (c .other) (c .different) one other))
+      (or-l (several (claims G k (A, x)) (G .rules)) (overruns G k A && sameString (0 ∷ []) x)
+      (several-make (claims G k (A, x)) (G .rules) (c .one) (c .other) (c .different) one other))
 
   overrun-clash : (A : ℕ) → Overrun G (Follow G k) A → List·Memᴰ (A, 0 ∷ []) (clashes G k)
   unfolding clashes
   overrun-clash A o =
       keep-make _ (entries G k) (A, 0 ∷ []) (overrun-entry A o)
-      (or-r (several (claims G k (A, 0 ∷ [])) (G .rules)) (overruns G k A && sameString (0 ∷ []) (0 ∷ [])) (and-make (overruns G k A) (sameString (0 ∷ []) (0 ∷ [])) (overruns-make A o) (strings-equality .itself (0 ∷ []))))
+      (or-r (several (claims G k (A, 0 ∷ [])) (G .rules)) (overruns G k A && sameString (0 ∷ []) (0 ∷ []))
+      (and-make (overruns G k A) (sameString (0 ∷ []) (0 ∷ [])) (overruns-make A o) (strings-equality .itself (0 ∷ []))))
 
   pub clashes-make : (A : ℕ) (x : List ℕ) → ClashAt A x → List·Memᴰ (A, x) (clashes G k)
   clashes-make A x (inl c) = overlap-clash A x c
@@ -173,7 +175,8 @@ module _ (G : Grammar) (k : ℕ) where
         ends : (y : List ℕ) → Follow G k (r .head) y → y ≡ []
         ends [] f = refl
         ends (a ∷ y) f =
-            absurd (no-clash (r .head) (0 ∷ []) (inr (record { rule = r; listed = m; heads = refl; alone = e; behind = a ∷ y; follows = f; more = cons-nil a y }, refl)))
+            absurd (no-clash (r .head) (0 ∷ [])
+            (inr (record { rule = r; listed = m; heads = refl; alone = e; behind = a ∷ y; follows = f; more = cons-nil a y }, refl)))
 
     claims-once : (q q′ A : ℕ) (x : List ℕ) → ClaimsAt q A x → ClaimsAt q′ A x → q ≡ q′
     claims-once q q′ A x c d = go (decLt q q′) (decLt q′ q)

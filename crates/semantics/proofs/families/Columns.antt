@@ -71,7 +71,8 @@ Before n e d = (e .0 < d .0) ⊎ ((e .0 ≡ d .0) × ByColumn n (e .1) (d .1))
 columns-ordered : (n : ℕ) → Ordered (ByColumn n) (strings 1 n)
 unfolding numbers
 columns-ordered n = rw (strings-columns n) (ordered-append (ByColumn n) (map (λ a. a ∷ []) (numbers n)) ([] ∷ [])
-    (ordered-map _<_ (ByColumn n) (λ a. a ∷ []) (λ a b h. omega arith) (numbers n) (numbersFrom-ordered 0 n)) (λ y m. absurd (List·Memᴰ·not-nil m), tt) end-last)
+    (ordered-map _<_ (ByColumn n) (λ a. a ∷ []) (λ a b h. omega arith) (numbers n) (numbersFrom-ordered 0 n))
+    (λ y m. absurd (List·Memᴰ·not-nil m), tt) end-last)
   where
     end-last : (x y : List ℕ) → List·Memᴰ x (map (λ a. a ∷ []) (numbers n)) → List·Memᴰ y ([] ∷ []) → ByColumn n x y
     end-last x y m k =

@@ -22,12 +22,20 @@ mul-start c = search needs
 mul-start-2 : tie.Need-mul-start-2
 mul-start-2 c =
     let start = c .before .before .before .before in
-    omega (arith, row-within (start .args .sizes .nonterminals) (start .args .nonterminal) (start .args .sizes .terminals) (omega arith) (omega arith) (omega arith))
+    omega (
+      arith,
+      row-within (start .args .sizes .nonterminals) (start .args .nonterminal) (start .args .sizes .terminals)
+          (omega arith) (omega arith) (omega arith),
+    )
 
 add-start : tie.Need-add-start
 add-start c =
     let start = c .before .before .before .before in
-    omega (arith, row-within (start .args .sizes .nonterminals) (start .args .nonterminal) (start .args .sizes .terminals) (omega arith) (omega arith) (omega arith))
+    omega (
+      arith,
+      row-within (start .args .sizes .nonterminals) (start .args .nonterminal) (start .args .sizes .terminals)
+          (omega arith) (omega arith) (omega arith),
+    )
 
 put-sets-requires : tie.Need-put-sets-requires
 put-sets-requires c κs = search needs
@@ -35,7 +43,11 @@ put-sets-requires c κs = search needs
 put-entries-requires : tie.Need-put-entries-requires
 put-entries-requires c κs =
     let start = c .before .before .before .before .before .before .before .before .before in
-    omega (arith, row-within (start .args .sizes .nonterminals) (start .args .nonterminal) (start .args .sizes .terminals) (omega arith) (omega arith) (omega arith))
+    omega (
+      arith,
+      row-within (start .args .sizes .nonterminals) (start .args .nonterminal) (start .args .sizes .terminals)
+          (omega arith) (omega arith) (omega arith),
+    )
 
 same-length : tie.Need-same-length
 same-length c = search needs

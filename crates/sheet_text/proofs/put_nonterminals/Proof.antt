@@ -9,7 +9,8 @@ use Rattle.sheet_text.proofs.put_nonterminals.Statement.{statement}
 use Rattle.sheet_text.proofs.put_nonterminals.Tie as tie
 
 abbrev Inv-loop : tie.InvT-loop
-Inv-loop out₀ at sizes table nonterminals next₀ nonterminal₀ out next nonterminal = (nonterminal ≤ nonterminals) × Put out₀ at (upTo nonterminal (nonterminalText sizes table)) out next
+Inv-loop out₀ at sizes table nonterminals next₀ nonterminal₀ out next nonterminal =
+    (nonterminal ≤ nonterminals) × Put out₀ at (upTo nonterminal (nonterminalText sizes table)) out next
 
 abbrev μ-loop : tie.MeasureT-loop
 μ-loop out₀ at sizes table nonterminals next₀ nonterminal₀ out next nonterminal = nonterminals - nonterminal

@@ -9,7 +9,8 @@ use Rattle.sheet_text.proofs.put_row.Statement.{statement}
 use Rattle.sheet_text.proofs.put_row.Tie as tie
 
 abbrev Inv-loop : tie.InvT-loop
-Inv-loop out₀ at table start columns next₀ column₀ out next column = (column ≤ columns) × Put out₀ at (upTo column (λ c. entryText (wordAt table (start + c)))) out next
+Inv-loop out₀ at table start columns next₀ column₀ out next column =
+    (column ≤ columns) × Put out₀ at (upTo column (λ c. entryText (wordAt table (start + c)))) out next
 
 abbrev μ-loop : tie.MeasureT-loop
 μ-loop out₀ at table start columns next₀ column₀ out next column = columns - column

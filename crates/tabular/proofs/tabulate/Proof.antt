@@ -35,7 +35,8 @@ returns c =
     let start = at-fill .before .before .before .before in
     let given = start .pre .given in
     let length = input-length (start .args .events .now) in
-    tabulated (given .rules .read) (at-fill .fill .ensures) (given .input .short) (start .pre .room) (sym length) (at-write .write .ensures) (c .contains .ensures)
+    tabulated (given .rules .read) (at-fill .fill .ensures) (given .input .short) (start .pre .room) (sym length)
+    (at-write .write .ensures) (c .contains .ensures)
 
 pub tabulate-spec : {M : Type 1} → statement M
 tabulate-spec =

@@ -8,20 +8,23 @@ use Rattle.tree_writer.proofs.judge_tree.Tie as tie
 returns : tie.Need-returns
 returns c =
     let start = c .before .before .before .before .before .before in
-    short-table (start .args .words .now) (inputOf (start .args .events .now)) (start .args .table .now) (start .args .memo .now) (start .args .tree .now) (c .if1 .taken)
+    short-table (start .args .words .now) (inputOf (start .args .events .now)) (start .args .table .now) (start .args .memo .now)
+    (start .args .tree .now) (c .if1 .taken)
 
 returns-2 : tie.Need-returns-2
 returns-2 c =
     let at-if1 = c .before in
     let start = at-if1 .before .before .before .before .before .before in
-    short-memo (start .args .words .now) (inputOf (start .args .events .now)) (start .args .table .now) (start .args .memo .now) (start .args .tree .now) (at-if1 .if1 .left) (c .if2 .taken)
+    short-memo (start .args .words .now) (inputOf (start .args .events .now)) (start .args .table .now) (start .args .memo .now)
+    (start .args .tree .now) (at-if1 .if1 .left) (c .if2 .taken)
 
 returns-3 : tie.Need-returns-3
 returns-3 c =
     let at-if2 = c .before in
     let at-if1 = at-if2 .before in
     let start = at-if1 .before .before .before .before .before .before in
-    short-tree (start .args .words .now) (inputOf (start .args .events .now)) (start .args .table .now) (start .args .memo .now) (start .args .tree .now) (at-if1 .if1 .left) (at-if2 .if2 .left) (c .if3 .taken)
+    short-tree (start .args .words .now) (inputOf (start .args .events .now)) (start .args .table .now) (start .args .memo .now) (start .args .tree .now)
+    (at-if1 .if1 .left) (at-if2 .if2 .left) (c .if3 .taken)
 
 judge-requires : tie.Need-judge-requires
 judge-requires c κs = search needs
@@ -42,7 +45,8 @@ returns-4 c =
     let at-if2 = at-if3 .before in
     let at-if1 = at-if2 .before in
     let start = at-if1 .before .before .before .before .before .before in
-    shows-none (start .args .tree .now) (at-if1 .if1 .left) (at-if2 .if2 .left) (at-if3 .if3 .left) (at-judge .judge .ensures) (not-accepted _ (c .match .keys2))
+    shows-none (start .args .tree .now) (at-if1 .if1 .left) (at-if2 .if2 .left) (at-if3 .if3 .left)
+    (at-judge .judge .ensures) (not-accepted _ (c .match .keys2))
 
 write-tree-requires : tie.Need-write-tree-requires
 write-tree-requires c κs =
@@ -74,7 +78,8 @@ returns-5 c =
     let at-if1 = at-if2 .before in
     let start = at-if1 .before .before .before .before .before .before in
     let a = is-accepted _ (at-match .match .keys1) in
-    shows-tree (start .args .tree .now) (at-if1 .if1 .left) (at-if2 .if2 .left) (at-if3 .if3 .left) (at-judge .judge .ensures) (a .0) (a .1) (at-write-tree .write-tree .ensures)
+    shows-tree (start .args .tree .now) (at-if1 .if1 .left) (at-if2 .if2 .left) (at-if3 .if3 .left) (at-judge .judge .ensures) (a .0)
+    (a .1) (at-write-tree .write-tree .ensures)
 
 pub judge-tree-spec : {M : Type 1} → statement M
 judge-tree-spec =

@@ -27,7 +27,8 @@ endOf word = word / 65536 % 512
 -- the word for a call, from the entries of the lent table and of the lent memo table
 unfoldable pub labelWord : Sizes → (input table memo : List ℕ) (A i : ℕ) → ℕ
 labelWord z input table memo A i = vertexWord
-    (vertex (ruleOf (getD table (2 * z .nonterminals + A * (z .terminals + 1) + columnAt One (z .terminals) input i) 0)) i (getD memo (A * (length input + 1) + i) 0 % 512))
+    (vertex (ruleOf (getD table (2 * z .nonterminals + A * (z .terminals + 1) + columnAt One (z .terminals) input i) 0)) i
+    (getD memo (A * (length input + 1) + i) 0 % 512))
 
 -- and of an input that is too long 0
 abbrev pub labelOf : Sizes → (input table memo : List ℕ) (A i : ℕ) → ℕ
@@ -44,7 +45,8 @@ pub record Labels (z : Sizes) (input table memo : List ℕ) (at r : ℕ) : Type 
 -- the words of the calls whose index is below a bound
 pub record LabelledBelow (z : Sizes) (input table memo : List ℕ) (bound : ℕ) (labels : List ℕ) : Type 0 where
   pub long : length labels ≡ maxMemoEntries
-  pub word : (A i : ℕ) → A * maxPlaces + i < bound → A < z .nonterminals → i ≤ length input → getD labels (A * maxPlaces + i) 0 ≡ labelWord z input table memo A i
+  pub word : (A i : ℕ) → A * maxPlaces + i < bound → A < z .nonterminals → i ≤ length input
+      → getD labels (A * maxPlaces + i) 0 ≡ labelWord z input table memo A i
 
 -- and of all
 pub record Labelled (z : Sizes) (input table memo labels : List ℕ) : Type 0 where

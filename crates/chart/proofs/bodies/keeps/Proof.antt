@@ -55,8 +55,11 @@ loop-again : tie.Need-loop-again Inv-loop μ-loop
 loop-again c =
     let test = c .before .before .before .loop-test .taken in
     let loop = c .before .before .before .before in
-    let inv = loop .loop .inv in
-    (omega (arith, test), omega (arith, inv .1), scan-more _ _ _ _ _ _ (loop .before .before .before .if1 .left) (inv .2) (omega (arith, test)) (inv .1) (c .before .decode .ensures) (c .onto .ensures))
+    let inv = loop .loop .inv in (
+      omega (arith, test),
+      omega (arith, inv .1),
+      scan-more _ _ _ _ _ _ (loop .before .before .before .if1 .left) (inv .2) (omega (arith, test)) (inv .1) (c .before .decode .ensures) (c .onto .ensures),
+    )
 
 returns-3 : tie.Need-returns-3 Inv-loop μ-loop
 returns-3 c =

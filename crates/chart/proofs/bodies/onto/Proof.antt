@@ -54,10 +54,12 @@ returns : tie.Need-returns
 returns c = rw (c .before .before .word .given .1, c .before-symbol .ensures)
 
 returns-2 : tie.Need-returns-2
-returns-2 c = rw (c .before .before .before .enum-told .given .1, c .before .before .one-place .ensures, c .kept-positive .ensures, c .before .contains .ensures)
+returns-2 c =
+    rw (c .before .before .before .enum-told .given .1, c .before .before .one-place .ensures, c .kept-positive .ensures, c .before .contains .ensures)
 
 returns-3 : tie.Need-returns-3
-returns-3 c = rw (c .before .before .before .enum-told2 .given .1, c .before .before .one-place2 .ensures, c .kept-negative .ensures, c .before .contains2 .ensures)
+returns-3 c =
+    rw (c .before .before .before .enum-told2 .given .1, c .before .before .one-place2 .ensures, c .kept-negative .ensures, c .before .contains2 .ensures)
 
 returns-4 : tie.Need-returns-4
 returns-4 c = rw (c .before .enum-told3 .given .1) (c .none-open .ensures)

@@ -26,7 +26,10 @@ returns-2 c =
     let at-number = at-read .before in
     let start = at-number .before in
     let eight : length (start .args .self .checkpoints) ≡ checkpointCount = search needs in
-    record { steps = λ events whole. mark-done events (start .args .self) whole eight (at-read .read .ensures) (start .args .checkpoint) (at-number .if1 .left) }
+    record {
+      steps = λ events whole. mark-done events (start .args .self) whole eight (at-read .read .ensures)
+          (start .args .checkpoint) (at-number .if1 .left);
+    }
 
 pub mark-spec : {M : Type 1} → statement M
 mark-spec =

@@ -26,7 +26,10 @@ returns-2 c =
     let at-number = at-read .before in
     let start = at-number .before in
     let eight : length (start .args .self .checkpoints) ≡ checkpointCount = search needs in
-    record { steps = λ events whole. return-unset events (start .args .self) whole eight (at-read .read .ensures) (start .args .checkpoint) (at-number .if1 .left) (c .if2 .taken) }
+    record {
+      steps = λ events whole. return-unset events (start .args .self) whole eight (at-read .read .ensures) (start .args .checkpoint)
+          (at-number .if1 .left) (c .if2 .taken);
+    }
 
 all-cleared-requires : tie.Need-all-cleared-requires
 all-cleared-requires c κs = search needs
@@ -39,7 +42,8 @@ returns-3 c =
     let start = at-number .before in
     let eight : length (start .args .self .checkpoints) ≡ checkpointCount = search needs in
     record {
-      steps = λ events whole. return-done events (start .args .self) whole eight (at-read .read .ensures) (start .args .checkpoint) (at-number .if1 .left) (at-test .if2 .left) (c .all-cleared .ensures);
+      steps = λ events whole. return-done events (start .args .self) whole eight (at-read .read .ensures) (start .args .checkpoint) (at-number .if1 .left)
+          (at-test .if2 .left) (c .all-cleared .ensures);
     }
 
 pub return-to-spec : {M : Type 1} → statement M

@@ -36,7 +36,16 @@ returns c =
     let at-3 = at-4 .before in
     let at-2 = at-3 .before in
     let at-1 = at-2 .before in
-    rw (at-1 .usage-at .ensures, at-2 .usage-at2 .ensures, at-3 .usage-at3 .ensures, at-4 .usage-at4 .ensures, at-5 .usage-at5 .ensures, at-6 .usage-at6 .ensures, at-7 .usage-at7 .ensures, c .usage-at8 .ensures)
+    rw (
+      at-1 .usage-at .ensures,
+      at-2 .usage-at2 .ensures,
+      at-3 .usage-at3 .ensures,
+      at-4 .usage-at4 .ensures,
+      at-5 .usage-at5 .ensures,
+      at-6 .usage-at6 .ensures,
+      at-7 .usage-at7 .ensures,
+      c .usage-at8 .ensures,
+    )
 
 pub usages-in-spec : {M : Type 1} → statement M
 usages-in-spec =

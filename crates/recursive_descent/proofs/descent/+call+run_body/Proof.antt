@@ -404,7 +404,8 @@ run-body-returns-3 t c =
     let at-loop = at-loop-test .before in
     λ choice g.
     let word = sym (at-decode .decode .ensures) ∙ at-word .word .given .1 ∙ ap Symbol (at-symbol2 .symbol2 .given .1) in
-    running-failed g (at-loop .loop .inv choice g) _ (at-loop-test .loop-test .taken) word (at-call .call .ensures choice (running-given g (at-loop .loop .inv choice g) _ (at-loop-test .loop-test .taken) word)) _
+    running-failed g (at-loop .loop .inv choice g) _ (at-loop-test .loop-test .taken) word
+    (at-call .call .ensures choice (running-given g (at-loop .loop .inv choice g) _ (at-loop-test .loop-test .taken) word)) _
     (at-recall .recall .ensures) (c .enum-told .given .1)
 
 run-body-add-at : (t : ℕ) → run-body-lts.Need-add-at (run-body-claims t) (run-body-at t) run-body.Post run-body-Inv-loop run-body-μ-loop

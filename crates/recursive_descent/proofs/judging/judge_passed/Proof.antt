@@ -35,7 +35,8 @@ slice-relend-prefix-judge-chosen c =
 slice-aggregate-judge-chosen : tie.Need-slice-aggregate-judge-chosen
 slice-aggregate-judge-chosen c =
     let start = c .before .before .before .before .before .before .before .before in
-    sym (length-take-le (start .args .sizes .nonterminals * (length (start .args .events .now) + 1)) (start .args .memo .now) (needed-room (start .args .events .now) (start .pre)))
+    sym (length-take-le (start .args .sizes .nonterminals * (length (start .args .events .now) + 1)) (start .args .memo .now)
+    (needed-room (start .args .events .now) (start .pre)))
 
 judge-chosen-requires : tie.Need-judge-chosen-requires
 judge-chosen-requires c κs =

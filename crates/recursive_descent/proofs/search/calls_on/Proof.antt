@@ -43,7 +43,8 @@ returns c =
     let written = made .before .before .before .before in
     let start = written .before .before .before .before .before .before in
     let given = number-given (start .pre) (start .args .number) (written .write-input .ensures) in
-    calls-counted (start .pre) (start .args .number) (written .write-input .ensures) (started _ given (made .tokens-of .ensures) (ran .descend .ensures)) (c .count-calls .ensures)
+    calls-counted (start .pre) (start .args .number) (written .write-input .ensures)
+    (started _ given (made .tokens-of .ensures) (ran .descend .ensures)) (c .count-calls .ensures)
 
 pub calls-on-spec : {M : Type 1} → statement M
 calls-on-spec =

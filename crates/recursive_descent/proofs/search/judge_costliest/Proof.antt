@@ -45,7 +45,8 @@ loop-again c =
     let tried = written .before in
     let turn = tried .before .before .before in
     let counted = turn .before .before in
-    searching-next (counted .before .before .before .before .pre) (turn .before .loop .inv) (counted .count-inputs .ensures) (turn .loop-test .taken) (tried .calls-on .ensures)
+    searching-next (counted .before .before .before .before .pre) (turn .before .loop .inv) (counted .count-inputs .ensures)
+    (turn .loop-test .taken) (tried .calls-on .ensures)
     (written .events .given) (kept .memo .given) (c .costlier .ensures)
 
 sub-last : tie.Need-sub-last Inv-loop μ-loop
@@ -66,7 +67,8 @@ judge-chosen-requires c κs =
     let written = c .before .before .before .before in
     let at-loop = written .before .before .before .before in
     let counted = at-loop .before in
-    number-given (searching-given (counted .before .before .before .before .pre) (at-loop .loop .inv) (counted .count-inputs .ensures)) (at-loop .loop .best .number) (written .write-input .ensures)
+    number-given (searching-given (counted .before .before .before .before .pre) (at-loop .loop .inv) (counted .count-inputs .ensures))
+    (at-loop .loop .best .number) (written .write-input .ensures)
 
 same-length : tie.Need-same-length Inv-loop μ-loop
 same-length c =
@@ -86,7 +88,8 @@ returns c =
     let ended = written .before .before .before in
     let at-loop = ended .before in
     let counted = at-loop .before in
-    searching-done (counted .before .before .before .before .pre) (at-loop .loop .inv) (counted .count-inputs .ensures) (ended .loop-test .left) (written .write-input .ensures) (judged .judge-chosen .ensures)
+    searching-done (counted .before .before .before .before .pre) (at-loop .loop .inv) (counted .count-inputs .ensures) (ended .loop-test .left)
+    (written .write-input .ensures) (judged .judge-chosen .ensures)
 
 pub judge-costliest-spec : {M : Type 1} → statement M
 judge-costliest-spec =

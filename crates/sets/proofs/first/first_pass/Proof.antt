@@ -126,7 +126,8 @@ loop-again c =
     let forward = start .args .forward in
     let turns = loop .loop .inv .0 in
     let meet = rule-given (end-of .end-of .ensures) _ _ _ (turns .long ∙ given .long) (first .rule-first .ensures) in (
-      visit given (ruleGives _ _) (rule-larger _ _) forward _ turns (test .if1 .taken) (turned .turn .ensures) meet (decode .decode .ensures) (head-of .head-of .ensures)
+      visit given (ruleGives _ _) (rule-larger _ _) forward _ turns (test .if1 .taken) (turned .turn .ensures) meet
+          (decode .decode .ensures) (head-of .head-of .ensures)
           (c .before .add .ensures) (c .either .ensures),
       meeting-next given forward _ _ (loop .loop .inv .1) (turns .same) (test .if1 .taken) (turned .turn .ensures) meet refl (c .either .ensures),
     )

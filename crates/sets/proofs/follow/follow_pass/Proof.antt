@@ -29,7 +29,8 @@ returns c =
     let at-end = at-add .before in
     let start = at-end .before .before .before in
     let given = start .pre in
-    rw (c .either .ensures) (follow-passes _ _ _ (omega (arith, given .0 .long)) (rw (at-end .end .ensures .is) at (at-add .add .ensures)) (at-follow-rules .follow-rules .ensures))
+    rw (c .either .ensures)
+    (follow-passes _ _ _ (omega (arith, given .0 .long)) (rw (at-end .end .ensures .is) at (at-add .add .ensures)) (at-follow-rules .follow-rules .ensures))
 
 pub follow-pass-spec : {M : Type 1} → statement M
 follow-pass-spec =

@@ -7,7 +7,8 @@ use Rattle.sets.proofs.follow.follow_rule.Statement.{statement}
 use Rattle.sets.proofs.follow.follow_rule.Tie as tie
 
 abbrev Inv-loop : tie.InvT-loop
-Inv-loop words start end head firsts follows₀ lookahead behind grown₀ tail₀ at₀ follows grown tail at = FollowWalk lookahead (family firsts) head words follows₀ follows start end grown (tail .bits) at
+Inv-loop words start end head firsts follows₀ lookahead behind grown₀ tail₀ at₀ follows grown tail at =
+    FollowWalk lookahead (family firsts) head words follows₀ follows start end grown (tail .bits) at
 
 abbrev μ-loop : tie.MeasureT-loop
 μ-loop words start end head firsts follows₀ lookahead behind grown₀ tail₀ at₀ follows grown tail at = at

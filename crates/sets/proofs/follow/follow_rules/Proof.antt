@@ -11,7 +11,8 @@ use Rattle.sets.proofs.follow.follow_rules.Statement.{statement}
 use Rattle.sets.proofs.follow.follow_rules.Tie as tie
 
 abbrev Inv-loop : tie.InvT-loop
-Inv-loop words starts sizes firsts follows₀ forward lookahead grown₀ passed₀ follows grown passed = Turns (Asks lookahead (family firsts) words) (sizes .rules) forward follows₀ follows grown passed
+Inv-loop words starts sizes firsts follows₀ forward lookahead grown₀ passed₀ follows grown passed =
+    Turns (Asks lookahead (family firsts) words) (sizes .rules) forward follows₀ follows grown passed
 
 abbrev μ-loop : tie.MeasureT-loop
 μ-loop words starts sizes firsts follows₀ forward lookahead grown₀ passed₀ follows grown passed = sizes .rules - passed
@@ -71,7 +72,8 @@ follow-rule-requires c κs =
     let at-loop = at-if1 .before .before in
     let start = at-loop .before .before in (
       at-end-of .end-of .ensures,
-      head-below (start .pre .0) (start .args .forward) (at-if1 .if1 .taken) (at-turn .turn .ensures) (at-decode .decode .ensures) (at-head-of .head-of .ensures),
+      head-below (start .pre .0) (start .args .forward) (at-if1 .if1 .taken) (at-turn .turn .ensures)
+          (at-decode .decode .ensures) (at-head-of .head-of .ensures),
       start .pre .1,
       at-loop .loop .inv .long ∙ start .pre .0 .long,
     )
@@ -98,11 +100,13 @@ loop-again c =
     let at-if1 = at-turn .before in
     let at-loop = at-if1 .before .before in
     let start = at-loop .before .before in
-    follow-visit (start .pre .0) _ _ (start .args .forward) _ (at-loop .loop .inv) (at-if1 .if1 .taken) (at-turn .turn .ensures) (at-decode .decode .ensures) (at-head-of .head-of .ensures)
+    follow-visit (start .pre .0) _ _ (start .args .forward) _ (at-loop .loop .inv) (at-if1 .if1 .taken) (at-turn .turn .ensures)
+    (at-decode .decode .ensures) (at-head-of .head-of .ensures)
     (at-follow-rule .follow-rule .ensures) (c .either .ensures)
 
 returns : tie.Need-returns Inv-loop μ-loop
-returns c = follows-end (c .before .before .before .before .pre .0) _ _ (c .before .before .before .before .args .forward) (c .before .before .loop .inv) (c .if1 .left)
+returns c =
+    follows-end (c .before .before .before .before .pre .0) _ _ (c .before .before .before .before .args .forward) (c .before .before .loop .inv) (c .if1 .left)
 
 pub follow-rules-spec : {M : Type 1} → statement M
 follow-rules-spec =

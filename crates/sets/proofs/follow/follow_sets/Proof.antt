@@ -16,7 +16,8 @@ use Rattle.sets.proofs.follow.follow_sets.Statement.{statement}
 use Rattle.sets.proofs.follow.follow_sets.Tie as tie
 
 abbrev Inv-loop : tie.InvT-loop
-Inv-loop words starts sizes firsts lookahead follows₀ forward₀ follows forward = (length follows ≡ maxNonterminals) × Below (FollowNumbersClosed lookahead (family firsts) (parse words .rules)) follows
+Inv-loop words starts sizes firsts lookahead follows₀ forward₀ follows forward =
+    (length follows ≡ maxNonterminals) × Below (FollowNumbersClosed lookahead (family firsts) (parse words .rules)) follows
 
 abbrev μ-loop : tie.MeasureT-loop
 μ-loop words starts sizes firsts lookahead follows₀ forward₀ follows forward = missing (full lookahead (alphabet lookahead)) follows
@@ -27,8 +28,10 @@ loop-holds c = (refl, below-none _ maxNonterminals)
 follow-pass-requires : tie.Need-follow-pass-requires Inv-loop μ-loop
 follow-pass-requires c κs =
     let start = c .before .before .before in
-    let given = start .pre in
-    (record { read = admitted-read (start .args .lookahead) (start .args .words .now) (given .0); begins = given .1; long = c .before .loop .inv .0 }, ap length (given .2) ∙ listed-long maxNonterminals _)
+    let given = start .pre in (
+      record { read = admitted-read (start .args .lookahead) (start .args .words .now) (given .0); begins = given .1; long = c .before .loop .inv .0 },
+      ap length (given .2) ∙ listed-long maxNonterminals _,
+    )
 
 loop-less : tie.Need-loop-less Inv-loop μ-loop
 loop-less c =

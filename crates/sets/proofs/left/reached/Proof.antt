@@ -13,7 +13,8 @@ use Rattle.sets.proofs.left.reached.Statement.{statement}
 use Rattle.sets.proofs.left.reached.Tie as tie
 
 abbrev Inv-loop : tie.InvT-loop
-Inv-loop words starts sizes firsts lookahead reach₀ forward₀ reach forward = (length reach ≡ maxNonterminals) × Below (ReachClosed (emptyIn lookahead (family firsts)) (parse words .rules)) reach
+Inv-loop words starts sizes firsts lookahead reach₀ forward₀ reach forward =
+    (length reach ≡ maxNonterminals) × Below (ReachClosed (emptyIn lookahead (family firsts)) (parse words .rules)) reach
 
 abbrev μ-loop : tie.MeasureT-loop
 μ-loop words starts sizes firsts lookahead reach₀ forward₀ reach forward = missing (2 ^ maxNonterminals) reach
@@ -22,7 +23,9 @@ loop-holds : tie.Need-loop-holds Inv-loop μ-loop
 loop-holds c = (refl, below-none _ maxNonterminals)
 
 reach-pass-requires : tie.Need-reach-pass-requires Inv-loop μ-loop
-reach-pass-requires c κs = let start = c .before .before .before in record { read = admitted-read (start .args .lookahead) (start .args .words .now) (start .pre .0); begins = start .pre .1; long = c .before .loop .inv .0 }
+reach-pass-requires c κs =
+    let start = c .before .before .before in
+    record { read = admitted-read (start .args .lookahead) (start .args .words .now) (start .pre .0); begins = start .pre .1; long = c .before .loop .inv .0 }
 
 loop-less : tie.Need-loop-less Inv-loop μ-loop
 loop-less c =

@@ -12,7 +12,8 @@ use Rattle.table.proofs.rows.fill_row.Tie as tie
 
 abbrev Inv-loop : tie.InvT-loop
 Inv-loop entries₀ row terminals claim rule lookahead columns column₀ entries column =
-    (columns ≡ columnCount lookahead terminals) × (column ≤ columns) × FilledRow entries₀ row (columnElement lookahead terminals) column (claim .bits) rule entries
+    (columns ≡ columnCount lookahead terminals) × (column ≤ columns)
+    × FilledRow entries₀ row (columnElement lookahead terminals) column (claim .bits) rule entries
 
 abbrev μ-loop : tie.MeasureT-loop
 μ-loop entries₀ row terminals claim rule lookahead columns column₀ entries column = columns - column
@@ -65,7 +66,8 @@ loop-again c =
 returns : tie.Need-returns Inv-loop μ-loop
 returns c =
     let loop = c .before in
-    let e : loop .loop .column ≡ columnCount (loop .before .before .args .lookahead) (loop .before .before .args .terminals) = omega (arith, loop .loop .inv .0) in
+    let e : loop .loop .column ≡ columnCount (loop .before .before .args .lookahead) (loop .before .before .args .terminals) =
+    omega (arith, loop .loop .inv .0) in
     rw e at (loop .loop .inv .2)
 
 pub fill-row-spec : {M : Type 1} → statement M

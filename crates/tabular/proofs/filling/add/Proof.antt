@@ -21,7 +21,9 @@ shr-rest : tie.Need-shr-rest Inv-loop μ-loop
 shr-rest c = omega (arith, c .loop-test .taken, c .before .before .pre .given .few, c .before .before .pre .given .span .short)
 
 returns : tie.Need-returns Inv-loop μ-loop
-returns c = added-rest (c .before .before .loop .inv .1) (c .before .before .loop .inv .0) (c .before .before .before .pre .given .few) (c .before .before .before .pre .given .span .short) (c .if1 .taken)
+returns c =
+    added-rest (c .before .before .loop .inv .1) (c .before .before .loop .inv .0) (c .before .before .before .pre .given .few)
+    (c .before .before .before .pre .given .span .short) (c .if1 .taken)
 
 cast-slot : tie.Need-cast-slot Inv-loop μ-loop
 cast-slot c = omega arith
@@ -36,7 +38,14 @@ mul-put : tie.Need-mul-put Inv-loop μ-loop
 mul-put c = omega (arith, c .before .loop-test .taken, c .before .before .before .pre .given .few, c .before .before .before .pre .given .span .short)
 
 element-copy-out-put : tie.Need-element-copy-out-put Inv-loop μ-loop
-element-copy-out-put c = omega (arith, c .before .before .before .pre .given .few, c .before .before .before .pre .given .span .short, c .before .loop-test .taken, c .before .before .loop .inv .1 .long)
+element-copy-out-put c =
+    omega (
+      arith,
+      c .before .before .before .pre .given .few,
+      c .before .before .before .pre .given .span .short,
+      c .before .loop-test .taken,
+      c .before .before .loop .inv .1 .long,
+    )
 
 put-requires : tie.Need-put-requires Inv-loop μ-loop
 put-requires c κs = tt
@@ -65,11 +74,16 @@ loop-again c =
     let test = c .before .before .before .loop-test .taken in
     let start = c .before .before .before .before .before in
     let loop = c .before .before .before .before in
-    let put = with-place (omega (arith, start .pre .given .span .short, start .pre .given .span .forward)) (c .put .ensures) in
-    (omega arith, added-more (loop .loop .inv .1) (omega (arith, start .pre .given .few)) (start .pre .given .span .short) (digit (start .args .word) (loop .loop .at)) put refl)
+    let put = with-place (omega (arith, start .pre .given .span .short, start .pre .given .span .forward)) (c .put .ensures) in (
+      omega arith,
+      added-more (loop .loop .inv .1) (omega (arith, start .pre .given .few)) (start .pre .given .span .short)
+          (digit (start .args .word) (loop .loop .at)) put refl,
+    )
 
 returns-2 : tie.Need-returns-2 Inv-loop μ-loop
-returns-2 c = let e : c .before .loop .at ≡ c .before .before .args .nonterminals = omega (arith, c .before .loop .inv .0, c .loop-test .left) in rw e at (c .before .loop .inv .1)
+returns-2 c =
+    let e : c .before .loop .at ≡ c .before .before .args .nonterminals =
+    omega (arith, c .before .loop .inv .0, c .loop-test .left) in rw e at (c .before .loop .inv .1)
 
 pub add-spec : {M : Type 1} → statement M
 add-spec =

@@ -133,8 +133,10 @@ loop-again c =
     let at-decode = at-head-of .before in
     let at-if1 = at-decode .before .before .before in
     let at-loop = at-if1 .before .before in
-    let start = at-loop .before .before in
-    (omega (arith, at-if1 .if1 .taken), ranked-more (start .pre) (at-if1 .if1 .taken) (at-decode .decode .ensures) (at-head-of .head-of .ensures) (at-loop .loop .inv .1) refl refl)
+    let start = at-loop .before .before in (
+      omega (arith, at-if1 .if1 .taken),
+      ranked-more (start .pre) (at-if1 .if1 .taken) (at-decode .decode .ensures) (at-head-of .head-of .ensures) (at-loop .loop .inv .1) refl refl,
+    )
 
 returns : tie.Need-returns Inv-loop μ-loop
 returns c = ranked-end (c .before .before .loop .inv .1) (c .before .before .loop .inv .0) (c .if1 .left)

@@ -7,7 +7,8 @@ use Rattle.tabular.proofs.filling.derived.Statement.{statement}
 use Rattle.tabular.proofs.filling.derived.Tie as tie
 
 abbrev Inv-loop : tie.InvT-loop
-Inv-loop words starts lasts befores sizes rank stands chart start end found₀ rule₀ found rule = AskingNext words (sizes .rules) rank stands chart start end found rule
+Inv-loop words starts lasts befores sizes rank stands chart start end found₀ rule₀ found rule =
+    AskingNext words (sizes .rules) rank stands chart start end found rule
 
 abbrev μ-loop : tie.MeasureT-loop
 μ-loop words starts lasts befores sizes rank stands chart start end found₀ rule₀ found rule = rule
@@ -25,7 +26,9 @@ sub-asked : tie.Need-sub-asked Inv-loop μ-loop
 sub-asked c = omega (arith, c .loop-test .taken)
 
 ask-requires : tie.Need-ask-requires Inv-loop μ-loop
-ask-requires c κs = let given = c .before .before .before .before .pre in record { rules = given .rules; numbered = omega (arith, c .loop-test .taken, c .before .loop .inv .asking .high); span = given .span }
+ask-requires c κs =
+    let given = c .before .before .before .before .pre in
+    record { rules = given .rules; numbered = omega (arith, c .loop-test .taken, c .before .loop .inv .asking .high); span = given .span }
 
 mul-rule-2 : tie.Need-mul-rule-2 Inv-loop μ-loop
 mul-rule-2 c =

@@ -12,7 +12,8 @@ use Rattle.tabular.proofs.filling.fill.Statement.{statement}
 use Rattle.tabular.proofs.filling.fill.Tie as tie
 
 abbrev Inv-loop : tie.InvT-loop
-Inv-loop words starts sizes reaches events ranked stands chart₀ length₀ chart length = (length ≤ suc (List·length events)) × Long chart × FilledTo (grammarOf words) (inputOf events) (turn 0 length 0) chart
+Inv-loop words starts sizes reaches events ranked stands chart₀ length₀ chart length =
+    (length ≤ suc (List·length events)) × Long chart × FilledTo (grammarOf words) (inputOf events) (turn 0 length 0) chart
 
 abbrev μ-loop : tie.MeasureT-loop
 μ-loop words starts sizes reaches events ranked stands chart₀ length₀ chart length = suc (List·length events) - length
@@ -58,7 +59,8 @@ loop-again c =
     let events = start .args .events .now in (
       omega (arith, test .loop-test .taken),
       e .long,
-      e .filled (inputOf events) (loop .before .standing .ensures) (omega (arith, input-length events)) (omega (arith, input-length events)) (loop .loop .inv .2),
+      e .filled (inputOf events) (loop .before .standing .ensures) (omega (arith, input-length events))
+          (omega (arith, input-length events)) (loop .loop .inv .2),
     )
 
 returns : tie.Need-returns Inv-loop μ-loop

@@ -7,7 +7,8 @@ use Rattle.tabular.proofs.filling.fill_length.Statement.{statement}
 use Rattle.tabular.proofs.filling.fill_length.Tie as tie
 
 abbrev Inv-loop : tie.InvT-loop
-Inv-loop words starts lasts befores sizes stands chart₀ tokens length start₀ chart start = (start ≤ suc tokens) × Fills words stands chart₀ tokens tokens (turn 0 length 0) (turn start (start + length) 0) chart
+Inv-loop words starts lasts befores sizes stands chart₀ tokens length start₀ chart start =
+    (start ≤ suc tokens) × Fills words stands chart₀ tokens tokens (turn 0 length 0) (turn start (start + length) 0) chart
 
 abbrev μ-loop : tie.MeasureT-loop
 μ-loop words starts lasts befores sizes stands chart₀ tokens length start₀ chart start = suc tokens - start
@@ -22,7 +23,13 @@ add-settle : tie.Need-add-settle Inv-loop μ-loop
 add-settle c = omega (arith, c .before .loop-test .taken, c .before .before .before .before .pre .short)
 
 settle-requires : tie.Need-settle-requires Inv-loop μ-loop
-settle-requires c κs = let g = c .before .before .before .before .pre .given in record { given = record { rules = g .rules; ranked = g .ranked; free = g .free; long = c .before .before .loop .inv .1 .long }; span = record { forward = omega arith; short = omega (arith, c .before .loop-test .taken, c .before .before .before .before .pre .short) } }
+settle-requires c κs =
+    let g = c .before .before .before .before .pre .given in
+    record {
+      given = record { rules = g .rules; ranked = g .ranked; free = g .free; long = c .before .before .loop .inv .1 .long };
+      span =
+          record { forward = omega arith; short = omega (arith, c .before .loop-test .taken, c .before .before .before .before .pre .short) };
+    }
 
 add-start : tie.Need-add-start Inv-loop μ-loop
 add-start c =
@@ -37,11 +44,16 @@ loop-again : tie.Need-loop-again Inv-loop μ-loop
 loop-again c =
     let at-loop-test = c .before .before in
     let at-loop = at-loop-test .before in
-    let start = at-loop .before .before in
-    (omega (arith, at-loop-test .loop-test .taken), length-more (at-loop .loop .start) (start .args .length) (at-loop-test .loop-test .taken) (start .pre .short) (at-loop .loop .inv .1) (c .settle .ensures))
+    let start = at-loop .before .before in (
+      omega (arith, at-loop-test .loop-test .taken),
+      length-more (at-loop .loop .start) (start .args .length) (at-loop-test .loop-test .taken) (start .pre .short)
+          (at-loop .loop .inv .1) (c .settle .ensures),
+    )
 
 returns : tie.Need-returns Inv-loop μ-loop
-returns c = length-end (c .before .loop .start) (c .before .before .before .args .length) (c .before .before .before .pre) (c .loop-test .left) (c .before .loop .inv .0) (c .before .loop .inv .1)
+returns c =
+    length-end (c .before .loop .start) (c .before .before .before .args .length) (c .before .before .before .pre) (c .loop-test .left)
+    (c .before .loop .inv .0) (c .before .loop .inv .1)
 
 pub fill-length-spec : {M : Type 1} → statement M
 fill-length-spec =

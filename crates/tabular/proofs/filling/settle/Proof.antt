@@ -8,7 +8,8 @@ use Rattle.tabular.proofs.filling.settle.Statement.{statement}
 use Rattle.tabular.proofs.filling.settle.Tie as tie
 
 abbrev Inv-loop : tie.InvT-loop
-Inv-loop words starts lasts befores sizes stands chart₀ start end nonterminals rank₀ chart rank = (rank ≤ nonterminals) × Fills words stands chart₀ end maxTabularTokens (turn start end 0) (turn start end rank) chart
+Inv-loop words starts lasts befores sizes stands chart₀ start end nonterminals rank₀ chart rank =
+    (rank ≤ nonterminals) × Fills words stands chart₀ end maxTabularTokens (turn start end 0) (turn start end rank) chart
 
 abbrev μ-loop : tie.MeasureT-loop
 μ-loop words starts lasts befores sizes stands chart₀ start end nonterminals rank₀ chart rank = nonterminals - rank
@@ -17,7 +18,15 @@ loop-holds : tie.Need-loop-holds Inv-loop μ-loop
 loop-holds c = (omega arith, settling-start (c .before .pre .given .long))
 
 derived-requires : tie.Need-derived-requires Inv-loop μ-loop
-derived-requires c κs = let given = c .before .before .before .before .pre in record { rules = given .given .rules; ranked = given .given .ranked; low = omega (arith, c .before .loop-test .taken, few (given .given)); span = given .span }
+derived-requires c κs =
+    let given = c .before .before .before .before .pre in
+    record {
+      rules = given .given .rules;
+      ranked = given .given .ranked;
+      low =
+          omega (arith, c .before .loop-test .taken, few (given .given));
+      span = given .span;
+    }
 
 add-requires : tie.Need-add-requires Inv-loop μ-loop
 add-requires c κs =
@@ -39,8 +48,10 @@ loop-again c =
     let at-derived = c .before .before in
     let at-loop-test = at-derived .before .before in
     let at-loop = at-loop-test .before in
-    let start = at-loop .before .before in
-    (omega (arith, at-loop-test .loop-test .taken), settling-more (start .pre) (at-loop-test .loop-test .taken) (at-loop .loop .inv .1) (at-derived .derived .ensures) (c .add .ensures))
+    let start = at-loop .before .before in (
+      omega (arith, at-loop-test .loop-test .taken),
+      settling-more (start .pre) (at-loop-test .loop-test .taken) (at-loop .loop .inv .1) (at-derived .derived .ensures) (c .add .ensures),
+    )
 
 returns : tie.Need-returns Inv-loop μ-loop
 returns c = settled (c .before .before .before .pre) (c .before .loop .inv .0) (c .loop-test .left) (c .before .loop .inv .1)

@@ -59,7 +59,11 @@ array-write-stands c =
     let at-loop-test = at-terminal-of .before .before in
     let at-loop = at-loop-test .before in
     let start = at-loop .before .before in
-    omega (arith, terminal-low (start .args .events .now) (start .pre) (at-loop-test .loop-test .taken) (at-terminal-of .terminal-of .ensures), at-loop .loop .inv .long)
+    omega (
+      arith,
+      terminal-low (start .args .events .now) (start .pre) (at-loop-test .loop-test .taken) (at-terminal-of .terminal-of .ensures),
+      at-loop .loop .inv .long,
+    )
 
 add-at : tie.Need-add-at Inv-loop μ-loop
 add-at c = omega (arith, c .before .before .before .loop-test .taken)

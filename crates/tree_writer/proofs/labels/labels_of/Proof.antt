@@ -62,7 +62,15 @@ array-write-labels c =
     let at-if1 = c .before in
     let at-loop = at-if1 .before .before in
     let start = at-loop .before .before .before .before in
-    omega (arith, at-if1 .if1 .taken, at-loop .loop .inv .1, at-loop .loop .inv .2 .long, start .pre .fewNonterminals, start .pre .short, input-length (start .args .events .now))
+    omega (
+      arith,
+      at-if1 .if1 .taken,
+      at-loop .loop .inv .1,
+      at-loop .loop .inv .2 .long,
+      start .pre .fewNonterminals,
+      start .pre .short,
+      input-length (start .args .events .now),
+    )
 
 add-place : tie.Need-add-place Inv-loop μ-loop
 add-place c = omega (arith, c .if2 .taken)
@@ -83,8 +91,12 @@ loop-again c =
       loop .loop .inv .0,
       omega (arith, c .if2 .taken),
       labels-place events (loop .loop .nonterminal) (loop .loop .place)
-          (labels-more events (omega (arith, at-if1 .if1 .taken, loop .loop .inv .1, start .pre .fewNonterminals, start .pre .short, input-length (start .args .events .now))) (loop .loop .inv .2)
-          (label-made events (loop .loop .nonterminal) (loop .loop .place) (start .pre) (omega (arith, loop .loop .inv .1, start .pre .fewNonterminals, start .pre .short, input-length (start .args .events .now))) (at-label .label .ensures))),
+          (labels-more events (omega
+          (arith, at-if1 .if1 .taken, loop .loop .inv .1, start .pre .fewNonterminals, start .pre .short, input-length (start .args .events .now)))
+          (loop .loop .inv .2)
+          (label-made events (loop .loop .nonterminal) (loop .loop .place) (start .pre)
+          (omega (arith, loop .loop .inv .1, start .pre .fewNonterminals, start .pre .short, input-length (start .args .events .now)))
+          (at-label .label .ensures))),
     )
 
 add-nonterminal : tie.Need-add-nonterminal Inv-loop μ-loop
@@ -109,9 +121,14 @@ loop-again-2 c =
     let events = start .args .events .now in (
       omega (arith, at-if1 .if1 .taken),
       omega arith,
-      labels-row events (loop .loop .nonterminal) (loop .loop .place) (c .if2 .left) (omega (arith, loop .loop .inv .1, start .pre .fewNonterminals, start .pre .short, input-length (start .args .events .now)))
-          (labels-more events (omega (arith, at-if1 .if1 .taken, loop .loop .inv .1, start .pre .fewNonterminals, start .pre .short, input-length (start .args .events .now))) (loop .loop .inv .2)
-          (label-made events (loop .loop .nonterminal) (loop .loop .place) (start .pre) (omega (arith, loop .loop .inv .1, start .pre .fewNonterminals, start .pre .short, input-length (start .args .events .now))) (at-label .label .ensures))),
+      labels-row events (loop .loop .nonterminal) (loop .loop .place) (c .if2 .left)
+          (omega (arith, loop .loop .inv .1, start .pre .fewNonterminals, start .pre .short, input-length (start .args .events .now)))
+          (labels-more events (omega
+          (arith, at-if1 .if1 .taken, loop .loop .inv .1, start .pre .fewNonterminals, start .pre .short, input-length (start .args .events .now)))
+          (loop .loop .inv .2)
+          (label-made events (loop .loop .nonterminal) (loop .loop .place) (start .pre)
+          (omega (arith, loop .loop .inv .1, start .pre .fewNonterminals, start .pre .short, input-length (start .args .events .now)))
+          (at-label .label .ensures))),
     )
 
 returns : tie.Need-returns Inv-loop μ-loop

@@ -72,86 +72,108 @@ going : (t : ℕ) (c : Loop t) (input : List ℕ) (g : Given t c input) → Goin
 going t c input g =
     c .loop .inv input _ _ g (going-start g (c .before .before .rule-of .ensures) (c .before .before .before .before .if1 .left))
 
-write-vertex-mul-entry : (t : ℕ) → write-vertex-lts.Need-mul-entry (write-vertex-claims t) (write-vertex-at t) write-vertex.Post write-vertex-Inv-loop write-vertex-μ-loop
+write-vertex-mul-entry : (t : ℕ)
+    → write-vertex-lts.Need-mul-entry (write-vertex-claims t) (write-vertex-at t) write-vertex.Post write-vertex-Inv-loop write-vertex-μ-loop
 write-vertex-mul-entry t c = omega (arith, entry-low (c .before .before .pre .1 .1))
 
-write-vertex-add-entry : (t : ℕ) → write-vertex-lts.Need-add-entry (write-vertex-claims t) (write-vertex-at t) write-vertex.Post write-vertex-Inv-loop write-vertex-μ-loop
+write-vertex-add-entry : (t : ℕ)
+    → write-vertex-lts.Need-add-entry (write-vertex-claims t) (write-vertex-at t) write-vertex.Post write-vertex-Inv-loop write-vertex-μ-loop
 write-vertex-add-entry t c = omega (arith, entry-low (c .before .before .pre .1 .1))
 
-write-vertex-element-copy-out-if1 : (t : ℕ) → write-vertex-lts.Need-element-copy-out-if1 (write-vertex-claims t) (write-vertex-at t) write-vertex.Post write-vertex-Inv-loop write-vertex-μ-loop
+write-vertex-element-copy-out-if1 : (t : ℕ)
+    → write-vertex-lts.Need-element-copy-out-if1 (write-vertex-claims t) (write-vertex-at t) write-vertex.Post write-vertex-Inv-loop write-vertex-μ-loop
 write-vertex-element-copy-out-if1 t c = entry-low (c .before .before .pre .1 .1)
 
-write-vertex-returns : (t : ℕ) → write-vertex-lts.Need-returns (write-vertex-claims t) (write-vertex-at t) write-vertex.Post write-vertex-Inv-loop write-vertex-μ-loop
+write-vertex-returns : (t : ℕ)
+    → write-vertex-lts.Need-returns (write-vertex-claims t) (write-vertex-at t) write-vertex.Post write-vertex-Inv-loop write-vertex-μ-loop
 write-vertex-returns t c = λ input g. vertex-seen g (c .if1 .taken)
 
-write-vertex-element-write-marks : (t : ℕ) → write-vertex-lts.Need-element-write-marks (write-vertex-claims t) (write-vertex-at t) write-vertex.Post write-vertex-Inv-loop write-vertex-μ-loop
+write-vertex-element-write-marks : (t : ℕ)
+    → write-vertex-lts.Need-element-write-marks (write-vertex-claims t) (write-vertex-at t) write-vertex.Post write-vertex-Inv-loop write-vertex-μ-loop
 write-vertex-element-write-marks t c = entry-low (c .before .before .before .before .pre .1 .1)
 
-write-vertex-mul-vertex : (t : ℕ) → write-vertex-lts.Need-mul-vertex (write-vertex-claims t) (write-vertex-at t) write-vertex.Post write-vertex-Inv-loop write-vertex-μ-loop
+write-vertex-mul-vertex : (t : ℕ)
+    → write-vertex-lts.Need-mul-vertex (write-vertex-claims t) (write-vertex-at t) write-vertex.Post write-vertex-Inv-loop write-vertex-μ-loop
 write-vertex-mul-vertex t c = omega (arith, entry-low (c .before .before .before .before .pre .1 .1))
 
-write-vertex-element-copy-out-vertex : (t : ℕ) → write-vertex-lts.Need-element-copy-out-vertex (write-vertex-claims t) (write-vertex-at t) write-vertex.Post write-vertex-Inv-loop write-vertex-μ-loop
+write-vertex-element-copy-out-vertex : (t : ℕ)
+    → write-vertex-lts.Need-element-copy-out-vertex (write-vertex-claims t) (write-vertex-at t) write-vertex.Post write-vertex-Inv-loop write-vertex-μ-loop
 write-vertex-element-copy-out-vertex t c = entry-low (c .before .before .before .before .pre .1 .1)
 
-write-vertex-mul-tree : (t : ℕ) → write-vertex-lts.Need-mul-tree (write-vertex-claims t) (write-vertex-at t) write-vertex.Post write-vertex-Inv-loop write-vertex-μ-loop
+write-vertex-mul-tree : (t : ℕ)
+    → write-vertex-lts.Need-mul-tree (write-vertex-claims t) (write-vertex-at t) write-vertex.Post write-vertex-Inv-loop write-vertex-μ-loop
 write-vertex-mul-tree t c =
     let at-if1 = c .before in
     let start = at-if1 .before .before .before .before in
     omega (arith, written-low (start .pre .1 .1) refl (at-if1 .if1 .left))
 
-write-vertex-slice-write-tree : (t : ℕ) → write-vertex-lts.Need-slice-write-tree (write-vertex-claims t) (write-vertex-at t) write-vertex.Post write-vertex-Inv-loop write-vertex-μ-loop
+write-vertex-slice-write-tree : (t : ℕ)
+    → write-vertex-lts.Need-slice-write-tree (write-vertex-claims t) (write-vertex-at t) write-vertex.Post write-vertex-Inv-loop write-vertex-μ-loop
 write-vertex-slice-write-tree t c =
     let at-if1 = c .before in
     let start = at-if1 .before .before .before .before in
     tree-room (start .pre .1 .1) refl (at-if1 .if1 .left)
 
-write-vertex-add-count : (t : ℕ) → write-vertex-lts.Need-add-count (write-vertex-claims t) (write-vertex-at t) write-vertex.Post write-vertex-Inv-loop write-vertex-μ-loop
+write-vertex-add-count : (t : ℕ)
+    → write-vertex-lts.Need-add-count (write-vertex-claims t) (write-vertex-at t) write-vertex.Post write-vertex-Inv-loop write-vertex-μ-loop
 write-vertex-add-count t c =
     let at-if1 = c .before in
     let start = at-if1 .before .before .before .before in
     omega (arith, written-low (start .pre .1 .1) refl (at-if1 .if1 .left))
 
-write-vertex-rule-of-requires : (t : ℕ) → write-vertex-lts.Need-rule-of-requires (write-vertex-claims t) (write-vertex-at t) write-vertex.Post write-vertex-Inv-loop write-vertex-μ-loop
+write-vertex-rule-of-requires : (t : ℕ)
+    → write-vertex-lts.Need-rule-of-requires (write-vertex-claims t) (write-vertex-at t) write-vertex.Post write-vertex-Inv-loop write-vertex-μ-loop
 write-vertex-rule-of-requires t c κs = tt
 
-write-vertex-mul-at : (t : ℕ) → write-vertex-lts.Need-mul-at (write-vertex-claims t) (write-vertex-at t) write-vertex.Post write-vertex-Inv-loop write-vertex-μ-loop
+write-vertex-mul-at : (t : ℕ)
+    → write-vertex-lts.Need-mul-at (write-vertex-claims t) (write-vertex-at t) write-vertex.Post write-vertex-Inv-loop write-vertex-μ-loop
 write-vertex-mul-at t c =
     let start = c .before .before .before .before .before .before in
     omega (arith, rule-low (start .pre .1 .1) (c .rule-of .ensures))
 
-write-vertex-element-copy-out-at : (t : ℕ) → write-vertex-lts.Need-element-copy-out-at (write-vertex-claims t) (write-vertex-at t) write-vertex.Post write-vertex-Inv-loop write-vertex-μ-loop
+write-vertex-element-copy-out-at : (t : ℕ)
+    → write-vertex-lts.Need-element-copy-out-at (write-vertex-claims t) (write-vertex-at t) write-vertex.Post write-vertex-Inv-loop write-vertex-μ-loop
 write-vertex-element-copy-out-at t c =
     let start = c .before .before .before .before .before .before in
     rule-low (start .pre .1 .1) (c .rule-of .ensures)
 
-write-vertex-add-at : (t : ℕ) → write-vertex-lts.Need-add-at (write-vertex-claims t) (write-vertex-at t) write-vertex.Post write-vertex-Inv-loop write-vertex-μ-loop
+write-vertex-add-at : (t : ℕ)
+    → write-vertex-lts.Need-add-at (write-vertex-claims t) (write-vertex-at t) write-vertex.Post write-vertex-Inv-loop write-vertex-μ-loop
 write-vertex-add-at t c =
     let at-rule-of = c .before in
     let start = at-rule-of .before .before .before .before .before .before in
     omega (arith, begin-low (start .pre .1 .1) (at-rule-of .rule-of .ensures))
 
-write-vertex-loop-holds : (t : ℕ) → write-vertex-lts.Need-loop-holds (write-vertex-claims t) (write-vertex-at t) write-vertex.Post write-vertex-Inv-loop write-vertex-μ-loop
+write-vertex-loop-holds : (t : ℕ)
+    → write-vertex-lts.Need-loop-holds (write-vertex-claims t) (write-vertex-at t) write-vertex.Post write-vertex-Inv-loop write-vertex-μ-loop
 write-vertex-loop-holds t c = λ _ _ _ g u. u
 
-write-vertex-mul-decode : (t : ℕ) → write-vertex-lts.Need-mul-decode (write-vertex-claims t) (write-vertex-at t) write-vertex.Post write-vertex-Inv-loop write-vertex-μ-loop
+write-vertex-mul-decode : (t : ℕ)
+    → write-vertex-lts.Need-mul-decode (write-vertex-claims t) (write-vertex-at t) write-vertex.Post write-vertex-Inv-loop write-vertex-μ-loop
 write-vertex-mul-decode t c = omega arith
 
-write-vertex-shared-slice-read-decode : (t : ℕ) → write-vertex-lts.Need-shared-slice-read-decode (write-vertex-claims t) (write-vertex-at t) write-vertex.Post write-vertex-Inv-loop write-vertex-μ-loop
+write-vertex-shared-slice-read-decode : (t : ℕ)
+    → write-vertex-lts.Need-shared-slice-read-decode (write-vertex-claims t) (write-vertex-at t) write-vertex.Post write-vertex-Inv-loop write-vertex-μ-loop
 write-vertex-shared-slice-read-decode t c = omega arith
 
-write-vertex-decode-requires : (t : ℕ) → write-vertex-lts.Need-decode-requires (write-vertex-claims t) (write-vertex-at t) write-vertex.Post write-vertex-Inv-loop write-vertex-μ-loop
+write-vertex-decode-requires : (t : ℕ)
+    → write-vertex-lts.Need-decode-requires (write-vertex-claims t) (write-vertex-at t) write-vertex.Post write-vertex-Inv-loop write-vertex-μ-loop
 write-vertex-decode-requires t c κs = tt
 
-write-vertex-enum-told : (t : ℕ) → write-vertex-lts.Need-enum-told (write-vertex-claims t) (write-vertex-at t) write-vertex.Post write-vertex-Inv-loop write-vertex-μ-loop
+write-vertex-enum-told : (t : ℕ)
+    → write-vertex-lts.Need-enum-told (write-vertex-claims t) (write-vertex-at t) write-vertex.Post write-vertex-Inv-loop write-vertex-μ-loop
 write-vertex-enum-told t c = c .match .keys1
 
-write-vertex-enum-known-word : (t : ℕ) → write-vertex-lts.Need-enum-known-word (write-vertex-claims t) (write-vertex-at t) write-vertex.Post write-vertex-Inv-loop write-vertex-μ-loop
+write-vertex-enum-known-word : (t : ℕ)
+    → write-vertex-lts.Need-enum-known-word (write-vertex-claims t) (write-vertex-at t) write-vertex.Post write-vertex-Inv-loop write-vertex-μ-loop
 write-vertex-enum-known-word t c = c .match .keys2
 
-write-vertex-enum-told-2 : (t : ℕ) → write-vertex-lts.Need-enum-told-2 (write-vertex-claims t) (write-vertex-at t) write-vertex.Post write-vertex-Inv-loop write-vertex-μ-loop
+write-vertex-enum-told-2 : (t : ℕ)
+    → write-vertex-lts.Need-enum-told-2 (write-vertex-claims t) (write-vertex-at t) write-vertex.Post write-vertex-Inv-loop write-vertex-μ-loop
 write-vertex-enum-told-2 t c = c .match2 .keys1
 
-write-vertex-add-place : (t : ℕ) → write-vertex-lts.Need-add-place (write-vertex-claims t) (write-vertex-at t) write-vertex.Post write-vertex-Inv-loop write-vertex-μ-loop
+write-vertex-add-place : (t : ℕ)
+    → write-vertex-lts.Need-add-place (write-vertex-claims t) (write-vertex-at t) write-vertex.Post write-vertex-Inv-loop write-vertex-μ-loop
 write-vertex-add-place t c =
     let at-match2 = c .before in
     let at-word = at-match2 .before .before in
@@ -166,10 +188,12 @@ write-vertex-add-place t c =
     let a = is-terminal (at-word .word .given .0 .0) (at-match2 .match2 .keys1) in
     omega (arith, terminal-low g u h (a .0) (e ∙ ap Symbol (a .1)), g .accepted .short)
 
-write-vertex-enum-known-symbol : (t : ℕ) → write-vertex-lts.Need-enum-known-symbol (write-vertex-claims t) (write-vertex-at t) write-vertex.Post write-vertex-Inv-loop write-vertex-μ-loop
+write-vertex-enum-known-symbol : (t : ℕ)
+    → write-vertex-lts.Need-enum-known-symbol (write-vertex-claims t) (write-vertex-at t) write-vertex.Post write-vertex-Inv-loop write-vertex-μ-loop
 write-vertex-enum-known-symbol t c = c .match2 .keys2
 
-write-vertex-cast-write-vertex : (t : ℕ) → write-vertex-lts.Need-cast-write-vertex (write-vertex-claims t) (write-vertex-at t) write-vertex.Post write-vertex-Inv-loop write-vertex-μ-loop
+write-vertex-cast-write-vertex : (t : ℕ)
+    → write-vertex-lts.Need-cast-write-vertex (write-vertex-claims t) (write-vertex-at t) write-vertex.Post write-vertex-Inv-loop write-vertex-μ-loop
 write-vertex-cast-write-vertex t c =
     let at-symbol = c .before in
     let at-word = at-symbol .before .before .before in
@@ -184,7 +208,8 @@ write-vertex-cast-write-vertex t c =
     let e′ = e ∙ ap Symbol (at-symbol .symbol .given .1) in
     omega (arith, called-found g u h _ e′ .named, names g)
 
-write-vertex-write-vertex-requires : (t : ℕ) → write-vertex-lts.Need-write-vertex-requires (write-vertex-claims t) (write-vertex-at t) write-vertex.Post write-vertex-Inv-loop write-vertex-μ-loop
+write-vertex-write-vertex-requires : (t : ℕ)
+    → write-vertex-lts.Need-write-vertex-requires (write-vertex-claims t) (write-vertex-at t) write-vertex.Post write-vertex-Inv-loop write-vertex-μ-loop
 write-vertex-write-vertex-requires t c κs =
     let at-symbol = c .before .before .before in
     let at-word = at-symbol .before .before .before in
@@ -201,7 +226,8 @@ write-vertex-write-vertex-requires t c κs =
       (s .pre .1 .0, called-given g u h _ e′),
     )
 
-write-vertex-cast-end-of : (t : ℕ) → write-vertex-lts.Need-cast-end-of (write-vertex-claims t) (write-vertex-at t) write-vertex.Post write-vertex-Inv-loop write-vertex-μ-loop
+write-vertex-cast-end-of : (t : ℕ)
+    → write-vertex-lts.Need-cast-end-of (write-vertex-claims t) (write-vertex-at t) write-vertex.Post write-vertex-Inv-loop write-vertex-μ-loop
 write-vertex-cast-end-of t c =
     let at-symbol = c .before .before .before .before .before .before in
     let at-word = at-symbol .before .before .before in
@@ -216,7 +242,8 @@ write-vertex-cast-end-of t c =
     let e′ = e ∙ ap Symbol (at-symbol .symbol .given .1) in
     omega (arith, called-found g u h _ e′ .named, names g)
 
-write-vertex-mul-end-of : (t : ℕ) → write-vertex-lts.Need-mul-end-of (write-vertex-claims t) (write-vertex-at t) write-vertex.Post write-vertex-Inv-loop write-vertex-μ-loop
+write-vertex-mul-end-of : (t : ℕ)
+    → write-vertex-lts.Need-mul-end-of (write-vertex-claims t) (write-vertex-at t) write-vertex.Post write-vertex-Inv-loop write-vertex-μ-loop
 write-vertex-mul-end-of t c =
     let at-symbol = c .before .before .before .before .before .before in
     let at-word = at-symbol .before .before .before in
@@ -231,7 +258,8 @@ write-vertex-mul-end-of t c =
     let e′ = e ∙ ap Symbol (at-symbol .symbol .given .1) in
     omega (arith, index-small g (called-found g u h _ e′))
 
-write-vertex-add-end-of : (t : ℕ) → write-vertex-lts.Need-add-end-of (write-vertex-claims t) (write-vertex-at t) write-vertex.Post write-vertex-Inv-loop write-vertex-μ-loop
+write-vertex-add-end-of : (t : ℕ)
+    → write-vertex-lts.Need-add-end-of (write-vertex-claims t) (write-vertex-at t) write-vertex.Post write-vertex-Inv-loop write-vertex-μ-loop
 write-vertex-add-end-of t c =
     let at-symbol = c .before .before .before .before .before .before in
     let at-word = at-symbol .before .before .before in
@@ -246,7 +274,8 @@ write-vertex-add-end-of t c =
     let e′ = e ∙ ap Symbol (at-symbol .symbol .given .1) in
     omega (arith, index-small g (called-found g u h _ e′))
 
-write-vertex-mul-end-of-2 : (t : ℕ) → write-vertex-lts.Need-mul-end-of-2 (write-vertex-claims t) (write-vertex-at t) write-vertex.Post write-vertex-Inv-loop write-vertex-μ-loop
+write-vertex-mul-end-of-2 : (t : ℕ)
+    → write-vertex-lts.Need-mul-end-of-2 (write-vertex-claims t) (write-vertex-at t) write-vertex.Post write-vertex-Inv-loop write-vertex-μ-loop
 write-vertex-mul-end-of-2 t c =
     let at-symbol = c .before .before .before .before .before .before in
     let at-word = at-symbol .before .before .before in
@@ -261,7 +290,8 @@ write-vertex-mul-end-of-2 t c =
     let e′ = e ∙ ap Symbol (at-symbol .symbol .given .1) in
     omega (arith, index-small g (called-found g u h _ e′))
 
-write-vertex-element-copy-out-end-of : (t : ℕ) → write-vertex-lts.Need-element-copy-out-end-of (write-vertex-claims t) (write-vertex-at t) write-vertex.Post write-vertex-Inv-loop write-vertex-μ-loop
+write-vertex-element-copy-out-end-of : (t : ℕ)
+    → write-vertex-lts.Need-element-copy-out-end-of (write-vertex-claims t) (write-vertex-at t) write-vertex.Post write-vertex-Inv-loop write-vertex-μ-loop
 write-vertex-element-copy-out-end-of t c =
     let at-symbol = c .before .before .before .before .before .before in
     let at-word = at-symbol .before .before .before in
@@ -276,30 +306,36 @@ write-vertex-element-copy-out-end-of t c =
     let e′ = e ∙ ap Symbol (at-symbol .symbol .given .1) in
     index-small g (called-found g u h _ e′)
 
-write-vertex-end-of-requires : (t : ℕ) → write-vertex-lts.Need-end-of-requires (write-vertex-claims t) (write-vertex-at t) write-vertex.Post write-vertex-Inv-loop write-vertex-μ-loop
+write-vertex-end-of-requires : (t : ℕ)
+    → write-vertex-lts.Need-end-of-requires (write-vertex-claims t) (write-vertex-at t) write-vertex.Post write-vertex-Inv-loop write-vertex-μ-loop
 write-vertex-end-of-requires t c κs = tt
 
-write-vertex-same-length : (t : ℕ) → write-vertex-lts.Need-same-length (write-vertex-claims t) (write-vertex-at t) write-vertex.Post write-vertex-Inv-loop write-vertex-μ-loop
+write-vertex-same-length : (t : ℕ)
+    → write-vertex-lts.Need-same-length (write-vertex-claims t) (write-vertex-at t) write-vertex.Post write-vertex-Inv-loop write-vertex-μ-loop
 write-vertex-same-length t c =
     let loop = c .before .before .before .before in
     let start = loop .before .before .before .before .before .before .before .before in
     let g = start .pre .1 .1 in
     going-length g (going t loop _ g)
 
-write-vertex-returns-2 : (t : ℕ) → write-vertex-lts.Need-returns-2 (write-vertex-claims t) (write-vertex-at t) write-vertex.Post write-vertex-Inv-loop write-vertex-μ-loop
+write-vertex-returns-2 : (t : ℕ)
+    → write-vertex-lts.Need-returns-2 (write-vertex-claims t) (write-vertex-at t) write-vertex.Post write-vertex-Inv-loop write-vertex-μ-loop
 write-vertex-returns-2 t c = λ input g.
     let u = going t (c .before .before .before .before) input g in
     let h = c .before .before .before .loop-test .taken in
     let n = neither _ (c .match .keys3) in
     going-ended g u h _ (c .before .decode .ensures) (n .0) (n .1)
 
-write-vertex-add-at-2 : (t : ℕ) → write-vertex-lts.Need-add-at-2 (write-vertex-claims t) (write-vertex-at t) write-vertex.Post write-vertex-Inv-loop write-vertex-μ-loop
+write-vertex-add-at-2 : (t : ℕ)
+    → write-vertex-lts.Need-add-at-2 (write-vertex-claims t) (write-vertex-at t) write-vertex.Post write-vertex-Inv-loop write-vertex-μ-loop
 write-vertex-add-at-2 t c = omega arith
 
-write-vertex-loop-less : (t : ℕ) → write-vertex-lts.Need-loop-less (write-vertex-claims t) (write-vertex-at t) write-vertex.Post write-vertex-Inv-loop write-vertex-μ-loop
+write-vertex-loop-less : (t : ℕ)
+    → write-vertex-lts.Need-loop-less (write-vertex-claims t) (write-vertex-at t) write-vertex.Post write-vertex-Inv-loop write-vertex-μ-loop
 write-vertex-loop-less t c = omega arith
 
-write-vertex-loop-again : (t : ℕ) → write-vertex-lts.Need-loop-again (write-vertex-claims t) (write-vertex-at t) write-vertex.Post write-vertex-Inv-loop write-vertex-μ-loop
+write-vertex-loop-again : (t : ℕ)
+    → write-vertex-lts.Need-loop-again (write-vertex-claims t) (write-vertex-at t) write-vertex.Post write-vertex-Inv-loop write-vertex-μ-loop
 write-vertex-loop-again t c = λ input tree₀ marks₀ g s.
     let u = c .before .before .before .before .loop .inv input tree₀ marks₀ g s in
     let h = c .before .before .before .loop-test .taken in
@@ -316,14 +352,16 @@ write-vertex-loop-again t c = λ input tree₀ marks₀ g s.
     (going-nonterminal g u h _ e′ (w .8 .ensures input (called-given g u h _ e′)))))
     (c .match .came)
 
-write-vertex-same-length-2 : (t : ℕ) → write-vertex-lts.Need-same-length-2 (write-vertex-claims t) (write-vertex-at t) write-vertex.Post write-vertex-Inv-loop write-vertex-μ-loop
+write-vertex-same-length-2 : (t : ℕ)
+    → write-vertex-lts.Need-same-length-2 (write-vertex-claims t) (write-vertex-at t) write-vertex.Post write-vertex-Inv-loop write-vertex-μ-loop
 write-vertex-same-length-2 t c =
     let loop = c .before in
     let start = loop .before .before .before .before .before .before .before .before in
     let g = start .pre .1 .1 in
     going-length g (going t loop _ g)
 
-write-vertex-returns-3 : (t : ℕ) → write-vertex-lts.Need-returns-3 (write-vertex-claims t) (write-vertex-at t) write-vertex.Post write-vertex-Inv-loop write-vertex-μ-loop
+write-vertex-returns-3 : (t : ℕ)
+    → write-vertex-lts.Need-returns-3 (write-vertex-claims t) (write-vertex-at t) write-vertex.Post write-vertex-Inv-loop write-vertex-μ-loop
 write-vertex-returns-3 t c = λ input g. going-over g (going t (c .before) input g) (c .loop-test .left)
 
 pub +write-vertex-spec : {M : Type 1} → statement M
