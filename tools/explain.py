@@ -4,7 +4,7 @@ Nothing here decides: the programs refuse, with a number and a place, and what t
 from typing import NamedTuple, Optional
 from itertools import product
 from logs import unknown_event
-from notation import (MAX_WORDS, MAX_INPUT, MAX_LOGS, MAX_WIDE_TERMINALS, NEGATIVE, NONTERMINAL, RULE, Grammar, Damaged,
+from notation import (MAX_WORDS, MAX_INPUT, MAX_LOGS, MAX_TERMINALS_OF_TWO, NEGATIVE, NONTERMINAL, RULE, Grammar, Damaged,
                       body_text, rule_text, scan)
 
 
@@ -207,7 +207,7 @@ WIDTH = {1: 32, 2: 64}    # what a name weighs in the place of a clash
 
 def string_of(grammar, column, k=1):
     """The row of letters that a column stands for."""
-    letters, few = len(grammar.terminals), MAX_WIDE_TERMINALS
+    letters, few = len(grammar.terminals), MAX_TERMINALS_OF_TWO
     if k == 1:
         return () if column == letters else (column,)
     return () if column == 0 else (column - 1,) if column <= few else divmod(column - few - 1, few)
@@ -219,7 +219,7 @@ def column_of(grammar, string, k=1):
         return string[0] if string else len(grammar.terminals)
     number = 0
     for letter in string:
-        number = MAX_WIDE_TERMINALS * number + 1 + letter
+        number = MAX_TERMINALS_OF_TWO * number + 1 + letter
     return number
 
 
@@ -389,7 +389,7 @@ def words_refused(card, number, place, k):
     if number == 3 and len(card.words) <= MAX_WORDS:
         return 'the file is no row of 4-byte words'
     if number == 18:
-        return f'{card.words[0] >> 8 & 255} letters, and with two events of lookahead the limit is {MAX_WIDE_TERMINALS}'
+        return f'{card.words[0] >> 8 & 255} letters, and with two events of lookahead the limit is {MAX_TERMINALS_OF_TWO}'
     fault = damage(card)
     if fault and (fault.code, fault.position) == (number, place):
         reason = fault.reason

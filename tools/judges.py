@@ -5,12 +5,12 @@ from array import array
 from typing import NamedTuple
 import vinegarspit
 from logs import DIRECTION
-from notation import MAX_INPUT, MAX_PLAIN_INPUT, MAX_WIDE_TERMINALS
+from notation import MAX_INPUT, MAX_PLAIN_INPUT, MAX_TERMINALS_OF_TWO
 from explain import column_of, refusal
 
 
 ONE, TWO, PLAIN = 'one event', 'two events', 'plain'    # by one event of lookahead, by two, and plainly
-COLUMNS_OF_TWO = 1 + MAX_WIDE_TERMINALS + MAX_WIDE_TERMINALS ** 2    # of a row of the table, however few letters there are
+COLUMNS_OF_TWO = 1 + MAX_TERMINALS_OF_TWO + MAX_TERMINALS_OF_TWO ** 2    # of a row of the table, however few letters there are
 
 
 class Told(NamedTuple):

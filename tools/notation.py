@@ -18,7 +18,7 @@ from logs import event_of, events, unknown_event
 
 MAX_WORDS, MAX_NONTERMINALS, MAX_TERMINALS, MAX_RULES, MAX_INPUT = 2048, 32, 24, 128, 412
 MAX_PLAIN_INPUT = 48    # of the plain judge
-MAX_WIDE_TERMINALS = 7    # with two events of lookahead
+MAX_TERMINALS_OF_TWO = 7    # with two events of lookahead
 MAX_LOGS = 4096    # of a length, of which the costliest is sought
 HEADING_FIELD = 255    # what eight bits of the heading can say
 

@@ -51,7 +51,7 @@ impl Random {
         }
     }
 
-    pub fn fill_wide_words(&mut self, words: &mut [u64]) {
+    pub fn fill_words_of_two(&mut self, words: &mut [u64]) {
         words.iter_mut().for_each(|word| *word = self.next());
     }
 

@@ -122,11 +122,11 @@ fn judge(pair: &mut Pair, words: &[u32], log: &Log, stored: &linked::Stored, len
 /// The same with two events of lookahead; whether it is a verdict.
 fn judge2(pair: &mut Pair, words: &[u32], log: &Log, stored: &linked::Stored, lengths: Lengths) -> bool {
     let fresh = &mut pair.twin.clone();
-    let (table, memo) = fresh.lend_wide(lengths);
+    let (table, memo) = fresh.lend_two(lengths);
     let taken_afresh = linked::judge2(words, &log.events, table, memo);
-    let (table, memo) = pair.twin.lend_wide(lengths);
+    let (table, memo) = pair.twin.lend_two(lengths);
     let expected = log.judge2(words, table, memo);
-    let (table, memo) = pair.proved.lend_wide(lengths);
+    let (table, memo) = pair.proved.lend_two(lengths);
     let answer = stored.judge2(words, table, memo);
     let agree = [linked::packed(expected), taken_afresh].iter().all(|&other| other == answer)
         && [&pair.twin.table2, &fresh.table2].iter().all(|&other| *other == pair.proved.table2)

@@ -4,7 +4,7 @@ use crate::twin::{self, Allowance, Gaps, Grammar, Log, Outcome, Usage, Usages, V
 use std::fmt::Write;
 
 /// The columns of a row with two letters of lookahead.
-const WIDE_COLUMNS: usize = 57;
+const COLUMNS_OF_TWO: usize = 57;
 
 /// The words of a file, low byte first; none if it is not made of 4-byte words, or of more than so many.
 fn words_of(file: &[u8], most: usize) -> Option<Vec<u32>> {
@@ -141,8 +141,8 @@ fn names_of(words: &[u32]) -> usize {
 fn wide_table(words: &[u32], table: &[u64], fill: u64) -> String {
     let names = names_of(words);
     let (sets, rest) = table.split_at(2 * names);
-    let (rows, behind) = rest.split_at(names * WIDE_COLUMNS);
-    let rows = rows.chunks_exact(WIDE_COLUMNS).zip(sets.chunks_exact(2)).map(|(row, sets)| {
+    let (rows, behind) = rest.split_at(names * COLUMNS_OF_TWO);
+    let rows = rows.chunks_exact(COLUMNS_OF_TWO).zip(sets.chunks_exact(2)).map(|(row, sets)| {
         let claimed = row.iter().enumerate().filter(|(_, &entry)| entry != NO_RULE.into());
         claimed.fold(format!("{} {}", sets[0], sets[1]), |text, (column, entry)| format!("{text} {column}:{entry}"))
     });

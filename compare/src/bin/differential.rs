@@ -64,7 +64,7 @@ impl Memory {
         random.fill_entries(&mut self.memo);
         random.fill_words(&mut self.spans);
         random.fill_words(&mut self.tree);
-        random.fill_wide_words(&mut self.table2);
+        random.fill_words_of_two(&mut self.table2);
     }
 
     fn lend(&mut self, lengths: Lengths) -> (&mut [u32], &mut [u16]) {
@@ -72,7 +72,7 @@ impl Memory {
     }
 
     /// With a table for two letters of lookahead.
-    fn lend_wide(&mut self, lengths: Lengths) -> (&mut [u64], &mut [u16]) {
+    fn lend_two(&mut self, lengths: Lengths) -> (&mut [u64], &mut [u16]) {
         (&mut self.table2[GUARD..GUARD + lengths.table2], &mut self.memo[GUARD..GUARD + lengths.memo])
     }
 
@@ -270,8 +270,8 @@ impl Pair {
     }
 
     fn check2(&mut self, words: &[u32], lengths: Lengths) -> Outcome {
-        let expected = twin::check2(words, self.twin.lend_wide(lengths).0);
-        let answer = linked::check2(words, self.proved.lend_wide(lengths).0);
+        let expected = twin::check2(words, self.twin.lend_two(lengths).0);
+        let answer = linked::check2(words, self.proved.lend_two(lengths).0);
         let agree = answer == linked::packed(expected) && self.twin.table2 == self.proved.table2;
         self.tally.wide.add(expected);
         self.settle("check2", agree, expected, answer, words, &[], lengths)
@@ -280,9 +280,9 @@ impl Pair {
     /// Judges with two letters of lookahead, after one gave the other outcome: what passes with one letter never clashes with two, and where
     /// both give a verdict it is the same.
     fn judge2(&mut self, words: &[u32], input: &[u8], lengths: Lengths, with_one: Outcome) -> Outcome {
-        let (table, memo) = self.twin.lend_wide(lengths);
+        let (table, memo) = self.twin.lend_two(lengths);
         let expected = twin::judge2(words, input, table, memo);
-        let (table, memo) = self.proved.lend_wide(lengths);
+        let (table, memo) = self.proved.lend_two(lengths);
         let answer = linked::judge2(words, input, table, memo);
         let (refused, refused_with_one) = (expected.verdict == Verdict::Refused, with_one.verdict == Verdict::Refused);
         let lawful = refused_with_one || if refused { expected.code != 9 } else { expected.verdict == with_one.verdict };

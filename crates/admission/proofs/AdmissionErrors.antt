@@ -13,7 +13,7 @@ use Rattle.answer.specs.declared.Error.the-variants.{Length, UnexpectedWord, To
 use Rattle.answer.specs.Numbers.{coded}
 use Rattle.answer.proofs.Faults.{none-some, OfFault, of-none, of-some, of-if, first-each}
 use Rattle.base.specs.Choice.{choose}
-use Rattle.grammar.specs.Limits.{maxWords, maxWideTerminals}
+use Rattle.grammar.specs.Limits.{maxWords, maxTerminalsOfTwo}
 use Rattle.grammar.specs.Encoding.{grammarOf}
 use Rattle.grammar.specs.Reading.{opened, reading}
 use Rattle.grammar.specs.declared.reading.Sizes.{Sizes}
@@ -71,7 +71,7 @@ module _ (P : Error → Type 0) where
         first-each P (headingFault (reading words) ∷ terminalsFault words ∷ wordFault (reading words) (firstAlone words) ∷ []) (
           heading-each (reading words) r,
           λ q. (
-            of-if P (ltb maxWideTerminals (grammarOf words .terminals)) TooManyTerminals terminals,
+            of-if P (ltb maxTerminalsOfTwo (grammarOf words .terminals)) TooManyTerminals terminals,
             λ _. (
               word-each (reading words) (firstAlone words) r (λ i e. omega (arith, alone-among false 0 words i e, few-words words q)),
               λ _. tt,

@@ -20,7 +20,7 @@ use Rattle.grammar.specs.declared.reading.Sizes.{Sizes}
 use Rattle.grammar.specs.declared.reading.Outcome.{Outcome}
 use Rattle.grammar.specs.declared.reading.Outcome.the-variants.{Read, Faulty}
 use Rattle.grammar.specs.Encoding.{declaredBy, grammarOf}
-use Rattle.grammar.specs.Limits.{maxWords, maxNonterminals, maxTerminals, maxWideTerminals}
+use Rattle.grammar.specs.Limits.{maxWords, maxNonterminals, maxTerminals, maxTerminalsOfTwo}
 use Rattle.grammar.specs.Reading.{beginsRule, reading, opened, headed, scan, fresh, within}
 use Rattle.grammar.proofs.WellFormed.{Each, none-in, faulty}
 use Rattle.grammar.proofs.WellRead.{chosen, refused, both, within-limits, heading-begins-none}
@@ -66,22 +66,22 @@ module _ (o : Outcome) (words : List ℕ) where
       go (Read z) e h = absurd (false≢true h)
       go (Faulty x) e h = rw h
 
-  pub many-terminals : ofHeading o ≡ false → maxWideTerminals < grammarOf words .terminals → Faulty TooManyTerminals ≡ faultyOr (twoTokensFault o words) o
+  pub many-terminals : ofHeading o ≡ false → maxTerminalsOfTwo < grammarOf words .terminals → Faulty TooManyTerminals ≡ faultyOr (twoTokensFault o words) o
   unfolding twoTokensFault
   many-terminals h l = go o h
     where
       go : (p : Outcome) → ofHeading p ≡ false → Faulty TooManyTerminals ≡ faultyOr (twoTokensFault p words) p
-      go (Read z) h = rw (lt-ltb maxWideTerminals (grammarOf words .terminals) l)
-      go (Faulty x) h = rw (h, lt-ltb maxWideTerminals (grammarOf words .terminals) l)
+      go (Read z) h = rw (lt-ltb maxTerminalsOfTwo (grammarOf words .terminals) l)
+      go (Faulty x) h = rw (h, lt-ltb maxTerminalsOfTwo (grammarOf words .terminals) l)
 
-  pub words-then : ofHeading o ≡ false → grammarOf words .terminals ≤ maxWideTerminals
+  pub words-then : ofHeading o ≡ false → grammarOf words .terminals ≤ maxTerminalsOfTwo
       → faultyOr (wordFault o (firstAlone words)) o ≡ faultyOr (twoTokensFault o words) o
   unfolding twoTokensFault
   words-then h l = go o h
     where
       go : (p : Outcome) → ofHeading p ≡ false → faultyOr (wordFault p (firstAlone words)) p ≡ faultyOr (twoTokensFault p words) p
-      go (Read z) h = rw (le-ltb maxWideTerminals (grammarOf words .terminals) l) (last-fault (wordFault (Read z) (firstAlone words)) (Read z))
-      go (Faulty x) h = rw (h, le-ltb maxWideTerminals (grammarOf words .terminals) l) (last-fault (wordFault (Faulty x) (firstAlone words)) (Faulty x))
+      go (Read z) h = rw (le-ltb maxTerminalsOfTwo (grammarOf words .terminals) l) (last-fault (wordFault (Read z) (firstAlone words)) (Read z))
+      go (Faulty x) h = rw (h, le-ltb maxTerminalsOfTwo (grammarOf words .terminals) l) (last-fault (wordFault (Faulty x) (firstAlone words)) (Faulty x))
 
 -- the words behind the heading of a row that is read
 record Headed (w : ℕ) (ws : List ℕ) (z : Sizes) : Type 0 where
@@ -117,19 +117,19 @@ fault-none none o z e = (refl, e)
 fault-none (some x) o z e = absurd (faulty x z e)
 
 -- with two tokens, where reading finds no fault
-two-none : (words : List ℕ) (z : Sizes) → twoTokensFault (Read z) words ≡ none → (grammarOf words .terminals ≤ maxWideTerminals) × (firstAlone words ≡ Absent)
+two-none : (words : List ℕ) (z : Sizes) → twoTokensFault (Read z) words ≡ none → (grammarOf words .terminals ≤ maxTerminalsOfTwo) × (firstAlone words ≡ Absent)
 unfolding twoTokensFault
-two-none words z e = go (ltb maxWideTerminals (grammarOf words .terminals)) refl (firstAlone words) e
+two-none words z e = go (ltb maxTerminalsOfTwo (grammarOf words .terminals)) refl (firstAlone words) e
   where
-    go : (b : Bool) → ltb maxWideTerminals (grammarOf words .terminals) ≡ b → (a : Alone)
-        → firstFault (none ∷ faultIf b TooManyTerminals ∷ wordFault (Read z) a ∷ []) ≡ none → (grammarOf words .terminals ≤ maxWideTerminals) × (a ≡ Absent)
+    go : (b : Bool) → ltb maxTerminalsOfTwo (grammarOf words .terminals) ≡ b → (a : Alone)
+        → firstFault (none ∷ faultIf b TooManyTerminals ∷ wordFault (Read z) a ∷ []) ≡ none → (grammarOf words .terminals ≤ maxTerminalsOfTwo) × (a ≡ Absent)
     go true l a e = let n : _≡_ {A = ℕ} 0 1 = cc in absurd (omega arith)
-    go false l Absent e = (ltb-false maxWideTerminals (grammarOf words .terminals) l, refl)
+    go false l Absent e = (ltb-false maxTerminalsOfTwo (grammarOf words .terminals) l, refl)
     go false l (At i) e = let n : _≡_ {A = ℕ} 0 1 = cc in absurd (omega arith)
 
-none-two : (words : List ℕ) (z : Sizes) → grammarOf words .terminals ≤ maxWideTerminals → firstAlone words ≡ Absent → twoTokensFault (Read z) words ≡ none
+none-two : (words : List ℕ) (z : Sizes) → grammarOf words .terminals ≤ maxTerminalsOfTwo → firstAlone words ≡ Absent → twoTokensFault (Read z) words ≡ none
 unfolding twoTokensFault
-none-two words z l a = rw (le-ltb maxWideTerminals (grammarOf words .terminals) l, a)
+none-two words z l a = rw (le-ltb maxTerminalsOfTwo (grammarOf words .terminals) l, a)
 
 -- just those that are read and fit are admitted
 pub admitted : (k : Lookahead) (words : List ℕ) (z : Sizes) → (admission k words ≡ Read z) ↔ ((reading words ≡ Read z) × Fits k (grammarOf words))

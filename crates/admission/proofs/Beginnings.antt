@@ -11,7 +11,7 @@ use Rattle.base.specs.Choice.{choose}
 use Rattle.word.specs.Words.{decoded}
 use Rattle.grammar.specs.declared.reading.State.{State}
 use Rattle.grammar.specs.declared.reading.State.the-variants.{Before, Opened, InPositive, InNegative, Closed}
-use Rattle.grammar.specs.Limits.{maxWideTerminals}
+use Rattle.grammar.specs.Limits.{maxTerminalsOfTwo}
 use Rattle.grammar.specs.Syntax.{Grammar}
 use Rattle.grammar.specs.Encoding.{grammarOf}
 use Rattle.grammar.specs.Reading.{beginsRule}
@@ -146,14 +146,14 @@ same-terminals : (w : ℕ) (us vs : List ℕ) → grammarOf (w ∷ us) .terminal
 unfolding grammarOf
 same-terminals w us vs = refl
 
-pub terminals-begun : (words : List ℕ) → BeginsEncodingBy Two (take 1 words) → grammarOf words .terminals ≤ maxWideTerminals
+pub terminals-begun : (words : List ℕ) → BeginsEncodingBy Two (take 1 words) → grammarOf words .terminals ≤ maxTerminalsOfTwo
 terminals-begun [] b = omega (arith, no-terminals [] refl)
 terminals-begun (w ∷ ws) b =
     let same = encodes-grammar (w ∷ b .rest) (b .grammar) (b .encodes) in
     omega (arith, same-terminals w ws (b .rest), ap (λ (G : Grammar). G .terminals) same, b .fits .0)
 
 -- the words before the first negative of a rule without positives
-pub begins-quiet : (words : List ℕ) (i : ℕ) → 0 < i → i ≤ length words → grammarOf words .terminals ≤ maxWideTerminals
+pub begins-quiet : (words : List ℕ) (i : ℕ) → 0 < i → i ≤ length words → grammarOf words .terminals ≤ maxTerminalsOfTwo
     → ((a : ℕ) → firstAlone words ≡ At a → i ≤ a) → BeginsEncoding (take i words) → BeginsEncodingBy Two (take i words)
 begins-quiet [] i l m t h b = absurd (omega arith)
 begins-quiet (w ∷ ws) zero l m t h b = absurd (omega arith)

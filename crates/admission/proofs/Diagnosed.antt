@@ -12,7 +12,7 @@ use Rattle.answer.specs.declared.Error.the-variants.{Length, Heading, Unexpecte
 use Rattle.answer.specs.Numbers.{coded}
 use Rattle.grammar.specs.declared.reading.Outcome.{Outcome}
 use Rattle.grammar.specs.declared.reading.Outcome.the-variants.{Read, Faulty}
-use Rattle.grammar.specs.Limits.{maxWords, maxWideTerminals}
+use Rattle.grammar.specs.Limits.{maxWords, maxTerminalsOfTwo}
 use Rattle.grammar.specs.Syntax.{Grammar}
 use Rattle.grammar.specs.Encoding.{grammarOf}
 use Rattle.grammar.specs.Reading.{reading}
@@ -64,7 +64,7 @@ one-diagnosed words _ (Diagnosis.encoding s e) = DiagnosisBy.encoding s e tt
 -- two tokens
 module _ (words : List ℕ) (short : length words ≤ maxWords) where
   -- 18, where the heading begins an encoding
-  too-many : maxWideTerminals < grammarOf words .terminals → BeginsEncoding (take 1 words) → DiagnosisBy Two words (Faulty TooManyTerminals)
+  too-many : maxTerminalsOfTwo < grammarOf words .terminals → BeginsEncoding (take 1 words) → DiagnosisBy Two words (Faulty TooManyTerminals)
   too-many l b =
       DiagnosisBy.fault {i = 0} short
       (record {
@@ -75,11 +75,11 @@ module _ (words : List ℕ) (short : length words ≤ maxWords) where
       })
       (FaultBy.terminals refl (λ f. f .here (some words l) b))
     where
-      some : (ws : List ℕ) → maxWideTerminals < grammarOf ws .terminals → 0 < length ws
+      some : (ws : List ℕ) → maxTerminalsOfTwo < grammarOf ws .terminals → 0 < length ws
       some [] l = absurd (omega (arith, no-terminals [] refl))
       some (w ∷ ws) l = omega arith
 
-  module _ (few : grammarOf words .terminals ≤ maxWideTerminals) where
+  module _ (few : grammarOf words .terminals ≤ maxTerminalsOfTwo) where
     -- 5, at the first negative of a rule without positives, where the words before it begin an encoding
     stands-alone : (a : ℕ) → firstAlone words ≡ At a → BeginsEncoding (take a words) → (FirstFault words a → ⊥)
         → DiagnosisBy Two words (Faulty (UnexpectedWord a))
@@ -125,14 +125,14 @@ module _ (words : List ℕ) (short : length words ≤ maxWords) where
     of-encoding G g (At a) e = stands-alone a e (begins-whole words G g a) (λ f. f .whole G g)
 
   by-terminals : (o : Outcome) → ofHeading o ≡ false → BeginsEncoding (take 1 words)
-      → (grammarOf words .terminals ≤ maxWideTerminals → DiagnosisBy Two words (faultyOr (wordFault o (firstAlone words)) o))
+      → (grammarOf words .terminals ≤ maxTerminalsOfTwo → DiagnosisBy Two words (faultyOr (wordFault o (firstAlone words)) o))
       → DiagnosisBy Two words (faultyOr (twoTokensFault o words) o)
-  by-terminals o h b words-tell = go (decLt maxWideTerminals (grammarOf words .terminals))
+  by-terminals o h b words-tell = go (decLt maxTerminalsOfTwo (grammarOf words .terminals))
     where
-      go : Dec (maxWideTerminals < grammarOf words .terminals) → DiagnosisBy Two words (faultyOr (twoTokensFault o words) o)
+      go : Dec (maxTerminalsOfTwo < grammarOf words .terminals) → DiagnosisBy Two words (faultyOr (twoTokensFault o words) o)
       go (yes l) = subst (DiagnosisBy Two words) (many-terminals o words h l) (too-many l b)
       go (no l) =
-          let few : grammarOf words .terminals ≤ maxWideTerminals = omega (arith, l) in
+          let few : grammarOf words .terminals ≤ maxTerminalsOfTwo = omega (arith, l) in
           subst (DiagnosisBy Two words) (words-then o words h few) (words-tell few)
 
 two-diagnosed : (words : List ℕ) (o : Outcome) → Diagnosis words o → DiagnosisBy Two words (faultyOr (twoTokensFault o words) o)

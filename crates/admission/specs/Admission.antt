@@ -16,7 +16,7 @@ use Rattle.word.specs.Words.{decoded}
 use Rattle.grammar.specs.declared.reading.Outcome.{Outcome}
 use Rattle.grammar.specs.declared.reading.Outcome.the-variants.{Read, Faulty}
 use Rattle.grammar.specs.Encoding.{grammarOf}
-use Rattle.grammar.specs.Limits.{maxWideTerminals}
+use Rattle.grammar.specs.Limits.{maxTerminalsOfTwo}
 use Rattle.grammar.specs.Syntax.{Rule, Grammar}
 use Rattle.grammar.specs.Reading.{beginsRule, reading}
 use Rattle.lookahead.specs.declared.Lookahead.{Lookahead}
@@ -27,7 +27,7 @@ use Rattle.admission.specs.declared.Alone.the-variants.{Absent, At}
 -- what two tokens of lookahead ask of a grammar; one asks nothing
 abbrev pub Fits : Lookahead → Grammar → Type 0
 Fits One G = Unit {0}
-Fits Two G = (G .terminals ≤ maxWideTerminals) × ((r : Rule) → List·Memᴰ r (G .rules) → r .positives ≡ [] → ⊥)
+Fits Two G = (G .terminals ≤ maxTerminalsOfTwo) × ((r : Rule) → List·Memᴰ r (G .rules) → r .positives ≡ [] → ⊥)
 
 abbrev pub beginsNegative : Word → Bool
 beginsNegative Negative = true
@@ -58,7 +58,7 @@ headingFault (Faulty e) = faultIf (ofHeading (Faulty e)) e
 
 -- 18
 abbrev pub terminalsFault : List ℕ → Option Error
-terminalsFault words = faultIf (ltb maxWideTerminals (grammarOf words .terminals)) TooManyTerminals
+terminalsFault words = faultIf (ltb maxTerminalsOfTwo (grammarOf words .terminals)) TooManyTerminals
 
 -- 5 to 7, and 5 where a rule has no positive: the first faulty word decides
 abbrev pub wordFault : Outcome → Alone → Option Error

@@ -6,7 +6,7 @@ ghost use Rattle.admission.specs.Admission.{beginsNegative, firstAlone, 
 use answer::Error;
 use answer::code;
 use answer::position;
-use grammar::limits::WIDE_TERMINALS;
+use grammar::limits::TERMINALS_OF_TWO;
 use grammar::reading::Outcome;
 use lookahead::Lookahead;
 use reader::declared;
@@ -109,7 +109,7 @@ fn admit_two(words: &[u32], outcome: Outcome) -> Outcome
     if of_heading(outcome) {
         return outcome;
     }
-    if WIDE_TERMINALS < declared_terminals(words) {
+    if TERMINALS_OF_TWO < declared_terminals(words) {
         return Outcome::Faulty(Error::TooManyTerminals);
     }
     with_alone(outcome, first_alone(words))

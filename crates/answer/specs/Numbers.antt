@@ -2,9 +2,9 @@
 use Prim.Native.Nat.{ℕ, _+_, _*_}
 use Rattle.answer.specs.declared.Error.{Error}
 use Rattle.answer.specs.declared.Error.the-variants.{TableTooShort, MemoTooShort, Length, Heading, UnexpectedWord, OutOfRange, TooManyRules}
-use Rattle.answer.specs.declared.Error.the-variants.{LeftRecursive, Unproductive, Conflict, WideConflict, InputTooLong, UnknownToken}
-use Rattle.answer.specs.declared.Error.the-variants.{SpansTooShort, TreeTooShort, WideTableTooShort, BufferTooShort, UnknownClient, QuotaReached}
-use Rattle.answer.specs.declared.Error.the-variants.{TooManyTerminals, UnknownCheckpoint, CheckpointNotSet, InputFull, TooManyInputs}
+use Rattle.answer.specs.declared.Error.the-variants.{LeftRecursive, Unproductive, Conflict, ConflictOfTwo, InputTooLong, UnknownToken}
+use Rattle.answer.specs.declared.Error.the-variants.{SpansTooShort, TreeTooShort, TableOfTwoTooShort, BufferTooShort, UnknownClient, QuotaReached}
+use Rattle.answer.specs.declared.Error.the-variants.{TooManyTerminals, UnknownMark, MarkNotSet, InputFull, TooManyInputs}
 use Rattle.answer.specs.declared.Answer.{Answer}
 use Rattle.answer.specs.declared.Answer.the-variants.{Refused, Passed, Rejected, Accepted}
 
@@ -27,18 +27,18 @@ coded (TooManyRules at) = row 7 at
 coded (LeftRecursive nonterminal) = row 8 nonterminal
 coded (Unproductive nonterminal) = row 13 nonterminal
 coded (Conflict nonterminal column) = row 9 (nonterminal * 32 + column)
-coded (WideConflict nonterminal column) = row 9 (nonterminal * 64 + column)
+coded (ConflictOfTwo nonterminal column) = row 9 (nonterminal * 64 + column)
 coded InputTooLong = row 10 0
 coded (UnknownToken at) = row 11 at
 coded SpansTooShort = row 12 0
 coded TreeTooShort = row 14 0
-coded WideTableTooShort = row 17 0
+coded TableOfTwoTooShort = row 17 0
 coded BufferTooShort = row 23 0
 coded UnknownClient = row 15 0
 coded QuotaReached = row 16 0
 coded TooManyTerminals = row 18 0
-coded UnknownCheckpoint = row 19 0
-coded CheckpointNotSet = row 20 0
+coded UnknownMark = row 19 0
+coded MarkNotSet = row 20 0
 coded InputFull = row 21 0
 coded TooManyInputs = row 22 0
 

@@ -20,23 +20,23 @@ pub enum Error {
     Unproductive(u8),
     Conflict { nonterminal: u8, column: u8 },
     // the same with two tokens of lookahead: a row has more columns
-    WideConflict { nonterminal: u8, column: u8 },
+    ConflictOfTwo { nonterminal: u8, column: u8 },
     // the input: its length, or a token of it, by index
     InputTooLong,
     UnknownToken(usize),
     // other lent memory is too short: the words of the spans, those of the tree, the table for two tokens of lookahead, the bytes of an input
     SpansTooShort,
     TreeTooShort,
-    WideTableTooShort,
+    TableOfTwoTooShort,
     BufferTooShort,
     // a client that is none, and one that has used up its share while all have used up the limit
     UnknownClient,
     QuotaReached,
     // a grammar with too many terminals for two tokens of lookahead
     TooManyTerminals,
-    // an input that is kept: a checkpoint that is none, one that is not set, and no room for an event
-    UnknownCheckpoint,
-    CheckpointNotSet,
+    // an input that is kept: a mark that is none, one that is not set, and no room for an event
+    UnknownMark,
+    MarkNotSet,
     InputFull,
     // more inputs of one length than are searched
     TooManyInputs,
@@ -72,7 +72,7 @@ pub fn code(error: Error) -> u32
             nonterminal: _,
             column: _,
         } => 9,
-        Error::WideConflict {
+        Error::ConflictOfTwo {
             nonterminal: _,
             column: _,
         } => 9,
@@ -80,13 +80,13 @@ pub fn code(error: Error) -> u32
         Error::UnknownToken(_) => 11,
         Error::SpansTooShort => 12,
         Error::TreeTooShort => 14,
-        Error::WideTableTooShort => 17,
+        Error::TableOfTwoTooShort => 17,
         Error::BufferTooShort => 23,
         Error::UnknownClient => 15,
         Error::QuotaReached => 16,
         Error::TooManyTerminals => 18,
-        Error::UnknownCheckpoint => 19,
-        Error::CheckpointNotSet => 20,
+        Error::UnknownMark => 19,
+        Error::MarkNotSet => 20,
         Error::InputFull => 21,
         Error::TooManyInputs => 22,
     }
@@ -109,7 +109,7 @@ pub fn position(error: Error) -> usize
             nonterminal,
             column,
         } => nonterminal as usize * 32 + column as usize,
-        Error::WideConflict {
+        Error::ConflictOfTwo {
             nonterminal,
             column,
         } => nonterminal as usize * 64 + column as usize,
@@ -117,13 +117,13 @@ pub fn position(error: Error) -> usize
         Error::UnknownToken(at) => at,
         Error::SpansTooShort => 0,
         Error::TreeTooShort => 0,
-        Error::WideTableTooShort => 0,
+        Error::TableOfTwoTooShort => 0,
         Error::BufferTooShort => 0,
         Error::UnknownClient => 0,
         Error::QuotaReached => 0,
         Error::TooManyTerminals => 0,
-        Error::UnknownCheckpoint => 0,
-        Error::CheckpointNotSet => 0,
+        Error::UnknownMark => 0,
+        Error::MarkNotSet => 0,
         Error::InputFull => 0,
         Error::TooManyInputs => 0,
     }

@@ -4,13 +4,13 @@ ghost use Rattle.io.specs.Counts.{Counts};
 use grammar::limits::MEMO_ENTRIES;
 use grammar::limits::PLACES;
 use grammar::limits::TABLE_WORDS;
+use grammar::limits::TABLE_WORDS_OF_TWO;
 use grammar::limits::TOKENS;
-use grammar::limits::WIDE_TABLE_WORDS;
 use grammar::limits::WORDS;
 use judgement_text::put_judgement;
 use libc::STDOUT_FILENO;
 use recognizer::judge_costliest;
-use recognizer::judge_wide;
+use recognizer::judge_two;
 use report::FILE_BYTES;
 use report::INPUT_BYTES;
 use report::SHEET_ROOM;
@@ -141,7 +141,7 @@ fn judged_by_two(path: &[u8], log: &[u8], table: &mut [u64]) {
         return;
     };
     let mut memo = [0u16; MEMO_ENTRIES];
-    let answer = judge_wide(&words[..count], log, table, &mut memo);
+    let answer = judge_two(&words[..count], log, table, &mut memo);
     let mut text = [0u8; LINE];
     put_judgement(&mut text, answer, 0, 0, &memo);
     write_line(&text);
@@ -149,14 +149,14 @@ fn judged_by_two(path: &[u8], log: &[u8], table: &mut [u64]) {
 
 fn by_two(path: &[u8], log: &[u8]) {
     name(path);
-    let mut table = [0u64; WIDE_TABLE_WORDS];
+    let mut table = [0u64; TABLE_WORDS_OF_TWO];
     judged_by_two(path, log, &mut table);
 }
 
 // One word too few for the table.
 fn by_two_in_too_little(path: &[u8], log: &[u8]) {
     name(path);
-    let mut table = [0u64; WIDE_TABLE_WORDS - 1];
+    let mut table = [0u64; TABLE_WORDS_OF_TWO - 1];
     judged_by_two(path, log, &mut table);
 }
 

@@ -7,9 +7,9 @@ use answer::Answer;
 use answer::Error;
 use families::Finding;
 use grammar::limits::TABLE_WORDS;
-use grammar::limits::WIDE_TABLE_WORDS;
+use grammar::limits::TABLE_WORDS_OF_TWO;
 use lending::lend;
-use lending::lend_wide;
+use lending::lend_two;
 use lookahead::Lookahead;
 use table::find;
 
@@ -36,14 +36,14 @@ pub fn check(words: &[u32], table: &mut [u32]) -> Answer
 }
 
 // The same with two tokens, for grammars of few terminals, with a lent table of 64-bit words.
-pub fn check_wide(words: &[u32], table: &mut [u64]) -> Answer
+pub fn check_two(words: &[u32], table: &mut [u64]) -> Answer
     ensures { λ r. ⌜ Checks Two (now (words .entry)) (now (table .entry)) r (now (table .exit)) ⌝ }
 {
-    if table.len() < WIDE_TABLE_WORDS {
-        return Answer::Refused(Error::WideTableTooShort);
+    if table.len() < TABLE_WORDS_OF_TWO {
+        return Answer::Refused(Error::TableOfTwoTooShort);
     }
     let found = find(words, Lookahead::Two);
-    lend_wide(found, table);
+    lend_two(found, table);
     let finding = found.finding;
     answer(finding)
 }

@@ -9,7 +9,7 @@ use borrow.Author.Tests.{eq-eqb, ne-eqb}
 use Rattle.base.specs.Choice.{choose}
 use Rattle.base.specs.Quantifiers.{allOf}
 use Rattle.base.proofs.Booleans.{and-l}
-use Rattle.grammar.specs.Limits.{maxWideColumns}
+use Rattle.grammar.specs.Limits.{maxColumnsOfTwo}
 use Rattle.lookahead.specs.declared.Lookahead.{Lookahead}
 use Rattle.lookahead.specs.declared.Lookahead.the-variants.{One, Two}
 use Rattle.lookahead.specs.Lookaheads.{tokens, elements, nothing, stringOf}
@@ -27,7 +27,7 @@ pub some-column : (k : Lookahead) (t : ℕ) → 0 < columnCount k t
 some-column One t = omega arith
 some-column Two t = omega arith
 
-pub column-count : (k : Lookahead) (t : ℕ) → t ≤ alphabet k → columnCount k t ≤ maxWideColumns
+pub column-count : (k : Lookahead) (t : ℕ) → t ≤ alphabet k → columnCount k t ≤ maxColumnsOfTwo
 column-count One t few = omega arith
 column-count Two t few = omega arith
 

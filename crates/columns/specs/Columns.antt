@@ -4,7 +4,7 @@ use mathlib.Core.List.{List, [], _∷_}
 use Prim.Native.Nat.{ℕ, suc}
 use lib.Dec.{eqb}
 use Rattle.base.specs.Choice.{choose}
-use Rattle.grammar.specs.Limits.{maxWideColumns}
+use Rattle.grammar.specs.Limits.{maxColumnsOfTwo}
 use Rattle.grammar.specs.Syntax.{Grammar}
 use Rattle.lookahead.specs.declared.Lookahead.{Lookahead}
 use Rattle.lookahead.specs.declared.Lookahead.the-variants.{One, Two}
@@ -14,7 +14,7 @@ use Rattle.semantics.specs.Claims.{column}
 -- how many there are
 abbrev pub columnCount : Lookahead → ℕ → ℕ
 columnCount One terminals = suc terminals
-columnCount Two terminals = maxWideColumns
+columnCount Two terminals = maxColumnsOfTwo
 
 abbrev pub columns : Lookahead → Grammar → ℕ
 columns k G = columnCount k (G .terminals)

@@ -6,8 +6,8 @@ ghost use Rattle.lookahead.specs.declared.Lookahead.the-variants.{One, Two};
 ghost use Rattle.columns.specs.Columns.{columnCount};
 ghost use Rattle.columns.specs.contracts.Columns.{columnElement, columnAt};
 use event::terminal_of;
-use grammar::limits::WIDE_COLUMNS;
-use grammar::limits::WIDE_TERMINALS;
+use grammar::limits::COLUMNS_OF_TWO;
+use grammar::limits::TERMINALS_OF_TWO;
 use lookahead::Lookahead;
 use lookahead::NOTHING;
 
@@ -17,7 +17,7 @@ pub fn count(lookahead: Lookahead, terminals: u32) -> usize
 {
     match lookahead {
         Lookahead::One => terminals as usize + 1,
-        Lookahead::Two => WIDE_COLUMNS,
+        Lookahead::Two => COLUMNS_OF_TWO,
     }
 }
 
@@ -34,7 +34,7 @@ pub fn element(lookahead: Lookahead, terminals: u32, column: u32) -> u32
 // With two tokens of lookahead, the column of terminal 0 where it is the last token, and of terminal 0 twice.
 const LAST: u32 = 1;
 
-const PAIR: u32 = LAST + WIDE_TERMINALS;
+const PAIR: u32 = LAST + TERMINALS_OF_TWO;
 
 // The column of the token at a place, or of the end.
 fn column_of_one(events: &[u8], terminals: u32, place: usize) -> u32
@@ -60,7 +60,7 @@ fn column_of_two(events: &[u8], terminals: u32, place: usize) -> u32
         return LAST + first;
     }
     let next = events[place + 1];
-    PAIR + WIDE_TERMINALS * first + terminal_of(next) as u32
+    PAIR + TERMINALS_OF_TWO * first + terminal_of(next) as u32
 }
 
 // The column of the lookahead string at a place.

@@ -9,7 +9,7 @@ ghost use Rattle.lookahead.specs.Lookaheads.{elements, nothing};
 ghost use Rattle.lookahead.specs.Elements.{has};
 ghost use Rattle.lookahead.specs.contracts.Operations.{Full, Concatenated, behind};
 ghost use Rattle.concatenation.specs.contracts.Computing.{Has, Singles, isLong, begins, noSingle, inRows};
-use grammar::limits::WIDE_TERMINALS;
+use grammar::limits::TERMINALS_OF_TWO;
 use lookahead::Lookahead;
 use lookahead::NOTHING;
 use lookahead::PAIRS;
@@ -48,11 +48,11 @@ fn begins(set: LookaheadSet, terminal: u32) -> bool
     requires { ⌜ terminal < 7 ⌝ }
     ensures { λ r. ⌜ r ≡ begins (set .bits) terminal ⌝ }
 {
-    let pairs = set.bits >> PAIRS + WIDE_TERMINALS * terminal;
+    let pairs = set.bits >> PAIRS + TERMINALS_OF_TWO * terminal;
     if set.contains(1 + terminal) {
         true
     } else {
-        pairs & (1 << WIDE_TERMINALS) - 1 != 0
+        pairs & (1 << TERMINALS_OF_TWO) - 1 != 0
     }
 }
 
@@ -74,7 +74,7 @@ fn firsts(set: LookaheadSet) -> LookaheadSet
 {
     let mut firsts = LookaheadSet::empty();
     let mut terminal = 0u32;
-    while terminal < WIDE_TERMINALS {
+    while terminal < TERMINALS_OF_TWO {
         firsts = first(set, terminal).join(firsts);
         terminal = terminal + 1;
     }
@@ -91,7 +91,7 @@ fn row(set: LookaheadSet, l: u32, other: LookaheadSet, firsts: LookaheadSet) -> 
     if set.contains(alone) {
         let ends = other.bits & 1;
         LookaheadSet {
-            bits: firsts.bits << PAIRS + WIDE_TERMINALS * l | ends << alone,
+            bits: firsts.bits << PAIRS + TERMINALS_OF_TWO * l | ends << alone,
         }
     } else {
         LookaheadSet::empty()
@@ -102,7 +102,7 @@ fn row(set: LookaheadSet, l: u32, other: LookaheadSet, firsts: LookaheadSet) -> 
 fn no_single(set: LookaheadSet) -> bool
     ensures { λ r. ⌜ r ≡ noSingle (set .bits) ⌝ }
 {
-    set.bits >> 1 & (1 << WIDE_TERMINALS) - 1 == 0
+    set.bits >> 1 & (1 << TERMINALS_OF_TWO) - 1 == 0
 }
 
 // With two tokens, what is looked at where a terminal alone is followed by a string of other.
@@ -115,7 +115,7 @@ fn rows(set: LookaheadSet, other: LookaheadSet) -> LookaheadSet
     let firsts = firsts(other);
     let mut rows = LookaheadSet::empty();
     let mut l = 0u32;
-    while l < WIDE_TERMINALS {
+    while l < TERMINALS_OF_TWO {
         rows = row(set, l, other, firsts).join(rows);
         l = l + 1;
     }

@@ -10,7 +10,7 @@ use lib.ListN.{length, getD, set, replicate, length-set, length-replicate}
 use lib.Seq.{getD-set-same, getD-set-other}
 use borrow.Author.Tests.{lt-ltb, le-ltb, ne-eqb}
 use Rattle.base.specs.Choice.{choose}
-use Rattle.grammar.specs.Limits.{maxNonterminals, maxWideColumns, maxTokens, maxMemoEntries}
+use Rattle.grammar.specs.Limits.{maxNonterminals, maxColumnsOfTwo, maxTokens, maxMemoEntries}
 use Rattle.grammar.specs.contracts.Limits.{maxEntries}
 use Rattle.base.proofs.Lists.{listed-long, listed-at, getD-zeros}
 use Rattle.descent_arrays.specs.contracts.Arrays.{choiceColumns, rowColumn, endColumn, choiceWords, rowAt, endAt}
@@ -75,7 +75,7 @@ writing-more {starts} {entries} {from} {to} {columns} {column} {before} {now} {v
 module _ {starts : List ℕ} {columns : ℕ} {entries : List ℕ} {tokens A : ℕ} {choices : List ℕ} (g : RowGiven starts columns entries tokens A choices) where
   pub placed : Placed columns tokens A
   placed =
-      let f = mul-le-mul {n₁ = suc A} {m₁ = columns} {n₂ = maxNonterminals} {m₂ = maxWideColumns} (omega (arith, g .named)) (g .fewColumns) in
+      let f = mul-le-mul {n₁ = suc A} {m₁ = columns} {n₂ = maxNonterminals} {m₂ = maxColumnsOfTwo} (omega (arith, g .named)) (g .fewColumns) in
       let p = mul-le-mul {n₁ = suc A} {m₁ = tokens + 1} {n₂ = maxNonterminals} {m₂ = maxTokens + 1} (omega (arith, g .named)) (omega (arith, g .short)) in
       record {
         from = omega (arith, suc-mul A columns);
@@ -164,7 +164,7 @@ module _ {starts : List ℕ} {columns : ℕ} {entries : List ℕ} {tokens A : �
 
 -- the rows of all nonterminals
 pub rows-all : (starts : List ℕ) (nonterminals columns : ℕ) (entries : List ℕ) (tokens : ℕ) {rows wide long : ℕ} {choices : List ℕ}
-    → rows ≡ min nonterminals maxNonterminals → wide ≡ min columns maxWideColumns → long ≡ min tokens maxTokens
+    → rows ≡ min nonterminals maxNonterminals → wide ≡ min columns maxColumnsOfTwo → long ≡ min tokens maxTokens
     → choices ≡ choiceRows starts wide entries long rows → choices ≡ choicesOf starts nonterminals columns entries tokens
 unfolding choicesOf
 rows-all starts nonterminals columns entries tokens r w l e = e ∙ rw (r, w, l)
@@ -175,13 +175,13 @@ pub record Filled (starts : List ℕ) (nonterminals columns : ℕ) (entries : Li
   pub rows : (A : ℕ) → A < nonterminals → rowAt choices A ≡ A * (tokens + 1)
   pub ends : (A : ℕ) → A < nonterminals → endAt choices A ≡ tokens
 
-module _ (starts : List ℕ) {nonterminals columns : ℕ} (entries : List ℕ) {tokens : ℕ} (n : nonterminals ≤ maxNonterminals) (m : columns ≤ maxWideColumns)
+module _ (starts : List ℕ) {nonterminals columns : ℕ} (entries : List ℕ) {tokens : ℕ} (n : nonterminals ≤ maxNonterminals) (m : columns ≤ maxColumnsOfTwo)
     (t : tokens ≤ maxTokens) where
   same : choicesOf starts nonterminals columns entries tokens ≡ choiceRows starts columns entries tokens nonterminals
   unfolding choicesOf
   same =
       let a : min nonterminals maxNonterminals ≡ nonterminals = omega arith in
-      let b : min columns maxWideColumns ≡ columns = omega arith in
+      let b : min columns maxColumnsOfTwo ≡ columns = omega arith in
       let c : min tokens maxTokens ≡ tokens = omega arith in
       rw (a, b, c)
 

@@ -7,11 +7,11 @@ use super::arrays::CHOICES;
 use super::arrays::END_COLUMN;
 use super::arrays::ROW_COLUMN;
 use super::arrays::fitting;
+use grammar::limits::COLUMNS_OF_TWO;
 use grammar::limits::ENTRIES;
 use grammar::limits::NONTERMINALS;
 use grammar::limits::RULES;
 use grammar::limits::TOKENS;
-use grammar::limits::WIDE_COLUMNS;
 use grammar::limits::WORDS;
 
 // Where the first conjunct of a rule stands, or 0 for a number that no rule has.
@@ -59,7 +59,7 @@ pub fn choices_of(
     ensures { λ r. ⌜ r ≡ choicesOf (now (starts .entry)) nonterminals columns (now (entries .entry)) tokens ⌝ }
 {
     let rows = fitting(nonterminals, NONTERMINALS as usize);
-    let wide = fitting(columns, WIDE_COLUMNS);
+    let wide = fitting(columns, COLUMNS_OF_TWO);
     let long = fitting(tokens, TOKENS);
     let mut choices = [0u16; CHOICES];
     let mut nonterminal = 0;

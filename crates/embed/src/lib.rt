@@ -7,11 +7,11 @@ use packing::pack;
 use recognizer::judge;
 use tabular::judge as judge_plain;
 
-mod kept;
-mod searched;
-mod served;
-mod shown;
-mod wide;
+mod client;
+mod costliest;
+mod kept_log;
+mod parse_tree;
+mod two;
 
 #[no_mangle]
 pub extern "C" fn vinegarspit_check(card: &[u32], table: &mut [u32]) -> u64

@@ -10,9 +10,9 @@ use native.Mathlib.Omega.{arith}
 use lib.ListN.{length}
 use Rattle.answer.specs.declared.Error.{Error}
 use Rattle.answer.specs.declared.Error.the-variants.{TableTooShort, MemoTooShort, Length, Heading, UnexpectedWord, OutOfRange, TooManyRules, LeftRecursive}
-use Rattle.answer.specs.declared.Error.the-variants.{Unproductive, Conflict, WideConflict, InputTooLong, UnknownToken}
-use Rattle.answer.specs.declared.Error.the-variants.{SpansTooShort, TreeTooShort, WideTableTooShort, BufferTooShort, UnknownClient, QuotaReached}
-use Rattle.answer.specs.declared.Error.the-variants.{TooManyTerminals, UnknownCheckpoint, CheckpointNotSet, InputFull, TooManyInputs}
+use Rattle.answer.specs.declared.Error.the-variants.{Unproductive, Conflict, ConflictOfTwo, InputTooLong, UnknownToken}
+use Rattle.answer.specs.declared.Error.the-variants.{SpansTooShort, TreeTooShort, TableOfTwoTooShort, BufferTooShort, UnknownClient, QuotaReached}
+use Rattle.answer.specs.declared.Error.the-variants.{TooManyTerminals, UnknownMark, MarkNotSet, InputFull, TooManyInputs}
 use Rattle.answer.specs.declared.Calls.{Calls}
 use Rattle.answer.specs.declared.Answer.{Answer}
 use Rattle.answer.specs.declared.Answer.the-variants.{Refused, Passed, Rejected, Accepted}
@@ -62,18 +62,18 @@ code-low (TooManyRules at) = omega arith
 code-low (LeftRecursive A) = omega arith
 code-low (Unproductive A) = omega arith
 code-low (Conflict A c) = omega arith
-code-low (WideConflict A c) = omega arith
+code-low (ConflictOfTwo A c) = omega arith
 code-low InputTooLong = omega arith
 code-low (UnknownToken at) = omega arith
 code-low SpansTooShort = omega arith
 code-low TreeTooShort = omega arith
-code-low WideTableTooShort = omega arith
+code-low TableOfTwoTooShort = omega arith
 code-low BufferTooShort = omega arith
 code-low UnknownClient = omega arith
 code-low QuotaReached = omega arith
 code-low TooManyTerminals = omega arith
-code-low UnknownCheckpoint = omega arith
-code-low CheckpointNotSet = omega arith
+code-low UnknownMark = omega arith
+code-low MarkNotSet = omega arith
 code-low InputFull = omega arith
 code-low TooManyInputs = omega arith
 

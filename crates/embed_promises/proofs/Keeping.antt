@@ -9,7 +9,7 @@ use lib.ListN.{length, getD}
 use Rattle.answer.specs.declared.Answer.{Answer}
 use Rattle.answer.specs.declared.Answer.the-variants.{Refused, Passed}
 use Rattle.answer.specs.declared.Error.{Error}
-use Rattle.answer.specs.declared.Error.the-variants.{UnknownCheckpoint, CheckpointNotSet, InputFull}
+use Rattle.answer.specs.declared.Error.the-variants.{UnknownMark, MarkNotSet, InputFull}
 use Rattle.answer.specs.Numbers.{numbers}
 use Rattle.answer.specs.Faults.{refusedOr}
 use Rattle.answer.proofs.Apart.{refused-ne-passed}
@@ -20,7 +20,7 @@ use Rattle.kept_input.specs.declared.Progress.{Progress}
 use Rattle.kept_input.specs.declared.KeptInput.{KeptInput}
 use Rattle.kept_input.specs.declared.Moved.{Moved}
 use Rattle.kept_input.specs.declared.Changed.{Changed}
-use Rattle.kept_input.specs.Histories.{checkpointCount, Kept, Step, Add, Mark, Return, notSet, stepFault, unlessRefused}
+use Rattle.kept_input.specs.Histories.{markCount, Kept, Step, Add, Mark, Return, notSet, stepFault, unlessRefused}
 use Rattle.kept_input.specs.Stored.{keptInput, held, valuesOf}
 use Rattle.kept_input.specs.Properties.{Steps, Moves, JudgesKept}
 use Rattle.kept_input.proofs.Lists.{elements}
@@ -36,12 +36,12 @@ use Rattle.embed_promises.proofs.Packed.{packs}
 step-low : (t : Step) (s : Kept) → OfFault Low (stepFault t s)
 unfolding stepFault
 step-low (Add event) s = first-each Low (_ ∷ []) (of-if Low (leb maxTokens (length (s .events))) InputFull (omega arith), λ _. tt)
-step-low (Mark m) s = first-each Low (_ ∷ []) (of-if Low (leb checkpointCount m) UnknownCheckpoint (omega arith), λ _. tt)
+step-low (Mark m) s = first-each Low (_ ∷ []) (of-if Low (leb markCount m) UnknownMark (omega arith), λ _. tt)
 step-low (Return m) s =
-    first-each Low (_ ∷ _ ∷ []) (of-if Low (leb checkpointCount m) UnknownCheckpoint (omega arith), λ _. (unset (s .checkpoints m), λ _. tt))
+    first-each Low (_ ∷ _ ∷ []) (of-if Low (leb markCount m) UnknownMark (omega arith), λ _. (unset (s .marks m), λ _. tt))
   where
     unset : (o : Option ℕ) → OfFault Low (notSet o)
-    unset none = of-some Low CheckpointNotSet (omega arith)
+    unset none = of-some Low MarkNotSet (omega arith)
     unset (some n) = of-none Low
 
 step-fits : {t : Step} {k : KeptInput} {c : Changed} → Steps t k c → NumbersFit (numbers (c .answer))
@@ -51,20 +51,20 @@ step-fits {t} {k} s = fits-by (stepFault t (held k)) Passed (s .leaves .answer) 
 listed : (l : List ℕ) (n : ℕ) → length l ≡ n → valuesOf (λ m. getD l m 0) n ≡ l
 listed l n e = rw (← e) (elements l)
 
-pub eight-listed : (l : List ℕ) → length l ≡ checkpointCount
+pub eight-listed : (l : List ℕ) → length l ≡ markCount
     → getD l 0 0 ∷ getD l 1 0 ∷ getD l 2 0 ∷ getD l 3 0 ∷ getD l 4 0 ∷ getD l 5 0 ∷ getD l 6 0 ∷ getD l 7 0 ∷ [] ≡ l
 unfolding valuesOf
-eight-listed l e = listed l checkpointCount e
+eight-listed l e = listed l markCount e
 
 pub state-read : (l : List ℕ) → length l ≡ 9
     → StateRead l (record {
       length = getD l 0 0;
-      checkpoints = getD l 1 0 ∷ getD l 2 0 ∷ getD l 3 0 ∷ getD l 4 0 ∷ getD l 5 0 ∷ getD l 6 0 ∷ getD l 7 0 ∷ getD l 8 0 ∷ [];
+      marks = getD l 1 0 ∷ getD l 2 0 ∷ getD l 3 0 ∷ getD l 4 0 ∷ getD l 5 0 ∷ getD l 6 0 ∷ getD l 7 0 ∷ getD l 8 0 ∷ [];
     })
 state-read [] e = absurd (omega arith)
 state-read (x ∷ l) e =
     let all = eight-listed l (omega arith) in
-    record { read = ap (λ (c : List ℕ). record { length = x; checkpoints = c }) all; whole = ap (λ (c : List ℕ). x ∷ c) all }
+    record { read = ap (λ (c : List ℕ). record { length = x; marks = c }) all; whole = ap (λ (c : List ℕ). x ∷ c) all }
 
 -- a refused step hands back what it was given
 refused-kept : {t : Step} {k : KeptInput} {c : Changed} → Steps t k c → (e : Error) → c .answer ≡ Refused e → c .kept ≡ k

@@ -9,8 +9,8 @@ use Rattle.answer.specs.Numbers.{numbers}
 use Rattle.lookahead.specs.declared.Lookahead.{Lookahead}
 use Rattle.event.specs.Events.{inputOf}
 use Rattle.kept_input.specs.declared.KeptInput.{KeptInput}
-use Rattle.kept_input.specs.Histories.{checkpointCount, empty, Step, ran}
-use Rattle.kept_input.specs.Stored.{unsetCode, keptInput, readCheckpoint, held, valuesOf, progressOf, stored}
+use Rattle.kept_input.specs.Histories.{markCount, empty, Step, ran}
+use Rattle.kept_input.specs.Stored.{unsetCode, keptInput, readMark, held, valuesOf, progressOf, stored}
 use Rattle.kept_input.proofs.Storing.{held-stored}
 use Rattle.kept_input.proofs.Soundness.{empty-sound}
 use Rattle.embed_promises.specs.Packing.{packed}
@@ -26,9 +26,9 @@ zero-held : (events : List ℕ) → heldIn events zeroState .events ≡ []
 unfolding held
 zero-held events = refl
 
-zero-checkpoints : (events : List ℕ) (m : ℕ) → m < checkpointCount → heldIn events zeroState .checkpoints m ≡ some 0
+zero-marks : (events : List ℕ) (m : ℕ) → m < markCount → heldIn events zeroState .marks m ≡ some 0
 unfolding held
-zero-checkpoints events m h = ap (readCheckpoint 0) (getD-replicate checkpointCount m 0 unsetCode h)
+zero-marks events m h = ap (readMark 0) (getD-replicate markCount m 0 unsetCode h)
 
 -- what a call leaves in the caller's memory is what the library's step hands back
 call-holds : {t : Step} {events state events′ state′ : List ℕ} {r : ℕ} → (s : StepExported t events state r events′ state′)
@@ -52,4 +52,4 @@ calls-judged {events = events} {l = l} calls kept judged =
     (kept .exported .packs .number ∙ ap (λ (a : Answer). packed (numbers a)) (same .0) ∙ sym (judged .packs .number), same .1, same .2)
 
 pub histories-exported : HistoriesExported
-histories-exported = record { begins = empty-held; zeroed = zero-held; zero-set = zero-checkpoints; holds = calls-hold; judged = calls-judged }
+histories-exported = record { begins = empty-held; zeroed = zero-held; zero-set = zero-marks; holds = calls-hold; judged = calls-judged }

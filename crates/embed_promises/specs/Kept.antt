@@ -16,12 +16,12 @@ use Rattle.kept_input.specs.Properties.{Steps, JudgesKept}
 use Rattle.embed_promises.specs.Packing.{Packs}
 use Rattle.embed_promises.specs.Exports.{Exported}
 
--- the length, then the checkpoints
+-- the length, then the marks
 abbrev pub stateOf : Progress → List ℕ
-stateOf p = p .length ∷ p .checkpoints
+stateOf p = p .length ∷ p .marks
 
 abbrev pub progressIn : List ℕ → Progress
-progressIn l = record { length = getD l 0 0; checkpoints = drop 1 l }
+progressIn l = record { length = getD l 0 0; marks = drop 1 l }
 
 -- a step on these events and this state
 pub record StepExported (t : Step) (events state : List ℕ) (r : ℕ) (events′ state′ : List ℕ) : Type 0 where

@@ -23,12 +23,12 @@ abbrev pub maxColumns : ℕ
 maxColumns = maxTerminals + 1
 
 -- with two tokens of lookahead a grammar has fewer terminals
-abbrev pub maxWideTerminals : ℕ
-maxWideTerminals = 7
+abbrev pub maxTerminalsOfTwo : ℕ
+maxTerminalsOfTwo = 7
 
 -- and a row has a column for the end, one for each last terminal and one for each two terminals
-abbrev pub maxWideColumns : ℕ
-maxWideColumns = 1 + maxWideTerminals + maxWideTerminals * maxWideTerminals
+abbrev pub maxColumnsOfTwo : ℕ
+maxColumnsOfTwo = 1 + maxTerminalsOfTwo + maxTerminalsOfTwo * maxTerminalsOfTwo
 
 -- an input has a place before each token and one at its end
 abbrev pub maxPlaces : ℕ
@@ -39,8 +39,8 @@ abbrev pub maxTableWords : ℕ
 maxTableWords = maxNonterminals * (2 + maxColumns)
 
 -- and with two tokens of lookahead
-abbrev pub maxWideTableWords : ℕ
-maxWideTableWords = maxNonterminals * (2 + maxWideColumns)
+abbrev pub maxTableWordsOfTwo : ℕ
+maxTableWordsOfTwo = maxNonterminals * (2 + maxColumnsOfTwo)
 
 -- the lent memo table holds an entry for each nonterminal and place
 abbrev pub maxMemoEntries : ℕ

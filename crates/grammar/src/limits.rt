@@ -16,15 +16,15 @@ pub const TOKENS: usize = 412;
 pub const COLUMNS: usize = TERMINALS as usize + 1;
 
 // With two tokens of lookahead a grammar has fewer terminals.
-pub const WIDE_TERMINALS: u32 = 7;
+pub const TERMINALS_OF_TWO: u32 = 7;
 
 // Then a row has a column for the end, one for each last terminal and one for each two terminals.
-pub const WIDE_COLUMNS: usize = 1
-    + (WIDE_TERMINALS as usize)
-    + (WIDE_TERMINALS as usize) * (WIDE_TERMINALS as usize);
+pub const COLUMNS_OF_TWO: usize = 1
+    + (TERMINALS_OF_TWO as usize)
+    + (TERMINALS_OF_TWO as usize) * (TERMINALS_OF_TWO as usize);
 
 // The entries of all rows, whichever the lookahead.
-pub const ENTRIES: usize = (NONTERMINALS as usize) * WIDE_COLUMNS;
+pub const ENTRIES: usize = (NONTERMINALS as usize) * COLUMNS_OF_TWO;
 
 // An input has a place before each token and one at its end.
 pub const PLACES: usize = TOKENS + 1;
@@ -33,7 +33,7 @@ pub const PLACES: usize = TOKENS + 1;
 pub const TABLE_WORDS: usize = (NONTERMINALS as usize) * (2 + COLUMNS);
 
 // The same with two tokens of lookahead.
-pub const WIDE_TABLE_WORDS: usize = (NONTERMINALS as usize) * (2 + WIDE_COLUMNS);
+pub const TABLE_WORDS_OF_TWO: usize = (NONTERMINALS as usize) * (2 + COLUMNS_OF_TWO);
 
 // An entry for each nonterminal and place.
 pub const MEMO_ENTRIES: usize = (NONTERMINALS as usize) * PLACES;
@@ -54,12 +54,12 @@ pub struct Limits {
     pub rules: usize,
     pub tokens: usize,
     pub columns: usize,
-    pub wide_terminals: u32,
-    pub wide_columns: usize,
+    pub terminals_of_two: u32,
+    pub columns_of_two: usize,
     pub entries: usize,
     pub places: usize,
     pub table_words: usize,
-    pub wide_table_words: usize,
+    pub table_words_of_two: usize,
     pub memo_entries: usize,
     pub tabular_tokens: usize,
     pub tabular_places: usize,
@@ -77,12 +77,12 @@ pub fn all() -> Limits
         rules: RULES,
         tokens: TOKENS,
         columns: COLUMNS,
-        wide_terminals: WIDE_TERMINALS,
-        wide_columns: WIDE_COLUMNS,
+        terminals_of_two: TERMINALS_OF_TWO,
+        columns_of_two: COLUMNS_OF_TWO,
         entries: ENTRIES,
         places: PLACES,
         table_words: TABLE_WORDS,
-        wide_table_words: WIDE_TABLE_WORDS,
+        table_words_of_two: TABLE_WORDS_OF_TWO,
         memo_entries: MEMO_ENTRIES,
         tabular_tokens: TABULAR_TOKENS,
         tabular_places: TABULAR_PLACES,

@@ -10,9 +10,9 @@ use lib.Dec.{eqb}
 use lib.ListN.{length, take}
 use borrow.Author.Tests.{le-leb, lt-leb, eq-eqb, ne-eqb}
 use Rattle.answer.specs.declared.Error.{Error}
-use Rattle.answer.specs.declared.Error.the-variants.{UnknownCheckpoint, CheckpointNotSet, InputFull}
+use Rattle.answer.specs.declared.Error.the-variants.{UnknownMark, MarkNotSet, InputFull}
 use Rattle.grammar.specs.Limits.{maxTokens}
-use Rattle.kept_input.specs.Histories.{checkpointCount, Kept, Step, Add, Mark, Return, stepFault, within, cutAt, done, unlessRefused, after, ran}
+use Rattle.kept_input.specs.Histories.{markCount, Kept, Step, Add, Mark, Return, stepFault, within, cutAt, done, unlessRefused, after, ran}
 use Rattle.kept_input.specs.Runs.{Sentences}
 use Rattle.kept_input.proofs.Soundness.{within-none}
 
@@ -29,83 +29,83 @@ module _ (s : Kept) where
   unfolding stepFault
   full event h = rw (le-leb maxTokens (length (s .events)) h)
 
-  no-mark : (m : ℕ) → checkpointCount ≤ m → stepFault (Mark m) s ≡ some UnknownCheckpoint
+  no-mark : (m : ℕ) → markCount ≤ m → stepFault (Mark m) s ≡ some UnknownMark
   unfolding stepFault
-  no-mark m h = rw (le-leb checkpointCount m h)
+  no-mark m h = rw (le-leb markCount m h)
 
-  no-return : (m : ℕ) → checkpointCount ≤ m → stepFault (Return m) s ≡ some UnknownCheckpoint
+  no-return : (m : ℕ) → markCount ≤ m → stepFault (Return m) s ≡ some UnknownMark
   unfolding stepFault
-  no-return m h = rw (le-leb checkpointCount m h)
+  no-return m h = rw (le-leb markCount m h)
 
-  not-set : (m : ℕ) → m < checkpointCount → s .checkpoints m ≡ none → stepFault (Return m) s ≡ some CheckpointNotSet
+  not-set : (m : ℕ) → m < markCount → s .marks m ≡ none → stepFault (Return m) s ≡ some MarkNotSet
   unfolding stepFault
-  not-set m h e = rw (lt-leb checkpointCount m h, e)
+  not-set m h e = rw (lt-leb markCount m h, e)
 
-  grows : (event : ℕ) → length (s .events) < maxTokens → after (Add event) s ≡ record { events = s .events ++ event ∷ []; checkpoints = s .checkpoints }
+  grows : (event : ℕ) → length (s .events) < maxTokens → after (Add event) s ≡ record { events = s .events ++ event ∷ []; marks = s .marks }
   unfolding stepFault done
   grows event h = passes (Add event) s (rw (lt-leb maxTokens (length (s .events)) h))
 
-  known : (m : ℕ) → m < checkpointCount → after (Mark m) s ≡ done (Mark m) s
+  known : (m : ℕ) → m < markCount → after (Mark m) s ≡ done (Mark m) s
   unfolding stepFault
-  known m h = passes (Mark m) s (rw (lt-leb checkpointCount m h))
+  known m h = passes (Mark m) s (rw (lt-leb markCount m h))
 
-  marks : (m : ℕ) → m < checkpointCount → after (Mark m) s .checkpoints m ≡ some (length (s .events))
+  marks : (m : ℕ) → m < markCount → after (Mark m) s .marks m ≡ some (length (s .events))
   unfolding done
   marks m h = rw (known m h, eq-eqb m m refl)
 
-  others : (m k : ℕ) → (k ≡ m → ⊥) → after (Mark m) s .checkpoints k ≡ s .checkpoints k
+  others : (m k : ℕ) → (k ≡ m → ⊥) → after (Mark m) s .marks k ≡ s .marks k
   unfolding done
-  others m k ne = go (decLt m checkpointCount)
+  others m k ne = go (decLt m markCount)
     where
-      go : Dec (m < checkpointCount) → after (Mark m) s .checkpoints k ≡ s .checkpoints k
+      go : Dec (m < markCount) → after (Mark m) s .marks k ≡ s .marks k
       go (yes h) = rw (known m h, ne-eqb k m ne)
-      go (no h) = rw (refused (Mark m) s UnknownCheckpoint (no-mark m (omega (arith, h))))
+      go (no h) = rw (refused (Mark m) s UnknownMark (no-mark m (omega (arith, h))))
 
   unread : (m : ℕ) → after (Mark m) s .events ≡ s .events
   unfolding done
-  unread m = go (decLt m checkpointCount)
+  unread m = go (decLt m markCount)
     where
-      go : Dec (m < checkpointCount) → after (Mark m) s .events ≡ s .events
+      go : Dec (m < markCount) → after (Mark m) s .events ≡ s .events
       go (yes h) = rw (known m h)
-      go (no h) = rw (refused (Mark m) s UnknownCheckpoint (no-mark m (omega (arith, h))))
+      go (no h) = rw (refused (Mark m) s UnknownMark (no-mark m (omega (arith, h))))
 
-  module _ (m n : ℕ) (h : m < checkpointCount) (e : s .checkpoints m ≡ some n) where
+  module _ (m n : ℕ) (h : m < markCount) (e : s .marks m ≡ some n) where
     returned : after (Return m) s ≡ cutAt (some n) s
     unfolding stepFault done
-    returned = passes (Return m) s (rw (lt-leb checkpointCount m h, e)) ∙ ap (λ (o : Option ℕ). cutAt o s) e
+    returned = passes (Return m) s (rw (lt-leb markCount m h, e)) ∙ ap (λ (o : Option ℕ). cutAt o s) e
 
     cuts : after (Return m) s .events ≡ take n (s .events)
     cuts = ap (λ (k : Kept). k .events) returned
 
-    kept-within : (k : ℕ) → after (Return m) s .checkpoints k ≡ within n (s .checkpoints k)
-    kept-within k = ap (λ (r : Kept). r .checkpoints k) returned
+    kept-within : (k : ℕ) → after (Return m) s .marks k ≡ within n (s .marks k)
+    kept-within k = ap (λ (r : Kept). r .marks k) returned
 
-    stay : (k j : ℕ) → s .checkpoints k ≡ some j → j ≤ n → after (Return m) s .checkpoints k ≡ some j
+    stay : (k j : ℕ) → s .marks k ≡ some j → j ≤ n → after (Return m) s .marks k ≡ some j
     stay k j q l = kept-within k ∙ rw (q, le-leb j n l)
 
-    clears : (k j : ℕ) → s .checkpoints k ≡ some j → n < j → after (Return m) s .checkpoints k ≡ none
+    clears : (k j : ℕ) → s .marks k ≡ some j → n < j → after (Return m) s .marks k ≡ none
     clears k j q l = kept-within k ∙ rw (q, lt-leb j n l)
 
 -- what is not set stays so but for its marking
-done-unset : (t : Step) (s : Kept) (k : ℕ) → (t ≡ Mark k → ⊥) → s .checkpoints k ≡ none → done t s .checkpoints k ≡ none
+done-unset : (t : Step) (s : Kept) (k : ℕ) → (t ≡ Mark k → ⊥) → s .marks k ≡ none → done t s .marks k ≡ none
 unfolding done
 done-unset (Add event) s k ne e = e
 done-unset (Mark m) s k ne e = let z : eqb k m ≡ false = ne-eqb k m (λ q. ne (ap Mark (sym q))) in rw z e
-done-unset (Return m) s k ne e = go (s .checkpoints m)
+done-unset (Return m) s k ne e = go (s .marks m)
   where
-    go : (o : Option ℕ) → cutAt o s .checkpoints k ≡ none
+    go : (o : Option ℕ) → cutAt o s .marks k ≡ none
     go none = e
-    go (some n) = within-none n (s .checkpoints k) e
+    go (some n) = within-none n (s .marks k) e
 
-after-unset : (t : Step) (s : Kept) (k : ℕ) → (t ≡ Mark k → ⊥) → s .checkpoints k ≡ none → after t s .checkpoints k ≡ none
+after-unset : (t : Step) (s : Kept) (k : ℕ) → (t ≡ Mark k → ⊥) → s .marks k ≡ none → after t s .marks k ≡ none
 unfolding after
 after-unset t s k ne e = go (stepFault t s)
   where
-    go : (f : Option Error) → unlessRefused f (done t s) s .checkpoints k ≡ none
+    go : (f : Option Error) → unlessRefused f (done t s) s .marks k ≡ none
     go none = done-unset t s k ne e
     go (some x) = e
 
-unset : (s : Kept) (k : ℕ) (l : List Step) → (List·Memᴰ (Mark k) l → ⊥) → s .checkpoints k ≡ none → ran l s .checkpoints k ≡ none
+unset : (s : Kept) (k : ℕ) (l : List Step) → (List·Memᴰ (Mark k) l → ⊥) → s .marks k ≡ none → ran l s .marks k ≡ none
 unfolding ran
 unset s k [] ne e = e
 unset s k (t ∷ l) ne e = unset (after t s) k l (λ m. ne (List·Memᴰ·tail m)) (after-unset t s k (λ q. ne (List·Memᴰ·head (sym q))) e)

@@ -1,4 +1,4 @@
--- Steps keep events and checkpoints fitting together, and what any value holds does fit.
+-- Steps keep events and marks fitting together, and what any value holds does fit.
 use mathlib.Core.Path.{_≡_, refl}
 use mathlib.Core.Bool.{Bool, true, false}
 use mathlib.Core.List.{List, [], _∷_, _++_}
@@ -10,13 +10,13 @@ use lib.ListN.{length, getD, take, length-append, List·getD-eq-default}
 use lib.Seq.{length-take-le}
 use borrow.Author.Tests.{leb-true, leb-false, eqb-true}
 use Rattle.answer.specs.declared.Error.{Error}
-use Rattle.answer.specs.declared.Error.the-variants.{UnknownCheckpoint, InputFull}
+use Rattle.answer.specs.declared.Error.the-variants.{UnknownMark, InputFull}
 use Rattle.answer.proofs.Faults.{fault-none, each-none}
 use Rattle.base.specs.Choice.{choose}
 use Rattle.grammar.specs.Limits.{maxTokens}
 use Rattle.kept_input.specs.declared.Progress.{Progress}
-use Rattle.kept_input.specs.Histories.{checkpointCount, Kept, empty, Step, Add, Mark, Return, stepFault, within, cutAt, done, unlessRefused, after, ran}
-use Rattle.kept_input.specs.Stored.{unsetCode, keptInput, readLength, readCheckpoint, held}
+use Rattle.kept_input.specs.Histories.{markCount, Kept, empty, Step, Add, Mark, Return, stepFault, within, cutAt, done, unlessRefused, after, ran}
+use Rattle.kept_input.specs.Stored.{unsetCode, keptInput, readLength, readMark, held}
 use Rattle.kept_input.specs.Runs.{Sound}
 use Rattle.kept_input.proofs.Storing.{read-unset}
 
@@ -26,7 +26,7 @@ some-same e = cc
 none-set : {n : ℕ} → none ≡ some n → ⊥
 none-set e = let z : _≡_ {A = ℕ} 0 1 = cc in absurd (omega arith)
 
--- a checkpoint that is within a length, and one that is read
+-- a mark that is within a length, and one that is read
 within-short : (n k : ℕ) (o : Option ℕ) → within n o ≡ some k → k ≤ n
 within-short n k none e = absurd (none-set e)
 within-short n k (some j) e = go (leb j n) refl e
@@ -35,50 +35,50 @@ within-short n k (some j) e = go (leb j n) refl e
     go true l q = omega (arith, leb-true j n l, some-same q)
     go false l q = absurd (none-set q)
 
-read-short : (n k x : ℕ) → readCheckpoint n x ≡ some k → k ≤ n
+read-short : (n k x : ℕ) → readMark n x ≡ some k → k ≤ n
 read-short n k x e = within-short n k (some x) e
 
 pub within-none : (n : ℕ) (o : Option ℕ) → o ≡ none → within n o ≡ none
 within-none n o e = rw e
 
 module _ (s : Kept) (h : Sound s) where
-  added : (event : ℕ) → length (s .events) < maxTokens → Sound (record { events = s .events ++ event ∷ []; checkpoints = s .checkpoints })
+  added : (event : ℕ) → length (s .events) < maxTokens → Sound (record { events = s .events ++ event ∷ []; marks = s .marks })
   added event l =
       let longer : length (s .events ++ event ∷ []) ≡ length (s .events) + 1 = length-append (s .events) (event ∷ []) in
       record { short = omega (arith, longer); inside = λ m n e. omega (arith, longer, h .inside m n e); eight = h .eight }
 
-  marked : (m : ℕ) → m < checkpointCount
-      → Sound (record { events = s .events; checkpoints = λ k. choose (eqb k m) (some (length (s .events))) (s .checkpoints k) })
+  marked : (m : ℕ) → m < markCount
+      → Sound (record { events = s .events; marks = λ k. choose (eqb k m) (some (length (s .events))) (s .marks k) })
   marked m l = record {
     short = h .short;
     inside = λ k n e. inside k n (eqb k m) e;
     eight = λ k a. eight k a (eqb k m) refl;
   }
     where
-      inside : (k n : ℕ) (b : Bool) → choose b (some (length (s .events))) (s .checkpoints k) ≡ some n → n ≤ length (s .events)
+      inside : (k n : ℕ) (b : Bool) → choose b (some (length (s .events))) (s .marks k) ≡ some n → n ≤ length (s .events)
       inside k n true e = omega (arith, some-same e)
       inside k n false e = h .inside k n e
 
-      eight : (k : ℕ) → checkpointCount ≤ k → (b : Bool) → eqb k m ≡ b → choose b (some (length (s .events))) (s .checkpoints k) ≡ none
+      eight : (k : ℕ) → markCount ≤ k → (b : Bool) → eqb k m ≡ b → choose b (some (length (s .events))) (s .marks k) ≡ none
       eight k a true e = absurd (omega (arith, eqb-true k m e))
       eight k a false e = h .eight k a
 
-  cut : (n : ℕ) → n ≤ length (s .events) → Sound (record { events = take n (s .events); checkpoints = λ k. within n (s .checkpoints k) })
+  cut : (n : ℕ) → n ≤ length (s .events) → Sound (record { events = take n (s .events); marks = λ k. within n (s .marks k) })
   cut n l =
       let shorter : length (take n (s .events)) ≡ n = length-take-le n (s .events) l in
       record {
         short = omega (arith, shorter, h .short);
-        inside = λ m k e. omega (arith, shorter, within-short n k (s .checkpoints m) e);
-        eight = λ m a. within-none n (s .checkpoints m) (h .eight m a);
+        inside = λ m k e. omega (arith, shorter, within-short n k (s .marks m) e);
+        eight = λ m a. within-none n (s .marks m) (h .eight m a);
       }
 
   pub done-sound : (t : Step) → stepFault t s ≡ none → Sound (done t s)
   unfolding stepFault done
   done-sound (Add event) e = added event (omega (arith, leb-false maxTokens (length (s .events)) (fault-none _ InputFull (each-none (_ ∷ []) e .0))))
-  done-sound (Mark m) e = marked m (omega (arith, leb-false checkpointCount m (fault-none _ UnknownCheckpoint (each-none (_ ∷ []) e .0))))
-  done-sound (Return m) e = go (s .checkpoints m) refl
+  done-sound (Mark m) e = marked m (omega (arith, leb-false markCount m (fault-none _ UnknownMark (each-none (_ ∷ []) e .0))))
+  done-sound (Return m) e = go (s .marks m) refl
     where
-      go : (o : Option ℕ) → s .checkpoints m ≡ o → Sound (cutAt o s)
+      go : (o : Option ℕ) → s .marks m ≡ o → Sound (cutAt o s)
       go none q = h
       go (some n) q = cut n (h .inside m n q)
 
@@ -98,8 +98,8 @@ unfolding ran
 ran-sound [] s h = h
 ran-sound (t ∷ l) s h = ran-sound l (after t s) (after-sound s h t)
 
--- what an array of events and eight checkpoints hold
-module _ (events : List ℕ) (p : Progress) (whole : length events ≡ maxTokens) (eight : length (p .checkpoints) ≡ checkpointCount) where
+-- what an array of events and eight marks hold
+module _ (events : List ℕ) (p : Progress) (whole : length events ≡ maxTokens) (eight : length (p .marks) ≡ markCount) where
   pub held-length : length (held (keptInput events p) .events) ≡ readLength p
   unfolding held
   held-length = length-take-le (readLength p) events (omega (arith, whole))
@@ -108,6 +108,6 @@ module _ (events : List ℕ) (p : Progress) (whole : length events ≡ maxTokens
   unfolding held
   held-sound = record {
     short = omega (arith, held-length);
-    inside = λ m n e. omega (arith, held-length, read-short (readLength p) n (getD (p .checkpoints) m unsetCode) e);
-    eight = λ m a. rw (List·getD-eq-default (p .checkpoints) unsetCode {n = m} (omega (arith, eight, a))) (read-unset (readLength p) unsetCode (omega arith));
+    inside = λ m n e. omega (arith, held-length, read-short (readLength p) n (getD (p .marks) m unsetCode) e);
+    eight = λ m a. rw (List·getD-eq-default (p .marks) unsetCode {n = m} (omega (arith, eight, a))) (read-unset (readLength p) unsetCode (omega arith));
   }

@@ -11,14 +11,14 @@ use lib.Seq.{length-take-le, take-take, set-split, append-snoc}
 use borrow.Author.Tests.{leb-true, le-leb, lt-leb}
 use Rattle.answer.specs.declared.Answer.the-variants.{Refused, Passed}
 use Rattle.answer.specs.declared.Error.{Error}
-use Rattle.answer.specs.declared.Error.the-variants.{UnknownCheckpoint, CheckpointNotSet, InputFull}
+use Rattle.answer.specs.declared.Error.the-variants.{UnknownMark, MarkNotSet, InputFull}
 use Rattle.base.specs.Choice.{choose}
 use Rattle.grammar.specs.Limits.{maxTokens}
 use Rattle.promises.proofs.Leaving.{leaves, leaves-alike, leaves-refused}
 use Rattle.kept_input.specs.declared.Progress.{Progress}
 use Rattle.kept_input.specs.declared.KeptInput.{KeptInput}
-use Rattle.kept_input.specs.Histories.{checkpointCount, empty, Step, Add, Mark, Return, within, stepFault, done, after}
-use Rattle.kept_input.specs.Stored.{unsetCode, keptInput, readLength, readCheckpoint, held, valuesOf, codeOf, progressOf, stored}
+use Rattle.kept_input.specs.Histories.{markCount, empty, Step, Add, Mark, Return, within, stepFault, done, after}
+use Rattle.kept_input.specs.Stored.{unsetCode, keptInput, readLength, readMark, held, valuesOf, codeOf, progressOf, stored}
 use Rattle.kept_input.specs.contracts.Stored.{clearedBeyond, readProgress}
 use Rattle.kept_input.specs.Properties.{Begins, Steps}
 use Rattle.kept_input.specs.Runs.{Sound}
@@ -48,7 +48,7 @@ step-done t k next h q e = record {
   holds = rw q (ap held e ∙ held-stored (k .events) (done t (held k)) (done-sound (held k) h t q));
 }
 
-same-progress : {a b : ℕ} {c d : List ℕ} → a ≡ b → c ≡ d → _≡_ {A = Progress} (record { length = a; checkpoints = c }) (record { length = b; checkpoints = d })
+same-progress : {a b : ℕ} {c d : List ℕ} → a ≡ b → c ≡ d → _≡_ {A = Progress} (record { length = a; marks = c }) (record { length = b; marks = d })
 same-progress p q = cc
 
 same-input : {a b : List ℕ} {p q : Progress} → a ≡ b → p ≡ q → keptInput a p ≡ keptInput b q
@@ -68,22 +68,22 @@ cut-events l n m h k =
 whole-events : (l : List ℕ) (n : ℕ) → n ≤ length l → l ≡ take n l ++ drop (length (take n l)) l
 whole-events l n h = rw (length-take-le n l h) (sym (take-append-drop n l))
 
-codes-read : (cs : List ℕ) (n c : ℕ) → length cs ≡ c → map (clearedBeyond n) cs ≡ valuesOf (λ m. codeOf (readCheckpoint n (getD cs m unsetCode))) c
+codes-read : (cs : List ℕ) (n c : ℕ) → length cs ≡ c → map (clearedBeyond n) cs ≡ valuesOf (λ m. codeOf (readMark n (getD cs m unsetCode))) c
 codes-read cs n c e = rw (← e) (sym (values-same (λ m. code-read n (getD cs m unsetCode)) (length cs) ∙ values-list (clearedBeyond n) unsetCode cs))
 
 codes-cut : (cs : List ℕ) (to n c : ℕ) → to < unsetCode → length cs ≡ c
-    → map (clearedBeyond to) (map (clearedBeyond n) cs) ≡ valuesOf (λ m. codeOf (within to (readCheckpoint n (getD cs m unsetCode)))) c
+    → map (clearedBeyond to) (map (clearedBeyond n) cs) ≡ valuesOf (λ m. codeOf (within to (readMark n (getD cs m unsetCode)))) c
 codes-cut cs to n c h e =
     rw (← e)
     (map-map (clearedBeyond n) (clearedBeyond to) cs
     ∙ sym (values-same (λ m. code-within to n (getD cs m unsetCode) h) (length cs) ∙ values-list (λ x. clearedBeyond to (clearedBeyond n x)) unsetCode cs))
 
 codes-marked : (cs : List ℕ) (n m x c : ℕ) → length cs ≡ c
-    → set (map (clearedBeyond n) cs) m x ≡ valuesOf (λ k. codeOf (choose (eqb k m) (some x) (readCheckpoint n (getD cs k unsetCode)))) c
+    → set (map (clearedBeyond n) cs) m x ≡ valuesOf (λ k. codeOf (choose (eqb k m) (some x) (readMark n (getD cs k unsetCode)))) c
 codes-marked cs n m x c e =
     ap (λ (l : List ℕ). set l m x) (codes-read cs n c e)
-    ∙ sym (values-same (λ k. chosen (eqb k m) (readCheckpoint n (getD cs k unsetCode))) c
-    ∙ values-set x (λ k. codeOf (readCheckpoint n (getD cs k unsetCode))) m c)
+    ∙ sym (values-same (λ k. chosen (eqb k m) (readMark n (getD cs k unsetCode))) c
+    ∙ values-set x (λ k. codeOf (readMark n (getD cs k unsetCode))) m c)
   where
     chosen : (b : Bool) (o : Option ℕ) → codeOf (choose b (some x) o) ≡ choose b x (codeOf o)
     chosen true o = refl
@@ -94,22 +94,22 @@ map-at f [] i d d′ h = absurd (omega arith)
 map-at f (x ∷ l) zero d d′ h = refl
 map-at f (x ∷ l) (suc i) d d′ h = map-at f l i d d′ (omega arith)
 
--- a checkpoint is set where its code is at most the length
-cleared-set : (n x : ℕ) → n < unsetCode → clearedBeyond n x ≤ n → readCheckpoint n x ≡ some (clearedBeyond n x)
+-- a mark is set where its code is at most the length
+cleared-set : (n x : ℕ) → n < unsetCode → clearedBeyond n x ≤ n → readMark n x ≡ some (clearedBeyond n x)
 cleared-set n x h = go (leb x n)
   where
     go : (b : Bool) → choose b x unsetCode ≤ n → choose b (some x) none ≡ some (choose b x unsetCode)
     go true l = refl
     go false l = absurd (omega arith)
 
-cleared-unset : (n x : ℕ) → n < clearedBeyond n x → readCheckpoint n x ≡ none
+cleared-unset : (n x : ℕ) → n < clearedBeyond n x → readMark n x ≡ none
 cleared-unset n x = go (leb x n) refl
   where
     go : (b : Bool) → leb x n ≡ b → n < choose b x unsetCode → choose b (some x) none ≡ none
     go true e l = absurd (omega (arith, leb-true x n e))
     go false e l = refl
 
-module _ (events : List ℕ) (p : Progress) (whole : length events ≡ maxTokens) (eight : length (p .checkpoints) ≡ checkpointCount) where
+module _ (events : List ℕ) (p : Progress) (whole : length events ≡ maxTokens) (eight : length (p .marks) ≡ markCount) where
   in-events : readLength p ≤ length events
   in-events = omega (arith, whole)
 
@@ -129,7 +129,7 @@ module _ (events : List ℕ) (p : Progress) (whole : length events ≡ maxTokens
     pub add-done : (event : ℕ) → now .length < maxTokens
         → Steps (Add event) (keptInput events p) (record {
           answer = Passed;
-          kept = keptInput (set events (now .length) event) (record { length = now .length + 1; checkpoints = now .checkpoints });
+          kept = keptInput (set events (now .length) event) (record { length = now .length + 1; marks = now .marks });
         })
     unfolding stepFault done held stored progressOf
     add-done event h =
@@ -140,59 +140,59 @@ module _ (events : List ℕ) (p : Progress) (whole : length events ≡ maxTokens
         add-events events n event (omega (arith, whole)) in
         let longer : n + 1 ≡ length (take n events ++ event ∷ []) = omega (arith, length-append (take n events) (event ∷ []), taken) in
         step-done (Add event) (keptInput events p) _ (held-sound events p whole eight) fits
-        (rw e (same-input there (same-progress longer (codes-read (p .checkpoints) n checkpointCount eight))))
+        (rw e (same-input there (same-progress longer (codes-read (p .marks) n markCount eight))))
 
-    pub mark-done : (m : ℕ) → m < checkpointCount
+    pub mark-done : (m : ℕ) → m < markCount
         → Steps (Mark m) (keptInput events p) (record {
           answer = Passed;
-          kept = keptInput events (record { length = now .length; checkpoints = set (now .checkpoints) m (now .length) });
+          kept = keptInput events (record { length = now .length; marks = set (now .marks) m (now .length) });
         })
     unfolding stepFault done held stored progressOf
     mark-done m h =
         let n = readLength p in
-        let known : stepFault (Mark m) (held (keptInput events p)) ≡ none = rw (lt-leb checkpointCount m h) in
+        let known : stepFault (Mark m) (held (keptInput events p)) ≡ none = rw (lt-leb markCount m h) in
         step-done (Mark m) (keptInput events p) _ (held-sound events p whole eight) known
-        (rw e (same-input (whole-events events n in-events) (same-progress (sym taken) (rw taken (codes-marked (p .checkpoints) n m n checkpointCount eight)))))
+        (rw e (same-input (whole-events events n in-events) (same-progress (sym taken) (rw taken (codes-marked (p .marks) n m n markCount eight)))))
 
-    module _ (m : ℕ) (h : m < checkpointCount) where
-      code-at : getD (now .checkpoints) m 0 ≡ clearedBeyond (readLength p) (getD (p .checkpoints) m unsetCode)
-      code-at = rw e (map-at (clearedBeyond (readLength p)) (p .checkpoints) m 0 unsetCode (omega (arith, eight, h)))
+    module _ (m : ℕ) (h : m < markCount) where
+      code-at : getD (now .marks) m 0 ≡ clearedBeyond (readLength p) (getD (p .marks) m unsetCode)
+      code-at = rw e (map-at (clearedBeyond (readLength p)) (p .marks) m 0 unsetCode (omega (arith, eight, h)))
 
-      pub return-unset : now .length < getD (now .checkpoints) m 0
-          → Steps (Return m) (keptInput events p) (record { answer = Refused CheckpointNotSet; kept = keptInput events p })
+      pub return-unset : now .length < getD (now .marks) m 0
+          → Steps (Return m) (keptInput events p) (record { answer = Refused MarkNotSet; kept = keptInput events p })
       unfolding stepFault held
       return-unset u =
-          let unset : readCheckpoint (readLength p) (getD (p .checkpoints) m unsetCode) ≡ none
-          = cleared-unset (readLength p) (getD (p .checkpoints) m unsetCode) (omega (arith, u, code-at, read-length)) in
-          step-refused (Return m) (keptInput events p) CheckpointNotSet (rw (lt-leb checkpointCount m h, unset))
+          let unset : readMark (readLength p) (getD (p .marks) m unsetCode) ≡ none
+          = cleared-unset (readLength p) (getD (p .marks) m unsetCode) (omega (arith, u, code-at, read-length)) in
+          step-refused (Return m) (keptInput events p) MarkNotSet (rw (lt-leb markCount m h, unset))
 
-      pub return-done : getD (now .checkpoints) m 0 ≤ now .length → {checkpoints : List ℕ}
-          → checkpoints ≡ map (clearedBeyond (getD (now .checkpoints) m 0)) (now .checkpoints)
+      pub return-done : getD (now .marks) m 0 ≤ now .length → {marks : List ℕ}
+          → marks ≡ map (clearedBeyond (getD (now .marks) m 0)) (now .marks)
           → Steps (Return m) (keptInput events p) (record {
             answer = Passed;
-            kept = keptInput events (record { length = getD (now .checkpoints) m 0; checkpoints = checkpoints });
+            kept = keptInput events (record { length = getD (now .marks) m 0; marks = marks });
           })
       unfolding stepFault done held stored progressOf
       return-done l c =
           let n = readLength p in
-          let to = getD (now .checkpoints) m 0 in
+          let to = getD (now .marks) m 0 in
           let less : to ≤ n = omega (arith, l, read-length) in
-          let set-there : readCheckpoint n (getD (p .checkpoints) m unsetCode) ≡ some to
-          = cleared-set n (getD (p .checkpoints) m unsetCode) (omega arith) (omega (arith, less, code-at)) ∙ ap some (sym code-at) in
-          let known : stepFault (Return m) (held (keptInput events p)) ≡ none = rw (lt-leb checkpointCount m h, set-there) in
+          let set-there : readMark n (getD (p .marks) m unsetCode) ≡ some to
+          = cleared-set n (getD (p .marks) m unsetCode) (omega arith) (omega (arith, less, code-at)) ∙ ap some (sym code-at) in
+          let known : stepFault (Return m) (held (keptInput events p)) ≡ none = rw (lt-leb markCount m h, set-there) in
           let shorter : length (take to (take n events)) ≡ to = length-take-le to (take n events) (omega (arith, taken, less)) in
-          let cleared : map (clearedBeyond to) (now .checkpoints) ≡ map (clearedBeyond to) (map (clearedBeyond n) (p .checkpoints))
-          = ap (λ (q : Progress). map (clearedBeyond to) (q .checkpoints)) e in
+          let cleared : map (clearedBeyond to) (now .marks) ≡ map (clearedBeyond to) (map (clearedBeyond n) (p .marks))
+          = ap (λ (q : Progress). map (clearedBeyond to) (q .marks)) e in
           step-done (Return m) (keptInput events p) _ (held-sound events p whole eight) known
           (rw set-there
           (same-input (cut-events events n to less in-events)
-          (same-progress (sym shorter) (c ∙ cleared ∙ codes-cut (p .checkpoints) to n checkpointCount (omega (arith, less)) eight))))
+          (same-progress (sym shorter) (c ∙ cleared ∙ codes-cut (p .marks) to n markCount (omega (arith, less)) eight))))
 
--- a number of no checkpoint
-pub mark-unknown : (k : KeptInput) (m : ℕ) → checkpointCount ≤ m → Steps (Mark m) k (record { answer = Refused UnknownCheckpoint; kept = k })
+-- a number of no mark
+pub mark-unknown : (k : KeptInput) (m : ℕ) → markCount ≤ m → Steps (Mark m) k (record { answer = Refused UnknownMark; kept = k })
 unfolding stepFault
-mark-unknown k m h = step-refused (Mark m) k UnknownCheckpoint (rw (le-leb checkpointCount m h))
+mark-unknown k m h = step-refused (Mark m) k UnknownMark (rw (le-leb markCount m h))
 
-pub return-unknown : (k : KeptInput) (m : ℕ) → checkpointCount ≤ m → Steps (Return m) k (record { answer = Refused UnknownCheckpoint; kept = k })
+pub return-unknown : (k : KeptInput) (m : ℕ) → markCount ≤ m → Steps (Return m) k (record { answer = Refused UnknownMark; kept = k })
 unfolding stepFault
-return-unknown k m h = step-refused (Return m) k UnknownCheckpoint (rw (le-leb checkpointCount m h))
+return-unknown k m h = step-refused (Return m) k UnknownMark (rw (le-leb markCount m h))

@@ -1,4 +1,4 @@
--- What is stored is read as it was, where events and checkpoints fit together.
+-- What is stored is read as it was, where events and marks fit together.
 use mathlib.Core.Path.{_≡_, refl, fun-ext}
 use mathlib.Core.Bool.{Bool, true, false}
 use mathlib.Core.List.{List, _++_}
@@ -12,35 +12,35 @@ use lib.Seq.{take-append-seam}
 use borrow.Author.Tests.{le-leb, lt-leb}
 use Rattle.base.specs.Choice.{choose}
 use Rattle.grammar.specs.Limits.{maxTokens}
-use Rattle.kept_input.specs.Histories.{checkpointCount, Kept, within}
-use Rattle.kept_input.specs.Stored.{unsetCode, readCheckpoint, held, valuesOf, codeOf, progressOf, stored}
+use Rattle.kept_input.specs.Histories.{markCount, Kept, within}
+use Rattle.kept_input.specs.Stored.{unsetCode, readMark, held, valuesOf, codeOf, progressOf, stored}
 use Rattle.kept_input.specs.contracts.Stored.{clearedBeyond}
 use Rattle.kept_input.specs.Runs.{Sound}
 use Rattle.kept_input.proofs.Lists.{values-length, values-at}
 
 pub same-kept : {a b : List ℕ} {c d : ℕ → Option ℕ} → a ≡ b → c ≡ d
-    → _≡_ {A = Kept} (record { events = a; checkpoints = c }) (record { events = b; checkpoints = d })
-same-kept p q i = record { events = p i; checkpoints = q i }
+    → _≡_ {A = Kept} (record { events = a; marks = c }) (record { events = b; marks = d })
+same-kept p q i = record { events = p i; marks = q i }
 
--- one checkpoint
-pub read-set : (n x : ℕ) → x ≤ n → readCheckpoint n x ≡ some x
+-- one mark
+pub read-set : (n x : ℕ) → x ≤ n → readMark n x ≡ some x
 read-set n x h = rw (le-leb x n h)
 
-pub read-unset : (n x : ℕ) → n < x → readCheckpoint n x ≡ none
+pub read-unset : (n x : ℕ) → n < x → readMark n x ≡ none
 read-unset n x h = rw (lt-leb x n h)
 
-pub code-read : (n x : ℕ) → codeOf (readCheckpoint n x) ≡ clearedBeyond n x
+pub code-read : (n x : ℕ) → codeOf (readMark n x) ≡ clearedBeyond n x
 code-read n x = go (leb x n)
   where
     go : (b : Bool) → codeOf (choose b (some x) none) ≡ choose b x unsetCode
     go true = refl
     go false = refl
 
-read-code : (n : ℕ) (o : Option ℕ) → n < unsetCode → ((k : ℕ) → o ≡ some k → k ≤ n) → readCheckpoint n (codeOf o) ≡ o
+read-code : (n : ℕ) (o : Option ℕ) → n < unsetCode → ((k : ℕ) → o ≡ some k → k ≤ n) → readMark n (codeOf o) ≡ o
 read-code n none h l = read-unset n unsetCode h
 read-code n (some k) h l = read-set n k (l k refl)
 
-pub code-within : (to n x : ℕ) → to < unsetCode → codeOf (within to (readCheckpoint n x)) ≡ clearedBeyond to (clearedBeyond n x)
+pub code-within : (to n x : ℕ) → to < unsetCode → codeOf (within to (readMark n x)) ≡ clearedBeyond to (clearedBeyond n x)
 code-within to n x h = go (leb x n)
   where
     go : (b : Bool) → codeOf (within to (choose b (some x) none)) ≡ clearedBeyond to (choose b x unsetCode)
@@ -53,16 +53,16 @@ held-stored old s h =
     let n = length (s .events) in
     let short : min n maxTokens ≡ n = omega (arith, h .short) in
     let events : take (min n maxTokens) (s .events ++ drop n old) ≡ s .events = rw short (take-append-seam (s .events) (drop n old)) in
-    same-kept events (fun-ext λ m. rw short (at m (decLt m checkpointCount)))
+    same-kept events (fun-ext λ m. rw short (at m (decLt m markCount)))
   where
-    at : (m : ℕ) → Dec (m < checkpointCount)
-        → readCheckpoint (length (s .events)) (getD (valuesOf (λ k. codeOf (s .checkpoints k)) checkpointCount) m unsetCode) ≡ s .checkpoints m
+    at : (m : ℕ) → Dec (m < markCount)
+        → readMark (length (s .events)) (getD (valuesOf (λ k. codeOf (s .marks k)) markCount) m unsetCode) ≡ s .marks m
     at m (yes l) =
-        rw (values-at (λ k. codeOf (s .checkpoints k)) checkpointCount m unsetCode l)
-        (read-code (length (s .events)) (s .checkpoints m) (omega (arith, h .short)) (h .inside m))
+        rw (values-at (λ k. codeOf (s .marks k)) markCount m unsetCode l)
+        (read-code (length (s .events)) (s .marks m) (omega (arith, h .short)) (h .inside m))
     at m (no l) =
-        let codes = valuesOf (λ k. codeOf (s .checkpoints k)) checkpointCount in
+        let codes = valuesOf (λ k. codeOf (s .marks k)) markCount in
         let none-there : getD codes m unsetCode ≡ unsetCode
-        = List·getD-eq-default codes unsetCode (omega (arith, l, values-length (λ k. codeOf (s .checkpoints k)) checkpointCount)) in
-        let unset : s .checkpoints m ≡ none = h .eight m (omega (arith, l)) in
+        = List·getD-eq-default codes unsetCode (omega (arith, l, values-length (λ k. codeOf (s .marks k)) markCount)) in
+        let unset : s .marks m ≡ none = h .eight m (omega (arith, l)) in
         rw (none-there, unset) (read-unset (length (s .events)) unsetCode (omega (arith, h .short)))

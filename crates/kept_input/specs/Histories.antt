@@ -1,26 +1,26 @@
--- An input that is kept, with checkpoints (document 02: a log with marks): what adding, marking and returning do to it, and when they are refused.
+-- An input that is kept, with marks (document 02: a log with marks): what adding, marking and returning do to it, and when they are refused.
 use mathlib.Core.List.{List, [], _∷_, _++_}
 use mathlib.Core.Option.{Option, none, some}
 use Prim.Native.Nat.{ℕ}
 use lib.Dec.{leb, eqb}
 use lib.ListN.{length, take}
 use Rattle.answer.specs.declared.Error.{Error}
-use Rattle.answer.specs.declared.Error.the-variants.{UnknownCheckpoint, CheckpointNotSet, InputFull}
+use Rattle.answer.specs.declared.Error.the-variants.{UnknownMark, MarkNotSet, InputFull}
 use Rattle.answer.specs.Faults.{faultIf, firstFault}
 use Rattle.base.specs.Choice.{choose}
 use Rattle.grammar.specs.Limits.{maxTokens}
 
-abbrev pub checkpointCount : ℕ
-checkpointCount = 8
+abbrev pub markCount : ℕ
+markCount = 8
 
--- the events so far, as they came, and the length that each checkpoint notes, where it is set
+-- the events so far, as they came, and the length that each mark notes, where it is set
 pub record Kept : Type 0 where
   pub events : List ℕ
-  pub checkpoints : ℕ → Option ℕ
+  pub marks : ℕ → Option ℕ
 
 -- an empty log without marks
 abbrev pub empty : Kept
-empty = record { events = []; checkpoints = λ m. none }
+empty = record { events = []; marks = λ m. none }
 
 pub data Step : Type 0 where
   Add : ℕ → Step
@@ -28,32 +28,32 @@ pub data Step : Type 0 where
   Return : ℕ → Step
 
 abbrev pub unknown : ℕ → Option Error
-unknown m = faultIf (leb checkpointCount m) UnknownCheckpoint
+unknown m = faultIf (leb markCount m) UnknownMark
 
 abbrev pub notSet : Option ℕ → Option Error
-notSet none = some CheckpointNotSet
+notSet none = some MarkNotSet
 notSet (some n) = none
 
 -- why a step is refused
 unfoldable pub stepFault : Step → Kept → Option Error
 stepFault (Add event) s = firstFault (faultIf (leb maxTokens (length (s .events))) InputFull ∷ [])
 stepFault (Mark m) s = firstFault (unknown m ∷ [])
-stepFault (Return m) s = firstFault (unknown m ∷ notSet (s .checkpoints m) ∷ [])
+stepFault (Return m) s = firstFault (unknown m ∷ notSet (s .marks m) ∷ [])
 
--- a checkpoint within a length stays, and one beyond it is cleared
+-- a mark within a length stays, and one beyond it is cleared
 abbrev pub within : ℕ → Option ℕ → Option ℕ
 within n none = none
 within n (some k) = choose (leb k n) (some k) none
 
 abbrev pub cutAt : Option ℕ → Kept → Kept
 cutAt none s = s
-cutAt (some n) s = record { events = take n (s .events); checkpoints = λ k. within n (s .checkpoints k) }
+cutAt (some n) s = record { events = take n (s .events); marks = λ k. within n (s .marks k) }
 
 -- what a step does
 unfoldable pub done : Step → Kept → Kept
-done (Add event) s = record { events = s .events ++ event ∷ []; checkpoints = s .checkpoints }
-done (Mark m) s = record { events = s .events; checkpoints = λ k. choose (eqb k m) (some (length (s .events))) (s .checkpoints k) }
-done (Return m) s = cutAt (s .checkpoints m) s
+done (Add event) s = record { events = s .events ++ event ∷ []; marks = s .marks }
+done (Mark m) s = record { events = s .events; marks = λ k. choose (eqb k m) (some (length (s .events))) (s .marks k) }
+done (Return m) s = cutAt (s .marks m) s
 
 -- a refused step changes nothing
 abbrev pub unlessRefused : {A : Type 0} → Option Error → A → A → A

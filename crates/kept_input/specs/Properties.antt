@@ -24,7 +24,7 @@ pub record Begins (k : KeptInput) : Type 0 where
 
 -- a step, of any value
 pub record Steps (t : Step) (before : KeptInput) (r : Changed) : Type 0 where
-  -- refused or passed by the events and checkpoints that the value holds
+  -- refused or passed by the events and marks that the value holds
   pub leaves : Leaves (stepFault t (held before)) Passed (r .answer) []
   -- refused, it is handed back as it was; else it stores what the step makes of them, and events behind the input stay as they were
   pub kept : r .kept ≡ unlessRefused (stepFault t (held before)) (stored (before .events) (done t (held before))) before
@@ -36,7 +36,7 @@ abbrev pub Adds : (event : ℕ) (events : List ℕ) (before : Progress) (events�
 Adds event events before events′ r =
     Steps (Add event) (keptInput events before) (record { answer = r .answer; kept = keptInput events′ (r .progress) })
 
--- a step that changes length and checkpoints alone, whatever the events are
+-- a step that changes length and marks alone, whatever the events are
 pub record Moves (t : Step) (before : Progress) (r : Moved) : Type 0 where
   pub steps : (events : List ℕ) → length events ≡ maxTokens
       → Steps t (keptInput events before) (record { answer = r .answer; kept = keptInput events (r .progress) })
@@ -46,7 +46,7 @@ pub record JudgesKept (k : Lookahead) (words : List ℕ) (kept : KeptInput) (tab
   -- all that judging promises of the events that the value holds, which are never too many for it
   pub judges : Judges k words (inputOf (held kept .events)) table memo r table′ memo′
   pub short : length (inputOf (held kept .events)) ≤ maxTokens
-  -- whichever history from an empty input without checkpoints left it, the judgement is that of the events which the history leaves, taken afresh
+  -- whichever history from an empty input without marks left it, the judgement is that of the events which the history leaves, taken afresh
   -- with the same grammar and lent memory
   pub afresh : (history : List Step) → held kept ≡ ran history empty → (a : Answer) (table″ memo″ : List ℕ)
       → Judges k words (inputOf (ran history empty .events)) table memo a table″ memo″

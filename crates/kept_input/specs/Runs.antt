@@ -6,14 +6,14 @@ use Prim.Native.Nat.{ℕ, _≤_, _<_}
 use lib.ListN.{length, take}
 use Rattle.answer.specs.declared.Answer.{Answer}
 use Rattle.answer.specs.declared.Error.{Error}
-use Rattle.answer.specs.declared.Error.the-variants.{UnknownCheckpoint, CheckpointNotSet, InputFull}
+use Rattle.answer.specs.declared.Error.the-variants.{UnknownMark, MarkNotSet, InputFull}
 use Rattle.grammar.specs.Limits.{maxTokens}
 use Rattle.event.specs.Events.{inputOf}
 use Rattle.lookahead.specs.declared.Lookahead.{Lookahead}
 use Rattle.recognizer_promises.specs.Properties.{Judges}
 use Rattle.kept_input.specs.declared.KeptInput.{KeptInput}
 use Rattle.kept_input.specs.declared.Changed.{Changed}
-use Rattle.kept_input.specs.Histories.{checkpointCount, Kept, empty, Step, Add, Mark, Return, stepFault, after, ran}
+use Rattle.kept_input.specs.Histories.{markCount, Kept, empty, Step, Add, Mark, Return, stepFault, after, ran}
 use Rattle.kept_input.specs.Stored.{held}
 use Rattle.kept_input.specs.Properties.{Steps, JudgesKept}
 
@@ -22,17 +22,17 @@ pub data Run : KeptInput → List Step → KeptInput → Type 0 where
   idle : {k : KeptInput} → Run k [] k
   next : {k last : KeptInput} {t : Step} {l : List Step} (r : Changed) → Steps t k r → Run (r .kept) l last → Run k (t ∷ l) last
 
--- events and checkpoints fit together: what a history from an empty input leaves
+-- events and marks fit together: what a history from an empty input leaves
 pub record Sound (s : Kept) : Type 0 where
   pub short : length (s .events) ≤ maxTokens
-  pub inside : (m n : ℕ) → s .checkpoints m ≡ some n → n ≤ length (s .events)
-  pub eight : (m : ℕ) → checkpointCount ≤ m → s .checkpoints m ≡ none
+  pub inside : (m n : ℕ) → s .marks m ≡ some n → n ≤ length (s .events)
+  pub eight : (m : ℕ) → markCount ≤ m → s .marks m ≡ none
 
 -- of any history
 pub record HistoriesKept : Type 0 where
   -- the last value holds what the steps make of what the first one held
   pub holds : {first last : KeptInput} {l : List Step} → Run first l last → held last ≡ ran l (held first)
-  -- from an empty input without checkpoints a judgement is that of the events which the history leaves, taken afresh with the same grammar, lookahead
+  -- from an empty input without marks a judgement is that of the events which the history leaves, taken afresh with the same grammar, lookahead
   -- and memory
   pub judged : {k : Lookahead} {first last : KeptInput} {l : List Step} → held first ≡ empty → Run first l last
       → {words table memo table′ memo′ table″ memo″ : List ℕ} {r a : Answer} → JudgesKept k words last table memo r table′ memo′
@@ -42,24 +42,24 @@ pub record HistoriesKept : Type 0 where
 
 -- what the steps do, one sentence each
 pub record Sentences : Type 0 where
-  -- the input grows by the event, and checkpoints stay
+  -- the input grows by the event, and marks stay
   pub grows : (s : Kept) (event : ℕ) → length (s .events) < maxTokens
-      → after (Add event) s ≡ record { events = s .events ++ event ∷ []; checkpoints = s .checkpoints }
-  -- marking notes the length, wherever the checkpoint was; nothing else changes
-  pub marks : (s : Kept) (m : ℕ) → m < checkpointCount → after (Mark m) s .checkpoints m ≡ some (length (s .events))
-  pub others : (s : Kept) (m k : ℕ) → (k ≡ m → ⊥) → after (Mark m) s .checkpoints k ≡ s .checkpoints k
+      → after (Add event) s ≡ record { events = s .events ++ event ∷ []; marks = s .marks }
+  -- marking notes the length, wherever the mark was; nothing else changes
+  pub marks : (s : Kept) (m : ℕ) → m < markCount → after (Mark m) s .marks m ≡ some (length (s .events))
+  pub others : (s : Kept) (m k : ℕ) → (k ≡ m → ⊥) → after (Mark m) s .marks k ≡ s .marks k
   pub unread : (s : Kept) (m : ℕ) → after (Mark m) s .events ≡ s .events
-  -- returning cuts the input there; checkpoints up to that length stay, those at it too, and those beyond it are cleared
-  pub cuts : (s : Kept) (m n : ℕ) → m < checkpointCount → s .checkpoints m ≡ some n → after (Return m) s .events ≡ take n (s .events)
-  pub stay : (s : Kept) (m n k j : ℕ) → m < checkpointCount → s .checkpoints m ≡ some n → s .checkpoints k ≡ some j → j ≤ n
-      → after (Return m) s .checkpoints k ≡ some j
-  pub clears : (s : Kept) (m n k j : ℕ) → m < checkpointCount → s .checkpoints m ≡ some n → s .checkpoints k ≡ some j → n < j
-      → after (Return m) s .checkpoints k ≡ none
-  -- a checkpoint that is not set stays so until it is marked, however the input is cut and grows
-  pub unset : (s : Kept) (k : ℕ) (l : List Step) → (List·Memᴰ (Mark k) l → ⊥) → s .checkpoints k ≡ none → ran l s .checkpoints k ≡ none
+  -- returning cuts the input there; marks up to that length stay, those at it too, and those beyond it are cleared
+  pub cuts : (s : Kept) (m n : ℕ) → m < markCount → s .marks m ≡ some n → after (Return m) s .events ≡ take n (s .events)
+  pub stay : (s : Kept) (m n k j : ℕ) → m < markCount → s .marks m ≡ some n → s .marks k ≡ some j → j ≤ n
+      → after (Return m) s .marks k ≡ some j
+  pub clears : (s : Kept) (m n k j : ℕ) → m < markCount → s .marks m ≡ some n → s .marks k ≡ some j → n < j
+      → after (Return m) s .marks k ≡ none
+  -- a mark that is not set stays so until it is marked, however the input is cut and grows
+  pub unset : (s : Kept) (k : ℕ) (l : List Step) → (List·Memᴰ (Mark k) l → ⊥) → s .marks k ≡ none → ran l s .marks k ≡ none
   -- the refusals: 21; 19; 20, behind 19; and a refused step changes nothing
   pub full : (s : Kept) (event : ℕ) → maxTokens ≤ length (s .events) → stepFault (Add event) s ≡ some InputFull
-  pub no-mark : (s : Kept) (m : ℕ) → checkpointCount ≤ m → stepFault (Mark m) s ≡ some UnknownCheckpoint
-  pub no-return : (s : Kept) (m : ℕ) → checkpointCount ≤ m → stepFault (Return m) s ≡ some UnknownCheckpoint
-  pub not-set : (s : Kept) (m : ℕ) → m < checkpointCount → s .checkpoints m ≡ none → stepFault (Return m) s ≡ some CheckpointNotSet
+  pub no-mark : (s : Kept) (m : ℕ) → markCount ≤ m → stepFault (Mark m) s ≡ some UnknownMark
+  pub no-return : (s : Kept) (m : ℕ) → markCount ≤ m → stepFault (Return m) s ≡ some UnknownMark
+  pub not-set : (s : Kept) (m : ℕ) → m < markCount → s .marks m ≡ none → stepFault (Return m) s ≡ some MarkNotSet
   pub refused : (t : Step) (s : Kept) (e : Error) → stepFault t s ≡ some e → after t s ≡ s

@@ -6,29 +6,29 @@ use lib.Dec.{leb}
 use lib.ListN.{length, getD, take, drop}
 use Rattle.base.specs.Choice.{choose}
 use Rattle.grammar.specs.Limits.{maxTokens}
-use Rattle.kept_input.specs.Histories.{checkpointCount, Kept}
+use Rattle.kept_input.specs.Histories.{markCount, Kept}
 use Rattle.kept_input.specs.declared.Progress.{Progress}
 use Rattle.kept_input.specs.declared.KeptInput.{KeptInput}
 
--- what a checkpoint that is not set is stored as
+-- what a mark that is not set is stored as
 abbrev pub unsetCode : ℕ
 unsetCode = 65535
 
 abbrev pub keptInput : List ℕ → Progress → KeptInput
 keptInput events p = record { events = events; progress = p }
 
--- any value is read: a length over the limit as the limit, and a checkpoint beyond the length as not set. The papers leave free what such a value
+-- any value is read: a length over the limit as the limit, and a mark beyond the length as not set. The papers leave free what such a value
 -- means; no history from an empty input makes one
 abbrev pub readLength : Progress → ℕ
 readLength p = min (p .length) maxTokens
 
-abbrev pub readCheckpoint : ℕ → ℕ → Option ℕ
-readCheckpoint n x = choose (leb x n) (some x) none
+abbrev pub readMark : ℕ → ℕ → Option ℕ
+readMark n x = choose (leb x n) (some x) none
 
 unfoldable pub held : KeptInput → Kept
 held k = record {
   events = take (readLength (k .progress)) (k .events);
-  checkpoints = λ m. readCheckpoint (readLength (k .progress)) (getD (k .progress .checkpoints) m unsetCode);
+  marks = λ m. readMark (readLength (k .progress)) (getD (k .progress .marks) m unsetCode);
 }
 
 -- a function's values at 0, 1 and so on, as many as are asked for
@@ -40,9 +40,9 @@ abbrev pub codeOf : Option ℕ → ℕ
 codeOf none = unsetCode
 codeOf (some n) = n
 
--- how it is stored: its length and its checkpoints, and its events in front of those that stood there
+-- how it is stored: its length and its marks, and its events in front of those that stood there
 unfoldable pub progressOf : Kept → Progress
-progressOf s = record { length = length (s .events); checkpoints = valuesOf (λ m. codeOf (s .checkpoints m)) checkpointCount }
+progressOf s = record { length = length (s .events); marks = valuesOf (λ m. codeOf (s .marks m)) markCount }
 
 unfoldable pub stored : List ℕ → Kept → KeptInput
 stored old s = keptInput (s .events ++ drop (length (s .events)) old) (progressOf s)

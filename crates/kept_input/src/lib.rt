@@ -1,4 +1,4 @@
-// An input that is kept between calls and grows event by event, with checkpoints to return to.
+// An input that is kept between calls and grows event by event, with marks to return to.
 ghost use mathlib.Core.Path.{_≡_};
 ghost use mathlib.Core.List.{map};
 ghost use Prim.Native.Nat.{min};
@@ -11,18 +11,18 @@ use answer::Answer;
 use answer::Error;
 use grammar::limits::TOKENS;
 
-pub const CHECKPOINTS: usize = 8;
+pub const MARKS: usize = 8;
 
 const LIMIT: u16 = TOKENS as u16;
 
-// What a checkpoint that is not set holds: no input is that long.
+// What a mark that is not set holds: no input is that long.
 const UNSET: u16 = 65535;
 
-// How long a kept input is, and the length that each checkpoint notes. Any value may be handed in: a length over the limit reads as the limit,
-// a checkpoint beyond the length as not set.
+// How long a kept input is, and the length that each mark notes. Any value may be handed in: a length over the limit reads as the limit,
+// a mark beyond the length as not set.
 pub struct Progress {
     pub length: u16,
-    pub checkpoints: [u16; CHECKPOINTS],
+    pub marks: [u16; MARKS],
 }
 
 // The input is the first events, as they came, as many as the length says.
@@ -48,23 +48,19 @@ pub fn bounded(length: u16) -> u16
     if length <= LIMIT { length } else { LIMIT }
 }
 
-fn cleared(checkpoint: u16, length: u16) -> u16
-    ensures { λ r. ⌜ r ≡ clearedBeyond length checkpoint ⌝ }
+fn cleared(mark: u16, length: u16) -> u16
+    ensures { λ r. ⌜ r ≡ clearedBeyond length mark ⌝ }
 {
-    if checkpoint <= length {
-        checkpoint
-    } else {
-        UNSET
-    }
+    if mark <= length { mark } else { UNSET }
 }
 
 // Those beyond a length are cleared.
-fn all_cleared(checkpoints: [u16; CHECKPOINTS], length: u16) -> [u16; CHECKPOINTS]
-    ensures { λ r. ⌜ r ≡ map (clearedBeyond length) checkpoints ⌝ }
+fn all_cleared(marks: [u16; MARKS], length: u16) -> [u16; MARKS]
+    ensures { λ r. ⌜ r ≡ map (clearedBeyond length) marks ⌝ }
 {
-    let mut within = checkpoints;
+    let mut within = marks;
     let mut at = 0;
-    while at < CHECKPOINTS {
+    while at < MARKS {
         within[at] = cleared(within[at], length);
         at = at + 1;
     }
@@ -77,7 +73,7 @@ impl Progress {
     {
         Progress {
             length: 0,
-            checkpoints: [UNSET; CHECKPOINTS],
+            marks: [UNSET; MARKS],
         }
     }
 
@@ -86,65 +82,56 @@ impl Progress {
         ensures { λ r. ⌜ r ≡ readProgress self ⌝ }
     {
         let length = bounded(self.length);
-        let old = self.checkpoints;
-        let checkpoints = all_cleared(old, length);
-        Progress {
-            length,
-            checkpoints,
-        }
+        let old = self.marks;
+        let marks = all_cleared(old, length);
+        Progress { length, marks }
     }
 
     // Notes the length.
-    pub fn mark(self, checkpoint: u32) -> Moved
-        ensures { λ r. ⌜ Moves (Mark checkpoint) self r ⌝ }
+    pub fn mark(self, mark: u32) -> Moved
+        ensures { λ r. ⌜ Moves (Mark mark) self r ⌝ }
     {
-        let at = checkpoint as usize;
-        if CHECKPOINTS <= at {
+        let at = mark as usize;
+        if MARKS <= at {
             return Moved {
-                answer: Answer::Refused(Error::UnknownCheckpoint),
+                answer: Answer::Refused(Error::UnknownMark),
                 progress: self,
             };
         }
         let now = self.read();
         let length = now.length;
-        let mut checkpoints = now.checkpoints;
-        checkpoints[at] = length;
+        let mut marks = now.marks;
+        marks[at] = length;
         Moved {
             answer: Answer::Passed,
-            progress: Progress {
-                length,
-                checkpoints,
-            },
+            progress: Progress { length, marks },
         }
     }
 
-    // Cuts the input where the checkpoint was set.
-    pub fn return_to(self, checkpoint: u32) -> Moved
-        ensures { λ r. ⌜ Moves (Return checkpoint) self r ⌝ }
+    // Cuts the input where the mark was set.
+    pub fn return_to(self, mark: u32) -> Moved
+        ensures { λ r. ⌜ Moves (Return mark) self r ⌝ }
     {
-        let at = checkpoint as usize;
-        if CHECKPOINTS <= at {
+        let at = mark as usize;
+        if MARKS <= at {
             return Moved {
-                answer: Answer::Refused(Error::UnknownCheckpoint),
+                answer: Answer::Refused(Error::UnknownMark),
                 progress: self,
             };
         }
         let now = self.read();
-        let set = now.checkpoints;
+        let set = now.marks;
         let length = set[at];
         if now.length < length {
             return Moved {
-                answer: Answer::Refused(Error::CheckpointNotSet),
+                answer: Answer::Refused(Error::MarkNotSet),
                 progress: self,
             };
         }
-        let checkpoints = all_cleared(set, length);
+        let marks = all_cleared(set, length);
         Moved {
             answer: Answer::Passed,
-            progress: Progress {
-                length,
-                checkpoints,
-            },
+            progress: Progress { length, marks },
         }
     }
 }
@@ -181,11 +168,11 @@ impl KeptInput {
         }
     }
 
-    pub fn mark(self, checkpoint: u32) -> Changed
-        ensures { λ r. ⌜ Steps (Mark checkpoint) self r ⌝ }
+    pub fn mark(self, mark: u32) -> Changed
+        ensures { λ r. ⌜ Steps (Mark mark) self r ⌝ }
     {
         let old = self.progress;
-        let moved = old.mark(checkpoint);
+        let moved = old.mark(mark);
         let answer = moved.answer;
         let progress = moved.progress;
         let events = self.events;
@@ -195,11 +182,11 @@ impl KeptInput {
         }
     }
 
-    pub fn return_to(self, checkpoint: u32) -> Changed
-        ensures { λ r. ⌜ Steps (Return checkpoint) self r ⌝ }
+    pub fn return_to(self, mark: u32) -> Changed
+        ensures { λ r. ⌜ Steps (Return mark) self r ⌝ }
     {
         let old = self.progress;
-        let moved = old.return_to(checkpoint);
+        let moved = old.return_to(mark);
         let answer = moved.answer;
         let progress = moved.progress;
         let events = self.events;
@@ -229,12 +216,12 @@ pub fn add_event(events: &mut [u8; TOKENS], progress: Progress, event: u8) -> Mo
     }
     events[length as usize] = event;
     let longer = length + 1;
-    let checkpoints = now.checkpoints;
+    let marks = now.marks;
     Moved {
         answer: Answer::Passed,
         progress: Progress {
             length: longer,
-            checkpoints,
+            marks,
         },
     }
 }

@@ -8,7 +8,7 @@ use kept_input::KeptInput;
 use kept_input::Progress;
 use kept_input::bounded;
 use recognizer::judge;
-use recognizer::judge_wide;
+use recognizer::judge_two;
 
 // How many of the events are the input.
 fn input_length(progress: Progress) -> usize
@@ -27,15 +27,10 @@ pub fn judge_kept(words: &[u32], kept: KeptInput, table: &mut [u32], memo: &mut 
 }
 
 // The same with two tokens of lookahead, with a lent table of 64-bit words.
-pub fn judge_kept_wide(
-    words: &[u32],
-    kept: KeptInput,
-    table: &mut [u64],
-    memo: &mut [u16],
-) -> Answer
+pub fn judge_kept_two(words: &[u32], kept: KeptInput, table: &mut [u64], memo: &mut [u16]) -> Answer
     ensures { λ r. ⌜ JudgesKept Two (now (words .entry)) kept (now (table .entry)) (now (memo .entry)) r (now (table .exit)) (now (memo .exit)) ⌝ }
 {
     let length = input_length(kept.progress);
     let events = kept.events;
-    judge_wide(words, &events[..length], table, memo)
+    judge_two(words, &events[..length], table, memo)
 }

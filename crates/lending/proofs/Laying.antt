@@ -9,7 +9,7 @@ use lib.ListN.{length, take, drop, set, replicate, length-append}
 use lib.Seq.{take-all, take-at}
 use borrow.Author.Tests.{lt-ltb, le-ltb}
 use Rattle.grammar.specs.Codes.{noEntry}
-use Rattle.grammar.specs.Limits.{maxNonterminals, maxTerminals, maxColumns, maxWideColumns, maxTableWords, maxWideTableWords}
+use Rattle.grammar.specs.Limits.{maxNonterminals, maxTerminals, maxColumns, maxColumnsOfTwo, maxTableWords, maxTableWordsOfTwo}
 use Rattle.grammar.specs.declared.reading.Sizes.{Sizes}
 use Rattle.lookahead.specs.declared.Lookahead.{Lookahead}
 use Rattle.lookahead.specs.declared.Lookahead.the-variants.{One, Two}
@@ -47,7 +47,7 @@ pub lent-sizes : (z : Sizes) → SizesGiven z → lentSizes (Passed z) ≡ z
 unfolding lentSizes
 lent-sizes z g = rw (le-ltb maxNonterminals (z .nonterminals) (g .fewNonterminals), le-ltb maxTerminals (z .terminals) (g .fewTerminals))
 
-pub room-small : (k : Lookahead) → tableRoom k ≤ maxWideTableWords
+pub room-small : (k : Lookahead) → tableRoom k ≤ maxTableWordsOfTwo
 room-small One = omega arith
 room-small Two = omega arith
 
@@ -58,7 +58,7 @@ count-room One z g =
     mul-le-mul {n₁ = z .nonterminals} {n₂ = maxNonterminals} (g .fewNonterminals) row
 count-room Two z g = omega (arith, g .fewNonterminals)
 
-pub row-room : (k : Lookahead) (z : Sizes) → SizesGiven z → columnCount k (z .terminals) ≤ maxWideColumns
+pub row-room : (k : Lookahead) (z : Sizes) → SizesGiven z → columnCount k (z .terminals) ≤ maxColumnsOfTwo
 row-room One z g = omega (arith, g .fewTerminals)
 row-room Two z g = omega arith
 

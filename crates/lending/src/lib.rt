@@ -135,7 +135,7 @@ pub fn lend(found: Found, table: &mut [u32])
 }
 
 // The same with two tokens.
-pub fn lend_wide(found: Found, table: &mut [u64])
+pub fn lend_two(found: Found, table: &mut [u64])
     ensures { λ _. ⌜ now (table .exit) ≡ lentOf Two found (now (table .entry)) ⌝ }
 {
     let sizes = lent_sizes(found.finding);

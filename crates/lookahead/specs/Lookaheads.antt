@@ -3,7 +3,7 @@ use mathlib.Core.List.{List, [], _∷_}
 use Prim.Native.Nat.{ℕ, _+_, _-_, _*_, _/_, _%_}
 use lib.Dec.{eqb, ltb}
 use Rattle.base.specs.Choice.{choose}
-use Rattle.grammar.specs.Limits.{maxColumns, maxWideColumns}
+use Rattle.grammar.specs.Limits.{maxColumns, maxColumnsOfTwo}
 use Rattle.lookahead.specs.declared.Lookahead.{Lookahead}
 use Rattle.lookahead.specs.declared.Lookahead.the-variants.{One, Two}
 
@@ -14,7 +14,7 @@ tokens Two = 2
 -- the elements of sets are the numbers below it
 abbrev pub elements : Lookahead → ℕ
 elements One = maxColumns
-elements Two = maxWideColumns
+elements Two = maxColumnsOfTwo
 
 -- the element for the end of the input and the empty string (document 01: "nothing")
 abbrev pub nothing : Lookahead → ℕ

@@ -2,7 +2,7 @@
 ghost use mathlib.Core.Path.{_≡_};
 ghost use Rattle.lookahead.specs.contracts.Lookaheads.{alphabet, single};
 ghost use Rattle.lookahead.specs.Lookaheads.{elements, nothing};
-use grammar::limits::WIDE_TERMINALS;
+use grammar::limits::TERMINALS_OF_TWO;
 
 // How many tokens are looked at.
 pub enum Lookahead {
@@ -14,7 +14,7 @@ pub enum Lookahead {
 pub const NOTHING: u32 = 24;
 
 // With two tokens, nothing is the element 0, the terminals come next, and the pairs behind them, a row for each.
-pub const PAIRS: u32 = 1 + WIDE_TERMINALS;
+pub const PAIRS: u32 = 1 + TERMINALS_OF_TWO;
 
 // The most terminals that there may be.
 pub fn alphabet(lookahead: Lookahead) -> u32
@@ -22,7 +22,7 @@ pub fn alphabet(lookahead: Lookahead) -> u32
 {
     match lookahead {
         Lookahead::One => NOTHING,
-        Lookahead::Two => WIDE_TERMINALS,
+        Lookahead::Two => TERMINALS_OF_TWO,
     }
 }
 
@@ -32,7 +32,7 @@ pub fn element_count(lookahead: Lookahead) -> u32
 {
     match lookahead {
         Lookahead::One => NOTHING + 1,
-        Lookahead::Two => PAIRS + WIDE_TERMINALS * WIDE_TERMINALS,
+        Lookahead::Two => PAIRS + TERMINALS_OF_TWO * TERMINALS_OF_TWO,
     }
 }
 

@@ -1,18 +1,18 @@
-// The state of a kept log in a row of nine numbers: its length and its eight checkpoints.
+// The state of a kept log in a row of nine numbers: its length and its eight marks.
 ghost use mathlib.Core.Path.{_≡_};
 ghost use Rattle.embed_promises.specs.Kept.{stateOf};
 ghost use Rattle.embed_promises.specs.contracts.Kept.{StateRead};
-use kept_input::CHECKPOINTS;
+use kept_input::MARKS;
 use kept_input::Progress;
 
-pub const STATE: usize = CHECKPOINTS + 1;
+pub const STATE: usize = MARKS + 1;
 
 pub fn progress_in(state: [u16; STATE]) -> Progress
     ensures { λ r. ⌜ StateRead state r ⌝ }
 {
     Progress {
         length: state[0],
-        checkpoints: [
+        marks: [
             state[1],
             state[2],
             state[3],
@@ -28,7 +28,7 @@ pub fn progress_in(state: [u16; STATE]) -> Progress
 pub fn state_of(progress: Progress) -> [u16; STATE]
     ensures { λ r. ⌜ r ≡ stateOf progress ⌝ }
 {
-    let set = progress.checkpoints;
+    let set = progress.marks;
     [
         progress.length,
         set[0],

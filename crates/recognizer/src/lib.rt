@@ -6,9 +6,9 @@ ghost use Rattle.recognizer_promises.specs.Costliest.{JudgesCostliest};
 use answer::Answer;
 use answer::Error;
 use grammar::limits::TABLE_WORDS;
-use grammar::limits::WIDE_TABLE_WORDS;
+use grammar::limits::TABLE_WORDS_OF_TWO;
 use lending::lend;
-use lending::lend_wide;
+use lending::lend_two;
 use lookahead::Lookahead;
 use recursive_descent::judge_words;
 use recursive_descent::search::judge_costliest_words;
@@ -28,16 +28,16 @@ pub fn judge(words: &[u32], events: &[u8], table: &mut [u32], memo: &mut [u16]) 
 }
 
 // The same with two tokens of lookahead, for grammars of few terminals, with a lent table of 64-bit words.
-pub fn judge_wide(words: &[u32], events: &[u8], table: &mut [u64], memo: &mut [u16]) -> Answer
+pub fn judge_two(words: &[u32], events: &[u8], table: &mut [u64], memo: &mut [u16]) -> Answer
     ensures { λ r. ⌜ Judges Two (now (words .entry)) (inputOf (now (events .entry))) (now (table .entry)) (now (memo .entry)) r
         (now (table .exit)) (now (memo .exit)) ⌝ }
 {
-    if table.len() < WIDE_TABLE_WORDS {
-        return Answer::Refused(Error::WideTableTooShort);
+    if table.len() < TABLE_WORDS_OF_TWO {
+        return Answer::Refused(Error::TableOfTwoTooShort);
     }
     let judgement = judge_words(words, Lookahead::Two, events, memo);
     let found = judgement.found;
-    lend_wide(found, table);
+    lend_two(found, table);
     judgement.answer
 }
 

@@ -4,7 +4,7 @@ use mathlib.Core.Option.{Option}
 use Prim.Native.Nat.{ℕ}
 use lib.Dec.{ltb}
 use Rattle.answer.specs.declared.Error.{Error}
-use Rattle.answer.specs.declared.Error.the-variants.{TableTooShort, MemoTooShort, WideTableTooShort}
+use Rattle.answer.specs.declared.Error.the-variants.{TableTooShort, MemoTooShort, TableOfTwoTooShort}
 use Rattle.answer.specs.declared.Calls.{Calls}
 use Rattle.answer.specs.declared.Answer.{Answer}
 use Rattle.answer.specs.declared.Answer.the-variants.{Rejected, Accepted}
@@ -26,7 +26,7 @@ use Rattle.promises.specs.Inputs.{inputFaultsTo}
 -- the lent table is too short: 17 stands in the place of 1
 abbrev pub tableTooShort : Lookahead → Error
 tableTooShort One = TableTooShort
-tableTooShort Two = WideTableTooShort
+tableTooShort Two = TableOfTwoTooShort
 
 -- why checking with a lookahead is refused, in the papers' order: the table's length, then the grammar's faults
 unfoldable pub checkFault : Lookahead → ℕ → List ℕ → Option Error

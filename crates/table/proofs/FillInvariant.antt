@@ -10,7 +10,7 @@ use native.Mathlib.Nat.{suc-mul, mul-le-mul, mul-le-mul-right}
 use native.Mathlib.Omega.{arith}
 use lib.ListN.{getD}
 use Rattle.base.specs.Choice.{choose}
-use Rattle.grammar.specs.Limits.{maxNonterminals, maxWideColumns}
+use Rattle.grammar.specs.Limits.{maxNonterminals, maxColumnsOfTwo}
 use Rattle.grammar.specs.contracts.Limits.{maxEntries}
 use Rattle.grammar.specs.declared.reading.Sizes.{Sizes}
 use Rattle.lookahead.specs.declared.Lookahead.{Lookahead}
@@ -91,7 +91,7 @@ pub row-room : {k : Lookahead} {z : Sizes} {heads : List ℕ} → RowsGiven k z 
     → getD heads q 0 * columnCount k (z .terminals) + columnCount k (z .terminals) ≤ maxEntries
 row-room {k} {z} {heads} g q h =
     let n = columnCount k (z .terminals) in
-    let l : n ≤ maxWideColumns = column-count k (z .terminals) (g .fewTerminals) in
+    let l : n ≤ maxColumnsOfTwo = column-count k (z .terminals) (g .fewTerminals) in
     let own = g .headed .own q h in
     let below : suc (getD heads q 0) ≤ maxNonterminals = omega (arith, g .headed .allowed) in
     omega (arith, suc-mul (getD heads q 0) n, mul-le-mul below l)

@@ -16,7 +16,7 @@ use Rattle.table.specs.Conflicts.{firstClash}
 -- 9: the first clash, by nonterminal, then column
 abbrev pub conflictError : Lookahead → ℕ → ℕ → Error
 conflictError One A c = error.Conflict A c
-conflictError Two A c = error.WideConflict A c
+conflictError Two A c = error.ConflictOfTwo A c
 
 abbrev pub clashFault : Lookahead → Conflict → Option Error
 clashFault k Absent = none

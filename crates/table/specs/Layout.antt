@@ -5,7 +5,7 @@ use Prim.Native.Nat.{ℕ, _*_, _/_, _%_}
 use lib.Dec.{eqb}
 use Rattle.base.specs.Choice.{choose}
 use Rattle.grammar.specs.Codes.{noEntry}
-use Rattle.grammar.specs.Limits.{maxTableWords, maxWideTableWords}
+use Rattle.grammar.specs.Limits.{maxTableWords, maxTableWordsOfTwo}
 use Rattle.grammar.specs.Syntax.{Grammar}
 use Rattle.lookahead.specs.declared.Lookahead.{Lookahead}
 use Rattle.lookahead.specs.declared.Lookahead.the-variants.{One, Two}
@@ -36,4 +36,4 @@ tableWords k G = listed (2 * G .nonterminals) (setWord k G) ++ listed (G .nonter
 -- the memory that is lent for it
 abbrev pub tableRoom : Lookahead → ℕ
 tableRoom One = maxTableWords
-tableRoom Two = maxWideTableWords
+tableRoom Two = maxTableWordsOfTwo

@@ -33,7 +33,7 @@ fn conflict_error(nonterminal: u8, column: u8, lookahead: Lookahead) -> Error
             nonterminal,
             column,
         },
-        Lookahead::Two => Error::WideConflict {
+        Lookahead::Two => Error::ConflictOfTwo {
             nonterminal,
             column,
         },

@@ -31,15 +31,15 @@ returns c = search needs
 array-share-prefix-words : tie.Need-array-share-prefix-words
 array-share-prefix-words c = found (c .before .before .before .load .ensures) (c .before .loaded .given .1) (length-replicate {A = ℕ} maxWords 0) .few
 
-slice-aggregate-judge-wide : tie.Need-slice-aggregate-judge-wide
-slice-aggregate-judge-wide c =
+slice-aggregate-judge-two : tie.Need-slice-aggregate-judge-two
+slice-aggregate-judge-two c =
     found (c .before .before .before .before .load .ensures) (c .before .before .loaded .given .1) (length-replicate {A = ℕ} maxWords 0) .part
 
-slice-aggregate-judge-wide-2 : tie.Need-slice-aggregate-judge-wide-2
-slice-aggregate-judge-wide-2 c = search needs
+slice-aggregate-judge-two-2 : tie.Need-slice-aggregate-judge-two-2
+slice-aggregate-judge-two-2 c = search needs
 
-judge-wide-requires : tie.Need-judge-wide-requires
-judge-wide-requires c κs = search needs
+judge-two-requires : tie.Need-judge-two-requires
+judge-two-requires c κs = search needs
 
 slice-aggregate-put-judgement : tie.Need-slice-aggregate-put-judgement
 slice-aggregate-put-judgement c = search needs
@@ -74,9 +74,9 @@ judged-by-two-spec =
     enum-told
     returns
     array-share-prefix-words
-    slice-aggregate-judge-wide
-    slice-aggregate-judge-wide-2
-    judge-wide-requires
+    slice-aggregate-judge-two
+    slice-aggregate-judge-two-2
+    judge-two-requires
     slice-aggregate-put-judgement
     slice-aggregate-put-judgement-2
     put-judgement-requires

@@ -5,7 +5,7 @@ use Prim.Native.Nat.{ℕ, _+_, _*_, _/_, _%_, _≤_, _<_, min}
 use lib.Dec.{eqb, ltb}
 use lib.ListN.{getD}
 use Rattle.base.specs.Choice.{choose}
-use Rattle.grammar.specs.Limits.{maxWords, maxNonterminals, maxRules, maxWideColumns, maxTokens}
+use Rattle.grammar.specs.Limits.{maxWords, maxNonterminals, maxRules, maxColumnsOfTwo, maxTokens}
 use Rattle.base.specs.Lists.{listed}
 use Rattle.descent_arrays.specs.contracts.Arrays.{choiceColumns, rowColumn, endColumn, choiceWords}
 
@@ -31,11 +31,11 @@ choiceRows starts columns entries tokens n =
 -- of no more nonterminals, columns and tokens than the limits allow
 unfoldable pub choicesOf : (starts : List ℕ) (nonterminals columns : ℕ) (entries : List ℕ) (tokens : ℕ) → List ℕ
 choicesOf starts nonterminals columns entries tokens =
-    choiceRows starts (min columns maxWideColumns) entries (min tokens maxTokens) (min nonterminals maxNonterminals)
+    choiceRows starts (min columns maxColumnsOfTwo) entries (min tokens maxTokens) (min nonterminals maxNonterminals)
 
 -- the rows before A are written
 pub record RowGiven (starts : List ℕ) (columns : ℕ) (entries : List ℕ) (tokens A : ℕ) (choices : List ℕ) : Type 0 where
   pub named : A < maxNonterminals
-  pub fewColumns : columns ≤ maxWideColumns
+  pub fewColumns : columns ≤ maxColumnsOfTwo
   pub short : tokens ≤ maxTokens
   pub before : choices ≡ choiceRows starts columns entries tokens A

@@ -6,7 +6,7 @@ use Prim.Native.Nat.{ℕ, suc, _<_}
 use lib.ListN.{replicate}
 use Rattle.lookahead.specs.declared.Lookahead.{Lookahead}
 use Rattle.event.specs.Events.{inputOf}
-use Rattle.kept_input.specs.Histories.{checkpointCount, Kept, empty, Step, ran}
+use Rattle.kept_input.specs.Histories.{markCount, Kept, empty, Step, ran}
 use Rattle.kept_input.specs.Stored.{unsetCode, keptInput, held}
 use Rattle.embed_promises.specs.Exports.{JudgeExported}
 use Rattle.embed_promises.specs.Kept.{progressIn, StepExported, KeptExported}
@@ -15,13 +15,13 @@ use Rattle.embed_promises.specs.Kept.{progressIn, StepExported, KeptExpo
 abbrev pub heldIn : List ℕ → List ℕ → Kept
 heldIn events state = held (keptInput events (progressIn state))
 
--- the state to begin with: length 0, and no checkpoint set
+-- the state to begin with: length 0, and no mark set
 abbrev pub emptyState : List ℕ
-emptyState = 0 ∷ replicate checkpointCount unsetCode
+emptyState = 0 ∷ replicate markCount unsetCode
 
 -- the state in memory that is all 0
 abbrev pub zeroState : List ℕ
-zeroState = replicate (suc checkpointCount) 0
+zeroState = replicate (suc markCount) 0
 
 -- by these steps, each a call, from events and a state to events and a state
 pub data Calls : List ℕ → List ℕ → List Step → List ℕ → List ℕ → Type 0 where
@@ -31,11 +31,11 @@ pub data Calls : List ℕ → List ℕ → List Step → List ℕ → List ℕ �
       → Calls events state (t ∷ l) events″ state″
 
 pub record HistoriesExported : Type 0 where
-  -- whatever events stand there, the state to begin with is that of the empty input without checkpoints
+  -- whatever events stand there, the state to begin with is that of the empty input without marks
   pub begins : (events : List ℕ) → heldIn events emptyState ≡ empty
-  -- one that is all 0 is that of the empty input, too, but with every checkpoint set
+  -- one that is all 0 is that of the empty input, too, but with every mark set
   pub zeroed : (events : List ℕ) → heldIn events zeroState .events ≡ []
-  pub zero-set : (events : List ℕ) (m : ℕ) → m < checkpointCount → heldIn events zeroState .checkpoints m ≡ some 0
+  pub zero-set : (events : List ℕ) (m : ℕ) → m < markCount → heldIn events zeroState .marks m ≡ some 0
   -- what is left holds what the steps make of what was held
   pub holds : {events state events′ state′ : List ℕ} {l : List Step} → Calls events state l events′ state′
       → heldIn events′ state′ ≡ ran l (heldIn events state)

@@ -1,12 +1,12 @@
 -- The entries of all rows, and all limits in one record, to which the constants of the code are tied.
 use Prim.Native.Nat.{ℕ, _*_}
 use Rattle.grammar.specs.declared.limits.Limits.{Limits}
-use Rattle.grammar.specs.Limits.{maxWords, maxNonterminals, maxTerminals, maxRules, maxTokens, maxColumns, maxWideTerminals, maxWideColumns, maxPlaces}
-use Rattle.grammar.specs.Limits.{maxTableWords, maxWideTableWords, maxMemoEntries, maxTabularTokens, maxTabularPlaces, maxSpanWords}
+use Rattle.grammar.specs.Limits.{maxWords, maxNonterminals, maxTerminals, maxRules, maxTokens, maxColumns, maxTerminalsOfTwo, maxColumnsOfTwo, maxPlaces}
+use Rattle.grammar.specs.Limits.{maxTableWords, maxTableWordsOfTwo, maxMemoEntries, maxTabularTokens, maxTabularPlaces, maxSpanWords}
 
 -- the entries of all rows, whichever the lookahead
 abbrev pub maxEntries : ℕ
-maxEntries = maxNonterminals * maxWideColumns
+maxEntries = maxNonterminals * maxColumnsOfTwo
 
 abbrev pub limited : Limits
 limited = record {
@@ -16,12 +16,12 @@ limited = record {
   rules = maxRules;
   tokens = maxTokens;
   columns = maxColumns;
-  «wide_terminals» = maxWideTerminals;
-  «wide_columns» = maxWideColumns;
+  «terminals_of_two» = maxTerminalsOfTwo;
+  «columns_of_two» = maxColumnsOfTwo;
   entries = maxEntries;
   places = maxPlaces;
   «table_words» = maxTableWords;
-  «wide_table_words» = maxWideTableWords;
+  «table_words_of_two» = maxTableWordsOfTwo;
   «memo_entries» = maxMemoEntries;
   «tabular_tokens» = maxTabularTokens;
   «tabular_places» = maxTabularPlaces;

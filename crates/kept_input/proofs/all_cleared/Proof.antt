@@ -1,23 +1,23 @@
--- The first checkpoints are cleared: the loop's invariant.
+-- The first marks are cleared: the loop's invariant.
 use mathlib.Core.Path.{_≡_, _∙_}
 use Prim.Native.Nat.{_-_, _≤_}
 use native.Mathlib.Omega.{arith}
 use borrow.Author.Needs.{needs}
 use lib.ListN
-use Rattle.kept_input.specs.Histories.{checkpointCount}
+use Rattle.kept_input.specs.Histories.{markCount}
 use Rattle.kept_input.specs.contracts.Stored.{clearedBeyond}
 use Rattle.kept_input.proofs.Lists.{appliedTo, applied-none, applied-more, applied-all}
 use Rattle.kept_input.proofs.all_cleared.Statement.{statement}
 use Rattle.kept_input.proofs.all_cleared.Tie as tie
 
 abbrev Inv-loop : tie.InvT-loop
-Inv-loop length within₀ at₀ within at = (at ≤ checkpointCount) × (within ≡ appliedTo (clearedBeyond length) at within₀)
+Inv-loop length within₀ at₀ within at = (at ≤ markCount) × (within ≡ appliedTo (clearedBeyond length) at within₀)
 
 abbrev μ-loop : tie.MeasureT-loop
-μ-loop length within₀ at₀ within at = checkpointCount - at
+μ-loop length within₀ at₀ within at = markCount - at
 
 loop-holds : tie.Need-loop-holds Inv-loop μ-loop
-loop-holds c = (omega arith, applied-none (clearedBeyond (c .args .length)) (c .args .checkpoints))
+loop-holds c = (omega arith, applied-none (clearedBeyond (c .args .length)) (c .args .marks))
 
 mul-cleared : tie.Need-mul-cleared Inv-loop μ-loop
 mul-cleared c = search needs
@@ -44,14 +44,14 @@ loop-again : tie.Need-loop-again Inv-loop μ-loop
 loop-again c =
     let at-loop = c .before .before in
     let given = at-loop .before .args in
-    (omega arith, applied-more (clearedBeyond (given .length)) (at-loop .loop .at) (given .checkpoints) (at-loop .loop .inv .1) (c .cleared .ensures))
+    (omega arith, applied-more (clearedBeyond (given .length)) (at-loop .loop .at) (given .marks) (at-loop .loop .inv .1) (c .cleared .ensures))
 
 returns : tie.Need-returns Inv-loop μ-loop
 returns c =
     let start = c .before .before in
-    let whole : ListN.length (start .args .checkpoints) ≡ checkpointCount = search needs in
-    let all : c .before .loop .at ≡ checkpointCount = omega arith in
-    c .before .loop .inv .1 ∙ (rw all (applied-all (clearedBeyond (start .args .length)) checkpointCount (start .args .checkpoints) (omega arith)))
+    let whole : ListN.length (start .args .marks) ≡ markCount = search needs in
+    let all : c .before .loop .at ≡ markCount = omega arith in
+    c .before .loop .inv .1 ∙ (rw all (applied-all (clearedBeyond (start .args .length)) markCount (start .args .marks) (omega arith)))
 
 pub all-cleared-spec : {M : Type 1} → statement M
 all-cleared-spec =

@@ -2,7 +2,7 @@
 use mathlib.Core.List.{[], _∷_, _++_}
 use Prim.Native.Nat.{ℕ}
 use lib.ListN.{take}
-use Rattle.grammar.specs.Limits.{maxTerminals, maxWideTerminals}
+use Rattle.grammar.specs.Limits.{maxTerminals, maxTerminalsOfTwo}
 use Rattle.lookahead.specs.declared.Lookahead.{Lookahead}
 use Rattle.lookahead.specs.declared.Lookahead.the-variants.{One, Two}
 use Rattle.lookahead.specs.Lookaheads.{tokens, elementOf, stringOf}
@@ -10,7 +10,7 @@ use Rattle.lookahead.specs.Lookaheads.{tokens, elementOf, stringOf}
 -- the most terminals that there may be
 abbrev pub alphabet : Lookahead → ℕ
 alphabet One = maxTerminals
-alphabet Two = maxWideTerminals
+alphabet Two = maxTerminalsOfTwo
 
 -- the element of the tokens that are looked at where the string of a is followed by that of b
 unfoldable pub after : Lookahead → ℕ → ℕ → ℕ

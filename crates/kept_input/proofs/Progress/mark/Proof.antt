@@ -1,7 +1,7 @@
--- A number of no checkpoint, or the checkpoint moved to the length.
+-- A number of no mark, or the mark moved to the length.
 use mathlib.Core.Path.{_≡_}
 use lib.ListN.{length}
-use Rattle.kept_input.specs.Histories.{checkpointCount}
+use Rattle.kept_input.specs.Histories.{markCount}
 use Rattle.kept_input.specs.Stored.{keptInput}
 use Rattle.kept_input.proofs.Stepping.{mark-unknown, mark-done}
 use borrow.Author.Needs.{needs}
@@ -9,28 +9,28 @@ use Rattle.kept_input.proofs.Progress.mark.Statement.{statement}
 use Rattle.kept_input.proofs.Progress.mark.Tie as tie
 
 returns : tie.Need-returns
-returns c = record { steps = λ events whole. mark-unknown (keptInput events (c .before .args .self)) (c .before .args .checkpoint) (c .if1 .taken) }
+returns c = record { steps = λ events whole. mark-unknown (keptInput events (c .before .args .self)) (c .before .args .mark) (c .if1 .taken) }
 
 read-requires : tie.Need-read-requires
 read-requires c κs = search needs
 
-mul-checkpoints : tie.Need-mul-checkpoints
-mul-checkpoints c = search needs
+mul-marks : tie.Need-mul-marks
+mul-marks c = search needs
 
-array-write-checkpoints : tie.Need-array-write-checkpoints
-array-write-checkpoints c = search needs
+array-write-marks : tie.Need-array-write-marks
+array-write-marks c = search needs
 
 returns-2 : tie.Need-returns-2
 returns-2 c =
     let at-read = c .before in
     let at-number = at-read .before in
     let start = at-number .before in
-    let eight : length (start .args .self .checkpoints) ≡ checkpointCount = search needs in
+    let eight : length (start .args .self .marks) ≡ markCount = search needs in
     record {
       steps = λ events whole. mark-done events (start .args .self) whole eight (at-read .read .ensures)
-          (start .args .checkpoint) (at-number .if1 .left);
+          (start .args .mark) (at-number .if1 .left);
     }
 
 pub mark-spec : {M : Type 1} → statement M
 mark-spec =
-    tie.close (tie.spec returns read-requires mul-checkpoints array-write-checkpoints returns-2)
+    tie.close (tie.spec returns read-requires mul-marks array-write-marks returns-2)

@@ -1,4 +1,4 @@
--- The length bounded, and checkpoints beyond it cleared.
+-- The length bounded, and marks beyond it cleared.
 use borrow.Author.Needs.{needs}
 use Rattle.kept_input.proofs.Progress.read.Statement.{statement}
 use Rattle.kept_input.proofs.Progress.read.Tie as tie

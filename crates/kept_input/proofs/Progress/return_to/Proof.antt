@@ -1,7 +1,7 @@
--- A number of no checkpoint, a checkpoint that is not set, or the input cut.
+-- A number of no mark, a mark that is not set, or the input cut.
 use mathlib.Core.Path.{_≡_}
 use lib.ListN.{length}
-use Rattle.kept_input.specs.Histories.{checkpointCount}
+use Rattle.kept_input.specs.Histories.{markCount}
 use Rattle.kept_input.specs.Stored.{keptInput}
 use Rattle.kept_input.proofs.Stepping.{return-unknown, return-unset, return-done}
 use borrow.Author.Needs.{needs}
@@ -9,7 +9,7 @@ use Rattle.kept_input.proofs.Progress.return_to.Statement.{statement}
 use Rattle.kept_input.proofs.Progress.return_to.Tie as tie
 
 returns : tie.Need-returns
-returns c = record { steps = λ events whole. return-unknown (keptInput events (c .before .args .self)) (c .before .args .checkpoint) (c .if1 .taken) }
+returns c = record { steps = λ events whole. return-unknown (keptInput events (c .before .args .self)) (c .before .args .mark) (c .if1 .taken) }
 
 read-requires : tie.Need-read-requires
 read-requires c κs = search needs
@@ -25,9 +25,9 @@ returns-2 c =
     let at-read = c .before .before .before in
     let at-number = at-read .before in
     let start = at-number .before in
-    let eight : length (start .args .self .checkpoints) ≡ checkpointCount = search needs in
+    let eight : length (start .args .self .marks) ≡ markCount = search needs in
     record {
-      steps = λ events whole. return-unset events (start .args .self) whole eight (at-read .read .ensures) (start .args .checkpoint)
+      steps = λ events whole. return-unset events (start .args .self) whole eight (at-read .read .ensures) (start .args .mark)
           (at-number .if1 .left) (c .if2 .taken);
     }
 
@@ -40,9 +40,9 @@ returns-3 c =
     let at-read = at-test .before .before .before in
     let at-number = at-read .before in
     let start = at-number .before in
-    let eight : length (start .args .self .checkpoints) ≡ checkpointCount = search needs in
+    let eight : length (start .args .self .marks) ≡ markCount = search needs in
     record {
-      steps = λ events whole. return-done events (start .args .self) whole eight (at-read .read .ensures) (start .args .checkpoint) (at-number .if1 .left)
+      steps = λ events whole. return-done events (start .args .self) whole eight (at-read .read .ensures) (start .args .mark) (at-number .if1 .left)
           (at-test .if2 .left) (c .all-cleared .ensures);
     }
 

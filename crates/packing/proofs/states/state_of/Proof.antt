@@ -1,9 +1,9 @@
--- All eight checkpoints are written.
+-- All eight marks are written.
 use mathlib.Core.Path.{_≡_, ap}
 use mathlib.Core.List.{List, _∷_}
 use Prim.Native.Nat.{ℕ}
 use lib.ListN.{length}
-use Rattle.kept_input.specs.Histories.{checkpointCount}
+use Rattle.kept_input.specs.Histories.{markCount}
 use Rattle.embed_promises.proofs.Keeping.{eight-listed}
 use borrow.Author.Needs.{needs}
 use Rattle.packing.proofs.states.state_of.Statement.{statement}
@@ -36,8 +36,8 @@ array-read-t26 c = search needs
 returns : tie.Need-returns
 returns c =
     let p = c .before .args .progress in
-    let eight : length (p .checkpoints) ≡ checkpointCount = search needs in
-    ap (λ (l : List ℕ). p .length ∷ l) (eight-listed (p .checkpoints) eight)
+    let eight : length (p .marks) ≡ markCount = search needs in
+    ap (λ (l : List ℕ). p .length ∷ l) (eight-listed (p .marks) eight)
 
 pub state-of-spec : {M : Type 1} → statement M
 state-of-spec =

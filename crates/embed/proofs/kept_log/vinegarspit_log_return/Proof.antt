@@ -1,0 +1,27 @@
+-- The answer is packed, and the state is written back.
+use Rattle.embed_promises.proofs.Keeping.{move-exported}
+use borrow.Author.Needs.{needs}
+use Rattle.embed.proofs.kept_log.vinegarspit_log_return.Statement.{statement}
+use Rattle.embed.proofs.kept_log.vinegarspit_log_return.Tie as tie
+
+progress-in-requires : tie.Need-progress-in-requires
+progress-in-requires c κs = search needs
+
+return-to-requires : tie.Need-return-to-requires
+return-to-requires c κs = search needs
+
+state-of-requires : tie.Need-state-of-requires
+state-of-requires c κs = search needs
+
+pack-requires : tie.Need-pack-requires
+pack-requires c κs = search needs
+
+returns : tie.Need-returns
+returns c =
+    let at-step = c .before .before .before in
+    move-exported (at-step .before .progress-in .ensures) (at-step .return-to .ensures) (c .pack .ensures) (c .before .state-of .ensures)
+
+pub vinegarspit-log-return-spec : {M : Type 1} → statement M
+vinegarspit-log-return-spec =
+    tie.close
+    (tie.spec progress-in-requires return-to-requires state-of-requires pack-requires returns)

@@ -1,0 +1,106 @@
+// A kept input in memory of the caller's: its events, and nine numbers that are its length and its eight marks.
+ghost use mathlib.Core.Path.{_≡_};
+ghost use Rattle.lookahead.specs.declared.Lookahead.the-variants.{One, Two};
+ghost use Rattle.kept_input.specs.Histories.{Mark, Return};
+ghost use Rattle.kept_input.specs.Stored.{keptInput};
+ghost use Rattle.embed_promises.specs.Kept.{progressIn, AddExported, MoveExported, KeptExported};
+use grammar::limits::TOKENS;
+use kept_input::KeptInput;
+use kept_input::add_event;
+use kept_judge::judge_kept;
+use kept_judge::judge_kept_two;
+use packing::pack;
+use packing::states::STATE;
+use packing::states::progress_in;
+use packing::states::state_of;
+
+#[no_mangle]
+pub extern "C" fn vinegarspit_log_add(
+    events: &mut [u8; TOKENS],
+    state: &mut [u16; STATE],
+    event: u8,
+) -> u64
+    ensures { λ r. ⌜ AddExported event (now (events .entry)) (now (state .entry)) r (now (events .exit)) (now (state .exit)) ⌝ }
+{
+    let old = *state;
+    let progress = progress_in(old);
+    let moved = add_event(events, progress, event);
+    let answer = moved.answer;
+    let next = moved.progress;
+    let new = state_of(next);
+    *state = new;
+    pack(answer)
+}
+
+#[no_mangle]
+pub extern "C" fn vinegarspit_log_mark(state: &mut [u16; STATE], mark: u32) -> u64
+    ensures { λ r. ⌜ MoveExported (Mark mark) (now (state .entry)) r (now (state .exit)) ⌝ }
+{
+    let old = *state;
+    let progress = progress_in(old);
+    let moved = progress.mark(mark);
+    let answer = moved.answer;
+    let next = moved.progress;
+    let new = state_of(next);
+    *state = new;
+    pack(answer)
+}
+
+#[no_mangle]
+pub extern "C" fn vinegarspit_log_return(state: &mut [u16; STATE], mark: u32) -> u64
+    ensures { λ r. ⌜ MoveExported (Return mark) (now (state .entry)) r (now (state .exit)) ⌝ }
+{
+    let old = *state;
+    let progress = progress_in(old);
+    let moved = progress.return_to(mark);
+    let answer = moved.answer;
+    let next = moved.progress;
+    let new = state_of(next);
+    *state = new;
+    pack(answer)
+}
+
+// What stands in the caller's memory.
+fn kept_in(events: &[u8; TOKENS], state: &[u16; STATE]) -> KeptInput
+    ensures { λ r. ⌜ r ≡ keptInput (now (events .entry)) (progressIn (now (state .entry))) ⌝ }
+{
+    let stored = *state;
+    let progress = progress_in(stored);
+    let stored_events = *events;
+    KeptInput {
+        events: stored_events,
+        progress,
+    }
+}
+
+#[no_mangle]
+pub extern "C" fn vinegarspit_log_judge(
+    card: &[u32],
+    events: &[u8; TOKENS],
+    state: &[u16; STATE],
+    table: &mut [u32],
+    memo: &mut [u16],
+) -> u64
+    ensures { λ r. ⌜ KeptExported One (now (card .entry)) (now (events .entry)) (now (state .entry)) (now (table .entry)) (now (memo .entry)) r
+        (now (table .exit)) (now (memo .exit)) ⌝ }
+{
+    let kept = kept_in(events, state);
+    let answer = judge_kept(card, kept, table, memo);
+    pack(answer)
+}
+
+#[no_mangle]
+pub extern "C" fn vinegarspit_log_judge2(
+    card: &[u32],
+    events: &[u8; TOKENS],
+    state: &[u16; STATE],
+    table2: &mut [u64],
+    memo: &mut [u16],
+) -> u64
+    ensures { λ r. ⌜ KeptExported Two (now (card .entry)) (now (events .entry)) (now (state .entry)) (now (table2 .entry)) (now (memo .entry)) r
+        (now (table2 .exit)) (now (memo .exit)) ⌝ }
+{
+    let kept = kept_in(events, state);
+    let answer = judge_kept_two(card, kept, table2, memo);
+    pack(answer)
+}

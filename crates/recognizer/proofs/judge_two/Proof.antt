@@ -1,0 +1,40 @@
+-- What judging answers and leaves, by the table's length, by what judging in the memo table alone does, and by what is lent of the table.
+use Rattle.event.specs.Events.{inputOf}
+use Rattle.lookahead.specs.declared.Lookahead.the-variants.{Two}
+use Rattle.recognizer_promises.proofs.JudgeFaults.{table-short}
+use Rattle.recognizer_promises.proofs.Judged.{judge-refused}
+use Rattle.recognizer.proofs.LentTable.{judge-lent}
+use borrow.Author.Needs.{needs}
+use Rattle.recognizer.proofs.judge_two.Statement.{statement}
+use Rattle.recognizer.proofs.judge_two.Tie as tie
+
+returns : tie.Need-returns
+returns c =
+    let start = c .before .before .before .before .before in
+    let given = start .args in
+    judge-refused (table-short Two (given .words .now) (inputOf (given .events .now)) (given .table .now) (given .memo .now) (c .if1 .taken))
+
+judge-words-requires : tie.Need-judge-words-requires
+judge-words-requires c κs = search needs
+
+lend-two-requires : tie.Need-lend-two-requires
+lend-two-requires c κs = search needs
+
+same-length : tie.Need-same-length
+same-length c = search needs
+
+same-length-2 : tie.Need-same-length-2
+same-length-2 c = search needs
+
+returns-2 : tie.Need-returns-2
+returns-2 c =
+    let lent = c .before .before in
+    let judged = lent .before .before .before .before .before in
+    let long = judged .before .before in
+    let start = long .before .before .before .before .before in
+    let given = start .args in
+    judge-lent Two (given .words .now) (inputOf (given .events .now)) (given .table .now) (given .memo .now) (long .if1 .left) (judged .judge-words .ensures)
+    (lent .lend-two .ensures)
+
+pub judge-two-spec : {M : Type 1} → statement M
+judge-two-spec = tie.close (tie.spec returns judge-words-requires lend-two-requires same-length same-length-2 returns-2)
