@@ -21,7 +21,7 @@ use Rattle.grammar.specs.declared.reading.Outcome.{Outcome}
 use Rattle.grammar.specs.declared.reading.Outcome.the-variants.{Read, Faulty}
 use Rattle.grammar.specs.Encoding.{declaredBy, grammarOf}
 use Rattle.grammar.specs.Limits.{maxWords, maxNonterminals, maxTerminals, maxTerminalsOfTwo}
-use Rattle.grammar.specs.Reading.{beginsRule, reading, opened, headed, scan, fresh, within}
+use Rattle.grammar.specs.Reading.{beginsRule, reading, opened, headed, scan, fresh, isWithin}
 use Rattle.grammar.proofs.WellFormed.{Each, none-in, faulty}
 use Rattle.grammar.proofs.WellRead.{chosen, refused, both, within-limits, heading-begins-none}
 use Rattle.admission.specs.declared.Alone.{Alone}
@@ -92,8 +92,8 @@ behind-heading : (w : ℕ) (ws : List ℕ) (z : Sizes) → opened (w ∷ ws) ≡
 unfolding opened headed
 behind-heading w ws z e =
     let y = declaredBy (decoded w) in
-    let b = chosen (within (y .nonterminals) maxNonterminals && within (y .terminals) maxTerminals) (scan (fresh y) 1 ws) z e in
-    let c = both (within (y .nonterminals) maxNonterminals) (within (y .terminals) maxTerminals) (b .0) in
+    let b = chosen (isWithin (y .nonterminals) maxNonterminals && isWithin (y .terminals) maxTerminals) (scan (fresh y) 1 ws) z e in
+    let c = both (isWithin (y .nonterminals) maxNonterminals) (isWithin (y .terminals) maxTerminals) (b .0) in
     record { quiet = heading-begins-none (decoded w) (within-limits (y .nonterminals) maxNonterminals (c .0) .some); scanned = b .1 }
 
 -- in a row that is read, however long, none is found exactly when each rule has a positive

@@ -14,7 +14,7 @@ use Rattle.grammar.specs.declared.reading.State.{State}
 use Rattle.grammar.specs.declared.reading.State.the-variants.{Before, Opened, InPositive, InNegative, Closed}
 use Rattle.grammar.specs.Syntax.{Body, Rule}
 use Rattle.grammar.specs.Encoding.{Parsed, parsed, ruleOf, onWord, parse}
-use Rattle.grammar.specs.Reading.{row, allows, beginsRule, after, stepped, scan}
+use Rattle.grammar.specs.Reading.{row, allows, beginsRule, stateAfter, stepped, scan}
 use Rattle.grammar.specs.declared.reading.Sizes.{Sizes}
 use Rattle.grammar.specs.declared.reading.Progress.{Progress}
 use Rattle.grammar.specs.declared.reading.Outcome.the-variants.{Read}
@@ -67,7 +67,7 @@ Open Closed p = Unit {0}
 cons-some : {A : Type 0} (x : A) (l : List A) → x ∷ l ≡ [] → ⊥
 cons-some x l e = let n = ap length e in omega arith
 
-opened-after : (w : Word) (s : State) → allows w s ≡ true → isOpened (after w s) ≡ beginsRule w
+opened-after : (w : Word) (s : State) → allows w s ≡ true → isOpened (stateAfter w s) ≡ beginsRule w
 opened-after (RuleWord A) s a = refl
 opened-after Positive s a = refl
 opened-after Negative s a = refl
@@ -111,7 +111,7 @@ open-positive Closed b ps ns rs = tt
 
 -- what a word adds, where it begins no negative behind the begin of a rule
 with-word : (w : Word) (s : State) (p : Parsed) → allows w s ≡ true → (isOpened s && beginsNegative w) ≡ false → Each Positives (p .rules)
-    → Open (after w s) p → Each Positives (onWord w p .rules) × Open s (onWord w p)
+    → Open (stateAfter w s) p → Each Positives (onWord w p .rules) × Open s (onWord w p)
 unfolding onWord
 with-word (RuleWord A) s p a n r o = (more-in Positives (ruleOf A p) (p .rules) o r, open-none s _ (closed-row s a))
 with-word Positive s p a n r o = (r, open-positive s (p .body) (p .positives) (p .negatives) (p .rules))
@@ -129,13 +129,13 @@ with-word Invalid s p a n r o = absurd (false≢true a)
 record Behind (w : Word) (s : State) (p : Parsed) : Type 0 where
   quiet : (isOpened s && beginsNegative w) ≡ false
   each : Each Positives (p .rules)
-  rest : Open (after w s) p
+  rest : Open (stateAfter w s) p
 
 and-false : (b : Bool) → (b && false) ≡ false
 and-false true = refl
 and-false false = refl
 
-behind-word : (w : Word) (s : State) (p : Parsed) → allows w s ≡ true → Shape (after w s) p → Each Positives (onWord w p .rules)
+behind-word : (w : Word) (s : State) (p : Parsed) → allows w s ≡ true → Shape (stateAfter w s) p → Each Positives (onWord w p .rules)
     → Open s (onWord w p) → Behind w s p
 unfolding onWord
 behind-word (RuleWord A) s p a h r o =

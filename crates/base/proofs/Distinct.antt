@@ -7,7 +7,7 @@ use mathlib.Core.Path.{_≡_, refl, sym, ap, _∙_}
 use Prim.Native.Nat.{ℕ, zero, suc, _*_, _≤_}
 use native.Mathlib.Omega.{arith}
 use lib.ListN.{length, length-append, length-map}
-use Rattle.base.specs.FiniteSets.{keep, numbersFrom, numbers, combine, Distinct}
+use Rattle.base.specs.FiniteSets.{keep, numbersFrom, numbersBelow, combine, Distinct}
 use Rattle.base.specs.Strings.{strings}
 use Rattle.base.proofs.FiniteSets.{keep-elim, combine-elim}
 
@@ -49,7 +49,7 @@ module _ {A : Type 0} where
     distinct-append l l′ (d .1) d′ (λ y m n. h y (List·Memᴰ·tail m) n),
   )
 
--- what is less than all numbers of a list is not in it
+-- what is less than all numbersBelow of a list is not in it
 pub from-above : (a n x : ℕ) → List·Memᴰ x (numbersFrom a n) → a ≤ x
 unfolding numbersFrom
 from-above a zero x m = absurd (List·Memᴰ·not-nil m)
@@ -63,8 +63,8 @@ unfolding numbersFrom
 distinct-from a zero = tt
 distinct-from a (suc n) = (λ m. absurd (omega (arith, from-above (suc a) n a m)), distinct-from (suc a) n)
 
-pub distinct-numbers : (n : ℕ) → Distinct (numbers n)
-unfolding numbers
+pub distinct-numbers : (n : ℕ) → Distinct (numbersBelow n)
+unfolding numbersBelow
 distinct-numbers n = distinct-from 0 n
 
 module _ {X Y Z : Type 0} (f : X → Y → Z)
@@ -101,11 +101,11 @@ pub distinct-strings : (k n : ℕ) → Distinct (strings k n)
 unfolding strings
 distinct-strings zero n = (λ m. absurd (List·Memᴰ·not-nil m), tt)
 distinct-strings (suc k) n =
-    let longer = combine (λ a x. a ∷ x) (numbers n) (strings k n) in
+    let longer = combine (λ a x. a ∷ x) (numbersBelow n) (strings k n) in
     distinct-append longer ([] ∷ [])
-    (distinct-combine (λ a x. a ∷ x) (λ a b x y e. cc e) (λ a b x y e. cc e) (numbers n) (strings k n) (distinct-numbers n) (distinct-strings k n))
+    (distinct-combine (λ a x. a ∷ x) (λ a b x y e. cc e) (λ a b x y e. cc e) (numbersBelow n) (strings k n) (distinct-numbers n) (distinct-strings k n))
     (λ m. absurd (List·Memᴰ·not-nil m), tt)
     (λ x m e.
-    let r = combine-elim (λ a y. a ∷ y) (numbers n) (strings k n) x m in
+    let r = combine-elim (λ a y. a ∷ y) (numbersBelow n) (strings k n) x m in
     let z : _≡_ {A = ℕ} 0 1 = cc (List·Memᴰ·eq-of-singleton e, r .4) in
     absurd (omega arith))

@@ -9,7 +9,7 @@ use native.Mathlib.Decide.{ℕ-discrete}
 use native.Mathlib.Omega.{arith}
 use lib.Dec.{T, eqb, eqb→eq, eqb-refl}
 use lib.ListN.{length}
-use Rattle.base.specs.FiniteSets.{member, keep, distinct, numbersFrom, numbers, combine}
+use Rattle.base.specs.FiniteSets.{member, keep, distinct, numbersFrom, numbersBelow, combine}
 use Rattle.base.proofs.Booleans.{T-subst, true-T}
 use Rattle.base.proofs.Quantified.{any-elim, any-make}
 
@@ -148,16 +148,16 @@ unfolding numbersFrom
 numbersFrom-length a zero = refl
 numbersFrom-length a (suc n) = ap suc (numbersFrom-length (suc a) n)
 
-pub numbers-make : (n a : ℕ) → a < n → List·Memᴰ a (numbers n)
-unfolding numbers
+pub numbers-make : (n a : ℕ) → a < n → List·Memᴰ a (numbersBelow n)
+unfolding numbersBelow
 numbers-make n a h = numbersFrom-make 0 n a (omega arith) (omega arith)
 
-pub numbers-elim : (n a : ℕ) → List·Memᴰ a (numbers n) → a < n
-unfolding numbers
+pub numbers-elim : (n a : ℕ) → List·Memᴰ a (numbersBelow n) → a < n
+unfolding numbersBelow
 numbers-elim n a m = omega (arith, numbersFrom-elim 0 n a m)
 
-pub numbers-length : (n : ℕ) → length (numbers n) ≡ n
-unfolding numbers
+pub numbers-length : (n : ℕ) → length (numbersBelow n) ≡ n
+unfolding numbersBelow
 numbers-length n = numbersFrom-length 0 n
 
 module _ {X Y Z : Type 0} (f : X → Y → Z) where

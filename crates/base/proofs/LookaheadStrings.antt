@@ -7,7 +7,7 @@ use native.Mathlib.Omega.{arith}
 use lib.Dec.{T, eqb, ltb, eqb→eq, eqb-refl, ltb→lt, lt→ltb}
 use lib.ListN.{length, take}
 use Rattle.base.specs.Quantifiers.{allOf}
-use Rattle.base.specs.FiniteSets.{numbers, combine}
+use Rattle.base.specs.FiniteSets.{numbersBelow, combine}
 use Rattle.base.specs.Strings.{Over, Lookahead, strings, sameString}
 use Rattle.base.proofs.Booleans.{and-l, and-r, and-make}
 use Rattle.base.proofs.FiniteSets.{Equality, numbers-make, numbers-elim, combine-make, combine-elim}
@@ -36,20 +36,20 @@ pub strings-make : (k n : ℕ) (x : List ℕ) → Lookahead k n x → List·Mem�
 unfolding strings allOf
 strings-make zero n [] h = List·Memᴰ·head refl
 strings-make zero n (a ∷ x) h = absurd (omega arith)
-strings-make (suc k) n [] h = Memᴰ·append-right (combine (λ a x. a ∷ x) (numbers n) (strings k n)) (List·Memᴰ·head refl)
+strings-make (suc k) n [] h = Memᴰ·append-right (combine (λ a x. a ∷ x) (numbersBelow n) (strings k n)) (List·Memᴰ·head refl)
 strings-make (suc k) n (a ∷ x) h =
-    Memᴰ·append-left ([] ∷ []) (combine-make (λ a x. a ∷ x) (numbers n) (strings k n) a x (numbers-make n a (ltb→lt a n (and-l (ltb a n) _ (h .1))))
+    Memᴰ·append-left ([] ∷ []) (combine-make (λ a x. a ∷ x) (numbersBelow n) (strings k n) a x (numbers-make n a (ltb→lt a n (and-l (ltb a n) _ (h .1))))
     (strings-make k n x (omega arith, and-r (ltb a n) (allOf (λ a. ltb a n) x) (h .1))))
 
 pub strings-elim : (k n : ℕ) (x : List ℕ) → List·Memᴰ x (strings k n) → Lookahead k n x
 unfolding strings allOf
 strings-elim zero n x m = rw (List·Memᴰ·eq-of-singleton m) (omega arith, tt)
-strings-elim (suc k) n x m = go (List·Memᴰ·append-cases (combine (λ a y. a ∷ y) (numbers n) (strings k n)) m) (strings-elim k n)
+strings-elim (suc k) n x m = go (List·Memᴰ·append-cases (combine (λ a y. a ∷ y) (numbersBelow n) (strings k n)) m) (strings-elim k n)
   where
-    go : List·Memᴰ x (combine (λ a y. a ∷ y) (numbers n) (strings k n)) ⊎ List·Memᴰ x ([] ∷ [])
+    go : List·Memᴰ x (combine (λ a y. a ∷ y) (numbersBelow n) (strings k n)) ⊎ List·Memᴰ x ([] ∷ [])
         → ((y : List ℕ) → List·Memᴰ y (strings k n) → Lookahead k n y) → Lookahead (suc k) n x
     go (inl l) f =
-        let r = combine-elim (λ a y. a ∷ y) (numbers n) (strings k n) x l in
+        let r = combine-elim (λ a y. a ∷ y) (numbersBelow n) (strings k n) x l in
         let h = f (r .1) (r .3) in
         let i : length (r .1) < suc k = omega (arith, h .0) in
         rw (r .4) (i, and-make (ltb (r .0) n) (allOf (λ a. ltb a n) (r .1)) (lt→ltb (r .0) n (numbers-elim n (r .0) (r .2))) (h .1))

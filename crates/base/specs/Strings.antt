@@ -5,7 +5,7 @@ use Prim.Native.Nat.{ℕ, zero, suc, _≤_}
 use lib.ListN.{length, take, drop}
 use lib.Dec.{T, eqb, ltb}
 use Rattle.base.specs.Quantifiers.{allOf}
-use Rattle.base.specs.FiniteSets.{numbers, combine}
+use Rattle.base.specs.FiniteSets.{numbersBelow, combine}
 
 -- the first k tokens from i on, fewer at the end
 unfoldable pub look : ℕ → List ℕ → ℕ → List ℕ
@@ -22,7 +22,7 @@ Lookahead k n x = (length x ≤ k) × Over n x
 -- every string of at most k terminals below n: by the first terminal in order, and the empty string last (document 01, k = 1: the columns of a row)
 unfoldable pub strings : ℕ → ℕ → List (List ℕ)
 strings zero n = [] ∷ []
-strings (suc k) n = combine (λ a x. a ∷ x) (numbers n) (strings k n) ++ [] ∷ []
+strings (suc k) n = combine (λ a x. a ∷ x) (numbersBelow n) (strings k n) ++ [] ∷ []
 
 unfoldable pub sameString : List ℕ → List ℕ → Bool
 sameString [] [] = true

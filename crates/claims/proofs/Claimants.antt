@@ -13,7 +13,7 @@ use Rattle.lookahead.specs.declared.Lookahead.{Lookahead}
 use Rattle.lookahead.specs.Lookaheads.{tokens, elements, stringOf}
 use Rattle.lookahead.specs.Elements.{has}
 use Rattle.base.specs.Quantifiers.{anyOf}
-use Rattle.base.specs.FiniteSets.{member, numbersFrom, numbers}
+use Rattle.base.specs.FiniteSets.{member, numbersFrom, numbersBelow}
 use Rattle.base.specs.Strings.{sameString}
 use Rattle.semantics.specs.Claims.{several, position, claimed, claims, tableOf}
 use Rattle.families.specs.contracts.RuleLists.{byRule}
@@ -31,7 +31,7 @@ module _ (heads sets : List ℕ) where
   unfolding claimant
   claimant-other A l q ne = rw (ne-eqb (getD heads q 0) A (λ e. ne (sym e)))
 
--- the numbers from one on, with the one before them
+-- the numbersBelow from one on, with the one before them
 pub numbers-before : (q n : ℕ) → 0 < q → q ≤ n → numbersFrom (q - 1) (n - (q - 1)) ≡ (q - 1) ∷ numbersFrom q (n - q)
 unfolding numbersFrom
 numbers-before q n h k =
@@ -39,7 +39,7 @@ numbers-before q n h k =
     let b : suc (q - 1) ≡ q = omega arith in
     rw (a, b)
 
--- a list's members pass one test as their numbers, counted from a on, pass another
+-- a list's members pass one test as their numbersBelow, counted from a on, pass another
 module _ {X : Type 0} (p : ℕ → Bool) (f : X → Bool) where
   abbrev pub Alike : ℕ → List X → Type 0
   Alike a l = (q : ℕ) (x : X) → getElem? l q ≡ some x → p (a + q) ≡ f x
@@ -85,12 +85,12 @@ module _ {G : Grammar} {k : ℕ} {heads sets : List ℕ} {l : ℕ} {x : List ℕ
       let n : 0 + q ≡ q = omega arith in
       rw n (ap₂ _&&_ (ap (λ B. eqb B A) (t .own q r e)) (t .claims q r e))
 
-  pub several-claims : several (claimant heads sets A l) (numbers (length (G .rules))) ≡ several (claims G k (A, x)) (G .rules)
-  unfolding numbers
+  pub several-claims : several (claimant heads sets A l) (numbersBelow (length (G .rules))) ≡ several (claims G k (A, x)) (G .rules)
+  unfolding numbersBelow
   several-claims = several-alike (claimant heads sets A l) (claims G k (A, x)) 0 (G .rules) claims-alike
 
-  pub first-claim : position (claimant heads sets A l) (numbers (length (G .rules))) ≡ tableOf G k A x
-  unfolding numbers tableOf
+  pub first-claim : position (claimant heads sets A l) (numbersBelow (length (G .rules))) ≡ tableOf G k A x
+  unfolding numbersBelow tableOf
   first-claim = position-alike (claimant heads sets A l) (claims G k (A, x)) 0 (G .rules) claims-alike
 
 -- with the heads and the claims of a grammar's rules

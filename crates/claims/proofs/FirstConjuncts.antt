@@ -15,7 +15,7 @@ use Rattle.grammar.specs.declared.reading.State.the-variants.{Opened}
 use Rattle.grammar.specs.declared.reading.Sizes.{Sizes}
 use Rattle.grammar.specs.declared.reading.Outcome.the-variants.{Read}
 use Rattle.grammar.specs.Encoding.{Parsed, onWord, parse}
-use Rattle.grammar.specs.Reading.{allows, beginsRule, after, reading}
+use Rattle.grammar.specs.Reading.{allows, beginsRule, stateAfter, reading}
 use Rattle.grammar.specs.contracts.Starts.{ruleStarts}
 use Rattle.grammar.proofs.Suffixes.{Reached, scan-next, read-reaches}
 use Rattle.grammar.proofs.WellFormed.{Shape, reads}
@@ -27,7 +27,7 @@ use Rattle.families.proofs.RuleRanges.{rule-is}
 use Rattle.families.proofs.Words.{parse-here, parse-over}
 
 -- behind the begin of a rule
-opened-after : (w : Word) (s : State) → beginsRule w ≡ true → after w s ≡ Opened
+opened-after : (w : Word) (s : State) → beginsRule w ≡ true → stateAfter w s ≡ Opened
 opened-after (RuleWord A) s e = refl
 opened-after Positive s e = absurd (false≢true e)
 opened-after Negative s e = absurd (false≢true e)
@@ -41,7 +41,7 @@ unfolding parse
 none-opened s = s .1 refl
 
 -- a word that may stand there, by what the words behind it are
-negative-alone : (w : Word) (p : Parsed) → allows w Opened ≡ true → Shape (after w Opened) p → beginsNegative w ≡ without (onWord w p .positives)
+negative-alone : (w : Word) (p : Parsed) → allows w Opened ≡ true → Shape (stateAfter w Opened) p → beginsNegative w ≡ without (onWord w p .positives)
 unfolding onWord
 negative-alone Positive p a s = refl
 negative-alone Negative p a s = rw s
@@ -64,7 +64,7 @@ module _ (words : List ℕ) {z : Sizes} (read : reading words ≡ Read z) where
       let inside : i + 1 < length words = go (decLt (i + 1) (length words)) shape in
       let m = scan-next words (i + 1) (n .progress) z inside (n .reads) in
       let allowed : allows (decoded (getD words (i + 1) 0)) Opened ≡ true = rw opened at (m .passed .allowed) in
-      let behind : Shape (after (decoded (getD words (i + 1) 0)) Opened) (parse (drop (suc (i + 1)) words)) =
+      let behind : Shape (stateAfter (decoded (getD words (i + 1) 0)) Opened) (parse (drop (suc (i + 1)) words)) =
       rw (m .passed .state, opened, add-one (i + 1)) at (reads (m .progress) (i + 1 + 1) (drop (i + 1 + 1) words) z (m .reads) .fits .shape) in
       (inside, negative-alone (decoded (getD words (i + 1) 0)) (parse (drop (suc (i + 1)) words)) allowed behind ∙ rw (parse-here words (i + 1) inside))
     where

@@ -8,7 +8,7 @@ use lib.ListN.{take}
 use Rattle.grammar.specs.Syntax.{Rule, Grammar, WellFormed}
 use Rattle.lookahead.specs.declared.Lookahead.{Lookahead}
 use Rattle.lookahead.specs.Lookaheads.{tokens, elements, stringOf}
-use Rattle.lookahead.specs.contracts.Lookaheads.{alphabet, after}
+use Rattle.lookahead.specs.contracts.Lookaheads.{alphabet, elementAfter}
 use Rattle.lookahead.specs.Elements.{has}
 use Rattle.lookahead.specs.contracts.Operations.{concatNumbers}
 use Rattle.lookahead.proofs.Strings.{string-after, after-below}
@@ -20,7 +20,7 @@ use Rattle.semantics.specs.FirstFollow.{concatStrings, follow, followSets}
 use Rattle.semantics.specs.Claims.{meeting, claimed}
 use Rattle.semantics.proofs.families.LookaheadSets.{sets-make, sets-elim, concat-make, concat-elim}
 use Rattle.semantics.proofs.families.Follow.{follow-lookahead}
-use Rattle.families.specs.Sets.{numberOf, followNumber}
+use Rattle.families.specs.Sets.{setNumber, followNumber}
 use Rattle.families.specs.contracts.Sets.{meetNumber}
 use Rattle.families.proofs.Strings.{string-in}
 use Rattle.families.proofs.Numbers.{number-string, in-number}
@@ -35,10 +35,11 @@ concat-lists k us ys s t f g x = (
       let r = concat-elim (tokens k) us ys x m in
       let i = f (r .0) .0 (r .2) in
       let j = g (r .1) .0 (r .3) in
-      let p : Pair k s t (after k (i .0) (j .0)) = record { a = i .0; b = j .0; a-below = i .1; b-below = j .1; a-in = i .2; b-in = j .2; is-after = refl } in (
-        after k (i .0) (j .0),
+      let p : Pair k s t (elementAfter k (i .0) (j .0)) =
+      record { a = i .0; b = j .0; a-below = i .1; b-below = j .1; a-in = i .2; b-in = j .2; is-after = refl } in (
+        elementAfter k (i .0) (j .0),
         after-below k (i .0) (j .0) (i .1) (j .1),
-        pair-concat k s t (after k (i .0) (j .0)) p,
+        pair-concat k s t (elementAfter k (i .0) (j .0)) p,
         r .4 ∙ ap₂ (λ u y. take (tokens k) (u ++ y)) (i .3) (j .3) ∙ string-after k (i .0) (j .0) (i .1) (j .1),
       ),
   λ i.
@@ -76,5 +77,5 @@ module _ (k : Lookahead) (G : Grammar) (formed : WellFormed G) (few : G .termina
 -- the number of a rule's claim has the elements of the strings that it claims
 pub claim-has : (k : Lookahead) (G : Grammar) (r : Rule) (l : ℕ) → l < elements k
     → has (claimNumber k G r) l ≡ member sameString (claimed G (tokens k) r) (stringOf k l)
-unfolding claimNumber numberOf
+unfolding claimNumber setNumber
 claim-has k G r l h = has-total (elements k) (λ l. member sameString (claimed G (tokens k) r) (stringOf k l)) l ∙ rw (lt-ltb l (elements k) h)

@@ -12,7 +12,7 @@ use Rattle.answer.specs.declared.Answer.{Answer}
 use Rattle.base.specs.Choice.{choose}
 use Rattle.usage.specs.declared.Usage.{Usage}
 use Rattle.usage.specs.Counters.{unused}
-use Rattle.usage.specs.Histories.{counted}
+use Rattle.usage.specs.Histories.{countedAnswer}
 use Rattle.client_records.specs.declared.totals.Totals.{Totals}
 use Rattle.client_records.specs.Usages.{clients, usageOfClient, calledBy, sumBelow, charged, exhausted, UsedUp, Charges}
 use Rattle.client_records.specs.Sums.{Totalled}
@@ -44,11 +44,11 @@ module _ (client : ℕ) (x : Answer) (us : List Usage) where
   unfolding charged
   charged-nobody h = rw (le-ltb client clients h)
 
-  pub charged-client : {u : Usage} → client < clients → u ≡ counted (usageOfClient us client) x → set us client u ≡ charged client x us
+  pub charged-client : {u : Usage} → client < clients → u ≡ countedAnswer (usageOfClient us client) x → set us client u ≡ charged client x us
   unfolding charged
   charged-client h e = rw (lt-ltb client clients h, e)
 
-  charged-own : client < clients → length us ≡ clients → usageOfClient (charged client x us) client ≡ counted (usageOfClient us client) x
+  charged-own : client < clients → length us ≡ clients → usageOfClient (charged client x us) client ≡ countedAnswer (usageOfClient us client) x
   unfolding charged
   charged-own h e = rw (lt-ltb client clients h) (getD-set-same us client _ unused (omega arith))
 
@@ -56,7 +56,7 @@ module _ (client : ℕ) (x : Answer) (us : List Usage) where
   unfolding charged
   charged-other k d = go (ltb client clients)
     where
-      go : (b : Bool) → usageOfClient (choose b (set us client (counted (usageOfClient us client) x)) us) k ≡ usageOfClient us k
+      go : (b : Bool) → usageOfClient (choose b (set us client (countedAnswer (usageOfClient us client) x)) us) k ≡ usageOfClient us k
       go true = getD-set-other us client k _ unused (λ e. d (sym e))
       go false = refl
 

@@ -11,7 +11,7 @@ use Rattle.answer.specs.declared.Answer.{Answer}
 use Rattle.base.specs.Choice.{choose}
 use Rattle.usage.specs.declared.Usage.{Usage}
 use Rattle.usage.specs.Counters.{counterLimit, saturated, unused, calledOf, eachCounter}
-use Rattle.usage.specs.Histories.{counted, recordOf, total}
+use Rattle.usage.specs.Histories.{countedAnswer, recordOf, totalOf}
 use Rattle.usage.proofs.Histories.{from-any, from-unused, record-append}
 use Rattle.client_records.specs.Usages.{clients, nobody, usageOfClient, calledBy, UsedUp, Charges}
 use Rattle.client_records.specs.Histories.{Reply, reply, answersTo, Continues, OfTheDay, calledExactly}
@@ -46,13 +46,13 @@ answers-append k (t ∷ h) s = go (eqb (t .client) k) (eqb (s .client) k) (answe
     go false true e = e
     go false false e = e
 
--- records in which one client's answer is counted, and all else is as it was
+-- records in which one client's answer is countedAnswer, and all else is as it was
 module _ {us vs : List Usage} {client : ℕ} {x : Answer} (charges : Charges client x us vs) where
   -- of any client
-  pub of-each : (k : ℕ) → k < clients → usageOfClient vs k ≡ choose (eqb client k) (counted (usageOfClient us k) x) (usageOfClient us k)
+  pub of-each : (k : ℕ) → k < clients → usageOfClient vs k ≡ choose (eqb client k) (countedAnswer (usageOfClient us k) x) (usageOfClient us k)
   of-each k h = go (eqb client k) refl
     where
-      go : (b : Bool) → eqb client k ≡ b → usageOfClient vs k ≡ choose b (counted (usageOfClient us k) x) (usageOfClient us k)
+      go : (b : Bool) → eqb client k ≡ b → usageOfClient vs k ≡ choose b (countedAnswer (usageOfClient us k) x) (usageOfClient us k)
       go true q = let z : client ≡ k = eqb-true client k q in rw (← z) (charges .own (rw z h))
       go false q = charges .others k (eqb-false client k q)
 
@@ -62,19 +62,19 @@ module _ {us vs : List Usage} {client : ℕ} {x : Answer} (charges : Charges cli
       ∙ ap (recordOf (usageOfClient first k)) (sym (answers-append k h (reply client x))))
     where
       go : (k : ℕ) (b : Bool) → usageOfClient us k ≡ recordOf (usageOfClient first k) (answersTo k h)
-          → choose b (counted (usageOfClient us k) x) (usageOfClient us k)
+          → choose b (countedAnswer (usageOfClient us k) x) (usageOfClient us k)
           ≡ recordOf (usageOfClient first k) (choose b (answersTo k h ++ x ∷ []) (answersTo k h))
-      go k true e = ap (λ (u : Usage). counted u x) e ∙ sym (record-append (usageOfClient first k) (answersTo k h) x)
+      go k true e = ap (λ (u : Usage). countedAnswer u x) e ∙ sym (record-append (usageOfClient first k) (answersTo k h) x)
       go k false e = e
 
   pub of-the-day-with : (h : List Reply) → OfTheDay h us → OfTheDay (h ++ reply client x ∷ []) vs
   of-the-day-with h d = of-nobody (continues-with nobody h (day-continues d))
 
 -- a counter that stops on the way and the exact sum are cut at the same number
-pub called-stops : (u : Usage) (l : List Answer) → saturated (recordOf u l .called) ≡ saturated (u .called + total calledOf l)
-unfolding recordOf total counted eachCounter
+pub called-stops : (u : Usage) (l : List Answer) → saturated (recordOf u l .called) ≡ saturated (u .called + totalOf calledOf l)
+unfolding recordOf totalOf countedAnswer eachCounter
 called-stops u [] = omega arith
-called-stops u (x ∷ l) = omega (arith, called-stops (counted u x) l)
+called-stops u (x ∷ l) = omega (arith, called-stops (countedAnswer u x) l)
 
 pub exactly-stops : {first us : List Usage} {h : List Reply} → Continues first h us → (k : ℕ) → k < clients
     → saturated (calledBy us k) ≡ saturated (calledExactly first h k)

@@ -15,31 +15,31 @@ use Rattle.grammar.specs.Encoding.{grammarOf}
 use Rattle.recognizer_promises.specs.Answers.{verdictOf}
 use Rattle.usage.specs.declared.Usage.{Usage}
 use Rattle.usage.specs.Counters.{counterLimit, saturated, calledOf, eachCounter}
-use Rattle.usage.specs.Histories.{counted, recordOf, total}
+use Rattle.usage.specs.Histories.{countedAnswer, recordOf, totalOf}
 use Rattle.client_records.specs.Usages.{clients, nobody, usageOfClient, calledBy, sumBelow, exhausted, Charges}
 use Rattle.client_records.specs.Histories.{Reply, reply, answersTo, Continues, OfTheDay}
 use Rattle.client_records.specs.Properties.{clientFault}
-use Rattle.client_records.specs.Runs.{Call, Run, idle, next, replyBy, calledWith, repliesBy, RunsCounted}
+use Rattle.client_records.specs.Runs.{ClientCall, ClientRun, idle, next, replyBy, calledWith, repliesBy, RunsCounted}
 use Rattle.client_records.proofs.Sums.{sum-alike, sums-stop}
 use Rattle.client_records.proofs.Histories.{continued, of-nobody, of-each}
 
--- counted one by one
-run-counts : {us vs : List Usage} {l : List Call} {h : List Reply} → Run us l h vs → (k : ℕ) → k < clients
+-- countedAnswer one by one
+run-counts : {us vs : List Usage} {l : List ClientCall} {h : List Reply} → ClientRun us l h vs → (k : ℕ) → k < clients
     → usageOfClient vs k ≡ recordOf (usageOfClient us k) (answersTo k h)
 unfolding recordOf answersTo
 run-counts idle k b = refl
 run-counts (next {us = us} {c = c} {h = h} r table′ memo′ j rest) k b =
     run-counts rest k b ∙ ap (λ (u : Usage). recordOf u (answersTo k h)) (of-each (j .charges) k b) ∙ go (eqb (c .client) k)
   where
-    go : (q : Bool) → recordOf (choose q (counted (usageOfClient us k) (r .answer)) (usageOfClient us k)) (answersTo k h)
+    go : (q : Bool) → recordOf (choose q (countedAnswer (usageOfClient us k) (r .answer)) (usageOfClient us k)) (answersTo k h)
         ≡ recordOf (usageOfClient us k) (choose q (r .answer ∷ answersTo k h) (answersTo k h))
     go true = refl
     go false = refl
 
-from-any : {us vs : List Usage} {l : List Call} {h : List Reply} → Run us l h vs → Continues us h vs
+from-any : {us vs : List Usage} {l : List ClientCall} {h : List Reply} → ClientRun us l h vs → Continues us h vs
 from-any run = continued (run-counts run)
 
-from-nobody : {vs : List Usage} {l : List Call} {h : List Reply} → Run nobody l h vs → OfTheDay h vs
+from-nobody : {vs : List Usage} {l : List ClientCall} {h : List Reply} → ClientRun nobody l h vs → OfTheDay h vs
 from-nobody run = of-nobody (from-any run)
 
 -- numbers that are cut alike
@@ -60,7 +60,7 @@ exhausted-alike f g e client share limit h s l =
     rw (reached-alike share (f client) (g client) s (e client h), reached-alike limit (sumBelow clients f) (sumBelow clients g) l (sums-stop clients f g e))
 
 -- so the first fault of a call is one
-fault-alike : (f g : ℕ → ℕ) → Alike f g → (c : Call)
+fault-alike : (f g : ℕ → ℕ) → Alike f g → (c : ClientCall)
     → clientFault (c .client) (c .share) (c .limit) f (length (c .table)) (length (c .memo)) (c .words) (c .input)
     ≡ clientFault (c .client) (c .share) (c .limit) g (length (c .table)) (length (c .memo)) (c .words) (c .input)
 unfolding clientFault
@@ -75,15 +75,15 @@ fault-alike f g e c = go (leb clients (c .client)) refl
 -- and what has been called with its answer is cut alike again
 called-alike : {us vs : List Usage} {client : ℕ} {x : Answer} (f : ℕ → ℕ) → Alike (calledBy us) f → Charges client x us vs
     → Alike (calledBy vs) (calledWith f (reply client x))
-unfolding counted eachCounter
+unfolding countedAnswer eachCounter
 called-alike {us} {client = client} {x} f e charges k b = ap (λ (u : Usage). saturated (u .called)) (of-each charges k b) ∙ go (eqb client k) (e k b)
   where
     go : (q : Bool) → saturated (calledBy us k) ≡ saturated (f k)
-        → saturated (choose q (counted (usageOfClient us k) x) (usageOfClient us k) .called) ≡ saturated (choose q (f k + calledOf x) (f k))
+        → saturated (choose q (countedAnswer (usageOfClient us k) x) (usageOfClient us k) .called) ≡ saturated (choose q (f k + calledOf x) (f k))
     go true d = omega arith
     go false d = d
 
-exact : {us vs : List Usage} {l : List Call} {h : List Reply} → Run us l h vs → (f : ℕ → ℕ) → Alike (calledBy us) f → h ≡ repliesBy f l
+exact : {us vs : List Usage} {l : List ClientCall} {h : List Reply} → ClientRun us l h vs → (f : ℕ → ℕ) → Alike (calledBy us) f → h ≡ repliesBy f l
 unfolding repliesBy replyBy
 exact idle f e = refl
 exact (next {us = us} {c = c} {l = l} {h = h} r table′ memo′ j rest) f e =
@@ -92,7 +92,7 @@ exact (next {us = us} {c = c} {l = l} {h = h} r table′ memo′ j rest) f e =
     let behind : h ≡ repliesBy (calledWith f (reply (c .client) (r .answer))) l = exact rest _ (called-alike f e (j .charges)) in
     ap (λ (t : List Reply). reply (c .client) (r .answer) ∷ t) behind ∙ ap (λ (s : Reply). s ∷ repliesBy (calledWith f s) l) same
 
-by-exact-sums : {us vs : List Usage} {l : List Call} {h : List Reply} → Run us l h vs → h ≡ repliesBy (calledBy us) l
+by-exact-sums : {us vs : List Usage} {l : List ClientCall} {h : List Reply} → ClientRun us l h vs → h ≡ repliesBy (calledBy us) l
 by-exact-sums {us} run = exact run (calledBy us) (λ k b. refl)
 
 -- a number added for one client
@@ -117,23 +117,24 @@ added-once (suc n) c x g = go (eqb c n) (ltb c n) refl refl (added-once n c x g)
 
 -- one reply more
 exact-more : (s : Reply) (l : List Reply) (k : ℕ)
-    → total calledOf (answersTo k (s ∷ l)) ≡ choose (eqb (s .client) k) (calledOf (s .answer) + total calledOf (answersTo k l)) (total calledOf (answersTo k l))
-unfolding answersTo total
+    → totalOf calledOf (answersTo k (s ∷ l))
+    ≡ choose (eqb (s .client) k) (calledOf (s .answer) + totalOf calledOf (answersTo k l)) (totalOf calledOf (answersTo k l))
+unfolding answersTo totalOf
 exact-more s l k = go (eqb (s .client) k)
   where
-    go : (b : Bool) → total calledOf (choose b (s .answer ∷ answersTo k l) (answersTo k l))
-        ≡ choose b (calledOf (s .answer) + total calledOf (answersTo k l)) (total calledOf (answersTo k l))
+    go : (b : Bool) → totalOf calledOf (choose b (s .answer ∷ answersTo k l) (answersTo k l))
+        ≡ choose b (calledOf (s .answer) + totalOf calledOf (answersTo k l)) (totalOf calledOf (answersTo k l))
     go true = refl
     go false = refl
 
-all-called : {us vs : List Usage} {l : List Call} {h : List Reply} → Run us l h vs
-    → sumBelow clients (λ k. total calledOf (answersTo k h)) ≡ total calledOf (map (λ (s : Reply). s .answer) h)
-unfolding sumBelow answersTo total
+all-called : {us vs : List Usage} {l : List ClientCall} {h : List Reply} → ClientRun us l h vs
+    → sumBelow clients (λ k. totalOf calledOf (answersTo k h)) ≡ totalOf calledOf (map (λ (s : Reply). s .answer) h)
+unfolding sumBelow answersTo totalOf
 all-called idle = refl
 all-called (next {us = us} {c = c} {h = h} r table′ memo′ j rest) =
     let s : Reply = reply (c .client) (r .answer) in
-    let g : ℕ → ℕ = λ k. total calledOf (answersTo k h) in
-    let more = sum-alike clients (λ k. total calledOf (answersTo k (s ∷ h)))
+    let g : ℕ → ℕ = λ k. totalOf calledOf (answersTo k h) in
+    let more = sum-alike clients (λ k. totalOf calledOf (answersTo k (s ∷ h)))
     (λ k. choose (eqb (c .client) k) (calledOf (r .answer) + g k) (g k)) (exact-more s h) in
     omega (arith, more, added-once clients (c .client) (calledOf (r .answer)) g, counts (ltb (c .client) clients) refl, all-called rest)
   where

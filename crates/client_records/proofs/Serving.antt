@@ -25,7 +25,7 @@ use Rattle.promises.proofs.Directions.{pair-same, directions-ignored}
 use Rattle.recognizer_promises.specs.Memory.{memoWords}
 use Rattle.recognizer_promises.specs.Properties.{Judges}
 use Rattle.usage.specs.declared.Usage.{Usage}
-use Rattle.usage.specs.Histories.{counted}
+use Rattle.usage.specs.Histories.{countedAnswer}
 use Rattle.client_records.specs.declared.Served.{Served}
 use Rattle.client_records.specs.Usages.{clients, usageOfClient, calledBy, sumBelow, charged, exhausted, UsedUp}
 use Rattle.client_records.specs.Histories.{calledExactly}
@@ -99,7 +99,7 @@ module _ (client share limit : ℕ) (us : List Usage) (eight : length us ≡ cli
       (charged-nobody client (Refused UnknownClient) us h)
 
   module _ (h : client < clients) {b : Bool} (e : b ≡ exhausted (calledBy us client) share (sumBelow clients (calledBy us)) limit) where
-    pub quota-reached : {u : Usage} → b ≡ true → u ≡ counted (usageOfClient us client) (Refused QuotaReached)
+    pub quota-reached : {u : Usage} → b ≡ true → u ≡ countedAnswer (usageOfClient us client) (Refused QuotaReached)
         → JudgesFor client share limit words input table memo us (record { answer = Refused QuotaReached; usages = set us client u }) table memo
     quota-reached t c =
         let used = used-up client share limit (calledBy us) h (sym e ∙ t) in
@@ -111,7 +111,7 @@ module _ (client share limit : ℕ) (us : List Usage) (eight : length us ≡ cli
         (charged-client client (Refused QuotaReached) us h c)
 
     pub judged : {u : Usage} {a : Answer} {table′ memo′ : List ℕ} → b ≡ false → Judges One words input table memo a table′ memo′
-        → u ≡ counted (usageOfClient us client) a
+        → u ≡ countedAnswer (usageOfClient us client) a
         → JudgesFor client share limit words input table memo us (record { answer = a; usages = set us client u }) table′ memo′
     judged {a = a} t j c = serves
         (leaves-alike (then-judged client share limit (calledBy us) (length table) (length memo) words input h (sym e ∙ t)) (j .leaves))

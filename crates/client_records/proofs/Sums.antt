@@ -9,7 +9,7 @@ use Rattle.usage.specs.Counters.{counterLimit, saturated}
 use Rattle.client_records.specs.declared.totals.Totals.{Totals}
 use Rattle.client_records.specs.Usages.{clients, usageOfClient, sumBelow}
 use Rattle.client_records.specs.Sums.{totalsOf, Totalled}
-use Rattle.client_records.specs.contracts.Sums.{TotalsSmall, Adds, SummedUp}
+use Rattle.client_records.specs.contracts.Sums.{TotalsSmall, AddsUsage, SummedUp}
 
 pub nothing-summed : (us : List Usage) → SummedUp us 0 (totalsOf 0 0 0 0)
 unfolding sumBelow
@@ -28,7 +28,7 @@ module _ {us : List Usage} {n : ℕ} {t : Totals} (s : SummedUp us n t) where
     called = omega (arith, s .within .called);
   }
 
-  pub one-more : {r : Totals} → n < clients → Adds t (usageOfClient us n) r → SummedUp us (n + 1) r
+  pub one-more : {r : Totals} → n < clients → AddsUsage t (usageOfClient us n) r → SummedUp us (n + 1) r
   unfolding sumBelow
   one-more {r} h a =
       let w = a .within (n * counterLimit) (s .within) in

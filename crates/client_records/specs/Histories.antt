@@ -7,7 +7,7 @@ use Rattle.answer.specs.declared.Answer.{Answer}
 use Rattle.base.specs.Choice.{choose}
 use Rattle.usage.specs.declared.Usage.{Usage}
 use Rattle.usage.specs.Counters.{calledOf}
-use Rattle.usage.specs.Histories.{recordOf, total, summed, spent, InRange}
+use Rattle.usage.specs.Histories.{recordOf, totalOf, summed, spent, UsageInRange}
 use Rattle.client_records.specs.Usages.{clients, usageOfClient, calledBy}
 
 -- an answer, and whom it was given
@@ -28,7 +28,7 @@ pub record Continues (first : List Usage) (history : List Reply) (us : List Usag
   -- each client's by its own answers alone, counted one by one
   pub one-by-one : (k : ℕ) → k < clients → usageOfClient us k ≡ recordOf (usageOfClient first k) (answersTo k history)
   -- which are the exact sums over its own answers, cut at the end, where the earlier ones are of 32 bits as every one that is handed in is
-  pub by-sums : (k : ℕ) → k < clients → InRange (usageOfClient first k) → usageOfClient us k ≡ summed (usageOfClient first k) (answersTo k history)
+  pub by-sums : (k : ℕ) → k < clients → UsageInRange (usageOfClient first k) → usageOfClient us k ≡ summed (usageOfClient first k) (answersTo k history)
 
 -- from empty records: each client's counters are its own answers' exact sums, cut
 abbrev pub OfTheDay : List Reply → List Usage → Type 0
@@ -36,4 +36,4 @@ OfTheDay history us = (k : ℕ) → k < clients → usageOfClient us k ≡ spent
 
 -- what the descents for a client have called in all, as a number that does not stop
 abbrev pub calledExactly : List Usage → List Reply → ℕ → ℕ
-calledExactly first history k = calledBy first k + total calledOf (answersTo k history)
+calledExactly first history k = calledBy first k + totalOf calledOf (answersTo k history)

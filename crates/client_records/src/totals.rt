@@ -1,5 +1,5 @@
 // The sums of all clients' counters, in numbers of 64 bits.
-ghost use Rattle.client_records.specs.contracts.Sums.{TotalsSmall, Adds};
+ghost use Rattle.client_records.specs.contracts.Sums.{TotalsSmall, AddsUsage};
 ghost use Rattle.client_records.specs.Sums.{Totalled};
 use super::CLIENTS;
 use usage::Usage;
@@ -15,7 +15,7 @@ impl Totals {
     // With one client's counters added.
     fn plus(self, usage: Usage) -> Totals
         requires { ⌜ TotalsSmall self ⌝ }
-        ensures { λ r. ⌜ Adds self usage r ⌝ }
+        ensures { λ r. ⌜ AddsUsage self usage r ⌝ }
     {
         Totals {
             calls: self.calls + usage.calls as u64,

@@ -15,7 +15,7 @@ use Rattle.lookahead.specs.declared.Lookahead.the-variants.{One, Two}
 use Rattle.lookahead.specs.Lookaheads.{tokens, elements, nothing, stringOf}
 use Rattle.lookahead.specs.contracts.Lookaheads.{alphabet}
 use Rattle.lookahead.proofs.Strings.{element-string, string-element, element-below, over-wider}
-use Rattle.base.specs.FiniteSets.{numbersFrom, numbers}
+use Rattle.base.specs.FiniteSets.{numbersFrom, numbersBelow}
 use Rattle.base.specs.Strings.{strings, Lookahead as Looked}
 use Rattle.semantics.specs.Claims.{column}
 use Rattle.semantics.proofs.families.Columns.{strings-columns}
@@ -79,6 +79,6 @@ unfolding numbersFrom columnString
 columns-from t c zero e = rw (eq-eqb c t (omega arith))
 columns-from t c (suc n) e = rw (ne-eqb c t (λ d. omega arith)) (ap (λ l. (c ∷ []) ∷ l) (columns-from t (suc c) n (omega arith)))
 
-pub columns-strings : (t : ℕ) → strings 1 t ≡ map (columnString One t) (numbers (suc t))
-unfolding numbers
+pub columns-strings : (t : ℕ) → strings 1 t ≡ map (columnString One t) (numbersBelow (suc t))
+unfolding numbersBelow
 columns-strings t = strings-columns t ∙ columns-from t 0 t (omega arith)

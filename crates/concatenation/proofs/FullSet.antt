@@ -10,7 +10,7 @@ use Rattle.base.specs.Strings.{Over}
 use Rattle.lookahead.specs.declared.Lookahead.{Lookahead}
 use Rattle.lookahead.specs.declared.Lookahead.the-variants.{One, Two}
 use Rattle.lookahead.specs.Lookaheads.{tokens, nothing, elementOf, stringOf}
-use Rattle.lookahead.specs.contracts.Lookaheads.{alphabet, after}
+use Rattle.lookahead.specs.contracts.Lookaheads.{alphabet, elementAfter}
 use Rattle.lookahead.specs.Elements.{has}
 use Rattle.lookahead.specs.contracts.Elements.{Subset, OverTerminals}
 use Rattle.lookahead.specs.contracts.Operations.{end, full, join, concatNumbers, End, Full, Joined, Concatenated}
@@ -55,8 +55,8 @@ module _ (k : Lookahead) (t s : ℕ) (singles : Singles k t s) where
           let ib = over-head (alphabet k) b [] (over-tail (alphabet k) a (b ∷ []) p) in
           let ea = element-below k (a ∷ []) (single-looked k (alphabet k) a ia) in
           let eb = element-below k (b ∷ []) (single-looked k (alphabet k) b ib) in
-          let d : after k (elementOf k (a ∷ [])) (elementOf k (b ∷ [])) ≡ l =
-          string-same k (after k (elementOf k (a ∷ [])) (elementOf k (b ∷ []))) l
+          let d : elementAfter k (elementOf k (a ∷ [])) (elementOf k (b ∷ [])) ≡ l =
+          string-same k (elementAfter k (elementOf k (a ∷ [])) (elementOf k (b ∷ []))) l
           (sym (string-after k (elementOf k (a ∷ [])) (elementOf k (b ∷ [])) ea eb)
           ∙ ap₂ (λ u v. take (tokens k) (u ++ v)) (string-terminal k a ia) (string-terminal k b ib) ∙ take-all (tokens k) (a ∷ b ∷ []) n ∙ sym e) in
           join-right (end k) _ l (join-right s (concatNumbers k s s) l (rw d at (paired k s s (elementOf k (a ∷ [])) (elementOf k (b ∷ [])) ea eb

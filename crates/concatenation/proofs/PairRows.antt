@@ -1,4 +1,4 @@
--- With two tokens: what is looked at behind a terminal alone, as digits of a number.
+-- With two tokens: what is looked at elementBehind a terminal alone, as digits of a number.
 use mathlib.Core.Path.{_≡_, refl, sym, ap, ap₂, _∙_}
 use mathlib.Core.Bool.{Bool, true, false, not, _&&_, _||_, and-true, and-false, or-false}
 use mathlib.Core.Logic.{_⊎_, inl, inr}
@@ -14,9 +14,9 @@ use Rattle.base.specs.Quantifiers.{anyBelow}
 use Rattle.base.proofs.Booleans.{both, and-l, and-r, and-make, or-l, or-r, or-cases}
 use Rattle.base.proofs.Quantified.{below-cong, below-make, below-elim}
 use Rattle.lookahead.specs.declared.Lookahead.the-variants.{One, Two}
-use Rattle.lookahead.specs.contracts.Lookaheads.{after}
+use Rattle.lookahead.specs.contracts.Lookaheads.{elementAfter}
 use Rattle.lookahead.specs.Elements.{has, width}
-use Rattle.lookahead.specs.contracts.Operations.{Empty, Terminal, Joined, behind}
+use Rattle.lookahead.specs.contracts.Operations.{Empty, Terminal, Joined, elementBehind}
 use Rattle.concatenation.specs.contracts.Computing.{Has, begins, noSingle, inRows}
 use Rattle.lookahead.proofs.Digits.{has-over, moved, some-digit, has-mask}
 use Rattle.lookahead.proofs.Elements.{has-or, bound}
@@ -24,12 +24,12 @@ use Rattle.lookahead.proofs.Pairs.{behind-make, behind-elim}
 use Rattle.lookahead.proofs.Strings.{two-single, two-pair, after-nothing}
 
 -- l alone and another terminal, l alone and a pair
-after-single : (l b : ℕ) → l < 7 → 0 < b → b < 8 → after Two (suc l) b ≡ 8 + 7 * l + (b - 1)
-unfolding after
+after-single : (l b : ℕ) → l < 7 → 0 < b → b < 8 → elementAfter Two (suc l) b ≡ 8 + 7 * l + (b - 1)
+unfolding elementAfter
 after-single l b h p q = rw (two-single (suc l) (omega arith) (omega arith), two-single b p q) (omega arith)
 
-after-pair : (l b : ℕ) → l < 7 → 8 ≤ b → after Two (suc l) b ≡ 8 + 7 * l + (b - 8) / 7
-unfolding after
+after-pair : (l b : ℕ) → l < 7 → 8 ≤ b → elementAfter Two (suc l) b ≡ 8 + 7 * l + (b - 8) / 7
+unfolding elementAfter
 after-pair l b h p = rw (two-single (suc l) (omega arith) (omega arith), two-pair b p) (omega arith)
 
 -- whether a terminal begins a string, by the digits of its pairs
@@ -43,7 +43,7 @@ begins-pair s r e =
     let d : has s (suc r) ≡ false = ap (has s) (omega arith) ∙ e in
     sym (rw d (some-digit s (8 + 7 * r) 7 ∙ ap (λ (n : ℕ). not (eqb n 0)) (sym (and-mask (s / 2 ^ (8 + 7 * r)) 7))))
 
--- the row of l: first tokens moved to the pairs of l, and l where the end may come behind it
+-- the row of l: first tokens moved to the pairs of l, and l where the end may come elementBehind it
 module _ (y f l : ℕ) (low : l < 7) (firsts : Has f (λ r. ltb r 7 && begins y r)) where
   abbrev pairs : ℕ
   pairs = f * 2 ^ (8 + 7 * l)
@@ -54,7 +54,7 @@ module _ (y f l : ℕ) (low : l < 7) (firsts : Has f (λ r. ltb r 7 && begins y 
   first-small : f < 2 ^ 7
   first-small = bound 7 f (λ r t. ltb→lt r 7 (and-l (ltb r 7) (begins y r) (rw (firsts r) at t)))
 
-  to : (c : ℕ) → T (has pairs c) ⊎ T (has ends c) → T (behind Two (suc l) y c)
+  to : (c : ℕ) → T (has pairs c) ⊎ T (has ends c) → T (elementBehind Two (suc l) y c)
   unfolding begins
   to c (inl t) =
       let d = moved f (8 + 7 * l) c t in
@@ -74,17 +74,17 @@ module _ (y f l : ℕ) (low : l < 7) (firsts : Has f (λ r. ltb r 7 && begins y 
       let z : d .0 ≡ 0 = omega arith in
       behind-make Two (suc l) y c 0 (omega arith) (rw z at (and-r (ltb (d .0) 1) (has y (d .0)) u)) (after-nothing Two (suc l) ∙ omega (arith, d .1))
 
-  from : (c : ℕ) → T (behind Two (suc l) y c) → T (has pairs c) ⊎ T (has ends c)
+  from : (c : ℕ) → T (elementBehind Two (suc l) y c) → T (has pairs c) ⊎ T (has ends c)
   unfolding begins
   from c t = let b = behind-elim Two (suc l) y c t in go (b .0) (b .1) (b .2) (b .3) (decLt 0 (b .0)) (decLt (b .0) 8)
     where
       first : (r : ℕ) → r < 7 → T (begins y r) → c ≡ 8 + 7 * l + r → T (has pairs c)
       first r h u e = rw (e, has-over f (8 + 7 * l) r, firsts r) (and-make (ltb r 7) (begins y r) (lt→ltb r 7 h) u)
 
-      go : (b : ℕ) → b < 57 → T (has y b) → after Two (suc l) b ≡ c → Dec (0 < b) → Dec (b < 8) → T (has pairs c) ⊎ T (has ends c)
+      go : (b : ℕ) → b < 57 → T (has y b) → elementAfter Two (suc l) b ≡ c → Dec (0 < b) → Dec (b < 8) → T (has pairs c) ⊎ T (has ends c)
       go b h u e (no p) q =
           let z : b ≡ 0 = omega arith in
-          let n : c ≡ (1 + l) + 0 = sym e ∙ ap (after Two (suc l)) z ∙ after-nothing Two (suc l) ∙ omega arith in
+          let n : c ≡ (1 + l) + 0 = sym e ∙ ap (elementAfter Two (suc l)) z ∙ after-nothing Two (suc l) ∙ omega arith in
           inr (rw (n, has-over (y % 2 ^ 1) (1 + l) 0, has-mask y 1 0) (rw z at u))
       go b h u e (yes p) (yes q) =
           let z : suc (b - 1) ≡ b = omega arith in
@@ -94,10 +94,10 @@ module _ (y f l : ℕ) (low : l < 7) (firsts : Has f (λ r. ltb r 7 && begins y 
           inl (first ((b - 8) / 7) (omega arith) (or-r (has y (suc ((b - 8) / 7))) _
           (below-make 7 (λ q. has y (8 + 7 * ((b - 8) / 7) + q)) ((b - 8) % 7) (omega arith) (rw z u))) (sym e ∙ after-pair l b low (omega arith)))
 
-  pub row-is : Has (bitOr (f * 2 ^ (8 + 7 * l) % 2 ^ width) (bitAnd y 1 * 2 ^ (1 + l) % 2 ^ width)) (behind Two (suc l) y)
+  pub row-is : Has (bitOr (f * 2 ^ (8 + 7 * l) % 2 ^ width) (bitAnd y 1 * 2 ^ (1 + l) % 2 ^ width)) (elementBehind Two (suc l) y)
   row-is c =
       ap (λ (n : ℕ). has n c) exact
-      ∙ both (has (bitOr pairs ends) c) (behind Two (suc l) y c)
+      ∙ both (has (bitOr pairs ends) c) (elementBehind Two (suc l) y c)
       (λ t. to c (or-cases (has pairs c) (has ends c) (rw (has-or pairs ends c) at t)))
       (λ t. rw (has-or pairs ends c) (elim (from c t) [ inl u ↦ or-l (has pairs c) (has ends c) u | inr u ↦ or-r (has pairs c) (has ends c) u ]))
     where
@@ -108,10 +108,10 @@ module _ (y f l : ℕ) (low : l < 7) (firsts : Has f (λ r. ltb r 7 && begins y 
 
 -- and where l is in the set at all
 pub row-in : (x y f l : ℕ) → l < 7 → Has f (λ r. ltb r 7 && begins y r) → has x (1 + l) ≡ true
-    → Has (bitOr (f * 2 ^ (8 + 7 * l) % 2 ^ width) (bitAnd y 1 * 2 ^ (1 + l) % 2 ^ width)) (λ c. has x (suc l) && behind Two (suc l) y c)
+    → Has (bitOr (f * 2 ^ (8 + 7 * l) % 2 ^ width) (bitAnd y 1 * 2 ^ (1 + l) % 2 ^ width)) (λ c. has x (suc l) && elementBehind Two (suc l) y c)
 row-in x y f l h i e c = let d : has x (suc l) ≡ true = ap (has x) (omega arith) ∙ e in rw d (row-is y f l h i c)
 
-pub row-out : (x y l : ℕ) {r : ℕ} → has x (1 + l) ≡ false → Empty r → Has r (λ c. has x (suc l) && behind Two (suc l) y c)
+pub row-out : (x y l : ℕ) {r : ℕ} → has x (1 + l) ≡ false → Empty r → Has r (λ c. has x (suc l) && elementBehind Two (suc l) y c)
 row-out x y l e n c = let d : has x (suc l) ≡ false = ap (has x) (omega arith) ∙ e in n .member c ∙ sym (rw d refl)
 
 -- whether there is no row at all
@@ -131,16 +131,16 @@ rows-skipped x y e n c = n .member c ∙ sym (both (inRows x y 7 c) false none (
   where
     none : T (inRows x y 7 c) → T false
     none t =
-        let l = below-elim 7 (λ l. has x (suc l) && behind Two (suc l) y c) t in
+        let l = below-elim 7 (λ l. has x (suc l) && elementBehind Two (suc l) y c) t in
         absurd (T-not (anyBelow 7 (λ l. has x (suc l))) (rw e tt)
-        (below-make 7 (λ l. has x (suc l)) (l .0) (l .1) (and-l (has x (suc (l .0))) (behind Two (suc (l .0)) y c) (l .2))))
+        (below-make 7 (λ l. has x (suc l)) (l .0) (l .1) (and-l (has x (suc (l .0))) (elementBehind Two (suc (l .0)) y c) (l .2))))
 
--- one terminal after the other
+-- one terminal elementAfter the other
 pub rows-none : (x y : ℕ) {r : ℕ} → Empty r → Has r (inRows x y 0)
 unfolding inRows anyBelow
 rows-none x y e c = e .member c
 
-pub rows-more : (x y n : ℕ) {v r r′ : ℕ} → Has r (inRows x y n) → Has v (λ c. has x (suc n) && behind Two (suc n) y c)
+pub rows-more : (x y n : ℕ) {v r r′ : ℕ} → Has r (inRows x y n) → Has v (λ c. has x (suc n) && elementBehind Two (suc n) y c)
     → Joined v r r′ → Has r′ (inRows x y (n + 1))
 unfolding inRows anyBelow
 rows-more x y n h i j c = rw (add-one n) (j .member c ∙ ap₂ _||_ (i c) (h c))

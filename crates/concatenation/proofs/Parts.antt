@@ -1,5 +1,5 @@
 -- The parts of a concatenation, as the code goes: long strings of the first set, the second set where nothing comes before it, and with two tokens what
--- comes behind terminals alone.
+-- comes elementBehind terminals alone.
 use mathlib.Core.Path.{_≡_, refl, sym, ap, ap₂, _∙_}
 use mathlib.Core.Bool.{Bool, true, false, _&&_, _||_, or-false}
 use mathlib.Core.List.{List, [], _∷_, _++_}
@@ -14,9 +14,9 @@ use Rattle.base.proofs.Quantified.{below-make, below-elim}
 use Rattle.lookahead.specs.declared.Lookahead.{Lookahead}
 use Rattle.lookahead.specs.declared.Lookahead.the-variants.{One, Two}
 use Rattle.lookahead.specs.Lookaheads.{tokens, elements, nothing, elementOf, stringOf}
-use Rattle.lookahead.specs.contracts.Lookaheads.{after}
+use Rattle.lookahead.specs.contracts.Lookaheads.{elementAfter}
 use Rattle.lookahead.specs.Elements.{has}
-use Rattle.lookahead.specs.contracts.Operations.{isEmpty, Joined, behind, inConcat, concatNumbers, Concatenated}
+use Rattle.lookahead.specs.contracts.Operations.{isEmpty, Joined, elementBehind, inConcat, concatNumbers, Concatenated}
 use Rattle.concatenation.specs.contracts.Computing.{Has, isLong, inRows}
 use Rattle.lookahead.proofs.Elements.{same-elements}
 use Rattle.lookahead.proofs.Emptiness.{empty-none, some-element}
@@ -26,9 +26,9 @@ use Rattle.lookahead.proofs.Operations.{has-concat, is-concat}
 use Rattle.lookahead.proofs.Pairs.{Pair, behind-make, behind-elim, pair-in, in-pair}
 use Rattle.concatenation.proofs.Cases.{one-long, two-long}
 
--- whatever comes behind a long string, it is looked at
-long-after : (k : Lookahead) (a b : ℕ) → T (isLong k a) → after k a b ≡ a
-unfolding isLong after
+-- whatever comes elementBehind a long string, it is looked at
+long-after : (k : Lookahead) (a b : ℕ) → T (isLong k a) → elementAfter k a b ≡ a
+unfolding isLong elementAfter
 long-after k a b t =
     let e : length (stringOf k a) ≡ tokens k = eqb→eq (length (stringOf k a)) (tokens k) t in
     ap (λ n. elementOf k (take n (stringOf k a ++ stringOf k b))) (sym e) ∙ ap (elementOf k) (front (stringOf k a) (stringOf k b)) ∙ element-string k a
@@ -55,30 +55,30 @@ shape Two a h = go (decLt 0 a) (decLt a 8)
     go (yes p) (yes q) = inr (inr (a - 1, omega arith, omega arith))
     go (yes p) (no q) = inl (true-T (isLong Two a) (two-long a (omega arith)))
 
--- what comes behind a terminal alone
+-- what comes elementBehind a terminal alone
 abbrev pub inMiddle : Lookahead → ℕ → ℕ → ℕ → Bool
 inMiddle One x y l = false
 inMiddle Two x y l = inRows x y 7 l
 
-middle-make : (k : Lookahead) (x y l a b : ℕ) → Between k a → b < elements k → T (has x a) → T (has y b) → after k a b ≡ l → T (inMiddle k x y l)
+middle-make : (k : Lookahead) (x y l a b : ℕ) → Between k a → b < elements k → T (has x a) → T (has y b) → elementAfter k a b ≡ l → T (inMiddle k x y l)
 unfolding inRows
 middle-make One x y l a b m h s t e = absurd m
 middle-make Two x y l a b m h s t e =
-    below-make 7 (λ n. has x (suc n) && behind Two (suc n) y l) (m .0) (m .1)
-    (and-make (has x (suc (m .0))) (behind Two (suc (m .0)) y l) (rw (m .2) at s) (behind-make Two (suc (m .0)) y l b h t (rw (m .2) at e)))
+    below-make 7 (λ n. has x (suc n) && elementBehind Two (suc n) y l) (m .0) (m .1)
+    (and-make (has x (suc (m .0))) (elementBehind Two (suc (m .0)) y l) (rw (m .2) at s) (behind-make Two (suc (m .0)) y l b h t (rw (m .2) at e)))
 
 middle-elim : (k : Lookahead) (x y l : ℕ) → T (inMiddle k x y l) → Pair k x y l
 unfolding inRows
 middle-elim One x y l t = absurd t
 middle-elim Two x y l t =
-    let n = below-elim 7 (λ n. has x (suc n) && behind Two (suc n) y l) t in
-    let b = behind-elim Two (suc (n .0)) y l (and-r (has x (suc (n .0))) (behind Two (suc (n .0)) y l) (n .2)) in
+    let n = below-elim 7 (λ n. has x (suc n) && elementBehind Two (suc n) y l) t in
+    let b = behind-elim Two (suc (n .0)) y l (and-r (has x (suc (n .0))) (elementBehind Two (suc (n .0)) y l) (n .2)) in
     record {
       a = suc (n .0);
       b = b .0;
       a-below = omega (arith, n .1);
       b-below = b .1;
-      a-in = and-l (has x (suc (n .0))) (behind Two (suc (n .0)) y l) (n .2);
+      a-in = and-l (has x (suc (n .0))) (elementBehind Two (suc (n .0)) y l) (n .2);
       b-in = b .2;
       is-after = b .3;
     }

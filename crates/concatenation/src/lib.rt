@@ -1,4 +1,4 @@
-// One lookahead set behind the other: what is looked at where a string of the first is followed by one of the second, and the set of all strings.
+// One lookahead set elementBehind the other: what is looked at where a string of the first is followed by one of the second, and the set of all strings.
 ghost use mathlib.Core.Path.{_≡_};
 ghost use mathlib.Core.Bool.{_&&_};
 ghost use Prim.Native.Nat.{suc, _%_, _^_, _<_};
@@ -7,7 +7,7 @@ ghost use Rattle.base.specs.Choice.{choose};
 ghost use Rattle.lookahead.specs.declared.Lookahead.the-variants.{One, Two};
 ghost use Rattle.lookahead.specs.Lookaheads.{elements, nothing};
 ghost use Rattle.lookahead.specs.Elements.{has};
-ghost use Rattle.lookahead.specs.contracts.Operations.{Full, Concatenated, behind};
+ghost use Rattle.lookahead.specs.contracts.Operations.{Full, Concatenated, elementBehind};
 ghost use Rattle.concatenation.specs.contracts.Computing.{Has, Singles, isLong, begins, noSingle, inRows};
 use grammar::limits::TERMINALS_OF_TWO;
 use lookahead::Lookahead;
@@ -85,7 +85,7 @@ fn firsts(set: LookaheadSet) -> LookaheadSet
 // first tokens: l and one of them, or l alone before nothing.
 fn row(set: LookaheadSet, l: u32, other: LookaheadSet, firsts: LookaheadSet) -> LookaheadSet
     requires { ⌜ (l < 7) × Has (firsts .bits) (λ r. ltb r 7 && begins (other .bits) r) ⌝ }
-    ensures { λ r. ⌜ Has (r .bits) (λ c. has (set .bits) (suc l) && behind Two (suc l) (other .bits) c) ⌝ }
+    ensures { λ r. ⌜ Has (r .bits) (λ c. has (set .bits) (suc l) && elementBehind Two (suc l) (other .bits) c) ⌝ }
 {
     let alone = 1 + l;
     if set.contains(alone) {
@@ -133,7 +133,7 @@ fn before(set: LookaheadSet, lookahead: Lookahead, other: LookaheadSet) -> Looka
     }
 }
 
-// One set behind the other with one token: the terminals of the first, and the second where the first has nothing.
+// One set elementBehind the other with one token: the terminals of the first, and the second where the first has nothing.
 fn concat_one(set: LookaheadSet, other: LookaheadSet) -> LookaheadSet
     ensures { λ r. ⌜ Concatenated One (set .bits) (other .bits) (r .bits) ⌝ }
 {
@@ -159,7 +159,7 @@ fn concat_two(set: LookaheadSet, other: LookaheadSet) -> LookaheadSet
 }
 
 // What is looked at where an element of the one set is followed by one of the other (document 01: strung together): the strings of the
-// first that are long enough, and shorter ones with what comes behind them. No pair, no element: empty where either set is.
+// first that are long enough, and shorter ones with what comes elementBehind them. No pair, no element: empty where either set is.
 pub fn concat(set: LookaheadSet, lookahead: Lookahead, other: LookaheadSet) -> LookaheadSet
     ensures { λ r. ⌜ Concatenated lookahead (set .bits) (other .bits) (r .bits) ⌝ }
 {

@@ -14,13 +14,13 @@ use Rattle.grammar.specs.Limits.{maxNonterminals, maxColumnsOfTwo, maxTokens, m
 use Rattle.grammar.specs.contracts.Limits.{maxEntries}
 use Rattle.base.proofs.Lists.{listed-long, listed-at, getD-zeros}
 use Rattle.descent_arrays.specs.contracts.Arrays.{choiceColumns, rowColumn, endColumn, choiceWords, rowAt, endAt}
-use Rattle.descent_arrays.specs.contracts.Choices.{entryOf, firstWord, rowWord, choiceRows, choicesOf, RowGiven}
+use Rattle.descent_arrays.specs.contracts.Choices.{entryOf, firstWord, choiceWord, choiceRows, choicesOf, RowGiven}
 use Rattle.descent_arrays.proofs.Listing.{listed-by}
 
 -- the word at an index, where the rows of the first n nonterminals are written
 abbrev wordAt : (starts : List ℕ) (columns : ℕ) (entries : List ℕ) (tokens n x : ℕ) → ℕ
 wordAt starts columns entries tokens n x =
-    choose (ltb (x / choiceColumns) n) (rowWord starts columns entries tokens (x / choiceColumns) (x % choiceColumns)) 0
+    choose (ltb (x / choiceColumns) n) (choiceWord starts columns entries tokens (x / choiceColumns) (x % choiceColumns)) 0
 
 module _ (starts : List ℕ) (columns : ℕ) (entries : List ℕ) (tokens : ℕ) where
   rows-long : (n : ℕ) → length (choiceRows starts columns entries tokens n) ≡ choiceWords
@@ -116,11 +116,11 @@ module _ {starts : List ℕ} {columns : ℕ} {entries : List ℕ} {tokens A : �
     other x n m = getD-set-other ended row x (A * (tokens + 1)) 0 n ∙ getD-set-other now end x tokens 0 m
 
     -- the row itself
-    in-row : (c : ℕ) → c < choiceColumns → getD after (A * choiceColumns + c) 0 ≡ rowWord starts columns entries tokens A c
-    unfolding rowWord
+    in-row : (c : ℕ) → c < choiceColumns → getD after (A * choiceColumns + c) 0 ≡ choiceWord starts columns entries tokens A c
+    unfolding choiceWord
     in-row c l = go (decLt c columns) (ℕ-discrete c endColumn) (ℕ-discrete c rowColumn)
       where
-        go : Dec (c < columns) → Dec (c ≡ endColumn) → Dec (c ≡ rowColumn) → getD after (A * choiceColumns + c) 0 ≡ rowWord starts columns entries tokens A c
+        go : Dec (c < columns) → Dec (c ≡ endColumn) → Dec (c ≡ rowColumn) → getD after (A * choiceColumns + c) 0 ≡ choiceWord starts columns entries tokens A c
         go (yes k) e r =
             other (A * choiceColumns + c) (λ q. absurd (omega (arith, g .fewColumns))) (λ q. absurd (omega (arith, g .fewColumns)))
             ∙ w .written c (omega arith)
@@ -186,7 +186,7 @@ module _ (starts : List ℕ) {nonterminals columns : ℕ} (entries : List ℕ) {
       rw (a, b, c)
 
   column-at : (A c : ℕ) → A < nonterminals → c < choiceColumns
-      → getD (choicesOf starts nonterminals columns entries tokens) (A * choiceColumns + c) 0 ≡ rowWord starts columns entries tokens A c
+      → getD (choicesOf starts nonterminals columns entries tokens) (A * choiceColumns + c) 0 ≡ choiceWord starts columns entries tokens A c
   column-at A c a l =
       let q : (A * choiceColumns + c) / choiceColumns ≡ A = omega arith in
       let r : (A * choiceColumns + c) % choiceColumns ≡ c = omega arith in
@@ -195,7 +195,7 @@ module _ (starts : List ℕ) {nonterminals columns : ℕ} (entries : List ℕ) {
       ∙ rw (q, r, lt-ltb A nonterminals a)
 
   pub choices-filled : Filled starts nonterminals columns entries tokens (choicesOf starts nonterminals columns entries tokens)
-  unfolding rowAt endAt rowWord
+  unfolding rowAt endAt choiceWord
   choices-filled = record {
     entered = λ A c a h. column-at A c a (omega arith) ∙ rw (lt-ltb c columns h);
     rows = λ A a. column-at A rowColumn a (omega arith) ∙ rw (le-ltb rowColumn columns (omega arith));

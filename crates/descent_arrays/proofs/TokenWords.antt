@@ -17,7 +17,7 @@ use Rattle.base.proofs.Lists.{listed-long, listed-at}
 use Rattle.columns.specs.contracts.Columns.{columnAt}
 use Rattle.columns.proofs.Columns.{one-end, two-end, column-right}
 use Rattle.columns.proofs.ColumnStrings.{column-count}
-use Rattle.descent_arrays.specs.contracts.Arrays.{endColumn, endMark, columnWeight, held}
+use Rattle.descent_arrays.specs.contracts.Arrays.{endColumn, endMark, columnWeight, heldTokens}
 use Rattle.descent_arrays.specs.contracts.Tokens.{tokenWord, markAt, tokensOf}
 use Rattle.descent_arrays.proofs.Listing.{listed-by}
 
@@ -79,8 +79,8 @@ module _ (k : Lookahead) (n : ℕ) (w : List ℕ) where
 
 -- words hold the input that their terminals are, up to the end
 held-is : (w tokens : List ℕ) → length w < length tokens → ((i : ℕ) → i < length w → getD tokens i 0 % columnWeight ≡ getD w i 0)
-    → ((i : ℕ) → i < length w → getD w i 0 < endMark) → getD tokens (length w) 0 % columnWeight ≡ endMark → held tokens ≡ w
-unfolding held
+    → ((i : ℕ) → i < length w → getD w i 0 < endMark) → getD tokens (length w) 0 % columnWeight ≡ endMark → heldTokens tokens ≡ w
+unfolding heldTokens
 held-is [] [] l t k e = absurd (omega arith)
 held-is [] (x ∷ ts) l t k e = rw (eq-eqb (x % columnWeight) endMark e)
 held-is (a ∷ w) [] l t k e = absurd (omega arith)
@@ -101,7 +101,7 @@ pub record TokensGiven (k : Lookahead) (w : List ℕ) (n : ℕ) : Type 0 where
 
 -- the words of the tokens hold the input, and for each place the column of its lookahead string
 pub record TokensHold (k : Lookahead) (n : ℕ) (w tokens : List ℕ) : Type 0 where
-  pub input : held tokens ≡ w
+  pub input : heldTokens tokens ≡ w
   pub columns : (i : ℕ) → i ≤ length w → getD tokens i 0 / columnWeight ≡ columnAt k n w i
   pub terminals : (i : ℕ) → i < length w → getD tokens i 0 % columnWeight ≡ getD w i 0
   pub end : getD tokens (length w) 0 % columnWeight ≡ endMark

@@ -21,7 +21,7 @@ use Rattle.kept_input.specs.declared.KeptInput.{KeptInput}
 use Rattle.kept_input.specs.declared.Moved.{Moved}
 use Rattle.kept_input.specs.declared.Changed.{Changed}
 use Rattle.kept_input.specs.Histories.{markCount, Kept, Step, Add, Mark, Return, notSet, stepFault, unlessRefused}
-use Rattle.kept_input.specs.Stored.{keptInput, held, valuesOf}
+use Rattle.kept_input.specs.Stored.{keptInput, heldInput, valuesOf}
 use Rattle.kept_input.specs.Properties.{Steps, Moves, JudgesKept}
 use Rattle.kept_input.proofs.Lists.{elements}
 use Rattle.embed_promises.specs.contracts.Packing.{NumbersFit, cut}
@@ -45,7 +45,7 @@ step-low (Return m) s =
     unset (some n) = of-none Low
 
 step-fits : {t : Step} {k : KeptInput} {c : Changed} → Steps t k c → NumbersFit (numbers (c .answer))
-step-fits {t} {k} s = fits-by (stepFault t (held k)) Passed (s .leaves .answer) (step-low t (held k)) (λ q. rw (s .leaves .answer, q) passed-fits)
+step-fits {t} {k} s = fits-by (stepFault t (heldInput k)) Passed (s .leaves .answer) (step-low t (heldInput k)) (λ q. rw (s .leaves .answer, q) passed-fits)
 
 -- the nine numbers of the state
 listed : (l : List ℕ) (n : ℕ) → length l ≡ n → valuesOf (λ m. getD l m 0) n ≡ l
@@ -68,7 +68,7 @@ state-read (x ∷ l) e =
 
 -- a refused step hands back what it was given
 refused-kept : {t : Step} {k : KeptInput} {c : Changed} → Steps t k c → (e : Error) → c .answer ≡ Refused e → c .kept ≡ k
-refused-kept {t} {k} {c} s e q = go (stepFault t (held k)) _ (s .leaves .answer) (s .kept)
+refused-kept {t} {k} {c} s e q = go (stepFault t (heldInput k)) _ (s .leaves .answer) (s .kept)
   where
     go : (f : Option Error) (next : KeptInput) → c .answer ≡ refusedOr f Passed → c .kept ≡ unlessRefused f next k → c .kept ≡ k
     go none next a h = absurd (refused-ne-passed (sym q ∙ a))

@@ -9,8 +9,8 @@ use Rattle.answer.specs.Numbers.{numbers}
 use Rattle.lookahead.specs.declared.Lookahead.{Lookahead}
 use Rattle.event.specs.Events.{inputOf}
 use Rattle.kept_input.specs.declared.KeptInput.{KeptInput}
-use Rattle.kept_input.specs.Histories.{markCount, empty, Step, ran}
-use Rattle.kept_input.specs.Stored.{unsetCode, keptInput, readMark, held, valuesOf, progressOf, stored}
+use Rattle.kept_input.specs.Histories.{markCount, emptyInput, Step, ran}
+use Rattle.kept_input.specs.Stored.{unsetCode, keptInput, readMark, heldInput, valuesOf, progressOf, storedInput}
 use Rattle.kept_input.proofs.Storing.{held-stored}
 use Rattle.kept_input.proofs.Soundness.{empty-sound}
 use Rattle.embed_promises.specs.Packing.{packed}
@@ -18,22 +18,22 @@ use Rattle.embed_promises.specs.Exports.{JudgeExported}
 use Rattle.embed_promises.specs.Kept.{stateOf, progressIn, StepExported, KeptExported}
 use Rattle.embed_promises.specs.contracts.KeptHistories.{heldIn, emptyState, zeroState, Calls, idle, next, HistoriesExported}
 
-empty-held : (events : List ℕ) → heldIn events emptyState ≡ empty
-unfolding valuesOf progressOf stored
-empty-held events = held-stored events empty empty-sound
+empty-held : (events : List ℕ) → heldIn events emptyState ≡ emptyInput
+unfolding valuesOf progressOf storedInput
+empty-held events = held-stored events emptyInput empty-sound
 
 zero-held : (events : List ℕ) → heldIn events zeroState .events ≡ []
-unfolding held
+unfolding heldInput
 zero-held events = refl
 
 zero-marks : (events : List ℕ) (m : ℕ) → m < markCount → heldIn events zeroState .marks m ≡ some 0
-unfolding held
+unfolding heldInput
 zero-marks events m h = ap (readMark 0) (getD-replicate markCount m 0 unsetCode h)
 
 -- what a call leaves in the caller's memory is what the library's step hands back
 call-holds : {t : Step} {events state events′ state′ : List ℕ} {r : ℕ} → (s : StepExported t events state r events′ state′)
-    → heldIn events′ state′ ≡ held (s .changed .kept)
-call-holds s = ap held (same (s .changed .kept) (s .events-written) (s .state-written))
+    → heldIn events′ state′ ≡ heldInput (s .changed .kept)
+call-holds s = ap heldInput (same (s .changed .kept) (s .events-written) (s .state-written))
   where
     same : (k : KeptInput) {events′ state′ : List ℕ} → events′ ≡ k .events → state′ ≡ stateOf (k .progress) → keptInput events′ (progressIn state′) ≡ k
     same k e f = rw (e, f) refl
@@ -45,7 +45,7 @@ calls-hold (next {l = l} r s rest) = calls-hold rest ∙ ap (ran l) (call-holds 
 
 calls-judged : {k : Lookahead} {events events′ state′ : List ℕ} {l : List Step} → Calls events emptyState l events′ state′
     → {words table memo table′ memo′ table″ memo″ : List ℕ} {r s : ℕ} → KeptExported k words events′ state′ table memo r table′ memo′
-    → JudgeExported k words (inputOf (ran l empty .events)) table memo s table″ memo″
+    → JudgeExported k words (inputOf (ran l emptyInput .events)) table memo s table″ memo″
     → (r ≡ s) × (table′ ≡ table″) × (memo′ ≡ memo″)
 calls-judged {events = events} {l = l} calls kept judged =
     let same = kept .exported .promise .afresh l (calls-hold calls ∙ ap (ran l) (empty-held events)) _ _ _ (judged .promise) in

@@ -10,12 +10,12 @@ use Rattle.usage.specs.declared.Usage.{Usage}
 use Rattle.usage.specs.Counters.{usageOf}
 use Rattle.client_records.specs.Usages.{clients, usageOfClient}
 use Rattle.embed_promises.specs.Records.{usageAt, usagesIn}
-use Rattle.embed_promises.specs.contracts.Records.{Written}
+use Rattle.embed_promises.specs.contracts.Records.{RecordsWritten}
 
 same-usage : {c c′ r r′ a a′ d d′ : ℕ} → c ≡ c′ → r ≡ r′ → a ≡ a′ → d ≡ d′ → usageOf c r a d ≡ usageOf c′ r′ a′ d′
 same-usage e f g h = cc
 
-pub nothing-written : (us : List Usage) → Written us 0 (replicate 32 0)
+pub nothing-written : (us : List Usage) → RecordsWritten us 0 (replicate 32 0)
 nothing-written us = record { few = omega arith; long = length-replicate {A = ℕ} 32 0; same = λ k h. absurd (omega arith) }
 
 -- four numbers written one after the other
@@ -60,7 +60,7 @@ module _ (row : List ℕ) (at : ℕ) (c r a d : ℕ) where
         getD-set-same (set (set (set row at c) (at + 1) r) (at + 2) a) (at + 3) d 0
         (omega (arith, length-set (set (set row at c) (at + 1) r) (at + 2) a, length-set (set row at c) (at + 1) r, length-set row at c))
 
-module _ {us : List Usage} {n : ℕ} {row : List ℕ} (w : Written us n row) (h : n < clients) where
+module _ {us : List Usage} {n : ℕ} {row : List ℕ} (w : RecordsWritten us n row) (h : n < clients) where
   abbrev u : Usage
   u = usageOfClient us n
 
@@ -85,7 +85,7 @@ module _ {us : List Usage} {n : ℕ} {row : List ℕ} (w : Written us n row) (h 
   before k b =
       same-usage (kept (k * 4) (omega arith)) (kept (k * 4 + 1) (omega arith)) (kept (k * 4 + 2) (omega arith)) (kept (k * 4 + 3) (omega arith)) ∙ w .same k b
 
-  pub one-written : Written us (n + 1) next
+  pub one-written : RecordsWritten us (n + 1) next
   one-written = record {
     few = omega arith;
     long = four-length row (n * 4) (u .calls) (u .refusals) (u .acceptances) (u .called) ∙ w .long;
@@ -111,7 +111,7 @@ eight (a ∷ b ∷ c ∷ e ∷ g ∷ i ∷ j ∷ []) h = absurd (omega arith)
 eight (a ∷ b ∷ c ∷ e ∷ g ∷ i ∷ j ∷ k ∷ []) h = refl
 eight (a ∷ b ∷ c ∷ e ∷ g ∷ i ∷ j ∷ k ∷ m ∷ l) h = absurd (omega arith)
 
-pub all-written : {us : List Usage} {n : ℕ} {row : List ℕ} → Written us n row → clients ≤ n → length us ≡ clients → usagesIn row ≡ us
+pub all-written : {us : List Usage} {n : ℕ} {row : List ℕ} → RecordsWritten us n row → clients ≤ n → length us ≡ clients → usagesIn row ≡ us
 all-written {us} {n} {row} w h long =
     let each : (k : ℕ) → k < clients → usageAt row k ≡ usageOfClient us k = λ k b. w .same k (omega arith) in
     rw (

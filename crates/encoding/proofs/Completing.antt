@@ -12,7 +12,7 @@ use Rattle.grammar.specs.declared.reading.Progress.{Progress}
 use Rattle.grammar.specs.declared.reading.Outcome.the-variants.{Read}
 use Rattle.grammar.specs.Encoding.{declaredBy}
 use Rattle.grammar.specs.Limits.{maxNonterminals, maxTerminals}
-use Rattle.grammar.specs.Reading.{stepped, onStep, scan, opened, headed, fresh, within}
+use Rattle.grammar.specs.Reading.{stepped, onStep, scan, opened, headed, fresh, isWithin}
 use Rattle.grammar.proofs.WellFormed.{onward}
 use Rattle.grammar.proofs.WellRead.{chosen}
 use Rattle.encoding.specs.Encode.{sizesOf}
@@ -52,7 +52,7 @@ completed w ws b =
     y = declaredBy (decoded w)
 
     ok : Bool
-    ok = within (y .nonterminals) maxNonterminals && within (y .terminals) maxTerminals
+    ok = isWithin (y .nonterminals) maxNonterminals && isWithin (y .terminals) maxTerminals
 
     headed-by : ok ≡ true → Passes (fresh y) ws → Completed (w ∷ ws)
     headed-by c h = record {

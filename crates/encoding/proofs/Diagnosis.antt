@@ -22,7 +22,7 @@ use Rattle.grammar.specs.declared.reading.Outcome.{Outcome}
 use Rattle.grammar.specs.declared.reading.Outcome.the-variants.{Read, Faulty}
 use Rattle.grammar.specs.Limits.{maxWords, maxNonterminals, maxTerminals, maxRules}
 use Rattle.grammar.specs.Encoding.{sizes, declaredBy, grammarOf}
-use Rattle.grammar.specs.Reading.{allows, inRange, beginsRule, stepped, onStep, finished, scan, fresh, within, headed, opened, reading}
+use Rattle.grammar.specs.Reading.{allows, inRange, beginsRule, stepped, onStep, finished, scan, fresh, isWithin, headed, opened, reading}
 use Rattle.encoding.specs.Encode.{headingWord, endWord, sizesOf}
 use Rattle.encoding.specs.Diagnosis.{BeginsEncoding, FirstFault, OutOfRangeAt, RuleTooMany, WordFault, Diagnosis}
 use Rattle.grammar.proofs.Scanning.{Stepped, stepping}
@@ -136,7 +136,7 @@ diagnosed-place words i x short e h = go (decLt i (length words))
 
 -- the words of a grammar without rules
 begins-nothing : BeginsEncoding []
-unfolding opened headed within scan finished onStep stepped decoded ofKind heading bare
+unfolding opened headed isWithin scan finished onStep stepped decoded ofKind heading bare
 begins-nothing = begins [] (headingWord 1 1 ∷ endWord ∷ []) (sizes 1 1 0) refl
 
 diagnosed-heading : (words : List ℕ) → length words ≤ maxWords → opened words ≡ Faulty HeadingFault
@@ -150,13 +150,13 @@ diagnosed-heading words short e n =
 diagnosed-opened : (words : List ℕ) → length words ≤ maxWords → Diagnosis words (opened words)
 unfolding opened headed
 diagnosed-opened [] short = diagnosed-heading [] short refl (λ l. absurd (omega arith))
-diagnosed-opened (w ∷ ws) short = go (within (d .nonterminals) maxNonterminals && within (d .terminals) maxTerminals) refl
+diagnosed-opened (w ∷ ws) short = go (isWithin (d .nonterminals) maxNonterminals && isWithin (d .terminals) maxTerminals) refl
   where
     d : Sizes
     d = declaredBy (decoded w)
 
     ok : Bool
-    ok = within (d .nonterminals) maxNonterminals && within (d .terminals) maxTerminals
+    ok = isWithin (d .nonterminals) maxNonterminals && isWithin (d .terminals) maxTerminals
 
     headed-fault : ok ≡ false → Diagnosis (w ∷ ws) (Faulty HeadingFault)
     headed-fault c =
@@ -165,7 +165,7 @@ diagnosed-opened (w ∷ ws) short = go (within (d .nonterminals) maxNonterminals
 
     place : ok ≡ true → (x : Error) → (f : Faults (fresh d) 1 ws x) → Place (w ∷ ws) (suc (f .before)) x
     place c x f =
-        let b = both (within (d .nonterminals) maxNonterminals) (within (d .terminals) maxTerminals) c in
+        let b = both (isWithin (d .nonterminals) maxNonterminals) (isWithin (d .terminals) maxTerminals) c in
         let n : 1 + f .before ≡ suc (f .before) = omega arith in
         record {
           come = f .come;

@@ -1,4 +1,4 @@
--- The words of a well-formed grammar within the limits are read without a fault.
+-- The words of a well-formed grammar isWithin the limits are read without a fault.
 use mathlib.Core.Path.{_≡_, refl, ap, _∙_}
 use mathlib.Core.Bool.{true, false}
 use mathlib.Core.List.{List, [], _∷_, _++_, List·Memᴰ·head, Memᴰ·append-left, Memᴰ·append-right}
@@ -19,7 +19,7 @@ use Rattle.grammar.specs.declared.reading.Outcome.the-variants.{Read}
 use Rattle.grammar.specs.Limits.{maxNonterminals, maxTerminals, maxRules}
 use Rattle.grammar.specs.Syntax.{Body, Rule, Grammar, WellFormed}
 use Rattle.grammar.specs.Encoding.{sizes}
-use Rattle.grammar.specs.Reading.{row, allows, inRange, symbolInRange, beginsRule, after, progress, oneMore, counted, onStep, finished, scan, within, headed}
+use Rattle.grammar.specs.Reading.{row, allows, inRange, symbolInRange, beginsRule, stateAfter, progress, oneMore, counted, onStep, finished, scan, isWithin, headed}
 use Rattle.grammar.specs.Reading.{opened}
 use Rattle.encoding.specs.Encode.{symbolWord, ruleWord, positiveWord, negativeWord, endWord, bodyWords, conjunctWords, ruleWords, rulesWords, encode}
 use Rattle.encoding.specs.Encode.{sizesOf, WithinLimits}
@@ -35,16 +35,16 @@ Goes p ws z = (at : ℕ) → scan p at ws ≡ Read z
 -- one word that begins no rule, and one that begins a rule
 pub goes-word : (w : ℕ) (v : Word) (s : State) (y z : Sizes) (ws : List ℕ) → decoded w ≡ v → allows v s ≡ true → inRange v y ≡ true
     → beginsRule v ≡ false
-    → Goes (progress (after v s) y) ws z → Goes (progress s y) (w ∷ ws) z
+    → Goes (progress (stateAfter v s) y) ws z → Goes (progress s y) (w ∷ ws) z
 unfolding scan onStep
 goes-word w v s y z ws e a i b g at = rw (e, stepped-other v (progress s y) at a i b) (g (suc at))
 
 goes-rule : (w : ℕ) (v : Word) (s : State) (y z : Sizes) (ws : List ℕ) → decoded w ≡ v → allows v s ≡ true → inRange v y ≡ true → beginsRule v ≡ true
-    → y .rules < maxRules → Goes (progress (after v s) (oneMore y)) ws z → Goes (progress s y) (w ∷ ws) z
+    → y .rules < maxRules → Goes (progress (stateAfter v s) (oneMore y)) ws z → Goes (progress s y) (w ∷ ws) z
 unfolding scan onStep counted
 goes-rule w v s y z ws e a i b l g at = rw (e, stepped-rule v (progress s y) at a i b, lt-leb maxRules (y .rules) l) (g (suc at))
 
--- within a conjunct, and where a rule may begin
+-- isWithin a conjunct, and where a rule may begin
 abbrev pub Within : State → Type 0
 Within s = row false false true true false s ≡ true
 
@@ -134,8 +134,8 @@ module _ (n t : ℕ) (fewNonterminals : n < 2 ^ 8) (fewTerminals : t < 2 ^ 8) wh
       let e : k + suc (length rs) ≡ k + 1 + length rs = omega arith in
       rw e (rule-goes r s k _ _ b (omega arith) (h r (List·Memᴰ·head refl)) (λ s c. rules-go rs s (k + 1) c (omega arith) (each-rest _ r rs h)))
 
-within-true : (n m : ℕ) → 0 < n → n ≤ m → within n m ≡ true
-unfolding within
+within-true : (n m : ℕ) → 0 < n → n ≤ m → isWithin n m ≡ true
+unfolding isWithin
 within-true n m l h = rw (lt-ltb 0 n l, le-leb n m h)
 
 -- all, but for the limit on the number of words

@@ -20,7 +20,7 @@ use Rattle.grammar.specs.declared.reading.Outcome.the-variants.{Read}
 use Rattle.grammar.specs.Limits.{maxWords, maxNonterminals, maxTerminals}
 use Rattle.grammar.specs.Syntax.{Grammar}
 use Rattle.grammar.specs.Encoding.{Parsed, onWord, parse, sizes, declaredBy, grammarOf}
-use Rattle.grammar.specs.Reading.{row, allows, after, stepped, scan, fresh, within, headed, opened, reading}
+use Rattle.grammar.specs.Reading.{row, allows, stateAfter, stepped, scan, fresh, isWithin, headed, opened, reading}
 use Rattle.encoding.specs.Encode.{headingWord, positiveWord, negativeWord, endWord, bodyWords, conjunctWords, ruleWords, rulesWords, encode, sizesOf}
 use Rattle.encoding.specs.Encode.{Encodes}
 use Rattle.grammar.proofs.WellFormed.{faulty, finished-read, Empty, Shape, Reads, reads, step-passed, onward}
@@ -48,8 +48,8 @@ unparsed-within InNegative ws a l = l
 unparsed-within Closed ws a l = absurd (false≢true a)
 
 -- one word more in front
-unparsed-word : (v : Word) (w : ℕ) (s : State) (ws : List ℕ) → WrittenAs v w → allows v s ≡ true → Shape (after v s) (parse ws)
-    → Unparsed (after v s) ws
+unparsed-word : (v : Word) (w : ℕ) (s : State) (ws : List ℕ) → WrittenAs v w → allows v s ≡ true → Shape (stateAfter v s) (parse ws)
+    → Unparsed (stateAfter v s) ws
     → w ∷ ws ≡ unparse (onWord v (parse ws))
 unfolding unparse onWord bodyWords conjunctWords ruleWords rulesWords parse
 unparsed-word (RuleWord A) w s ws f a h l = cc (rw (h .0) at l)
@@ -150,8 +150,8 @@ unfolding opened headed
 opened-encodes [] z e = absurd (faulty HeadingFault z e)
 opened-encodes (w ∷ ws) z e =
     let d = declaredBy (decoded w) in
-    let c = chosen (within (d .nonterminals) maxNonterminals && within (d .terminals) maxTerminals) (scan (fresh d) 1 ws) z e in
-    let b = both (within (d .nonterminals) maxNonterminals) (within (d .terminals) maxTerminals) (c .0) in
+    let c = chosen (isWithin (d .nonterminals) maxNonterminals && isWithin (d .terminals) maxTerminals) (scan (fresh d) 1 ws) z e in
+    let b = both (isWithin (d .nonterminals) maxNonterminals) (isWithin (d .terminals) maxTerminals) (c .0) in
     let n = within-limits (d .nonterminals) maxNonterminals (b .0) in
     let t = within-limits (d .terminals) maxTerminals (b .1) in
     (headed-encodes w ws z n t (c .1), headed-sizes w ws z n t (c .1))

@@ -1,4 +1,4 @@
--- A number and the word that it decodes to: each gives the other.
+-- A number and the wordOf that it decodes to: each gives the other.
 use mathlib.Core.Path.{_≡_, refl}
 use mathlib.Core.Bool.{Bool, true, false}
 use Prim.Native.Nat.{ℕ, _+_, _*_, _/_, _%_, _^_, _<_}
@@ -11,14 +11,14 @@ use Rattle.word.specs.declared.Word.{Word}
 use Rattle.word.specs.declared.Word.the-variants.{Heading, Rule as RuleWord, Positive, Negative, Symbol, End, Invalid}
 use Rattle.base.specs.Choice.{choose}
 use Rattle.word.specs.Words.{kind, payload, bare, heading, ofKind, decoded}
-use Rattle.encoding.specs.Encode.{word, headingWord, ruleWord, positiveWord, negativeWord, symbolWord, endWord}
+use Rattle.encoding.specs.Encode.{wordOf, headingWord, ruleWord, positiveWord, negativeWord, symbolWord, endWord}
 
 -- a payload that fits is found again
-pub decoded-word : (k p : ℕ) → p < 2 ^ 28 → decoded (word k p) ≡ ofKind k p
+pub decoded-word : (k p : ℕ) → p < 2 ^ 28 → decoded (wordOf k p) ≡ ofKind k p
 unfolding decoded
 decoded-word k p h =
-    let a : kind (word k p) ≡ k = omega arith in
-    let b : payload (word k p) ≡ p = omega arith in
+    let a : kind (wordOf k p) ≡ k = omega arith in
+    let b : payload (wordOf k p) ≡ p = omega arith in
     rw (a, b)
 
 pub decoded-heading : (n t : ℕ) → n < 2 ^ 8 → t < 2 ^ 8 → decoded (headingWord n t) ≡ Heading n t
@@ -54,7 +54,7 @@ unfolding ofKind
 decoded-symbol (Terminal a) h = rw (decoded-word 5 a h)
 decoded-symbol (Nonterminal A) h = rw (decoded-word 6 A h)
 
--- the kind and the payload of the number that stands for a word; for an invalid word there are many
+-- the kind and the payload of the number that stands for a wordOf; for an invalid wordOf there are many
 abbrev pub Parts : Word → ℕ → ℕ → Type 0
 Parts (Heading n t) k p = (k ≡ 1) × (p ≡ t * 2 ^ 8 + n)
 Parts (RuleWord A) k p = (k ≡ 2) × (p ≡ A)
@@ -93,7 +93,7 @@ pub parts : (w : ℕ) → Parts (decoded w) (kind w) (payload w)
 unfolding decoded
 parts w = parts-kind (kind w) (payload w)
 
--- the number that stands for a word
+-- the number that stands for a wordOf
 abbrev pub WrittenAs : Word → ℕ → Type 0
 WrittenAs (Heading n t) w = w ≡ headingWord n t
 WrittenAs (RuleWord A) w = w ≡ ruleWord A
@@ -113,6 +113,6 @@ written-parts (Symbol (Nonterminal A)) w h = omega arith
 written-parts End w h = omega arith
 written-parts Invalid w h = tt
 
--- a number is the one that stands for what it decodes to. From 2 ^ 32 on kinds are above 7 and the word is invalid, so no bound is asked for
+-- a number is the one that stands for what it decodes to. From 2 ^ 32 on kinds are above 7 and the wordOf is invalid, so no bound is asked for
 pub written-as : (w : ℕ) → WrittenAs (decoded w) w
 written-as w = written-parts (decoded w) w (parts w)

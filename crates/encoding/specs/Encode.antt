@@ -10,36 +10,36 @@ use Rattle.grammar.specs.Limits.{maxNonterminals, maxTerminals, maxRules}
 use Rattle.grammar.specs.Syntax.{Body, Rule, Grammar, WellFormed}
 use Rattle.grammar.specs.Encoding.{sizes}
 
--- a word: its kind in the top four bits, its payload in the other 28
-abbrev pub word : ℕ → ℕ → ℕ
-word k p = k * 2 ^ 28 + p
+-- a wordOf: its kind in the top four bits, its payload in the other 28
+abbrev pub wordOf : ℕ → ℕ → ℕ
+wordOf k p = k * 2 ^ 28 + p
 
 -- the number of nonterminals in bits 0 to 7, of terminals in bits 8 to 15
 abbrev pub headingWord : ℕ → ℕ → ℕ
-headingWord n t = word 1 (t * 2 ^ 8 + n)
+headingWord n t = wordOf 1 (t * 2 ^ 8 + n)
 
 abbrev pub ruleWord : ℕ → ℕ
-ruleWord A = word 2 A
+ruleWord A = wordOf 2 A
 
 abbrev pub positiveWord : ℕ
-positiveWord = word 3 0
+positiveWord = wordOf 3 0
 
 abbrev pub negativeWord : ℕ
-negativeWord = word 4 0
+negativeWord = wordOf 4 0
 
 abbrev pub symbolWord : Symbol → ℕ
-symbolWord (Terminal a) = word 5 a
-symbolWord (Nonterminal A) = word 6 A
+symbolWord (Terminal a) = wordOf 5 a
+symbolWord (Nonterminal A) = wordOf 6 A
 
 abbrev pub endWord : ℕ
-endWord = word 7 0
+endWord = wordOf 7 0
 
 -- a body's symbols, and behind them the words ws
 unfoldable pub bodyWords : Body → List ℕ → List ℕ
 bodyWords [] ws = ws
 bodyWords (X ∷ b) ws = symbolWord X ∷ bodyWords b ws
 
--- conjuncts, each behind the word that begins it
+-- conjuncts, each behind the wordOf that begins it
 unfoldable pub conjunctWords : ℕ → List Body → List ℕ → List ℕ
 conjunctWords begin [] ws = ws
 conjunctWords begin (b ∷ bs) ws = begin ∷ bodyWords b (conjunctWords begin bs ws)

@@ -19,7 +19,7 @@ use Rattle.lookahead.specs.Lookaheads.{tokens}
 use Rattle.semantics.specs.FirstFollow.{first}
 use Rattle.semantics.proofs.families.First.{first-lookahead}
 use Rattle.semantics.proofs.descent.Outcomes.{nth-below, nth-mem}
-use Rattle.families.specs.contracts.First.{ruleFirst, Met}
+use Rattle.families.specs.contracts.First.{ruleFirst, RulesMet}
 use Rattle.families.specs.contracts.Least.{at}
 use Rattle.base.specs.Lists.{listed}
 use Rattle.families.specs.contracts.RuleLists.{byRule}
@@ -68,7 +68,7 @@ module _ {words starts : List ℕ} {z : Sizes} {l₀ : List ℕ} (p : PassGiven 
           filled-next forward v few (m .kept refl) h here (e ∙ rw (same refl, p .begins, turn))
 
   pub meeting-end : {k : Lookahead} {t : ℕ} {l meets : List ℕ} {grown : Bool} {i : ℕ} → Meeting k t words (z .rules) forward l₀ meets grown i → z .rules ≤ i
-      → (grown ≡ false → l ≡ l₀) → Met k t words (z .rules) l meets grown
+      → (grown ≡ false → l ≡ l₀) → RulesMet k t words (z .rules) l meets grown
   meeting-end m h same = record { room = m .room; each = λ f q b. rw (same f) (filled-each forward (m .kept f) h q b) }
 
 -- by the first sets of a grammar that is admitted these are the numbers of its meetings
@@ -95,7 +95,7 @@ module _ (k : Lookahead) (words : List ℕ) (z : Sizes) (taken : admission k wor
       same : {x y : Rule} → some x ≡ some y → x ≡ y
       same e = cc
 
-  pub meets-listed : {meets : List ℕ} {grown : Bool} → grown ≡ false → Met k (z .terminals) words (z .rules) firsts meets grown
+  pub meets-listed : {meets : List ℕ} {grown : Bool} → grown ≡ false → RulesMet k (z .terminals) words (z .rules) firsts meets grown
       → meets ≡ byRule (meetNumbers k (grammarOf words))
   meets-listed e m =
       let G = grammarOf words in

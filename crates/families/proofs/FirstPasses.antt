@@ -15,7 +15,7 @@ use Rattle.word.specs.declared.Word.the-variants.{Heading, Rule as RuleWord, Po
 use Rattle.grammar.specs.Limits.{maxNonterminals}
 use Rattle.grammar.specs.Syntax.{Body, Rule}
 use Rattle.grammar.specs.Encoding.{Parsed, onWord}
-use Rattle.grammar.specs.contracts.WellRead.{firstRule}
+use Rattle.grammar.specs.contracts.WellRead.{ruleRead}
 use Rattle.grammar.proofs.EachIndex.{Behind}
 use Rattle.lookahead.specs.declared.Lookahead.{Lookahead}
 use Rattle.lookahead.specs.contracts.Elements.{Subset}
@@ -25,7 +25,7 @@ use Rattle.lookahead.proofs.Concat.{concat-mono}
 use Rattle.families.specs.declared.Rest.{Rest}
 use Rattle.families.specs.contracts.Least.{SetFamily, at, lookup, Under}
 use Rattle.families.specs.contracts.First.{symbolFirst, bodyFirst, ruleFirst, sets, restOf, noRest, closedMeet, insideWord}
-use Rattle.families.specs.contracts.Rules.{fromEnd, ruleFrom, Inside, RuleWords}
+use Rattle.families.specs.contracts.Rules.{foldFromEnd, ruleFrom, Inside, RuleWords}
 use Rattle.families.proofs.ArrayLookup.{lookup-at}
 use Rattle.families.proofs.HeadPasses.{Larger}
 use Rattle.families.proofs.Inner.{made-inside}
@@ -88,8 +88,8 @@ rule-larger k t F G u r = rule-mono k F G u t (r .positives)
 
 -- the words of a rule, from their end
 rule-words : {words : List ℕ} {start end : ℕ} → RuleWords words start end → (k : Lookahead) (t : ℕ) (F : SetFamily)
-    → fromEnd (insideWord k F) (noRest k t) (take (end - (start + 1)) (drop (start + 1) words)) .meet .bits ≡ ruleGives k t F (ruleFrom words start)
-unfolding firstRule bodyFirst ruleFirst
+    → foldFromEnd (insideWord k F) (noRest k t) (take (end - (start + 1)) (drop (start + 1) words)) .meet .bits ≡ ruleGives k t F (ruleFrom words start)
+unfolding ruleRead bodyFirst ruleFirst
 rule-words {words} {start} g k t F =
     rw (
       made-inside (insideWord k F) (restOf k t F) g (λ w p i n b. inside-word k t F w p i b) {x₀ = noRest k t} (rw (g .ended .body, g .ended .positives)),
@@ -98,6 +98,6 @@ rule-words {words} {start} g k t F =
 
 -- what `rule_first` returns
 pub rule-given : {words : List ℕ} {start end : ℕ} → RuleWords words start end → (k : Lookahead) (t : ℕ) (l : List ℕ) {v : ℕ} → length l ≡ maxNonterminals
-    → v ≡ fromEnd (insideWord k (lookup l)) (noRest k t) (take (end - (start + 1)) (drop (start + 1) words)) .meet .bits
+    → v ≡ foldFromEnd (insideWord k (lookup l)) (noRest k t) (take (end - (start + 1)) (drop (start + 1) words)) .meet .bits
     → v ≡ ruleGives k t (at l) (ruleFrom words start)
 rule-given g k t l long e = e ∙ rw (lookup-at l long) (rule-words g k t (at l))

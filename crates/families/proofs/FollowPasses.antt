@@ -30,7 +30,7 @@ use Rattle.lookahead.specs.contracts.Operations.{end as endSet, concatNumbers, 
 use Rattle.lookahead.proofs.Order.{subset-refl}
 use Rattle.lookahead.proofs.Concat.{concat-mono, concat-assoc}
 use Rattle.families.specs.contracts.Naming.{nonterminalOf, Indexed}
-use Rattle.families.specs.contracts.Least.{SetFamily, at, Under, Adds, AddsTo, Passing, Passes}
+use Rattle.families.specs.contracts.Least.{SetFamily, at, Under, AddsToSet, AddsTo, Passing, Passes}
 use Rattle.families.specs.contracts.First.{symbolFirst, bodyFirst}
 use Rattle.families.specs.contracts.Follow.{FollowNumbersBody, FollowRules, FollowNumbersClosed, tailBefore, Asked}
 use Rattle.families.specs.contracts.Rules.{turnOf, Ended, Inside, RuleWords, PassGiven}
@@ -274,7 +274,7 @@ module _ {words starts : List ℕ} {z : Sizes} {l₀ : List ℕ} (given : PassGi
       (λ G a r m. let n = in-rules words z (given .read) r m in rw (n .2) (a (n .0) (n .1)))
 
 -- the end behind the start, and the rules
-pub follow-passes : (k : Lookahead) (F : SetFamily) (words : List ℕ) {l₀ l l′ : List ℕ} {g g′ : Bool} → 0 < length l₀ → Adds l₀ 0 (endSet k) l g
+pub follow-passes : (k : Lookahead) (F : SetFamily) (words : List ℕ) {l₀ l l′ : List ℕ} {g g′ : Bool} → 0 < length l₀ → AddsToSet l₀ 0 (endSet k) l g
     → Passes (FollowRules k F (parse words .rules)) l l′ g′ → Passes (FollowNumbersClosed k F (parse words .rules)) l₀ l′ (g || g′)
 follow-passes k F words {g = g} {g′} h a p =
     passing-on (λ G c. c) (λ G c. record { start = c .0; follows = c .1 })

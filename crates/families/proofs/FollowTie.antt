@@ -19,7 +19,7 @@ use Rattle.semantics.proofs.families.First.{first-lookahead}
 use Rattle.semantics.proofs.families.Follow.{follow-lookahead, follow-closed, follow-smallest}
 use Rattle.lookahead.specs.declared.Lookahead.{Lookahead}
 use Rattle.lookahead.specs.Lookaheads.{tokens, nothing, stringOf}
-use Rattle.lookahead.specs.contracts.Lookaheads.{alphabet, after}
+use Rattle.lookahead.specs.contracts.Lookaheads.{alphabet, elementAfter}
 use Rattle.lookahead.specs.contracts.Elements.{Subset}
 use Rattle.lookahead.specs.contracts.Operations.{end, full, concatNumbers}
 use Rattle.lookahead.proofs.Strings.{string-nothing, string-after, after-below, nothing-below}
@@ -51,9 +51,9 @@ module _ (k : Lookahead) (G : Grammar) (formed : WellFormed G) (few : G .termina
       behind : (u : List ℕ) → FirstBody (tokens k) (First G (tokens k)) b u → StringIn k (L A) (take (tokens k) (u ++ y))
       behind u h =
           let j = begins-body k G formed few b t u h in (
-            after k (j .0) (i .0),
+            elementAfter k (j .0) (i .0),
             after-below k (j .0) (i .0) (j .1) (i .1),
-            f .0 (after k (j .0) (i .0)) (paired k (bodyFirst k (firstNumber k G) b) (L B) (j .0) (i .0) (j .1) (i .1) (j .2) (i .2)),
+            f .0 (elementAfter k (j .0) (i .0)) (paired k (bodyFirst k (firstNumber k G) b) (L B) (j .0) (i .0) (j .1) (i .1) (j .2) (i .2)),
             ap₂ (λ v z. take (tokens k) (v ++ z)) (j .3) (i .3) ∙ string-after k (j .0) (i .0) (j .1) (i .1),
           )
 

@@ -16,7 +16,7 @@ use Rattle.grammar.specs.contracts.WellRead.{headOf}
 use Rattle.grammar.proofs.EachIndex.{read-whole}
 use Rattle.grammar.proofs.WellRead.{well-read}
 use Rattle.lookahead.specs.contracts.Elements.{Subset}
-use Rattle.families.specs.contracts.Least.{SetFamily, at, Under, Adds, Passes}
+use Rattle.families.specs.contracts.Least.{SetFamily, at, Under, AddsToSet, Passes}
 use Rattle.families.specs.contracts.Rules.{turnOf, ruleFrom, PassGiven}
 use Rattle.families.proofs.LeastByPasses.{passing-add}
 use Rattle.families.proofs.RuleRanges.{rule-in, in-rules, rule-is}
@@ -58,7 +58,7 @@ module _ {words starts : List ℕ} {z : Sizes} {l₀ : List ℕ} (k : PassGiven 
   module _ (given : SetFamily → Rule → ℕ) (larger : Larger given) (forward : Bool) where
     pub visit : {l l′ : List ℕ} (g : Bool) {g′ r : Bool} {i rule v head : ℕ} {w : Word} → Turns (Gives given words) (z .rules) forward l₀ l g i
         → i < z .rules → rule ≡ turnOf forward (z .rules) i → v ≡ given (at l) (ruleFrom words (getD starts rule 0))
-        → w ≡ decoded (getD words (getD starts rule 0) 0) → head ≡ headOf w → Adds l head v l′ g′ → r ≡ (g || g′)
+        → w ≡ decoded (getD words (getD starts rule 0) 0) → head ≡ headOf w → AddsToSet l head v l′ g′ → r ≡ (g || g′)
         → Turns (Gives given words) (z .rules) forward l₀ l′ r (i + 1)
     visit {l} {l′} g {g′} {i = i} {rule} {v} {head} p h t e f d a told = turns-next (Gives given words) (z .rules) forward g g′ p h (rw t at met) told
       where

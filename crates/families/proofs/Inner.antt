@@ -10,7 +10,7 @@ use Rattle.word.specs.Words.{decoded}
 use Rattle.grammar.specs.Encoding.{Parsed, onWord, parse}
 use Rattle.grammar.proofs.EachIndex.{Behind, read-place}
 use Rattle.families.specs.contracts.Naming.{Indexed}
-use Rattle.families.specs.contracts.Rules.{fromEnd, Inside, RuleWords}
+use Rattle.families.specs.contracts.Rules.{foldFromEnd, Inside, RuleWords}
 use Rattle.families.proofs.NamedNonterminals.{before-indexed}
 use Rattle.families.proofs.Words.{parse-before}
 
@@ -36,8 +36,8 @@ word-inside {words} k i h u {w} e =
 module _ {X : Type 0} (f : Word → X → X) (made : Parsed → X) {words : List ℕ} {start end : ℕ} (k : RuleWords words start end)
     (step : (w : Word) (p : Parsed) → Inside w → Indexed w → Behind w p → f w (made p) ≡ made (onWord w p)) where
   made-from : {x₀ : X} → x₀ ≡ made (parse (drop end words)) → (n i : ℕ) → i + n ≡ end → start < i
-      → fromEnd f x₀ (take n (drop i words)) ≡ made (parse (drop i words))
-  unfolding fromEnd
+      → foldFromEnd f x₀ (take n (drop i words)) ≡ made (parse (drop i words))
+  unfolding foldFromEnd
   made-from e zero i s h = let last : i ≡ end = omega arith in rw last e
   made-from e (suc n) i s h =
       let w = decoded (getD words i 0) in
@@ -48,5 +48,5 @@ module _ {X : Type 0} (f : Word → X → X) (made : Parsed → X) {words : List
       (step w (parse (drop (suc i) words)) (m .inside) (m .indexed) (m .behind) ∙ ap made (sym (rw (here, front) at (m .here))))
 
   pub made-inside : {x₀ : X} → x₀ ≡ made (parse (drop end words))
-      → fromEnd f x₀ (take (end - (start + 1)) (drop (start + 1) words)) ≡ made (parse (drop (suc start) words))
+      → foldFromEnd f x₀ (take (end - (start + 1)) (drop (start + 1) words)) ≡ made (parse (drop (suc start) words))
   made-inside e = let next : start + 1 ≡ suc start = omega arith in rw next (made-from e (end - suc start) (suc start) (omega (arith, k .some)) (omega arith))

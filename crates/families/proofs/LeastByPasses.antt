@@ -12,7 +12,7 @@ use borrow.Author.Tests.{eq-eqb, ne-eqb}
 use Rattle.lookahead.specs.contracts.Elements.{Subset}
 use Rattle.lookahead.specs.contracts.Operations.{join}
 use Rattle.lookahead.proofs.Order.{subset-refl, join-left, empty-least, join-least, join-grows, same-join, subset-le}
-use Rattle.families.specs.contracts.Least.{SetFamily, at, Under, LeastNumbers, Adds, sum, Passing, Passes}
+use Rattle.families.specs.contracts.Least.{SetFamily, at, Under, LeastNumbers, AddsToSet, sum, Passing, Passes}
 
 -- the sum rises by what is stored
 sum-set : (l : List ℕ) (n v : ℕ) → n < length l → sum (set l n v) + at l n ≡ sum l + v
@@ -91,7 +91,7 @@ passing-late g g′ p q =
 
 -- a store of v into the set of n: every family of W has v there, and a family that has it is closed
 pub passing-add : {W C : SetFamily → Type 0} {l l′ : List ℕ} {n v : ℕ} {r : Bool} → n < length l
-    → ((G : SetFamily) → W G → Under (at l) G → Subset v (G n)) → (Subset v (at l n) → C (at l)) → Adds l n v l′ r → Passing W C l l′ r
+    → ((G : SetFamily) → W G → Under (at l) G → Subset v (G n)) → (Subset v (at l n) → C (at l)) → AddsToSet l n v l′ r → Passing W C l l′ r
 passing-add {W} {C} {l} {l′} {n} {v} {r} h value new a = go (ℕ-discrete (join (at l n) v) (at l n))
   where
     go : Dec (join (at l n) v ≡ at l n) → Passing W C l l′ r

@@ -15,18 +15,18 @@ use Rattle.base.specs.Choice.{choose}
 use Rattle.grammar.specs.Limits.{maxNonterminals}
 use Rattle.grammar.specs.Syntax.{Body, Rule, bodies}
 use Rattle.grammar.specs.Encoding.{Parsed, onWord}
-use Rattle.grammar.specs.contracts.WellRead.{firstRule}
+use Rattle.grammar.specs.contracts.WellRead.{ruleRead}
 use Rattle.grammar.proofs.EachIndex.{Behind}
 use Rattle.lookahead.specs.Elements.{weight}
 use Rattle.lookahead.specs.contracts.Elements.{Subset}
-use Rattle.lookahead.specs.contracts.Operations.{empty, join, Empty, Joined}
+use Rattle.lookahead.specs.contracts.Operations.{emptySet, join, Empty, Joined}
 use Rattle.lookahead.proofs.Order.{subset-refl, subset-antisym, join-left, join-right, join-least, join-mono, join-same}
 use Rattle.base.specs.Rounds.{NumberSet}
 use Rattle.families.specs.contracts.Least.{SetFamily, Under}
 use Rattle.families.specs.contracts.Left.{symbolLeft, bodyLeft, bodiesLeft, lefts, leftOf, ownLeft, insideLeft}
 use Rattle.families.specs.contracts.Naming.{IndexedSymbol, Indexed}
 use Rattle.families.specs.contracts.Nonterminals.{alone, Alone}
-use Rattle.families.specs.contracts.Rules.{fromEnd, ruleFrom, Inside, RuleWords}
+use Rattle.families.specs.contracts.Rules.{foldFromEnd, ruleFrom, Inside, RuleWords}
 use Rattle.families.proofs.Inner.{made-inside}
 use Rattle.families.proofs.HeadPasses.{Larger}
 
@@ -34,7 +34,7 @@ use Rattle.families.proofs.HeadPasses.{Larger}
 module _ (s : NumberSet) (F G : SetFamily) (u : Under F G) where
   symbol-mono : (X : GrammarSymbol) (x y : ℕ) → Subset x y → Subset (symbolLeft s F X x) (symbolLeft s G X y)
   unfolding symbolLeft
-  symbol-mono (Terminal a) x y h = subset-refl empty
+  symbol-mono (Terminal a) x y h = subset-refl emptySet
   symbol-mono (Nonterminal A) x y h = go (s A)
     where
       own : Subset (join (weight A) (F A)) (join (weight A) (G A))
@@ -47,12 +47,12 @@ module _ (s : NumberSet) (F G : SetFamily) (u : Under F G) where
 
   body-mono : (b : Body) → Subset (bodyLeft s F b) (bodyLeft s G b)
   unfolding bodyLeft
-  body-mono [] = subset-refl empty
+  body-mono [] = subset-refl emptySet
   body-mono (X ∷ b) = symbol-mono X (bodyLeft s F b) (bodyLeft s G b) (body-mono b)
 
   bodies-mono : (bs : List Body) → Subset (bodiesLeft s F bs) (bodiesLeft s G bs)
   unfolding bodiesLeft
-  bodies-mono [] = subset-refl empty
+  bodies-mono [] = subset-refl emptySet
   bodies-mono (b ∷ bs) = join-mono (bodyLeft s F b) (bodiesLeft s F bs) (bodyLeft s G b) (bodiesLeft s G bs) (body-mono b) (bodies-mono bs)
 
 -- a body may be joined before or behind others
@@ -108,7 +108,7 @@ unfolding onWord bodyLeft bodiesLeft
 inside-left s R (Symbol X) p i n b = ap (λ x. lefts x (bodiesLeft s R (p .positives ++ p .negatives))) (own-symbol s R X (bodyLeft s R (p .body)) n)
 inside-left s R Positive p i x b = refl
 inside-left s R Negative p i x b = ap (lefts 0) (bodies-between s R (p .positives) (p .body) (p .negatives))
-inside-left s R End p i x b = rw (b .body, b .positives, b .negatives) (ap (lefts 0) (join-same empty empty (subset-refl empty)))
+inside-left s R End p i x b = rw (b .body, b .positives, b .negatives) (ap (lefts 0) (join-same emptySet emptySet (subset-refl emptySet)))
 inside-left s R (RuleWord A) p i x b = absurd i
 inside-left s R (Heading m n) p i x b = absurd i
 inside-left s R Invalid p i x b = absurd i
@@ -122,10 +122,12 @@ rule-larger s F G u r = bodies-mono s F G u (bodies r)
 
 -- what `rule_left` returns: the words of a rule, from their end
 pub rule-given : {words : List ℕ} {start end : ℕ} → RuleWords words start end → (s : NumberSet) (R : SetFamily) {v : ℕ}
-    → v ≡ fromEnd (insideLeft s R) (lefts empty empty) (take (end - (start + 1)) (drop (start + 1) words)) .rule .bits → v ≡ ruleLeft s R (ruleFrom words start)
-unfolding firstRule bodyLeft bodiesLeft
+    → v ≡ foldFromEnd (insideLeft s R) (lefts emptySet emptySet) (take (end - (start + 1)) (drop (start + 1) words)) .rule .bits
+    → v ≡ ruleLeft s R (ruleFrom words start)
+unfolding ruleRead bodyLeft bodiesLeft
 rule-given {words} {start} g s R e =
     e ∙ rw (
-      made-inside (insideLeft s R) (leftOf s R) g (inside-left s R) {x₀ = lefts empty empty} (rw (g .ended .body, g .ended .positives, g .ended .negatives)),
+      made-inside (insideLeft s R) (leftOf s R) g (inside-left s R) {x₀ = lefts emptySet emptySet}
+          (rw (g .ended .body, g .ended .positives, g .ended .negatives)),
       drop-cons words start 0 (omega (arith, g .some, g .within)),
     )

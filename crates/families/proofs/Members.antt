@@ -7,7 +7,7 @@ use native.Mathlib.Omega.{arith}
 use lib.Dec.{T}
 use lib.ListN.{length, length-map}
 use borrow.Author.Tests.{lt-ltb}
-use Rattle.base.specs.FiniteSets.{Distinct, keep, numbersFrom, numbers}
+use Rattle.base.specs.FiniteSets.{Distinct, keep, numbersFrom, numbersBelow}
 use Rattle.base.specs.Strings.{Lookahead as Looked}
 use Rattle.base.proofs.FiniteSets.{keep-make, keep-elim, numbers-make}
 use Rattle.base.proofs.Distinct.{distinct-keep, distinct-numbers}
@@ -20,7 +20,7 @@ use Rattle.lookahead.proofs.Strings.{string-same}
 use Rattle.lookahead.proofs.Bounds.{elements-fit}
 use Rattle.lookahead.proofs.Size.{count-cong, count-first, size-below}
 use Rattle.lookahead.proofs.Weights.{has-total}
-use Rattle.families.specs.Sets.{numberOf, Members}
+use Rattle.families.specs.Sets.{setNumber, Members}
 use Rattle.families.proofs.Strings.{lookahead-string, number-below}
 
 -- how many members of a list pass
@@ -51,25 +51,26 @@ module _ (k : Lookahead) (t : ℕ) (few : t ≤ alphabet k) (p : List ℕ → Bo
   abbrev passes : ℕ → Bool
   passes l = p (stringOf k l)
 
-  size-strings : size (numberOf k p) ≡ length (keep passes (numbers (elements k)))
-  unfolding numberOf numbers
+  size-strings : size (setNumber k p) ≡ length (keep passes (numbersBelow (elements k)))
+  unfolding setNumber numbersBelow
   size-strings =
-      size-below (elements k) (numberOf k p) (omega (arith, elements-fit k)) (number-below k p)
-      ∙ count-cong (elements k) (has (numberOf k p)) (λ l. passes (0 + l))
+      size-below (elements k) (setNumber k p) (omega (arith, elements-fit k)) (number-below k p)
+      ∙ count-cong (elements k) (has (setNumber k p)) (λ l. passes (0 + l))
       (λ l h. has-total (elements k) passes l ∙ rw (lt-ltb l (elements k) h) (ap passes (omega arith)))
       ∙ sym (kept-numbers passes 0 (elements k))
 
-  pub members : Members (λ x. T (p x)) (size (numberOf k p))
+  pub members : Members (λ x. T (p x)) (size (setNumber k p))
   members = record {
-    list = map (stringOf k) (keep passes (numbers (elements k)));
-    once = distinct-map (stringOf k) (string-same k) (keep passes (numbers (elements k)))
-        (distinct-keep passes (numbers (elements k)) (distinct-numbers (elements k)));
+    list = map (stringOf k) (keep passes (numbersBelow (elements k)));
+    once = distinct-map (stringOf k) (string-same k) (keep passes (numbersBelow (elements k)))
+        (distinct-keep passes (numbersBelow (elements k)) (distinct-numbers (elements k)));
     just = λ x. (
-      λ m. let n = Memᴰ·of-map (stringOf k) (keep passes (numbers (elements k))) m in rw (n .2) at (keep-elim passes (numbers (elements k)) (n .0) (n .1) .1),
+      λ m. let n = Memᴰ·of-map (stringOf k) (keep passes (numbersBelow (elements k))) m in
+          rw (n .2) at (keep-elim passes (numbersBelow (elements k)) (n .0) (n .1) .1),
       λ h.
           let s = lookahead-string k t x few (within x h) in
           Memᴰ·cast (s .is) (Memᴰ·map (stringOf k)
-          (keep-make passes (numbers (elements k)) (elementOf k x) (numbers-make (elements k) (elementOf k x) (s .below)) (rw (s .is) at h))),
+          (keep-make passes (numbersBelow (elements k)) (elementOf k x) (numbers-make (elements k) (elementOf k x) (s .below)) (rw (s .is) at h))),
     );
-    long = length-map (keep passes (numbers (elements k))) (stringOf k) ∙ sym size-strings;
+    long = length-map (keep passes (numbersBelow (elements k))) (stringOf k) ∙ sym size-strings;
   }

@@ -18,13 +18,13 @@ use Rattle.lookahead.specs.Elements.{has}
 use Rattle.lookahead.proofs.Order.{subset-antisym, empty-least}
 use Rattle.families.specs.contracts.Least.{SetFamily, at, LeastNumbers}
 use Rattle.base.specs.Lists.{listed}
-use Rattle.families.specs.Sets.{numberOf}
+use Rattle.families.specs.Sets.{setNumber}
 use Rattle.base.proofs.Lists.{listed-long, listed-at}
 use Rattle.families.proofs.Strings.{lookahead-string, lookahead-bound, StringIn, in-string, number-has, has-number}
 
 -- the sets of strings that pass, by nonterminal
 abbrev pub numbersOf : Lookahead → (Entry → Bool) → SetFamily
-numbersOf k p A = numberOf k (λ x. p (A, x))
+numbersOf k p A = setNumber k (λ x. p (A, x))
 
 module _ (k : Lookahead) (G : Grammar) (few : G .terminals ≤ alphabet k) (p : Entry → Bool)
     (within : (A : ℕ) (x : List ℕ) → T (p (A, x)) → (A < G .nonterminals) × Looked (tokens k) (G .terminals) x) where

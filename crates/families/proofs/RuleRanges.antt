@@ -19,7 +19,7 @@ use Rattle.grammar.specs.Syntax.{Rule}
 use Rattle.grammar.specs.Encoding.{Parsed, ruleOf, onWord, parse, grammarOf}
 use Rattle.grammar.specs.Reading.{allows, beginsRule, reading}
 use Rattle.grammar.specs.contracts.Starts.{starts, ruleStarts}
-use Rattle.grammar.specs.contracts.WellRead.{headOf, firstRule, WellRead}
+use Rattle.grammar.specs.contracts.WellRead.{headOf, ruleRead, WellRead}
 use Rattle.grammar.proofs.Begins.{begins, as-many}
 use Rattle.grammar.proofs.EachIndex.{read-whole}
 use Rattle.grammar.proofs.Suffixes.{scan-next, read-reaches}
@@ -171,5 +171,5 @@ module _ (words : List ℕ) (z : Sizes) (read : reading words ≡ Read z) where
   pub rule-is : (q : ℕ) → q < z .rules
       → ruleFrom words (getD (ruleStarts words) q 0)
       ≡ ruleOf (headOf (decoded (getD words (getD (ruleStarts words) q 0) 0))) (parse (drop (suc (getD (ruleStarts words) q 0)) words))
-  unfolding firstRule
+  unfolding ruleRead
   rule-is q h = rw (drop-cons words (getD (ruleStarts words) q 0) 0 (known .begun q h .high))

@@ -18,7 +18,7 @@ use Rattle.semantics.specs.Claims.{meeting}
 use Rattle.base.proofs.FiniteSets.{member-mem, mem-member, keep-make, keep-elim}
 use Rattle.base.proofs.LookaheadStrings.{strings-equality, strings-make, strings-elim}
 use Rattle.semantics.proofs.families.First.{In, firstBody-mono, firstRule-make, firstRule-elim, first-in, in-first}
-use Rattle.families.specs.Sets.{numberOf, firstNumber}
+use Rattle.families.specs.Sets.{setNumber, firstNumber}
 use Rattle.families.specs.contracts.Sets.{meetNumber}
 use Rattle.families.specs.contracts.First.{ruleFirst}
 use Rattle.families.proofs.Strings.{lookahead-bound, StringIn, string-in, in-string, number-has, has-number}
@@ -30,10 +30,10 @@ Lists k us s = (x : List ℕ) → List·Memᴰ x us ↔ StringIn k s x
 
 -- so it is theirs, if it has elements alone
 pub lists-number : (k : Lookahead) (us : List (List ℕ)) (s : ℕ) → Lists k us s → ((l : ℕ) → T (has s l) → l < elements k)
-    → s ≡ numberOf k (member sameString us)
+    → s ≡ setNumber k (member sameString us)
 lists-number k us s lists low =
     let listed = member sameString us in
-    subset-antisym s (numberOf k listed)
+    subset-antisym s (setNumber k listed)
     (λ l h. has-number k listed l (low l h) (mem-member sameString strings-equality us (stringOf k l) (lists (stringOf k l) .1 (string-in k s l (low l h) h))))
     (λ l h. in-string k s l (lists (stringOf k l) .0 (member-mem sameString strings-equality us (stringOf k l) (number-has k listed l h))))
 

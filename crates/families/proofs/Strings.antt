@@ -16,7 +16,7 @@ use Rattle.base.specs.Strings.{Over, Lookahead as Looked}
 use Rattle.semantics.specs.Families.{Family, FirstOf, FirstBody}
 use Rattle.lookahead.specs.declared.Lookahead.{Lookahead}
 use Rattle.lookahead.specs.Lookaheads.{tokens, elements, nothing, elementOf, stringOf}
-use Rattle.lookahead.specs.contracts.Lookaheads.{alphabet, after}
+use Rattle.lookahead.specs.contracts.Lookaheads.{alphabet, elementAfter}
 use Rattle.lookahead.specs.Elements.{weight, has}
 use Rattle.lookahead.specs.contracts.Elements.{OverTerminals}
 use Rattle.lookahead.specs.contracts.Operations.{full}
@@ -29,7 +29,7 @@ use Rattle.lookahead.proofs.Pairs.{concat-pair}
 use Rattle.lookahead.proofs.Concat.{paired}
 use Rattle.lookahead.proofs.Weights.{total-bound, has-total}
 use Rattle.families.specs.contracts.Least.{SetFamily}
-use Rattle.families.specs.Sets.{numberOf}
+use Rattle.families.specs.Sets.{setNumber}
 use Rattle.families.specs.contracts.First.{symbolFirst, bodyFirst}
 
 -- a string over t terminals, of which there may be so many, has an element
@@ -72,25 +72,25 @@ in-string k s l i = rw (element-string k l) at (in-element k s (stringOf k l) i)
 
 -- the number of a set of strings has the elements of the strings that it holds, and no others
 module _ (k : Lookahead) (p : List ℕ → Bool) where
-  pub number-has : (l : ℕ) → T (has (numberOf k p) l) → T (p (stringOf k l))
-  unfolding numberOf
+  pub number-has : (l : ℕ) → T (has (setNumber k p) l) → T (p (stringOf k l))
+  unfolding setNumber
   number-has l t = and-yes (ltb l (elements k)) (p (stringOf k l)) (rw (has-total (elements k) (λ l. p (stringOf k l)) l) at t) .1
 
-  pub has-number : (l : ℕ) → l < elements k → T (p (stringOf k l)) → T (has (numberOf k p) l)
-  unfolding numberOf
+  pub has-number : (l : ℕ) → l < elements k → T (p (stringOf k l)) → T (has (setNumber k p) l)
+  unfolding setNumber
   has-number l h t =
       rw (has-total (elements k) (λ l. p (stringOf k l)) l) (yes-and (ltb l (elements k)) (p (stringOf k l)) (lt→ltb l (elements k) h) t)
 
   -- it has no digits above those of elements
-  pub number-below : numberOf k p < weight (elements k)
-  unfolding numberOf
+  pub number-below : setNumber k p < weight (elements k)
+  unfolding setNumber
   number-below = total-bound (elements k) (λ l. p (stringOf k l))
 
-  pub number-element : (l : ℕ) → T (has (numberOf k p) l) → l < elements k
-  number-element l t = bounded (elements k) (numberOf k p) l number-below t
+  pub number-element : (l : ℕ) → T (has (setNumber k p) l) → l < elements k
+  number-element l t = bounded (elements k) (setNumber k p) l number-below t
 
-  pub number-over : OverTerminals k (alphabet k) (numberOf k p)
-  number-over = bound-over k (numberOf k p) number-below
+  pub number-over : OverTerminals k (alphabet k) (setNumber k p)
+  number-over = bound-over k (setNumber k p) number-below
 
 -- the first sets of bodies, in strings and in numbers
 module _ (k : Lookahead) (F : SetFamily) (t : ℕ) (few : t ≤ alphabet k) where
@@ -127,7 +127,7 @@ module _ (k : Lookahead) (F : SetFamily) (t : ℕ) (few : t ≤ alphabet k) wher
   body-in (X ∷ b) h x f =
       let i = symbol-in X b h (f .0) (f .2) in
       let j = body-in b (rest-below X b h) (f .1) (f .3) in (
-        after k (i .0) (j .0),
+        elementAfter k (i .0) (j .0),
         after-below k (i .0) (j .0) (i .1) (j .1),
         paired k (symbolFirst k F X) (bodyFirst k F b) (i .0) (j .0) (i .1) (j .1) (i .2) (j .2),
         f .4 ∙ ap₂ (λ u y. take (tokens k) (u ++ y)) (i .3) (j .3) ∙ string-after k (i .0) (j .0) (i .1) (j .1),

@@ -8,7 +8,7 @@ use lib.Seq.{drop-cons}
 use Rattle.word.specs.declared.Word.{Word}
 use Rattle.word.specs.Words.{decoded}
 use Rattle.grammar.specs.Encoding.{onWord, parse}
-use Rattle.families.specs.contracts.Rules.{fromEnd}
+use Rattle.families.specs.contracts.Rules.{foldFromEnd}
 
 module _ (words : List ℕ) (i : ℕ) where
   -- the word at an index, in front of what the words behind it say
@@ -28,18 +28,18 @@ module _ (words : List ℕ) (i : ℕ) where
 
 -- those from an index on have been gone through
 module _ {X : Type 0} (f : Word → X → X) (x₀ : X) (words : List ℕ) where
-  pub end-none : {x : X} → x ≡ x₀ → x ≡ fromEnd f x₀ (drop (length words) words)
-  unfolding fromEnd
+  pub end-none : {x : X} → x ≡ x₀ → x ≡ foldFromEnd f x₀ (drop (length words) words)
+  unfolding foldFromEnd
   end-none e = rw (drop-of-length-le words {i = length words} (omega arith)) e
 
-  pub end-one : {x y : X} {i : ℕ} {w : Word} → x ≡ fromEnd f x₀ (drop i words) → 0 < i → i ≤ length words → w ≡ decoded (getD words (i - 1) 0)
-      → y ≡ f w x → y ≡ fromEnd f x₀ (drop (i - 1) words)
-  unfolding fromEnd
+  pub end-one : {x y : X} {i : ℕ} {w : Word} → x ≡ foldFromEnd f x₀ (drop i words) → 0 < i → i ≤ length words → w ≡ decoded (getD words (i - 1) 0)
+      → y ≡ f w x → y ≡ foldFromEnd f x₀ (drop (i - 1) words)
+  unfolding foldFromEnd
   end-one {i = i} {w} r h b e o =
       let here : suc (i - 1) ≡ i = omega arith in
       let front : drop (i - 1) words ≡ getD words (i - 1) 0 ∷ drop i words =
       drop-cons words (i - 1) 0 (omega arith) ∙ ap (λ (n : ℕ). getD words (i - 1) 0 ∷ drop n words) here in
-      o ∙ ap (f w) r ∙ ap (λ v. f v (fromEnd f x₀ (drop i words))) e ∙ sym (ap (fromEnd f x₀) front)
+      o ∙ ap (f w) r ∙ ap (λ v. f v (foldFromEnd f x₀ (drop i words))) e ∙ sym (ap (foldFromEnd f x₀) front)
 
-  pub end-all : {x : X} {i : ℕ} → x ≡ fromEnd f x₀ (drop i words) → i ≤ 0 → x ≡ fromEnd f x₀ words
+  pub end-all : {x : X} {i : ℕ} → x ≡ foldFromEnd f x₀ (drop i words) → i ≤ 0 → x ≡ foldFromEnd f x₀ words
   end-all {i = i} r h = let first : i ≡ 0 = omega arith in rw first at r

@@ -8,20 +8,20 @@ use lib.ListN.{length}
 use Rattle.grammar.specs.Syntax.{Grammar}
 use Rattle.lookahead.specs.declared.Lookahead.{Lookahead}
 use Rattle.lookahead.specs.Lookaheads.{tokens, elements, stringOf}
-use Rattle.lookahead.specs.Elements.{total}
+use Rattle.lookahead.specs.Elements.{totalWeight}
 use Rattle.base.specs.FiniteSets.{Distinct}
 use Rattle.semantics.specs.FirstFollow.{first, follow}
 
 -- the weights of a set's elements together
-unfoldable pub numberOf : Lookahead → (List ℕ → Bool) → ℕ
-numberOf k p = total (elements k) (λ l. p (stringOf k l))
+unfoldable pub setNumber : Lookahead → (List ℕ → Bool) → ℕ
+setNumber k p = totalWeight (elements k) (λ l. p (stringOf k l))
 
 -- (document 01: a first set and a follow set, as numbers)
 unfoldable pub firstNumber : Lookahead → Grammar → ℕ → ℕ
-firstNumber k G A = numberOf k (λ x. first G (tokens k) (A, x))
+firstNumber k G A = setNumber k (λ x. first G (tokens k) (A, x))
 
 unfoldable pub followNumber : Lookahead → Grammar → ℕ → ℕ
-followNumber k G A = numberOf k (λ x. follow G (tokens k) (A, x))
+followNumber k G A = setNumber k (λ x. follow G (tokens k) (A, x))
 
 -- a set of strings has n members: they are listed, each once
 pub record Members (P : List ℕ → Type 0) (n : ℕ) : Type 0 where

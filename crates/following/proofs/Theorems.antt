@@ -12,7 +12,7 @@ use Rattle.semantics.specs.FirstFollow.{Follow}
 use Rattle.semantics.specs.Choices.{tableChoice}
 use Rattle.semantics.specs.Descent.{Outcome, Failed, End, descend}
 use Rattle.semantics.specs.ComesTo.{callAt}
-use Rattle.semantics.specs.Memo.{Memo, encode, indexOf, Recorded}
+use Rattle.semantics.specs.Memo.{Memo, outcomeCode, memoIndex, Recorded}
 use Rattle.semantics.specs.contracts.Memo.{EndsFit}
 use Rattle.semantics.specs.Predictive.{Predictive}
 use Rattle.semantics.proofs.Theorems.{theorems as semantics}
@@ -25,10 +25,10 @@ use Rattle.following.proofs.Agreeing.{agrees, begins}
 use Rattle.following.proofs.Following.{may-follow}
 
 -- an entry is a place just when the outcome is an end there
-entry-end : (o : Outcome) (j : ℕ) → j < failedCode → (encode o ≡ j) ↔ (o ≡ End j)
-unfolding encode
-entry-end Failed j h = (λ e. absurd (omega (arith, e)), λ e. ap encode e)
-entry-end (End m) j h = (λ e. ap End e, λ e. ap encode e)
+entry-end : (o : Outcome) (j : ℕ) → j < failedCode → (outcomeCode o ≡ j) ↔ (o ≡ End j)
+unfolding outcomeCode
+entry-end Failed j h = (λ e. absurd (omega (arith, e)), λ e. ap outcomeCode e)
+entry-end (End m) j h = (λ e. ap End e, λ e. ap outcomeCode e)
 
 module _ (G : Grammar) (k : ℕ) (p : Predictive G k) (w : List ℕ) (over : Over (G .terminals) w) (fits : EndsFit w)
     (m : Memo) (recorded : Recorded G (tableChoice G k w) w m) (later : List ℕ) where
@@ -39,7 +39,7 @@ module _ (G : Grammar) (k : ℕ) (p : Predictive G k) (w : List ℕ) (over : Ove
       let outcome = descend G (tableChoice G k w) w A i in
       let verdict = semantics .local-verdict G k p w over v solves .nonterminal A i j (range .0) ij jw f in
       let ends = entry-end outcome j (omega arith) in
-      let is = List·getD-append m later uncalledCode (indexOf w x) (omega (arith, index-range G w x range, recorded .size)) ∙ recorded .called x called in
+      let is = List·getD-append m later uncalledCode (memoIndex w x) (omega (arith, index-range G w x range, recorded .size)) ∙ recorded .called x called in
       (λ e. verdict .0 (ends .0 (sym is ∙ e)), λ e. is ∙ ends .1 (verdict .1 e))
 
   by-agreeing : TellWhere G k w (m ++ later) (λ A j. (u : List ℕ) × MayFollow G A u × Agrees k w j u)

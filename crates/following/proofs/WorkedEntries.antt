@@ -16,7 +16,7 @@ use Rattle.semantics.specs.Choices.{tableChoice}
 use Rattle.semantics.specs.Descent.{select}
 use Rattle.semantics.specs.ComesTo.{callAt}
 use Rattle.semantics.specs.Calls.{Called, start, more}
-use Rattle.semantics.specs.Memo.{Memo, encode}
+use Rattle.semantics.specs.Memo.{Memo, outcomeCode}
 use Rattle.semantics.specs.contracts.Memo.{EndsFit, decode}
 use Rattle.semantics.specs.contracts.MemoDescent.{memoStart, memoCall, memoObey, memoRule, memoPositives, memoNegatives, memoRun, andThen, stored}
 use Rattle.semantics.specs.Predictive.{Predictive}
@@ -43,7 +43,7 @@ unlike : (G : Grammar) (k : ℕ) → Predictive G k → (w : List ℕ) (A j : �
 unlike G k p w A j h u f a = h (subst (Follow G k A) (theorems .agrees k w j u .0 a) (theorems .follow G k p A u f))
 
 unfoldable memo-computes : Unit {0}
-unfolding tables-compute memoStart memoCall memoObey memoRule memoPositives memoNegatives memoRun andThen stored encode decode select look
+unfolding tables-compute memoStart memoCall memoObey memoRule memoPositives memoNegatives memoRun andThen stored outcomeCode decode select look
 memo-computes = tt
 
 abbrev ba : List ℕ

@@ -14,7 +14,7 @@ use Rattle.base.proofs.Quantified.{count-cong, count-first}
 use Rattle.grammar.specs.declared.reading.Sizes.{Sizes}
 use Rattle.grammar.specs.Syntax.{Grammar}
 use Rattle.lookahead.specs.declared.Lookahead.the-variants.{One}
-use Rattle.base.specs.FiniteSets.{Distinct, keep, numbersFrom, numbers, combine}
+use Rattle.base.specs.FiniteSets.{Distinct, keep, numbersFrom, numbersBelow, combine}
 use Rattle.semantics.specs.Claims.{overruns}
 use Rattle.semantics.specs.FirstFollow.{Entry, entries}
 use Rattle.base.specs.Strings.{strings}
@@ -24,17 +24,17 @@ use Rattle.columns.proofs.ColumnStrings.{column-back, columns-strings}
 use Rattle.text.specs.Ascii.{ascii}
 use Rattle.text.specs.Decimal.{labelled}
 use Rattle.text.specs.Writing.{upTo}
-use Rattle.gaps_text_promises.specs.Gaps.{claimants, rulesText, entryText, overrunText, isListed, listedEntries, listedOverruns, gapsLines}
+use Rattle.gaps_text_promises.specs.Gaps.{claimants, rulesText, gapText, overrunText, isListed, listedEntries, listedOverruns, gapsLines}
 use Rattle.gaps_text_promises.specs.contracts.Steps.{claimantText, numbersText, claimantsText, entryLine, rowText, overrunLine, overrunsText, linesText}
 use Rattle.gaps_text_promises.specs.contracts.Steps.{claimsAt}
 
--- texts of numbers in order that agree
+-- texts of numbersBelow in order that agree
 pub up-to-same : (n : ℕ) (f g : ℕ → List ℕ) → ((i : ℕ) → i < n → f i ≡ g i) → upTo n f ≡ upTo n g
 unfolding upTo
 up-to-same zero f g h = refl
 up-to-same (suc n) f g h = ap₂ _++_ (up-to-same n f g (λ i l. h i (omega arith))) (h n (omega arith))
 
--- the texts of the numbers below n are those of the list of them
+-- the texts of the numbersBelow below n are those of the list of them
 module _ (f : ℕ → List ℕ) where
   flat-last : (a n : ℕ) → flatMap f (numbersFrom a (suc n)) ≡ flatMap f (numbersFrom a n) ++ f (a + n)
   unfolding flatMap numbersFrom
@@ -43,8 +43,8 @@ module _ (f : ℕ → List ℕ) where
       let e : suc a + n ≡ a + suc n = omega arith in
       ap (λ l. f a ++ l) (rw e at (flat-last (suc a) n)) ∙ sym (append-assoc (f a) (flatMap f (numbersFrom (suc a) n)) (f (a + suc n)))
 
-  up-to-flat : (n : ℕ) → upTo n f ≡ flatMap f (numbers n)
-  unfolding upTo numbers flatMap numbersFrom
+  up-to-flat : (n : ℕ) → upTo n f ≡ flatMap f (numbersBelow n)
+  unfolding upTo numbersBelow flatMap numbersFrom
   up-to-flat zero = refl
   up-to-flat (suc n) = let e : 0 + n ≡ n = omega arith in ap (λ l. l ++ f n) (up-to-flat n) ∙ sym (rw e at (flat-last 0 n))
 
@@ -77,7 +77,7 @@ unfolding flatMap
 flat-map f g [] = refl
 flat-map f g (x ∷ l) = ap (λ m. g (f x) ++ m) (flat-map f g l)
 
--- how many numbers pass, by the list of those that do
+-- how many numbersBelow pass, by the list of those that do
 count-from : (a n : ℕ) (p : ℕ → Bool) → length (keep p (numbersFrom a n)) ≡ countBelow n (λ q. p (a + q))
 unfolding keep numbersFrom countBelow
 count-from a zero p = refl
@@ -92,15 +92,15 @@ count-from a (suc n) p =
     go true h = omega arith
     go false h = omega arith
 
-pub count-kept : (n : ℕ) (p : ℕ → Bool) → countBelow n p ≡ length (keep p (numbers n))
-unfolding numbers
+pub count-kept : (n : ℕ) (p : ℕ → Bool) → countBelow n p ≡ length (keep p (numbersBelow n))
+unfolding numbersBelow
 count-kept n p = count-cong n p (λ q. p (0 + q)) (λ q l. let e : q ≡ 0 + q = omega arith in ap p e) ∙ sym (count-from 0 n p)
 
 -- the rules of a line
-rules-are : (n : ℕ) (p : ℕ → Bool) → claimantsText n p ≡ rulesText (keep p (numbers n))
+rules-are : (n : ℕ) (p : ℕ → Bool) → claimantsText n p ≡ rulesText (keep p (numbersBelow n))
 unfolding claimantsText numbersText claimantText
 rules-are n p =
-    rw (count-kept n p, up-to-flat (λ q. choose (p q) (labelled " " q) []) n, flat-keep p (labelled " ") (numbers n)) (go (keep p (numbers n)))
+    rw (count-kept n p, up-to-flat (λ q. choose (p q) (labelled " " q) []) n, flat-keep p (labelled " ") (numbersBelow n)) (go (keep p (numbersBelow n)))
   where
     go : (l : List ℕ) → choose (eqb (length l) 0) (ascii " -") (flatMap (labelled " ") l) ≡ rulesText l
     go [] = refl
@@ -109,10 +109,10 @@ rules-are n p =
 module _ (G : Grammar) where
   -- the line of an entry, unless just one rule claims it
   abbrev listedText : Entry → List ℕ
-  listedText e = choose (isListed (claimants G e)) (entryText G e) []
+  listedText e = choose (isListed (claimants G e)) (gapText G e) []
 
   line-is : (A c : ℕ) → c < suc (G .terminals) → entryLine (length (G .rules)) (claimsAt G A c) A c ≡ listedText (A, columnString One (G .terminals) c)
-  unfolding entryLine entryText claimants
+  unfolding entryLine gapText claimants
   line-is A c h =
       let p = claimsAt G A c in
       rw (column-back One (G .terminals) c, count-kept (length (G .rules)) p, rules-are (length (G .rules)) p)
@@ -123,15 +123,15 @@ module _ (G : Grammar) where
       let t = G .terminals in
       up-to-same (suc t) _ (λ c. listedText (A, columnString One t c)) (λ c h. line-is A c h)
       ∙ up-to-flat (λ c. listedText (A, columnString One t c)) (suc t)
-      ∙ sym (flat-map (columnString One t) (λ x. listedText (A, x)) (numbers (suc t)))
+      ∙ sym (flat-map (columnString One t) (λ x. listedText (A, x)) (numbersBelow (suc t)))
       ∙ ap (flatMap (λ x. listedText (A, x))) (sym (columns-strings t))
 
-  rows-are : upTo (G .nonterminals) (λ A. flatMap (λ x. listedText (A, x)) (strings 1 (G .terminals))) ≡ flatMap (entryText G) (listedEntries G)
+  rows-are : upTo (G .nonterminals) (λ A. flatMap (λ x. listedText (A, x)) (strings 1 (G .terminals))) ≡ flatMap (gapText G) (listedEntries G)
   unfolding listedEntries entries
   rows-are =
       up-to-flat (λ A. flatMap (λ x. listedText (A, x)) (strings 1 (G .terminals))) (G .nonterminals)
-      ∙ sym (flat-combine (λ A x. (A, x)) listedText (numbers (G .nonterminals)) (strings 1 (G .terminals)))
-      ∙ flat-keep (λ e. isListed (claimants G e)) (entryText G) (combine (λ A x. (A, x)) (numbers (G .nonterminals)) (strings 1 (G .terminals)))
+      ∙ sym (flat-combine (λ A x. (A, x)) listedText (numbersBelow (G .nonterminals)) (strings 1 (G .terminals)))
+      ∙ flat-keep (λ e. isListed (claimants G e)) (gapText G) (combine (λ A x. (A, x)) (numbersBelow (G .nonterminals)) (strings 1 (G .terminals)))
 
   -- all lines of a grammar of these sizes
   pub lines-are : (z : Sizes) → z .nonterminals ≡ G .nonterminals → z .terminals ≡ G .terminals → z .rules ≡ length (G .rules)
@@ -140,7 +140,7 @@ module _ (G : Grammar) where
   lines-are z n t r =
       rw n
       (ap₂ _++_ (up-to-same (G .nonterminals) (rowText z (claimsAt G)) _ (λ A a. row A) ∙ rows-are)
-      (up-to-flat (λ A. choose (overruns G 1 A) (overrunText A) []) (G .nonterminals) ∙ flat-keep (overruns G 1) overrunText (numbers (G .nonterminals))))
+      (up-to-flat (λ A. choose (overruns G 1 A) (overrunText A) []) (G .nonterminals) ∙ flat-keep (overruns G 1) overrunText (numbersBelow (G .nonterminals))))
     where
       row : (A : ℕ) → rowText z (claimsAt G) A ≡ flatMap (λ x. listedText (A, x)) (strings 1 (G .terminals))
       row A = rw (t, r, add-one (G .terminals)) (row-is A)
@@ -149,10 +149,11 @@ module _ (G : Grammar) where
 pub entries-once : (G : Grammar) → Distinct (listedEntries G)
 unfolding listedEntries entries
 entries-once G =
-    distinct-keep (λ e. isListed (claimants G e)) (combine (λ A x. (A, x)) (numbers (G .nonterminals)) (strings 1 (G .terminals)))
-    (distinct-combine (λ A x. (A, x)) (λ A B x y e. ap (λ d. d .0) e) (λ A B x y e. ap (λ d. d .1) e) (numbers (G .nonterminals)) (strings 1 (G .terminals))
+    distinct-keep (λ e. isListed (claimants G e)) (combine (λ A x. (A, x)) (numbersBelow (G .nonterminals)) (strings 1 (G .terminals)))
+    (distinct-combine (λ A x. (A, x)) (λ A B x y e. ap (λ d. d .0) e) (λ A B x y e. ap (λ d. d .1) e)
+    (numbersBelow (G .nonterminals)) (strings 1 (G .terminals))
     (distinct-numbers (G .nonterminals)) (distinct-strings 1 (G .terminals)))
 
 pub overruns-once : (G : Grammar) → Distinct (listedOverruns G)
 unfolding listedOverruns
-overruns-once G = distinct-keep (overruns G 1) (numbers (G .nonterminals)) (distinct-numbers (G .nonterminals))
+overruns-once G = distinct-keep (overruns G 1) (numbersBelow (G .nonterminals)) (distinct-numbers (G .nonterminals))

@@ -7,11 +7,11 @@ use Rattle.semantics.proofs.examples.Computing.{tables-compute}
 use Rattle.text.specs.Ascii.{ascii}
 use Rattle.text.specs.Decimal.{digits, decimal}
 use Rattle.word.specs.declared.Symbol.the-variants.{Terminal, Nonterminal}
-use Rattle.gaps_text_promises.specs.Gaps.{claimsBy, claimants, entryText, overrunText, listedEntries, listedOverruns, gapsLines}
+use Rattle.gaps_text_promises.specs.Gaps.{claimsBy, claimants, gapText, overrunText, listedEntries, listedOverruns, gapsLines}
 
 -- the definitions that lines compute by
 unfoldable lines-compute : Unit {0}
-unfolding flatMap digits decimal claimsBy claimants entryText overrunText listedEntries listedOverruns gapsLines
+unfolding flatMap digits decimal claimsBy claimants gapText overrunText listedEntries listedOverruns gapsLines
 lines-compute = tt
 
 -- two nonterminals and two terminals

@@ -30,7 +30,7 @@ use Rattle.text.specs.Ascii.{ascii}
 use Rattle.text.specs.Decimal.{decimal, labelled}
 use Rattle.text.specs.Writing.{upTo}
 use Rattle.text.proofs.Lengths.{choose-most, decimal-few, up-to-most, refusal-most}
-use Rattle.gaps_text_promises.specs.Room.{ruleRoom, entryRoom, overrunRoom, gapsRoom}
+use Rattle.gaps_text_promises.specs.Room.{ruleRoom, gapRoom, overrunRoom, gapsRoom}
 use Rattle.gaps_text_promises.specs.Gaps.{onRule, claimsBy, overrunText, foundText, gapsText}
 use Rattle.gaps_text_promises.specs.contracts.Steps.{claimantText, numbersText, claimantsText, entryLine, rowText, overrunLine, overrunsText, linesText}
 use Rattle.gaps_text_promises.specs.contracts.Steps.{claimsAt}
@@ -60,21 +60,21 @@ claimants-most rules p h =
 
 -- a line has room for as many rules as claim the entry, which are n at most
 line-most : (rules : ℕ) (p : ℕ → Bool) (A c n : ℕ) → rules ≤ maxRules → A < 100 → c < 100 → countBelow rules p ≤ n
-    → length (entryLine rules p A c) ≤ entryRoom + n * ruleRoom
+    → length (entryLine rules p A c) ≤ gapRoom + n * ruleRoom
 unfolding entryLine
 line-most rules p A c n h a b k =
-    choose-most (not (eqb (countBelow rules p) 1)) (decimal A ++ labelled " " c ++ claimantsText rules p ++ ascii "\n") [] (entryRoom + n * ruleRoom)
+    choose-most (not (eqb (countBelow rules p) 1)) (decimal A ++ labelled " " c ++ claimantsText rules p ++ ascii "\n") [] (gapRoom + n * ruleRoom)
     (simp length-append (omega (arith, decimal-few 1 A a, decimal-few 1 c b, claimants-most rules p h))) (omega arith)
 
 row-most : (z : Sizes) (p : ℕ → ℕ → ℕ → Bool) (A n : ℕ) → z .rules ≤ maxRules → z .terminals ≤ maxTerminals → A < 100
-    → ((c : ℕ) → countBelow (z .rules) (p A c) ≤ n) → length (rowText z p A) ≤ maxColumns * (entryRoom + n * ruleRoom)
+    → ((c : ℕ) → countBelow (z .rules) (p A c) ≤ n) → length (rowText z p A) ≤ maxColumns * (gapRoom + n * ruleRoom)
 unfolding rowText
 row-most z p A n h k a own =
     omega (
       arith,
-      up-to-most (z .terminals + 1) (entryRoom + n * ruleRoom) (λ c. entryLine (z .rules) (p A c) A c)
+      up-to-most (z .terminals + 1) (gapRoom + n * ruleRoom) (λ c. entryLine (z .rules) (p A c) A c)
           (λ c l. line-most (z .rules) (p A c) A c n h a (omega arith) (own c)),
-      mul-le-mul-right {m = z .terminals + 1} {n = maxColumns} (entryRoom + n * ruleRoom) (omega arith),
+      mul-le-mul-right {m = z .terminals + 1} {n = maxColumns} (gapRoom + n * ruleRoom) (omega arith),
     )
 
 overrun-most : (b : Bool) (A : ℕ) → A < 100 → length (overrunLine b A) ≤ overrunRoom
@@ -98,7 +98,7 @@ heads-next (suc r) n h = omega (arith, go (decLt (h r) n) (ℕ-discrete (h r) n)
 module _ (z : Sizes) (p : ℕ → ℕ → ℕ → Bool) (o : ℕ → Bool) (h : ℕ → ℕ) (own : (A c q : ℕ) → T (p A c q) → h q ≡ A)
     (few : z .nonterminals ≤ maxNonterminals) (r : z .rules ≤ maxRules) (t : z .terminals ≤ maxTerminals) where
   rows-most : (n : ℕ) → n ≤ maxNonterminals
-      → length (upTo n (rowText z p)) ≤ n * (maxColumns * entryRoom) + maxColumns * (countBelow (z .rules) (λ q. ltb (h q) n) * ruleRoom)
+      → length (upTo n (rowText z p)) ≤ n * (maxColumns * gapRoom) + maxColumns * (countBelow (z .rules) (λ q. ltb (h q) n) * ruleRoom)
   unfolding upTo
   rows-most zero l = omega arith
   rows-most (suc n) l =

@@ -12,7 +12,7 @@ use Rattle.grammar.specs.Encoding.{grammarOf}
 use Rattle.grammar.specs.Reading.{reading}
 use Rattle.grammar.specs.Syntax.{Rule, Grammar}
 use Rattle.lookahead.specs.declared.Lookahead.the-variants.{One}
-use Rattle.base.specs.FiniteSets.{Distinct, keep, numbers}
+use Rattle.base.specs.FiniteSets.{Distinct, keep, numbersBelow}
 use Rattle.semantics.specs.Claims.{claims, overruns, column}
 use Rattle.semantics.specs.Families.{Claims, Overrun}
 use Rattle.semantics.specs.FirstFollow.{Entry, entries, First, Follow}
@@ -32,18 +32,18 @@ onRule (some r) p = p r
 unfoldable pub claimsBy : Grammar → Entry → ℕ → Bool
 claimsBy G e q = onRule (getElem? (G .rules) q) (claims G 1 e)
 
--- the numbers of the rules that claim it, in order
+-- the numbersBelow of the rules that claim it, in order
 unfoldable pub claimants : Grammar → Entry → List ℕ
-claimants G e = keep (claimsBy G e) (numbers (length (G .rules)))
+claimants G e = keep (claimsBy G e) (numbersBelow (length (G .rules)))
 
--- numbers behind spaces, or a dash where there are none
+-- numbersBelow behind spaces, or a dash where there are none
 abbrev pub rulesText : List ℕ → List ℕ
 rulesText [] = ascii " -"
 rulesText (q ∷ qs) = flatMap (labelled " ") (q ∷ qs)
 
 -- the line of an entry: nonterminal, column, and the rules that claim it
-unfoldable pub entryText : Grammar → Entry → List ℕ
-entryText G e = decimal (e .0) ++ labelled " " (column (G .terminals) (e .1)) ++ rulesText (claimants G e) ++ ascii "\n"
+unfoldable pub gapText : Grammar → Entry → List ℕ
+gapText G e = decimal (e .0) ++ labelled " " (column (G .terminals) (e .1)) ++ rulesText (claimants G e) ++ ascii "\n"
 
 -- the line of a nonterminal that overruns
 unfoldable pub overrunText : ℕ → List ℕ
@@ -58,10 +58,10 @@ listedEntries G = keep (λ e. isListed (claimants G e)) (entries G 1)
 
 -- the nonterminals that overrun, the lowest first
 unfoldable pub listedOverruns : Grammar → List ℕ
-listedOverruns G = keep (overruns G 1) (numbers (G .nonterminals))
+listedOverruns G = keep (overruns G 1) (numbersBelow (G .nonterminals))
 
 unfoldable pub gapsLines : Grammar → List ℕ
-gapsLines G = flatMap (entryText G) (listedEntries G) ++ flatMap overrunText (listedOverruns G)
+gapsLines G = flatMap (gapText G) (listedEntries G) ++ flatMap overrunText (listedOverruns G)
 
 abbrev pub foundText : Finding → Grammar → List ℕ
 foundText (Passed z) G = gapsLines G

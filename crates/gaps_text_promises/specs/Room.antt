@@ -7,8 +7,8 @@ abbrev pub ruleRoom : ℕ
 ruleRoom = 4
 
 -- the line of an entry but for its rules: nonterminal, column, the line's end, and the dash where there are no rules
-abbrev pub entryRoom : ℕ
-entryRoom = 8
+abbrev pub gapRoom : ℕ
+gapRoom = 8
 
 -- a nonterminal alone on its line
 abbrev pub overrunRoom : ℕ
@@ -16,4 +16,4 @@ overrunRoom = 3
 
 -- a rule stands in the row of its head alone, so all rows together have each rule at most once a column
 abbrev pub gapsRoom : ℕ
-gapsRoom = maxNonterminals * (maxColumns * entryRoom) + maxColumns * (maxRules * ruleRoom) + maxNonterminals * overrunRoom
+gapsRoom = maxNonterminals * (maxColumns * gapRoom) + maxColumns * (maxRules * ruleRoom) + maxNonterminals * overrunRoom

@@ -14,7 +14,7 @@ use Rattle.grammar.specs.Syntax.{Rule}
 use Rattle.grammar.specs.Encoding.{Parsed, ruleOf, onWord, parse}
 use Rattle.grammar.specs.Reading.{beginsRule}
 use Rattle.grammar.specs.contracts.Starts.{starts}
-use Rattle.grammar.specs.contracts.WellRead.{headOf, firstRule}
+use Rattle.grammar.specs.contracts.WellRead.{headOf, ruleRead}
 
 rules-on : (w : Word) (p : Parsed) → onWord w p .rules ≡ choose (beginsRule w) (ruleOf (headOf w) p ∷ p .rules) (p .rules)
 unfolding onWord
@@ -31,11 +31,11 @@ pub record Begins (at i : ℕ) (ws : List ℕ) (r : Option Rule) : Type 0 where
   pub low : at ≤ i
   pub high : i < at + length ws
   pub word : beginsRule (decoded (getD ws (i - at) 0)) ≡ true
-  pub rule : r ≡ some (firstRule (drop (i - at) ws))
+  pub rule : r ≡ some (ruleRead (drop (i - at) ws))
 
 begins-here : (at w : ℕ) (ws : List ℕ) (r : Option Rule) → beginsRule (decoded w) ≡ true → r ≡ some (ruleOf (headOf (decoded w)) (parse ws))
     → Begins at at (w ∷ ws) r
-unfolding firstRule
+unfolding ruleRead
 begins-here at w ws r b e =
     let z : at - at ≡ 0 = omega arith in
     record { low = omega arith; high = omega arith; word = rw z b; rule = rw z e }

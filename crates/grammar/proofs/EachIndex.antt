@@ -16,7 +16,7 @@ use Rattle.grammar.specs.declared.reading.Progress.{Progress}
 use Rattle.grammar.specs.declared.reading.Outcome.the-variants.{Read, Faulty}
 use Rattle.grammar.specs.Limits.{maxWords, maxNonterminals, maxTerminals}
 use Rattle.grammar.specs.Encoding.{Parsed, onWord, parse, declaredBy, grammarOf}
-use Rattle.grammar.specs.Reading.{inRange, after, fresh, stepped, scan, within, headed, opened, reading}
+use Rattle.grammar.specs.Reading.{inRange, stateAfter, fresh, stepped, scan, isWithin, headed, opened, reading}
 use Rattle.grammar.proofs.WellFormed.{faulty, Empty, Shape, reads, step-passed, onward, in-range-same}
 use Rattle.grammar.proofs.WellRead.{chosen, refused, both, within-limits}
 
@@ -35,7 +35,7 @@ pub record Place (z : Sizes) (w : Word) (p : Parsed) : Type 0 where
   pub ranged : inRange w z ≡ true
   pub behind : Behind w p
 
-behind-after : (w : Word) (s : State) (p : Parsed) → Shape (after w s) p → Behind w p
+behind-after : (w : Word) (s : State) (p : Parsed) → Shape (stateAfter w s) p → Behind w p
 behind-after (RuleWord A) s p h = h .0
 behind-after End s p h = h
 behind-after Positive s p h = tt
@@ -81,8 +81,8 @@ unfolding reading opened headed
 read-opened w ws z e =
     let s = refused (ltb maxWords (length (w ∷ ws))) (opened (w ∷ ws)) z e in
     let d = declaredBy (decoded w) in
-    let c = chosen (within (d .nonterminals) maxNonterminals && within (d .terminals) maxTerminals) (scan (fresh d) 1 ws) z (s .1) in
-    let b = both (within (d .nonterminals) maxNonterminals) (within (d .terminals) maxTerminals) (c .0) in
+    let c = chosen (isWithin (d .nonterminals) maxNonterminals && isWithin (d .terminals) maxTerminals) (scan (fresh d) 1 ws) z (s .1) in
+    let b = both (isWithin (d .nonterminals) maxNonterminals) (isWithin (d .terminals) maxTerminals) (c .0) in
     record { some = within-limits (d .nonterminals) maxNonterminals (b .0) .some; rest = c .1 }
 
 pub read-none : (z : Sizes) → reading [] ≡ Read z → ⊥

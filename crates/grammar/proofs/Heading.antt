@@ -18,7 +18,7 @@ use Rattle.grammar.specs.declared.reading.Sizes.{Sizes}
 use Rattle.grammar.specs.declared.reading.Outcome.the-variants.{Faulty}
 use Rattle.grammar.specs.Limits.{maxWords, maxNonterminals, maxTerminals}
 use Rattle.grammar.specs.Encoding.{sizes, declaredBy}
-use Rattle.grammar.specs.Reading.{fresh, scan, within, headed, opened, reading}
+use Rattle.grammar.specs.Reading.{fresh, scan, isWithin, headed, opened, reading}
 
 -- every kind of word but a heading declares nothing
 pub declares-none : (w : Word) → OneOf (1 ∷ 2 ∷ 3 ∷ 4 ∷ 5 ∷ 6 ∷ []) (tagOf the-type w) → sizes 0 0 0 ≡ declaredBy w
@@ -58,15 +58,15 @@ module _ (words : List ℕ) (short : length words ≤ maxWords) where
         first [] n e = absurd (n refl)
         first (x ∷ ws) n e = rw (← e, ← d)
 
-    pub nonterminals-out : within (z .nonterminals) maxNonterminals ≡ false → Faulty HeadingFault ≡ reading words
+    pub nonterminals-out : isWithin (z .nonterminals) maxNonterminals ≡ false → Faulty HeadingFault ≡ reading words
     unfolding headed
     nonterminals-out n = rw (reading-headed, n)
 
-    module _ (n : within (z .nonterminals) maxNonterminals ≡ true) where
-      pub terminals-out : within (z .terminals) maxTerminals ≡ false → Faulty HeadingFault ≡ reading words
+    module _ (n : isWithin (z .nonterminals) maxNonterminals ≡ true) where
+      pub terminals-out : isWithin (z .terminals) maxTerminals ≡ false → Faulty HeadingFault ≡ reading words
       unfolding headed
       terminals-out t = rw (reading-headed, n, t)
 
-      pub reading-rules : within (z .terminals) maxTerminals ≡ true → scan (fresh z) 1 (drop 1 words) ≡ reading words
+      pub reading-rules : isWithin (z .terminals) maxTerminals ≡ true → scan (fresh z) 1 (drop 1 words) ≡ reading words
       unfolding headed
       reading-rules t = rw (reading-headed, n, t)

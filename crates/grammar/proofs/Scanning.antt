@@ -19,7 +19,7 @@ use Rattle.grammar.specs.declared.reading.Step.{Step}
 use Rattle.grammar.specs.declared.reading.Step.the-variants.{Go, Stop}
 use Rattle.grammar.specs.declared.reading.Outcome.the-variants.{Faulty}
 use Rattle.grammar.specs.Limits.{maxRules}
-use Rattle.grammar.specs.Reading.{allows, inRange, beginsRule, after, progress, oneMore, counted, stepped, onStep, finished, scan}
+use Rattle.grammar.specs.Reading.{allows, inRange, beginsRule, stateAfter, progress, oneMore, counted, stepped, onStep, finished, scan}
 
 -- the row from an index on: its first word, and the rest
 pub scan-here : (words : List ℕ) (p : Progress) (at : ℕ) → at < length words
@@ -43,11 +43,11 @@ scan-over words p at h = rw (drop-of-length-le words h)
 
 -- the word at an index, by the tests that it passes
 module _ (w : Word) (p : Progress) (at : ℕ) (a : allows w (p .state) ≡ true) (i : inRange w (p .sizes) ≡ true) where
-  pub stepped-rule : beginsRule w ≡ true → stepped w p at ≡ counted (after w (p .state)) (p .sizes) at
+  pub stepped-rule : beginsRule w ≡ true → stepped w p at ≡ counted (stateAfter w (p .state)) (p .sizes) at
   unfolding stepped
   stepped-rule b = rw (a, i, b)
 
-  pub stepped-other : beginsRule w ≡ false → stepped w p at ≡ Go (progress (after w (p .state)) (p .sizes))
+  pub stepped-other : beginsRule w ≡ false → stepped w p at ≡ Go (progress (stateAfter w (p .state)) (p .sizes))
   unfolding stepped
   stepped-other b = rw (a, i, b)
 
@@ -58,16 +58,16 @@ pub data Stepped (w : Word) (p : Progress) (at : ℕ) : Step → Type 0 where
   tooMany : allows w (p .state) ≡ true → inRange w (p .sizes) ≡ true → beginsRule w ≡ true → maxRules ≤ p .sizes .rules
       → Stepped w p at (Stop (TooManyRules at))
   rule : allows w (p .state) ≡ true → inRange w (p .sizes) ≡ true → beginsRule w ≡ true → p .sizes .rules < maxRules
-      → Stepped w p at (Go (progress (after w (p .state)) (oneMore (p .sizes))))
+      → Stepped w p at (Go (progress (stateAfter w (p .state)) (oneMore (p .sizes))))
   other : allows w (p .state) ≡ true → inRange w (p .sizes) ≡ true → beginsRule w ≡ false
-      → Stepped w p at (Go (progress (after w (p .state)) (p .sizes)))
+      → Stepped w p at (Go (progress (stateAfter w (p .state)) (p .sizes)))
 
 pub stepping : (w : Word) (p : Progress) (at : ℕ) → Stepped w p at (stepped w p at)
 unfolding stepped counted
 stepping w p at = go (allows w (p .state)) refl (inRange w (p .sizes)) refl (beginsRule w) refl (leb maxRules (p .sizes .rules)) refl
   where
     next : State
-    next = after w (p .state)
+    next = stateAfter w (p .state)
 
     go : (a : Bool) → allows w (p .state) ≡ a → (i : Bool) → inRange w (p .sizes) ≡ i → (b : Bool) → beginsRule w ≡ b → (f : Bool)
         → leb maxRules (p .sizes .rules) ≡ f

@@ -14,14 +14,14 @@ use Rattle.base.specs.Choice.{choose}
 use Rattle.word.specs.Words.{decoded}
 use Rattle.grammar.specs.Limits.{maxRules}
 use Rattle.grammar.specs.Reading.{beginsRule}
-use Rattle.grammar.specs.contracts.Starts.{starts, ruleStarts, Noted}
+use Rattle.grammar.specs.contracts.Starts.{starts, ruleStarts, StartNoted}
 
 -- `note`, by its tests
 module _ {before : List ℕ} {rules at : ℕ} (w : Word) where
-  pub noted : beginsRule w ≡ true → rules < maxRules → Noted before rules at w (set before rules at) (rules + 1)
+  pub noted : beginsRule w ≡ true → rules < maxRules → StartNoted before rules at w (set before rules at) (rules + 1)
   noted b l = record { list = rw (b, lt-ltb rules maxRules l); number = rw (b, lt-ltb rules maxRules l) }
 
-  pub not-noted-full : beginsRule w ≡ true → maxRules ≤ rules → Noted before rules at w before rules
+  pub not-noted-full : beginsRule w ≡ true → maxRules ≤ rules → StartNoted before rules at w before rules
   not-noted-full b l = record { list = rw (b, le-ltb rules maxRules l); number = rw (b, le-ltb rules maxRules l) }
 
 drop-replicate : (n m : ℕ) → drop n (replicate {A = ℕ} m 0) ≡ replicate (m - n) 0
@@ -99,7 +99,7 @@ module _ {words found : List ℕ} {rules at : ℕ} (v : Noting words found rules
         rw (t, append-assoc) (rw s at (v .whole));
   }
 
-  pub noting-turn : (w : Word) {found′ : List ℕ} {rules′ : ℕ} → w ≡ decoded (getD words at 0) → Noted found rules at w found′ rules′
+  pub noting-turn : (w : Word) {found′ : List ℕ} {rules′ : ℕ} → w ≡ decoded (getD words at 0) → StartNoted found rules at w found′ rules′
       → Noting words found′ rules′ (at + 1)
   noting-turn w {found′} {rules′} e n = go (beginsRule w) refl (decLt rules maxRules)
     where

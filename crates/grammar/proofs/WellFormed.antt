@@ -26,7 +26,7 @@ use Rattle.grammar.specs.declared.reading.Outcome.the-variants.{Read, Fa
 use Rattle.grammar.specs.Limits.{maxRules}
 use Rattle.grammar.specs.Syntax.{Body, Rule, bodies, NonterminalsBelow, TerminalsBelow}
 use Rattle.grammar.specs.Encoding.{Parsed, parsed, ruleOf, onWord, parse}
-use Rattle.grammar.specs.Reading.{row, allows, inRange, symbolInRange, beginsRule, after, stepped, onStep, finished, scan}
+use Rattle.grammar.specs.Reading.{row, allows, inRange, symbolInRange, beginsRule, stateAfter, stepped, onStep, finished, scan}
 use Rattle.grammar.proofs.Scanning.{Stepped, stepping}
 
 abbrev pub one : Bool → ℕ
@@ -122,7 +122,7 @@ shape-within InNegative p q e same h = same ∙ h refl
 shape-within Closed p q e same h = absurd (false≢true e)
 
 -- what fits behind a word fits before it, where the word may stand and its number is in range
-fits-word : (w : Word) (s : State) (z : Sizes) (p : Parsed) → allows w s ≡ true → inRange w z ≡ true → RestFits (after w s) z p
+fits-word : (w : Word) (s : State) (z : Sizes) (p : Parsed) → allows w s ≡ true → inRange w z ≡ true → RestFits (stateAfter w s) z p
     → RestFits s z (onWord w p)
 unfolding onWord
 fits-word (RuleWord A) s z p a i h = record {
@@ -170,7 +170,7 @@ fits-word Invalid s z p a i h = absurd (false≢true a)
 pub record Passed (w : Word) (p q : Progress) : Type 0 where
   pub allowed : allows w (p .state) ≡ true
   pub ranged : inRange w (p .sizes) ≡ true
-  pub state : q .state ≡ after w (p .state)
+  pub state : q .state ≡ stateAfter w (p .state)
   pub nonterminals : q .sizes .nonterminals ≡ p .sizes .nonterminals
   pub terminals : q .sizes .terminals ≡ p .sizes .terminals
   pub rules : q .sizes .rules ≡ p .sizes .rules + one (beginsRule w)

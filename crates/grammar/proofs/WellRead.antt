@@ -20,9 +20,9 @@ use Rattle.grammar.specs.declared.reading.Outcome.the-variants.{Read, Fa
 use Rattle.grammar.specs.Limits.{maxWords, maxNonterminals, maxTerminals, maxRules}
 use Rattle.grammar.specs.Syntax.{Grammar, WellFormed}
 use Rattle.grammar.specs.Encoding.{declaredBy, parse, grammarOf}
-use Rattle.grammar.specs.Reading.{beginsRule, fresh, scan, within, headed, opened, reading}
+use Rattle.grammar.specs.Reading.{beginsRule, fresh, scan, isWithin, headed, opened, reading}
 use Rattle.grammar.specs.contracts.Starts.{starts, ruleStarts}
-use Rattle.grammar.specs.contracts.WellRead.{firstRule, Begun, WellRead}
+use Rattle.grammar.specs.contracts.WellRead.{ruleRead, Begun, WellRead}
 use Rattle.grammar.proofs.WellFormed.{Each, RuleFits, faulty, Reads, reads}
 use Rattle.grammar.proofs.Begins.{Begins, begins, as-many}
 
@@ -43,8 +43,8 @@ pub record Within (n limit : ℕ) : Type 0 where
   pub some : 0 < n
   pub few : n ≤ limit
 
-pub within-limits : (n limit : ℕ) → within n limit ≡ true → Within n limit
-unfolding within
+pub within-limits : (n limit : ℕ) → isWithin n limit ≡ true → Within n limit
+unfolding isWithin
 within-limits n limit e = let h = both (ltb 0 n) (leb n limit) e in record { some = ltb-true 0 n (h .0); few = leb-true n limit (h .1) }
 
 -- a word that declares nonterminals begins no rule
@@ -108,11 +108,11 @@ module _ (w : ℕ) (ws : List ℕ) (z : Sizes) (short : length (w ∷ ws) ≤ ma
         word = rw (i, k) (b .word);
       }
 
-  begin : (q : ℕ) → q < z .rules → getElem? (parse ws .rules) q ≡ some (firstRule (drop (getD (ruleStarts (w ∷ ws)) q 0) (w ∷ ws)))
+  begin : (q : ℕ) → q < z .rules → getElem? (parse ws .rules) q ≡ some (ruleRead (drop (getD (ruleStarts (w ∷ ws)) q 0) (w ∷ ws)))
   begin q h =
       let b = start q h in
       let k : getD (starts 1 ws) q 0 ≡ suc (getD (starts 1 ws) q 0 - 1) = omega (arith, b .low) in
-      b .rule ∙ ap (λ j. some (firstRule (drop j (w ∷ ws)))) (sym k ∙ sym (start-index q h))
+      b .rule ∙ ap (λ j. some (ruleRead (drop j (w ∷ ws)))) (sym k ∙ sym (start-index q h))
 
   read-well : WellRead (w ∷ ws) z
   unfolding grammarOf
@@ -146,8 +146,8 @@ well-read [] z e = absurd (faulty HeadingFault z (refused (ltb maxWords 0) (Faul
 well-read (w ∷ ws) z e =
     let s = refused (ltb maxWords (length (w ∷ ws))) (opened (w ∷ ws)) z e in
     let d = declaredBy (decoded w) in
-    let c = chosen (within (d .nonterminals) maxNonterminals && within (d .terminals) maxTerminals) (scan (fresh d) 1 ws) z (s .1) in
-    let b = both (within (d .nonterminals) maxNonterminals) (within (d .terminals) maxTerminals) (c .0) in
+    let c = chosen (isWithin (d .nonterminals) maxNonterminals && isWithin (d .terminals) maxTerminals) (scan (fresh d) 1 ws) z (s .1) in
+    let b = both (isWithin (d .nonterminals) maxNonterminals) (isWithin (d .terminals) maxTerminals) (c .0) in
     read-well w ws z (ltb-false maxWords (length (w ∷ ws)) (s .0))
     (within-limits (d .nonterminals) maxNonterminals (b .0)) (within-limits (d .terminals) maxTerminals (b .1))
     (reads (fresh d) 1 ws z (c .1)) (declares-no-rules (decoded w))

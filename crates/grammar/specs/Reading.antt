@@ -40,14 +40,14 @@ allows (Heading n t) s = false
 allows Invalid s = false
 
 -- where the next word stands
-abbrev pub after : Word → State → State
-after (Rule A) s = Opened
-after Positive s = InPositive
-after Negative s = InNegative
-after (Symbol X) s = s
-after End s = Closed
-after (Heading n t) s = s
-after Invalid s = s
+abbrev pub stateAfter : Word → State → State
+stateAfter (Rule A) s = Opened
+stateAfter Positive s = InPositive
+stateAfter Negative s = InNegative
+stateAfter (Symbol X) s = s
+stateAfter End s = Closed
+stateAfter (Heading n t) s = s
+stateAfter Invalid s = s
 
 abbrev pub symbolInRange : symbol.Symbol → Sizes → Bool
 symbolInRange (Terminal a) z = ltb a (z .terminals)
@@ -86,7 +86,7 @@ unfoldable pub stepped : Word → Progress → ℕ → Step
 stepped w p at =
     choose (allows w (p .state))
     (choose (inRange w (p .sizes))
-    (choose (beginsRule w) (counted (after w (p .state)) (p .sizes) at) (Go (progress (after w (p .state)) (p .sizes))))
+    (choose (beginsRule w) (counted (stateAfter w (p .state)) (p .sizes) at) (Go (progress (stateAfter w (p .state)) (p .sizes))))
     (Stop (OutOfRange at)))
     (Stop (UnexpectedWord at))
 
@@ -106,12 +106,12 @@ scan p at (w ∷ ws) = onStep (stepped (decoded w) p at) (λ q. scan q (suc at) 
 abbrev pub fresh : Sizes → Progress
 fresh z = progress Before z
 
-unfoldable pub within : ℕ → ℕ → Bool
-within n limit = ltb 0 n && leb n limit
+unfoldable pub isWithin : ℕ → ℕ → Bool
+isWithin n limit = ltb 0 n && leb n limit
 
 -- by what the first word declares, and the words behind it
 unfoldable pub headed : Sizes → List ℕ → Outcome
-headed z ws = choose (within (z .nonterminals) maxNonterminals && within (z .terminals) maxTerminals) (scan (fresh z) 1 ws) (Faulty HeadingFault)
+headed z ws = choose (isWithin (z .nonterminals) maxNonterminals && isWithin (z .terminals) maxTerminals) (scan (fresh z) 1 ws) (Faulty HeadingFault)
 
 unfoldable pub opened : List ℕ → Outcome
 opened [] = Faulty HeadingFault

@@ -4,13 +4,13 @@ use mathlib.Core.Bool.{true}
 use mathlib.Core.List.{List, [], _∷_}
 use Prim.Native.Nat.{ℕ, _+_, _%_}
 use lib.ListN.{getD}
-use Rattle.base.specs.FiniteSets.{numbersFrom, numbers, combine}
+use Rattle.base.specs.FiniteSets.{numbersFrom, numbersBelow, combine}
 use Rattle.inputs.specs.Inputs.{inputs, before}
 use Rattle.inputs.specs.contracts.Inputs.{inputAt, inputCount}
 use Rattle.inputs.specs.Costliest.{costliestFrom, costliest}
 
 unfoldable inputs-compute : Unit {0}
-unfolding numbersFrom numbers combine inputs inputAt inputCount before costliestFrom costliest
+unfolding numbersFrom numbersBelow combine inputs inputAt inputCount before costliestFrom costliest
 inputs-compute = tt
 
 -- the first token weighs most

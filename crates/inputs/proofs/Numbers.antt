@@ -1,4 +1,4 @@
--- The inputs of one length: each stands at its number, so letter order is the order of numbers.
+-- The inputs of one length: each stands at its number, so letter order is the order of numbersBelow.
 use mathlib.Core.Path.{_≡_, refl, sym, ap, _∙_}
 use mathlib.Core.Bool.{_&&_}
 use mathlib.Core.List.{List, [], _∷_, _++_, append-assoc, append-nil}
@@ -11,7 +11,7 @@ use lib.Dec.{T, eqb, ltb, eqb→eq, ltb→lt, lt→ltb}
 use lib.ListN.{length, getD, length-append}
 use Rattle.base.specs.Quantifiers.{allOf}
 use Rattle.base.proofs.Booleans.{and-l, and-r, and-make, or-cases}
-use Rattle.base.specs.FiniteSets.{numbers}
+use Rattle.base.specs.FiniteSets.{numbersBelow}
 use Rattle.base.specs.Strings.{Over}
 use Rattle.base.proofs.FiniteSets.{numbers-length}
 use Rattle.base.proofs.CombinedAt.{combine-at}
@@ -22,7 +22,7 @@ use Rattle.inputs.specs.contracts.Inputs.{inputAt}
 pub inputs-count : (n k : ℕ) → length (inputs n k) ≡ n ^ k
 unfolding inputs
 inputs-count n zero = sym (pow-zero n)
-inputs-count n (suc k) = combine-length _ (inputs n k) (numbers n) ∙ rw (numbers-length n, inputs-count n k) (sym (pow-suc n k))
+inputs-count n (suc k) = combine-length _ (inputs n k) (numbersBelow n) ∙ rw (numbers-length n, inputs-count n k) (sym (pow-suc n k))
 
 module _ (n : ℕ) (some-terminal : 0 < n) where
   pub some-input : (k : ℕ) → 0 < n ^ k
@@ -31,7 +31,7 @@ module _ (n : ℕ) (some-terminal : 0 < n) where
   front-low : (k i : ℕ) → i < n ^ suc k → i / n < n ^ k
   front-low k i h = div-lt-iff-lt-mul some-terminal .1 (rw (pow-suc n k) at h)
 
-  -- the inputs in order are those of the numbers in order
+  -- the inputs in order are those of the numbersBelow in order
   pub inputs-at : (k i : ℕ) → i < n ^ k → getD (inputs n k) i [] ≡ inputAt n k i
   unfolding inputs inputAt
   inputs-at zero zero h = refl

@@ -3,12 +3,12 @@ use mathlib.Core.Bool.{Bool, false, _&&_, _||_}
 use mathlib.Core.List.{List, [], _∷_, _++_}
 use Prim.Native.Nat.{ℕ, zero, suc}
 use lib.Dec.{eqb, ltb}
-use Rattle.base.specs.FiniteSets.{numbers, combine}
+use Rattle.base.specs.FiniteSets.{numbersBelow, combine}
 
 -- every string of k terminals below n: those of one terminal less, in order, each followed by each terminal (document 02: letter order)
 unfoldable pub inputs : ℕ → ℕ → List (List ℕ)
 inputs n zero = [] ∷ []
-inputs n (suc k) = combine (λ x a. x ++ a ∷ []) (inputs n k) (numbers n)
+inputs n (suc k) = combine (λ x a. x ++ a ∷ []) (inputs n k) (numbersBelow n)
 
 -- an input comes before another: its first token that is another is lower
 unfoldable pub before : List ℕ → List ℕ → Bool

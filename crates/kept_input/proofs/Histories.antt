@@ -7,22 +7,22 @@ use Rattle.event.specs.Events.{inputOf}
 use Rattle.lookahead.specs.declared.Lookahead.{Lookahead}
 use Rattle.recognizer_promises.specs.Properties.{Judges}
 use Rattle.kept_input.specs.declared.KeptInput.{KeptInput}
-use Rattle.kept_input.specs.Histories.{empty, Step, ran}
-use Rattle.kept_input.specs.Stored.{held}
+use Rattle.kept_input.specs.Histories.{emptyInput, Step, ran}
+use Rattle.kept_input.specs.Stored.{heldInput}
 use Rattle.kept_input.specs.Properties.{JudgesKept}
-use Rattle.kept_input.specs.Runs.{Run, idle, next, HistoriesKept}
+use Rattle.kept_input.specs.Runs.{KeptRun, idle, next, HistoriesKept}
 use Rattle.kept_input.proofs.Soundness.{empty-sound, ran-sound}
 
-run-holds : {first last : KeptInput} {l : List Step} → Run first l last → held last ≡ ran l (held first)
+run-holds : {first last : KeptInput} {l : List Step} → KeptRun first l last → heldInput last ≡ ran l (heldInput first)
 unfolding ran
 run-holds idle = refl
 run-holds (next {l = l} r s rest) = run-holds rest ∙ ap (ran l) (s .holds)
 
-run-judged : {k : Lookahead} {first last : KeptInput} {l : List Step} → held first ≡ empty → Run first l last
+run-judged : {k : Lookahead} {first last : KeptInput} {l : List Step} → heldInput first ≡ emptyInput → KeptRun first l last
     → {words table memo table′ memo′ table″ memo″ : List ℕ} {r a : Answer} → JudgesKept k words last table memo r table′ memo′
-    → Judges k words (inputOf (ran l empty .events)) table memo a table″ memo″
+    → Judges k words (inputOf (ran l emptyInput .events)) table memo a table″ memo″
     → (r ≡ a) × (table′ ≡ table″) × (memo′ ≡ memo″)
 run-judged {l = l} e run j h = j .afresh l (run-holds run ∙ ap (ran l) e) _ _ _ h
 
 pub histories-kept : HistoriesKept
-histories-kept = record { holds = run-holds; judged = run-judged; sound = λ l. ran-sound l empty empty-sound }
+histories-kept = record { holds = run-holds; judged = run-judged; sound = λ l. ran-sound l emptyInput empty-sound }

@@ -13,8 +13,8 @@ use Rattle.lookahead.specs.declared.Lookahead.{Lookahead}
 use Rattle.recognizer_promises.specs.Properties.{Judges}
 use Rattle.recognizer_promises.proofs.Directions.{judge-ignores}
 use Rattle.kept_input.specs.declared.KeptInput.{KeptInput}
-use Rattle.kept_input.specs.Histories.{Kept, empty, ran}
-use Rattle.kept_input.specs.Stored.{readLength, held}
+use Rattle.kept_input.specs.Histories.{Kept, emptyInput, ran}
+use Rattle.kept_input.specs.Stored.{readLength, heldInput}
 use Rattle.kept_input.specs.Properties.{JudgesKept}
 
 -- the answer and both memories
@@ -31,21 +31,22 @@ module _ (kept : KeptInput) (whole : length (kept .events) ≡ maxTokens) (n : �
   pub judges-kept : {k : Lookahead} {words table memo table′ memo′ : List ℕ} {r : Answer}
       → Judges k words (inputOf (take n (kept .events))) table memo r table′ memo′
       → JudgesKept k words kept table memo r table′ memo′
-  unfolding held
+  unfolding heldInput
   judges-kept {k} {words} {table} {memo} {table′} {memo′} {r} j =
-      let judged : Judges k words (inputOf (held kept .events)) table memo r table′ memo′ = rw (← e) j in
-      let held-length : n ≡ length (held kept .events) = rw (← e) input-taken in
+      let judged : Judges k words (inputOf (heldInput kept .events)) table memo r table′ memo′ = rw (← e) j in
+      let held-length : n ≡ length (heldInput kept .events) = rw (← e) input-taken in
       record {
         judges = judged;
-        short = omega (arith, input-length (held kept .events), held-length, e);
+        short = omega (arith, input-length (heldInput kept .events), held-length, e);
         afresh = λ history h a table″ memo″ other.
-            let same = judge-ignores k words table memo (held kept .events) (ran history empty .events) (ap (λ (s : Kept). inputOf (s .events)) h)
+            let same = judge-ignores k words table memo (heldInput kept .events) (ran history emptyInput .events) (ap (λ (s : Kept). inputOf (s .events)) h)
             (r, (table′, memo′)) (a, (table″, memo″)) judged other in
             (ap (λ (l : Left). l .0) same, ap (λ (l : Left). l .1 .0) same, ap (λ (l : Left). l .1 .1) same);
       }
 
 -- two judgements alike but for the directions of the events that are kept leave the same
-pub kept-ignores : (k : Lookahead) (words table memo : List ℕ) (kept turned : KeptInput) → inputOf (held kept .events) ≡ inputOf (held turned .events)
+pub kept-ignores : (k : Lookahead) (words table memo : List ℕ) (kept turned : KeptInput) → inputOf (heldInput kept .events) ≡ inputOf (heldInput turned .events)
     → (l m : Left) → JudgesKept k words kept table memo (l .0) (l .1 .0) (l .1 .1) → JudgesKept k words turned table memo (m .0) (m .1 .0) (m .1 .1)
     → l ≡ m
-kept-ignores k words table memo kept turned e l m i j = judge-ignores k words table memo (held kept .events) (held turned .events) e l m (i .judges) (j .judges)
+kept-ignores k words table memo kept turned e l m i j =
+    judge-ignores k words table memo (heldInput kept .events) (heldInput turned .events) e l m (i .judges) (j .judges)

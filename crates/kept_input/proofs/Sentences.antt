@@ -12,16 +12,16 @@ use borrow.Author.Tests.{le-leb, lt-leb, eq-eqb, ne-eqb}
 use Rattle.answer.specs.declared.Error.{Error}
 use Rattle.answer.specs.declared.Error.the-variants.{UnknownMark, MarkNotSet, InputFull}
 use Rattle.grammar.specs.Limits.{maxTokens}
-use Rattle.kept_input.specs.Histories.{markCount, Kept, Step, Add, Mark, Return, stepFault, within, cutAt, done, unlessRefused, after, ran}
+use Rattle.kept_input.specs.Histories.{markCount, Kept, Step, Add, Mark, Return, stepFault, withinLength, cutAt, done, unlessRefused, afterStep, ran}
 use Rattle.kept_input.specs.Runs.{Sentences}
 use Rattle.kept_input.proofs.Soundness.{within-none}
 
-refused : (t : Step) (s : Kept) (e : Error) → stepFault t s ≡ some e → after t s ≡ s
-unfolding after
+refused : (t : Step) (s : Kept) (e : Error) → stepFault t s ≡ some e → afterStep t s ≡ s
+unfolding afterStep
 refused t s e q = rw q
 
-passes : (t : Step) (s : Kept) → stepFault t s ≡ none → after t s ≡ done t s
-unfolding after
+passes : (t : Step) (s : Kept) → stepFault t s ≡ none → afterStep t s ≡ done t s
+unfolding afterStep
 passes t s q = rw q
 
 module _ (s : Kept) where
@@ -41,49 +41,49 @@ module _ (s : Kept) where
   unfolding stepFault
   not-set m h e = rw (lt-leb markCount m h, e)
 
-  grows : (event : ℕ) → length (s .events) < maxTokens → after (Add event) s ≡ record { events = s .events ++ event ∷ []; marks = s .marks }
+  grows : (event : ℕ) → length (s .events) < maxTokens → afterStep (Add event) s ≡ record { events = s .events ++ event ∷ []; marks = s .marks }
   unfolding stepFault done
   grows event h = passes (Add event) s (rw (lt-leb maxTokens (length (s .events)) h))
 
-  known : (m : ℕ) → m < markCount → after (Mark m) s ≡ done (Mark m) s
+  known : (m : ℕ) → m < markCount → afterStep (Mark m) s ≡ done (Mark m) s
   unfolding stepFault
   known m h = passes (Mark m) s (rw (lt-leb markCount m h))
 
-  marks : (m : ℕ) → m < markCount → after (Mark m) s .marks m ≡ some (length (s .events))
+  marks : (m : ℕ) → m < markCount → afterStep (Mark m) s .marks m ≡ some (length (s .events))
   unfolding done
   marks m h = rw (known m h, eq-eqb m m refl)
 
-  others : (m k : ℕ) → (k ≡ m → ⊥) → after (Mark m) s .marks k ≡ s .marks k
+  others : (m k : ℕ) → (k ≡ m → ⊥) → afterStep (Mark m) s .marks k ≡ s .marks k
   unfolding done
   others m k ne = go (decLt m markCount)
     where
-      go : Dec (m < markCount) → after (Mark m) s .marks k ≡ s .marks k
+      go : Dec (m < markCount) → afterStep (Mark m) s .marks k ≡ s .marks k
       go (yes h) = rw (known m h, ne-eqb k m ne)
       go (no h) = rw (refused (Mark m) s UnknownMark (no-mark m (omega (arith, h))))
 
-  unread : (m : ℕ) → after (Mark m) s .events ≡ s .events
+  unread : (m : ℕ) → afterStep (Mark m) s .events ≡ s .events
   unfolding done
   unread m = go (decLt m markCount)
     where
-      go : Dec (m < markCount) → after (Mark m) s .events ≡ s .events
+      go : Dec (m < markCount) → afterStep (Mark m) s .events ≡ s .events
       go (yes h) = rw (known m h)
       go (no h) = rw (refused (Mark m) s UnknownMark (no-mark m (omega (arith, h))))
 
   module _ (m n : ℕ) (h : m < markCount) (e : s .marks m ≡ some n) where
-    returned : after (Return m) s ≡ cutAt (some n) s
+    returned : afterStep (Return m) s ≡ cutAt (some n) s
     unfolding stepFault done
     returned = passes (Return m) s (rw (lt-leb markCount m h, e)) ∙ ap (λ (o : Option ℕ). cutAt o s) e
 
-    cuts : after (Return m) s .events ≡ take n (s .events)
+    cuts : afterStep (Return m) s .events ≡ take n (s .events)
     cuts = ap (λ (k : Kept). k .events) returned
 
-    kept-within : (k : ℕ) → after (Return m) s .marks k ≡ within n (s .marks k)
+    kept-within : (k : ℕ) → afterStep (Return m) s .marks k ≡ withinLength n (s .marks k)
     kept-within k = ap (λ (r : Kept). r .marks k) returned
 
-    stay : (k j : ℕ) → s .marks k ≡ some j → j ≤ n → after (Return m) s .marks k ≡ some j
+    stay : (k j : ℕ) → s .marks k ≡ some j → j ≤ n → afterStep (Return m) s .marks k ≡ some j
     stay k j q l = kept-within k ∙ rw (q, le-leb j n l)
 
-    clears : (k j : ℕ) → s .marks k ≡ some j → n < j → after (Return m) s .marks k ≡ none
+    clears : (k j : ℕ) → s .marks k ≡ some j → n < j → afterStep (Return m) s .marks k ≡ none
     clears k j q l = kept-within k ∙ rw (q, lt-leb j n l)
 
 -- what is not set stays so but for its marking
@@ -97,8 +97,8 @@ done-unset (Return m) s k ne e = go (s .marks m)
     go none = e
     go (some n) = within-none n (s .marks k) e
 
-after-unset : (t : Step) (s : Kept) (k : ℕ) → (t ≡ Mark k → ⊥) → s .marks k ≡ none → after t s .marks k ≡ none
-unfolding after
+after-unset : (t : Step) (s : Kept) (k : ℕ) → (t ≡ Mark k → ⊥) → s .marks k ≡ none → afterStep t s .marks k ≡ none
+unfolding afterStep
 after-unset t s k ne e = go (stepFault t s)
   where
     go : (f : Option Error) → unlessRefused f (done t s) s .marks k ≡ none
@@ -108,7 +108,7 @@ after-unset t s k ne e = go (stepFault t s)
 unset : (s : Kept) (k : ℕ) (l : List Step) → (List·Memᴰ (Mark k) l → ⊥) → s .marks k ≡ none → ran l s .marks k ≡ none
 unfolding ran
 unset s k [] ne e = e
-unset s k (t ∷ l) ne e = unset (after t s) k l (λ m. ne (List·Memᴰ·tail m)) (after-unset t s k (λ q. ne (List·Memᴰ·head (sym q))) e)
+unset s k (t ∷ l) ne e = unset (afterStep t s) k l (λ m. ne (List·Memᴰ·tail m)) (after-unset t s k (λ q. ne (List·Memᴰ·head (sym q))) e)
 
 pub sentences : Sentences
 sentences = record {

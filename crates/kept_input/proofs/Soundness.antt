@@ -15,8 +15,8 @@ use Rattle.answer.proofs.Faults.{fault-none, each-none}
 use Rattle.base.specs.Choice.{choose}
 use Rattle.grammar.specs.Limits.{maxTokens}
 use Rattle.kept_input.specs.declared.Progress.{Progress}
-use Rattle.kept_input.specs.Histories.{markCount, Kept, empty, Step, Add, Mark, Return, stepFault, within, cutAt, done, unlessRefused, after, ran}
-use Rattle.kept_input.specs.Stored.{unsetCode, keptInput, readLength, readMark, held}
+use Rattle.kept_input.specs.Histories.{markCount, Kept, emptyInput, Step, Add, Mark, Return, stepFault, withinLength, cutAt, done, unlessRefused, afterStep, ran}
+use Rattle.kept_input.specs.Stored.{unsetCode, keptInput, readLength, readMark, heldInput}
 use Rattle.kept_input.specs.Runs.{Sound}
 use Rattle.kept_input.proofs.Storing.{read-unset}
 
@@ -26,8 +26,8 @@ some-same e = cc
 none-set : {n : ℕ} → none ≡ some n → ⊥
 none-set e = let z : _≡_ {A = ℕ} 0 1 = cc in absurd (omega arith)
 
--- a mark that is within a length, and one that is read
-within-short : (n k : ℕ) (o : Option ℕ) → within n o ≡ some k → k ≤ n
+-- a mark that is withinLength a length, and one that is read
+within-short : (n k : ℕ) (o : Option ℕ) → withinLength n o ≡ some k → k ≤ n
 within-short n k none e = absurd (none-set e)
 within-short n k (some j) e = go (leb j n) refl e
   where
@@ -38,7 +38,7 @@ within-short n k (some j) e = go (leb j n) refl e
 read-short : (n k x : ℕ) → readMark n x ≡ some k → k ≤ n
 read-short n k x e = within-short n k (some x) e
 
-pub within-none : (n : ℕ) (o : Option ℕ) → o ≡ none → within n o ≡ none
+pub within-none : (n : ℕ) (o : Option ℕ) → o ≡ none → withinLength n o ≡ none
 within-none n o e = rw e
 
 module _ (s : Kept) (h : Sound s) where
@@ -63,7 +63,7 @@ module _ (s : Kept) (h : Sound s) where
       eight k a true e = absurd (omega (arith, eqb-true k m e))
       eight k a false e = h .eight k a
 
-  cut : (n : ℕ) → n ≤ length (s .events) → Sound (record { events = take n (s .events); marks = λ k. within n (s .marks k) })
+  cut : (n : ℕ) → n ≤ length (s .events) → Sound (record { events = take n (s .events); marks = λ k. withinLength n (s .marks k) })
   cut n l =
       let shorter : length (take n (s .events)) ≡ n = length-take-le n (s .events) l in
       record {
@@ -82,30 +82,30 @@ module _ (s : Kept) (h : Sound s) where
       go none q = h
       go (some n) q = cut n (h .inside m n q)
 
-  pub after-sound : (t : Step) → Sound (after t s)
-  unfolding after
+  pub after-sound : (t : Step) → Sound (afterStep t s)
+  unfolding afterStep
   after-sound t = go (stepFault t s) refl
     where
       go : (f : Option Error) → stepFault t s ≡ f → Sound (unlessRefused f (done t s) s)
       go none e = done-sound t e
       go (some x) e = h
 
-pub empty-sound : Sound empty
+pub empty-sound : Sound emptyInput
 empty-sound = record { short = omega arith; inside = λ m n e. absurd (none-set e); eight = λ m h. refl }
 
 pub ran-sound : (l : List Step) (s : Kept) → Sound s → Sound (ran l s)
 unfolding ran
 ran-sound [] s h = h
-ran-sound (t ∷ l) s h = ran-sound l (after t s) (after-sound s h t)
+ran-sound (t ∷ l) s h = ran-sound l (afterStep t s) (after-sound s h t)
 
 -- what an array of events and eight marks hold
 module _ (events : List ℕ) (p : Progress) (whole : length events ≡ maxTokens) (eight : length (p .marks) ≡ markCount) where
-  pub held-length : length (held (keptInput events p) .events) ≡ readLength p
-  unfolding held
+  pub held-length : length (heldInput (keptInput events p) .events) ≡ readLength p
+  unfolding heldInput
   held-length = length-take-le (readLength p) events (omega (arith, whole))
 
-  pub held-sound : Sound (held (keptInput events p))
-  unfolding held
+  pub held-sound : Sound (heldInput (keptInput events p))
+  unfolding heldInput
   held-sound = record {
     short = omega (arith, held-length);
     inside = λ m n e. omega (arith, held-length, read-short (readLength p) n (getD (p .marks) m unsetCode) e);

@@ -1,4 +1,4 @@
--- Each step of a stored value stores what the step makes of what the value holds.
+-- Each step of a storedInput value stores what the step makes of what the value holds.
 use mathlib.Core.Path.{_≡_, refl, sym, ap, _∙_}
 use mathlib.Core.Bool.{Bool, true, false}
 use mathlib.Core.List.{List, [], _∷_, _++_, map}
@@ -17,35 +17,35 @@ use Rattle.grammar.specs.Limits.{maxTokens}
 use Rattle.promises.proofs.Leaving.{leaves, leaves-alike, leaves-refused}
 use Rattle.kept_input.specs.declared.Progress.{Progress}
 use Rattle.kept_input.specs.declared.KeptInput.{KeptInput}
-use Rattle.kept_input.specs.Histories.{markCount, empty, Step, Add, Mark, Return, within, stepFault, done, after}
-use Rattle.kept_input.specs.Stored.{unsetCode, keptInput, readLength, readMark, held, valuesOf, codeOf, progressOf, stored}
+use Rattle.kept_input.specs.Histories.{markCount, emptyInput, Step, Add, Mark, Return, withinLength, stepFault, done, afterStep}
+use Rattle.kept_input.specs.Stored.{unsetCode, keptInput, readLength, readMark, heldInput, valuesOf, codeOf, progressOf, storedInput}
 use Rattle.kept_input.specs.contracts.Stored.{clearedBeyond, readProgress}
-use Rattle.kept_input.specs.Properties.{Begins, Steps}
+use Rattle.kept_input.specs.Properties.{BeginsEmpty, Steps}
 use Rattle.kept_input.specs.Runs.{Sound}
 use Rattle.kept_input.proofs.Lists.{map-map, values-same, values-list, values-set}
 use Rattle.kept_input.proofs.Storing.{code-read, code-within, held-stored}
 use Rattle.kept_input.proofs.Soundness.{empty-sound, done-sound, held-sound}
 
 -- the first value
-pub begins : {k : KeptInput} → k ≡ stored (replicate maxTokens 0) empty → Begins k
-begins {k} e = record { value = e; holds = ap held e ∙ held-stored (replicate maxTokens 0) empty empty-sound }
+pub begins : {k : KeptInput} → k ≡ storedInput (replicate maxTokens 0) emptyInput → BeginsEmpty k
+begins {k} e = record { value = e; holds = ap heldInput e ∙ held-stored (replicate maxTokens 0) emptyInput empty-sound }
 
-pub begin-stored : {p : Progress} → p ≡ progressOf empty → keptInput (replicate maxTokens 0) p ≡ stored (replicate maxTokens 0) empty
-unfolding stored
+pub begin-stored : {p : Progress} → p ≡ progressOf emptyInput → keptInput (replicate maxTokens 0) p ≡ storedInput (replicate maxTokens 0) emptyInput
+unfolding storedInput
 begin-stored e = ap (keptInput (replicate maxTokens 0)) e
 
 -- a step by whether it is refused
-step-refused : (t : Step) (k : KeptInput) (x : Error) → stepFault t (held k) ≡ some x → Steps t k (record { answer = Refused x; kept = k })
-unfolding after
+step-refused : (t : Step) (k : KeptInput) (x : Error) → stepFault t (heldInput k) ≡ some x → Steps t k (record { answer = Refused x; kept = k })
+unfolding afterStep
 step-refused t k x q = record { leaves = leaves-refused q tt; kept = rw q; holds = rw q }
 
-step-done : (t : Step) (k next : KeptInput) → Sound (held k) → stepFault t (held k) ≡ none → next ≡ stored (k .events) (done t (held k))
+step-done : (t : Step) (k next : KeptInput) → Sound (heldInput k) → stepFault t (heldInput k) ≡ none → next ≡ storedInput (k .events) (done t (heldInput k))
     → Steps t k (record { answer = Passed; kept = next })
-unfolding after
+unfolding afterStep
 step-done t k next h q e = record {
   leaves = leaves-alike q (leaves refl tt);
   kept = rw q e;
-  holds = rw q (ap held e ∙ held-stored (k .events) (done t (held k)) (done-sound (held k) h t q));
+  holds = rw q (ap heldInput e ∙ held-stored (k .events) (done t (heldInput k)) (done-sound (heldInput k) h t q));
 }
 
 same-progress : {a b : ℕ} {c d : List ℕ} → a ≡ b → c ≡ d → _≡_ {A = Progress} (record { length = a; marks = c }) (record { length = b; marks = d })
@@ -54,7 +54,7 @@ same-progress p q = cc
 same-input : {a b : List ℕ} {p q : Progress} → a ≡ b → p ≡ q → keptInput a p ≡ keptInput b q
 same-input e f = cc
 
--- what stands in the arrays after each step
+-- what stands in the arrays afterStep each step
 add-events : (l : List ℕ) (n a : ℕ) → n < length l → set l n a ≡ (take n l ++ a ∷ []) ++ drop (length (take n l ++ a ∷ [])) l
 add-events l n a h =
     let longer : length (take n l ++ a ∷ []) ≡ suc n = omega (arith, length-append (take n l) (a ∷ []), length-take-le n l (omega arith)) in
@@ -72,7 +72,7 @@ codes-read : (cs : List ℕ) (n c : ℕ) → length cs ≡ c → map (clearedBey
 codes-read cs n c e = rw (← e) (sym (values-same (λ m. code-read n (getD cs m unsetCode)) (length cs) ∙ values-list (clearedBeyond n) unsetCode cs))
 
 codes-cut : (cs : List ℕ) (to n c : ℕ) → to < unsetCode → length cs ≡ c
-    → map (clearedBeyond to) (map (clearedBeyond n) cs) ≡ valuesOf (λ m. codeOf (within to (readMark n (getD cs m unsetCode)))) c
+    → map (clearedBeyond to) (map (clearedBeyond n) cs) ≡ valuesOf (λ m. codeOf (withinLength to (readMark n (getD cs m unsetCode)))) c
 codes-cut cs to n c h e =
     rw (← e)
     (map-map (clearedBeyond n) (clearedBeyond to) cs
@@ -123,7 +123,7 @@ module _ (events : List ℕ) (p : Progress) (whole : length events ≡ maxTokens
 
     pub add-full : (event : ℕ) → maxTokens ≤ now .length
         → Steps (Add event) (keptInput events p) (record { answer = Refused InputFull; kept = keptInput events p })
-    unfolding stepFault held
+    unfolding stepFault heldInput
     add-full event h = step-refused (Add event) (keptInput events p) InputFull (rw (taken, le-leb maxTokens (readLength p) (omega (arith, read-length))))
 
     pub add-done : (event : ℕ) → now .length < maxTokens
@@ -131,11 +131,11 @@ module _ (events : List ℕ) (p : Progress) (whole : length events ≡ maxTokens
           answer = Passed;
           kept = keptInput (set events (now .length) event) (record { length = now .length + 1; marks = now .marks });
         })
-    unfolding stepFault done held stored progressOf
+    unfolding stepFault done heldInput storedInput progressOf
     add-done event h =
         let n = readLength p in
         let room : n < maxTokens = omega (arith, read-length) in
-        let fits : stepFault (Add event) (held (keptInput events p)) ≡ none = rw (taken, lt-leb maxTokens n room) in
+        let fits : stepFault (Add event) (heldInput (keptInput events p)) ≡ none = rw (taken, lt-leb maxTokens n room) in
         let there : set events n event ≡ (take n events ++ event ∷ []) ++ drop (length (take n events ++ event ∷ [])) events =
         add-events events n event (omega (arith, whole)) in
         let longer : n + 1 ≡ length (take n events ++ event ∷ []) = omega (arith, length-append (take n events) (event ∷ []), taken) in
@@ -147,10 +147,10 @@ module _ (events : List ℕ) (p : Progress) (whole : length events ≡ maxTokens
           answer = Passed;
           kept = keptInput events (record { length = now .length; marks = set (now .marks) m (now .length) });
         })
-    unfolding stepFault done held stored progressOf
+    unfolding stepFault done heldInput storedInput progressOf
     mark-done m h =
         let n = readLength p in
-        let known : stepFault (Mark m) (held (keptInput events p)) ≡ none = rw (lt-leb markCount m h) in
+        let known : stepFault (Mark m) (heldInput (keptInput events p)) ≡ none = rw (lt-leb markCount m h) in
         step-done (Mark m) (keptInput events p) _ (held-sound events p whole eight) known
         (rw e (same-input (whole-events events n in-events) (same-progress (sym taken) (rw taken (codes-marked (p .marks) n m n markCount eight)))))
 
@@ -160,7 +160,7 @@ module _ (events : List ℕ) (p : Progress) (whole : length events ≡ maxTokens
 
       pub return-unset : now .length < getD (now .marks) m 0
           → Steps (Return m) (keptInput events p) (record { answer = Refused MarkNotSet; kept = keptInput events p })
-      unfolding stepFault held
+      unfolding stepFault heldInput
       return-unset u =
           let unset : readMark (readLength p) (getD (p .marks) m unsetCode) ≡ none
           = cleared-unset (readLength p) (getD (p .marks) m unsetCode) (omega (arith, u, code-at, read-length)) in
@@ -172,14 +172,14 @@ module _ (events : List ℕ) (p : Progress) (whole : length events ≡ maxTokens
             answer = Passed;
             kept = keptInput events (record { length = getD (now .marks) m 0; marks = marks });
           })
-      unfolding stepFault done held stored progressOf
+      unfolding stepFault done heldInput storedInput progressOf
       return-done l c =
           let n = readLength p in
           let to = getD (now .marks) m 0 in
           let less : to ≤ n = omega (arith, l, read-length) in
           let set-there : readMark n (getD (p .marks) m unsetCode) ≡ some to
           = cleared-set n (getD (p .marks) m unsetCode) (omega arith) (omega (arith, less, code-at)) ∙ ap some (sym code-at) in
-          let known : stepFault (Return m) (held (keptInput events p)) ≡ none = rw (lt-leb markCount m h, set-there) in
+          let known : stepFault (Return m) (heldInput (keptInput events p)) ≡ none = rw (lt-leb markCount m h, set-there) in
           let shorter : length (take to (take n events)) ≡ to = length-take-le to (take n events) (omega (arith, taken, less)) in
           let cleared : map (clearedBeyond to) (now .marks) ≡ map (clearedBeyond to) (map (clearedBeyond n) (p .marks))
           = ap (λ (q : Progress). map (clearedBeyond to) (q .marks)) e in

@@ -1,4 +1,4 @@
--- What is stored is read as it was, where events and marks fit together.
+-- What is storedInput is read as it was, where events and marks fit together.
 use mathlib.Core.Path.{_≡_, refl, fun-ext}
 use mathlib.Core.Bool.{Bool, true, false}
 use mathlib.Core.List.{List, _++_}
@@ -12,8 +12,8 @@ use lib.Seq.{take-append-seam}
 use borrow.Author.Tests.{le-leb, lt-leb}
 use Rattle.base.specs.Choice.{choose}
 use Rattle.grammar.specs.Limits.{maxTokens}
-use Rattle.kept_input.specs.Histories.{markCount, Kept, within}
-use Rattle.kept_input.specs.Stored.{unsetCode, readMark, held, valuesOf, codeOf, progressOf, stored}
+use Rattle.kept_input.specs.Histories.{markCount, Kept, withinLength}
+use Rattle.kept_input.specs.Stored.{unsetCode, readMark, heldInput, valuesOf, codeOf, progressOf, storedInput}
 use Rattle.kept_input.specs.contracts.Stored.{clearedBeyond}
 use Rattle.kept_input.specs.Runs.{Sound}
 use Rattle.kept_input.proofs.Lists.{values-length, values-at}
@@ -40,15 +40,15 @@ read-code : (n : ℕ) (o : Option ℕ) → n < unsetCode → ((k : ℕ) → o �
 read-code n none h l = read-unset n unsetCode h
 read-code n (some k) h l = read-set n k (l k refl)
 
-pub code-within : (to n x : ℕ) → to < unsetCode → codeOf (within to (readMark n x)) ≡ clearedBeyond to (clearedBeyond n x)
+pub code-within : (to n x : ℕ) → to < unsetCode → codeOf (withinLength to (readMark n x)) ≡ clearedBeyond to (clearedBeyond n x)
 code-within to n x h = go (leb x n)
   where
-    go : (b : Bool) → codeOf (within to (choose b (some x) none)) ≡ clearedBeyond to (choose b x unsetCode)
+    go : (b : Bool) → codeOf (withinLength to (choose b (some x) none)) ≡ clearedBeyond to (choose b x unsetCode)
     go true = code-read to x
     go false = rw (lt-leb unsetCode to h)
 
-pub held-stored : (old : List ℕ) (s : Kept) → Sound s → held (stored old s) ≡ s
-unfolding held stored progressOf
+pub held-stored : (old : List ℕ) (s : Kept) → Sound s → heldInput (storedInput old s) ≡ s
+unfolding heldInput storedInput progressOf
 held-stored old s h =
     let n = length (s .events) in
     let short : min n maxTokens ≡ n = omega (arith, h .short) in

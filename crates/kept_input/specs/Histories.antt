@@ -18,9 +18,9 @@ pub record Kept : Type 0 where
   pub events : List ℕ
   pub marks : ℕ → Option ℕ
 
--- an empty log without marks
-abbrev pub empty : Kept
-empty = record { events = []; marks = λ m. none }
+-- an emptyInput log without marks
+abbrev pub emptyInput : Kept
+emptyInput = record { events = []; marks = λ m. none }
 
 pub data Step : Type 0 where
   Add : ℕ → Step
@@ -40,14 +40,14 @@ stepFault (Add event) s = firstFault (faultIf (leb maxTokens (length (s .events)
 stepFault (Mark m) s = firstFault (unknown m ∷ [])
 stepFault (Return m) s = firstFault (unknown m ∷ notSet (s .marks m) ∷ [])
 
--- a mark within a length stays, and one beyond it is cleared
-abbrev pub within : ℕ → Option ℕ → Option ℕ
-within n none = none
-within n (some k) = choose (leb k n) (some k) none
+-- a mark withinLength a length stays, and one beyond it is cleared
+abbrev pub withinLength : ℕ → Option ℕ → Option ℕ
+withinLength n none = none
+withinLength n (some k) = choose (leb k n) (some k) none
 
 abbrev pub cutAt : Option ℕ → Kept → Kept
 cutAt none s = s
-cutAt (some n) s = record { events = take n (s .events); marks = λ k. within n (s .marks k) }
+cutAt (some n) s = record { events = take n (s .events); marks = λ k. withinLength n (s .marks k) }
 
 -- what a step does
 unfoldable pub done : Step → Kept → Kept
@@ -60,10 +60,10 @@ abbrev pub unlessRefused : {A : Type 0} → Option Error → A → A → A
 unlessRefused (some e) new old = old
 unlessRefused none new old = new
 
-unfoldable pub after : Step → Kept → Kept
-after t s = unlessRefused (stepFault t s) (done t s) s
+unfoldable pub afterStep : Step → Kept → Kept
+afterStep t s = unlessRefused (stepFault t s) (done t s) s
 
 -- a history of steps, the first one first
 unfoldable pub ran : List Step → Kept → Kept
 ran [] s = s
-ran (t ∷ l) s = ran l (after t s)
+ran (t ∷ l) s = ran l (afterStep t s)

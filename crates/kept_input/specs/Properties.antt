@@ -14,22 +14,22 @@ use Rattle.kept_input.specs.declared.Progress.{Progress}
 use Rattle.kept_input.specs.declared.KeptInput.{KeptInput}
 use Rattle.kept_input.specs.declared.Moved.{Moved}
 use Rattle.kept_input.specs.declared.Changed.{Changed}
-use Rattle.kept_input.specs.Histories.{empty, Step, Add, stepFault, done, unlessRefused, after, ran}
-use Rattle.kept_input.specs.Stored.{keptInput, held, stored}
+use Rattle.kept_input.specs.Histories.{emptyInput, Step, Add, stepFault, done, unlessRefused, afterStep, ran}
+use Rattle.kept_input.specs.Stored.{keptInput, heldInput, storedInput}
 
 -- the value that a history begins with
-pub record Begins (k : KeptInput) : Type 0 where
-  pub value : k ≡ stored (replicate maxTokens 0) empty
-  pub holds : held k ≡ empty
+pub record BeginsEmpty (k : KeptInput) : Type 0 where
+  pub value : k ≡ storedInput (replicate maxTokens 0) emptyInput
+  pub holds : heldInput k ≡ emptyInput
 
 -- a step, of any value
 pub record Steps (t : Step) (before : KeptInput) (r : Changed) : Type 0 where
   -- refused or passed by the events and marks that the value holds
-  pub leaves : Leaves (stepFault t (held before)) Passed (r .answer) []
+  pub leaves : Leaves (stepFault t (heldInput before)) Passed (r .answer) []
   -- refused, it is handed back as it was; else it stores what the step makes of them, and events behind the input stay as they were
-  pub kept : r .kept ≡ unlessRefused (stepFault t (held before)) (stored (before .events) (done t (held before))) before
+  pub kept : r .kept ≡ unlessRefused (stepFault t (heldInput before)) (storedInput (before .events) (done t (heldInput before))) before
   -- so it holds what document 02's step leaves
-  pub holds : held (r .kept) ≡ after t (held before)
+  pub holds : heldInput (r .kept) ≡ afterStep t (heldInput before)
 
 -- an event added to events that stand in lent memory
 abbrev pub Adds : (event : ℕ) (events : List ℕ) (before : Progress) (events′ : List ℕ) (r : Moved) → Type 0
@@ -44,10 +44,10 @@ pub record Moves (t : Step) (before : Progress) (r : Moved) : Type 0 where
 -- judging what is kept
 pub record JudgesKept (k : Lookahead) (words : List ℕ) (kept : KeptInput) (table memo : List ℕ) (r : Answer) (table′ memo′ : List ℕ) : Type 0 where
   -- all that judging promises of the events that the value holds, which are never too many for it
-  pub judges : Judges k words (inputOf (held kept .events)) table memo r table′ memo′
-  pub short : length (inputOf (held kept .events)) ≤ maxTokens
-  -- whichever history from an empty input without marks left it, the judgement is that of the events which the history leaves, taken afresh
+  pub judges : Judges k words (inputOf (heldInput kept .events)) table memo r table′ memo′
+  pub short : length (inputOf (heldInput kept .events)) ≤ maxTokens
+  -- whichever history from an emptyInput input without marks left it, the judgement is that of the events which the history leaves, taken afresh
   -- with the same grammar and lent memory
-  pub afresh : (history : List Step) → held kept ≡ ran history empty → (a : Answer) (table″ memo″ : List ℕ)
-      → Judges k words (inputOf (ran history empty .events)) table memo a table″ memo″
+  pub afresh : (history : List Step) → heldInput kept ≡ ran history emptyInput → (a : Answer) (table″ memo″ : List ℕ)
+      → Judges k words (inputOf (ran history emptyInput .events)) table memo a table″ memo″
       → (r ≡ a) × (table′ ≡ table″) × (memo′ ≡ memo″)

@@ -3,10 +3,10 @@ ghost use mathlib.Core.Path.{_≡_};
 ghost use mathlib.Core.List.{map};
 ghost use Prim.Native.Nat.{min};
 ghost use Rattle.grammar.specs.Limits.{maxTokens};
-ghost use Rattle.kept_input.specs.Histories.{empty, Add, Mark, Return};
+ghost use Rattle.kept_input.specs.Histories.{emptyInput, Add, Mark, Return};
 ghost use Rattle.kept_input.specs.contracts.Stored.{clearedBeyond, readProgress, Reads};
 ghost use Rattle.kept_input.specs.Stored.{progressOf};
-ghost use Rattle.kept_input.specs.Properties.{Begins, Steps, Adds, Moves};
+ghost use Rattle.kept_input.specs.Properties.{BeginsEmpty, Steps, Adds, Moves};
 use answer::Answer;
 use answer::Error;
 use grammar::limits::TOKENS;
@@ -69,7 +69,7 @@ fn all_cleared(marks: [u16; MARKS], length: u16) -> [u16; MARKS]
 
 impl Progress {
     pub fn new() -> Progress
-        ensures { λ r. ⌜ r ≡ progressOf empty ⌝ }
+        ensures { λ r. ⌜ r ≡ progressOf emptyInput ⌝ }
     {
         Progress {
             length: 0,
@@ -138,7 +138,7 @@ impl Progress {
 
 impl KeptInput {
     pub fn new() -> KeptInput
-        ensures { λ r. ⌜ Begins r ⌝ }
+        ensures { λ r. ⌜ BeginsEmpty r ⌝ }
     {
         KeptInput {
             events: [0u8; TOKENS],

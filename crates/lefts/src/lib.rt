@@ -2,8 +2,8 @@
 ghost use mathlib.Core.Path.{_≡_};
 ghost use Rattle.families.specs.contracts.Least.{at as family};
 ghost use Rattle.families.specs.contracts.Left.{emptyIn, ownLeft, lefts, insideLeft};
-ghost use Rattle.families.specs.contracts.Rules.{fromEnd};
-ghost use Rattle.lookahead.specs.contracts.Operations.{empty, join};
+ghost use Rattle.families.specs.contracts.Rules.{foldFromEnd};
+ghost use Rattle.lookahead.specs.contracts.Operations.{emptySet, join};
 use families::Left;
 use families::SETS;
 use families::nonterminals::Nonterminals;
@@ -18,8 +18,8 @@ fn no_left() -> Left
     ensures { λ r. ⌜ r ≡ lefts 0 0 ⌝ }
 {
     Left {
-        body: Nonterminals::empty(),
-        rule: Nonterminals::empty(),
+        body: Nonterminals::emptySet(),
+        rule: Nonterminals::emptySet(),
     }
 }
 
@@ -34,11 +34,11 @@ fn symbol_left(
     ensures { λ r. ⌜ r .bits ≡ ownLeft (emptyIn lookahead (family (now (firsts .entry)))) (family (now (reach .entry))) symbol (behind .bits) ⌝ }
 {
     let Symbol::Nonterminal(number) = symbol else {
-        return Nonterminals::empty();
+        return Nonterminals::emptySet();
     };
     let at = number as usize;
     if SETS <= at {
-        return Nonterminals::empty();
+        return Nonterminals::emptySet();
     }
     let alone = Nonterminals::alone(number);
     let reached = Nonterminals { bits: reach[at] };
@@ -53,10 +53,10 @@ fn symbol_left(
 
 // A body ends: what is at its left is at the left of the rule too.
 fn ended(body: Nonterminals, rule: Nonterminals) -> Left
-    ensures { λ r. ⌜ r ≡ lefts empty (join (body .bits) (rule .bits)) ⌝ }
+    ensures { λ r. ⌜ r ≡ lefts emptySet (join (body .bits) (rule .bits)) ⌝ }
 {
     Left {
-        body: Nonterminals::empty(),
+        body: Nonterminals::emptySet(),
         rule: body.join(rule),
     }
 }
@@ -97,7 +97,7 @@ pub fn rule_left(
     reach: &[u32; SETS],
     lookahead: Lookahead,
 ) -> Nonterminals
-    ensures { λ r. ⌜ r .bits ≡ fromEnd (insideLeft (emptyIn lookahead (family (now (firsts .entry)))) (family (now (reach .entry))))
+    ensures { λ r. ⌜ r .bits ≡ foldFromEnd (insideLeft (emptyIn lookahead (family (now (firsts .entry)))) (family (now (reach .entry))))
         (lefts 0 0) (now (words .entry)) .rule .bits ⌝ }
 {
     let mut left = no_left();

@@ -19,7 +19,7 @@ use Rattle.families.specs.declared.Finding.the-variants.{Passed, Refused}
 use Rattle.base.proofs.Lists.{listed-long, listed-at}
 use Rattle.columns.specs.Columns.{columnCount}
 use Rattle.table.specs.Layout.{tableRoom}
-use Rattle.lending.specs.contracts.Lending.{wordAt, stored, wordCount, laid, madeUp, noSizes, lentSizes, lentBy, SizesGiven}
+use Rattle.lending.specs.contracts.Lending.{tableWordAt, storedWord, wordCount, laid, madeUp, noSizes, lentSizes, lentBy, SizesGiven}
 use Rattle.base.proofs.Front.{front, front-more}
 
 none-few : SizesGiven noSizes
@@ -75,7 +75,7 @@ front-all n f d = ap (λ l. l ++ drop n d) (take-all n (listed n f) (omega (arit
 module _ (k : Lookahead) (z : Sizes) (firsts follows entries : List ℕ) where
   pub laid-long : length (laid k z firsts follows entries) ≡ wordCount k z
   unfolding laid
-  laid-long = listed-long (wordCount k z) (λ i. stored k (wordAt (z .nonterminals) firsts follows entries i))
+  laid-long = listed-long (wordCount k z) (λ i. storedWord k (tableWordAt (z .nonterminals) firsts follows entries i))
 
   -- where there is room
   pub lent-short : (before : List ℕ) → length before < wordCount k z → before ≡ lentBy k z firsts follows entries before
@@ -107,12 +107,12 @@ made-room z firsts follows entries w e h = omega (arith, ap length w, made-long 
 -- the loop over the words has ended
 module _ (z : Sizes) (firsts follows entries : List ℕ) {n at : ℕ} {table : List ℕ} (within : at ≤ n) (ended : n ≤ at) where
   pub words-made : n ≡ wordCount One z
-      → table ≡ front (listed n (λ i. wordAt (z .nonterminals) firsts follows entries i % 2 ^ 32)) at (replicate maxTableWords noEntry)
+      → table ≡ front (listed n (λ i. tableWordAt (z .nonterminals) firsts follows entries i % 2 ^ 32)) at (replicate maxTableWords noEntry)
       → table ≡ madeUp z firsts follows entries
   unfolding madeUp laid
   words-made e t =
       let d : at ≡ wordCount One z = omega arith in
-      t ∙ rw (d, e) (front-all (wordCount One z) (λ i. wordAt (z .nonterminals) firsts follows entries i % 2 ^ 32) (replicate maxTableWords noEntry))
+      t ∙ rw (d, e) (front-all (wordCount One z) (λ i. tableWordAt (z .nonterminals) firsts follows entries i % 2 ^ 32) (replicate maxTableWords noEntry))
 
   module _ (before : List ℕ) (room : n ≤ length before) where
     pub lent-copied : {words : List ℕ} → n ≡ wordCount One z → words ≡ madeUp z firsts follows entries → table ≡ front words at before
@@ -123,10 +123,10 @@ module _ (z : Sizes) (firsts follows entries : List ℕ) {n at : ℕ} {table : L
         t ∙ ap (λ i. front words i before) d ∙ ap (λ x. x ++ drop (wordCount One z) before) l
         ∙ sym (lent-long One z firsts follows entries before (omega arith))
 
-    pub lent-written : n ≡ wordCount Two z → table ≡ front (listed n (wordAt (z .nonterminals) firsts follows entries)) at before
+    pub lent-written : n ≡ wordCount Two z → table ≡ front (listed n (tableWordAt (z .nonterminals) firsts follows entries)) at before
         → table ≡ lentBy Two z firsts follows entries before
     unfolding laid
     lent-written e t =
         let d : at ≡ wordCount Two z = omega arith in
-        t ∙ rw (d, e) (front-all (wordCount Two z) (wordAt (z .nonterminals) firsts follows entries) before)
+        t ∙ rw (d, e) (front-all (wordCount Two z) (tableWordAt (z .nonterminals) firsts follows entries) before)
         ∙ sym (lent-long Two z firsts follows entries before (omega arith))

@@ -36,7 +36,7 @@ use Rattle.base.proofs.Lists.{listed-long, listed-at}
 use Rattle.families.proofs.Strings.{number-below}
 use Rattle.columns.specs.Columns.{columnString, columns}
 use Rattle.table.specs.Layout.{entryWord, entryAt, setWord, rowWord, tableWords, tableRoom}
-use Rattle.lending.specs.contracts.Lending.{entryCode, wordAt, stored, wordCount, laid, noSizes, lentSizes, lentOf, lentBy, SizesGiven}
+use Rattle.lending.specs.contracts.Lending.{entryCode, tableWordAt, storedWord, wordCount, laid, noSizes, lentSizes, lentOf, lentBy, SizesGiven}
 use Rattle.lending.proofs.Laying.{lent-sizes, count-room, lent-long}
 use Rattle.table.specs.contracts.Entries.{ruleByte, byteAt, entriesOf}
 use Rattle.table.proofs.EntriesFilled.{entries-in}
@@ -73,10 +73,10 @@ module _ (k : Lookahead) (G : Grammar) (fewRules : length (G .rules) ≤ maxRule
     count = 2 * G .nonterminals + G .nonterminals * columns k G
 
     abbrev word : ℕ → ℕ
-    word = wordAt (G .nonterminals) firsts follows entries
+    word = tableWordAt (G .nonterminals) firsts follows entries
 
     in-sets : (i : ℕ) → i < sets → word i ≡ setWord k G i
-    unfolding wordAt setWord
+    unfolding tableWordAt setWord
     in-sets i l =
         let a = f-at (i / 2) (omega arith) in
         let b = g-at (i / 2) (omega arith) in
@@ -89,7 +89,7 @@ module _ (k : Lookahead) (G : Grammar) (fewRules : length (G .rules) ≤ maxRule
         g-at A l = rw g (listed-at maxNonterminals (followNumber k G) A l)
 
     in-rows : (i : ℕ) → i < G .nonterminals * columns k G → word (sets + i) ≡ rowWord k G i
-    unfolding wordAt rowWord entryAt byteAt
+    unfolding tableWordAt rowWord entryAt byteAt
     in-rows i l =
         let A = i / columns k G in
         let x = columnString k (G .terminals) (i % columns k G) in
@@ -126,7 +126,7 @@ table-small G fewRules i l = go (split One G i l)
         rw (j .2, table-row One G (j .0) (j .1)) (word-small (tableOf G 1 (j .0 / columns One G) x) (rule-small One G fewRules (j .0 / columns One G) x))
 
 table-stored : (k : Lookahead) (G : Grammar) → length (G .rules) ≤ maxRules → (i : ℕ) → i < 2 * G .nonterminals + G .nonterminals * columns k G
-    → stored k (getD (tableWords k G) i 0) ≡ getD (tableWords k G) i 0
+    → storedWord k (getD (tableWords k G) i 0) ≡ getD (tableWords k G) i 0
 table-stored One G few i h = omega (arith, table-small G few i h)
 table-stored Two G few i h = refl
 
@@ -156,14 +156,14 @@ module _ {k : Lookahead} {words : List ℕ} {z : Sizes} {r : Found} (f : FoundEn
   counted = rw (read .nonterminals, read .terminals) (sym (table-long k G))
 
   as-stored : ℕ → ℕ
-  as-stored i = stored k (wordAt (z .nonterminals) (r .firsts) (r .follows) (r .entries) i)
+  as-stored i = storedWord k (tableWordAt (z .nonterminals) (r .firsts) (r .follows) (r .entries) i)
 
   each : (i : ℕ) → i < length (tableWords k G) → as-stored i ≡ getD (tableWords k G) i 0
   unfolding as-stored
   each i h =
       let b : i < 2 * G .nonterminals + G .nonterminals * columns k G = omega (arith, table-length k G) in
-      ap (λ n. stored k (wordAt n (r .firsts) (r .follows) (r .entries) i)) (read .nonterminals)
-      ∙ ap (stored k) (word-is k G few-rules few (f .first) (f .follow) (f .entries) i b) ∙ table-stored k G few-rules i b
+      ap (λ n. storedWord k (tableWordAt n (r .firsts) (r .follows) (r .entries) i)) (read .nonterminals)
+      ∙ ap (storedWord k) (word-is k G few-rules few (f .first) (f .follow) (f .entries) i b) ∙ table-stored k G few-rules i b
 
   laid-table : laid k z (r .firsts) (r .follows) (r .entries) ≡ tableWords k G
   unfolding laid as-stored

@@ -7,7 +7,7 @@ ghost use Rattle.grammar.specs.Codes.{noEntry};
 ghost use Rattle.grammar.specs.Limits.{maxNonterminals, maxTableWords};
 ghost use Rattle.grammar.specs.contracts.Limits.{maxEntries};
 ghost use Rattle.lookahead.specs.declared.Lookahead.the-variants.{One, Two};
-ghost use Rattle.lending.specs.contracts.Lending.{entryCode, wordAt, lentSizes, wordCount, SizesGiven, madeUp, lentOf};
+ghost use Rattle.lending.specs.contracts.Lending.{entryCode, tableWordAt, lentSizes, wordCount, SizesGiven, madeUp, lentOf};
 use columns::count;
 use families::Finding;
 use families::SETS;
@@ -68,7 +68,7 @@ fn word<'a>(
     at: usize,
 ) -> u64
     requires { ⌜ (nonterminals ≤ maxNonterminals) × (at < 2 * nonterminals + maxEntries) ⌝ }
-    ensures { λ r. ⌜ r ≡ wordAt nonterminals (now (firsts .entry)) (now (follows .entry)) (now (entries .entry)) at ⌝ }
+    ensures { λ r. ⌜ r ≡ tableWordAt nonterminals (now (firsts .entry)) (now (follows .entry)) (now (entries .entry)) at ⌝ }
 {
     let sets = 2 * nonterminals;
     if sets <= at {

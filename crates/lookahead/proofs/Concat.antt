@@ -7,7 +7,7 @@ use mir.Facts.{and-yes, yes-and}
 use Rattle.base.proofs.Booleans.{both, T-none}
 use Rattle.lookahead.specs.declared.Lookahead.{Lookahead}
 use Rattle.lookahead.specs.Lookaheads.{elements, nothing}
-use Rattle.lookahead.specs.contracts.Lookaheads.{after}
+use Rattle.lookahead.specs.contracts.Lookaheads.{elementAfter}
 use Rattle.lookahead.specs.Elements.{has}
 use Rattle.lookahead.specs.contracts.Elements.{Subset}
 use Rattle.lookahead.specs.contracts.Operations.{isEmpty, end, concatNumbers}
@@ -21,9 +21,9 @@ use Rattle.lookahead.proofs.Weights.{total-bound}
 
 module _ (k : Lookahead) where
   -- an element of each set gives one of the concatenation
-  pub paired : (x y a b : ℕ) → a < elements k → b < elements k → T (has x a) → T (has y b) → T (has (concatNumbers k x y) (after k a b))
+  pub paired : (x y a b : ℕ) → a < elements k → b < elements k → T (has x a) → T (has y b) → T (has (concatNumbers k x y) (elementAfter k a b))
   paired x y a b h i s t =
-      pair-concat k x y (after k a b) (record { a = a; b = b; a-below = h; b-below = i; a-in = s; b-in = t; is-after = refl })
+      pair-concat k x y (elementAfter k a b) (record { a = a; b = b; a-below = h; b-below = i; a-in = s; b-in = t; is-after = refl })
 
   -- it has no digits above those of elements
   pub concat-bound : (x y : ℕ) → concatNumbers k x y < 2 ^ elements k
@@ -44,16 +44,16 @@ module _ (k : Lookahead) where
       to l t =
           let p = concat-pair k (concatNumbers k x y) z l t in
           let q = concat-pair k x y (p .a) (p .a-in) in
-          let e : after k (q .a) (after k (q .b) (p .b)) ≡ l = cc (after-assoc k (q .a) (q .b) (p .b) (q .a-below) (q .b-below) (p .b-below)) in
-          rw e at (paired x (concatNumbers k y z) (q .a) (after k (q .b) (p .b)) (q .a-below) (after-below k (q .b) (p .b) (q .b-below) (p .b-below))
+          let e : elementAfter k (q .a) (elementAfter k (q .b) (p .b)) ≡ l = cc (after-assoc k (q .a) (q .b) (p .b) (q .a-below) (q .b-below) (p .b-below)) in
+          rw e at (paired x (concatNumbers k y z) (q .a) (elementAfter k (q .b) (p .b)) (q .a-below) (after-below k (q .b) (p .b) (q .b-below) (p .b-below))
           (q .a-in) (paired y z (q .b) (p .b) (q .b-below) (p .b-below) (q .b-in) (p .b-in)))
 
       from : Subset (concatNumbers k x (concatNumbers k y z)) (concatNumbers k (concatNumbers k x y) z)
       from l t =
           let p = concat-pair k x (concatNumbers k y z) l t in
           let q = concat-pair k y z (p .b) (p .b-in) in
-          let e : after k (after k (p .a) (q .a)) (q .b) ≡ l = cc (after-assoc k (p .a) (q .a) (q .b) (p .a-below) (q .a-below) (q .b-below)) in
-          rw e at (paired (concatNumbers k x y) z (after k (p .a) (q .a)) (q .b) (after-below k (p .a) (q .a) (p .a-below) (q .a-below)) (q .b-below)
+          let e : elementAfter k (elementAfter k (p .a) (q .a)) (q .b) ≡ l = cc (after-assoc k (p .a) (q .a) (q .b) (p .a-below) (q .a-below) (q .b-below)) in
+          rw e at (paired (concatNumbers k x y) z (elementAfter k (p .a) (q .a)) (q .b) (after-below k (p .a) (q .a) (p .a-below) (q .a-below)) (q .b-below)
           (paired x y (p .a) (q .a) (p .a-below) (q .a-below) (p .a-in) (q .a-in)) (q .b-in))
 
   -- the set of nothing is its unit, on either side
@@ -100,7 +100,7 @@ module _ (k : Lookahead) where
       go false ex false ey =
           let r = some-element x ex in
           let s = some-element y ey in
-          element-some (concatNumbers k x y) (after k (r .0) (s .0))
+          element-some (concatNumbers k x y) (elementAfter k (r .0) (s .0))
           (paired x y (r .0) (s .0) (bounded (elements k) x (r .0) h (r .1)) (bounded (elements k) y (s .0) i (s .1)) (r .1) (s .1))
 
   -- nothing is in a concatenation just where it is in both sets

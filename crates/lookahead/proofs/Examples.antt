@@ -5,9 +5,9 @@ use native.Mathlib.Omega.{arith}
 use Rattle.base.specs.Quantifiers.{allOf, anyBelow, countBelow}
 use Rattle.lookahead.specs.declared.Lookahead.the-variants.{One, Two}
 use Rattle.lookahead.specs.Lookaheads.{stringOf}
-use Rattle.lookahead.specs.contracts.Lookaheads.{after}
-use Rattle.lookahead.specs.Elements.{has, total, width, size}
-use Rattle.lookahead.specs.contracts.Operations.{join, meet, full, behind, inConcat, concatNumbers}
+use Rattle.lookahead.specs.contracts.Lookaheads.{elementAfter}
+use Rattle.lookahead.specs.Elements.{has, totalWeight, width, size}
+use Rattle.lookahead.specs.contracts.Operations.{join, meet, full, elementBehind, inConcat, concatNumbers}
 use Rattle.lookahead.proofs.Operations.{has-join, has-meet}
 use Rattle.lookahead.proofs.Bounds.{join-bound, meet-bound}
 use Rattle.lookahead.proofs.Weights.{total-of}
@@ -37,7 +37,7 @@ pub record Worked : Type 0 where
   pub all : full Two 1 ≡ 259
 
 pub worked : Worked
-unfolding total countBelow size has concatNumbers inConcat behind anyBelow after stringOf full allOf
+unfolding totalWeight countBelow size has concatNumbers inConcat elementBehind anyBelow elementAfter stringOf full allOf
 worked = record {
   joined = total-of width (join 1 16777216) _ (join-bound width 1 16777216 (omega arith) (omega arith)) (has-join 1 16777216);
   met = total-of width (meet 16777219 16777218) _ (meet-bound width 16777219 16777218 (omega arith)) (has-meet 16777219 16777218);

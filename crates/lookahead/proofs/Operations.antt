@@ -10,24 +10,24 @@ use Rattle.base.specs.Quantifiers.{allOf}
 use Rattle.base.proofs.Booleans.{both}
 use Rattle.base.proofs.Quantified.{below-elim}
 use Rattle.lookahead.specs.declared.Lookahead.{Lookahead}
-use Rattle.lookahead.specs.contracts.Lookaheads.{alphabet, after}
+use Rattle.lookahead.specs.contracts.Lookaheads.{alphabet, elementAfter}
 use Rattle.lookahead.specs.Lookaheads.{elements, nothing, elementOf, stringOf}
 use Rattle.lookahead.specs.Elements.{weight, has}
-use Rattle.lookahead.specs.contracts.Operations.{empty, end, terminal, full, join, meet, behind, inConcat, concatNumbers}
-use Rattle.lookahead.specs.contracts.Operations.{Empty, End, Terminal, Full, Joined, Met, Concatenated}
+use Rattle.lookahead.specs.contracts.Operations.{emptySet, end, terminal, full, join, meet, elementBehind, inConcat, concatNumbers}
+use Rattle.lookahead.specs.contracts.Operations.{Empty, End, Terminal, Full, Joined, SetsMet, Concatenated}
 use Rattle.lookahead.proofs.Elements as of-numbers
 use Rattle.lookahead.proofs.Powers as powers
 use Rattle.lookahead.proofs.Strings.{after-below}
 use Rattle.lookahead.proofs.Weights.{has-total}
 
 -- the elements that the operations' definitions give
-pub has-empty : (l : ℕ) → has empty l ≡ false
+pub has-empty : (l : ℕ) → has emptySet l ≡ false
 has-empty = of-numbers.has-zero
 
 pub has-end : (k : Lookahead) (l : ℕ) → has (end k) l ≡ eqb l (nothing k)
 has-end k = powers.has-pow (nothing k)
 
-pub has-choose : (b : Bool) (x l : ℕ) → has (choose b x empty) l ≡ (b && has x l)
+pub has-choose : (b : Bool) (x l : ℕ) → has (choose b x emptySet) l ≡ (b && has x l)
 has-choose true x l = refl
 has-choose false x l = has-empty l
 
@@ -51,11 +51,12 @@ has-meet = of-numbers.has-and
 
 -- what is looked at in a pair is an element again
 concat-below : (k : Lookahead) (x y l : ℕ) → T (inConcat k x y l) → l < elements k
-unfolding inConcat behind
+unfolding inConcat elementBehind
 concat-below k x y l t =
-    let a = below-elim (elements k) (λ a. has x a && behind k a y l) t in
-    let b = below-elim (elements k) (λ b. has y b && eqb (after k (a .0) b) l) (and-yes (has x (a .0)) (behind k (a .0) y l) (a .2) .1) in
-    let e : after k (a .0) (b .0) ≡ l = eqb→eq (after k (a .0) (b .0)) l (and-yes (has y (b .0)) (eqb (after k (a .0) (b .0)) l) (b .2) .1) in
+    let a = below-elim (elements k) (λ a. has x a && elementBehind k a y l) t in
+    let b = below-elim (elements k) (λ b. has y b && eqb (elementAfter k (a .0) b) l) (and-yes (has x (a .0)) (elementBehind k (a .0) y l) (a .2) .1) in
+    let e : elementAfter k (a .0) (b .0) ≡ l =
+    eqb→eq (elementAfter k (a .0) (b .0)) l (and-yes (has y (b .0)) (eqb (elementAfter k (a .0) (b .0)) l) (b .2) .1) in
     rw e at (after-below k (a .0) (b .0) (a .1) (b .1))
 
 pub has-concat : (k : Lookahead) (x y l : ℕ) → has (concatNumbers k x y) l ≡ inConcat k x y l
@@ -66,7 +67,7 @@ has-concat k x y l =
     (λ t. yes-and (ltb l (elements k)) (inConcat k x y l) (lt→ltb l (elements k) (concat-below k x y l t)) t)
 
 -- a number that is an operation's result has the elements that the operation's record names
-pub is-empty : {r : ℕ} → r ≡ empty → Empty r
+pub is-empty : {r : ℕ} → r ≡ emptySet → Empty r
 is-empty e = record { is = e; member = λ l. rw e (has-empty l) }
 
 pub is-end : (k : Lookahead) {r : ℕ} → r ≡ end k → End k r
@@ -81,7 +82,7 @@ is-full k {t} e = record { is = e; member = λ l. rw e (has-full k t l) }
 pub is-join : {x y r : ℕ} → r ≡ join x y → Joined x y r
 is-join {x} {y} e = record { is = e; member = λ l. rw e (has-join x y l) }
 
-pub is-meet : {x y r : ℕ} → r ≡ meet x y → Met x y r
+pub is-meet : {x y r : ℕ} → r ≡ meet x y → SetsMet x y r
 is-meet {x} {y} e = record { is = e; member = λ l. rw e (has-meet x y l) }
 
 pub is-concat : (k : Lookahead) {x y r : ℕ} → r ≡ concatNumbers k x y → Concatenated k x y r

@@ -8,7 +8,7 @@ use lib.Bits.{or-add-and, and-le-l, and-le-r}
 use mir.Facts.{and-yes, yes-and, or-yes}
 use Rattle.lookahead.specs.Elements.{has}
 use Rattle.lookahead.specs.contracts.Elements.{Subset}
-use Rattle.lookahead.specs.contracts.Operations.{empty, join, meet}
+use Rattle.lookahead.specs.contracts.Operations.{emptySet, join, meet}
 use Rattle.base.proofs.Booleans.{both, or-l, or-r}
 use Rattle.lookahead.proofs.Elements as elements
 use Rattle.lookahead.proofs.Operations.{has-empty, has-join, has-meet}
@@ -20,8 +20,8 @@ subset-refl x l t = t
 pub subset-antisym : (x y : ℕ) → Subset x y → Subset y x → x ≡ y
 subset-antisym x y f g = elements.same-elements x y (λ l. both (has x l) (has y l) (f l) (g l))
 
--- the empty set is in every set
-pub empty-least : (x : ℕ) → Subset empty x
+-- the emptySet set is in every set
+pub empty-least : (x : ℕ) → Subset emptySet x
 empty-least x l t = absurd (rw (has-empty l) at t)
 
 -- a join contains both, and is in every set that does

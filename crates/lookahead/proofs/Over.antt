@@ -12,7 +12,7 @@ use Rattle.lookahead.specs.Lookaheads.{tokens, elements, nothing, elemen
 use Rattle.lookahead.specs.contracts.Lookaheads.{alphabet}
 use Rattle.lookahead.specs.Elements.{has}
 use Rattle.lookahead.specs.contracts.Elements.{Subset, OverTerminals}
-use Rattle.lookahead.specs.contracts.Operations.{empty, end, terminal, full, join, meet, concatNumbers}
+use Rattle.lookahead.specs.contracts.Operations.{emptySet, end, terminal, full, join, meet, concatNumbers}
 use Rattle.lookahead.proofs.Elements as of-numbers
 use Rattle.lookahead.proofs.Strings.{string-nothing, string-terminal, single-looked, string-over, string-after, after-below, element-below}
 use Rattle.lookahead.proofs.Strings.{nothing-below, over-none}
@@ -22,7 +22,7 @@ use Rattle.lookahead.proofs.Pairs.{concat-pair}
 
 module _ (k : Lookahead) (t : ℕ) where
   -- the sets to begin with
-  pub over-empty : OverTerminals k t empty
+  pub over-empty : OverTerminals k t emptySet
   over-empty l s = absurd (rw (has-empty l) at s)
 
   pub over-end : OverTerminals k t (end k)

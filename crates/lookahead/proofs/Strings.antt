@@ -17,7 +17,7 @@ use Rattle.base.proofs.LookaheadStrings.{cut-lookahead, cut-none}
 use Rattle.lookahead.specs.declared.Lookahead.{Lookahead}
 use Rattle.lookahead.specs.declared.Lookahead.the-variants.{One, Two}
 use Rattle.lookahead.specs.Lookaheads.{tokens, elements, nothing, elementOf, stringOf}
-use Rattle.lookahead.specs.contracts.Lookaheads.{alphabet, after}
+use Rattle.lookahead.specs.contracts.Lookaheads.{alphabet, elementAfter}
 
 -- with two tokens: a terminal alone, and a pair
 pub two-single : (l : ℕ) → 0 < l → l < 8 → stringOf Two l ≡ (l - 1) ∷ []
@@ -153,39 +153,40 @@ module _ (k : Lookahead) (a b : ℕ) (h : a < elements k) (i : b < elements k) w
   together : Looked (tokens k) (alphabet k) (take (tokens k) (stringOf k a ++ stringOf k b))
   together = cut-lookahead (tokens k) (alphabet k) (stringOf k a) (stringOf k b) (string-over k a h) (string-over k b i)
 
-  pub string-after : take (tokens k) (stringOf k a ++ stringOf k b) ≡ stringOf k (after k a b)
-  unfolding after
+  pub string-after : take (tokens k) (stringOf k a ++ stringOf k b) ≡ stringOf k (elementAfter k a b)
+  unfolding elementAfter
   string-after = sym (string-element k (take (tokens k) (stringOf k a ++ stringOf k b)) together)
 
-  pub after-below : after k a b < elements k
-  unfolding after
+  pub after-below : elementAfter k a b < elements k
+  unfolding elementAfter
   after-below = element-below k (take (tokens k) (stringOf k a ++ stringOf k b)) together
 
   -- nothing is looked at only where there is nothing else
-  pub after-is-nothing : after k a b ≡ nothing k → (a ≡ nothing k) × (b ≡ nothing k)
+  pub after-is-nothing : elementAfter k a b ≡ nothing k → (a ≡ nothing k) × (b ≡ nothing k)
   after-is-nothing e =
       let n = cut-none (tokens k) (stringOf k a) (stringOf k b) (some-token k) (string-after ∙ ap (stringOf k) e ∙ string-nothing k) in
       (is-nothing k a (n .0), is-nothing k b (n .1))
 
 -- elements form a monoid, with nothing as its unit
-pub nothing-after : (k : Lookahead) (b : ℕ) → after k (nothing k) b ≡ b
-unfolding after
+pub nothing-after : (k : Lookahead) (b : ℕ) → elementAfter k (nothing k) b ≡ b
+unfolding elementAfter
 nothing-after k b = rw (string-nothing k, take-all (tokens k) (stringOf k b) (string-short k b)) (element-string k b)
 
-pub after-nothing : (k : Lookahead) (a : ℕ) → after k a (nothing k) ≡ a
-unfolding after
+pub after-nothing : (k : Lookahead) (a : ℕ) → elementAfter k a (nothing k) ≡ a
+unfolding elementAfter
 after-nothing k a = rw (string-nothing k, append-nil (stringOf k a), take-all (tokens k) (stringOf k a) (string-short k a)) (element-string k a)
 
-pub after-assoc : (k : Lookahead) (a b c : ℕ) → a < elements k → b < elements k → c < elements k → after k (after k a b) c ≡ after k a (after k b c)
+pub after-assoc : (k : Lookahead) (a b c : ℕ) → a < elements k → b < elements k → c < elements k
+    → elementAfter k (elementAfter k a b) c ≡ elementAfter k a (elementAfter k b c)
 after-assoc k a b c h i j =
-    string-same k (after k (after k a b) c) (after k a (after k b c))
-    (sym (string-after k (after k a b) c (after-below k a b h i) j)
+    string-same k (elementAfter k (elementAfter k a b) c) (elementAfter k a (elementAfter k b c))
+    (sym (string-after k (elementAfter k a b) c (after-below k a b h i) j)
     ∙ ap (λ x. take (tokens k) (x ++ stringOf k c)) (sym (string-after k a b h i))
     ∙ first
     ∙ ap (take (tokens k)) (append-assoc (stringOf k a) (stringOf k b) (stringOf k c))
     ∙ sym second
     ∙ ap (λ x. take (tokens k) (stringOf k a ++ x)) (string-after k b c i j)
-    ∙ string-after k a (after k b c) h (after-below k b c i j))
+    ∙ string-after k a (elementAfter k b c) h (after-below k b c i j))
   where
     n : ℕ
     n = tokens k

@@ -9,17 +9,17 @@ use lib.Bits.{or-shifted}
 use lib.Dec.{ltb, eqb}
 use borrow.Author.Tests.{lt-ltb, le-ltb, eq-eqb, ne-eqb}
 use Rattle.base.specs.Quantifiers.{one}
-use Rattle.lookahead.specs.Elements.{has, total}
+use Rattle.lookahead.specs.Elements.{has, totalWeight}
 use Rattle.lookahead.proofs.Elements as elements
 use Rattle.lookahead.proofs.Powers.{has-pow}
 
 -- k weights stay below the next
-pub total-bound : (k : ℕ) (p : ℕ → Bool) → total k p < 2 ^ k
-unfolding total
+pub total-bound : (k : ℕ) (p : ℕ → Bool) → totalWeight k p < 2 ^ k
+unfolding totalWeight
 total-bound zero p = omega arith
 total-bound (suc k) p = go (p k) (total-bound k p)
   where
-    go : (b : Bool) → total k p < 2 ^ k → one b * 2 ^ k + total k p < 2 ^ suc k
+    go : (b : Bool) → totalWeight k p < 2 ^ k → one b * 2 ^ k + totalWeight k p < 2 ^ suc k
     go true h = omega (arith, pow-suc 2 k)
     go false h = omega (arith, pow-suc 2 k)
 
@@ -28,12 +28,12 @@ has-one true k l = let e : 1 * 2 ^ k ≡ 2 ^ k = omega arith in rw e (has-pow k 
 has-one false k l = let e : 0 * 2 ^ k ≡ 0 = omega arith in rw e (elements.has-zero l)
 
 -- the set of the numbers below k that pass a test has just these elements
-pub has-total : (k : ℕ) (p : ℕ → Bool) (l : ℕ) → has (total k p) l ≡ (ltb l k && p l)
-unfolding total
+pub has-total : (k : ℕ) (p : ℕ → Bool) (l : ℕ) → has (totalWeight k p) l ≡ (ltb l k && p l)
+unfolding totalWeight
 has-total zero p l = elements.has-zero l ∙ sym (rw (le-ltb l 0 (omega arith)))
 has-total (suc k) p l =
-    ap (λ (n : ℕ). has n l) (sym (or-shifted (one (p k)) k (total k p) (total-bound k p)))
-    ∙ elements.has-or (one (p k) * 2 ^ k) (total k p) l
+    ap (λ (n : ℕ). has n l) (sym (or-shifted (one (p k)) k (totalWeight k p) (total-bound k p)))
+    ∙ elements.has-or (one (p k) * 2 ^ k) (totalWeight k p) l
     ∙ ap₂ _||_ (has-one (p k) k l) (has-total k p l)
     ∙ go (decLt l k) (ℕ-discrete l k)
   where
@@ -44,13 +44,13 @@ has-total (suc k) p l =
     go (no h) (no ne) = rw (le-ltb l k (omega arith), ne-eqb l k ne, le-ltb l (suc k) (omega arith), and-false (p k))
 
 -- a number of k digits whose elements are those that pass a test is the sum of their weights
-pub total-of : (k n : ℕ) (p : ℕ → Bool) → n < 2 ^ k → ((l : ℕ) → has n l ≡ p l) → n ≡ total k p
-total-of k n p h f = elements.same-elements n (total k p) (λ l. same l (decLt l k) ∙ sym (has-total k p l))
+pub total-of : (k n : ℕ) (p : ℕ → Bool) → n < 2 ^ k → ((l : ℕ) → has n l ≡ p l) → n ≡ totalWeight k p
+total-of k n p h f = elements.same-elements n (totalWeight k p) (λ l. same l (decLt l k) ∙ sym (has-total k p l))
   where
     same : (l : ℕ) → Dec (l < k) → has n l ≡ (ltb l k && p l)
     same l (yes b) = rw (lt-ltb l k b) (f l)
     same l (no b) = rw (le-ltb l k (omega arith)) (elements.has-above k n l h (omega arith))
 
 -- so a number is the sum of its elements' weights
-pub weights : (k n : ℕ) → n < 2 ^ k → n ≡ total k (has n)
+pub weights : (k n : ℕ) → n < 2 ^ k → n ≡ totalWeight k (has n)
 weights k n h = total-of k n (has n) h (λ l. refl)

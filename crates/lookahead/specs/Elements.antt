@@ -12,9 +12,9 @@ unfoldable pub has : ℕ → ℕ → Bool
 has s l = eqb (s / weight l % 2) 1
 
 -- the weights of the numbers below k that pass the test, added up
-unfoldable pub total : ℕ → (ℕ → Bool) → ℕ
-total zero p = 0
-total (suc k) p = one (p k) * weight k + total k p
+unfoldable pub totalWeight : ℕ → (ℕ → Bool) → ℕ
+totalWeight zero p = 0
+totalWeight (suc k) p = one (p k) * weight k + totalWeight k p
 
 -- the bits of a set's number
 abbrev pub width : ℕ

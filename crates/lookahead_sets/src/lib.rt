@@ -1,7 +1,7 @@
 // Lookahead sets: the strings of one or two tokens that may come next, shorter ones before the end of the input.
 ghost use mathlib.Core.Path.{_≡_};
 ghost use Rattle.lookahead.specs.Elements.{has, size};
-ghost use Rattle.lookahead.specs.contracts.Operations.{isEmpty, Empty, End, Terminal, Joined, Met};
+ghost use Rattle.lookahead.specs.contracts.Operations.{isEmpty, Empty, End, Terminal, Joined, SetsMet};
 use lookahead::Lookahead;
 use lookahead::alphabet;
 use lookahead::nothing;
@@ -72,7 +72,7 @@ impl LookaheadSet {
 
     // The elements of both sets.
     pub fn meet(self, other: LookaheadSet) -> LookaheadSet
-        ensures { λ r. ⌜ Met (self .bits) (other .bits) (r .bits) ⌝ }
+        ensures { λ r. ⌜ SetsMet (self .bits) (other .bits) (r .bits) ⌝ }
     {
         LookaheadSet {
             bits: self.bits & other.bits,

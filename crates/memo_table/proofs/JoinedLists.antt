@@ -5,7 +5,7 @@ use mathlib.Core.Path.{_≡_, refl, sym, ap, _∙_}
 use Prim.Native.Nat.{ℕ, zero, suc, _+_}
 use native.Mathlib.Omega.{arith}
 use lib.ListN.{length}
-use Rattle.base.specs.FiniteSets.{keep, numbersFrom, numbers, combine}
+use Rattle.base.specs.FiniteSets.{keep, numbersFrom, numbersBelow, combine}
 use Rattle.base.specs.Quantifiers.{one}
 
 module _ {X : Type 0} (p : X → Bool) where
@@ -34,8 +34,8 @@ unfolding numbersFrom
 numbersFrom-more a zero = let e : a ≡ a + 0 = omega arith in ap {B = List ℕ} (λ b. b ∷ []) e
 numbersFrom-more a (suc n) = let e : suc a + n ≡ a + suc n = omega arith in ap {B = List ℕ} (λ l. a ∷ l) (rw (← e) (numbersFrom-more (suc a) n))
 
-pub numbers-more : (n : ℕ) → numbers (n + 1) ≡ numbers n ++ (n ∷ [])
-unfolding numbers
+pub numbers-more : (n : ℕ) → numbersBelow (n + 1) ≡ numbersBelow n ++ (n ∷ [])
+unfolding numbersBelow
 numbers-more n =
     let e : n + 1 ≡ suc n = omega arith in
     let d : 0 + n ≡ n = omega arith in

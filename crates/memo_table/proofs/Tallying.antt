@@ -13,7 +13,7 @@ use lib.ListN.{length, getD, length-append}
 use Rattle.answer.specs.declared.Calls.{Calls}
 use Rattle.grammar.specs.Codes.{uncalledCode}
 use Rattle.grammar.specs.Syntax.{Grammar}
-use Rattle.base.specs.FiniteSets.{keep, numbersFrom, numbers, combine}
+use Rattle.base.specs.FiniteSets.{keep, numbersFrom, numbersBelow, combine}
 use Rattle.base.specs.Quantifiers.{anyBelow, one, countBelow}
 use Rattle.semantics.specs.Choices.{Choice}
 use Rattle.semantics.specs.ComesTo.{Call, callAt}
@@ -65,34 +65,35 @@ module _ (m : Memo) (tokens : ℕ) where
   kept = keep (writtenAmong tokens m)
 
   -- the entries of a row in front of a place are those of its calls
-  row-count : (A i : ℕ) → recordedBelow m (A * suc tokens) + length (kept (map (callAt A) (numbers i))) ≡ recordedBelow m (A * suc tokens + i)
-  unfolding keep numbers numbersFrom
+  row-count : (A i : ℕ) → recordedBelow m (A * suc tokens) + length (kept (map (callAt A) (numbersBelow i))) ≡ recordedBelow m (A * suc tokens + i)
+  unfolding keep numbersBelow numbersFrom
   row-count A zero = let e : A * suc tokens + 0 ≡ A * suc tokens = omega arith in rw e (omega arith)
   row-count A (suc i) =
       let s : suc i ≡ i + 1 = omega arith in
       let b : A * suc tokens + suc i ≡ suc (A * suc tokens + i) = omega arith in
-      let more : kept (map (callAt A) (numbers (suc i))) ≡ kept (map (callAt A) (numbers i)) ++ kept (callAt A i ∷ []) =
-      ap kept (ap (map (callAt A)) (ap numbers s ∙ numbers-more i) ∙ map-append (callAt A) (numbers i) (i ∷ []))
-      ∙ keep-append (writtenAmong tokens m) (map (callAt A) (numbers i)) (callAt A i ∷ []) in
-      let long : length (kept (map (callAt A) (numbers (suc i)))) ≡ length (kept (map (callAt A) (numbers i))) + one (recordsAt m (A * suc tokens + i)) =
-      ap (length {A = Call}) more ∙ length-append (kept (map (callAt A) (numbers i))) (kept (callAt A i ∷ []))
-      ∙ ap (λ (c : ℕ). length (kept (map (callAt A) (numbers i))) + c) (keep-one (writtenAmong tokens m) (callAt A i)) in
+      let more : kept (map (callAt A) (numbersBelow (suc i))) ≡ kept (map (callAt A) (numbersBelow i)) ++ kept (callAt A i ∷ []) =
+      ap kept (ap (map (callAt A)) (ap numbersBelow s ∙ numbers-more i) ∙ map-append (callAt A) (numbersBelow i) (i ∷ []))
+      ∙ keep-append (writtenAmong tokens m) (map (callAt A) (numbersBelow i)) (callAt A i ∷ []) in
+      let long : length (kept (map (callAt A) (numbersBelow (suc i))))
+      ≡ length (kept (map (callAt A) (numbersBelow i))) + one (recordsAt m (A * suc tokens + i)) =
+      ap (length {A = Call}) more ∙ length-append (kept (map (callAt A) (numbersBelow i))) (kept (callAt A i ∷ []))
+      ∙ ap (λ (c : ℕ). length (kept (map (callAt A) (numbersBelow i))) + c) (keep-one (writtenAmong tokens m) (callAt A i)) in
       rw b (omega (arith, long, row-count A i, count-next m (A * suc tokens + i)))
 
   -- the entries of the first rows are those of their calls
   rows-count : (N : ℕ) → recordedBelow m (N * suc tokens) ≡ length (recordedCalls m N tokens)
-  unfolding recordedCalls keep combine numbers numbersFrom recordedBelow countBelow
+  unfolding recordedCalls keep combine numbersBelow numbersFrom recordedBelow countBelow
   rows-count zero = let e : 0 * suc tokens ≡ 0 = omega arith in rw e refl
   rows-count (suc N) =
       let s : suc N ≡ N + 1 = omega arith in
       let b : suc N * suc tokens ≡ N * suc tokens + suc tokens = omega arith in
-      let places = numbers (suc tokens) in
-      let more : kept (combine callAt (numbers (suc N)) places) ≡ kept (combine callAt (numbers N) places) ++ kept (map (callAt N) places) =
-      ap kept (ap (λ As. combine callAt As places) (ap numbers s ∙ numbers-more N) ∙ combine-more callAt places (numbers N) N)
-      ∙ keep-append (writtenAmong tokens m) (combine callAt (numbers N) places) (map (callAt N) places) in
-      let long : length (kept (combine callAt (numbers (suc N)) places))
-      ≡ length (kept (combine callAt (numbers N) places)) + length (kept (map (callAt N) places)) =
-      ap (length {A = Call}) more ∙ length-append (kept (combine callAt (numbers N) places)) (kept (map (callAt N) places)) in
+      let places = numbersBelow (suc tokens) in
+      let more : kept (combine callAt (numbersBelow (suc N)) places) ≡ kept (combine callAt (numbersBelow N) places) ++ kept (map (callAt N) places) =
+      ap kept (ap (λ As. combine callAt As places) (ap numbersBelow s ∙ numbers-more N) ∙ combine-more callAt places (numbersBelow N) N)
+      ∙ keep-append (writtenAmong tokens m) (combine callAt (numbersBelow N) places) (map (callAt N) places) in
+      let long : length (kept (combine callAt (numbersBelow (suc N)) places))
+      ≡ length (kept (combine callAt (numbersBelow N) places)) + length (kept (map (callAt N) places)) =
+      ap (length {A = Call}) more ∙ length-append (kept (combine callAt (numbersBelow N) places)) (kept (map (callAt N) places)) in
       rw b (omega (arith, long, rows-count N, row-count N (suc tokens)))
 
   module _ {N : ℕ} where
@@ -132,8 +133,8 @@ module _ (m : Memo) (tokens : ℕ) where
     within : {p : ℕ} → NoneBehind p → greatestPlace (recordedCalls m N tokens) ≤ p
     unfolding recordedCalls calledAt
     within {p} none = greatest-within (recordedCalls m N tokens) p (λ x k.
-        let held = keep-elim (writtenAmong tokens m) (combine callAt (numbers N) (numbers (suc tokens))) x k in
-        let at = combine-elim callAt (numbers N) (numbers (suc tokens)) x (held .0) in
+        let held = keep-elim (writtenAmong tokens m) (combine callAt (numbersBelow N) (numbersBelow (suc tokens))) x k in
+        let at = combine-elim callAt (numbersBelow N) (numbersBelow (suc tokens)) x (held .0) in
         let e : x ≡ callAt (at .0) (at .1) = at .4 in
         let t : T (writtenAmong tokens m (callAt (at .0) (at .1))) = rw e at (held .1) in
         let low = numbers-elim (suc tokens) (at .1) (at .3) in
@@ -150,7 +151,7 @@ module _ (m : Memo) (tokens : ℕ) where
     unfolding recordedCalls calledAt
     farthest-here {p} h none c =
         let found = below-elim N (λ A. writtenAmong tokens m (callAt A p)) (rw c tt) in
-        let held = combine-make callAt (numbers N) (numbers (suc tokens)) (found .0) p (numbers-make N (found .0) (found .1))
+        let held = combine-make callAt (numbersBelow N) (numbersBelow (suc tokens)) (found .0) p (numbers-make N (found .0) (found .1))
         (numbers-make (suc tokens) p (omega arith)) in
         let high = greatest-most (recordedCalls m N tokens) (callAt (found .0) p) (keep-make (writtenAmong tokens m) _ (callAt (found .0) p) held (found .2)) in
         omega (arith, within none)

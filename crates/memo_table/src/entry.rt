@@ -1,13 +1,13 @@
 // An outcome as an entry of the memo table, and back.
 ghost use mathlib.Core.Path.{_≡_};
-ghost use Rattle.semantics.specs.Memo.{encode};
+ghost use Rattle.semantics.specs.Memo.{outcomeCode};
 ghost use Rattle.semantics.specs.contracts.Memo.{decode};
 ghost use Rattle.rule.specs.contracts.Rule.{meant};
 use grammar::codes::FAILED;
 use rule::Outcome;
 
 pub fn code(outcome: Outcome) -> u16
-    ensures { λ r. ⌜ r ≡ encode (meant outcome) ⌝ }
+    ensures { λ r. ⌜ r ≡ outcomeCode (meant outcome) ⌝ }
 {
     match outcome {
         Outcome::Failed => FAILED,

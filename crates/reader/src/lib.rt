@@ -3,7 +3,7 @@ ghost use mathlib.Core.Path.{_≡_};
 ghost use lib.ListN.{drop};
 ghost use Rattle.grammar.specs.Encoding.{declaredBy};
 ghost use Rattle.grammar.specs.Reading.{stepped, finished, fresh, scan, within as withinOf, reading};
-ghost use Rattle.grammar.specs.contracts.Starts.{Noted, ruleStarts};
+ghost use Rattle.grammar.specs.contracts.Starts.{StartNoted, ruleStarts};
 use answer::Error;
 use grammar::limits::NONTERMINALS;
 use grammar::limits::RULES;
@@ -133,7 +133,7 @@ pub fn read(words: &[u32]) -> Outcome
 
 // Notes where a rule begins, while there is room; tells how many are noted.
 fn note(starts: &mut [usize; RULES], rules: usize, at: usize, word: Word) -> usize
-    ensures { λ r. ⌜ Noted (now (starts .entry)) rules at word (now (starts .exit)) r ⌝ }
+    ensures { λ r. ⌜ StartNoted (now (starts .entry)) rules at word (now (starts .exit)) r ⌝ }
 {
     if begins_rule(word) {
         if rules < RULES {

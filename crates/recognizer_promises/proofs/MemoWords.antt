@@ -17,7 +17,7 @@ use Rattle.lookahead.specs.Lookaheads.{tokens}
 use Rattle.semantics.specs.Descent.{descend}
 use Rattle.semantics.specs.ComesTo.{Call, callAt, InRange}
 use Rattle.semantics.specs.Calls.{Listing, sameCall, allCalls, calls}
-use Rattle.semantics.specs.Memo.{encode, entry, indexOf, Recorded}
+use Rattle.semantics.specs.Memo.{outcomeCode, entry, memoIndex, Recorded}
 use Rattle.base.proofs.FiniteSets.{member-mem, mem-member}
 use Rattle.semantics.proofs.descent.Range.{calls-equality, all-length, all-ordered}
 use Rattle.semantics.proofs.Theorems.{theorems}
@@ -36,7 +36,7 @@ module _ (k : Lookahead) (G : Grammar) (w : List ℕ) (scoped : WellScoped G) (f
   word-is x h = go (member sameCall (calls G (choiceOf k G w) w) x) refl
     where
       go : (b : Bool) → member sameCall (calls G (choiceOf k G w) w) x ≡ b
-          → entry w m x ≡ choose b (encode (descend G (choiceOf k G w) w (x .nonterminal) (x .place))) uncalledCode
+          → entry w m x ≡ choose b (outcomeCode (descend G (choiceOf k G w) w (x .nonterminal) (x .place))) uncalledCode
       go true e = r .called x (listing .sound x (member-mem sameCall calls-equality (calls G (choiceOf k G w) w) x (rw e tt)))
       go false e = r .uncalled x h (λ c. rw e at (mem-member sameCall calls-equality (calls G (choiceOf k G w) w) x (listing .full x c)))
 
@@ -50,7 +50,7 @@ module _ (k : Lookahead) (G : Grammar) (w : List ℕ) (scoped : WellScoped G) (f
           let n = suc (length w) in
           let x = callAt (i / n) (i % n) in
           let z : 0 < n = omega arith in
-          let d : indexOf w x ≡ i = div-add-mod' i n in
+          let d : memoIndex w x ≡ i = div-add-mod' i n in
           let low : i < G .nonterminals * n = omega (arith, r .size) in
           let inside : InRange G w x = (div-lt-iff-lt-mul z .1 low, omega (arith, mod-lt i z)) in
           let here : getD (allCalls G w) i x ≡ x = ap (λ j. getD (allCalls G w) j x) (sym d) ∙ all-ordered G w x x inside in

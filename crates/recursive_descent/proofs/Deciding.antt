@@ -21,7 +21,7 @@ use Rattle.grammar.proofs.WellRead.{well-read}
 use Rattle.semantics.specs.Valuations.{pairs}
 use Rattle.semantics.specs.Choices.{Choice, tableChoice}
 use Rattle.semantics.specs.Descent.{Outcome, Failed, End, endsAt, descend, accepts}
-use Rattle.semantics.specs.Memo.{encode, indexOf}
+use Rattle.semantics.specs.Memo.{outcomeCode, memoIndex}
 use Rattle.semantics.specs.contracts.Memo.{blank}
 use Rattle.semantics.proofs.descent.Range.{index-range}
 use Rattle.semantics.proofs.Theorems.{theorems}
@@ -38,7 +38,7 @@ use Rattle.recognizer_promises.proofs.Judged.{descend-given}
 use Rattle.recognizer_promises.proofs.MemoWords.{words-recorded}
 use Rattle.event.specs.Events.{inputOf}
 use Rattle.event.proofs.Inputs.{input-length}
-use Rattle.descent_arrays.specs.contracts.Arrays.{held, rowAt}
+use Rattle.descent_arrays.specs.contracts.Arrays.{heldTokens, rowAt}
 use Rattle.descent_arrays.specs.contracts.Choices.{choicesOf}
 use Rattle.descent_arrays.specs.contracts.Tokens.{tokensOf}
 use Rattle.descent_arrays.proofs.TokenWords.{TokensGiven, TokensHold, column-few, tokens-hold}
@@ -52,17 +52,17 @@ pub blank-sound : (choice : Choice) (words input : List ℕ) → MemoSound choic
 blank-sound choice words input = record {
   size = length-replicate (pairs (grammarOf words) input) uncalledCode;
   right = λ x h n. absurd
-      (n (getD-replicate (pairs (grammarOf words) input) (indexOf input x) uncalledCode uncalledCode (index-range (grammarOf words) input x h)));
+      (n (getD-replicate (pairs (grammarOf words) input) (memoIndex input x) uncalledCode uncalledCode (index-range (grammarOf words) input x h)));
 }
 
 -- an entry below the codes is an end, and an outcome's entry is no other's
-entry-ends : (o : Outcome) (n : ℕ) → n < failedCode → {r : ℕ} → r ≡ encode o → r ≡ n → endsAt o n ≡ true
-unfolding encode
+entry-ends : (o : Outcome) (n : ℕ) → n < failedCode → {r : ℕ} → r ≡ outcomeCode o → r ≡ n → endsAt o n ≡ true
+unfolding outcomeCode
 entry-ends Failed n l e d = absurd (omega arith)
 entry-ends (End i) n l e d = eq-eqb i n (sym e ∙ d)
 
-entry-ends-not : (o : Outcome) (n : ℕ) {r : ℕ} → r ≡ encode o → (r ≡ n → ⊥) → endsAt o n ≡ false
-unfolding encode
+entry-ends-not : (o : Outcome) (n : ℕ) {r : ℕ} → r ≡ outcomeCode o → (r ≡ n → ⊥) → endsAt o n ≡ false
+unfolding outcomeCode
 entry-ends-not Failed n e d = refl
 entry-ends-not (End i) n e d = ne-eqb i n (λ q. d (e ∙ q))
 
@@ -125,7 +125,7 @@ module _ {k : Lookahead} {words : List ℕ} {z : Sizes} {choices memo : List ℕ
       size = g .given .size;
     }
 
-    begun-held : StartGiven choice words choices tokens (held tokens) memo
+    begun-held : StartGiven choice words choices tokens (heldTokens tokens) memo
     begun-held = rw (t .input) begun
 
     pub start-given : StartRequires words choices tokens memo

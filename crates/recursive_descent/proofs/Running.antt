@@ -30,7 +30,7 @@ use Rattle.semantics.specs.Descent.{Outcome, Failed, End, endsAt, descend}
 use Rattle.semantics.specs.ComesTo.{callAt}
 use Rattle.semantics.specs.contracts.ComesTo.{measure}
 use Rattle.semantics.specs.contracts.MemoDescent.{memoized, andThen, MemoCalls, memoRun, memoCall}
-use Rattle.semantics.specs.Memo.{encode}
+use Rattle.semantics.specs.Memo.{outcomeCode}
 use Rattle.semantics.specs.contracts.Memo.{decode}
 use Rattle.semantics.proofs.meaning.Rank.{level-onward}
 use Rattle.semantics.proofs.descent.Outcomes.{end-ends}
@@ -122,8 +122,8 @@ failed-end : (j : ℕ) → Failed ≡ End j → ⊥
 failed-end j e = let n : _≡_ {A = ℕ} 0 1 = cc in omega arith
 
 -- an entry tells its outcome, where the outcome's end is below the codes
-decode-encode : (n : ℕ) (o : Outcome) → n < failedCode → ((e : ℕ) → T (endsAt o e) → e ≤ n) → decode (encode o) ≡ o
-unfolding encode decode
+decode-encode : (n : ℕ) (o : Outcome) → n < failedCode → ((e : ℕ) → T (endsAt o e) → e ≤ n) → decode (outcomeCode o) ≡ o
+unfolding outcomeCode decode
 decode-encode n Failed s h = refl
 decode-encode n (End e) s h = rw (ne-eqb e failedCode (λ q. absurd (omega (arith, h e (end-ends (End e) e refl)))))
 

@@ -14,9 +14,9 @@ use Rattle.word.specs.declared.Word.the-variants as word
 use Rattle.grammar.specs.Codes.{failedCode}
 use Rattle.grammar.specs.Syntax.{Body, Rule, Grammar}
 use Rattle.grammar.specs.Encoding.{onWord, parse, grammarOf}
-use Rattle.grammar.specs.Reading.{allows, after, beginsRule, scan, reading}
+use Rattle.grammar.specs.Reading.{allows, stateAfter, beginsRule, scan, reading}
 use Rattle.grammar.specs.contracts.Starts.{ruleStarts}
-use Rattle.grammar.specs.contracts.WellRead.{firstRule, Begun, WellRead}
+use Rattle.grammar.specs.contracts.WellRead.{ruleRead, Begun, WellRead}
 use Rattle.grammar.specs.declared.reading.State.{State}
 use Rattle.grammar.specs.declared.reading.State.the-variants as state
 use Rattle.grammar.specs.declared.reading.Progress.{Progress}
@@ -26,7 +26,7 @@ use Rattle.grammar.proofs.Suffixes.{read-reaches, scan-next}
 use Rattle.grammar.proofs.WellRead.{well-read}
 use Rattle.semantics.specs.Choices.{Choice}
 use Rattle.semantics.specs.Descent.{Failed, select}
-use Rattle.semantics.specs.Memo.{encode}
+use Rattle.semantics.specs.Memo.{outcomeCode}
 use Rattle.semantics.specs.contracts.MemoDescent.{MemoCalls, memoized, memoPositives, memoRule, memoObey}
 use Rattle.semantics.proofs.descent.Outcomes.{nth-below, nth-mem}
 use Rattle.rule.specs.declared.Sign.{Sign}
@@ -42,7 +42,7 @@ use Rattle.descent_arrays.specs.contracts.Arrays.{endAt, firstAt}
 use Rattle.recursive_descent.specs.contracts.Descent.{firstConjunct, CallGiven}
 use Rattle.recursive_descent.proofs.Calling.{memoRest, Calling, InRule}
 
-rule-opens : (w : Word) (s : State) → beginsRule w ≡ true → after w s ≡ state.Opened
+rule-opens : (w : Word) (s : State) → beginsRule w ≡ true → stateAfter w s ≡ state.Opened
 rule-opens (word.Heading n t) s e = absurd (false≢true e)
 rule-opens (word.Rule A) s e = refl
 rule-opens word.Positive s e = absurd (false≢true e)
@@ -91,7 +91,7 @@ module _ {choice : Choice} {words choices tokens input memo : List ℕ} {A place
     pub negatives : rule .negatives ≡ parse (drop (start + 1) words) .negatives
 
   pub rule-chosen : {at : ℕ} → at ≡ firstAt choices tokens A place → (at ≡ 0 → ⊥) → Chosen at
-  unfolding select firstRule
+  unfolding select ruleRead
   rule-chosen {at} e n = go (choice A place) refl (e ∙ first)
     where
       some-same : (x y : Rule) → some x ≡ some y → x ≡ y
@@ -104,9 +104,9 @@ module _ {choice : Choice} {words choices tokens input memo : List ℕ} {A place
           let l : q < g .given .sizes .rules = omega (arith, nth-below (G .rules) q (k .0) (k .1), r .rules) in
           let i : ℕ = getD (ruleStarts words) q 0 in
           let b : Begun words i = r .begun q l in
-          let f : k .0 ≡ firstRule (drop i words) = some-same (k .0) _ (sym (k .1) ∙ r .begins q l) in
+          let f : k .0 ≡ ruleRead (drop i words) = some-same (k .0) _ (sym (k .1) ∙ r .begins q l) in
           let d = drop-cons words i 0 (b .high) in
-          let e : k .0 ≡ firstRule (getD words i 0 ∷ drop (i + 1) words) = f ∙ (rw (add-one i) (ap firstRule d)) in
+          let e : k .0 ≡ ruleRead (getD words i 0 ∷ drop (i + 1) words) = f ∙ (rw (add-one i) (ap ruleRead d)) in
           record {
             rule = k .0;
             listed = nth-mem (G .rules) q (k .0) (k .1);
@@ -185,6 +185,6 @@ pub none-fails : (M : MemoCalls) (w : List ℕ) (i : ℕ) (m : List ℕ) → mem
 unfolding memoObey
 none-fails M w i m = refl
 
-pub encode-failed : failedCode ≡ encode Failed
-unfolding encode
+pub encode-failed : failedCode ≡ outcomeCode Failed
+unfolding outcomeCode
 encode-failed = refl

@@ -16,7 +16,7 @@ use Rattle.semantics.specs.Choices.{Choice}
 use Rattle.semantics.specs.Descent.{Outcome, select, descend}
 use Rattle.semantics.specs.ComesTo.{callAt}
 use Rattle.semantics.specs.contracts.Memo.{EndsFit, decode}
-use Rattle.semantics.specs.Memo.{encode, indexOf, entry}
+use Rattle.semantics.specs.Memo.{outcomeCode, memoIndex, entry}
 use Rattle.semantics.specs.contracts.MemoDescent.{memoized, memoObey, stored, memoCall}
 use Rattle.semantics.proofs.descent.Range.{index-range}
 use Rattle.semantics.proofs.descent.Written.{Sound}
@@ -61,7 +61,7 @@ module _ {choice : Choice} {words choices tokens input memo : List ℕ} {A place
   -- the model tells the outcome and what the memo table holds
   call-done : {o : Outcome} {entry : ℕ} {memo′ : List ℕ}
       → ((n : ℕ) → level words input A place < n → deep choice words input n A place memo ≡ memoized o memo′)
-      → (o ≡ came → entry ≡ encode came)
+      → (o ≡ came → entry ≡ outcomeCode came)
       → CallDone choice words input memo A place entry memo′
   call-done {o} {entry} {memo′} model told =
       let n = suc (level words input A place) in
@@ -79,14 +79,14 @@ module _ {choice : Choice} {words choices tokens input memo : List ℕ} {A place
 module _ {choice : Choice} {words choices tokens input memo : List ℕ} {A place : ℕ} (g : CallGiven choice words choices tokens input memo A place) where
   -- the index of the call's entry
   module _ {x : ℕ} (e : x ≡ rowAt choices A + place) where
-    index-is : x ≡ indexOf input (callAt A place)
+    index-is : x ≡ memoIndex input (callAt A place)
     index-is = e ∙ ap (λ n. n + place) (g .given .rows A (g .named))
 
     pub index-low : x < length memo
     index-low = let l = index-range (grammarOf words) input (callAt A place) (g .named, g .placed) in omega (arith, index-is, g .given .sound .size)
 
     entry-is : entry input memo (callAt A place) ≡ getD memo x 0
-    entry-is = getD-any memo (indexOf input (callAt A place)) uncalledCode 0 (omega (arith, index-low, index-is)) ∙ ap (λ i. getD memo i 0) (sym index-is)
+    entry-is = getD-any memo (memoIndex input (callAt A place)) uncalledCode 0 (omega (arith, index-low, index-is)) ∙ ap (λ i. getD memo i 0) (sym index-is)
 
     -- an entry that is written is returned
     pub call-known : (getD memo x 0 ≡ uncalledCode → ⊥) → CallDone choice words input memo A place (getD memo x 0) memo
@@ -102,9 +102,9 @@ module _ {choice : Choice} {words choices tokens input memo : List ℕ} {A place
       pub call-stored : (r : Option Rule) → select (grammarOf words) (choice A place) ≡ r
           → {o : Outcome} {memo₁ : List ℕ} {v : ℕ}
           → ((n : ℕ) → level words input A place ≤ n → memoObey (deep choice words input n) input r place memo ≡ memoized o memo₁)
-          → v ≡ encode o → CallDone choice words input memo A place v (set memo₁ x v)
+          → v ≡ outcomeCode o → CallDone choice words input memo A place v (set memo₁ x v)
       unfolding memoCall stored
-      call-stored r s {o} {memo₁} {v} run c = call-done g model (λ e. c ∙ ap encode e)
+      call-stored r s {o} {memo₁} {v} run c = call-done g model (λ e. c ∙ ap outcomeCode e)
         where
           model : (n : ℕ) → level words input A place < n → deep choice words input n A place memo ≡ memoized o (set memo₁ x v)
           model zero l = absurd (omega arith)

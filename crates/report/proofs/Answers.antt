@@ -37,17 +37,17 @@ use Rattle.recognizer_promises.proofs.JudgeFaults.{judge-table-long, judged-rea
 use Rattle.recognizer_promises.proofs.Checking.{told, found-fault, check-fault-long, passed-fault, passed-read}
 use Rattle.text.specs.Writing.{Put}
 use Rattle.sheet_text.specs.Sheet.{checkText}
-use Rattle.sheet_text.specs.contracts.Limited.{limited}
+use Rattle.sheet_text.specs.contracts.Limited.{limitedFinding}
 use Rattle.sheet_text.proofs.Limited.{limited-same}
 use Rattle.judgement_text.specs.Judgement.{judgementText}
 use Rattle.report.specs.Texts.{blankTable, checkedTable, blankMemo, checkedText, judgedText}
 use Rattle.report.specs.contracts.Texts.{nonterminalsOf, tokenCount}
 
 -- the sizes that are read are within the limits
-limited-found : (words : List ℕ) (f : Option Error) → limited (findingOf f (reading words)) ≡ findingOf f (reading words)
+limited-found : (words : List ℕ) (f : Option Error) → limitedFinding (findingOf f (reading words)) ≡ findingOf f (reading words)
 limited-found words f = go f (reading words) refl
   where
-    go : (f : Option Error) (o : Outcome) → reading words ≡ o → limited (findingOf f o) ≡ findingOf f o
+    go : (f : Option Error) (o : Outcome) → reading words ≡ o → limitedFinding (findingOf f o) ≡ findingOf f o
     go (some x) o r = refl
     go none (Faulty x) r = refl
     go none (Read z) r = let k = well-read words z r in limited-same (record { fewNonterminals = k .fewNonterminals; fewTerminals = k .fewTerminals })
@@ -101,11 +101,11 @@ module _ (words input memo : List ℕ) (v : Answer) where
 
 module _ {l m : List ℕ} {k : ℕ} where
   pub put-checked-text : (words : List ℕ) {table : List ℕ} {r : Found} → length blankTable ≡ maxTableWords → r ≡ foundOf One words
-      → table ≡ lentOf One r blankTable → Put l 0 (checkText (limited (r .finding)) table) m k → Put l 0 (checkedText words) m k
+      → table ≡ lentOf One r blankTable → Put l 0 (checkText (limitedFinding (r .finding)) table) m k → Put l 0 (checkedText words) m k
   unfolding checkedText
   put-checked-text words size e t p =
       let f = checkFault One maxTableWords words in
-      let a = ap limited (found-checked words size e) ∙ limited-found words f in
+      let a = ap limitedFinding (found-checked words size e) ∙ limited-found words f in
       subst (λ x. Put l 0 x m k) (ap₂ checkText a (t ∙ lent-checked words size e)) p
 
   pub put-judged-text : {words memo : List ℕ} (events : List ℕ) {r : Judgement} {nonterminals tokens : ℕ} → length blankMemo ≡ maxMemoEntries

@@ -24,12 +24,12 @@ use Rattle.recognizer_promises.proofs.Checking.{passed-encodes, fault-passed, c
 use Rattle.memo_table.proofs.Entries.{getD-any}
 use Rattle.text.specs.Words.{wordsOf}
 use Rattle.sheet_text.specs.Room.{sheetRoom}
-use Rattle.sheet_text.specs.Sheet.{wordAt}
+use Rattle.sheet_text.specs.Sheet.{sheetWordAt}
 use Rattle.report.specs.Texts.{blankTable, checkedTable, sheetOf}
 use Rattle.report.specs.Report.{Printed, SetsTold, SheetPrinted}
 
 -- a word of the sets in the table of a grammar
-set-at : (G : Grammar) (i : ℕ) (behind : List ℕ) → i < 2 * G .nonterminals → wordAt (tableWords One G ++ behind) i ≡ setWord One G i
+set-at : (G : Grammar) (i : ℕ) (behind : List ℕ) → i < 2 * G .nonterminals → sheetWordAt (tableWords One G ++ behind) i ≡ setWord One G i
 unfolding tableWords
 set-at G i behind h =
     let sets = listed (2 * G .nonterminals) (setWord One G) in
@@ -71,10 +71,10 @@ module _ (words : List ℕ) (p : PassedGrammar One words) where
     sets-told : A < G .nonterminals → SetsTold words A
     sets-told h =
         let behind = drop (length (tableWords One G)) blankTable in
-        let one : wordAt (checkedTable words) (2 * A) ≡ firstNumber One G A =
-        ap (λ t. wordAt t (2 * A)) lent ∙ set-at G (2 * A) behind (omega arith) ∙ first-word G A in
-        let two : wordAt (checkedTable words) (2 * A + 1) ≡ followNumber One G A =
-        ap (λ t. wordAt t (2 * A + 1)) lent ∙ set-at G (2 * A + 1) behind (omega arith) ∙ follow-word G A in
+        let one : sheetWordAt (checkedTable words) (2 * A) ≡ firstNumber One G A =
+        ap (λ t. sheetWordAt t (2 * A)) lent ∙ set-at G (2 * A) behind (omega arith) ∙ first-word G A in
+        let two : sheetWordAt (checkedTable words) (2 * A + 1) ≡ followNumber One G A =
+        ap (λ t. sheetWordAt t (2 * A + 1)) lent ∙ set-at G (2 * A + 1) behind (omega arith) ∙ follow-word G A in
         record {
           first = one;
           first-members = subst (λ n. Members (First G 1 A) (size n)) (sym one) first-size;

@@ -22,7 +22,7 @@ use Rattle.semantics.specs.Choices.{tableChoice}
 use Rattle.semantics.specs.Descent.{Outcome as Ended, Failed, End, descend, accepts}
 use Rattle.semantics.specs.ComesTo.{Call}
 use Rattle.semantics.specs.Calls.{sameCall, allCalls, calls}
-use Rattle.semantics.specs.Memo.{encode}
+use Rattle.semantics.specs.Memo.{outcomeCode}
 use Rattle.semantics.proofs.descent.Range.{all-range}
 use Rattle.lookahead.specs.declared.Lookahead.the-variants.{One}
 use Rattle.semantics.proofs.Theorems.{theorems}
@@ -89,11 +89,11 @@ module _ (words input : List ℕ) (table memo : ℕ) (e : judgeFault One table m
   G = grammarOf words
 
   entry-low : (x : Call) → List·Memᴰ x (allCalls G input) → memoWord One G input x < 100000
-  unfolding memoWord encode
+  unfolding memoWord outcomeCode
   entry-low x m = go (member sameCall (calls G (tableChoice G 1 input) input) x) (descend G (tableChoice G 1 input) input (x .nonterminal) (x .place)) refl
     where
       go : (b : Bool) (o : Ended) → descend G (tableChoice G 1 input) input (x .nonterminal) (x .place) ≡ o
-          → choose b (encode o) uncalledCode < 100000
+          → choose b (outcomeCode o) uncalledCode < 100000
       go false o q = omega arith
       go true Failed q = omega arith
       go true (End j) q =

@@ -16,7 +16,7 @@ use Rattle.text.specs.Writing.{Put}
 use Rattle.sheet_text.specs.Room.{sheetRoom}
 use Rattle.judgement_text.specs.Room.{judgementRoom}
 use Rattle.gaps_text_promises.specs.Room.{gapsRoom}
-use Rattle.sheet_text.specs.Sheet.{wordAt}
+use Rattle.sheet_text.specs.Sheet.{sheetWordAt}
 use Rattle.gaps_text_promises.specs.Gaps.{LinesTell}
 use Rattle.report.specs.Texts.{blankTable, checkedTable, sheetOf, blankMemo, judgedAnswer, judgedTable, judgedMemo, judgementOf, gapsOf, enoughRead}
 
@@ -29,10 +29,10 @@ pub record Printed (room : ℕ) (text before after : List ℕ) (n : ℕ) : Type 
 
 -- the sets of a nonterminal in the sheet of a passed grammar: FIRST and FOLLOW as numbers, and the size that is printed is how many strings they have
 pub record SetsTold (words : List ℕ) (A : ℕ) : Type 0 where
-  pub first : wordAt (checkedTable words) (2 * A) ≡ firstNumber One (grammarOf words) A
-  pub first-members : Members (First (grammarOf words) 1 A) (size (wordAt (checkedTable words) (2 * A)))
-  pub follow : wordAt (checkedTable words) (2 * A + 1) ≡ followNumber One (grammarOf words) A
-  pub follow-members : Members (Follow (grammarOf words) 1 A) (size (wordAt (checkedTable words) (2 * A + 1)))
+  pub first : sheetWordAt (checkedTable words) (2 * A) ≡ firstNumber One (grammarOf words) A
+  pub first-members : Members (First (grammarOf words) 1 A) (size (sheetWordAt (checkedTable words) (2 * A)))
+  pub follow : sheetWordAt (checkedTable words) (2 * A + 1) ≡ followNumber One (grammarOf words) A
+  pub follow-members : Members (Follow (grammarOf words) 1 A) (size (sheetWordAt (checkedTable words) (2 * A + 1)))
 
 pub record SheetPrinted (bytes before after : List ℕ) (n : ℕ) : Type 0 where
   pub printed : Printed sheetRoom (sheetOf bytes) before after n

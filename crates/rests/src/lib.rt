@@ -3,7 +3,7 @@ ghost use mathlib.Core.Path.{_≡_};
 ghost use Rattle.families.specs.contracts.First.{symbolFirst, noRest, closedMeet, insideWord};
 ghost use Rattle.families.specs.contracts.Follow.{tailBefore};
 ghost use Rattle.families.specs.contracts.Least.{lookup};
-ghost use Rattle.families.specs.contracts.Rules.{fromEnd};
+ghost use Rattle.families.specs.contracts.Rules.{foldFromEnd};
 use concatenation::concat;
 use concatenation::full;
 use families::Rest;
@@ -79,7 +79,8 @@ pub fn rule_first(
     terminals: u32,
     lookahead: Lookahead,
 ) -> LookaheadSet
-    ensures { λ r. ⌜ r .bits ≡ fromEnd (insideWord lookahead (lookup (now (firsts .entry)))) (noRest lookahead terminals) (now (words .entry)) .meet .bits ⌝ }
+    ensures { λ r. ⌜ r .bits
+        ≡ foldFromEnd (insideWord lookahead (lookup (now (firsts .entry)))) (noRest lookahead terminals) (now (words .entry)) .meet .bits ⌝ }
 {
     let mut rest = no_rest(terminals, lookahead);
     let mut at = words.len();

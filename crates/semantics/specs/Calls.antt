@@ -5,7 +5,7 @@ use Prim.Native.Nat.{ℕ, zero, suc, max}
 use lib.ListN.{length}
 use lib.Dec.{eqb}
 use Rattle.grammar.specs.Syntax.{Grammar}
-use Rattle.base.specs.FiniteSets.{member, keep, numbers, combine, Distinct}
+use Rattle.base.specs.FiniteSets.{member, keep, numbersBelow, combine, Distinct}
 use Rattle.semantics.specs.Valuations.{pairs}
 use Rattle.semantics.specs.Choices.{Choice}
 use Rattle.semantics.specs.ComesTo.{Call, callAt, callComesTo}
@@ -31,7 +31,7 @@ sameCall x y = eqb (x .nonterminal) (y .nonterminal) && eqb (x .place) (y .place
 
 -- every call in range, by nonterminal, then place (document 01: notebook order)
 unfoldable pub allCalls : Grammar → List ℕ → List Call
-allCalls G w = combine callAt (numbers (G .nonterminals)) (numbers (suc (length w)))
+allCalls G w = combine callAt (numbersBelow (G .nonterminals)) (numbersBelow (suc (length w)))
 
 -- the calls made, each once, in that order
 unfoldable pub calls : Grammar → Choice → List ℕ → List Call

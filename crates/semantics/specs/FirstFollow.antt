@@ -8,7 +8,7 @@ use Rattle.word.specs.declared.Symbol.{Symbol}
 use Rattle.word.specs.declared.Symbol.the-variants.{Terminal, Nonterminal}
 use Rattle.grammar.specs.Syntax.{Body, Rule, Grammar, bodies}
 use Rattle.base.specs.Quantifiers.{anyOf, allOf}
-use Rattle.base.specs.FiniteSets.{member, keep, distinct, numbers, combine}
+use Rattle.base.specs.FiniteSets.{member, keep, distinct, numbersBelow, combine}
 use Rattle.base.specs.Rounds.{least}
 use Rattle.base.specs.Strings.{strings, sameString}
 use Rattle.semantics.specs.Families.{Family}
@@ -25,7 +25,7 @@ unfoldable pub sameEntry : Entry → Entry → Bool
 sameEntry e d = eqb (e .0) (d .0) && sameString (e .1) (d .1)
 
 unfoldable pub entries : Grammar → ℕ → List Entry
-entries G k = combine (λ A x. (A, x)) (numbers (G .nonterminals)) (strings k (G .terminals))
+entries G k = combine (λ A x. (A, x)) (numbersBelow (G .nonterminals)) (strings k (G .terminals))
 
 -- for each nonterminal a finite set of strings
 abbrev pub Sets : Type 0

@@ -8,7 +8,7 @@ use lib.Dec.{T, eqb}
 use Rattle.word.specs.declared.Symbol.the-variants.{Terminal, Nonterminal}
 use Rattle.grammar.specs.Syntax.{Body, Rule, Grammar, bodies}
 use Rattle.base.specs.Quantifiers.{anyOf, allOf, anyBelow, countBelow, lowest}
-use Rattle.base.specs.FiniteSets.{numbers}
+use Rattle.base.specs.FiniteSets.{numbersBelow}
 use Rattle.base.specs.Rounds.{NumberSet, least}
 
 -- the body consists of nonterminals of the set
@@ -22,7 +22,7 @@ nullStep G s A = anyOf (λ r. eqb (r .head) A && allOf (allNullable s) (r .posit
 
 -- (document 01: maybe-empty)
 unfoldable pub nullable : Grammar → NumberSet
-nullable G = least eqb (numbers (G .nonterminals)) (nullStep G)
+nullable G = least eqb (numbersBelow (G .nonterminals)) (nullStep G)
 
 -- B stands in the body after nonterminals of the set alone
 pub data LeftIn (s : NumberSet) (B : ℕ) : Body → Type 0 where
@@ -60,7 +60,7 @@ unfoldable pub reachStep : Grammar → ℕ → NumberSet → NumberSet
 reachStep G A s B = leftDepends G A B || anyBelow (G .nonterminals) (λ C. s C && leftDepends G C B)
 
 unfoldable pub leftReaches : Grammar → ℕ → NumberSet
-leftReaches G A = least eqb (numbers (G .nonterminals)) (reachStep G A)
+leftReaches G A = least eqb (numbersBelow (G .nonterminals)) (reachStep G A)
 
 unfoldable pub leftRecursive : Grammar → NumberSet
 leftRecursive G A = leftReaches G A A

@@ -18,16 +18,16 @@ use Rattle.semantics.specs.Calls.{Called, allCalls, calls}
 abbrev pub Memo : Type 0
 Memo = List ℕ
 
-unfoldable pub encode : Outcome → ℕ
-encode Failed = failedCode
-encode (End e) = e
+unfoldable pub outcomeCode : Outcome → ℕ
+outcomeCode Failed = failedCode
+outcomeCode (End e) = e
 
 -- a row for each nonterminal, with an entry for each place (document 01: name × (events + 1) + place)
-abbrev pub indexOf : List ℕ → Call → ℕ
-indexOf w x = x .nonterminal * suc (length w) + x .place
+abbrev pub memoIndex : List ℕ → Call → ℕ
+memoIndex w x = x .nonterminal * suc (length w) + x .place
 
 abbrev pub entry : List ℕ → Memo → Call → ℕ
-entry w m x = getD m (indexOf w x) uncalledCode
+entry w m x = getD m (memoIndex w x) uncalledCode
 
 -- the call has an entry
 abbrev pub written : List ℕ → Memo → Call → Bool
@@ -36,6 +36,6 @@ written w m x = not (eqb (entry w m x) uncalledCode)
 -- the memo holds the results of the calls made and nothing else, and so a scan of it gives the calls
 pub record Recorded (G : Grammar) (choice : Choice) (w : List ℕ) (m : Memo) : Type 0 where
   pub size : length m ≡ pairs G w
-  pub called : (x : Call) → Called G choice w x → entry w m x ≡ encode (descend G choice w (x .nonterminal) (x .place))
+  pub called : (x : Call) → Called G choice w x → entry w m x ≡ outcomeCode (descend G choice w (x .nonterminal) (x .place))
   pub uncalled : (x : Call) → InRange G w x → (Called G choice w x → ⊥) → entry w m x ≡ uncalledCode
   pub scanned : keep (written w m) (allCalls G w) ≡ calls G choice w

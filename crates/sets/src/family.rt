@@ -3,7 +3,7 @@ ghost use mathlib.Core.Path.{_≡_};
 ghost use mathlib.Core.Bool.{_||_};
 ghost use Prim.Native.Nat.{_<_};
 ghost use Rattle.grammar.specs.Limits.{maxNonterminals};
-ghost use Rattle.families.specs.contracts.Least.{Adds};
+ghost use Rattle.families.specs.contracts.Least.{AddsToSet};
 use families::SETS;
 use families::nonterminals::Nonterminals;
 use lookahead_sets::LookaheadSet;
@@ -11,7 +11,7 @@ use lookahead_sets::LookaheadSet;
 // Joins a set into that of n; whether it has grown.
 pub(crate) fn add(sets: &mut [u64; SETS], n: u32, set: LookaheadSet) -> bool
     requires { ⌜ n < maxNonterminals ⌝ }
-    ensures { λ r. ⌜ Adds (now (sets .entry)) n (set .bits) (now (sets .exit)) r ⌝ }
+    ensures { λ r. ⌜ AddsToSet (now (sets .entry)) n (set .bits) (now (sets .exit)) r ⌝ }
 {
     let at = n as usize;
     let old = LookaheadSet { bits: sets[at] };
@@ -23,7 +23,7 @@ pub(crate) fn add(sets: &mut [u64; SETS], n: u32, set: LookaheadSet) -> bool
 // The same for sets of nonterminals.
 pub(crate) fn add_nonterminals(sets: &mut [u32; SETS], n: u32, set: Nonterminals) -> bool
     requires { ⌜ n < maxNonterminals ⌝ }
-    ensures { λ r. ⌜ Adds (now (sets .entry)) n (set .bits) (now (sets .exit)) r ⌝ }
+    ensures { λ r. ⌜ AddsToSet (now (sets .entry)) n (set .bits) (now (sets .exit)) r ⌝ }
 {
     let at = n as usize;
     let before = Nonterminals { bits: sets[at] };

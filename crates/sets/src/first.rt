@@ -5,7 +5,7 @@ ghost use Rattle.grammar.specs.Encoding.{parse, grammarOf};
 ghost use Rattle.grammar.specs.Limits.{maxNonterminals};
 ghost use Rattle.grammar.specs.contracts.Starts.{ruleStarts};
 ghost use Rattle.admission.specs.Admission.{admission};
-ghost use Rattle.families.specs.contracts.First.{FirstNumbersClosed, Met};
+ghost use Rattle.families.specs.contracts.First.{FirstNumbersClosed, RulesMet};
 ghost use Rattle.families.specs.contracts.Least.{Passes};
 ghost use Rattle.base.specs.Lists.{listed};
 ghost use Rattle.families.specs.contracts.RuleLists.{byRule};
@@ -37,7 +37,7 @@ fn first_pass(
 ) -> bool
     requires { ⌜ PassGiven (now words) (now starts) sizes (now firsts) × ByRules (sizes .rules) (now meets) ⌝ }
     ensures { λ r. ⌜ Passes (FirstNumbersClosed lookahead (sizes .terminals) (parse (now (words .entry)) .rules)) (now (firsts .entry)) (now (firsts .exit)) r
-        × Met lookahead (sizes .terminals) (now (words .entry)) (sizes .rules) (now (firsts .exit)) (now (meets .exit)) r ⌝ }
+        × RulesMet lookahead (sizes .terminals) (now (words .entry)) (sizes .rules) (now (firsts .exit)) (now (meets .exit)) r ⌝ }
 {
     let terminals = sizes.terminals;
     let mut grown = false;

@@ -7,7 +7,7 @@ use Rattle.lookahead.specs.Elements.{has, size}
 use Rattle.text.specs.Ascii.{ascii}
 use Rattle.text.specs.Decimal.{digits, decimal, orDash}
 use Rattle.text.specs.Writing.{upTo}
-use Rattle.sheet_text.specs.Sheet.{sizesLine, setsLine, entryText, entriesLine, nonterminalText, sheetText}
+use Rattle.sheet_text.specs.Sheet.{sizesLine, setsLine, tableEntryText, entriesLine, nonterminalText, sheetText}
 
 -- the text that document 01 shows of card R
 sheet-R : sheetText (sizes 1 1 2) (16777217 ∷ 16777216 ∷ 0 ∷ 1 ∷ [])
@@ -16,6 +16,6 @@ unfolding sheetText sizesLine nonterminalText setsLine entriesLine orDash upTo d
 sheet-R = refl
 
 -- a dash for no entry
-dash : entryText 4294967295 ≡ ascii " -"
+dash : tableEntryText 4294967295 ≡ ascii " -"
 unfolding orDash
 dash = refl

@@ -11,8 +11,8 @@ use Rattle.lookahead.specs.Elements.{size}
 use Rattle.text.specs.Writing.{upTo}
 use Rattle.text.proofs.Lengths.{decimal-most, dash-within, up-to-most}
 use Rattle.sheet_text.specs.contracts.Limited.{Limited}
-use Rattle.sheet_text.specs.Room.{sizesRoom, setsRoom, entryRoom, entriesRoom, sheetRoom}
-use Rattle.sheet_text.specs.Sheet.{wordAt, sizesLine, setsLine, entryText, entriesLine, nonterminalText, sheetText}
+use Rattle.sheet_text.specs.Room.{sizesRoom, setsRoom, tableEntryRoom, entriesRoom, sheetRoom}
+use Rattle.sheet_text.specs.Sheet.{sheetWordAt, sizesLine, setsLine, tableEntryText, entriesLine, nonterminalText, sheetText}
 
 sizes-most : (z : Sizes) → length (sizesLine z) ≤ sizesRoom
 unfolding sizesLine
@@ -21,15 +21,15 @@ sizes-most z = simp length-append (omega (arith, decimal-most (z .nonterminals),
 sets-most : (table : List ℕ) (A : ℕ) → length (setsLine table A) ≤ setsRoom
 unfolding setsLine
 sets-most table A =
-    let x = wordAt table (2 * A) in
-    let y = wordAt table (2 * A + 1) in
+    let x = sheetWordAt table (2 * A) in
+    let y = sheetWordAt table (2 * A + 1) in
     simp length-append (omega (arith, decimal-most A, decimal-most x, decimal-most (size x), decimal-most y, decimal-most (size y)))
 
-entries-most : (table : List ℕ) (start columns : ℕ) → length (entriesLine table start columns) ≤ columns * entryRoom + 6
+entries-most : (table : List ℕ) (start columns : ℕ) → length (entriesLine table start columns) ≤ columns * tableEntryRoom + 6
 unfolding entriesLine
 entries-most table start columns =
-    let cells = up-to-most columns entryRoom (λ c. entryText (wordAt table (start + c)))
-    (λ k h. dash-within noEntry (wordAt table (start + k)) 20 (decimal-most (wordAt table (start + k))) (omega arith)) in
+    let cells = up-to-most columns tableEntryRoom (λ c. tableEntryText (sheetWordAt table (start + c)))
+    (λ k h. dash-within noEntry (sheetWordAt table (start + k)) 20 (decimal-most (sheetWordAt table (start + k))) (omega arith)) in
     simp length-append (omega (arith, cells))
 
 nonterminal-most : (z : Sizes) (table : List ℕ) (A : ℕ) → z .terminals ≤ maxTerminals → length (nonterminalText z table A) ≤ setsRoom + entriesRoom
@@ -41,7 +41,7 @@ nonterminal-most z table A h =
       length-append (setsLine table A) (entriesLine table start (z .terminals + 1)),
       sets-most table A,
       entries-most table start (z .terminals + 1),
-      mul-le-mul-right {m = z .terminals + 1} {n = maxColumns} entryRoom (omega arith),
+      mul-le-mul-right {m = z .terminals + 1} {n = maxColumns} tableEntryRoom (omega arith),
     )
 
 pub sheet-most : {z : Sizes} (table : List ℕ) → Limited z → length (sheetText z table) ≤ sheetRoom

@@ -9,7 +9,7 @@ use Rattle.grammar.specs.Encoding.{sizes}
 use Rattle.grammar.specs.Limits.{maxNonterminals, maxTerminals}
 use Rattle.grammar.specs.declared.reading.Sizes.{Sizes}
 use Rattle.families.specs.declared.Finding.the-variants.{Passed}
-use Rattle.sheet_text.specs.contracts.Limited.{Limited, limitedSizes, limited}
+use Rattle.sheet_text.specs.contracts.Limited.{Limited, limitedSizes, limitedFinding}
 
 pub limited-sizes : (z : Sizes) → Limited (limitedSizes z)
 unfolding limitedSizes
@@ -21,6 +21,6 @@ limited-sizes z = go (ltb maxNonterminals (z .nonterminals)) (ltb maxTerminals (
     go false true e f = record { fewNonterminals = omega arith; fewTerminals = omega arith }
     go false false e f = record { fewNonterminals = ltb-false maxNonterminals (z .nonterminals) e; fewTerminals = ltb-false maxTerminals (z .terminals) f }
 
-pub limited-same : {z : Sizes} → Limited z → limited (Passed z) ≡ Passed z
+pub limited-same : {z : Sizes} → Limited z → limitedFinding (Passed z) ≡ Passed z
 unfolding limitedSizes
 limited-same {z} h = rw (le-ltb maxNonterminals (z .nonterminals) (h .fewNonterminals), le-ltb maxTerminals (z .terminals) (h .fewTerminals))

@@ -9,7 +9,7 @@ use Rattle.lookahead.specs.Elements.{size}
 use Rattle.text.specs.Ascii.{ascii}
 use Rattle.text.specs.Decimal.{decimal, labelled}
 use Rattle.text.specs.Writing.{Put}
-use Rattle.sheet_text.specs.Sheet.{wordAt, setText, setsLine}
+use Rattle.sheet_text.specs.Sheet.{sheetWordAt, setText, setsLine}
 
 -- the row of a nonterminal stands within the table
 pub row-within : (n A t : ℕ) → n ≤ maxNonterminals → A < maxNonterminals → t ≤ maxTerminals → 2 * n + A * (t + 1) + (t + 1) ≤ maxTableWords
@@ -21,7 +21,7 @@ module _ {l m : List ℕ} {at next : ℕ} where
       Put l at ((label ++ decimal bits) ++ labelled " " n) m next → Put l at ((label ++ decimal bits) ++ labelled " " (size bits)) m next
   set-put label bits e p = rw (← e) p
 
-  pub sets-put : (table : List ℕ) (A : ℕ) {first follow : ℕ} → first ≡ wordAt table (2 * A) → follow ≡ wordAt table (2 * A + 1) →
+  pub sets-put : (table : List ℕ) (A : ℕ) {first follow : ℕ} → first ≡ sheetWordAt table (2 * A) → follow ≡ sheetWordAt table (2 * A + 1) →
       Put l at (labelled "name " A ++ setText " first " first ++ setText " follow " follow ++ ascii "\n") m next → Put l at (setsLine table A) m next
   unfolding setsLine
   sets-put table A e f p = rw (← e, ← f) p

@@ -9,11 +9,11 @@ abbrev pub setsRoom : ℕ
 setsRoom = 123
 
 -- an entry, and the line that has one for each column
-abbrev pub entryRoom : ℕ
-entryRoom = 21
+abbrev pub tableEntryRoom : ℕ
+tableEntryRoom = 21
 
 abbrev pub entriesRoom : ℕ
-entriesRoom = maxColumns * entryRoom + 6
+entriesRoom = maxColumns * tableEntryRoom + 6
 
 abbrev pub sheetRoom : ℕ
 sheetRoom = sizesRoom + maxNonterminals * (setsRoom + entriesRoom)

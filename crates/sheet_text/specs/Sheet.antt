@@ -14,8 +14,8 @@ use Rattle.text.specs.Refusal.{refusalText}
 use Rattle.text.specs.Writing.{upTo}
 
 -- a word of the table; behind its end there is none
-abbrev pub wordAt : List ℕ → ℕ → ℕ
-wordAt table i = getD table i noEntry
+abbrev pub sheetWordAt : List ℕ → ℕ → ℕ
+sheetWordAt table i = getD table i noEntry
 
 unfoldable pub sizesLine : Sizes → List ℕ
 sizesLine z = labelled "names " (z .nonterminals) ++ labelled " letters " (z .terminals) ++ labelled " rules " (z .rules) ++ ascii "\n"
@@ -27,15 +27,15 @@ setText label set = labelled label set ++ labelled " " (size set)
 -- a nonterminal and its two sets
 unfoldable pub setsLine : List ℕ → ℕ → List ℕ
 setsLine table A =
-    labelled "name " A ++ setText " first " (wordAt table (2 * A)) ++ setText " follow " (wordAt table (2 * A + 1)) ++ ascii "\n"
+    labelled "name " A ++ setText " first " (sheetWordAt table (2 * A)) ++ setText " follow " (sheetWordAt table (2 * A + 1)) ++ ascii "\n"
 
 -- a rule's number, or a dash
-abbrev pub entryText : ℕ → List ℕ
-entryText entry = orDash noEntry entry
+abbrev pub tableEntryText : ℕ → List ℕ
+tableEntryText entry = orDash noEntry entry
 
 -- the entries of a row that starts at an index of the table
 unfoldable pub entriesLine : List ℕ → ℕ → ℕ → List ℕ
-entriesLine table start columns = ascii "cells" ++ upTo columns (λ c. entryText (wordAt table (start + c))) ++ ascii "\n"
+entriesLine table start columns = ascii "cells" ++ upTo columns (λ c. tableEntryText (sheetWordAt table (start + c))) ++ ascii "\n"
 
 -- the two lines of a nonterminal: its sets, and its row, which has a column for each terminal and one for the end
 unfoldable pub nonterminalText : Sizes → List ℕ → ℕ → List ℕ

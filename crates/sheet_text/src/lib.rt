@@ -6,8 +6,8 @@ ghost use Rattle.grammar.specs.Limits.{maxNonterminals, maxTerminals, maxTableW
 ghost use Rattle.lookahead.specs.Elements.{size as sizeOf};
 ghost use Rattle.text.specs.Decimal.{decimal, labelled};
 ghost use Rattle.text.specs.Writing.{Put, upTo};
-ghost use Rattle.sheet_text.specs.contracts.Limited.{Limited, limitedSizes, limited};
-ghost use Rattle.sheet_text.specs.Sheet.{wordAt, sizesLine, setsLine, entryText, entriesLine, nonterminalText, sheetText, checkText};
+ghost use Rattle.sheet_text.specs.contracts.Limited.{Limited, limitedSizes, limitedFinding};
+ghost use Rattle.sheet_text.specs.Sheet.{sheetWordAt, sizesLine, setsLine, tableEntryText, entriesLine, nonterminalText, sheetText, checkText};
 use families::Finding;
 use grammar::codes::NO_ENTRY;
 use grammar::limits::COLUMNS;
@@ -33,7 +33,7 @@ pub const ROOM: usize = SIZES_ROOM + (NONTERMINALS as usize) * (SETS_ROOM + ENTR
 
 // A word of the table; behind its end there is none.
 fn word_at(table: &[u32], at: usize) -> u32
-    ensures { λ r. ⌜ r ≡ wordAt (now (table .entry)) at ⌝ }
+    ensures { λ r. ⌜ r ≡ sheetWordAt (now (table .entry)) at ⌝ }
 {
     if at < table.len() {
         table[at]
@@ -72,7 +72,7 @@ fn put_sets(out: &mut [u8], at: usize, table: &[u32], nonterminal: u32) -> usize
 }
 
 fn put_entry(out: &mut [u8], at: usize, entry: u32) -> usize
-    ensures { λ r. ⌜ Put (now (out .entry)) at (entryText entry) (now (out .exit)) r ⌝ }
+    ensures { λ r. ⌜ Put (now (out .entry)) at (tableEntryText entry) (now (out .exit)) r ⌝ }
 {
     put_or_dash(out, at, entry as usize, NO_ENTRY as usize)
 }
@@ -80,7 +80,7 @@ fn put_entry(out: &mut [u8], at: usize, entry: u32) -> usize
 // The entries of a row, from its start on.
 fn put_row(out: &mut [u8], at: usize, table: &[u32], start: usize, columns: usize) -> usize
     requires { ⌜ start + columns ≤ maxTableWords ⌝ }
-    ensures { λ r. ⌜ Put (now (out .entry)) at (upTo columns (λ c. entryText (wordAt (now (table .entry)) (start + c)))) (now (out .exit)) r ⌝ }
+    ensures { λ r. ⌜ Put (now (out .entry)) at (upTo columns (λ c. tableEntryText (sheetWordAt (now (table .entry)) (start + c)))) (now (out .exit)) r ⌝ }
 {
     let mut next = at;
     let mut column = 0;
@@ -158,7 +158,7 @@ fn limited_sizes(sizes: Sizes) -> Sizes
 
 // What is printed of a check, by what is found: the refusal, or the sheet.
 pub fn put_check(out: &mut [u8], finding: Finding, table: &[u32]) -> usize
-    ensures { λ r. ⌜ Put (now (out .entry)) 0 (checkText (limited finding) (now (table .entry))) (now (out .exit)) r ⌝ }
+    ensures { λ r. ⌜ Put (now (out .entry)) 0 (checkText (limitedFinding finding) (now (table .entry))) (now (out .exit)) r ⌝ }
 {
     match finding {
         Finding::Refused(error) => put_refusal(out, 0, error),

@@ -20,7 +20,7 @@ use Rattle.lookahead.specs.declared.Lookahead.{Lookahead}
 use Rattle.lookahead.specs.Lookaheads.{tokens}
 use Rattle.lookahead.specs.contracts.Lookaheads.{alphabet}
 use Rattle.admission.specs.Admission.{admission}
-use Rattle.base.specs.FiniteSets.{numbers}
+use Rattle.base.specs.FiniteSets.{numbersBelow}
 use Rattle.semantics.specs.Claims.{overruns, clashes}
 use Rattle.semantics.proofs.descent.Outcomes.{nth-mem}
 use Rattle.families.specs.declared.Finding.the-variants.{Passed, Refused}
@@ -129,7 +129,7 @@ module _ {k : Lookahead} {words : List ℕ} {z : Sizes} {r : Claims} (f : Claime
 
     -- else its entries are found
     pub found-passed : {entries : List ℕ} → v ≡ conflict.Absent
-        → FilledRows (rowsOf k (z .nonterminals) (z .terminals)) (r .heads) (r .sets) 0 (numbers (z .rules)) noRules entries
+        → FilledRows (rowsOf k (z .nonterminals) (z .terminals)) (r .heads) (r .sets) 0 (numbersBelow (z .rules)) noRules entries
         → foundWith (Passed z) (r .starts) (r .firsts) (r .follows) entries ≡ foundOf k words
     unfolding foundOf
     found-passed t w =

@@ -12,11 +12,11 @@ use Rattle.lookahead.specs.Elements.{has}
 use Rattle.lookahead.specs.contracts.Operations.{join, meet}
 use Rattle.lookahead.proofs.Operations.{has-empty, has-join, has-meet}
 use Rattle.base.specs.Quantifiers.{anyOf}
-use Rattle.base.specs.FiniteSets.{numbersFrom, numbers}
+use Rattle.base.specs.FiniteSets.{numbersFrom, numbersBelow}
 use Rattle.semantics.specs.Claims.{several}
 use Rattle.base.proofs.Lists.{getD-zeros}
 use Rattle.claims.specs.contracts.Claims.{claimant}
-use Rattle.table.specs.contracts.Conflicts.{Noted, Twice}
+use Rattle.table.specs.contracts.Conflicts.{ClaimNoted, Twice}
 use Rattle.claims.proofs.Claimants.{claimant-own, claimant-other, numbers-before}
 
 -- these rules have been gone through
@@ -51,7 +51,7 @@ or-turned false false false = refl
 
 -- one rule more
 module _ {heads sets told : List ℕ} (q : ℕ) {rules once twice once′ twice′ : List ℕ} (f : Noting heads sets told rules once twice)
-    (own : getD heads q 0 < maxNonterminals) (n : Noted once twice (getD heads q 0) (getD sets q 0) once′ twice′) where
+    (own : getD heads q 0 < maxNonterminals) (n : ClaimNoted once twice (getD heads q 0) (getD sets q 0) once′ twice′) where
   abbrev head : ℕ
   head = getD heads q 0
 
@@ -103,9 +103,9 @@ module _ {heads sets told : List ℕ} (q : ℕ) {rules once twice once′ twice�
           (f .twice-has A l
           ∙ ap (λ b. b || has (getD told A 0) l) (sym (several-later (claimant heads sets A l) q rules (claimant-other heads sets A l q ne))))
 
--- the same in the loop's numbers, of n rules
+-- the same in the loop's numbersBelow, of n rules
 pub noting-turn : {heads sets told once twice once′ twice′ : List ℕ} (q n : ℕ) → Noting heads sets told (numbersFrom q (n - q)) once twice → 0 < q → q ≤ n
-    → getD heads (q - 1) 0 < maxNonterminals → Noted once twice (getD heads (q - 1) 0) (getD sets (q - 1) 0) once′ twice′
+    → getD heads (q - 1) 0 < maxNonterminals → ClaimNoted once twice (getD heads (q - 1) 0) (getD sets (q - 1) 0) once′ twice′
     → Noting heads sets told (numbersFrom (q - 1) (n - (q - 1))) once′ twice′
 noting-turn q n f h k own w = rw (numbers-before q n h k) (noting-rule (q - 1) f own w)
 
@@ -116,7 +116,7 @@ noting-start heads sets told n long = let e : n - n ≡ 0 = omega arith in rw e 
 
 pub noting-end : {heads sets told once twice : List ℕ} (q n : ℕ)
     → Noting heads sets told (numbersFrom q (n - q)) once twice → q ≤ 0 → Twice heads sets told n twice
-unfolding numbers
+unfolding numbersBelow
 noting-end q n f h =
     let e : q ≡ 0 = omega arith in
     let d : n - 0 ≡ n = omega arith in

@@ -14,7 +14,7 @@ use Rattle.grammar.specs.Syntax.{Grammar}
 use Rattle.lookahead.specs.declared.Lookahead.{Lookahead}
 use Rattle.lookahead.specs.Lookaheads.{tokens}
 use Rattle.lookahead.specs.contracts.Lookaheads.{alphabet}
-use Rattle.base.specs.FiniteSets.{numbers}
+use Rattle.base.specs.FiniteSets.{numbersBelow}
 use Rattle.semantics.specs.Claims.{tableOf}
 use Rattle.base.specs.Lists.{listed}
 use Rattle.families.specs.contracts.RuleLists.{byRule}
@@ -49,7 +49,7 @@ module _ (k : Lookahead) (G : Grammar) where
 
   module _ (few : G .nonterminals ≤ maxNonterminals) (few′ : G .terminals ≤ alphabet k) {heads claims : List ℕ}
       (head : heads ≡ byRule (headsOf G)) (claim : claims ≡ byRule (claimNumbers k G)) {entries : List ℕ}
-      (rows : FilledRows (rowsOf k (G .nonterminals) (G .terminals)) heads claims 0 (numbers (length (G .rules))) noRules entries) where
+      (rows : FilledRows (rowsOf k (G .nonterminals) (G .terminals)) heads claims 0 (numbersBelow (length (G .rules))) noRules entries) where
     room : count ≤ maxEntries
     room = omega (arith, mul-le-mul few (column-count k (G .terminals) few′))
 

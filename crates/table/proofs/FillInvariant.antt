@@ -14,11 +14,11 @@ use Rattle.grammar.specs.Limits.{maxNonterminals, maxColumnsOfTwo}
 use Rattle.grammar.specs.contracts.Limits.{maxEntries}
 use Rattle.grammar.specs.declared.reading.Sizes.{Sizes}
 use Rattle.lookahead.specs.declared.Lookahead.{Lookahead}
-use Rattle.base.specs.FiniteSets.{numbersFrom, numbers}
+use Rattle.base.specs.FiniteSets.{numbersFrom, numbersBelow}
 use Rattle.semantics.specs.Claims.{position}
 use Rattle.columns.specs.Columns.{columnCount}
 use Rattle.claims.specs.contracts.Claims.{claimant}
-use Rattle.table.specs.contracts.Entries.{Rows, indexOf, entryOver, FilledRow, FilledRows, RowsGiven}
+use Rattle.table.specs.contracts.Entries.{Rows, entryIndex, entryOver, FilledRow, FilledRows, RowsGiven}
 use Rattle.columns.proofs.ColumnStrings.{column-count}
 use Rattle.claims.proofs.Claimants.{claimant-own, claimant-other, numbers-before}
 
@@ -59,16 +59,16 @@ module _ {R : Rows} {heads sets : List ℕ} (q : ℕ) {rules before table table�
   head = getD heads q 0
 
   own-row : (c : ℕ) → c < R .columns
-      → getD table′ (indexOf R head c) 0 ≡ entryOver q (getD before (indexOf R head c) 0) (position (claimant heads sets head (R .element c)) (q ∷ rules))
+      → getD table′ (entryIndex R head c) 0 ≡ entryOver q (getD before (entryIndex R head c) 0) (position (claimant heads sets head (R .element c)) (q ∷ rules))
   own-row c h = (rw (← claimant-own heads sets (R .element c) q) at (w .inside c h)) ∙ go (p q) refl
     where
       p : ℕ → Bool
       p = claimant heads sets head (R .element c)
 
       old : ℕ
-      old = getD before (indexOf R head c) 0
+      old = getD before (entryIndex R head c) 0
 
-      go : (b : Bool) → p q ≡ b → choose b q (getD table (indexOf R head c) 0) ≡ entryOver q old (position p (q ∷ rules))
+      go : (b : Bool) → p q ≡ b → choose b q (getD table (entryIndex R head c) 0) ≡ entryOver q old (position p (q ∷ rules))
       go true e = position-first p q rules q old e
       go false e = f .entries head c own h ∙ position-later p q rules q old e
 
@@ -80,11 +80,11 @@ module _ {R : Rows} {heads sets : List ℕ} (q : ℕ) {rules before table table�
   }
     where
       at-row : (A c : ℕ) → A < R .rows → c < R .columns → Dec (A ≡ head)
-          → getD table′ (indexOf R A c) 0 ≡ entryOver q (getD before (indexOf R A c) 0) (position (claimant heads sets A (R .element c)) (q ∷ rules))
+          → getD table′ (entryIndex R A c) 0 ≡ entryOver q (getD before (entryIndex R A c) 0) (position (claimant heads sets A (R .element c)) (q ∷ rules))
       at-row A c a h (yes e) = rw e (own-row c h)
       at-row A c a h (no ne) =
-          w .outside (indexOf R A c) (other-row A head c (R .columns) h ne) ∙ f .entries A c a h
-          ∙ position-later (claimant heads sets A (R .element c)) q rules q (getD before (indexOf R A c) 0) (claimant-other heads sets A (R .element c) q ne)
+          w .outside (entryIndex R A c) (other-row A head c (R .columns) h ne) ∙ f .entries A c a h
+          ∙ position-later (claimant heads sets A (R .element c)) q rules q (getD before (entryIndex R A c) 0) (claimant-other heads sets A (R .element c) q ne)
 
 -- a rule's row is in the array
 pub row-room : {k : Lookahead} {z : Sizes} {heads : List ℕ} → RowsGiven k z heads → (q : ℕ) → q < z .rules
@@ -96,7 +96,7 @@ row-room {k} {z} {heads} g q h =
     let below : suc (getD heads q 0) ≤ maxNonterminals = omega (arith, g .headed .allowed) in
     omega (arith, suc-mul (getD heads q 0) n, mul-le-mul below l)
 
--- the same in the loop's numbers, of n rules
+-- the same in the loop's numbersBelow, of n rules
 module _ {R : Rows} {heads sets before : List ℕ} where
   pub rows-start : (n : ℕ) → FilledRows R heads sets n (numbersFrom n (n - n)) before before
   unfolding numbersFrom
@@ -112,8 +112,8 @@ module _ {R : Rows} {heads sets before : List ℕ} where
       rw (numbers-before q n h k) (rows-rule (q - 1) g own w)
 
   pub rows-end : {table : List ℕ} (q n : ℕ) → FilledRows R heads sets q (numbersFrom q (n - q)) before table → q ≤ 0
-      → FilledRows R heads sets 0 (numbers n) before table
-  unfolding numbers
+      → FilledRows R heads sets 0 (numbersBelow n) before table
+  unfolding numbersBelow
   rows-end q n f h =
       let e : q ≡ 0 = omega arith in
       let d : n - 0 ≡ n = omega arith in

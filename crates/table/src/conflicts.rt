@@ -8,7 +8,7 @@ ghost use Rattle.columns.specs.Columns.{columnCount};
 ghost use Rattle.columns.specs.contracts.Columns.{columnElement};
 ghost use Rattle.claims.specs.contracts.Claims.{Headed};
 ghost use Rattle.table.specs.Conflicts.{rowConflict, conflictFrom};
-ghost use Rattle.table.specs.contracts.Conflicts.{inSet, inSets, conflictOf, Noted, Twice};
+ghost use Rattle.table.specs.contracts.Conflicts.{inSet, inSets, conflictOf, ClaimNoted, Twice};
 use columns::count;
 use columns::element;
 use families::SETS;
@@ -26,7 +26,7 @@ pub enum Conflict {
 // Joins a claim for a nonterminal: what was claimed before is claimed twice.
 fn note(once: &mut [u64; SETS], twice: &mut [u64; SETS], head: usize, claim: LookaheadSet)
     requires { ⌜ head < maxNonterminals ⌝ }
-    ensures { λ _. ⌜ Noted (now (once .entry)) (now (twice .entry)) head (claim .bits) (now (once .exit)) (now (twice .exit)) ⌝ }
+    ensures { λ _. ⌜ ClaimNoted (now (once .entry)) (now (twice .entry)) head (claim .bits) (now (once .exit)) (now (twice .exit)) ⌝ }
 {
     let before = LookaheadSet { bits: once[head] };
     let again = LookaheadSet { bits: twice[head] };

@@ -6,7 +6,7 @@ ghost use Rattle.base.specs.Choice.{choose};
 ghost use Rattle.grammar.specs.contracts.Limits.{maxEntries};
 ghost use Rattle.lookahead.specs.contracts.Lookaheads.{alphabet};
 ghost use Rattle.lookahead.specs.Elements.{has};
-ghost use Rattle.base.specs.FiniteSets.{numbers};
+ghost use Rattle.base.specs.FiniteSets.{numbersBelow};
 ghost use Rattle.columns.specs.Columns.{columnCount};
 ghost use Rattle.columns.specs.contracts.Columns.{columnElement};
 ghost use Rattle.table.specs.contracts.Entries.{FilledRow, rowsOf, RowsGiven, FilledRows, noRules};
@@ -62,7 +62,7 @@ pub(crate) fn rows<'a>(
 ) -> [u8; ENTRIES]
     requires { ⌜ RowsGiven lookahead sizes (now heads) ⌝ }
     ensures { λ r. ⌜ FilledRows (rowsOf lookahead (sizes .nonterminals) (sizes .terminals)) (now (heads .entry)) (now (sets .entry))
-        0 (numbers (sizes .rules)) noRules r ⌝ }
+        0 (numbersBelow (sizes .rules)) noRules r ⌝ }
 {
     let terminals = sizes.terminals;
     let columns = count(lookahead, terminals);

@@ -6,7 +6,7 @@ ghost use lib.ListN.{getD};
 ghost use Rattle.event.specs.Events.{inputOf};
 ghost use Rattle.grammar.specs.Limits.{maxTabularTokens};
 ghost use Rattle.families.specs.contracts.Rules.{RuleWords};
-ghost use Rattle.tabular_promises.specs.contracts.Filling.{RulesGiven, RanksGiven, ByRank, AskGiven, Asked, DerivedGiven, Derived, turn, Fills, SettleGiven};
+ghost use Rattle.tabular_promises.specs.contracts.Filling.{RulesGiven, RanksGiven, ByRank, AskGiven, Asked, DerivedGiven, SpanDerived, turn, Fills, SettleGiven};
 ghost use Rattle.tabular_promises.specs.contracts.Filling.{LengthGiven, FillGiven, Filled};
 use chart::CHART;
 use chart::bodies::STANDS;
@@ -120,7 +120,7 @@ fn derived<'a>(
     end: usize,
 ) -> u32
     requires { ⌜ DerivedGiven (now words) (now starts) (now lasts) (now befores) sizes rank start end ⌝ }
-    ensures { λ r. ⌜ Derived (now (words .entry)) rank (now (stands .entry)) (now (chart .entry)) start end r ⌝ }
+    ensures { λ r. ⌜ SpanDerived (now (words .entry)) rank (now (stands .entry)) (now (chart .entry)) start end r ⌝ }
 {
     let mut found = 0u32;
     let mut rule = lasts[rank as usize];

@@ -12,23 +12,23 @@ use lib.Seq.{getD-set-same, getD-set-other}
 use borrow.Author.Tests.{eq-eqb, ne-eqb, lt-ltb, le-ltb, le-leb, lt-leb}
 use Rattle.base.specs.Choice.{choose}
 use Rattle.grammar.specs.Limits.{maxNonterminals, maxTabularPlaces}
-use Rattle.lookahead.specs.Elements.{weight, has, total}
+use Rattle.lookahead.specs.Elements.{weight, has, totalWeight}
 use Rattle.lookahead.proofs.Elements.{has-shift, has-zero}
 use Rattle.lookahead.proofs.Weights.{total-bound}
-use Rattle.tabular_promises.specs.contracts.Places.{hasPlace, Put}
-use Rattle.tabular_promises.specs.contracts.Chart.{slot, charted, Long, oneNonterminal, withNonterminal, WordGiven, wordAt, foundWord, spanWord, Added}
+use Rattle.tabular_promises.specs.contracts.Places.{hasPlace, PlacePut}
+use Rattle.tabular_promises.specs.contracts.Chart.{slot, charted, Long, oneNonterminal, withNonterminal, WordGiven, chartWordAt, foundWord, spanWord, Added}
 use Rattle.tabular_promises.proofs.PlaceSets.{has-place}
 use Rattle.tabular_promises.proofs.Writing.{total-cong}
 
 -- one weight more
-total-more : (p : ℕ → Bool) (k word r : ℕ) (t : Bool) → word ≡ total k p → t ≡ p k → r ≡ choose t (bitOr word (2 ^ k)) word → r ≡ total (k + 1) p
-unfolding total
+total-more : (p : ℕ → Bool) (k word r : ℕ) (t : Bool) → word ≡ totalWeight k p → t ≡ p k → r ≡ choose t (bitOr word (2 ^ k)) word → r ≡ totalWeight (k + 1) p
+unfolding totalWeight
 total-more p k word r t h e f = rw (f, h, e, add-one) (go (p k) refl)
   where
-    go : (b : Bool) → p k ≡ b → choose b (bitOr (total k p) (2 ^ k)) (total k p) ≡ total (suc k) p
+    go : (b : Bool) → p k ≡ b → choose b (bitOr (totalWeight k p) (2 ^ k)) (totalWeight k p) ≡ totalWeight (suc k) p
     go true d =
         let one : 1 * 2 ^ k ≡ 2 ^ k = omega arith in
-        rw d (ap (bitOr (total k p)) (sym one) ∙ or-shifted-r 1 k (total k p) (total-bound k p))
+        rw d (ap (bitOr (totalWeight k p)) (sym one) ∙ or-shifted-r 1 k (totalWeight k p) (total-bound k p))
     go false d = rw d (omega arith)
 
 -- a nonterminal of a grammar
@@ -47,7 +47,7 @@ with-nonterminal found A there h e = e ∙ ap (λ (n : ℕ). choose there (bitOr
 
 -- one nonterminal more
 pub word-start : (chart : List ℕ) (start end : ℕ) → 0 ≡ foundWord chart 0 start end
-unfolding foundWord total
+unfolding foundWord totalWeight
 word-start chart start end = refl
 
 pub word-more : (chart : List ℕ) (start end k word r : ℕ) (t : Bool) → k < maxNonterminals → word ≡ foundWord chart k start end
@@ -70,8 +70,8 @@ module _ (chart : List ℕ) (N start end : ℕ) (few : N ≤ maxNonterminals) wh
   word-within h = rw (le-leb N maxNonterminals few, lt-ltb end maxTabularPlaces h)
 
 -- at a span of the input it is the chart's
-pub span-word : (chart : List ℕ) (N start end : ℕ) → WordGiven N start end → spanWord chart N start end ≡ wordAt chart N start end
-unfolding wordAt charted foundWord
+pub span-word : (chart : List ℕ) (N start end : ℕ) → WordGiven N start end → spanWord chart N start end ≡ chartWordAt chart N start end
+unfolding chartWordAt charted foundWord
 span-word chart N start end g =
     sym (word-within chart N start end (g .few) (g .span .short))
     ∙ total-cong N _ _ (λ A l. has-place (getD chart (slot A end) 0) start (omega (arith, g .span .forward, g .span .short)))
@@ -81,7 +81,7 @@ pub added-start : (chart : List ℕ) (start end word : ℕ) → Long chart → A
 added-start chart start end word n = record { long = n; here = λ A h. absurd (omega arith); others = λ A k m a b d. refl }
 
 pub added-more : {before chart chart′ : List ℕ} {i start end word r : ℕ} {t : Bool} → Added before i start end word chart → i < maxNonterminals
-    → end < maxTabularPlaces → t ≡ has word i → Put (getD chart (slot i end) 0) start t r → chart′ ≡ set chart (slot i end) r
+    → end < maxTabularPlaces → t ≡ has word i → PlacePut (getD chart (slot i end) 0) start t r → chart′ ≡ set chart (slot i end) r
     → Added before (i + 1) start end word chart′
 unfolding charted
 added-more {before} {chart} {chart′} {i} {start} {end} {word} {r} {t} h o q e g f = record {

@@ -55,7 +55,7 @@ use Rattle.promises.proofs.Leaving.{leaves, leaves-alike, leaves-refused}
 use Rattle.promises.proofs.Directions.{pair-same, directions-ignored}
 use Rattle.promises.proofs.Verdicts.{verdict-tells}
 use Rattle.promises.proofs.Places.{Tells, Other, judge-tells, none-left, faultBy, lowest-recursive, lowest-unproductive}
-use Rattle.tabular_promises.specs.Spans.{indexOf, spanWords, solutionWord}
+use Rattle.tabular_promises.specs.Spans.{spanIndex, spanWords, solutionWord}
 use Rattle.tabular_promises.specs.Answers.{tabularFault, noCalls, told, tabularVerdict, tabularWords}
 use Rattle.tabular_promises.specs.contracts.Judging.{TabulateGiven, Tabulated, FoundGiven}
 use Rattle.tabular_promises.specs.Properties.{FreeGrammar, Tabulates, TabularJudges}
@@ -102,16 +102,16 @@ fault-encoded words G short e = rw (encodes-read words G short e, encodes-gramma
 -- the lent words of the spans
 module _ (words input before : List ℕ) {after : List ℕ}
     (m : after ≡ tabularWords (grammarOf words) input ++ drop (length (tabularWords (grammarOf words) input)) before) where
-  word-of : (i j : ℕ) → i ≤ j → j ≤ length input → getD after (indexOf (length input) i j) 0 ≡ solutionWord (grammarOf words) input i j
+  word-of : (i j : ℕ) → i ≤ j → j ≤ length input → getD after (spanIndex (length input) i j) 0 ≡ solutionWord (grammarOf words) input i j
   unfolding tabularWords
   word-of i j h k =
       let G = grammarOf words in
-      rw m (List·getD-append (spanWords (length input) (solutionWord G input)) _ 0 (indexOf (length input) i j)
+      rw m (List·getD-append (spanWords (length input) (solutionWord G input)) _ 0 (spanIndex (length input) i j)
       (omega (arith, index-low (length input) i j h k, words-long (length input) (solutionWord G input)))
       ∙ words-at (length input) (solutionWord G input) i j h k)
 
   bit-of : (i j : ℕ) → i ≤ j → j ≤ length input → (A : ℕ) → A < grammarOf words .nonterminals
-      → has (getD after (indexOf (length input) i j) 0) A ≡ solution (grammarOf words) input A i j
+      → has (getD after (spanIndex (length input) i j) 0) A ≡ solution (grammarOf words) input A i j
   unfolding solutionWord
   bit-of i j h k A a =
       rw (
@@ -121,7 +121,7 @@ module _ (words input before : List ℕ) {after : List ℕ}
       )
 
   other-of : (i j : ℕ) → i ≤ j → j ≤ length input → (A : ℕ) → grammarOf words .nonterminals ≤ A
-      → has (getD after (indexOf (length input) i j) 0) A ≡ false
+      → has (getD after (spanIndex (length input) i j) 0) A ≡ false
   unfolding solutionWord
   other-of i j h k A a =
       rw (

@@ -19,7 +19,7 @@ use Rattle.lookahead.proofs.Elements.{has-or, has-zero}
 use Rattle.lookahead.proofs.Powers.{has-pow}
 use Rattle.event.specs.Events.{terminalOf, inputOf}
 use Rattle.event.proofs.Inputs.{input-length, input-at}
-use Rattle.tabular_promises.specs.contracts.Places.{onePlace, hasPlace, withPlace, Put, Standing, InputGiven}
+use Rattle.tabular_promises.specs.contracts.Places.{onePlace, hasPlace, withPlace, PlacePut, Standing, InputGiven}
 
 -- a place's weight, and a nonterminal's
 pub weight-64 : (k : ℕ) → k < maxTabularPlaces → 1 * 2 ^ k % 2 ^ 64 ≡ 2 ^ k
@@ -49,19 +49,19 @@ pub lacks-place : (set place : ℕ) → maxTabularPlaces ≤ place → false ≡
 unfolding hasPlace
 lacks-place set place h = rw (le-ltb place maxTabularPlaces h)
 
-put-in : {s place r : ℕ} {member : Bool} → member ≡ true → r ≡ bitOr s (2 ^ place) → Put s place member r
+put-in : {s place r : ℕ} {member : Bool} → member ≡ true → r ≡ bitOr s (2 ^ place) → PlacePut s place member r
 put-in {s} {place} {r} {member} m e =
     record { is = λ k. rw (e, m) (has-or s (2 ^ place) k ∙ ap (has s k ||_) (has-pow place k ∙ sym (and-true (eqb k place)))) }
 
-put-none : {s place : ℕ} {member : Bool} → member ≡ false → Put s place member s
+put-none : {s place : ℕ} {member : Bool} → member ≡ false → PlacePut s place member s
 put-none {s} {place} {member} m =
     record { is = λ k. rw m (sym (ap (has s k ||_) (and-false (eqb k place)) ∙ or-false (has s k))) }
 
-pub with-place : {s place r : ℕ} {member : Bool} → place < maxTabularPlaces → r ≡ withPlace s place member → Put s place member r
+pub with-place : {s place r : ℕ} {member : Bool} → place < maxTabularPlaces → r ≡ withPlace s place member → PlacePut s place member r
 unfolding withPlace
 with-place {s} {place} {r} {member} h e = go member e
   where
-    go : (b : Bool) → r ≡ choose b (bitOr s (onePlace place)) s → Put s place b r
+    go : (b : Bool) → r ≡ choose b (bitOr s (onePlace place)) s → PlacePut s place b r
     go true f = put-in refl (f ∙ ap (bitOr s) (one-place place h))
     go false f = rw f (put-none refl)
 
@@ -79,7 +79,7 @@ standing-start w n e = record {
 }
 
 one-more : {w l l′ : List ℕ} {i r : ℕ} → StandingTo w l i → i < length w → getD w i 0 < maxTerminals
-    → Put (getD l (getD w i 0) 0) i true r → l′ ≡ set l (getD w i 0) r → StandingTo w l′ (i + 1)
+    → PlacePut (getD l (getD w i 0) 0) i true r → l′ ≡ set l (getD w i 0) r → StandingTo w l′ (i + 1)
 one-more {w} {l} {l′} {i} {r} h o t g e = record {
   long = rw (e, length-set l (getD w i 0) r) (h .long);
   within = omega arith;
@@ -111,7 +111,7 @@ module _ (events : List ℕ) (g : InputGiven (inputOf events)) {i : ℕ} (o : i 
   pub terminal-low : a < maxTerminals
   terminal-low = rw its-token (g .terminals i (omega (arith, input-length events)))
 
-  pub standing-more : {l l′ : List ℕ} {r : ℕ} → StandingTo (inputOf events) l i → Put (getD l a 0) i true r → l′ ≡ set l a r
+  pub standing-more : {l l′ : List ℕ} {r : ℕ} → StandingTo (inputOf events) l i → PlacePut (getD l a 0) i true r → l′ ≡ set l a r
       → StandingTo (inputOf events) l′ (i + 1)
   standing-more h p e = one-more h (omega (arith, input-length events)) (rw its-token at terminal-low) (rw its-token at p) (rw its-token at e)
 

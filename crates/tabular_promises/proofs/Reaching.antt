@@ -22,7 +22,7 @@ use Rattle.lookahead.proofs.Powers.{has-pow}
 use Rattle.semantics.specs.Valuations.{Valuation, contains}
 use Rattle.tabular_promises.specs.contracts.Places.{hasPlace}
 use Rattle.tabular_promises.specs.contracts.Chart.{slot, charted, gathered, placesBefore, Before, Span}
-use Rattle.tabular_promises.specs.contracts.Scanning.{Over, Reads}
+use Rattle.tabular_promises.specs.contracts.Scanning.{Scannable, Reads}
 use Rattle.tabular_promises.proofs.PlaceSets.{has-place}
 
 below-none : (n : ℕ) (p : ℕ → Bool) → ((m : ℕ) → m < n → p m ≡ false) → anyBelow n p ≡ false
@@ -135,7 +135,7 @@ pub nothing-reads : (v : Valuation) (w : List ℕ) (start end : ℕ) {set : ℕ}
 unfolding contains
 nothing-reads v w start end e k h = rw e (has-pow end k)
 
-module _ {w stands chart : List ℕ} {end : ℕ} (o : Over w stands chart end) where
+module _ {w stands chart : List ℕ} {end : ℕ} (o : Scannable w stands chart end) where
   pub terminal-reads : (a : ℕ) (b : Body) (set start r : ℕ) → r ≡ bitAnd (set / 2) (getD stands a 0) → a < maxTerminals
       → Reads (charted chart) w b start end set → Reads (charted chart) w (Terminal a ∷ b) start end r
   unfolding contains

@@ -25,7 +25,7 @@ use Rattle.grammar.specs.contracts.WellRead.{headOf}
 use Rattle.grammar.specs.declared.reading.Sizes.{Sizes}
 use Rattle.grammar.proofs.EachIndex.{read-whole}
 use Rattle.grammar.proofs.WellRead.{well-read}
-use Rattle.lookahead.specs.Elements.{has, total}
+use Rattle.lookahead.specs.Elements.{has, totalWeight}
 use Rattle.lookahead.proofs.Elements.{has-or, has-zero}
 use Rattle.lookahead.proofs.Powers.{has-pow}
 use Rattle.lookahead.proofs.Size.{ones-count, count-cong}
@@ -38,8 +38,8 @@ use Rattle.families.specs.contracts.Sets.{reachNumber}
 use Rattle.base.proofs.Lists.{listed-at, getD-zeros}
 use Rattle.families.proofs.RuleRanges.{till-next, till-end, rule-in, rule-is}
 use Rattle.tabular_promises.specs.contracts.Chart.{charted}
-use Rattle.tabular_promises.specs.contracts.Scanning.{Over, holds, Keeps}
-use Rattle.tabular_promises.specs.contracts.Filling.{RulesGiven, ruleNumbered, ruleRank, RanksGiven, LastOf, ByRank, AskGiven, Asked, Derived}
+use Rattle.tabular_promises.specs.contracts.Scanning.{Scannable, holds, Keeps}
+use Rattle.tabular_promises.specs.contracts.Filling.{RulesGiven, ruleNumbered, ruleRank, RanksGiven, LastOf, ByRank, AskGiven, Asked, SpanDerived}
 
 module _ {words starts : List ℕ} {z : Sizes} (k : RulesGiven words starts z) {q : ℕ} (h : q < z .rules) where
   pub from-low : getD starts q 0 < length words
@@ -66,8 +66,8 @@ module _ {words starts : List ℕ} {z : Sizes} (k : RulesGiven words starts z) (
 ones-rank : (G : Grammar) (A : ℕ) → ones (reachNumber G A) ≡ rank G A
 unfolding reachNumber rank
 ones-rank G A =
-    ones-count (G .nonterminals) (total (G .nonterminals) (leftReaches G A)) (total-bound (G .nonterminals) (leftReaches G A))
-    ∙ count-cong (G .nonterminals) (has (total (G .nonterminals) (leftReaches G A))) (leftReaches G A)
+    ones-count (G .nonterminals) (totalWeight (G .nonterminals) (leftReaches G A)) (total-bound (G .nonterminals) (leftReaches G A))
+    ∙ count-cong (G .nonterminals) (has (totalWeight (G .nonterminals) (leftReaches G A))) (leftReaches G A)
     (λ l b. has-total (G .nonterminals) (leftReaches G A) l ∙ rw (lt-ltb l (G .nonterminals) b))
 
 -- the first i rules have been told by rank
@@ -197,7 +197,7 @@ module _ {words starts : List ℕ} {z : Sizes} {q start end : ℕ} (g : AskGiven
 -- of the rules from number i on, those of the rank have been asked
 pub record Asking (words : List ℕ) (n r : ℕ) (stands chart : List ℕ) (start end found i : ℕ) : Type 0 where
   pub high : i ≤ n
-  pub member : (w : List ℕ) → Over w stands chart end → (A : ℕ)
+  pub member : (w : List ℕ) → Scannable w stands chart end → (A : ℕ)
       → has found A ≡ (eqb (rank (grammarOf words) A) r && anyOf (derives (charted chart) w A start end) (drop i (grammarOf words .rules)))
 
 -- and the next one to ask is of the rank
@@ -274,6 +274,6 @@ module _ {words starts : List ℕ} {z : Sizes} (k : RulesGiven words starts z) w
         let c = h .its (i - 1) s in
         asking-next (asking-more (i - 1) b (rw s (h .asking)) c a) (rw c at (g .before (i - 1) b))
 
-    pub rules-end : {found i : ℕ} → AskingNext words (z .rules) r stands chart start end found i → i ≤ 0 → Derived words r stands chart start end found
+    pub rules-end : {found i : ℕ} → AskingNext words (z .rules) r stands chart start end found i → i ≤ 0 → SpanDerived words r stands chart start end found
     unfolding byRules
     rules-end {found} {i} h l = let e : i ≡ 0 = omega arith in record { member = λ w o A. let q = h .asking .member w o A in rw e at q }

@@ -26,13 +26,13 @@ use Rattle.families.specs.contracts.Rules.{RuleWords}
 use Rattle.tabular_promises.specs.declared.Scan.{Scan}
 use Rattle.tabular_promises.specs.contracts.Places.{onePlace, hasPlace}
 use Rattle.tabular_promises.specs.contracts.Chart.{charted, Span}
-use Rattle.tabular_promises.specs.contracts.Scanning.{Over, Reads, holds, Scanned, noneOpen, beforeTerminal, beforeSymbol, scanOnto, scanned, keepsBy}
+use Rattle.tabular_promises.specs.contracts.Scanning.{Scannable, Reads, holds, Scanned, noneOpen, beforeTerminal, beforeSymbol, scanOnto, scanned, keepsBy}
 use Rattle.tabular_promises.specs.contracts.Scanning.{SymbolKnown, Known, KeepsGiven, Keeps}
 use Rattle.tabular_promises.proofs.PlaceSets.{one-place, has-place}
 use Rattle.tabular_promises.proofs.Reaching.{nothing-reads, terminal-reads, nonterminal-reads, places-before}
 
 -- a symbol in front of a body
-module _ {w stands chart : List ℕ} {start end : ℕ} (o : Over w stands chart end) (n : Span start end) where
+module _ {w stands chart : List ℕ} {start end : ℕ} (o : Scannable w stands chart end) (n : Span start end) where
   symbol-reads : (X : GrammarSymbol) → SymbolKnown X → (b : Body) (set : ℕ) → Reads (charted chart) w b start end set
       → Reads (charted chart) w (X ∷ b) start end (beforeSymbol stands chart start end X set)
   unfolding beforeTerminal
@@ -80,7 +80,7 @@ module _ (v : Valuation) (w : List ℕ) (start end : ℕ) (n : Span start end) w
     unfolding onWord holds allOf anyOf
     onto-end = record { set = closed; kept = refl }
 
-module _ {w stands chart : List ℕ} {start end : ℕ} (o : Over w stands chart end) (n : Span start end) where
+module _ {w stands chart : List ℕ} {start end : ℕ} (o : Scannable w stands chart end) (n : Span start end) where
   onto-scanned : (word : Word) → Known word → (p : Parsed) (scan : Scan) → Scanned (charted chart) w start end p scan
       → Scanned (charted chart) w start end (onWord word p) (scanOnto stands chart start end word scan)
   unfolding onWord
@@ -113,7 +113,7 @@ word-known {words} {from} {to} r {i} h =
 
 -- the words of a rule, from its end: behind it nothing is open
 module _ {words : List ℕ} {from to start end : ℕ} (g : KeepsGiven words from to start end) {stands chart : List ℕ} where
-  rule-scanned : (w : List ℕ) → Over w stands chart end → (n i : ℕ) → i + n ≡ to
+  rule-scanned : (w : List ℕ) → Scannable w stands chart end → (n i : ℕ) → i + n ≡ to
       → Scanned (charted chart) w start end (parse (drop i words)) (scanned stands chart start end (slice i to words))
   unfolding scanned holds allOf anyOf parse
   rule-scanned w o zero i e =

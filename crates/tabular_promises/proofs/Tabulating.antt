@@ -14,7 +14,7 @@ use Rattle.grammar.proofs.WellRead.{well-read}
 use Rattle.lookahead.specs.Elements.{has}
 use Rattle.semantics.specs.Valuations.{solution}
 use Rattle.tabular_promises.specs.contracts.Places.{hasPlace}
-use Rattle.tabular_promises.specs.contracts.Chart.{slot, charted, WordGiven, wordAt, spanWord}
+use Rattle.tabular_promises.specs.contracts.Chart.{slot, charted, WordGiven, chartWordAt, spanWord}
 use Rattle.tabular_promises.specs.contracts.Filling.{Filled}
 use Rattle.tabular_promises.specs.contracts.Judging.{Tabulated}
 use Rattle.tabular_promises.specs.contracts.Spans.{spanCount, writtenSpans}
@@ -33,7 +33,7 @@ module _ {words w chart : List ℕ} {z : Sizes} (read : reading words ≡ Read z
       ∙ f .right 0 0 (length w) (omega (arith, k .someNonterminal, k .nonterminals)) (omega arith) (omega arith)
 
   word-right : length w ≤ maxTabularTokens → (i j : ℕ) → i ≤ j → j ≤ length w → spanWord chart (z .nonterminals) i j ≡ solutionWord (grammarOf words) w i j
-  unfolding wordAt solutionWord
+  unfolding chartWordAt solutionWord
   word-right short i j h k =
       let r = well-read words z read in
       let given : WordGiven (z .nonterminals) i j = record { span = record { forward = h; short = omega arith }; few = r .fewNonterminals } in

@@ -25,8 +25,8 @@ use Rattle.semantics.proofs.meaning.Unique.{rules-lower, solution-solves, solut
 use Rattle.base.proofs.Lists.{getD-zeros}
 use Rattle.tabular_promises.specs.contracts.Places.{Standing}
 use Rattle.tabular_promises.specs.contracts.Chart.{charted, Long, Span, Added}
-use Rattle.tabular_promises.specs.contracts.Scanning.{Over}
-use Rattle.tabular_promises.specs.contracts.Filling.{turn, FilledTo, Fills, Derived, FillingGiven, SettleGiven, LengthGiven, Filled}
+use Rattle.tabular_promises.specs.contracts.Scanning.{Scannable}
+use Rattle.tabular_promises.specs.contracts.Filling.{turn, FilledTo, Fills, SpanDerived, FillingGiven, SettleGiven, LengthGiven, Filled}
 
 -- an empty chart is filled up to the first turn
 pub filled-start : (G : Grammar) (w : List ℕ) (n : ℕ) → FilledTo G w 0 (replicate n 0)
@@ -57,10 +57,10 @@ module _ {words starts lasts befores chart : List ℕ} {z : Sizes} (g : FillingG
 
   -- one rank more at a span
   module _ {chart₁ chart₂ stands : List ℕ} {start end r found : ℕ} (s : Span start end) (l : r < z .nonterminals)
-      (d : Derived words r stands chart₁ start end found) (n : Added chart₁ (z .nonterminals) start end found chart₂)
+      (d : SpanDerived words r stands chart₁ start end found) (n : Added chart₁ (z .nonterminals) start end found chart₂)
       (w : List ℕ) (stand : Standing w stands) (reaches : end ≤ length w) (short : length w ≤ maxTabularTokens)
       (f : FilledTo (grammarOf words) w (turn start end r) chart₁) where
-    over : Over w stands chart₁ end
+    over : Scannable w stands chart₁ end
     over = record { standing = stand; reaches = reaches; forward = λ A k m a b t. f .only A k m a b t .1 }
 
     -- what a nonterminal of the rank asks for has been filled in
@@ -166,7 +166,7 @@ settling-start l = record { long = l; filled = λ w s b c f. f }
 pub settling-more : {words starts lasts befores stands before chart chart′ : List ℕ} {z : Sizes} {start end r found : ℕ}
     → SettleGiven words starts lasts befores z before start end
     → r < z .nonterminals → Fills words stands before end maxTabularTokens (turn start end 0) (turn start end r) chart
-    → Derived words r stands chart start end found → Added chart (z .nonterminals) start end found chart′
+    → SpanDerived words r stands chart start end found → Added chart (z .nonterminals) start end found chart′
     → Fills words stands before end maxTabularTokens (turn start end 0) (turn start end (r + 1)) chart′
 settling-more g l f d n =
     record { long = n .long; filled = λ w s b c h. filled-rank (g .given) (g .span) l d n w s b c (f .filled w s b c h) }

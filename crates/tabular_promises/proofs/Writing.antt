@@ -10,12 +10,12 @@ use lib.Seq.{take-all, getD-append-add}
 use borrow.Author.Tests.{le-leb, lt-leb}
 use Rattle.base.specs.Quantifiers.{one}
 use Rattle.grammar.specs.Limits.{maxTabularTokens, maxTabularPlaces, maxSpanWords}
-use Rattle.lookahead.specs.Elements.{weight, total}
+use Rattle.lookahead.specs.Elements.{weight, totalWeight}
 use Rattle.base.specs.Lists.{listed}
 use Rattle.base.proofs.Lists.{listed-long, listed-at}
 use Rattle.base.proofs.Front.{front, front-more}
 use Rattle.tabular_promises.specs.contracts.Chart.{spanWord}
-use Rattle.tabular_promises.specs.Spans.{spansBefore, indexOf, rows, spanWords}
+use Rattle.tabular_promises.specs.Spans.{spansBefore, spanIndex, rows, spanWords}
 use Rattle.tabular_promises.specs.contracts.Spans.{spanCount, Spans, writtenSpans}
 
 -- the spans before a place
@@ -48,7 +48,7 @@ pub before-suc : (n i : ℕ) → spansBefore n (suc i) ≡ spansBefore n i + (su
 unfolding spansBefore
 before-suc n i = refl
 
-pub index-low : (n i j : ℕ) → i ≤ j → j ≤ n → indexOf n i j < spanCount n
+pub index-low : (n i j : ℕ) → i ≤ j → j ≤ n → spanIndex n i j < spanCount n
 index-low n i j h k = omega (arith, before-suc n i, before-mono n (suc i) (suc n) (omega arith))
 
 -- the words of the rows from a start on
@@ -60,12 +60,12 @@ module _ (n : ℕ) (f : ℕ → ℕ → ℕ) where
       let l = length-append (listed (suc c) (λ d. f i (i + d))) (rows f c (suc i)) in
       omega (arith, l, listed-long (suc c) (λ d. f i (i + d)), rows-long c (suc i) (omega arith), before-suc n i)
 
-  rows-at : (c i : ℕ) → i + c ≡ suc n → (s e x : ℕ) → i ≤ s → s ≤ e → e ≤ n → x + spansBefore n i ≡ indexOf n s e → getD (rows f c i) x 0 ≡ f s e
+  rows-at : (c i : ℕ) → i + c ≡ suc n → (s e x : ℕ) → i ≤ s → s ≤ e → e ≤ n → x + spansBefore n i ≡ spanIndex n s e → getD (rows f c i) x 0 ≡ f s e
   unfolding rows
   rows-at zero i d s e x is se en h = absurd (omega arith)
   rows-at (suc c) i d s e x is se en h = go (ℕ-discrete s i) (rows-at c (suc i) (omega arith) s e (x - suc c))
     where
-      go : Dec (s ≡ i) → (suc i ≤ s → s ≤ e → e ≤ n → x - suc c + spansBefore n (suc i) ≡ indexOf n s e → getD (rows f c (suc i)) (x - suc c) 0 ≡ f s e)
+      go : Dec (s ≡ i) → (suc i ≤ s → s ≤ e → e ≤ n → x - suc c + spansBefore n (suc i) ≡ spanIndex n s e → getD (rows f c (suc i)) (x - suc c) 0 ≡ f s e)
           → getD (listed (suc c) (λ k. f i (i + k)) ++ rows f c (suc i)) x 0 ≡ f s e
       go (yes q) next =
           let y : x ≡ e - i = omega (arith, ap (spansBefore n) q) in
@@ -85,9 +85,9 @@ module _ (n : ℕ) (f : ℕ → ℕ → ℕ) where
   unfolding spanWords
   words-long = omega (arith, rows-long (suc n) 0 (omega arith), before-zero n)
 
-  pub words-at : (i j : ℕ) → i ≤ j → j ≤ n → getD (spanWords n f) (indexOf n i j) 0 ≡ f i j
+  pub words-at : (i j : ℕ) → i ≤ j → j ≤ n → getD (spanWords n f) (spanIndex n i j) 0 ≡ f i j
   unfolding spanWords
-  words-at i j h k = rows-at (suc n) 0 (omega arith) i j (indexOf n i j) (omega arith) h k (omega (arith, before-zero n))
+  words-at i j h k = rows-at (suc n) 0 (omega arith) i j (spanIndex n i j) (omega arith) h k (omega (arith, before-zero n))
 
 -- equal words make equal rows
 listed-cong : (n : ℕ) (f g : ℕ → ℕ) → ((i : ℕ) → i < n → f i ≡ g i) → listed n f ≡ listed n g
@@ -106,8 +106,8 @@ module _ (n : ℕ) (f g : ℕ → ℕ → ℕ) (h : (i j : ℕ) → i ≤ j → 
   unfolding spanWords
   words-cong = rows-cong (suc n) 0 (omega arith)
 
-pub total-cong : (k : ℕ) (p q : ℕ → Bool) → ((l : ℕ) → l < k → p l ≡ q l) → total k p ≡ total k q
-unfolding total
+pub total-cong : (k : ℕ) (p q : ℕ → Bool) → ((l : ℕ) → l < k → p l ≡ q l) → totalWeight k p ≡ totalWeight k q
+unfolding totalWeight
 total-cong zero p q h = refl
 total-cong (suc k) p q h = ap₂ (λ (b : Bool) (n : ℕ). one b * weight k + n) (h k (omega arith)) (total-cong k p q (λ l o. h l (omega arith)))
 
@@ -116,7 +116,7 @@ pub record Writing (n : ℕ) (f : ℕ → ℕ → ℕ) (before spans : List ℕ)
   pub low : start ≤ end
   pub high : end ≤ suc n
   pub inner : start ≤ n → end ≤ n
-  pub index : at ≡ indexOf n start end
+  pub index : at ≡ spanIndex n start end
   pub long : length spans ≡ length before
   pub memory : spans ≡ front (spanWords n f) at before
 

@@ -22,7 +22,7 @@ use Rattle.semantics.specs.LeftRecursion.{NoLeftRecursion}
 use Rattle.semantics.specs.Theorems.{OneSolution}
 use Rattle.promises.specs.Leaving.{lent, Leaves}
 use Rattle.promises.specs.Places.{AllProductive, LowestRecursive, LowestUnproductive}
-use Rattle.tabular_promises.specs.Spans.{indexOf}
+use Rattle.tabular_promises.specs.Spans.{spanIndex}
 use Rattle.tabular_promises.specs.Answers.{tabularFault, noCalls, tabularVerdict, tabularWords}
 
 -- at most 2,048 words that encode a well-formed grammar within the limits, not left-recursive and without an empty first set; it may have clashes
@@ -52,8 +52,8 @@ pub record Tabulates (G : Grammar) (input : List ℕ) (r : Answer) (spans′ : L
   pub accepted : (v : Valuation) → Solves G input v → (r ≡ Accepted noCalls) ↔ (v 0 0 (length input) ≡ true)
   pub rejected : (v : Valuation) → Solves G input v → (r ≡ Rejected noCalls) ↔ (v 0 0 (length input) ≡ false)
   pub span : (v : Valuation) → Solves G input v → (i j : ℕ) → i ≤ j → j ≤ length input → (A : ℕ) → A < G .nonterminals
-      → has (getD spans′ (indexOf (length input) i j) 0) A ≡ v A i j
-  pub others : (i j : ℕ) → i ≤ j → j ≤ length input → (A : ℕ) → G .nonterminals ≤ A → has (getD spans′ (indexOf (length input) i j) 0) A ≡ false
+      → has (getD spans′ (spanIndex (length input) i j) 0) A ≡ v A i j
+  pub others : (i j : ℕ) → i ≤ j → j ≤ length input → (A : ℕ) → G .nonterminals ≤ A → has (getD spans′ (spanIndex (length input) i j) 0) A ≡ false
 
 -- judging an input with lent words for its spans. The input is what a log's events are (`inputOf`), without their directions
 -- need not be believed: reading, grammarOf (faithful)

@@ -2,13 +2,13 @@
 use mathlib.Core.List.{List, [], _++_}
 use Prim.Native.Nat.{ℕ, zero, suc, _+_, _-_}
 use Rattle.grammar.specs.Syntax.{Grammar}
-use Rattle.lookahead.specs.Elements.{total}
+use Rattle.lookahead.specs.Elements.{totalWeight}
 use Rattle.semantics.specs.Valuations.{solution}
 use Rattle.base.specs.Lists.{listed}
 
 -- the nonterminals that the one solution gives a span to, A weighing 2^A
 unfoldable pub solutionWord : Grammar → List ℕ → ℕ → ℕ → ℕ
-solutionWord G w i j = total (G .nonterminals) (λ A. solution G w A i j)
+solutionWord G w i j = totalWeight (G .nonterminals) (λ A. solution G w A i j)
 
 -- how many spans of an input of n tokens start before a place
 unfoldable pub spansBefore : ℕ → ℕ → ℕ
@@ -16,8 +16,8 @@ spansBefore n zero = 0
 spansBefore n (suc i) = spansBefore n i + (suc n - i)
 
 -- where a span's word stands
-abbrev pub indexOf : ℕ → ℕ → ℕ → ℕ
-indexOf n start end = spansBefore n start + (end - start)
+abbrev pub spanIndex : ℕ → ℕ → ℕ → ℕ
+spanIndex n start end = spansBefore n start + (end - start)
 
 -- the rows of the last c starts, the first of which is i
 unfoldable pub rows : (ℕ → ℕ → ℕ) → ℕ → ℕ → List ℕ

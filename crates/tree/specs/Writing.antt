@@ -14,9 +14,9 @@ use Rattle.semantics.specs.ComesTo.{Call, callAt, bodyComesTo}
 use Rattle.semantics.specs.Calls.{sameCall}
 use Rattle.tree.specs.ParseTrees.{Vertex, vertex, Node, Leaf, Inner, leaves, Tree}
 
-abbrev pub numberOf : Option ℕ → ℕ
-numberOf none = 0
-numberOf (some q) = q
+abbrev pub ruleNumberOf : Option ℕ → ℕ
+ruleNumberOf none = 0
+ruleNumberOf (some q) = q
 
 abbrev pub endOf : Outcome → ℕ
 endOf Failed = 0
@@ -25,7 +25,7 @@ endOf (End e) = e
 -- the vertex of a call that ends: the rule that the table chooses, and where the call begins and ends
 unfoldable pub vertexAt : Grammar → Choice → List ℕ → Call → Vertex
 vertexAt G choice w x =
-    vertex (numberOf (choice (x .nonterminal) (x .place))) (x .place) (endOf (descend G choice w (x .nonterminal) (x .place)))
+    vertex (ruleNumberOf (choice (x .nonterminal) (x .place))) (x .place) (endOf (descend G choice w (x .nonterminal) (x .place)))
 
 -- the descendants for the symbols of a body from i on, where `at` gives each call its vertex
 unfoldable pub bodyNodes : (Call → Vertex) → Body → ℕ → List Node

@@ -15,7 +15,7 @@ use Rattle.lookahead.specs.declared.Lookahead.the-variants.{One}
 use Rattle.columns.specs.contracts.Columns.{columnAt}
 use Rattle.tree.specs.ParseTrees.{vertex}
 use Rattle.tree.specs.Writing.{vertexWord}
-use Rattle.tree_writer_promises.specs.contracts.Labels.{ruleOf, labelWord, labelOf, LabelsGiven, Labels, LabelledBelow, Labelled}
+use Rattle.tree_writer_promises.specs.contracts.Labels.{labelRule, labelWord, labelOf, LabelsGiven, Labels, LabelledBelow, Labelled}
 
 -- the word for a call
 module _ (z : Sizes) (events table memo : List ℕ) (A i : ℕ) where
@@ -25,7 +25,7 @@ module _ (z : Sizes) (events table memo : List ℕ) (A i : ℕ) where
   pub label-short : {column rule end r : ℕ} → length events ≤ maxTokens → column ≡ columnAt One (z .terminals) (inputOf events) i
       → rule ≡ getD table (2 * z .nonterminals + A * (z .terminals + 1) + column) 0
       → end ≡ getD memo (A * (length events + 1) + i) 0
-      → r ≡ vertexWord (vertex (ruleOf rule) i (end % 512))
+      → r ≡ vertexWord (vertex (labelRule rule) i (end % 512))
       → r ≡ labelOf z (inputOf events) table memo A i
   unfolding labelWord
   label-short h c d m e = e ∙ rw (d, m, c, input-length events, le-ltb maxTokens (length events) h)

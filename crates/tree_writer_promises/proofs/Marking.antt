@@ -24,7 +24,7 @@ use Rattle.tree.specs.Writing.{InTree}
 use Rattle.tree.proofs.Visiting.{distinct-last}
 use Rattle.tree.proofs.Trees.{call-same}
 use Rattle.tree_writer_promises.specs.contracts.Labels.{labelIndex}
-use Rattle.tree_writer_promises.specs.contracts.Writer.{choiceOf, wordAt, Holds}
+use Rattle.tree_writer_promises.specs.contracts.Writer.{choiceOf, vertexWordAt, Holds}
 
 set-behind : (f : Call → ℕ) (l : List Call) (x : Call) (lent : List ℕ) → length l < length lent
     → set (map f l ++ drop (length l) lent) (length l) (f x) ≡ map f (l ++ (x ∷ [])) ++ drop (length (l ++ (x ∷ []))) lent
@@ -56,8 +56,8 @@ module _ {words input lent : List ℕ} {l : List Call} {tree : List ℕ} {marks 
       omega (
         arith,
         ap length (h .front),
-        length-append (map (wordAt words input) l) (drop (length l) lent),
-        length-map l (wordAt words input),
+        length-append (map (vertexWordAt words input) l) (drop (length l) lent),
+        length-map l (vertexWordAt words input),
         length-drop (length l) lent,
         few,
       )
@@ -108,11 +108,11 @@ module _ {words input lent : List ℕ} {l : List Call} {tree : List ℕ} {marks 
     ]
 
     -- the call's word is written, and the call is marked
-    pub holds-more : Holds words input lent (l ++ (x ∷ [])) (set tree written (wordAt words input x)) (set marks (labelIndex x) true) (written + 1)
+    pub holds-more : Holds words input lent (l ++ (x ∷ [])) (set tree written (vertexWordAt words input x)) (set marks (labelIndex x) true) (written + 1)
     holds-more = record {
       long = h .long;
       count = omega (arith, h .count, length-append l (x ∷ []));
-      front = rw (h .front, h .count) (set-behind (wordAt words input) l x lent (omega (arith, room, h .count)));
+      front = rw (h .front, h .count) (set-behind (vertexWordAt words input) l x lent (omega (arith, room, h .count)));
       whole = simp length-set (h .whole);
       marked = marked-more;
       distinct = distinct-more;

@@ -25,7 +25,7 @@ use Rattle.semantics.specs.Claims.{tableOf}
 use Rattle.semantics.specs.Descent.{accepts}
 use Rattle.semantics.specs.ComesTo.{Call}
 use Rattle.semantics.specs.contracts.ComesTo.{measure}
-use Rattle.semantics.specs.Memo.{encode}
+use Rattle.semantics.specs.Memo.{outcomeCode}
 use Rattle.semantics.proofs.descent.Outcomes.{nth-below}
 use Rattle.semantics.proofs.meaning.Rank.{level-top}
 use Rattle.semantics.proofs.Theorems.{theorems}
@@ -38,7 +38,7 @@ use Rattle.tree.proofs.Reading.{chosen}
 use Rattle.tree.proofs.Trees.{tree-sound}
 use Rattle.tree_writer_promises.specs.contracts.Labels.{labelIndex, labelWord, LabelsGiven, Labelled}
 use Rattle.tree_writer_promises.specs.Properties.{wordsOf}
-use Rattle.tree_writer_promises.specs.contracts.Writer.{choiceOf, wordAt, Holds, VertexGiven, VertexRequires, VertexEnsures, TreeGiven, TreeDone}
+use Rattle.tree_writer_promises.specs.contracts.Writer.{choiceOf, vertexWordAt, Holds, VertexGiven, VertexRequires, VertexEnsures, TreeGiven, TreeDone}
 
 map-twice : (f : Call → ℕ) {Z : Type 0} (g : Call → Z) (h : Z → ℕ) → ((x : Call) → h (g x) ≡ f x) → (l : List Call) → map h (map g l) ≡ map f l
 map-twice f g h e [] = refl
@@ -73,8 +73,8 @@ module _ {words input table memo tree : List ℕ} (g : TreeGiven words input tab
 
   -- the word made for a call of the tree is that of its vertex
   label-right : {z : Sizes} → reading words ≡ Read z → (x : Call) → InTree G (choiceOf words input) input x
-      → labelWord z input table memo (x .nonterminal) (x .place) ≡ wordAt words input x
-  unfolding labelWord wordAt vertexAt encode entryAt
+      → labelWord z input table memo (x .nonterminal) (x .place) ≡ vertexWordAt words input x
+  unfolding labelWord vertexWordAt vertexAt outcomeCode entryAt
   label-right {z} read x h =
       let k = well-read words z read in
       let s = tree-sound G 1 input (g .accepted .predictive) (g .accepted .tokens) meaning solves (g .accepted .accepted) x h in
@@ -88,7 +88,7 @@ module _ {words input table memo tree : List ℕ} (g : TreeGiven words input tab
       let rule : getD table (2 * z .nonterminals + x .nonterminal * (z .terminals + 1) + columnAt One (z .terminals) input (x .place)) 0 ≡ c .number =
       rw (k .nonterminals, k .terminals, add-one (G .terminals)) (e ∙ q) in
       let end : getD memo (x .nonterminal * (length input + 1) + x .place) 0 ≡ s .2 .0 =
-      rw (add-one (length input)) (g .recorded x (s .1) ∙ ap encode (f .ends)) in
+      rw (add-one (length input)) (g .recorded x (s .1) ∙ ap outcomeCode (f .ends)) in
       let low : c .number < 128 = omega (arith, nth-below (G .rules) (c .number) (c .rule) (c .numbered), k .rules, k .fewRules) in
       let few : s .2 .0 < 512 = omega (arith, f .within, g .accepted .short) in
       rw (rule, end, rule-small (c .number) low, end-small (s .2 .0) few, c .looked, f .ends) refl
@@ -132,13 +132,13 @@ module _ {words input table memo tree : List ℕ} (g : TreeGiven words input tab
           (level-top G (g .accepted .predictive .scoped) (g .accepted .predictive .unrecursive) input 0 (length input - 0)
           (g .accepted .predictive .start) (omega arith))
 
-      the-words : wordsOf words input ≡ map (wordAt words input) (treeCalls G (choiceOf words input) input)
-      unfolding treeWords treeOf wordAt
+      the-words : wordsOf words input ≡ map (vertexWordAt words input) (treeCalls G (choiceOf words input) input)
+      unfolding treeWords treeOf vertexWordAt
       the-words = rw (T-true (accepts G (choiceOf words input) input) (g .accepted .accepted))
-          (map-twice (wordAt words input) (vertexAt G (choiceOf words input) input) vertexWord (λ x. refl) (treeCalls G (choiceOf words input) input))
+          (map-twice (vertexWordAt words input) (vertexAt G (choiceOf words input) input) vertexWord (λ x. refl) (treeCalls G (choiceOf words input) input))
 
       counted : n ≡ length (wordsOf words input)
-      counted = last .count ∙ sym (ap length the-words ∙ length-map (treeCalls G (choiceOf words input) input) (wordAt words input))
+      counted = last .count ∙ sym (ap length the-words ∙ length-map (treeCalls G (choiceOf words input) input) (vertexWordAt words input))
 
       pub tree-done : TreeDone words input tree n tree′
       tree-done = record { number = counted; written = rw (the-words, last .count) (last .front) }

@@ -39,7 +39,7 @@ use Rattle.base.specs.Strings.{Over}
 use Rattle.semantics.specs.Descent.{accepts, descend}
 use Rattle.semantics.specs.ComesTo.{Call}
 use Rattle.semantics.specs.Calls.{Called}
-use Rattle.semantics.specs.Memo.{encode, indexOf}
+use Rattle.semantics.specs.Memo.{outcomeCode, memoIndex}
 use Rattle.semantics.specs.Predictive.{Predictive}
 use Rattle.semantics.proofs.descent.Called.{called-range}
 use Rattle.semantics.proofs.descent.Range.{index-range}
@@ -254,15 +254,15 @@ module _ (tree : List ℕ) {words input table memo : List ℕ} (long : maxTableW
 
     -- the lent memo table has the outcomes of the calls
     recorded : (x : Call) → Called G (choiceOf words input) input x
-        → getD memo′ (indexOf input x) 0 ≡ encode (descend G (choiceOf words input) input (x .nonterminal) (x .place))
+        → getD memo′ (memoIndex input x) 0 ≡ outcomeCode (descend G (choiceOf words input) input (x .nonterminal) (x .place))
     recorded x k =
         let m = j .recognizes (record { long-table = long; long-memo = room }) (record { passed = passed; short = short; known = tokens }) .memo in
         let own = theorems .own-rules G 1 input in
         let range = called-range G (choiceOf words input) input (predictive .scoped) (predictive .unrecursive) own (predictive .start) x k in
-        let b : indexOf input x < length (memoWords One G input) = omega (arith, index-range G input x range, m .size) in
-        ap (λ l. getD l (indexOf input x) 0) memo-is
-        ∙ List·getD-append (memoWords One G input) (drop (length (memoWords One G input)) memo) 0 (indexOf input x) b
-        ∙ getD-any (memoWords One G input) (indexOf input x) 0 uncalledCode b ∙ m .called x k
+        let b : memoIndex input x < length (memoWords One G input) = omega (arith, index-range G input x range, m .size) in
+        ap (λ l. getD l (memoIndex input x) 0) memo-is
+        ∙ List·getD-append (memoWords One G input) (drop (length (memoWords One G input)) memo) 0 (memoIndex input x) b
+        ∙ getD-any (memoWords One G input) (memoIndex input x) 0 uncalledCode b ∙ m .called x k
 
     as-long : (new old : List ℕ) → length old ≤ length (new ++ drop (length new) old)
     as-long new old = omega (arith, length-append new (drop (length new) old), length-drop (length new) old)

@@ -26,7 +26,7 @@ use Rattle.grammar.specs.Reading.{allows, scan, reading}
 use Rattle.grammar.specs.declared.reading.State.the-variants as state
 use Rattle.grammar.specs.declared.reading.Progress.{Progress}
 use Rattle.grammar.specs.contracts.Starts.{ruleStarts}
-use Rattle.grammar.specs.contracts.WellRead.{firstRule, Begun, WellRead}
+use Rattle.grammar.specs.contracts.WellRead.{ruleRead, Begun, WellRead}
 use Rattle.grammar.proofs.WellRead.{well-read}
 use Rattle.grammar.proofs.Suffixes.{Next, scan-next}
 use Rattle.grammar.proofs.WellFormed.{RestFits, reads}
@@ -41,7 +41,7 @@ use Rattle.semantics.proofs.Theorems.{theorems}
 use Rattle.families.proofs.Words.{parse-over}
 use Rattle.recursive_descent.proofs.Bodies.{parse-here, symbol-reads}
 use Rattle.recursive_descent.proofs.Starting.{begin-next}
-use Rattle.tree.specs.Writing.{numberOf, vertexAt, below, each, visit, InTree, more, start as root-in}
+use Rattle.tree.specs.Writing.{ruleNumberOf, vertexAt, below, each, visit, InTree, more, start as root-in}
 use Rattle.tree.specs.Theorems.{Told}
 use Rattle.tree.proofs.Words.{told}
 use Rattle.semantics.proofs.descent.Outcomes.{nth-below}
@@ -49,7 +49,7 @@ use Rattle.tree.proofs.Reading.{Found, Reads, Chosen, chosen}
 use Rattle.tree.proofs.Below.{comes-token, comes-name, below-chosen, below-make, below-falls}
 use Rattle.tree.proofs.Trees.{tree-sound}
 use Rattle.tree_writer_promises.specs.contracts.Labels.{ruleOf as word-rule, endOf as word-end}
-use Rattle.tree_writer_promises.specs.contracts.Writer.{choiceOf, wordAt, Holds, VertexGiven, VertexDone, falling}
+use Rattle.tree_writer_promises.specs.contracts.Writer.{choiceOf, vertexWordAt, Holds, VertexGiven, VertexDone, falling}
 use Rattle.tree_writer_promises.proofs.Marking.{holds-length, unseen, count-low, room, holds-more}
 
 abbrev pub level : List ℕ → List ℕ → ℕ → ℕ → ℕ
@@ -111,13 +111,13 @@ module _ {input words starts labels tree₀ : List ℕ} {marks₀ : List Bool} {
   unfolding vertexAt
   label-told B i m f =
       let c = chosen G 1 input (g .accepted .predictive) (g .accepted .tokens) meaning solves B i m f in
-      let q : numberOf (choiceOf words input B i) ≡ c .number = ap numberOf (c .looked) in
+      let q : ruleNumberOf (choiceOf words input B i) ≡ c .number = ap ruleNumberOf (c .looked) in
       told _ (omega (arith, q, nth-below (G .rules) (c .number) (c .rule) (c .numbered), r .rules, r .fewRules))
       (omega (arith, f .onward, f .within, g .accepted .short))
       (omega (arith, vertex-of B i m f, f .within, g .accepted .short))
 
   pub label-end : (B i m : ℕ) → Found G 1 input B i m → InTree G (choiceOf words input) input (callAt B i) → word-end (getD labels (B * maxPlaces + i) 0) ≡ m
-  unfolding wordAt
+  unfolding vertexWordAt
   label-end B i m f h = ap word-end (g .labelled (callAt B i) h) ∙ label-told B i m f .end ∙ vertex-of B i m f
 
   abbrev Below : Call → Type 0
@@ -178,8 +178,8 @@ module _ {input words starts labels tree₀ : List ℕ} {marks₀ : List Bool} {
   -- the rule of the call's word, as it stands in the words
   module _ {q : ℕ} (c : q ≡ word-rule (getD labels (A * maxPlaces + start) 0)) where
     number-is : q ≡ choice .number
-    unfolding wordAt vertexAt
-    number-is = c ∙ ap word-rule (g .labelled x (g .inTree)) ∙ label-told A start end found .rule ∙ ap numberOf (choice .looked)
+    unfolding vertexWordAt vertexAt
+    number-is = c ∙ ap word-rule (g .labelled x (g .inTree)) ∙ label-told A start end found .rule ∙ ap ruleNumberOf (choice .looked)
 
     numbered : choice .number < g .accepted .sizes .rules
     numbered = omega (arith, nth-below (G .rules) (choice .number) (choice .rule) (choice .numbered), r .rules)
@@ -197,12 +197,12 @@ module _ {input words starts labels tree₀ : List ℕ} {marks₀ : List Bool} {
     begin-low = begun .high
 
     positives-are : choice .rule .positives ≡ parse (drop (getD starts q 0 + 1) words) .positives
-    unfolding firstRule
+    unfolding ruleRead
     positives-are =
         let i : ℕ = getD (ruleStarts words) (choice .number) 0 in
-        let f : choice .rule ≡ firstRule (drop i words) = some-same (choice .rule) _ (sym (choice .numbered) ∙ r .begins (choice .number) numbered) in
-        let e : choice .rule ≡ firstRule (getD words i 0 ∷ drop (i + 1) words) =
-        f ∙ (rw (add-one i) (ap firstRule (drop-cons words i 0 (r .begun (choice .number) numbered .high)))) in
+        let f : choice .rule ≡ ruleRead (drop i words) = some-same (choice .rule) _ (sym (choice .numbered) ∙ r .begins (choice .number) numbered) in
+        let e : choice .rule ≡ ruleRead (getD words i 0 ∷ drop (i + 1) words) =
+        f ∙ (rw (add-one i) (ap ruleRead (drop-cons words i 0 (r .begun (choice .number) numbered .high)))) in
         let p : choice .rule .positives ≡ parse (drop (i + 1) words) .positives = ap (λ (z : Rule). z .positives) e in
         p ∙ ap (λ (n : ℕ). parse (drop (n + 1) words) .positives) (sym begin-is)
       where

@@ -7,7 +7,7 @@ use lib.ListN.{length}
 use Rattle.answer.specs.declared.Answer.{Answer}
 use Rattle.usage.specs.declared.Usage.{Usage}
 use Rattle.usage.specs.Counters.{saturated, usageOf, unused, Measure, callOf, refusalOf, acceptanceOf, calledOf, eachCounter}
-use Rattle.usage.specs.Histories.{counted, recordOf, total, summed, spent, InRange, SumsCut}
+use Rattle.usage.specs.Histories.{countedAnswer, recordOf, totalOf, summed, spent, UsageInRange, SumsCut}
 
 same-usage : {c c′ r r′ a a′ d d′ : ℕ} → c ≡ c′ → r ≡ r′ → a ≡ a′ → d ≡ d′ → usageOf c r a d ≡ usageOf c′ r′ a′ d′
 same-usage e f g h = cc
@@ -18,23 +18,23 @@ unfolding eachCounter
 each-same f g h u = same-usage (h callOf (u .calls)) (h refusalOf (u .refusals)) (h acceptanceOf (u .acceptances)) (h calledOf (u .called))
 
 -- from the second answer on a record is one that was cut
-counted-summed : (u : Usage) (x : Answer) (l : List Answer) → summed (counted u x) l ≡ summed u (x ∷ l)
-unfolding summed counted total eachCounter
-counted-summed u x l = each-same (λ m n. saturated (saturated (n + m x) + total m l)) (λ m n. saturated (n + (m x + total m l))) (λ m n. omega arith) u
+counted-summed : (u : Usage) (x : Answer) (l : List Answer) → summed (countedAnswer u x) l ≡ summed u (x ∷ l)
+unfolding summed countedAnswer totalOf eachCounter
+counted-summed u x l = each-same (λ m n. saturated (saturated (n + m x) + totalOf m l)) (λ m n. saturated (n + (m x + totalOf m l))) (λ m n. omega arith) u
 
 pub once-counted : (u : Usage) (x : Answer) (l : List Answer) → recordOf u (x ∷ l) ≡ summed u (x ∷ l)
-unfolding recordOf summed counted total
+unfolding recordOf summed countedAnswer totalOf
 once-counted u x [] = each-same (λ m n. saturated (n + m x)) (λ m n. saturated (n + (m x + 0))) (λ m n. omega arith) u
-once-counted u x (y ∷ l) = once-counted (counted u x) y l ∙ counted-summed u x (y ∷ l)
+once-counted u x (y ∷ l) = once-counted (countedAnswer u x) y l ∙ counted-summed u x (y ∷ l)
 
-pub from-any : (u : Usage) → InRange u → (l : List Answer) → recordOf u l ≡ summed u l
-unfolding recordOf summed total
+pub from-any : (u : Usage) → UsageInRange u → (l : List Answer) → recordOf u l ≡ summed u l
+unfolding recordOf summed totalOf
 from-any u h [] = sym h ∙ each-same (λ m n. saturated n) (λ m n. saturated (n + 0)) (λ m n. omega arith) u
 from-any u h (x ∷ l) = once-counted u x l
 
 -- every answer is of a call
-total-calls : (l : List Answer) → total callOf l ≡ length l
-unfolding total
+total-calls : (l : List Answer) → totalOf callOf l ≡ length l
+unfolding totalOf
 total-calls [] = refl
 total-calls (x ∷ l) = omega (arith, total-calls l)
 
@@ -49,8 +49,8 @@ from-unused l = from-any unused refl l ∙ summed-unused l
 pub sums-cut : SumsCut
 sums-cut = record { from-any = from-any; once-counted = once-counted; from-unused = from-unused }
 
--- an answer at the end of a history is counted last
-pub record-append : (u : Usage) (l : List Answer) (x : Answer) → recordOf u (l ++ x ∷ []) ≡ counted (recordOf u l) x
+-- an answer at the end of a history is countedAnswer last
+pub record-append : (u : Usage) (l : List Answer) (x : Answer) → recordOf u (l ++ x ∷ []) ≡ countedAnswer (recordOf u l) x
 unfolding recordOf
 record-append u [] x = refl
-record-append u (y ∷ l) x = record-append (counted u y) l x
+record-append u (y ∷ l) x = record-append (countedAnswer u y) l x

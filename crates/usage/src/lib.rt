@@ -3,7 +3,7 @@ ghost use mathlib.Core.Path.{_≡_};
 ghost use Prim.Native.Nat.{_+_};
 ghost use Rattle.usage.specs.Counters.{saturated, unused};
 ghost use Rattle.usage.specs.contracts.Counters.{added};
-ghost use Rattle.usage.specs.Histories.{counted};
+ghost use Rattle.usage.specs.Histories.{countedAnswer};
 use answer::Answer;
 
 // Where a counter stops.
@@ -52,9 +52,9 @@ impl Usage {
         }
     }
 
-    // The record with this answer counted.
+    // The record with this answer countedAnswer.
     pub fn after(self, answer: Answer) -> Usage
-        ensures { λ r. ⌜ r ≡ counted self answer ⌝ }
+        ensures { λ r. ⌜ r ≡ countedAnswer self answer ⌝ }
     {
         match answer {
             Answer::Refused(_) => self.plus(1, 1, 0, 0),

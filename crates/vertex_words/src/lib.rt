@@ -5,7 +5,7 @@ ghost use lib.ListN.{getD};
 ghost use Rattle.event.specs.Events.{inputOf};
 ghost use Rattle.tree.specs.ParseTrees.{vertex};
 ghost use Rattle.tree.specs.Writing.{vertexWord};
-ghost use Rattle.tree_writer_promises.specs.contracts.Labels.{ruleOf, endOf, labelOf};
+ghost use Rattle.tree_writer_promises.specs.contracts.Labels.{labelRule, labelEnd, labelOf};
 use columns::column_at;
 use grammar::limits::TOKENS;
 use grammar::reading::Sizes;
@@ -21,20 +21,20 @@ const ENDS: u32 = 512;
 const KIND: u32 = 2147483648;
 
 fn vertex_word(rule: u32, start: u16, end: u16) -> u32
-    ensures { λ r. ⌜ r ≡ vertexWord (vertex (ruleOf rule) start (end % 512)) ⌝ }
+    ensures { λ r. ⌜ r ≡ vertexWord (vertex (labelRule rule) start (end % 512)) ⌝ }
 {
     KIND + end as u32 % ENDS * END + start as u32 * START + rule % START
 }
 
 // The rule of a vertex, and where it ends.
 pub fn rule_of(word: u32) -> usize
-    ensures { λ r. ⌜ r ≡ ruleOf word ⌝ }
+    ensures { λ r. ⌜ r ≡ labelRule word ⌝ }
 {
     (word % START) as usize
 }
 
 pub fn end_of(word: u32) -> usize
-    ensures { λ r. ⌜ r ≡ endOf word ⌝ }
+    ensures { λ r. ⌜ r ≡ labelEnd word ⌝ }
 {
     (word / END % ENDS) as usize
 }

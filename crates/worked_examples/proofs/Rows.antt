@@ -8,7 +8,7 @@ use Rattle.word.specs.Words.{bare, heading, ofKind, decoded}
 use Rattle.grammar.specs.examples.Cards.{wordsR, wordsM, wordsE}
 use Rattle.grammar.specs.Encoding.{onWord, parse, grammarOf}
 use Rattle.grammar.specs.Limits.{maxTableWords, maxMemoEntries}
-use Rattle.grammar.specs.Reading.{counted, stepped, onStep, finished, scan, within, headed, opened, reading}
+use Rattle.grammar.specs.Reading.{counted, stepped, onStep, finished, scan, isWithin, headed, opened, reading}
 use Rattle.lookahead.specs.declared.Lookahead.the-variants.{One}
 use Rattle.semantics.proofs.examples.Computing.{left-recursion-computes, tables-compute, descent-computes, calls-compute}
 use Rattle.semantics.specs.Productive.{unproductive, lowestUnproductive}
@@ -22,7 +22,7 @@ use Rattle.recognizer_promises.proofs.JudgeFaults.{judged-rows}
 
 -- the three cards pass
 passes : (fault One wordsR ≡ none) × (fault One wordsM ≡ none) × (fault One wordsE ≡ none)
-unfolding fault firstClash conflictFrom rowConflict columnString reading opened headed within scan finished onStep stepped counted
+unfolding fault firstClash conflictFrom rowConflict columnString reading opened headed isWithin scan finished onStep stepped counted
     grammarOf parse onWord decoded ofKind heading bare lowestUnproductive unproductive left-recursion-computes tables-compute
 passes = (refl, refl, refl)
 

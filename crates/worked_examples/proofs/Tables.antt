@@ -11,7 +11,7 @@ use Rattle.word.specs.declared.Symbol.the-variants.{Terminal, Nonterminal}
 use Rattle.grammar.specs.Codes.{noEntry}
 use Rattle.grammar.specs.examples.Cards.{grammarR, grammarM, grammarE}
 use Rattle.grammar.specs.Syntax.{Body, Rule, Grammar}
-use Rattle.lookahead.specs.Elements.{total}
+use Rattle.lookahead.specs.Elements.{totalWeight}
 use Rattle.base.specs.Choice.{choose}
 use Rattle.base.specs.FiniteSets.{member}
 use Rattle.base.specs.Rounds.{members, least}
@@ -23,7 +23,7 @@ use Rattle.table.specs.declared.conflicts.Conflict.the-variants.{Absent, At}
 use Rattle.base.specs.Lists.{listed}
 use Rattle.lookahead.specs.declared.Lookahead.the-variants.{One, Two}
 use Rattle.lookahead.specs.Lookaheads.{stringOf}
-use Rattle.families.specs.Sets.{numberOf, firstNumber, followNumber}
+use Rattle.families.specs.Sets.{setNumber, firstNumber, followNumber}
 use Rattle.columns.specs.Columns.{columnString, columns}
 use Rattle.table.specs.Layout.{entryAt, setWord, rowWord, tableWords}
 use Rattle.table.specs.Conflicts.{rowConflict, conflictFrom, firstClash}
@@ -71,7 +71,7 @@ follows = (refl, refl, refl)
 
 -- the words of a table by such lists, so that they are computed once for all words
 abbrev numberIn : List Entry → ℕ → ℕ
-numberIn l A = numberOf One (λ x. member sameEntry l (A, x))
+numberIn l A = setNumber One (λ x. member sameEntry l (A, x))
 
 abbrev wordsBy : Grammar → List Entry → List Entry → List ℕ
 wordsBy G f g =
@@ -89,7 +89,7 @@ tables : (tableWords One grammarR ≡ 16777217 ∷ 16777216 ∷ 0 ∷ 1 ∷ [])
     ∷ 0 ∷ 0 ∷ noEntry ∷ 0 ∷ 1 ∷ 2 ∷ noEntry ∷ 2 ∷ 3 ∷ 4 ∷ 4 ∷ 4 ∷ noEntry ∷ noEntry ∷ 5 ∷ 6 ∷ noEntry ∷ 7 ∷ 8 ∷ 8 ∷ []
     )
     × (tableWords One grammarE ≡ 3 ∷ 16777216 ∷ 3 ∷ 2 ∷ 3 ∷ 2 ∷ 16777216 ∷ 2 ∷ 0 ∷ 0 ∷ noEntry ∷ 1 ∷ 1 ∷ noEntry ∷ 2 ∷ 3 ∷ noEntry ∷ noEntry ∷ 4 ∷ noEntry ∷ [])
-unfolding tables-compute listed total stringOf numberOf rowWord entryAt columnString tableOf
+unfolding tables-compute listed totalWeight stringOf setNumber rowWord entryAt columnString tableOf
 tables = (
   words-by grammarR (firsts .0) (follows .0) ∙ refl,
   words-by grammarM (firsts .1) (follows .1) ∙ refl,
@@ -125,7 +125,8 @@ unfolding tables-compute rowConflict conflictFrom firstClash columnString
 overruns = refl
 
 takes-all : (clashes notAWhole 1 ≡ []) × (tableWords One notAWhole ≡ 16777217 ∷ 16777216 ∷ 0 ∷ 0 ∷ [])
-unfolding tables-compute listed total stringOf numberOf firstNumber followNumber first follow tableWords setWord rowWord entryAt columnString tableOf clashes
+unfolding tables-compute listed totalWeight stringOf setNumber firstNumber followNumber first follow tableWords setWord
+    rowWord entryAt columnString tableOf clashes
 takes-all = (refl, refl)
 
 claimed-twice : firstClash One twiceA ≡ At 0 0
@@ -145,7 +146,7 @@ one-refuses = refl
 
 two-takes : (firstClash Two secondTells ≡ Absent)
     × (tableWords Two secondTells ≡ 1536 ∷ 1 ∷ (replicate 9 noEntry ++ 0 ∷ 1 ∷ replicate 46 noEntry))
-unfolding tables-compute rowConflict conflictFrom firstClash listed total stringOf numberOf firstNumber followNumber first follow tableWords
+unfolding tables-compute rowConflict conflictFrom firstClash listed totalWeight stringOf setNumber firstNumber followNumber first follow tableWords
     setWord rowWord entryAt columnString tableOf
 two-takes = (refl, refl)
 

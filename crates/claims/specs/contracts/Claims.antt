@@ -25,14 +25,14 @@ use Rattle.families.specs.Analysis.{setsFault, findingOf}
 use Rattle.families.specs.contracts.Analysis.{startsIf, byRuleIf, setsIf}
 use Rattle.base.specs.Lists.{listed}
 use Rattle.families.specs.contracts.RuleLists.{byRule}
-use Rattle.families.specs.Sets.{numberOf, firstNumber, followNumber}
+use Rattle.families.specs.Sets.{setNumber, firstNumber, followNumber}
 use Rattle.families.specs.contracts.Sets.{meetNumbers}
 use Rattle.claims.specs.contracts.Overruns.{overrunSet}
 use Rattle.claims.specs.declared.Claims.{Claims}
 
 -- the strings that a rule claims for its head, as a number (document 01: the columns that a rule claims)
 unfoldable pub claimNumber : Lookahead → Grammar → Rule → ℕ
-claimNumber k G r = numberOf k (member sameString (claimed G (tokens k) r))
+claimNumber k G r = setNumber k (member sameString (claimed G (tokens k) r))
 
 abbrev pub headsOf : Grammar → List ℕ
 headsOf G = map (λ r. r .head) (G .rules)

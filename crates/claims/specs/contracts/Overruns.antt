@@ -15,7 +15,7 @@ use Rattle.grammar.specs.Reading.{reading}
 use Rattle.grammar.specs.contracts.Starts.{ruleStarts}
 use Rattle.grammar.specs.Syntax.{Rule}
 use Rattle.lookahead.specs.declared.Lookahead.{Lookahead}
-use Rattle.lookahead.specs.contracts.Operations.{empty, end, terminal, join}
+use Rattle.lookahead.specs.contracts.Operations.{emptySet, end, terminal, join}
 use Rattle.semantics.specs.Claims.{without}
 use Rattle.families.specs.contracts.RuleLists.{byRule}
 
@@ -27,9 +27,9 @@ beyondEnd k s = not (eqb (join (end k) s) (end k))
 unfoldable pub aloneIn : ℕ → List Rule → Bool
 aloneIn A rs = anyOf (λ r. eqb (r .head) A && without (r .positives)) rs
 
--- the set that is told of a nonterminal: the first terminal where it overruns, else empty
+-- the set that is told of a nonterminal: the first terminal where it overruns, else emptySet
 abbrev pub overrunSet : Lookahead → Bool → ℕ
-overrunSet k b = choose b (terminal k 0) empty
+overrunSet k b = choose b (terminal k 0) emptySet
 
 -- a grammar that has been read, where its rules begin, and their heads
 pub record HeadsGiven (words starts heads : List ℕ) (z : Sizes) : Type 0 where

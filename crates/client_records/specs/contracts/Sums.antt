@@ -13,7 +13,7 @@ abbrev pub TotalsSmall : Totals → Type 0
 TotalsSmall t = TotalsWithin (7 * counterLimit) t
 
 -- one client's counters added
-pub record Adds (t : Totals) (u : Usage) (r : Totals) : Type 0 where
+pub record AddsUsage (t : Totals) (u : Usage) (r : Totals) : Type 0 where
   pub sums : r ≡ totalsOf (t .calls + u .calls) (t .refusals + u .refusals) (t .acceptances + u .acceptances) (t .called + u .called)
   pub within : (n : ℕ) → TotalsWithin n t → TotalsWithin (n + counterLimit) r
 

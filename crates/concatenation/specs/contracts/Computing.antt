@@ -12,7 +12,7 @@ use Rattle.lookahead.specs.declared.Lookahead.the-variants.{Two}
 use Rattle.lookahead.specs.Lookaheads.{tokens, elementOf, stringOf}
 use Rattle.lookahead.specs.contracts.Lookaheads.{alphabet}
 use Rattle.lookahead.specs.Elements.{has}
-use Rattle.lookahead.specs.contracts.Operations.{behind}
+use Rattle.lookahead.specs.contracts.Operations.{elementBehind}
 
 -- the elements of s are just the numbers that pass
 abbrev pub Has : ℕ → (ℕ → Bool) → Type 0
@@ -36,4 +36,4 @@ noSingle s = not (anyBelow 7 (λ l. has s (suc l)))
 
 -- with two tokens, c is looked at where one of the first n terminals, alone in x, is followed by an element of y
 unfoldable pub inRows : ℕ → ℕ → ℕ → ℕ → Bool
-inRows x y n c = anyBelow n (λ l. has x (suc l) && behind Two (suc l) y c)
+inRows x y n c = anyBelow n (λ l. has x (suc l) && elementBehind Two (suc l) y c)

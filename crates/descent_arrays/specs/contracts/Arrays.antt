@@ -41,9 +41,9 @@ arrays = record {
 }
 
 -- the input that words of tokens hold: their terminals up to the end
-unfoldable pub held : List ℕ → List ℕ
-held [] = []
-held (t ∷ ts) = choose (eqb (t % columnWeight) endMark) [] (t % columnWeight ∷ held ts)
+unfoldable pub heldTokens : List ℕ → List ℕ
+heldTokens [] = []
+heldTokens (t ∷ ts) = choose (eqb (t % columnWeight) endMark) [] (t % columnWeight ∷ heldTokens ts)
 
 unfoldable pub matchesAt : List ℕ → ℕ → ℕ → Bool
 matchesAt tokens place a = eqb (getD tokens place 0 % columnWeight) a

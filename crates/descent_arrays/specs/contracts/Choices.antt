@@ -18,15 +18,15 @@ unfoldable pub firstWord : List ℕ → ℕ → ℕ
 firstWord starts rule = choose (ltb rule maxRules) (getD starts rule 0 % maxWords + 1) 0
 
 -- a column of the row of A, for an input of so many tokens
-unfoldable pub rowWord : (starts : List ℕ) (columns : ℕ) (entries : List ℕ) (tokens A c : ℕ) → ℕ
-rowWord starts columns entries tokens A c =
+unfoldable pub choiceWord : (starts : List ℕ) (columns : ℕ) (entries : List ℕ) (tokens A c : ℕ) → ℕ
+choiceWord starts columns entries tokens A c =
     choose (ltb c columns) (firstWord starts (entryOf columns entries A c))
     (choose (eqb c endColumn) tokens (choose (eqb c rowColumn) (A * (tokens + 1)) 0))
 
 -- the rows of the first n nonterminals, and zeros behind them
 unfoldable pub choiceRows : (starts : List ℕ) (columns : ℕ) (entries : List ℕ) (tokens n : ℕ) → List ℕ
 choiceRows starts columns entries tokens n =
-    listed choiceWords (λ x. choose (ltb (x / choiceColumns) n) (rowWord starts columns entries tokens (x / choiceColumns) (x % choiceColumns)) 0)
+    listed choiceWords (λ x. choose (ltb (x / choiceColumns) n) (choiceWord starts columns entries tokens (x / choiceColumns) (x % choiceColumns)) 0)
 
 -- of no more nonterminals, columns and tokens than the limits allow
 unfoldable pub choicesOf : (starts : List ℕ) (nonterminals columns : ℕ) (entries : List ℕ) (tokens : ℕ) → List ℕ

@@ -8,7 +8,7 @@ use Rattle.client_records.specs.Usages.{clients, usageOfClient}
 use Rattle.embed_promises.specs.Records.{usageAt}
 
 -- a loop over the clients: those below a bound have their numbers in the row
-pub record Written (us : List Usage) (n : ℕ) (row : List ℕ) : Type 0 where
+pub record RecordsWritten (us : List Usage) (n : ℕ) (row : List ℕ) : Type 0 where
   pub few : n ≤ clients
   pub long : length row ≡ 32
   pub same : (k : ℕ) → k < n → usageAt row k ≡ usageOfClient us k

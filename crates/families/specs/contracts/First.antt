@@ -67,6 +67,6 @@ insideWord k F (Heading m n) rest = sets (end k) (rest .meet .bits)
 insideWord k F Invalid rest = sets (end k) (rest .meet .bits)
 
 -- what a pass leaves for n rules: where no set has grown, what the positives of each can all begin with
-pub record Met (k : Lookahead) (t : ℕ) (words : List ℕ) (n : ℕ) (firsts meets : List ℕ) (grown : Bool) : Type 0 where
+pub record RulesMet (k : Lookahead) (t : ℕ) (words : List ℕ) (n : ℕ) (firsts meets : List ℕ) (grown : Bool) : Type 0 where
   pub room : ByRules n meets
   pub each : grown ≡ false → (q : ℕ) → q < n → getD meets q 0 ≡ ruleFirst k t (at firsts) (ruleFrom words (getD (ruleStarts words) q 0) .positives)

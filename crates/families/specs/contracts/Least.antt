@@ -34,14 +34,14 @@ pub record LeastNumbers (Closed : SetFamily → Type 0) (l : List ℕ) : Type 0 
   pub least : (G : SetFamily) → Closed G → Under (at l) G
 
 -- v is joined into the set of n, and it is told whether the set has grown
-pub record Adds (l : List ℕ) (n v : ℕ) (l′ : List ℕ) (grown : Bool) : Type 0 where
+pub record AddsToSet (l : List ℕ) (n v : ℕ) (l′ : List ℕ) (grown : Bool) : Type 0 where
   pub list : l′ ≡ set l n (join (at l n) v)
   pub told : grown ≡ not (eqb (join (at l n) v) (at l n))
 
 -- the same where there is such an n; else nothing changes
 abbrev pub AddsTo : Option ℕ → List ℕ → ℕ → List ℕ → Bool → Type 0
 AddsTo none l v l′ grown = (l′ ≡ l) × (grown ≡ false)
-AddsTo (some n) l v l′ grown = Adds l n v l′ grown
+AddsTo (some n) l v l′ grown = AddsToSet l n v l′ grown
 
 -- the numbers of an array together: what rises where a set grows
 unfoldable pub sum : List ℕ → ℕ

@@ -14,7 +14,7 @@ use Rattle.lookahead.specs.declared.Lookahead.{Lookahead}
 use Rattle.lookahead.specs.Lookaheads.{nothing}
 use Rattle.lookahead.specs.Elements.{weight, has}
 use Rattle.lookahead.specs.contracts.Elements.{Subset}
-use Rattle.lookahead.specs.contracts.Operations.{empty, join}
+use Rattle.lookahead.specs.contracts.Operations.{emptySet, join}
 use Rattle.base.specs.Rounds.{NumberSet}
 use Rattle.families.specs.declared.Left.{Left}
 use Rattle.families.specs.contracts.Least.{SetFamily}
@@ -25,15 +25,15 @@ emptyIn k F A = has (F A) (nothing k)
 
 -- a symbol in front of what is at the left of a body: a nonterminal with all that it reaches and, if it is in the set s, what is behind
 unfoldable pub symbolLeft : NumberSet → SetFamily → GrammarSymbol → ℕ → ℕ
-symbolLeft s R (Terminal a) behind = empty
+symbolLeft s R (Terminal a) behind = emptySet
 symbolLeft s R (Nonterminal A) behind = choose (s A) (join (join (weight A) (R A)) behind) (join (weight A) (R A))
 
 unfoldable pub bodyLeft : NumberSet → SetFamily → Body → ℕ
-bodyLeft s R [] = empty
+bodyLeft s R [] = emptySet
 bodyLeft s R (X ∷ b) = symbolLeft s R X (bodyLeft s R b)
 
 unfoldable pub bodiesLeft : NumberSet → SetFamily → List Body → ℕ
-bodiesLeft s R [] = empty
+bodiesLeft s R [] = emptySet
 bodiesLeft s R (b ∷ bs) = join (bodyLeft s R b) (bodiesLeft s R bs)
 
 -- what is at the left of each rule's bodies, of both signs, is contained in its head's set
@@ -49,15 +49,15 @@ leftOf s R p = lefts (bodyLeft s R (p .body)) (bodiesLeft s R (p .positives ++ p
 
 -- a symbol in front, where there is a set for it
 abbrev pub ownLeft : NumberSet → SetFamily → GrammarSymbol → ℕ → ℕ
-ownLeft s R (Terminal a) behind = empty
-ownLeft s R (Nonterminal A) behind = choose (ltb A maxNonterminals) (symbolLeft s R (Nonterminal A) behind) empty
+ownLeft s R (Terminal a) behind = emptySet
+ownLeft s R (Nonterminal A) behind = choose (ltb A maxNonterminals) (symbolLeft s R (Nonterminal A) behind) emptySet
 
 -- a word inside a rule in front: a symbol, or what ends the body before it
 abbrev pub insideLeft : NumberSet → SetFamily → Word → Left → Left
 insideLeft s R (Symbol X) left = lefts (ownLeft s R X (left .body .bits)) (left .rule .bits)
-insideLeft s R Positive left = lefts empty (join (left .body .bits) (left .rule .bits))
-insideLeft s R Negative left = lefts empty (join (left .body .bits) (left .rule .bits))
-insideLeft s R End left = lefts empty (join (left .body .bits) (left .rule .bits))
-insideLeft s R (RuleWord A) left = lefts empty (join (left .body .bits) (left .rule .bits))
-insideLeft s R (Heading m n) left = lefts empty (join (left .body .bits) (left .rule .bits))
-insideLeft s R Invalid left = lefts empty (join (left .body .bits) (left .rule .bits))
+insideLeft s R Positive left = lefts emptySet (join (left .body .bits) (left .rule .bits))
+insideLeft s R Negative left = lefts emptySet (join (left .body .bits) (left .rule .bits))
+insideLeft s R End left = lefts emptySet (join (left .body .bits) (left .rule .bits))
+insideLeft s R (RuleWord A) left = lefts emptySet (join (left .body .bits) (left .rule .bits))
+insideLeft s R (Heading m n) left = lefts emptySet (join (left .body .bits) (left .rule .bits))
+insideLeft s R Invalid left = lefts emptySet (join (left .body .bits) (left .rule .bits))

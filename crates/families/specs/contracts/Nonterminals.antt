@@ -6,11 +6,11 @@ use lib.Dec.{eqb, ltb}
 use Rattle.grammar.specs.Limits.{maxNonterminals}
 use Rattle.lookahead.specs.Elements.{weight, has}
 use Rattle.base.specs.Choice.{choose}
-use Rattle.lookahead.specs.contracts.Operations.{empty}
+use Rattle.lookahead.specs.contracts.Operations.{emptySet}
 
--- the set of a nonterminal alone, empty where the number is no nonterminal's
+-- the set of a nonterminal alone, emptySet where the number is no nonterminal's
 unfoldable pub alone : ℕ → ℕ
-alone A = choose (ltb A maxNonterminals) (weight A) empty
+alone A = choose (ltb A maxNonterminals) (weight A) emptySet
 
 pub record Alone (A r : ℕ) : Type 0 where
   pub is : r ≡ alone A

@@ -14,7 +14,7 @@ use Rattle.grammar.specs.Syntax.{Rule}
 use Rattle.grammar.specs.Encoding.{Parsed, parse}
 use Rattle.grammar.specs.Reading.{reading}
 use Rattle.grammar.specs.contracts.Starts.{ruleStarts}
-use Rattle.grammar.specs.contracts.WellRead.{firstRule}
+use Rattle.grammar.specs.contracts.WellRead.{ruleRead}
 
 -- the rule that a pass comes to behind others, from the first on or from the last on
 abbrev pub turnOf : Bool → ℕ → ℕ → ℕ
@@ -23,12 +23,12 @@ turnOf false rules passed = rules - suc passed
 
 -- the rule that begins at an index
 abbrev pub ruleFrom : List ℕ → ℕ → Rule
-ruleFrom words start = firstRule (drop start words)
+ruleFrom words start = ruleRead (drop start words)
 
 -- a row of words gone through from its end
-unfoldable pub fromEnd : {X : Type 0} → (Word → X → X) → X → List ℕ → X
-fromEnd f x [] = x
-fromEnd f x (w ∷ ws) = f (decoded w) (fromEnd f x ws)
+unfoldable pub foldFromEnd : {X : Type 0} → (Word → X → X) → X → List ℕ → X
+foldFromEnd f x [] = x
+foldFromEnd f x (w ∷ ws) = f (decoded w) (foldFromEnd f x ws)
 
 -- of a rule that began before, nothing is left
 pub record Ended (p : Parsed) : Type 0 where

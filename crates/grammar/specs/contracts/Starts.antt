@@ -21,6 +21,6 @@ unfoldable pub ruleStarts : List ℕ → List ℕ
 ruleStarts words = take maxRules (starts 0 words ++ replicate maxRules 0)
 
 -- a rule that begins at an index is noted behind those noted before, while there is room
-pub record Noted (before : List ℕ) (rules at : ℕ) (w : Word) (after : List ℕ) (noted : ℕ) : Type 0 where
+pub record StartNoted (before : List ℕ) (rules at : ℕ) (w : Word) (after : List ℕ) (noted : ℕ) : Type 0 where
   pub list : after ≡ choose (beginsRule w && ltb rules maxRules) (set before rules at) before
   pub number : noted ≡ choose (beginsRule w && ltb rules maxRules) (rules + 1) rules

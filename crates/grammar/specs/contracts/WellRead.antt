@@ -26,9 +26,9 @@ headOf (Heading n t) = 0
 headOf Invalid = 0
 
 -- the rule that begins with a row of words
-unfoldable pub firstRule : List ℕ → Rule
-firstRule [] = ruleOf 0 (parse [])
-firstRule (w ∷ ws) = ruleOf (headOf (decoded w)) (parse ws)
+unfoldable pub ruleRead : List ℕ → Rule
+ruleRead [] = ruleOf 0 (parse [])
+ruleRead (w ∷ ws) = ruleOf (headOf (decoded w)) (parse ws)
 
 -- a rule begins at an index behind the heading
 pub record Begun (words : List ℕ) (i : ℕ) : Type 0 where
@@ -48,4 +48,4 @@ pub record WellRead (words : List ℕ) (z : Sizes) : Type 0 where
   pub fewRules : z .rules ≤ maxRules
   pub formed : WellFormed (grammarOf words)
   pub begun : (q : ℕ) → q < z .rules → Begun words (getD (ruleStarts words) q 0)
-  pub begins : (q : ℕ) → q < z .rules → getElem? (grammarOf words .rules) q ≡ some (firstRule (drop (getD (ruleStarts words) q 0) words))
+  pub begins : (q : ℕ) → q < z .rules → getElem? (grammarOf words .rules) q ≡ some (ruleRead (drop (getD (ruleStarts words) q 0) words))

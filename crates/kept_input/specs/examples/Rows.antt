@@ -4,7 +4,7 @@ use mathlib.Core.List.{List, [], _∷_}
 use mathlib.Core.Option.{some}
 use Prim.Native.Nat.{ℕ}
 use Rattle.answer.specs.declared.Error.the-variants.{UnknownMark, MarkNotSet}
-use Rattle.kept_input.specs.Histories.{empty, Step, Add, Mark, Return, stepFault, ran}
+use Rattle.kept_input.specs.Histories.{emptyInput, Step, Add, Mark, Return, stepFault, ran}
 use Rattle.kept_input.specs.Stored.{progressOf}
 use Rattle.kept_input.specs.declared.Progress.{Progress}
 
@@ -21,10 +21,10 @@ atThree n a b c = record { length = n; marks = a ∷ b ∷ c ∷ 65535 ∷ 65535
 
 pub record Worked : Type 0 where
   -- events are kept with their direction
-  pub events : ran rehearsed empty .events ≡ 1 ∷ 130 ∷ []
-  pub set : progressOf (ran rehearsed empty) ≡ atThree 2 1 1 2
+  pub events : ran rehearsed emptyInput .events ≡ 1 ∷ 130 ∷ []
+  pub set : progressOf (ran rehearsed emptyInput) ≡ atThree 2 1 1 2
   -- marks at the length that is returned to stay; the one beyond it goes, and does not come back when the input is as long again
-  pub other : ran undone empty .events ≡ 1 ∷ 3 ∷ 4 ∷ []
-  pub cut : progressOf (ran undone empty) ≡ atThree 3 1 1 65535
-  pub gone : stepFault (Return 2) (ran undone empty) ≡ some MarkNotSet
-  pub none-such : stepFault (Return 8) (ran undone empty) ≡ some UnknownMark
+  pub other : ran undone emptyInput .events ≡ 1 ∷ 3 ∷ 4 ∷ []
+  pub cut : progressOf (ran undone emptyInput) ≡ atThree 3 1 1 65535
+  pub gone : stepFault (Return 2) (ran undone emptyInput) ≡ some MarkNotSet
+  pub none-such : stepFault (Return 8) (ran undone emptyInput) ≡ some UnknownMark

@@ -5,14 +5,14 @@ use native.Mathlib.Omega.{arith}
 use lib.ListN.{length, drop}
 use Rattle.families.specs.contracts.Least.{at as family}
 use Rattle.families.specs.contracts.Left.{emptyIn, lefts, insideLeft}
-use Rattle.families.specs.contracts.Rules.{fromEnd}
+use Rattle.families.specs.contracts.Rules.{foldFromEnd}
 use Rattle.families.proofs.Words.{end-none, end-one, end-all}
 use Rattle.lefts.proofs.rule_left.Statement.{statement}
 use Rattle.lefts.proofs.rule_left.Tie as tie
 
 abbrev Inv-loop : tie.InvT-loop
 Inv-loop words firsts reach lookahead left₀ at₀ left at =
-    (at ≤ length words) × (left ≡ fromEnd (insideLeft (emptyIn lookahead (family firsts)) (family reach)) (lefts 0 0) (drop at words))
+    (at ≤ length words) × (left ≡ foldFromEnd (insideLeft (emptyIn lookahead (family firsts)) (family reach)) (lefts 0 0) (drop at words))
 
 abbrev μ-loop : tie.MeasureT-loop
 μ-loop words firsts reach lookahead left₀ at₀ left at = at

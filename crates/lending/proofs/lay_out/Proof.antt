@@ -7,7 +7,7 @@ use Rattle.grammar.specs.Codes.{noEntry}
 use Rattle.grammar.specs.Limits.{maxTableWords}
 use Rattle.lookahead.specs.declared.Lookahead.the-variants.{One}
 use Rattle.base.specs.Lists.{listed}
-use Rattle.lending.specs.contracts.Lending.{wordAt}
+use Rattle.lending.specs.contracts.Lending.{tableWordAt}
 use Rattle.base.proofs.Front.{front}
 use Rattle.lending.proofs.Laying.{count-room, front-next, words-made}
 use Rattle.lending.proofs.lay_out.Statement.{statement}
@@ -15,7 +15,7 @@ use Rattle.lending.proofs.lay_out.Tie as tie
 
 abbrev Inv-loop : tie.InvT-loop
 Inv-loop words₀ firsts follows entries nonterminals count at₀ words at =
-    (at ≤ count) × (words ≡ front (listed count (λ i. wordAt nonterminals firsts follows entries i % 2 ^ 32)) at words₀)
+    (at ≤ count) × (words ≡ front (listed count (λ i. tableWordAt nonterminals firsts follows entries i % 2 ^ 32)) at words₀)
 
 abbrev μ-loop : tie.MeasureT-loop
 μ-loop words₀ firsts follows entries nonterminals count at₀ words at = count - at

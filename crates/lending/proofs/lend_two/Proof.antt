@@ -5,7 +5,7 @@ use native.Mathlib.Omega.{arith}
 use lib.ListN.{length, length-set}
 use Rattle.lookahead.specs.declared.Lookahead.the-variants.{Two}
 use Rattle.base.specs.Lists.{listed}
-use Rattle.lending.specs.contracts.Lending.{wordAt}
+use Rattle.lending.specs.contracts.Lending.{tableWordAt}
 use Rattle.base.proofs.Front.{front}
 use Rattle.lending.proofs.Laying.{lent-given, front-next, lent-short, lent-written}
 use borrow.Author.Needs.{needs}
@@ -16,7 +16,7 @@ abbrev Inv-loop : tie.InvT-loop
 Inv-loop table₀ found nonterminals count at₀ table at =
     (at ≤ count)
     × (length table ≡ length table₀)
-    × (table ≡ front (listed count (wordAt nonterminals (found .firsts) (found .follows) (found .entries))) at table₀)
+    × (table ≡ front (listed count (tableWordAt nonterminals (found .firsts) (found .follows) (found .entries))) at table₀)
 
 abbrev μ-loop : tie.MeasureT-loop
 μ-loop table₀ found nonterminals count at₀ table at = count - at

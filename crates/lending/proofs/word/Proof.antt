@@ -2,7 +2,7 @@
 use mathlib.Core.Path.{_∙_}
 use borrow.Author.Needs.{needs}
 use borrow.Author.Tests.{eq-eqb, ne-eqb, lt-ltb, le-ltb}
-use Rattle.lending.specs.contracts.Lending.{wordAt}
+use Rattle.lending.specs.contracts.Lending.{tableWordAt}
 use Rattle.lending.proofs.word.Statement.{statement}
 use Rattle.lending.proofs.word.Tie as tie
 
@@ -16,7 +16,7 @@ entry-word-requires : tie.Need-entry-word-requires
 entry-word-requires c κs = search needs
 
 returns : tie.Need-returns
-unfolding wordAt
+unfolding tableWordAt
 returns c = c .entry-word .ensures ∙ rw (le-ltb _ _ (c .before .before .if1 .taken))
 
 mul-result : tie.Need-mul-result
@@ -32,11 +32,11 @@ element-copy-out-result-2 : tie.Need-element-copy-out-result-2
 element-copy-out-result-2 c = search needs
 
 returns-2 : tie.Need-returns-2
-unfolding wordAt
+unfolding tableWordAt
 returns-2 c = rw (lt-ltb _ _ (c .before .before .if1 .left), eq-eqb _ _ (c .before .if2 .taken))
 
 returns-3 : tie.Need-returns-3
-unfolding wordAt
+unfolding tableWordAt
 returns-3 c = rw (lt-ltb _ _ (c .before .before .if1 .left), ne-eqb _ _ (c .before .if2 .left))
 
 pub word-spec : {M : Type 1} → statement M

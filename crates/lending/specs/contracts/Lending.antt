@@ -21,15 +21,15 @@ unfoldable pub entryCode : ℕ → ℕ
 entryCode b = choose (eqb b noRule) noEntry b
 
 -- the word at an index
-unfoldable pub wordAt : ℕ → List ℕ → List ℕ → List ℕ → ℕ → ℕ
-wordAt nonterminals firsts follows entries i =
+unfoldable pub tableWordAt : ℕ → List ℕ → List ℕ → List ℕ → ℕ → ℕ
+tableWordAt nonterminals firsts follows entries i =
     choose (ltb i (2 * nonterminals)) (choose (eqb (i % 2) 0) (getD firsts (i / 2) 0) (getD follows (i / 2) 0))
     (entryCode (getD entries (i - 2 * nonterminals) 0))
 
--- as it is stored: in 32 bits with one token of lookahead, in 64 with two
-abbrev pub stored : Lookahead → ℕ → ℕ
-stored One w = w % 2 ^ 32
-stored Two w = w
+-- as it is storedWord: in 32 bits with one token of lookahead, in 64 with two
+abbrev pub storedWord : Lookahead → ℕ → ℕ
+storedWord One w = w % 2 ^ 32
+storedWord Two w = w
 
 -- how many words there are
 abbrev pub wordCount : Lookahead → Sizes → ℕ
@@ -37,7 +37,7 @@ wordCount k z = z .nonterminals * (2 + columnCount k (z .terminals))
 
 -- all of them
 unfoldable pub laid : Lookahead → Sizes → List ℕ → List ℕ → List ℕ → List ℕ
-laid k z firsts follows entries = listed (wordCount k z) (λ i. stored k (wordAt (z .nonterminals) firsts follows entries i))
+laid k z firsts follows entries = listed (wordCount k z) (λ i. storedWord k (tableWordAt (z .nonterminals) firsts follows entries i))
 
 -- with one token in an array of their own, and no entries behind them
 unfoldable pub madeUp : Sizes → List ℕ → List ℕ → List ℕ → List ℕ

@@ -13,8 +13,8 @@ alphabet One = maxTerminals
 alphabet Two = maxTerminalsOfTwo
 
 -- the element of the tokens that are looked at where the string of a is followed by that of b
-unfoldable pub after : Lookahead → ℕ → ℕ → ℕ
-after k a b = elementOf k (take (tokens k) (stringOf k a ++ stringOf k b))
+unfoldable pub elementAfter : Lookahead → ℕ → ℕ → ℕ
+elementAfter k a b = elementOf k (take (tokens k) (stringOf k a ++ stringOf k b))
 
 -- the element for terminal 0 alone
 abbrev pub single : Lookahead → ℕ

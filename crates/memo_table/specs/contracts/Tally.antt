@@ -1,4 +1,4 @@
--- The calls that a memo table records, over numbers and lists alone: how many there are, and the farthest place of one.
+-- The calls that a memo table records, over numbersBelow and lists alone: how many there are, and the farthest place of one.
 use mathlib.Core.Bool.{Bool, not}
 use mathlib.Core.List.{List}
 use Prim.Native.Nat.{ℕ, suc, _+_, _*_, _≤_}
@@ -6,7 +6,7 @@ use lib.Dec.{eqb}
 use lib.ListN.{length, getD}
 use Rattle.grammar.specs.Codes.{uncalledCode}
 use Rattle.answer.specs.declared.Calls.{Calls}
-use Rattle.base.specs.FiniteSets.{keep, numbers, combine}
+use Rattle.base.specs.FiniteSets.{keep, numbersBelow, combine}
 use Rattle.base.specs.Quantifiers.{anyBelow, countBelow}
 use Rattle.semantics.specs.ComesTo.{Call, callAt}
 use Rattle.semantics.specs.Calls.{greatestPlace}
@@ -33,7 +33,7 @@ writtenAmong tokens m x = recordsAt m (x .nonterminal * suc tokens + x .place)
 
 -- the calls of the first nonterminals at every place, by nonterminal, then place (document 01: notebook order)
 unfoldable pub recordedCalls : (m : Memo) (nonterminals tokens : ℕ) → List Call
-recordedCalls m nonterminals tokens = keep (writtenAmong tokens m) (combine callAt (numbers nonterminals) (numbers (suc tokens)))
+recordedCalls m nonterminals tokens = keep (writtenAmong tokens m) (combine callAt (numbersBelow nonterminals) (numbersBelow (suc tokens)))
 
 -- one of the first nonterminals was called at a place
 unfoldable pub calledAt : (m : Memo) (nonterminals tokens place : ℕ) → Bool

@@ -21,12 +21,12 @@ use Rattle.semantics.specs.contracts.Choices.{OwnRules}
 use Rattle.semantics.specs.Descent.{End, descend}
 use Rattle.semantics.specs.ComesTo.{Call, callAt, InRange}
 use Rattle.semantics.specs.contracts.ComesTo.{measure}
-use Rattle.semantics.specs.Memo.{encode, entry, Recorded}
+use Rattle.semantics.specs.Memo.{outcomeCode, entry, Recorded}
 use Rattle.semantics.specs.contracts.Memo.{blank}
 use Rattle.semantics.specs.contracts.MemoDescent.{memoized, memoRun, memoCall}
 use Rattle.rule.specs.contracts.Rule.{meant}
 use Rattle.recursive_descent.specs.declared.descent.Run.{Run}
-use Rattle.descent_arrays.specs.contracts.Arrays.{rowColumn, endMark, columnWeight, held, rowAt, endAt, firstAt}
+use Rattle.descent_arrays.specs.contracts.Arrays.{rowColumn, endMark, columnWeight, heldTokens, rowAt, endAt, firstAt}
 
 -- where the first conjunct stands of a rule by its number, or 0
 abbrev pub firstConjunct : List ℕ → Option ℕ → ℕ
@@ -61,7 +61,7 @@ pub record Skipped (words : List ℕ) (from at : ℕ) : Type 0 where
 pub record MemoSound (choice : Choice) (words input memo : List ℕ) : Type 0 where
   pub size : length memo ≡ pairs (grammarOf words) input
   pub right : (x : Call) → InRange (grammarOf words) input x → (entry input memo x ≡ uncalledCode → ⊥)
-      → entry input memo x ≡ encode (descend (grammarOf words) choice input (x .nonterminal) (x .place))
+      → entry input memo x ≡ outcomeCode (descend (grammarOf words) choice input (x .nonterminal) (x .place))
 
 -- the arrays hold a choice of rules, each of its own nonterminal, and the tokens of the input
 pub record ArraysGiven (choice : Choice) (words choices tokens input memo : List ℕ) : Type 0 where
@@ -96,7 +96,7 @@ pub record RunGiven (choice : Choice) (words choices tokens input memo : List �
 
 -- what is returned is the entry of the call's outcome
 pub record CallDone (choice : Choice) (words input memo : List ℕ) (A place r : ℕ) (memo′ : List ℕ) : Type 0 where
-  pub told : r ≡ encode (descend (grammarOf words) choice input A place)
+  pub told : r ≡ outcomeCode (descend (grammarOf words) choice input A place)
   pub model : (n : ℕ) → measure (grammarOf words) input (callAt A place) < n
       → memoCall (grammarOf words) choice input n A place memo ≡ memoized (descend (grammarOf words) choice input A place) memo′
   pub sound : MemoSound choice words input memo′
@@ -110,18 +110,19 @@ pub record RunDone (choice : Choice) (words input memo : List ℕ) (A from start
 
 -- a call and a run require that the arrays hold some choice, and ensure what they do for each that they hold
 abbrev pub CallRequires : (words choices tokens memo : List ℕ) (A place : ℕ) → Type 0
-CallRequires words choices tokens memo A place = (choice : Choice) × CallGiven choice words choices tokens (held tokens) memo A place
+CallRequires words choices tokens memo A place = (choice : Choice) × CallGiven choice words choices tokens (heldTokens tokens) memo A place
 
 abbrev pub CallEnsures : (words choices tokens memo : List ℕ) (A place r : ℕ) (memo′ : List ℕ) → Type 0
 CallEnsures words choices tokens memo A place r memo′ =
-    (choice : Choice) → CallGiven choice words choices tokens (held tokens) memo A place → CallDone choice words (held tokens) memo A place r memo′
+    (choice : Choice) → CallGiven choice words choices tokens (heldTokens tokens) memo A place → CallDone choice words (heldTokens tokens) memo A place r memo′
 
 abbrev pub RunRequires : (words choices tokens memo : List ℕ) (A from start : ℕ) → Type 0
-RunRequires words choices tokens memo A from start = (choice : Choice) × RunGiven choice words choices tokens (held tokens) memo A from start
+RunRequires words choices tokens memo A from start = (choice : Choice) × RunGiven choice words choices tokens (heldTokens tokens) memo A from start
 
 abbrev pub RunEnsures : (words choices tokens memo : List ℕ) (A from start : ℕ) (r : Run) (memo′ : List ℕ) → Type 0
 RunEnsures words choices tokens memo A from start r memo′ =
-    (choice : Choice) → RunGiven choice words choices tokens (held tokens) memo A from start → RunDone choice words (held tokens) memo A from start r memo′
+    (choice : Choice) → RunGiven choice words choices tokens (heldTokens tokens) memo A from start
+    → RunDone choice words (heldTokens tokens) memo A from start r memo′
 
 -- the start's call at the input's begin, in a memo table of just the entries that there are
 pub record StartGiven (choice : Choice) (words choices tokens input memo : List ℕ) : Type 0 where
@@ -130,12 +131,12 @@ pub record StartGiven (choice : Choice) (words choices tokens input memo : List 
 
 -- the start's entry is returned, and the memo table holds those of the calls made and no others
 pub record StartDone (choice : Choice) (words input : List ℕ) (r : ℕ) (memo′ : List ℕ) : Type 0 where
-  pub told : r ≡ encode (descend (grammarOf words) choice input 0 0)
+  pub told : r ≡ outcomeCode (descend (grammarOf words) choice input 0 0)
   pub recorded : Recorded (grammarOf words) choice input memo′
 
 abbrev pub StartRequires : (words choices tokens memo : List ℕ) → Type 0
-StartRequires words choices tokens memo = (choice : Choice) × StartGiven choice words choices tokens (held tokens) memo
+StartRequires words choices tokens memo = (choice : Choice) × StartGiven choice words choices tokens (heldTokens tokens) memo
 
 abbrev pub StartEnsures : (words choices tokens memo : List ℕ) (r : ℕ) (memo′ : List ℕ) → Type 0
 StartEnsures words choices tokens memo r memo′ =
-    (choice : Choice) → StartGiven choice words choices tokens (held tokens) memo → StartDone choice words (held tokens) r memo′
+    (choice : Choice) → StartGiven choice words choices tokens (heldTokens tokens) memo → StartDone choice words (heldTokens tokens) r memo′

@@ -5,14 +5,14 @@ use native.Mathlib.Omega.{arith}
 use lib.ListN.{length, drop}
 use Rattle.families.specs.contracts.First.{noRest, insideWord}
 use Rattle.families.specs.contracts.Least.{lookup}
-use Rattle.families.specs.contracts.Rules.{fromEnd}
+use Rattle.families.specs.contracts.Rules.{foldFromEnd}
 use Rattle.families.proofs.Words.{end-none, end-one, end-all}
 use Rattle.rests.proofs.rule_first.Statement.{statement}
 use Rattle.rests.proofs.rule_first.Tie as tie
 
 abbrev Inv-loop : tie.InvT-loop
 Inv-loop words firsts terminals lookahead rest₀ at₀ rest at =
-    (at ≤ length words) × (rest ≡ fromEnd (insideWord lookahead (lookup firsts)) (noRest lookahead terminals) (drop at words))
+    (at ≤ length words) × (rest ≡ foldFromEnd (insideWord lookahead (lookup firsts)) (noRest lookahead terminals) (drop at words))
 
 abbrev μ-loop : tie.MeasureT-loop
 μ-loop words firsts terminals lookahead rest₀ at₀ rest at = at

@@ -18,7 +18,7 @@ use Rattle.semantics.specs.Descent.{descend}
 use Rattle.semantics.specs.ComesTo.{Call, callAt}
 use Rattle.semantics.specs.contracts.ComesTo.{measure}
 use Rattle.semantics.specs.Calls.{Called, start, more, allCalls, calls}
-use Rattle.semantics.specs.Memo.{Memo, indexOf, entry, Recorded}
+use Rattle.semantics.specs.Memo.{Memo, memoIndex, entry, Recorded}
 use Rattle.semantics.specs.contracts.Memo.{blank, EndsFit}
 use Rattle.semantics.specs.contracts.MemoDescent.{memoCall, memoStart}
 use Rattle.base.proofs.Booleans.{both, test}
@@ -51,7 +51,7 @@ module _ (G : Grammar) (choice : Choice) (w : List ℕ) (scoped : WellScoped G) 
 
   blank-none : (x : Call) → Has G w (blank G w) x → ⊥
   blank-none x h =
-      let e : entry w (blank G w) x ≡ uncalledCode = getD-replicate (pairs G w) (indexOf w x) uncalledCode uncalledCode (index-range G w x (h .0)) in
+      let e : entry w (blank G w) x ≡ uncalledCode = getD-replicate (pairs G w) (memoIndex w x) uncalledCode uncalledCode (index-range G w x (h .0)) in
       T-not (eqb (entry w (blank G w) x) uncalledCode) (h .1) (rw e tt)
 
   module _ (nonempty : 0 < G .nonterminals) (n : ℕ) (deep : measure G w (callAt 0 0) < n) where

@@ -8,11 +8,11 @@ use lib.Arith.{digits-div, digits-mod, digits-lt}
 use lib.Dec.{eqb, eqb→eq, eqb-refl}
 use lib.ListN.{length, getD}
 use Rattle.grammar.specs.Syntax.{Grammar}
-use Rattle.base.specs.FiniteSets.{numbers, Distinct}
+use Rattle.base.specs.FiniteSets.{numbersBelow, Distinct}
 use Rattle.semantics.specs.Valuations.{pairs}
 use Rattle.semantics.specs.ComesTo.{Call, callAt, InRange}
 use Rattle.semantics.specs.Calls.{sameCall, allCalls}
-use Rattle.semantics.specs.Memo.{indexOf}
+use Rattle.semantics.specs.Memo.{memoIndex}
 use Rattle.base.proofs.Booleans.{and-l, and-r, and-make}
 use Rattle.base.proofs.FiniteSets.{Equality, numbers-make, numbers-elim, numbers-length, combine-make, combine-elim}
 use Rattle.base.proofs.CombinedAt.{numbers-at, combine-at}
@@ -34,39 +34,39 @@ module _ (G : Grammar) (w : List ℕ) where
   unfolding allCalls
   all-range x = (
     λ m.
-        let r = combine-elim callAt (numbers (G .nonterminals)) (numbers (suc (length w))) x m in
+        let r = combine-elim callAt (numbersBelow (G .nonterminals)) (numbersBelow (suc (length w))) x m in
         let a = numbers-elim (G .nonterminals) (r .0) (r .2) in
         let b : r .1 ≤ length w = omega (arith, numbers-elim (suc (length w)) (r .1) (r .3)) in
         rw (r .4) (a, b),
     λ h.
-        combine-make callAt (numbers (G .nonterminals)) (numbers (suc (length w))) (x .nonterminal) (x .place)
+        combine-make callAt (numbersBelow (G .nonterminals)) (numbersBelow (suc (length w))) (x .nonterminal) (x .place)
         (numbers-make (G .nonterminals) (x .nonterminal) (h .0)) (numbers-make (suc (length w)) (x .place) (omega (arith, h .1))),
   )
 
   pub all-distinct : Distinct (allCalls G w)
   unfolding allCalls
   all-distinct = distinct-combine callAt (λ A B i j e. ap (λ (x : Call). x .nonterminal) e) (λ A B i j e. ap (λ (x : Call). x .place) e)
-      (numbers (G .nonterminals)) (numbers (suc (length w))) (distinct-numbers (G .nonterminals)) (distinct-numbers (suc (length w)))
+      (numbersBelow (G .nonterminals)) (numbersBelow (suc (length w))) (distinct-numbers (G .nonterminals)) (distinct-numbers (suc (length w)))
 
   pub all-length : length (allCalls G w) ≡ pairs G w
   unfolding allCalls
   all-length =
-      combine-length callAt (numbers (G .nonterminals)) (numbers (suc (length w)))
+      combine-length callAt (numbersBelow (G .nonterminals)) (numbersBelow (suc (length w)))
       ∙ rw (numbers-length (G .nonterminals), numbers-length (suc (length w)))
 
-  pub index-range : (x : Call) → InRange G w x → indexOf w x < pairs G w
+  pub index-range : (x : Call) → InRange G w x → memoIndex w x < pairs G w
   index-range x h = digits-lt (h .0) (omega (arith, h .1))
 
 -- no two calls within the input have the same index
-pub index-injective : (w : List ℕ) (x y : Call) → x .place ≤ length w → y .place ≤ length w → indexOf w x ≡ indexOf w y → x ≡ y
+pub index-injective : (w : List ℕ) (x y : Call) → x .place ≤ length w → y .place ≤ length w → memoIndex w x ≡ memoIndex w y → x ≡ y
 index-injective w x y h h′ e = call-same x y
     (sym (digits-div (x .nonterminal) (omega arith)) ∙ ap (λ z. z / suc (length w)) e ∙ digits-div (y .nonterminal) (omega arith))
     (sym (digits-mod (x .nonterminal) (omega arith)) ∙ ap (λ z. z % suc (length w)) e ∙ digits-mod (y .nonterminal) (omega arith))
 
 -- the list of all calls is in the order of the memo table: the call of each entry stands at the entry's index
-pub all-ordered : (G : Grammar) (w : List ℕ) (x z : Call) → InRange G w x → getD (allCalls G w) (indexOf w x) z ≡ x
+pub all-ordered : (G : Grammar) (w : List ℕ) (x z : Call) → InRange G w x → getD (allCalls G w) (memoIndex w x) z ≡ x
 unfolding allCalls
 all-ordered G w x z h =
-    combine-at callAt (suc (length w)) (numbers (G .nonterminals)) (x .nonterminal) (x .place) z 0
+    combine-at callAt (suc (length w)) (numbersBelow (G .nonterminals)) (x .nonterminal) (x .place) z 0
     (omega (arith, h .0, numbers-length (G .nonterminals))) (omega (arith, h .1))
-    ∙ call-same (callAt (getD (numbers (G .nonterminals)) (x .nonterminal) 0) (x .place)) x (numbers-at (G .nonterminals) (x .nonterminal) 0 (h .0)) refl
+    ∙ call-same (callAt (getD (numbersBelow (G .nonterminals)) (x .nonterminal) 0) (x .place)) x (numbers-at (G .nonterminals) (x .nonterminal) 0 (h .0)) refl

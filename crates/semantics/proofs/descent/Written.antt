@@ -20,7 +20,7 @@ use Rattle.semantics.specs.contracts.Choices.{OwnRules}
 use Rattle.semantics.specs.Descent.{Outcome, Failed, End, endsAt, Outcomes, select, byChoice, descend}
 use Rattle.semantics.specs.ComesTo.{Call, callAt, InRange, callComesTo}
 use Rattle.semantics.specs.contracts.ComesTo.{measure}
-use Rattle.semantics.specs.Memo.{Memo, encode, indexOf, entry, written}
+use Rattle.semantics.specs.Memo.{Memo, outcomeCode, memoIndex, entry, written}
 use Rattle.semantics.specs.contracts.Memo.{decode, EndsFit}
 use Rattle.semantics.specs.contracts.MemoDescent.{Memoized, memoized, memoObey, memoCall, stored}
 use Rattle.base.proofs.Booleans.{T-true, T-false, test}
@@ -37,15 +37,15 @@ Has G w m x = InRange G w x × T (written w m x)
 -- each written entry is the code of its call's result, and its call is one of P
 pub record Sound (G : Grammar) (w : List ℕ) (c : Outcomes) (P : Call → Type 0) (m : Memo) : Type 0 where
   pub size : length m ≡ pairs G w
-  pub right : (x : Call) → Has G w m x → (entry w m x ≡ encode (c (x .nonterminal) (x .place))) × P x
+  pub right : (x : Call) → Has G w m x → (entry w m x ≡ outcomeCode (c (x .nonterminal) (x .place))) × P x
 
-encode-written : (n : ℕ) (o : Outcome) → n < failedCode → ((j : ℕ) → T (endsAt o j) → j ≤ n) → T (not (eqb (encode o) uncalledCode))
-unfolding encode
+encode-written : (n : ℕ) (o : Outcome) → n < failedCode → ((j : ℕ) → T (endsAt o j) → j ≤ n) → T (not (eqb (outcomeCode o) uncalledCode))
+unfolding outcomeCode
 encode-written n Failed s h = tt
 encode-written n (End j) s h = not-T (eqb j uncalledCode) (λ t. absurd (omega (arith, eqb→eq j uncalledCode t, h j (eqb-refl j))))
 
-decode-encode : (n : ℕ) (o : Outcome) → n < failedCode → ((j : ℕ) → T (endsAt o j) → j ≤ n) → decode (encode o) ≡ o
-unfolding encode decode
+decode-encode : (n : ℕ) (o : Outcome) → n < failedCode → ((j : ℕ) → T (endsAt o j) → j ≤ n) → decode (outcomeCode o) ≡ o
+unfolding outcomeCode decode
 decode-encode n Failed s h = refl
 decode-encode n (End j) s h = go (eqb j failedCode) (eqb→eq j failedCode)
   where
@@ -57,25 +57,25 @@ decode-encode n (End j) s h = go (eqb j failedCode) (eqb→eq j failedCode)
 module _ (G : Grammar) (w : List ℕ) (m : Memo) (size : length m ≡ pairs G w) (x : Call) (ranged : InRange G w x)
     (v : ℕ) (real : T (not (eqb v uncalledCode))) where
   abbrev after : Memo
-  after = set m (indexOf w x) v
+  after = set m (memoIndex w x) v
 
   this : entry w after x ≡ v
-  this = let l = index-range G w x ranged in getD-set-same m (indexOf w x) v uncalledCode (omega arith)
+  this = let l = index-range G w x ranged in getD-set-same m (memoIndex w x) v uncalledCode (omega arith)
 
   store-this : Has G w after x
   store-this = (ranged, rw this real)
 
   -- what is written is x or was written before
   store-back : (y : Call) → Has G w after y → (y ≡ x) ⊎ (Has G w m y × (entry w after y ≡ entry w m y))
-  store-back y h = elim (ℕ-discrete (indexOf w y) (indexOf w x)) [
+  store-back y h = elim (ℕ-discrete (memoIndex w y) (memoIndex w x)) [
     | yes e ↦ inl (index-injective w y x (h .0 .1) (ranged .1) e)
-    | no e ↦ let s = getD-set-other m (indexOf w x) (indexOf w y) v uncalledCode e in inr ((h .0, rw s at (h .1)), s)
+    | no e ↦ let s = getD-set-other m (memoIndex w x) (memoIndex w y) v uncalledCode e in inr ((h .0, rw s at (h .1)), s)
   ]
 
   store-stays : (y : Call) → Has G w m y → Has G w after y
-  store-stays y h = elim (ℕ-discrete (indexOf w y) (indexOf w x)) [
+  store-stays y h = elim (ℕ-discrete (memoIndex w y) (memoIndex w x)) [
     | yes e ↦ let d : y ≡ x = index-injective w y x (h .0 .1) (ranged .1) e in rw d store-this
-    | no e ↦ let s = getD-set-other m (indexOf w x) (indexOf w y) v uncalledCode e in (h .0, rw s (h .1))
+    | no e ↦ let s = getD-set-other m (memoIndex w x) (memoIndex w y) v uncalledCode e in (h .0, rw s (h .1))
   ]
 
 module _ (G : Grammar) (choice : Choice) (w : List ℕ) (scoped : WellScoped G) (free : NoLeftRecursion G) (own : OwnRules G choice) (fits : EndsFit w) where
@@ -145,13 +145,13 @@ module _ (G : Grammar) (choice : Choice) (w : List ℕ) (scoped : WellScoped G) 
     -- a new call: the rule was run, and the outcome is stored
     store-good : (x : Call) (m : Memo) (r : Memoized) → InRange G w x → P x
         → Good (measure G w x) (result x) (callComesTo G choice w x) m r
-        → Good (suc (measure G w x)) (result x) (x ∷ []) m (stored (indexOf w x) r)
+        → Good (suc (measure G w x)) (result x) (x ∷ []) m (stored (memoIndex w x) r)
     unfolding stored
     store-good x m r ranged p g =
-        let v = encode (r .outcome) in
+        let v = outcomeCode (r .outcome) in
         let m₁ = r .memo in
         let size = g .sound .size in
-        let is : v ≡ encode (result x) = ap encode (g .tells) in
+        let is : v ≡ outcomeCode (result x) = ap outcomeCode (g .tells) in
         let real : T (not (eqb v uncalledCode)) = rw is (encode-written (length w) (result x) fits (result-small x ranged)) in
         let keep = store-stays G w m₁ size x ranged v real in
         let has = store-this G w m₁ size x ranged v real in
@@ -159,7 +159,7 @@ module _ (G : Grammar) (choice : Choice) (w : List ℕ) (scoped : WellScoped G) 
         record {
           tells = g .tells;
           sound = record {
-            size = length-set m₁ (indexOf w x) v ∙ size;
+            size = length-set m₁ (memoIndex w x) v ∙ size;
             right = λ y h. elim (back y h) [
               | inl e ↦ rw e (this G w m₁ size x ranged v real ∙ is, p)
               | inr a ↦ let s = g .sound .right y (a .0) in (a .1 ∙ s .0, s .1)

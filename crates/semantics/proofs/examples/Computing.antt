@@ -1,7 +1,7 @@
 -- The definitions that things compute by, to be named together: `unfolding tables-compute` for sets, clashes and tables, and so on.
 use mathlib.Core.List.{flatMap}
 use Rattle.base.specs.Quantifiers.{anyOf, allOf, anyBelow, lowest}
-use Rattle.base.specs.FiniteSets.{member, keep, distinct, numbersFrom, numbers, combine}
+use Rattle.base.specs.FiniteSets.{member, keep, distinct, numbersFrom, numbersBelow, combine}
 use Rattle.base.specs.Rounds.{round, settle, members, least}
 use Rattle.semantics.specs.LeftRecursion.{allNullable, nullStep, nullable, leftIn, leftDepends, reachStep, leftReaches, leftRecursive}
 use Rattle.semantics.specs.LeftRecursion.{lowestLeftRecursive}
@@ -15,7 +15,7 @@ use Rattle.semantics.specs.ComesTo.{when, bodyComesTo, negativesComeTo, 
 use Rattle.semantics.specs.Calls.{callsWithin, allCalls, calls, callCount, greatestPlace, farthest}
 
 unfoldable pub tables-compute : Unit {0}
-unfolding anyOf allOf member keep distinct numbersFrom numbers combine round settle members least strings sameString concatStrings sameEntry entries setsOf
+unfolding anyOf allOf member keep distinct numbersFrom numbersBelow combine round settle members least strings sameString concatStrings sameEntry entries setsOf
     firstOfSymbol firstBody firstRule firstStep first firstSets behind followStep follow followSets several position meeting claimed
     claims overruns clashes tableOf everyEnds
 tables-compute = tt
@@ -25,7 +25,7 @@ unfolding tables-compute anyBelow lowest unproductive lowestUnproductive
 productive-computes = tt
 
 unfoldable pub left-recursion-computes : Unit {0}
-unfolding anyOf allOf anyBelow lowest member keep numbersFrom numbers round settle members least nullable nullStep allNullable
+unfolding anyOf allOf anyBelow lowest member keep numbersFrom numbersBelow round settle members least nullable nullStep allNullable
     leftIn leftDepends reachStep leftReaches leftRecursive lowestLeftRecursive
 left-recursion-computes = tt
 
@@ -34,7 +34,7 @@ unfolding anyOf allOf look read run agrees confirm conclude obey select byChoice
 descent-computes = tt
 
 unfoldable pub calls-compute : Unit {0}
-unfolding anyOf member keep numbersFrom numbers combine when bodyComesTo negativesComeTo positivesComeTo ruleComesTo
+unfolding anyOf member keep numbersFrom numbersBelow combine when bodyComesTo negativesComeTo positivesComeTo ruleComesTo
     selectedComesTo callComesTo flatMap callsWithin
     allCalls calls callCount greatestPlace farthest
 calls-compute = tt

@@ -10,7 +10,7 @@ use Rattle.semantics.specs.Families.{Table}
 use Rattle.semantics.specs.Choices.{byLookahead}
 use Rattle.semantics.specs.Descent.{Failed, End, Outcomes, read, run, select}
 use Rattle.semantics.specs.ComesTo.{callAt, when, bodyComesTo, negativesComeTo, positivesComeTo, ruleComesTo}
-use Rattle.semantics.specs.Memo.{encode}
+use Rattle.semantics.specs.Memo.{outcomeCode}
 use Rattle.semantics.specs.contracts.Memo.{decode}
 use Rattle.semantics.specs.contracts.MemoDescent.{memoized, andThen, memoRun, memoNegatives, memoPositives, memoRule, memoObey, memoCall, memoStart}
 use Rattle.semantics.specs.contracts.MemoDescent.{stored}
@@ -28,12 +28,12 @@ aabb : memoStart balanced (byLookahead balancedTable 1 (0 ∷ 0 ∷ 1 ∷ 1 ∷ 
     4 ∷ 65535 ∷ 65535 ∷ 65535 ∷ 65535
     ∷ 4 ∷ 3 ∷ 2 ∷ 65535 ∷ 65535 ∷ []
     )
-unfolding memoStart memoCall memoObey memoRule memoPositives memoNegatives memoRun andThen stored encode decode select look
+unfolding memoStart memoCall memoObey memoRule memoPositives memoNegatives memoRun andThen stored outcomeCode decode select look
 aabb = refl
 
 -- T ends at 2, and a b ends there: the rule fails
 ab : memoStart balanced (byLookahead balancedTable 1 (0 ∷ 1 ∷ [])) (0 ∷ 1 ∷ []) ≡ memoized Failed (65534 ∷ 65535 ∷ 65535 ∷ 2 ∷ 1 ∷ 65535 ∷ [])
-unfolding memoStart memoCall memoObey memoRule memoPositives memoNegatives memoRun andThen stored encode decode select look
+unfolding memoStart memoCall memoObey memoRule memoPositives memoNegatives memoRun andThen stored outcomeCode decode select look
 ab = refl
 
 -- results for the laws of `ruleComesTo`: 1 and 2 end at 1, 3 ends at 2, 4 fails

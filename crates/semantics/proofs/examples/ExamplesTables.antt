@@ -7,7 +7,7 @@ use mathlib.Core.Path.{_≡_, refl}
 use Prim.Native.Nat.{ℕ, _+_, _^_}
 use Rattle.word.specs.declared.Symbol.the-variants.{Terminal, Nonterminal}
 use Rattle.grammar.specs.Syntax.{Rule, Grammar}
-use Rattle.base.specs.FiniteSets.{member, numbers}
+use Rattle.base.specs.FiniteSets.{member, numbersBelow}
 use Rattle.base.specs.Rounds.{settle}
 use Rattle.base.specs.Strings.{strings}
 use Rattle.semantics.specs.FirstFollow.{sameEntry, entries, firstStep, firstSets, followSets}
@@ -27,7 +27,7 @@ abbrev Row : Type 0
 Row = ℕ × ℕ × List (Option ℕ)
 
 sheet : Grammar → List Row
-sheet G = map (λ A. (weight (firstSets G 1 A), weight (followSets G 1 A), map (tableOf G 1 A) (strings 1 (G .terminals)))) (numbers (G .nonterminals))
+sheet G = map (λ A. (weight (firstSets G 1 A), weight (followSets G 1 A), map (tableOf G 1 A) (strings 1 (G .terminals)))) (numbersBelow (G .nonterminals))
 
 sheets : _≡_ {A = List (List Row)} (sheet grammarR ∷ sheet grammarM ∷ sheet grammarE ∷ []) (
     ((16777217, 16777216, some 0 ∷ some 1 ∷ []) ∷ [])
@@ -51,7 +51,7 @@ sheets = refl
 
 -- as many rounds as there are nonterminals do not suffice: R has one, and a is in its FIRST set after two
 rounds-needed : _≡_ {A = List Bool}
-    (map (λ n. member sameEntry (settle sameEntry (entries grammarR 1) (firstStep grammarR 1) n []) (0, 0 ∷ [])) (numbers 3))
+    (map (λ n. member sameEntry (settle sameEntry (entries grammarR 1) (firstStep grammarR 1) n []) (0, 0 ∷ [])) (numbersBelow 3))
     (false ∷ false ∷ true ∷ [])
 unfolding tables-compute
 rounds-needed = refl

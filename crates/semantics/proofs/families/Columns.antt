@@ -7,7 +7,7 @@ use mathlib.Core.Path.{_≡_, refl, sym, ap}
 use Prim.Native.Nat.{ℕ, zero, suc, _≤_, _<_}
 use native.Mathlib.Omega.{arith}
 use Rattle.grammar.specs.Syntax.{Grammar}
-use Rattle.base.specs.FiniteSets.{keep, numbersFrom, numbers, combine}
+use Rattle.base.specs.FiniteSets.{keep, numbersFrom, numbersBelow, combine}
 use Rattle.semantics.specs.Families.{Clash}
 use Rattle.base.specs.Strings.{strings, sameString}
 use Rattle.semantics.specs.FirstFollow.{Entry, entries, First, Follow}
@@ -57,9 +57,9 @@ singles [] = refl
 singles (a ∷ l) = ap (λ k. (a ∷ []) ∷ k) (singles l)
 
 -- the lookahead strings of one token: the terminals in order, and the end last
-pub strings-columns : (n : ℕ) → strings 1 n ≡ map (λ a. a ∷ []) (numbers n) ++ ([] ∷ [])
+pub strings-columns : (n : ℕ) → strings 1 n ≡ map (λ a. a ∷ []) (numbersBelow n) ++ ([] ∷ [])
 unfolding strings
-strings-columns n = ap (λ l. l ++ ([] ∷ [])) (singles (numbers n))
+strings-columns n = ap (λ l. l ++ ([] ∷ [])) (singles (numbersBelow n))
 
 -- the orders of strings and of entries where there are n terminals: by column; by nonterminal, then by column
 abbrev ByColumn : ℕ → List ℕ → List ℕ → Type 0
@@ -69,14 +69,14 @@ abbrev Before : ℕ → Entry → Entry → Type 0
 Before n e d = (e .0 < d .0) ⊎ ((e .0 ≡ d .0) × ByColumn n (e .1) (d .1))
 
 columns-ordered : (n : ℕ) → Ordered (ByColumn n) (strings 1 n)
-unfolding numbers
-columns-ordered n = rw (strings-columns n) (ordered-append (ByColumn n) (map (λ a. a ∷ []) (numbers n)) ([] ∷ [])
-    (ordered-map _<_ (ByColumn n) (λ a. a ∷ []) (λ a b h. omega arith) (numbers n) (numbersFrom-ordered 0 n))
+unfolding numbersBelow
+columns-ordered n = rw (strings-columns n) (ordered-append (ByColumn n) (map (λ a. a ∷ []) (numbersBelow n)) ([] ∷ [])
+    (ordered-map _<_ (ByColumn n) (λ a. a ∷ []) (λ a b h. omega arith) (numbersBelow n) (numbersFrom-ordered 0 n))
     (λ y m. absurd (List·Memᴰ·not-nil m), tt) end-last)
   where
-    end-last : (x y : List ℕ) → List·Memᴰ x (map (λ a. a ∷ []) (numbers n)) → List·Memᴰ y ([] ∷ []) → ByColumn n x y
+    end-last : (x y : List ℕ) → List·Memᴰ x (map (λ a. a ∷ []) (numbersBelow n)) → List·Memᴰ y ([] ∷ []) → ByColumn n x y
     end-last x y m k =
-        let r = Memᴰ·of-map (λ a. a ∷ []) (numbers n) m in
+        let r = Memᴰ·of-map (λ a. a ∷ []) (numbersBelow n) m in
         let e : x ≡ r .0 ∷ [] = cc (r .2) in
         let d : y ≡ [] = List·Memᴰ·eq-of-singleton k in
         let b = numbers-elim n (r .0) (r .1) in
@@ -102,7 +102,7 @@ rows-ordered n (A ∷ l) xs o u =
 -- the first of the clashes comes before every other, by nonterminal, then by column
 pub first-clash : (G : Grammar) (A : ℕ) (x : List ℕ) (l : List Entry) → clashes G 1 ≡ (A, x) ∷ l
     → (B : ℕ) (y : List ℕ) → Clash G 1 (First G 1) (Follow G 1) B y → (A < B) ⊎ ((A ≡ B) × (column (G .terminals) x ≤ column (G .terminals) y))
-unfolding clashes entries numbers
+unfolding clashes entries numbersBelow
 first-clash G A x l e B y c = go (List·Memᴰ·cases-cons (rw e at (clashes-make G 1 B y c)))
   where
     n : ℕ
@@ -110,7 +110,7 @@ first-clash G A x l e B y c = go (List·Memᴰ·cases-cons (rw e at (clashes-mak
 
     ordered : Ordered (Before n) ((A, x) ∷ l)
     ordered = rw e at (ordered-keep (Before n) (λ d. several (claims G 1 d) (G .rules) || (overruns G 1 (d .0) && sameString (0 ∷ []) (d .1))) (entries G 1)
-        (rows-ordered n (numbers (G .nonterminals)) (strings 1 n) (numbersFrom-ordered 0 (G .nonterminals)) (columns-ordered n)))
+        (rows-ordered n (numbersBelow (G .nonterminals)) (strings 1 n) (numbersFrom-ordered 0 (G .nonterminals)) (columns-ordered n)))
 
     go : _≡_ {A = Entry} (B, y) (A, x) ⊎ List·Memᴰ (B, y) l → Before n (A, x) (B, y)
     go (inl f) = inr (ap (λ (e : Entry). e .0) (sym f), rw (ap (λ (e : Entry). e .1) f) (omega arith))

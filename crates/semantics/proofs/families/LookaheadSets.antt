@@ -6,7 +6,7 @@ use Prim.Native.Nat.{ℕ, _<_}
 use lib.Dec.{T, eqb, eqb→eq, eqb-refl}
 use lib.ListN.{take}
 use Rattle.grammar.specs.Syntax.{Grammar}
-use Rattle.base.specs.FiniteSets.{numbers}
+use Rattle.base.specs.FiniteSets.{numbersBelow}
 use Rattle.base.specs.Rounds.{_⊆ᵇ_, least}
 use Rattle.base.specs.Strings.{Lookahead, strings, sameString}
 use Rattle.semantics.specs.Families.{Family}
@@ -31,13 +31,13 @@ module _ (G : Grammar) (k : ℕ) where
   pub entries-make : (A : ℕ) (x : List ℕ) → A < G .nonterminals → Lookahead k (G .terminals) x → List·Memᴰ (A, x) (entries G k)
   unfolding entries
   entries-make A x a l =
-      combine-make {Z = Entry} (λ A x. (A, x)) (numbers (G .nonterminals)) (strings k (G .terminals)) A x
+      combine-make {Z = Entry} (λ A x. (A, x)) (numbersBelow (G .nonterminals)) (strings k (G .terminals)) A x
       (numbers-make (G .nonterminals) A a) (strings-make k (G .terminals) x l)
 
   pub entries-elim : (e : Entry) → List·Memᴰ e (entries G k) → (e .0 < G .nonterminals) × Lookahead k (G .terminals) (e .1)
   unfolding entries
   entries-elim e m =
-      let r = combine-elim {Z = Entry} (λ A x. (A, x)) (numbers (G .nonterminals)) (strings k (G .terminals)) e m in
+      let r = combine-elim {Z = Entry} (λ A x. (A, x)) (numbersBelow (G .nonterminals)) (strings k (G .terminals)) e m in
       rw (r .4) (numbers-elim (G .nonterminals) (r .0) (r .2), strings-elim k (G .terminals) (r .1) (r .3))
 
   pub sets-make : (p : Entry → Bool) (A : ℕ) (x : List ℕ) → Lookahead k (G .terminals) x → T (p (A, x)) → List·Memᴰ x (setsOf G k p A)

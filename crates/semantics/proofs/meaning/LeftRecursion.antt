@@ -9,7 +9,7 @@ use lib.Dec.{T, eqb, eqb→eq, eqb-refl}
 use Rattle.word.specs.declared.Symbol.the-variants.{Terminal, Nonterminal}
 use Rattle.grammar.specs.Syntax.{Body, Grammar, bodies, NonterminalsBelow, WellScoped}
 use Rattle.base.specs.Quantifiers.{anyOf}
-use Rattle.base.specs.FiniteSets.{numbers}
+use Rattle.base.specs.FiniteSets.{numbersBelow}
 use Rattle.base.specs.Rounds.{NumberSet, _⊆ᵇ_}
 use Rattle.semantics.specs.LeftRecursion.{nullable, LeftIn, here, there, LeftDepends, LeftReaches, once, more, NoLeftRecursion}
 use Rattle.semantics.specs.LeftRecursion.{leftIn, leftDepends, reachStep, leftReaches, leftRecursive, lowestLeftRecursive}
@@ -76,7 +76,7 @@ module _ (G : Grammar) where
 
   leftReaches-sound : (A B : ℕ) → T (leftReaches G A B) → LeftReaches G A B
   unfolding leftReaches reachStep
-  leftReaches-sound A = least-kept eqb numbers-equality (numbers (G .nonterminals)) (reachStep G A) (LeftReaches G A) (λ s h B _ t.
+  leftReaches-sound A = least-kept eqb numbers-equality (numbersBelow (G .nonterminals)) (reachStep G A) (LeftReaches G A) (λ s h B _ t.
       elim (or-cases (leftDepends G A B) _ t) [
         | inl u ↦ once (leftDepends-sound A B u)
         | inr u ↦
@@ -107,7 +107,7 @@ module _ (G : Grammar) where
     leftReaches-closed : (A : ℕ) → reachStep G A (leftReaches G A) ⊆ᵇ leftReaches G A
     unfolding leftReaches
     leftReaches-closed A B t =
-        least-closed eqb numbers-equality (numbers (G .nonterminals)) (reachStep G A) (reachStep-mono A) B
+        least-closed eqb numbers-equality (numbersBelow (G .nonterminals)) (reachStep G A) (reachStep-mono A) B
         (numbers-make (G .nonterminals) B (reachStep-below A (leftReaches G A) B t)) t
 
     leftReaches-complete : (A B : ℕ) → LeftReaches G A B → T (leftReaches G A B)

@@ -5,7 +5,7 @@ use Prim.Native.Nat.{ℕ, _<_}
 use lib.Dec.{T, eqb, eqb→eq}
 use Rattle.word.specs.declared.Symbol.the-variants.{Terminal, Nonterminal}
 use Rattle.grammar.specs.Syntax.{Body, Grammar, WellScoped}
-use Rattle.base.specs.FiniteSets.{numbers}
+use Rattle.base.specs.FiniteSets.{numbersBelow}
 use Rattle.base.specs.Rounds.{NumberSet, _⊆ᵇ_}
 use Rattle.semantics.specs.LeftRecursion.{allNullable, nullStep, nullable}
 use Rattle.base.proofs.Booleans.{and-l, and-r, and-make}
@@ -30,7 +30,7 @@ module _ (G : Grammar) where
   -- the least set: any set that is closed holds it
   pub nullable-least : (s : NumberSet) → nullStep G s ⊆ᵇ s → nullable G ⊆ᵇ s
   unfolding nullable
-  nullable-least = least-least eqb numbers-equality (numbers (G .nonterminals)) (nullStep G) nullStep-mono
+  nullable-least = least-least eqb numbers-equality (numbersBelow (G .nonterminals)) (nullStep G) nullStep-mono
 
   module _ (c : WellScoped G) where
     head-below : (s : NumberSet) (A : ℕ) → T (nullStep G s A) → A < G .nonterminals
@@ -45,4 +45,4 @@ module _ (G : Grammar) where
     unfolding nullable
     nullable-closed A t =
         let m = numbers-make (G .nonterminals) A (head-below (nullable G) A t) in
-        least-closed eqb numbers-equality (numbers (G .nonterminals)) (nullStep G) nullStep-mono A m t
+        least-closed eqb numbers-equality (numbersBelow (G .nonterminals)) (nullStep G) nullStep-mono A m t

@@ -13,7 +13,7 @@ use Rattle.semantics.specs.Valuations.{pairs}
 use Rattle.semantics.specs.Choices.{Choice}
 use Rattle.semantics.specs.Descent.{Outcome, Failed, End, endsAt, select}
 use Rattle.semantics.specs.ComesTo.{callAt}
-use Rattle.semantics.specs.Memo.{Memo, encode, indexOf, entry}
+use Rattle.semantics.specs.Memo.{Memo, outcomeCode, memoIndex, entry}
 use Rattle.semantics.specs.contracts.Memo.{decode, blank}
 
 -- an outcome, and the memo after it
@@ -59,14 +59,14 @@ memoObey M w none i m = memoized Failed m
 memoObey M w (some r) i m = memoRule M w (length w) (r .positives) (r .negatives) i m
 
 unfoldable pub stored : ℕ → Memoized → Memoized
-stored x r = memoized (r .outcome) (set (r .memo) x (encode (r .outcome)))
+stored x r = memoized (r .outcome) (set (r .memo) x (outcomeCode (r .outcome)))
 
 -- a nonterminal called at i, at most n calls deep
 unfoldable pub memoCall : Grammar → Choice → List ℕ → ℕ → MemoCalls
 memoCall G choice w zero A i m = memoized Failed m
 memoCall G choice w (suc n) A i m =
     choose (eqb (entry w m (callAt A i)) uncalledCode)
-    (stored (indexOf w (callAt A i)) (memoObey (memoCall G choice w n) w (select G (choice A i)) i m))
+    (stored (memoIndex w (callAt A i)) (memoObey (memoCall G choice w n) w (select G (choice A i)) i m))
     (memoized (decode (entry w m (callAt A i))) m)
 
 -- the start called at 0

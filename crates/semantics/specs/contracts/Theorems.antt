@@ -11,7 +11,7 @@ use lib.ListN.{length, getD, getElem?, take}
 use Rattle.word.specs.declared.Symbol.{Symbol}
 use Rattle.word.specs.declared.Symbol.the-variants.{Nonterminal}
 use Rattle.grammar.specs.Syntax.{Body, Rule, Grammar, bodies, NonterminalsBelow, WellScoped, WellFormed}
-use Rattle.base.specs.FiniteSets.{numbers}
+use Rattle.base.specs.FiniteSets.{numbersBelow}
 use Rattle.base.specs.Rounds.{NumberSet, _⊆ᵇ_}
 use Rattle.semantics.specs.Valuations.{Valuation, contains, derives, Solves}
 use Rattle.semantics.specs.LeftRecursion.{nullStep, nullable, LeftDepends, LeftReaches, NoLeftRecursion, leftRecursive, lowestLeftRecursive, rank}
@@ -28,7 +28,7 @@ use Rattle.semantics.specs.contracts.Choices.{OwnRules}
 use Rattle.semantics.specs.Descent.{End, Outcomes, run, descend, accepts}
 use Rattle.semantics.specs.ComesTo.{Call, InRange}
 use Rattle.semantics.specs.Calls.{allCalls}
-use Rattle.semantics.specs.Memo.{indexOf, Recorded}
+use Rattle.semantics.specs.Memo.{memoIndex, Recorded}
 use Rattle.semantics.specs.contracts.Memo.{EndsFit}
 use Rattle.semantics.specs.contracts.MemoDescent.{memoStart}
 use Rattle.semantics.specs.Predictive.{Predictive}
@@ -71,7 +71,7 @@ pub record OneToken (G : Grammar) : Type 1 where
   pub follow : (L : Family) → Short 1 L → FollowClosed G 1 (First G 1) L ↔ FollowStrung G (First G 1) L
   pub claims : (q A : ℕ) (x : List ℕ) → Claims G 1 (First G 1) (Follow G 1) q A x
       ↔ ((r : Rule) × (getElem? (G .rules) q ≡ some r) × (r .head ≡ A) × Strung (Meeting G 1 (First G 1) r) (Follow G 1 A) x)
-  pub columns : strings 1 (G .terminals) ≡ map (λ a. a ∷ []) (numbers (G .terminals)) ++ ([] ∷ [])
+  pub columns : strings 1 (G .terminals) ≡ map (λ a. a ∷ []) (numbersBelow (G .terminals)) ++ ([] ∷ [])
   pub first-clash : (A : ℕ) (x : List ℕ) (l : List Entry) → clashes G 1 ≡ (A, x) ∷ l → (B : ℕ) (y : List ℕ) → Clash G 1 (First G 1) (Follow G 1) B y
       → (A < B) ⊎ ((A ≡ B) × (column (G .terminals) x ≤ column (G .terminals) y))
 
@@ -110,7 +110,7 @@ VerdictByMeaning G k w v = accepts G (tableChoice G k w) w ≡ v 0 0 (length w)
 pub record MemoRight (G : Grammar) (choice : Choice) (w : List ℕ) : Type 0 where
   pub outcome : memoStart G choice w .outcome ≡ descend G choice w 0 0
   pub recorded : Recorded G choice w (memoStart G choice w .memo)
-  pub ordered : (x z : Call) → InRange G w x → getD (allCalls G w) (indexOf w x) z ≡ x
+  pub ordered : (x z : Call) → InRange G w x → getD (allCalls G w) (memoIndex w x) z ≡ x
 
 -- a rule with one positive body more
 abbrev pub withPositive : Body → Rule → Rule

@@ -4,13 +4,13 @@ use Prim.Native.Nat.{_≤_, _+_, _-_}
 use native.Mathlib.Omega.{arith}
 use Rattle.text.proofs.Writing.{put-length, put-none, put-next, put-last}
 use Rattle.text.specs.Writing.{Put, upTo}
-use Rattle.sheet_text.specs.Sheet.{wordAt, entryText}
+use Rattle.sheet_text.specs.Sheet.{sheetWordAt, tableEntryText}
 use Rattle.sheet_text.proofs.put_row.Statement.{statement}
 use Rattle.sheet_text.proofs.put_row.Tie as tie
 
 abbrev Inv-loop : tie.InvT-loop
 Inv-loop out₀ at table start columns next₀ column₀ out next column =
-    (column ≤ columns) × Put out₀ at (upTo column (λ c. entryText (wordAt table (start + c)))) out next
+    (column ≤ columns) × Put out₀ at (upTo column (λ c. tableEntryText (sheetWordAt table (start + c)))) out next
 
 abbrev μ-loop : tie.MeasureT-loop
 μ-loop out₀ at table start columns next₀ column₀ out next column = columns - column
@@ -39,7 +39,7 @@ loop-again c =
     let at-put-entry = c .before .before in
     let at-word-at = at-put-entry .before in
     let at-loop = at-word-at .before .before .before in
-    (omega arith, put-next _ _ (ap entryText (at-word-at .word-at .ensures)) (at-loop .loop .inv .1) (at-put-entry .put-entry .ensures))
+    (omega arith, put-next _ _ (ap tableEntryText (at-word-at .word-at .ensures)) (at-loop .loop .inv .1) (at-put-entry .put-entry .ensures))
 
 same-length : tie.Need-same-length Inv-loop μ-loop
 same-length c = put-length (c .before .loop .inv .1)

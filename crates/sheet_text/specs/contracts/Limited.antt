@@ -16,6 +16,6 @@ pub record Limited (z : Sizes) : Type 0 where
 unfoldable pub limitedSizes : Sizes → Sizes
 limitedSizes z = choose (ltb maxNonterminals (z .nonterminals)) (sizes 0 0 0) (choose (ltb maxTerminals (z .terminals)) (sizes 0 0 0) z)
 
-abbrev pub limited : Finding → Finding
-limited (Refused e) = Refused e
-limited (Passed z) = Passed (limitedSizes z)
+abbrev pub limitedFinding : Finding → Finding
+limitedFinding (Refused e) = Refused e
+limitedFinding (Passed z) = Passed (limitedSizes z)

@@ -8,7 +8,7 @@ use Rattle.grammar.specs.declared.reading.Sizes.{Sizes}
 use Rattle.lookahead.specs.declared.Lookahead.{Lookahead}
 use Rattle.lookahead.specs.Elements.{has}
 use Rattle.lookahead.specs.contracts.Operations.{join, meet}
-use Rattle.base.specs.FiniteSets.{numbers}
+use Rattle.base.specs.FiniteSets.{numbersBelow}
 use Rattle.semantics.specs.Claims.{several}
 use Rattle.table.specs.declared.conflicts.Conflict.{Conflict}
 use Rattle.columns.specs.Columns.{columnCount}
@@ -25,17 +25,17 @@ inSets element sets A = inSet element (getD sets A 0)
 
 -- the entries that two of so many rules claim, and those whose elements are told of their nonterminals
 abbrev pub claimedTwice : (ℕ → ℕ) → List ℕ → List ℕ → List ℕ → ℕ → ℕ → ℕ → Bool
-claimedTwice element heads sets told rules A c = several (claimant heads sets A (element c)) (numbers rules) || inSets element told A c
+claimedTwice element heads sets told rules A c = several (claimant heads sets A (element c)) (numbersBelow rules) || inSets element told A c
 
 abbrev pub conflictOf : Lookahead → Sizes → List ℕ → List ℕ → List ℕ → Conflict
 conflictOf k z heads sets told =
     conflictFrom (claimedTwice (columnElement k (z .terminals)) heads sets told (z .rules)) (columnCount k (z .terminals)) 0 (z .nonterminals)
 
 -- a claim is joined to the sets claimed once and twice
-pub record Noted (once twice : List ℕ) (head claim : ℕ) (once′ twice′ : List ℕ) : Type 0 where
+pub record ClaimNoted (once twice : List ℕ) (head claim : ℕ) (once′ twice′ : List ℕ) : Type 0 where
   pub first : once′ ≡ set once head (join (getD once head 0) claim)
   pub again : twice′ ≡ set twice head (join (getD twice head 0) (meet (getD once head 0) claim))
 
 -- the elements that two rules claim, for each nonterminal, with those told of it
 pub record Twice (heads sets told : List ℕ) (rules : ℕ) (twice : List ℕ) : Type 0 where
-  pub each : (A l : ℕ) → has (getD twice A 0) l ≡ (several (claimant heads sets A l) (numbers rules) || has (getD told A 0) l)
+  pub each : (A l : ℕ) → has (getD twice A 0) l ≡ (several (claimant heads sets A l) (numbersBelow rules) || has (getD told A 0) l)

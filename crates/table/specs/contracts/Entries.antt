@@ -57,14 +57,14 @@ abbrev pub rowsOf : Lookahead → (nonterminals terminals : ℕ) → Rows
 rowsOf k n t = record { rows = n; columns = columnCount k t; element = columnElement k t }
 
 -- where an entry stands
-abbrev pub indexOf : Rows → ℕ → ℕ → ℕ
-indexOf R A c = A * R .columns + c
+abbrev pub entryIndex : Rows → ℕ → ℕ → ℕ
+entryIndex R A c = A * R .columns + c
 
 -- every entry has the first of the given rules that claims it
 pub record FilledRows (R : Rows) (heads sets : List ℕ) (first : ℕ) (rules : List ℕ) (before after : List ℕ) : Type 0 where
   pub long : length after ≡ length before
   pub entries : (A c : ℕ) → A < R .rows → c < R .columns
-      → getD after (indexOf R A c) 0 ≡ entryOver first (getD before (indexOf R A c) 0) (position (claimant heads sets A (R .element c)) rules)
+      → getD after (entryIndex R A c) 0 ≡ entryOver first (getD before (entryIndex R A c) 0) (position (claimant heads sets A (R .element c)) rules)
   pub behind : (i : ℕ) → R .rows * R .columns ≤ i → getD after i 0 ≡ getD before i 0
 
 -- what filling the rows needs

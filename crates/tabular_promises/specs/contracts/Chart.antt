@@ -9,7 +9,7 @@ use lib.ListN.{length, getD}
 use Rattle.base.specs.Choice.{choose}
 use Rattle.base.specs.Quantifiers.{anyBelow}
 use Rattle.grammar.specs.Limits.{maxNonterminals, maxTabularPlaces}
-use Rattle.lookahead.specs.Elements.{weight, has, total}
+use Rattle.lookahead.specs.Elements.{weight, has, totalWeight}
 use Rattle.semantics.specs.Valuations.{Valuation}
 use Rattle.tabular_promises.specs.contracts.Places.{hasPlace}
 
@@ -59,12 +59,12 @@ pub record WordGiven (N start end : ℕ) : Type 0 where
   pub few : N ≤ maxNonterminals
 
 -- the nonterminals that a chart gives a span to, A weighing 2^A
-unfoldable pub wordAt : List ℕ → ℕ → ℕ → ℕ → ℕ
-wordAt chart N start end = total N (λ A. charted chart A start end)
+unfoldable pub chartWordAt : List ℕ → ℕ → ℕ → ℕ → ℕ
+chartWordAt chart N start end = totalWeight N (λ A. charted chart A start end)
 
 -- the same where places beyond those of an input are in no set, and of any numbers: none beyond the limits
 unfoldable pub foundWord : List ℕ → ℕ → ℕ → ℕ → ℕ
-foundWord chart N start end = total N (λ A. hasPlace (getD chart (slot A end) 0) start)
+foundWord chart N start end = totalWeight N (λ A. hasPlace (getD chart (slot A end) 0) start)
 
 unfoldable pub spanWord : List ℕ → ℕ → ℕ → ℕ → ℕ
 spanWord chart N start end = choose (leb N maxNonterminals && ltb end maxTabularPlaces) (foundWord chart N start end) 0

@@ -20,7 +20,7 @@ use Rattle.families.specs.contracts.Rules.{ruleFrom}
 use Rattle.families.specs.contracts.Sets.{reachNumber}
 use Rattle.tabular_promises.specs.contracts.Places.{Standing, InputGiven}
 use Rattle.tabular_promises.specs.contracts.Chart.{charted, Long, Span}
-use Rattle.tabular_promises.specs.contracts.Scanning.{Over}
+use Rattle.tabular_promises.specs.contracts.Scanning.{Scannable}
 
 -- a grammar that has been read, and where its rules begin
 pub record RulesGiven (words starts : List ℕ) (z : Sizes) : Type 0 where
@@ -57,7 +57,7 @@ pub record AskGiven (words starts : List ℕ) (z : Sizes) (q start end : ℕ) : 
 
 -- the nonterminals found, and that of a rule where the rule gives it the span
 pub record Asked (words : List ℕ) (q : ℕ) (stands chart : List ℕ) (start end before after : ℕ) : Type 0 where
-  pub member : (w : List ℕ) → Over w stands chart end → (A : ℕ)
+  pub member : (w : List ℕ) → Scannable w stands chart end → (A : ℕ)
       → has after A ≡ (has before A || derives (charted chart) w A start end (ruleNumbered words q))
 
 pub record DerivedGiven (words starts lasts befores : List ℕ) (z : Sizes) (r start end : ℕ) : Type 0 where
@@ -67,8 +67,8 @@ pub record DerivedGiven (words starts lasts befores : List ℕ) (z : Sizes) (r s
   pub span : Span start end
 
 -- the nonterminals of a rank that the rules give a span to
-pub record Derived (words : List ℕ) (r : ℕ) (stands chart : List ℕ) (start end found : ℕ) : Type 0 where
-  pub member : (w : List ℕ) → Over w stands chart end → (A : ℕ)
+pub record SpanDerived (words : List ℕ) (r : ℕ) (stands chart : List ℕ) (start end found : ℕ) : Type 0 where
+  pub member : (w : List ℕ) → Scannable w stands chart end → (A : ℕ)
       → has found A ≡ (eqb (rank (grammarOf words) A) r && byRules (grammarOf words) w (charted chart) A start end)
 
 -- where a nonterminal's turn at a span comes: by length, then start, then rank

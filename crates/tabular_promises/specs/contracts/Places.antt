@@ -23,7 +23,7 @@ unfoldable pub withPlace : ℕ → ℕ → Bool → ℕ
 withPlace set place member = choose member (bitOr set (onePlace place)) set
 
 -- which places that has
-pub record Put (set place : ℕ) (member : Bool) (r : ℕ) : Type 0 where
+pub record PlacePut (set place : ℕ) (member : Bool) (r : ℕ) : Type 0 where
   pub is : (k : ℕ) → has r k ≡ (has set k || (eqb k place && member))
 
 -- for each terminal, the places where it stands in the input w

@@ -26,7 +26,7 @@ use Rattle.tabular_promises.specs.contracts.Places.{onePlace, hasPlace, 
 use Rattle.tabular_promises.specs.contracts.Chart.{placesBefore, charted, Forward, Span}
 
 -- the input w, by where its terminals stand, reaches to the end, and no span of the chart ends before it starts
-pub record Over (w stands chart : List ℕ) (end : ℕ) : Type 0 where
+pub record Scannable (w stands chart : List ℕ) (end : ℕ) : Type 0 where
   pub standing : Standing w stands
   pub reaches : end ≤ length w
   pub forward : Forward chart
@@ -95,4 +95,4 @@ pub record KeepsGiven (words : List ℕ) (from to start end : ℕ) : Type 0 wher
 
 -- whether the rule that begins at an index holds
 pub record Keeps (words : List ℕ) (from : ℕ) (stands chart : List ℕ) (start end : ℕ) (r : Bool) : Type 0 where
-  pub is : (w : List ℕ) → Over w stands chart end → r ≡ holds (charted chart) w start end (parse (drop (suc from) words))
+  pub is : (w : List ℕ) → Scannable w stands chart end → r ≡ holds (charted chart) w start end (parse (drop (suc from) words))

@@ -7,11 +7,11 @@ use lib.Seq.{sets}
 use Rattle.base.specs.Choice.{choose}
 use Rattle.text.specs.declared.words.Loaded.{Loaded}
 use Rattle.text.specs.declared.words.Loaded.the-variants.{Words, NotWords}
-use Rattle.text.specs.Words.{bytesOfWord, word, wordsOf, areWords}
+use Rattle.text.specs.Words.{bytesOfWord, wordOfBytes, wordsOf, areWords}
 
--- the word that starts at an index
+-- the wordOfBytes that starts at an index
 abbrev pub fourAt : List ℕ → ℕ → ℕ
-fourAt bytes at = word (getD bytes at 0) (getD bytes (at + 1) 0) (getD bytes (at + 2) 0) (getD bytes (at + 3) 0)
+fourAt bytes at = wordOfBytes (getD bytes at 0) (getD bytes (at + 1) 0) (getD bytes (at + 2) 0) (getD bytes (at + 3) 0)
 
 -- the words are put in front, and those behind them keep their contents; what is no row of words changes nothing
 pub record Loading (bytes before : List ℕ) (r : Loaded) (after : List ℕ) : Type 0 where

@@ -18,16 +18,16 @@ abbrev pub labelIndex : Call → ℕ
 labelIndex x = x .nonterminal * maxPlaces + x .place
 
 -- the fields of a word
-abbrev pub ruleOf : ℕ → ℕ
-ruleOf word = word % 128
+abbrev pub labelRule : ℕ → ℕ
+labelRule word = word % 128
 
-abbrev pub endOf : ℕ → ℕ
-endOf word = word / 65536 % 512
+abbrev pub labelEnd : ℕ → ℕ
+labelEnd word = word / 65536 % 512
 
 -- the word for a call, from the entries of the lent table and of the lent memo table
 unfoldable pub labelWord : Sizes → (input table memo : List ℕ) (A i : ℕ) → ℕ
 labelWord z input table memo A i = vertexWord
-    (vertex (ruleOf (getD table (2 * z .nonterminals + A * (z .terminals + 1) + columnAt One (z .terminals) input i) 0)) i
+    (vertex (labelRule (getD table (2 * z .nonterminals + A * (z .terminals + 1) + columnAt One (z .terminals) input i) 0)) i
     (getD memo (A * (length input + 1) + i) 0 % 512))
 
 -- and of an input that is too long 0

@@ -20,28 +20,28 @@ use Rattle.semantics.specs.Descent.{descend, accepts}
 use Rattle.semantics.specs.ComesTo.{Call, callAt, InRange}
 use Rattle.semantics.specs.contracts.ComesTo.{measure}
 use Rattle.semantics.specs.Calls.{Called, sameCall}
-use Rattle.semantics.specs.Memo.{encode, indexOf}
+use Rattle.semantics.specs.Memo.{outcomeCode, memoIndex}
 use Rattle.semantics.specs.Predictive.{Predictive}
 use Rattle.lookahead.specs.declared.Lookahead.the-variants.{One}
 use Rattle.columns.specs.Columns.{columns}
 use Rattle.table.specs.Layout.{entryAt}
 use Rattle.tree.specs.Writing.{vertexAt, below, visit, vertexWord, InTree}
 use Rattle.tree_writer_promises.specs.Properties.{wordsOf}
-use Rattle.tree_writer_promises.specs.contracts.Labels.{labelIndex, endOf}
+use Rattle.tree_writer_promises.specs.contracts.Labels.{labelIndex, labelEnd}
 
 -- the choice by one token of lookahead
 abbrev pub choiceOf : List ℕ → List ℕ → Choice
 choiceOf words input = tableChoice (grammarOf words) 1 input
 
 -- the word of a call's vertex
-unfoldable pub wordAt : List ℕ → List ℕ → Call → ℕ
-wordAt words input x = vertexWord (vertexAt (grammarOf words) (choiceOf words input) input x)
+unfoldable pub vertexWordAt : List ℕ → List ℕ → Call → ℕ
+vertexWordAt words input x = vertexWord (vertexAt (grammarOf words) (choiceOf words input) input x)
 
 -- the words of the calls in l stand in front of the words as they were lent, and just those calls are marked
 pub record Holds (words input lent : List ℕ) (l : List Call) (tree : List ℕ) (marks : List Bool) (written : ℕ) : Type 0 where
   pub long : maxMemoEntries ≤ length lent
   pub count : written ≡ length l
-  pub front : tree ≡ map (wordAt words input) l ++ drop (length l) lent
+  pub front : tree ≡ map (vertexWordAt words input) l ++ drop (length l) lent
   pub whole : length marks ≡ maxMemoEntries
   pub marked : (x : Call) → InRange (grammarOf words) input x → getD marks (labelIndex x) false ≡ member sameCall l x
   pub distinct : Distinct l
@@ -60,7 +60,7 @@ pub record Accepted (words input : List ℕ) : Type 0 where
 pub record VertexGiven (input words starts labels tree : List ℕ) (marks : List Bool) (A start written : ℕ) : Type 0 where
   pub accepted : Accepted words input
   pub begins : starts ≡ ruleStarts words
-  pub labelled : (x : Call) → InTree (grammarOf words) (choiceOf words input) input x → getD labels (labelIndex x) 0 ≡ wordAt words input x
+  pub labelled : (x : Call) → InTree (grammarOf words) (choiceOf words input) input x → getD labels (labelIndex x) 0 ≡ vertexWordAt words input x
   pub inTree : InTree (grammarOf words) (choiceOf words input) input (callAt A start)
   pub lent : List ℕ
   pub seen : List Call
@@ -80,7 +80,7 @@ VertexEnsures words starts labels tree marks A start written r tree′ marks′ 
 
 -- what falls from a call to those below it: the tokens left, for the input ends where the root does, then the rank
 abbrev pub falling : (words labels : List ℕ) (A start : ℕ) → ℕ
-falling words labels A start = level (grammarOf words) (endOf (getD labels 0 0) - start) A
+falling words labels A start = level (grammarOf words) (labelEnd (getD labels 0 0) - start) A
 
 -- the table holds the entries of the grammar
 abbrev pub Entries : Grammar → List ℕ → Type 0
@@ -91,7 +91,7 @@ pub record TreeGiven (words input table memo tree : List ℕ) : Type 0 where
   pub accepted : Accepted words input
   pub entries : Entries (grammarOf words) table
   pub recorded : (x : Call) → Called (grammarOf words) (choiceOf words input) input x
-      → getD memo (indexOf input x) 0 ≡ encode (descend (grammarOf words) (choiceOf words input) input (x .nonterminal) (x .place))
+      → getD memo (memoIndex input x) 0 ≡ outcomeCode (descend (grammarOf words) (choiceOf words input) input (x .nonterminal) (x .place))
   pub long-table : maxTableWords ≤ length table
   pub long-memo : maxMemoEntries ≤ length memo
   pub long-tree : maxMemoEntries ≤ length tree

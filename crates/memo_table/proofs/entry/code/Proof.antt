@@ -1,4 +1,4 @@
-use Rattle.semantics.specs.Memo.{encode}
+use Rattle.semantics.specs.Memo.{outcomeCode}
 use borrow.Author.Needs.{needs}
 use Rattle.memo_table.proofs.entry.code.Statement.{statement}
 use Rattle.memo_table.proofs.entry.code.Tie as tie
@@ -10,11 +10,11 @@ enum-known-outcome : tie.Need-enum-known-outcome
 enum-known-outcome c = search needs
 
 returns : tie.Need-returns
-unfolding encode
+unfolding outcomeCode
 returns c = rw (c .enum-told .given .1)
 
 returns-2 : tie.Need-returns-2
-unfolding encode
+unfolding outcomeCode
 returns-2 c = rw (c .before .outcome .given .1)
 
 pub code-spec : {M : Type 1} → statement M

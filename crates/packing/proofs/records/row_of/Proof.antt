@@ -5,13 +5,13 @@ use native.Mathlib.Omega.{arith}
 use borrow.Author.Needs.{needs}
 use lib.ListN.{length}
 use Rattle.client_records.specs.Usages.{clients}
-use Rattle.embed_promises.specs.contracts.Records.{Written}
+use Rattle.embed_promises.specs.contracts.Records.{RecordsWritten}
 use Rattle.embed_promises.proofs.RecordRows.{nothing-written, one-written, all-written}
 use Rattle.packing.proofs.records.row_of.Statement.{statement}
 use Rattle.packing.proofs.records.row_of.Tie as tie
 
 abbrev Inv-loop : tie.InvT-loop
-Inv-loop usages row₀ client₀ row client = Written usages client row
+Inv-loop usages row₀ client₀ row client = RecordsWritten usages client row
 
 abbrev μ-loop : tie.MeasureT-loop
 μ-loop usages row₀ client₀ row client = clients - client

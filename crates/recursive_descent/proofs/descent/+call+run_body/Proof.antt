@@ -9,7 +9,7 @@ use lib.ListN.{length, length-set}
 use borrow.Author.Tests.{not-true, not-false}
 use Rattle.word.specs.declared.Word.the-variants.{Symbol}
 use Rattle.semantics.specs.Choices.{Choice}
-use Rattle.descent_arrays.specs.contracts.Arrays.{held}
+use Rattle.descent_arrays.specs.contracts.Arrays.{heldTokens}
 use Rattle.recursive_descent.specs.contracts.Descent.{CallGiven, RunGiven}
 use Rattle.rule.proofs.Bodies.{no-symbol}
 use Rattle.recursive_descent.proofs.Choosing.{token-given, entry-given, chosen-given}
@@ -42,10 +42,10 @@ use Rattle.recursive_descent.proofs.descent.+call+run_body.{statement}
 use Rattle.recursive_descent.proofs.descent.+call+run_body.Tie.{close}
 
 abbrev μ-call : Measures 4 call-kinds.ps ℕ
-μ-call κs a = 2 * level (a .1 .0 .now) (held (a .1 .1 .1 .0 .now)) (a .0) (a .1 .1 .1 .1 .1 .0) + 1
+μ-call κs a = 2 * level (a .1 .0 .now) (heldTokens (a .1 .1 .1 .0 .now)) (a .0) (a .1 .1 .1 .1 .1 .0) + 1
 
 abbrev μ-run-body : Measures 4 run-body-kinds.ps ℕ
-μ-run-body κs a = 2 * level (a .1 .0 .now) (held (a .1 .1 .1 .0 .now)) (a .0) (a .1 .1 .1 .1 .1 .1 .0)
+μ-run-body κs a = 2 * level (a .1 .0 .now) (heldTokens (a .1 .1 .1 .0 .now)) (a .0) (a .1 .1 .1 .1 .1 .1 .0)
 
 abbrev call-at : ℕ → In 4 call-kinds.ps
 call-at t = and 4 call-kinds.ps (is 4 call-kinds.ps μ-call t) call.Pre
@@ -99,8 +99,8 @@ run-body-claims t = (
 
 abbrev call-Inv-loop : call-lts.InvT-loop
 call-Inv-loop nonterminal words choices tokens memo₀ place entry known at₀ sign₀ agreement₀ memo at sign agreement =
-    (choice : Choice) → CallGiven choice words choices tokens (held tokens) memo₀ nonterminal place
-    → InRule choice words (held tokens) memo₀ nonterminal place memo at sign agreement
+    (choice : Choice) → CallGiven choice words choices tokens (heldTokens tokens) memo₀ nonterminal place
+    → InRule choice words (heldTokens tokens) memo₀ nonterminal place memo at sign agreement
 
 abbrev call-μ-loop : call-lts.MeasureT-loop
 call-μ-loop nonterminal words choices tokens memo₀ place entry known at₀ sign₀ agreement₀ memo at sign agreement =
@@ -262,8 +262,8 @@ call-returns-3 t c =
 
 abbrev run-body-Inv-loop : run-body-lts.InvT-loop
 run-body-Inv-loop nonterminal words choices tokens memo₀ from start at₀ place₀ memo at place =
-    (choice : Choice) → RunGiven choice words choices tokens (held tokens) memo₀ nonterminal from start
-    → Running choice words (held tokens) memo₀ nonterminal from start memo at place
+    (choice : Choice) → RunGiven choice words choices tokens (heldTokens tokens) memo₀ nonterminal from start
+    → Running choice words (heldTokens tokens) memo₀ nonterminal from start memo at place
 
 abbrev run-body-μ-loop : run-body-lts.MeasureT-loop
 run-body-μ-loop nonterminal words choices tokens memo₀ from start at₀ place₀ memo at place =

@@ -1,6 +1,6 @@
 -- By the kinds of answers.
 use Rattle.usage.specs.Counters.{eachCounter}
-use Rattle.usage.specs.Histories.{counted}
+use Rattle.usage.specs.Histories.{countedAnswer}
 use borrow.Author.Needs.{needs}
 use Rattle.usage.proofs.Usage.after.Statement.{statement}
 use Rattle.usage.proofs.Usage.after.Tie as tie
@@ -30,19 +30,19 @@ plus-requires-4 : tie.Need-plus-requires-4
 plus-requires-4 c κs = search needs
 
 returns : tie.Need-returns
-unfolding counted eachCounter
+unfolding countedAnswer eachCounter
 returns c = rw (c .before .enum-told .given .1) (c .plus .ensures)
 
 returns-2 : tie.Need-returns-2
-unfolding counted eachCounter
+unfolding countedAnswer eachCounter
 returns-2 c = rw (c .before .enum-told2 .given .1) (c .plus2 .ensures)
 
 returns-3 : tie.Need-returns-3
-unfolding counted eachCounter
+unfolding countedAnswer eachCounter
 returns-3 c = rw (c .before .before .answer .given .1) (c .plus3 .ensures)
 
 returns-4 : tie.Need-returns-4
-unfolding counted eachCounter
+unfolding countedAnswer eachCounter
 returns-4 c = rw (c .before .before .answer2 .given .1) (c .plus4 .ensures)
 
 pub after-spec : {M : Type 1} → statement M
