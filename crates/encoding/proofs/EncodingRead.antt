@@ -19,8 +19,8 @@ use Rattle.grammar.specs.declared.reading.Outcome.the-variants.{Read}
 use Rattle.grammar.specs.Limits.{maxNonterminals, maxTerminals, maxRules}
 use Rattle.grammar.specs.Syntax.{Body, Rule, Grammar, WellFormed}
 use Rattle.grammar.specs.Encoding.{sizes}
-use Rattle.grammar.specs.Reading.{row, allows, inRange, symbolInRange, beginsRule, stateAfter, progress, oneMore, counted, onStep, finished, scan, isWithin, headed}
-use Rattle.grammar.specs.Reading.{opened}
+use Rattle.grammar.specs.Reading.{row, allows, inRange, symbolInRange, beginsRule, stateAfter, progress, oneMore, counted, onStep, finished, scan, isWithin}
+use Rattle.grammar.specs.Reading.{headed, opened}
 use Rattle.encoding.specs.Encode.{symbolWord, ruleWord, positiveWord, negativeWord, endWord, bodyWords, conjunctWords, ruleWords, rulesWords, encode}
 use Rattle.encoding.specs.Encode.{sizesOf, WithinLimits}
 use Rattle.grammar.proofs.WellFormed.{Each, InRange, RuleFits}

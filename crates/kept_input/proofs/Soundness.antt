@@ -15,7 +15,8 @@ use Rattle.answer.proofs.Faults.{fault-none, each-none}
 use Rattle.base.specs.Choice.{choose}
 use Rattle.grammar.specs.Limits.{maxTokens}
 use Rattle.kept_input.specs.declared.Progress.{Progress}
-use Rattle.kept_input.specs.Histories.{markCount, Kept, emptyInput, Step, Add, Mark, Return, stepFault, withinLength, cutAt, done, unlessRefused, afterStep, ran}
+use Rattle.kept_input.specs.Histories.{markCount, Kept, emptyInput, Step, Add, Mark, Return, stepFault, withinLength, cutAt, done, unlessRefused}
+use Rattle.kept_input.specs.Histories.{afterStep, ran}
 use Rattle.kept_input.specs.Stored.{unsetCode, keptInput, readLength, readMark, heldInput}
 use Rattle.kept_input.specs.Runs.{Sound}
 use Rattle.kept_input.proofs.Storing.{read-unset}

@@ -2,7 +2,7 @@
 ghost use mathlib.Core.Path.{_≡_};
 ghost use lib.ListN.{drop};
 ghost use Rattle.grammar.specs.Encoding.{declaredBy};
-ghost use Rattle.grammar.specs.Reading.{stepped, finished, fresh, scan, within as withinOf, reading};
+ghost use Rattle.grammar.specs.Reading.{stepped, finished, fresh, scan, isWithin, reading};
 ghost use Rattle.grammar.specs.contracts.Starts.{StartNoted, ruleStarts};
 use answer::Error;
 use grammar::limits::NONTERMINALS;
@@ -81,7 +81,7 @@ fn read_rules(words: &[u32], sizes: Sizes) -> Outcome
 }
 
 fn within(number: u32, limit: u32) -> bool
-    ensures { λ r. ⌜ r ≡ withinOf number limit ⌝ }
+    ensures { λ r. ⌜ r ≡ isWithin number limit ⌝ }
 {
     if number == 0 {
         return false;

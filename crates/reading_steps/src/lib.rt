@@ -1,6 +1,6 @@
 // What one word does to the reading of an encoded grammar: whether it is allowed there and in range, and what state comes next.
 ghost use mathlib.Core.Path.{_≡_};
-ghost use Rattle.grammar.specs.Reading.{row as rowOf, allows as allowsAfter, symbolInRange, inRange, beginsRule, after as stateAfter, counted as countedOf};
+ghost use Rattle.grammar.specs.Reading.{row as rowOf, allows as allowsAfter, symbolInRange, inRange, beginsRule, stateAfter, counted as countedOf};
 use answer::Error;
 use grammar::limits::RULES;
 use grammar::reading::Progress;

@@ -16,7 +16,8 @@ use Rattle.lookahead.specs.Elements.{weight, has, totalWeight}
 use Rattle.lookahead.proofs.Elements.{has-shift, has-zero}
 use Rattle.lookahead.proofs.Weights.{total-bound}
 use Rattle.tabular_promises.specs.contracts.Places.{hasPlace, PlacePut}
-use Rattle.tabular_promises.specs.contracts.Chart.{slot, charted, Long, oneNonterminal, withNonterminal, WordGiven, chartWordAt, foundWord, spanWord, Added}
+use Rattle.tabular_promises.specs.contracts.Chart.{slot, charted, Long, oneNonterminal, withNonterminal, WordGiven, chartWordAt, foundWord}
+use Rattle.tabular_promises.specs.contracts.Chart.{spanWord, Added}
 use Rattle.tabular_promises.proofs.PlaceSets.{has-place}
 use Rattle.tabular_promises.proofs.Writing.{total-cong}
 

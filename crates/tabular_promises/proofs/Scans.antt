@@ -26,8 +26,8 @@ use Rattle.families.specs.contracts.Rules.{RuleWords}
 use Rattle.tabular_promises.specs.declared.Scan.{Scan}
 use Rattle.tabular_promises.specs.contracts.Places.{onePlace, hasPlace}
 use Rattle.tabular_promises.specs.contracts.Chart.{charted, Span}
-use Rattle.tabular_promises.specs.contracts.Scanning.{Scannable, Reads, holds, Scanned, noneOpen, beforeTerminal, beforeSymbol, scanOnto, scanned, keepsBy}
-use Rattle.tabular_promises.specs.contracts.Scanning.{SymbolKnown, Known, KeepsGiven, Keeps}
+use Rattle.tabular_promises.specs.contracts.Scanning.{Scannable, Reads, holds, Scanned, noneOpen, beforeTerminal, beforeSymbol, scanOnto, scanned}
+use Rattle.tabular_promises.specs.contracts.Scanning.{keepsBy, SymbolKnown, Known, KeepsGiven, Keeps}
 use Rattle.tabular_promises.proofs.PlaceSets.{one-place, has-place}
 use Rattle.tabular_promises.proofs.Reaching.{nothing-reads, terminal-reads, nonterminal-reads, places-before}
 

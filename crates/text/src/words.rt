@@ -2,7 +2,7 @@
 ghost use mathlib.Core.Path.{_≡_};
 ghost use Prim.Native.Nat.{_+_, _<_};
 ghost use lib.ListN.{length};
-ghost use Rattle.text.specs.Words.{word as wordOf};
+ghost use Rattle.text.specs.Words.{wordOfBytes};
 ghost use Rattle.text.specs.contracts.Words.{fourAt, Loading};
 use grammar::limits::WORDS;
 
@@ -15,7 +15,7 @@ pub enum Loaded {
 pub const WORD_BYTES: usize = 4;
 
 fn word(a: u8, b: u8, c: u8, d: u8) -> u32
-    ensures { λ r. ⌜ r ≡ wordOf a b c d ⌝ }
+    ensures { λ r. ⌜ r ≡ wordOfBytes a b c d ⌝ }
 {
     a as u32 + 256 * b as u32 + 65536 * c as u32 + 16777216 * d as u32
 }

@@ -48,7 +48,7 @@ use Rattle.semantics.proofs.descent.Outcomes.{nth-below}
 use Rattle.tree.proofs.Reading.{Found, Reads, Chosen, chosen}
 use Rattle.tree.proofs.Below.{comes-token, comes-name, below-chosen, below-make, below-falls}
 use Rattle.tree.proofs.Trees.{tree-sound}
-use Rattle.tree_writer_promises.specs.contracts.Labels.{ruleOf as word-rule, endOf as word-end}
+use Rattle.tree_writer_promises.specs.contracts.Labels.{labelRule, labelEnd}
 use Rattle.tree_writer_promises.specs.contracts.Writer.{choiceOf, vertexWordAt, Holds, VertexGiven, VertexDone, falling}
 use Rattle.tree_writer_promises.proofs.Marking.{holds-length, unseen, count-low, room, holds-more}
 
@@ -116,9 +116,9 @@ module _ {input words starts labels tree₀ : List ℕ} {marks₀ : List Bool} {
       (omega (arith, f .onward, f .within, g .accepted .short))
       (omega (arith, vertex-of B i m f, f .within, g .accepted .short))
 
-  pub label-end : (B i m : ℕ) → Found G 1 input B i m → InTree G (choiceOf words input) input (callAt B i) → word-end (getD labels (B * maxPlaces + i) 0) ≡ m
+  pub label-end : (B i m : ℕ) → Found G 1 input B i m → InTree G (choiceOf words input) input (callAt B i) → labelEnd (getD labels (B * maxPlaces + i) 0) ≡ m
   unfolding vertexWordAt
-  label-end B i m f h = ap word-end (g .labelled (callAt B i) h) ∙ label-told B i m f .end ∙ vertex-of B i m f
+  label-end B i m f h = ap labelEnd (g .labelled (callAt B i) h) ∙ label-told B i m f .end ∙ vertex-of B i m f
 
   abbrev Below : Call → Type 0
   Below y = List·Memᴰ y (below G (choiceOf words input) input x)
@@ -176,10 +176,10 @@ module _ {input words starts labels tree₀ : List ℕ} {marks₀ : List Bool} {
           rw m h
 
   -- the rule of the call's word, as it stands in the words
-  module _ {q : ℕ} (c : q ≡ word-rule (getD labels (A * maxPlaces + start) 0)) where
+  module _ {q : ℕ} (c : q ≡ labelRule (getD labels (A * maxPlaces + start) 0)) where
     number-is : q ≡ choice .number
     unfolding vertexWordAt vertexAt
-    number-is = c ∙ ap word-rule (g .labelled x (g .inTree)) ∙ label-told A start end found .rule ∙ ap ruleNumberOf (choice .looked)
+    number-is = c ∙ ap labelRule (g .labelled x (g .inTree)) ∙ label-told A start end found .rule ∙ ap ruleNumberOf (choice .looked)
 
     numbered : choice .number < g .accepted .sizes .rules
     numbered = omega (arith, nth-below (G .rules) (choice .number) (choice .rule) (choice .numbered), r .rules)
