@@ -1,4 +1,4 @@
--- The combinations of a list with the numbersBelow below n stand in rows of n: which one is where.
+-- The combinations of a list with the numbers below n stand in rows of n: which one is where.
 use mathlib.Core.List.{List, [], _∷_, map}
 use mathlib.Core.Path.{_≡_, ap, _∙_}
 use Prim.Native.Nat.{ℕ, zero, suc, _+_, _*_, _<_}

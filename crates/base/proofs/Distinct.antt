@@ -49,7 +49,7 @@ module _ {A : Type 0} where
     distinct-append l l′ (d .1) d′ (λ y m n. h y (List·Memᴰ·tail m) n),
   )
 
--- what is less than all numbersBelow of a list is not in it
+-- what is less than all numbers of a list is not in it
 pub from-above : (a n x : ℕ) → List·Memᴰ x (numbersFrom a n) → a ≤ x
 unfolding numbersFrom
 from-above a zero x m = absurd (List·Memᴰ·not-nil m)

@@ -19,12 +19,12 @@ module _ {X : Type 0} where
   distinct same [] = []
   distinct same (x ∷ l) = let d = distinct same l in elim (member same d x) [ true ↦ d | false ↦ x ∷ d ]
 
--- n numbersBelow from a on
+-- n numbers from a on
 unfoldable pub numbersFrom : ℕ → ℕ → List ℕ
 numbersFrom a zero = []
 numbersFrom a (suc n) = a ∷ numbersFrom (suc a) n
 
--- the numbersBelow below n
+-- the numbers below n
 unfoldable pub numbersBelow : ℕ → List ℕ
 numbersBelow n = numbersFrom 0 n
 

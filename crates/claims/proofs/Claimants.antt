@@ -31,7 +31,7 @@ module _ (heads sets : List ℕ) where
   unfolding claimant
   claimant-other A l q ne = rw (ne-eqb (getD heads q 0) A (λ e. ne (sym e)))
 
--- the numbersBelow from one on, with the one before them
+-- the numbers from one on, with the one before them
 pub numbers-before : (q n : ℕ) → 0 < q → q ≤ n → numbersFrom (q - 1) (n - (q - 1)) ≡ (q - 1) ∷ numbersFrom q (n - q)
 unfolding numbersFrom
 numbers-before q n h k =
@@ -39,7 +39,7 @@ numbers-before q n h k =
     let b : suc (q - 1) ≡ q = omega arith in
     rw (a, b)
 
--- a list's members pass one test as their numbersBelow, counted from a on, pass another
+-- a list's members pass one test as their numbers, counted from a on, pass another
 module _ {X : Type 0} (p : ℕ → Bool) (f : X → Bool) where
   abbrev pub Alike : ℕ → List X → Type 0
   Alike a l = (q : ℕ) (x : X) → getElem? l q ≡ some x → p (a + q) ≡ f x

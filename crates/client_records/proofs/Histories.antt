@@ -46,7 +46,7 @@ answers-append k (t ∷ h) s = go (eqb (t .client) k) (eqb (s .client) k) (answe
     go false true e = e
     go false false e = e
 
--- records in which one client's answer is countedAnswer, and all else is as it was
+-- records in which one client's answer is counted, and all else is as it was
 module _ {us vs : List Usage} {client : ℕ} {x : Answer} (charges : Charges client x us vs) where
   -- of any client
   pub of-each : (k : ℕ) → k < clients → usageOfClient vs k ≡ choose (eqb client k) (countedAnswer (usageOfClient us k) x) (usageOfClient us k)

@@ -23,7 +23,7 @@ use Rattle.client_records.specs.Runs.{ClientCall, ClientRun, idle, next,
 use Rattle.client_records.proofs.Sums.{sum-alike, sums-stop}
 use Rattle.client_records.proofs.Histories.{continued, of-nobody, of-each}
 
--- countedAnswer one by one
+-- counted one by one
 run-counts : {us vs : List Usage} {l : List ClientCall} {h : List Reply} → ClientRun us l h vs → (k : ℕ) → k < clients
     → usageOfClient vs k ≡ recordOf (usageOfClient us k) (answersTo k h)
 unfolding recordOf answersTo

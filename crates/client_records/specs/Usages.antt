@@ -32,11 +32,11 @@ unfoldable pub sumBelow : ℕ → (ℕ → ℕ) → ℕ
 sumBelow zero f = 0
 sumBelow (suc n) f = sumBelow n f + f n
 
--- the records after an answer to a client: countedAnswer in its own, and nowhere if the number is no client's
+-- the records after an answer to a client: counted in its own, and nowhere if the number is no client's
 unfoldable pub charged : ℕ → Answer → List Usage → List Usage
 charged client x us = choose (ltb client clients) (set us client (countedAnswer (usageOfClient us client) x)) us
 
--- the same told of each record: the answer, a refusal too, is countedAnswer in the client's own, and the others' stay
+-- the same told of each record: the answer, a refusal too, is counted in the client's own, and the others' stay
 pub record Charges (client : ℕ) (x : Answer) (us vs : List Usage) : Type 0 where
   pub whole : vs ≡ charged client x us
   pub own : client < clients → usageOfClient vs client ≡ countedAnswer (usageOfClient us client) x

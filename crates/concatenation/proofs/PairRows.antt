@@ -1,4 +1,4 @@
--- With two tokens: what is looked at elementBehind a terminal alone, as digits of a number.
+-- With two tokens: what is looked at behind a terminal alone, as digits of a number.
 use mathlib.Core.Path.{_≡_, refl, sym, ap, ap₂, _∙_}
 use mathlib.Core.Bool.{Bool, true, false, not, _&&_, _||_, and-true, and-false, or-false}
 use mathlib.Core.Logic.{_⊎_, inl, inr}
@@ -43,7 +43,7 @@ begins-pair s r e =
     let d : has s (suc r) ≡ false = ap (has s) (omega arith) ∙ e in
     sym (rw d (some-digit s (8 + 7 * r) 7 ∙ ap (λ (n : ℕ). not (eqb n 0)) (sym (and-mask (s / 2 ^ (8 + 7 * r)) 7))))
 
--- the row of l: first tokens moved to the pairs of l, and l where the end may come elementBehind it
+-- the row of l: first tokens moved to the pairs of l, and l where the end may come behind it
 module _ (y f l : ℕ) (low : l < 7) (firsts : Has f (λ r. ltb r 7 && begins y r)) where
   abbrev pairs : ℕ
   pairs = f * 2 ^ (8 + 7 * l)
@@ -135,7 +135,7 @@ rows-skipped x y e n c = n .member c ∙ sym (both (inRows x y 7 c) false none (
         absurd (T-not (anyBelow 7 (λ l. has x (suc l))) (rw e tt)
         (below-make 7 (λ l. has x (suc l)) (l .0) (l .1) (and-l (has x (suc (l .0))) (elementBehind Two (suc (l .0)) y c) (l .2))))
 
--- one terminal elementAfter the other
+-- one terminal after the other
 pub rows-none : (x y : ℕ) {r : ℕ} → Empty r → Has r (inRows x y 0)
 unfolding inRows anyBelow
 rows-none x y e c = e .member c

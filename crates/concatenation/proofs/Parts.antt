@@ -1,5 +1,5 @@
 -- The parts of a concatenation, as the code goes: long strings of the first set, the second set where nothing comes before it, and with two tokens what
--- comes elementBehind terminals alone.
+-- comes behind terminals alone.
 use mathlib.Core.Path.{_≡_, refl, sym, ap, ap₂, _∙_}
 use mathlib.Core.Bool.{Bool, true, false, _&&_, _||_, or-false}
 use mathlib.Core.List.{List, [], _∷_, _++_}
@@ -26,7 +26,7 @@ use Rattle.lookahead.proofs.Operations.{has-concat, is-concat}
 use Rattle.lookahead.proofs.Pairs.{Pair, behind-make, behind-elim, pair-in, in-pair}
 use Rattle.concatenation.proofs.Cases.{one-long, two-long}
 
--- whatever comes elementBehind a long string, it is looked at
+-- whatever comes behind a long string, it is looked at
 long-after : (k : Lookahead) (a b : ℕ) → T (isLong k a) → elementAfter k a b ≡ a
 unfolding isLong elementAfter
 long-after k a b t =
@@ -55,7 +55,7 @@ shape Two a h = go (decLt 0 a) (decLt a 8)
     go (yes p) (yes q) = inr (inr (a - 1, omega arith, omega arith))
     go (yes p) (no q) = inl (true-T (isLong Two a) (two-long a (omega arith)))
 
--- what comes elementBehind a terminal alone
+-- what comes behind a terminal alone
 abbrev pub inMiddle : Lookahead → ℕ → ℕ → ℕ → Bool
 inMiddle One x y l = false
 inMiddle Two x y l = inRows x y 7 l

@@ -1,4 +1,4 @@
-// One lookahead set elementBehind the other: what is looked at where a string of the first is followed by one of the second, and the set of all strings.
+// One lookahead set behind the other: what is looked at where a string of the first is followed by one of the second, and the set of all strings.
 ghost use mathlib.Core.Path.{_≡_};
 ghost use mathlib.Core.Bool.{_&&_};
 ghost use Prim.Native.Nat.{suc, _%_, _^_, _<_};
@@ -133,7 +133,7 @@ fn before(set: LookaheadSet, lookahead: Lookahead, other: LookaheadSet) -> Looka
     }
 }
 
-// One set elementBehind the other with one token: the terminals of the first, and the second where the first has nothing.
+// One set behind the other with one token: the terminals of the first, and the second where the first has nothing.
 fn concat_one(set: LookaheadSet, other: LookaheadSet) -> LookaheadSet
     ensures { λ r. ⌜ Concatenated One (set .bits) (other .bits) (r .bits) ⌝ }
 {
@@ -159,7 +159,7 @@ fn concat_two(set: LookaheadSet, other: LookaheadSet) -> LookaheadSet
 }
 
 // What is looked at where an element of the one set is followed by one of the other (document 01: strung together): the strings of the
-// first that are long enough, and shorter ones with what comes elementBehind them. No pair, no element: empty where either set is.
+// first that are long enough, and shorter ones with what comes behind them. No pair, no element: empty where either set is.
 pub fn concat(set: LookaheadSet, lookahead: Lookahead, other: LookaheadSet) -> LookaheadSet
     ensures { λ r. ⌜ Concatenated lookahead (set .bits) (other .bits) (r .bits) ⌝ }
 {

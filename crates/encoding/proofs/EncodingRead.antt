@@ -1,4 +1,4 @@
--- The words of a well-formed grammar isWithin the limits are read without a fault.
+-- The words of a well-formed grammar within the limits are read without a fault.
 use mathlib.Core.Path.{_≡_, refl, ap, _∙_}
 use mathlib.Core.Bool.{true, false}
 use mathlib.Core.List.{List, [], _∷_, _++_, List·Memᴰ·head, Memᴰ·append-left, Memᴰ·append-right}
@@ -44,7 +44,7 @@ goes-rule : (w : ℕ) (v : Word) (s : State) (y z : Sizes) (ws : List ℕ) → d
 unfolding scan onStep counted
 goes-rule w v s y z ws e a i b l g at = rw (e, stepped-rule v (progress s y) at a i b, lt-leb maxRules (y .rules) l) (g (suc at))
 
--- isWithin a conjunct, and where a rule may begin
+-- within a conjunct, and where a rule may begin
 abbrev pub Within : State → Type 0
 Within s = row false false true true false s ≡ true
 

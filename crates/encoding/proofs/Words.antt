@@ -1,4 +1,4 @@
--- A number and the wordOf that it decodes to: each gives the other.
+-- A number and the word that it decodes to: each gives the other.
 use mathlib.Core.Path.{_≡_, refl}
 use mathlib.Core.Bool.{Bool, true, false}
 use Prim.Native.Nat.{ℕ, _+_, _*_, _/_, _%_, _^_, _<_}
@@ -54,7 +54,7 @@ unfolding ofKind
 decoded-symbol (Terminal a) h = rw (decoded-word 5 a h)
 decoded-symbol (Nonterminal A) h = rw (decoded-word 6 A h)
 
--- the kind and the payload of the number that stands for a wordOf; for an invalid wordOf there are many
+-- the kind and the payload of the number that stands for a word; for an invalid word there are many
 abbrev pub Parts : Word → ℕ → ℕ → Type 0
 Parts (Heading n t) k p = (k ≡ 1) × (p ≡ t * 2 ^ 8 + n)
 Parts (RuleWord A) k p = (k ≡ 2) × (p ≡ A)
@@ -93,7 +93,7 @@ pub parts : (w : ℕ) → Parts (decoded w) (kind w) (payload w)
 unfolding decoded
 parts w = parts-kind (kind w) (payload w)
 
--- the number that stands for a wordOf
+-- the number that stands for a word
 abbrev pub WrittenAs : Word → ℕ → Type 0
 WrittenAs (Heading n t) w = w ≡ headingWord n t
 WrittenAs (RuleWord A) w = w ≡ ruleWord A
@@ -113,6 +113,6 @@ written-parts (Symbol (Nonterminal A)) w h = omega arith
 written-parts End w h = omega arith
 written-parts Invalid w h = tt
 
--- a number is the one that stands for what it decodes to. From 2 ^ 32 on kinds are above 7 and the wordOf is invalid, so no bound is asked for
+-- a number is the one that stands for what it decodes to. From 2 ^ 32 on kinds are above 7 and the word is invalid, so no bound is asked for
 pub written-as : (w : ℕ) → WrittenAs (decoded w) w
 written-as w = written-parts (decoded w) w (parts w)

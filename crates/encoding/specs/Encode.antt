@@ -10,7 +10,7 @@ use Rattle.grammar.specs.Limits.{maxNonterminals, maxTerminals, maxRules}
 use Rattle.grammar.specs.Syntax.{Body, Rule, Grammar, WellFormed}
 use Rattle.grammar.specs.Encoding.{sizes}
 
--- a wordOf: its kind in the top four bits, its payload in the other 28
+-- a word: its kind in the top four bits, its payload in the other 28
 abbrev pub wordOf : ℕ → ℕ → ℕ
 wordOf k p = k * 2 ^ 28 + p
 
@@ -39,7 +39,7 @@ unfoldable pub bodyWords : Body → List ℕ → List ℕ
 bodyWords [] ws = ws
 bodyWords (X ∷ b) ws = symbolWord X ∷ bodyWords b ws
 
--- conjuncts, each behind the wordOf that begins it
+-- conjuncts, each behind the word that begins it
 unfoldable pub conjunctWords : ℕ → List Body → List ℕ → List ℕ
 conjunctWords begin [] ws = ws
 conjunctWords begin (b ∷ bs) ws = begin ∷ bodyWords b (conjunctWords begin bs ws)

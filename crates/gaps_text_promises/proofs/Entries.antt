@@ -28,13 +28,13 @@ use Rattle.gaps_text_promises.specs.Gaps.{claimants, rulesText, gapText,
 use Rattle.gaps_text_promises.specs.contracts.Steps.{claimantText, numbersText, claimantsText, entryLine, rowText, overrunLine, overrunsText, linesText}
 use Rattle.gaps_text_promises.specs.contracts.Steps.{claimsAt}
 
--- texts of numbersBelow in order that agree
+-- texts of numbers in order that agree
 pub up-to-same : (n : ℕ) (f g : ℕ → List ℕ) → ((i : ℕ) → i < n → f i ≡ g i) → upTo n f ≡ upTo n g
 unfolding upTo
 up-to-same zero f g h = refl
 up-to-same (suc n) f g h = ap₂ _++_ (up-to-same n f g (λ i l. h i (omega arith))) (h n (omega arith))
 
--- the texts of the numbersBelow below n are those of the list of them
+-- the texts of the numbers below n are those of the list of them
 module _ (f : ℕ → List ℕ) where
   flat-last : (a n : ℕ) → flatMap f (numbersFrom a (suc n)) ≡ flatMap f (numbersFrom a n) ++ f (a + n)
   unfolding flatMap numbersFrom
@@ -77,7 +77,7 @@ unfolding flatMap
 flat-map f g [] = refl
 flat-map f g (x ∷ l) = ap (λ m. g (f x) ++ m) (flat-map f g l)
 
--- how many numbersBelow pass, by the list of those that do
+-- how many numbers pass, by the list of those that do
 count-from : (a n : ℕ) (p : ℕ → Bool) → length (keep p (numbersFrom a n)) ≡ countBelow n (λ q. p (a + q))
 unfolding keep numbersFrom countBelow
 count-from a zero p = refl

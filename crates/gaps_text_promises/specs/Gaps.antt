@@ -32,11 +32,11 @@ onRule (some r) p = p r
 unfoldable pub claimsBy : Grammar → Entry → ℕ → Bool
 claimsBy G e q = onRule (getElem? (G .rules) q) (claims G 1 e)
 
--- the numbersBelow of the rules that claim it, in order
+-- the numbers of the rules that claim it, in order
 unfoldable pub claimants : Grammar → Entry → List ℕ
 claimants G e = keep (claimsBy G e) (numbersBelow (length (G .rules)))
 
--- numbersBelow behind spaces, or a dash where there are none
+-- numbers behind spaces, or a dash where there are none
 abbrev pub rulesText : List ℕ → List ℕ
 rulesText [] = ascii " -"
 rulesText (q ∷ qs) = flatMap (labelled " ") (q ∷ qs)

@@ -1,4 +1,4 @@
--- The inputs of one length: each stands at its number, so letter order is the order of numbersBelow.
+-- The inputs of one length: each stands at its number, so letter order is the order of numbers.
 use mathlib.Core.Path.{_≡_, refl, sym, ap, _∙_}
 use mathlib.Core.Bool.{_&&_}
 use mathlib.Core.List.{List, [], _∷_, _++_, append-assoc, append-nil}
@@ -31,7 +31,7 @@ module _ (n : ℕ) (some-terminal : 0 < n) where
   front-low : (k i : ℕ) → i < n ^ suc k → i / n < n ^ k
   front-low k i h = div-lt-iff-lt-mul some-terminal .1 (rw (pow-suc n k) at h)
 
-  -- the inputs in order are those of the numbersBelow in order
+  -- the inputs in order are those of the numbers in order
   pub inputs-at : (k i : ℕ) → i < n ^ k → getD (inputs n k) i [] ≡ inputAt n k i
   unfolding inputs inputAt
   inputs-at zero zero h = refl

@@ -27,7 +27,7 @@ some-same e = cc
 none-set : {n : ℕ} → none ≡ some n → ⊥
 none-set e = let z : _≡_ {A = ℕ} 0 1 = cc in absurd (omega arith)
 
--- a mark that is withinLength a length, and one that is read
+-- a mark that is within a length, and one that is read
 within-short : (n k : ℕ) (o : Option ℕ) → withinLength n o ≡ some k → k ≤ n
 within-short n k none e = absurd (none-set e)
 within-short n k (some j) e = go (leb j n) refl e

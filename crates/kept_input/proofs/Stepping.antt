@@ -1,4 +1,4 @@
--- Each step of a storedInput value stores what the step makes of what the value holds.
+-- Each step of a stored value stores what the step makes of what the value holds.
 use mathlib.Core.Path.{_≡_, refl, sym, ap, _∙_}
 use mathlib.Core.Bool.{Bool, true, false}
 use mathlib.Core.List.{List, [], _∷_, _++_, map}
@@ -54,7 +54,7 @@ same-progress p q = cc
 same-input : {a b : List ℕ} {p q : Progress} → a ≡ b → p ≡ q → keptInput a p ≡ keptInput b q
 same-input e f = cc
 
--- what stands in the arrays afterStep each step
+-- what stands in the arrays after each step
 add-events : (l : List ℕ) (n a : ℕ) → n < length l → set l n a ≡ (take n l ++ a ∷ []) ++ drop (length (take n l ++ a ∷ [])) l
 add-events l n a h =
     let longer : length (take n l ++ a ∷ []) ≡ suc n = omega (arith, length-append (take n l) (a ∷ []), length-take-le n l (omega arith)) in

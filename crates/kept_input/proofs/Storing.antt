@@ -1,4 +1,4 @@
--- What is storedInput is read as it was, where events and marks fit together.
+-- What is stored is read as it was, where events and marks fit together.
 use mathlib.Core.Path.{_≡_, refl, fun-ext}
 use mathlib.Core.Bool.{Bool, true, false}
 use mathlib.Core.List.{List, _++_}

@@ -18,7 +18,7 @@ pub record Kept : Type 0 where
   pub events : List ℕ
   pub marks : ℕ → Option ℕ
 
--- an emptyInput log without marks
+-- an empty log without marks
 abbrev pub emptyInput : Kept
 emptyInput = record { events = []; marks = λ m. none }
 
@@ -40,7 +40,7 @@ stepFault (Add event) s = firstFault (faultIf (leb maxTokens (length (s .events)
 stepFault (Mark m) s = firstFault (unknown m ∷ [])
 stepFault (Return m) s = firstFault (unknown m ∷ notSet (s .marks m) ∷ [])
 
--- a mark withinLength a length stays, and one beyond it is cleared
+-- a mark within a length stays, and one beyond it is cleared
 abbrev pub withinLength : ℕ → Option ℕ → Option ℕ
 withinLength n none = none
 withinLength n (some k) = choose (leb k n) (some k) none

@@ -46,7 +46,7 @@ pub record JudgesKept (k : Lookahead) (words : List ℕ) (kept : KeptInput) (tab
   -- all that judging promises of the events that the value holds, which are never too many for it
   pub judges : Judges k words (inputOf (heldInput kept .events)) table memo r table′ memo′
   pub short : length (inputOf (heldInput kept .events)) ≤ maxTokens
-  -- whichever history from an emptyInput input without marks left it, the judgement is that of the events which the history leaves, taken afresh
+  -- whichever history from an empty input without marks left it, the judgement is that of the events which the history leaves, taken afresh
   -- with the same grammar and lent memory
   pub afresh : (history : List Step) → heldInput kept ≡ ran history emptyInput → (a : Answer) (table″ memo″ : List ℕ)
       → Judges k words (inputOf (ran history emptyInput .events)) table memo a table″ memo″

@@ -22,7 +22,7 @@ pub data KeptRun : KeptInput → List Step → KeptInput → Type 0 where
   idle : {k : KeptInput} → KeptRun k [] k
   next : {k last : KeptInput} {t : Step} {l : List Step} (r : Changed) → Steps t k r → KeptRun (r .kept) l last → KeptRun k (t ∷ l) last
 
--- events and marks fit together: what a history from an emptyInput input leaves
+-- events and marks fit together: what a history from an empty input leaves
 pub record Sound (s : Kept) : Type 0 where
   pub short : length (s .events) ≤ maxTokens
   pub inside : (m n : ℕ) → s .marks m ≡ some n → n ≤ length (s .events)
@@ -30,9 +30,9 @@ pub record Sound (s : Kept) : Type 0 where
 
 -- of any history
 pub record HistoriesKept : Type 0 where
-  -- the last value holds what the steps make of what the first one heldInput
+  -- the last value holds what the steps make of what the first one held
   pub holds : {first last : KeptInput} {l : List Step} → KeptRun first l last → heldInput last ≡ ran l (heldInput first)
-  -- from an emptyInput input without marks a judgement is that of the events which the history leaves, taken afresh with the same grammar, lookahead
+  -- from an empty input without marks a judgement is that of the events which the history leaves, taken afresh with the same grammar, lookahead
   -- and memory
   pub judged : {k : Lookahead} {first last : KeptInput} {l : List Step} → heldInput first ≡ emptyInput → KeptRun first l last
       → {words table memo table′ memo′ table″ memo″ : List ℕ} {r a : Answer} → JudgesKept k words last table memo r table′ memo′

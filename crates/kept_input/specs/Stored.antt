@@ -1,4 +1,4 @@
--- A kept input as it is storedInput, and what any storedInput value is read as.
+-- A kept input as it is stored, and what any stored value is read as.
 use mathlib.Core.List.{List, [], _∷_, _++_}
 use mathlib.Core.Option.{Option, none, some}
 use Prim.Native.Nat.{ℕ, zero, suc, min}
@@ -10,7 +10,7 @@ use Rattle.kept_input.specs.Histories.{markCount, Kept}
 use Rattle.kept_input.specs.declared.Progress.{Progress}
 use Rattle.kept_input.specs.declared.KeptInput.{KeptInput}
 
--- what a mark that is not set is storedInput as
+-- what a mark that is not set is stored as
 abbrev pub unsetCode : ℕ
 unsetCode = 65535
 
@@ -40,7 +40,7 @@ abbrev pub codeOf : Option ℕ → ℕ
 codeOf none = unsetCode
 codeOf (some n) = n
 
--- how it is storedInput: its length and its marks, and its events in front of those that stood there
+-- how it is stored: its length and its marks, and its events in front of those that stood there
 unfoldable pub progressOf : Kept → Progress
 progressOf s = record { length = length (s .events); marks = valuesOf (λ m. codeOf (s .marks m)) markCount }
 

@@ -18,8 +18,8 @@ fn no_left() -> Left
     ensures { λ r. ⌜ r ≡ lefts 0 0 ⌝ }
 {
     Left {
-        body: Nonterminals::emptySet(),
-        rule: Nonterminals::emptySet(),
+        body: Nonterminals::empty(),
+        rule: Nonterminals::empty(),
     }
 }
 
@@ -34,11 +34,11 @@ fn symbol_left(
     ensures { λ r. ⌜ r .bits ≡ ownLeft (emptyIn lookahead (family (now (firsts .entry)))) (family (now (reach .entry))) symbol (behind .bits) ⌝ }
 {
     let Symbol::Nonterminal(number) = symbol else {
-        return Nonterminals::emptySet();
+        return Nonterminals::empty();
     };
     let at = number as usize;
     if SETS <= at {
-        return Nonterminals::emptySet();
+        return Nonterminals::empty();
     }
     let alone = Nonterminals::alone(number);
     let reached = Nonterminals { bits: reach[at] };
@@ -56,7 +56,7 @@ fn ended(body: Nonterminals, rule: Nonterminals) -> Left
     ensures { λ r. ⌜ r ≡ lefts emptySet (join (body .bits) (rule .bits)) ⌝ }
 {
     Left {
-        body: Nonterminals::emptySet(),
+        body: Nonterminals::empty(),
         rule: body.join(rule),
     }
 }

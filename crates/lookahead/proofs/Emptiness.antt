@@ -1,4 +1,4 @@
--- A lookahead set is emptySet just where it has no elements.
+-- A lookahead set is empty just where it has no elements.
 use mathlib.Core.Path.{_≡_, sym, ap, _∙_}
 use mathlib.Core.Bool.{true, false}
 use Prim.Native.Nat.{ℕ}
@@ -9,7 +9,7 @@ use Rattle.lookahead.specs.contracts.Operations.{emptySet, isEmpty}
 use Rattle.lookahead.proofs.Elements as elements
 use Rattle.lookahead.proofs.Operations.{has-empty}
 
--- an emptySet set is 0 and has no elements, and a set with no elements is emptySet
+-- an empty set is 0 and has no elements, and a set with no elements is empty
 pub is-empty : (x : ℕ) → isEmpty x ≡ true → x ≡ emptySet
 unfolding isEmpty
 is-empty x e = eqb-true x emptySet e
@@ -21,7 +21,7 @@ pub none-empty : (x : ℕ) → ((l : ℕ) → has x l ≡ false) → isEmpty x �
 unfolding isEmpty
 none-empty x h = eq-eqb x emptySet (elements.same-elements x emptySet (λ l. h l ∙ sym (has-empty l)))
 
--- a set that is not emptySet has an element, and a set with an element is not emptySet
+-- a set that is not empty has an element, and a set with an element is not empty
 pub some-element : (x : ℕ) → isEmpty x ≡ false → (l : ℕ) × T (has x l)
 unfolding isEmpty
 some-element x e = elements.some-element x (eqb-false x emptySet e)

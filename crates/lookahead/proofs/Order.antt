@@ -20,7 +20,7 @@ subset-refl x l t = t
 pub subset-antisym : (x y : ℕ) → Subset x y → Subset y x → x ≡ y
 subset-antisym x y f g = elements.same-elements x y (λ l. both (has x l) (has y l) (f l) (g l))
 
--- the emptySet set is in every set
+-- the empty set is in every set
 pub empty-least : (x : ℕ) → Subset emptySet x
 empty-least x l t = absurd (rw (has-empty l) at t)
 

@@ -22,7 +22,7 @@ pub record Pair (k : Lookahead) (x y l : ℕ) : Type 0 where
   pub b-in : T (has y b)
   pub is-after : elementAfter k a b ≡ l
 
--- an element of y elementBehind a
+-- an element of y behind a
 pub behind-make : (k : Lookahead) (a y l b : ℕ) → b < elements k → T (has y b) → elementAfter k a b ≡ l → T (elementBehind k a y l)
 unfolding elementBehind
 behind-make k a y l b h t e =

@@ -103,7 +103,7 @@ module _ {heads sets told : List ℕ} (q : ℕ) {rules once twice once′ twice�
           (f .twice-has A l
           ∙ ap (λ b. b || has (getD told A 0) l) (sym (several-later (claimant heads sets A l) q rules (claimant-other heads sets A l q ne))))
 
--- the same in the loop's numbersBelow, of n rules
+-- the same in the loop's numbers, of n rules
 pub noting-turn : {heads sets told once twice once′ twice′ : List ℕ} (q n : ℕ) → Noting heads sets told (numbersFrom q (n - q)) once twice → 0 < q → q ≤ n
     → getD heads (q - 1) 0 < maxNonterminals → ClaimNoted once twice (getD heads (q - 1) 0) (getD sets (q - 1) 0) once′ twice′
     → Noting heads sets told (numbersFrom (q - 1) (n - (q - 1))) once′ twice′

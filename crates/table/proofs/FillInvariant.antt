@@ -96,7 +96,7 @@ row-room {k} {z} {heads} g q h =
     let below : suc (getD heads q 0) ≤ maxNonterminals = omega (arith, g .headed .allowed) in
     omega (arith, suc-mul (getD heads q 0) n, mul-le-mul below l)
 
--- the same in the loop's numbersBelow, of n rules
+-- the same in the loop's numbers, of n rules
 module _ {R : Rows} {heads sets before : List ℕ} where
   pub rows-start : (n : ℕ) → FilledRows R heads sets n (numbersFrom n (n - n)) before before
   unfolding numbersFrom

@@ -9,11 +9,11 @@ use Rattle.grammar.specs.Limits.{maxWords}
 abbrev pub bytesOfWord : ℕ
 bytesOfWord = 4
 
--- the wordOfBytes of four bytes
+-- the word of four bytes
 abbrev pub wordOfBytes : ℕ → ℕ → ℕ → ℕ → ℕ
 wordOfBytes a b c d = a + 256 * b + 65536 * c + 16777216 * d
 
--- four bytes at a time; fewer at the end are no wordOfBytes
+-- four bytes at a time; fewer at the end are no word
 unfoldable pub wordsOf : List ℕ → List ℕ
 wordsOf [] = []
 wordsOf (a ∷ []) = []

@@ -49,7 +49,7 @@ from-unused l = from-any unused refl l ∙ summed-unused l
 pub sums-cut : SumsCut
 sums-cut = record { from-any = from-any; once-counted = once-counted; from-unused = from-unused }
 
--- an answer at the end of a history is countedAnswer last
+-- an answer at the end of a history is counted last
 pub record-append : (u : Usage) (l : List Answer) (x : Answer) → recordOf u (l ++ x ∷ []) ≡ countedAnswer (recordOf u l) x
 unfolding recordOf
 record-append u [] x = refl

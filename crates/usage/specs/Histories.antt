@@ -1,4 +1,4 @@
--- What a history of answers makes of a record: countedAnswer one by one, and by exact sums that are cut only at the end; and the law that these are one.
+-- What a history of answers makes of a record: counted one by one, and by exact sums that are cut only at the end; and the law that these are one.
 use mathlib.Core.Path.{_≡_}
 use mathlib.Core.List.{List, [], _∷_}
 use Prim.Native.Nat.{ℕ, _+_}
@@ -35,7 +35,7 @@ UsageInRange u = eachCounter (λ m n. saturated n) u ≡ u
 
 -- counters that stop on the way tell what the exact sums come to, cut at the end
 pub record SumsCut : Type 0 where
-  -- from any record of 32-bit numbers; once an answer is countedAnswer they are such, so the second law asks for nothing
+  -- from any record of 32-bit numbers; once an answer is counted they are such, so the second law asks for nothing
   pub from-any : (u : Usage) → UsageInRange u → (l : List Answer) → recordOf u l ≡ summed u l
   pub once-counted : (u : Usage) (x : Answer) (l : List Answer) → recordOf u (x ∷ l) ≡ summed u (x ∷ l)
   -- from the empty record

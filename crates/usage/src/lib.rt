@@ -52,7 +52,7 @@ impl Usage {
         }
     }
 
-    // The record with this answer countedAnswer.
+    // The record with this answer counted.
     pub fn after(self, answer: Answer) -> Usage
         ensures { λ r. ⌜ r ≡ countedAnswer self answer ⌝ }
     {

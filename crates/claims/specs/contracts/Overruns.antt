@@ -27,7 +27,7 @@ beyondEnd k s = not (eqb (join (end k) s) (end k))
 unfoldable pub aloneIn : ℕ → List Rule → Bool
 aloneIn A rs = anyOf (λ r. eqb (r .head) A && without (r .positives)) rs
 
--- the set that is told of a nonterminal: the first terminal where it overruns, else emptySet
+-- the set that is told of a nonterminal: the first terminal where it overruns, else empty
 abbrev pub overrunSet : Lookahead → Bool → ℕ
 overrunSet k b = choose b (terminal k 0) emptySet
 

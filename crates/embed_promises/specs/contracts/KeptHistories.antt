@@ -31,12 +31,12 @@ pub data Calls : List ℕ → List ℕ → List Step → List ℕ → List ℕ �
       → Calls events state (t ∷ l) events″ state″
 
 pub record HistoriesExported : Type 0 where
-  -- whatever events stand there, the state to begin with is that of the emptyInput input without marks
+  -- whatever events stand there, the state to begin with is that of the empty input without marks
   pub begins : (events : List ℕ) → heldIn events emptyState ≡ emptyInput
-  -- one that is all 0 is that of the emptyInput input, too, but with every mark set
+  -- one that is all 0 is that of the empty input, too, but with every mark set
   pub zeroed : (events : List ℕ) → heldIn events zeroState .events ≡ []
   pub zero-set : (events : List ℕ) (m : ℕ) → m < markCount → heldIn events zeroState .marks m ≡ some 0
-  -- what is left holds what the steps make of what was heldInput
+  -- what is left holds what the steps make of what was held
   pub holds : {events state events′ state′ : List ℕ} {l : List Step} → Calls events state l events′ state′
       → heldIn events′ state′ ≡ ran l (heldIn events state)
   -- and begun so, a judgement is that of the events which the history leaves, taken afresh with the same grammar, lookahead and memory

@@ -8,7 +8,7 @@ use Rattle.lookahead.specs.Elements.{weight, has}
 use Rattle.base.specs.Choice.{choose}
 use Rattle.lookahead.specs.contracts.Operations.{emptySet}
 
--- the set of a nonterminal alone, emptySet where the number is no nonterminal's
+-- the set of a nonterminal alone, empty where the number is no nonterminal's
 unfoldable pub alone : ℕ → ℕ
 alone A = choose (ltb A maxNonterminals) (weight A) emptySet
 

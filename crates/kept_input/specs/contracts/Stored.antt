@@ -1,4 +1,4 @@
--- A storedInput value as it is read, storedInput again.
+-- A stored value as it is read, stored again.
 use mathlib.Core.Path.{_≡_}
 use mathlib.Core.List.{map}
 use Prim.Native.Nat.{ℕ}
@@ -11,7 +11,7 @@ use Rattle.kept_input.specs.declared.Progress.{Progress}
 use Rattle.kept_input.specs.declared.KeptInput.{KeptInput}
 use Rattle.kept_input.specs.Stored.{unsetCode, readLength}
 
--- a storedInput value as it is read, storedInput again
+-- a stored value as it is read, stored again
 abbrev pub clearedBeyond : ℕ → ℕ → ℕ
 clearedBeyond n x = choose (leb x n) x unsetCode
 

@@ -26,7 +26,7 @@ tableWordAt nonterminals firsts follows entries i =
     choose (ltb i (2 * nonterminals)) (choose (eqb (i % 2) 0) (getD firsts (i / 2) 0) (getD follows (i / 2) 0))
     (entryCode (getD entries (i - 2 * nonterminals) 0))
 
--- as it is storedWord: in 32 bits with one token of lookahead, in 64 with two
+-- as it is stored: in 32 bits with one token of lookahead, in 64 with two
 abbrev pub storedWord : Lookahead → ℕ → ℕ
 storedWord One w = w % 2 ^ 32
 storedWord Two w = w

@@ -30,7 +30,7 @@ pub record End (k : Lookahead) (r : ℕ) : Type 0 where
   pub is : r ≡ end k
   pub member : (l : ℕ) → has r l ≡ eqb l (nothing k)
 
--- the set of a terminal alone, emptySet where the number is no terminal's
+-- the set of a terminal alone, empty where the number is no terminal's
 unfoldable pub terminal : Lookahead → ℕ → ℕ
 terminal k a = choose (ltb a (alphabet k)) (weight (elementOf k (a ∷ []))) emptySet
 
@@ -70,7 +70,7 @@ elementBehind k a y l = anyBelow (elements k) (λ b. has y b && eqb (elementAfte
 unfoldable pub inConcat : Lookahead → ℕ → ℕ → ℕ → Bool
 inConcat k x y l = anyBelow (elements k) (λ a. has x a && elementBehind k a y l)
 
--- x followed by y: what is looked at in each pair of an element of x and one of y, and so nothing where either is emptySet (document 01: strung together)
+-- x followed by y: what is looked at in each pair of an element of x and one of y, and so nothing where either is empty (document 01: strung together)
 unfoldable pub concatNumbers : Lookahead → ℕ → ℕ → ℕ
 concatNumbers k x y = totalWeight (elements k) (inConcat k x y)
 

@@ -1,4 +1,4 @@
--- The calls that a memo table records, over numbersBelow and lists alone: how many there are, and the farthest place of one.
+-- The calls that a memo table records, over numbers and lists alone: how many there are, and the farthest place of one.
 use mathlib.Core.Bool.{Bool, not}
 use mathlib.Core.List.{List}
 use Prim.Native.Nat.{ℕ, suc, _+_, _*_, _≤_}

@@ -1,4 +1,4 @@
--- A number isWithin its limits: not zero, and at most the limit.
+-- A number within its limits: not zero, and at most the limit.
 use borrow.Author.Tests.{lt-ltb}
 use native.Mathlib.Omega.{arith}
 use Rattle.grammar.specs.Reading.{isWithin}

@@ -9,7 +9,7 @@ use Rattle.text.specs.declared.words.Loaded.{Loaded}
 use Rattle.text.specs.declared.words.Loaded.the-variants.{Words, NotWords}
 use Rattle.text.specs.Words.{bytesOfWord, wordOfBytes, wordsOf, areWords}
 
--- the wordOfBytes that starts at an index
+-- the word that starts at an index
 abbrev pub fourAt : List ℕ → ℕ → ℕ
 fourAt bytes at = wordOfBytes (getD bytes at 0) (getD bytes (at + 1) 0) (getD bytes (at + 2) 0) (getD bytes (at + 3) 0)
 
