@@ -4,7 +4,7 @@ use compare::twin::{Allowance, Outcome, Usage, Usages, Verdict};
 pub use vinegarspit::{check, check2, costliest, judge, judge2, judge_plain, tree, Answer, KeptLog as Stored};
 
 /// The four counters of each client, one client after the other.
-fn row_of(usages: &Usages) -> vinegarspit::Usage {
+pub fn row_of(usages: &Usages) -> vinegarspit::Usage {
     std::array::from_fn(|at| usages[at / 4].counters()[at % 4])
 }
 
