@@ -8,13 +8,13 @@ use Rattle.report.proofs.tokens.Tie as tie
 cast-result : tie.Need-cast-result
 cast-result c = search needs
 
-returns : tie.Need-returns
-unfolding tokenCount
-returns c = rw (le-leb _ _ (c .if1 .taken))
-
 returns-2 : tie.Need-returns-2
 unfolding tokenCount
 returns-2 c = rw (lt-leb _ _ (c .if1 .left))
+
+returns : tie.Need-returns
+unfolding tokenCount
+returns c = rw (le-leb _ _ (c .if1 .taken))
 
 pub tokens-spec : {M : Type 1} → statement M
 tokens-spec = tie.close (tie.spec cast-result returns returns-2)
