@@ -1,18 +1,22 @@
 // A choice of rules as the descent reads it: a row for each nonterminal, by the columns of the table.
 ghost use mathlib.Core.Path.{_≡_};
 ghost use Prim.Native.Nat.{_+_};
-ghost use Rattle.descent_arrays.specs.contracts.Choices.{firstWord, choiceRows, choicesOf, RowGiven};
+ghost use Rattle.columns.specs.Columns.{columnCount};
+ghost use Rattle.descent_arrays.specs.contracts.Choices.{firstWord, choiceRows, choicesOf, memoEntries, RowGiven};
 use super::arrays::CHOICE_COLUMNS;
 use super::arrays::CHOICES;
 use super::arrays::END_COLUMN;
 use super::arrays::ROW_COLUMN;
 use super::arrays::fitting;
+use columns::count;
 use grammar::limits::COLUMNS_OF_TWO;
 use grammar::limits::ENTRIES;
 use grammar::limits::NONTERMINALS;
 use grammar::limits::RULES;
 use grammar::limits::TOKENS;
 use grammar::limits::WORDS;
+use grammar::reading::Sizes;
+use lookahead::Lookahead;
 
 // Where the first conjunct of a rule stands, or 0 for a number that no rule has.
 fn first_conjunct(starts: &[usize; RULES], rule: u8) -> u16
@@ -49,7 +53,7 @@ fn fill_row(
 }
 
 // The rows for an input of so many tokens, by the starts of the rules and the entries of the table.
-pub fn choices_of(
+fn choices_of(
     starts: &[usize; RULES],
     nonterminals: usize,
     columns: usize,
@@ -68,4 +72,33 @@ pub fn choices_of(
         nonterminal = nonterminal + 1;
     }
     choices
+}
+
+// The rows by the table of a grammar of these sizes with so many tokens of lookahead.
+pub fn table_choices<'a>(
+    starts: &'a [usize; RULES],
+    sizes: Sizes,
+    lookahead: Lookahead,
+    entries: &'a [u8; ENTRIES],
+    tokens: usize,
+) -> [u16; CHOICES]
+    ensures { λ r. ⌜ r ≡ choicesOf (now (starts .entry)) (sizes .nonterminals) (columnCount lookahead (sizes .terminals)) (now (entries .entry)) tokens ⌝ }
+{
+    let columns = count(lookahead, sizes.terminals);
+    choices_of(
+        starts,
+        sizes.nonterminals as usize,
+        columns,
+        entries,
+        tokens,
+    )
+}
+
+// How many entries the memo table then has: a row for each nonterminal, of as many places.
+pub fn entries_of(nonterminals: u32, tokens: usize) -> usize
+    ensures { λ r. ⌜ r ≡ memoEntries nonterminals tokens ⌝ }
+{
+    let rows = fitting(nonterminals as usize, NONTERMINALS as usize);
+    let long = fitting(tokens, TOKENS);
+    rows * (long + 1)
 }

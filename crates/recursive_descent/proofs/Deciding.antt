@@ -1,17 +1,18 @@
 -- From a descent that has ended to its answer and to what the memo table then holds.
 use mathlib.Core.Path.{_≡_, refl, sym, ap, _∙_}
 use mathlib.Core.Bool.{true, false}
-use mathlib.Core.List.{List}
-use Prim.Native.Nat.{ℕ, _+_, _*_, _/_, _<_}
+use mathlib.Core.List.{List, _++_}
+use Prim.Native.Nat.{ℕ, _+_, _*_, _/_, _≤_, _<_, min}
 use native.Mathlib.Numerals.{add-one}
 use native.Mathlib.Omega.{arith}
-use lib.ListN.{length, take, length-replicate, getD-replicate}
+use lib.ListN.{length, take, drop, length-replicate, getD-replicate}
 use borrow.Author.Tests.{eq-eqb, ne-eqb}
 use Rattle.answer.specs.declared.Answer.{Answer}
 use Rattle.answer.specs.declared.Answer.the-variants.{Rejected, Accepted}
 use Rattle.answer.specs.declared.Calls.{Calls}
 use Rattle.base.specs.Choice.{choose}
 use Rattle.grammar.specs.Codes.{failedCode, uncalledCode}
+use Rattle.grammar.specs.Limits.{maxNonterminals, maxTokens}
 use Rattle.grammar.specs.Syntax.{Grammar}
 use Rattle.grammar.specs.Encoding.{grammarOf}
 use Rattle.grammar.specs.contracts.Starts.{ruleStarts}
@@ -33,13 +34,13 @@ use Rattle.table.specs.contracts.Entries.{entriesOf}
 use Rattle.memo_table.specs.contracts.Tally.{tallyOf, recordedCalls}
 use Rattle.memo_table.proofs.Tallying.{tally-recorded}
 use Rattle.recognizer_promises.specs.Answers.{callsOf, verdictOf}
-use Rattle.recognizer_promises.specs.contracts.Judging.{Ready, PassedGiven, Descended}
-use Rattle.recognizer_promises.proofs.Judged.{descend-given}
+use Rattle.recognizer_promises.specs.contracts.Judging.{Ready, PassedGiven, Descended, JudgedPassed}
+use Rattle.recognizer_promises.proofs.Judged.{needed-room, descend-given, judged-passed}
 use Rattle.recognizer_promises.proofs.MemoWords.{words-recorded}
 use Rattle.event.specs.Events.{inputOf}
 use Rattle.event.proofs.Inputs.{input-length}
 use Rattle.descent_arrays.specs.contracts.Arrays.{heldTokens, rowAt}
-use Rattle.descent_arrays.specs.contracts.Choices.{choicesOf}
+use Rattle.descent_arrays.specs.contracts.Choices.{choicesOf, memoEntries}
 use Rattle.descent_arrays.specs.contracts.Tokens.{tokensOf}
 use Rattle.descent_arrays.proofs.TokenWords.{TokensGiven, TokensHold, column-few, tokens-hold}
 use Rattle.descent_arrays.proofs.ChoiceRows.{Filled}
@@ -156,22 +157,42 @@ module _ {k : Lookahead} {words : List ℕ} {z : Sizes} {choices memo : List ℕ
         pub judged-rejected : (end ≡ length events → ⊥) → Descended k words input (Rejected c) memo′
         judged-rejected d = judged tallied (rw (entry-ends-not (descend G choice input 0 0) (length input) (started .told) (λ e. d (e ∙ input-length events))))
 
--- the choices made of what is found of a grammar that passes are those of its own table
-pub judge-given : {k : Lookahead} {words : List ℕ} {z : Sizes} {starts entries memo choices : List ℕ} {columns : ℕ} (events : List ℕ)
-    (g : PassedGiven k words z starts entries (inputOf events) memo) → columns ≡ columnCount k (z .terminals)
-    → choices ≡ choicesOf starts (z .nonterminals) columns entries (length events)
-    → JudgeGiven k words z choices (inputOf events) (take (z .nonterminals * (length events + 1)) memo)
-judge-given events g m c = record {
-  given = record {
-    ready = record {
-      taken = g .ready .taken;
-      free = g .ready .free;
-      begins = refl;
-      entered = refl;
-      tokens = g .ready .tokens;
-      short = g .ready .short;
+-- sizes within the limits are not cut
+pub entries-fit : (n k : ℕ) → n ≤ maxNonterminals → k ≤ maxTokens → memoEntries n k ≡ n * (k + 1)
+unfolding memoEntries
+entries-fit n k few short =
+    let a : min n maxNonterminals ≡ n = omega arith in
+    let b : min k maxTokens ≡ k = omega arith in
+    rw (a, b)
+
+-- what is found of a grammar that passes: in the front of the memo table, by the choices made of it
+module _ {k : Lookahead} {words : List ℕ} {z : Sizes} {starts entries memo : List ℕ} (events : List ℕ)
+    (g : PassedGiven k words z starts entries (inputOf events) memo) {needed : ℕ} (q : needed ≡ memoEntries (z .nonterminals) (length events)) where
+  needed-is : needed ≡ z .nonterminals * (length events + 1)
+  needed-is =
+      q ∙ entries-fit (z .nonterminals) (length events) (well-read words z (admitted-read k words (g .ready .taken)) .fewNonterminals)
+      (omega (arith, g .ready .short, input-length events))
+
+  pub needed-fits : needed ≤ length memo
+  needed-fits = omega (arith, needed-is, needed-room events g)
+
+  pub judge-given : {choices : List ℕ} → choices ≡ choicesOf starts (z .nonterminals) (columnCount k (z .terminals)) entries (length events)
+      → JudgeGiven k words z choices (inputOf events) (take needed memo)
+  judge-given c = record {
+    given = record {
+      ready = record {
+        taken = g .ready .taken;
+        free = g .ready .free;
+        begins = refl;
+        entered = refl;
+        tokens = g .ready .tokens;
+        short = g .ready .short;
+      };
+      size = rw needed-is (descend-given events g .size);
     };
-    size = descend-given events g .size;
-  };
-  made = rw (c, m, g .ready .begins, g .ready .entered, input-length events);
-}
+    made = rw (c, g .ready .begins, g .ready .entered, input-length events);
+  }
+
+  pub front-judged : {a : Answer} {part : List ℕ} → Descended k words (inputOf events) a part
+      → JudgedPassed k words (inputOf events) memo a (part ++ drop needed memo)
+  front-judged d = rw needed-is (judged-passed events g d)

@@ -12,7 +12,7 @@ use lib.Seq.{length-take-le}
 use borrow.Author.Tests.{ltb-true, ltb-false}
 use Rattle.answer.specs.declared.Answer.{Answer}
 use Rattle.base.specs.Choice.{choose}
-use Rattle.grammar.specs.Limits.{maxMemoEntries, maxNonterminals, maxPlaces}
+use Rattle.grammar.specs.Limits.{maxNonterminals, maxPlaces}
 use Rattle.grammar.specs.Syntax.{Grammar}
 use Rattle.grammar.specs.Encoding.{grammarOf}
 use Rattle.grammar.specs.contracts.WellRead.{WellRead}
@@ -28,11 +28,12 @@ use Rattle.inputs.specs.contracts.Inputs.{inputAt, inputCount}
 use Rattle.inputs.proofs.Numbers.{at-long, at-over}
 use Rattle.inputs.proofs.Counting.{count-exact}
 use Rattle.inputs.proofs.Searching.{Searched, searched-none, searched-more, searched-less, searched-all}
+use Rattle.inputs.proofs.Greatest.{costliest-of}
 use Rattle.inputs.specs.declared.Candidate.{Candidate}
 use Rattle.columns.specs.Columns.{columnCount}
 use Rattle.memo_table.specs.contracts.Tally.{recordedBelow}
 use Rattle.memo_table.proofs.Tallying.{count-recorded}
-use Rattle.descent_arrays.specs.contracts.Choices.{choicesOf}
+use Rattle.descent_arrays.specs.contracts.Choices.{choicesOf, memoEntries}
 use Rattle.recognizer_promises.specs.Memory.{memoWords}
 use Rattle.recognizer_promises.specs.contracts.Judging.{Descended}
 use Rattle.recognizer_promises.specs.CostliestInput.{callsOn}
@@ -40,6 +41,7 @@ use Rattle.recognizer_promises.specs.contracts.Search.{SearchGiven, BestJudged}
 use Rattle.recognizer_promises.proofs.Judged.{memo-count}
 use Rattle.recursive_descent.specs.contracts.Descent.{StartDone}
 use Rattle.recursive_descent.specs.contracts.Judging.{JudgeGiven}
+use Rattle.recursive_descent.proofs.Deciding.{entries-fit}
 use Rattle.recursive_descent.specs.contracts.Search.{TrialGiven, CostliestJudged}
 
 module _ {words : List ℕ} {z : Sizes} {choices events memo : List ℕ} (g : TrialGiven words z choices events memo) where
@@ -160,46 +162,44 @@ module _ {words : List ℕ} {z : Sizes} {choices events memo : List ℕ} (g : Tr
           judged = rw (own searching-given (best .number) w) at d;
         }
 
--- the front of a memo table that is long enough
-module _ {words : List ℕ} {z : Sizes} {starts entries events memo : List ℕ} (g : SearchGiven words z starts entries events memo) where
+-- what is found of a grammar that passes: in the front of the memo table, by the choices made of it for that many tokens
+module _ {words : List ℕ} {z : Sizes} {starts entries events memo : List ℕ} (g : SearchGiven words z starts entries events memo) {tokens needed : ℕ}
+    (long : length events ≡ tokens) (q : needed ≡ memoEntries (z .nonterminals) tokens) where
   sizes : WellRead words z
   sizes = well-read words z (admitted-read One words (g .taken))
 
-  pub entries-few : z .nonterminals * (length events + 1) ≤ maxMemoEntries
-  entries-few =
-      let m = mul-le-mul {n₁ = z .nonterminals} {m₁ = length events + 1} {n₂ = maxNonterminals} {m₂ = maxPlaces}
-      (sizes .fewNonterminals) (omega (arith, g .short)) in
-      omega arith
+  needed-is : needed ≡ grammarOf words .nonterminals * suc (length events)
+  needed-is =
+      q ∙ entries-fit (z .nonterminals) tokens (sizes .fewNonterminals) (omega (arith, g .short, long))
+      ∙ rw (sizes .nonterminals, ← long, add-one (length events))
 
-  pub entries-room : z .nonterminals * (length events + 1) ≤ length memo
-  entries-room = omega (arith, entries-few, g .room)
+  pub needed-fits : needed ≤ length memo
+  needed-fits =
+      let m = mul-le-mul {n₁ = grammarOf words .nonterminals} {m₁ = suc (length events)} {n₂ = maxNonterminals} {m₂ = maxPlaces}
+      (omega (arith, sizes .nonterminals, sizes .fewNonterminals)) (omega (arith, g .short)) in
+      omega (arith, needed-is, g .room)
 
-  entries-are : z .nonterminals * (length events + 1) ≡ grammarOf words .nonterminals * suc (length events)
-  entries-are = rw (sizes .nonterminals, add-one (length events))
-
-  -- the choices made of what is found of the grammar are those of its own table
-  pub trial-given : {choices : List ℕ} {columns : ℕ} → columns ≡ columnCount One (z .terminals)
-      → choices ≡ choicesOf starts (z .nonterminals) columns entries (length events)
-      → TrialGiven words z choices events (take (z .nonterminals * (length events + 1)) memo)
-  trial-given m c = record {
+  pub trial-given : {choices : List ℕ} → choices ≡ choicesOf starts (z .nonterminals) (columnCount One (z .terminals)) entries tokens
+      → TrialGiven words z choices events (take needed memo)
+  trial-given c = record {
     taken = g .taken;
     free = g .free;
-    made = rw (c, m, g .begins, g .entered);
-    size = length-take-le (z .nonterminals * (length events + 1)) memo entries-room ∙ entries-are;
+    made = rw (c, long, g .begins, g .entered);
+    size = length-take-le needed memo needed-fits ∙ needed-is;
     short = g .short;
     few = g .few;
   }
 
-  pub best-judged : {r : Answer} {events′ part : List ℕ} → CostliestJudged words (length events) r events′ part → length events′ ≡ length events
-      → BestJudged words events memo r events′ (part ++ drop (z .nonterminals * (length events + 1)) memo)
-  best-judged {r} {events′} {part} d same =
+  pub front-judged : {r : Answer} {events′ part : List ℕ} → CostliestJudged words (length events) r events′ part
+      → BestJudged words events memo r events′ (part ++ drop needed memo)
+  front-judged {r} {events′} {part} d =
       let written = memoWords One (grammarOf words) events′ in
-      let e : z .nonterminals * (length events + 1) ≡ length written =
-      entries-are ∙ ap (λ j. grammarOf words .nonterminals * suc j) (sym same) ∙ sym (memo-count One (grammarOf words) events′) in
+      let some : 0 < grammarOf words .terminals = omega (arith, sizes .terminals, sizes .someTerminal) in
+      let same : length events′ ≡ length events =
+      ap length (d .written) ∙ costliest-of (callsOn (grammarOf words)) (grammarOf words .terminals) some (length events) .long in
+      let e : needed ≡ length written =
+      needed-is ∙ ap (λ j. grammarOf words .nonterminals * suc j) (sym same) ∙ sym (memo-count One (grammarOf words) events′) in
       record {
         written = d .written;
-        judged = record {
-          answer = d .judged .answer;
-          lent = ap (λ y. y ++ drop (z .nonterminals * (length events + 1)) memo) (d .judged .entries) ∙ ap (λ y. written ++ drop y memo) e;
-        };
+        judged = record { answer = d .judged .answer; lent = ap (λ y. y ++ drop needed memo) (d .judged .entries) ∙ ap (λ y. written ++ drop y memo) e };
       }

@@ -1,15 +1,13 @@
 // Judging an input by a grammar that has passed.
 ghost use mathlib.Core.Path.{_≡_};
 ghost use Rattle.event.specs.Events.{inputOf};
-ghost use Rattle.recognizer_promises.specs.contracts.Judging.{refusedWith, PassedGiven, Descended, JudgedPassed};
+ghost use Rattle.recognizer_promises.specs.contracts.Judging.{refusedWith, Descended};
 ghost use Rattle.recursive_descent.specs.contracts.Descent.{StartRequires, StartEnsures};
 ghost use Rattle.recursive_descent.specs.contracts.Judging.{JudgeGiven};
 use super::descent::call;
 use answer::Answer;
 use answer::Error;
-use columns::count;
 use descent_arrays::arrays::CHOICES;
-use descent_arrays::choices::choices_of;
 use descent_arrays::tokens::tokens_of;
 use families::Finding;
 use families::SETS;
@@ -59,33 +57,6 @@ pub(crate) fn judge_chosen(
     } else {
         Answer::Rejected(calls)
     }
-}
-
-// A grammar that has passed and an input of its terminals.
-pub(crate) fn judge_passed<'a>(
-    words: &[u32],
-    sizes: Sizes,
-    lookahead: Lookahead,
-    starts: &'a [usize; RULES],
-    entries: &'a [u8; ENTRIES],
-    events: &[u8],
-    memo: &mut [u16],
-) -> Answer
-    requires { ⌜ PassedGiven lookahead (now words) sizes (now starts) (now entries) (inputOf (now events)) (now memo) ⌝ }
-    ensures { λ r. ⌜ JudgedPassed lookahead (now (words .entry)) (inputOf (now (events .entry))) (now (memo .entry)) r (now (memo .exit)) ⌝ }
-{
-    let nonterminals = sizes.nonterminals as usize;
-    let columns = count(lookahead, sizes.terminals);
-    let choices = choices_of(starts, nonterminals, columns, entries, events.len());
-    let needed = nonterminals * (events.len() + 1);
-    judge_chosen(
-        words,
-        sizes,
-        lookahead,
-        &choices,
-        events,
-        &mut memo[..needed],
-    )
 }
 
 // What a refusal tells: of the grammar nothing but the error.

@@ -2,11 +2,13 @@
 ghost use Rattle.event.specs.Events.{inputOf};
 ghost use Rattle.recognizer_promises.specs.contracts.Judging.{JudgesWords};
 use answer::Error;
+use descent_arrays::choices::entries_of;
+use descent_arrays::choices::table_choices;
 use families::Finding;
 use grammar::limits::MEMO_ENTRIES;
 use grammar::limits::TOKENS;
 use input_findings::with_input;
-use judging::judge_passed;
+use judging::judge_chosen;
 use judging::refused;
 use lookahead::Lookahead;
 use recognizer_promises::Judgement;
@@ -33,14 +35,21 @@ pub fn judge_words(
     match finding {
         Finding::Refused(error) => refused(error),
         Finding::Passed(sizes) => {
-            let answer = judge_passed(
+            let choices = table_choices(
+                &found.starts,
+                sizes,
+                lookahead,
+                &found.entries,
+                events.len(),
+            );
+            let needed = entries_of(sizes.nonterminals, events.len());
+            let answer = judge_chosen(
                 words,
                 sizes,
                 lookahead,
-                &found.starts,
-                &found.entries,
+                &choices,
                 events,
-                memo,
+                &mut memo[..needed],
             );
             Judgement { answer, found }
         }

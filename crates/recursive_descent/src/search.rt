@@ -4,21 +4,19 @@ ghost use lib.ListN.{length};
 ghost use Rattle.grammar.specs.Encoding.{grammarOf};
 ghost use Rattle.inputs.specs.contracts.Inputs.{inputAt};
 ghost use Rattle.recognizer_promises.specs.CostliestInput.{callsOn};
-ghost use Rattle.recognizer_promises.specs.contracts.Search.{SearchGiven, BestJudged, SearchesWords};
+ghost use Rattle.recognizer_promises.specs.contracts.Search.{SearchesWords};
 ghost use Rattle.recursive_descent.specs.contracts.Search.{TrialGiven, CostliestJudged};
 use super::judging::descend;
 use super::judging::judge_chosen;
 use super::judging::refused;
 use answer::Answer;
 use answer::Error;
-use columns::count;
 use descent_arrays::arrays::CHOICES;
-use descent_arrays::choices::choices_of;
+use descent_arrays::choices::entries_of;
+use descent_arrays::choices::table_choices;
 use descent_arrays::tokens::tokens_of;
 use families::Finding;
-use grammar::limits::ENTRIES;
 use grammar::limits::MEMO_ENTRIES;
-use grammar::limits::RULES;
 use grammar::limits::TOKENS;
 use grammar::reading::Sizes;
 use inputs::Candidate;
@@ -79,25 +77,6 @@ fn judge_costliest(
     judge_chosen(words, sizes, Lookahead::One, choices, events, memo)
 }
 
-// The choices are made once: they are those of every input of the length.
-fn judge_best<'a>(
-    words: &[u32],
-    sizes: Sizes,
-    starts: &'a [usize; RULES],
-    entries: &'a [u8; ENTRIES],
-    events: &mut [u8],
-    memo: &mut [u16],
-) -> Answer
-    requires { ⌜ SearchGiven (now words) sizes (now starts) (now entries) (now events) (now memo) ⌝ }
-    ensures { λ r. ⌜ BestJudged (now (words .entry)) (now (events .entry)) (now (memo .entry)) r (now (events .exit)) (now (memo .exit)) ⌝ }
-{
-    let nonterminals = sizes.nonterminals as usize;
-    let columns = count(Lookahead::One, sizes.terminals);
-    let choices = choices_of(starts, nonterminals, columns, entries, events.len());
-    let needed = nonterminals * (events.len() + 1);
-    judge_costliest(words, sizes, &choices, events, &mut memo[..needed])
-}
-
 // Finds the costliest input of a length for an encoded grammar, writes it into the lent log, and judges it.
 pub fn judge_costliest_words(
     words: &[u32],
@@ -118,13 +97,21 @@ pub fn judge_costliest_words(
     match finding {
         Finding::Refused(error) => refused(error),
         Finding::Passed(sizes) => {
-            let answer = judge_best(
+            // of every input of the length
+            let choices = table_choices(
+                &found.starts,
+                sizes,
+                Lookahead::One,
+                &found.entries,
+                tokens,
+            );
+            let needed = entries_of(sizes.nonterminals, tokens);
+            let answer = judge_costliest(
                 words,
                 sizes,
-                &found.starts,
-                &found.entries,
+                &choices,
                 &mut log[..tokens],
-                memo,
+                &mut memo[..needed],
             );
             Judgement { answer, found }
         }

@@ -33,6 +33,10 @@ unfoldable pub choicesOf : (starts : List ℕ) (nonterminals columns : ℕ) (ent
 choicesOf starts nonterminals columns entries tokens =
     choiceRows starts (min columns maxColumnsOfTwo) entries (min tokens maxTokens) (min nonterminals maxNonterminals)
 
+-- how many entries a memo table for that many has
+unfoldable pub memoEntries : (nonterminals tokens : ℕ) → ℕ
+memoEntries nonterminals tokens = min nonterminals maxNonterminals * (min tokens maxTokens + 1)
+
 -- the rows before A are written
 pub record RowGiven (starts : List ℕ) (columns : ℕ) (entries : List ℕ) (tokens A : ℕ) (choices : List ℕ) : Type 0 where
   pub named : A < maxNonterminals

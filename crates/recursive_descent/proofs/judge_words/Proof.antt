@@ -1,7 +1,9 @@
 -- What is answered, by the memo table's length and by what is found of the grammar and the input.
-use mathlib.Core.Path.{refl}
+use mathlib.Core.Path.{refl, sym}
 use Rattle.event.specs.Events.{inputOf}
+use lib.Seq.{length-take-le}
 use Rattle.recognizer_promises.proofs.Judged.{words-short, words-found-refused, passed-given, words-judged}
+use Rattle.recursive_descent.proofs.Deciding.{needed-fits, judge-given, front-judged}
 use borrow.Author.Needs.{needs}
 use Rattle.recursive_descent.proofs.judge_words.Statement.{statement}
 use Rattle.recursive_descent.proofs.judge_words.Tie as tie
@@ -30,15 +32,50 @@ refused-requires-2 c κs = search needs
 enum-known-finding-2 : tie.Need-enum-known-finding-2
 enum-known-finding-2 c = search needs
 
-judge-passed-requires : tie.Need-judge-passed-requires
-judge-passed-requires c κs =
-    let passed = c .before .before .before .before .before in
+table-choices-requires : tie.Need-table-choices-requires
+table-choices-requires c κs = tt
+
+entries-of-requires : tie.Need-entries-of-requires
+entries-of-requires c κs = tt
+
+slice-relend-prefix-judge-chosen : tie.Need-slice-relend-prefix-judge-chosen
+slice-relend-prefix-judge-chosen c =
+    let sized = c .before in
+    let passed = sized .before .before .before .before .before .before in
     let looked = passed .before .before in
     let analyzed = looked .before in
     let room = analyzed .before in
     let given = room .before .before .before .before .args in
-    passed-given (given .lookahead) (given .words .now) (inputOf (given .events .now)) (given .memo .now) (room .if1 .left) (analyzed .find .ensures)
-    (looked .with-input .ensures) (passed .finding2 .given .1)
+    let found = passed-given (given .lookahead) (given .words .now) (inputOf (given .events .now)) (given .memo .now)
+    (room .if1 .left) (analyzed .find .ensures)
+    (looked .with-input .ensures) (passed .finding2 .given .1) in
+    needed-fits (given .events .now) found (sized .entries-of .ensures)
+
+slice-aggregate-judge-chosen : tie.Need-slice-aggregate-judge-chosen
+slice-aggregate-judge-chosen c =
+    let sized = c .before .before in
+    let passed = sized .before .before .before .before .before .before in
+    let looked = passed .before .before in
+    let analyzed = looked .before in
+    let room = analyzed .before in
+    let given = room .before .before .before .before .args in
+    let found = passed-given (given .lookahead) (given .words .now) (inputOf (given .events .now)) (given .memo .now)
+    (room .if1 .left) (analyzed .find .ensures)
+    (looked .with-input .ensures) (passed .finding2 .given .1) in
+    sym (length-take-le (sized .entries-of .result) (given .memo .now) (needed-fits (given .events .now) found (sized .entries-of .ensures)))
+
+judge-chosen-requires : tie.Need-judge-chosen-requires
+judge-chosen-requires c κs =
+    let sized = c .before .before in
+    let passed = sized .before .before .before .before .before .before in
+    let looked = passed .before .before in
+    let analyzed = looked .before in
+    let room = analyzed .before in
+    let given = room .before .before .before .before .args in
+    let found = passed-given (given .lookahead) (given .words .now) (inputOf (given .events .now)) (given .memo .now)
+    (room .if1 .left) (analyzed .find .ensures)
+    (looked .with-input .ensures) (passed .finding2 .given .1) in
+    judge-given (given .events .now) found (sized .entries-of .ensures) (sized .before .table-choices .ensures)
 
 returns-2 : tie.Need-returns-2
 returns-2 c =
@@ -56,13 +93,18 @@ same-length c = search needs
 returns-3 : tie.Need-returns-3
 returns-3 c =
     let judged = c .before .before in
-    let passed = judged .before .before .before .before .before .before in
+    let sized = judged .before .before .before in
+    let passed = sized .before .before .before .before .before .before in
     let looked = passed .before .before in
     let analyzed = looked .before in
     let room = analyzed .before in
     let given = room .before .before .before .before .args in
+    let found = passed-given (given .lookahead) (given .words .now) (inputOf (given .events .now)) (given .memo .now)
+    (room .if1 .left) (analyzed .find .ensures)
+    (looked .with-input .ensures) (passed .finding2 .given .1) in
     words-judged (given .lookahead) (given .words .now) (inputOf (given .events .now)) (given .memo .now) (room .if1 .left) (analyzed .find .ensures)
-    (looked .with-input .ensures) (passed .finding2 .given .1) (judged .judge-passed .ensures) refl
+    (looked .with-input .ensures) (passed .finding2 .given .1)
+    (front-judged (given .events .now) found (sized .entries-of .ensures) (judged .judge-chosen .ensures)) refl
 
 pub judge-words-spec : {M : Type 1} → statement M
 judge-words-spec =
@@ -75,7 +117,11 @@ judge-words-spec =
     enum-known-finding
     refused-requires-2
     enum-known-finding-2
-    judge-passed-requires
+    table-choices-requires
+    entries-of-requires
+    slice-relend-prefix-judge-chosen
+    slice-aggregate-judge-chosen
+    judge-chosen-requires
     returns-2
     same-length
     returns-3)

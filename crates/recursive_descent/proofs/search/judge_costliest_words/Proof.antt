@@ -1,6 +1,8 @@
 -- What is answered, by the lengths of the memories and by what is found of the grammar and the length.
 use mathlib.Core.Path.{refl, sym}
 use Rattle.recognizer_promises.proofs.CostliestFaults.{memo-refused, log-refused, found-refused, part-fits, part-length, search-given, search-done}
+use lib.Seq.{length-take-le}
+use Rattle.recursive_descent.proofs.Searching.{needed-fits, trial-given, front-judged}
 use borrow.Author.Needs.{needs}
 use Rattle.recursive_descent.proofs.search.judge_costliest_words.Statement.{statement}
 use Rattle.recursive_descent.proofs.search.judge_costliest_words.Tie as tie
@@ -39,9 +41,15 @@ refused-requires-3 c κs = search needs
 enum-known-finding-2 : tie.Need-enum-known-finding-2
 enum-known-finding-2 c = search needs
 
-slice-relend-prefix-judge-best : tie.Need-slice-relend-prefix-judge-best
-slice-relend-prefix-judge-best c =
-    let passed = c .before .before .before .before in
+table-choices-requires : tie.Need-table-choices-requires
+table-choices-requires c κs = tt
+
+entries-of-requires : tie.Need-entries-of-requires
+entries-of-requires c κs = tt
+
+slice-relend-prefix-judge-costliest : tie.Need-slice-relend-prefix-judge-costliest
+slice-relend-prefix-judge-costliest c =
+    let passed = c .before .before .before .before .before .before .before in
     let looked = passed .before .before in
     let analyzed = looked .before in
     let space = analyzed .before in
@@ -50,9 +58,9 @@ slice-relend-prefix-judge-best c =
     part-fits (given .words .now) (given .tokens) (given .log .now) (given .memo .now) (room .if1 .left) (space .if2 .left) (analyzed .find .ensures)
     (looked .with-length .ensures) (passed .finding2 .given .1)
 
-slice-aggregate-judge-best : tie.Need-slice-aggregate-judge-best
-slice-aggregate-judge-best c =
-    let passed = c .before .before .before .before .before in
+slice-aggregate-judge-costliest : tie.Need-slice-aggregate-judge-costliest
+slice-aggregate-judge-costliest c =
+    let passed = c .before .before .before .before .before .before .before .before in
     let looked = passed .before .before in
     let analyzed = looked .before in
     let space = analyzed .before in
@@ -61,16 +69,56 @@ slice-aggregate-judge-best c =
     sym (part-length (given .words .now) (given .tokens) (given .log .now) (given .memo .now) (room .if1 .left) (space .if2 .left) (analyzed .find .ensures)
     (looked .with-length .ensures) (passed .finding2 .given .1))
 
-judge-best-requires : tie.Need-judge-best-requires
-judge-best-requires c κs =
-    let passed = c .before .before .before .before .before .before in
+slice-relend-prefix-judge-costliest-2 : tie.Need-slice-relend-prefix-judge-costliest-2
+slice-relend-prefix-judge-costliest-2 c =
+    let sized = c .before .before in
+    let passed = sized .before .before .before .before .before .before in
     let looked = passed .before .before in
     let analyzed = looked .before in
     let space = analyzed .before in
     let room = space .before in
     let given = room .before .before .before .before .args in
-    search-given (given .words .now) (given .tokens) (given .log .now) (given .memo .now) (room .if1 .left) (space .if2 .left) (analyzed .find .ensures)
-    (looked .with-length .ensures) (passed .finding2 .given .1)
+    let long = part-length (given .words .now) (given .tokens) (given .log .now) (given .memo .now) (room .if1 .left)
+    (space .if2 .left) (analyzed .find .ensures)
+    (looked .with-length .ensures) (passed .finding2 .given .1) in
+    let found = search-given (given .words .now) (given .tokens) (given .log .now) (given .memo .now) (room .if1 .left)
+    (space .if2 .left) (analyzed .find .ensures)
+    (looked .with-length .ensures) (passed .finding2 .given .1) in
+    needed-fits found long (sized .entries-of .ensures)
+
+slice-aggregate-judge-costliest-2 : tie.Need-slice-aggregate-judge-costliest-2
+slice-aggregate-judge-costliest-2 c =
+    let sized = c .before .before .before in
+    let passed = sized .before .before .before .before .before .before in
+    let looked = passed .before .before in
+    let analyzed = looked .before in
+    let space = analyzed .before in
+    let room = space .before in
+    let given = room .before .before .before .before .args in
+    let long = part-length (given .words .now) (given .tokens) (given .log .now) (given .memo .now) (room .if1 .left)
+    (space .if2 .left) (analyzed .find .ensures)
+    (looked .with-length .ensures) (passed .finding2 .given .1) in
+    let found = search-given (given .words .now) (given .tokens) (given .log .now) (given .memo .now) (room .if1 .left)
+    (space .if2 .left) (analyzed .find .ensures)
+    (looked .with-length .ensures) (passed .finding2 .given .1) in
+    sym (length-take-le (sized .entries-of .result) (given .memo .now) (needed-fits found long (sized .entries-of .ensures)))
+
+judge-costliest-requires : tie.Need-judge-costliest-requires
+judge-costliest-requires c κs =
+    let sized = c .before .before .before in
+    let passed = sized .before .before .before .before .before .before in
+    let looked = passed .before .before in
+    let analyzed = looked .before in
+    let space = analyzed .before in
+    let room = space .before in
+    let given = room .before .before .before .before .args in
+    let long = part-length (given .words .now) (given .tokens) (given .log .now) (given .memo .now) (room .if1 .left)
+    (space .if2 .left) (analyzed .find .ensures)
+    (looked .with-length .ensures) (passed .finding2 .given .1) in
+    let found = search-given (given .words .now) (given .tokens) (given .log .now) (given .memo .now) (room .if1 .left)
+    (space .if2 .left) (analyzed .find .ensures)
+    (looked .with-length .ensures) (passed .finding2 .given .1) in
+    trial-given found long (sized .entries-of .ensures) (sized .before .table-choices .ensures)
 
 returns-3 : tie.Need-returns-3
 returns-3 c =
@@ -92,14 +140,21 @@ same-length-2 c = search needs
 returns-4 : tie.Need-returns-4
 returns-4 c =
     let judged = c .before .before .before .before in
-    let passed = judged .before .before .before .before .before .before .before in
+    let sized = judged .before .before .before .before in
+    let passed = sized .before .before .before .before .before .before in
     let looked = passed .before .before in
     let analyzed = looked .before in
     let space = analyzed .before in
     let room = space .before in
     let given = room .before .before .before .before .args in
+    let long = part-length (given .words .now) (given .tokens) (given .log .now) (given .memo .now) (room .if1 .left)
+    (space .if2 .left) (analyzed .find .ensures)
+    (looked .with-length .ensures) (passed .finding2 .given .1) in
+    let found = search-given (given .words .now) (given .tokens) (given .log .now) (given .memo .now) (room .if1 .left)
+    (space .if2 .left) (analyzed .find .ensures)
+    (looked .with-length .ensures) (passed .finding2 .given .1) in
     search-done (given .words .now) (given .tokens) (given .log .now) (given .memo .now) (room .if1 .left) (space .if2 .left) (analyzed .find .ensures)
-    (looked .with-length .ensures) (passed .finding2 .given .1) (judged .judge-best .ensures) refl
+    (looked .with-length .ensures) (passed .finding2 .given .1) (front-judged found long (sized .entries-of .ensures) (judged .judge-costliest .ensures)) refl
 
 pub judge-costliest-words-spec : {M : Type 1} → statement M
 judge-costliest-words-spec =
@@ -114,9 +169,13 @@ judge-costliest-words-spec =
     enum-known-finding
     refused-requires-3
     enum-known-finding-2
-    slice-relend-prefix-judge-best
-    slice-aggregate-judge-best
-    judge-best-requires
+    table-choices-requires
+    entries-of-requires
+    slice-relend-prefix-judge-costliest
+    slice-aggregate-judge-costliest
+    slice-relend-prefix-judge-costliest-2
+    slice-aggregate-judge-costliest-2
+    judge-costliest-requires
     returns-3
     same-length
     same-length-2
