@@ -19,9 +19,8 @@ use Rattle.base.proofs.Booleans.{true-T}
 use Rattle.word.specs.declared.Word.{Word}
 use Rattle.word.specs.Words.{decoded}
 use Rattle.grammar.specs.Limits.{maxNonterminals, maxRules}
-use Rattle.grammar.specs.Syntax.{Grammar, Rule}
+use Rattle.grammar.specs.Syntax.{Grammar}
 use Rattle.grammar.specs.Encoding.{parse, grammarOf}
-use Rattle.grammar.specs.Starts.{ruleStarts}
 use Rattle.grammar.specs.WellRead.{headOf}
 use Rattle.grammar.specs.declared.reading.Sizes.{Sizes}
 use Rattle.grammar.proofs.EachIndex.{read-whole}

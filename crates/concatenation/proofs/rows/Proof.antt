@@ -1,11 +1,9 @@
 -- No terminal alone, no row; else one terminal after the other: the rows of those that were looked at.
 use Prim.Native.Nat.{_-_, _≤_}
-use mathlib.Core.Bool.{_&&_}
 use mathlib.Core.Path.{sym, _∙_}
 use native.Mathlib.Omega.{arith}
-use lib.Dec.{ltb}
 use borrow.Author.Needs.{needs}
-use Rattle.concatenation.specs.Computing.{Has, begins, inRows}
+use Rattle.concatenation.specs.Computing.{Has, inRows}
 use Rattle.concatenation.proofs.PairRows as laws
 use Rattle.concatenation.proofs.rows.Statement.{statement}
 use Rattle.concatenation.proofs.rows.Tie as tie
