@@ -16,7 +16,7 @@ use Rattle.kept_input.proofs.Soundness.{empty-sound}
 use Rattle.embed_promises.specs.Packing.{packed}
 use Rattle.embed_promises.specs.Exports.{JudgeExported}
 use Rattle.embed_promises.specs.Kept.{stateOf, progressIn, StepExported, KeptExported}
-use Rattle.embed_promises.specs.contracts.KeptHistories.{heldIn, emptyState, zeroState, Calls, idle, next, HistoriesExported}
+use Rattle.embed_promises.specs.KeptHistories.{heldIn, emptyState, zeroState, Calls, idle, next, HistoriesExported}
 
 empty-held : (events : List ℕ) → heldIn events emptyState ≡ emptyInput
 unfolding valuesOf progressOf storedInput

@@ -1,4 +1,3 @@
 pub mod Packing
 pub mod Records
 pub mod Kept
-pub mod KeptHistories
