@@ -1,2 +1,2 @@
 // What may follow a nonterminal, and what an entry of the memo table tells there: definitions in specs/, theorems in proofs/, no code.
-// specs/Theorems.antt states all theorems on one page.
+// specs/contracts/Theorems.antt states all theorems on one page.

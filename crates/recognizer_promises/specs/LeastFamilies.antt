@@ -27,7 +27,7 @@ abbrev pub ClaimsAt : Lookahead → Grammar → ℕ → ℕ → List ℕ → Typ
 ClaimsAt k G = Claims G (tokens k) (First G (tokens k)) (Follow G (tokens k))
 
 -- no smaller than the rules ask, and no larger than any family of tests that they close; of all families it is `LeastSets` of
--- semantics/specs/Theorems.antt, which a promise of code cannot quantify over
+-- semantics/specs/contracts/Theorems.antt, which a promise of code cannot quantify over
 -- need not be believed: nullable (nullable-closed, nullable-least); First (first-closed, first-least); Follow (follow-closed, follow-least);
 -- tableOf (claimed, unclaimed)
 pub record LeastFamilies (k : Lookahead) (G : Grammar) : Type 0 where

@@ -1,1 +1,1 @@
-// Worked examples of the papers, by computation: theorems in proofs/, no code. specs/Rows.antt has the rows of judged inputs.
+// Worked examples of the papers, by computation: theorems in proofs/, no code. specs/examples/Rows.antt has the rows of judged inputs.

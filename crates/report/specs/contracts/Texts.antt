@@ -1,4 +1,4 @@
--- The texts that the programs print, from the bytes of files, and how much of a file they read.
+-- The sizes that a judgement is put with.
 use mathlib.Core.List.{List}
 use Prim.Native.Nat.{ℕ}
 use lib.Dec.{leb}
