@@ -1,6 +1,6 @@
 // What a call answers: a verdict with the calls made, or the error that refused the call.
 ghost use mathlib.Core.Path.{_≡_};
-ghost use Rattle.answer.specs.Numbers.{coded, numbers};
+ghost use Rattle.answer.specs.Numbers.{coded};
 
 // Why a call is refused (documents 01 and 02: a refusal), with what is needed to tell where. Every refusal of the two documents has its case,
 // so that a call that comes to give one changes nothing here.
@@ -126,17 +126,5 @@ pub fn position(error: Error) -> usize
         Error::CheckpointNotSet => 0,
         Error::InputFull => 0,
         Error::TooManyInputs => 0,
-    }
-}
-
-// How many calls an answer tells.
-pub fn calls_told(answer: Answer) -> usize
-    ensures { λ r. ⌜ r ≡ numbers answer .count ⌝ }
-{
-    match answer {
-        Answer::Refused(_) => 0,
-        Answer::Passed => 0,
-        Answer::Rejected(calls) => calls.count,
-        Answer::Accepted(calls) => calls.count,
     }
 }
