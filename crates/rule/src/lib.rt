@@ -89,7 +89,7 @@ fn begins(sign: Sign) -> bool
     }
 }
 
-pub fn ends_at(outcome: Outcome, place: u16) -> bool
+fn ends_at(outcome: Outcome, place: u16) -> bool
     ensures { λ r. ⌜ r ≡ endsAt (meant outcome) place ⌝ }
 {
     match outcome {
