@@ -1,5 +1,5 @@
 """The server of the workbench answers its own page alone, tells what the tool tells, and takes no harm from bad requests."""
-import http.client, json, os, random, socket, subprocess, tempfile, threading, time
+import http.client, json, os, random, signal, socket, subprocess, tempfile, threading, time
 from xml.dom import minidom
 import server, workbench
 from checking import CARD, ROOT, check, example, run
@@ -118,6 +118,11 @@ def same_as_the_tool():
     print('the workbench: what it tells is what the tool tells')
 
 
+def heeding_interrupts():
+    """What a shell starts in the background ignores Ctrl-C, and so do its children."""
+    signal.signal(signal.SIGINT, signal.SIG_DFL)
+
+
 def command():
     """The command prints its address, tells which files it does not take, leaves no file, and ends with Ctrl-C."""
     with tempfile.TemporaryDirectory() as folder:
@@ -126,7 +131,7 @@ def command():
             with open(path, 'wb') as file:
                 file.write(data)
         with subprocess.Popen([CARD, 'serve', '--port', '0', words, long, os.path.join(ROOT, 'examples', 'M.card')], stdout=subprocess.PIPE,
-                              stderr=subprocess.PIPE, cwd=folder) as serving:
+                              stderr=subprocess.PIPE, cwd=folder, preexec_fn=heeding_interrupts) as serving:
             address = serving.stdout.readline().decode()
             check(address.startswith('http://127.0.0.1:'), f'serve: {address}')
             port = int(address.split(':')[2].split('/')[0])
