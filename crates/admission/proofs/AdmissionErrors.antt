@@ -17,8 +17,8 @@ use Rattle.grammar.specs.Limits.{maxWords, maxTerminalsOfTwo}
 use Rattle.grammar.specs.Encoding.{grammarOf}
 use Rattle.grammar.specs.Reading.{opened, reading}
 use Rattle.grammar.specs.declared.reading.Sizes.{Sizes}
-use Rattle.grammar.specs.declared.reading.Outcome.{Outcome}
-use Rattle.grammar.specs.declared.reading.Outcome.the-variants.{Read, Faulty}
+use Rattle.grammar.specs.declared.reading.Reading.{Reading}
+use Rattle.grammar.specs.declared.reading.Reading.the-variants.{Read, Faulty}
 use Rattle.lookahead.specs.declared.Lookahead.{Lookahead}
 use Rattle.lookahead.specs.declared.Lookahead.the-variants.{One, Two}
 use Rattle.admission.specs.declared.Alone.{Alone}
@@ -27,7 +27,7 @@ use Rattle.admission.specs.Admission.{firstAlone, ofHeading, headingFaul
 use Rattle.admission.proofs.WithoutPositives.{alone-among}
 
 -- what holds of an outcome's error, if it has one
-abbrev pub OfOutcome : (Error → Type 0) → Outcome → Type 0
+abbrev pub OfOutcome : (Error → Type 0) → Reading → Type 0
 OfOutcome P o = (e : Error) → o ≡ Faulty e → P e
 
 -- words with a fault that is not of their length are few
@@ -46,16 +46,16 @@ module _ (P : Error → Type 0) where
   pub of-faulty : (x : Error) → P x → OfOutcome P (Faulty x)
   of-faulty x h e q = let n : e ≡ x = cc in rw n h
 
-  faulty-or-each : (f : Option Error) (o : Outcome) → OfFault P f → OfOutcome P o → OfOutcome P (faultyOr f o)
+  faulty-or-each : (f : Option Error) (o : Reading) → OfFault P f → OfOutcome P o → OfOutcome P (faultyOr f o)
   faulty-or-each none o h r = r
   faulty-or-each (some x) o h r = of-faulty x (h x refl)
 
-  heading-each : (o : Outcome) → OfOutcome P o → OfFault P (headingFault o)
+  heading-each : (o : Reading) → OfOutcome P o → OfFault P (headingFault o)
   heading-each (Read z) r = of-none P
   heading-each (Faulty x) r = of-if P (ofHeading (Faulty x)) x (r x refl)
 
   module _ (unexpected : (i : ℕ) → i ≤ maxWords → P (UnexpectedWord i)) where
-    word-each : (o : Outcome) (a : Alone) → OfOutcome P o → ((i : ℕ) → a ≡ At i → i ≤ maxWords) → OfFault P (wordFault o a)
+    word-each : (o : Reading) (a : Alone) → OfOutcome P o → ((i : ℕ) → a ≡ At i → i ≤ maxWords) → OfFault P (wordFault o a)
     word-each (Read z) Absent r h = of-none P
     word-each (Read z) (At i) r h = of-some P (UnexpectedWord i) (unexpected i (h i refl))
     word-each (Faulty x) Absent r h = of-some P x (r x refl)

@@ -17,8 +17,8 @@ use Rattle.lookahead.specs.declared.Lookahead.{Lookahead}
 use Rattle.lookahead.specs.declared.Lookahead.the-variants.{One, Two}
 use Rattle.word.specs.Words.{decoded}
 use Rattle.grammar.specs.declared.reading.Sizes.{Sizes}
-use Rattle.grammar.specs.declared.reading.Outcome.{Outcome}
-use Rattle.grammar.specs.declared.reading.Outcome.the-variants.{Read, Faulty}
+use Rattle.grammar.specs.declared.reading.Reading.{Reading}
+use Rattle.grammar.specs.declared.reading.Reading.the-variants.{Read, Faulty}
 use Rattle.grammar.specs.Encoding.{declaredBy, grammarOf}
 use Rattle.grammar.specs.Limits.{maxWords, maxNonterminals, maxTerminals, maxTerminalsOfTwo}
 use Rattle.grammar.specs.Reading.{beginsRule, reading, opened, headed, scan, fresh, isWithin}
@@ -39,30 +39,30 @@ unfolding grammarOf
 terminals-declared [] h = absurd (omega arith)
 terminals-declared (w ∷ ws) h = refl
 
-pub none-alone : (o : Outcome) {a : Alone} → a ≡ Absent → o ≡ faultyOr (wordFault o a) o
+pub none-alone : (o : Reading) {a : Alone} → a ≡ Absent → o ≡ faultyOr (wordFault o a) o
 none-alone (Read z) e = rw e
 none-alone (Faulty x) e = rw e
 
-pub alone-read : {o : Outcome} {a : Alone} {z : Sizes} {i : ℕ} → o ≡ Read z → a ≡ At i → Faulty (UnexpectedWord i) ≡ faultyOr (wordFault o a) o
+pub alone-read : {o : Reading} {a : Alone} {z : Sizes} {i : ℕ} → o ≡ Read z → a ≡ At i → Faulty (UnexpectedWord i) ≡ faultyOr (wordFault o a) o
 alone-read e f = rw (e, f)
 
-module _ {o : Outcome} {a : Alone} {x : Error} {i : ℕ} (e : o ≡ Faulty x) (f : a ≡ At i) where
+module _ {o : Reading} {a : Alone} {x : Error} {i : ℕ} (e : o ≡ Faulty x) (f : a ≡ At i) where
   pub alone-before : i < coded x .position → Faulty (UnexpectedWord i) ≡ faultyOr (wordFault o a) o
   alone-before l = rw (e, f, lt-ltb i (coded x .position) l)
 
   pub alone-behind : coded x .position ≤ i → Faulty x ≡ faultyOr (wordFault o a) o
   alone-behind l = rw (e, f, le-ltb i (coded x .position) l)
 
-last-fault : (f : Option Error) (o : Outcome) → faultyOr f o ≡ faultyOr (firstFault (f ∷ [])) o
+last-fault : (f : Option Error) (o : Reading) → faultyOr f o ≡ faultyOr (firstFault (f ∷ [])) o
 last-fault none o = refl
 last-fault (some e) o = refl
 
-module _ (o : Outcome) (words : List ℕ) where
+module _ (o : Reading) (words : List ℕ) where
   pub heading-first : ofHeading o ≡ true → o ≡ faultyOr (twoTokensFault o words) o
   unfolding twoTokensFault
   heading-first t = go o refl t
     where
-      go : (p : Outcome) → o ≡ p → ofHeading p ≡ true → p ≡ faultyOr (twoTokensFault p words) p
+      go : (p : Reading) → o ≡ p → ofHeading p ≡ true → p ≡ faultyOr (twoTokensFault p words) p
       go (Read z) e h = absurd (false≢true h)
       go (Faulty x) e h = rw h
 
@@ -70,7 +70,7 @@ module _ (o : Outcome) (words : List ℕ) where
   unfolding twoTokensFault
   many-terminals h l = go o h
     where
-      go : (p : Outcome) → ofHeading p ≡ false → Faulty TooManyTerminals ≡ faultyOr (twoTokensFault p words) p
+      go : (p : Reading) → ofHeading p ≡ false → Faulty TooManyTerminals ≡ faultyOr (twoTokensFault p words) p
       go (Read z) h = rw (lt-ltb maxTerminalsOfTwo (grammarOf words .terminals) l)
       go (Faulty x) h = rw (h, lt-ltb maxTerminalsOfTwo (grammarOf words .terminals) l)
 
@@ -79,7 +79,7 @@ module _ (o : Outcome) (words : List ℕ) where
   unfolding twoTokensFault
   words-then h l = go o h
     where
-      go : (p : Outcome) → ofHeading p ≡ false → faultyOr (wordFault p (firstAlone words)) p ≡ faultyOr (twoTokensFault p words) p
+      go : (p : Reading) → ofHeading p ≡ false → faultyOr (wordFault p (firstAlone words)) p ≡ faultyOr (twoTokensFault p words) p
       go (Read z) h = rw (le-ltb maxTerminalsOfTwo (grammarOf words .terminals) l) (last-fault (wordFault (Read z) (firstAlone words)) (Read z))
       go (Faulty x) h = rw (h, le-ltb maxTerminalsOfTwo (grammarOf words .terminals) l) (last-fault (wordFault (Faulty x) (firstAlone words)) (Faulty x))
 
@@ -112,7 +112,7 @@ opened-read : (words : List ℕ) (z : Sizes) → reading words ≡ Read z → op
 unfolding reading
 opened-read words z e = refused (ltb maxWords (length words)) (opened words) z e .1
 
-fault-none : (f : Option Error) (o : Outcome) (z : Sizes) → faultyOr f o ≡ Read z → (f ≡ none) × (o ≡ Read z)
+fault-none : (f : Option Error) (o : Reading) (z : Sizes) → faultyOr f o ≡ Read z → (f ≡ none) × (o ≡ Read z)
 fault-none none o z e = (refl, e)
 fault-none (some x) o z e = absurd (faulty x z e)
 

@@ -10,8 +10,8 @@ use lib.ListN.{length, take, drop, take-append-drop}
 use Rattle.answer.specs.declared.Error.{Error}
 use Rattle.answer.specs.declared.Error.the-variants.{Length, Heading, UnexpectedWord, TooManyTerminals}
 use Rattle.answer.specs.Numbers.{coded}
-use Rattle.grammar.specs.declared.reading.Outcome.{Outcome}
-use Rattle.grammar.specs.declared.reading.Outcome.the-variants.{Read, Faulty}
+use Rattle.grammar.specs.declared.reading.Reading.{Reading}
+use Rattle.grammar.specs.declared.reading.Reading.the-variants.{Read, Faulty}
 use Rattle.grammar.specs.Limits.{maxWords, maxTerminalsOfTwo}
 use Rattle.grammar.specs.Syntax.{Grammar}
 use Rattle.grammar.specs.Encoding.{grammarOf}
@@ -52,7 +52,7 @@ begins-whole : (words : List ℕ) (G : Grammar) → Encodes words G → (i : ℕ
 begins-whole words G e i = record { rest = drop i words; grammar = G; encodes = rw (take-append-drop i words) e }
 
 -- one token
-one-diagnosed : (words : List ℕ) (o : Outcome) → Diagnosis words o → DiagnosisBy One words o
+one-diagnosed : (words : List ℕ) (o : Reading) → Diagnosis words o → DiagnosisBy One words o
 one-diagnosed words _ (Diagnosis.long l) = DiagnosisBy.long l
 one-diagnosed words _ (Diagnosis.heading s f) = DiagnosisBy.fault s (faulty-by (begins-nothing One) f) (FaultBy.heading refl f)
 one-diagnosed words _ (Diagnosis.behind s l f w) = DiagnosisBy.fault s (faulty-by (fitting (f .before)) f) (FaultBy.word l f w)
@@ -124,7 +124,7 @@ module _ (words : List ℕ) (short : length words ≤ maxWords) where
         DiagnosisBy.encoding short g (rw (encodes-grammar words G g) at fits)
     of-encoding G g (At a) e = stands-alone a e (begins-whole words G g a) (λ f. f .whole G g)
 
-  by-terminals : (o : Outcome) → ofHeading o ≡ false → BeginsEncoding (take 1 words)
+  by-terminals : (o : Reading) → ofHeading o ≡ false → BeginsEncoding (take 1 words)
       → (grammarOf words .terminals ≤ maxTerminalsOfTwo → DiagnosisBy Two words (faultyOr (wordFault o (firstAlone words)) o))
       → DiagnosisBy Two words (faultyOr (twoTokensFault o words) o)
   by-terminals o h b words-tell = go (decLt maxTerminalsOfTwo (grammarOf words .terminals))
@@ -135,7 +135,7 @@ module _ (words : List ℕ) (short : length words ≤ maxWords) where
           let few : grammarOf words .terminals ≤ maxTerminalsOfTwo = omega (arith, l) in
           subst (DiagnosisBy Two words) (words-then o words h few) (words-tell few)
 
-two-diagnosed : (words : List ℕ) (o : Outcome) → Diagnosis words o → DiagnosisBy Two words (faultyOr (twoTokensFault o words) o)
+two-diagnosed : (words : List ℕ) (o : Reading) → Diagnosis words o → DiagnosisBy Two words (faultyOr (twoTokensFault o words) o)
 two-diagnosed words _ (Diagnosis.long l) = subst (DiagnosisBy Two words) (heading-first (Faulty Length) words refl) (DiagnosisBy.long l)
 two-diagnosed words _ (Diagnosis.heading s f) =
     subst (DiagnosisBy Two words) (heading-first (Faulty Heading) words refl) (DiagnosisBy.fault s (faulty-by (begins-nothing Two) f) (FaultBy.heading refl f))

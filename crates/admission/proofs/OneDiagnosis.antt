@@ -4,8 +4,8 @@ use mathlib.Core.List.{List}
 use Prim.Native.Nat.{ℕ}
 use native.Mathlib.Omega.{arith}
 use Rattle.answer.specs.declared.Error.{Error}
-use Rattle.grammar.specs.declared.reading.Outcome.{Outcome}
-use Rattle.grammar.specs.declared.reading.Outcome.the-variants.{Read, Faulty}
+use Rattle.grammar.specs.declared.reading.Reading.{Reading}
+use Rattle.grammar.specs.declared.reading.Reading.the-variants.{Read, Faulty}
 use Rattle.encoding.specs.Encode.{sizesOf}
 use Rattle.encoding.proofs.Decoding.{encode-injective}
 use Rattle.encoding.proofs.OneDiagnosis.{StopsAt, stops-once, one-fault}
@@ -39,7 +39,7 @@ one-fault-by words i _ _ (FaultBy.alone l n) (FaultBy.terminals z n′) = absurd
 one-fault-by words i _ _ (FaultBy.alone l n) (FaultBy.word l′ f w) = absurd (n f)
 one-fault-by words i _ _ (FaultBy.alone l n) (FaultBy.alone l′ n′) = refl
 
-one-diagnosis-by : (k : Lookahead) (words : List ℕ) (o u : Outcome) → DiagnosisBy k words o → DiagnosisBy k words u → o ≡ u
+one-diagnosis-by : (k : Lookahead) (words : List ℕ) (o u : Reading) → DiagnosisBy k words o → DiagnosisBy k words u → o ≡ u
 one-diagnosis-by k words _ _ (DiagnosisBy.long s) (DiagnosisBy.long t) = refl
 one-diagnosis-by k words _ _ (DiagnosisBy.long s) (DiagnosisBy.fault t f x) = absurd (omega arith)
 one-diagnosis-by k words _ _ (DiagnosisBy.long s) (DiagnosisBy.encoding t e f) = absurd (omega arith)

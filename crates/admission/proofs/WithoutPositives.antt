@@ -17,7 +17,7 @@ use Rattle.grammar.specs.Encoding.{Parsed, parsed, ruleOf, onWord, parse}
 use Rattle.grammar.specs.Reading.{row, allows, beginsRule, stateAfter, stepped, scan}
 use Rattle.grammar.specs.declared.reading.Sizes.{Sizes}
 use Rattle.grammar.specs.declared.reading.Progress.{Progress}
-use Rattle.grammar.specs.declared.reading.Outcome.the-variants.{Read}
+use Rattle.grammar.specs.declared.reading.Reading.the-variants.{Read}
 use Rattle.grammar.proofs.WellFormed.{Each, none-in, more-in, Shape, step-passed, onward, finished-read, reads}
 use Rattle.base.specs.Choice.{choose}
 use Rattle.admission.specs.declared.Alone.{Alone as Found}

@@ -13,8 +13,8 @@ use Rattle.base.specs.Choice.{choose}
 use Rattle.word.specs.declared.Word.{Word}
 use Rattle.word.specs.declared.Word.the-variants.{Heading, Rule as RuleWord, Positive, Negative, Symbol, End, Invalid}
 use Rattle.word.specs.Words.{decoded}
-use Rattle.grammar.specs.declared.reading.Outcome.{Outcome}
-use Rattle.grammar.specs.declared.reading.Outcome.the-variants.{Read, Faulty}
+use Rattle.grammar.specs.declared.reading.Reading.{Reading}
+use Rattle.grammar.specs.declared.reading.Reading.the-variants.{Read, Faulty}
 use Rattle.grammar.specs.Encoding.{grammarOf}
 use Rattle.grammar.specs.Limits.{maxTerminalsOfTwo}
 use Rattle.grammar.specs.Syntax.{Rule, Grammar}
@@ -48,11 +48,11 @@ abbrev pub firstAlone : List ℕ → Alone
 firstAlone words = aloneFrom false 0 words
 
 -- 3 and 4: the length and the heading
-abbrev pub ofHeading : Outcome → Bool
+abbrev pub ofHeading : Reading → Bool
 ofHeading (Read z) = false
 ofHeading (Faulty e) = leb (coded e .code) 4
 
-abbrev pub headingFault : Outcome → Option Error
+abbrev pub headingFault : Reading → Option Error
 headingFault (Read z) = none
 headingFault (Faulty e) = faultIf (ofHeading (Faulty e)) e
 
@@ -61,21 +61,21 @@ abbrev pub terminalsFault : List ℕ → Option Error
 terminalsFault words = faultIf (ltb maxTerminalsOfTwo (grammarOf words .terminals)) TooManyTerminals
 
 -- 5 to 7, and 5 where a rule has no positive: the first faulty word decides
-abbrev pub wordFault : Outcome → Alone → Option Error
+abbrev pub wordFault : Reading → Alone → Option Error
 wordFault (Read z) Absent = none
 wordFault (Read z) (At i) = some (UnexpectedWord i)
 wordFault (Faulty e) Absent = some e
 wordFault (Faulty e) (At i) = some (choose (ltb i (coded e .position)) (UnexpectedWord i) e)
 
 -- with two tokens of lookahead, by what reading finds, in the papers' order: 3, 4, 18, and then 5 to 7
-unfoldable pub twoTokensFault : Outcome → List ℕ → Option Error
+unfoldable pub twoTokensFault : Reading → List ℕ → Option Error
 twoTokensFault read words = firstFault (headingFault read ∷ terminalsFault words ∷ wordFault read (firstAlone words) ∷ [])
 
-abbrev pub faultyOr : Option Error → Outcome → Outcome
+abbrev pub faultyOr : Option Error → Reading → Reading
 faultyOr (some e) o = Faulty e
 faultyOr none o = o
 
 -- the first fault of an encoded grammar, or its sizes
-abbrev pub admission : Lookahead → List ℕ → Outcome
+abbrev pub admission : Lookahead → List ℕ → Reading
 admission One words = reading words
 admission Two words = faultyOr (twoTokensFault (reading words) words) (reading words)

@@ -6,8 +6,8 @@ use Prim.Native.Nat.{ℕ, suc, _≤_, _<_}
 use lib.ListN.{length, take}
 use Rattle.answer.specs.declared.Error.{Error}
 use Rattle.answer.specs.declared.Error.the-variants.{Length, Heading, UnexpectedWord, TooManyTerminals}
-use Rattle.grammar.specs.declared.reading.Outcome.{Outcome}
-use Rattle.grammar.specs.declared.reading.Outcome.the-variants.{Read, Faulty}
+use Rattle.grammar.specs.declared.reading.Reading.{Reading}
+use Rattle.grammar.specs.declared.reading.Reading.the-variants.{Read, Faulty}
 use Rattle.grammar.specs.Limits.{maxWords}
 use Rattle.grammar.specs.Syntax.{Grammar}
 use Rattle.encoding.specs.Encode.{sizesOf, Encodes}
@@ -39,11 +39,11 @@ pub data FaultBy (words : List ℕ) (i : ℕ) : Error → Type 0 where
   alone : 0 < i → (FirstFault words i → ⊥) → FaultBy words i (UnexpectedWord i)
 
 -- 3, a fault of the first faulty word, or none of them
-pub data DiagnosisBy (k : Lookahead) (words : List ℕ) : Outcome → Type 0 where
+pub data DiagnosisBy (k : Lookahead) (words : List ℕ) : Reading → Type 0 where
   long : maxWords < length words → DiagnosisBy k words (Faulty Length)
   fault : {i : ℕ} {x : Error} → length words ≤ maxWords → FirstFaultBy k words i → FaultBy words i x → DiagnosisBy k words (Faulty x)
   encoding : {G : Grammar} → length words ≤ maxWords → Encodes words G → Fits k G → DiagnosisBy k words (Read (sizesOf G))
 
 -- what is admitted is what there is to tell and nothing else
 abbrev pub Diagnosed : Lookahead → List ℕ → Type 0
-Diagnosed k words = (o : Outcome) → (admission k words ≡ o) ↔ DiagnosisBy k words o
+Diagnosed k words = (o : Reading) → (admission k words ≡ o) ↔ DiagnosisBy k words o

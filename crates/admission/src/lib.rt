@@ -7,7 +7,7 @@ use answer::Error;
 use answer::code;
 use answer::position;
 use grammar::limits::TERMINALS_OF_TWO;
-use grammar::reading::Outcome;
+use grammar::reading::Reading;
 use lookahead::Lookahead;
 use reader::declared;
 use reader::read;
@@ -75,16 +75,16 @@ fn declared_terminals(words: &[u32]) -> u32
 }
 
 // A rule without positives is told where no word before it is faulty.
-fn with_alone(outcome: Outcome, alone: Alone) -> Outcome
+fn with_alone(outcome: Reading, alone: Alone) -> Reading
     ensures { λ r. ⌜ r ≡ faultyOr (wordFault outcome alone) outcome ⌝ }
 {
     match alone {
         Alone::Absent => outcome,
         Alone::At(at) => match outcome {
-            Outcome::Read(_) => Outcome::Faulty(Error::UnexpectedWord(at)),
-            Outcome::Faulty(error) => {
+            Reading::Read(_) => Reading::Faulty(Error::UnexpectedWord(at)),
+            Reading::Faulty(error) => {
                 if at < position(error) {
-                    Outcome::Faulty(Error::UnexpectedWord(at))
+                    Reading::Faulty(Error::UnexpectedWord(at))
                 } else {
                     outcome
                 }
@@ -93,30 +93,30 @@ fn with_alone(outcome: Outcome, alone: Alone) -> Outcome
     }
 }
 
-fn of_heading(outcome: Outcome) -> bool
+fn of_heading(outcome: Reading) -> bool
     ensures { λ r. ⌜ r ≡ ofHeading outcome ⌝ }
 {
     match outcome {
-        Outcome::Read(_) => false,
-        Outcome::Faulty(error) => code(error) <= HEADING,
+        Reading::Read(_) => false,
+        Reading::Faulty(error) => code(error) <= HEADING,
     }
 }
 
 // With two tokens of lookahead, behind the length and the heading.
-fn admit_two(words: &[u32], outcome: Outcome) -> Outcome
+fn admit_two(words: &[u32], outcome: Reading) -> Reading
     ensures { λ r. ⌜ r ≡ faultyOr (twoTokensFault outcome (now (words .entry))) outcome ⌝ }
 {
     if of_heading(outcome) {
         return outcome;
     }
     if TERMINALS_OF_TWO < declared_terminals(words) {
-        return Outcome::Faulty(Error::TooManyTerminals);
+        return Reading::Faulty(Error::TooManyTerminals);
     }
     with_alone(outcome, first_alone(words))
 }
 
 // The first fault of an encoded grammar, or its sizes.
-pub fn admit(words: &[u32], lookahead: Lookahead) -> Outcome
+pub fn admit(words: &[u32], lookahead: Lookahead) -> Reading
     ensures { λ r. ⌜ r ≡ admission lookahead (now (words .entry)) ⌝ }
 {
     let outcome = read(words);

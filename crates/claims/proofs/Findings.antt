@@ -9,7 +9,7 @@ use Rattle.grammar.specs.Encoding.{grammarOf}
 use Rattle.grammar.specs.Limits.{maxNonterminals, maxRules}
 use Rattle.grammar.specs.contracts.Starts.{ruleStarts}
 use Rattle.grammar.specs.declared.reading.Sizes.{Sizes}
-use Rattle.grammar.specs.declared.reading.Outcome.the-variants.{Read}
+use Rattle.grammar.specs.declared.reading.Reading.the-variants.{Read}
 use Rattle.lookahead.specs.declared.Lookahead.{Lookahead}
 use Rattle.admission.specs.Admission.{admission}
 use Rattle.families.specs.declared.Finding.the-variants.{Passed, Refused}

@@ -13,7 +13,7 @@ use Rattle.word.specs.Words.{decoded}
 use Rattle.grammar.specs.declared.reading.State.{State}
 use Rattle.grammar.specs.declared.reading.State.the-variants.{Opened}
 use Rattle.grammar.specs.declared.reading.Sizes.{Sizes}
-use Rattle.grammar.specs.declared.reading.Outcome.the-variants.{Read}
+use Rattle.grammar.specs.declared.reading.Reading.the-variants.{Read}
 use Rattle.grammar.specs.Encoding.{Parsed, onWord, parse}
 use Rattle.grammar.specs.Reading.{allows, beginsRule, stateAfter, reading}
 use Rattle.grammar.specs.contracts.Starts.{ruleStarts}

@@ -9,7 +9,7 @@ use Rattle.word.specs.Words.{decoded}
 use Rattle.grammar.specs.declared.reading.State.{State}
 use Rattle.grammar.specs.declared.reading.Sizes.{Sizes}
 use Rattle.grammar.specs.declared.reading.Progress.{Progress}
-use Rattle.grammar.specs.declared.reading.Outcome.the-variants.{Read}
+use Rattle.grammar.specs.declared.reading.Reading.the-variants.{Read}
 use Rattle.grammar.specs.Encoding.{declaredBy}
 use Rattle.grammar.specs.Limits.{maxNonterminals, maxTerminals}
 use Rattle.grammar.specs.Reading.{stepped, onStep, scan, opened, headed, fresh, isWithin}

@@ -18,8 +18,8 @@ use Rattle.word.specs.Words.{kind, payload, bare, heading, ofKind, decoded}
 use Rattle.grammar.specs.declared.reading.Sizes.{Sizes}
 use Rattle.grammar.specs.declared.reading.Step.{Step}
 use Rattle.grammar.specs.declared.reading.Step.the-variants.{Stop}
-use Rattle.grammar.specs.declared.reading.Outcome.{Outcome}
-use Rattle.grammar.specs.declared.reading.Outcome.the-variants.{Read, Faulty}
+use Rattle.grammar.specs.declared.reading.Reading.{Reading}
+use Rattle.grammar.specs.declared.reading.Reading.the-variants.{Read, Faulty}
 use Rattle.grammar.specs.Limits.{maxWords, maxNonterminals, maxTerminals, maxRules}
 use Rattle.grammar.specs.Encoding.{sizes, declaredBy, grammarOf}
 use Rattle.grammar.specs.Reading.{allows, inRange, beginsRule, stepped, onStep, finished, scan, fresh, isWithin, headed, opened, reading}
@@ -178,7 +178,7 @@ diagnosed-opened (w ∷ ws) short = go (isWithin (d .nonterminals) maxNontermina
           end = λ e. rw n at (f .end (omega arith));
         }
 
-    behind : ok ≡ true → (o : Outcome) → scan (fresh d) 1 ws ≡ o → Diagnosis (w ∷ ws) o
+    behind : ok ≡ true → (o : Reading) → scan (fresh d) 1 ws ≡ o → Diagnosis (w ∷ ws) o
     behind c (Read z) e = let r = opened-encodes (w ∷ ws) z (rw c e) in rw (r .1) (Diagnosis.encoding short (r .0))
     behind c (Faulty x) e = let f = faults (fresh d) 1 ws x e in diagnosed-place (w ∷ ws) (suc (f .before)) x short (rw c e) (place c x f)
 

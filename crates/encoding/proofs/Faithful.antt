@@ -3,7 +3,7 @@ use mathlib.Core.Path.{_≡_}
 use mathlib.Core.List.{List}
 use mathlib.Core.Logic.{_↔_}
 use Prim.Native.Nat.{ℕ}
-use Rattle.grammar.specs.declared.reading.Outcome.{Outcome}
+use Rattle.grammar.specs.declared.reading.Reading.{Reading}
 use Rattle.grammar.specs.Reading.{reading}
 use Rattle.encoding.specs.Diagnosis.{Diagnosis}
 use Rattle.encoding.specs.Faithful.{FaithfulReading}
@@ -12,7 +12,7 @@ use Rattle.encoding.proofs.Diagnosis.{diagnosed-reading}
 use Rattle.encoding.proofs.OneDiagnosis.{one-diagnosis}
 
 -- a reading finds what there is to tell, and nothing else
-pub reading-diagnosed : (words : List ℕ) (o : Outcome) → (reading words ≡ o) ↔ Diagnosis words o
+pub reading-diagnosed : (words : List ℕ) (o : Reading) → (reading words ≡ o) ↔ Diagnosis words o
 reading-diagnosed words o = (λ e. rw e at (diagnosed-reading words), λ d. one-diagnosis words (reading words) o (diagnosed-reading words) d)
 
 pub faithful : (words : List ℕ) → FaithfulReading words

@@ -6,8 +6,8 @@ use native.Mathlib.Omega.{arith}
 use native.Mathlib.Decide.{decLt}
 use lib.ListN.{length, take}
 use Rattle.answer.specs.declared.Error.{Error}
-use Rattle.grammar.specs.declared.reading.Outcome.{Outcome}
-use Rattle.grammar.specs.declared.reading.Outcome.the-variants.{Read, Faulty}
+use Rattle.grammar.specs.declared.reading.Reading.{Reading}
+use Rattle.grammar.specs.declared.reading.Reading.the-variants.{Read, Faulty}
 use Rattle.grammar.specs.Syntax.{Grammar}
 use Rattle.encoding.specs.Encode.{endWord, sizesOf}
 use Rattle.encoding.specs.Diagnosis.{BeginsEncoding, FirstFault, OutOfRangeAt, RuleTooMany, WordFault, Diagnosis}
@@ -69,7 +69,7 @@ one-fault words i _ _ (WordFault.tooMany t) (WordFault.unexpected n m) = absurd 
 one-fault words i _ _ (WordFault.tooMany t) (WordFault.outOfRange o) = absurd (ranged-not-many words i o t)
 one-fault words i _ _ (WordFault.tooMany t) (WordFault.tooMany t′) = refl
 
-pub one-diagnosis : (words : List ℕ) (o u : Outcome) → Diagnosis words o → Diagnosis words u → o ≡ u
+pub one-diagnosis : (words : List ℕ) (o u : Reading) → Diagnosis words o → Diagnosis words u → o ≡ u
 one-diagnosis words _ _ (Diagnosis.encoding {G} s e) (Diagnosis.encoding {G = H} t f) = ap (λ F. Read (sizesOf F)) (encode-injective words G H e f)
 one-diagnosis words _ _ (Diagnosis.encoding s e) (Diagnosis.long t) = absurd (omega arith)
 one-diagnosis words _ _ (Diagnosis.encoding {G} s e) (Diagnosis.heading t f) = absurd (f .whole G e)

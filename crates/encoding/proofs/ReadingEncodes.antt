@@ -16,7 +16,7 @@ use Rattle.grammar.specs.declared.reading.State.{State}
 use Rattle.grammar.specs.declared.reading.State.the-variants.{Before, Opened, InPositive, InNegative, Closed}
 use Rattle.grammar.specs.declared.reading.Sizes.{Sizes}
 use Rattle.grammar.specs.declared.reading.Progress.{Progress}
-use Rattle.grammar.specs.declared.reading.Outcome.the-variants.{Read}
+use Rattle.grammar.specs.declared.reading.Reading.the-variants.{Read}
 use Rattle.grammar.specs.Limits.{maxWords, maxNonterminals, maxTerminals}
 use Rattle.grammar.specs.Syntax.{Grammar}
 use Rattle.grammar.specs.Encoding.{Parsed, onWord, parse, sizes, declaredBy, grammarOf}

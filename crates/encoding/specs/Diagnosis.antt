@@ -7,8 +7,8 @@ use Rattle.answer.specs.declared.Error.{Error}
 use Rattle.answer.specs.declared.Error.the-variants.{Length, Heading, UnexpectedWord, OutOfRange, TooManyRules}
 use Rattle.word.specs.declared.Symbol.the-variants.{Terminal, Nonterminal}
 use Rattle.word.specs.Words.{kind, payload}
-use Rattle.grammar.specs.declared.reading.Outcome.{Outcome}
-use Rattle.grammar.specs.declared.reading.Outcome.the-variants.{Read, Faulty}
+use Rattle.grammar.specs.declared.reading.Reading.{Reading}
+use Rattle.grammar.specs.declared.reading.Reading.the-variants.{Read, Faulty}
 use Rattle.grammar.specs.Limits.{maxWords, maxRules}
 use Rattle.grammar.specs.Syntax.{Grammar}
 use Rattle.encoding.specs.Encode.{symbolWord, endWord, sizesOf, Encodes}
@@ -53,7 +53,7 @@ pub data WordFault (words : List ℕ) (i : ℕ) : Error → Type 0 where
   tooMany : RuleTooMany words i → WordFault words i (TooManyRules i)
 
 -- 3, 4, a fault of the first faulty word, or none of them
-pub data Diagnosis (words : List ℕ) : Outcome → Type 0 where
+pub data Diagnosis (words : List ℕ) : Reading → Type 0 where
   long : maxWords < length words → Diagnosis words (Faulty Length)
   heading : length words ≤ maxWords → FirstFault words 0 → Diagnosis words (Faulty Heading)
   behind : {i : ℕ} {x : Error} → length words ≤ maxWords → 0 < i → FirstFault words i → WordFault words i x → Diagnosis words (Faulty x)

@@ -3,7 +3,7 @@ use mathlib.Core.Path.{_≡_}
 use mathlib.Core.List.{List}
 use mathlib.Core.Logic.{_↔_}
 use Prim.Native.Nat.{ℕ}
-use Rattle.grammar.specs.declared.reading.Outcome.{Outcome}
+use Rattle.grammar.specs.declared.reading.Reading.{Reading}
 use Rattle.grammar.specs.Syntax.{Grammar}
 use Rattle.grammar.specs.Encoding.{grammarOf}
 use Rattle.grammar.specs.Reading.{reading}
@@ -12,5 +12,5 @@ use Rattle.encoding.specs.Diagnosis.{Diagnosis}
 
 -- the outcome of the reading is what there is to tell and nothing else, and the grammar of an encoding is the one that it encodes
 pub record FaithfulReading (words : List ℕ) : Type 0 where
-  pub outcome : (o : Outcome) → (reading words ≡ o) ↔ Diagnosis words o
+  pub outcome : (o : Reading) → (reading words ≡ o) ↔ Diagnosis words o
   pub grammar : (G : Grammar) → Encodes words G → grammarOf words ≡ G

@@ -14,8 +14,8 @@ use Rattle.grammar.specs.contracts.Starts.{ruleStarts}
 use Rattle.lookahead.specs.declared.Lookahead.{Lookahead}
 use Rattle.admission.specs.Admission.{admission}
 use Rattle.grammar.specs.declared.reading.Sizes.{Sizes}
-use Rattle.grammar.specs.declared.reading.Outcome.{Outcome}
-use Rattle.grammar.specs.declared.reading.Outcome.the-variants.{Read, Faulty}
+use Rattle.grammar.specs.declared.reading.Reading.{Reading}
+use Rattle.grammar.specs.declared.reading.Reading.the-variants.{Read, Faulty}
 use Rattle.families.specs.declared.Finding.{Finding}
 use Rattle.families.specs.declared.Finding.the-variants.{Passed, Refused}
 use Rattle.families.specs.declared.Families.{Families}
@@ -31,11 +31,11 @@ use Rattle.families.specs.Analysis.{readingFault, setsFault, findingOf}
 use Rattle.families.specs.contracts.Analysis.{startsIf, byRuleIf, setsIf, families, refusedBy, familiesOf}
 
 -- a reading without a fault is read
-pub read-some : (o : Outcome) → readingFault o ≡ none → (z : Sizes) × (o ≡ Read z)
+pub read-some : (o : Reading) → readingFault o ≡ none → (z : Sizes) × (o ≡ Read z)
 read-some (Read z) e = (z, refl)
 read-some (Faulty x) e = absurd (none-some (sym e))
 
-pub families-faulty : (k : Lookahead) (words : List ℕ) {e : Error} {o : Outcome} → o ≡ admission k words → o ≡ Faulty e → refusedBy e ≡ familiesOf k words
+pub families-faulty : (k : Lookahead) (words : List ℕ) {e : Error} {o : Reading} → o ≡ admission k words → o ≡ Faulty e → refusedBy e ≡ familiesOf k words
 unfolding familiesOf setsFault
 families-faulty k words r f = rw (sym r ∙ f)
 
@@ -76,7 +76,7 @@ pub record FoundFamilies (k : Lookahead) (words : List ℕ) (z : Sizes) (r : Fam
   pub follow : r .follows ≡ listed maxNonterminals (followNumber k (grammarOf words))
 
 -- a finding without an error tells that there is no fault
-pub told-passed : (f : Option Error) (o : Outcome) {z : Sizes} → findingOf f o ≡ Passed z → (f ≡ none) × (o ≡ Read z)
+pub told-passed : (f : Option Error) (o : Reading) {z : Sizes} → findingOf f o ≡ Passed z → (f ≡ none) × (o ≡ Read z)
 told-passed none (Read y) {z} q = let e : y ≡ z = cc in (refl, ap Read e)
 told-passed none (Faulty x) q = let n : _≡_ {A = ℕ} 0 1 = cc in absurd (omega arith)
 told-passed (some x) o q = let n : _≡_ {A = ℕ} 0 1 = cc in absurd (omega arith)
@@ -96,7 +96,7 @@ families-told k words {r} {z} e q =
     }
 
 -- and a refusal is the fault, wherever a faulty reading is the first fault
-pub told-refused : (f : Option Error) (o : Outcome) {x : Error} → ((e : Error) → o ≡ Faulty e → f ≡ some e) → findingOf f o ≡ Refused x → f ≡ some x
+pub told-refused : (f : Option Error) (o : Reading) {x : Error} → ((e : Error) → o ≡ Faulty e → f ≡ some e) → findingOf f o ≡ Refused x → f ≡ some x
 told-refused (some y) o {x} first q = let e : y ≡ x = cc in ap some e
 told-refused none (Read z) first q = let n : _≡_ {A = ℕ} 0 1 = cc in absurd (omega arith)
 told-refused none (Faulty e) first q = let n : _≡_ {A = ℕ} 0 1 = cc (first e refl) in absurd (omega arith)

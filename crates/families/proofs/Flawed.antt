@@ -12,7 +12,7 @@ use Rattle.grammar.specs.Limits.{maxNonterminals}
 use Rattle.grammar.specs.Reading.{reading}
 use Rattle.admission.specs.Admission.{admission}
 use Rattle.grammar.specs.declared.reading.Sizes.{Sizes}
-use Rattle.grammar.specs.declared.reading.Outcome.the-variants.{Read}
+use Rattle.grammar.specs.declared.reading.Reading.the-variants.{Read}
 use Rattle.grammar.proofs.WellRead.{well-read}
 use Rattle.lookahead.specs.declared.Lookahead.{Lookahead}
 use Rattle.lookahead.specs.Lookaheads.{tokens, stringOf}

@@ -7,7 +7,7 @@ use lib.Dec.{eqb→eq, eqb-refl}
 use lib.ListN.{length, take}
 use Rattle.word.specs.declared.Symbol.the-variants.{Terminal, Nonterminal}
 use Rattle.grammar.specs.declared.reading.Sizes.{Sizes}
-use Rattle.grammar.specs.declared.reading.Outcome.the-variants.{Read}
+use Rattle.grammar.specs.declared.reading.Reading.the-variants.{Read}
 use Rattle.grammar.specs.Limits.{maxNonterminals}
 use Rattle.grammar.specs.Syntax.{Body, Rule, Grammar, WellFormed, TerminalsBelow}
 use Rattle.grammar.specs.Encoding.{parse, grammarOf}

@@ -10,7 +10,7 @@ use lib.ListN.{length}
 use Rattle.word.specs.declared.Symbol.the-variants.{Terminal, Nonterminal}
 use Rattle.base.specs.Choice.{choose}
 use Rattle.grammar.specs.declared.reading.Sizes.{Sizes}
-use Rattle.grammar.specs.declared.reading.Outcome.the-variants.{Read}
+use Rattle.grammar.specs.declared.reading.Reading.the-variants.{Read}
 use Rattle.grammar.specs.Limits.{maxNonterminals}
 use Rattle.grammar.specs.Reading.{reading}
 use Rattle.admission.specs.Admission.{admission}

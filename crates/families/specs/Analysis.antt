@@ -6,8 +6,8 @@ use Rattle.answer.specs.declared.Error.{Error}
 use Rattle.answer.specs.declared.Error.the-variants.{LeftRecursive, Unproductive}
 use Rattle.answer.specs.Faults.{firstFault}
 use Rattle.grammar.specs.Encoding.{grammarOf}
-use Rattle.grammar.specs.declared.reading.Outcome.{Outcome}
-use Rattle.grammar.specs.declared.reading.Outcome.the-variants.{Read, Faulty}
+use Rattle.grammar.specs.declared.reading.Reading.{Reading}
+use Rattle.grammar.specs.declared.reading.Reading.the-variants.{Read, Faulty}
 use Rattle.lookahead.specs.declared.Lookahead.{Lookahead}
 use Rattle.lookahead.specs.Lookaheads.{tokens}
 use Rattle.admission.specs.Admission.{admission}
@@ -17,7 +17,7 @@ use Rattle.families.specs.declared.Finding.{Finding}
 use Rattle.families.specs.declared.Finding.the-variants.{Passed, Refused}
 
 -- 3 to 7 and 18
-abbrev pub readingFault : Outcome → Option Error
+abbrev pub readingFault : Reading → Option Error
 readingFault (Read z) = none
 readingFault (Faulty e) = some e
 
@@ -39,7 +39,7 @@ setsFaults k words =
 unfoldable pub setsFault : Lookahead → List ℕ → Option Error
 setsFault k words = firstFault (setsFaults k words)
 
-abbrev pub findingOf : Option Error → Outcome → Finding
+abbrev pub findingOf : Option Error → Reading → Finding
 findingOf (some e) o = Refused e
 findingOf none (Read z) = Passed z
 findingOf none (Faulty e) = Refused e

@@ -13,7 +13,7 @@ use Rattle.word.specs.Words.{decoded}
 use Rattle.grammar.specs.declared.reading.State.{State}
 use Rattle.grammar.specs.declared.reading.Sizes.{Sizes}
 use Rattle.grammar.specs.declared.reading.Progress.{Progress}
-use Rattle.grammar.specs.declared.reading.Outcome.the-variants.{Read, Faulty}
+use Rattle.grammar.specs.declared.reading.Reading.the-variants.{Read, Faulty}
 use Rattle.grammar.specs.Limits.{maxWords, maxNonterminals, maxTerminals}
 use Rattle.grammar.specs.Encoding.{Parsed, onWord, parse, declaredBy, grammarOf}
 use Rattle.grammar.specs.Reading.{inRange, stateAfter, fresh, stepped, scan, isWithin, headed, opened, reading}

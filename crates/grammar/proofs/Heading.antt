@@ -15,7 +15,7 @@ use Rattle.word.specs.declared.Word.{Word}
 use Rattle.word.specs.declared.Word.the-variants.{Heading, Rule, Positive, Negative, Symbol, End, Invalid}
 use Rattle.word.specs.Words.{decoded}
 use Rattle.grammar.specs.declared.reading.Sizes.{Sizes}
-use Rattle.grammar.specs.declared.reading.Outcome.the-variants.{Faulty}
+use Rattle.grammar.specs.declared.reading.Reading.the-variants.{Faulty}
 use Rattle.grammar.specs.Limits.{maxWords, maxNonterminals, maxTerminals}
 use Rattle.grammar.specs.Encoding.{sizes, declaredBy}
 use Rattle.grammar.specs.Reading.{fresh, scan, isWithin, headed, opened, reading}

@@ -17,7 +17,7 @@ use Rattle.grammar.specs.declared.reading.State.{State}
 use Rattle.grammar.specs.declared.reading.Progress.{Progress}
 use Rattle.grammar.specs.declared.reading.Step.{Step}
 use Rattle.grammar.specs.declared.reading.Step.the-variants.{Go, Stop}
-use Rattle.grammar.specs.declared.reading.Outcome.the-variants.{Faulty}
+use Rattle.grammar.specs.declared.reading.Reading.the-variants.{Faulty}
 use Rattle.grammar.specs.Limits.{maxRules}
 use Rattle.grammar.specs.Reading.{allows, inRange, beginsRule, stateAfter, progress, oneMore, counted, stepped, onStep, finished, scan}
 

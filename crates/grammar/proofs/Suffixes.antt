@@ -8,7 +8,7 @@ use lib.ListN.{length, getD, drop}
 use Rattle.word.specs.Words.{decoded}
 use Rattle.grammar.specs.declared.reading.Sizes.{Sizes}
 use Rattle.grammar.specs.declared.reading.Progress.{Progress}
-use Rattle.grammar.specs.declared.reading.Outcome.the-variants.{Read}
+use Rattle.grammar.specs.declared.reading.Reading.the-variants.{Read}
 use Rattle.grammar.specs.Encoding.{declaredBy}
 use Rattle.grammar.specs.Reading.{fresh, stepped, scan, reading}
 use Rattle.grammar.proofs.Scanning.{scan-here}

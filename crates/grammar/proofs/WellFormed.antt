@@ -21,8 +21,8 @@ use Rattle.grammar.specs.declared.reading.Sizes.{Sizes}
 use Rattle.grammar.specs.declared.reading.Progress.{Progress}
 use Rattle.grammar.specs.declared.reading.Step.{Step}
 use Rattle.grammar.specs.declared.reading.Step.the-variants.{Go, Stop}
-use Rattle.grammar.specs.declared.reading.Outcome.{Outcome}
-use Rattle.grammar.specs.declared.reading.Outcome.the-variants.{Read, Faulty}
+use Rattle.grammar.specs.declared.reading.Reading.{Reading}
+use Rattle.grammar.specs.declared.reading.Reading.the-variants.{Read, Faulty}
 use Rattle.grammar.specs.Limits.{maxRules}
 use Rattle.grammar.specs.Syntax.{Body, Rule, bodies, NonterminalsBelow, TerminalsBelow}
 use Rattle.grammar.specs.Encoding.{Parsed, parsed, ruleOf, onWord, parse}
@@ -211,7 +211,7 @@ step-passed w p q at e = go (stepped w p at) (stepping w p at) e
         })
 
 -- a reading that goes on behind a word
-pub onward : (r : Step) (f : Progress → Outcome) (z : Sizes) → onStep r f ≡ Read z → (q : Progress) × (r ≡ Go q) × (f q ≡ Read z)
+pub onward : (r : Step) (f : Progress → Reading) (z : Sizes) → onStep r f ≡ Read z → (q : Progress) × (r ≡ Go q) × (f q ≡ Read z)
 unfolding onStep
 onward (Go q) f z e = (q, refl, e)
 onward (Stop x) f z e = let n : _≡_ {A = ℕ} 0 1 = cc in absurd (omega arith)

@@ -15,8 +15,8 @@ use Rattle.word.specs.declared.Word.the-variants.{Heading, Rule as RuleWord, Po
 use Rattle.base.specs.Choice.{choose}
 use Rattle.word.specs.Words.{decoded}
 use Rattle.grammar.specs.declared.reading.Sizes.{Sizes}
-use Rattle.grammar.specs.declared.reading.Outcome.{Outcome}
-use Rattle.grammar.specs.declared.reading.Outcome.the-variants.{Read, Faulty}
+use Rattle.grammar.specs.declared.reading.Reading.{Reading}
+use Rattle.grammar.specs.declared.reading.Reading.the-variants.{Read, Faulty}
 use Rattle.grammar.specs.Limits.{maxWords, maxNonterminals, maxTerminals, maxRules}
 use Rattle.grammar.specs.Syntax.{Grammar, WellFormed}
 use Rattle.grammar.specs.Encoding.{declaredBy, parse, grammarOf}
@@ -27,11 +27,11 @@ use Rattle.grammar.proofs.WellFormed.{Each, RuleFits, faulty, Reads, re
 use Rattle.grammar.proofs.Begins.{Begins, begins, as-many}
 
 -- a choice that is read was taken on its good side
-pub chosen : (b : Bool) (o : Outcome) (z : Sizes) → choose b o (Faulty HeadingFault) ≡ Read z → (b ≡ true) × (o ≡ Read z)
+pub chosen : (b : Bool) (o : Reading) (z : Sizes) → choose b o (Faulty HeadingFault) ≡ Read z → (b ≡ true) × (o ≡ Read z)
 chosen true o z e = (refl, e)
 chosen false o z e = absurd (faulty HeadingFault z e)
 
-pub refused : (b : Bool) (o : Outcome) (z : Sizes) → choose b (Faulty Length) o ≡ Read z → (b ≡ false) × (o ≡ Read z)
+pub refused : (b : Bool) (o : Reading) (z : Sizes) → choose b (Faulty Length) o ≡ Read z → (b ≡ false) × (o ≡ Read z)
 refused true o z e = absurd (faulty Length z e)
 refused false o z e = (refl, e)
 

@@ -17,8 +17,8 @@ use Rattle.grammar.specs.declared.reading.Sizes.{Sizes}
 use Rattle.grammar.specs.declared.reading.Progress.{Progress}
 use Rattle.grammar.specs.declared.reading.Step.{Step}
 use Rattle.grammar.specs.declared.reading.Step.the-variants.{Go, Stop}
-use Rattle.grammar.specs.declared.reading.Outcome.{Outcome}
-use Rattle.grammar.specs.declared.reading.Outcome.the-variants.{Read, Faulty}
+use Rattle.grammar.specs.declared.reading.Reading.{Reading}
+use Rattle.grammar.specs.declared.reading.Reading.the-variants.{Read, Faulty}
 use Rattle.grammar.specs.Limits.{maxWords, maxNonterminals, maxTerminals, maxRules}
 use Rattle.grammar.specs.Encoding.{declaredBy}
 
@@ -90,16 +90,16 @@ stepped w p at =
     (Stop (OutOfRange at)))
     (Stop (UnexpectedWord at))
 
-unfoldable pub onStep : Step → (Progress → Outcome) → Outcome
+unfoldable pub onStep : Step → (Progress → Reading) → Reading
 onStep (Go p) f = f p
 onStep (Stop e) f = Faulty e
 
 -- behind the last word: the end must have been there
-unfoldable pub finished : Progress → ℕ → Outcome
+unfoldable pub finished : Progress → ℕ → Reading
 finished p at = choose (row false false false false true (p .state)) (Read (p .sizes)) (Faulty (UnexpectedWord at))
 
 -- the words from an index on
-unfoldable pub scan : Progress → ℕ → List ℕ → Outcome
+unfoldable pub scan : Progress → ℕ → List ℕ → Reading
 scan p at [] = finished p at
 scan p at (w ∷ ws) = onStep (stepped (decoded w) p at) (λ q. scan q (suc at) ws)
 
@@ -110,12 +110,12 @@ unfoldable pub isWithin : ℕ → ℕ → Bool
 isWithin n limit = ltb 0 n && leb n limit
 
 -- by what the first word declares, and the words behind it
-unfoldable pub headed : Sizes → List ℕ → Outcome
+unfoldable pub headed : Sizes → List ℕ → Reading
 headed z ws = choose (isWithin (z .nonterminals) maxNonterminals && isWithin (z .terminals) maxTerminals) (scan (fresh z) 1 ws) (Faulty HeadingFault)
 
-unfoldable pub opened : List ℕ → Outcome
+unfoldable pub opened : List ℕ → Reading
 opened [] = Faulty HeadingFault
 opened (w ∷ ws) = headed (declaredBy (decoded w)) ws
 
-unfoldable pub reading : List ℕ → Outcome
+unfoldable pub reading : List ℕ → Reading
 reading words = choose (ltb maxWords (length words)) (Faulty Length) (opened words)

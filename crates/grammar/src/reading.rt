@@ -30,7 +30,7 @@ pub enum Step {
     Stop(Error),
 }
 
-pub enum Outcome {
+pub enum Reading {
     Read(Sizes),
     Faulty(Error),
 }

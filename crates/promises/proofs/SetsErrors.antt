@@ -12,8 +12,8 @@ use Rattle.grammar.specs.Limits.{maxWords, maxNonterminals}
 use Rattle.grammar.specs.Syntax.{Grammar}
 use Rattle.grammar.specs.Encoding.{grammarOf}
 use Rattle.grammar.specs.Reading.{reading}
-use Rattle.grammar.specs.declared.reading.Outcome.{Outcome}
-use Rattle.grammar.specs.declared.reading.Outcome.the-variants.{Read, Faulty}
+use Rattle.grammar.specs.declared.reading.Reading.{Reading}
+use Rattle.grammar.specs.declared.reading.Reading.the-variants.{Read, Faulty}
 use Rattle.grammar.proofs.WellRead.{well-read}
 use Rattle.encoding.specs.Encode.{sizesOf}
 use Rattle.encoding.specs.Diagnosis.{Diagnosis, long, heading, behind, encoding, WordFault, unexpected, outOfRange, tooMany}
@@ -48,14 +48,14 @@ module _ {k : Lookahead} {P : Error → Type 0} (each : SetsErrors k P) where
   word-each {i = i} h (outOfRange a) = each .outOfRange i h
   word-each {i = i} h (tooMany a) = each .tooManyRules i h
 
-  diagnosis-each : {words : List ℕ} {o : Outcome} → Diagnosis words o → OfOutcome P o
+  diagnosis-each : {words : List ℕ} {o : Reading} → Diagnosis words o → OfOutcome P o
   diagnosis-each (long h) = of-faulty P Length (each .long)
   diagnosis-each (heading h f) = of-faulty P Heading (each .heading)
   diagnosis-each (behind {x = x} h b f w) = of-faulty P x (word-each (omega (arith, f .among)) w)
   diagnosis-each (encoding {G = G} h e) = of-read P (sizesOf G)
 
   -- admission
-  reading-fault-each : (o : Outcome) → OfOutcome P o → OfFault P (readingFault o)
+  reading-fault-each : (o : Reading) → OfOutcome P o → OfFault P (readingFault o)
   reading-fault-each (Read z) r = of-none P
   reading-fault-each (Faulty x) r = of-some P x (r x refl)
 

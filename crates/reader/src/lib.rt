@@ -9,8 +9,8 @@ use grammar::limits::NONTERMINALS;
 use grammar::limits::RULES;
 use grammar::limits::TERMINALS;
 use grammar::limits::WORDS;
-use grammar::reading::Outcome;
 use grammar::reading::Progress;
+use grammar::reading::Reading;
 use grammar::reading::Sizes;
 use grammar::reading::State;
 use grammar::reading::Step;
@@ -43,20 +43,20 @@ fn read_word(word: Word, progress: Progress, at: usize) -> Step
     }
 }
 
-fn finish(progress: Progress, at: usize) -> Outcome
+fn finish(progress: Progress, at: usize) -> Reading
     ensures { λ r. ⌜ r ≡ finished progress at ⌝ }
 {
     let state = progress.state;
     let sizes = progress.sizes;
     if row(state, false, false, false, false, true) {
-        Outcome::Read(sizes)
+        Reading::Read(sizes)
     } else {
-        Outcome::Faulty(Error::UnexpectedWord(at))
+        Reading::Faulty(Error::UnexpectedWord(at))
     }
 }
 
 // The words behind the heading.
-fn read_rules(words: &[u32], sizes: Sizes) -> Outcome
+fn read_rules(words: &[u32], sizes: Sizes) -> Reading
     ensures { λ r. ⌜ r ≡ scan (fresh sizes) 1 (drop 1 (now (words .entry))) ⌝ }
 {
     let mut progress = Progress {
@@ -72,7 +72,7 @@ fn read_rules(words: &[u32], sizes: Sizes) -> Outcome
                 progress = next;
             }
             Step::Stop(error) => {
-                return Outcome::Faulty(error);
+                return Reading::Faulty(error);
             }
         }
         at = at + 1;
@@ -112,21 +112,21 @@ pub fn declared(word: Word) -> Sizes
 }
 
 // The first fault of an encoded grammar, or its sizes.
-pub fn read(words: &[u32]) -> Outcome
+pub fn read(words: &[u32]) -> Reading
     ensures { λ r. ⌜ r ≡ reading (now (words .entry)) ⌝ }
 {
     if WORDS < words.len() {
-        return Outcome::Faulty(Error::Length);
+        return Reading::Faulty(Error::Length);
     }
     if words.len() == 0 {
-        return Outcome::Faulty(Error::Heading);
+        return Reading::Faulty(Error::Heading);
     }
     let sizes = declared(decode(words[0]));
     if !within(sizes.nonterminals, NONTERMINALS) {
-        return Outcome::Faulty(Error::Heading);
+        return Reading::Faulty(Error::Heading);
     }
     if !within(sizes.terminals, TERMINALS) {
-        return Outcome::Faulty(Error::Heading);
+        return Reading::Faulty(Error::Heading);
     }
     read_rules(words, sizes)
 }

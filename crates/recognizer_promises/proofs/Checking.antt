@@ -17,7 +17,7 @@ use Rattle.grammar.specs.Encoding.{grammarOf}
 use Rattle.grammar.specs.contracts.Starts.{ruleStarts}
 use Rattle.grammar.specs.Reading.{reading}
 use Rattle.grammar.specs.declared.reading.Sizes.{Sizes}
-use Rattle.grammar.specs.declared.reading.Outcome.the-variants.{Read}
+use Rattle.grammar.specs.declared.reading.Reading.the-variants.{Read}
 use Rattle.encoding.specs.Encode.{sizesOf, Encodes}
 use Rattle.encoding.proofs.Decoding.{encodes-grammar}
 use Rattle.encoding.proofs.ReadingEncodes.{read-encodes, encodes-read}

@@ -20,7 +20,7 @@ use Rattle.lookahead.specs.Lookaheads.{tokens}
 use Rattle.lookahead.specs.contracts.Lookaheads.{alphabet}
 use Rattle.admission.specs.Admission.{Fits, admission}
 use Rattle.admission.proofs.Admitted.{admitted}
-use Rattle.grammar.specs.declared.reading.Outcome.the-variants.{Read}
+use Rattle.grammar.specs.declared.reading.Reading.the-variants.{Read}
 use Rattle.encoding.specs.Encode.{sizesOf, Encodes}
 use Rattle.encoding.proofs.Decoding.{encodes-grammar}
 use Rattle.encoding.proofs.ReadingEncodes.{encodes-read}

@@ -13,8 +13,8 @@ use Rattle.event.proofs.Inputs.{input-length}
 use Rattle.grammar.specs.Limits.{maxTokens, maxMemoEntries, maxTableWords}
 use Rattle.grammar.specs.Encoding.{grammarOf}
 use Rattle.grammar.specs.Reading.{reading}
-use Rattle.grammar.specs.declared.reading.Outcome.{Outcome}
-use Rattle.grammar.specs.declared.reading.Outcome.the-variants.{Read, Faulty}
+use Rattle.grammar.specs.declared.reading.Reading.{Reading}
+use Rattle.grammar.specs.declared.reading.Reading.the-variants.{Read, Faulty}
 use Rattle.grammar.proofs.WellRead.{well-read}
 use Rattle.lookahead.specs.declared.Lookahead.the-variants.{One}
 use Rattle.families.specs.declared.Finding.{Finding}
@@ -47,7 +47,7 @@ use Rattle.report.specs.contracts.Texts.{nonterminalsOf, tokenCount}
 limited-found : (words : List ℕ) (f : Option Error) → limitedFinding (findingOf f (reading words)) ≡ findingOf f (reading words)
 limited-found words f = go f (reading words) refl
   where
-    go : (f : Option Error) (o : Outcome) → reading words ≡ o → limitedFinding (findingOf f o) ≡ findingOf f o
+    go : (f : Option Error) (o : Reading) → reading words ≡ o → limitedFinding (findingOf f o) ≡ findingOf f o
     go (some x) o r = refl
     go none (Faulty x) r = refl
     go none (Read z) r = let k = well-read words z r in limited-same (record { fewNonterminals = k .fewNonterminals; fewTerminals = k .fewTerminals })

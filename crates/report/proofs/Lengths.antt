@@ -14,12 +14,12 @@ use Rattle.grammar.specs.Limits.{maxMemoEntries, maxTableWords}
 use Rattle.grammar.specs.Syntax.{Grammar}
 use Rattle.grammar.specs.Encoding.{grammarOf}
 use Rattle.grammar.specs.Reading.{reading}
-use Rattle.grammar.specs.declared.reading.Outcome.{Outcome}
-use Rattle.grammar.specs.declared.reading.Outcome.the-variants.{Read, Faulty}
+use Rattle.grammar.specs.declared.reading.Reading.{Reading}
+use Rattle.grammar.specs.declared.reading.Reading.the-variants.{Read, Faulty}
 use Rattle.grammar.proofs.WellRead.{well-read}
 use Rattle.base.specs.FiniteSets.{member}
 use Rattle.semantics.specs.Choices.{tableChoice}
-use Rattle.semantics.specs.Descent.{Outcome as Ended, Failed, End, descend, accepts}
+use Rattle.semantics.specs.Descent.{Outcome, Failed, End, descend, accepts}
 use Rattle.semantics.specs.ComesTo.{Call}
 use Rattle.semantics.specs.Calls.{sameCall, allCalls, calls}
 use Rattle.semantics.specs.Memo.{outcomeCode}
@@ -50,7 +50,7 @@ checked-short words = go (checkFault One maxTableWords words) (reading words) re
     table : Option Error → List ℕ
     table f = lentBack f (tableWords One (grammarOf words)) blankTable
 
-    go : (f : Option Error) (o : Outcome) → reading words ≡ o → length (checkText (findingOf f o) (table f)) ≤ sheetRoom
+    go : (f : Option Error) (o : Reading) → reading words ≡ o → length (checkText (findingOf f o) (table f)) ≤ sheetRoom
     go (some e) o r = omega (arith, refusal-most e)
     go none (Faulty e) r = omega (arith, refusal-most e)
     go none (Read z) r =
@@ -92,7 +92,7 @@ module _ (words input : List ℕ) (table memo : ℕ) (e : judgeFault One table m
   unfolding memoWord outcomeCode
   entry-low x m = go (member sameCall (calls G (tableChoice G 1 input) input) x) (descend G (tableChoice G 1 input) input (x .nonterminal) (x .place)) refl
     where
-      go : (b : Bool) (o : Ended) → descend G (tableChoice G 1 input) input (x .nonterminal) (x .place) ≡ o
+      go : (b : Bool) (o : Outcome) → descend G (tableChoice G 1 input) input (x .nonterminal) (x .place) ≡ o
           → choose b (outcomeCode o) uncalledCode < 100000
       go false o q = omega arith
       go true Failed q = omega arith

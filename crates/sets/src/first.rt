@@ -1,6 +1,6 @@
 // First sets: passes over the rules, in both directions by turns, until one adds nothing; the words of a rule from their end.
 ghost use mathlib.Core.Path.{_≡_};
-ghost use Rattle.grammar.specs.declared.reading.Outcome.the-variants.{Read};
+ghost use Rattle.grammar.specs.declared.reading.Reading.the-variants.{Read};
 ghost use Rattle.grammar.specs.Encoding.{parse, grammarOf};
 ghost use Rattle.grammar.specs.Limits.{maxNonterminals};
 ghost use Rattle.grammar.specs.contracts.Starts.{ruleStarts};

@@ -2,7 +2,7 @@
 ghost use mathlib.Core.Path.{_≡_};
 ghost use Prim.Native.Nat.{suc, _<_};
 ghost use lib.ListN.{length, drop};
-ghost use Rattle.grammar.specs.declared.reading.Outcome.the-variants.{Read};
+ghost use Rattle.grammar.specs.declared.reading.Reading.the-variants.{Read};
 ghost use Rattle.grammar.specs.Encoding.{parse, grammarOf};
 ghost use Rattle.grammar.specs.Limits.{maxNonterminals};
 ghost use Rattle.grammar.specs.contracts.Starts.{ruleStarts};

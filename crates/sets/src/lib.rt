@@ -1,6 +1,6 @@
 // First and follow sets of an encoded grammar for a lookahead, by which left recursion and unproductive nonterminals are found too.
 ghost use mathlib.Core.Path.{_≡_};
-ghost use Rattle.grammar.specs.declared.reading.Outcome.the-variants.{Read};
+ghost use Rattle.grammar.specs.declared.reading.Reading.the-variants.{Read};
 ghost use Rattle.admission.specs.Admission.{admission};
 ghost use Rattle.families.specs.contracts.Analysis.{refusedBy, familiesOf};
 use admission::admit;
@@ -12,7 +12,7 @@ use first::first_sets;
 use flaws::finding_of;
 use follow::follow_sets;
 use grammar::limits::RULES;
-use grammar::reading::Outcome;
+use grammar::reading::Reading;
 use grammar::reading::Sizes;
 use left::reached;
 use lookahead::Lookahead;
@@ -68,7 +68,7 @@ pub fn analyze(words: &[u32], lookahead: Lookahead) -> Families
 {
     let outcome = admit(words, lookahead);
     match outcome {
-        Outcome::Faulty(error) => refused(error),
-        Outcome::Read(sizes) => analyze_grammar(words, sizes, lookahead),
+        Reading::Faulty(error) => refused(error),
+        Reading::Read(sizes) => analyze_grammar(words, sizes, lookahead),
     }
 }

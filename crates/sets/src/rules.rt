@@ -2,7 +2,7 @@
 ghost use mathlib.Core.Path.{_≡_};
 ghost use Prim.Native.Nat.{_<_};
 ghost use lib.ListN.{getD};
-ghost use Rattle.grammar.specs.declared.reading.Outcome.the-variants.{Read};
+ghost use Rattle.grammar.specs.declared.reading.Reading.the-variants.{Read};
 ghost use Rattle.grammar.specs.Reading.{reading};
 ghost use Rattle.grammar.specs.contracts.Starts.{ruleStarts};
 ghost use Rattle.grammar.specs.contracts.WellRead.{headOf};

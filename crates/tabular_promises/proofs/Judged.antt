@@ -26,7 +26,7 @@ use Rattle.grammar.specs.Syntax.{Grammar}
 use Rattle.grammar.specs.Encoding.{grammarOf}
 use Rattle.grammar.specs.Reading.{reading}
 use Rattle.grammar.specs.declared.reading.Sizes.{Sizes}
-use Rattle.grammar.specs.declared.reading.Outcome.the-variants.{Read}
+use Rattle.grammar.specs.declared.reading.Reading.the-variants.{Read}
 use Rattle.grammar.proofs.WellRead.{well-read}
 use Rattle.encoding.specs.Encode.{Encodes}
 use Rattle.encoding.proofs.Decoding.{encodes-grammar}

@@ -5,7 +5,7 @@ use super::labels::labels_of;
 use grammar::limits::MEMO_ENTRIES;
 use grammar::limits::PLACES;
 use grammar::limits::RULES;
-use grammar::reading::Outcome;
+use grammar::reading::Reading;
 use reader::read;
 use reader::rule_starts;
 use vertex_words::end_of;
@@ -82,7 +82,7 @@ pub(crate) fn write_tree(
     ensures { λ r. ⌜ TreeDone (now (words .entry)) (inputOf (now (events .entry))) (now (tree .entry)) r (now (tree .exit)) ⌝ }
 {
     let outcome = read(words);
-    let Outcome::Read(sizes) = outcome else {
+    let Reading::Read(sizes) = outcome else {
         return 0;
     };
     let starts = rule_starts(words);

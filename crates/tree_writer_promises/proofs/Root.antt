@@ -15,9 +15,9 @@ use Rattle.grammar.specs.Encoding.{grammarOf}
 use Rattle.grammar.specs.Reading.{reading}
 use Rattle.grammar.specs.contracts.Starts.{ruleStarts}
 use Rattle.grammar.specs.declared.reading.Sizes.{Sizes}
-use Rattle.grammar.specs.declared.reading.Outcome.{Outcome}
-use Rattle.grammar.specs.declared.reading.Outcome.the-variants.{Read}
-use Rattle.grammar.proofs.reading.Outcome.{the-type}
+use Rattle.grammar.specs.declared.reading.Reading.{Reading}
+use Rattle.grammar.specs.declared.reading.Reading.the-variants.{Read}
+use Rattle.grammar.proofs.reading.Reading.{the-type}
 use Rattle.grammar.proofs.WellRead.{well-read}
 use Rattle.base.specs.FiniteSets.{member}
 use Rattle.semantics.specs.Valuations.{Valuation, Solves, solution, pairs}
@@ -59,7 +59,7 @@ module _ {words input table memo tree : List ℕ} (g : TreeGiven words input tab
   abbrev G : Grammar
   G = grammarOf words
 
-  pub not-read : {o : Outcome} {n : ℕ} {tree′ : List ℕ} → o ≡ reading words → tagOf the-type o ≡ 1 → TreeDone words input tree n tree′
+  pub not-read : {o : Reading} {n : ℕ} {tree′ : List ℕ} → o ≡ reading words → tagOf the-type o ≡ 1 → TreeDone words input tree n tree′
   not-read e t = let q : _≡_ {A = ℕ} 0 1 = rw (e ∙ g .accepted .read) at t in absurd (omega arith)
 
   pub labels-given : {z : Sizes} → reading words ≡ Read z → LabelsGiven z input

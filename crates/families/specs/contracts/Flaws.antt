@@ -7,7 +7,7 @@ use Rattle.answer.specs.Faults.{firstFault}
 use Rattle.base.specs.Quantifiers.{lowest}
 use Rattle.grammar.specs.Limits.{maxNonterminals}
 use Rattle.grammar.specs.declared.reading.Sizes.{Sizes}
-use Rattle.grammar.specs.declared.reading.Outcome.the-variants.{Read}
+use Rattle.grammar.specs.declared.reading.Reading.the-variants.{Read}
 use Rattle.lookahead.specs.Elements.{has}
 use Rattle.lookahead.specs.contracts.Operations.{isEmpty}
 use Rattle.base.specs.Rounds.{NumberSet}

@@ -2,16 +2,16 @@
 use mathlib.Core.List.{List, [], _∷_}
 use Prim.Native.Nat.{ℕ, zero, suc}
 use Rattle.answer.specs.declared.Error.the-variants.{Heading as HeadingFault, UnexpectedWord, OutOfRange, TooManyRules}
-use Rattle.grammar.specs.declared.reading.Outcome.{Outcome}
-use Rattle.grammar.specs.declared.reading.Outcome.the-variants.{Read, Faulty}
+use Rattle.grammar.specs.declared.reading.Reading.{Reading}
+use Rattle.grammar.specs.declared.reading.Reading.the-variants.{Read, Faulty}
 use Rattle.grammar.specs.Encoding.{sizes}
 use Rattle.grammar.specs.examples.Cards.{wordsR, wordsM, wordsE}
 
 pub record Example : Type 0 where
   pub words : List ℕ
-  pub outcome : Outcome
+  pub outcome : Reading
 
-abbrev example : List ℕ → Outcome → Example
+abbrev example : List ℕ → Reading → Example
 example ws o = record { words = ws; outcome = o }
 
 -- n rules of one empty positive conjunct, and then the words ws

@@ -14,7 +14,7 @@ use Rattle.grammar.specs.Limits.{maxNonterminals, maxRules, maxTokens, maxMemoE
 use Rattle.grammar.specs.Encoding.{grammarOf}
 use Rattle.grammar.specs.contracts.Starts.{ruleStarts}
 use Rattle.grammar.specs.declared.reading.Sizes.{Sizes}
-use Rattle.grammar.specs.declared.reading.Outcome.the-variants.{Read}
+use Rattle.grammar.specs.declared.reading.Reading.the-variants.{Read}
 use Rattle.lookahead.specs.declared.Lookahead.{Lookahead}
 use Rattle.lookahead.specs.Lookaheads.{tokens}
 use Rattle.admission.specs.Admission.{admission}

@@ -9,7 +9,7 @@ use Rattle.grammar.specs.Limits.{maxNonterminals, maxTabularTokens, maxTabularP
 use Rattle.grammar.specs.Syntax.{Grammar, Rule}
 use Rattle.grammar.specs.Encoding.{grammarOf}
 use Rattle.grammar.specs.declared.reading.Sizes.{Sizes}
-use Rattle.grammar.specs.declared.reading.Outcome.the-variants.{Read}
+use Rattle.grammar.specs.declared.reading.Reading.the-variants.{Read}
 use Rattle.grammar.specs.Reading.{reading}
 use Rattle.grammar.specs.contracts.Starts.{ruleStarts}
 use Rattle.lookahead.specs.Elements.{has}
