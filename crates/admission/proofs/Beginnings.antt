@@ -52,7 +52,7 @@ unfolding aloneFrom
 alone-behind-heading [] a e = absurd (absent-at a e)
 alone-behind-heading (w ∷ ws) a e = alone-from (beginsRule (decoded w)) 1 ws a e
 
--- what is found among the first words is found whatever stands behind them
+-- what is found among the first words is found whatever follows them
 alone-shared : (opened : Bool) (at : ℕ) (p us vs : List ℕ) (a : ℕ) → aloneFrom opened at (p ++ us) ≡ At a → a < at + length p
     → aloneFrom opened at (p ++ vs) ≡ At a
 unfolding aloneFrom

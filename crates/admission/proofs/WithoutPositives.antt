@@ -125,7 +125,7 @@ with-word End s p a n r o = (r, open-none s _ (closed-row s a))
 with-word (Heading m t) s p a n r o = absurd (false≢true a)
 with-word Invalid s p a n r o = absurd (false≢true a)
 
--- and what stands behind it where it adds no such rule
+-- and what follows it where it adds no such rule
 record Behind (w : Word) (s : State) (p : Parsed) : Type 0 where
   quiet : (isOpened s && beginsNegative w) ≡ false
   each : Each Positives (p .rules)

@@ -38,7 +38,7 @@ beginsNegative End = false
 beginsNegative (Heading n t) = false
 beginsNegative Invalid = false
 
--- the index of the first word that begins a negative right behind the begin of a rule, from an index on: such a rule has no positive; it is told
+-- the index of the first word that begins a negative right behind the begin of a rule, from an index on: such a rule has no positive; it is reported
 -- whether the word before begins a rule
 unfoldable pub aloneFrom : Bool → ℕ → List ℕ → Alone
 aloneFrom opened at [] = Absent

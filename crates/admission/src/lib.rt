@@ -74,7 +74,7 @@ fn declared_terminals(words: &[u32]) -> u32
     declared(decode(words[0])).terminals
 }
 
-// A rule without positives is told where no word before it is faulty.
+// A rule without positives is reported where no word before it is faulty.
 fn with_alone(outcome: Reading, alone: Alone) -> Reading
     ensures { λ r. ⌜ r ≡ faultyOr (wordFault outcome alone) outcome ⌝ }
 {

@@ -12,7 +12,7 @@ use Rattle.semantics.specs.Families.{Claims, Overlap}
 use Rattle.semantics.specs.FirstFollow.{First, Follow}
 use Rattle.recognizer_promises.specs.Answers.{checkFault, judgeFault}
 
--- what k tokens tell, cut to j tokens, is told by j: of the sets, of what a rule claims, and so of the entries that two rules claim
+-- what k tokens tell, cut to j tokens, j tokens tell too: of the sets, of what a rule claims, and so of the entries that two rules claim
 pub record Narrows (G : Grammar) (j k : ℕ) : Type 0 where
   pub first : (A : ℕ) (x : List ℕ) → First G k A x → First G j A (take j x)
   pub follow : (A : ℕ) (x : List ℕ) → Follow G k A x → Follow G j A (take j x)

@@ -23,7 +23,7 @@ abbrev pub refusedOr : Option Error → Answer → Answer
 refusedOr (some e) a = Refused e
 refusedOr none a = a
 
--- and what is told: of a refusal its code and position, with count and farthest place 0
+-- and what is reported: of a refusal its code and position, with count and farthest place 0
 abbrev pub toldOr : Option Error → Numbers → Numbers
 toldOr (some e) n = answered refused (coded e .code) (coded e .position) 0 0
 toldOr none n = n

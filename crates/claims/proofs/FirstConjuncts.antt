@@ -1,4 +1,4 @@
--- A conjunct stands behind the begin of each rule of a grammar that has been read, and the rule has no positives just where it is negative.
+-- A conjunct follows the begin of each rule of a grammar that has been read, and the rule has no positives just where it is negative.
 use mathlib.Core.Path.{_≡_, refl, _∙_}
 use mathlib.Core.Bool.{true, false≢true}
 use mathlib.Core.List.{List, []}

@@ -30,7 +30,7 @@ use Rattle.base.proofs.Lists.{getD-zeros}
 use Rattle.claims.specs.contracts.Overruns.{beyondEnd, aloneIn, overrunSet, HeadsGiven, Overrunning}
 use Rattle.claims.proofs.FirstConjuncts.{first-conjunct}
 
--- what is told of a nonterminal by one rule
+-- what is reported of a nonterminal by one rule
 module _ (k : Lookahead) (alone : Bool) (s before : ℕ) {ends joined : ℕ} (e : ends ≡ end k) (j : joined ≡ join ends s) where
   pub told-ends : joined ≡ ends → before ≡ choose (alone && beyondEnd k s) (terminal k 0) before
   unfolding beyondEnd

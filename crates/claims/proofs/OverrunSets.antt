@@ -1,4 +1,4 @@
--- What is told of the nonterminals by the rules is that they overrun, as the semantics has it.
+-- What is reported of the nonterminals by the rules is that they overrun, as the semantics has it.
 use mathlib.Core.Path.{_≡_, refl, sym, ap, _∙_}
 use mathlib.Core.Bool.{Bool, true, false, not, _&&_}
 use mathlib.Core.List.{List, [], List·Memᴰ}
@@ -76,7 +76,7 @@ module _ (k : Lookahead) (G : Grammar) (formed : WellFormed G) (few : G .termina
       go true e = rw (ne-eqb (join (end k) set) (end k) (λ d. ends-subset (same-join (end k) set d) (rw e tt)))
       go false e = rw (eq-eqb (join (end k) set) (end k) (join-same (end k) set (none-subset e)))
 
--- so the sets that are told are those of the nonterminals that overrun
+-- so the sets that are reported are those of the nonterminals that overrun
 pub overruns-told : {k : Lookahead} {words : List ℕ} {z : Sizes} {starts meets follows told : List ℕ} (g : FamiliesGiven k words z starts meets follows)
     → Overrunning k (grammarOf words .rules) follows told → (A : ℕ) → getD told A 0 ≡ overrunSet k (overruns (grammarOf words) (tokens k) A)
 unfolding overruns aloneIn

@@ -20,7 +20,7 @@ use Rattle.encoding.specs.Diagnosis.{BeginsEncoding}
 use Rattle.encoding.proofs.ReadingEncodes.{encodes-opened}
 use Rattle.encoding.proofs.Faults.{completion, complete, goes-anywhere}
 
--- words in front of others that are read lead to `come` whatever stands behind them
+-- words in front of others that are read lead to `come` whatever follows them
 record Passes (p : Progress) (ws : List ℕ) : Type 0 where
   come : Progress
   through : (us : List ℕ) (j : ℕ) → scan p j (ws ++ us) ≡ scan come (j + length ws) us

@@ -71,7 +71,7 @@ end-missing p at x e = go (p .state) e
     go InNegative e = faulty-same (UnexpectedWord at) x e
     go Closed e = absurd (faulty x (p .sizes) (sym e))
 
--- before the fault there are so many words, which lead to `come` whatever stands behind them
+-- before the fault there are so many words, which lead to `come` whatever follows them
 pub record Faults (p : Progress) (at : ℕ) (ws : List ℕ) (x : Error) : Type 0 where
   pub before : ℕ
   pub come : Progress

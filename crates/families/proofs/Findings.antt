@@ -39,7 +39,7 @@ pub families-faulty : (k : Lookahead) (words : List ℕ) {e : Error} {o : Readin
 unfolding familiesOf setsFault
 families-faulty k words r f = rw (sym r ∙ f)
 
--- the lowest nonterminal that is told
+-- the lowest nonterminal that is reported
 lowest-none : (o : Option ℕ) {l : Lowest} → l ≡ lowestOf o → l ≡ told.Absent → o ≡ none
 lowest-none none e a = refl
 lowest-none (some A) e a = let z : _≡_ {A = ℕ} 0 1 = cc in absurd (omega arith)

@@ -38,7 +38,7 @@ use Rattle.families.proofs.StringLists.{meet-number}
 abbrev pub givenBy : Lookahead → ℕ → List ℕ → List ℕ → ℕ → ℕ
 givenBy k t words l q = ruleGives k t (at l) (ruleNumbered words q)
 
--- in a pass over n rules: nothing is told of what is kept once a set has grown
+-- in a pass over n rules: nothing is reported of what is kept once a set has grown
 pub record Meeting (k : Lookahead) (t : ℕ) (words : List ℕ) (n : ℕ) (forward : Bool) (l₀ meets : List ℕ) (grown : Bool) (i : ℕ) : Type 0 where
   pub room : ByRules n meets
   pub kept : grown ≡ false → FilledTo (givenBy k t words l₀) n forward meets i

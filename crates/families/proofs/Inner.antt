@@ -1,4 +1,4 @@
--- A word inside a rule, before an index: what stands there, and what stands behind it.
+-- A word inside a rule, before an index: what stands there, and what follows it.
 use mathlib.Core.Path.{_≡_, refl, sym, ap, _∙_}
 use mathlib.Core.List.{List}
 use Prim.Native.Nat.{ℕ, zero, suc, _+_, _-_, _≤_, _<_}

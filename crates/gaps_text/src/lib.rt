@@ -207,7 +207,7 @@ fn put_rows<'a>(
     next
 }
 
-// The line of a nonterminal, unless the set that is told of it is empty: it does not overrun.
+// The line of a nonterminal, unless the set that is reported of it is empty: it does not overrun.
 fn put_overrun(out: &mut [u8], at: usize, told: LookaheadSet, nonterminal: u32) -> usize
     ensures { λ r. ⌜ Put (now (out .entry)) at (overrunLine (overrunsBy (told .bits)) nonterminal) (now (out .exit)) r ⌝ }
 {

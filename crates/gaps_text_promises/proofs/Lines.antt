@@ -1,4 +1,4 @@
--- What is counted and put is what the rules claim and what is told of the nonterminals.
+-- What is counted and put is what the rules claim and what is reported of the nonterminals.
 use mathlib.Core.Path.{_≡_, refl, sym, ap, _∙_}
 use mathlib.Core.Bool.{Bool, true, false}
 use mathlib.Core.List.{List, _++_}
@@ -48,7 +48,7 @@ module _ {p : ℕ → Bool} {rules n rule : ℕ} (c : Counting p rules n rule) w
   pub counting-end : rules ≤ rule → n ≡ countBelow rules p
   counting-end h = let e : rule ≡ rules = omega (arith, c .within) in c .counted ∙ ap (λ k. countBelow k p) e
 
--- by what is counted, and by what is told
+-- by what is counted, and by what is reported
 module _ {l m : List ℕ} {at next : ℕ} where
   pub claimant-put : {b : Bool} (q : ℕ) → b ≡ true → Put l at (labelled " " q) m next → Put l at (claimantText b q) m next
   unfolding claimantText

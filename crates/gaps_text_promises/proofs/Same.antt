@@ -71,7 +71,7 @@ claimant-same G h s few A c q r b e =
     let n : 0 + q ≡ q = omega arith in
     rw (e, ← column-string One t c few b) (rw n at k)
 
--- the set that is told of a nonterminal tells whether it overruns
+-- the set that is reported of a nonterminal tells whether it overruns
 overrun-same : (b : Bool) → overrunsBy (overrunSet One b) ≡ b
 unfolding isEmpty terminal
 overrun-same true = refl
@@ -86,7 +86,7 @@ module _ (words : List ℕ) {r : Claims} (e : r ≡ claimsOf One words) where
     read : WellRead words z
     read = well-read words z (told .1)
 
-    -- sizes that are told are within the limits
+    -- sizes that are reported are within the limits
     sizes-within : withinLimits z ≡ true
     unfolding withinLimits
     sizes-within =

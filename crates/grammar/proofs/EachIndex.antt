@@ -89,7 +89,7 @@ pub read-none : (z : Sizes) → reading [] ≡ Read z → ⊥
 unfolding reading opened
 read-none z e = faulty HeadingFault z (refused (ltb maxWords 0) (Faulty HeadingFault) z e .1)
 
--- at every index of a row that is read the word is in range, and what may stand behind it does
+-- at every index of a row that is read the word is in range, and what may follow it does
 pub read-place : (words : List ℕ) (z : Sizes) → reading words ≡ Read z → (i : ℕ) → i < length words
     → Place z (decoded (getD words i 0)) (parse (drop (suc i) words))
 read-place [] z e i h = absurd (read-none z e)

@@ -27,12 +27,12 @@ scan-next words at p z h e =
     let g = onward (stepped w p at) (λ q. scan q (suc at) (drop (suc at) words)) z (sym (scan-here words p at h) ∙ e) in
     record { progress = g .0; passed = step-passed w p (g .0) at (g .1); reads = rw (add-one at) (g .2) }
 
--- a reading that has come to an index
+-- a reading that has reached an index
 pub record Reached (words : List ℕ) (at : ℕ) (z : Sizes) : Type 0 where
   pub progress : Progress
   pub reads : scan progress at (drop at words) ≡ Read z
 
--- a reading without a fault comes to every index behind the heading
+-- a reading without a fault reaches every index behind the heading
 pub read-reaches : (words : List ℕ) (z : Sizes) → reading words ≡ Read z → (i : ℕ) → suc i ≤ length words → Reached words (suc i) z
 read-reaches [] z e i h = absurd (omega arith)
 read-reaches (w ∷ ws) z e zero h = let o = read-opened w ws z e in record { progress = fresh (declaredBy (decoded w)); reads = o .rest }

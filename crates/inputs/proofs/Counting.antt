@@ -47,7 +47,7 @@ module _ {t n m at : ℕ} (c : Counting t n m at) where
       let p : m ≡ t ^ n = c .power ∙ ap (λ k. t ^ k) e in
       rw (le-ltb maxInputs (t ^ n) (omega (arith, c .few))) p
 
--- what is told of a length, by how many inputs it has
+-- what is reported of a length, by how many inputs it has
 pub count-over : (t n : ℕ) → maxInputs < inputCount t n → maxInputs < t ^ n
 unfolding inputCount
 count-over t n = go (ltb maxInputs (t ^ n)) refl

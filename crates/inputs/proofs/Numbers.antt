@@ -41,7 +41,7 @@ module _ (n : ℕ) (some-terminal : 0 < n) where
       ∙ combine-at _ n (inputs n k) (i / n) (i % n) [] [] (omega (arith, inputs-count n k, front-low k i h)) (mod-lt i some-terminal)
       ∙ ap (λ x. x ++ i % n ∷ []) (inputs-at k (i / n) (front-low k i h))
 
--- the number of an input that stands behind one of number m
+-- the number of an input that follows one of number m
 unfoldable pub numberFrom : ℕ → ℕ → List ℕ → ℕ
 numberFrom n m [] = m
 numberFrom n m (a ∷ x) = numberFrom n (m * n + a) x

@@ -144,7 +144,7 @@ refused-passed : (f : Option Error) → refusedOr f Passed ≡ Passed → f ≡ 
 refused-passed none e = refl
 refused-passed (some x) e = absurd (refused-ne-passed e)
 
--- a table that is too short is told as 1, and with two tokens of lookahead as 17
+-- a table that is too short is reported as 1, and with two tokens of lookahead as 17
 pub short-told : (coded (tableTooShort One) .code ≡ 1) × (coded (tableTooShort Two) .code ≡ 17)
 short-told = (refl, refl)
 

@@ -149,7 +149,7 @@ module _ {k : Lookahead} {words starts entries memo : List ℕ} {z : Sizes} (eve
         lent = ap (λ y. y ++ drop (z .nonterminals * (length events + 1)) memo) (d .entries) ∙ ap (λ y. written ++ drop y memo) n;
       }
 
--- faults that go by the number of terminals are told by that which was found
+-- faults that go by the number of terminals are reported by that which was found
 pub same-terminals : (k : Lookahead) (words : List ℕ) (faults : ℕ → List (Option Error)) {z : Sizes} {starts entries : List ℕ} {o : Option Error}
     → EntriesFound k words z starts entries → firstFault (faults (z .terminals)) ≡ o → firstFault (faults (grammarOf words .terminals)) ≡ o
 same-terminals k words faults {z} m h = rw (← well-read words z (admitted-read k words (m .taken)) .terminals) h

@@ -61,7 +61,7 @@ module _ (k : Lookahead) where
   unfolding fault
   fault-encoded words G short e fits = rw (encodes-taken words G short e fits, encodes-grammar words G e)
 
--- a clash is told with its nonterminal and its column
+-- a clash is reported with its nonterminal and its column
 clash-same : (k : Lookahead) {A B c d : ℕ} → conflictError k B d ≡ conflictError k A c → conflict.At B d ≡ conflict.At A c
 clash-same One {A} {B} {c} {d} e = let z : B ≡ A = cc in let y : d ≡ c = cc in ap₂ conflict.At z y
 clash-same Two {A} {B} {c} {d} e = let z : B ≡ A = cc in let y : d ≡ c = cc in ap₂ conflict.At z y

@@ -14,7 +14,7 @@ use Rattle.recognizer_promises.specs.LeastFamilies.{LeastFamilies, Strun
 
 -- need not be believed: reading, grammarOf (faithful); admission (admits)
 pub record Understood (k : Lookahead) (words : List ℕ) : Type 0 where
-  -- the refusals 3 to 7, and the grammar of the words, are told without the reading that finds them
+  -- the refusals 3 to 7, and the grammar of the words, are reported without the reading that finds them
   pub faithful : FaithfulReading words
   -- and so is what the lookahead takes, just the encodings of grammars that fit it, or refuses besides: 18, and 5 where a rule has no positive
   pub admits : Diagnosed k words

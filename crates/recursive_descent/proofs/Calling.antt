@@ -45,7 +45,7 @@ memoRest M w i agreement.Open ps ns m = memoRule M w (length w) ps ns i m
 memoRest M w i (agreement.At e) ps ns m = memoPositives M w i e ps ns m
 memoRest M w i agreement.Failed ps ns m = memoized Failed m
 
--- a rule that has come to an index: a conjunct begins there, or the rule ends
+-- a rule that has reached an index: a conjunct begins there, or the rule ends
 pub record Calling (choice : Choice) (words input memo₀ : List ℕ) (A place : ℕ) (r : Rule) (memo : List ℕ) (at : ℕ)
     (sign : Sign) (agreed : Agreement) : Type 0 where
   pub sound : MemoSound choice words input memo
@@ -168,7 +168,7 @@ module _ {choice : Choice} {words choices tokens input memo₀ : List ℕ} {A pl
           join (agreement.At e) t n m′ o run = positive-keeps (deep choice words input n) input place (Q .body) (Q .negatives) memo m′ o run e (Q .positives)
           join agreement.Failed t n m′ o run = absurd (false≢true t)
 
-      -- a negative conjunct: no positive one stands behind it
+      -- a negative conjunct: no positive one follows it
       negative : decoded (getD words at 0) ≡ word.Negative → sign ≡ Negative → Conjunct
       unfolding onWord
       negative x s =

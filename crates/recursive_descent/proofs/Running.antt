@@ -59,7 +59,7 @@ body-at words at = parse (drop at words) .body
 abbrev pub stopped : code.Outcome → ℕ → Run
 stopped o at = record { outcome = o; at = at }
 
--- a run that has come to an index and a place
+-- a run that has reached an index and a place
 pub record Running (choice : Choice) (words input memo₀ : List ℕ) (A from start : ℕ) (memo : List ℕ) (at place : ℕ) : Type 0 where
   pub behind : start ≤ place
   pub placed : place ≤ length input
@@ -140,7 +140,7 @@ body-none Invalid p s a h = absurd (false≢true a)
 
 module _ {choice : Choice} {words choices tokens input memo₀ : List ℕ} {A from start : ℕ} (g : RunGiven choice words choices tokens input memo₀ A from start)
     {memo : List ℕ} {at place : ℕ} (v : Running choice words input memo₀ A from start memo at place) where
-  -- a run that comes to a word that is no symbol, or to the end of the words, has ended
+  -- a run that reaches a word that is no symbol, or the end of the words, has ended
   done : body-at words at ≡ [] → RunDone choice words input memo₀ A from start (stopped (outcome.End place) at) memo
   unfolding body-at memoRun
   done e = record {

@@ -51,7 +51,7 @@ rule-opens (word.Symbol X) s e = absurd (false≢true e)
 rule-opens word.End s e = absurd (false≢true e)
 rule-opens word.Invalid s e = absurd (false≢true e)
 
--- the reading has come to a rule's begin, and goes on behind it
+-- the reading has reached a rule's begin, and goes on behind it
 pub begin-next : (words : List ℕ) (z : Sizes) → reading words ≡ Read z → (i : ℕ) → Begun words i
     → (p : Progress) × (scan p (i + 1) (drop (i + 1) words) ≡ reading words) × (p .state ≡ state.Opened)
 begin-next words z read zero b = absurd (omega (arith, b .low))
@@ -119,7 +119,7 @@ module _ {choice : Choice} {words choices tokens input memo : List ℕ} {A place
             negatives = ap (λ x. x .negatives) e;
           }
 
-  -- no positive conjunct stands behind a negative one
+  -- no positive conjunct follows a negative one
   none-behind : (at : ℕ) (p : Progress) → scan p at (drop at words) ≡ reading words → signAt words at ≡ Negative → parse (drop at words) .positives ≡ []
   unfolding onWord
   none-behind at p e s =

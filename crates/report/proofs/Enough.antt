@@ -43,7 +43,7 @@ not-words : (bytes : List ℕ) → bytesOfWord * maxWords < length bytes → are
 unfolding areWords
 not-words bytes h = rw (lt-leb (length bytes) (bytesOfWord * maxWords) h)
 
--- what is told of an input that is too long: the grammar's fault, or else its length
+-- what is reported of an input that is too long: the grammar's fault, or else its length
 abbrev orLong : Option Error → Error
 orLong none = InputTooLong
 orLong (some e) = e

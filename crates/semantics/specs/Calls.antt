@@ -10,7 +10,7 @@ use Rattle.semantics.specs.Valuations.{pairs}
 use Rattle.semantics.specs.Choices.{Choice}
 use Rattle.semantics.specs.ComesTo.{Call, callAt, callComesTo}
 
--- the start at 0, and all that a call comes to (document 01: the called pairs)
+-- the start at 0, and all that a call reaches (document 01: the called pairs)
 pub data Called (G : Grammar) (choice : Choice) (w : List ℕ) : Call → Type 0 where
   start : Called G choice w (callAt 0 0)
   more : {x y : Call} → Called G choice w x → List·Memᴰ y (callComesTo G choice w x) → Called G choice w y

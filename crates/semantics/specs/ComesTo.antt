@@ -1,4 +1,4 @@
--- What the running of a call's rule comes to before it stops: nonterminals, each with the place where it is called.
+-- What the running of a call's rule reaches before it stops: nonterminals, each with the place where it is called.
 use mathlib.Core.Bool.{Bool, true, false, not}
 use mathlib.Core.List.{List, [], _∷_, _++_}
 use mathlib.Core.Option.{Option, none, some}
@@ -34,7 +34,7 @@ unfoldable pub when : Bool → List Call → List Call
 when true l = l
 when false l = []
 
--- what the running of a body from i comes to, in order; the first symbol that fails stops it
+-- what the running of a body from i reaches, in order; the first symbol that fails stops it
 unfoldable pub bodyComesTo : Outcomes → List ℕ → Body → ℕ → List Call
 bodyComesTo c w [] i = []
 bodyComesTo c w (X ∷ b) i = symbolComesTo X i ++ fromEnd (read c w X i) (λ m. bodyComesTo c w b m)
@@ -58,6 +58,6 @@ unfoldable pub selectedComesTo : Outcomes → List ℕ → Option Rule → ℕ �
 selectedComesTo c w none i = []
 selectedComesTo c w (some r) i = ruleComesTo c w (length w) (r .positives) (r .negatives) i
 
--- what the running of a call's rule comes to
+-- what the running of a call's rule reaches
 unfoldable pub callComesTo : Grammar → Choice → List ℕ → Call → List Call
 callComesTo G choice w x = selectedComesTo (descend G choice w) w (select G (choice (x .nonterminal) (x .place))) (x .place)

@@ -98,6 +98,6 @@ pub record Overrun (G : Grammar) (L : Family) (A : ℕ) : Type 0 where
   pub follows : L A behind
   pub more : behind ≡ [] → ⊥
 
--- an overlap, or such a nonterminal, which is told as a clash in the entry of the first terminal
+-- an overlap, or such a nonterminal, which is reported as a clash in the entry of the first terminal
 abbrev pub Clash : Grammar → ℕ → Family → Family → ℕ → List ℕ → Type 0
 Clash G k F L A x = Overlap G k F L A x ⊎ (Overrun G L A × (x ≡ 0 ∷ []))

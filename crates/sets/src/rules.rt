@@ -11,7 +11,7 @@ use grammar::limits::RULES;
 use grammar::reading::Sizes;
 use word::Word;
 
-// The rule that a pass comes to behind others: it goes from the first rule on, or from the last on.
+// The rule that a pass reaches behind others: it goes from the first rule on, or from the last on.
 pub(crate) fn turn(forward: bool, rules: usize, passed: usize) -> usize
     requires { ⌜ passed < rules ⌝ }
     ensures { λ r. ⌜ r ≡ turnOf forward rules passed ⌝ }

@@ -99,7 +99,7 @@ rows-same p q columns rows h A zero l = refl
 rows-same p q columns rows h A (suc n) l =
     rw (row-same (p A) (q A) A 0 columns (λ c b. h A c (omega arith) (omega arith)), rows-same p q columns rows h (suc A) n (omega arith))
 
--- with the heads and the claims of a grammar's rules, and what is told of its nonterminals that overrun
+-- with the heads and the claims of a grammar's rules, and what is reported of its nonterminals that overrun
 pub clash-found : (k : Lookahead) (G : Grammar) → G .terminals ≤ alphabet k → {heads sets : List ℕ} (told : List ℕ)
     → heads ≡ byRule (headsOf G) → sets ≡ byRule (claimNumbers k G)
     → ((A : ℕ) → A < G .nonterminals → getD told A 0 ≡ overrunSet k (overruns G (tokens k) A))

@@ -1,4 +1,4 @@
--- What is told of a nonterminal that overruns is told in the column of the first terminal.
+-- What is reported of a nonterminal that overruns is reported in the column of the first terminal.
 use mathlib.Core.Path.{_≡_, ap, _∙_}
 use mathlib.Core.Bool.{Bool, _&&_}
 use mathlib.Core.List.{[], _∷_}

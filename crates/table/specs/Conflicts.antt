@@ -1,4 +1,4 @@
--- The first clash, by nonterminal, then column: an entry that two rules claim or that is told of a nonterminal that overruns.
+-- The first clash, by nonterminal, then column: an entry that two rules claim or that is reported of a nonterminal that overruns.
 use mathlib.Core.Path.{_≡_}
 use mathlib.Core.Bool.{Bool}
 use mathlib.Core.List.{List}

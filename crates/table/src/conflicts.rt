@@ -1,4 +1,4 @@
-// Conflicts: the first entry that two rules claim, read off what each rule claims, or that is told of a nonterminal that overruns.
+// Conflicts: the first entry that two rules claim, read off what each rule claims, or that is reported of a nonterminal that overruns.
 ghost use mathlib.Core.Path.{_≡_};
 ghost use Prim.Native.Nat.{_≤_, _<_};
 ghost use lib.ListN.{length};
@@ -104,7 +104,7 @@ fn first_entry(sets: &[u64; SETS], sizes: Sizes, lookahead: Lookahead) -> Confli
     Conflict::Absent
 }
 
-// The first entry that two rules claim, by their heads and their claims, or that is told of a nonterminal that overruns.
+// The first entry that two rules claim, by their heads and their claims, or that is reported of a nonterminal that overruns.
 pub(crate) fn first_conflict<'a>(
     heads: &'a [u8; RULES],
     sets: &'a [u64; RULES],

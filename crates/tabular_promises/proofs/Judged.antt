@@ -191,7 +191,7 @@ judges {words} {input} {spans} {spans′} {r} l = record {
       (l .memory .0 ∙ faultless-lends (tabularWords (grammarOf words) input) spans f);
 }
   where
-    -- behind 8 and 13 no fault of the grammar is told
+    -- behind 8 and 13 no fault of the grammar is reported
     none-behind : (e : Error) → firstFault [] ≡ some e → Other e
     none-behind e q = absurd (none-some q)
 

@@ -62,6 +62,6 @@ pub record TabularJudges (words input spans : List ℕ) (r : Answer) (spans′ :
   pub leaves : Leaves (tabularFault (length spans) words input) (tabularVerdict (grammarOf words) input) r
       (lent spans (tabularWords (grammarOf words) input) spans′ ∷ [])
   pub places : maxSpanWords ≤ length spans → length words ≤ maxWords → (G : Grammar) → Encodes words G → Places G r
-  -- no table, no memo table and no entry is told of
+  -- it refuses nothing for a table, a memo table or an entry
   pub never : (numbers r .code ≡ 1 → ⊥) × (numbers r .code ≡ 2 → ⊥) × (numbers r .code ≡ 9 → ⊥)
   pub tabulates : maxSpanWords ≤ length spans → Tabular words input → Tabulates (grammarOf words) input r spans′

@@ -24,7 +24,7 @@ use Rattle.tree.specs.Writing.{ruleCalls, below}
 use Rattle.base.proofs.FlatMaps.{flatMap-elim, flatMap-make}
 use Rattle.tree.proofs.Reading.{outcomes, Found, Reads, Chosen, chosen}
 
--- what a body comes to, step by step
+-- what a body reaches, step by step
 module _ (c : Outcomes) (w : List ℕ) where
   pub comes-token : (a : ℕ) (b : Body) (i : ℕ) → i < length w → getD w i 0 ≡ a → bodyComesTo c w (Terminal a ∷ b) i ≡ bodyComesTo c w b (suc i)
   unfolding bodyComesTo read
@@ -36,7 +36,7 @@ module _ (c : Outcomes) (w : List ℕ) where
   unfolding bodyComesTo read
   comes-name A b i m e = rw e refl
 
-  -- a positive conjunct of a rule all of whose positive conjuncts end at j is come to
+  -- a positive conjunct of a rule all of whose positive conjuncts end at j is reached
   module _ (i j : ℕ) (y : Call) where
     positives-come : (ps ns : List Body) → ((b : Body) → List·Memᴰ b ps → run c w b i ≡ End j)
         → (b : Body) → List·Memᴰ b ps → List·Memᴰ y (bodyComesTo c w b i) → List·Memᴰ y (positivesComeTo c w i j ps ns)

@@ -126,7 +126,7 @@ module _ {input words starts labels tree₀ : List ℕ} {marks₀ : List Bool} {
   abbrev Comes : Body → ℕ → Call → Type 0
   Comes b i y = List·Memᴰ y (bodyComesTo (outcomesOf words input) input b i)
 
-  -- the rule that has come to an index and a place
+  -- the rule that has reached an index and a place
   pub record Going (tree : List ℕ) (marks : List Bool) (count at place : ℕ) : Type 0 where
     pub conjuncts : (b : Body) → List·Memᴰ b (parse (drop at words) .positives) → Reads G 1 input end b start × ((y : Call) → Comes b start y → Below y)
     pub read : (X : symbol.Symbol) (b : Body) → parse (drop at words) .body ≡ X ∷ b → Reads G 1 input end (X ∷ b) place

@@ -81,7 +81,7 @@ early-rejected : judged single (0 ∷ 0 ∷ []) ≡ (false, 1, 0)
 unfolding tables-compute descent-computes calls-compute
 early-rejected = refl
 
--- S → A & ¬ A a, A → a: on a the start comes to A at 0 twice, and the call is counted once
+-- S → A & ¬ A a, A → a: on a the start reaches A at 0 twice, and the call is counted once
 abbrev again : Grammar
 again = record {
   nonterminals = 2;

@@ -26,7 +26,7 @@ unfolding fault firstClash conflictFrom rowConflict columnString reading opened 
     grammarOf parse onWord decoded ofKind heading bare lowestUnproductive unproductive left-recursion-computes tables-compute
 passes = (refl, refl, refl)
 
--- what is told of an input once the card has passed
+-- what is reported of an input once the card has passed
 abbrev told : Row → Numbers
 told r = numbers (refusedOr (firstFault (inputFaults (grammarOf (r .words) .terminals) (r .input))) (verdictOf One (grammarOf (r .words)) (r .input)))
 

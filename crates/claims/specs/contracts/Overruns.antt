@@ -27,7 +27,7 @@ beyondEnd k s = not (eqb (join (end k) s) (end k))
 unfoldable pub aloneIn : ℕ → List Rule → Bool
 aloneIn A rs = anyOf (λ r. eqb (r .head) A && without (r .positives)) rs
 
--- the set that is told of a nonterminal: the first terminal where it overruns, else empty
+-- the set that is reported of a nonterminal: the first terminal where it overruns, else empty
 abbrev pub overrunSet : Lookahead → Bool → ℕ
 overrunSet k b = choose b (terminal k 0) emptySet
 
@@ -37,7 +37,7 @@ pub record HeadsGiven (words starts heads : List ℕ) (z : Sizes) : Type 0 where
   pub begins : starts ≡ ruleStarts words
   pub own : heads ≡ byRule (map (λ r. r .head) (grammarOf words .rules))
 
--- for each nonterminal the set that is told of it, by the rules
+-- for each nonterminal the set that is reported of it, by the rules
 pub record Overrunning (k : Lookahead) (rules : List Rule) (follows overruns : List ℕ) : Type 0 where
   pub long : length overruns ≡ maxNonterminals
   pub each : (A : ℕ) → getD overruns A 0 ≡ overrunSet k (aloneIn A rules && beyondEnd k (getD follows A 0))

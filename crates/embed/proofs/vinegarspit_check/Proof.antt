@@ -1,4 +1,4 @@
--- The answer of a check, packed, is what is told.
+-- The answer of a check, packed, is what is reported.
 use Rattle.embed_promises.proofs.Exporting.{check-exported}
 use borrow.Author.Needs.{needs}
 use Rattle.embed.proofs.vinegarspit_check.Statement.{statement}

@@ -33,7 +33,7 @@ pub record LeastNumbers (Closed : SetFamily → Type 0) (l : List ℕ) : Type 0 
   pub closed : Closed (at l)
   pub least : (G : SetFamily) → Closed G → Under (at l) G
 
--- v is joined into the set of n, and it is told whether the set has grown
+-- v is joined into the set of n, and it is reported whether the set has grown
 pub record AddsToSet (l : List ℕ) (n v : ℕ) (l′ : List ℕ) (grown : Bool) : Type 0 where
   pub list : l′ ≡ set l n (join (at l n) v)
   pub told : grown ≡ not (eqb (join (at l n) v) (at l n))

@@ -16,7 +16,7 @@ use Rattle.grammar.specs.Reading.{reading}
 use Rattle.grammar.specs.contracts.Starts.{ruleStarts}
 use Rattle.grammar.specs.contracts.WellRead.{ruleRead}
 
--- the rule that a pass comes to behind others, from the first on or from the last on
+-- the rule that a pass reaches behind others, from the first on or from the last on
 abbrev pub turnOf : Bool → ℕ → ℕ → ℕ
 turnOf true rules passed = passed
 turnOf false rules passed = rules - suc passed
@@ -55,7 +55,7 @@ pub record RuleWords (words : List ℕ) (start end : ℕ) : Type 0 where
   pub ended : Ended (parse (drop end words))
   pub inside : (i : ℕ) → start < i → i < end → Inside (decoded (getD words i 0))
 
--- an array of a number for each of n rules: zeros stand behind them
+-- an array of a number for each of n rules: zeros follow them
 pub record ByRules (n : ℕ) (l : List ℕ) : Type 0 where
   pub long : length l ≡ maxRules
   pub behind : (q : ℕ) → n ≤ q → getD l q 0 ≡ 0

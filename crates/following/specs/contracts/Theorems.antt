@@ -17,7 +17,7 @@ use Rattle.following.specs.Theorems.{EntriesTell}
 pub record Theorems : Type 0 where
   -- what may follow a nonterminal begins with a string of its FOLLOW set
   pub follow : (G : Grammar) (k : ℕ) → Predictive G k → (A : ℕ) (u : List ℕ) → MayFollow G A u → Follow G k A (take k u)
-  -- the entries that the descent records tell, whatever stands behind them
+  -- the entries that the descent records tell, whatever follows them
   pub entries : (G : Grammar) (k : ℕ) → Predictive G k → (w : List ℕ) → Over (G .terminals) w → EndsFit w
       → (m : Memo) → Recorded G (tableChoice G k w) w m → (later : List ℕ) → EntriesTell G k w (m ++ later)
   -- to agree is to have the same lookahead string

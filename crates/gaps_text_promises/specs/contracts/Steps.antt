@@ -57,7 +57,7 @@ claimsAt G A c = claimsBy G (A, columnString One (G .terminals) c)
 abbrev pub claimantAt : (heads sets : List ℕ) (terminals : ℕ) → ℕ → ℕ → ℕ → Bool
 claimantAt heads sets terminals A c = claimant heads sets A (columnElement One terminals c)
 
--- by the set that is told of a nonterminal: it overruns
+-- by the set that is reported of a nonterminal: it overruns
 abbrev pub overrunsBy : ℕ → Bool
 overrunsBy set = not (isEmpty set)
 

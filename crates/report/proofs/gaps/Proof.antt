@@ -1,4 +1,4 @@
--- The gaps of the words loaded are told, and bytes that are no words are refused.
+-- The gaps of the words loaded are reported, and bytes that are no words are refused.
 use Prim.Native.Nat.{ℕ}
 use lib.ListN.{length-replicate}
 use Rattle.grammar.specs.Limits.{maxWords}

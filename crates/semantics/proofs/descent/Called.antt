@@ -56,7 +56,7 @@ module _ (G : Grammar) (choice : Choice) (w : List ℕ) where
   within-self (suc n) x h = List·Memᴰ·head refl
 
   module _ (scoped : WellScoped G) (free : NoLeftRecursion G) (own : OwnRules G choice) where
-    -- deeper than the measure, all that a call comes to is there
+    -- deeper than the measure, all that a call reaches is there
     within-closed : (n : ℕ) (x y z : Call) → InRange G w x → measure G w x < n
         → List·Memᴰ y (callsWithin G choice w n x) → List·Memᴰ z (callComesTo G choice w y) → List·Memᴰ z (callsWithin G choice w n x)
     unfolding callsWithin

@@ -1,4 +1,4 @@
--- What the running of a call's rule comes to is in range and of a lower measure: fewer tokens left, or as many and a lower rank.
+-- What the running of a call's rule reaches is in range and of a lower measure: fewer tokens left, or as many and a lower rank.
 use mathlib.Core.Bool.{Bool, true, false, _&&_}
 use mathlib.Core.List.{List, [], _∷_, _++_, List·Memᴰ, List·Memᴰ·head, List·Memᴰ·tail, List·Memᴰ·cases-cons, List·Memᴰ·not-nil, List·Memᴰ·append-cases}
 use mathlib.Core.Logic.{inl, inr}
@@ -31,7 +31,7 @@ unfolding when
 when-elim true l x m = m
 when-elim false l x m = absurd (List·Memᴰ·not-nil m)
 
--- a rule comes to what its bodies come to
+-- a rule reaches what its bodies reach
 module _ (c : Outcomes) (w : List ℕ) (i : ℕ) (Q : Call → Type 0) where
   abbrev Bodies : List Body → Type 0
   Bodies l = (b : Body) → List·Memᴰ b l → (x : Call) → List·Memᴰ x (bodyComesTo c w b i) → Q x
@@ -91,7 +91,7 @@ module _ (G : Grammar) (w : List ℕ) (c : Outcomes) (forward : Forward w c) (em
   ]
 
 module _ (G : Grammar) (choice : Choice) (w : List ℕ) (scoped : WellScoped G) (own : OwnRules G choice) where
-  -- each call that a call's rule comes to is in range, and lies farther on, or at the same place at the left of one of its bodies
+  -- each call that a call's rule reaches is in range, and lies farther on, or at the same place at the left of one of its bodies
   comes-onward : (x : Call) → InRange G w x → (y : Call) → List·Memᴰ y (callComesTo G choice w x)
       → InRange G w y × (x .place ≤ y .place) × (y .place ≡ x .place → LeftDepends G (x .nonterminal) (y .nonterminal))
   unfolding callComesTo

@@ -151,7 +151,7 @@ module _ {G : Grammar} {k : ℕ} {F L : Family} {t : Table} (scoped : WellScoped
     pub local-verdict-body : (run outcomes w rest i ≡ End j) ↔ (contains v w rest i j ≡ true)
     local-verdict-body = ends-iff (run outcomes w rest i) j (contains v w rest i j) (rest-at i j ij jw rest rest-below rest-follow)
 
-  -- A nonterminal that such a body comes to at i ends where its own FOLLOW set has the lookahead string, and so has the right verdict
+  -- A nonterminal that such a body reaches at i ends where its own FOLLOW set has the lookahead string, and so has the right verdict
   pub local-verdict-piece : (r : Rule) → List·Memᴰ r (G .rules) → (front : Body) (A : ℕ) (b : Body)
       → List·Memᴰ (front ++ Nonterminal A ∷ b) (bodies r)
       → (i j : ℕ) → i ≤ j → j ≤ length w → L (r .head) (look k w j) → run outcomes w (Nonterminal A ∷ b) i ≡ End j

@@ -85,7 +85,7 @@ module _ (G : Grammar) (choice : Choice) (w : List ℕ) (scoped : WellScoped G) 
   result-small : (x : Call) → InRange G w x → (j : ℕ) → T (endsAt (result x) j) → j ≤ length w
   result-small x h j u = descend-forward G choice w own (x .nonterminal) (x .place) j (h .1) u .1
 
-  -- from m to m′: what was written stays; what is new is below b, and all that it comes to is written
+  -- from m to m′: what was written stays; what is new is below b, and all that it reaches is written
   pub record Grows (b : ℕ) (m m′ : Memo) : Type 0 where
     pub stays : (x : Call) → Has G w m x → Has G w m′ x
     pub fresh : (x : Call) → Has G w m′ x → Has G w m x ⊎ ((measure G w x < b) × ((y : Call) → List·Memᴰ y (callComesTo G choice w x) → Has G w m′ y))
@@ -108,7 +108,7 @@ module _ (G : Grammar) (choice : Choice) (w : List ℕ) (scoped : WellScoped G) 
     ];
   }
 
-  -- P: a property of calls that goes over to what they come to
+  -- P: a property of calls that goes over to what they reach
   module _ (P : Call → Type 0) (onward : (x : Call) → InRange G w x → P x → (y : Call) → List·Memᴰ y (callComesTo G choice w x) → P y) where
     -- what a run from m gave: the outcome o, with the calls of l written
     pub record Good (b : ℕ) (o : Outcome) (l : List Call) (m : Memo) (r : Memoized) : Type 0 where

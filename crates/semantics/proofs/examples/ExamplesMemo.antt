@@ -1,4 +1,4 @@
--- Examples of the memo table by computation, and what a rule that stops early does not come to.
+-- Examples of the memo table by computation, and what a rule that stops early does not reach.
 use mathlib.Core.List.{[], _∷_}
 use mathlib.Core.Option.{some}
 use mathlib.Core.Path.{_≡_, refl}
@@ -47,7 +47,7 @@ given (suc (suc (suc (suc A)))) i = Failed
 abbrev only : ℕ → Body
 only A = Nonterminal A ∷ []
 
--- a symbol that fails is come to, and nothing after it
+-- a symbol that fails is reached, and nothing after it
 fails : bodyComesTo given (0 ∷ 0 ∷ []) (Nonterminal 1 ∷ Nonterminal 4 ∷ Nonterminal 2 ∷ []) 0 ≡ callAt 1 0 ∷ callAt 4 1 ∷ []
 unfolding bodyComesTo read
 fails = refl

@@ -23,7 +23,7 @@ inSet element s c = has s (element c)
 abbrev pub inSets : (ℕ → ℕ) → List ℕ → ℕ → ℕ → Bool
 inSets element sets A = inSet element (getD sets A 0)
 
--- the entries that two of so many rules claim, and those whose elements are told of their nonterminals
+-- the entries that two of so many rules claim, and those whose elements are reported of their nonterminals
 abbrev pub claimedTwice : (ℕ → ℕ) → List ℕ → List ℕ → List ℕ → ℕ → ℕ → ℕ → Bool
 claimedTwice element heads sets told rules A c = several (claimant heads sets A (element c)) (numbersBelow rules) || inSets element told A c
 

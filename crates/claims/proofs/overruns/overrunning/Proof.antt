@@ -1,4 +1,4 @@
--- The loop keeps `Telling`: what the rules from the index on tell is told.
+-- The loop keeps `Telling`: what the rules from the index on tell is reported.
 use mathlib.Core.Path.{refl}
 use Prim.Native.Nat.{_≤_}
 use native.Mathlib.Omega.{arith}

@@ -1,4 +1,4 @@
--- The answer of the search, packed, is what is told.
+-- The answer of the search, packed, is what is reported.
 use borrow.Author.Needs.{needs}
 use Rattle.embed_promises.proofs.Exporting.{costliest-exported}
 use Rattle.embed.proofs.costliest.vinegarspit_costliest.Statement.{statement}

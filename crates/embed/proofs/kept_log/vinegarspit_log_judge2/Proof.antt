@@ -1,4 +1,4 @@
--- The answer of the judge, packed, is what is told.
+-- The answer of the judge, packed, is what is reported.
 use Rattle.embed_promises.proofs.Keeping.{kept-exported}
 use borrow.Author.Needs.{needs}
 use Rattle.embed.proofs.kept_log.vinegarspit_log_judge2.Statement.{statement}

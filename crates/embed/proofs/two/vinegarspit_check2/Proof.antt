@@ -1,4 +1,4 @@
--- The answer of a check with two tokens of lookahead, packed, is what is told.
+-- The answer of a check with two tokens of lookahead, packed, is what is reported.
 use Rattle.embed_promises.proofs.Exporting.{check-exported}
 use borrow.Author.Needs.{needs}
 use Rattle.embed.proofs.two.vinegarspit_check2.Statement.{statement}

@@ -1,4 +1,4 @@
--- The answer of the judge with two tokens of lookahead, packed, is what is told.
+-- The answer of the judge with two tokens of lookahead, packed, is what is reported.
 use Rattle.embed_promises.proofs.Exporting.{judge-exported}
 use borrow.Author.Needs.{needs}
 use Rattle.embed.proofs.two.vinegarspit_judge2.Statement.{statement}

@@ -1,4 +1,4 @@
--- The new set is the join; it is told where it is another.
+-- The new set is the join; it is reported where it is another.
 use native.Mathlib.Omega.{arith}
 use Rattle.sets.proofs.family.add.Statement.{statement}
 use Rattle.sets.proofs.family.add.Tie as tie

@@ -67,7 +67,7 @@ Given t c input =
     let a = start .args in
     VertexGiven input (a .words .now) (a .starts .now) (a .labels .now) (a .tree .now) (a .marks .now) (a .nonterminal) (a .start) (a .written)
 
--- what the loop has come to
+-- what the loop has reached
 going : (t : ℕ) (c : Loop t) (input : List ℕ) (g : Given t c input) → Going g (c .loop .tree) (c .loop .marks) (c .loop .count) (c .loop .at) (c .loop .place)
 going t c input g =
     c .loop .inv input _ _ g (going-start g (c .before .before .rule-of .ensures) (c .before .before .before .before .if1 .left))
