@@ -78,7 +78,7 @@ def outcome(grammar, log, run):
 
 
 def titles(descent, log, step):
-    """The lines that are told of a bar where it is pointed at."""
+    """The lines that are reported of a bar where it is pointed at."""
     label, ended = body_text(descent.grammar, [step.symbol]), step.end is not None
     if step.symbol.kind == TERMINAL:
         return [f'{label}: {step.start} to {step.end}' if ended else f'the rule has {label} at {step.start}, {comes(log, step.start)}']
@@ -165,7 +165,7 @@ class Chart:
         return reversed(found)
 
     def has_several(self, step):
-        """Whether the rule that was chosen is more than one must, so that each of its lanes is told."""
+        """Whether the rule that was chosen is more than one must, so that each of its lanes is reported."""
         rule = self.descent.grammar.rules[self.descent.call(step.symbol.number, step.start).rule]
         return len(rule.positives) != 1 or bool(rule.negatives)
 

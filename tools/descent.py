@@ -1,6 +1,6 @@
 """How the descent went, of a log accepted or rejected: every call, the rule that was chosen, and how far each must and must-not of it came.
 
-It is told from what the library leaves, the table and the memo table: nothing is judged again. For an accepted log the calls that its musts come to are
+It is made from what the library leaves, the table and the memo table: nothing is judged again. For an accepted log the calls that its musts reach are
 the parse tree that the library writes (tests/tools compares them)."""
 from typing import NamedTuple, Optional
 from calls import trusted

@@ -26,7 +26,7 @@ def discard_output():
 
 
 def run(command, *known):
-    """Runs a command and ends with its status, when all that it printed is written. Each of the known errors is told in its own words."""
+    """Runs a command and ends with its status, when all that it printed is written. Each of the known errors is reported in its own words."""
     if sys.stdout is None:
         say('standard output is closed')
         sys.exit(FAULTY)

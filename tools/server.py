@@ -22,7 +22,7 @@ HEADERS = {'Content-Security-Policy': "default-src 'none'; script-src 'self'; st
 
 
 class Refused(Exception):
-    """A request that is not answered, with the status and what is told."""
+    """A request that is not answered, with the status and what is reported."""
     def __init__(self, status, reason):
         super().__init__(reason)
         self.status = status
@@ -49,12 +49,12 @@ class Handler(BaseHTTPRequestHandler):
             self.answer(refused.status, f'{refused}\n'.encode())
 
     def pass_over_body(self):
-        """Reads what a refused request still has, unless that is far too much, so that its sender comes to read the answer."""
+        """Reads what a refused request still has, unless that is far too much, so that its sender reads the answer."""
         if not self.read and (self.length() or 0) <= PASSED_OVER:
             self.rfile.read(self.length() or 0)
 
     def length(self):
-        """How long the body of the request is, or none where that is not told; all that is far too long is told alike."""
+        """How long the body of the request is, or none where it does not say; all that is far too long counts alike."""
         told = self.headers.get('Content-Length', '')
         return int(told[:9]) if told.isdecimal() else None
 
@@ -124,7 +124,7 @@ class Server(ThreadingHTTPServer):
 
 
 def texts(paths):
-    """The texts of files, each once; what cannot be shown is told."""
+    """The texts of files, each once; what cannot be shown is reported."""
     met = set()
     for path in cards(paths):
         if os.path.realpath(path) in met:

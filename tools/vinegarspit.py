@@ -29,7 +29,7 @@ TYPES = {'uint8_t': ('B', ctypes.c_uint8), 'uint16_t': ('H', ctypes.c_uint16), '
 class Parameter(NamedTuple):
     name: str
     type: str
-    row: bool        # a pointer; the number of its elements is the parameter behind it, unless that is told or there is none: then it is 1
+    row: bool        # a pointer; the number of its elements is the parameter behind it, unless it is stated or there is none: then it is 1
     written: bool    # lent memory, or a record
     length: int      # the number of elements of a row that always has as many, else 0
 

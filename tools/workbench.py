@@ -1,6 +1,6 @@
 """What the page of `tools/card serve` shows of a card's text and a log, as values for JSON.
 
-Verdicts, refusals, tables and stretches are those of the proved library; what is told and drawn around them is outside the proved part, as all of tools/ is."""
+Verdicts, refusals, tables and stretches are those of the proved library; what is reported and drawn around them is outside the proved part, as all of tools/ is."""
 import functools, re
 from descent import Descent
 from expectations import tried_text
@@ -49,7 +49,7 @@ def expected_told(log):
 
 @functools.lru_cache(maxsize=4)    # while a log is typed, its card stays as it is
 def card_told(source):
-    """The judges of the card that a text says, and what is told of it."""
+    """The judges of the card that a text says, and what is reported of it."""
     text = read_text(source)
     card, grammar = card_of(text), text.grammar
     judges = Judges(card)
