@@ -247,14 +247,15 @@ pub fn long_chain() -> Draft {
     draft.reversed()
 }
 
-/// The slowest to check that was found, with so many terminals of lookahead. A chain of 17 nonterminals written last rule first, the last of
-/// which has a rule for each of 16 leads: terminals, or pairs of them. Its rule of lead j counts only once nonterminal 16 + j has a first set,
-/// and that takes lead j - 1 to have come all the way to the start: so each lead in turn goes up the chain, one nonterminal a pass.
-pub fn slowest(leads: usize) -> Draft {
+/// Leads that go up a chain one after the other, with so many terminals of lookahead. Of the 17 nonterminals of the chain each has one rule, its body
+/// filled up with a terminal, but the last, which has a rule for each of 16 leads: terminals, or pairs of them. Its rule of lead j counts only once
+/// nonterminal 16 + j has a first set, and that takes lead j - 1 to have come all the way to the start. The rules of the chain come first, from the
+/// start's on; then those of the last; then the others.
+fn rising_leads(leads: usize) -> (Draft, usize) {
     let gates = MAX_NONTERMINALS / 2 - 1;
     let links = MAX_NONTERMINALS - gates;
     let terminals = if leads == 1 { gates + 1 } else { MAX_TERMINALS_OF_TWO };
-    let (last, gate) = (Nonterminal(links as u8 - 1), |j: usize| links + j - 1);
+    let gate = |j: usize| links + j - 1;
     let lead = |j: usize| lead_of(j, leads, terminals);
     let mut rules: Vec<Rule> = (1..links).map(|b| rule(b - 1, &[&[Nonterminal(b as u8)]], &[])).collect();
     rules.push(rule(links - 1, &[&lead(0)], &[]));
@@ -264,21 +265,43 @@ pub fn slowest(leads: usize) -> Draft {
     for j in 1..=gates {
         rules.push(rule(gate(j), &[&[Nonterminal(0)], &lead(j - 1)], &[]));
     }
-    padded(Draft { nonterminals: MAX_NONTERMINALS, terminals, rules }, links - 1, last, MAX_WORDS).reversed()
+    (padded(Draft { nonterminals: MAX_NONTERMINALS, terminals, rules }, links - 1, Terminal(0), MAX_WORDS), links - 1)
 }
 
-/// Two letters; wherever a log goes on, the rule that is run has 2,032 words more, each a name that has been called there before.
+/// The slowest to check that was found, with so many terminals of lookahead. The library's passes go over the rules in both directions by turns. So
+/// the rules of the chain stand at either end by turns, and a lead goes up by one nonterminal in a pass, whichever way it goes: 288 passes.
+pub fn slowest(leads: usize) -> Draft {
+    let (mut draft, links) = rising_leads(leads);
+    let others = draft.rules.split_off(links);
+    let (mut front, mut back) = (Vec::new(), Vec::new());
+    for (at, link) in draft.rules.drain(..).rev().enumerate() {
+        if at % 2 == 0 { &mut back } else { &mut front }.push(link);
+    }
+    draft.rules = front.into_iter().chain(others).chain(back.into_iter().rev()).collect();
+    draft
+}
+
+/// The slowest for the twin to check that was found. Its passes go from the first rule to the last, and a lead goes up from the last to the first:
+/// again by one nonterminal in a pass, but only for the twin.
+pub fn slowest_for_twin(leads: usize) -> Draft {
+    rising_leads(leads).0
+}
+
+/// The slowest to search that was found. Two letters; at each of 13 places of each log the start runs a rule of 1,975 words, each of them, but for the
+/// first call of a nonterminal there, a call that has been made.
 pub fn slowest_search() -> Draft {
-    let (logs, letter, nothing) = (Nonterminal(0), Nonterminal(1), Nonterminal(2));
-    let body: Vec<Symbol> = [letter, logs].into_iter().chain([nothing; 2_032]).collect();
-    let rules = vec![
-        rule(0, &[&body], &[]),
-        rule(0, &[&[]], &[]),
-        rule(1, &[&[Terminal(0)]], &[]),
-        rule(1, &[&[Terminal(1)]], &[]),
-        rule(2, &[&[]], &[]),
+    let (start, rest, empty) = (0, 1, 2..MAX_NONTERMINALS);
+    let mut rules = vec![
+        rule(start, &[&[Nonterminal(rest as u8)]], &[]),
+        rule(rest, &[&[Terminal(0), Nonterminal(start as u8)]], &[]),
+        rule(rest, &[&[Terminal(1), Nonterminal(start as u8)]], &[]),
+        rule(rest, &[&[]], &[]),
     ];
-    Draft { nonterminals: 3, terminals: 2, rules }
+    rules.extend(empty.clone().map(|b| rule(b, &[&[]], &[])));
+    let mut draft = Draft { nonterminals: MAX_NONTERMINALS, terminals: 2, rules };
+    let left = MAX_WORDS - draft.words().len();
+    draft.rules[0].positives[0].extend(empty.cycle().take(left).map(|b| Nonterminal(b as u8)));
+    draft
 }
 
 /// The slowest to judge plainly that was found, on rows of terminal 0: 2,048 words, nearly all of them, in one rule, a nonterminal that has every
