@@ -1,12 +1,10 @@
-// Reading an encoded grammar: its first fault, or its sizes; and where its rules start.
+// Reading an encoded grammar: its first fault, or its sizes.
 ghost use mathlib.Core.Path.{_≡_};
 ghost use lib.ListN.{drop};
 ghost use Rattle.grammar.specs.Encoding.{declaredBy};
 ghost use Rattle.grammar.specs.Reading.{stepped, finished, fresh, scan, isWithin, reading};
-ghost use Rattle.grammar.specs.contracts.Starts.{StartNoted, ruleStarts};
 use answer::Error;
 use grammar::limits::NONTERMINALS;
-use grammar::limits::RULES;
 use grammar::limits::TERMINALS;
 use grammar::limits::WORDS;
 use grammar::reading::Progress;
@@ -129,32 +127,4 @@ pub fn read(words: &[u32]) -> Reading
         return Reading::Faulty(Error::Heading);
     }
     read_rules(words, sizes)
-}
-
-// Notes where a rule begins, while there is room; tells how many are noted.
-fn note(starts: &mut [usize; RULES], rules: usize, at: usize, word: Word) -> usize
-    ensures { λ r. ⌜ StartNoted (now (starts .entry)) rules at word (now (starts .exit)) r ⌝ }
-{
-    if begins_rule(word) {
-        if rules < RULES {
-            starts[rules] = at;
-            return rules + 1;
-        }
-    }
-    rules
-}
-
-// Where each rule begins, by index; zero for rules that are not there.
-pub fn rule_starts(words: &[u32]) -> [usize; RULES]
-    ensures { λ r. ⌜ r ≡ ruleStarts (now (words .entry)) ⌝ }
-{
-    let mut starts = [0usize; RULES];
-    let mut rules = 0;
-    let mut at = 0;
-    while at < words.len() {
-        let word = decode(words[at]);
-        rules = note(&mut starts, rules, at, word);
-        at = at + 1;
-    }
-    starts
 }

@@ -16,7 +16,7 @@ use grammar::reading::Reading;
 use grammar::reading::Sizes;
 use left::reached;
 use lookahead::Lookahead;
-use reader::rule_starts;
+use rule_starts::rule_starts;
 
 mod family;
 mod first;

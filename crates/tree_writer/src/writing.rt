@@ -7,7 +7,7 @@ use grammar::limits::PLACES;
 use grammar::limits::RULES;
 use grammar::reading::Reading;
 use reader::read;
-use reader::rule_starts;
+use rule_starts::rule_starts;
 use vertex_words::end_of;
 use vertex_words::rule_of;
 use word::Symbol;

@@ -3,8 +3,8 @@ use Prim.Native.Nat.{_-_}
 use native.Mathlib.Omega.{arith}
 use lib.ListN.{length}
 use Rattle.grammar.proofs.Starts.{Noting, noting-start, noting-turn, noting-end}
-use Rattle.reader.proofs.rule_starts.Statement.{statement}
-use Rattle.reader.proofs.rule_starts.Tie as tie
+use Rattle.rule_starts.proofs.rule_starts.Statement.{statement}
+use Rattle.rule_starts.proofs.rule_starts.Tie as tie
 
 abbrev Inv-loop : tie.InvT-loop
 Inv-loop words starts₀ rules₀ at₀ starts rules at = Noting words starts rules at

@@ -2,8 +2,8 @@
 use mathlib.Core.Path.{sym, _∙_}
 use Rattle.grammar.proofs.Starts.{noted, not-noted-full}
 use borrow.Author.Needs.{needs}
-use Rattle.reader.proofs.note.Statement.{statement}
-use Rattle.reader.proofs.note.Tie as tie
+use Rattle.rule_starts.proofs.note.Statement.{statement}
+use Rattle.rule_starts.proofs.note.Tie as tie
 
 begins-rule-requires : tie.Need-begins-rule-requires
 begins-rule-requires c κs = search needs
