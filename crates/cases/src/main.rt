@@ -79,19 +79,29 @@ fn judged(path: &[u8], log: &[u8]) {
     write_line(&text[..length]);
 }
 
-fn limits_of_checking() {
+// The most of each, and one more.
+fn limits_of_heading() {
     checked(b"names_32");
     checked(b"names_33");
     checked(b"letters_24");
     checked(b"letters_25");
+}
+
+fn limits_of_length() {
     checked(b"words_2048");
     checked(b"words_2049");
     checked(b"rules_128");
     checked(b"rules_129");
+}
+
+fn rules_of_names() {
     checked(b"left_recursive");
     checked(b"claimed_twice");
     checked(b"no_rule");
     checked(b"rules_apart");
+}
+
+fn rules_of_must_nots() {
     checked(b"must_nots_alone");
     checked(b"letter_behind_must_nots");
 }
@@ -226,7 +236,10 @@ fn deepest_tree(path: &[u8]) {
 }
 
 fn main() {
-    limits_of_checking();
+    limits_of_heading();
+    limits_of_length();
+    rules_of_names();
+    rules_of_must_nots();
     unproductive();
     limits_of_judging(b"repeated");
     limits_of_judging(b"no_rule");
