@@ -3,7 +3,9 @@
 ghost use mathlib.Core.Path.{_≡_};
 ghost use lib.Bits.{bitOr};
 ghost use Rattle.base.specs.Choice.{choose};
-ghost use Rattle.tabular_promises.specs.contracts.Chart.{placesBefore, oneNonterminal, withNonterminal, spanWord};
+ghost use Rattle.tabular_promises.specs.contracts.Chart.{placesBefore, oneNonterminal, withNonterminal, spanWord, chartVerdict};
+use answer::Answer;
+use answer::Calls;
 use grammar::limits::NONTERMINALS;
 use grammar::limits::TABULAR_PLACES;
 use places::contains;
@@ -89,4 +91,22 @@ pub fn word_at(chart: &[u64; CHART], nonterminals: u32, start: usize, end: usize
         at = at + 1;
     }
     word
+}
+
+// The verdict on an input of so many tokens: whether nonterminal 0 has all of it. No call is made.
+pub fn verdict(chart: &[u64; CHART], tokens: usize) -> Answer
+    ensures { λ r. ⌜ r ≡ chartVerdict (now (chart .entry)) tokens ⌝ }
+{
+    let calls = Calls {
+        count: 0,
+        farthest: 0,
+    };
+    if TABULAR_PLACES <= tokens {
+        return Answer::Rejected(calls);
+    }
+    if contains(chart[tokens], 0) {
+        Answer::Accepted(calls)
+    } else {
+        Answer::Rejected(calls)
+    }
 }

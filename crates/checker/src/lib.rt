@@ -30,7 +30,13 @@ pub fn check(words: &[u32], table: &mut [u32]) -> Answer
         return Answer::Refused(Error::TableTooShort);
     }
     let found = find(words, Lookahead::One);
-    lend(found, table);
+    lend(
+        found.finding,
+        &found.firsts,
+        &found.follows,
+        &found.entries,
+        table,
+    );
     let finding = found.finding;
     answer(finding)
 }
@@ -43,7 +49,13 @@ pub fn check_two(words: &[u32], table: &mut [u64]) -> Answer
         return Answer::Refused(Error::TableOfTwoTooShort);
     }
     let found = find(words, Lookahead::Two);
-    lend_two(found, table);
+    lend_two(
+        found.finding,
+        &found.firsts,
+        &found.follows,
+        &found.entries,
+        table,
+    );
     let finding = found.finding;
     answer(finding)
 }

@@ -13,7 +13,7 @@ use Rattle.lookahead.specs.contracts.Lookaheads.{alphabet}
 use Rattle.base.specs.Strings.{look, Over, Lookahead as Looked}
 use Rattle.base.proofs.Strings.{all-take, all-drop, take-short}
 use Rattle.columns.specs.Columns.{columnCount, columnString, columnOf}
-use Rattle.columns.specs.contracts.Columns.{columnAt}
+use Rattle.columns.specs.contracts.Columns.{columnBefore, columnAt}
 use Rattle.columns.proofs.ColumnStrings.{column-in, string-column}
 
 module _ (n : ℕ) (w : List ℕ) (i : ℕ) where
@@ -36,7 +36,7 @@ module _ (n : ℕ) (w : List ℕ) (i : ℕ) where
   one-end h = ap (columnOf One n) (none-left 1 h)
 
   -- two tokens
-  pub two-pair : i + 1 < length w → columnAt Two n w i ≡ 8 + 7 * getD w i 0 + getD w (i + 1) 0
+  two-pair : i + 1 < length w → columnAt Two n w i ≡ 8 + 7 * getD w i 0 + getD w (i + 1) 0
   unfolding columnAt look
   two-pair h = rw (drop-cons w i 0 (omega arith), drop-cons w (suc i) 0 (omega arith), add-one i)
 
@@ -47,6 +47,12 @@ module _ (n : ℕ) (w : List ℕ) (i : ℕ) where
   pub two-end : length w ≤ i → columnAt Two n w i ≡ 0
   unfolding columnAt
   two-end h = ap (columnOf Two n) (none-left 2 h)
+
+-- of a token that another follows
+pub column-inner : (k : Lookahead) (n : ℕ) (w : List ℕ) (i : ℕ) → i + 1 < length w → columnAt k n w i ≡ columnBefore k (getD w i 0) (getD w (i + 1) 0)
+unfolding columnBefore
+column-inner One n w i h = one-token n w i (omega arith)
+column-inner Two n w i h = two-pair n w i h
 
 -- what is looked at are terminals
 looked : (k n : ℕ) (w : List ℕ) (i : ℕ) → Over n w → Looked k n (look k w i)

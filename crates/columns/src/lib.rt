@@ -4,7 +4,7 @@ ghost use mathlib.Core.Path.{_≡_};
 ghost use Rattle.event.specs.Events.{inputOf};
 ghost use Rattle.lookahead.specs.declared.Lookahead.the-variants.{One, Two};
 ghost use Rattle.columns.specs.Columns.{columnCount};
-ghost use Rattle.columns.specs.contracts.Columns.{columnElement, columnAt};
+ghost use Rattle.columns.specs.contracts.Columns.{columnElement, columnBefore, columnAt};
 use event::terminal_of;
 use grammar::limits::COLUMNS_OF_TWO;
 use grammar::limits::TERMINALS_OF_TWO;
@@ -36,6 +36,16 @@ const LAST: u32 = 1;
 
 const PAIR: u32 = LAST + TERMINALS_OF_TWO;
 
+// The column of a token that another follows.
+pub fn column_before(lookahead: Lookahead, token: u8, next: u8) -> u32
+    ensures { λ r. ⌜ r ≡ columnBefore lookahead token next ⌝ }
+{
+    match lookahead {
+        Lookahead::One => token as u32,
+        Lookahead::Two => PAIR + TERMINALS_OF_TWO * (token as u32) + next as u32,
+    }
+}
+
 // The column of the token at a place, or of the end.
 fn column_of_one(events: &[u8], terminals: u32, place: usize) -> u32
     ensures { λ r. ⌜ r ≡ columnAt One terminals (inputOf (now (events .entry))) place ⌝ }
@@ -55,12 +65,12 @@ fn column_of_two(events: &[u8], terminals: u32, place: usize) -> u32
         return 0;
     }
     let event = events[place];
-    let first = terminal_of(event) as u32;
+    let token = terminal_of(event);
     if events.len() <= place + 1 {
-        return LAST + first;
+        return LAST + token as u32;
     }
     let next = events[place + 1];
-    PAIR + TERMINALS_OF_TWO * first + terminal_of(next) as u32
+    column_before(Lookahead::Two, token, terminal_of(next))
 }
 
 // The column of the lookahead string at a place.

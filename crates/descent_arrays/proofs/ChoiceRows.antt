@@ -47,24 +47,23 @@ pub record Placed (columns tokens A : ℕ) : Type 0 where
   pub row : A * (tokens + 1) + tokens < maxMemoEntries
 
 -- the first columns of a row are written, from the entries at an index on
-pub record Writing (starts entries : List ℕ) (from to columns column : ℕ) (before now : List ℕ) : Type 0 where
+pub record Writing (starts entries : List ℕ) (from to column : ℕ) (before now : List ℕ) : Type 0 where
   pub long : length now ≡ length before
   pub below : (x : ℕ) → x < to → getD now x 0 ≡ getD before x 0
-  pub ahead : (x : ℕ) → to + columns ≤ x → getD now x 0 ≡ getD before x 0
+  pub ahead : (x : ℕ) → to + column ≤ x → getD now x 0 ≡ getD before x 0
   pub written : (c : ℕ) → c < column → getD now (to + c) 0 ≡ firstWord starts (getD entries (from + c) 0)
 
-pub writing-none : (starts entries : List ℕ) (from to columns : ℕ) (before : List ℕ) → Writing starts entries from to columns 0 before before
-writing-none starts entries from to columns before =
-    record { long = refl; below = λ x l. refl; ahead = λ x l. refl; written = λ c l. absurd (omega arith) }
+pub writing-none : (starts entries : List ℕ) (from to : ℕ) (before : List ℕ) → Writing starts entries from to 0 before before
+writing-none starts entries from to before = record { long = refl; below = λ x l. refl; ahead = λ x l. refl; written = λ c l. absurd (omega arith) }
 
 -- one column more
-pub writing-more : {starts entries : List ℕ} {from to columns column : ℕ} {before now : List ℕ} {v : ℕ}
-    → Writing starts entries from to columns column before now → column < columns → to + column < length now
-    → v ≡ firstWord starts (getD entries (from + column) 0) → Writing starts entries from to columns (column + 1) before (set now (to + column) v)
-writing-more {starts} {entries} {from} {to} {columns} {column} {before} {now} {v} w few h e = record {
+pub writing-more : {starts entries : List ℕ} {from to column : ℕ} {before now : List ℕ} {v : ℕ}
+    → Writing starts entries from to column before now → to + column < length now
+    → v ≡ firstWord starts (getD entries (from + column) 0) → Writing starts entries from to (column + 1) before (set now (to + column) v)
+writing-more {starts} {entries} {from} {to} {column} {before} {now} {v} w h e = record {
   long = length-set now (to + column) v ∙ w .long;
   below = λ x l. getD-set-other now (to + column) x v 0 (λ q. absurd (omega arith)) ∙ w .below x l;
-  ahead = λ x l. getD-set-other now (to + column) x v 0 (λ q. absurd (omega arith)) ∙ w .ahead x l;
+  ahead = λ x l. getD-set-other now (to + column) x v 0 (λ q. absurd (omega arith)) ∙ w .ahead x (omega arith);
   written = λ c l. go c l (decLt c column);
 }
   where
@@ -92,8 +91,16 @@ module _ {starts : List ℕ} {columns : ℕ} {entries : List ℕ} {tokens A : �
   before-past : (x : ℕ) → x < choiceWords → A ≤ x / choiceColumns → getD choices x 0 ≡ 0
   before-past x h past = ap (λ l. getD l x 0) (g .before) ∙ rows-past starts columns entries tokens A x h past
 
+  -- a column that is not written yet holds 0
+  pub still-zero : {column : ℕ} {now : List ℕ} → Writing starts entries (A * columns) (A * choiceColumns) column choices now → column < columns
+      → getD now (A * choiceColumns + column) 0 ≡ 0
+  still-zero {column} w l =
+      w .ahead (A * choiceColumns + column) (omega arith)
+      ∙ before-past (A * choiceColumns + column) (omega (arith, placed .to, g .fewColumns)) (omega (arith, g .fewColumns))
+
   -- all columns, the input's length and the row's place in the memo table
-  module _ {column : ℕ} {now : List ℕ} (w : Writing starts entries (A * columns) (A * choiceColumns) columns column choices now) (all : columns ≤ column) where
+  module _ {column : ℕ} {now : List ℕ} (w : Writing starts entries (A * columns) (A * choiceColumns) column choices now)
+      (within : column ≤ columns) (all : columns ≤ column) where
     abbrev row : ℕ
     row = A * choiceColumns + rowColumn
 

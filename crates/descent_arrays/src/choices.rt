@@ -1,7 +1,9 @@
 // A choice of rules as the descent reads it: a row for each nonterminal, by the columns of the table.
 ghost use mathlib.Core.Path.{_≡_};
-ghost use Prim.Native.Nat.{_+_};
+ghost use Prim.Native.Nat.{_+_, _<_};
+ghost use lib.ListN.{getD, set};
 ghost use Rattle.columns.specs.Columns.{columnCount};
+ghost use Rattle.descent_arrays.specs.contracts.Arrays.{choiceWords};
 ghost use Rattle.descent_arrays.specs.contracts.Choices.{firstWord, choiceRows, choicesOf, memoEntries, RowGiven};
 use super::arrays::CHOICE_COLUMNS;
 use super::arrays::CHOICES;
@@ -18,15 +20,15 @@ use grammar::limits::WORDS;
 use grammar::reading::Sizes;
 use lookahead::Lookahead;
 
-// Where the first conjunct of a rule stands, or 0 for a number that no rule has.
-fn first_conjunct(starts: &[usize; RULES], rule: u8) -> u16
-    ensures { λ r. ⌜ r ≡ firstWord (now (starts .entry)) rule ⌝ }
+// Writes where the first conjunct of a rule stands; where there is no rule, the 0 that is there already stays.
+fn write_choice(choices: &mut [u16; CHOICES], at: usize, starts: &[usize; RULES], rule: u8)
+    requires { ⌜ (at < choiceWords) × (getD (now choices) at 0 ≡ 0) ⌝ }
+    ensures { λ _. ⌜ now (choices .exit) ≡ set (now (choices .entry)) at (firstWord (now (starts .entry)) rule) ⌝ }
 {
-    if (rule as usize) < RULES {
-        (starts[rule as usize] % WORDS + 1) as u16
-    } else {
-        0
+    if RULES <= rule as usize {
+        return;
     }
+    choices[at] = (starts[rule as usize] % WORDS + 1) as u16;
 }
 
 // Writes the row of one nonterminal.
@@ -45,7 +47,7 @@ fn fill_row(
     let to = nonterminal * CHOICE_COLUMNS;
     let mut column = 0;
     while column < columns {
-        choices[to + column] = first_conjunct(starts, entries[from + column]);
+        write_choice(choices, to + column, starts, entries[from + column]);
         column = column + 1;
     }
     choices[to + END_COLUMN] = tokens as u16;

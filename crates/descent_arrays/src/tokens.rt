@@ -6,6 +6,7 @@ use super::arrays::COLUMN_WEIGHT;
 use super::arrays::END_MARK;
 use super::arrays::fitting;
 use columns::column_at;
+use columns::column_before;
 use event::terminal_of;
 use grammar::limits::PLACES;
 use lookahead::Lookahead;
@@ -18,7 +19,7 @@ fn word_of(column: u32, mark: u8) -> u16
 }
 
 // The terminal of each event, and the column of the lookahead string there; behind the events, the end. Events that no place is left for
-// are ignored.
+// are ignored. The loop stops at the last token: before it, whether there is a next one needs no test, and the machine takes many at once.
 pub fn tokens_of(events: &[u8], lookahead: Lookahead, terminals: u32) -> [u16; PLACES]
     ensures { λ r. ⌜ r ≡ tokensOf lookahead terminals (inputOf (now (events .entry))) ⌝ }
 {
@@ -29,12 +30,19 @@ pub fn tokens_of(events: &[u8], lookahead: Lookahead, terminals: u32) -> [u16; P
     let mut tokens = [end; PLACES];
     let count = fitting(events.len(), PLACES);
     let mut place = 0;
-    while place < count {
-        let column = column_at(events, lookahead, terminals, place);
+    while place + 1 < count {
         let event = events[place];
+        let next = events[place + 1];
         let terminal = terminal_of(event);
+        let column = column_before(lookahead, terminal, terminal_of(next));
         tokens[place] = word_of(column, terminal);
         place = place + 1;
     }
+    if count <= place {
+        return tokens;
+    }
+    let last = events[place];
+    let column = column_at(events, lookahead, terminals, place);
+    tokens[place] = word_of(column, terminal_of(last));
     tokens
 }

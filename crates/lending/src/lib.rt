@@ -7,7 +7,7 @@ ghost use Rattle.grammar.specs.Codes.{noEntry};
 ghost use Rattle.grammar.specs.Limits.{maxNonterminals, maxTableWords};
 ghost use Rattle.grammar.specs.contracts.Limits.{maxEntries};
 ghost use Rattle.lookahead.specs.declared.Lookahead.the-variants.{One, Two};
-ghost use Rattle.lending.specs.contracts.Lending.{entryCode, tableWordAt, lentSizes, wordCount, SizesGiven, madeUp, lentOf};
+ghost use Rattle.lending.specs.contracts.Lending.{entryCode, tableWordAt, lentSizes, wordCount, lentBy, SizesGiven, madeUp};
 use columns::count;
 use families::Finding;
 use families::SETS;
@@ -19,7 +19,6 @@ use grammar::limits::TABLE_WORDS;
 use grammar::limits::TERMINALS;
 use grammar::reading::Sizes;
 use lookahead::Lookahead;
-use table::Found;
 
 // The numbers that a word of 32 bits can be.
 const NARROW: u64 = 4294967296;
@@ -111,22 +110,23 @@ fn lay_out<'a>(
 
 // Lends the table of a grammar with one token of lookahead; nothing where the grammar is refused, or where there is no room. The words are
 // laid out whole before any is lent back.
-pub fn lend(found: Found, table: &mut [u32])
-    ensures { λ _. ⌜ now (table .exit) ≡ lentOf One found (now (table .entry)) ⌝ }
+pub fn lend<'a>(
+    finding: Finding,
+    firsts: &'a [u64; SETS],
+    follows: &'a [u64; SETS],
+    entries: &'a [u8; ENTRIES],
+    table: &mut [u32],
+)
+    ensures { λ _. ⌜ now (table .exit)
+        ≡ lentBy One (lentSizes finding) (now (firsts .entry)) (now (follows .entry)) (now (entries .entry)) (now (table .entry)) ⌝ }
 {
-    let sizes = lent_sizes(found.finding);
+    let sizes = lent_sizes(finding);
     let count = word_count(sizes, Lookahead::One);
     if table.len() < count {
         return;
     }
     let mut words = [NO_ENTRY; TABLE_WORDS];
-    lay_out(
-        &mut words,
-        sizes,
-        &found.firsts,
-        &found.follows,
-        &found.entries,
-    );
+    lay_out(&mut words, sizes, firsts, follows, entries);
     let mut copied = 0;
     while copied < count {
         table[copied] = words[copied];
@@ -135,10 +135,17 @@ pub fn lend(found: Found, table: &mut [u32])
 }
 
 // The same with two tokens.
-pub fn lend_two(found: Found, table: &mut [u64])
-    ensures { λ _. ⌜ now (table .exit) ≡ lentOf Two found (now (table .entry)) ⌝ }
+pub fn lend_two<'a>(
+    finding: Finding,
+    firsts: &'a [u64; SETS],
+    follows: &'a [u64; SETS],
+    entries: &'a [u8; ENTRIES],
+    table: &mut [u64],
+)
+    ensures { λ _. ⌜ now (table .exit)
+        ≡ lentBy Two (lentSizes finding) (now (firsts .entry)) (now (follows .entry)) (now (entries .entry)) (now (table .entry)) ⌝ }
 {
-    let sizes = lent_sizes(found.finding);
+    let sizes = lent_sizes(finding);
     let nonterminals = sizes.nonterminals as usize;
     let count = word_count(sizes, Lookahead::Two);
     if table.len() < count {
@@ -146,13 +153,7 @@ pub fn lend_two(found: Found, table: &mut [u64])
     }
     let mut at = 0;
     while at < count {
-        table[at] = word(
-            nonterminals,
-            &found.firsts,
-            &found.follows,
-            &found.entries,
-            at,
-        );
+        table[at] = word(nonterminals, firsts, follows, entries, at);
         at = at + 1;
     }
 }

@@ -13,7 +13,8 @@ use lookahead::Lookahead;
 use recursive_descent::judge_words;
 use recursive_descent::search::judge_costliest_words;
 
-// Judges the input that the events of a log are by an encoded grammar, and fills the lent table and memo table.
+// Judges the input that the events of a log are by an encoded grammar, and fills the lent table and memo table. The sets and entries are read where
+// they stand in the judgement, not copied out of it.
 pub fn judge(words: &[u32], events: &[u8], table: &mut [u32], memo: &mut [u16]) -> Answer
     ensures { λ r. ⌜ Judges One (now (words .entry)) (inputOf (now (events .entry))) (now (table .entry)) (now (memo .entry)) r
         (now (table .exit)) (now (memo .exit)) ⌝ }
@@ -23,7 +24,14 @@ pub fn judge(words: &[u32], events: &[u8], table: &mut [u32], memo: &mut [u16]) 
     }
     let judgement = judge_words(words, Lookahead::One, events, memo);
     let found = judgement.found;
-    lend(found, table);
+    let finding = found.finding;
+    lend(
+        finding,
+        &judgement.found.firsts,
+        &judgement.found.follows,
+        &judgement.found.entries,
+        table,
+    );
     judgement.answer
 }
 
@@ -37,7 +45,14 @@ pub fn judge_two(words: &[u32], events: &[u8], table: &mut [u64], memo: &mut [u1
     }
     let judgement = judge_words(words, Lookahead::Two, events, memo);
     let found = judgement.found;
-    lend_two(found, table);
+    let finding = found.finding;
+    lend_two(
+        finding,
+        &judgement.found.firsts,
+        &judgement.found.follows,
+        &judgement.found.entries,
+        table,
+    );
     judgement.answer
 }
 
@@ -57,6 +72,13 @@ pub fn judge_costliest(
     }
     let judgement = judge_costliest_words(words, tokens, log, memo);
     let found = judgement.found;
-    lend(found, table);
+    let finding = found.finding;
+    lend(
+        finding,
+        &judgement.found.firsts,
+        &judgement.found.follows,
+        &judgement.found.entries,
+        table,
+    );
     judgement.answer
 }

@@ -18,7 +18,7 @@ mod descent;
 mod judging;
 pub mod search;
 
-// Judges the input that the events of a log are by an encoded grammar.
+// Judges the input that the events of a log are by an encoded grammar. Each case returns at once, as in `find`.
 pub fn judge_words(
     words: &[u32],
     lookahead: Lookahead,
@@ -33,7 +33,9 @@ pub fn judge_words(
     let found = find(words, lookahead);
     let finding = with_input(found.finding, events, TOKENS);
     match finding {
-        Finding::Refused(error) => refused(error),
+        Finding::Refused(error) => {
+            return refused(error);
+        }
         Finding::Passed(sizes) => {
             let choices = table_choices(
                 &found.starts,
@@ -51,7 +53,7 @@ pub fn judge_words(
                 events,
                 &mut memo[..needed],
             );
-            Judgement { answer, found }
+            return Judgement { answer, found };
         }
     }
 }

@@ -112,8 +112,14 @@ fn put_checked(words: &[u32], out: &mut [u8]) -> usize
 {
     let mut table = [NO_ENTRY; TABLE_WORDS];
     let found = find(words, Lookahead::One);
-    lend(found, &mut table);
     let finding = found.finding;
+    lend(
+        finding,
+        &found.firsts,
+        &found.follows,
+        &found.entries,
+        &mut table,
+    );
     put_check(out, finding, &table)
 }
 

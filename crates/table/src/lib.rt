@@ -40,7 +40,8 @@ fn conflict_error(nonterminal: u8, column: u8, lookahead: Lookahead) -> Error
     }
 }
 
-// The grammar's entries, unless it is refused or an entry clashes.
+// The grammar's entries, unless it is refused or an entry clashes. Each case returns at once: where cases meet, all that is found is copied once
+// more.
 pub fn find(words: &[u32], lookahead: Lookahead) -> Found
     ensures { λ r. ⌜ r ≡ foundOf lookahead (now (words .entry)) ⌝ }
 {
@@ -50,41 +51,40 @@ pub fn find(words: &[u32], lookahead: Lookahead) -> Found
     let firsts = claims.firsts;
     let follows = claims.follows;
     let none = [NO_RULE; ENTRIES];
-    match finding {
-        Finding::Refused(_) => Found {
+    let Finding::Passed(sizes) = finding else {
+        return Found {
             finding,
             starts,
             firsts,
             follows,
             entries: none,
-        },
-        Finding::Passed(sizes) => {
-            let conflict = first_conflict(
-                &claims.heads,
-                &claims.sets,
-                claims.overruns,
-                sizes,
-                lookahead,
-            );
-            match conflict {
-                Conflict::At {
-                    nonterminal,
-                    column,
-                } => Found {
-                    finding: Finding::Refused(conflict_error(nonterminal, column, lookahead)),
-                    starts,
-                    firsts,
-                    follows,
-                    entries: none,
-                },
-                Conflict::Absent => Found {
-                    finding,
-                    starts,
-                    firsts,
-                    follows,
-                    entries: rows::rows(sizes, &claims.heads, &claims.sets, lookahead),
-                },
-            }
-        }
+        };
+    };
+    let conflict = first_conflict(
+        &claims.heads,
+        &claims.sets,
+        claims.overruns,
+        sizes,
+        lookahead,
+    );
+    let Conflict::At {
+        nonterminal,
+        column,
+    } = conflict
+    else {
+        return Found {
+            finding,
+            starts,
+            firsts,
+            follows,
+            entries: rows::rows(sizes, &claims.heads, &claims.sets, lookahead),
+        };
+    };
+    Found {
+        finding: Finding::Refused(conflict_error(nonterminal, column, lookahead)),
+        starts,
+        firsts,
+        follows,
+        entries: none,
     }
 }

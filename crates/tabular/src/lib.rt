@@ -1,15 +1,12 @@
 // A second recognizer, by tabulation: which nonterminals derive which span of the input, for every span from short to long. It needs neither table
 // nor memo table, only a grammar without left recursion, and takes shorter inputs.
-ghost use mathlib.Core.Path.{_≡_};
 ghost use Rattle.event.specs.Events.{inputOf};
-ghost use Rattle.tabular_promises.specs.Answers.{told};
 ghost use Rattle.tabular_promises.specs.contracts.Judging.{TabulateGiven, Tabulated, FoundGiven};
 ghost use Rattle.tabular_promises.specs.Properties.{TabularJudges};
 use answer::Answer;
-use answer::Calls;
 use answer::Error;
-use chart::places::contains;
 use chart::spans::write;
+use chart::verdict;
 use families::Finding;
 use families::SETS;
 use filling::fill;
@@ -23,7 +20,7 @@ use sets::analyze;
 
 mod filling;
 
-// Fills the lent words with the nonterminals of every span; whether nonterminal 0 has the whole input.
+// Fills the lent words with the nonterminals of every span, and gives the verdict.
 fn tabulate<'a>(
     words: &[u32],
     starts: &'a [usize; RULES],
@@ -31,27 +28,13 @@ fn tabulate<'a>(
     reaches: &'a [u32; SETS],
     events: &[u8],
     spans: &mut [u32],
-) -> bool
+) -> Answer
     requires { ⌜ TabulateGiven (now words) (now starts) sizes (now reaches) (inputOf (now events)) (now spans) ⌝ }
     ensures { λ r. ⌜ Tabulated (now (words .entry)) (inputOf (now (events .entry))) (now (spans .entry)) r (now (spans .exit)) ⌝ }
 {
     let chart = fill(words, starts, sizes, reaches, events);
     write(&chart, sizes.nonterminals, events.len(), spans);
-    contains(chart[events.len()], 0)
-}
-
-fn verdict(accepted: bool) -> Answer
-    ensures { λ r. ⌜ r ≡ told accepted ⌝ }
-{
-    let calls = Calls {
-        count: 0,
-        farthest: 0,
-    };
-    if accepted {
-        Answer::Accepted(calls)
-    } else {
-        Answer::Rejected(calls)
-    }
+    verdict(&chart, events.len())
 }
 
 // By what is found of the grammar and the input: why they are refused, or the verdict.
@@ -68,7 +51,7 @@ fn judge_found<'a>(
 {
     match finding {
         Finding::Refused(error) => Answer::Refused(error),
-        Finding::Passed(sizes) => verdict(tabulate(words, starts, sizes, reaches, events, spans)),
+        Finding::Passed(sizes) => tabulate(words, starts, sizes, reaches, events, spans),
     }
 }
 

@@ -267,11 +267,11 @@ module _ {words input spans starts reaches : List ℕ} {f : Finding} (g : FoundG
           room = g .room;
         }
 
-    pub judge-done : {after : List ℕ} {b : Bool} {r : Answer} → Tabulated words input spans b after → r ≡ told b → TabularJudges words input spans r after
-    unfolding tabularVerdict tabularWords
-    judge-done {after} {b} {r} t e =
+    pub judge-done : {after : List ℕ} {r : Answer} → Tabulated words input spans r after → TabularJudges words input spans r after
+    unfolding tabularWords
+    judge-done {after} {r} t =
         let G = grammarOf words in
-        judges (leaves-alike (by-input (both .grammar) (both .faultless)) (leaves (e ∙ ap told (t .verdict)) (
+        judges (leaves-alike (by-input (both .grammar) (both .faultless)) (leaves (t .verdict) (
           t .memory
               ∙ ap (λ (n : ℕ). spanWords (length input) (solutionWord G input) ++ drop n spans) (sym (words-long (length input) (solutionWord G input))),
           tt,

@@ -5,19 +5,21 @@ use mathlib.Core.List.{List, _++_}
 use Prim.Native.Nat.{ℕ, _≤_}
 use native.Mathlib.Omega.{arith}
 use lib.ListN.{length, getD, drop}
+use borrow.Author.Tests.{lt-ltb}
+use Rattle.answer.specs.declared.Answer.{Answer}
 use Rattle.grammar.specs.Encoding.{grammarOf}
-use Rattle.grammar.specs.Limits.{maxTabularTokens, maxSpanWords}
+use Rattle.grammar.specs.Limits.{maxTabularTokens, maxTabularPlaces, maxSpanWords}
 use Rattle.grammar.specs.Reading.{reading}
 use Rattle.grammar.specs.declared.reading.Sizes.{Sizes}
 use Rattle.grammar.specs.declared.reading.Reading.the-variants.{Read}
 use Rattle.grammar.proofs.WellRead.{well-read}
 use Rattle.lookahead.specs.Elements.{has}
 use Rattle.semantics.specs.Valuations.{solution}
-use Rattle.tabular_promises.specs.contracts.Places.{hasPlace}
-use Rattle.tabular_promises.specs.contracts.Chart.{slot, charted, WordGiven, chartWordAt, spanWord}
+use Rattle.tabular_promises.specs.contracts.Chart.{slot, charted, WordGiven, chartWordAt, spanWord, chartVerdict}
 use Rattle.tabular_promises.specs.contracts.Filling.{Filled}
 use Rattle.tabular_promises.specs.contracts.Judging.{Tabulated}
 use Rattle.tabular_promises.specs.contracts.Spans.{spanCount, writtenSpans}
+use Rattle.tabular_promises.specs.Answers.{told, tabularVerdict}
 use Rattle.tabular_promises.specs.Spans.{solutionWord}
 use Rattle.tabular_promises.proofs.Writing.{total-cong, words-cong, were-written}
 use Rattle.tabular_promises.proofs.Charts.{span-word}
@@ -41,10 +43,12 @@ module _ {words w chart : List ℕ} {z : Sizes} (read : reading words ≡ Read z
       ∙ rw (r .nonterminals)
       (total-cong (grammarOf words .nonterminals) (λ A. charted chart A i j) (λ A. solution (grammarOf words) w A i j) (λ A a. f .right A i j a h k))
 
-  pub tabulated : {tokens : ℕ} {before after : List ℕ} {r : Bool} → length w ≤ maxTabularTokens → maxSpanWords ≤ length before → tokens ≡ length w
-      → after ≡ writtenSpans chart (z .nonterminals) tokens before → r ≡ hasPlace (getD chart tokens 0) 0 → Tabulated words w before r after
+  pub tabulated : {tokens : ℕ} {before after : List ℕ} {r : Answer} → length w ≤ maxTabularTokens → maxSpanWords ≤ length before → tokens ≡ length w
+      → after ≡ writtenSpans chart (z .nonterminals) tokens before → r ≡ chartVerdict chart tokens → Tabulated words w before r after
+  unfolding chartVerdict tabularVerdict
   tabulated {tokens} {before} {after} short room n m e = record {
-    verdict = verdict-right (rw n at e ∙ has-place (getD chart (length w) 0) 0 (omega arith));
+    verdict = (rw n at e) ∙ rw (lt-ltb (length w) maxTabularPlaces (omega arith))
+        (ap told (verdict-right (has-place (getD chart (length w) 0) 0 (omega arith))));
     memory = were-written chart (z .nonterminals) (length w) before short room (rw n at m) ∙ ap (_++ drop (spanCount (length w)) before)
         (words-cong (length w) (spanWord chart (z .nonterminals)) (solutionWord (grammarOf words) w) (word-right short));
   }

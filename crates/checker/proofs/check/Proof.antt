@@ -24,7 +24,7 @@ same-length c = search needs
 returns-2 : tie.Need-returns-2
 returns-2 c =
     let lent = c .before .before .before in
-    let found = lent .before .before in
+    let found = lent .before .before .before .before .before .before in
     let long = found .before in
     let given = long .before .before .before .args in
     checks-found One (given .words .now) (given .table .now) (long .if1 .left) (found .find .ensures) (lent .lend .ensures) (c .answer .ensures)

@@ -1,11 +1,11 @@
 -- The element of a column, and the column of the lookahead string at a place.
-use mathlib.Core.List.{List}
+use mathlib.Core.List.{List, [], _∷_}
 use Prim.Native.Nat.{ℕ}
 use lib.Dec.{eqb}
 use Rattle.base.specs.Choice.{choose}
 use Rattle.lookahead.specs.declared.Lookahead.{Lookahead}
 use Rattle.lookahead.specs.declared.Lookahead.the-variants.{One, Two}
-use Rattle.lookahead.specs.Lookaheads.{tokens, nothing}
+use Rattle.lookahead.specs.Lookaheads.{tokens, nothing, elementOf}
 use Rattle.base.specs.Strings.{look}
 use Rattle.columns.specs.Columns.{columnOf}
 
@@ -13,6 +13,11 @@ use Rattle.columns.specs.Columns.{columnOf}
 unfoldable pub columnElement : Lookahead → ℕ → ℕ → ℕ
 columnElement One terminals c = choose (eqb c terminals) (nothing One) c
 columnElement Two terminals c = c
+
+-- the column of a token that another follows
+unfoldable pub columnBefore : Lookahead → ℕ → ℕ → ℕ
+columnBefore One a b = a
+columnBefore Two a b = elementOf Two (a ∷ b ∷ [])
 
 -- the column of the lookahead string at a place, for n terminals
 unfoldable pub columnAt : Lookahead → ℕ → List ℕ → ℕ → ℕ

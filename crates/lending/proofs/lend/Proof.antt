@@ -11,10 +11,11 @@ use Rattle.lending.proofs.lend.Statement.{statement}
 use Rattle.lending.proofs.lend.Tie as tie
 
 abbrev Inv-loop : tie.InvT-loop
-Inv-loop table₀ count words copied₀ table copied = (copied ≤ count) × (length table ≡ length table₀) × (table ≡ front words copied table₀)
+Inv-loop firsts follows entries table₀ count words copied₀ table copied =
+    (copied ≤ count) × (length table ≡ length table₀) × (table ≡ front words copied table₀)
 
 abbrev μ-loop : tie.MeasureT-loop
-μ-loop table₀ count words copied₀ table copied = count - copied
+μ-loop firsts follows entries table₀ count words copied₀ table copied = count - copied
 
 lent-sizes-requires : tie.Need-lent-sizes-requires Inv-loop μ-loop
 lent-sizes-requires c κs = search needs
@@ -27,13 +28,13 @@ returns c =
     let counted = c .before in
     let sized = counted .before in
     let start = sized .before .before in
-    let found = start .args .t1 in
+    let given = start .args in
     let short = rw (counted .word-count .ensures, sized .lent-sizes .ensures) at (c .if1 .taken) in
-    lent-short One _ (found .firsts) (found .follows) (found .entries) (start .args .table .now) short
+    lent-short One _ (given .firsts .now) (given .follows .now) (given .entries .now) (given .table .now) short
 
 lay-out-requires : tie.Need-lay-out-requires Inv-loop μ-loop
 lay-out-requires c κs =
-    let at-lent-sizes = c .before .before .before .before .before .before .before in
+    let at-lent-sizes = c .before .before .before in
     (lent-given _ (at-lent-sizes .lent-sizes .ensures), refl)
 
 loop-holds : tie.Need-loop-holds Inv-loop μ-loop
@@ -41,31 +42,31 @@ loop-holds c = (omega arith, refl, refl)
 
 mul-table : tie.Need-mul-table Inv-loop μ-loop
 mul-table c =
-    let room = c .before .before .before .before .before .before .before .before in
+    let room = c .before .before .before .before in
     let counted = room .before in
     omega (arith, counted .word-count .ensures, count-room One _ (lent-given _ (counted .before .lent-sizes .ensures)))
 
 array-read-table : tie.Need-array-read-table Inv-loop μ-loop
 array-read-table c =
-    let room = c .before .before .before .before .before .before .before .before in
+    let room = c .before .before .before .before in
     let counted = room .before in
     omega (arith, counted .word-count .ensures, count-room One _ (lent-given _ (counted .before .lent-sizes .ensures)))
 
 mul-table-2 : tie.Need-mul-table-2 Inv-loop μ-loop
 mul-table-2 c =
-    let room = c .before .before .before .before .before .before .before .before in
+    let room = c .before .before .before .before in
     let counted = room .before in
     omega (arith, counted .word-count .ensures, count-room One _ (lent-given _ (counted .before .lent-sizes .ensures)))
 
 slice-write-table : tie.Need-slice-write-table Inv-loop μ-loop
 slice-write-table c =
     let loop = c .before in
-    let room = loop .before .before .before .before .before .before .before in
+    let room = loop .before .before .before in
     omega (arith, room .if1 .left, loop .loop .inv .1)
 
 add-copied : tie.Need-add-copied Inv-loop μ-loop
 add-copied c =
-    let room = c .before .before .before .before .before .before .before .before in
+    let room = c .before .before .before .before in
     let counted = room .before in
     omega (arith, counted .word-count .ensures, count-room One _ (lent-given _ (counted .before .lent-sizes .ensures)))
 
@@ -76,7 +77,7 @@ loop-again : tie.Need-loop-again Inv-loop μ-loop
 loop-again c =
     let loop = c .before in
     let laid = loop .before in
-    let room = laid .before .before .before .before .before .before in
+    let room = laid .before .before in
     let counted = room .before in
     let start = counted .before .before .before in (
       omega arith,
@@ -92,14 +93,14 @@ returns-2 : tie.Need-returns-2 Inv-loop μ-loop
 returns-2 c =
     let loop = c .before in
     let laid = loop .before in
-    let room = laid .before .before .before .before .before .before in
+    let room = laid .before .before in
     let counted = room .before in
     let sized = counted .before in
     let start = sized .before .before in
-    let found = start .args .t1 in
+    let given = start .args in
     rw (← sized .lent-sizes .ensures)
-    (lent-copied _ (found .firsts) (found .follows) (found .entries) (loop .loop .inv .0) (c .loop-test .left) (start .args .table .now) (room .if1 .left)
-    (counted .word-count .ensures) (laid .lay-out .ensures) (loop .loop .inv .2))
+    (lent-copied _ (given .firsts .now) (given .follows .now) (given .entries .now) (loop .loop .inv .0) (c .loop-test .left) (given .table .now)
+    (room .if1 .left) (counted .word-count .ensures) (laid .lay-out .ensures) (loop .loop .inv .2))
 
 pub lend-spec : {M : Type 1} → statement M
 lend-spec =

@@ -13,13 +13,13 @@ use Rattle.lending.proofs.lend_two.Statement.{statement}
 use Rattle.lending.proofs.lend_two.Tie as tie
 
 abbrev Inv-loop : tie.InvT-loop
-Inv-loop table₀ found nonterminals count at₀ table at =
+Inv-loop firsts follows entries table₀ nonterminals count at₀ table at =
     (at ≤ count)
     × (length table ≡ length table₀)
-    × (table ≡ front (listed count (tableWordAt nonterminals (found .firsts) (found .follows) (found .entries))) at table₀)
+    × (table ≡ front (listed count (tableWordAt nonterminals firsts follows entries)) at table₀)
 
 abbrev μ-loop : tie.MeasureT-loop
-μ-loop table₀ found nonterminals count at₀ table at = count - at
+μ-loop firsts follows entries table₀ nonterminals count at₀ table at = count - at
 
 lent-sizes-requires : tie.Need-lent-sizes-requires Inv-loop μ-loop
 lent-sizes-requires c κs = search needs
@@ -35,33 +35,33 @@ returns c =
     let counted = c .before in
     let sized = counted .before .before in
     let start = sized .before .before in
-    let found = start .args .t1 in
+    let given = start .args in
     let short = rw (counted .word-count .ensures, sized .lent-sizes .ensures) at (c .if1 .taken) in
-    lent-short Two _ (found .firsts) (found .follows) (found .entries) (start .args .table .now) short
+    lent-short Two _ (given .firsts .now) (given .follows .now) (given .entries .now) (given .table .now) short
 
 loop-holds : tie.Need-loop-holds Inv-loop μ-loop
 loop-holds c = (omega arith, refl, refl)
 
 word-requires : tie.Need-word-requires Inv-loop μ-loop
 word-requires c κs =
-    let loop = c .before .before .before .before .before in
+    let loop = c .before in
     let counted = loop .before .before in
     let given = lent-given _ (counted .before .before .lent-sizes .ensures) in
     (given .fewNonterminals, omega (arith, counted .word-count .ensures, given .fewNonterminals))
 
 mul-table : tie.Need-mul-table Inv-loop μ-loop
 mul-table c =
-    let loop = c .before .before .before .before .before .before in
+    let loop = c .before .before in
     omega (arith, loop .before .if1 .left, loop .loop .inv .1)
 
 slice-write-table : tie.Need-slice-write-table Inv-loop μ-loop
 slice-write-table c =
-    let loop = c .before .before .before .before .before .before in
+    let loop = c .before .before in
     omega (arith, loop .before .if1 .left, loop .loop .inv .1)
 
 add-at : tie.Need-add-at Inv-loop μ-loop
 add-at c =
-    let loop = c .before .before .before .before .before .before in
+    let loop = c .before .before in
     omega (arith, loop .before .if1 .left, loop .loop .inv .1)
 
 loop-less : tie.Need-loop-less Inv-loop μ-loop
@@ -69,7 +69,7 @@ loop-less c = omega arith
 
 loop-again : tie.Need-loop-again Inv-loop μ-loop
 loop-again c =
-    let at-loop-test = c .before .before .before .before .before in
+    let at-loop-test = c .before in
     let loop = at-loop-test .before in
     let at-if1 = loop .before in (
       omega arith,
@@ -86,10 +86,10 @@ returns-2 c =
     let counted = loop .before .before in
     let sized = counted .before .before in
     let start = sized .before .before in
-    let found = start .args .t1 in
+    let given = start .args in
     rw (← sized .lent-sizes .ensures)
-    (lent-written _ (found .firsts) (found .follows) (found .entries) (loop .loop .inv .0) (c .loop-test .left)
-    (start .args .table .now) (loop .before .if1 .left)
+    (lent-written _ (given .firsts .now) (given .follows .now) (given .entries .now) (loop .loop .inv .0) (c .loop-test .left)
+    (given .table .now) (loop .before .if1 .left)
     (counted .word-count .ensures) (loop .loop .inv .2))
 
 pub lend-two-spec : {M : Type 1} → statement M

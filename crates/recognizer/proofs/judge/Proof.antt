@@ -29,7 +29,7 @@ same-length-2 c = search needs
 returns-2 : tie.Need-returns-2
 returns-2 c =
     let lent = c .before .before in
-    let judged = lent .before .before .before .before .before in
+    let judged = lent .before .before .before .before .before .before .before .before .before in
     let long = judged .before .before in
     let start = long .before .before .before .before .before in
     let given = start .args in

@@ -29,6 +29,16 @@ enum-known-finding c = search needs
 refused-requires-2 : tie.Need-refused-requires-2
 refused-requires-2 c κs = search needs
 
+returns-2 : tie.Need-returns-2
+returns-2 c =
+    let refused = c .before .before in
+    let looked = refused .before .before in
+    let analyzed = looked .before in
+    let room = analyzed .before in
+    let given = room .before .before .before .before .args in
+    words-found-refused (given .lookahead) (given .words .now) (inputOf (given .events .now)) (given .memo .now) (room .if1 .left) (analyzed .find .ensures)
+    (looked .with-input .ensures) (refused .finding .given .1) (c .refused2 .ensures)
+
 enum-known-finding-2 : tie.Need-enum-known-finding-2
 enum-known-finding-2 c = search needs
 
@@ -77,16 +87,6 @@ judge-chosen-requires c κs =
     (looked .with-input .ensures) (passed .finding2 .given .1) in
     judge-given (given .events .now) found (sized .entries-of .ensures) (sized .before .table-choices .ensures)
 
-returns-2 : tie.Need-returns-2
-returns-2 c =
-    let refused = c .before .before in
-    let looked = refused .before .before in
-    let analyzed = looked .before in
-    let room = analyzed .before in
-    let given = room .before .before .before .before .args in
-    words-found-refused (given .lookahead) (given .words .now) (inputOf (given .events .now)) (given .memo .now) (room .if1 .left) (analyzed .find .ensures)
-    (looked .with-input .ensures) (refused .finding .given .1) (c .refused2 .ensures)
-
 same-length : tie.Need-same-length
 same-length c = search needs
 
@@ -116,12 +116,12 @@ judge-words-spec =
     with-input-requires
     enum-known-finding
     refused-requires-2
+    returns-2
     enum-known-finding-2
     table-choices-requires
     entries-of-requires
     slice-relend-prefix-judge-chosen
     slice-aggregate-judge-chosen
     judge-chosen-requires
-    returns-2
     same-length
     returns-3)

@@ -32,7 +32,7 @@ unfolding blankTable
 returns c =
     let at-put-check = c .before .before in
     let at-lend = at-put-check .before .before .before .before in
-    let at-find = at-lend .before .before in
+    let at-find = at-lend .before .before .before .before .before .before in
     put-checked-text _ (length-replicate {A = ℕ} maxTableWords noEntry) (at-find .find .ensures) (at-lend .lend .ensures) (at-put-check .put-check .ensures)
 
 pub put-checked-spec : {M : Type 1} → statement M

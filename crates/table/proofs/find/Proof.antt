@@ -8,11 +8,16 @@ use Rattle.table.proofs.find.Tie as tie
 analyze-requires : tie.Need-analyze-requires
 analyze-requires c κs = search needs
 
+enum-known-finding : tie.Need-enum-known-finding
+enum-known-finding c = search needs
+
 enum-told : tie.Need-enum-told
 enum-told c = search needs
 
-enum-known-finding : tie.Need-enum-known-finding
-enum-known-finding c = search needs
+returns : tie.Need-returns
+returns c =
+    let at-analyze = c .before .before .before .before .before in
+    found-refused _ _ (at-analyze .analyze .ensures) (c .enum-told .given .1)
 
 first-conflict-requires : tie.Need-first-conflict-requires
 first-conflict-requires c κs =
@@ -24,9 +29,6 @@ first-conflict-requires c κs =
 enum-known-conflict : tie.Need-enum-known-conflict
 enum-known-conflict c = search needs
 
-conflict-error-requires : tie.Need-conflict-error-requires
-conflict-error-requires c κs = search needs
-
 enum-told-2 : tie.Need-enum-told-2
 enum-told-2 c = search needs
 
@@ -37,22 +39,8 @@ rows-requires c κs =
     let found = claims-told _ _ (at-analyze .analyze .ensures) (at-finding .finding .given .1) in
     record { headed = headed found; fewTerminals = sizes-few found }
 
-returns : tie.Need-returns
-returns c =
-    let at-analyze = c .before .before .before .before .before in
-    found-refused _ _ (at-analyze .analyze .ensures) (c .enum-told .given .1)
-
 returns-2 : tie.Need-returns-2
 returns-2 c =
-    let at-conflict = c .before .before in
-    let at-first-conflict = at-conflict .before .before in
-    let at-finding = at-first-conflict .before .before .before .before .before .before in
-    let at-analyze = at-finding .before .before .before .before .before in
-    let found = claims-told _ _ (at-analyze .analyze .ensures) (at-finding .finding .given .1) in
-    found-clash found (at-first-conflict .first-conflict .ensures) (at-conflict .conflict .given .1) (c .conflict-error .ensures)
-
-returns-3 : tie.Need-returns-3
-returns-3 c =
     let at-enum-told2 = c .before .before .before .before in
     let at-first-conflict = at-enum-told2 .before .before in
     let at-finding = at-first-conflict .before .before .before .before .before .before in
@@ -60,18 +48,30 @@ returns-3 c =
     let found = claims-told _ _ (at-analyze .analyze .ensures) (at-finding .finding .given .1) in
     found-passed found (at-first-conflict .first-conflict .ensures) (at-enum-told2 .enum-told2 .given .1) (c .rows .ensures)
 
+conflict-error-requires : tie.Need-conflict-error-requires
+conflict-error-requires c κs = search needs
+
+returns-3 : tie.Need-returns-3
+returns-3 c =
+    let at-conflict = c .before .before in
+    let at-first-conflict = at-conflict .before .before in
+    let at-finding = at-first-conflict .before .before .before .before .before .before in
+    let at-analyze = at-finding .before .before .before .before .before in
+    let found = claims-told _ _ (at-analyze .analyze .ensures) (at-finding .finding .given .1) in
+    found-clash found (at-first-conflict .first-conflict .ensures) (at-conflict .conflict .given .1) (c .conflict-error .ensures)
+
 pub find-spec : {M : Type 1} → statement M
 find-spec =
     tie.close
     (tie.spec
     analyze-requires
-    enum-told
     enum-known-finding
+    enum-told
+    returns
     first-conflict-requires
     enum-known-conflict
-    conflict-error-requires
     enum-told-2
     rows-requires
-    returns
     returns-2
+    conflict-error-requires
     returns-3)

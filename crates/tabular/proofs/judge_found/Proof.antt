@@ -15,9 +15,6 @@ tabulate-requires c κs =
     let start = at-finding .before .before .before .before .before in
     tabulate-given (start .pre) (at-finding .finding2 .given .1)
 
-verdict-requires : tie.Need-verdict-requires
-verdict-requires c κs = tt
-
 returns : tie.Need-returns
 returns c =
     let at-finding = c .before in
@@ -25,14 +22,14 @@ returns c =
     judge-found-refused (start .pre) (at-finding .finding .given .1)
 
 same-length : tie.Need-same-length
-same-length c = c .before .before .spans .given
+same-length c = c .before .spans .given
 
 returns-2 : tie.Need-returns-2
 returns-2 c =
-    let at-tabulate = c .before .before .before in
+    let at-tabulate = c .before .before in
     let at-finding = at-tabulate .before .before .before in
     let start = at-finding .before .before .before .before .before in
-    judge-done (start .pre) (at-finding .finding2 .given .1) (at-tabulate .tabulate .ensures) (c .verdict .ensures)
+    judge-done (start .pre) (at-finding .finding2 .given .1) (at-tabulate .tabulate .ensures)
 
 pub judge-found-spec : {M : Type 1} → statement M
 judge-found-spec =
@@ -41,7 +38,6 @@ judge-found-spec =
     enum-known-finding
     enum-known-finding-2
     tabulate-requires
-    verdict-requires
     returns
     same-length
     returns-2)

@@ -1,6 +1,5 @@
 -- The chart is filled and written out.
 use mathlib.Core.Path.{sym}
-use native.Mathlib.Omega.{arith}
 use Rattle.event.proofs.Inputs.{input-length}
 use Rattle.tabular_promises.proofs.Tabulating.{tabulated}
 use Rattle.tabular.proofs.tabulate.Statement.{statement}
@@ -12,40 +11,21 @@ fill-requires c κs = c .before .before .before .pre .given
 write-requires : tie.Need-write-requires
 write-requires c κs = tt
 
-mul-contains : tie.Need-mul-contains
-mul-contains c =
-    let start = c .before .before .before .before .before .before .before .before .before in
-    omega (arith, start .pre .given .input .short, input-length (start .args .events .now))
-
-array-read-contains : tie.Need-array-read-contains
-array-read-contains c =
-    let start = c .before .before .before .before .before .before .before .before .before in
-    omega (arith, start .pre .given .input .short, input-length (start .args .events .now))
-
-contains-requires : tie.Need-contains-requires
-contains-requires c κs = tt
+verdict-requires : tie.Need-verdict-requires
+verdict-requires c κs = tt
 
 same-length : tie.Need-same-length
-same-length c = c .before .before .spans .given
+same-length c = c .before .before .before .spans .given
 
 returns : tie.Need-returns
 returns c =
-    let at-write = c .before .before .before in
+    let at-write = c .before .before .before .before in
     let at-fill = at-write .before .before .before in
     let start = at-fill .before .before .before .before in
     let given = start .pre .given in
     let length = input-length (start .args .events .now) in
     tabulated (given .rules .read) (at-fill .fill .ensures) (given .input .short) (start .pre .room) (sym length)
-    (at-write .write .ensures) (c .contains .ensures)
+    (at-write .write .ensures) (c .verdict .ensures)
 
 pub tabulate-spec : {M : Type 1} → statement M
-tabulate-spec =
-    tie.close
-    (tie.spec
-    fill-requires
-    write-requires
-    mul-contains
-    array-read-contains
-    contains-requires
-    same-length
-    returns)
+tabulate-spec = tie.close (tie.spec fill-requires write-requires verdict-requires same-length returns)

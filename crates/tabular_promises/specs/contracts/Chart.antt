@@ -6,11 +6,13 @@ use Prim.Native.Nat.{ℕ, zero, suc, _+_, _*_, _-_, _≤_, _<_}
 use lib.Bits.{bitOr}
 use lib.Dec.{T, leb, ltb}
 use lib.ListN.{length, getD}
+use Rattle.answer.specs.declared.Answer.{Answer}
 use Rattle.base.specs.Choice.{choose}
 use Rattle.base.specs.Quantifiers.{anyBelow}
 use Rattle.grammar.specs.Limits.{maxNonterminals, maxTabularPlaces}
 use Rattle.lookahead.specs.Elements.{weight, has, totalWeight}
 use Rattle.semantics.specs.Valuations.{Valuation}
+use Rattle.tabular_promises.specs.Answers.{told}
 use Rattle.tabular_promises.specs.contracts.Places.{hasPlace}
 
 abbrev pub slot : ℕ → ℕ → ℕ
@@ -68,6 +70,10 @@ foundWord chart N start end = totalWeight N (λ A. hasPlace (getD chart (slot A 
 
 unfoldable pub spanWord : List ℕ → ℕ → ℕ → ℕ → ℕ
 spanWord chart N start end = choose (leb N maxNonterminals && ltb end maxTabularPlaces) (foundWord chart N start end) 0
+
+-- the verdict on an input of so many tokens; of more than an input may have, no
+unfoldable pub chartVerdict : List ℕ → ℕ → Answer
+chartVerdict chart tokens = told (ltb tokens maxTabularPlaces && hasPlace (getD chart tokens 0) 0)
 
 -- the chart after it gives a span to the nonterminals of a word, of those below N
 pub record Added (before : List ℕ) (N start end word : ℕ) (after : List ℕ) : Type 0 where

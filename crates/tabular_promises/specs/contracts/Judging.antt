@@ -1,20 +1,20 @@
 -- What the parts of judging by tabulation are given, and what they leave.
 use mathlib.Core.Path.{_≡_}
-use mathlib.Core.Bool.{Bool}
 use mathlib.Core.List.{List}
 use Prim.Native.Nat.{ℕ, _≤_}
 use lib.ListN.{length}
+use Rattle.answer.specs.declared.Answer.{Answer}
 use Rattle.grammar.specs.Limits.{maxTabularTokens, maxSpanWords}
 use Rattle.grammar.specs.Encoding.{grammarOf}
 use Rattle.grammar.specs.declared.reading.Sizes.{Sizes}
 use Rattle.lookahead.specs.declared.Lookahead.the-variants.{One}
-use Rattle.semantics.specs.Valuations.{solution}
 use Rattle.families.specs.declared.Finding.{Finding}
 use Rattle.families.specs.declared.Families.{Families}
 use Rattle.families.specs.contracts.Analysis.{familiesOf}
 use Rattle.promises.specs.contracts.Inputs.{withInputTo}
 use Rattle.tabular_promises.specs.contracts.Filling.{FillGiven}
 use Rattle.tabular_promises.specs.contracts.Spans.{Spans}
+use Rattle.tabular_promises.specs.Answers.{tabularVerdict}
 use Rattle.tabular_promises.specs.Spans.{solutionWord}
 
 pub record TabulateGiven (words starts : List ℕ) (z : Sizes) (reaches w spans : List ℕ) : Type 0 where
@@ -22,8 +22,8 @@ pub record TabulateGiven (words starts : List ℕ) (z : Sizes) (reaches w spans 
   pub room : maxSpanWords ≤ length spans
 
 -- the verdict, and every word of the lent memory
-pub record Tabulated (words w before : List ℕ) (r : Bool) (after : List ℕ) : Type 0 where
-  pub verdict : r ≡ solution (grammarOf words) w 0 0 (length w)
+pub record Tabulated (words w before : List ℕ) (r : Answer) (after : List ℕ) : Type 0 where
+  pub verdict : r ≡ tabularVerdict (grammarOf words) w
   pub memory : Spans (length w) (solutionWord (grammarOf words) w) before after
 
 -- what is found of a grammar and then of an input, and enough words lent

@@ -1,10 +1,11 @@
 -- The loop keeps: the words of the events passed are written, over words of the end.
 use mathlib.Core.Path.{sym, ap, ap₂, _∙_}
-use Prim.Native.Nat.{_-_, _≤_}
+use Prim.Native.Nat.{_+_, _-_, _≤_}
 use native.Mathlib.Omega.{arith}
 use Rattle.event.specs.Events.{inputOf}
 use Rattle.event.proofs.Inputs.{input-length, input-at}
-use Rattle.columns.specs.contracts.Columns.{columnAt}
+use Rattle.columns.specs.contracts.Columns.{columnBefore, columnAt}
+use Rattle.columns.proofs.Columns.{column-inner}
 use Rattle.descent_arrays.specs.contracts.Arrays.{endMark}
 use Rattle.descent_arrays.specs.contracts.Tokens.{tokenWord}
 use Rattle.descent_arrays.proofs.TokenWords.{Written, written-none, written-more, written-all}
@@ -35,61 +36,123 @@ loop-holds c =
     let column = c .before .before .column-at .ensures ∙ ap (columnAt k n (inputOf events)) (sym (input-length events)) in
     (omega arith, written-none k n (inputOf events) (c .before .word-of .ensures ∙ ap (λ x. tokenWord x endMark) column))
 
-column-at-requires-2 : tie.Need-column-at-requires-2 Inv-loop μ-loop
-column-at-requires-2 c κs = tt
+add-loop : tie.Need-add-loop Inv-loop μ-loop
+add-loop c = omega (arith, c .loop .inv .0, c .before .fitting .ensures)
 
 shared-slice-read-event : tie.Need-shared-slice-read-event Inv-loop μ-loop
-shared-slice-read-event c = omega (arith, c .before .before .loop-test .taken, c .before .before .before .before .fitting .ensures)
+shared-slice-read-event c = omega (arith, c .before .loop-test .taken, c .before .before .before .fitting .ensures)
+
+add-next : tie.Need-add-next Inv-loop μ-loop
+add-next c = omega (arith, c .before .loop-test .taken, c .before .before .before .fitting .ensures)
+
+shared-slice-read-next : tie.Need-shared-slice-read-next Inv-loop μ-loop
+shared-slice-read-next c = omega (arith, c .before .before .loop-test .taken, c .before .before .before .before .fitting .ensures)
 
 terminal-of-requires : tie.Need-terminal-of-requires Inv-loop μ-loop
 terminal-of-requires c κs = tt
+
+terminal-of-requires-2 : tie.Need-terminal-of-requires-2 Inv-loop μ-loop
+terminal-of-requires-2 c κs = tt
+
+column-before-requires : tie.Need-column-before-requires Inv-loop μ-loop
+column-before-requires c κs = tt
 
 word-of-requires-2 : tie.Need-word-of-requires-2 Inv-loop μ-loop
 word-of-requires-2 c κs = tt
 
 mul-tokens : tie.Need-mul-tokens Inv-loop μ-loop
 mul-tokens c =
-    let at-loop-test = c .before .before .before .before in
-    let at-fitting = at-loop-test .before .before in
-    omega (arith, at-loop-test .loop-test .taken, at-fitting .fitting .ensures)
+    let turn = c .before .before .before .before .before .before in
+    omega (arith, turn .loop-test .taken, turn .before .before .fitting .ensures)
 
 array-write-tokens : tie.Need-array-write-tokens Inv-loop μ-loop
 array-write-tokens c =
-    let at-loop-test = c .before .before .before .before in
-    let at-fitting = at-loop-test .before .before in
-    omega (arith, at-loop-test .loop-test .taken, at-fitting .fitting .ensures)
+    let turn = c .before .before .before .before .before .before in
+    omega (arith, turn .loop-test .taken, turn .before .before .fitting .ensures)
 
 add-place : tie.Need-add-place Inv-loop μ-loop
 add-place c =
-    let at-loop-test = c .before .before .before .before in
-    let at-fitting = at-loop-test .before .before in
-    omega (arith, at-loop-test .loop-test .taken, at-fitting .fitting .ensures)
+    let turn = c .before .before .before .before .before .before in
+    omega (arith, turn .loop-test .taken, turn .before .before .fitting .ensures)
 
 loop-less : tie.Need-loop-less Inv-loop μ-loop
-loop-less c = omega (arith, c .before .before .before .before .loop-test .taken)
+loop-less c =
+    let turn = c .before .before .before .before .before .before in
+    omega (arith, turn .loop-test .taken)
 
 loop-again : tie.Need-loop-again Inv-loop μ-loop
 loop-again c =
-    let turn = c .before .before .before .before in
+    let at-column = c .before in
+    let at-next = at-column .before in
+    let at-token = at-next .before in
+    let turn = at-token .before .before .before in
     let at-loop = turn .before in
     let start = at-loop .before .before .before .before .before in
+    let k = start .args .lookahead in
+    let n = start .args .terminals in
     let events = start .args .events .now in
     let place = at-loop .loop .place in
     let taken = turn .loop-test .taken in
     let most = at-loop .before .fitting .ensures in
-    let terminal = c .before .terminal-of .ensures ∙ sym (input-at events place) in (
+    let token = at-token .terminal-of .ensures ∙ sym (input-at events place) in
+    let next = at-next .terminal-of2 .ensures ∙ sym (input-at events (place + 1)) in
+    let column =
+    at-column .column-before .ensures
+    ∙ ap₂ (columnBefore k) token next
+    ∙ sym (column-inner k n (inputOf events) place (omega (arith, taken, most, input-length events))) in (
       omega (arith, taken),
-      written-more (start .args .lookahead) (start .args .terminals) (inputOf events) (at-loop .loop .inv .1) (omega (arith, taken, most))
-          (omega (arith, taken, most, input-length events)) (c .word-of2 .ensures ∙ ap₂ tokenWord (c .before .before .before .column-at2 .ensures) terminal),
+      written-more k n (inputOf events) (at-loop .loop .inv .1) (omega (arith, taken, most)) (omega (arith, taken, most, input-length events))
+          (c .word-of2 .ensures ∙ ap₂ tokenWord column token),
     )
 
 returns : tie.Need-returns Inv-loop μ-loop
 returns c =
-    let at-loop = c .before in
+    let at-loop = c .before .before in
     let start = at-loop .before .before .before .before .before in
     let events = start .args .events .now in
     written-all (start .args .lookahead) (start .args .terminals) (inputOf events)
-    (omega (arith, c .loop-test .left, at-loop .loop .inv .0, at-loop .before .fitting .ensures, input-length events)) (at-loop .loop .inv .1)
+    (omega (arith, c .if1 .taken, at-loop .loop .inv .0, at-loop .before .fitting .ensures, input-length events)) (at-loop .loop .inv .1)
+
+shared-slice-read-last : tie.Need-shared-slice-read-last Inv-loop μ-loop
+shared-slice-read-last c = omega (arith, c .before .if1 .left, c .before .before .before .before .fitting .ensures)
+
+column-at-requires-2 : tie.Need-column-at-requires-2 Inv-loop μ-loop
+column-at-requires-2 c κs = tt
+
+terminal-of-requires-3 : tie.Need-terminal-of-requires-3 Inv-loop μ-loop
+terminal-of-requires-3 c κs = tt
+
+word-of-requires-3 : tie.Need-word-of-requires-3 Inv-loop μ-loop
+word-of-requires-3 c κs = tt
+
+mul-tokens-2 : tie.Need-mul-tokens-2 Inv-loop μ-loop
+mul-tokens-2 c =
+    let going = c .before .before .before .before in
+    omega (arith, going .if1 .left, going .before .before .before .fitting .ensures)
+
+array-write-tokens-2 : tie.Need-array-write-tokens-2 Inv-loop μ-loop
+array-write-tokens-2 c =
+    let going = c .before .before .before .before in
+    omega (arith, going .if1 .left, going .before .before .before .fitting .ensures)
+
+returns-2 : tie.Need-returns-2 Inv-loop μ-loop
+returns-2 c =
+    let at-token = c .before in
+    let at-column = at-token .before in
+    let going = at-column .before .before in
+    let ended = going .before in
+    let at-loop = ended .before in
+    let start = at-loop .before .before .before .before .before in
+    let k = start .args .lookahead in
+    let n = start .args .terminals in
+    let events = start .args .events .now in
+    let place = at-loop .loop .place in
+    let left = going .if1 .left in
+    let most = at-loop .before .fitting .ensures in
+    let token = at-token .terminal-of3 .ensures ∙ sym (input-at events place) in
+    written-all k n (inputOf events) (omega (arith, left, ended .loop-test .left, most, input-length events))
+    (written-more k n (inputOf events) (at-loop .loop .inv .1) (omega (arith, left, most)) (omega (arith, left, most, input-length events))
+    (c .word-of3 .ensures ∙ ap₂ tokenWord (at-column .column-at2 .ensures) token))
 
 pub tokens-of-spec : {M : Type 1} → statement M
 tokens-of-spec =
@@ -101,13 +164,24 @@ tokens-of-spec =
     word-of-requires
     fitting-requires
     loop-holds
-    column-at-requires-2
+    add-loop
     shared-slice-read-event
+    add-next
+    shared-slice-read-next
     terminal-of-requires
+    terminal-of-requires-2
+    column-before-requires
     word-of-requires-2
     mul-tokens
     array-write-tokens
     add-place
     loop-less
     loop-again
-    returns)
+    returns
+    shared-slice-read-last
+    column-at-requires-2
+    terminal-of-requires-3
+    word-of-requires-3
+    mul-tokens-2
+    array-write-tokens-2
+    returns-2)
