@@ -13,7 +13,7 @@ use Rattle.lookahead.specs.contracts.Lookaheads.{alphabet}
 use Rattle.base.specs.Strings.{look, Over, Lookahead as Looked}
 use Rattle.base.proofs.Strings.{all-take, all-drop, take-short}
 use Rattle.columns.specs.Columns.{columnCount, columnString, columnOf}
-use Rattle.columns.specs.contracts.Columns.{columnBefore, columnAt}
+use Rattle.columns.specs.contracts.Columns.{columnBefore, columnLast, columnEnd, columnAt}
 use Rattle.columns.proofs.ColumnStrings.{column-in, string-column}
 
 module _ (n : ℕ) (w : List ℕ) (i : ℕ) where
@@ -27,11 +27,11 @@ module _ (n : ℕ) (w : List ℕ) (i : ℕ) where
   one-left h = rw (drop-cons w i 0 h)
 
   -- one token
-  pub one-token : i < length w → columnAt One n w i ≡ getD w i 0
+  one-token : i < length w → columnAt One n w i ≡ getD w i 0
   unfolding columnAt
   one-token h = ap (columnOf One n) (one-left h)
 
-  pub one-end : length w ≤ i → columnAt One n w i ≡ n
+  one-end : length w ≤ i → columnAt One n w i ≡ n
   unfolding columnAt
   one-end h = ap (columnOf One n) (none-left 1 h)
 
@@ -40,11 +40,11 @@ module _ (n : ℕ) (w : List ℕ) (i : ℕ) where
   unfolding columnAt look
   two-pair h = rw (drop-cons w i 0 (omega arith), drop-cons w (suc i) 0 (omega arith), add-one i)
 
-  pub two-last : i < length w → length w ≤ i + 1 → columnAt Two n w i ≡ 1 + getD w i 0
+  two-last : i < length w → length w ≤ i + 1 → columnAt Two n w i ≡ 1 + getD w i 0
   unfolding columnAt look
   two-last h l = let past : length w ≤ suc i = omega arith in rw (drop-cons w i 0 h, drop-of-length-le w past)
 
-  pub two-end : length w ≤ i → columnAt Two n w i ≡ 0
+  two-end : length w ≤ i → columnAt Two n w i ≡ 0
   unfolding columnAt
   two-end h = ap (columnOf Two n) (none-left 2 h)
 
@@ -53,6 +53,18 @@ pub column-inner : (k : Lookahead) (n : ℕ) (w : List ℕ) (i : ℕ) → i + 1 
 unfolding columnBefore
 column-inner One n w i h = one-token n w i (omega arith)
 column-inner Two n w i h = two-pair n w i h
+
+-- of one that none follows
+pub column-last : (k : Lookahead) (n : ℕ) (w : List ℕ) (i : ℕ) → i < length w → length w ≤ i + 1 → columnAt k n w i ≡ columnLast k (getD w i 0)
+unfolding columnLast
+column-last One n w i h l = one-token n w i h
+column-last Two n w i h l = two-last n w i h l
+
+-- and of the end
+pub column-end : (k : Lookahead) (n : ℕ) (w : List ℕ) (i : ℕ) → length w ≤ i → columnAt k n w i ≡ columnEnd k n
+unfolding columnEnd
+column-end One n w i h = one-end n w i h
+column-end Two n w i h = two-end n w i h
 
 -- what is looked at are terminals
 looked : (k n : ℕ) (w : List ℕ) (i : ℕ) → Over n w → Looked k n (look k w i)

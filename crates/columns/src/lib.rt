@@ -2,9 +2,8 @@
 // column for the lookahead string at a place of an input.
 ghost use mathlib.Core.Path.{_≡_};
 ghost use Rattle.event.specs.Events.{inputOf};
-ghost use Rattle.lookahead.specs.declared.Lookahead.the-variants.{One, Two};
 ghost use Rattle.columns.specs.Columns.{columnCount};
-ghost use Rattle.columns.specs.contracts.Columns.{columnElement, columnBefore, columnAt};
+ghost use Rattle.columns.specs.contracts.Columns.{columnElement, columnBefore, columnLast, columnEnd, columnAt};
 use event::terminal_of;
 use grammar::limits::COLUMNS_OF_TWO;
 use grammar::limits::TERMINALS_OF_TWO;
@@ -46,39 +45,38 @@ pub fn column_before(lookahead: Lookahead, token: u8, next: u8) -> u32
     }
 }
 
-// The column of the token at a place, or of the end.
-fn column_of_one(events: &[u8], terminals: u32, place: usize) -> u32
-    ensures { λ r. ⌜ r ≡ columnAt One terminals (inputOf (now (events .entry))) place ⌝ }
+// The column of a token that none follows.
+pub fn column_last(lookahead: Lookahead, token: u8) -> u32
+    ensures { λ r. ⌜ r ≡ columnLast lookahead token ⌝ }
 {
-    if events.len() <= place {
-        return terminals;
+    match lookahead {
+        Lookahead::One => token as u32,
+        Lookahead::Two => LAST + token as u32,
     }
-    let event = events[place];
-    terminal_of(event) as u32
 }
 
-// The column of the two tokens from a place on, of the last token, or of the end.
-fn column_of_two(events: &[u8], terminals: u32, place: usize) -> u32
-    ensures { λ r. ⌜ r ≡ columnAt Two terminals (inputOf (now (events .entry))) place ⌝ }
+// The column of the end.
+pub fn column_end(lookahead: Lookahead, terminals: u32) -> u32
+    ensures { λ r. ⌜ r ≡ columnEnd lookahead terminals ⌝ }
 {
-    if events.len() <= place {
-        return 0;
+    match lookahead {
+        Lookahead::One => terminals,
+        Lookahead::Two => 0,
     }
-    let event = events[place];
-    let token = terminal_of(event);
-    if events.len() <= place + 1 {
-        return LAST + token as u32;
-    }
-    let next = events[place + 1];
-    column_before(Lookahead::Two, token, terminal_of(next))
 }
 
 // The column of the lookahead string at a place.
 pub fn column_at(events: &[u8], lookahead: Lookahead, terminals: u32, place: usize) -> u32
     ensures { λ r. ⌜ r ≡ columnAt lookahead terminals (inputOf (now (events .entry))) place ⌝ }
 {
-    match lookahead {
-        Lookahead::One => column_of_one(events, terminals, place),
-        Lookahead::Two => column_of_two(events, terminals, place),
+    if events.len() <= place {
+        return column_end(lookahead, terminals);
     }
+    let event = events[place];
+    let token = terminal_of(event);
+    if events.len() <= place + 1 {
+        return column_last(lookahead, token);
+    }
+    let next = events[place + 1];
+    column_before(lookahead, token, terminal_of(next))
 }

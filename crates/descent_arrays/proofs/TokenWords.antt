@@ -15,7 +15,7 @@ use Rattle.lookahead.specs.declared.Lookahead.the-variants.{One, Two}
 use Rattle.lookahead.specs.contracts.Lookaheads.{alphabet}
 use Rattle.base.proofs.Lists.{listed-long, listed-at}
 use Rattle.columns.specs.contracts.Columns.{columnAt}
-use Rattle.columns.proofs.Columns.{one-end, two-end, column-right}
+use Rattle.columns.proofs.Columns.{column-end, column-right}
 use Rattle.columns.proofs.ColumnStrings.{column-count}
 use Rattle.descent_arrays.specs.contracts.Arrays.{endColumn, endMark, columnWeight, heldTokens}
 use Rattle.descent_arrays.specs.contracts.Tokens.{tokenWord, markAt, tokensOf}
@@ -36,8 +36,7 @@ pub record Written (k : Lookahead) (n : ℕ) (w : List ℕ) (at : ℕ) (tokens :
 
 -- behind the last token all places have the same column
 column-past : (k : Lookahead) (n : ℕ) (w : List ℕ) (i : ℕ) → length w ≤ i → columnAt k n w i ≡ columnAt k n w (length w)
-column-past One n w i h = one-end n w i h ∙ sym (one-end n w (length w) (omega arith))
-column-past Two n w i h = two-end n w i h ∙ sym (two-end n w (length w) (omega arith))
+column-past k n w i h = column-end k n w i h ∙ sym (column-end k n w (length w) (omega arith))
 
 module _ (k : Lookahead) (n : ℕ) (w : List ℕ) where
   token-past : (i : ℕ) → length w ≤ i → tokenAt k n w i ≡ endWord k n w

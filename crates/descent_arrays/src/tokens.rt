@@ -5,8 +5,9 @@ ghost use Rattle.descent_arrays.specs.contracts.Tokens.{tokenWord, token
 use super::arrays::COLUMN_WEIGHT;
 use super::arrays::END_MARK;
 use super::arrays::fitting;
-use columns::column_at;
 use columns::column_before;
+use columns::column_end;
+use columns::column_last;
 use event::terminal_of;
 use grammar::limits::PLACES;
 use lookahead::Lookahead;
@@ -23,12 +24,9 @@ fn word_of(column: u32, mark: u8) -> u16
 pub fn tokens_of(events: &[u8], lookahead: Lookahead, terminals: u32) -> [u16; PLACES]
     ensures { λ r. ⌜ r ≡ tokensOf lookahead terminals (inputOf (now (events .entry))) ⌝ }
 {
-    let end = word_of(
-        column_at(events, lookahead, terminals, events.len()),
-        END_MARK,
-    );
+    let end = word_of(column_end(lookahead, terminals), END_MARK);
     let mut tokens = [end; PLACES];
-    let count = fitting(events.len(), PLACES);
+    let count = fitting(events.len(), PLACES + 1);
     let mut place = 0;
     while place + 1 < count {
         let event = events[place];
@@ -38,11 +36,11 @@ pub fn tokens_of(events: &[u8], lookahead: Lookahead, terminals: u32) -> [u16; P
         tokens[place] = word_of(column, terminal);
         place = place + 1;
     }
-    if count <= place {
+    if fitting(count, PLACES) <= place {
         return tokens;
     }
     let last = events[place];
-    let column = column_at(events, lookahead, terminals, place);
-    tokens[place] = word_of(column, terminal_of(last));
+    let terminal = terminal_of(last);
+    tokens[place] = word_of(column_last(lookahead, terminal), terminal);
     tokens
 }

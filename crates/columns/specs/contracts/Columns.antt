@@ -19,6 +19,16 @@ unfoldable pub columnBefore : Lookahead → ℕ → ℕ → ℕ
 columnBefore One a b = a
 columnBefore Two a b = elementOf Two (a ∷ b ∷ [])
 
+-- of one that none follows
+unfoldable pub columnLast : Lookahead → ℕ → ℕ
+columnLast One a = a
+columnLast Two a = elementOf Two (a ∷ [])
+
+-- and of the end, for n terminals
+unfoldable pub columnEnd : Lookahead → ℕ → ℕ
+columnEnd One n = n
+columnEnd Two n = elementOf Two []
+
 -- the column of the lookahead string at a place, for n terminals
 unfoldable pub columnAt : Lookahead → ℕ → List ℕ → ℕ → ℕ
 columnAt k n w i = columnOf k n (look (tokens k) w i)

@@ -1,11 +1,13 @@
 -- The loop keeps: the words of the events passed are written, over words of the end.
 use mathlib.Core.Path.{sym, ap, ap₂, _∙_}
-use Prim.Native.Nat.{_+_, _-_, _≤_}
+use Prim.Native.Nat.{_+_, _-_, _≤_, min}
 use native.Mathlib.Omega.{arith}
+use lib.ListN.{length}
+use Rattle.grammar.specs.Limits.{maxPlaces}
 use Rattle.event.specs.Events.{inputOf}
 use Rattle.event.proofs.Inputs.{input-length, input-at}
-use Rattle.columns.specs.contracts.Columns.{columnBefore, columnAt}
-use Rattle.columns.proofs.Columns.{column-inner}
+use Rattle.columns.specs.contracts.Columns.{columnBefore, columnLast}
+use Rattle.columns.proofs.Columns.{column-inner, column-last, column-end}
 use Rattle.descent_arrays.specs.contracts.Arrays.{endMark}
 use Rattle.descent_arrays.specs.contracts.Tokens.{tokenWord}
 use Rattle.descent_arrays.proofs.TokenWords.{Written, written-none, written-more, written-all}
@@ -13,16 +15,20 @@ use Rattle.descent_arrays.proofs.tokens.tokens_of.Statement.{statement}
 use Rattle.descent_arrays.proofs.tokens.tokens_of.Tie as tie
 
 abbrev Inv-loop : tie.InvT-loop
-Inv-loop events lookahead terminals end tokens₀ count place₀ tokens place = (place ≤ count) × Written lookahead terminals (inputOf events) place tokens
+Inv-loop events lookahead terminals end tokens₀ count place₀ tokens place =
+    (place ≤ min count maxPlaces) × Written lookahead terminals (inputOf events) place tokens
 
 abbrev μ-loop : tie.MeasureT-loop
 μ-loop events lookahead terminals end tokens₀ count place₀ tokens place = count - place
 
-column-at-requires : tie.Need-column-at-requires Inv-loop μ-loop
-column-at-requires c κs = tt
+column-end-requires : tie.Need-column-end-requires Inv-loop μ-loop
+column-end-requires c κs = tt
 
 word-of-requires : tie.Need-word-of-requires Inv-loop μ-loop
 word-of-requires c κs = tt
+
+add-fitting : tie.Need-add-fitting Inv-loop μ-loop
+add-fitting c = omega arith
 
 fitting-requires : tie.Need-fitting-requires Inv-loop μ-loop
 fitting-requires c κs = tt
@@ -32,9 +38,9 @@ loop-holds c =
     let start = c .before .before .before .before in
     let k = start .args .lookahead in
     let n = start .args .terminals in
-    let events = start .args .events .now in
-    let column = c .before .before .column-at .ensures ∙ ap (columnAt k n (inputOf events)) (sym (input-length events)) in
-    (omega arith, written-none k n (inputOf events) (c .before .word-of .ensures ∙ ap (λ x. tokenWord x endMark) column))
+    let input = inputOf (start .args .events .now) in
+    let column = c .before .before .column-end .ensures ∙ sym (column-end k n input (length input) (omega arith)) in
+    (omega arith, written-none k n input (c .before .word-of .ensures ∙ ap (λ x. tokenWord x endMark) column))
 
 add-loop : tie.Need-add-loop Inv-loop μ-loop
 add-loop c = omega (arith, c .loop .inv .0, c .before .fitting .ensures)
@@ -105,22 +111,28 @@ loop-again c =
           (c .word-of2 .ensures ∙ ap₂ tokenWord column token),
     )
 
+fitting-requires-2 : tie.Need-fitting-requires-2 Inv-loop μ-loop
+fitting-requires-2 c κs = tt
+
 returns : tie.Need-returns Inv-loop μ-loop
 returns c =
-    let at-loop = c .before .before in
+    let fitted = c .before in
+    let at-loop = fitted .before .before in
     let start = at-loop .before .before .before .before .before in
     let events = start .args .events .now in
     written-all (start .args .lookahead) (start .args .terminals) (inputOf events)
-    (omega (arith, c .if1 .taken, at-loop .loop .inv .0, at-loop .before .fitting .ensures, input-length events)) (at-loop .loop .inv .1)
+    (omega (arith, c .if1 .taken, fitted .fitting2 .ensures, at-loop .loop .inv .0, at-loop .before .fitting .ensures, input-length events)) (at-loop .loop .inv .1)
 
 shared-slice-read-last : tie.Need-shared-slice-read-last Inv-loop μ-loop
-shared-slice-read-last c = omega (arith, c .before .if1 .left, c .before .before .before .before .fitting .ensures)
-
-column-at-requires-2 : tie.Need-column-at-requires-2 Inv-loop μ-loop
-column-at-requires-2 c κs = tt
+shared-slice-read-last c =
+    let fitted = c .before .before in
+    omega (arith, c .before .if1 .left, fitted .fitting2 .ensures, fitted .before .before .before .fitting .ensures)
 
 terminal-of-requires-3 : tie.Need-terminal-of-requires-3 Inv-loop μ-loop
 terminal-of-requires-3 c κs = tt
+
+column-last-requires : tie.Need-column-last-requires Inv-loop μ-loop
+column-last-requires c κs = tt
 
 word-of-requires-3 : tie.Need-word-of-requires-3 Inv-loop μ-loop
 word-of-requires-3 c κs = tt
@@ -128,19 +140,20 @@ word-of-requires-3 c κs = tt
 mul-tokens-2 : tie.Need-mul-tokens-2 Inv-loop μ-loop
 mul-tokens-2 c =
     let going = c .before .before .before .before in
-    omega (arith, going .if1 .left, going .before .before .before .fitting .ensures)
+    omega (arith, going .if1 .left, going .before .fitting2 .ensures)
 
 array-write-tokens-2 : tie.Need-array-write-tokens-2 Inv-loop μ-loop
 array-write-tokens-2 c =
     let going = c .before .before .before .before in
-    omega (arith, going .if1 .left, going .before .before .before .fitting .ensures)
+    omega (arith, going .if1 .left, going .before .fitting2 .ensures)
 
 returns-2 : tie.Need-returns-2 Inv-loop μ-loop
 returns-2 c =
-    let at-token = c .before in
-    let at-column = at-token .before in
-    let going = at-column .before .before in
-    let ended = going .before in
+    let at-column = c .before in
+    let at-token = at-column .before in
+    let going = at-token .before .before in
+    let fitted = going .before in
+    let ended = fitted .before in
     let at-loop = ended .before in
     let start = at-loop .before .before .before .before .before in
     let k = start .args .lookahead in
@@ -149,10 +162,16 @@ returns-2 c =
     let place = at-loop .loop .place in
     let left = going .if1 .left in
     let most = at-loop .before .fitting .ensures in
+    let fits = fitted .fitting2 .ensures in
+    let long = input-length events in
     let token = at-token .terminal-of3 .ensures ∙ sym (input-at events place) in
-    written-all k n (inputOf events) (omega (arith, left, ended .loop-test .left, most, input-length events))
-    (written-more k n (inputOf events) (at-loop .loop .inv .1) (omega (arith, left, most)) (omega (arith, left, most, input-length events))
-    (c .word-of3 .ensures ∙ ap₂ tokenWord (at-column .column-at2 .ensures) token))
+    let column =
+    at-column .column-last .ensures
+    ∙ ap (columnLast k) token
+    ∙ sym (column-last k n (inputOf events) place (omega (arith, left, fits, most)) (omega (arith, left, fits, ended .loop-test .left, most))) in
+    written-all k n (inputOf events) (omega (arith, left, fits, ended .loop-test .left, most))
+    (written-more k n (inputOf events) (at-loop .loop .inv .1) (omega (arith, left, fits)) (omega (arith, left, fits, most))
+    (c .word-of3 .ensures ∙ ap₂ tokenWord column token))
 
 pub tokens-of-spec : {M : Type 1} → statement M
 tokens-of-spec =
@@ -160,8 +179,9 @@ tokens-of-spec =
     (tie.spec
     Inv-loop
     μ-loop
-    column-at-requires
+    column-end-requires
     word-of-requires
+    add-fitting
     fitting-requires
     loop-holds
     add-loop
@@ -177,10 +197,11 @@ tokens-of-spec =
     add-place
     loop-less
     loop-again
+    fitting-requires-2
     returns
     shared-slice-read-last
-    column-at-requires-2
     terminal-of-requires-3
+    column-last-requires
     word-of-requires-3
     mul-tokens-2
     array-write-tokens-2
