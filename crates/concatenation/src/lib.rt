@@ -1,6 +1,6 @@
 // One lookahead set behind the other: what is looked at where a string of the first is followed by one of the second, and the set of all strings.
 ghost use mathlib.Core.Path.{_≡_};
-ghost use mathlib.Core.Bool.{_&&_};
+ghost use mathlib.Core.Bool.{true, _&&_};
 ghost use Prim.Native.Nat.{suc, _%_, _^_, _<_};
 ghost use lib.Dec.{eqb, ltb};
 ghost use Rattle.base.specs.Choice.{choose};
@@ -8,7 +8,7 @@ ghost use Rattle.lookahead.specs.declared.Lookahead.the-variants.{One, Two};
 ghost use Rattle.lookahead.specs.Lookaheads.{elements, nothing};
 ghost use Rattle.lookahead.specs.Elements.{has};
 ghost use Rattle.lookahead.specs.contracts.Operations.{Full, Concatenated, elementBehind};
-ghost use Rattle.concatenation.specs.contracts.Computing.{Has, Singles, isLong, begins, noSingle, inRows};
+ghost use Rattle.concatenation.specs.contracts.Computing.{Has, Singles, isLong, AllLong, begins, noSingle, inRows};
 use grammar::limits::TERMINALS_OF_TWO;
 use lookahead::Lookahead;
 use lookahead::NOTHING;
@@ -40,6 +40,16 @@ fn long(set: LookaheadSet, lookahead: Lookahead) -> LookaheadSet
         Lookahead::Two => LookaheadSet {
             bits: set.bits >> PAIRS << PAIRS,
         },
+    }
+}
+
+// Whether every string is long.
+fn all_long(set: LookaheadSet, lookahead: Lookahead) -> bool
+    ensures { λ r. ⌜ (r ≡ true → AllLong lookahead (set .bits)) ⌝ }
+{
+    match lookahead {
+        Lookahead::One => set.bits < 1 << NOTHING,
+        Lookahead::Two => set.bits & (1 << PAIRS) - 1 == 0,
     }
 }
 
@@ -142,6 +152,9 @@ fn concat_one(set: LookaheadSet, other: LookaheadSet) -> LookaheadSet
     if second.is_empty() {
         return second;
     }
+    if all_long(first, Lookahead::One) {
+        return first;
+    }
     long(first, Lookahead::One).join(before(first, Lookahead::One, second))
 }
 
@@ -153,6 +166,9 @@ fn concat_two(set: LookaheadSet, other: LookaheadSet) -> LookaheadSet
     let right = strings(other, Lookahead::Two);
     if right.is_empty() {
         return right;
+    }
+    if all_long(left, Lookahead::Two) {
+        return left;
     }
     let both = long(left, Lookahead::Two).join(before(left, Lookahead::Two, right));
     both.join(rows(left, right))

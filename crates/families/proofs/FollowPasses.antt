@@ -30,10 +30,11 @@ use Rattle.lookahead.specs.contracts.Operations.{end as endSet, concatNumbers, 
 use Rattle.lookahead.proofs.Order.{subset-refl}
 use Rattle.lookahead.proofs.Concat.{concat-mono, concat-assoc}
 use Rattle.families.specs.contracts.Naming.{nonterminalOf, Indexed}
-use Rattle.families.specs.contracts.Least.{SetFamily, at, Under, AddsToSet, AddsTo, Passing, Passes}
+use Rattle.families.specs.contracts.Least.{SetFamily, at, lookup, Under, AddsToSet, AddsTo, Passing, Passes}
 use Rattle.families.specs.contracts.First.{symbolFirst, bodyFirst}
 use Rattle.families.specs.contracts.Follow.{FollowNumbersBody, FollowRules, FollowNumbersClosed, tailBefore, Asked}
 use Rattle.families.specs.contracts.Rules.{turnOf, Ended, Inside, RuleWords, PassGiven}
+use Rattle.families.proofs.ArrayLookup.{symbol-lookup}
 use Rattle.families.proofs.Words.{parse-here}
 use Rattle.families.proofs.NamedNonterminals.{IndexedName, name-indexed}
 use Rattle.families.proofs.Inner.{Inner, word-inside}
@@ -120,6 +121,16 @@ tail-word k F v (RuleWord A) p i = absurd i
 tail-word k F v (Heading m n) p i = absurd i
 tail-word k F v Invalid p i = absurd i
 
+-- with an array's sets
+tail-looked-up : (k : Lookahead) (l : List ℕ) (v : ℕ) (w : Word) (tail : ℕ) → Indexed w → tailBefore k (lookup l) v w tail ≡ tailBefore k (at l) v w tail
+tail-looked-up k l v (Symbol X) tail n = rw (symbol-lookup k l X n)
+tail-looked-up k l v Positive tail n = refl
+tail-looked-up k l v Negative tail n = refl
+tail-looked-up k l v End tail n = refl
+tail-looked-up k l v (RuleWord A) tail n = refl
+tail-looked-up k l v (Heading m t) tail n = refl
+tail-looked-up k l v Invalid tail n = refl
+
 -- what `tail_before` returns for a word that is no symbol
 pub tail-closed : (k : Lookahead) (F : SetFamily) (v : ℕ) (w : Word) (tail : ℕ)
     → OneOf (0 ∷ 1 ∷ 2 ∷ 3 ∷ 5 ∷ 6 ∷ []) (tagOf the-type w) → v ≡ tailBefore k F v w tail
@@ -187,17 +198,20 @@ module _ {words : List ℕ} {start end : ℕ} (given : RuleWords words start end
 
     pub follow-turn : {l′ : List ℕ} (g′ : Bool) {r : Bool} {next : ℕ} → length l₀ ≡ maxNonterminals → AddsTo (nonterminalOf w) l tail l′ g′
         → r ≡ (g || g′)
-        → {behind : ℕ} → behind ≡ concatNumbers k (endSet k) (at l₀ B) → next ≡ tailBefore k F behind w tail
+        → {behind : ℕ} → behind ≡ concatNumbers k (endSet k) (at l₀ B) → (f : List ℕ) → F ≡ at f → next ≡ tailBefore k (lookup f) behind w tail
         → FollowWalk k F B words l₀ l′ start end r next (i - 1)
-    follow-turn {l′} g′ n a told d o = record {
+    follow-turn {l′} g′ {next = next} n a told {behind} d f e o = record {
       low = omega arith;
       high = omega (arith, v .high);
-      is = rw (inner .here) (o ∙ ap₂ (λ b u. tailBefore k F b w u) d (v .is) ∙ tail-word k F (at l₀ B) w p (inner .inside));
+      is = rw (inner .here) (looked-up ∙ ap₂ (λ b u. tailBefore k F b w u) d (v .is) ∙ tail-word k F (at l₀ B) w p (inner .inside));
       passing =
           rw (told, inner .here) (passing-on (λ G c. c) (λ G c. asked-up k F B p G w c)
           (passing-late g g′ (v .passing) (named (nonterminalOf w) refl (name-indexed w word-here) a)));
     }
       where
+        looked-up : next ≡ tailBefore k F behind w tail
+        looked-up = rw e (o ∙ tail-looked-up k f behind w tail word-here)
+
         first-under : (G : SetFamily) → Under (at l) G → Under (at l₀) G
         first-under G u m x s = u m x (v .passing .risen m x s)
 

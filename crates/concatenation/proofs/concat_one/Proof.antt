@@ -1,4 +1,4 @@
--- An empty second set, or the parts: long strings and what comes behind nothing.
+-- An empty second set, or a first set of long strings alone, or the parts: long strings and what comes behind nothing.
 use mathlib.Core.Path.{refl, sym, _∙_}
 use native.Mathlib.Nat.{mod-lt}
 use lib.Pow.{pow-pos}
@@ -23,9 +23,20 @@ returns c =
     let args = at .before .before .args in
     parts.concat-empty One (args .set .bits) (args .other .bits) (at .strings2 .ensures) (sym (c .before .is-empty .ensures) ∙ c .if1 .taken)
 
+all-long-requires : tie.Need-all-long-requires
+all-long-requires c κs = search needs
+
+returns-2 : tie.Need-returns-2
+returns-2 c =
+    let empty = c .before .before in
+    let second = empty .before .before in
+    let args = second .before .before .args in
+    parts.concat-long One (args .set .bits) (args .other .bits) (second .before .strings .ensures) (second .strings2 .ensures)
+    (sym (empty .before .is-empty .ensures) ∙ empty .if1 .left) (c .before .all-long .ensures (c .if2 .taken))
+
 long-requires : tie.Need-long-requires
 long-requires c κs =
-    let at = c .before .before .before in
+    let at = c .before .before .before .before .before in
     rw (at .strings .ensures) (mod-lt (at .before .args .set .bits) (pow-pos 25))
 
 before-requires : tie.Need-before-requires
@@ -34,16 +45,17 @@ before-requires c κs = search needs
 join-requires : tie.Need-join-requires
 join-requires c κs = search needs
 
-returns-2 : tie.Need-returns-2
-returns-2 c =
+returns-3 : tie.Need-returns-3
+returns-3 c =
     let long = c .before .before in
-    let second = long .before .before .before in
+    let empty = long .before .before .before in
+    let second = empty .before .before in
     let args = second .before .before .args in
     parts.concat-one One (args .set .bits) (args .other .bits) (second .before .strings .ensures) (second .strings2 .ensures)
-    (sym (long .before .before .is-empty .ensures) ∙ long .before .if1 .left)
+    (sym (empty .before .is-empty .ensures) ∙ empty .if1 .left)
     (long .long .ensures) (c .before .before2 .ensures) refl (c .join .ensures)
 
 pub concat-one-spec : {M : Type 1} → statement M
 concat-one-spec =
     tie.close
-    (tie.spec strings-requires strings-requires-2 is-empty-requires returns long-requires before-requires join-requires returns-2)
+    (tie.spec strings-requires strings-requires-2 is-empty-requires returns all-long-requires returns-2 long-requires before-requires join-requires returns-3)

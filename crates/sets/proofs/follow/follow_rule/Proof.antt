@@ -1,7 +1,7 @@
 -- The loop keeps `FollowWalk`: the words from `at` on have been gone through.
+use mathlib.Core.Path.{refl}
 use native.Mathlib.Omega.{arith}
 use Rattle.families.specs.contracts.Least.{at as family}
-use Rattle.families.proofs.ArrayLookup.{lookup-at}
 use Rattle.families.proofs.FollowPasses.{FollowWalk, behind-body, follow-start, word-here, follow-turn, follow-end}
 use Rattle.sets.proofs.follow.follow_rule.Statement.{statement}
 use Rattle.sets.proofs.follow.follow_rule.Tie as tie
@@ -82,7 +82,7 @@ loop-again c =
     let start = at-end .before .before .before in
     follow-turn (start .pre .0) _ (at-loop .loop .inv) (at-loop-test .loop-test .taken) (at-decode .decode .ensures) _ (start .pre .3)
     (at-add-behind .add-behind .ensures) (at-either .either .ensures) (behind-body (start .args .lookahead) (at-end .end .ensures) (behind .concat .ensures))
-    (rw (lookup-at (start .args .firsts .now) (start .pre .2)) at (c .tail-before .ensures))
+    (start .args .firsts .now) refl (c .tail-before .ensures)
 
 returns : tie.Need-returns Inv-loop μ-loop
 returns c =
