@@ -8,7 +8,7 @@ use native.Mathlib.Decide.{decLt, ℕ-discrete}
 use lib.Bits.{bitAnd, and-mask}
 use lib.Dec.{T, eqb, ltb, ltb→lt}
 use lib.Pow.{shl-exact, ones-lt}
-use borrow.Author.Tests.{lt-ltb, le-ltb, ltb-true, eqb-true}
+use borrow.Author.Tests.{lt-ltb, le-ltb, eqb-true}
 use Rattle.base.specs.Choice.{choose}
 use Rattle.lookahead.specs.declared.Lookahead.{Lookahead}
 use Rattle.lookahead.specs.declared.Lookahead.the-variants.{One, Two}
@@ -113,16 +113,17 @@ long-one s o h l = let b : s < 2 ^ 25 = rw o at h in rw o (one-digits s b l)
 pub long-two : {k : Lookahead} (s : ℕ) → k ≡ Two → s < 2 ^ elements k → Has (s / 2 ^ 8 * 2 ^ 8 % 2 ^ width) (λ l. has s l && isLong k l)
 long-two s o h l = let b : s < 2 ^ 57 = rw o at h in rw o (two-digits s b l)
 
--- no digit from that of nothing on, or none below those of pairs
-pub all-long-one : {k : Lookahead} (s : ℕ) → k ≡ One → ltb s (2 ^ 24) ≡ true → AllLong k s
-all-long-one s o h l t = rw o (go (decLt l 24))
+-- without nothing, or with no digit below those of pairs
+pub all-long-one : {s : ℕ} → s < 2 ^ 25 → has s 24 ≡ false → AllLong One s
+all-long-one {s} b h l t = go (decLt l 24) (ℕ-discrete l 24)
   where
-    go : Dec (l < 24) → T (isLong One l)
-    go (yes b) = true-T (isLong One l) (one-long l b)
-    go (no b) = absurd (rw (has-above 24 s l (ltb-true s (2 ^ 24) h) (omega arith)) at t)
+    go : Dec (l < 24) → Dec (l ≡ 24) → T (isLong One l)
+    go (yes d) e = true-T (isLong One l) (one-long l d)
+    go (no d) (yes e) = absurd (rw (e, h) at t)
+    go (no d) (no e) = absurd (rw (has-above 25 s l b (omega arith)) at t)
 
-pub all-long-two : {k : Lookahead} (s : ℕ) → k ≡ Two → eqb (bitAnd s (2 ^ 8 - 1)) 0 ≡ true → AllLong k s
-all-long-two s o h l t = rw o (go (decLt l 8))
+pub all-long-two : (s : ℕ) → eqb (bitAnd s (2 ^ 8 - 1)) 0 ≡ true → AllLong Two s
+all-long-two s h l t = go (decLt l 8)
   where
     none : s % 2 ^ 8 ≡ 0
     none = sym (and-mask s 8) ∙ eqb-true (bitAnd s (2 ^ 8 - 1)) 0 h

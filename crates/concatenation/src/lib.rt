@@ -43,14 +43,11 @@ fn long(set: LookaheadSet, lookahead: Lookahead) -> LookaheadSet
     }
 }
 
-// Whether every string is long.
-fn all_long(set: LookaheadSet, lookahead: Lookahead) -> bool
-    ensures { λ r. ⌜ (r ≡ true → AllLong lookahead (set .bits)) ⌝ }
+// With two tokens, whether every string is a pair.
+fn all_pairs(set: LookaheadSet) -> bool
+    ensures { λ r. ⌜ (r ≡ true → AllLong Two (set .bits)) ⌝ }
 {
-    match lookahead {
-        Lookahead::One => set.bits < 1 << NOTHING,
-        Lookahead::Two => set.bits & (1 << PAIRS) - 1 == 0,
-    }
+    set.bits & (1 << PAIRS) - 1 == 0
 }
 
 // With two tokens, whether a string begins with a terminal.
@@ -132,11 +129,11 @@ fn rows(set: LookaheadSet, other: LookaheadSet) -> LookaheadSet
     rows
 }
 
-// Other, where nothing can come before it.
-fn before(set: LookaheadSet, lookahead: Lookahead, other: LookaheadSet) -> LookaheadSet
-    ensures { λ r. ⌜ Has (r .bits) (λ l. has (set .bits) (nothing lookahead) && has (other .bits) l) ⌝ }
+// With two tokens, other, where nothing can come before it.
+fn before(set: LookaheadSet, other: LookaheadSet) -> LookaheadSet
+    ensures { λ r. ⌜ Has (r .bits) (λ l. has (set .bits) (nothing Two) && has (other .bits) l) ⌝ }
 {
-    if set.contains(nothing(lookahead)) {
+    if set.contains(nothing(Lookahead::Two)) {
         other
     } else {
         LookaheadSet::empty()
@@ -152,13 +149,15 @@ fn concat_one(set: LookaheadSet, other: LookaheadSet) -> LookaheadSet
     if second.is_empty() {
         return second;
     }
-    if all_long(first, Lookahead::One) {
-        return first;
+    if first.contains(NOTHING) {
+        long(first, Lookahead::One).join(second)
+    } else {
+        first
     }
-    long(first, Lookahead::One).join(before(first, Lookahead::One, second))
 }
 
-// With two tokens: the pairs of the first, the second where the first has nothing, and what comes of the terminals alone.
+// With two tokens: the pairs of the first, the second where the first has nothing, and what comes of the terminals alone. Most sets have
+// pairs alone.
 fn concat_two(set: LookaheadSet, other: LookaheadSet) -> LookaheadSet
     ensures { λ r. ⌜ Concatenated Two (set .bits) (other .bits) (r .bits) ⌝ }
 {
@@ -167,10 +166,10 @@ fn concat_two(set: LookaheadSet, other: LookaheadSet) -> LookaheadSet
     if right.is_empty() {
         return right;
     }
-    if all_long(left, Lookahead::Two) {
+    if all_pairs(left) {
         return left;
     }
-    let both = long(left, Lookahead::Two).join(before(left, Lookahead::Two, right));
+    let both = long(left, Lookahead::Two).join(before(left, right));
     both.join(rows(left, right))
 }
 

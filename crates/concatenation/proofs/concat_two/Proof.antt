@@ -23,8 +23,8 @@ returns c =
     let args = at .before .before .args in
     parts.concat-empty Two (args .set .bits) (args .other .bits) (at .strings2 .ensures) (sym (c .before .is-empty .ensures) ∙ c .if1 .taken)
 
-all-long-requires : tie.Need-all-long-requires
-all-long-requires c κs = search needs
+all-pairs-requires : tie.Need-all-pairs-requires
+all-pairs-requires c κs = search needs
 
 returns-2 : tie.Need-returns-2
 returns-2 c =
@@ -32,7 +32,7 @@ returns-2 c =
     let second = empty .before .before in
     let args = second .before .before .args in
     parts.concat-long Two (args .set .bits) (args .other .bits) (second .before .strings .ensures) (second .strings2 .ensures)
-    (sym (empty .before .is-empty .ensures) ∙ empty .if1 .left) (c .before .all-long .ensures (c .if2 .taken))
+    (sym (empty .before .is-empty .ensures) ∙ empty .if1 .left) (c .before .all-pairs .ensures (c .if2 .taken))
 
 long-requires : tie.Need-long-requires
 long-requires c κs =
@@ -71,7 +71,7 @@ concat-two-spec =
     strings-requires-2
     is-empty-requires
     returns
-    all-long-requires
+    all-pairs-requires
     returns-2
     long-requires
     before-requires
