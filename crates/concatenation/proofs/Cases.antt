@@ -6,9 +6,9 @@ use Prim.Native.Nat.{ℕ, _+_, _-_, _*_, _/_, _%_, _^_, _≤_, _<_}
 use native.Mathlib.Omega.{arith}
 use native.Mathlib.Decide.{decLt, ℕ-discrete}
 use lib.Bits.{bitAnd, and-mask}
-use lib.Dec.{T, ltb, ltb→lt}
+use lib.Dec.{T, eqb, ltb, ltb→lt}
 use lib.Pow.{shl-exact, ones-lt}
-use borrow.Author.Tests.{lt-ltb, le-ltb}
+use borrow.Author.Tests.{lt-ltb, le-ltb, eqb-true}
 use Rattle.base.specs.Choice.{choose}
 use Rattle.lookahead.specs.declared.Lookahead.{Lookahead}
 use Rattle.lookahead.specs.declared.Lookahead.the-variants.{One, Two}
@@ -16,8 +16,9 @@ use Rattle.lookahead.specs.contracts.Lookaheads.{alphabet, single}
 use Rattle.lookahead.specs.Lookaheads.{elements, elementOf}
 use Rattle.lookahead.specs.Elements.{has, width}
 use Rattle.lookahead.specs.contracts.Operations.{Empty}
-use Rattle.concatenation.specs.contracts.Computing.{Has, Singles, isLong}
-use Rattle.lookahead.proofs.Elements.{has-above, has-shift}
+use Rattle.concatenation.specs.contracts.Computing.{Has, Singles, isLong, AllLong}
+use Rattle.base.proofs.Booleans.{true-T}
+use Rattle.lookahead.proofs.Elements.{has-above, has-zero, has-shift}
 use Rattle.lookahead.proofs.Powers.{has-ones}
 use Rattle.lookahead.proofs.Digits.{shifted, has-mask, has-under, has-over, moved}
 use Rattle.lookahead.proofs.Strings.{two-single, two-pair, one-terminal, string-nothing}
@@ -111,6 +112,25 @@ long-one s o h l = let b : s < 2 ^ 25 = rw o at h in rw o (one-digits s b l)
 
 pub long-two : {k : Lookahead} (s : ℕ) → k ≡ Two → s < 2 ^ elements k → Has (s / 2 ^ 8 * 2 ^ 8 % 2 ^ width) (λ l. has s l && isLong k l)
 long-two s o h l = let b : s < 2 ^ 57 = rw o at h in rw o (two-digits s b l)
+
+-- without nothing, or with no digit below those of pairs
+pub all-long-one : {s : ℕ} → s < 2 ^ 25 → has s 24 ≡ false → AllLong One s
+all-long-one {s} b h l t = go (decLt l 24) (ℕ-discrete l 24)
+  where
+    go : Dec (l < 24) → Dec (l ≡ 24) → T (isLong One l)
+    go (yes d) e = true-T (isLong One l) (one-long l d)
+    go (no d) (yes e) = absurd (rw (e, h) at t)
+    go (no d) (no e) = absurd (rw (has-above 25 s l b (omega arith)) at t)
+
+pub all-long-two : (s : ℕ) → eqb (bitAnd s (2 ^ 8 - 1)) 0 ≡ true → AllLong Two s
+all-long-two s h l t = go (decLt l 8)
+  where
+    none : s % 2 ^ 8 ≡ 0
+    none = sym (and-mask s 8) ∙ eqb-true (bitAnd s (2 ^ 8 - 1)) 0 h
+
+    go : Dec (l < 8) → T (isLong Two l)
+    go (yes b) = absurd (rw (sym (rw (lt-ltb l 8 b) at (has-mask s 8 l)), none, has-zero l) at t)
+    go (no b) = true-T (isLong Two l) (two-long l (omega arith))
 
 -- a set that is there only if a test is passed
 pub if-passed : (b : Bool) (y : ℕ) → b ≡ true → Has y (λ l. b && has y l)

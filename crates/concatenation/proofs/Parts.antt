@@ -17,7 +17,7 @@ use Rattle.lookahead.specs.Lookaheads.{tokens, elements, nothing, elementOf, st
 use Rattle.lookahead.specs.contracts.Lookaheads.{elementAfter}
 use Rattle.lookahead.specs.Elements.{has}
 use Rattle.lookahead.specs.contracts.Operations.{isEmpty, Joined, elementBehind, inConcat, concatNumbers, Concatenated}
-use Rattle.concatenation.specs.contracts.Computing.{Has, isLong, inRows}
+use Rattle.concatenation.specs.contracts.Computing.{Has, isLong, AllLong, inRows}
 use Rattle.lookahead.proofs.Elements.{same-elements}
 use Rattle.lookahead.proofs.Emptiness.{empty-none, some-element}
 use Rattle.lookahead.proofs.Digits.{has-mask}
@@ -154,6 +154,26 @@ module _ (k : Lookahead) (x y : ℕ) where
   concat-made : isEmpty second ≡ false → {r : ℕ} → Has r parts → Concatenated k x y r
   concat-made ne {r} h =
       is-concat k (same-elements r (concatNumbers k x y) (λ l. h l ∙ both (parts l) (inConcat k x y l) (to ne l) (from l) ∙ sym (has-concat k x y l)))
+
+  -- long strings stay, whatever follows
+  pub concat-long : {f s : ℕ} → f ≡ first → s ≡ second → isEmpty s ≡ false → AllLong k f → Concatenated k x y f
+  concat-long {f} a b ne long =
+      is-concat k (same-elements f (concatNumbers k x y) (λ l. both (has f l) (inConcat k x y l) (stays l) (comes l) ∙ sym (has-concat k x y l)))
+    where
+      stays : (l : ℕ) → T (has f l) → T (inConcat k x y l)
+      stays l t =
+          let p = low x l (rw a at t) in
+          let e = some-element second (rw b at ne) in
+          let q = low y (e .0) (e .1) in
+          pair-in k x y l (record
+          { a = l; b = e .0; a-below = p .0; b-below = q .0; a-in = p .1; b-in = q .1; is-after = long-after k l (e .0) (long l t) })
+
+      comes : (l : ℕ) → T (inConcat k x y l) → T (has f l)
+      comes l t =
+          let p = in-pair k x y l t in
+          let u : T (has f (p .a)) = rw a (high x (p .a) (p .a-below) (p .a-in)) in
+          let e : p .a ≡ l = sym (long-after k (p .a) (p .b) (long (p .a) u)) ∙ p .is-after in
+          rw e at u
 
   pub concat-empty : {r : ℕ} → r ≡ second → isEmpty r ≡ true → Concatenated k x y r
   concat-empty {r} d e =

@@ -1,6 +1,6 @@
 // One lookahead set behind the other: what is looked at where a string of the first is followed by one of the second, and the set of all strings.
 ghost use mathlib.Core.Path.{_≡_};
-ghost use mathlib.Core.Bool.{_&&_};
+ghost use mathlib.Core.Bool.{true, _&&_};
 ghost use Prim.Native.Nat.{suc, _%_, _^_, _<_};
 ghost use lib.Dec.{eqb, ltb};
 ghost use Rattle.base.specs.Choice.{choose};
@@ -8,7 +8,7 @@ ghost use Rattle.lookahead.specs.declared.Lookahead.the-variants.{One, Two};
 ghost use Rattle.lookahead.specs.Lookaheads.{elements, nothing};
 ghost use Rattle.lookahead.specs.Elements.{has};
 ghost use Rattle.lookahead.specs.contracts.Operations.{Full, Concatenated, elementBehind};
-ghost use Rattle.concatenation.specs.contracts.Computing.{Has, Singles, isLong, begins, noSingle, inRows};
+ghost use Rattle.concatenation.specs.contracts.Computing.{Has, Singles, isLong, AllLong, begins, noSingle, inRows};
 use grammar::limits::TERMINALS_OF_TWO;
 use lookahead::Lookahead;
 use lookahead::NOTHING;
@@ -41,6 +41,13 @@ fn long(set: LookaheadSet, lookahead: Lookahead) -> LookaheadSet
             bits: set.bits >> PAIRS << PAIRS,
         },
     }
+}
+
+// With two tokens, whether every string is a pair.
+fn all_pairs(set: LookaheadSet) -> bool
+    ensures { λ r. ⌜ (r ≡ true → AllLong Two (set .bits)) ⌝ }
+{
+    set.bits & (1 << PAIRS) - 1 == 0
 }
 
 // With two tokens, whether a string begins with a terminal.
@@ -122,11 +129,11 @@ fn rows(set: LookaheadSet, other: LookaheadSet) -> LookaheadSet
     rows
 }
 
-// Other, where nothing can come before it.
-fn before(set: LookaheadSet, lookahead: Lookahead, other: LookaheadSet) -> LookaheadSet
-    ensures { λ r. ⌜ Has (r .bits) (λ l. has (set .bits) (nothing lookahead) && has (other .bits) l) ⌝ }
+// With two tokens, other, where nothing can come before it.
+fn before(set: LookaheadSet, other: LookaheadSet) -> LookaheadSet
+    ensures { λ r. ⌜ Has (r .bits) (λ l. has (set .bits) (nothing Two) && has (other .bits) l) ⌝ }
 {
-    if set.contains(nothing(lookahead)) {
+    if set.contains(nothing(Lookahead::Two)) {
         other
     } else {
         LookaheadSet::empty()
@@ -142,10 +149,15 @@ fn concat_one(set: LookaheadSet, other: LookaheadSet) -> LookaheadSet
     if second.is_empty() {
         return second;
     }
-    long(first, Lookahead::One).join(before(first, Lookahead::One, second))
+    if first.contains(NOTHING) {
+        long(first, Lookahead::One).join(second)
+    } else {
+        first
+    }
 }
 
-// With two tokens: the pairs of the first, the second where the first has nothing, and what comes of the terminals alone.
+// With two tokens: the pairs of the first, the second where the first has nothing, and what comes of the terminals alone. Most sets have
+// pairs alone.
 fn concat_two(set: LookaheadSet, other: LookaheadSet) -> LookaheadSet
     ensures { λ r. ⌜ Concatenated Two (set .bits) (other .bits) (r .bits) ⌝ }
 {
@@ -154,7 +166,10 @@ fn concat_two(set: LookaheadSet, other: LookaheadSet) -> LookaheadSet
     if right.is_empty() {
         return right;
     }
-    let both = long(left, Lookahead::Two).join(before(left, Lookahead::Two, right));
+    if all_pairs(left) {
+        return left;
+    }
+    let both = long(left, Lookahead::Two).join(before(left, right));
     both.join(rows(left, right))
 }
 

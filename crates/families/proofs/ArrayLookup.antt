@@ -1,25 +1,22 @@
--- An array that has a set for each nonterminal gives the same family with and without a look at its length.
-use mathlib.Core.Path.{_≡_, sym}
+-- For the symbols of a grammar that is read, an array gives the same sets with and without numbers counted round.
+use mathlib.Core.Path.{_≡_, refl, ap}
 use mathlib.Core.List.{List}
-use Prim.Native.Nat.{ℕ, _≤_, _<_}
-use native.Mathlib.Omega.{arith}
-use native.Mathlib.Decide.{decLt}
-use lib.Dec.{ltb}
-use lib.ListN.{length, getD, List·getD-eq-default}
-use borrow.Author.Tests.{lt-ltb, le-ltb}
-use Rattle.base.specs.Choice.{choose}
+use Prim.Native.Nat.{ℕ, _<_}
+use native.Mathlib.Nat.{mod-eq-of-lt}
+use lib.ListN.{getD}
+use Rattle.word.specs.declared.Symbol.{Symbol as GrammarSymbol}
+use Rattle.word.specs.declared.Symbol.the-variants.{Terminal, Nonterminal}
 use Rattle.grammar.specs.Limits.{maxNonterminals}
+use Rattle.lookahead.specs.declared.Lookahead.{Lookahead}
+use Rattle.families.specs.contracts.First.{symbolFirst}
 use Rattle.families.specs.contracts.Least.{at, lookup}
+use Rattle.families.specs.contracts.Naming.{IndexedSymbol}
 
-lookup-each : (l : List ℕ) → length l ≡ maxNonterminals → (n : ℕ) → lookup l n ≡ at l n
+lookup-at : (l : List ℕ) (n : ℕ) → n < maxNonterminals → lookup l n ≡ at l n
 unfolding lookup
-lookup-each l e n = go (decLt n maxNonterminals)
-  where
-    go : Dec (n < maxNonterminals) → choose (ltb n maxNonterminals) (getD l n 0) 0 ≡ getD l n 0
-    go (yes h) = rw (lt-ltb n maxNonterminals h)
-    go (no h) =
-        let k : maxNonterminals ≤ n = omega arith in
-        rw (le-ltb n maxNonterminals k) (sym (List·getD-eq-default l 0 {n = n} (omega arith)))
+lookup-at l n h = ap (λ (m : ℕ). getD l m 0) (mod-eq-of-lt h)
 
-pub lookup-at : (l : List ℕ) → length l ≡ maxNonterminals → lookup l ≡ at l
-lookup-at l e = λ i. λ n. lookup-each l e n i
+pub symbol-lookup : (k : Lookahead) (l : List ℕ) (X : GrammarSymbol) → IndexedSymbol X → symbolFirst k (lookup l) X ≡ symbolFirst k (at l) X
+unfolding symbolFirst
+symbol-lookup k l (Terminal a) h = refl
+symbol-lookup k l (Nonterminal A) h = lookup-at l A h

@@ -5,14 +5,13 @@ use Prim.Native.Nat.{ℕ, _+_, _-_}
 use native.Mathlib.Omega.{arith}
 use denote.Enum.Declared.{tagOf}
 use types.Run.{OneOf, miss}
-use lib.ListN.{length, take, drop}
+use lib.ListN.{take, drop}
 use lib.Seq.{drop-cons}
 use Rattle.word.proofs.Word.{the-type}
 use Rattle.word.specs.declared.Symbol.{Symbol as GrammarSymbol}
 use Rattle.word.specs.declared.Symbol.the-variants.{Terminal, Nonterminal}
 use Rattle.word.specs.declared.Word.{Word}
 use Rattle.word.specs.declared.Word.the-variants.{Heading, Rule as RuleWord, Positive, Negative, Symbol, End, Invalid}
-use Rattle.grammar.specs.Limits.{maxNonterminals}
 use Rattle.grammar.specs.Syntax.{Body, Rule}
 use Rattle.grammar.specs.Encoding.{Parsed, onWord}
 use Rattle.grammar.specs.contracts.WellRead.{ruleRead}
@@ -24,9 +23,10 @@ use Rattle.lookahead.proofs.Order.{subset-refl, meet-mono}
 use Rattle.lookahead.proofs.Concat.{concat-mono}
 use Rattle.families.specs.declared.Rest.{Rest}
 use Rattle.families.specs.contracts.Least.{SetFamily, at, lookup, Under}
+use Rattle.families.specs.contracts.Naming.{Indexed}
 use Rattle.families.specs.contracts.First.{symbolFirst, bodyFirst, ruleFirst, sets, restOf, noRest, closedMeet, insideWord}
 use Rattle.families.specs.contracts.Rules.{foldFromEnd, ruleFrom, Inside, RuleWords}
-use Rattle.families.proofs.ArrayLookup.{lookup-at}
+use Rattle.families.proofs.ArrayLookup.{symbol-lookup}
 use Rattle.families.proofs.HeadPasses.{Larger}
 use Rattle.families.proofs.Inner.{made-inside}
 
@@ -48,16 +48,16 @@ module _ (k : Lookahead) (F G : SetFamily) (u : Under F G) where
   rule-mono t (b ∷ bs) = meet-mono (bodyFirst k F b) (ruleFirst k t F bs) (bodyFirst k G b) (ruleFirst k t G bs) (body-mono b) (rule-mono t bs)
 
 -- inside a rule it is enough to tell symbols and positives
-pub inside-word : (k : Lookahead) (t : ℕ) (F : SetFamily) (w : Word) (p : Parsed) → Inside w → Behind w p
-    → insideWord k F w (restOf k t F p) ≡ restOf k t F (onWord w p)
+inside-word : (k : Lookahead) (t : ℕ) (l : List ℕ) (w : Word) (p : Parsed) → Inside w → Indexed w → Behind w p
+    → insideWord k (lookup l) w (restOf k t (at l) p) ≡ restOf k t (at l) (onWord w p)
 unfolding onWord bodyFirst ruleFirst
-inside-word k t F (Symbol X) p i b = refl
-inside-word k t F Positive p i b = refl
-inside-word k t F Negative p i b = refl
-inside-word k t F End p i b = rw (b .positives)
-inside-word k t F (RuleWord A) p i b = absurd i
-inside-word k t F (Heading m n) p i b = absurd i
-inside-word k t F Invalid p i b = absurd i
+inside-word k t l (Symbol X) p i n b = rw (symbol-lookup k l X n)
+inside-word k t l Positive p i n b = refl
+inside-word k t l Negative p i n b = refl
+inside-word k t l End p i n b = rw (b .positives)
+inside-word k t l (RuleWord A) p i n b = absurd i
+inside-word k t l (Heading m z) p i n b = absurd i
+inside-word k t l Invalid p i n b = absurd i
 
 -- what `closed` and `inside` return for other words
 pub not-positive : (w : Word) (b m : ℕ) → OneOf (0 ∷ 1 ∷ 3 ∷ 4 ∷ 5 ∷ 6 ∷ []) (tagOf the-type w) → m ≡ closedMeet w b m
@@ -86,18 +86,13 @@ ruleGives k t F r = ruleFirst k t F (r .positives)
 pub rule-larger : (k : Lookahead) (t : ℕ) → Larger (ruleGives k t)
 rule-larger k t F G u r = rule-mono k F G u t (r .positives)
 
--- the words of a rule, from their end
-rule-words : {words : List ℕ} {start end : ℕ} → RuleWords words start end → (k : Lookahead) (t : ℕ) (F : SetFamily)
-    → foldFromEnd (insideWord k F) (noRest k t) (take (end - (start + 1)) (drop (start + 1) words)) .meet .bits ≡ ruleGives k t F (ruleFrom words start)
-unfolding ruleRead bodyFirst ruleFirst
-rule-words {words} {start} g k t F =
-    rw (
-      made-inside (insideWord k F) (restOf k t F) g (λ w p i n b. inside-word k t F w p i b) {x₀ = noRest k t} (rw (g .ended .body, g .ended .positives)),
-      drop-cons words start 0 (omega (arith, g .some, g .within)),
-    )
-
--- what `rule_first` returns
-pub rule-given : {words : List ℕ} {start end : ℕ} → RuleWords words start end → (k : Lookahead) (t : ℕ) (l : List ℕ) {v : ℕ} → length l ≡ maxNonterminals
+-- the words of a rule, from their end: what `rule_first` returns
+pub rule-given : {words : List ℕ} {start end : ℕ} → RuleWords words start end → (k : Lookahead) (t : ℕ) (l : List ℕ) {v : ℕ}
     → v ≡ foldFromEnd (insideWord k (lookup l)) (noRest k t) (take (end - (start + 1)) (drop (start + 1) words)) .meet .bits
     → v ≡ ruleGives k t (at l) (ruleFrom words start)
-rule-given g k t l long e = e ∙ rw (lookup-at l long) (rule-words g k t (at l))
+unfolding ruleRead bodyFirst ruleFirst
+rule-given {words} {start} g k t l e =
+    e ∙ rw (
+      made-inside (insideWord k (lookup l)) (restOf k t (at l)) g (inside-word k t l) {x₀ = noRest k t} (rw (g .ended .body, g .ended .positives)),
+      drop-cons words start 0 (omega (arith, g .some, g .within)),
+    )

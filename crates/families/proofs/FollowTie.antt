@@ -42,7 +42,7 @@ use Rattle.families.proofs.FirstTie.{body-begins, begins-body}
 module _ (k : Lookahead) (G : Grammar) (formed : WellFormed G) (few : G .terminals ≤ alphabet k) (some : 0 < G .nonterminals) where
   -- a closed family of numbers is one of strings, which FOLLOW is contained in
   strings-body : (L : SetFamily) (B : ℕ) (y : List ℕ) → StringIn k (L B) y → (b : Body) → TerminalsBelow (G .terminals) b
-      → FollowNumbersBody k (firstNumber k G) L B b
+      → FollowNumbersBody k (firstNumber k G) (L B) L b
       → FollowBody (tokens k) (First G (tokens k)) (stringsOf k L) y b
   strings-body L B y i [] t f = tt
   strings-body L B y i (Terminal a ∷ b) t f = strings-body L B y i b (t .1) f
@@ -65,7 +65,7 @@ module _ (k : Lookahead) (G : Grammar) (formed : WellFormed G) (few : G .termina
 
   -- and the numbers of FOLLOW are a closed family
   numbers-body : (B : ℕ) (b : Body) → ((y : List ℕ) → Follow G (tokens k) B y → FollowBody (tokens k) (First G (tokens k)) (Follow G (tokens k)) y b)
-      → FollowNumbersBody k (firstNumber k G) (followNumber k G) B b
+      → FollowNumbersBody k (firstNumber k G) (followNumber k G B) (followNumber k G) b
   unfolding followNumber
   numbers-body B [] f = tt
   numbers-body B (Terminal a ∷ b) f = numbers-body B b f
@@ -97,17 +97,17 @@ module _ (k : Lookahead) (G : Grammar) (formed : WellFormed G) (few : G .termina
       (follow-smallest G (tokens k) (stringsOf k (at l)) (strings-closed (at l) (least .closed)))
 
 -- the set of all elements contains every concatenation, and so is a closed family, which bounds the others
-full-body : (k : Lookahead) (F : SetFamily) (B : ℕ) (b : Body) → FollowNumbersBody k F (λ A. full k (alphabet k)) B b
-full-body k F B [] = tt
-full-body k F B (Terminal a ∷ b) = full-body k F B b
-full-body k F B (Nonterminal A ∷ b) =
+full-body : (k : Lookahead) (F : SetFamily) (b : Body) → FollowNumbersBody k F (full k (alphabet k)) (λ A. full k (alphabet k)) b
+full-body k F [] = tt
+full-body k F (Terminal a ∷ b) = full-body k F b
+full-body k F (Nonterminal A ∷ b) =
     let all = full k (alphabet k) in
     let set = concatNumbers k (bodyFirst k F b) all in
-    (full-greatest k (alphabet k) set (bound-over k set (concat-bound k (bodyFirst k F b) all)), full-body k F B b)
+    (full-greatest k (alphabet k) set (bound-over k set (concat-bound k (bodyFirst k F b) all)), full-body k F b)
 
 pub full-closed : (k : Lookahead) (F : SetFamily) (rs : List Rule) → FollowNumbersClosed k F rs (λ A. full k (alphabet k))
 full-closed k F rs =
-    record { start = full-greatest k (alphabet k) (end k) (over-end k (alphabet k)); follows = λ r m b n. full-body k F (r .head) b }
+    record { start = full-greatest k (alphabet k) (end k) (over-end k (alphabet k)); follows = λ r m b n. full-body k F b }
 
 -- and so for the words of a grammar that is admitted, and the array of its first sets
 module _ (k : Lookahead) (words : List ℕ) (z : Sizes) (e : admission k words ≡ Read z) (firsts : List ℕ)

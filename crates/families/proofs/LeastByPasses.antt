@@ -11,7 +11,7 @@ use lib.Seq.{getD-set-same, getD-set-other, set-getD}
 use borrow.Author.Tests.{eq-eqb, ne-eqb}
 use Rattle.lookahead.specs.contracts.Elements.{Subset}
 use Rattle.lookahead.specs.contracts.Operations.{join}
-use Rattle.lookahead.proofs.Order.{subset-refl, join-left, empty-least, join-least, join-grows, same-join, subset-le}
+use Rattle.lookahead.proofs.Order.{subset-refl, join-left, join-right, empty-least, join-least, join-grows, same-join, subset-le}
 use Rattle.families.specs.contracts.Least.{SetFamily, at, Under, LeastNumbers, AddsToSet, sum, Passing, Passes}
 
 -- the sum rises by what is stored
@@ -71,24 +71,6 @@ passing-then false g′ p q = record {
   below = λ G c u. q .below G c (p .below G c u);
 }
 
--- the same where the second asks its part only of an array that the first has not changed
-pub passing-late : {W C C′ : SetFamily → Type 0} {l₀ l l′ : List ℕ} (g g′ : Bool) → Passing W C l₀ l g → Passing W (λ L. l ≡ l₀ → C′ L) l l′ g′
-    → Passing W (λ L. C L × C′ L) l₀ l′ (g || g′)
-passing-late g g′ p q =
-    let r = passing-then g g′ p q in
-    record {
-      long = r .long;
-      same = r .same;
-      risen = r .risen;
-      grows = r .grows;
-      still = λ f. let s = r .still f in (s .0, s .1 (p .same (neither g f)));
-      below = r .below;
-    }
-  where
-    neither : (g : Bool) → (g || g′) ≡ false → g ≡ false
-    neither true f = f
-    neither false f = refl
-
 -- a store of v into the set of n: every family of W has v there, and a family that has it is closed
 pub passing-add : {W C : SetFamily → Type 0} {l l′ : List ℕ} {n v : ℕ} {r : Bool} → n < length l
     → ((G : SetFamily) → W G → Under (at l) G → Subset v (G n)) → (Subset v (at l n) → C (at l)) → AddsToSet l n v l′ r → Passing W C l l′ r
@@ -109,6 +91,13 @@ passing-add {W} {C} {l} {l′} {n} {v} {r} h value new a = go (ℕ-discrete (joi
           still = λ f. absurd (true≢false f);
           below = λ G c u. under-join l n v G h u (value G c u);
         })
+
+-- what is added is there, and what was there too
+pub added-risen : {l l′ : List ℕ} {n v : ℕ} {r : Bool} → n < length l → AddsToSet l n v l′ r → Under (at l) (at l′)
+added-risen {l} {n = n} {v} h a = rw (a .list) (grown-under l n v h)
+
+pub added-in : {l l′ : List ℕ} {n v : ℕ} {r : Bool} → n < length l → AddsToSet l n v l′ r → Subset v (at l′ n)
+added-in {l} {n = n} {v} h a = rw (a .list, getD-set-same l n (join (at l n) v) 0 h) (join-right (at l n) v)
 
 -- under every closed family: what holds from pass to pass
 abbrev pub Below : (SetFamily → Type 0) → List ℕ → Type 0

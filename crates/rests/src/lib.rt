@@ -14,12 +14,12 @@ use word::Symbol;
 use word::Word;
 use word::decode;
 
-// The set of n; behind the array's end there is none.
+// The set of n. A greater number than nonterminals have stands in no grammar that is read: it is counted round, which takes no test.
 fn set_of(sets: &[u64; SETS], n: u32) -> u64
     ensures { λ r. ⌜ r ≡ lookup (now (sets .entry)) n ⌝ }
 {
-    let at = n as usize;
-    if at < SETS { sets[at] } else { 0 }
+    let at = n as usize % SETS;
+    sets[at]
 }
 
 // Where neither a body nor a rule is open.

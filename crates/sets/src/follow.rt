@@ -7,7 +7,7 @@ ghost use Rattle.grammar.specs.Encoding.{parse, grammarOf};
 ghost use Rattle.grammar.specs.Limits.{maxNonterminals};
 ghost use Rattle.grammar.specs.contracts.Starts.{ruleStarts};
 ghost use Rattle.admission.specs.Admission.{admission};
-ghost use Rattle.families.specs.contracts.Follow.{Asked, FollowRules, FollowNumbersClosed};
+ghost use Rattle.families.specs.contracts.Follow.{Asked, FollowTurn, LastTurns, FollowRules, FollowNumbersClosed};
 ghost use Rattle.families.specs.contracts.Least.{at as family, AddsTo, Passes};
 ghost use Rattle.base.specs.Lists.{listed};
 ghost use Rattle.families.specs.contracts.Naming.{nonterminalOf, Indexed};
@@ -43,24 +43,29 @@ fn add_behind(word: Word, tail: LookaheadSet, follows: &mut [u64; SETS]) -> bool
     add(follows, number, tail)
 }
 
-// Behind each nonterminal in a body of head comes what is left of the body, then what follows head; whether a set has grown.
+// Behind each nonterminal in a body of head comes what is left of the body, then what follows head; whether a set has grown. Where what follows
+// head is the same as when the rule last had its turn, there is nothing to add.
 fn follow_rule(
     words: &[u32],
     start: usize,
     end: usize,
     head: u32,
+    last: u64,
     firsts: &[u64; SETS],
     follows: &mut [u64; SETS],
     lookahead: Lookahead,
 ) -> bool
-    requires { ⌜ RuleWords (now words) start end × (head < maxNonterminals) × (length (now firsts) ≡ maxNonterminals)
-        × (length (now follows) ≡ maxNonterminals) ⌝ }
-    ensures { λ r. ⌜ Passes (Asked lookahead (family (now (firsts .entry))) head (parse (drop (suc start) (now (words .entry)))))
+    requires { ⌜ RuleWords (now words) start end × (head < maxNonterminals) × (length (now follows) ≡ maxNonterminals)
+        × Asked lookahead (family (now firsts)) last (parse (drop (suc start) (now words))) (family (now follows)) ⌝ }
+    ensures { λ r. ⌜ FollowTurn lookahead (family (now (firsts .entry))) head (parse (drop (suc start) (now (words .entry))))
         (now (follows .entry)) (now (follows .exit)) r ⌝ }
 {
     let follow = LookaheadSet {
         bits: follows[head as usize],
     };
+    if follow.bits == last {
+        return false;
+    }
     let behind = concat(LookaheadSet::end(lookahead), lookahead, follow);
     let mut grown = false;
     let mut tail = behind;
@@ -74,19 +79,23 @@ fn follow_rule(
     grown
 }
 
-// One pass over the rules, from the first on or from the last on; whether a set has grown.
+// One pass over the rules, from the first on or from the last on; whether a set has grown. What follows its head when a rule has its turn is kept
+// for the next pass.
 fn follow_rules(
     words: &[u32],
     starts: &[usize; RULES],
     sizes: Sizes,
     firsts: &[u64; SETS],
     follows: &mut [u64; SETS],
+    last: &mut [u64; RULES],
     forward: bool,
     lookahead: Lookahead,
 ) -> bool
-    requires { ⌜ PassGiven (now words) (now starts) sizes (now follows) × (length (now firsts) ≡ maxNonterminals) ⌝ }
+    requires { ⌜ PassGiven (now words) (now starts) sizes (now follows)
+        × LastTurns lookahead (family (now firsts)) (now words) (sizes .rules) (now last) (now follows) ⌝ }
     ensures { λ r. ⌜ Passes (FollowRules lookahead (family (now (firsts .entry))) (parse (now (words .entry)) .rules))
-        (now (follows .entry)) (now (follows .exit)) r ⌝ }
+        (now (follows .entry)) (now (follows .exit)) r
+        × LastTurns lookahead (family (now (firsts .entry))) (now (words .entry)) (sizes .rules) (now (last .exit)) (now (follows .exit)) ⌝ }
 {
     let mut grown = false;
     let mut passed = 0;
@@ -95,9 +104,11 @@ fn follow_rules(
         let start = starts[rule];
         let end = end_of(words, starts, sizes, rule);
         let head = head_of(decode(words[start]));
+        let before = last[rule];
+        last[rule] = follows[head as usize];
         grown = either(
             grown,
-            follow_rule(words, start, end, head, firsts, follows, lookahead),
+            follow_rule(words, start, end, head, before, firsts, follows, lookahead),
         );
         passed = passed + 1;
     }
@@ -111,17 +122,29 @@ fn follow_pass(
     sizes: Sizes,
     firsts: &[u64; SETS],
     follows: &mut [u64; SETS],
+    last: &mut [u64; RULES],
     forward: bool,
     lookahead: Lookahead,
 ) -> bool
-    requires { ⌜ PassGiven (now words) (now starts) sizes (now follows) × (length (now firsts) ≡ maxNonterminals) ⌝ }
+    requires { ⌜ PassGiven (now words) (now starts) sizes (now follows)
+        × LastTurns lookahead (family (now firsts)) (now words) (sizes .rules) (now last) (now follows) ⌝ }
     ensures { λ r. ⌜ Passes (FollowNumbersClosed lookahead (family (now (firsts .entry))) (parse (now (words .entry)) .rules))
-        (now (follows .entry)) (now (follows .exit)) r ⌝ }
+        (now (follows .entry)) (now (follows .exit)) r
+        × LastTurns lookahead (family (now (firsts .entry))) (now (words .entry)) (sizes .rules) (now (last .exit)) (now (follows .exit)) ⌝ }
 {
     let began = add(follows, 0, LookaheadSet::end(lookahead));
     either(
         began,
-        follow_rules(words, starts, sizes, firsts, follows, forward, lookahead),
+        follow_rules(
+            words,
+            starts,
+            sizes,
+            firsts,
+            follows,
+            last,
+            forward,
+            lookahead,
+        ),
     )
 }
 
@@ -138,6 +161,7 @@ pub(crate) fn follow_sets(
     ensures { λ r. ⌜ r ≡ listed maxNonterminals (followNumber lookahead (grammarOf (now (words .entry)))) ⌝ }
 {
     let mut follows = [0u64; SETS];
+    let mut last = [0u64; RULES];
     let mut forward = true;
     while follow_pass(
         words,
@@ -145,6 +169,7 @@ pub(crate) fn follow_sets(
         sizes,
         firsts,
         &mut follows,
+        &mut last,
         forward,
         lookahead,
     ) {

@@ -1,6 +1,6 @@
 // What a 32-bit word of an encoded grammar stands for.
 ghost use mathlib.Core.Path.{_≡_};
-ghost use Rattle.word.specs.Words.{bare as bareWord, heading as headingWord, decoded};
+ghost use Rattle.word.specs.Words.{payload as payloadOf, bare as bareWord, heading as headingWord, decoded};
 
 // A symbol of a body (document 01: a letter or a name, each with its number).
 pub enum Symbol {
@@ -39,19 +39,25 @@ fn heading(payload: u32) -> Word
     }
 }
 
+fn payload(bits: u32) -> u32
+    ensures { λ r. ⌜ r ≡ payloadOf bits ⌝ }
+{
+    bits % 268435456
+}
+
+// Each arm takes the payload for itself: where a caller cuts it further, both cuts are one step.
 pub fn decode(bits: u32) -> Word
     ensures { λ r. ⌜ r ≡ decoded bits ⌝ }
 {
     let kind = bits / 268435456;
-    let payload = bits % 268435456;
     match kind {
-        1 => heading(payload),
-        2 => Word::Rule(payload),
-        3 => bare(Word::Positive, payload),
-        4 => bare(Word::Negative, payload),
-        5 => Word::Symbol(Symbol::Terminal(payload)),
-        6 => Word::Symbol(Symbol::Nonterminal(payload)),
-        7 => bare(Word::End, payload),
+        1 => heading(payload(bits)),
+        2 => Word::Rule(payload(bits)),
+        3 => bare(Word::Positive, payload(bits)),
+        4 => bare(Word::Negative, payload(bits)),
+        5 => Word::Symbol(Symbol::Terminal(payload(bits))),
+        6 => Word::Symbol(Symbol::Nonterminal(payload(bits))),
+        7 => bare(Word::End, payload(bits)),
         _ => Word::Invalid,
     }
 }

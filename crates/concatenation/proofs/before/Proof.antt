@@ -1,6 +1,7 @@
 -- Where nothing is in the first set, the second; else the empty set.
 use mathlib.Core.Path.{sym, _∙_}
 use borrow.Author.Needs.{needs}
+use Rattle.lookahead.specs.declared.Lookahead.the-variants.{Two}
 use Rattle.lookahead.specs.Lookaheads.{nothing}
 use Rattle.lookahead.specs.Elements.{has}
 use Rattle.concatenation.proofs.Cases as cases
@@ -20,14 +21,14 @@ returns : tie.Need-returns
 returns c =
     let tested = c .before in
     let args = tested .before .before .args in
-    cases.if-passed (has (args .set .bits) (nothing (args .lookahead))) (args .other .bits)
+    cases.if-passed (has (args .set .bits) (nothing Two)) (args .other .bits)
     (rw (tested .before .nothing .ensures) at (sym (tested .contains .ensures) ∙ c .if1 .taken))
 
 returns-2 : tie.Need-returns-2
 returns-2 c =
     let tested = c .before .before in
     let args = tested .before .before .args in
-    cases.if-failed (has (args .set .bits) (nothing (args .lookahead))) (has (args .other .bits))
+    cases.if-failed (has (args .set .bits) (nothing Two)) (has (args .other .bits))
     (rw (tested .before .nothing .ensures) at (sym (tested .contains .ensures) ∙ c .before .if1 .left)) (c .empty .ensures)
 
 pub before-spec : {M : Type 1} → statement M

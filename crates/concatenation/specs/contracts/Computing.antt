@@ -26,6 +26,9 @@ pub record Singles (k : Lookahead) (t r : ℕ) : Type 0 where
 unfoldable pub isLong : Lookahead → ℕ → Bool
 isLong k l = eqb (length (stringOf k l)) (tokens k)
 
+abbrev pub AllLong : Lookahead → ℕ → Type 0
+AllLong k s = (l : ℕ) → T (has s l) → T (isLong k l)
+
 -- with two tokens, terminal r begins a string of s
 unfoldable pub begins : ℕ → ℕ → Bool
 begins s r = has s (suc r) || anyBelow 7 (λ q. has s (8 + 7 * r + q))

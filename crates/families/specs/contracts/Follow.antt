@@ -1,26 +1,31 @@
 -- Follow sets as numbers: the families that the bodies of the rules close.
+use mathlib.Core.Path.{_≡_}
+use mathlib.Core.Bool.{Bool}
 use mathlib.Core.List.{List, [], _∷_, List·Memᴰ}
-use Prim.Native.Nat.{ℕ}
+use Prim.Native.Nat.{ℕ, suc, _<_}
+use lib.ListN.{length, getD, drop}
 use Rattle.word.specs.declared.Symbol.the-variants.{Terminal, Nonterminal}
 use Rattle.word.specs.declared.Word.{Word}
 use Rattle.word.specs.declared.Word.the-variants.{Heading, Rule as RuleWord, Positive, Negative, Symbol, End, Invalid}
 use Rattle.grammar.specs.Syntax.{Body, Rule, bodies}
-use Rattle.grammar.specs.Encoding.{Parsed}
+use Rattle.grammar.specs.Encoding.{Parsed, parse}
+use Rattle.grammar.specs.Limits.{maxRules}
+use Rattle.grammar.specs.contracts.Starts.{ruleStarts}
 use Rattle.lookahead.specs.declared.Lookahead.{Lookahead}
 use Rattle.lookahead.specs.contracts.Elements.{Subset}
 use Rattle.lookahead.specs.contracts.Operations.{end, concatNumbers}
-use Rattle.families.specs.contracts.Least.{SetFamily}
+use Rattle.families.specs.contracts.Least.{SetFamily, at, Passes}
 use Rattle.families.specs.contracts.First.{symbolFirst, bodyFirst}
 
--- behind each nonterminal of a body of B: the first set of what comes after it, concatenated with the follow set of B
-abbrev pub FollowNumbersBody : Lookahead → SetFamily → SetFamily → ℕ → Body → Type 0
-FollowNumbersBody k F L B [] = Unit {0}
-FollowNumbersBody k F L B (Terminal a ∷ b) = FollowNumbersBody k F L B b
-FollowNumbersBody k F L B (Nonterminal A ∷ b) = Subset (concatNumbers k (bodyFirst k F b) (L B)) (L A) × FollowNumbersBody k F L B b
+-- behind each nonterminal of a body: the first set of what comes after it, concatenated with v, what comes behind the body
+abbrev pub FollowNumbersBody : Lookahead → SetFamily → ℕ → SetFamily → Body → Type 0
+FollowNumbersBody k F v L [] = Unit {0}
+FollowNumbersBody k F v L (Terminal a ∷ b) = FollowNumbersBody k F v L b
+FollowNumbersBody k F v L (Nonterminal A ∷ b) = Subset (concatNumbers k (bodyFirst k F b) v) (L A) × FollowNumbersBody k F v L b
 
--- each body of each rule, positive or negative, adds its own
+-- each body of each rule, positive or negative, adds its own; behind it comes the follow set of the head
 abbrev pub FollowRules : Lookahead → SetFamily → List Rule → SetFamily → Type 0
-FollowRules k F rs L = (r : Rule) → List·Memᴰ r rs → (b : Body) → List·Memᴰ b (bodies r) → FollowNumbersBody k F L (r .head) b
+FollowRules k F rs L = (r : Rule) → List·Memᴰ r rs → (b : Body) → List·Memᴰ b (bodies r) → FollowNumbersBody k F (L (r .head)) L b
 
 -- and the end follows the start
 pub record FollowNumbersClosed (k : Lookahead) (F : SetFamily) (rs : List Rule) (L : SetFamily) : Type 0 where
@@ -37,8 +42,22 @@ tailBefore k F v (RuleWord A) tail = v
 tailBefore k F v (Heading m n) tail = v
 tailBefore k F v Invalid tail = v
 
--- what the rest of a rule of B asks
-pub record Asked (k : Lookahead) (F : SetFamily) (B : ℕ) (p : Parsed) (L : SetFamily) : Type 0 where
-  pub body : FollowNumbersBody k F L B (p .body)
-  pub positives : (b : Body) → List·Memᴰ b (p .positives) → FollowNumbersBody k F L B b
-  pub negatives : (b : Body) → List·Memᴰ b (p .negatives) → FollowNumbersBody k F L B b
+-- what the rest of a rule asks, where v comes behind its bodies
+pub record Asked (k : Lookahead) (F : SetFamily) (v : ℕ) (p : Parsed) (L : SetFamily) : Type 0 where
+  pub body : FollowNumbersBody k F v L (p .body)
+  pub positives : (b : Body) → List·Memᴰ b (p .positives) → FollowNumbersBody k F v L b
+  pub negatives : (b : Body) → List·Memᴰ b (p .negatives) → FollowNumbersBody k F v L b
+
+-- and where the follow set of B does
+abbrev pub AskedOf : Lookahead → SetFamily → ℕ → Parsed → SetFamily → Type 0
+AskedOf k F B p L = Asked k F (L B) p L
+
+-- a rule of B has its turn: what it asks is met by what comes behind its bodies at the begin, and if nothing has grown by the array that is left
+pub record FollowTurn (k : Lookahead) (F : SetFamily) (B : ℕ) (p : Parsed) (l₀ l : List ℕ) (grown : Bool) : Type 0 where
+  pub passes : Passes (AskedOf k F B p) l₀ l grown
+  pub asked : Asked k F (at l₀ B) p (at l)
+
+-- for each of n rules the set that came behind its bodies when it last had its turn, the empty set before
+pub record LastTurns (k : Lookahead) (F : SetFamily) (words : List ℕ) (n : ℕ) (last l : List ℕ) : Type 0 where
+  pub long : length last ≡ maxRules
+  pub each : (q : ℕ) → q < n → Asked k F (getD last q 0) (parse (drop (suc (getD (ruleStarts words) q 0)) words)) (at l)

@@ -3,10 +3,9 @@ use mathlib.Core.Path.{_≡_}
 use mathlib.Core.Bool.{Bool, false, not}
 use mathlib.Core.List.{List, [], _∷_}
 use mathlib.Core.Option.{Option, none, some}
-use Prim.Native.Nat.{ℕ, _+_, _≤_}
-use lib.Dec.{eqb, ltb}
+use Prim.Native.Nat.{ℕ, _+_, _%_, _≤_}
+use lib.Dec.{eqb}
 use lib.ListN.{length, getD, set}
-use Rattle.base.specs.Choice.{choose}
 use Rattle.grammar.specs.Limits.{maxNonterminals}
 use Rattle.base.specs.Quantifiers.{one}
 use Rattle.lookahead.specs.contracts.Elements.{Subset}
@@ -20,9 +19,9 @@ SetFamily = ℕ → ℕ
 abbrev pub at : List ℕ → SetFamily
 at l n = getD l n 0
 
--- the same as far as there are nonterminals, and empty sets behind
+-- the same as far as there are nonterminals; greater numbers are counted round
 unfoldable pub lookup : List ℕ → SetFamily
-lookup l n = choose (ltb n maxNonterminals) (getD l n 0) 0
+lookup l n = getD l (n % maxNonterminals) 0
 
 -- each set of F is contained in that of G
 abbrev pub Under : SetFamily → SetFamily → Type 0

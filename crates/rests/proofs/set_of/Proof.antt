@@ -1,5 +1,5 @@
--- By whether the array has a set there.
-use borrow.Author.Tests.{lt-ltb, le-ltb}
+-- The array has a set for what is left of the number.
+use mathlib.Core.Path.{refl}
 use Rattle.families.specs.contracts.Least.{lookup}
 use borrow.Author.Needs.{needs}
 use Rattle.rests.proofs.set_of.Statement.{statement}
@@ -13,11 +13,7 @@ element-copy-out-result c = search needs
 
 returns : tie.Need-returns
 unfolding lookup
-returns c = rw (lt-ltb _ _ (c .before .if1 .taken))
-
-returns-2 : tie.Need-returns-2
-unfolding lookup
-returns-2 c = rw (le-ltb _ _ (c .if1 .left))
+returns c = refl
 
 pub set-of-spec : {M : Type 1} → statement M
-set-of-spec = tie.close (tie.spec mul-result element-copy-out-result returns returns-2)
+set-of-spec = tie.close (tie.spec mul-result element-copy-out-result returns)

@@ -1,5 +1,5 @@
 -- The loop keeps `Turns`: the rules before have had their turn; and `Meeting`: what they give is kept, while no set has grown.
-use mathlib.Core.Path.{refl, _∙_}
+use mathlib.Core.Path.{refl}
 use Prim.Native.Nat.{_-_}
 use native.Mathlib.Omega.{arith}
 use Rattle.grammar.proofs.WellRead.{well-read}
@@ -125,7 +125,7 @@ loop-again c =
     let given = start .pre .0 in
     let forward = start .args .forward in
     let turns = loop .loop .inv .0 in
-    let meet = rule-given (end-of .end-of .ensures) _ _ _ (turns .long ∙ given .long) (first .rule-first .ensures) in (
+    let meet = rule-given (end-of .end-of .ensures) _ _ _ (first .rule-first .ensures) in (
       visit given (ruleGives _ _) (rule-larger _ _) forward _ turns (test .if1 .taken) (turned .turn .ensures) meet
           (decode .decode .ensures) (head-of .head-of .ensures)
           (c .before .add .ensures) (c .either .ensures),

@@ -1,23 +1,26 @@
--- The loop keeps `FollowWalk`: the words from `at` on have been gone through.
+-- Nothing new follows the head; else the loop keeps `FollowWalk`: the words from `at` on have been gone through.
+use mathlib.Core.Path.{refl}
 use native.Mathlib.Omega.{arith}
 use Rattle.families.specs.contracts.Least.{at as family}
-use Rattle.families.proofs.ArrayLookup.{lookup-at}
-use Rattle.families.proofs.FollowPasses.{FollowWalk, behind-body, follow-start, word-here, follow-turn, follow-end}
+use Rattle.families.proofs.FollowPasses.{FollowWalk, behind-body, follow-start, word-here, follow-turn, follow-end, follow-skipped}
 use Rattle.sets.proofs.follow.follow_rule.Statement.{statement}
 use Rattle.sets.proofs.follow.follow_rule.Tie as tie
 
 abbrev Inv-loop : tie.InvT-loop
-Inv-loop words start end head firsts follows₀ lookahead behind grown₀ tail₀ at₀ follows grown tail at =
+Inv-loop words start end head last firsts follows₀ lookahead behind grown₀ tail₀ at₀ follows grown tail at =
     FollowWalk lookahead (family firsts) head words follows₀ follows start end grown (tail .bits) at
 
 abbrev μ-loop : tie.MeasureT-loop
-μ-loop words start end head firsts follows₀ lookahead behind grown₀ tail₀ at₀ follows grown tail at = at
+μ-loop words start end head last firsts follows₀ lookahead behind grown₀ tail₀ at₀ follows grown tail at = at
 
-mul-t15 : tie.Need-mul-t15 Inv-loop μ-loop
-mul-t15 c = omega (arith, c .before .pre .1)
+mul-t16 : tie.Need-mul-t16 Inv-loop μ-loop
+mul-t16 c = omega (arith, c .before .pre .1)
 
-element-copy-out-t18 : tie.Need-element-copy-out-t18 Inv-loop μ-loop
-element-copy-out-t18 c = omega (arith, c .before .pre .1)
+element-copy-out-t19 : tie.Need-element-copy-out-t19 Inv-loop μ-loop
+element-copy-out-t19 c = omega (arith, c .before .pre .1)
+
+returns : tie.Need-returns Inv-loop μ-loop
+returns c = let start = c .before .before .before .before in follow-skipped (start .pre .0) (start .pre .3) (c .if1 .taken)
 
 end-requires : tie.Need-end-requires Inv-loop μ-loop
 end-requires c κs = tt
@@ -27,7 +30,7 @@ concat-requires c κs = tt
 
 loop-holds : tie.Need-loop-holds Inv-loop μ-loop
 loop-holds c =
-    let start = c .before .before .before .before in
+    let start = c .before .before .before .before .before .before in
     follow-start (start .pre .0) (start .args .lookahead) _ _ _ (behind-body (start .args .lookahead) (c .before .end .ensures) (c .concat .ensures))
 
 add-loop : tie.Need-add-loop Inv-loop μ-loop
@@ -39,13 +42,13 @@ sub-at c = omega arith
 mul-decode : tie.Need-mul-decode Inv-loop μ-loop
 mul-decode c =
     let at-loop = c .before in
-    let start = at-loop .before .before .before .before .before in
+    let start = at-loop .before .before .before .before .before .before .before in
     omega (arith, at-loop .loop .inv .high, start .pre .0 .within)
 
 shared-slice-read-decode : tie.Need-shared-slice-read-decode Inv-loop μ-loop
 shared-slice-read-decode c =
     let at-loop = c .before .before in
-    let start = at-loop .before .before .before .before .before in
+    let start = at-loop .before .before .before .before .before .before .before in
     omega (arith, at-loop .loop .inv .high, start .pre .0 .within)
 
 decode-requires : tie.Need-decode-requires Inv-loop μ-loop
@@ -56,7 +59,7 @@ add-behind-requires c κs =
     let at-decode = c .before in
     let at-loop-test = at-decode .before .before in
     let at-loop = at-loop-test .before in
-    let start = at-loop .before .before .before .before .before in
+    let start = at-loop .before .before .before .before .before .before .before in
     word-here (start .pre .0) _ (at-loop .loop .inv) (at-loop-test .loop-test .taken) (at-decode .decode .ensures)
 
 either-requires : tie.Need-either-requires Inv-loop μ-loop
@@ -79,15 +82,15 @@ loop-again c =
     let at-loop = at-loop-test .before in
     let behind = at-loop .before in
     let at-end = behind .before in
-    let start = at-end .before .before .before in
-    follow-turn (start .pre .0) _ (at-loop .loop .inv) (at-loop-test .loop-test .taken) (at-decode .decode .ensures) _ (start .pre .3)
+    let start = at-end .before .before .before .before .before in
+    follow-turn (start .pre .0) _ (at-loop .loop .inv) (at-loop-test .loop-test .taken) (at-decode .decode .ensures) _ (start .pre .2)
     (at-add-behind .add-behind .ensures) (at-either .either .ensures) (behind-body (start .args .lookahead) (at-end .end .ensures) (behind .concat .ensures))
-    (rw (lookup-at (start .args .firsts .now) (start .pre .2)) at (c .tail-before .ensures))
+    (start .args .firsts .now) refl (c .tail-before .ensures)
 
-returns : tie.Need-returns Inv-loop μ-loop
-returns c =
+returns-2 : tie.Need-returns-2 Inv-loop μ-loop
+returns-2 c =
     let at-loop = c .before in
-    let start = at-loop .before .before .before .before .before in
+    let start = at-loop .before .before .before .before .before .before .before in
     follow-end (start .pre .0) (at-loop .loop .inv) (c .loop-test .left)
 
 pub follow-rule-spec : {M : Type 1} → statement M
@@ -96,8 +99,9 @@ follow-rule-spec =
     (tie.spec
     Inv-loop
     μ-loop
-    mul-t15
-    element-copy-out-t18
+    mul-t16
+    element-copy-out-t19
+    returns
     end-requires
     concat-requires
     loop-holds
@@ -111,4 +115,4 @@ follow-rule-spec =
     tail-before-requires
     loop-less
     loop-again
-    returns)
+    returns-2)

@@ -1,5 +1,5 @@
 -- The loop keeps the array under every closed family; the last pass shows it closed.
-use mathlib.Core.Path.{_≡_, refl, ap, _∙_}
+use mathlib.Core.Path.{_≡_, refl, _∙_}
 use native.Mathlib.Omega.{arith}
 use lib.ListN.{length}
 use Rattle.grammar.specs.Limits.{maxNonterminals}
@@ -7,49 +7,50 @@ use Rattle.grammar.specs.Encoding.{parse}
 use Rattle.lookahead.specs.contracts.Lookaheads.{alphabet}
 use Rattle.lookahead.specs.contracts.Operations.{full}
 use Rattle.families.specs.contracts.Least.{at as family}
-use Rattle.families.specs.contracts.Follow.{FollowNumbersClosed}
-use Rattle.base.proofs.Lists.{listed-long}
+use Rattle.families.specs.contracts.Follow.{FollowNumbersClosed, LastTurns}
 use Rattle.families.proofs.LeastByPasses.{Below, below-none, missing, below-pass, least-pass, missing-falls}
 use Rattle.families.proofs.FewTerminals.{admitted-read}
+use Rattle.families.proofs.FollowPasses.{last-none}
 use Rattle.families.proofs.FollowTie.{full-closed, follow-listed}
 use Rattle.sets.proofs.follow.follow_sets.Statement.{statement}
 use Rattle.sets.proofs.follow.follow_sets.Tie as tie
 
 abbrev Inv-loop : tie.InvT-loop
-Inv-loop words starts sizes firsts lookahead follows₀ forward₀ follows forward =
+Inv-loop words starts sizes firsts lookahead follows₀ last₀ forward₀ follows last forward =
     (length follows ≡ maxNonterminals) × Below (FollowNumbersClosed lookahead (family firsts) (parse words .rules)) follows
+    × LastTurns lookahead (family firsts) words (sizes .rules) last follows
 
 abbrev μ-loop : tie.MeasureT-loop
-μ-loop words starts sizes firsts lookahead follows₀ forward₀ follows forward = missing (full lookahead (alphabet lookahead)) follows
+μ-loop words starts sizes firsts lookahead follows₀ last₀ forward₀ follows last forward = missing (full lookahead (alphabet lookahead)) follows
 
 loop-holds : tie.Need-loop-holds Inv-loop μ-loop
-loop-holds c = (refl, below-none _ maxNonterminals)
+loop-holds c = (refl, below-none _ maxNonterminals, last-none _ _ _ _ _)
 
 follow-pass-requires : tie.Need-follow-pass-requires Inv-loop μ-loop
 follow-pass-requires c κs =
-    let start = c .before .before .before in
+    let start = c .before .before .before .before in
     let given = start .pre in (
-      record { read = admitted-read (start .args .lookahead) (start .args .words .now) (given .0); begins = given .1; long = c .before .loop .inv .0 },
-      ap length (given .2) ∙ listed-long maxNonterminals _,
+      record { read = admitted-read (start .args .lookahead) (start .args .words .now) (given .0); begins = given .1; long = c .before .before .loop .inv .0 },
+      c .before .before .loop .inv .2,
     )
 
 loop-less : tie.Need-loop-less Inv-loop μ-loop
 loop-less c =
-    let start = c .before .before .before .before .before in
-    missing-falls (c .before .follow-pass .ensures) (c .before .before .before .loop .inv .1) _ _
+    let start = c .before .before .before .before .before .before in
+    missing-falls (c .before .follow-pass .ensures .0) (c .before .before .before .before .loop .inv .1) _ _
     (full-closed (start .args .lookahead) _ (parse (start .args .words .now) .rules)) (λ n. omega arith) (c .if1 .taken)
 
 loop-again : tie.Need-loop-again Inv-loop μ-loop
 loop-again c =
-    let pass = c .before .follow-pass .ensures in
-    let inv = c .before .before .before .loop .inv in
-    (pass .long ∙ inv .0, below-pass pass (inv .1))
+    let pass = c .before .follow-pass .ensures .0 in
+    let inv = c .before .before .before .before .loop .inv in
+    (pass .long ∙ inv .0, below-pass pass (inv .1), c .before .follow-pass .ensures .1)
 
 returns : tie.Need-returns Inv-loop μ-loop
 returns c =
-    let start = c .before .before .before .before .before in
-    let inv = c .before .before .before .loop .inv in
-    let pass = c .before .follow-pass .ensures in
+    let start = c .before .before .before .before .before .before in
+    let inv = c .before .before .before .before .loop .inv in
+    let pass = c .before .follow-pass .ensures .0 in
     follow-listed (start .args .lookahead) (start .args .words .now) (start .args .sizes) (start .pre .0) (start .args .firsts .now) (start .pre .2) _
     (pass .long ∙ inv .0) (least-pass pass (inv .1) (c .if1 .left))
 
