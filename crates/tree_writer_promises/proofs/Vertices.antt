@@ -8,7 +8,7 @@ use types.Run.{OneOf}
 use Rattle.word.proofs.Word.{the-type}
 use Rattle.word.proofs.Symbol.{the-type as symbol-type}
 use mathlib.Core.Option.{none, some}
-use Prim.Native.Nat.{ℕ, zero, suc, _+_, _*_, _-_, _/_, _%_, _≤_, _<_}
+use Prim.Native.Nat.{ℕ, zero, suc, _+_, _*_, _/_, _%_, _≤_, _<_}
 use native.Mathlib.Omega.{arith}
 use native.Mathlib.Numerals.{add-one}
 use lib.Dec.{ltb, eqb→eq}
@@ -37,7 +37,6 @@ use Rattle.semantics.specs.Descent.{Outcomes, End, descend, accepts}
 use Rattle.semantics.specs.ComesTo.{Call, callAt, InRange, bodyComesTo}
 use Rattle.semantics.specs.contracts.ComesTo.{measure}
 use Rattle.semantics.specs.Calls.{sameCall}
-use Rattle.semantics.specs.LeftRecursion as semantics
 use Rattle.semantics.proofs.Theorems.{theorems}
 use Rattle.families.proofs.Words.{parse-over}
 use Rattle.recursive_descent.proofs.Bodies.{parse-here, symbol-reads}

@@ -1,15 +1,12 @@
 -- Writing a vertex ends, and writes what the visit does: from a call to those below it the tokens left fall, or else the rank does.
-use mathlib.Core.Path.{_≡_, refl, sym, ap, _∙_}
-use mathlib.Core.Bool.{false}
+use mathlib.Core.Path.{sym, ap, _∙_}
 use mathlib.Core.List.{List}
 use mathlib.Core.Logic.{⊎-elim}
 use Prim.Native.Nat.{ℕ, _+_, _*_, _-_, _<_}
 use native.Mathlib.Omega.{arith}
-use lib.Dec.{ltb}
-use lib.ListN.{length, getD}
+use lib.ListN.{length}
 use Rattle.word.specs.declared.Word.the-variants.{Symbol}
 use Rattle.grammar.specs.Limits.{maxPlaces, maxMemoEntries}
-use Rattle.tree_writer_promises.specs.contracts.Labels.{kind}
 use Rattle.tree_writer_promises.specs.contracts.Writer.{VertexGiven, falling}
 use Rattle.tree_writer_promises.proofs.Vertices.{Onward, Going, going-as, neither, is-terminal, entry-low, index-small, begins, vertex-seen, rule-low}
 use Rattle.tree_writer_promises.proofs.Vertices.{begin-low, written-low, tree-room, going-start, going-over, going-ended, going-positive, going-terminal}
@@ -73,33 +70,48 @@ write-vertex-μ-loop words starts labels₀ tree₀ entry written vertex start c
 abbrev Loop : ℕ → Type 0
 Loop t = write-vertex-lts.At-loop (write-vertex-claims t) (write-vertex-at t) write-vertex.Post write-vertex-Inv-loop write-vertex-μ-loop
 
+-- the call before the loop
+abbrev Start : ℕ → Type 0
+Start t = write-vertex-lts.Start (write-vertex-claims t) (write-vertex-at t) write-vertex.Post write-vertex-Inv-loop write-vertex-μ-loop
+
+abbrev start-of : (t : ℕ) → Loop t → Start t
+start-of t c =
+    let at-start-of = c .before .before .before in
+    let at-is-marked = at-start-of .before .before .before in
+    at-is-marked .before .before .before .before
+
 -- the vertex that the call is to write, for an input
 abbrev Given : (t : ℕ) → Loop t → List ℕ → ℕ → ℕ → Type 0
 Given t c input A start =
-    let a = c .before .before .before .before .before .before .before .before .before .before .args in
+    let a = start-of t c .args in
     VertexGiven input (a .words .now) (a .starts .now) (a .labels .now) (a .tree .now) A start (a .entry) (a .written)
 
 -- what the loop has reached
 going : (t : ℕ) (c : Loop t) (input : List ℕ) (A start : ℕ) (g : Given t c input A start)
     → Going g (c .loop .labels) (c .loop .tree) (c .loop .count) (c .loop .at) (c .loop .place)
 going t c input A start g =
-    let at-start-of = c .before .before .before in
+    let at-rule-of = c .before .before in
+    let at-start-of = at-rule-of .before in
     let at-marked = at-start-of .before in
-    let unmarked = sym (at-marked .before .before .is-marked .ensures) ∙ at-marked .before .if1 .left in
+    let at-if1 = at-marked .before in
+    let unmarked = sym (at-if1 .before .is-marked .ensures) ∙ at-if1 .if1 .left in
     let begun = at-start-of .start-of .ensures ∙ begins g in
-    c .loop .inv input _ _ A start g begun
-    (going-start g unmarked (c .before .before .rule-of .ensures) (at-marked .marked .ensures) begun)
+    c .loop .inv input _ _ A start g begun (going-start g unmarked (at-rule-of .rule-of .ensures) (at-marked .marked .ensures) begun)
 
--- a nonterminal, and what is known there
-abbrev Named : ℕ → Type 0
-Named t = write-vertex-lts.After-known-told2 (write-vertex-claims t) (write-vertex-at t) write-vertex.Post write-vertex-Inv-loop write-vertex-μ-loop
-
-below-low : (t : ℕ) (c : Named t) → c .before .symbol .given .0 .0 * maxPlaces + c .before .before .before .before .before .before .before .before .before .loop .place < maxMemoEntries
+-- at a nonterminal: where the word of the call is kept
+below-low : (t : ℕ)
+    (c : write-vertex-lts.After-known-told2 (write-vertex-claims t) (write-vertex-at t) write-vertex.Post write-vertex-Inv-loop write-vertex-μ-loop)
+    → let at-word = c .before .before .before .before in
+    let loop = at-word .before .before .before .before .before in
+    c .before .symbol .given .0 .0 * maxPlaces + loop .loop .place < maxMemoEntries
 below-low t c =
-    let loop = c .before .before .before .before .before .before .before .before .before in
-    let g = loop .before .before .before .before .before .before .before .before .before .before .pre .1 .1 .1 .1 in
-    let e = sym (c .before .before .before .before .before .before .decode .ensures) ∙ c .before .before .before .before .word .given .1 ∙ ap Symbol (c .before .symbol .given .1) in
-    index-small g (called-found g (going t loop _ _ _ g) (c .before .before .before .before .before .before .before .before .loop-test .taken) _ e)
+    let at-word = c .before .before .before .before in
+    let at-decode = at-word .before .before in
+    let at-loop-test = at-decode .before .before in
+    let loop = at-loop-test .before in
+    let g = start-of t loop .pre .1 .1 .1 .1 in
+    let e = sym (at-decode .decode .ensures) ∙ at-word .word .given .1 ∙ ap Symbol (c .before .symbol .given .1) in
+    index-small g (called-found g (going t loop _ _ _ g) (at-loop-test .loop-test .taken) _ e)
 
 write-vertex-mul-vertex : (t : ℕ)
     → write-vertex-lts.Need-mul-vertex (write-vertex-claims t) (write-vertex-at t) write-vertex.Post write-vertex-Inv-loop write-vertex-μ-loop
@@ -123,19 +135,33 @@ write-vertex-marked-requires t c κs = tt
 
 write-vertex-mul-labels : (t : ℕ)
     → write-vertex-lts.Need-mul-labels (write-vertex-claims t) (write-vertex-at t) write-vertex.Post write-vertex-Inv-loop write-vertex-μ-loop
-write-vertex-mul-labels t c = omega (arith, entry-low (c .before .before .before .before .before .before .pre .1 .1 .1 .1))
+write-vertex-mul-labels t c =
+    let at-is-marked = c .before .before in
+    omega (arith, entry-low (at-is-marked .before .before .before .before .pre .1 .1 .1 .1))
 
 write-vertex-element-write-labels : (t : ℕ)
     → write-vertex-lts.Need-element-write-labels (write-vertex-claims t) (write-vertex-at t) write-vertex.Post write-vertex-Inv-loop write-vertex-μ-loop
-write-vertex-element-write-labels t c = omega (arith, entry-low (c .before .before .before .before .before .before .pre .1 .1 .1 .1))
+write-vertex-element-write-labels t c =
+    let at-is-marked = c .before .before in
+    omega (arith, entry-low (at-is-marked .before .before .before .before .pre .1 .1 .1 .1))
 
 write-vertex-mul-tree : (t : ℕ)
     → write-vertex-lts.Need-mul-tree (write-vertex-claims t) (write-vertex-at t) write-vertex.Post write-vertex-Inv-loop write-vertex-μ-loop
-write-vertex-mul-tree t c = omega (arith, written-low (c .before .before .before .before .before .before .pre .1 .1 .1 .1) (sym (c .before .before .is-marked .ensures) ∙ c .before .if1 .left))
+write-vertex-mul-tree t c =
+    let at-if1 = c .before in
+    let at-is-marked = at-if1 .before in
+    let start = at-is-marked .before .before .before .before in
+    let unmarked = sym (at-is-marked .is-marked .ensures) ∙ at-if1 .if1 .left in
+    omega (arith, written-low (start .pre .1 .1 .1 .1) unmarked)
 
 write-vertex-slice-write-tree : (t : ℕ)
     → write-vertex-lts.Need-slice-write-tree (write-vertex-claims t) (write-vertex-at t) write-vertex.Post write-vertex-Inv-loop write-vertex-μ-loop
-write-vertex-slice-write-tree t c = tree-room (c .before .before .before .before .before .before .pre .1 .1 .1 .1) (sym (c .before .before .is-marked .ensures) ∙ c .before .if1 .left)
+write-vertex-slice-write-tree t c =
+    let at-if1 = c .before in
+    let at-is-marked = at-if1 .before in
+    let start = at-is-marked .before .before .before .before in
+    let unmarked = sym (at-is-marked .is-marked .ensures) ∙ at-if1 .if1 .left in
+    tree-room (start .pre .1 .1 .1 .1) unmarked
 
 write-vertex-start-of-requires : (t : ℕ)
     → write-vertex-lts.Need-start-of-requires (write-vertex-claims t) (write-vertex-at t) write-vertex.Post write-vertex-Inv-loop write-vertex-μ-loop
@@ -143,7 +169,12 @@ write-vertex-start-of-requires t c κs = tt
 
 write-vertex-add-count : (t : ℕ)
     → write-vertex-lts.Need-add-count (write-vertex-claims t) (write-vertex-at t) write-vertex.Post write-vertex-Inv-loop write-vertex-μ-loop
-write-vertex-add-count t c = omega (arith, written-low (c .before .before .before .before .before .before .before .pre .1 .1 .1 .1) (sym (c .before .before .before .is-marked .ensures) ∙ c .before .before .if1 .left))
+write-vertex-add-count t c =
+    let at-if1 = c .before .before in
+    let at-is-marked = at-if1 .before in
+    let start = at-is-marked .before .before .before .before in
+    let unmarked = sym (at-is-marked .is-marked .ensures) ∙ at-if1 .if1 .left in
+    omega (arith, written-low (start .pre .1 .1 .1 .1) unmarked)
 
 write-vertex-rule-of-requires : (t : ℕ)
     → write-vertex-lts.Need-rule-of-requires (write-vertex-claims t) (write-vertex-at t) write-vertex.Post write-vertex-Inv-loop write-vertex-μ-loop
@@ -151,15 +182,31 @@ write-vertex-rule-of-requires t c κs = tt
 
 write-vertex-mul-at : (t : ℕ)
     → write-vertex-lts.Need-mul-at (write-vertex-claims t) (write-vertex-at t) write-vertex.Post write-vertex-Inv-loop write-vertex-μ-loop
-write-vertex-mul-at t c = omega (arith, rule-low (c .before .before .before .before .before .before .before .before .pre .1 .1 .1 .1) (sym (c .before .before .before .before .is-marked .ensures) ∙ c .before .before .before .if1 .left) (c .rule-of .ensures))
+write-vertex-mul-at t c =
+    let at-if1 = c .before .before .before in
+    let at-is-marked = at-if1 .before in
+    let start = at-is-marked .before .before .before .before in
+    let unmarked = sym (at-is-marked .is-marked .ensures) ∙ at-if1 .if1 .left in
+    omega (arith, rule-low (start .pre .1 .1 .1 .1) unmarked (c .rule-of .ensures))
 
 write-vertex-element-copy-out-at : (t : ℕ)
     → write-vertex-lts.Need-element-copy-out-at (write-vertex-claims t) (write-vertex-at t) write-vertex.Post write-vertex-Inv-loop write-vertex-μ-loop
-write-vertex-element-copy-out-at t c = rule-low (c .before .before .before .before .before .before .before .before .pre .1 .1 .1 .1) (sym (c .before .before .before .before .is-marked .ensures) ∙ c .before .before .before .if1 .left) (c .rule-of .ensures)
+write-vertex-element-copy-out-at t c =
+    let at-if1 = c .before .before .before in
+    let at-is-marked = at-if1 .before in
+    let start = at-is-marked .before .before .before .before in
+    let unmarked = sym (at-is-marked .is-marked .ensures) ∙ at-if1 .if1 .left in
+    rule-low (start .pre .1 .1 .1 .1) unmarked (c .rule-of .ensures)
 
 write-vertex-add-at : (t : ℕ)
     → write-vertex-lts.Need-add-at (write-vertex-claims t) (write-vertex-at t) write-vertex.Post write-vertex-Inv-loop write-vertex-μ-loop
-write-vertex-add-at t c = omega (arith, begin-low (c .before .before .before .before .before .before .before .before .before .pre .1 .1 .1 .1) (sym (c .before .before .before .before .before .is-marked .ensures) ∙ c .before .before .before .before .if1 .left) (c .before .rule-of .ensures))
+write-vertex-add-at t c =
+    let at-rule-of = c .before in
+    let at-if1 = at-rule-of .before .before .before in
+    let at-is-marked = at-if1 .before in
+    let start = at-is-marked .before .before .before .before in
+    let unmarked = sym (at-is-marked .is-marked .ensures) ∙ at-if1 .if1 .left in
+    omega (arith, begin-low (start .pre .1 .1 .1 .1) unmarked (at-rule-of .rule-of .ensures))
 
 write-vertex-loop-holds : (t : ℕ)
     → write-vertex-lts.Need-loop-holds (write-vertex-claims t) (write-vertex-at t) write-vertex.Post write-vertex-Inv-loop write-vertex-μ-loop
@@ -196,7 +243,7 @@ write-vertex-add-place t c =
     let at-decode = at-word .before .before in
     let at-loop-test = at-decode .before .before in
     let loop = at-loop-test .before in
-    let g = loop .before .before .before .before .before .before .before .before .before .before .pre .1 .1 .1 .1 in
+    let g = start-of t loop .pre .1 .1 .1 .1 in
     let a = is-terminal (at-word .word .given .0 .0) (c .before .match2 .keys1) in
     let e = sym (at-decode .decode .ensures) ∙ at-word .word .given .1 ∙ ap Symbol (a .1) in
     omega (arith, terminal-low g (going t loop _ _ _ g) (at-loop-test .loop-test .taken) (a .0) e, g .accepted .short)
@@ -225,7 +272,7 @@ write-vertex-write-vertex-requires t c κs =
     let at-decode = at-word .before .before in
     let at-loop-test = at-decode .before .before in
     let loop = at-loop-test .before in
-    let pre = loop .before .before .before .before .before .before .before .before .before .before .pre in
+    let pre = start-of t loop .pre in
     let g = pre .1 .1 .1 .1 in
     let u = going t loop _ _ _ g in
     let h = at-loop-test .loop-test .taken in
@@ -236,11 +283,15 @@ write-vertex-write-vertex-requires t c κs =
 
 write-vertex-mul-end-of : (t : ℕ)
     → write-vertex-lts.Need-mul-end-of (write-vertex-claims t) (write-vertex-at t) write-vertex.Post write-vertex-Inv-loop write-vertex-μ-loop
-write-vertex-mul-end-of t c = omega (arith, below-low t (c .before .before .before .before .before))
+write-vertex-mul-end-of t c =
+    let at-write-vertex = c .before .before in
+    omega (arith, below-low t (at-write-vertex .before .before .before))
 
 write-vertex-element-copy-out-end-of : (t : ℕ)
     → write-vertex-lts.Need-element-copy-out-end-of (write-vertex-claims t) (write-vertex-at t) write-vertex.Post write-vertex-Inv-loop write-vertex-μ-loop
-write-vertex-element-copy-out-end-of t c = below-low t (c .before .before .before .before .before)
+write-vertex-element-copy-out-end-of t c =
+    let at-write-vertex = c .before .before in
+    below-low t (at-write-vertex .before .before .before)
 
 write-vertex-end-of-requires : (t : ℕ)
     → write-vertex-lts.Need-end-of-requires (write-vertex-claims t) (write-vertex-at t) write-vertex.Post write-vertex-Inv-loop write-vertex-μ-loop
@@ -250,14 +301,15 @@ write-vertex-same-length : (t : ℕ)
     → write-vertex-lts.Need-same-length (write-vertex-claims t) (write-vertex-at t) write-vertex.Post write-vertex-Inv-loop write-vertex-μ-loop
 write-vertex-same-length t c =
     let loop = c .before .before .before .before in
-    let g = loop .before .before .before .before .before .before .before .before .before .before .pre .1 .1 .1 .1 in
+    let g = start-of t loop .pre .1 .1 .1 .1 in
     going-length g (going t loop _ _ _ g)
 
 write-vertex-returns-2 : (t : ℕ)
     → write-vertex-lts.Need-returns-2 (write-vertex-claims t) (write-vertex-at t) write-vertex.Post write-vertex-Inv-loop write-vertex-μ-loop
 write-vertex-returns-2 t c = λ input A start g.
+    let at-loop-test = c .before .before .before in
     let n = neither _ (c .match .keys3) in
-    going-ended g (going t (c .before .before .before .before) input A start g) (c .before .before .before .loop-test .taken) _ (c .before .decode .ensures) (n .0) (n .1)
+    going-ended g (going t (at-loop-test .before) input A start g) (at-loop-test .loop-test .taken) _ (c .before .decode .ensures) (n .0) (n .1)
 
 write-vertex-add-at-2 : (t : ℕ)
     → write-vertex-lts.Need-add-at-2 (write-vertex-claims t) (write-vertex-at t) write-vertex.Post write-vertex-Inv-loop write-vertex-μ-loop
@@ -270,8 +322,9 @@ write-vertex-loop-less t c = omega arith
 write-vertex-loop-again : (t : ℕ)
     → write-vertex-lts.Need-loop-again (write-vertex-claims t) (write-vertex-at t) write-vertex.Post write-vertex-Inv-loop write-vertex-μ-loop
 write-vertex-loop-again t c = λ input labels₀ tree₀ A start g b s.
-    let u = c .before .before .before .before .loop .inv input labels₀ tree₀ A start g b s in
-    let h = c .before .before .before .loop-test .taken in
+    let at-loop-test = c .before .before .before in
+    let u = at-loop-test .before .loop .inv input labels₀ tree₀ A start g b s in
+    let h = at-loop-test .loop-test .taken in
     let e = sym (c .before .decode .ensures) in
     ⊎-elim
     (λ w. going-as g (w .2) (w .3) (w .4) (w .5 ∙ b) (going-positive g u h (e ∙ w .1 .given .1)))
@@ -288,7 +341,7 @@ write-vertex-loop-again t c = λ input labels₀ tree₀ A start g b s.
 write-vertex-same-length-2 : (t : ℕ)
     → write-vertex-lts.Need-same-length-2 (write-vertex-claims t) (write-vertex-at t) write-vertex.Post write-vertex-Inv-loop write-vertex-μ-loop
 write-vertex-same-length-2 t c =
-    let g = c .before .before .before .before .before .before .before .before .before .before .before .pre .1 .1 .1 .1 in
+    let g = start-of t (c .before) .pre .1 .1 .1 .1 in
     going-length g (going t (c .before) _ _ _ g)
 
 write-vertex-returns-3 : (t : ℕ)
