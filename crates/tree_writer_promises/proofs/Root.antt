@@ -1,11 +1,11 @@
 -- Writing the tree from its root, by what judging left of an accepted input.
 use mathlib.Core.Path.{_≡_, refl, sym, ap, _∙_}
-use mathlib.Core.List.{List, [], _∷_, map, List·Memᴰ·not-nil}
+use mathlib.Core.List.{List, [], _∷_, _++_, map, List·Memᴰ·not-nil}
 use denote.Enum.Declared.{tagOf}
 use Prim.Native.Nat.{ℕ, _+_, _*_, _-_, _%_, _≤_, _<_}
 use native.Mathlib.Numerals.{add-one}
 use native.Mathlib.Omega.{arith}
-use lib.ListN.{length, getD, length-map}
+use lib.ListN.{length, getD, drop, length-map}
 use Rattle.base.specs.Quantifiers.{anyOf}
 use Rattle.base.proofs.Booleans.{T-true}
 use Rattle.grammar.specs.Syntax.{Grammar}
@@ -133,4 +133,8 @@ module _ {words input table memo tree : List ℕ} (g : TreeGiven words input tab
       counted = last .count ∙ sym (ap length the-words ∙ length-map (treeCalls G (choiceOf words input) input) (vertexWordAt words input))
 
       pub tree-done : TreeDone words input tree n tree′
-      tree-done = record { number = counted; written = rw (the-words, last .count) (last .front) }
+      tree-done = record {
+        number = counted;
+        written = last .front ∙ ap (λ k. map (vertexWordAt words input) (treeCalls G (choiceOf words input) input) ++ drop k tree) (sym (last .count))
+            ∙ ap (λ w. w ++ drop n tree) (sym the-words);
+      }
