@@ -12,7 +12,7 @@ use kept_judge::judge_kept_two;
 use packing::pack;
 use packing::states::STATE;
 use packing::states::progress_in;
-use packing::states::state_of;
+use packing::states::write_back;
 
 #[no_mangle]
 pub extern "C" fn vinegarspit_log_add(
@@ -25,11 +25,7 @@ pub extern "C" fn vinegarspit_log_add(
     let old = *state;
     let progress = progress_in(old);
     let moved = add_event(events, progress, event);
-    let answer = moved.answer;
-    let next = moved.progress;
-    let new = state_of(next);
-    *state = new;
-    pack(answer)
+    write_back(moved, state)
 }
 
 #[no_mangle]
@@ -39,11 +35,7 @@ pub extern "C" fn vinegarspit_log_mark(state: &mut [u16; STATE], mark: u32) -> u
     let old = *state;
     let progress = progress_in(old);
     let moved = progress.mark(mark);
-    let answer = moved.answer;
-    let next = moved.progress;
-    let new = state_of(next);
-    *state = new;
-    pack(answer)
+    write_back(moved, state)
 }
 
 #[no_mangle]
@@ -53,11 +45,7 @@ pub extern "C" fn vinegarspit_log_return(state: &mut [u16; STATE], mark: u32) ->
     let old = *state;
     let progress = progress_in(old);
     let moved = progress.return_to(mark);
-    let answer = moved.answer;
-    let next = moved.progress;
-    let new = state_of(next);
-    *state = new;
-    pack(answer)
+    write_back(moved, state)
 }
 
 // What stands in the caller's memory.

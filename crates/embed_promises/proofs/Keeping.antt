@@ -1,13 +1,17 @@
 -- The answers of a step fit, and what is written back is what the library hands back.
 use mathlib.Core.Path.{_≡_, refl, sym, ap, _∙_, subst}
 use mathlib.Core.List.{List, [], _∷_}
+use mathlib.Core.Logic.{⊎-elim}
 use mathlib.Core.Option.{Option, none, some}
+use denote.Enum.Declared.{tagOf}
+use types.Run.{OneOf}
 use Prim.Native.Nat.{ℕ}
 use native.Mathlib.Omega.{arith}
 use lib.Dec.{leb}
 use lib.ListN.{length, getD}
 use Rattle.answer.specs.declared.Answer.{Answer}
-use Rattle.answer.specs.declared.Answer.the-variants.{Refused, Passed}
+use Rattle.answer.specs.declared.Answer.the-variants.{Refused, Passed, Rejected, Accepted}
+use Rattle.answer.proofs.Answer.{the-type}
 use Rattle.answer.specs.declared.Error.{Error}
 use Rattle.answer.specs.declared.Error.the-variants.{UnknownMark, MarkNotSet, InputFull}
 use Rattle.answer.specs.Numbers.{numbers}
@@ -27,10 +31,10 @@ use Rattle.kept_input.proofs.Lists.{elements}
 use Rattle.embed_promises.specs.contracts.Packing.{NumbersFit, cut}
 use Rattle.embed_promises.specs.Packing.{packed}
 use Rattle.embed_promises.specs.Kept.{stateOf, progressIn, StepExported, MoveExported, KeptExported}
-use Rattle.embed_promises.specs.contracts.Kept.{StateRead}
+use Rattle.embed_promises.specs.contracts.Kept.{StateRead, stateAfter, WrittenBack}
 use Rattle.embed_promises.proofs.Places.{Low}
 use Rattle.embed_promises.proofs.Fitting.{passed-fits, fits-by, judge-fits}
-use Rattle.embed_promises.proofs.Packed.{packs}
+use Rattle.embed_promises.proofs.Packed.{passed-packed, packs}
 
 -- a refusal of a step tells no place
 step-low : (t : Step) (s : Kept) → OfFault Low (stepFault t s)
@@ -74,25 +78,56 @@ refused-kept {t} {k} {c} s e q = go (stepFault t (heldInput k)) _ (s .leaves .an
     go none next a h = absurd (refused-ne-passed (sym q ∙ a))
     go (some x) next a h = h
 
+-- the state is written where the step passes, by the tag of its answer
+state-stays : (a : Answer) (next state : List ℕ) → OneOf (0 ∷ 2 ∷ 3 ∷ []) (tagOf the-type a) → state ≡ stateAfter a next state
+state-stays (Refused e) next state t = refl
+state-stays Passed next state t = absurd (⊎-elim (λ e. omega arith) (⊎-elim (λ e. omega arith) (λ e. omega arith)) t)
+state-stays (Rejected c) next state t = refl
+state-stays (Accepted c) next state t = refl
+
+is-passed : (a : Answer) → tagOf the-type a ≡ 1 → a ≡ Passed
+is-passed (Refused e) t = absurd (omega arith)
+is-passed Passed t = refl
+is-passed (Rejected c) t = absurd (omega arith)
+is-passed (Accepted c) t = absurd (omega arith)
+
+module _ (m : Moved) (state : List ℕ) where
+  pub not-written : {r : ℕ} → OneOf (0 ∷ 2 ∷ 3 ∷ []) (tagOf the-type (m .answer)) → r ≡ packed (cut (numbers (m .answer))) → WrittenBack m state r state
+  not-written t e = record { packs = e; left = state-stays (m .answer) (stateOf (m .progress)) state t }
+
+  pub written-back : {new : List ℕ} → tagOf the-type (m .answer) ≡ 1 → new ≡ stateOf (m .progress) → WrittenBack m state 1 new
+  written-back t n = let q = is-passed (m .answer) t in record { packs = passed-packed q refl; left = n ∙ rw q refl }
+
+-- so the state is what it hands back, whether it is written or not
+state-left : {t : Step} {events state state′ : List ℕ} {p : Progress} {c : Changed} → StateRead state p → Steps t (keptInput events p) c
+    → state′ ≡ stateAfter (c .answer) (stateOf (c .kept .progress)) state → state′ ≡ stateOf (c .kept .progress)
+state-left {t} {events} {state} {state′} {p} {c} g s left = go (stepFault t (heldInput (keptInput events p))) (s .leaves .answer)
+  where
+    go : (f : Option Error) → c .answer ≡ refusedOr f Passed → state′ ≡ stateOf (c .kept .progress)
+    go none a = rw a at left
+    go (some x) a =
+        let stays : state′ ≡ state = rw a at left in
+        stays ∙ sym (ap (λ (k : KeptInput). stateOf (k .progress)) (refused-kept s x a) ∙ g .whole)
+
 pub step-exported : {t : Step} {events state events′ state′ : List ℕ} {p : Progress} {c : Changed} {r : ℕ} → StateRead state p → Steps t (keptInput events p) c
     → r ≡ packed (cut (numbers (c .answer)))
     → events′ ≡ c .kept .events
-    → state′ ≡ stateOf (c .kept .progress)
+    → state′ ≡ stateAfter (c .answer) (stateOf (c .kept .progress)) state
     → StepExported t events state r events′ state′
 step-exported {t = t} {events = events} {c = c} g s e written left = record {
   changed = c;
   steps = subst (λ (q : Progress). Steps t (keptInput events q) c) (g .read) s;
   packs = packs (step-fits s) e;
   events-written = written;
-  state-written = left;
+  state-written = state-left g s left;
   unchanged = λ x q.
       let same = refused-kept s x q in
-      (written ∙ ap (λ (k : KeptInput). k .events) same, left ∙ ap (λ (k : KeptInput). stateOf (k .progress)) same ∙ g .whole);
+      (written ∙ ap (λ (k : KeptInput). k .events) same, state-left g s left ∙ ap (λ (k : KeptInput). stateOf (k .progress)) same ∙ g .whole);
 }
 
 pub move-exported : {t : Step} {state state′ : List ℕ} {p : Progress} {m : Moved} {r : ℕ} → StateRead state p → Moves t p m
     → r ≡ packed (cut (numbers (m .answer)))
-    → state′ ≡ stateOf (m .progress)
+    → state′ ≡ stateAfter (m .answer) (stateOf (m .progress)) state
     → MoveExported t state r state′
 move-exported g m e left = record { of-any-events = λ events whole. step-exported g (m .steps events whole) e refl left }
 

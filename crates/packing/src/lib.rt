@@ -11,6 +11,9 @@ use answer::position;
 pub mod records;
 pub mod states;
 
+// An answer that has no numbers: the verdict alone.
+const PASSED: u64 = 1;
+
 // The five fields side by side, each number cut to its bits.
 fn join(verdict: u8, code: u64, position: u64, count: u64, farthest: u64) -> u64
     ensures { λ r. ⌜ r ≡ joined verdict (code % 256) (position % 65536) (count % 65536) (farthest % 65536) ⌝ }
@@ -28,7 +31,7 @@ pub fn pack(answer: Answer) -> u64
 {
     match answer {
         Answer::Refused(error) => join(0, code(error) as u64, position(error) as u64, 0, 0),
-        Answer::Passed => join(1, 0, 0, 0, 0),
+        Answer::Passed => PASSED,
         Answer::Rejected(calls) => join(2, 0, 0, calls.count as u64, calls.farthest as u64),
         Answer::Accepted(calls) => join(3, 0, 0, calls.count as u64, calls.farthest as u64),
     }

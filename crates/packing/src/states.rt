@@ -1,8 +1,12 @@
 // The state of a kept log in a row of nine numbers: its length and its eight marks.
 ghost use mathlib.Core.Path.{_≡_};
 ghost use Rattle.embed_promises.specs.Kept.{stateOf};
-ghost use Rattle.embed_promises.specs.contracts.Kept.{StateRead};
+ghost use Rattle.embed_promises.specs.contracts.Kept.{StateRead, WrittenBack};
+use super::PASSED;
+use super::pack;
+use answer::Answer;
 use kept_input::MARKS;
+use kept_input::Moved;
 use kept_input::Progress;
 
 pub const STATE: usize = MARKS + 1;
@@ -25,7 +29,7 @@ pub fn progress_in(state: [u16; STATE]) -> Progress
     }
 }
 
-pub fn state_of(progress: Progress) -> [u16; STATE]
+fn state_of(progress: Progress) -> [u16; STATE]
     ensures { λ r. ⌜ r ≡ stateOf progress ⌝ }
 {
     let set = progress.marks;
@@ -40,4 +44,18 @@ pub fn state_of(progress: Progress) -> [u16; STATE]
         set[6],
         set[7],
     ]
+}
+
+// Writes the state that a step leaves, unless it is refused, and gives its answer packed.
+pub fn write_back(moved: Moved, state: &mut [u16; STATE]) -> u64
+    ensures { λ r. ⌜ WrittenBack moved (now (state .entry)) r (now (state .exit)) ⌝ }
+{
+    let answer = moved.answer;
+    let Answer::Passed = answer else {
+        return pack(answer);
+    };
+    let next = moved.progress;
+    let new = state_of(next);
+    *state = new;
+    PASSED
 }

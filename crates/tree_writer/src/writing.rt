@@ -9,33 +9,35 @@ use grammar::reading::Reading;
 use reader::read;
 use rule_starts::rule_starts;
 use vertex_words::end_of;
+use vertex_words::is_marked;
+use vertex_words::marked;
 use vertex_words::rule_of;
+use vertex_words::start_of;
 use word::Symbol;
 use word::Word;
 use word::decode;
 
-// Writes the vertex of a call and what is below it behind the words written so far, unless it is among them; gives how many there are then.
+// Writes the vertex whose word is kept at an entry, and what is below it, behind the words written so far, unless it is among them; gives how many
+// there are then.
 fn write_vertex(
-    nonterminal: usize,
     words: &[u32],
     starts: &[usize; RULES],
-    labels: &[u32; MEMO_ENTRIES],
+    labels: &mut [u32; MEMO_ENTRIES],
     tree: &mut [u32],
-    marks: &mut [bool; MEMO_ENTRIES],
-    start: usize,
+    entry: usize,
     written: usize,
 ) -> usize
-    requires { ⌜ VertexRequires (now words) (now starts) (now labels) (now tree) (now marks) nonterminal start written ⌝ }
-    ensures { λ r. ⌜ VertexEnsures (now (words .entry)) (now (starts .entry)) (now (labels .entry)) (now (tree .entry)) (now (marks .entry)) nonterminal start
-        written r (now (tree .exit)) (now (marks .exit)) ⌝ }
+    requires { ⌜ VertexRequires (now words) (now starts) (now labels) (now tree) entry written ⌝ }
+    ensures { λ r. ⌜ VertexEnsures (now (words .entry)) (now (starts .entry)) (now (labels .entry)) (now (tree .entry)) entry written r
+        (now (labels .exit)) (now (tree .exit)) ⌝ }
 {
-    let entry = nonterminal * PLACES + start;
-    if marks[entry] {
+    let vertex = labels[entry];
+    if is_marked(vertex) {
         return written;
     }
-    marks[entry] = true;
-    let vertex = labels[entry];
+    labels[entry] = marked(vertex);
     tree[written] = vertex;
+    let start = start_of(vertex);
     let mut count = written + 1;
     let mut at = starts[rule_of(vertex)] + 1;
     let mut place = start;
@@ -50,17 +52,9 @@ fn write_vertex(
                     place = place + 1;
                 }
                 Symbol::Nonterminal(called) => {
-                    count = write_vertex(
-                        called as usize,
-                        words,
-                        starts,
-                        labels,
-                        tree,
-                        marks,
-                        place,
-                        count,
-                    );
-                    place = end_of(labels[called as usize * PLACES + place]);
+                    let below = called as usize * PLACES + place;
+                    count = write_vertex(words, starts, labels, tree, below, count);
+                    place = end_of(labels[below]);
                 }
             },
             _ => return count,
@@ -86,7 +80,6 @@ pub(crate) fn write_tree(
         return 0;
     };
     let starts = rule_starts(words);
-    let labels = labels_of(sizes, events, table, memo);
-    let mut marks = [false; MEMO_ENTRIES];
-    write_vertex(0, words, &starts, &labels, tree, &mut marks, 0, 0)
+    let mut labels = labels_of(sizes, events, table, memo);
+    write_vertex(words, &starts, &mut labels, tree, 0, 0)
 }

@@ -69,4 +69,4 @@ module _ (events : List ℕ) {z : Sizes} {table memo : List ℕ} where
   pub labels-all : {at : ℕ} {labels : List ℕ} → LabelsGiven z (inputOf events)
       → z .nonterminals * maxPlaces ≤ at → LabelledBelow z (inputOf events) table memo at labels
       → Labelled z (inputOf events) table memo labels
-  labels-all g h b = record { word = λ A i a l. b .word A i (omega (arith, g .short)) a l }
+  labels-all g h b = record { long = b .long; word = λ A i a l. b .word A i (omega (arith, g .short)) a l }

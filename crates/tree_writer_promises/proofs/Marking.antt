@@ -1,10 +1,12 @@
--- One vertex more: its word behind those written, and its mark.
+-- One vertex more: its word behind those written, and the word that is kept is marked.
 use mathlib.Core.Path.{_≡_, refl, sym, ap, _∙_}
 use mathlib.Core.Bool.{Bool, true, false}
 use mathlib.Core.List.{List, [], _∷_, _++_, map, List·Memᴰ, List·Memᴰ·head, List·Memᴰ·append-cases, Memᴰ·append-left}
 use mathlib.Core.List.{List·Memᴰ·eq-of-singleton, Memᴰ·append-right}
 use mathlib.Core.Logic.{inl, inr}
 use Prim.Native.Nat.{ℕ, suc, _+_, _≤_, _<_}
+use lib.Dec.{ltb}
+use borrow.Author.Tests.{lt-ltb, le-ltb}
 use native.Mathlib.Nat.{mul-le-mul}
 use native.Mathlib.Decide.{ℕ-discrete}
 use native.Mathlib.Omega.{arith}
@@ -12,6 +14,7 @@ use lib.ListN.{length, getD, drop, set, length-set, length-map, length-append, l
 use lib.Seq.{getD-set-same, getD-set-other}
 use Rattle.grammar.specs.Limits.{maxNonterminals, maxTokens, maxPlaces, maxMemoEntries}
 use Rattle.grammar.specs.Encoding.{grammarOf}
+use Rattle.base.specs.Choice.{choose}
 use Rattle.base.specs.FiniteSets.{member, Distinct}
 use Rattle.semantics.specs.Valuations.{pairs}
 use Rattle.semantics.specs.ComesTo.{Call, InRange}
@@ -20,10 +23,10 @@ use Rattle.base.proofs.Booleans.{T-subst, T-true, both}
 use Rattle.base.proofs.FiniteSets.{member-mem, mem-member}
 use Rattle.base.proofs.Distinct.{distinct-length}
 use Rattle.semantics.proofs.descent.Range.{calls-equality, all-range, all-length}
-use Rattle.tree.specs.Writing.{InTree}
+use Rattle.tree.specs.Writing.{vertexWord, InTree}
 use Rattle.tree.proofs.Visiting.{distinct-last}
 use Rattle.tree.proofs.Trees.{call-same}
-use Rattle.tree_writer_promises.specs.contracts.Labels.{labelIndex}
+use Rattle.tree_writer_promises.specs.contracts.Labels.{labelIndex, kind, markedWord}
 use Rattle.tree_writer_promises.specs.contracts.Writer.{choiceOf, vertexWordAt, Holds}
 
 set-behind : (f : Call → ℕ) (l : List Call) (x : Call) (lent : List ℕ) → length l < length lent
@@ -37,8 +40,17 @@ set-behind f (z ∷ l) x (y ∷ ys) h = ap {B = List ℕ} (λ s. f z ∷ s) (set
 label-injective : (x y : Call) → x .place ≤ maxTokens → y .place ≤ maxTokens → labelIndex x ≡ labelIndex y → x ≡ y
 label-injective x y h k e = call-same x y (omega arith) (omega arith)
 
+-- a word has its kind until it is marked
+kept : (b : Bool) (w : ℕ) → kind ≤ w → ltb (choose b (markedWord w) w) kind ≡ b
+kept true w h = lt-ltb (markedWord w) kind (omega arith)
+kept false w h = le-ltb w kind h
+
+has-kind : (words input : List ℕ) (x : Call) → kind ≤ vertexWordAt words input x
+unfolding vertexWordAt vertexWord
+has-kind words input x = omega arith
+
 -- the calls that are written are few
-module _ {words input lent : List ℕ} {l : List Call} {tree : List ℕ} {marks : List Bool} {written : ℕ} (h : Holds words input lent l tree marks written)
+module _ {words input lent : List ℕ} {l : List Call} {labels tree : List ℕ} {written : ℕ} (h : Holds words input lent l labels tree written)
     (ranged : (y : Call) → InTree (grammarOf words) (choiceOf words input) input y → InRange (grammarOf words) input y)
     (names : grammarOf words .nonterminals ≤ maxNonterminals) (short : length input ≤ maxTokens) where
   few-pairs : pairs (grammarOf words) input ≤ maxMemoEntries
@@ -62,10 +74,16 @@ module _ {words input lent : List ℕ} {l : List Call} {tree : List ℕ} {marks 
         few,
       )
 
+  pub marked : (x : Call) → InTree (grammarOf words) (choiceOf words input) input x → ltb (getD labels (labelIndex x) 0) kind ≡ member sameCall l x
+  marked x i = ap (λ n. ltb n kind) (h .labelled x i) ∙ kept (member sameCall l x) (vertexWordAt words input x) (has-kind words input x)
+
   -- a call that is not marked
-  module _ (x : Call) (inTree : InTree (grammarOf words) (choiceOf words input) input x) (fresh : getD marks (labelIndex x) false ≡ false) where
+  module _ (x : Call) (inTree : InTree (grammarOf words) (choiceOf words input) input x) (fresh : ltb (getD labels (labelIndex x) 0) kind ≡ false) where
     pub unseen : member sameCall l x ≡ false
-    unseen = sym (h .marked x (ranged x inTree)) ∙ fresh
+    unseen = sym (marked x inTree) ∙ fresh
+
+    pub label-fresh : getD labels (labelIndex x) 0 ≡ vertexWordAt words input x
+    label-fresh = h .labelled x inTree ∙ rw unseen refl
 
     absent : List·Memᴰ x l → ⊥
     absent m = T-subst unseen (mem-member sameCall calls-equality l x m)
@@ -88,33 +106,46 @@ module _ {words input lent : List ℕ} {l : List Call} {tree : List ℕ} {marks 
     pub room : written < length lent
     room = omega (arith, count-low, h .long)
 
-    pub index-room : labelIndex x < length marks
+    pub index-room : labelIndex x < length labels
     index-room = omega (arith, ranged x inTree .0, ranged x inTree .1, names, short, h .whole)
 
-    marked-more : (y : Call) → InRange (grammarOf words) input y
-        → getD (set marks (labelIndex x) true) (labelIndex y) false ≡ member sameCall (l ++ (x ∷ [])) y
-    marked-more y r = elim (ℕ-discrete (labelIndex x) (labelIndex y)) [
+    -- the word that is kept of a call, by whether it is written
+    abbrev word : Bool → Call → ℕ
+    word b y = choose b (markedWord (vertexWordAt words input y)) (vertexWordAt words input y)
+
+    -- the call itself is written now, and any other if it was before
+    now-member : (y : Call) → x ≡ y → true ≡ member sameCall (l ++ (x ∷ [])) y
+    now-member y e = sym (T-true _ (mem-member sameCall calls-equality (l ++ (x ∷ [])) y (Memᴰ·append-right l (List·Memᴰ·head (sym e)))))
+
+    same-member : (y : Call) → (labelIndex x ≡ labelIndex y → ⊥) → member sameCall l y ≡ member sameCall (l ++ (x ∷ [])) y
+    same-member y e =
+        both _ _ (λ t. mem-member sameCall calls-equality (l ++ (x ∷ [])) y (Memᴰ·append-left (x ∷ []) (member-mem sameCall calls-equality l y t)))
+        (λ t. elim (List·Memᴰ·append-cases l (member-mem sameCall calls-equality (l ++ (x ∷ [])) y t)) [
+          | inl n ↦ mem-member sameCall calls-equality l y n
+          | inr n ↦ absurd (e (ap labelIndex (sym (List·Memᴰ·eq-of-singleton n))))
+        ])
+
+    labelled-more : (y : Call) → InTree (grammarOf words) (choiceOf words input) input y
+        → getD (set labels (labelIndex x) (word true x)) (labelIndex y) 0 ≡ word (member sameCall (l ++ (x ∷ [])) y) y
+    labelled-more y i = elim (ℕ-discrete (labelIndex x) (labelIndex y)) [
       | yes e ↦
-          let s : x ≡ y = label-injective x y (omega (arith, ranged x inTree .1, short)) (omega (arith, r .1, short)) e in
-          ap (λ i. getD (set marks (labelIndex x) true) i false) (sym e) ∙ getD-set-same marks (labelIndex x) true false index-room
-          ∙ sym (T-true _ (mem-member sameCall calls-equality (l ++ (x ∷ [])) y (Memᴰ·append-right l (List·Memᴰ·head (sym s)))))
+          let s : x ≡ y = label-injective x y (omega (arith, ranged x inTree .1, short)) (omega (arith, ranged y i .1, short)) e in
+          ap (λ k. getD (set labels (labelIndex x) (word true x)) k 0) (sym e) ∙ getD-set-same labels (labelIndex x) (word true x) 0 index-room
+          ∙ ap (word true) s ∙ ap (λ b. word b y) (now-member y s)
       | no e ↦
-          getD-set-other marks (labelIndex x) (labelIndex y) true false (λ d. e (sym d)) ∙ h .marked y r
-          ∙ both _ _ (λ t. mem-member sameCall calls-equality (l ++ (x ∷ [])) y (Memᴰ·append-left (x ∷ []) (member-mem sameCall calls-equality l y t)))
-          (λ t. elim (List·Memᴰ·append-cases l (member-mem sameCall calls-equality (l ++ (x ∷ [])) y t)) [
-            | inl n ↦ mem-member sameCall calls-equality l y n
-            | inr n ↦ absurd (e (ap labelIndex (sym (List·Memᴰ·eq-of-singleton n))))
-          ])
+          getD-set-other labels (labelIndex x) (labelIndex y) (word true x) 0 (λ d. e (sym d)) ∙ h .labelled y i
+          ∙ ap (λ b. word b y) (same-member y e)
     ]
 
-    -- the call's word is written, and the call is marked
-    pub holds-more : Holds words input lent (l ++ (x ∷ [])) (set tree written (vertexWordAt words input x)) (set marks (labelIndex x) true) (written + 1)
+    -- the call's word is written, and marked where it is kept
+    pub holds-more : Holds words input lent (l ++ (x ∷ [])) (set labels (labelIndex x) (markedWord (vertexWordAt words input x)))
+        (set tree written (vertexWordAt words input x)) (written + 1)
     holds-more = record {
       long = h .long;
       count = omega (arith, h .count, length-append l (x ∷ []));
       front = rw (h .front, h .count) (set-behind (vertexWordAt words input) l x lent (omega (arith, room, h .count)));
       whole = simp length-set (h .whole);
-      marked = marked-more;
+      labelled = labelled-more;
       distinct = distinct-more;
       sound = sound-more;
     }

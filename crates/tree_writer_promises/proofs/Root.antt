@@ -1,15 +1,13 @@
 -- Writing the tree from its root, by what judging left of an accepted input.
 use mathlib.Core.Path.{_≡_, refl, sym, ap, _∙_}
-use mathlib.Core.Bool.{Bool, false}
-use mathlib.Core.List.{List, [], _∷_, map, List·Memᴰ·not-nil}
+use mathlib.Core.List.{List, [], _∷_, _++_, map, List·Memᴰ·not-nil}
 use denote.Enum.Declared.{tagOf}
-use Prim.Native.Nat.{ℕ, zero, suc, _+_, _*_, _-_, _%_, _≤_, _<_}
+use Prim.Native.Nat.{ℕ, _+_, _*_, _-_, _%_, _≤_, _<_}
 use native.Mathlib.Numerals.{add-one}
 use native.Mathlib.Omega.{arith}
-use lib.ListN.{length, getD, replicate, length-map, length-replicate}
+use lib.ListN.{length, getD, drop, length-map}
 use Rattle.base.specs.Quantifiers.{anyOf}
 use Rattle.base.proofs.Booleans.{T-true}
-use Rattle.grammar.specs.Limits.{maxMemoEntries}
 use Rattle.grammar.specs.Syntax.{Grammar}
 use Rattle.grammar.specs.Encoding.{grammarOf}
 use Rattle.grammar.specs.Reading.{reading}
@@ -36,18 +34,13 @@ use Rattle.columns.proofs.Columns.{column-right}
 use Rattle.tree.specs.Writing.{vertexAt, vertexWord, treeCalls, treeOf, treeWords, InTree, start}
 use Rattle.tree.proofs.Reading.{chosen}
 use Rattle.tree.proofs.Trees.{tree-sound}
-use Rattle.tree_writer_promises.specs.contracts.Labels.{labelIndex, labelWord, LabelsGiven, Labelled}
+use Rattle.tree_writer_promises.specs.contracts.Labels.{labelWord, LabelsGiven, Labelled}
 use Rattle.tree_writer_promises.specs.Properties.{wordsOf}
 use Rattle.tree_writer_promises.specs.contracts.Writer.{choiceOf, vertexWordAt, Holds, VertexGiven, VertexRequires, VertexEnsures, TreeGiven, TreeDone}
 
 map-twice : (f : Call → ℕ) {Z : Type 0} (g : Call → Z) (h : Z → ℕ) → ((x : Call) → h (g x) ≡ f x) → (l : List Call) → map h (map g l) ≡ map f l
 map-twice f g h e [] = refl
 map-twice f g h e (x ∷ l) = cc (e x, map-twice f g h e l)
-
-unmarked : (n i : ℕ) → getD (replicate n false) i false ≡ false
-unmarked zero i = refl
-unmarked (suc n) zero = refl
-unmarked (suc n) (suc i) = unmarked n i
 
 rule-small : (n : ℕ) → n < 128 → n % 128 ≡ n
 rule-small n h = omega arith
@@ -93,42 +86,41 @@ module _ {words input table memo tree : List ℕ} (g : TreeGiven words input tab
       let few : s .2 .0 < 512 = omega (arith, f .within, g .accepted .short) in
       rw (rule, end, rule-small (c .number) low, end-small (s .2 .0) few, c .looked, f .ends) refl
 
-  -- nothing is written
-  blank : Holds words input tree [] tree (replicate maxMemoEntries false) 0
-  unfolding member anyOf
-  blank = record {
-    long = g .long-tree;
-    count = refl;
-    front = refl;
-    whole = length-replicate maxMemoEntries false;
-    marked = λ x r. unmarked maxMemoEntries (labelIndex x);
-    distinct = tt;
-    sound = λ x m. absurd (List·Memᴰ·not-nil m);
-  }
-
   module _ {z : Sizes} (read : reading words ≡ Read z) {starts labels : List ℕ} (s : starts ≡ ruleStarts words) (l : Labelled z input table memo labels) where
-    given : VertexGiven input words starts labels tree (replicate maxMemoEntries false) 0 0 0
-    given = record {
-      accepted = g .accepted;
-      begins = s;
+    -- nothing is written
+    blank : Holds words input tree [] labels tree 0
+    unfolding member anyOf
+    blank = record {
+      long = g .long-tree;
+      count = refl;
+      front = refl;
+      whole = l .long;
       labelled = λ x h.
           let f = tree-sound G 1 input (g .accepted .predictive) (g .accepted .tokens) meaning solves (g .accepted .accepted) x h .2 .1 in
           l .word (x .nonterminal) (x .place) (omega (arith, f .named, well-read words z read .nonterminals)) (omega (arith, f .onward, f .within))
           ∙ label-right read x h;
+      distinct = tt;
+      sound = λ x m. absurd (List·Memᴰ·not-nil m);
+    }
+
+    given : VertexGiven input words starts labels tree 0 0 0 0
+    given = record {
+      accepted = g .accepted;
+      begins = s;
       inTree = start;
+      stands = refl;
       lent = tree;
       seen = [];
       holds = blank;
     }
 
-    pub tree-start : VertexRequires words starts labels tree (replicate maxMemoEntries false) 0 0 0
-    tree-start = (input, given)
+    pub tree-start : VertexRequires words starts labels tree 0 0
+    tree-start = (input, (0, (0, given)))
 
-    module _ {marks′ : List Bool} {n : ℕ} {tree′ : List ℕ}
-        (d : VertexEnsures words starts labels tree (replicate maxMemoEntries false) 0 0 0 n tree′ marks′) where
-      last : Holds words input tree (treeCalls G (choiceOf words input) input) tree′ marks′ n
+    module _ {n : ℕ} {labels′ tree′ : List ℕ} (d : VertexEnsures words starts labels tree 0 0 n labels′ tree′) where
+      last : Holds words input tree (treeCalls G (choiceOf words input) input) labels′ tree′ n
       unfolding treeCalls measure
-      last = d input given .holds tree [] blank (pairs G input)
+      last = d input 0 0 given .holds tree [] blank (pairs G input)
           (level-top G (g .accepted .predictive .scoped) (g .accepted .predictive .unrecursive) input 0 (length input - 0)
           (g .accepted .predictive .start) (omega arith))
 
@@ -141,4 +133,8 @@ module _ {words input table memo tree : List ℕ} (g : TreeGiven words input tab
       counted = last .count ∙ sym (ap length the-words ∙ length-map (treeCalls G (choiceOf words input) input) (vertexWordAt words input))
 
       pub tree-done : TreeDone words input tree n tree′
-      tree-done = record { number = counted; written = rw (the-words, last .count) (last .front) }
+      tree-done = record {
+        number = counted;
+        written = last .front ∙ ap (λ k. map (vertexWordAt words input) (treeCalls G (choiceOf words input) input) ++ drop k tree) (sym (last .count))
+            ∙ ap (λ w. w ++ drop n tree) (sym the-words);
+      }

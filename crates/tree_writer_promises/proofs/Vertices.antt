@@ -8,10 +8,10 @@ use types.Run.{OneOf}
 use Rattle.word.proofs.Word.{the-type}
 use Rattle.word.proofs.Symbol.{the-type as symbol-type}
 use mathlib.Core.Option.{none, some}
-use Prim.Native.Nat.{ℕ, zero, suc, _+_, _*_, _-_, _≤_, _<_}
+use Prim.Native.Nat.{ℕ, zero, suc, _+_, _*_, _/_, _%_, _≤_, _<_}
 use native.Mathlib.Omega.{arith}
 use native.Mathlib.Numerals.{add-one}
-use lib.Dec.{eqb→eq}
+use lib.Dec.{ltb, eqb→eq}
 use lib.Seq.{drop-cons}
 use lib.ListN.{length, getD, drop, set}
 use Rattle.word.specs.Words.{decoded}
@@ -30,13 +30,13 @@ use Rattle.grammar.specs.contracts.WellRead.{ruleRead, Begun, WellRead}
 use Rattle.grammar.proofs.WellRead.{well-read}
 use Rattle.grammar.proofs.Suffixes.{Next, scan-next}
 use Rattle.grammar.proofs.WellFormed.{RestFits, reads}
+use Rattle.base.specs.Choice.{choose}
 use Rattle.base.specs.FiniteSets.{member}
 use Rattle.semantics.specs.Valuations.{Valuation, Solves, solution}
 use Rattle.semantics.specs.Descent.{Outcomes, End, descend, accepts}
 use Rattle.semantics.specs.ComesTo.{Call, callAt, InRange, bodyComesTo}
 use Rattle.semantics.specs.contracts.ComesTo.{measure}
 use Rattle.semantics.specs.Calls.{sameCall}
-use Rattle.semantics.specs.LeftRecursion as semantics
 use Rattle.semantics.proofs.Theorems.{theorems}
 use Rattle.families.proofs.Words.{parse-over}
 use Rattle.recursive_descent.proofs.Bodies.{parse-here, symbol-reads}
@@ -48,9 +48,9 @@ use Rattle.semantics.proofs.descent.Outcomes.{nth-below}
 use Rattle.tree.proofs.Reading.{Found, Reads, Chosen, chosen}
 use Rattle.tree.proofs.Below.{comes-token, comes-name, below-chosen, below-make, below-falls}
 use Rattle.tree.proofs.Trees.{tree-sound}
-use Rattle.tree_writer_promises.specs.contracts.Labels.{labelRule, labelEnd}
+use Rattle.tree_writer_promises.specs.contracts.Labels.{labelRule, labelStart, labelEnd, kind, markedWord}
 use Rattle.tree_writer_promises.specs.contracts.Writer.{choiceOf, vertexWordAt, Holds, VertexGiven, VertexDone, falling}
-use Rattle.tree_writer_promises.proofs.Marking.{holds-length, unseen, count-low, room, holds-more}
+use Rattle.tree_writer_promises.proofs.Marking.{holds-length, marked, unseen, label-fresh, count-low, room, holds-more}
 
 abbrev pub level : List ℕ → List ℕ → ℕ → ℕ → ℕ
 level words input A place = measure (grammarOf words) input (callAt A place)
@@ -68,8 +68,17 @@ left words input start at place =
     bodyComesTo (outcomesOf words input) input (parse (drop at words) .body) place
     ++ flatMap (λ b. bodyComesTo (outcomesOf words input) input b start) (parse (drop at words) .positives)
 
-module _ {input words starts labels tree₀ : List ℕ} {marks₀ : List Bool} {A start written : ℕ}
-    (g : VertexGiven input words starts labels tree₀ marks₀ A start written) where
+-- marking leaves the place and the end of a word
+kept-start : (b : Bool) (w : ℕ) → labelStart (choose b (markedWord w) w) ≡ labelStart w
+kept-start true w = omega arith
+kept-start false w = refl
+
+kept-end : (b : Bool) (w : ℕ) → labelEnd (choose b (markedWord w) w) ≡ labelEnd w
+kept-end true w = omega arith
+kept-end false w = refl
+
+module _ {input words starts labels₀ tree₀ : List ℕ} {A start entry written : ℕ}
+    (g : VertexGiven input words starts labels₀ tree₀ A start entry written) where
   abbrev G : Grammar
   G = grammarOf words
 
@@ -102,7 +111,7 @@ module _ {input words starts labels tree₀ : List ℕ} {marks₀ : List Bool} {
   choice : Chosen G 1 input (g .accepted .predictive) (g .accepted .tokens) meaning solves A start end
   choice = chosen G 1 input (g .accepted .predictive) (g .accepted .tokens) meaning solves A start end found
 
-  -- the word of a call of the tree tells its rule and its end
+  -- the word of a call of the tree tells its rule, its place and its end
   vertex-of : (B i m : ℕ) → Found G 1 input B i m → vertexAt G (choiceOf words input) input (callAt B i) .end ≡ m
   unfolding vertexAt
   vertex-of B i m f = rw (f .ends) refl
@@ -116,9 +125,17 @@ module _ {input words starts labels tree₀ : List ℕ} {marks₀ : List Bool} {
       (omega (arith, f .onward, f .within, g .accepted .short))
       (omega (arith, vertex-of B i m f, f .within, g .accepted .short))
 
-  pub label-end : (B i m : ℕ) → Found G 1 input B i m → InTree G (choiceOf words input) input (callAt B i) → labelEnd (getD labels (B * maxPlaces + i) 0) ≡ m
+  label-end : {lent labels tree : List ℕ} {l : List Call} {count : ℕ} → Holds words input lent l labels tree count
+      → (B i m : ℕ) → Found G 1 input B i m → InTree G (choiceOf words input) input (callAt B i) → labelEnd (getD labels (B * maxPlaces + i) 0) ≡ m
   unfolding vertexWordAt
-  label-end B i m f h = ap labelEnd (g .labelled (callAt B i) h) ∙ label-told B i m f .end ∙ vertex-of B i m f
+  label-end {l = l} h B i m f t =
+      ap labelEnd (h .labelled (callAt B i) t) ∙ kept-end (member sameCall l (callAt B i)) _ ∙ label-told B i m f .end ∙ vertex-of B i m f
+
+  pub begins : labelStart (getD labels₀ entry 0) ≡ start
+  unfolding vertexWordAt vertexAt
+  begins =
+      ap (λ k. labelStart (getD labels₀ k 0)) (g .stands) ∙ ap labelStart (g .holds .labelled x (g .inTree))
+      ∙ kept-start (member sameCall (g .seen) x) _ ∙ label-told A start end found .start
 
   abbrev Below : Call → Type 0
   Below y = List·Memᴰ y (below G (choiceOf words input) input x)
@@ -127,14 +144,14 @@ module _ {input words starts labels tree₀ : List ℕ} {marks₀ : List Bool} {
   Comes b i y = List·Memᴰ y (bodyComesTo (outcomesOf words input) input b i)
 
   -- the rule that has reached an index and a place
-  pub record Going (tree : List ℕ) (marks : List Bool) (count at place : ℕ) : Type 0 where
+  pub record Going (labels tree : List ℕ) (count at place : ℕ) : Type 0 where
     pub conjuncts : (b : Body) → List·Memᴰ b (parse (drop at words) .positives) → Reads G 1 input end b start × ((y : Call) → Comes b start y → Below y)
     pub read : (X : symbol.Symbol) (b : Body) → parse (drop at words) .body ≡ X ∷ b → Reads G 1 input end (X ∷ b) place
     pub under : (y : Call) → Comes (parse (drop at words) .body) place y → Below y
     pub progress : Progress
     pub reads : scan progress at (drop at words) ≡ reading words
-    pub holds : (lent : List ℕ) (l : List Call) → Holds words input lent l tree₀ marks₀ written → (n : ℕ) → level words input A start ≤ n
-        → (l₁ : List Call) × Holds words input lent l₁ tree marks count
+    pub holds : (lent : List ℕ) (l : List Call) → Holds words input lent l labels₀ tree₀ written → (n : ℕ) → level words input A start ≤ n
+        → (l₁ : List Call) × Holds words input lent l₁ labels tree count
         × (visits words input (suc n) x l ≡ each (visits words input n) (left words input start at place) l₁)
 
   ranged : (y : Call) → InTree G (choiceOf words input) input y → InRange G input y
@@ -146,91 +163,102 @@ module _ {input words starts labels tree₀ : List ℕ} {marks₀ : List Bool} {
   pub index-small : {B i m : ℕ} → Found G 1 input B i m → B * maxPlaces + i < maxMemoEntries
   index-small {B} f = omega (arith, f .named, names, f .onward, f .within, g .accepted .short)
 
-  pub entry-low : A * maxPlaces + start < maxMemoEntries
-  entry-low = index-small found
+  pub entry-low : entry < maxMemoEntries
+  entry-low = omega (arith, g .stands, index-small found)
 
   -- what falls is the measure of the call, for the root ends where the input does
-  pub falling-is : (B i : ℕ) → falling words labels B i ≡ level words input B i
+  pub falling-is : falling words labels₀ entry ≡ level words input A start
   unfolding measure accepts
-  falling-is B i =
+  falling-is =
       let root = ends (callAt 0 0) root-in in
       let e : root .0 ≡ length input = eqb→eq (root .0) (length input) (rw (root .1 .ends) at (g .accepted .accepted)) in
-      ap (λ (n : ℕ). semantics.level G (n - i) B) (label-end 0 0 (root .0) (root .1) root-in ∙ e)
+      let q : labelEnd (getD labels₀ 0 0) ≡ length input = label-end (g .holds) 0 0 (root .0) (root .1) root-in ∙ e in
+      let a : entry / maxPlaces ≡ A = omega (arith, g .stands, found .onward, found .within, g .accepted .short) in
+      let i : entry % maxPlaces ≡ start = omega (arith, g .stands, found .onward, found .within, g .accepted .short) in
+      rw (q, a, i) refl
 
   -- as many words as before
-  pub going-length : {tree : List ℕ} {marks : List Bool} {count at place : ℕ} → Going tree marks count at place → length tree ≡ length tree₀
+  pub going-length : {labels tree : List ℕ} {count at place : ℕ} → Going labels tree count at place → length tree ≡ length tree₀
   going-length u =
       let s = u .holds (g .lent) (g .seen) (g .holds) (level words input A start) (omega arith) in
       holds-length (s .1) ranged names (g .accepted .short) ∙ sym (holds-length (g .holds) ranged names (g .accepted .short))
 
   -- a call that is marked is written already
-  pub vertex-seen : getD marks₀ (A * maxPlaces + start) false ≡ true → VertexDone words input tree₀ marks₀ A start written written tree₀ marks₀
+  pub vertex-seen : ltb (getD labels₀ entry 0) kind ≡ true → VertexDone words input labels₀ tree₀ A start written written labels₀ tree₀
   unfolding visit
   vertex-seen e = record { holds = λ lent l h n d. go lent l h n d }
     where
-      go : (lent : List ℕ) (l : List Call) → Holds words input lent l tree₀ marks₀ written → (n : ℕ) → level words input A start < n
-          → Holds words input lent (visits words input n x l) tree₀ marks₀ written
+      go : (lent : List ℕ) (l : List Call) → Holds words input lent l labels₀ tree₀ written → (n : ℕ) → level words input A start < n
+          → Holds words input lent (visits words input n x l) labels₀ tree₀ written
       go lent l h zero d = absurd (omega arith)
       go lent l h (suc n) d =
-          let m : member sameCall l x ≡ true = sym (h .marked x (ranged x (g .inTree))) ∙ e in
+          let m : member sameCall l x ≡ true =
+          sym (marked h ranged names (g .accepted .short) x (g .inTree)) ∙ ap (λ k. ltb (getD labels₀ k 0) kind) (sym (g .stands)) ∙ e in
           rw m h
 
-  -- the rule of the call's word, as it stands in the words
-  module _ {q : ℕ} (c : q ≡ labelRule (getD labels (A * maxPlaces + start) 0)) where
-    number-is : q ≡ choice .number
-    unfolding vertexWordAt vertexAt
-    number-is = c ∙ ap labelRule (g .labelled x (g .inTree)) ∙ label-told A start end found .rule ∙ ap ruleNumberOf (choice .looked)
+  -- a call that is not marked
+  module _ (unmarked : ltb (getD labels₀ entry 0) kind ≡ false) where
+    fresh : ltb (getD labels₀ (A * maxPlaces + start) 0) kind ≡ false
+    fresh = ap (λ k. ltb (getD labels₀ k 0) kind) (sym (g .stands)) ∙ unmarked
 
-    numbered : choice .number < g .accepted .sizes .rules
-    numbered = omega (arith, nth-below (G .rules) (choice .number) (choice .rule) (choice .numbered), r .rules)
+    vertex-is : getD labels₀ entry 0 ≡ vertexWordAt words input x
+    vertex-is = ap (λ k. getD labels₀ k 0) (g .stands) ∙ label-fresh (g .holds) ranged names (g .accepted .short) x (g .inTree) fresh
 
-    pub rule-low : q < maxRules
-    rule-low = omega (arith, number-is, numbered, r .fewRules)
+    pub written-low : written < maxMemoEntries
+    written-low = count-low (g .holds) ranged names (g .accepted .short) x (g .inTree) fresh
 
-    begin-is : getD starts q 0 ≡ getD (ruleStarts words) (choice .number) 0
-    begin-is = ap (λ (l : List ℕ). getD l q 0) (g .begins) ∙ ap (λ (n : ℕ). getD (ruleStarts words) n 0) number-is
+    pub tree-room : written < length tree₀
+    tree-room =
+        omega (
+          arith,
+          room (g .holds) ranged names (g .accepted .short) x (g .inTree) fresh,
+          holds-length (g .holds) ranged names (g .accepted .short),
+        )
 
-    begun : Begun words (getD starts q 0)
-    begun = subst (λ i. Begun words i) (sym begin-is) (r .begun (choice .number) numbered)
+    -- the rule of its word, as it stands in the words
+    module _ {q : ℕ} (c : q ≡ labelRule (getD labels₀ entry 0)) where
+      number-is : q ≡ choice .number
+      unfolding vertexWordAt vertexAt
+      number-is = c ∙ ap labelRule vertex-is ∙ label-told A start end found .rule ∙ ap ruleNumberOf (choice .looked)
 
-    pub begin-low : getD starts q 0 < length words
-    begin-low = begun .high
+      numbered : choice .number < g .accepted .sizes .rules
+      numbered = omega (arith, nth-below (G .rules) (choice .number) (choice .rule) (choice .numbered), r .rules)
 
-    positives-are : choice .rule .positives ≡ parse (drop (getD starts q 0 + 1) words) .positives
-    unfolding ruleRead
-    positives-are =
-        let i : ℕ = getD (ruleStarts words) (choice .number) 0 in
-        let f : choice .rule ≡ ruleRead (drop i words) = some-same (choice .rule) _ (sym (choice .numbered) ∙ r .begins (choice .number) numbered) in
-        let e : choice .rule ≡ ruleRead (getD words i 0 ∷ drop (i + 1) words) =
-        f ∙ (rw (add-one i) (ap ruleRead (drop-cons words i 0 (r .begun (choice .number) numbered .high)))) in
-        let p : choice .rule .positives ≡ parse (drop (i + 1) words) .positives = ap (λ (z : Rule). z .positives) e in
-        p ∙ ap (λ (n : ℕ). parse (drop (n + 1) words) .positives) (sym begin-is)
-      where
-        some-same : (y z : Rule) → some y ≡ some z → y ≡ z
-        some-same y z e = cc
+      pub rule-low : q < maxRules
+      rule-low = omega (arith, number-is, numbered, r .fewRules)
 
-    -- before the rule's first conjunct
-    module _ (fresh : getD marks₀ (A * maxPlaces + start) false ≡ false) where
-      pub written-low : written < maxMemoEntries
-      written-low = count-low (g .holds) ranged names (g .accepted .short) x (g .inTree) fresh
+      begin-is : getD starts q 0 ≡ getD (ruleStarts words) (choice .number) 0
+      begin-is = ap (λ (l : List ℕ). getD l q 0) (g .begins) ∙ ap (λ (n : ℕ). getD (ruleStarts words) n 0) number-is
 
-      pub tree-room : written < length tree₀
-      tree-room = omega (
-        arith,
-        room (g .holds) ranged names (g .accepted .short) x (g .inTree) fresh,
-        holds-length (g .holds) ranged names (g .accepted .short),
-      )
+      begun : Begun words (getD starts q 0)
+      begun = subst (λ i. Begun words i) (sym begin-is) (r .begun (choice .number) numbered)
 
-      pub going-start : Going (set tree₀ written (getD labels (A * maxPlaces + start) 0)) (set marks₀ (A * maxPlaces + start) true)
+      pub begin-low : getD starts q 0 < length words
+      begin-low = begun .high
+
+      positives-are : choice .rule .positives ≡ parse (drop (getD starts q 0 + 1) words) .positives
+      unfolding ruleRead
+      positives-are =
+          let i : ℕ = getD (ruleStarts words) (choice .number) 0 in
+          let f : choice .rule ≡ ruleRead (drop i words) = some-same (choice .rule) _ (sym (choice .numbered) ∙ r .begins (choice .number) numbered) in
+          let e : choice .rule ≡ ruleRead (getD words i 0 ∷ drop (i + 1) words) =
+          f ∙ (rw (add-one i) (ap ruleRead (drop-cons words i 0 (r .begun (choice .number) numbered .high)))) in
+          let p : choice .rule .positives ≡ parse (drop (i + 1) words) .positives = ap (λ (z : Rule). z .positives) e in
+          p ∙ ap (λ (n : ℕ). parse (drop (n + 1) words) .positives) (sym begin-is)
+        where
+          some-same : (y z : Rule) → some y ≡ some z → y ≡ z
+          some-same y z e = cc
+
+      -- before the rule's first conjunct
+      going-first : Going (set labels₀ entry (markedWord (getD labels₀ entry 0))) (set tree₀ written (getD labels₀ entry 0))
           (written + 1) (getD starts q 0 + 1) start
       unfolding left bodyComesTo visit
-      going-start =
+      going-first =
           let at = getD starts q 0 + 1 in
           let k = begin-next words (g .accepted .sizes) (g .accepted .read) (getD starts q 0) begun in
           let f = reads (k .0) at (drop at words) (g .accepted .sizes) (k .1 ∙ g .accepted .read) .fits in
           let none : parse (drop at words) .body ≡ [] = (rw (k .2) at (f .shape)) .0 in
           let ps : choice .rule .positives ≡ parse (drop at words) .positives = positives-are in
-          let y = g .labelled x (g .inTree) in
           record {
             conjuncts = λ b m.
                 let m′ : List·Memᴰ b (choice .rule .positives) = rw ps m in
@@ -241,7 +269,7 @@ module _ {input words starts labels tree₀ : List ℕ} {marks₀ : List Bool} {
             reads = k .1;
             holds = λ lent l h n d. (
               l ++ (x ∷ []),
-              rw y (holds-more h ranged names (g .accepted .short) x (g .inTree) fresh),
+              rw (vertex-is, g .stands) (holds-more h ranged names (g .accepted .short) x (g .inTree) fresh),
               rw (unseen h ranged names (g .accepted .short) x (g .inTree) fresh, none)
                   (ap (λ z. each (visits words input n) z (l ++ (x ∷ [])))
                   (below-chosen G 1 input (g .accepted .predictive) (g .accepted .tokens) meaning solves A start end choice
@@ -249,21 +277,25 @@ module _ {input words starts labels tree₀ : List ℕ} {marks₀ : List Bool} {
             );
           }
 
-  module _ {tree : List ℕ} {marks : List Bool} {count at place : ℕ} (u : Going tree marks count at place) where
+      pub going-start : {kept begin : ℕ} → kept ≡ markedWord (getD labels₀ entry 0) → begin ≡ start
+          → Going (set labels₀ entry kept) (set tree₀ written (getD labels₀ entry 0)) (written + 1) (getD starts q 0 + 1) begin
+      going-start k b = rw (k, b) going-first
+
+  module _ {labels tree : List ℕ} {count at place : ℕ} (u : Going labels tree count at place) where
     -- nothing is left
-    done : left words input start at place ≡ [] → VertexDone words input tree₀ marks₀ A start written count tree marks
+    done : left words input start at place ≡ [] → VertexDone words input labels₀ tree₀ A start written count labels tree
     unfolding each
     done e = record { holds = λ lent l h n d. go lent l h n d }
       where
-        go : (lent : List ℕ) (l : List Call) → Holds words input lent l tree₀ marks₀ written → (n : ℕ) → level words input A start < n
-            → Holds words input lent (visits words input n x l) tree marks count
+        go : (lent : List ℕ) (l : List Call) → Holds words input lent l labels₀ tree₀ written → (n : ℕ) → level words input A start < n
+            → Holds words input lent (visits words input n x l) labels tree count
         go lent l h zero d = absurd (omega arith)
         go lent l h (suc n) d =
             let s = u .holds lent l h n (omega arith) in
             let q : visits words input (suc n) x l ≡ s .0 = s .2 ∙ ap (λ z. each (visits words input n) z (s .0)) e in
             rw q (s .1)
 
-    pub going-over : length words ≤ at → VertexDone words input tree₀ marks₀ A start written count tree marks
+    pub going-over : length words ≤ at → VertexDone words input labels₀ tree₀ A start written count labels tree
     unfolding left bodyComesTo flatMap parse
     going-over h = done (rw (parse-over words at h) refl)
 
@@ -303,11 +335,11 @@ module _ {input words starts labels tree₀ : List ℕ} {marks₀ : List Bool} {
       ended word.Invalid e a p q = absurd (false≢true a)
 
       pub going-ended : (w : Word) → w ≡ decoded (getD words at 0) → (w ≡ word.Positive → ⊥) → ((X : symbol.Symbol) → w ≡ word.Symbol X → ⊥)
-          → VertexDone words input tree₀ marks₀ A start written count tree marks
+          → VertexDone words input labels₀ tree₀ A start written count labels tree
       going-ended w e p q = done (ended w (sym e) (rw e (next .passed .allowed)) p q)
 
       -- a positive conjunct begins
-      pub going-positive : decoded (getD words at 0) ≡ word.Positive → Going tree marks count (at + 1) start
+      pub going-positive : decoded (getD words at 0) ≡ word.Positive → Going labels tree count (at + 1) start
       unfolding onWord left bodyComesTo flatMap
       going-positive e =
           let q = here word.Positive e in
@@ -352,7 +384,7 @@ module _ {input words starts labels tree₀ : List ℕ} {marks₀ : List Bool} {
         pub terminal-low : place < length input
         terminal-low = read-here (Terminal a) e .0
 
-        pub going-terminal : Going tree marks count (at + 1) (place + 1)
+        pub going-terminal : Going labels tree count (at + 1) (place + 1)
         unfolding left
         going-terminal =
             let t = read-here (Terminal a) e in
@@ -394,24 +426,21 @@ module _ {input words starts labels tree₀ : List ℕ} {marks₀ : List Bool} {
         pub called-falls : level words input B place < level words input A start
         called-falls = below-falls G 1 input (g .accepted .predictive) (g .accepted .tokens) meaning solves x end found (callAt B place) called-below .2
 
-        pub called-falling : falling words labels B place < falling words labels A start
-        called-falling = omega (arith, called-falls, falling-is B place, falling-is A start)
-
-        pub called-given : VertexGiven input words starts labels tree marks B place count
+        pub called-given : VertexGiven input words starts labels tree B place (B * maxPlaces + place) count
         called-given =
             let s = u .holds (g .lent) (g .seen) (g .holds) (level words input A start) (omega arith) in
             record {
               accepted = g .accepted;
               begins = g .begins;
-              labelled = g .labelled;
               inTree = called-in;
+              stands = refl;
               lent = g .lent;
               seen = s .0;
               holds = s .1;
             }
 
-        pub going-nonterminal : {tree′ : List ℕ} {marks′ : List Bool} {count′ : ℕ} → VertexDone words input tree marks B place count count′ tree′ marks′
-            → Going tree′ marks′ count′ (at + 1) called-end
+        pub going-nonterminal : {labels′ tree′ : List ℕ} {count′ : ℕ} → VertexDone words input labels tree B place count count′ labels′ tree′
+            → Going labels′ tree′ count′ (at + 1) called-end
         unfolding each left
         going-nonterminal d = record {
           conjuncts = λ b n. u .conjuncts b (rw (conjuncts-here (Nonterminal B) e) n);
@@ -427,18 +456,32 @@ module _ {input words starts labels tree₀ : List ℕ} {marks₀ : List Bool} {
               );
         }
 
--- from one place in a rule to another, whatever was lent
-abbrev pub Onward : (words starts labels : List ℕ) (A start written : ℕ) (tree : List ℕ) (marks : List Bool) (count at place : ℕ)
-    (tree′ : List ℕ) (marks′ : List Bool) (count′ at′ place′ : ℕ) → Type 0
-Onward words starts labels A start written tree marks count at place tree′ marks′ count′ at′ place′ =
-    (input tree₀ : List ℕ) (marks₀ : List Bool) (g : VertexGiven input words starts labels tree₀ marks₀ A start written)
-    → Going g tree marks count at place → Going g tree′ marks′ count′ at′ place′
+        -- the word that is kept of the call tells where it ends
+        pub called-ends : {labels′ tree′ : List ℕ} {count′ : ℕ} → Going labels′ tree′ count′ (at + 1) called-end
+            → labelEnd (getD labels′ (B * maxPlaces + place) 0) ≡ called-end
+        called-ends v =
+            let s = v .holds (g .lent) (g .seen) (g .holds) (level words input A start) (omega arith) in
+            label-end (s .1) B place called-end called-found called-in
+
+-- what falls, falls from a call to one below it
+module _ {input words starts labels₀ tree₀ labels tree : List ℕ} {A start entry written count at place : ℕ}
+    (g : VertexGiven input words starts labels₀ tree₀ A start entry written) (u : Going g labels tree count at place) where
+  pub called-falling : (h : at < length words) (B : ℕ) → decoded (getD words at 0) ≡ word.Symbol (Nonterminal B)
+      → falling words labels (B * maxPlaces + place) < falling words labels₀ entry
+  called-falling h B e = omega (arith, called-falls g u h B e, falling-is g, falling-is (called-given g u h B e))
+
+-- from one place in a rule to another, whatever was lent and wherever the vertex begins
+abbrev pub Onward : (words starts : List ℕ) (entry written begin : ℕ) (labels tree : List ℕ) (count at place : ℕ)
+    (labels′ tree′ : List ℕ) (count′ at′ place′ : ℕ) → Type 0
+Onward words starts entry written begin labels tree count at place labels′ tree′ count′ at′ place′ =
+    (input labels₀ tree₀ : List ℕ) (A start : ℕ) (g : VertexGiven input words starts labels₀ tree₀ A start entry written) → begin ≡ start
+    → Going g labels tree count at place → Going g labels′ tree′ count′ at′ place′
 
 -- where ways meet
-pub going-as : {input words starts labels tree₀ : List ℕ} {marks₀ : List Bool} {A start written : ℕ}
-    (g : VertexGiven input words starts labels tree₀ marks₀ A start written)
-    {tree tree′ : List ℕ} {marks marks′ : List Bool} {count count′ at place place′ : ℕ} → tree′ ≡ tree → marks′ ≡ marks → count′ ≡ count → place′ ≡ place
-    → Going g tree marks count at place → Going g tree′ marks′ count′ at place′
+pub going-as : {input words starts labels₀ tree₀ : List ℕ} {A start entry written : ℕ}
+    (g : VertexGiven input words starts labels₀ tree₀ A start entry written)
+    {labels labels′ tree tree′ : List ℕ} {count count′ at place place′ : ℕ} → labels′ ≡ labels → tree′ ≡ tree → count′ ≡ count → place′ ≡ place
+    → Going g labels tree count at place → Going g labels′ tree′ count′ at place′
 going-as g a b c d u = rw (a, b, c, d) u
 
 -- the words that begin no positive conjunct and are no symbol

@@ -1,11 +1,12 @@
 // The word of a call's vertex, made of what judging left in the lent memories; and its fields.
 ghost use mathlib.Core.Path.{_≡_};
 ghost use Prim.Native.Nat.{_%_};
+ghost use lib.Dec.{ltb};
 ghost use lib.ListN.{getD};
 ghost use Rattle.event.specs.Events.{inputOf};
 ghost use Rattle.tree.specs.ParseTrees.{vertex};
 ghost use Rattle.tree.specs.Writing.{vertexWord};
-ghost use Rattle.tree_writer_promises.specs.contracts.Labels.{labelRule, labelEnd, labelOf};
+ghost use Rattle.tree_writer_promises.specs.contracts.Labels.{labelRule, labelStart, labelEnd, kind, markedWord, labelOf};
 use columns::column_at;
 use grammar::limits::TOKENS;
 use grammar::reading::Sizes;
@@ -26,17 +27,36 @@ fn vertex_word(rule: u32, start: u16, end: u16) -> u32
     KIND + end as u32 % ENDS * END + start as u32 * START + rule % START
 }
 
-// The rule of a vertex, and where it ends.
+// The rule of a vertex, where it begins and where it ends.
 pub fn rule_of(word: u32) -> usize
     ensures { λ r. ⌜ r ≡ labelRule word ⌝ }
 {
     (word % START) as usize
 }
 
+pub fn start_of(word: u32) -> usize
+    ensures { λ r. ⌜ r ≡ labelStart word ⌝ }
+{
+    (word / START % ENDS) as usize
+}
+
 pub fn end_of(word: u32) -> usize
     ensures { λ r. ⌜ r ≡ labelEnd word ⌝ }
 {
     (word / END % ENDS) as usize
+}
+
+// The word that is kept of a vertex is marked once the vertex is written: it has no kind then.
+pub fn marked(word: u32) -> u32
+    ensures { λ r. ⌜ r ≡ markedWord word ⌝ }
+{
+    word % KIND
+}
+
+pub fn is_marked(word: u32) -> bool
+    ensures { λ r. ⌜ r ≡ ltb word kind ⌝ }
+{
+    word < KIND
 }
 
 // A word of the table, and an entry of the memo table; behind the last 0.

@@ -21,8 +21,18 @@ labelIndex x = x .nonterminal * maxPlaces + x .place
 abbrev pub labelRule : ℕ → ℕ
 labelRule word = word % 128
 
+abbrev pub labelStart : ℕ → ℕ
+labelStart word = word / 128 % 512
+
 abbrev pub labelEnd : ℕ → ℕ
 labelEnd word = word / 65536 % 512
+
+-- the kind on top of a word, and the word that is kept once a vertex is written: without it
+abbrev pub kind : ℕ
+kind = 2147483648
+
+abbrev pub markedWord : ℕ → ℕ
+markedWord word = word % kind
 
 -- the word for a call, from the entries of the lent table and of the lent memo table
 unfoldable pub labelWord : Sizes → (input table memo : List ℕ) (A i : ℕ) → ℕ
@@ -50,4 +60,5 @@ pub record LabelledBelow (z : Sizes) (input table memo : List ℕ) (bound : ℕ)
 
 -- and of all
 pub record Labelled (z : Sizes) (input table memo labels : List ℕ) : Type 0 where
+  pub long : length labels ≡ maxMemoEntries
   pub word : (A i : ℕ) → A < z .nonterminals → i ≤ length input → getD labels (A * maxPlaces + i) 0 ≡ labelWord z input table memo A i

@@ -1,23 +1,23 @@
 -- What writing the tree requires and ensures: the words are those of the visit, for every depth that is enough.
 use mathlib.Core.Path.{_≡_}
-use mathlib.Core.Bool.{Bool, false}
 use mathlib.Core.List.{List, _++_, map, List·Memᴰ}
-use Prim.Native.Nat.{ℕ, _+_, _*_, _-_, _≤_, _<_}
+use Prim.Native.Nat.{ℕ, _+_, _*_, _-_, _/_, _%_, _≤_, _<_}
 use lib.Dec.{T}
 use lib.ListN.{length, getD, drop}
-use Rattle.grammar.specs.Limits.{maxTokens, maxMemoEntries, maxTableWords}
+use Rattle.grammar.specs.Limits.{maxTokens, maxPlaces, maxMemoEntries, maxTableWords}
 use Rattle.grammar.specs.Syntax.{Grammar}
 use Rattle.grammar.specs.Encoding.{grammarOf}
 use Rattle.grammar.specs.Reading.{reading}
 use Rattle.grammar.specs.contracts.Starts.{ruleStarts}
 use Rattle.grammar.specs.declared.reading.Sizes.{Sizes}
 use Rattle.grammar.specs.declared.reading.Reading.the-variants.{Read}
+use Rattle.base.specs.Choice.{choose}
 use Rattle.base.specs.FiniteSets.{member, Distinct}
 use Rattle.semantics.specs.LeftRecursion.{level}
 use Rattle.base.specs.Strings.{Over}
 use Rattle.semantics.specs.Choices.{Choice, tableChoice}
 use Rattle.semantics.specs.Descent.{descend, accepts}
-use Rattle.semantics.specs.ComesTo.{Call, callAt, InRange}
+use Rattle.semantics.specs.ComesTo.{Call, callAt}
 use Rattle.semantics.specs.contracts.ComesTo.{measure}
 use Rattle.semantics.specs.Calls.{Called, sameCall}
 use Rattle.semantics.specs.Memo.{outcomeCode, memoIndex}
@@ -27,7 +27,7 @@ use Rattle.columns.specs.Columns.{columns}
 use Rattle.table.specs.Layout.{entryAt}
 use Rattle.tree.specs.Writing.{vertexAt, below, visit, vertexWord, InTree}
 use Rattle.tree_writer_promises.specs.Properties.{wordsOf}
-use Rattle.tree_writer_promises.specs.contracts.Labels.{labelIndex, labelEnd}
+use Rattle.tree_writer_promises.specs.contracts.Labels.{labelIndex, labelEnd, markedWord}
 
 -- the choice by one token of lookahead
 abbrev pub choiceOf : List ℕ → List ℕ → Choice
@@ -37,13 +37,14 @@ choiceOf words input = tableChoice (grammarOf words) 1 input
 unfoldable pub vertexWordAt : List ℕ → List ℕ → Call → ℕ
 vertexWordAt words input x = vertexWord (vertexAt (grammarOf words) (choiceOf words input) input x)
 
--- the words of the calls in l stand in front of the words as they were lent, and just those calls are marked
-pub record Holds (words input lent : List ℕ) (l : List Call) (tree : List ℕ) (marks : List Bool) (written : ℕ) : Type 0 where
+-- the words of the calls in l stand in front of the words as they were lent, and of the calls of the tree just those are marked
+pub record Holds (words input lent : List ℕ) (l : List Call) (labels tree : List ℕ) (written : ℕ) : Type 0 where
   pub long : maxMemoEntries ≤ length lent
   pub count : written ≡ length l
   pub front : tree ≡ map (vertexWordAt words input) l ++ drop (length l) lent
-  pub whole : length marks ≡ maxMemoEntries
-  pub marked : (x : Call) → InRange (grammarOf words) input x → getD marks (labelIndex x) false ≡ member sameCall l x
+  pub whole : length labels ≡ maxMemoEntries
+  pub labelled : (x : Call) → InTree (grammarOf words) (choiceOf words input) input x
+      → getD labels (labelIndex x) 0 ≡ choose (member sameCall l x) (markedWord (vertexWordAt words input x)) (vertexWordAt words input x)
   pub distinct : Distinct l
   pub sound : (x : Call) → List·Memᴰ x l → InTree (grammarOf words) (choiceOf words input) input x
 
@@ -56,31 +57,33 @@ pub record Accepted (words input : List ℕ) : Type 0 where
   pub short : length input ≤ maxTokens
   pub accepted : T (accepts (grammarOf words) (choiceOf words input) input)
 
--- a call of the tree of an accepted input, and the words of the calls of that tree
-pub record VertexGiven (input words starts labels tree : List ℕ) (marks : List Bool) (A start written : ℕ) : Type 0 where
+-- a call of the tree of an accepted input, where its word stands, and the words of the calls of that tree
+pub record VertexGiven (input words starts labels tree : List ℕ) (A start entry written : ℕ) : Type 0 where
   pub accepted : Accepted words input
   pub begins : starts ≡ ruleStarts words
-  pub labelled : (x : Call) → InTree (grammarOf words) (choiceOf words input) input x → getD labels (labelIndex x) 0 ≡ vertexWordAt words input x
   pub inTree : InTree (grammarOf words) (choiceOf words input) input (callAt A start)
+  pub stands : entry ≡ labelIndex (callAt A start)
   pub lent : List ℕ
   pub seen : List Call
-  pub holds : Holds words input lent seen tree marks written
+  pub holds : Holds words input lent seen labels tree written
 
-pub record VertexDone (words input tree : List ℕ) (marks : List Bool) (A start written r : ℕ) (tree′ : List ℕ) (marks′ : List Bool) : Type 0 where
-  pub holds : (lent : List ℕ) (l : List Call) → Holds words input lent l tree marks written → (n : ℕ) → measure (grammarOf words) input (callAt A start) < n
-      → Holds words input lent (visit (below (grammarOf words) (choiceOf words input) input) n (callAt A start) l) tree′ marks′ r
+pub record VertexDone (words input labels tree : List ℕ) (A start written r : ℕ) (labels′ tree′ : List ℕ) : Type 0 where
+  pub holds : (lent : List ℕ) (l : List Call) → Holds words input lent l labels tree written → (n : ℕ) → measure (grammarOf words) input (callAt A start) < n
+      → Holds words input lent (visit (below (grammarOf words) (choiceOf words input) input) n (callAt A start) l) labels′ tree′ r
 
--- it is required that there is such an input, and ensured what is written for each that there is
-abbrev pub VertexRequires : (words starts labels tree : List ℕ) (marks : List Bool) (A start written : ℕ) → Type 0
-VertexRequires words starts labels tree marks A start written = (input : List ℕ) × VertexGiven input words starts labels tree marks A start written
+-- it is required that there are such an input and call, and ensured what is written for each that there are
+abbrev pub VertexRequires : (words starts labels tree : List ℕ) (entry written : ℕ) → Type 0
+VertexRequires words starts labels tree entry written =
+    (input : List ℕ) × ((A : ℕ) × ((start : ℕ) × VertexGiven input words starts labels tree A start entry written))
 
-abbrev pub VertexEnsures : (words starts labels tree : List ℕ) (marks : List Bool) (A start written r : ℕ) (tree′ : List ℕ) (marks′ : List Bool) → Type 0
-VertexEnsures words starts labels tree marks A start written r tree′ marks′ =
-    (input : List ℕ) → VertexGiven input words starts labels tree marks A start written → VertexDone words input tree marks A start written r tree′ marks′
+abbrev pub VertexEnsures : (words starts labels tree : List ℕ) (entry written r : ℕ) (labels′ tree′ : List ℕ) → Type 0
+VertexEnsures words starts labels tree entry written r labels′ tree′ =
+    (input : List ℕ) (A start : ℕ) → VertexGiven input words starts labels tree A start entry written
+    → VertexDone words input labels tree A start written r labels′ tree′
 
 -- what falls from a call to those below it: the tokens left, for the input ends where the root does, then the rank
-abbrev pub falling : (words labels : List ℕ) (A start : ℕ) → ℕ
-falling words labels A start = level (grammarOf words) (labelEnd (getD labels 0 0) - start) A
+abbrev pub falling : (words labels : List ℕ) (entry : ℕ) → ℕ
+falling words labels entry = level (grammarOf words) (labelEnd (getD labels 0 0) - entry % maxPlaces) (entry / maxPlaces)
 
 -- the table holds the entries of the grammar
 abbrev pub Entries : Grammar → List ℕ → Type 0

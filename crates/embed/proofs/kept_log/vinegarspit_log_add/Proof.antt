@@ -11,17 +11,15 @@ progress-in-requires c κs = search needs
 add-event-requires : tie.Need-add-event-requires
 add-event-requires c κs = search needs
 
-state-of-requires : tie.Need-state-of-requires
-state-of-requires c κs = search needs
-
-pack-requires : tie.Need-pack-requires
-pack-requires c κs = search needs
+write-back-requires : tie.Need-write-back-requires
+write-back-requires c κs = search needs
 
 returns : tie.Need-returns
 returns c =
-    let at-add = c .before .before .before in
-    step-exported (at-add .before .before .progress-in .ensures) (at-add .add-event .ensures) (c .pack .ensures) refl (c .before .state-of .ensures)
+    let at-add = c .before .before in
+    let back = c .write-back .ensures in
+    step-exported (at-add .before .before .progress-in .ensures) (at-add .add-event .ensures) (back .packs) refl (back .left)
 
 pub vinegarspit-log-add-spec : {M : Type 1} → statement M
 vinegarspit-log-add-spec =
-    tie.close (tie.spec progress-in-requires add-event-requires state-of-requires pack-requires returns)
+    tie.close (tie.spec progress-in-requires add-event-requires write-back-requires returns)

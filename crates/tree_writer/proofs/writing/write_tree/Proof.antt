@@ -33,7 +33,7 @@ labels-of-requires c κs =
 
 write-vertex-requires : tie.Need-write-vertex-requires
 write-vertex-requires c κs =
-    let at-labels-of = c .before .before .before .before in
+    let at-labels-of = c .before .before .before in
     let at-rule-starts = at-labels-of .before in
     let at-outcome = at-rule-starts .before .before in
     let at-read = at-outcome .before .before in
@@ -47,7 +47,7 @@ same-length c = search needs
 returns-2 : tie.Need-returns-2
 returns-2 c =
     let at-write-vertex = c .before .before in
-    let at-labels-of = at-write-vertex .before .before .before .before .before in
+    let at-labels-of = at-write-vertex .before .before .before .before in
     let at-rule-starts = at-labels-of .before in
     let at-outcome = at-rule-starts .before .before in
     let at-read = at-outcome .before .before in
