@@ -5,8 +5,8 @@ use Prim.Native.Nat.{ℕ}
 use native.Mathlib.Omega.{arith}
 use Rattle.grammar.specs.Encoding.{grammarOf}
 use Rattle.lookahead.specs.declared.Lookahead.the-variants.{One, Two}
-use Rattle.table.specs.declared.conflicts.Conflict.the-variants.{Absent, At}
-use Rattle.table.proofs.FirstClash.{clash-absent}
+use Rattle.table_promises.specs.declared.Conflict.the-variants.{Absent, At}
+use Rattle.table_promises.proofs.FirstClash.{clash-absent}
 use Rattle.recognizer_promises.specs.Properties.{PassedGrammar}
 use Rattle.recognizer_promises.proofs.Checking.{passed-predictive}
 use Rattle.recognizer_promises.proofs.GrammarErrors.{GrammarErrors}

@@ -7,8 +7,8 @@ use lib.Dec.{ltb}
 use Rattle.answer.specs.Faults.{faultIf}
 use Rattle.answer.proofs.Faults.{each-none, first-none}
 use Rattle.lookahead.specs.declared.Lookahead.the-variants.{One}
-use Rattle.table.specs.Analysis.{grammarFaults, fault}
-use Rattle.table.specs.Layout.{tableRoom}
+use Rattle.table_promises.specs.Analysis.{grammarFaults, fault}
+use Rattle.table_promises.specs.Layout.{tableRoom}
 use Rattle.recognizer_promises.specs.Answers.{tableTooShort, checkFault}
 use Rattle.recognizer_promises.proofs.Checking.{passed-fault}
 use Rattle.recognizer_promises.proofs.JudgeFaults.{judged-readable}

@@ -8,7 +8,7 @@ use Rattle.lookahead.specs.declared.Lookahead.{Lookahead}
 use Rattle.families.specs.declared.Finding.{Finding}
 use Rattle.families.specs.declared.Finding.the-variants.{Passed, Refused}
 use Rattle.table.specs.declared.Found.{Found}
-use Rattle.table.specs.Layout.{tableRoom}
+use Rattle.table_promises.specs.Layout.{tableRoom}
 use Rattle.table.specs.contracts.Analysis.{foundOf}
 use Rattle.table.proofs.Analyzing.{entries-told}
 use Rattle.lending.specs.contracts.Lending.{lentOf}

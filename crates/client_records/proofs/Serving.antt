@@ -16,7 +16,7 @@ use Rattle.answer.specs.Faults.{firstFault}
 use Rattle.answer.proofs.Apart.{answer-number}
 use Rattle.grammar.specs.Encoding.{grammarOf}
 use Rattle.lookahead.specs.declared.Lookahead.the-variants.{One}
-use Rattle.table.specs.Layout.{tableWords}
+use Rattle.table_promises.specs.Layout.{tableWords}
 use Rattle.recognizer_promises.specs.Answers.{judgeFault, verdictOf}
 use Rattle.promises.specs.Leaving.{lent, Leaves}
 use Rattle.promises.specs.Directions.{DirectionsIgnored}

@@ -13,7 +13,7 @@ use Rattle.answer.specs.declared.Answer.the-variants.{Refused}
 use Rattle.answer.specs.Faults.{faultIf, firstFault}
 use Rattle.grammar.specs.Encoding.{grammarOf}
 use Rattle.lookahead.specs.declared.Lookahead.the-variants.{One}
-use Rattle.table.specs.Layout.{tableWords}
+use Rattle.table_promises.specs.Layout.{tableWords}
 use Rattle.recognizer_promises.specs.Answers.{judgeFault, verdictOf}
 use Rattle.promises.specs.Leaving.{lent, Leaves}
 use Rattle.recognizer_promises.specs.Memory.{memoWords}

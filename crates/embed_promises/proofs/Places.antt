@@ -11,10 +11,10 @@ use Rattle.grammar.specs.Encoding.{grammarOf}
 use Rattle.lookahead.specs.declared.Lookahead.{Lookahead}
 use Rattle.lookahead.specs.declared.Lookahead.the-variants.{One, Two}
 use Rattle.lookahead.specs.contracts.Lookaheads.{alphabet}
-use Rattle.table.specs.declared.conflicts.Conflict.the-variants.{At}
-use Rattle.table.specs.Analysis.{conflictError}
-use Rattle.table.specs.Conflicts.{firstClash}
-use Rattle.table.proofs.FirstClash.{clash-at}
+use Rattle.table_promises.specs.declared.Conflict.the-variants.{At}
+use Rattle.table_promises.specs.Analysis.{conflictError}
+use Rattle.table_promises.specs.Conflicts.{firstClash}
+use Rattle.table_promises.proofs.FirstClash.{clash-at}
 use Rattle.recognizer_promises.specs.Answers.{tableTooShort}
 use Rattle.promises.proofs.SetsErrors.{SetsErrors}
 use Rattle.recognizer_promises.proofs.RefusalErrors.{JudgeErrors}

@@ -24,8 +24,8 @@ use Rattle.semantics.proofs.families.LookaheadSets.{entries-elim}
 use Rattle.semantics.proofs.families.Positions.{several-elim}
 use Rattle.lookahead.specs.declared.Lookahead.the-variants.{One}
 use Rattle.families.specs.Analysis.{setsFault}
-use Rattle.table.specs.Analysis.{fault}
-use Rattle.table.proofs.Analyzing.{fault-clashless}
+use Rattle.table_promises.specs.Analysis.{fault}
+use Rattle.table_promises.proofs.GrammarFaults.{fault-clashless}
 use Rattle.gaps_text_promises.specs.Gaps.{onRule, claimsBy, claimants, NoneShown, LinesTell}
 use Rattle.gaps_text_promises.proofs.Entries.{count-kept, entries-once, overruns-once}
 

@@ -19,7 +19,7 @@ use Rattle.semantics.specs.FirstFollow.{Entry, entries, First, Follow}
 use Rattle.families.specs.declared.Finding.{Finding}
 use Rattle.families.specs.declared.Finding.the-variants.{Passed, Refused}
 use Rattle.families.specs.Analysis.{setsFault, findingOf}
-use Rattle.table.specs.Analysis.{fault}
+use Rattle.table_promises.specs.Analysis.{fault}
 use Rattle.text.specs.Ascii.{ascii}
 use Rattle.text.specs.Decimal.{decimal, labelled}
 use Rattle.text.specs.Refusal.{refusalText}

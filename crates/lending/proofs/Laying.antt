@@ -18,7 +18,7 @@ use Rattle.families.specs.declared.Finding.{Finding}
 use Rattle.families.specs.declared.Finding.the-variants.{Passed, Refused}
 use Rattle.base.proofs.Lists.{listed-long, listed-at}
 use Rattle.columns.specs.Columns.{columnCount}
-use Rattle.table.specs.Layout.{tableRoom}
+use Rattle.table_promises.specs.Layout.{tableRoom}
 use Rattle.lending.specs.contracts.Lending.{tableWordAt, storedWord, wordCount, laid, madeUp, noSizes, lentSizes, lentBy, SizesGiven}
 use Rattle.base.proofs.Front.{front, front-more}
 

@@ -35,12 +35,12 @@ use Rattle.families.specs.Sets.{firstNumber, followNumber}
 use Rattle.base.proofs.Lists.{listed-long, listed-at}
 use Rattle.families.proofs.Strings.{number-below}
 use Rattle.columns.specs.Columns.{columnString, columns}
-use Rattle.table.specs.Layout.{entryWord, entryAt, setWord, rowWord, tableWords, tableRoom}
+use Rattle.table_promises.specs.Layout.{entryWord, entryAt, setWord, rowWord, tableWords, tableRoom}
 use Rattle.lending.specs.contracts.Lending.{entryCode, tableWordAt, storedWord, wordCount, laid, noSizes, lentSizes, lentOf, lentBy, SizesGiven}
 use Rattle.lending.proofs.Laying.{lent-sizes, count-room, lent-long}
 use Rattle.table.specs.contracts.Entries.{ruleByte, byteAt, entriesOf}
 use Rattle.table.proofs.EntriesFilled.{entries-in}
-use Rattle.table.proofs.Words.{table-length, table-long, table-set, table-row}
+use Rattle.table_promises.proofs.Words.{table-length, table-long, table-set, table-row}
 use Rattle.table.proofs.Analyzing.{FoundEntries}
 
 -- a rule's byte as a word is its number

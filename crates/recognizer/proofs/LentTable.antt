@@ -14,8 +14,8 @@ use Rattle.admission.specs.Admission.{admission}
 use Rattle.families.specs.declared.Finding.the-variants.{Passed}
 use Rattle.families.specs.Analysis.{findingOf}
 use Rattle.table.specs.declared.Found.{Found}
-use Rattle.table.specs.Layout.{tableWords, tableRoom}
-use Rattle.table.specs.Analysis.{grammarFaults, fault}
+use Rattle.table_promises.specs.Layout.{tableWords, tableRoom}
+use Rattle.table_promises.specs.Analysis.{grammarFaults, fault}
 use Rattle.table.specs.contracts.Analysis.{foundOf}
 use Rattle.table.proofs.Analyzing.{entries-told}
 use Rattle.lending.specs.contracts.Lending.{lentOf}

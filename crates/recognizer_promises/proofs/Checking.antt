@@ -37,18 +37,18 @@ use Rattle.families.specs.declared.Finding.{Finding}
 use Rattle.families.specs.declared.Finding.the-variants as finding
 use Rattle.families.proofs.FewTerminals.{few-terminals}
 use Rattle.table.specs.declared.Found.{Found}
-use Rattle.table.specs.Layout.{tableWords, tableRoom}
+use Rattle.table_promises.specs.Layout.{tableWords, tableRoom}
 use Rattle.table.specs.contracts.Entries.{entriesOf}
 use Rattle.families.specs.Analysis.{setsFault, findingOf}
 use Rattle.families.specs.contracts.Analysis.{startsIf}
 use Rattle.families.proofs.Findings.{read-some, told-passed, told-refused}
-use Rattle.table.specs.Analysis.{clashFault, grammarFaults, fault}
+use Rattle.table_promises.specs.Analysis.{clashFault, grammarFaults, fault}
 use Rattle.table.specs.contracts.Analysis.{entriesIf, foundOf}
-use Rattle.table.specs.Conflicts.{firstClash}
-use Rattle.table.specs.declared.conflicts.Conflict.{Conflict}
-use Rattle.table.specs.declared.conflicts.Conflict.the-variants.{Absent, At}
-use Rattle.table.proofs.FirstClash.{clash-absent}
-use Rattle.table.proofs.Analyzing.{none-sets}
+use Rattle.table_promises.specs.Conflicts.{firstClash}
+use Rattle.table_promises.specs.declared.Conflict.{Conflict}
+use Rattle.table_promises.specs.declared.Conflict.the-variants.{Absent, At}
+use Rattle.table_promises.proofs.FirstClash.{clash-absent}
+use Rattle.table_promises.proofs.GrammarFaults.{none-sets}
 use Rattle.promises.specs.Leaving.{lent, Leaves}
 use Rattle.promises.proofs.Leaving.{leaves, leaves-alike, leaves-refused}
 use Rattle.recognizer_promises.specs.Answers.{tableTooShort, checkFault}

@@ -33,8 +33,8 @@ use Rattle.families.specs.declared.Finding.the-variants as finding
 use Rattle.families.proofs.FewTerminals.{admitted-read}
 use Rattle.base.specs.Strings.{Over}
 use Rattle.semantics.specs.Descent.{accepts}
-use Rattle.table.specs.Layout.{tableWords}
-use Rattle.table.specs.Analysis.{grammarFaults, fault}
+use Rattle.table_promises.specs.Layout.{tableWords}
+use Rattle.table_promises.specs.Analysis.{grammarFaults, fault}
 use Rattle.table.specs.contracts.Analysis.{foundOf}
 use Rattle.table.specs.declared.Found.{Found}
 use Rattle.promises.specs.Memory.{lentBack}

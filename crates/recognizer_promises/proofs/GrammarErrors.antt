@@ -9,10 +9,10 @@ use Rattle.grammar.specs.Limits.{maxNonterminals}
 use Rattle.grammar.specs.Encoding.{grammarOf}
 use Rattle.lookahead.specs.declared.Lookahead.{Lookahead}
 use Rattle.lookahead.specs.contracts.Lookaheads.{alphabet}
-use Rattle.table.specs.declared.conflicts.Conflict.{Conflict}
-use Rattle.table.specs.declared.conflicts.Conflict.the-variants.{Absent, At}
-use Rattle.table.specs.Analysis.{conflictError, clashFault, grammarFaults}
-use Rattle.table.specs.Conflicts.{firstClash}
+use Rattle.table_promises.specs.declared.Conflict.{Conflict}
+use Rattle.table_promises.specs.declared.Conflict.the-variants.{Absent, At}
+use Rattle.table_promises.specs.Analysis.{conflictError, clashFault, grammarFaults}
+use Rattle.table_promises.specs.Conflicts.{firstClash}
 use Rattle.promises.proofs.SetsErrors.{SetsErrors, sets-each}
 
 -- those before the table is made, and the table's: at the first entry that two rules claim

@@ -14,8 +14,8 @@ use Rattle.grammar.specs.Limits.{maxMemoEntries, maxTokens}
 use Rattle.grammar.specs.Encoding.{grammarOf}
 use Rattle.base.specs.Strings.{Over}
 use Rattle.lookahead.specs.declared.Lookahead.{Lookahead}
-use Rattle.table.specs.Layout.{tableRoom}
-use Rattle.table.specs.Analysis.{grammarFaults, fault}
+use Rattle.table_promises.specs.Layout.{tableRoom}
+use Rattle.table_promises.specs.Analysis.{grammarFaults, fault}
 use Rattle.event.proofs.Known.{known-absent, absent-known}
 use Rattle.event.specs.declared.Unknown.{Unknown}
 use Rattle.event.specs.declared.Unknown.the-variants.{Absent, At}

@@ -30,8 +30,8 @@ use Rattle.semantics.specs.Valuations.{pairs}
 use Rattle.semantics.specs.Descent.{accepts}
 use Rattle.semantics.specs.Calls.{allCalls}
 use Rattle.semantics.proofs.descent.Range.{all-length}
-use Rattle.table.specs.Layout.{tableWords, tableRoom}
-use Rattle.table.specs.Analysis.{fault}
+use Rattle.table_promises.specs.Layout.{tableWords, tableRoom}
+use Rattle.table_promises.specs.Analysis.{fault}
 use Rattle.table.specs.contracts.Analysis.{foundOf}
 use Rattle.table.specs.declared.Found.{Found}
 use Rattle.families.specs.declared.Finding.{Finding}

@@ -27,11 +27,11 @@ use Rattle.encoding.proofs.ReadingEncodes.{encodes-read}
 use Rattle.semantics.specs.LeftRecursion.{lowestLeftRecursive, NoLeftRecursion}
 use Rattle.semantics.specs.Productive.{lowestUnproductive}
 use Rattle.semantics.proofs.Theorems.{theorems}
-use Rattle.table.specs.declared.conflicts.Conflict.{Conflict as Clash}
-use Rattle.table.specs.declared.conflicts.Conflict.the-variants as conflict
-use Rattle.table.specs.Analysis.{conflictError, clashFault, fault}
-use Rattle.table.specs.Conflicts.{firstClash, FirstClash}
-use Rattle.table.proofs.FirstClash.{clash-first, first-clash}
+use Rattle.table_promises.specs.declared.Conflict.{Conflict as Clash}
+use Rattle.table_promises.specs.declared.Conflict.the-variants as conflict
+use Rattle.table_promises.specs.Analysis.{conflictError, clashFault, fault}
+use Rattle.table_promises.specs.Conflicts.{firstClash, FirstClash}
+use Rattle.table_promises.proofs.FirstClash.{clash-first, first-clash}
 use Rattle.promises.specs.Places.{AllProductive}
 use Rattle.promises.proofs.Places.{Tells, Other, faultBy, lowest-recursive, lowest-unproductive}
 use Rattle.recognizer_promises.specs.Properties.{Places}

@@ -24,8 +24,8 @@ use Rattle.lookahead.specs.Lookaheads.{tokens}
 use Rattle.semantics.specs.Choices.{tableChoice}
 use Rattle.semantics.specs.Descent.{accepts}
 use Rattle.inputs.specs.Inputs.{maxInputs}
-use Rattle.table.specs.Layout.{tableRoom}
-use Rattle.table.specs.Analysis.{grammarFaults}
+use Rattle.table_promises.specs.Layout.{tableRoom}
+use Rattle.table_promises.specs.Analysis.{grammarFaults}
 use Rattle.recognizer_promises.specs.Answers.{tableTooShort, checkFault, inputFaults, judgeFault, callsOf, verdictOf}
 use Rattle.recognizer_promises.specs.Properties.{Judges}
 use Rattle.recognizer_promises.specs.CostliestInput.{lengthFaults, costliestFault}

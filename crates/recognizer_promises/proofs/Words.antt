@@ -18,8 +18,8 @@ use Rattle.semantics.specs.FirstFollow.{Entry, Follow}
 use Rattle.semantics.specs.Claims.{clashes}
 use Rattle.semantics.specs.contracts.Theorems.{LeastSets}
 use Rattle.semantics.proofs.Theorems.{theorems}
-use Rattle.table.specs.Layout.{tableWords, tableRoom}
-use Rattle.table.proofs.Words.{table-long}
+use Rattle.table_promises.specs.Layout.{tableWords, tableRoom}
+use Rattle.table_promises.proofs.Words.{table-long}
 use Rattle.recognizer_promises.specs.LeastFamilies.{Clashless, LeastFamilies, StrungFamilies}
 use Rattle.recognizer_promises.specs.Words.{Understood}
 

@@ -19,8 +19,8 @@ use Rattle.semantics.specs.Calls.{callCount, farthest}
 use Rattle.lookahead.specs.declared.Lookahead.{Lookahead}
 use Rattle.lookahead.specs.declared.Lookahead.the-variants.{One, Two}
 use Rattle.lookahead.specs.Lookaheads.{tokens}
-use Rattle.table.specs.Layout.{tableRoom}
-use Rattle.table.specs.Analysis.{grammarFaults}
+use Rattle.table_promises.specs.Layout.{tableRoom}
+use Rattle.table_promises.specs.Analysis.{grammarFaults}
 use Rattle.promises.specs.Inputs.{inputFaultsTo}
 
 -- the lent table is too short: 17 stands in the place of 1

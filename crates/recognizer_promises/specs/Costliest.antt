@@ -13,7 +13,7 @@ use Rattle.lookahead.specs.declared.Lookahead.the-variants.{One}
 use Rattle.inputs.specs.Inputs.{maxInputs}
 use Rattle.inputs.specs.Costliest.{CostliestOf}
 use Rattle.base.specs.Strings.{Over}
-use Rattle.table.specs.Layout.{tableWords}
+use Rattle.table_promises.specs.Layout.{tableWords}
 use Rattle.promises.specs.Leaving.{lent, Leaves}
 use Rattle.recognizer_promises.specs.Words.{Understood}
 use Rattle.recognizer_promises.specs.Memory.{memoWords}

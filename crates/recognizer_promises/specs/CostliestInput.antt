@@ -12,7 +12,7 @@ use Rattle.grammar.specs.Encoding.{grammarOf}
 use Rattle.lookahead.specs.declared.Lookahead.the-variants.{One}
 use Rattle.inputs.specs.Inputs.{maxInputs}
 use Rattle.inputs.specs.Costliest.{costliest}
-use Rattle.table.specs.Analysis.{grammarFaults}
+use Rattle.table_promises.specs.Analysis.{grammarFaults}
 use Rattle.recognizer_promises.specs.Answers.{callsOf}
 
 -- how many calls the descent makes on an input (document 01: the count)

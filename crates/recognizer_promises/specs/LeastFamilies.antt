@@ -16,7 +16,7 @@ use Rattle.semantics.specs.LeftRecursion.{nullStep, nullable}
 use Rattle.semantics.specs.Families.{Short, FirstOf, FirstBody, Strung, Meeting, FirstClosed, FollowClosed, FollowStrung, Claims}
 use Rattle.semantics.specs.FirstFollow.{First, Follow}
 use Rattle.semantics.specs.Claims.{tableOf}
-use Rattle.table.specs.Conflicts.{ClashAt}
+use Rattle.table_promises.specs.Conflicts.{ClashAt}
 
 -- no entry is claimed by two rules, and only the end can follow a rule without positives
 abbrev pub Clashless : Lookahead → Grammar → Type 0

@@ -24,9 +24,9 @@ use Rattle.semantics.specs.LeftRecursion.{NoLeftRecursion}
 use Rattle.semantics.specs.Memo.{Recorded}
 use Rattle.semantics.specs.Theorems.{OneSolution, DescentEnds, CallsCounted}
 use Rattle.following.specs.Theorems.{EntriesTell}
-use Rattle.table.specs.Conflicts.{FirstClash}
-use Rattle.table.specs.Layout.{tableWords, tableRoom}
-use Rattle.table.specs.Analysis.{conflictError}
+use Rattle.table_promises.specs.Conflicts.{FirstClash}
+use Rattle.table_promises.specs.Layout.{tableWords, tableRoom}
+use Rattle.table_promises.specs.Analysis.{conflictError}
 use Rattle.promises.specs.Leaving.{lent, Leaves}
 use Rattle.promises.specs.Places.{AllProductive, LowestRecursive, LowestUnproductive}
 use Rattle.recognizer_promises.specs.LeastFamilies.{Clashless}

@@ -9,7 +9,7 @@ use Rattle.encoding.specs.Faithful.{FaithfulReading}
 use Rattle.lookahead.specs.declared.Lookahead.{Lookahead}
 use Rattle.lookahead.specs.declared.Lookahead.the-variants.{One}
 use Rattle.admission.specs.Diagnosis.{Diagnosed}
-use Rattle.table.specs.Layout.{tableWords, tableRoom}
+use Rattle.table_promises.specs.Layout.{tableWords, tableRoom}
 use Rattle.recognizer_promises.specs.LeastFamilies.{LeastFamilies, StrungFamilies}
 
 -- need not be believed: reading, grammarOf (faithful); admission (admits)

@@ -21,9 +21,9 @@ use Rattle.families.specs.declared.Finding.{Finding}
 use Rattle.families.specs.declared.Finding.the-variants.{Passed, Refused}
 use Rattle.families.specs.Analysis.{findingOf}
 use Rattle.table.specs.declared.Found.{Found}
-use Rattle.table.specs.Analysis.{fault}
+use Rattle.table_promises.specs.Analysis.{fault}
 use Rattle.table.specs.contracts.Analysis.{foundOf}
-use Rattle.table.specs.Layout.{tableWords}
+use Rattle.table_promises.specs.Layout.{tableWords}
 use Rattle.table.proofs.Analyzing.{entries-told}
 use Rattle.lending.specs.contracts.Lending.{lentOf}
 use Rattle.lending.proofs.WordsLaid.{lent-table, lent-nothing}

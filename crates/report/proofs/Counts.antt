@@ -17,7 +17,7 @@ use Rattle.families.specs.Sets.{firstNumber, followNumber, Members}
 use Rattle.base.proofs.Lists.{listed-long, listed-at}
 use Rattle.families.proofs.Members.{members}
 use Rattle.columns.specs.Columns.{columns}
-use Rattle.table.specs.Layout.{setWord, rowWord, tableWords}
+use Rattle.table_promises.specs.Layout.{setWord, rowWord, tableWords}
 use Rattle.recognizer_promises.specs.Properties.{PassedGrammar}
 use Rattle.recognizer_promises.proofs.Words.{least-sets}
 use Rattle.recognizer_promises.proofs.Checking.{passed-encodes, fault-passed, check-fault-long}

@@ -18,7 +18,7 @@ use Rattle.grammar.specs.Limits.{maxWords, maxTokens, maxMemoEntries, maxTableW
 use Rattle.text.specs.Words.{bytesOfWord, wordsOf, areWords}
 use Rattle.text.specs.Refusal.{refusalText}
 use Rattle.lookahead.specs.declared.Lookahead.the-variants.{One}
-use Rattle.table.specs.Analysis.{fault}
+use Rattle.table_promises.specs.Analysis.{fault}
 use Rattle.judgement_text.specs.Judgement.{judgementText}
 use Rattle.recognizer_promises.specs.Answers.{judgeFault}
 use Rattle.recognizer_promises.proofs.JudgeFaults.{judged-rows}

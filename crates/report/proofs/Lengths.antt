@@ -26,7 +26,7 @@ use Rattle.semantics.specs.Memo.{outcomeCode}
 use Rattle.semantics.proofs.descent.Range.{all-range}
 use Rattle.lookahead.specs.declared.Lookahead.the-variants.{One}
 use Rattle.semantics.proofs.Theorems.{theorems}
-use Rattle.table.specs.Layout.{tableWords}
+use Rattle.table_promises.specs.Layout.{tableWords}
 use Rattle.answer.specs.Faults.{refusedOr}
 use Rattle.recognizer_promises.specs.Answers.{checkFault, judgeFault, callsOf, verdictOf}
 use Rattle.promises.specs.Memory.{lentBack}

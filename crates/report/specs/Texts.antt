@@ -14,7 +14,7 @@ use Rattle.grammar.specs.Encoding.{grammarOf}
 use Rattle.grammar.specs.Reading.{reading}
 use Rattle.lookahead.specs.declared.Lookahead.the-variants.{One}
 use Rattle.families.specs.Analysis.{findingOf}
-use Rattle.table.specs.Layout.{tableWords}
+use Rattle.table_promises.specs.Layout.{tableWords}
 use Rattle.answer.specs.Faults.{refusedOr}
 use Rattle.recognizer_promises.specs.Answers.{checkFault, judgeFault, verdictOf}
 use Rattle.promises.specs.Memory.{lentBack}

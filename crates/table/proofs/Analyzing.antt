@@ -1,19 +1,16 @@
 -- What is found of an encoded grammar, by its claims and by the first clash.
-use mathlib.Core.Path.{_≡_, refl, sym, ap, _∙_}
-use mathlib.Core.List.{List, [], _∷_}
-use mathlib.Core.Logic.{_↔_}
-use mathlib.Core.Option.{Option, none, some}
+use mathlib.Core.Path.{_≡_, sym, ap, _∙_}
+use mathlib.Core.List.{List}
+use mathlib.Core.Option.{none, some}
 use Prim.Native.Nat.{ℕ, _≤_, _<_}
 use native.Mathlib.Omega.{arith}
 use lib.ListN.{length, getD}
 use Rattle.answer.specs.declared.Error.{Error}
-use Rattle.answer.specs.Faults.{firstFault}
-use Rattle.answer.proofs.Faults.{none-some, each-none, first-nested}
 use Rattle.grammar.specs.Encoding.{grammarOf}
 use Rattle.grammar.specs.contracts.Starts.{ruleStarts}
 use Rattle.grammar.specs.Limits.{maxNonterminals}
 use Rattle.grammar.specs.declared.reading.Sizes.{Sizes}
-use Rattle.grammar.specs.declared.reading.Reading.the-variants.{Read, Faulty}
+use Rattle.grammar.specs.declared.reading.Reading.the-variants.{Read}
 use Rattle.grammar.specs.contracts.WellRead.{WellRead}
 use Rattle.grammar.proofs.WellRead.{well-read}
 use Rattle.lookahead.specs.declared.Lookahead.{Lookahead}
@@ -21,63 +18,32 @@ use Rattle.lookahead.specs.Lookaheads.{tokens}
 use Rattle.lookahead.specs.contracts.Lookaheads.{alphabet}
 use Rattle.admission.specs.Admission.{admission}
 use Rattle.base.specs.FiniteSets.{numbersBelow}
-use Rattle.semantics.specs.Claims.{overruns, clashes}
+use Rattle.semantics.specs.Claims.{overruns}
 use Rattle.semantics.proofs.descent.Outcomes.{nth-mem}
 use Rattle.families.specs.declared.Finding.the-variants.{Passed, Refused}
-use Rattle.families.specs.Analysis.{setsFaults, setsFault}
+use Rattle.families.specs.Analysis.{setsFault}
 use Rattle.families.specs.contracts.Analysis.{startsIf, setsIf}
 use Rattle.base.specs.Lists.{listed}
 use Rattle.families.specs.Sets.{firstNumber, followNumber}
 use Rattle.base.proofs.Lists.{listed-at, listed-long}
-use Rattle.families.proofs.Findings.{read-some, told-passed, told-refused}
-use Rattle.table.specs.declared.conflicts.Conflict.{Conflict}
-use Rattle.table.specs.declared.conflicts.Conflict.the-variants as conflict
+use Rattle.families.proofs.Findings.{told-passed, told-refused}
+use Rattle.table_promises.specs.declared.Conflict.{Conflict}
+use Rattle.table_promises.specs.declared.Conflict.the-variants as conflict
 use Rattle.claims.specs.declared.Claims.{Claims}
 use Rattle.table.specs.declared.Found.{Found}
 use Rattle.claims.specs.contracts.Claims.{claimsOf, Headed}
 use Rattle.claims.specs.contracts.Overruns.{overrunSet}
-use Rattle.table.specs.Conflicts.{firstClash}
+use Rattle.table_promises.specs.Conflicts.{firstClash}
 use Rattle.table.specs.contracts.Conflicts.{conflictOf}
 use Rattle.table.specs.contracts.Entries.{rowsOf, FilledRows, noRules, entriesOf}
-use Rattle.table.specs.Analysis.{conflictError, clashFault, fault}
+use Rattle.table_promises.specs.Analysis.{conflictError, fault}
 use Rattle.table.specs.contracts.Analysis.{entriesIf, foundWith, foundOf}
 use Rattle.claims.proofs.Claimants.{heads-own}
 use Rattle.families.proofs.FewTerminals.{admitted-read, few-terminals}
 use Rattle.claims.proofs.Findings.{Claimed}
+use Rattle.table_promises.proofs.GrammarFaults.{fault-sets, sets-first, none-sets}
 use Rattle.table.proofs.ConflictScan.{clash-found}
-use Rattle.table.proofs.FirstClash.{clash-absent}
 use Rattle.table.proofs.EntriesFilled.{entries-filled}
-
--- the faults found with the sets come first
-pub fault-sets : (k : Lookahead) (words : List ℕ) → fault k words ≡ firstFault (setsFault k words ∷ clashFault k (firstClash k (grammarOf words)) ∷ [])
-unfolding fault setsFault
-fault-sets k words = first-nested [] (setsFaults k words) (clashFault k (firstClash k (grammarOf words)) ∷ [])
-
--- a faulty admission is the first fault
-sets-first : (k : Lookahead) (words : List ℕ) (e : Error) → admission k words ≡ Faulty e → setsFault k words ≡ some e
-unfolding setsFault
-sets-first k words e f = rw f
-
-fault-first : (k : Lookahead) (words : List ℕ) (e : Error) → admission k words ≡ Faulty e → fault k words ≡ some e
-fault-first k words e f = rw (fault-sets k words, sets-first k words e f)
-
--- a grammar clear of these is admitted, and then it has a fault just where an entry clashes
-pub sets-admitted : (k : Lookahead) (words : List ℕ) → setsFault k words ≡ none → (z : Sizes) × (admission k words ≡ Read z)
-unfolding setsFault
-sets-admitted k words e = read-some (admission k words) (each-none (setsFaults k words) e .0)
-
-clash-alone : (k : Lookahead) (r : Conflict) → (firstFault (none ∷ clashFault k r ∷ []) ≡ none) ↔ (r ≡ conflict.Absent)
-clash-alone k conflict.Absent = (λ e. refl, λ e. refl)
-clash-alone k (conflict.At A c) = (λ e. absurd (none-some (sym e)), λ e. let z : _≡_ {A = ℕ} 0 1 = cc in absurd (omega arith))
-
-pub fault-clashless : (k : Lookahead) (words : List ℕ) → setsFault k words ≡ none → (fault k words ≡ none) ↔ (clashes (grammarOf words) (tokens k) ≡ [])
-fault-clashless k words e =
-    let G = grammarOf words in
-    let few = few-terminals k words (sets-admitted k words e .1) in
-    let a = clash-absent k G few in
-    let c = clash-alone k (firstClash k G) in
-    let d : fault k words ≡ firstFault (none ∷ clashFault k (firstClash k G) ∷ []) = rw (fault-sets k words, e) in
-    (λ f. a .0 (c .0 (sym d ∙ f)), λ f. d ∙ c .1 (a .1 f))
 
 module _ (k : Lookahead) (words : List ℕ) {r : Claims} (e : r ≡ claimsOf k words) where
   -- a refusal goes on
@@ -146,13 +112,6 @@ pub record FoundEntries (k : Lookahead) (words : List ℕ) (z : Sizes) (r : Foun
   pub first : r .firsts ≡ listed maxNonterminals (firstNumber k (grammarOf words))
   pub follow : r .follows ≡ listed maxNonterminals (followNumber k (grammarOf words))
   pub entries : r .entries ≡ entriesOf k (grammarOf words)
-
-pub none-sets : (k : Lookahead) (words : List ℕ) → fault k words ≡ none → setsFault k words ≡ none
-none-sets k words e = go (setsFault k words) refl
-  where
-    go : (o : Option Error) → setsFault k words ≡ o → setsFault k words ≡ none
-    go none s = s
-    go (some x) s = absurd (none-some (sym e ∙ fault-sets k words ∙ ap (λ o. firstFault (o ∷ clashFault k (firstClash k (grammarOf words)) ∷ [])) s))
 
 module _ (k : Lookahead) (words : List ℕ) {r : Found} (e : r ≡ foundOf k words) where
   pub entries-told : {z : Sizes} → r .finding ≡ Passed z → FoundEntries k words z r

@@ -15,19 +15,19 @@ use Rattle.lookahead.specs.contracts.Lookaheads.{alphabet}
 use Rattle.lookahead.specs.contracts.Operations.{isEmpty}
 use Rattle.lookahead.proofs.Emptiness.{empty-none}
 use Rattle.semantics.specs.Claims.{several, claims, overruns, clashing}
-use Rattle.table.specs.declared.conflicts.Conflict.{Conflict}
-use Rattle.table.specs.declared.conflicts.Conflict.the-variants.{Absent, At}
+use Rattle.table_promises.specs.declared.Conflict.{Conflict}
+use Rattle.table_promises.specs.declared.Conflict.the-variants.{Absent, At}
 use Rattle.columns.specs.Columns.{columnString, columns}
 use Rattle.columns.specs.contracts.Columns.{columnElement}
 use Rattle.claims.specs.contracts.Claims.{headsOf, claimNumbers}
 use Rattle.families.specs.contracts.RuleLists.{byRule}
 use Rattle.claims.specs.contracts.Overruns.{overrunSet}
-use Rattle.table.specs.Conflicts.{rowConflict, orLater, conflictFrom, firstClash}
+use Rattle.table_promises.specs.Conflicts.{rowConflict, orLater, conflictFrom, firstClash}
 use Rattle.table.specs.contracts.Conflicts.{inSet, inSets, claimedTwice, Twice}
 use Rattle.columns.proofs.ColumnStrings.{column-string, element-small}
 use Rattle.claims.proofs.Claimants.{several-claims, told as rules-told}
 use Rattle.table.proofs.OverrunColumns.{overrun-column}
-use Rattle.table.proofs.conflicts.Conflict.{the-type}
+use Rattle.table_promises.proofs.Conflict.{the-type}
 
 -- one turn of the loop over a row's columns
 module _ (p : ℕ → Bool) (A : ℕ) {c m : ℕ} (h : c < m) where

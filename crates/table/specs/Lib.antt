@@ -1,4 +1,1 @@
-pub mod Layout
-pub mod Conflicts
-pub mod Analysis
 pub mod contracts

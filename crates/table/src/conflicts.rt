@@ -7,7 +7,7 @@ ghost use Rattle.lookahead.specs.contracts.Lookaheads.{alphabet};
 ghost use Rattle.columns.specs.Columns.{columnCount};
 ghost use Rattle.columns.specs.contracts.Columns.{columnElement};
 ghost use Rattle.claims.specs.contracts.Claims.{Headed};
-ghost use Rattle.table.specs.Conflicts.{rowConflict, conflictFrom};
+ghost use Rattle.table_promises.specs.Conflicts.{rowConflict, conflictFrom};
 ghost use Rattle.table.specs.contracts.Conflicts.{inSet, inSets, conflictOf, ClaimNoted, Twice};
 use columns::count;
 use columns::element;
@@ -16,12 +16,7 @@ use grammar::limits::RULES;
 use grammar::reading::Sizes;
 use lookahead::Lookahead;
 use lookahead_sets::LookaheadSet;
-
-// By nonterminal, then by column.
-pub enum Conflict {
-    Absent,
-    At { nonterminal: u8, column: u8 },
-}
+use table_promises::Conflict;
 
 // Joins a claim for a nonterminal: what was claimed before is claimed twice.
 fn note(once: &mut [u64; SETS], twice: &mut [u64; SETS], head: usize, claim: LookaheadSet)

@@ -1,9 +1,8 @@
 // The LL(1) and the LL(2) table of an encoded grammar.
 ghost use mathlib.Core.Path.{_≡_};
-ghost use Rattle.table.specs.Analysis.{conflictError};
+ghost use Rattle.table_promises.specs.Analysis.{conflictError};
 ghost use Rattle.table.specs.contracts.Analysis.{foundOf};
 use answer::Error;
-use conflicts::Conflict;
 use conflicts::first_conflict;
 use families::Finding;
 use families::SETS;
@@ -11,8 +10,9 @@ use grammar::codes::NO_RULE;
 use grammar::limits::ENTRIES;
 use grammar::limits::RULES;
 use lookahead::Lookahead;
+use table_promises::Conflict;
 
-pub mod conflicts;
+mod conflicts;
 mod rows;
 
 // What is found of an encoded grammar: its sizes, or why it is refused; where its rules begin; its sets; and its entries, by nonterminal, then column.

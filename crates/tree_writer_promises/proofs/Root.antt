@@ -28,7 +28,7 @@ use Rattle.semantics.proofs.descent.Outcomes.{nth-below}
 use Rattle.semantics.proofs.meaning.Rank.{level-top}
 use Rattle.semantics.proofs.Theorems.{theorems}
 use Rattle.lookahead.specs.declared.Lookahead.the-variants.{One}
-use Rattle.table.specs.Layout.{entryWord, entryAt}
+use Rattle.table_promises.specs.Layout.{entryWord, entryAt}
 use Rattle.columns.specs.contracts.Columns.{columnAt}
 use Rattle.columns.proofs.Columns.{column-right}
 use Rattle.tree.specs.Writing.{vertexAt, vertexWord, treeCalls, treeOf, treeWords, InTree, start}

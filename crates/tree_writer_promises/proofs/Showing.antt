@@ -46,8 +46,8 @@ use Rattle.semantics.proofs.descent.Range.{index-range}
 use Rattle.semantics.proofs.Theorems.{theorems}
 use Rattle.lookahead.specs.declared.Lookahead.the-variants.{One}
 use Rattle.columns.specs.Columns.{columns}
-use Rattle.table.specs.Layout.{tableWords}
-use Rattle.table.proofs.Words.{table-entry, table-length}
+use Rattle.table_promises.specs.Layout.{tableWords}
+use Rattle.table_promises.proofs.Words.{table-entry, table-length}
 use Rattle.recognizer_promises.specs.Answers.{judgeFault, callsOf, verdictOf}
 use Rattle.promises.specs.Memory.{lentBack}
 use Rattle.promises.proofs.Leaving.{leaves, leaves-alike, leaves-refused, unrefused}

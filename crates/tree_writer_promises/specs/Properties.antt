@@ -14,7 +14,7 @@ use Rattle.grammar.specs.Limits.{maxTableWords, maxMemoEntries}
 use Rattle.grammar.specs.Encoding.{grammarOf}
 use Rattle.semantics.specs.Valuations.{Valuation, Solves}
 use Rattle.lookahead.specs.declared.Lookahead.the-variants.{One}
-use Rattle.table.specs.Layout.{tableWords}
+use Rattle.table_promises.specs.Layout.{tableWords}
 use Rattle.recognizer_promises.specs.Answers.{choiceOf, judgeFault, callsOf, verdictOf}
 use Rattle.promises.specs.Leaving.{lent, Leaves}
 use Rattle.recognizer_promises.specs.Memory.{memoWords}

@@ -12,9 +12,9 @@ use Rattle.grammar.specs.Reading.{counted, stepped, onStep, finished, scan, isW
 use Rattle.lookahead.specs.declared.Lookahead.the-variants.{One}
 use Rattle.semantics.proofs.examples.Computing.{left-recursion-computes, tables-compute, descent-computes, calls-compute}
 use Rattle.semantics.specs.Productive.{unproductive, lowestUnproductive}
-use Rattle.table.specs.Analysis.{fault}
+use Rattle.table_promises.specs.Analysis.{fault}
 use Rattle.columns.specs.Columns.{columnString}
-use Rattle.table.specs.Conflicts.{rowConflict, conflictFrom, firstClash}
+use Rattle.table_promises.specs.Conflicts.{rowConflict, conflictFrom, firstClash}
 use Rattle.event.specs.Unknown.{unknownFrom}
 use Rattle.recognizer_promises.specs.Answers.{inputFaults, verdictOf}
 use Rattle.worked_examples.specs.examples.Rows.{Row, starred, judged}

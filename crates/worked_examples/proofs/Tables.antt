@@ -19,14 +19,14 @@ use Rattle.semantics.specs.FirstFollow.{Entry, sameEntry, entries, firstStep, f
 use Rattle.semantics.specs.Claims.{clashes, tableOf}
 use Rattle.semantics.specs.LeftRecursion.{lowestLeftRecursive}
 use Rattle.semantics.proofs.examples.Computing.{tables-compute, left-recursion-computes}
-use Rattle.table.specs.declared.conflicts.Conflict.the-variants.{Absent, At}
+use Rattle.table_promises.specs.declared.Conflict.the-variants.{Absent, At}
 use Rattle.base.specs.Lists.{listed}
 use Rattle.lookahead.specs.declared.Lookahead.the-variants.{One, Two}
 use Rattle.lookahead.specs.Lookaheads.{stringOf}
 use Rattle.families.specs.Sets.{setNumber, firstNumber, followNumber}
 use Rattle.columns.specs.Columns.{columnString, columns}
-use Rattle.table.specs.Layout.{entryAt, setWord, rowWord, tableWords}
-use Rattle.table.specs.Conflicts.{rowConflict, conflictFrom, firstClash}
+use Rattle.table_promises.specs.Layout.{entryAt, setWord, rowWord, tableWords}
+use Rattle.table_promises.specs.Conflicts.{rowConflict, conflictFrom, firstClash}
 use Rattle.families.specs.Analysis.{leftFault}
 
 -- the first sets of a grammar, and its follow sets, as lists of a nonterminal and a string each

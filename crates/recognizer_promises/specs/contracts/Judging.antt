@@ -25,7 +25,7 @@ use Rattle.families.specs.declared.Finding.{Finding}
 use Rattle.families.specs.declared.Finding.the-variants.{Passed, Refused}
 use Rattle.table.specs.contracts.Entries.{entriesOf, noRules}
 use Rattle.table.specs.declared.Found.{Found}
-use Rattle.table.specs.Analysis.{grammarFaults, fault}
+use Rattle.table_promises.specs.Analysis.{grammarFaults, fault}
 use Rattle.table.specs.contracts.Analysis.{foundWith, foundOf}
 use Rattle.recognizer_promises.specs.declared.Judgement.{Judgement}
 use Rattle.promises.specs.Memory.{lentBack}

@@ -20,7 +20,7 @@ use Rattle.admission.specs.Admission.{admission}
 use Rattle.inputs.specs.Inputs.{maxInputs}
 use Rattle.semantics.specs.LeftRecursion.{NoLeftRecursion}
 use Rattle.table.specs.contracts.Entries.{entriesOf}
-use Rattle.table.specs.Analysis.{grammarFaults}
+use Rattle.table_promises.specs.Analysis.{grammarFaults}
 use Rattle.table.specs.contracts.Analysis.{foundOf}
 use Rattle.promises.specs.Memory.{lentBack}
 use Rattle.recognizer_promises.specs.Memory.{memoWords}

@@ -15,7 +15,7 @@ use Rattle.base.specs.Lists.{listed}
 use Rattle.families.specs.Sets.{firstNumber, followNumber}
 use Rattle.table.specs.declared.Found.{Found}
 use Rattle.table.specs.contracts.Entries.{entriesOf, noRules}
-use Rattle.table.specs.Analysis.{fault}
+use Rattle.table_promises.specs.Analysis.{fault}
 
 abbrev pub entriesIf : Option Error → List ℕ → List ℕ
 entriesIf none l = l

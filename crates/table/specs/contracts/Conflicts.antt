@@ -10,11 +10,11 @@ use Rattle.lookahead.specs.Elements.{has}
 use Rattle.lookahead.specs.contracts.Operations.{join, meet}
 use Rattle.base.specs.FiniteSets.{numbersBelow}
 use Rattle.semantics.specs.Claims.{several}
-use Rattle.table.specs.declared.conflicts.Conflict.{Conflict}
+use Rattle.table_promises.specs.declared.Conflict.{Conflict}
 use Rattle.columns.specs.Columns.{columnCount}
 use Rattle.columns.specs.contracts.Columns.{columnElement}
 use Rattle.claims.specs.contracts.Claims.{claimant}
-use Rattle.table.specs.Conflicts.{conflictFrom}
+use Rattle.table_promises.specs.Conflicts.{conflictFrom}
 
 -- the columns whose elements are in a set, and the entries whose elements are in a family of sets
 abbrev pub inSet : (ℕ → ℕ) → ℕ → ℕ → Bool

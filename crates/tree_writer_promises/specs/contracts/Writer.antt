@@ -24,7 +24,7 @@ use Rattle.semantics.specs.Memo.{outcomeCode, memoIndex}
 use Rattle.semantics.specs.Predictive.{Predictive}
 use Rattle.lookahead.specs.declared.Lookahead.the-variants.{One}
 use Rattle.columns.specs.Columns.{columns}
-use Rattle.table.specs.Layout.{entryAt}
+use Rattle.table_promises.specs.Layout.{entryAt}
 use Rattle.tree.specs.Writing.{vertexAt, below, visit, vertexWord, InTree}
 use Rattle.tree_writer_promises.specs.Properties.{wordsOf}
 use Rattle.tree_writer_promises.specs.contracts.Labels.{labelIndex, labelEnd, markedWord}

@@ -4,7 +4,7 @@ use Prim.Native.Nat.{_-_, _≤_}
 use native.Mathlib.Omega.{arith}
 use Rattle.columns.specs.Columns.{columnCount}
 use Rattle.columns.specs.contracts.Columns.{columnElement}
-use Rattle.table.specs.Conflicts.{rowConflict}
+use Rattle.table_promises.specs.Conflicts.{rowConflict}
 use Rattle.table.specs.contracts.Conflicts.{inSet}
 use Rattle.columns.proofs.ColumnStrings.{column-count}
 use Rattle.table.proofs.ConflictScan.{column-empty, column-all, column-here, column-later, column-none}

@@ -4,7 +4,7 @@ use Prim.Native.Nat.{_-_, _≤_}
 use native.Mathlib.Omega.{arith}
 use Rattle.columns.specs.Columns.{columnCount}
 use Rattle.columns.specs.contracts.Columns.{columnElement}
-use Rattle.table.specs.Conflicts.{conflictFrom}
+use Rattle.table_promises.specs.Conflicts.{conflictFrom}
 use Rattle.table.specs.contracts.Conflicts.{inSets}
 use Rattle.table.proofs.ConflictScan.{rows-all, row-here, row-later, rows-none}
 use Rattle.table.proofs.conflicts.first_entry.Statement.{statement}

@@ -18,10 +18,10 @@ use Rattle.semantics.specs.Claims.{clashing, clashes}
 use Rattle.semantics.proofs.families.Claims.{clashing-elim, clashes-make}
 use Rattle.base.proofs.FiniteSets.{keep-elim}
 use Rattle.semantics.proofs.families.LookaheadSets.{entries-elim}
-use Rattle.table.specs.declared.conflicts.Conflict.{Conflict}
-use Rattle.table.specs.declared.conflicts.Conflict.the-variants.{Absent, At}
+use Rattle.table_promises.specs.declared.Conflict.{Conflict}
+use Rattle.table_promises.specs.declared.Conflict.the-variants.{Absent, At}
 use Rattle.columns.specs.Columns.{columnString, columnOf, columns}
-use Rattle.table.specs.Conflicts.{rowConflict, orLater, conflictFrom, firstClash, FirstClash}
+use Rattle.table_promises.specs.Conflicts.{rowConflict, orLater, conflictFrom, firstClash, FirstClash}
 use Rattle.columns.proofs.ColumnStrings.{column-back, column-in, string-column}
 
 -- by nonterminal, then column

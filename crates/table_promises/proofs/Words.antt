@@ -12,7 +12,7 @@ use Rattle.lookahead.specs.declared.Lookahead.{Lookahead}
 use Rattle.base.specs.Lists.{listed}
 use Rattle.base.proofs.Lists.{listed-long, listed-at}
 use Rattle.columns.specs.Columns.{columns}
-use Rattle.table.specs.Layout.{entryAt, setWord, rowWord, tableWords}
+use Rattle.table_promises.specs.Layout.{entryAt, setWord, rowWord, tableWords}
 
 module _ (k : Lookahead) (G : Grammar) where
   abbrev setCount : ℕ

@@ -9,9 +9,9 @@ use Rattle.grammar.specs.Encoding.{grammarOf}
 use Rattle.lookahead.specs.declared.Lookahead.{Lookahead}
 use Rattle.lookahead.specs.declared.Lookahead.the-variants.{One, Two}
 use Rattle.families.specs.Analysis.{setsFaults}
-use Rattle.table.specs.declared.conflicts.Conflict.{Conflict}
-use Rattle.table.specs.declared.conflicts.Conflict.the-variants.{Absent, At}
-use Rattle.table.specs.Conflicts.{firstClash}
+use Rattle.table_promises.specs.declared.Conflict.{Conflict}
+use Rattle.table_promises.specs.declared.Conflict.the-variants.{Absent, At}
+use Rattle.table_promises.specs.Conflicts.{firstClash}
 
 -- 9: the first clash, by nonterminal, then column
 abbrev pub conflictError : Lookahead → ℕ → ℕ → Error

@@ -11,8 +11,8 @@ use Rattle.lookahead.specs.Lookaheads.{tokens}
 use Rattle.semantics.specs.Families.{Clash}
 use Rattle.semantics.specs.FirstFollow.{First, Follow}
 use Rattle.semantics.specs.Claims.{clashing}
-use Rattle.table.specs.declared.conflicts.Conflict.{Conflict}
-use Rattle.table.specs.declared.conflicts.Conflict.the-variants.{Absent, At}
+use Rattle.table_promises.specs.declared.Conflict.{Conflict}
+use Rattle.table_promises.specs.declared.Conflict.the-variants.{Absent, At}
 use Rattle.columns.specs.Columns.{columnString, columnOf, columns}
 
 -- the first of n columns of A, from one on, that passes a test

@@ -1,0 +1,3 @@
+pub mod Words
+pub mod FirstClash
+pub mod GrammarFaults
