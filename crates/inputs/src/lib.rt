@@ -1,10 +1,8 @@
-// All inputs of one length in letter order: how many there are, and the one of a number.
+// All inputs of one length in letter order: how many there are, the one of a number, and a search through them.
 ghost use mathlib.Core.Path.{_≡_};
 ghost use Prim.Native.Nat.{_+_};
-ghost use lib.Dec.{ltb};
 ghost use lib.ListN.{length};
-ghost use Rattle.base.specs.Choice.{choose};
-ghost use Rattle.inputs.specs.contracts.Inputs.{inputAt, inputCount};
+ghost use Rattle.inputs.specs.contracts.Inputs.{inputAt, inputCount, noTrials, triedNext};
 
 // Among how many inputs a search goes.
 pub const INPUTS: usize = 4096;
@@ -39,15 +37,39 @@ pub fn write_input(input: &mut [u8], last: u8, number: usize)
     }
 }
 
-// An input by its number, and how many calls it costs.
-pub struct Candidate {
-    pub number: usize,
+// Inputs tried by their numbers: which is the next, and of those before it the costliest, with its calls.
+pub struct Trials {
+    pub next: usize,
+    pub best: usize,
     pub calls: usize,
 }
 
-// The one with more calls, the first where both have as many.
-pub fn costlier(a: Candidate, b: Candidate) -> Candidate
-    ensures { λ r. ⌜ r ≡ choose (ltb (a .calls) (b .calls)) b a ⌝ }
+pub fn no_trials() -> Trials
+    ensures { λ r. ⌜ r ≡ noTrials ⌝ }
 {
-    if a.calls < b.calls { b } else { a }
+    Trials {
+        next: 0,
+        best: 0,
+        calls: 0,
+    }
+}
+
+// When the next has been tried and costs so many calls: of two that cost as many the first is kept. Its number is below that of the inputs that are
+// searched, so the remainder is the number itself; with it the sum is one for every number.
+pub fn tried(trials: Trials, calls: usize) -> Trials
+    ensures { λ r. ⌜ r ≡ triedNext trials calls ⌝ }
+{
+    let next = trials.next % INPUTS + 1;
+    if trials.calls < calls {
+        return Trials {
+            next,
+            best: trials.next,
+            calls,
+        };
+    }
+    Trials {
+        next,
+        best: trials.best,
+        calls: trials.calls,
+    }
 }

@@ -22,7 +22,7 @@ use Rattle.semantics.specs.Memo.{Memo, Recorded, written}
 use Rattle.base.proofs.Booleans.{T-true}
 use Rattle.base.proofs.FiniteSets.{keep-make, keep-elim, numbers-make, numbers-elim, combine-make, combine-elim}
 use Rattle.base.proofs.Quantified.{below-make, below-elim, one-le, count-le}
-use Rattle.memo_table.specs.contracts.Tally.{tallyOf, records, recordsAt, recordedBelow, writtenAmong, recordedCalls, calledAt, RowsGiven}
+use Rattle.memo_table.specs.contracts.Tally.{tallyOf, records, recordsAt, recordedBelow, writtenAmong, recordedCalls, recordedTally, calledAt, RowsGiven}
 use Rattle.memo_table.proofs.JoinedLists.{keep-append, keep-one, numbers-more, combine-more}
 use Rattle.memo_table.proofs.Entries.{getD-any}
 
@@ -189,7 +189,7 @@ rows-are l N k e =
 
 -- where the memo table records a descent, its tally is the number of the calls made and the farthest place of one
 pub tally-recorded : {G : Grammar} {choice : Choice} {w : List ℕ} {m : Memo} {r : Calls}
-    → Recorded G choice w m → r ≡ tallyOf (recordedCalls m (length m / (length w + 1)) (length w))
+    → Recorded G choice w m → r ≡ recordedTally m (length w)
     → r ≡ record { count = callCount G choice w; farthest = farthest G choice w }
 unfolding tallyOf callCount farthest
 tally-recorded {G} {choice} {w} {m} recorded e =

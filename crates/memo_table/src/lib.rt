@@ -1,11 +1,13 @@
 // The memo table as a whole: cleared before a descent, and the calls that it made read off it afterwards.
 ghost use mathlib.Core.Path.{_≡_};
-ghost use Prim.Native.Nat.{_+_, _*_, _/_, _≤_, min};
+ghost use Prim.Native.Nat.{_+_, _*_, _≤_, min};
 ghost use lib.ListN.{length, replicate};
 ghost use Rattle.base.specs.Quantifiers.{one};
 ghost use Rattle.grammar.specs.Codes.{uncalledCode};
 ghost use Rattle.semantics.specs.Calls.{greatestPlace};
-ghost use Rattle.memo_table.specs.contracts.Tally.{tallyOf, records, recordedBelow, calledAt, recordedCalls, blockEntries, BlockGiven, RowsGiven};
+ghost use Rattle.memo_table.specs.contracts.Tally.{records, recordedBelow, calledAt, recordedCalls, recordedTally, recordedVerdict, blockEntries};
+ghost use Rattle.memo_table.specs.contracts.Tally.{BlockGiven, RowsGiven};
+use answer::Answer;
 use answer::Calls;
 use grammar::codes::UNCALLED;
 
@@ -106,12 +108,24 @@ fn farthest(memo: &[u16], nonterminals: usize, tokens: usize) -> usize
 }
 
 // The calls that a memo table for an input of so many tokens records: it has as many rows as there is room for.
-pub fn tally(memo: &[u16], tokens: u16) -> Calls
-    ensures { λ r. ⌜ r ≡ tallyOf (recordedCalls (now (memo .entry)) (length (now (memo .entry)) / (tokens + 1)) tokens) ⌝ }
+fn tally(memo: &[u16], tokens: u16) -> Calls
+    ensures { λ r. ⌜ r ≡ recordedTally (now (memo .entry)) tokens ⌝ }
 {
     let places = tokens as usize + 1;
     let nonterminals = memo.len() / places;
     let count = count_first(memo, nonterminals * places);
     let farthest = farthest(memo, nonterminals, tokens as usize);
     Calls { count, farthest }
+}
+
+// The verdict on an input of so many tokens, by the entry of the start's call: accepted where that ends with the input.
+pub fn verdict(memo: &[u16], end: u16, tokens: u16) -> Answer
+    ensures { λ r. ⌜ r ≡ recordedVerdict (now (memo .entry)) end tokens ⌝ }
+{
+    let calls = tally(memo, tokens);
+    if end == tokens {
+        Answer::Accepted(calls)
+    } else {
+        Answer::Rejected(calls)
+    }
 }

@@ -1,14 +1,17 @@
--- What is found of a grammar and then by the faults of an input, as the code finds it.
+-- What is found of lent memory, of a grammar and then by the faults of an input, as the code finds it.
 use mathlib.Core.Path.{_≡_, refl, sym, ap, _∙_}
+use mathlib.Core.Bool.{Bool, true, false}
 use mathlib.Core.List.{List}
 use mathlib.Core.Option.{Option, none, some}
 use Prim.Native.Nat.{ℕ, _≤_, _<_}
 use native.Mathlib.Omega.{arith}
+use lib.Dec.{ltb}
 use lib.ListN.{length}
-use borrow.Author.Tests.{lt-ltb, le-ltb}
+use borrow.Author.Tests.{lt-ltb, le-ltb, ltb-true, ltb-false}
 use Rattle.answer.specs.declared.Error.{Error}
 use Rattle.answer.specs.declared.Error.the-variants.{InputTooLong, UnknownToken}
 use Rattle.answer.specs.Faults.{firstFault}
+use Rattle.base.specs.Choice.{choose}
 use Rattle.event.specs.Events.{inputOf}
 use Rattle.event.specs.declared.Unknown.{Unknown}
 use Rattle.event.specs.declared.Unknown.the-variants.{Absent, At}
@@ -17,7 +20,7 @@ use Rattle.event.proofs.Inputs.{input-length}
 use Rattle.families.specs.declared.Finding.{Finding}
 use Rattle.families.specs.declared.Finding.the-variants.{Passed, Refused}
 use Rattle.grammar.specs.declared.reading.Sizes.{Sizes}
-use Rattle.promises.specs.contracts.Inputs.{passedUnless, withFaults, withInputTo}
+use Rattle.promises.specs.contracts.Inputs.{passedUnless, withFaults, withRoom, withInputTo}
 
 -- by what is found of the grammar
 pub record PassedWith (f : Finding) (faults : ℕ → List (Option Error)) (z : Sizes) : Type 0 where
@@ -43,6 +46,32 @@ with-refused (Passed y) faults {x} q = go (firstFault (faults (y .terminals))) r
     go : (o : Option Error) → firstFault (faults (y .terminals)) ≡ o → passedUnless o y ≡ Refused x → RefusedWith (Passed y) faults x
     go none e p = let n : _≡_ {A = ℕ} 0 1 = cc in absurd (omega arith)
     go (some v) e p = let s : v ≡ x = cc in byFaults y refl (e ∙ ap some s)
+
+-- by the length of lent memory
+module _ (lent least : ℕ) (e : Error) (f : Finding) where
+  pub room-short : lent < least → Refused e ≡ withRoom lent least e f
+  room-short h = rw (lt-ltb lent least h)
+
+  pub room-enough : least ≤ lent → {g : Finding} → g ≡ f → g ≡ withRoom lent least e f
+  room-enough h q = rw (le-ltb lent least h) q
+
+  pub room-passed : {z : Sizes} → withRoom lent least e f ≡ Passed z → (least ≤ lent) × (f ≡ Passed z)
+  room-passed {z} q = go (ltb lent least) refl q
+    where
+      go : (b : Bool) → ltb lent least ≡ b → choose b (Refused e) f ≡ Passed z → (least ≤ lent) × (f ≡ Passed z)
+      go true t p = let n : _≡_ {A = ℕ} 0 1 = cc in absurd (omega arith)
+      go false t p = (ltb-false lent least t, p)
+
+pub data RoomRefused (lent least : ℕ) (e : Error) (f : Finding) (x : Error) : Type 0 where
+  tooShort : lent < least → e ≡ x → RoomRefused lent least e f x
+  enough : least ≤ lent → f ≡ Refused x → RoomRefused lent least e f x
+
+pub room-refused : (lent least : ℕ) (e : Error) (f : Finding) {x : Error} → withRoom lent least e f ≡ Refused x → RoomRefused lent least e f x
+room-refused lent least e f {x} q = go (ltb lent least) refl q
+  where
+    go : (b : Bool) → ltb lent least ≡ b → choose b (Refused e) f ≡ Refused x → RoomRefused lent least e f x
+    go true t p = let s : e ≡ x = cc in tooShort (ltb-true lent least t) s
+    go false t p = enough (ltb-false lent least t) p
 
 -- the same of an input, as the code finds it
 module _ (most : ℕ) (events : List ℕ) {f : Finding} {z : Sizes} (p : f ≡ Passed z) where

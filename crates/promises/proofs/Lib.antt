@@ -3,6 +3,7 @@ pub mod Leaving
 pub mod Directions
 pub mod Places
 pub mod Inputs
+pub mod Lengths
 pub mod Verdicts
 pub mod SetsErrors
 pub mod InputErrors

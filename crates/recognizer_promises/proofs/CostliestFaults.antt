@@ -24,9 +24,7 @@ use Rattle.grammar.specs.declared.reading.Sizes.{Sizes}
 use Rattle.grammar.proofs.WellRead.{well-read}
 use Rattle.lookahead.specs.declared.Lookahead.the-variants.{One}
 use Rattle.inputs.specs.Inputs.{maxInputs}
-use Rattle.inputs.specs.contracts.Inputs.{inputCount}
 use Rattle.inputs.specs.Costliest.{CostliestOf}
-use Rattle.inputs.proofs.Counting.{count-over, count-few}
 use Rattle.inputs.proofs.Greatest.{costliest-of}
 use Rattle.families.specs.declared.Finding.{Finding}
 use Rattle.families.specs.declared.Finding.the-variants as finding
@@ -37,18 +35,20 @@ use Rattle.table_promises.specs.Layout.{tableWords}
 use Rattle.table_promises.specs.Analysis.{grammarFaults, fault}
 use Rattle.table.specs.contracts.Analysis.{foundOf}
 use Rattle.table.specs.declared.Found.{Found}
+use Rattle.promises.specs.Lengths.{lengthFaults}
+use Rattle.promises.specs.contracts.Lengths.{withLength, withLog, withSearch}
 use Rattle.promises.specs.Memory.{lentBack}
 use Rattle.promises.specs.Leaving.{lent, Leaves}
 use Rattle.promises.proofs.Leaving.{leaves, leaves-alike, leaves-refused, unrefused}
 use Rattle.promises.proofs.Places.{costliest-tells}
 use Rattle.promises.proofs.Inputs.{PassedWith, RefusedWith, byGrammar, byFaults, with-passed, with-refused}
+use Rattle.promises.proofs.Inputs.{RoomRefused, tooShort, enough, room-passed, room-refused}
 use Rattle.recognizer_promises.specs.Memory.{memoWords}
 use Rattle.recognizer_promises.specs.Answers.{choiceOf, judgeFault, callsOf, verdictOf}
 use Rattle.recognizer_promises.specs.declared.Judgement.{Judgement}
 use Rattle.recognizer_promises.specs.contracts.Judging.{foundUnless, refusedWith, EntriesFound, JudgedPassed}
 use Rattle.recognizer_promises.specs.Properties.{Room}
-use Rattle.recognizer_promises.specs.CostliestInput.{callsOn, costliestInput, lengthFaults, costliestFault}
-use Rattle.recognizer_promises.specs.contracts.CostliestInput.{withLength}
+use Rattle.recognizer_promises.specs.CostliestInput.{callsOn, costliestInput, costliestFault}
 use Rattle.recognizer_promises.specs.Costliest.{Searchable, JudgesCostliest}
 use Rattle.recognizer_promises.specs.contracts.Search.{searchFault, SearchesWords, SearchGiven, BestJudged}
 use Rattle.recognizer_promises.proofs.Words.{understood}
@@ -57,18 +57,6 @@ use Rattle.recognizer_promises.proofs.Checking.{fits-few, passed-fault,
 use Rattle.recognizer_promises.proofs.Checking.{found-fault}
 use Rattle.recognizer_promises.proofs.JudgeFaults.{input-fault, readable-faultless}
 use Rattle.recognizer_promises.proofs.Judged.{verdict-unrefused, judges, same-terminals}
-
--- what is found of a grammar and a length, as the code finds it
-module _ {f : Finding} {z : Sizes} (p : f ≡ finding.Passed z) (k : ℕ) where
-  pub length-over : maxTokens < k → finding.Refused InputTooLong ≡ withLength f k
-  length-over h = rw (p, lt-ltb maxTokens k h)
-
-  module _ (short : k ≤ maxTokens) {inputs : ℕ} (e : inputs ≡ inputCount (z .terminals) k) where
-    pub inputs-over : maxInputs < inputs → finding.Refused TooManyInputs ≡ withLength f k
-    inputs-over h = rw (p, le-ltb maxTokens k short, lt-ltb maxInputs (z .terminals ^ k) (count-over (z .terminals) k (omega arith)))
-
-    pub length-fits : inputs ≤ maxInputs → finding.Passed z ≡ withLength f k
-    length-fits h = rw (p, le-ltb maxTokens k short, le-ltb maxInputs (z .terminals ^ k) (count-few (z .terminals) k (omega arith)))
 
 -- the rows of the search, with the grammar's faults as one
 abbrev searchRows : ℕ → ℕ → List ℕ → ℕ → List (Option Error)
@@ -108,81 +96,104 @@ module _ (words : List ℕ) (k : ℕ) (log memo : List ℕ) where
         lent-memo = sym (ap (λ y. lentBack y (memoWords One G w) memo) f);
       }
 
-  pub memo-refused : length memo < maxMemoEntries → {r : Judgement} → r ≡ refusedWith MemoTooShort → SearchesWords words k log memo r log memo
+  by-grammar : maxMemoEntries ≤ length memo → maxTokens ≤ length log → {f : Option Error} → fault One words ≡ f
+      → fault-found ≡ firstFault (f ∷ lengthFaults (grammarOf words .terminals) k)
+  by-grammar room space e =
+      search-rows (length log) (length memo) words k ∙ rw (le-ltb (length memo) maxMemoEntries room, le-ltb (length log) maxTokens space, e)
+
+  memo-first : length memo < maxMemoEntries → fault-found ≡ some MemoTooShort
   unfolding searchFault
-  memo-refused h = search-refused (rw (lt-ltb (length memo) maxMemoEntries h))
+  memo-first h = rw (lt-ltb (length memo) maxMemoEntries h)
 
-  module _ (room : maxMemoEntries ≤ length memo) where
-    pub log-refused : length log < maxTokens → {r : Judgement} → r ≡ refusedWith BufferTooShort → SearchesWords words k log memo r log memo
-    unfolding searchFault
-    log-refused h = search-refused (rw (le-ltb (length memo) maxMemoEntries room, lt-ltb (length log) maxTokens h))
+  log-first : maxMemoEntries ≤ length memo → length log < maxTokens → fault-found ≡ some BufferTooShort
+  unfolding searchFault
+  log-first room h = rw (le-ltb (length memo) maxMemoEntries room, lt-ltb (length log) maxTokens h)
 
-    module _ (space : maxTokens ≤ length log) where
-      by-grammar : {f : Option Error} → fault One words ≡ f → fault-found ≡ firstFault (f ∷ lengthFaults (grammarOf words .terminals) k)
-      by-grammar e = search-rows (length log) (length memo) words k ∙ rw (le-ltb (length memo) maxMemoEntries room, le-ltb (length log) maxTokens space, e)
+  -- what is found of the memories, a grammar and a length decides
+  module _ {found : Found} (e : found ≡ foundOf One words) {f : Finding} (q : f ≡ withSearch (length log) (length memo) (found .finding) k) where
+    abbrev faults : ℕ → List (Option Error)
+    faults n = lengthFaults n k
 
-      module _ {found : Found} (e : found ≡ foundOf One words) {f : Finding} (q : f ≡ withLength (found .finding) k) where
-        abbrev faults : ℕ → List (Option Error)
-        faults n = lengthFaults n k
+    abbrev known : Told One words (found .finding) (found .starts) (found .entries)
+    known = told One words e
 
-        abbrev known : Told One words (found .finding) (found .starts) (found .entries)
-        known = told One words e
+    abbrev behind-memo : Finding
+    behind-memo = withLog (length log) (found .finding) k
 
-        pub found-refused : {x : Error} → f ≡ finding.Refused x → {r : Judgement} → r ≡ refusedWith x → SearchesWords words k log memo r log memo
-        found-refused {x} p = search-refused (go (with-refused (found .finding) faults (sym q ∙ p)))
-          where
-            go : RefusedWith (found .finding) faults x → fault-found ≡ some x
-            go (byGrammar h) = by-grammar (found-fault known h)
-            go (byFaults z h i) = let m = found-entries known h in by-grammar (m .faultless) ∙ same-terminals One words faults m i
+    abbrev behind-log : Finding
+    behind-log = withLength (found .finding) k
 
-        module _ {z : Sizes} (p : f ≡ finding.Passed z) where
-          both : PassedWith (found .finding) faults z
-          both = with-passed (found .finding) faults (sym q ∙ p)
+    pub found-refused : {x : Error} → f ≡ finding.Refused x → {r : Judgement} → r ≡ refusedWith x → SearchesWords words k log memo r log memo
+    found-refused {x} p = search-refused (by-memo (room-refused (length memo) maxMemoEntries MemoTooShort behind-memo (sym q ∙ p)))
+      where
+        by-length : maxMemoEntries ≤ length memo → maxTokens ≤ length log → RefusedWith (found .finding) faults x → fault-found ≡ some x
+        by-length room space (byGrammar h) = by-grammar room space (found-fault known h)
+        by-length room space (byFaults z h i) =
+            let m = found-entries known h in
+            by-grammar room space (m .faultless) ∙ same-terminals One words faults m i
 
-          entries-found : EntriesFound One words z (found .starts) (found .entries)
-          entries-found = found-entries known (both .grammar)
+        by-log : maxMemoEntries ≤ length memo → RoomRefused (length log) maxTokens BufferTooShort behind-log x → fault-found ≡ some x
+        by-log room (tooShort h s) = log-first room h ∙ ap some s
+        by-log room (enough space i) = by-length room space (with-refused (found .finding) faults i)
 
-          read : WellRead words z
-          read = well-read words z (admitted-read One words (entries-found .taken))
+        by-memo : RoomRefused (length memo) maxMemoEntries MemoTooShort behind-memo x → fault-found ≡ some x
+        by-memo (tooShort h s) = memo-first h ∙ ap some s
+        by-memo (enough room i) = by-log room (room-refused (length log) maxTokens BufferTooShort behind-log i)
 
-          fits : (k ≤ maxTokens) × (z .terminals ^ k ≤ maxInputs)
-          fits = faultless-length (z .terminals) k (both .faultless)
+    module _ {z : Sizes} (p : f ≡ finding.Passed z) where
+      long-memo : (maxMemoEntries ≤ length memo) × (behind-memo ≡ finding.Passed z)
+      long-memo = room-passed (length memo) maxMemoEntries MemoTooShort behind-memo (sym q ∙ p)
 
-          pub part-fits : k ≤ length log
-          part-fits = omega (arith, fits .0)
+      long-log : (maxTokens ≤ length log) × (behind-log ≡ finding.Passed z)
+      long-log = room-passed (length log) maxTokens BufferTooShort behind-log (long-memo .1)
 
-          pub part-length : length (take k log) ≡ k
-          part-length = length-take-le k log part-fits
+      both : PassedWith (found .finding) faults z
+      both = with-passed (found .finding) faults (long-log .1)
 
-          pub search-given : SearchGiven words z (found .starts) (found .entries) (take k log) memo
-          search-given = record {
-            taken = entries-found .taken;
-            free = passed-free words (passed-fault One words (entries-found .faultless));
-            begins = entries-found .begins;
-            entered = entries-found .entered;
-            short = omega (arith, part-length, fits .0);
-            few = rw part-length (fits .1);
-            room = room;
+      entries-found : EntriesFound One words z (found .starts) (found .entries)
+      entries-found = found-entries known (both .grammar)
+
+      read : WellRead words z
+      read = well-read words z (admitted-read One words (entries-found .taken))
+
+      fits : (k ≤ maxTokens) × (z .terminals ^ k ≤ maxInputs)
+      fits = faultless-length (z .terminals) k (both .faultless)
+
+      pub part-fits : k ≤ length log
+      part-fits = omega (arith, fits .0, long-log .0)
+
+      pub part-length : length (take k log) ≡ k
+      part-length = length-take-le k log part-fits
+
+      pub search-given : SearchGiven words z (found .starts) (found .entries) (take k log) memo
+      search-given = record {
+        taken = entries-found .taken;
+        free = passed-free words (passed-fault One words (entries-found .faultless));
+        begins = entries-found .begins;
+        entered = entries-found .entered;
+        short = omega (arith, part-length, fits .0);
+        few = rw part-length (fits .1);
+        room = long-memo .0;
+      }
+
+      none-found : fault-found ≡ none
+      none-found = by-grammar (long-memo .0) (long-log .0) (entries-found .faultless) ∙ same-terminals One words faults entries-found (both .faultless)
+
+      pub search-done : {part memo′ : List ℕ} {r : Judgement} → BestJudged words (take k log) memo (r .answer) part memo′ → r .found ≡ found
+          → SearchesWords words k log memo r (part ++ drop k log) memo′
+      search-done {part} {memo′} {r} d g =
+          let G = grammarOf words in
+          let w = costliestInput G k in
+          let o = costliest-of (callsOn G) (G .terminals) (omega (arith, read .terminals, read .someTerminal)) k in
+          let s : part ≡ w = d .written ∙ ap (costliestInput G) part-length in
+          let judged : JudgedPassed One words w memo (r .answer) memo′ = rw s at (d .judged) in
+          record {
+            verdict = judged .answer ∙ sym (ap (λ y. refusedOr y (verdictOf One G w)) none-found);
+            grammar = g ∙ e ∙ sym (ap (λ y. foundUnless y (foundOf One words)) none-found);
+            lent-log =
+                ap (λ y. y ++ drop k log) s ∙ ap (λ i. w ++ drop i log) (sym (o .long)) ∙ sym (ap (λ y. lentBack y w log) none-found);
+            lent-memo = judged .lent ∙ sym (ap (λ y. lentBack y (memoWords One G w) memo) none-found);
           }
-
-          none-found : fault-found ≡ none
-          none-found = by-grammar (entries-found .faultless) ∙ same-terminals One words faults entries-found (both .faultless)
-
-          pub search-done : {part memo′ : List ℕ} {r : Judgement} → BestJudged words (take k log) memo (r .answer) part memo′ → r .found ≡ found
-              → SearchesWords words k log memo r (part ++ drop k log) memo′
-          search-done {part} {memo′} {r} d g =
-              let G = grammarOf words in
-              let w = costliestInput G k in
-              let o = costliest-of (callsOn G) (G .terminals) (omega (arith, read .terminals, read .someTerminal)) k in
-              let s : part ≡ w = d .written ∙ ap (costliestInput G) part-length in
-              let judged : JudgedPassed One words w memo (r .answer) memo′ = rw s at (d .judged) in
-              record {
-                verdict = judged .answer ∙ sym (ap (λ y. refusedOr y (verdictOf One G w)) none-found);
-                grammar = g ∙ e ∙ sym (ap (λ y. foundUnless y (foundOf One words)) none-found);
-                lent-log =
-                    ap (λ y. y ++ drop k log) s ∙ ap (λ i. w ++ drop i log) (sym (o .long)) ∙ sym (ap (λ y. lentBack y w log) none-found);
-                lent-memo = judged .lent ∙ sym (ap (λ y. lentBack y (memoWords One G w) memo) none-found);
-              }
 
 -- and with a table that is lent: the rows of the call
 abbrev costliestRows : ℕ → ℕ → ℕ → List ℕ → ℕ → List (Option Error)

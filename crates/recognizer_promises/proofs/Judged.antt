@@ -3,7 +3,7 @@ use mathlib.Core.Path.{_≡_, refl, sym, ap, _∙_}
 use mathlib.Core.Bool.{Bool, true, false}
 use mathlib.Core.List.{List, [], _∷_, _++_}
 use mathlib.Core.Option.{Option, none, some}
-use Prim.Native.Nat.{ℕ, _+_, _*_, _≤_, _<_}
+use Prim.Native.Nat.{ℕ, _+_, _*_, _≤_}
 use native.Mathlib.Nat.{mul-le-mul}
 use native.Mathlib.Numerals.{add-one}
 use native.Mathlib.Omega.{arith}
@@ -40,13 +40,14 @@ use Rattle.promises.specs.Memory.{lentBack}
 use Rattle.promises.specs.Leaving.{lent, Leaves}
 use Rattle.promises.proofs.Leaving.{leaves, leaves-alike, leaves-refused, unrefused}
 use Rattle.promises.proofs.Inputs.{PassedWith, RefusedWith, byGrammar, byFaults, with-passed, with-refused}
+use Rattle.promises.proofs.Inputs.{RoomRefused, tooShort, enough, room-passed, room-refused}
 use Rattle.promises.proofs.Places.{judge-tells}
 use Rattle.recognizer_promises.specs.Memory.{memoWord, memoWords}
 use Rattle.event.specs.Events.{inputOf}
 use Rattle.event.specs.Unknown.{unknownFrom}
 use Rattle.event.proofs.Inputs.{input-length}
 use Rattle.recognizer_promises.specs.Answers.{choiceOf, judgeFault, inputFaults, callsOf, verdictOf}
-use Rattle.recognizer_promises.specs.contracts.Answers.{withInput}
+use Rattle.recognizer_promises.specs.contracts.Answers.{withInput, withMemo}
 use Rattle.recognizer_promises.specs.contracts.Judging.{memoFault, foundUnless, refusedWith, JudgesWords, EntriesFound, PassedGiven, DescendGiven}
 use Rattle.recognizer_promises.specs.contracts.Judging.{Descended, JudgedPassed}
 use Rattle.recognizer_promises.specs.declared.Judgement.{Judgement}
@@ -163,13 +164,9 @@ words-refused k words input memo f e = record {
   lent = sym (ap (λ y. lentBack y (memoWords k (grammarOf words) input) memo) f);
 }
 
-pub words-short : (k : Lookahead) (words input memo : List ℕ) → length memo < maxMemoEntries → {r : Judgement} → r ≡ refusedWith MemoTooShort
-    → JudgesWords k words input memo r memo
-words-short k words input memo h = words-refused k words input memo (memo-fault-short k words input memo h)
-
--- what is found of a grammar and an input decides
-module _ (k : Lookahead) (words input memo : List ℕ) (room : maxMemoEntries ≤ length memo) {found : Found} (e : found ≡ foundOf k words) {f : Finding}
-    (q : f ≡ withInput (found .finding) input) where
+-- what is found of the memo table, a grammar and an input decides
+module _ (k : Lookahead) (words input memo : List ℕ) {found : Found} (e : found ≡ foundOf k words) {f : Finding}
+    (q : f ≡ withMemo (length memo) (found .finding) input) where
   abbrev faults : ℕ → List (Option Error)
   faults n = inputFaults n input
 
@@ -177,17 +174,25 @@ module _ (k : Lookahead) (words input memo : List ℕ) (room : maxMemoEntries �
   known = told k words e
 
   pub words-found-refused : {x : Error} → f ≡ finding.Refused x → {r : Judgement} → r ≡ refusedWith x → JudgesWords k words input memo r memo
-  words-found-refused {x} p = words-refused k words input memo (go (with-refused (found .finding) faults (sym q ∙ p)))
+  words-found-refused {x} p =
+      words-refused k words input memo (go (room-refused (length memo) maxMemoEntries MemoTooShort (withInput (found .finding) input) (sym q ∙ p)))
     where
-      go : RefusedWith (found .finding) faults x → memoFault k (length memo) words input ≡ some x
-      go (byGrammar h) = memo-fault-long k words input memo room (found-fault known h)
-      go (byFaults z h i) =
+      behind : maxMemoEntries ≤ length memo → RefusedWith (found .finding) faults x → memoFault k (length memo) words input ≡ some x
+      behind room (byGrammar h) = memo-fault-long k words input memo room (found-fault known h)
+      behind room (byFaults z h i) =
           let m = found-entries known h in
           memo-fault-long k words input memo room (m .faultless) ∙ same-terminals k words faults m i
 
+      go : RoomRefused (length memo) maxMemoEntries MemoTooShort (withInput (found .finding) input) x → memoFault k (length memo) words input ≡ some x
+      go (tooShort h s) = memo-fault-short k words input memo h ∙ ap some s
+      go (enough room i) = behind room (with-refused (found .finding) faults i)
+
   module _ {z : Sizes} (p : f ≡ finding.Passed z) where
+    long : (maxMemoEntries ≤ length memo) × (withInput (found .finding) input ≡ finding.Passed z)
+    long = room-passed (length memo) maxMemoEntries MemoTooShort (withInput (found .finding) input) (sym q ∙ p)
+
     both : PassedWith (found .finding) faults z
-    both = with-passed (found .finding) faults (sym q ∙ p)
+    both = with-passed (found .finding) faults (long .1)
 
     entries-found : EntriesFound k words z (found .starts) (found .entries)
     entries-found = found-entries known (both .grammar)
@@ -208,13 +213,13 @@ module _ (k : Lookahead) (words input memo : List ℕ) (room : maxMemoEntries �
             tokens = s .1;
             short = s .0;
           };
-          room = room;
+          room = long .0;
         }
 
     pub words-judged : {memo′ : List ℕ} {r : Judgement} → JudgedPassed k words input memo (r .answer) memo′ → r .found ≡ found
         → JudgesWords k words input memo r memo′
     words-judged d g =
-        let n : memoFault k (length memo) words input ≡ none = memo-fault-long k words input memo room (entries-found .faultless) ∙ unfaulty in
+        let n : memoFault k (length memo) words input ≡ none = memo-fault-long k words input memo (long .0) (entries-found .faultless) ∙ unfaulty in
         record {
           verdict = d .answer ∙ sym (ap (λ y. refusedOr y (verdictOf k (grammarOf words) input)) n);
           grammar = g ∙ e ∙ sym (ap (λ y. foundUnless y (foundOf k words)) n);

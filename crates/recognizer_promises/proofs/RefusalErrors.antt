@@ -28,7 +28,8 @@ use Rattle.table_promises.specs.Layout.{tableRoom}
 use Rattle.table_promises.specs.Analysis.{grammarFaults}
 use Rattle.recognizer_promises.specs.Answers.{tableTooShort, checkFault, inputFaults, judgeFault, callsOf, verdictOf}
 use Rattle.recognizer_promises.specs.Properties.{Judges}
-use Rattle.recognizer_promises.specs.CostliestInput.{lengthFaults, costliestFault}
+use Rattle.promises.specs.Lengths.{lengthFaults}
+use Rattle.recognizer_promises.specs.CostliestInput.{costliestFault}
 use Rattle.recognizer_promises.proofs.GrammarErrors.{GrammarErrors, grammar-each}
 use Rattle.promises.proofs.InputErrors.{InputErrors, input-each}
 

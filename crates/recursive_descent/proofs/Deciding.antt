@@ -1,16 +1,13 @@
 -- From a descent that has ended to its answer and to what the memo table then holds.
 use mathlib.Core.Path.{_≡_, refl, sym, ap, _∙_}
-use mathlib.Core.Bool.{true, false}
 use mathlib.Core.List.{List, _++_}
-use Prim.Native.Nat.{ℕ, _+_, _*_, _/_, _≤_, _<_, min}
+use Prim.Native.Nat.{ℕ, _+_, _*_, _≤_, _<_, min}
 use native.Mathlib.Numerals.{add-one}
 use native.Mathlib.Omega.{arith}
+use lib.Dec.{eqb}
 use lib.ListN.{length, take, drop, length-replicate, getD-replicate}
-use borrow.Author.Tests.{eq-eqb, ne-eqb}
+use borrow.Author.Tests.{ne-eqb}
 use Rattle.answer.specs.declared.Answer.{Answer}
-use Rattle.answer.specs.declared.Answer.the-variants.{Rejected, Accepted}
-use Rattle.answer.specs.declared.Calls.{Calls}
-use Rattle.base.specs.Choice.{choose}
 use Rattle.grammar.specs.Codes.{failedCode, uncalledCode}
 use Rattle.grammar.specs.Limits.{maxNonterminals, maxTokens}
 use Rattle.grammar.specs.Syntax.{Grammar}
@@ -31,7 +28,7 @@ use Rattle.lookahead.specs.Lookaheads.{tokens}
 use Rattle.families.proofs.FewTerminals.{admitted-read, few-terminals}
 use Rattle.columns.specs.Columns.{columnCount}
 use Rattle.table.specs.contracts.Entries.{entriesOf}
-use Rattle.memo_table.specs.contracts.Tally.{tallyOf, recordedCalls}
+use Rattle.memo_table.specs.contracts.Tally.{recordedTally, recordedVerdict}
 use Rattle.memo_table.proofs.Tallying.{tally-recorded}
 use Rattle.recognizer_promises.specs.Answers.{callsOf, verdictOf}
 use Rattle.recognizer_promises.specs.contracts.Judging.{Ready, PassedGiven, Descended, JudgedPassed}
@@ -57,15 +54,10 @@ blank-sound choice words input = record {
 }
 
 -- an entry below the codes is an end, and an outcome's entry is no other's
-entry-ends : (o : Outcome) (n : ℕ) → n < failedCode → {r : ℕ} → r ≡ outcomeCode o → r ≡ n → endsAt o n ≡ true
+entry-test : (o : Outcome) (n : ℕ) → n < failedCode → {r : ℕ} → r ≡ outcomeCode o → endsAt o n ≡ eqb r n
 unfolding outcomeCode
-entry-ends Failed n l e d = absurd (omega arith)
-entry-ends (End i) n l e d = eq-eqb i n (sym e ∙ d)
-
-entry-ends-not : (o : Outcome) (n : ℕ) {r : ℕ} → r ≡ outcomeCode o → (r ≡ n → ⊥) → endsAt o n ≡ false
-unfolding outcomeCode
-entry-ends-not Failed n e d = refl
-entry-ends-not (End i) n e d = ne-eqb i n (λ q. d (e ∙ q))
+entry-test Failed n l {r} e = sym (ne-eqb r n (λ q. omega arith))
+entry-test (End i) n l e = rw e
 
 -- an input and the choices for its length
 module _ {k : Lookahead} {words : List ℕ} {z : Sizes} {choices memo : List ℕ} (events : List ℕ) (g : JudgeGiven k words z choices (inputOf events) memo) where
@@ -136,26 +128,17 @@ module _ {k : Lookahead} {words : List ℕ} {z : Sizes} {choices memo : List ℕ
       pub started : StartDone choice words input end memo′
       started = rw (t .input) at (ensured choice begun-held)
 
-      judged : {c : Calls} {a : Answer} → c ≡ tallyOf (recordedCalls memo′ (length memo′ / (length events + 1)) (length events))
-          → a ≡ choose (endsAt (descend G choice input 0 0) (length input)) (Accepted c) (Rejected c) → Descended k words input a memo′
-      unfolding verdictOf accepts
-      judged {c} tallied e =
+      pub judged : {a : Answer} → a ≡ recordedVerdict memo′ end (length events) → Descended k words input a memo′
+      unfolding verdictOf accepts recordedVerdict
+      judged e =
           let long : length events ≡ length input = sym (input-length events) in
-          let counted : c ≡ callsOf k G input =
-          tally-recorded (started .recorded) (tallied ∙ ap (λ n. tallyOf (recordedCalls memo′ (length memo′ / (n + 1)) n)) long) in
+          let counted : recordedTally memo′ (length input) ≡ callsOf k G input = tally-recorded (started .recorded) refl in
+          let ends : eqb end (length input) ≡ endsAt (descend G choice input 0 0) (length input) =
+          sym (entry-test (descend G choice input 0 0) (length input) (omega (arith, ready .short)) (started .told)) in
           record {
-            answer = e ∙ rw counted;
+            answer = e ∙ rw (long, ends, counted);
             entries = words-recorded k G input (r .formed .scoped) (ready .free) some-nonterminal (started .recorded);
           }
-
-      module _ {c : Calls} (tallied : c ≡ tallyOf (recordedCalls memo′ (length memo′ / (length events + 1)) (length events))) where
-        pub judged-accepted : end ≡ length events → Descended k words input (Accepted c) memo′
-        judged-accepted e =
-            judged tallied (rw (entry-ends (descend G choice input 0 0) (length input) (omega (arith, ready .short))
-            (started .told) (e ∙ sym (input-length events))))
-
-        pub judged-rejected : (end ≡ length events → ⊥) → Descended k words input (Rejected c) memo′
-        judged-rejected d = judged tallied (rw (entry-ends-not (descend G choice input 0 0) (length input) (started .told) (λ e. d (e ∙ input-length events))))
 
 -- sizes within the limits are not cut
 pub entries-fit : (n k : ℕ) → n ≤ maxNonterminals → k ≤ maxTokens → memoEntries n k ≡ n * (k + 1)

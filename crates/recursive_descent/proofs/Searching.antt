@@ -2,7 +2,7 @@
 use mathlib.Core.Path.{_≡_, refl, sym, ap, _∙_}
 use mathlib.Core.Bool.{Bool, true, false}
 use mathlib.Core.List.{List, _++_}
-use Prim.Native.Nat.{ℕ, suc, _+_, _-_, _*_, _^_, _≤_, _<_}
+use Prim.Native.Nat.{ℕ, suc, _+_, _-_, _*_, _%_, _^_, _≤_, _<_}
 use native.Mathlib.Nat.{mul-le-mul}
 use native.Mathlib.Numerals.{add-one}
 use native.Mathlib.Omega.{arith}
@@ -24,12 +24,13 @@ use Rattle.semantics.specs.Choices.{tableChoice}
 use Rattle.base.specs.Strings.{Over}
 use Rattle.event.specs.Events.{inputOf}
 use Rattle.event.proofs.Inputs.{input-own}
-use Rattle.inputs.specs.contracts.Inputs.{inputAt, inputCount}
+use Rattle.inputs.specs.Inputs.{maxInputs}
+use Rattle.inputs.specs.contracts.Inputs.{inputAt, inputCount, noTrials, triedNext}
 use Rattle.inputs.proofs.Numbers.{at-long, at-over}
 use Rattle.inputs.proofs.Counting.{count-exact}
 use Rattle.inputs.proofs.Searching.{Searched, searched-none, searched-more, searched-less, searched-all}
 use Rattle.inputs.proofs.Greatest.{costliest-of}
-use Rattle.inputs.specs.declared.Candidate.{Candidate}
+use Rattle.inputs.specs.declared.Trials.{Trials}
 use Rattle.columns.specs.Columns.{columnCount}
 use Rattle.memo_table.specs.contracts.Tally.{recordedBelow}
 use Rattle.memo_table.proofs.Tallying.{count-recorded}
@@ -102,20 +103,23 @@ module _ {words : List ℕ} {z : Sizes} {choices events memo : List ℕ} (g : Tr
     calls-counted d c = count-recorded (d .recorded) c ∙ ap (callsOn G) (own ∙ named)
 
 -- the search, in the memory of now
-pub record Searching (words : List ℕ) (z : Sizes) (choices events₀ memo₀ events memo : List ℕ) (best : Candidate) (number : ℕ) : Type 0 where
-  pub searched : Searched (callsOn (grammarOf words)) (grammarOf words .terminals) (length events₀) number (best .number) (best .calls)
+pub record Searching (words : List ℕ) (z : Sizes) (choices events₀ memo₀ events memo : List ℕ) (t : Trials) : Type 0 where
+  pub searched : Searched (callsOn (grammarOf words)) (grammarOf words .terminals) (length events₀) (t .next) (t .best) (t .calls)
   pub same-length : length events ≡ length events₀
   pub same-memo : length memo ≡ length memo₀
 
 module _ {words : List ℕ} {z : Sizes} {choices events memo : List ℕ} (g : TrialGiven words z choices events memo) where
-  pub searching-start : Searching words z choices events memo events memo (record { number = 0; calls = 0 }) 0
-  searching-start = record { searched = searched-none (callsOn (G g)) (n g) (some-token g) (length events); same-length = refl; same-memo = refl }
+  pub searching-start : {t : Trials} → t ≡ noTrials → Searching words z choices events memo events memo t
+  searching-start e = record { searched = rw e (searched-none (callsOn (G g)) (n g) (some-token g) (length events)); same-length = refl; same-memo = refl }
 
   -- all inputs are tried
   all-counted : {inputs : ℕ} → inputs ≡ inputCount (z .terminals) (length events) → inputs ≡ n g ^ length events
   all-counted e = e ∙ count-exact (z .terminals) (length events) (g .few) ∙ ap (λ t. t ^ length events) (read g .terminals)
 
-  module _ {events₁ memo₁ : List ℕ} {best : Candidate} {number inputs : ℕ} (s : Searching words z choices events memo events₁ memo₁ best number)
+  few-inputs : {inputs : ℕ} → inputs ≡ inputCount (z .terminals) (length events) → inputs ≤ maxInputs
+  few-inputs e = omega (arith, e ∙ count-exact (z .terminals) (length events) (g .few), g .few)
+
+  module _ {events₁ memo₁ : List ℕ} {t : Trials} {inputs : ℕ} (s : Searching words z choices events memo events₁ memo₁ t)
       (e : inputs ≡ inputCount (z .terminals) (length events)) where
     pub searching-given : TrialGiven words z choices events₁ memo₁
     searching-given = record {
@@ -127,39 +131,43 @@ module _ {words : List ℕ} {z : Sizes} {choices events memo : List ℕ} (g : Tr
       few = rw (s .same-length) (g .few);
     }
 
-    pub searching-next : number < inputs → {calls : ℕ} {best′ : Candidate} {events₂ memo₂ : List ℕ}
-        → calls ≡ callsOn (G g) (inputAt (n g) (length events₁) number)
+    pub searching-next : t .next < inputs → {calls : ℕ} {t′ : Trials} {events₂ memo₂ : List ℕ}
+        → calls ≡ callsOn (G g) (inputAt (n g) (length events₁) (t .next))
         → length events₂ ≡ length events₁ → length memo₂ ≡ length memo₁
-        → best′ ≡ choose (ltb (best .calls) calls) (record { number = number; calls = calls }) best
-        → Searching words z choices events memo events₂ memo₂ best′ (number + 1)
-    searching-next h {calls} {best′} cost same-events same-memo q = record {
-      searched = rw q (go (ltb (best .calls) calls) refl);
+        → t′ ≡ triedNext t calls
+        → Searching words z choices events memo events₂ memo₂ t′
+    searching-next h {calls} {t′} cost same-events same-memo q = record {
+      searched = rw (q, one-more) (go (ltb (t .calls) calls) refl);
       same-length = same-events ∙ s .same-length;
       same-memo = same-memo ∙ s .same-memo;
     }
       where
-        low : number < n g ^ length events
+        low : t .next < n g ^ length events
         low = omega (arith, all-counted e)
 
-        counted : calls ≡ callsOn (G g) (inputAt (n g) (length events) number)
-        counted = cost ∙ ap (λ j. callsOn (G g) (inputAt (n g) j number)) (s .same-length)
+        one-more : t .next % maxInputs + 1 ≡ t .next + 1
+        one-more = omega (arith, few-inputs e)
 
-        next : Candidate
-        next = record { number = number; calls = calls }
+        counted : calls ≡ callsOn (G g) (inputAt (n g) (length events) (t .next))
+        counted = cost ∙ ap (λ j. callsOn (G g) (inputAt (n g) j (t .next))) (s .same-length)
 
-        go : (b : Bool) → ltb (best .calls) calls ≡ b
-            → Searched (callsOn (G g)) (n g) (length events) (number + 1) (choose b next best .number) (choose b next best .calls)
-        go true f = searched-more (callsOn (G g)) (n g) (some-token g) (length events) (s .searched) low counted (ltb-true (best .calls) calls f)
-        go false f = searched-less (callsOn (G g)) (n g) (some-token g) (length events) (s .searched) low counted (ltb-false (best .calls) calls f)
+        go : (b : Bool) → ltb (t .calls) calls ≡ b
+            → Searched (callsOn (G g)) (n g) (length events) (t .next + 1) (choose b (t .next) (t .best)) (choose b calls (t .calls))
+        go true f = searched-more (callsOn (G g)) (n g) (some-token g) (length events) (s .searched) low counted (ltb-true (t .calls) calls f)
+        go false f = searched-less (callsOn (G g)) (n g) (some-token g) (length events) (s .searched) low counted (ltb-false (t .calls) calls f)
+
+    -- so fewer are left to try
+    pub searching-less : t .next < inputs → (calls : ℕ) {t′ : Trials} → t′ ≡ triedNext t calls → inputs - t′ .next < inputs - t .next
+    searching-less h calls q = rw q (omega (arith, few-inputs e))
 
     -- the costliest is judged last
-    pub searching-done : inputs ≤ number → {e : List ℕ} {r : Answer} {memo′ : List ℕ} → e ≡ inputAt (z .terminals - 1 + 1) (length events₁) (best .number)
+    pub searching-done : inputs ≤ t .next → {e : List ℕ} {r : Answer} {memo′ : List ℕ} → e ≡ inputAt (z .terminals - 1 + 1) (length events₁) (t .best)
         → Descended One words (inputOf e) r memo′ → CostliestJudged words (length events) r e memo′
     searching-done h w d =
         let found = searched-all (callsOn (G g)) (n g) (some-token g) (length events) (s .searched) (omega (arith, all-counted e)) in
         record {
-          written = named searching-given (best .number) w ∙ ap (λ j. inputAt (n g) j (best .number)) (s .same-length) ∙ found;
-          judged = rw (own searching-given (best .number) w) at d;
+          written = named searching-given (t .best) w ∙ ap (λ j. inputAt (n g) j (t .best)) (s .same-length) ∙ found;
+          judged = rw (own searching-given (t .best) w) at d;
         }
 
 -- what is found of a grammar that passes: in the front of the memo table, by the choices made of it for that many tokens

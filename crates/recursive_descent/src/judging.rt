@@ -18,7 +18,7 @@ use grammar::limits::RULES;
 use grammar::reading::Sizes;
 use lookahead::Lookahead;
 use memo_table::clear;
-use memo_table::tally;
+use memo_table::verdict;
 use recognizer_promises::Judgement;
 use table::Found;
 
@@ -51,12 +51,7 @@ pub(crate) fn judge_chosen(
     let tokens = tokens_of(events, lookahead, sizes.terminals);
     let end = descend(words, choices, &tokens, memo);
     let length = events.len() as u16;
-    let calls = tally(memo, length);
-    if end == length {
-        Answer::Accepted(calls)
-    } else {
-        Answer::Rejected(calls)
-    }
+    verdict(memo, end, length)
 }
 
 // What a refusal tells: of the grammar nothing but the error.

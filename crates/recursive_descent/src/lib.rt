@@ -1,13 +1,10 @@
 // Judging an input in a lent memo table alone, by memoized recursive descent.
 ghost use Rattle.event.specs.Events.{inputOf};
 ghost use Rattle.recognizer_promises.specs.contracts.Judging.{JudgesWords};
-use answer::Error;
 use descent_arrays::choices::entries_of;
 use descent_arrays::choices::table_choices;
 use families::Finding;
-use grammar::limits::MEMO_ENTRIES;
-use grammar::limits::TOKENS;
-use input_findings::with_input;
+use input_findings::with_memo;
 use judging::judge_chosen;
 use judging::refused;
 use lookahead::Lookahead;
@@ -27,11 +24,8 @@ pub fn judge_words(
 ) -> Judgement
     ensures { λ r. ⌜ JudgesWords lookahead (now (words .entry)) (inputOf (now (events .entry))) (now (memo .entry)) r (now (memo .exit)) ⌝ }
 {
-    if memo.len() < MEMO_ENTRIES {
-        return refused(Error::MemoTooShort);
-    }
     let found = find(words, lookahead);
-    let finding = with_input(found.finding, events, TOKENS);
+    let finding = with_memo(found.finding, events, memo.len());
     match finding {
         Finding::Refused(error) => {
             return refused(error);

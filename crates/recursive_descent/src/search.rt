@@ -10,18 +10,15 @@ use super::judging::descend;
 use super::judging::judge_chosen;
 use super::judging::refused;
 use answer::Answer;
-use answer::Error;
 use descent_arrays::arrays::CHOICES;
 use descent_arrays::choices::entries_of;
 use descent_arrays::choices::table_choices;
 use descent_arrays::tokens::tokens_of;
 use families::Finding;
-use grammar::limits::MEMO_ENTRIES;
-use grammar::limits::TOKENS;
 use grammar::reading::Sizes;
-use inputs::Candidate;
-use inputs::costlier;
 use inputs::count_inputs;
+use inputs::no_trials;
+use inputs::tried;
 use inputs::write_input;
 use length_findings::with_length;
 use lookahead::Lookahead;
@@ -61,19 +58,13 @@ fn judge_costliest(
     ensures { λ r. ⌜ CostliestJudged (now (words .entry)) (length (now (events .entry))) r (now (events .exit)) (now (memo .exit)) ⌝ }
 {
     let inputs = count_inputs(sizes.terminals, events.len());
-    let mut best = Candidate {
-        number: 0,
-        calls: 0,
-    };
-    let mut number = 0;
-    while number < inputs {
-        let calls = calls_on(words, sizes, choices, number, events, memo);
-        let next = Candidate { number, calls };
-        best = costlier(best, next);
-        number = number + 1;
+    let mut trials = no_trials();
+    while trials.next < inputs {
+        let calls = calls_on(words, sizes, choices, trials.next, events, memo);
+        trials = tried(trials, calls);
     }
     let last = sizes.terminals - 1;
-    write_input(events, last as u8, best.number);
+    write_input(events, last as u8, trials.best);
     judge_chosen(words, sizes, Lookahead::One, choices, events, memo)
 }
 
@@ -86,16 +77,12 @@ pub fn judge_costliest_words(
 ) -> Judgement
     ensures { λ r. ⌜ SearchesWords (now (words .entry)) tokens (now (log .entry)) (now (memo .entry)) r (now (log .exit)) (now (memo .exit)) ⌝ }
 {
-    if memo.len() < MEMO_ENTRIES {
-        return refused(Error::MemoTooShort);
-    }
-    if log.len() < TOKENS {
-        return refused(Error::BufferTooShort);
-    }
     let found = find(words, Lookahead::One);
-    let finding = with_length(found.finding, tokens);
+    let finding = with_length(found.finding, tokens, log.len(), memo.len());
     match finding {
-        Finding::Refused(error) => refused(error),
+        Finding::Refused(error) => {
+            return refused(error);
+        }
         Finding::Passed(sizes) => {
             // of every input of the length
             let choices = table_choices(
@@ -113,7 +100,7 @@ pub fn judge_costliest_words(
                 &mut log[..tokens],
                 &mut memo[..needed],
             );
-            Judgement { answer, found }
+            return Judgement { answer, found };
         }
     }
 }

@@ -4,17 +4,14 @@ ghost use Rattle.event.specs.Events.{inputOf};
 ghost use Rattle.tabular_promises.specs.contracts.Judging.{TabulateGiven, Tabulated, FoundGiven};
 ghost use Rattle.tabular_promises.specs.Properties.{TabularJudges};
 use answer::Answer;
-use answer::Error;
 use chart::spans::write;
 use chart::verdict;
 use families::Finding;
 use families::SETS;
 use filling::fill;
 use grammar::limits::RULES;
-use grammar::limits::SPAN_WORDS;
-use grammar::limits::TABULAR_TOKENS;
 use grammar::reading::Sizes;
-use input_findings::with_input;
+use input_findings::with_spans;
 use lookahead::Lookahead;
 use sets::analyze;
 
@@ -59,11 +56,8 @@ fn judge_found<'a>(
 pub fn judge(words: &[u32], events: &[u8], spans: &mut [u32]) -> Answer
     ensures { λ r. ⌜ TabularJudges (now (words .entry)) (inputOf (now (events .entry))) (now (spans .entry)) r (now (spans .exit)) ⌝ }
 {
-    if spans.len() < SPAN_WORDS {
-        return Answer::Refused(Error::SpansTooShort);
-    }
     let families = analyze(words, Lookahead::One);
-    let finding = with_input(families.finding, events, TABULAR_TOKENS);
+    let finding = with_spans(families.finding, events, spans.len());
     judge_found(
         words,
         finding,

@@ -47,7 +47,9 @@ use Rattle.families.specs.declared.Finding.{Finding}
 use Rattle.families.specs.declared.Finding.the-variants.{Passed, Refused}
 use Rattle.families.proofs.Findings.{FoundFamilies, families-told, families-refused}
 use Rattle.promises.specs.Inputs.{inputFaultsTo}
+use Rattle.promises.specs.contracts.Inputs.{withInputTo}
 use Rattle.promises.proofs.Inputs.{PassedWith, RefusedWith, byGrammar, byFaults, with-passed, with-refused}
+use Rattle.promises.proofs.Inputs.{RoomRefused, tooShort, enough, room-passed, room-refused}
 use Rattle.promises.specs.Leaving.{lent, Leaves}
 use Rattle.promises.specs.Directions.{DirectionsIgnored}
 use Rattle.promises.proofs.Memory.{faultless-lends}
@@ -207,10 +209,7 @@ pub judge-refused : {words input before : List ℕ} {x : Error} → tabularFault
     → TabularJudges words input before (answer.Refused x) before
 judge-refused f = judges (leaves-refused f (refl, tt))
 
-pub judge-short : (words input before : List ℕ) → length before < maxSpanWords → TabularJudges words input before (answer.Refused SpansTooShort) before
-judge-short words input before h = judge-refused (spans-short words input before h)
-
-pub judge-faulty : (words input before : List ℕ) {x : Error} → maxSpanWords ≤ length before → setsFault One words ≡ some x
+judge-faulty : (words input before : List ℕ) {x : Error} → maxSpanWords ≤ length before → setsFault One words ≡ some x
     → TabularJudges words input before (answer.Refused x) before
 judge-faulty words input before room f = judge-refused (fault-long words input before room f)
 
@@ -218,6 +217,9 @@ judge-faulty words input before room f = judge-refused (fault-long words input b
 module _ {words input spans starts reaches : List ℕ} {f : Finding} (g : FoundGiven words f starts reaches input spans) where
   abbrev faults : ℕ → List (Option Error)
   faults n = inputFaultsTo maxTabularTokens n input
+
+  abbrev behind : Finding
+  behind = withInputTo maxTabularTokens (g .families .finding) input
 
   -- of a grammar that passed: its sizes, no fault, and what its nonterminals left-reach
   module _ {z : Sizes} (p : g .families .finding ≡ Passed z) where
@@ -232,19 +234,26 @@ module _ {words input spans starts reaches : List ℕ} {f : Finding} (g : FoundG
     found-reaches =
         g .reached ∙ ap (λ x. x .reaches) (g .found) ∙ ap (λ o. setsIf o (listed maxNonterminals (reachNumber (grammarOf words)))) (told-sets .faultless)
 
-    by-input : {o : Option Error} → firstFault (faults (z .terminals)) ≡ o → tabularFault (length spans) words input ≡ o
-    by-input e = fault-long words input spans (g .room) (told-sets .faultless) ∙ rw (← terminals) e
+    by-input : maxSpanWords ≤ length spans → {o : Option Error} → firstFault (faults (z .terminals)) ≡ o → tabularFault (length spans) words input ≡ o
+    by-input room e = fault-long words input spans room (told-sets .faultless) ∙ rw (← terminals) e
 
   pub judge-found-refused : {x : Error} → f ≡ Refused x → TabularJudges words input spans (answer.Refused x) spans
-  judge-found-refused {x} q = go (with-refused (g .families .finding) faults (sym (g .finding) ∙ q))
+  judge-found-refused {x} q = by-room (room-refused (length spans) maxSpanWords SpansTooShort behind (sym (g .finding) ∙ q))
     where
-      go : RefusedWith (g .families .finding) faults x → TabularJudges words input spans (answer.Refused x) spans
-      go (byGrammar h) = judge-faulty words input spans (g .room) (families-refused One words (g .found) h)
-      go (byFaults z h i) = judge-refused (by-input h i)
+      go : maxSpanWords ≤ length spans → RefusedWith (g .families .finding) faults x → TabularJudges words input spans (answer.Refused x) spans
+      go room (byGrammar h) = judge-faulty words input spans room (families-refused One words (g .found) h)
+      go room (byFaults z h i) = judge-refused (by-input h room i)
+
+      by-room : RoomRefused (length spans) maxSpanWords SpansTooShort behind x → TabularJudges words input spans (answer.Refused x) spans
+      by-room (tooShort h s) = judge-refused (spans-short words input spans h ∙ ap some s)
+      by-room (enough room i) = go room (with-refused (g .families .finding) faults i)
 
   module _ {z : Sizes} (q : f ≡ Passed z) where
+    long : (maxSpanWords ≤ length spans) × (behind ≡ Passed z)
+    long = room-passed (length spans) maxSpanWords SpansTooShort behind (sym (g .finding) ∙ q)
+
     both : PassedWith (g .families .finding) faults z
-    both = with-passed (g .families .finding) faults (sym (g .finding) ∙ q)
+    both = with-passed (g .families .finding) faults (long .1)
 
     unfaulty : Faultless (faults (z .terminals))
     unfaulty = each-none (faults (z .terminals)) (both .faultless)
@@ -264,14 +273,14 @@ module _ {words input spans starts reaches : List ℕ} {f : Finding} (g : FoundG
               terminals = λ i l. omega (arith, token-below (z .terminals) input known i l, k .fewTerminals);
             };
           };
-          room = g .room;
+          room = long .0;
         }
 
     pub judge-done : {after : List ℕ} {r : Answer} → Tabulated words input spans r after → TabularJudges words input spans r after
     unfolding tabularWords
     judge-done {after} {r} t =
         let G = grammarOf words in
-        judges (leaves-alike (by-input (both .grammar) (both .faultless)) (leaves (t .verdict) (
+        judges (leaves-alike (by-input (both .grammar) (long .0) (both .faultless)) (leaves (t .verdict) (
           t .memory
               ∙ ap (λ (n : ℕ). spanWords (length input) (solutionWord G input) ++ drop n spans) (sym (words-long (length input) (solutionWord G input))),
           tt,

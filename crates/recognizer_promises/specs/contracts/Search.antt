@@ -22,12 +22,13 @@ use Rattle.semantics.specs.LeftRecursion.{NoLeftRecursion}
 use Rattle.table.specs.contracts.Entries.{entriesOf}
 use Rattle.table_promises.specs.Analysis.{grammarFaults}
 use Rattle.table.specs.contracts.Analysis.{foundOf}
+use Rattle.promises.specs.Lengths.{lengthFaults}
 use Rattle.promises.specs.Memory.{lentBack}
 use Rattle.recognizer_promises.specs.Memory.{memoWords}
 use Rattle.recognizer_promises.specs.Answers.{verdictOf}
 use Rattle.recognizer_promises.specs.declared.Judgement.{Judgement}
 use Rattle.recognizer_promises.specs.contracts.Judging.{foundUnless, JudgedPassed}
-use Rattle.recognizer_promises.specs.CostliestInput.{costliestInput, lengthFaults}
+use Rattle.recognizer_promises.specs.CostliestInput.{costliestInput}
 
 -- why it is refused: as judging the costliest input is, but for the table's length
 unfoldable pub searchFault : ℕ → ℕ → List ℕ → ℕ → Option Error

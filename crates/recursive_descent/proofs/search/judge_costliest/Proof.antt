@@ -3,60 +3,63 @@ use mathlib.Core.Path.{_∙_}
 use Prim.Native.Nat.{_-_}
 use native.Mathlib.Omega.{arith}
 use Rattle.recursive_descent.proofs.Searching.{Searching, some-terminal, few-terminals, number-given, searching-start, searching-given, searching-next}
-use Rattle.recursive_descent.proofs.Searching.{searching-done}
+use Rattle.recursive_descent.proofs.Searching.{searching-less, searching-done}
 use Rattle.recursive_descent.proofs.search.judge_costliest.Statement.{statement}
 use Rattle.recursive_descent.proofs.search.judge_costliest.Tie as tie
 
 abbrev Inv-loop : tie.InvT-loop
-Inv-loop words sizes choices events₀ memo₀ inputs best₀ number₀ events memo best number = Searching words sizes choices events₀ memo₀ events memo best number
+Inv-loop words sizes choices events₀ memo₀ inputs trials₀ events memo trials = Searching words sizes choices events₀ memo₀ events memo trials
 
 abbrev μ-loop : tie.MeasureT-loop
-μ-loop words sizes choices events₀ memo₀ inputs best₀ number₀ events memo best number = inputs - number
+μ-loop words sizes choices events₀ memo₀ inputs trials₀ events memo trials = inputs - trials .next
 
 count-inputs-requires : tie.Need-count-inputs-requires Inv-loop μ-loop
 count-inputs-requires c κs = tt
 
+no-trials-requires : tie.Need-no-trials-requires Inv-loop μ-loop
+no-trials-requires c κs = tt
+
 loop-holds : tie.Need-loop-holds Inv-loop μ-loop
-loop-holds c = searching-start (c .before .before .before .before .pre)
+loop-holds c =
+    let counted = c .before in
+    searching-start (counted .before .before .before .before .pre) (c .no-trials .ensures)
 
 calls-on-requires : tie.Need-calls-on-requires Inv-loop μ-loop
 calls-on-requires c κs =
-    let at-loop = c .before .before .before in
-    let counted = at-loop .before in
+    let at-loop = c .before .before .before .before in
+    let counted = at-loop .before .before in
     searching-given (counted .before .before .before .before .pre) (at-loop .loop .inv) (counted .count-inputs .ensures)
 
-costlier-requires : tie.Need-costlier-requires Inv-loop μ-loop
-costlier-requires c κs = tt
-
-add-number : tie.Need-add-number Inv-loop μ-loop
-add-number c =
-    let at-loop-test = c .before .before .before .before .before .before .before .before in
-    omega (arith, at-loop-test .loop-test .taken)
+tried-requires : tie.Need-tried-requires Inv-loop μ-loop
+tried-requires c κs = tt
 
 loop-less : tie.Need-loop-less Inv-loop μ-loop
 loop-less c =
-    let at-loop-test = c .before .before .before .before .before .before .before .before in
-    omega (arith, at-loop-test .loop-test .taken)
+    let turn = c .before .before .before .before .before .before .before .before in
+    let at-loop = turn .before .before in
+    let counted = at-loop .before .before in
+    searching-less (counted .before .before .before .before .pre) (at-loop .loop .inv) (counted .count-inputs .ensures) (turn .if1 .taken) _ (c .tried .ensures)
 
 loop-again : tie.Need-loop-again Inv-loop μ-loop
 loop-again c =
     let kept = c .before .before in
     let written = kept .before .before in
-    let tried = written .before in
-    let turn = tried .before .before .before in
-    let counted = turn .before .before in
-    searching-next (counted .before .before .before .before .pre) (turn .before .loop .inv) (counted .count-inputs .ensures)
-    (turn .loop-test .taken) (tried .calls-on .ensures)
-    (written .events .given) (kept .memo .given) (c .costlier .ensures)
+    let called = written .before in
+    let turn = called .before .before .before in
+    let at-loop = turn .before .before in
+    let counted = at-loop .before .before in
+    searching-next (counted .before .before .before .before .pre) (at-loop .loop .inv) (counted .count-inputs .ensures)
+    (turn .if1 .taken) (called .calls-on .ensures)
+    (written .events .given) (kept .memo .given) (c .tried .ensures)
 
 sub-last : tie.Need-sub-last Inv-loop μ-loop
 sub-last c =
-    let start = c .before .before .before .before .before .before .before in
+    let start = c .before .before .before .before .before .before .before .before .before in
     omega (arith, some-terminal (start .pre))
 
 cast-write-input : tie.Need-cast-write-input Inv-loop μ-loop
 cast-write-input c =
-    let start = c .before .before .before .before .before .before .before .before in
+    let start = c .before .before .before .before .before .before .before .before .before .before in
     omega (arith, few-terminals (start .pre))
 
 write-input-requires : tie.Need-write-input-requires Inv-loop μ-loop
@@ -65,30 +68,31 @@ write-input-requires c κs = tt
 judge-chosen-requires : tie.Need-judge-chosen-requires Inv-loop μ-loop
 judge-chosen-requires c κs =
     let written = c .before .before .before .before in
-    let at-loop = written .before .before .before .before in
-    let counted = at-loop .before in
+    let at-loop = written .before .before .before .before .before in
+    let counted = at-loop .before .before in
     number-given (searching-given (counted .before .before .before .before .pre) (at-loop .loop .inv) (counted .count-inputs .ensures))
-    (at-loop .loop .best .number) (written .write-input .ensures)
+    (at-loop .loop .trials .best) (written .write-input .ensures)
 
 same-length : tie.Need-same-length Inv-loop μ-loop
 same-length c =
     let rewritten = c .before .before .before .before .before .before in
-    let at-loop = rewritten .before .before .before .before .before in
+    let at-loop = rewritten .before .before .before .before .before .before in
     rewritten .events2 .given ∙ at-loop .loop .inv .same-length
 
 same-length-2 : tie.Need-same-length-2 Inv-loop μ-loop
 same-length-2 c =
     let written = c .before .before .before .before .before .before .before in
-    c .before .memo2 .given ∙ written .before .before .before .before .loop .inv .same-memo
+    let at-loop = written .before .before .before .before .before in
+    c .before .memo2 .given ∙ at-loop .loop .inv .same-memo
 
 returns : tie.Need-returns Inv-loop μ-loop
 returns c =
     let judged = c .before .before in
     let written = judged .before .before .before .before .before in
     let ended = written .before .before .before in
-    let at-loop = ended .before in
-    let counted = at-loop .before in
-    searching-done (counted .before .before .before .before .pre) (at-loop .loop .inv) (counted .count-inputs .ensures) (ended .loop-test .left)
+    let at-loop = ended .before .before in
+    let counted = at-loop .before .before in
+    searching-done (counted .before .before .before .before .pre) (at-loop .loop .inv) (counted .count-inputs .ensures) (ended .if1 .left)
     (written .write-input .ensures) (judged .judge-chosen .ensures)
 
 pub judge-costliest-spec : {M : Type 1} → statement M
@@ -98,10 +102,10 @@ judge-costliest-spec =
     Inv-loop
     μ-loop
     count-inputs-requires
+    no-trials-requires
     loop-holds
     calls-on-requires
-    costlier-requires
-    add-number
+    tried-requires
     loop-less
     loop-again
     sub-last
