@@ -20,7 +20,8 @@ returns c =
     let start = past .before .before in
     let events = start .args .events .now in
     c .column-end .ensures
-    ∙ sym (column-end (start .args .lookahead) (start .args .terminals) (inputOf events) (start .args .place) (omega (arith, past .if1 .taken, input-length events)))
+    ∙ sym (column-end (start .args .lookahead) (start .args .terminals) (inputOf events) (start .args .place)
+    (omega (arith, past .if1 .taken, input-length events)))
 
 shared-slice-read-event : tie.Need-shared-slice-read-event
 shared-slice-read-event c = search needs

@@ -121,7 +121,8 @@ returns c =
     let start = at-loop .before .before .before .before .before in
     let events = start .args .events .now in
     written-all (start .args .lookahead) (start .args .terminals) (inputOf events)
-    (omega (arith, c .if1 .taken, fitted .fitting2 .ensures, at-loop .loop .inv .0, at-loop .before .fitting .ensures, input-length events)) (at-loop .loop .inv .1)
+    (omega (arith, c .if1 .taken, fitted .fitting2 .ensures, at-loop .loop .inv .0, at-loop .before .fitting .ensures, input-length events))
+    (at-loop .loop .inv .1)
 
 shared-slice-read-last : tie.Need-shared-slice-read-last Inv-loop μ-loop
 shared-slice-read-last c =
