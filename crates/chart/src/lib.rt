@@ -10,7 +10,6 @@ use grammar::limits::NONTERMINALS;
 use grammar::limits::TABULAR_PLACES;
 use places::contains;
 
-pub mod bodies;
 pub mod places;
 pub mod spans;
 
@@ -24,13 +23,7 @@ fn joined(there: bool, more: u64, found: u64) -> u64
 }
 
 // The places from which a nonterminal leads to a place of the set, between the span's start and its end.
-pub(crate) fn before(
-    chart: &[u64; CHART],
-    nonterminal: u32,
-    set: u64,
-    start: usize,
-    end: usize,
-) -> u64
+pub fn before(chart: &[u64; CHART], nonterminal: u32, set: u64, start: usize, end: usize) -> u64
     ensures { λ r. ⌜ r ≡ placesBefore (now (chart .entry)) nonterminal set start end ⌝ }
 {
     if NONTERMINALS <= nonterminal {

@@ -3,7 +3,7 @@ ghost use mathlib.Core.Path.{_≡_};
 ghost use Rattle.tabular_promises.specs.contracts.Places.{onePlace, hasPlace, withPlace};
 use grammar::limits::TABULAR_PLACES;
 
-pub(crate) fn one_place(place: usize) -> u64
+pub fn one_place(place: usize) -> u64
     ensures { λ r. ⌜ r ≡ onePlace place ⌝ }
 {
     if place < TABULAR_PLACES {

@@ -9,8 +9,6 @@ ghost use Rattle.families.specs.contracts.Rules.{RuleWords};
 ghost use Rattle.tabular_promises.specs.contracts.Filling.{RulesGiven, RanksGiven, ByRank, AskGiven, Asked, DerivedGiven, SpanDerived, turn, Fills};
 ghost use Rattle.tabular_promises.specs.contracts.Filling.{SettleGiven, LengthGiven, FillGiven, Filled};
 use chart::CHART;
-use chart::bodies::STANDS;
-use chart::bodies::keeps;
 use chart::found_by;
 use chart::places::put;
 use event::terminal_of;
@@ -19,6 +17,8 @@ use families::nonterminals::Nonterminals;
 use grammar::limits::RULES;
 use grammar::limits::TABULAR_PLACES;
 use grammar::reading::Sizes;
+use rule_scan::STANDS;
+use rule_scan::keeps;
 use sets::rules::head_of;
 use word::decode;
 

@@ -1,6 +1,6 @@
 -- The set of the end alone.
-use Rattle.chart.proofs.bodies.none_open.Statement.{statement}
-use Rattle.chart.proofs.bodies.none_open.Tie as tie
+use Rattle.rule_scan.proofs.none_open.Statement.{statement}
+use Rattle.rule_scan.proofs.none_open.Tie as tie
 
 one-place-requires : tie.Need-one-place-requires
 one-place-requires c κs = tt

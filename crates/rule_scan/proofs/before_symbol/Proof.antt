@@ -1,6 +1,6 @@
 -- By the kind of symbol.
-use Rattle.chart.proofs.bodies.before_symbol.Statement.{statement}
-use Rattle.chart.proofs.bodies.before_symbol.Tie as tie
+use Rattle.rule_scan.proofs.before_symbol.Statement.{statement}
+use Rattle.rule_scan.proofs.before_symbol.Tie as tie
 
 enum-known-symbol : tie.Need-enum-known-symbol
 enum-known-symbol c = c .match .keys1

@@ -1,6 +1,6 @@
 -- By the kind of word.
-use Rattle.chart.proofs.bodies.onto.Statement.{statement}
-use Rattle.chart.proofs.bodies.onto.Tie as tie
+use Rattle.rule_scan.proofs.onto.Statement.{statement}
+use Rattle.rule_scan.proofs.onto.Tie as tie
 
 enum-known-word : tie.Need-enum-known-word
 enum-known-word c = c .match .keys1

@@ -3,8 +3,8 @@ use native.Mathlib.Omega.{arith}
 use borrow.Author.Tests.{lt-ltb, le-ltb}
 use Rattle.grammar.specs.Limits.{maxTerminals}
 use Rattle.tabular_promises.specs.contracts.Scanning.{beforeTerminal}
-use Rattle.chart.proofs.bodies.before_terminal.Statement.{statement}
-use Rattle.chart.proofs.bodies.before_terminal.Tie as tie
+use Rattle.rule_scan.proofs.before_terminal.Statement.{statement}
+use Rattle.rule_scan.proofs.before_terminal.Tie as tie
 
 mul-result : tie.Need-mul-result
 mul-result c = omega (arith, c .if1 .taken)

@@ -5,8 +5,8 @@ use native.Mathlib.Omega.{arith}
 use lib.Seq.{slice}
 use Rattle.tabular_promises.specs.contracts.Scanning.{scanned}
 use Rattle.tabular_promises.proofs.Scans.{none-such, none-between, scan-start, scan-more, scan-end}
-use Rattle.chart.proofs.bodies.keeps.Statement.{statement}
-use Rattle.chart.proofs.bodies.keeps.Tie as tie
+use Rattle.rule_scan.proofs.keeps.Statement.{statement}
+use Rattle.rule_scan.proofs.keeps.Tie as tie
 
 abbrev Inv-loop : tie.InvT-loop
 Inv-loop words from to stands chart start end scan₀ at₀ scan at = (from < at) × (at ≤ to) × (scan ≡ scanned stands chart start end (slice at to words))
