@@ -39,6 +39,23 @@ decoded-kind w k e = rw e
 
 -- what is wrong with the word at the index
 module _ (words : List ℕ) (i : ℕ) (x : Error) (h : Place words i x) where
+  -- where no word of the kind may stand the number is not judged
+  not-ranged : allows (decoded (getD words i 0)) (h .come .state) ≡ false → OutOfRangeAt words i → ⊥
+  unfolding ofKind
+  not-ranged n (OutOfRangeAt.head {G} k e l) =
+      false≢true (sym n ∙ ap (λ v. allows v (h .come .state)) (decoded-kind (getD words i 0) 2 k) ∙ may-begin words i x h G e)
+  not-ranged n (OutOfRangeAt.terminal k b l) =
+      false≢true (sym n ∙ ap (λ v. allows v (h .come .state)) (decoded-kind (getD words i 0) 5 k)
+      ∙ may-follow words i x h (Terminal 0) (decoded-symbol (Terminal 0) (omega arith)) b)
+  not-ranged n (OutOfRangeAt.nonterminal k b l) =
+      false≢true (sym n ∙ ap (λ v. allows v (h .come .state)) (decoded-kind (getD words i 0) 6 k)
+      ∙ may-follow words i x h (Nonterminal 0) (decoded-symbol (Nonterminal 0) (omega arith)) b)
+
+  not-many : allows (decoded (getD words i 0)) (h .come .state) ≡ false → RuleTooMany words i → ⊥
+  unfolding ofKind
+  not-many n m =
+      false≢true (sym n ∙ ap (λ v. allows v (h .come .state)) (decoded-kind (getD words i 0) 2 (m .begins)) ∙ may-begin words i x h (m .grammar) (m .before))
+
   out-of-range : (v : Word) → Parts v (kind (getD words i 0)) (payload (getD words i 0)) → allows v (h .come .state) ≡ true
       → inRange v (h .come .sizes) ≡ false
       → OutOfRangeAt words i
@@ -76,23 +93,6 @@ module _ (words : List ℕ) (i : ℕ) (x : Error) (h : Place words i x) where
   too-many End o a r b l = absurd (false≢true b)
   too-many (Heading n t) o a r b l = absurd (false≢true b)
   too-many Invalid o a r b l = absurd (false≢true b)
-
-  -- where no word of the kind may stand the number is not judged
-  not-ranged : allows (decoded (getD words i 0)) (h .come .state) ≡ false → OutOfRangeAt words i → ⊥
-  unfolding ofKind
-  not-ranged n (OutOfRangeAt.head {G} k e l) =
-      false≢true (sym n ∙ ap (λ v. allows v (h .come .state)) (decoded-kind (getD words i 0) 2 k) ∙ may-begin words i x h G e)
-  not-ranged n (OutOfRangeAt.terminal k b l) =
-      false≢true (sym n ∙ ap (λ v. allows v (h .come .state)) (decoded-kind (getD words i 0) 5 k)
-      ∙ may-follow words i x h (Terminal 0) (decoded-symbol (Terminal 0) (omega arith)) b)
-  not-ranged n (OutOfRangeAt.nonterminal k b l) =
-      false≢true (sym n ∙ ap (λ v. allows v (h .come .state)) (decoded-kind (getD words i 0) 6 k)
-      ∙ may-follow words i x h (Nonterminal 0) (decoded-symbol (Nonterminal 0) (omega arith)) b)
-
-  not-many : allows (decoded (getD words i 0)) (h .come .state) ≡ false → RuleTooMany words i → ⊥
-  unfolding ofKind
-  not-many n m =
-      false≢true (sym n ∙ ap (λ v. allows v (h .come .state)) (decoded-kind (getD words i 0) 2 (m .begins)) ∙ may-begin words i x h (m .grammar) (m .before))
 
 -- behind the last word there is no kind
 over-ranged : (words : List ℕ) (i : ℕ) → length words ≤ i → OutOfRangeAt words i → ⊥

@@ -51,14 +51,17 @@ before-suc n i = refl
 pub index-low : (n i j : ℕ) → i ≤ j → j ≤ n → spanIndex n i j < spanCount n
 index-low n i j h k = omega (arith, before-suc n i, before-mono n (suc i) (suc n) (omega arith))
 
+row-long : (m : ℕ) (g : ℕ → ℕ) (t : List ℕ) → length (listed m g ++ t) ≡ m + length t
+row-long m g t = length-append (listed m g) t ∙ ap (_+ length t) (listed-long m g)
+
 -- the words of the rows from a start on
 module _ (n : ℕ) (f : ℕ → ℕ → ℕ) where
   rows-long : (c i : ℕ) → i + c ≡ suc n → length (rows f c i) + spansBefore n i ≡ spanCount n
   unfolding rows
   rows-long zero i e = let d : i ≡ suc n = omega arith in rw d (omega arith)
   rows-long (suc c) i e =
-      let l = length-append (listed (suc c) (λ d. f i (i + d))) (rows f c (suc i)) in
-      omega (arith, l, listed-long (suc c) (λ d. f i (i + d)), rows-long c (suc i) (omega arith), before-suc n i)
+      let l : length (rows f (suc c) i) ≡ suc c + length (rows f c (suc i)) = row-long (suc c) _ (rows f c (suc i)) in
+      omega (arith, l, rows-long c (suc i) (omega arith), before-suc n i)
 
   rows-at : (c i : ℕ) → i + c ≡ suc n → (s e x : ℕ) → i ≤ s → s ≤ e → e ≤ n → x + spansBefore n i ≡ spanIndex n s e → getD (rows f c i) x 0 ≡ f s e
   unfolding rows
