@@ -11,10 +11,10 @@ use Rattle.kept_input.proofs.all_cleared.Statement.{statement}
 use Rattle.kept_input.proofs.all_cleared.Tie as tie
 
 abbrev Inv-loop : tie.InvT-loop
-Inv-loop length within₀ at₀ within at = (at ≤ markCount) × (within ≡ appliedTo (clearedBeyond length) at within₀)
+Inv-loop length within₀ at₀ within at = (at ≤ ListN.length within₀) × (within ≡ appliedTo (clearedBeyond length) at within₀)
 
 abbrev μ-loop : tie.MeasureT-loop
-μ-loop length within₀ at₀ within at = markCount - at
+μ-loop length within₀ at₀ within at = ListN.length within₀ - at
 
 loop-holds : tie.Need-loop-holds Inv-loop μ-loop
 loop-holds c = (omega arith, applied-none (clearedBeyond (c .args .length)) (c .args .marks))
@@ -38,12 +38,18 @@ add-at : tie.Need-add-at Inv-loop μ-loop
 add-at c = search needs
 
 loop-less : tie.Need-loop-less Inv-loop μ-loop
-loop-less c = search needs
+loop-less c =
+    let turn = c .before in
+    let start = turn .before .before in
+    let whole : ListN.length (start .args .marks) ≡ markCount = search needs in
+    omega (arith, turn .loop-test .taken)
 
 loop-again : tie.Need-loop-again Inv-loop μ-loop
 loop-again c =
     let at-loop = c .before .before in
     let given = at-loop .before .args in
+    let whole : ListN.length (given .marks) ≡ markCount = search needs in
+    let taken = c .before .loop-test .taken in
     (omega arith, applied-more (clearedBeyond (given .length)) (at-loop .loop .at) (given .marks) (at-loop .loop .inv .1) (c .cleared .ensures))
 
 returns : tie.Need-returns Inv-loop μ-loop
