@@ -5,7 +5,7 @@ use mathlib.Core.List.{List, [], _∷_, List·Memᴰ, List·Memᴰ·head, List·
 use mathlib.Core.Logic.{inl, inr}
 use mathlib.Core.Option.{Option, none, some}
 use Prim.Native.Nat.{ℕ, zero, suc, _+_, _-_, _≤_, _<_}
-use native.Mathlib.Decide.{ℕ-discrete}
+use native.Mathlib.Decide.{decLt, ℕ-discrete}
 use native.Mathlib.Omega.{arith}
 use denote.Enum.Declared.{tagOf}
 use types.Run.{OneOf, miss}
@@ -37,12 +37,12 @@ use Rattle.lookahead.proofs.Concat.{concat-mono, concat-assoc}
 use Rattle.families.specs.contracts.Naming.{nonterminalOf, Indexed}
 use Rattle.families.specs.contracts.Least.{SetFamily, at, lookup, Under, AddsToSet, AddsTo, Passing, Passes}
 use Rattle.families.specs.contracts.First.{symbolFirst, bodyFirst}
-use Rattle.families.specs.contracts.Follow.{FollowNumbersBody, FollowRules, FollowNumbersClosed, tailBefore, Asked, AskedOf, FollowTurn, LastTurns}
-use Rattle.families.specs.contracts.Rules.{turnOf, Ended, Inside, RuleWords, PassGiven}
+use Rattle.families.specs.contracts.Follow.{FollowNumbersBody, FollowRules, FollowNumbersClosed, tailBefore, Asked, FollowTurn, LastTurns}
+use Rattle.families.specs.contracts.Rules.{turnOf, Ended, Inside, RuleWords, BodyWords, NegativesFrom, PassGiven}
 use Rattle.families.proofs.ArrayLookup.{symbol-lookup}
 use Rattle.families.proofs.Words.{parse-here}
 use Rattle.families.proofs.NamedNonterminals.{IndexedName, name-indexed}
-use Rattle.families.proofs.Inner.{Inner, word-inside}
+use Rattle.families.proofs.Inner.{Inner, word-inside, bodies-between}
 use Rattle.families.proofs.LeastByPasses.{passing-none, passing-on, passing-then, passing-add, added-in}
 use Rattle.families.proofs.RuleRanges.{rule-in, in-rules, rule-is}
 use Rattle.families.proofs.RulePasses.{Turns, turns-next, turns-end}
@@ -110,7 +110,7 @@ module _ (k : Lookahead) (F : SetFamily) (v : ℕ) (p : Parsed) (L : SetFamily) 
 asked-none : (k : Lookahead) (F : SetFamily) (v : ℕ) (p : Parsed) (L : SetFamily) → Ended p → Asked k F v p L
 asked-none k F v p L e = record { body = rw (e .body) tt; positives = rw (e .positives) (none-in _); negatives = rw (e .negatives) (none-in _) }
 
--- the more sets there are, the more is met; behind an empty set nothing is asked
+-- the more sets there are, the more is met; the less comes behind, the less is asked, and behind an empty set nothing
 module _ (k : Lookahead) (F : SetFamily) where
   body-met : (v : ℕ) (L M : SetFamily) → Under L M → (b : Body) → FollowNumbersBody k F v L b → FollowNumbersBody k F v M b
   body-met v L M u [] o = tt
@@ -122,6 +122,20 @@ module _ (k : Lookahead) (F : SetFamily) where
     body = body-met v L M u (p .body) (o .body);
     positives = λ b m. body-met v L M u b (o .positives b m);
     negatives = λ b m. body-met v L M u b (o .negatives b m);
+  }
+
+  body-less : (v u : ℕ) (L : SetFamily) → Subset v u → (b : Body) → FollowNumbersBody k F u L b → FollowNumbersBody k F v L b
+  body-less v u L s [] o = tt
+  body-less v u L s (Terminal a ∷ b) o = body-less v u L s b o
+  body-less v u L s (Nonterminal A ∷ b) o =
+      let begins = bodyFirst k F b in
+      (λ x t. o .0 x (concat-mono k begins v begins u (subset-refl begins) s x t), body-less v u L s b (o .1))
+
+  asked-less : (v u : ℕ) (p : Parsed) (L : SetFamily) → Subset v u → Asked k F u p L → Asked k F v p L
+  asked-less v u p L s o = record {
+    body = body-less v u L s (p .body) (o .body);
+    positives = λ b m. body-less v u L s b (o .positives b m);
+    negatives = λ b m. body-less v u L s b (o .negatives b m);
   }
 
   body-free : (L : SetFamily) (b : Body) → FollowNumbersBody k F emptySet L b
@@ -170,47 +184,40 @@ tail-closed k F v (RuleWord A) tail h = refl
 tail-closed k F v (Heading m n) tail h = refl
 tail-closed k F v Invalid tail h = refl
 
--- a turn that meets what is asked of it
-turn-made : {k : Lookahead} {F : SetFamily} {B : ℕ} {p : Parsed} {l₀ l : List ℕ} {grown : Bool} → Passing (AskedOf k F B p) (λ L. Unit {0}) l₀ l grown
-    → Asked k F (at l₀ B) p (at l) → FollowTurn k F B p l₀ l grown
-turn-made {k} {F} {B} {p} {l₀} {l} t o = record {
-  passes = record { long = t .long; same = t .same; risen = t .risen; grows = t .grows; still = λ f. rw (t .same f) (rw (t .same f) at o); below = t .below };
-  asked = o;
-}
+-- the words of a rule from one body on to another, from i on gone through
+pub record FollowWalk (k : Lookahead) (F : SetFamily) (u : ℕ) (words l₀ l : List ℕ) (from to : ℕ) (grown : Bool) (tail i : ℕ) : Type 0 where
+  pub low : from ≤ i
+  pub high : i ≤ to
+  pub is : tail ≡ concatNumbers k (bodyFirst k F (parse (drop i words) .body)) u
+  pub passing : Passing (Asked k F u (parse (drop from words))) (λ L. Unit {0}) l₀ l grown
+  pub asked : Asked k F u (parse (drop i words)) (at l)
 
--- the words of a rule of B from i on have been gone through
-pub record FollowWalk (k : Lookahead) (F : SetFamily) (B : ℕ) (words l₀ l : List ℕ) (start end : ℕ) (grown : Bool) (tail i : ℕ) : Type 0 where
-  pub low : start < i
-  pub high : i ≤ end
-  pub is : tail ≡ concatNumbers k (bodyFirst k F (parse (drop i words) .body)) (at l₀ B)
-  pub passing : Passing (AskedOf k F B (parse (drop (suc start) words))) (λ L. Unit {0}) l₀ l grown
-  pub asked : Asked k F (at l₀ B) (parse (drop i words)) (at l)
-
-module _ {words : List ℕ} {start end : ℕ} (given : RuleWords words start end) where
-  -- what the whole rule asks, its words from an index on ask
-  asked-from : (k : Lookahead) (F : SetFamily) (v : ℕ) (L : SetFamily) (i : ℕ) → suc start + i ≤ end → Asked k F v (parse (drop (suc start) words)) L
-      → Asked k F v (parse (drop (suc start + i) words)) L
-  asked-from k F v L zero h o = let e : suc start + 0 ≡ suc start = omega arith in rw e o
+module _ {words : List ℕ} {from to : ℕ} (given : BodyWords words from to) where
+  -- what all these words ask, those from an index on ask
+  asked-from : (k : Lookahead) (F : SetFamily) (v : ℕ) (L : SetFamily) (i : ℕ) → from + i ≤ to → Asked k F v (parse (drop from words)) L
+      → Asked k F v (parse (drop (from + i) words)) L
+  asked-from k F v L zero h o = let e : from + 0 ≡ from = omega arith in rw e o
   asked-from k F v L (suc i) h o =
-      let j = suc start + i in
+      let j = from + i in
       let b : j < length words = omega (arith, given .within) in
-      let e : suc start + suc i ≡ suc j = omega arith in
+      let e : from + suc i ≡ suc j = omega arith in
       rw e (asked-down k F v (parse (drop (suc j) words)) L (decoded (getD words j 0)) (given .inside j (omega arith) (omega arith))
       (read-place words (given .sizes) (given .read) j b .behind) (rw (parse-here words j b) at (asked-from k F v L i (omega arith) o)) .0)
 
-  pub follow-start : (k : Lookahead) (F : SetFamily) (B : ℕ) (l : List ℕ) {tail : ℕ} → tail ≡ concatNumbers k (endSet k) (at l B)
-      → FollowWalk k F B words l l start end false tail end
-  unfolding bodyFirst
-  follow-start k F B l e = record {
-    low = given .some;
-    high = omega arith;
-    is = rw (given .ended .body) e;
-    passing = passing-none l tt;
-    asked = asked-none k F (at l B) (parse (drop end words)) (at l) (given .ended);
-  }
+  pub asked-behind : {k : Lookahead} {F : SetFamily} {v : ℕ} {L : SetFamily} (i : ℕ) → from ≤ i → i ≤ to → Asked k F v (parse (drop from words)) L
+      → Asked k F v (parse (drop i words)) L
+  asked-behind {k} {F} {v} {L} i l h o =
+      let e : from + (i - from) ≡ i = omega arith in
+      rw e at (asked-from k F v L (i - from) (omega arith) o)
 
-  module _ {k : Lookahead} {F : SetFamily} {B : ℕ} {l₀ l : List ℕ} (g : Bool) {tail i : ℕ}
-      (v : FollowWalk k F B words l₀ l start end g tail i) (h : start + 1 < i)
+  pub follow-start : (k : Lookahead) (F : SetFamily) (u : ℕ) (l : List ℕ) {tail : ℕ} → tail ≡ concatNumbers k (endSet k) u
+      → Asked k F u (parse (drop to words)) (at l) → FollowWalk k F u words l l from to false tail to
+  unfolding bodyFirst
+  follow-start k F u l e o =
+      record { low = given .some; high = omega arith; is = rw (given .whole) e; passing = passing-none l tt; asked = o }
+
+  module _ {k : Lookahead} {F : SetFamily} {u : ℕ} {l₀ l : List ℕ} (g : Bool) {tail i : ℕ}
+      (v : FollowWalk k F u words l₀ l from to g tail i) (h : from < i)
       {w : Word} (e : w ≡ decoded (getD words (i - 1) 0)) where
     abbrev p : Parsed
     p = parse (drop i words)
@@ -221,80 +228,122 @@ module _ {words : List ℕ} {start end : ℕ} (given : RuleWords words start end
     pub word-here : Indexed w
     word-here = inner .indexed
 
-    -- what the whole rule asks, the word asks
-    name-asked : (G : SetFamily) → AskedOf k F B (parse (drop (suc start) words)) G → NameAsks k F (G B) (p .body) (nonterminalOf w) G
+    -- what all the words ask, the word asks
+    name-asked : (G : SetFamily) → Asked k F u (parse (drop from words)) G → NameAsks k F u (p .body) (nonterminalOf w) G
     name-asked G o =
-        let f : suc start + (i - 1 - suc start) ≡ i - 1 = omega arith in
-        let u = rw f at (asked-from k F (G B) G (i - 1 - suc start) (omega (arith, v .high)) o) in
-        asked-down k F (G B) p G w (inner .inside) (inner .behind) (rw (inner .here) at u) .1
-
-    -- a family that has the array has what came behind the body when the rule had its turn
-    behind-in : (G : SetFamily) → Under (at l₀) G → Subset tail (concatNumbers k (bodyFirst k F (p .body)) (G B))
-    behind-in G u =
-        let begins = bodyFirst k F (p .body) in
-        rw (v .is) (concat-mono k begins (at l₀ B) begins (G B) (subset-refl begins) (u B))
+        asked-down k F u p G w (inner .inside) (inner .behind) (rw (inner .here) at (asked-behind (i - 1) (omega arith) (omega (arith, v .high)) o)) .1
 
     pub follow-turn : {l′ : List ℕ} (g′ : Bool) {r : Bool} {next : ℕ} → length l₀ ≡ maxNonterminals → AddsTo (nonterminalOf w) l tail l′ g′
         → r ≡ (g || g′)
-        → {behind : ℕ} → behind ≡ concatNumbers k (endSet k) (at l₀ B) → (f : List ℕ) → F ≡ at f → next ≡ tailBefore k (lookup f) behind w tail
-        → FollowWalk k F B words l₀ l′ start end r next (i - 1)
+        → {behind : ℕ} → behind ≡ concatNumbers k (endSet k) u → (f : List ℕ) → F ≡ at f → next ≡ tailBefore k (lookup f) behind w tail
+        → FollowWalk k F u words l₀ l′ from to r next (i - 1)
     follow-turn {l′} g′ {next = next} n a told {behind} d f e o = record {
       low = omega arith;
       high = omega (arith, v .high);
-      is = rw (inner .here) (looked-up ∙ ap₂ (λ b u. tailBefore k F b w u) d (v .is) ∙ tail-word k F (at l₀ B) w p (inner .inside));
+      is = rw (inner .here) (looked-up ∙ ap₂ (λ b t. tailBefore k F b w t) d (v .is) ∙ tail-word k F u w p (inner .inside));
       passing = rw told (passing-on (λ G c. c) (λ G c. tt) (passing-then g g′ (v .passing) added));
       asked =
-          rw (inner .here) (asked-up k F (at l₀ B) p (at l′) w
-          (asked-met k F (at l₀ B) p (at l) (at l′) (added .risen) (v .asked), here (nonterminalOf w) (name-indexed w word-here) a));
+          rw (inner .here) (asked-up k F u p (at l′) w
+          (asked-met k F u p (at l) (at l′) (added .risen) (v .asked), here (nonterminalOf w) (name-indexed w word-here) a));
     }
       where
         looked-up : next ≡ tailBefore k F behind w tail
         looked-up = rw e (o ∙ tail-looked-up k f behind w tail word-here)
 
-        first-under : (G : SetFamily) → Under (at l) G → Under (at l₀) G
-        first-under G u m x s = u m x (v .passing .risen m x s)
-
         room : {A : ℕ} → A < maxNonterminals → A < length l
         room b = omega (arith, b, n, v .passing .long)
 
         named : (x : Option ℕ) → nonterminalOf w ≡ x → IndexedName x → AddsTo x l tail l′ g′
-            → Passing (AskedOf k F B (parse (drop (suc start) words))) (λ L. Unit {0}) l l′ g′
+            → Passing (Asked k F u (parse (drop from words))) (λ L. Unit {0}) l l′ g′
         named none f b a = rw (a .0, a .1) (passing-none l tt)
-        named (some A) f b a = passing-add (room b) (λ G c u x s. rw f at (name-asked G c) x (behind-in G (first-under G u) x s)) (λ s. tt) a
+        named (some A) f b a = passing-add (room b) (λ G c m x s. rw f at (name-asked G c) x (rw (v .is) at s)) (λ s. tt) a
 
-        added : Passing (AskedOf k F B (parse (drop (suc start) words))) (λ L. Unit {0}) l l′ g′
+        added : Passing (Asked k F u (parse (drop from words))) (λ L. Unit {0}) l l′ g′
         added = named (nonterminalOf w) refl (name-indexed w word-here) a
 
-        here : (x : Option ℕ) → IndexedName x → AddsTo x l tail l′ g′ → NameAsks k F (at l₀ B) (p .body) x (at l′)
+        here : (x : Option ℕ) → IndexedName x → AddsTo x l tail l′ g′ → NameAsks k F u (p .body) x (at l′)
         here none b a = tt
         here (some A) b a = rw (v .is) at (added-in (room b) a)
 
-  pub follow-end : {k : Lookahead} {F : SetFamily} {B : ℕ} {l₀ l : List ℕ} {grown : Bool} {tail i : ℕ} → FollowWalk k F B words l₀ l start end grown tail i
-      → i ≤ start + 1
-      → FollowTurn k F B (parse (drop (suc start) words)) l₀ l grown
-  follow-end {k} {F} {B} {l₀} {l} {grown} {i = i} v h = turn-made (v .passing) (rw e at (v .asked))
-    where
-      e : i ≡ suc start
-      e = omega (arith, v .low)
+  pub follow-end : {k : Lookahead} {F : SetFamily} {u : ℕ} {l₀ l : List ℕ} {grown : Bool} {tail i : ℕ} → FollowWalk k F u words l₀ l from to grown tail i
+      → i ≤ from → FollowTurn k F u (parse (drop from words)) l₀ l grown
+  follow-end {i = i} v h = let e : i ≡ from = omega (arith, v .low) in record { passing = v .passing; asked = rw e at (v .asked) }
 
+-- which words begin a negative
+pub not-negative : (w : Word) → OneOf (0 ∷ 1 ∷ 2 ∷ 4 ∷ 5 ∷ 6 ∷ []) (tagOf the-type w) → w ≡ Negative → ⊥
+not-negative w h e = absurd (miss (0 ∷ 1 ∷ 2 ∷ 4 ∷ 5 ∷ 6 ∷ []) 3 tt (rw e at h))
+
+pub none-till : (words : List ℕ) {from : ℕ} (n : ℕ) → ((i : ℕ) → from ≤ i → i < n → decoded (getD words i 0) ≡ Negative → ⊥)
+    → (decoded (getD words n 0) ≡ Negative → ⊥) → (i : ℕ) → from ≤ i → i < n + 1 → decoded (getD words i 0) ≡ Negative → ⊥
+none-till words n before here i l h e = go (decLt i n)
+  where
+    go : Dec (i < n) → ⊥
+    go (yes k) = before i l k e
+    go (no k) = let q : i ≡ n = omega arith in here (rw q at e)
+
+-- a rule by its parts
+module _ {words : List ℕ} {start end : ℕ} (given : RuleWords words start end) where
   -- where what comes behind the bodies is as it was, nothing is to be added
-  pub follow-skipped : {k : Lookahead} {F : SetFamily} {B u : ℕ} {l : List ℕ} → Asked k F u (parse (drop (suc start) words)) (at l) → at l B ≡ u
-      → FollowTurn k F B (parse (drop (suc start) words)) l l false
-  follow-skipped {l = l} o e = turn-made (passing-none l tt) (rw e o)
+  pub follow-skipped : {k : Lookahead} {F : SetFamily} {v u : ℕ} {l : List ℕ} → Asked k F u (parse (drop (suc start) words)) (at l) → v ≡ u
+      → FollowTurn k F v (parse (drop (suc start) words)) l l false
+  follow-skipped {l = l} o e = record { passing = passing-none l tt; asked = rw e o }
+
+  module _ {n : ℕ} (f : NegativesFrom words (start + 1) end n) where
+    no-body-there : parse (drop n words) .body ≡ []
+    unfolding onWord
+    no-body-there = go (decLt n end)
+      where
+        go : Dec (n < end) → parse (drop n words) .body ≡ []
+        go (yes h) = rw (parse-here words n (omega (arith, given .within)), f .here h)
+        go (no h) = let e : n ≡ end = omega (arith, f .high) in rw e (given .ended .body)
+
+    pub negative-words : BodyWords words n end
+    negative-words = bodies-between given (omega (arith, f .low)) (f .high) (omega arith) (given .ended .body)
+
+    pub positive-words : BodyWords words (start + 1) n
+    positive-words = bodies-between given (omega arith) (f .low) (f .high) no-body-there
+
+    -- where they end nothing is asked
+    pub none-asked : (k : Lookahead) (F : SetFamily) (v : ℕ) (L : SetFamily) → Asked k F v (parse (drop end words)) L
+    none-asked k F v L = asked-none k F v (parse (drop end words)) L (given .ended)
+
+    pub follow-both : {k : Lookahead} {F : SetFamily} {u : ℕ} {l₀ l l′ : List ℕ} (g g′ : Bool) {r : Bool}
+        → FollowTurn k F u (parse (drop n words)) l₀ l g → FollowTurn k F u (parse (drop (start + 1) words)) l l′ g′ → r ≡ (g || g′)
+        → FollowTurn k F u (parse (drop (suc start) words)) l₀ l′ r
+    follow-both g g′ s t told = let next : start + 1 ≡ suc start = omega arith in
+        rw (← next) (record {
+          passing = rw told (passing-on (λ G c. c) (λ G c. tt)
+              (passing-then g g′ (passing-on (λ G c. asked-behind positive-words n (f .low) (omega arith) c) (λ G c. c) (s .passing)) (t .passing)));
+          asked = t .asked;
+        })
 
 -- every body of a rule asks its own
 abbrev RuleAsks : Lookahead → SetFamily → SetFamily → Rule → Type 0
 RuleAsks k F L r = (b : Body) → List·Memᴰ b (bodies r) → FollowNumbersBody k F (L (r .head)) L b
 
-rule-asked : (k : Lookahead) (F L : SetFamily) (A : ℕ) (p : Parsed) → p .body ≡ [] → RuleAsks k F L (ruleOf A p) → AskedOf k F A p L
+rule-asked : (k : Lookahead) (F L : SetFamily) (A : ℕ) (p : Parsed) → p .body ≡ [] → RuleAsks k F L (ruleOf A p) → Asked k F (L A) p L
 rule-asked k F L A p e o = record {
   body = rw e tt;
   positives = λ b m. o b (Memᴰ·append-left (p .negatives) m);
   negatives = λ b m. o b (Memᴰ·append-right (p .positives) m);
 }
 
-asked-rule : (k : Lookahead) (F L : SetFamily) (A : ℕ) (p : Parsed) → AskedOf k F A p L → RuleAsks k F L (ruleOf A p)
+asked-rule : (k : Lookahead) (F L : SetFamily) (A : ℕ) (p : Parsed) → Asked k F (L A) p L → RuleAsks k F L (ruleOf A p)
 asked-rule k F L A p o b m = elim (List·Memᴰ·append-cases (p .positives) m) [ inl n ↦ o .positives b n | inr n ↦ o .negatives b n ]
+
+-- of a rule of B, behind whose bodies came what followed B at the begin
+turn-passes : {k : Lookahead} {F : SetFamily} {B : ℕ} {p : Parsed} {l₀ l : List ℕ} {grown : Bool} → FollowTurn k F (at l₀ B) p l₀ l grown
+    → Passes (λ L. Asked k F (L B) p L) l₀ l grown
+turn-passes {k} {F} {B} {p} {l₀} {l} t =
+    let q = t .passing in
+    record {
+      long = q .long;
+      same = q .same;
+      risen = q .risen;
+      grows = q .grows;
+      still = λ f. rw (q .same f) (rw (q .same f) at (t .asked));
+      below = λ G c u. q .below G (asked-less k F (at l₀ B) (G B) p G (u B) c) u;
+    }
 
 -- the rules in turn
 abbrev pub Asks : Lookahead → SetFamily → List ℕ → ℕ → SetFamily → Type 0
@@ -313,7 +362,7 @@ module _ {words starts : List ℕ} {z : Sizes} {l₀ : List ℕ} (given : PassGi
 
   pub follow-visit : {l l′ : List ℕ} (g : Bool) {g′ r : Bool} {i rule head : ℕ} {w : Word} → Turns (Asks k F words) (z .rules) forward l₀ l g i
       → i < z .rules → rule ≡ turnOf forward (z .rules) i → w ≡ decoded (getD words (getD starts rule 0) 0) → head ≡ headOf w
-      → Passes (AskedOf k F head (parse (drop (suc (getD starts rule 0)) words))) l l′ g′ → r ≡ (g || g′)
+      → FollowTurn k F (at l head) (parse (drop (suc (getD starts rule 0)) words)) l l′ g′ → r ≡ (g || g′)
       → Turns (Asks k F words) (z .rules) forward l₀ l′ r (i + 1)
   follow-visit {l} {l′} g {g′} {i = i} {rule} {head} {w} t h f e d a told =
       turns-next (Asks k F words) (z .rules) forward g g′ t h (rw f at met) told
@@ -334,7 +383,8 @@ module _ {words starts : List ℕ} {z : Sizes} {l₀ : List ℕ} (given : PassGi
       empty = no-body (decoded (getD words (getD (ruleStarts words) rule 0) 0)) p (begun .word) (read-place words z (given .read) _ (begun .high) .behind)
 
       met : Passes (Asks k F words rule) l l′ g′
-      met = passing-on (λ G c. rule-asked k F G head p empty (rw is at c)) (λ G c. rw is (asked-rule k F G head p c)) (rw (given .begins) at a)
+      met =
+          passing-on (λ G c. rule-asked k F G head p empty (rw is at c)) (λ G c. rw is (asked-rule k F G head p c)) (turn-passes (rw (given .begins) at a))
 
   pub follows-end : {l : List ℕ} {grown : Bool} {i : ℕ} → Turns (Asks k F words) (z .rules) forward l₀ l grown i → z .rules ≤ i
       → Passes (FollowRules k F (parse words .rules)) l₀ l grown
@@ -358,15 +408,15 @@ pub last-asked : {k : Lookahead} {F : SetFamily} {words starts : List ℕ} {n : 
     → LastTurns k F words n last l → q < n → Asked k F (getD last q 0) (parse (drop (suc (getD starts q 0)) words)) (at l)
 last-asked {q = q} e t h = rw e (t .each q h)
 
-pub last-next : {k : Lookahead} {F : SetFamily} {words starts : List ℕ} {n : ℕ} {last last′ l l′ : List ℕ} {g : Bool} {q B : ℕ} → starts ≡ ruleStarts words
-    → n ≤ maxRules → q < n → LastTurns k F words n last l → last′ ≡ set last q (at l B)
-    → FollowTurn k F B (parse (drop (suc (getD starts q 0)) words)) l l′ g → LastTurns k F words n last′ l′
-last-next {k} {F} {words} {n = n} {last} {last′} {l} {l′} {q = q} {B} e few h t s f =
+pub last-next : {k : Lookahead} {F : SetFamily} {words starts : List ℕ} {n : ℕ} {last last′ l l′ : List ℕ} {g : Bool} {q : ℕ} (B : ℕ)
+    → starts ≡ ruleStarts words → n ≤ maxRules → q < n → LastTurns k F words n last l → last′ ≡ set last q (at l B)
+    → FollowTurn k F (at l B) (parse (drop (suc (getD starts q 0)) words)) l l′ g → LastTurns k F words n last′ l′
+last-next {k} {F} {words} {n = n} {last} {last′} {l} {l′} {q = q} B e few h t s f =
     record { long = ap length s ∙ length-set last q (at l B) ∙ t .long; each = λ p b. go p b (ℕ-discrete p q) }
   where
     go : (p : ℕ) → p < n → Dec (p ≡ q) → Asked k F (getD last′ p 0) (parse (drop (suc (getD (ruleStarts words) p 0)) words)) (at l′)
     go p b (yes d) = rw (d, s, getD-set-same last q (at l B) 0 (omega (arith, t .long))) (rw e at (f .asked))
-    go p b (no ne) = rw (s, getD-set-other last q p (at l B) 0 ne) (asked-met k F _ _ (at l) (at l′) (f .passes .risen) (t .each p b))
+    go p b (no ne) = rw (s, getD-set-other last q p (at l B) 0 ne) (asked-met k F _ _ (at l) (at l′) (f .passing .risen) (t .each p b))
 
 -- the end behind the start, and the rules
 pub follow-passes : (k : Lookahead) (F : SetFamily) (words : List ℕ) {l₀ l l′ : List ℕ} {g g′ : Bool} → 0 < length l₀ → AddsToSet l₀ 0 (endSet k) l g

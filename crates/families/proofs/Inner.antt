@@ -1,6 +1,6 @@
 -- A word inside a rule, before an index: what stands there, and what follows it.
 use mathlib.Core.Path.{_≡_, refl, sym, ap, _∙_}
-use mathlib.Core.List.{List}
+use mathlib.Core.List.{List, []}
 use Prim.Native.Nat.{ℕ, zero, suc, _+_, _-_, _≤_, _<_}
 use native.Mathlib.Omega.{arith}
 use lib.ListN.{length, getD, take, drop}
@@ -10,7 +10,7 @@ use Rattle.word.specs.Words.{decoded}
 use Rattle.grammar.specs.Encoding.{Parsed, onWord, parse}
 use Rattle.grammar.proofs.EachIndex.{Behind, read-place}
 use Rattle.families.specs.contracts.Naming.{Indexed}
-use Rattle.families.specs.contracts.Rules.{foldFromEnd, Inside, RuleWords}
+use Rattle.families.specs.contracts.Rules.{foldFromEnd, Inside, RuleWords, BodyWords}
 use Rattle.families.proofs.NamedNonterminals.{before-indexed}
 use Rattle.families.proofs.Words.{parse-before}
 
@@ -20,7 +20,19 @@ pub record Inner (words : List ℕ) (w : Word) (i : ℕ) : Type 0 where
   pub indexed : Indexed w
   pub behind : Behind w (parse (drop i words))
 
-pub word-inside : {words : List ℕ} {start end : ℕ} → RuleWords words start end → (i : ℕ) → start + 1 < i → i ≤ end
+-- a rule's words between two of its bodies, or a body and its end
+pub bodies-between : {words : List ℕ} {start end : ℕ} → RuleWords words start end → {from to : ℕ} → start < from → from ≤ to → to ≤ end
+    → parse (drop to words) .body ≡ [] → BodyWords words from to
+bodies-between k l m h e = record {
+  sizes = k .sizes;
+  read = k .read;
+  some = m;
+  within = omega (arith, k .within);
+  whole = e;
+  inside = λ i a b. k .inside i (omega arith) (omega arith);
+}
+
+pub word-inside : {words : List ℕ} {from to : ℕ} → BodyWords words from to → (i : ℕ) → from < i → i ≤ to
     → {w : Word} → w ≡ decoded (getD words (i - 1) 0) → Inner words w i
 word-inside {words} k i h u {w} e =
     let b : i - 1 < length words = omega (arith, k .within) in
@@ -35,6 +47,9 @@ word-inside {words} k i h u {w} e =
 -- what is made of a rule's words from their end, step by step as the words are parsed
 module _ {X : Type 0} (f : Word → X → X) (made : Parsed → X) {words : List ℕ} {start end : ℕ} (k : RuleWords words start end)
     (step : (w : Word) (p : Parsed) → Inside w → Indexed w → Behind w p → f w (made p) ≡ made (onWord w p)) where
+  between : BodyWords words (suc start) end
+  between = bodies-between k (omega arith) (omega (arith, k .some)) (omega arith) (k .ended .body)
+
   made-from : {x₀ : X} → x₀ ≡ made (parse (drop end words)) → (n i : ℕ) → i + n ≡ end → start < i
       → foldFromEnd f x₀ (take n (drop i words)) ≡ made (parse (drop i words))
   unfolding foldFromEnd
@@ -43,7 +58,7 @@ module _ {X : Type 0} (f : Word → X → X) (made : Parsed → X) {words : List
       let w = decoded (getD words i 0) in
       let front = drop-cons words i 0 (omega (arith, k .within)) in
       let here : suc i - 1 ≡ i = omega arith in
-      let m = word-inside k (suc i) (omega arith) (omega arith) {w = decoded (getD words i 0)} (rw here refl) in
+      let m = word-inside between (suc i) (omega arith) (omega arith) {w = decoded (getD words i 0)} (rw here refl) in
       rw (front, made-from e n (suc i) (omega arith) (omega arith))
       (step w (parse (drop (suc i) words)) (m .inside) (m .indexed) (m .behind) ∙ ap made (sym (rw (here, front) at (m .here))))
 

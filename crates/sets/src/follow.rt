@@ -1,6 +1,6 @@
 // Follow sets: passes over the rules, in both directions by turns, until one adds nothing; the words of a rule from their end.
 ghost use mathlib.Core.Path.{_≡_};
-ghost use Prim.Native.Nat.{suc, _<_};
+ghost use Prim.Native.Nat.{suc, _≤_, _<_};
 ghost use lib.ListN.{length, drop};
 ghost use Rattle.grammar.specs.declared.reading.Reading.the-variants.{Read};
 ghost use Rattle.grammar.specs.Encoding.{parse, grammarOf};
@@ -11,7 +11,7 @@ ghost use Rattle.families.specs.contracts.Follow.{Asked, FollowTurn, LastTurns,
 ghost use Rattle.families.specs.contracts.Least.{at as family, AddsTo, Passes};
 ghost use Rattle.base.specs.Lists.{listed};
 ghost use Rattle.families.specs.contracts.Naming.{nonterminalOf, Indexed};
-ghost use Rattle.families.specs.contracts.Rules.{RuleWords, PassGiven};
+ghost use Rattle.families.specs.contracts.Rules.{RuleWords, BodyWords, NegativesFrom, PassGiven};
 ghost use Rattle.families.specs.Sets.{firstNumber, followNumber};
 use super::family::add;
 use super::family::either;
@@ -43,8 +43,53 @@ fn add_behind(word: Word, tail: LookaheadSet, follows: &mut [u64; SETS]) -> bool
     add(follows, number, tail)
 }
 
-// Behind each nonterminal in a body of head comes what is left of the body, then what follows head; whether a set has grown. Where what follows
-// head is the same as when the rule last had its turn, there is nothing to add.
+// Where the first negative begins among words of a rule, or their end where there is none.
+fn negatives_of(words: &[u32], from: usize, end: usize) -> usize
+    requires { ⌜ (from ≤ end) × (end ≤ length (now words)) ⌝ }
+    ensures { λ r. ⌜ NegativesFrom (now (words .entry)) from end r ⌝ }
+{
+    let mut at = from;
+    while at < end {
+        let word = decode(words[at]);
+        if let Word::Negative = word {
+            return at;
+        }
+        at = at + 1;
+    }
+    at
+}
+
+// Behind each nonterminal of some bodies of a rule comes what is left of the body, then follow; whether a set has grown.
+fn follow_bodies(
+    words: &[u32],
+    from: usize,
+    to: usize,
+    follow: u64,
+    firsts: &[u64; SETS],
+    follows: &mut [u64; SETS],
+    lookahead: Lookahead,
+) -> bool
+    requires { ⌜ Asked lookahead (family (now firsts)) follow (parse (drop to (now words))) (family (now follows)) × BodyWords (now words) from to
+        × (length (now follows) ≡ maxNonterminals) ⌝ }
+    ensures { λ r. ⌜ FollowTurn lookahead (family (now (firsts .entry))) follow (parse (drop from (now (words .entry)))) (now (follows .entry))
+        (now (follows .exit)) r ⌝ }
+{
+    let set = LookaheadSet { bits: follow };
+    let behind = concat(LookaheadSet::end(lookahead), lookahead, set);
+    let mut grown = false;
+    let mut tail = behind;
+    let mut at = to;
+    while from < at {
+        at = at - 1;
+        let word = decode(words[at]);
+        grown = either(grown, add_behind(word, tail, follows));
+        tail = tail_before(word, tail, behind, firsts, lookahead);
+    }
+    grown
+}
+
+// What the bodies of a rule of head add, the negative ones and the positive ones; whether a set has grown. Where what follows head is the same as when
+// the rule last had its turn, there is nothing to add.
 fn follow_rule(
     words: &[u32],
     start: usize,
@@ -57,26 +102,18 @@ fn follow_rule(
 ) -> bool
     requires { ⌜ RuleWords (now words) start end × (head < maxNonterminals) × (length (now follows) ≡ maxNonterminals)
         × Asked lookahead (family (now firsts)) last (parse (drop (suc start) (now words))) (family (now follows)) ⌝ }
-    ensures { λ r. ⌜ FollowTurn lookahead (family (now (firsts .entry))) head (parse (drop (suc start) (now (words .entry))))
-        (now (follows .entry)) (now (follows .exit)) r ⌝ }
+    ensures { λ r. ⌜ FollowTurn lookahead (family (now (firsts .entry))) (family (now (follows .entry)) head)
+        (parse (drop (suc start) (now (words .entry)))) (now (follows .entry)) (now (follows .exit)) r ⌝ }
 {
-    let follow = LookaheadSet {
-        bits: follows[head as usize],
-    };
-    if follow.bits == last {
+    let follow = follows[head as usize];
+    if follow == last {
         return false;
     }
-    let behind = concat(LookaheadSet::end(lookahead), lookahead, follow);
-    let mut grown = false;
-    let mut tail = behind;
-    let mut at = end;
-    while start + 1 < at {
-        at = at - 1;
-        let word = decode(words[at]);
-        grown = either(grown, add_behind(word, tail, follows));
-        tail = tail_before(word, tail, behind, firsts, lookahead);
-    }
-    grown
+    let inside = start + 1;
+    let negatives = negatives_of(words, inside, end);
+    let by_negatives = follow_bodies(words, negatives, end, follow, firsts, follows, lookahead);
+    let by_positives = follow_bodies(words, inside, negatives, follow, firsts, follows, lookahead);
+    either(by_negatives, by_positives)
 }
 
 // One pass over the rules, from the first on or from the last on; whether a set has grown. What follows its head when a rule has its turn is kept

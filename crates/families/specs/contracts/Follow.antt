@@ -14,7 +14,7 @@ use Rattle.grammar.specs.contracts.Starts.{ruleStarts}
 use Rattle.lookahead.specs.declared.Lookahead.{Lookahead}
 use Rattle.lookahead.specs.contracts.Elements.{Subset}
 use Rattle.lookahead.specs.contracts.Operations.{end, concatNumbers}
-use Rattle.families.specs.contracts.Least.{SetFamily, at, Passes}
+use Rattle.families.specs.contracts.Least.{SetFamily, at, Passing}
 use Rattle.families.specs.contracts.First.{symbolFirst, bodyFirst}
 
 -- behind each nonterminal of a body: the first set of what comes after it, concatenated with v, what comes behind the body
@@ -48,14 +48,10 @@ pub record Asked (k : Lookahead) (F : SetFamily) (v : ℕ) (p : Parsed) (L : Set
   pub positives : (b : Body) → List·Memᴰ b (p .positives) → FollowNumbersBody k F v L b
   pub negatives : (b : Body) → List·Memᴰ b (p .negatives) → FollowNumbersBody k F v L b
 
--- and where the follow set of B does
-abbrev pub AskedOf : Lookahead → SetFamily → ℕ → Parsed → SetFamily → Type 0
-AskedOf k F B p L = Asked k F (L B) p L
-
--- a rule of B has its turn: what it asks is met by what comes behind its bodies at the begin, and if nothing has grown by the array that is left
-pub record FollowTurn (k : Lookahead) (F : SetFamily) (B : ℕ) (p : Parsed) (l₀ l : List ℕ) (grown : Bool) : Type 0 where
-  pub passes : Passes (AskedOf k F B p) l₀ l grown
-  pub asked : Asked k F (at l₀ B) p (at l)
+-- a rule, or its bodies from one on, has its turn: what it asks is added, and met in the end
+pub record FollowTurn (k : Lookahead) (F : SetFamily) (v : ℕ) (p : Parsed) (l₀ l : List ℕ) (grown : Bool) : Type 0 where
+  pub passing : Passing (Asked k F v p) (λ L. Unit {0}) l₀ l grown
+  pub asked : Asked k F v p (at l)
 
 -- for each of n rules the set that came behind its bodies when it last had its turn, the empty set before
 pub record LastTurns (k : Lookahead) (F : SetFamily) (words : List ℕ) (n : ℕ) (last l : List ℕ) : Type 0 where

@@ -55,6 +55,22 @@ pub record RuleWords (words : List ℕ) (start end : ℕ) : Type 0 where
   pub ended : Ended (parse (drop end words))
   pub inside : (i : ℕ) → start < i → i < end → Inside (decoded (getD words i 0))
 
+-- the words of a rule from one body on to another, or to the end
+pub record BodyWords (words : List ℕ) (from to : ℕ) : Type 0 where
+  pub sizes : Sizes
+  pub read : reading words ≡ Read sizes
+  pub some : from ≤ to
+  pub within : to ≤ length words
+  pub whole : parse (drop to words) .body ≡ []
+  pub inside : (i : ℕ) → from ≤ i → i < to → Inside (decoded (getD words i 0))
+
+-- where the negatives begin among words of a rule, or their end, if there is none
+pub record NegativesFrom (words : List ℕ) (from end r : ℕ) : Type 0 where
+  pub low : from ≤ r
+  pub high : r ≤ end
+  pub here : r < end → decoded (getD words r 0) ≡ Negative
+  pub before : (i : ℕ) → from ≤ i → i < r → decoded (getD words i 0) ≡ Negative → ⊥
+
 -- an array of a number for each of n rules: zeros follow them
 pub record ByRules (n : ℕ) (l : List ℕ) : Type 0 where
   pub long : length l ≡ maxRules

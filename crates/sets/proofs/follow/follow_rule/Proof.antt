@@ -1,118 +1,61 @@
--- Nothing new follows the head; else the loop keeps `FollowWalk`: the words from `at` on have been gone through.
-use mathlib.Core.Path.{refl}
-use native.Mathlib.Omega.{arith}
-use Rattle.families.specs.contracts.Least.{at as family}
-use Rattle.families.proofs.FollowPasses.{FollowWalk, behind-body, follow-start, word-here, follow-turn, follow-end, follow-skipped}
+-- Nothing new follows the head; else the negatives are gone through, and then the positives.
+use mathlib.Core.Path.{_∙_}
+use borrow.Author.Needs.{needs}
+use Rattle.families.proofs.FollowPasses.{follow-skipped, negative-words, positive-words, none-asked, follow-both}
 use Rattle.sets.proofs.follow.follow_rule.Statement.{statement}
 use Rattle.sets.proofs.follow.follow_rule.Tie as tie
 
-abbrev Inv-loop : tie.InvT-loop
-Inv-loop words start end head last firsts follows₀ lookahead behind grown₀ tail₀ at₀ follows grown tail at =
-    FollowWalk lookahead (family firsts) head words follows₀ follows start end grown (tail .bits) at
+mul-follow : tie.Need-mul-follow
+mul-follow c = search needs
 
-abbrev μ-loop : tie.MeasureT-loop
-μ-loop words start end head last firsts follows₀ lookahead behind grown₀ tail₀ at₀ follows grown tail at = at
+element-copy-out-follow : tie.Need-element-copy-out-follow
+element-copy-out-follow c = search needs
 
-mul-t16 : tie.Need-mul-t16 Inv-loop μ-loop
-mul-t16 c = omega (arith, c .before .pre .1)
+returns : tie.Need-returns
+returns c = let start = c .before .before .before in follow-skipped (start .pre .0) (start .pre .3) (c .if1 .taken)
 
-element-copy-out-t19 : tie.Need-element-copy-out-t19 Inv-loop μ-loop
-element-copy-out-t19 c = omega (arith, c .before .pre .1)
+add-inside : tie.Need-add-inside
+add-inside c = search needs
 
-returns : tie.Need-returns Inv-loop μ-loop
-returns c = let start = c .before .before .before .before in follow-skipped (start .pre .0) (start .pre .3) (c .if1 .taken)
+negatives-of-requires : tie.Need-negatives-of-requires
+negatives-of-requires c κs = search needs
 
-end-requires : tie.Need-end-requires Inv-loop μ-loop
-end-requires c κs = tt
+follow-bodies-requires : tie.Need-follow-bodies-requires
+follow-bodies-requires c κs =
+    let found = c .before in
+    let start = found .before .before .before .before in
+    let negatives = found .negatives-of .ensures in
+    (none-asked (start .pre .0) negatives _ _ _ _, negative-words (start .pre .0) negatives, start .pre .2)
 
-concat-requires : tie.Need-concat-requires Inv-loop μ-loop
-concat-requires c κs = tt
+follow-bodies-requires-2 : tie.Need-follow-bodies-requires-2
+follow-bodies-requires-2 c κs =
+    let behind = c .before in
+    let found = behind .before .before in
+    let start = found .before .before .before .before in
+    let turn = behind .follow-bodies .ensures in
+    (turn .asked, positive-words (start .pre .0) (found .negatives-of .ensures), turn .passing .long ∙ start .pre .2)
 
-loop-holds : tie.Need-loop-holds Inv-loop μ-loop
-loop-holds c =
-    let start = c .before .before .before .before .before .before in
-    follow-start (start .pre .0) (start .args .lookahead) _ _ _ (behind-body (start .args .lookahead) (c .before .end .ensures) (c .concat .ensures))
+either-requires : tie.Need-either-requires
+either-requires c κs = search needs
 
-add-loop : tie.Need-add-loop Inv-loop μ-loop
-add-loop c = omega (arith, c .loop .inv .low)
-
-sub-at : tie.Need-sub-at Inv-loop μ-loop
-sub-at c = omega arith
-
-mul-decode : tie.Need-mul-decode Inv-loop μ-loop
-mul-decode c =
-    let at-loop = c .before in
-    let start = at-loop .before .before .before .before .before .before .before in
-    omega (arith, at-loop .loop .inv .high, start .pre .0 .within)
-
-shared-slice-read-decode : tie.Need-shared-slice-read-decode Inv-loop μ-loop
-shared-slice-read-decode c =
-    let at-loop = c .before .before in
-    let start = at-loop .before .before .before .before .before .before .before in
-    omega (arith, at-loop .loop .inv .high, start .pre .0 .within)
-
-decode-requires : tie.Need-decode-requires Inv-loop μ-loop
-decode-requires c κs = tt
-
-add-behind-requires : tie.Need-add-behind-requires Inv-loop μ-loop
-add-behind-requires c κs =
-    let at-decode = c .before in
-    let at-loop-test = at-decode .before .before in
-    let at-loop = at-loop-test .before in
-    let start = at-loop .before .before .before .before .before .before .before in
-    word-here (start .pre .0) _ (at-loop .loop .inv) (at-loop-test .loop-test .taken) (at-decode .decode .ensures)
-
-either-requires : tie.Need-either-requires Inv-loop μ-loop
-either-requires c κs = tt
-
-tail-before-requires : tie.Need-tail-before-requires Inv-loop μ-loop
-tail-before-requires c κs = tt
-
-loop-less : tie.Need-loop-less Inv-loop μ-loop
-loop-less c =
-    let at-loop-test = c .before .before .before .before .before .before in
-    omega (arith, at-loop-test .loop-test .taken)
-
-loop-again : tie.Need-loop-again Inv-loop μ-loop
-loop-again c =
-    let at-either = c .before in
-    let at-add-behind = at-either .before in
-    let at-decode = at-add-behind .before .before in
-    let at-loop-test = at-decode .before .before in
-    let at-loop = at-loop-test .before in
-    let behind = at-loop .before in
-    let at-end = behind .before in
-    let start = at-end .before .before .before .before .before in
-    follow-turn (start .pre .0) _ (at-loop .loop .inv) (at-loop-test .loop-test .taken) (at-decode .decode .ensures) _ (start .pre .2)
-    (at-add-behind .add-behind .ensures) (at-either .either .ensures) (behind-body (start .args .lookahead) (at-end .end .ensures) (behind .concat .ensures))
-    (start .args .firsts .now) refl (c .tail-before .ensures)
-
-returns-2 : tie.Need-returns-2 Inv-loop μ-loop
+returns-2 : tie.Need-returns-2
 returns-2 c =
-    let at-loop = c .before in
-    let start = at-loop .before .before .before .before .before .before .before in
-    follow-end (start .pre .0) (at-loop .loop .inv) (c .loop-test .left)
+    let front = c .before in
+    let behind = front .before .before in
+    let found = behind .before .before in
+    let start = found .before .before .before .before in
+    follow-both (start .pre .0) (found .negatives-of .ensures) _ _ (behind .follow-bodies .ensures) (front .follow-bodies2 .ensures) (c .either .ensures)
 
 pub follow-rule-spec : {M : Type 1} → statement M
 follow-rule-spec =
     tie.close
     (tie.spec
-    Inv-loop
-    μ-loop
-    mul-t16
-    element-copy-out-t19
+    mul-follow
+    element-copy-out-follow
     returns
-    end-requires
-    concat-requires
-    loop-holds
-    add-loop
-    sub-at
-    mul-decode
-    shared-slice-read-decode
-    decode-requires
-    add-behind-requires
+    add-inside
+    negatives-of-requires
+    follow-bodies-requires
+    follow-bodies-requires-2
     either-requires
-    tail-before-requires
-    loop-less
-    loop-again
     returns-2)

@@ -173,9 +173,9 @@ loop-again c =
     let forward = start .args .forward in
     let turn = at-follow-rule .follow-rule .ensures in (
       follow-visit given _ _ forward _ (at-loop .loop .inv .0) (at-if1 .if1 .taken) (at-turn .turn .ensures)
-          (at-decode .decode .ensures) (at-head-of .head-of .ensures) (turn .passes) (c .either .ensures),
-      last-next (given .begins) (well-read _ _ (given .read) .fewRules) (its-turn given forward (at-if1 .if1 .taken) (at-turn .turn .ensures))
-          (at-loop .loop .inv .1) refl turn,
+          (at-decode .decode .ensures) (at-head-of .head-of .ensures) turn (c .either .ensures),
+      last-next (at-head-of .head-of .result) (given .begins) (well-read _ _ (given .read) .fewRules)
+          (its-turn given forward (at-if1 .if1 .taken) (at-turn .turn .ensures)) (at-loop .loop .inv .1) refl turn,
     )
 
 returns : tie.Need-returns Inv-loop μ-loop
