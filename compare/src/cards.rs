@@ -287,7 +287,7 @@ pub fn slowest_for_twin(leads: usize) -> Draft {
     rising_leads(leads).0
 }
 
-/// The slowest to search that was found. Two letters; at each of 13 places of each log the start runs a rule of 1,975 words, each of them, but for the
+/// The slowest to search that was found. Two letters; at each of 13 places of each log the start runs a rule of 1,974 words, each of them, but for the
 /// first call of a nonterminal there, a call that has been made.
 pub fn slowest_search() -> Draft {
     let (start, rest, empty) = (0, 1, 2..MAX_NONTERMINALS);
