@@ -101,7 +101,7 @@ fn rules_of_names() {
     checked(b"rules_apart");
 }
 
-fn rules_of_must_nots() {
+fn rules_of_negatives() {
     checked(b"must_nots_alone");
     checked(b"letter_behind_must_nots");
 }
@@ -239,7 +239,7 @@ fn main() {
     limits_of_heading();
     limits_of_length();
     rules_of_names();
-    rules_of_must_nots();
+    rules_of_negatives();
     unproductive();
     limits_of_judging(b"repeated");
     limits_of_judging(b"no_rule");
