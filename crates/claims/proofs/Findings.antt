@@ -15,7 +15,7 @@ use Rattle.admission.specs.Admission.{admission}
 use Rattle.families.specs.declared.Finding.the-variants.{Passed, Refused}
 use Rattle.families.specs.declared.Families.{Families}
 use Rattle.families.specs.Analysis.{setsFault}
-use Rattle.families.specs.contracts.Analysis.{startsIf, byRuleIf, setsIf, familiesOf}
+use Rattle.families.specs.contracts.Analysis.{startsIf, byRuleIf, setsIf, firstFamiliesOf, familiesOf}
 use Rattle.base.specs.Lists.{listed}
 use Rattle.families.specs.contracts.RuleLists.{byRule}
 use Rattle.families.specs.Sets.{firstNumber, followNumber}
@@ -30,24 +30,25 @@ use Rattle.claims.proofs.OverrunSets.{overruns-told}
 -- the families that are found: a grammar to go on with, or a refusal
 pub given : {k : Lookahead} {words : List ℕ} {z : Sizes} {r : Families} → FoundFamilies k words z r
     → FamiliesGiven k words z (r .starts) (r .meets) (r .follows)
-given f = record { read = f .read; begins = f .begins; met = f .met; follow = f .follow }
+given f = let g = f .firsts in record { read = g .read; begins = g .begins; met = g .met; follow = f .follow }
 
 pub refused-claims : (k : Lookahead) (words : List ℕ) {r : Families} {x : Error} → r ≡ familiesOf k words → r .finding ≡ Refused x
     → claimsWith (r .finding) (r .starts) (r .firsts) (r .follows) (replicate maxRules 0) (replicate maxRules 0) (replicate maxNonterminals 0)
     ≡ claimsOf k words
-unfolding claimsOf familiesOf
+unfolding claimsOf familiesOf firstFamiliesOf
 refused-claims k words {r} e q = rw (e, families-refused k words e q)
 
 pub heads-given : {k : Lookahead} {words : List ℕ} {z : Sizes} {r : Families} {heads sets : List ℕ} → FoundFamilies k words z r
     → AllKept k (grammarOf words) heads sets → HeadsGiven words (r .starts) heads z
-heads-given {k} {words} f p = record { read = admitted-read k words (f .read); begins = f .begins; own = p .own }
+heads-given {k} {words} f p = record { read = admitted-read k words (f .firsts .read); begins = f .firsts .begins; own = p .own }
 
 pub all-claims : {k : Lookahead} {words : List ℕ} {z : Sizes} {r : Families} {heads sets told : List ℕ} → FoundFamilies k words z r
     → AllKept k (grammarOf words) heads sets → Overrunning k (grammarOf words .rules) (r .follows) told
     → claimsWith (Passed z) (r .starts) (r .firsts) (r .follows) heads sets told ≡ claimsOf k words
 unfolding claimsOf
 all-claims {told = told} f p o =
-    rw (f .read, f .faultless, f .begins, f .first, f .follow, p .own, p .claims, listed-is maxNonterminals _ told (o .long) (overruns-told (given f) o))
+    let g = f .firsts in
+    rw (g .read, g .faultless, g .begins, g .first, f .follow, p .own, p .claims, listed-is maxNonterminals _ told (o .long) (overruns-told (given f) o))
 
 -- what claims that are found tell
 pub record Claimed (k : Lookahead) (words : List ℕ) (z : Sizes) (r : Claims) : Type 0 where

@@ -11,7 +11,7 @@ use grammar::reading::Sizes;
 use lookahead::Lookahead;
 use lookahead_sets::LookaheadSet;
 use overruns::overrunning;
-use sets::rules::head_of;
+use rule_passes::rules::head_of;
 use word::decode;
 
 mod overruns;

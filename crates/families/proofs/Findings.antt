@@ -3,6 +3,7 @@ use mathlib.Core.Path.{_≡_, refl, sym, ap, _∙_}
 use mathlib.Core.List.{List}
 use mathlib.Core.Option.{Option, none, some}
 use Prim.Native.Nat.{ℕ, min}
+use lib.ListN.{replicate}
 use native.Mathlib.Omega.{arith}
 use Rattle.answer.specs.declared.Error.{Error}
 use Rattle.answer.specs.declared.Error.the-variants.{LeftRecursive, Unproductive}
@@ -28,16 +29,17 @@ use Rattle.families.specs.contracts.Flaws.{flawIn, lowestOf, findingIn}
 use Rattle.families.specs.Sets.{firstNumber, followNumber}
 use Rattle.families.specs.contracts.Sets.{meetNumbers, reachNumber}
 use Rattle.families.specs.Analysis.{readingFault, setsFault, findingOf}
-use Rattle.families.specs.contracts.Analysis.{startsIf, byRuleIf, setsIf, families, refusedBy, familiesOf}
+use Rattle.families.specs.contracts.Analysis.{startsIf, byRuleIf, setsIf, families, refusedBy, withFollows, firstFamiliesOf, familiesOf}
 
 -- a reading without a fault is read
 pub read-some : (o : Reading) → readingFault o ≡ none → (z : Sizes) × (o ≡ Read z)
 read-some (Read z) e = (z, refl)
 read-some (Faulty x) e = absurd (none-some (sym e))
 
-pub families-faulty : (k : Lookahead) (words : List ℕ) {e : Error} {o : Reading} → o ≡ admission k words → o ≡ Faulty e → refusedBy e ≡ familiesOf k words
-unfolding familiesOf setsFault
-families-faulty k words r f = rw (sym r ∙ f)
+pub firsts-faulty : (k : Lookahead) (words : List ℕ) {e : Error} {o : Reading} → o ≡ admission k words → o ≡ Faulty e
+    → refusedBy e ≡ firstFamiliesOf k words
+unfolding firstFamiliesOf setsFault
+firsts-faulty k words r f = rw (sym r ∙ f)
 
 -- the lowest nonterminal that is reported
 lowest-none : (o : Option ℕ) {l : Lowest} → l ≡ lowestOf o → l ≡ told.Absent → o ≡ none
@@ -66,13 +68,17 @@ module _ (z : Sizes) (firsts reaches : List ℕ) {n : ℕ} {l m : Lowest} (all :
   pub found-flawless : l ≡ told.Absent → m ≡ told.Absent → Passed z ≡ findingIn z firsts reaches
   found-flawless a b = rw (lowest-none recursive (rw all at e) a, lowest-none unproductive (rw all at d) b)
 
--- where sets are found there is no fault, and what is found is the grammar's
-pub record FoundFamilies (k : Lookahead) (words : List ℕ) (z : Sizes) (r : Families) : Type 0 where
+-- where first sets are found there is no fault, and what is found is the grammar's
+pub record FoundFirsts (k : Lookahead) (words : List ℕ) (z : Sizes) (r : Families) : Type 0 where
   pub read : admission k words ≡ Read z
   pub faultless : setsFault k words ≡ none
   pub begins : r .starts ≡ ruleStarts words
   pub first : r .firsts ≡ listed maxNonterminals (firstNumber k (grammarOf words))
   pub met : r .meets ≡ byRule (meetNumbers k (grammarOf words))
+
+-- so with follow sets
+pub record FoundFamilies (k : Lookahead) (words : List ℕ) (z : Sizes) (r : Families) : Type 0 where
+  pub firsts : FoundFirsts k words z r
   pub follow : r .follows ≡ listed maxNonterminals (followNumber k (grammarOf words))
 
 -- a finding without an error tells that there is no fault
@@ -81,10 +87,10 @@ told-passed none (Read y) {z} q = let e : y ≡ z = cc in (refl, ap Read e)
 told-passed none (Faulty x) q = let n : _≡_ {A = ℕ} 0 1 = cc in absurd (omega arith)
 told-passed (some x) o q = let n : _≡_ {A = ℕ} 0 1 = cc in absurd (omega arith)
 
-pub families-told : (k : Lookahead) (words : List ℕ) {r : Families} {z : Sizes} → r ≡ familiesOf k words → r .finding ≡ Passed z
-    → FoundFamilies k words z r
-unfolding familiesOf
-families-told k words {r} {z} e q =
+pub firsts-told : (k : Lookahead) (words : List ℕ) {r : Families} {z : Sizes} → r ≡ firstFamiliesOf k words → r .finding ≡ Passed z
+    → FoundFirsts k words z r
+unfolding firstFamiliesOf
+firsts-told k words {r} {z} e q =
     let t = told-passed (setsFault k words) (admission k words) (sym (ap (λ x. x .finding) e) ∙ q) in
     record {
       read = t .1;
@@ -92,7 +98,16 @@ families-told k words {r} {z} e q =
       begins = ap (λ x. x .starts) e ∙ ap (λ f. startsIf f (ruleStarts words)) (t .0);
       first = ap (λ x. x .firsts) e ∙ ap (λ f. setsIf f (listed maxNonterminals (firstNumber k (grammarOf words)))) (t .0);
       met = ap (λ x. x .meets) e ∙ ap (λ f. byRuleIf f (meetNumbers k (grammarOf words))) (t .0);
-      follow = ap (λ x. x .follows) e ∙ ap (λ f. setsIf f (listed maxNonterminals (followNumber k (grammarOf words)))) (t .0);
+    }
+
+pub families-told : (k : Lookahead) (words : List ℕ) {r : Families} {z : Sizes} → r ≡ familiesOf k words → r .finding ≡ Passed z
+    → FoundFamilies k words z r
+unfolding familiesOf
+families-told k words {r} {z} e q =
+    let firsts = firsts-told k words {z = z} refl (sym (ap (λ x. x .finding) e) ∙ q) in
+    record {
+      firsts = rw e (record { read = firsts .read; faultless = firsts .faultless; begins = firsts .begins; first = firsts .first; met = firsts .met });
+      follow = ap (λ x. x .follows) e ∙ ap (λ f. setsIf f (listed maxNonterminals (followNumber k (grammarOf words)))) (firsts .faultless);
     }
 
 -- and a refusal is the fault, wherever a faulty reading is the first fault
@@ -106,20 +121,36 @@ found-fault : (k : Lookahead) (words : List ℕ) {x : Error} → findingOf (sets
 unfolding setsFault
 found-fault k words q = told-refused (setsFault k words) (admission k words) (λ y f. rw f) q
 
+firsts-refused : (k : Lookahead) (words : List ℕ) {r : Families} {x : Error} → r ≡ firstFamiliesOf k words
+    → r .finding ≡ Refused x → setsFault k words ≡ some x
+unfolding firstFamiliesOf
+firsts-refused k words e q = found-fault k words (sym (ap (λ x. x .finding) e) ∙ q)
+
 pub families-refused : (k : Lookahead) (words : List ℕ) {r : Families} {x : Error} → r ≡ familiesOf k words
     → r .finding ≡ Refused x → setsFault k words ≡ some x
 unfolding familiesOf
-families-refused k words e q = found-fault k words (sym (ap (λ x. x .finding) e) ∙ q)
+families-refused k words e q = firsts-refused k words refl (sym (ap (λ x. x .finding) e) ∙ q)
 
--- so for what is found of a grammar
+-- so for what is found of a grammar, first sets alone
 module _ (k : Lookahead) (words : List ℕ) {f : Finding} (e : f ≡ findingOf (setsFault k words) (admission k words)) where
-  pub families-flawed : {x : Error} → f ≡ Refused x → refusedBy x ≡ familiesOf k words
-  unfolding familiesOf
-  families-flawed q = rw (found-fault k words (sym e ∙ q))
+  pub firsts-flawed : {x : Error} → f ≡ Refused x → refusedBy x ≡ firstFamiliesOf k words
+  unfolding firstFamiliesOf
+  firsts-flawed q = rw (found-fault k words (sym e ∙ q))
 
-  pub families-found : {z : Sizes} {starts firsts meets follows reaches : List ℕ} → f ≡ Passed z → starts ≡ ruleStarts words
+  pub firsts-found : {z : Sizes} {starts firsts meets reaches : List ℕ} → f ≡ Passed z → starts ≡ ruleStarts words
       → firsts ≡ listed maxNonterminals (firstNumber k (grammarOf words)) → meets ≡ byRule (meetNumbers k (grammarOf words))
-      → follows ≡ listed maxNonterminals (followNumber k (grammarOf words)) → reaches ≡ listed maxNonterminals (reachNumber (grammarOf words))
-      → families f starts firsts meets follows reaches ≡ familiesOf k words
+      → reaches ≡ listed maxNonterminals (reachNumber (grammarOf words))
+      → families f starts firsts meets (replicate maxNonterminals 0) reaches ≡ firstFamiliesOf k words
+  unfolding firstFamiliesOf
+  firsts-found q s a n c = let t = told-passed (setsFault k words) (admission k words) (sym e ∙ q) in rw (e, t .0, s, a, n, c)
+
+-- and with follow sets, if it is not refused
+module _ (k : Lookahead) (words : List ℕ) {r : Families} (e : r ≡ firstFamiliesOf k words) where
+  pub families-flawed : {x : Error} → r .finding ≡ Refused x → r ≡ familiesOf k words
+  unfolding familiesOf firstFamiliesOf
+  families-flawed q = e ∙ rw (firsts-refused k words e q)
+
+  pub families-found : {z : Sizes} {follows : List ℕ} → r .finding ≡ Passed z → follows ≡ listed maxNonterminals (followNumber k (grammarOf words))
+      → withFollows r follows ≡ familiesOf k words
   unfolding familiesOf
-  families-found q s a n b c = let t = told-passed (setsFault k words) (admission k words) (sym e ∙ q) in rw (e, t .0, s, a, n, b, c)
+  families-found {z} q b = rw (e, firsts-told k words {z = z} e q .faultless, b)

@@ -2,13 +2,19 @@
 use mathlib.Core.Path.{_≡_, _∙_}
 use mathlib.Core.Bool.{Bool, _||_}
 use mathlib.Core.List.{List, List·Memᴰ}
-use Prim.Native.Nat.{ℕ, _+_, _≤_, _<_}
+use Prim.Native.Nat.{ℕ, _+_, _%_, _≤_, _<_}
+use native.Mathlib.Nat.{mod-eq-of-lt}
+use native.Mathlib.Numerals.{add-one}
+use native.Mathlib.Decide.{decLt}
 use native.Mathlib.Omega.{arith}
+use lib.Dec.{ltb}
 use lib.ListN.{length, getD}
+use borrow.Author.Tests.{lt-ltb, le-ltb}
+use Rattle.base.specs.Choice.{choose}
 use Rattle.word.specs.declared.Word.{Word}
 use Rattle.word.specs.Words.{decoded}
 use Rattle.grammar.specs.declared.reading.Sizes.{Sizes}
-use Rattle.grammar.specs.Limits.{maxNonterminals}
+use Rattle.grammar.specs.Limits.{maxNonterminals, maxRules}
 use Rattle.grammar.specs.Syntax.{Rule}
 use Rattle.grammar.specs.Encoding.{parse}
 use Rattle.grammar.specs.contracts.Starts.{ruleStarts}
@@ -17,9 +23,9 @@ use Rattle.grammar.proofs.EachIndex.{read-whole}
 use Rattle.grammar.proofs.WellRead.{well-read}
 use Rattle.lookahead.specs.contracts.Elements.{Subset}
 use Rattle.families.specs.contracts.Least.{SetFamily, at, Under, AddsToSet, Passes}
-use Rattle.families.specs.contracts.Rules.{turnOf, ruleFrom, PassGiven}
-use Rattle.families.proofs.LeastByPasses.{passing-add}
-use Rattle.families.proofs.RuleRanges.{rule-in, in-rules, rule-is}
+use Rattle.families.specs.contracts.Rules.{turnOf, ruleFrom, ruleEnd, RuleWords, PassGiven}
+use Rattle.families.proofs.LeastByPasses.{added-at, passing-add}
+use Rattle.families.proofs.RuleRanges.{till-next, till-end, rule-in, in-rules, rule-is}
 use Rattle.families.proofs.RulePasses.{turn-below, Turns, turns-next, turns-end}
 
 -- what each rule gives is contained in its head's set
@@ -49,6 +55,24 @@ module _ {words starts : List ℕ} {z : Sizes} {l₀ : List ℕ} (k : PassGiven 
     pub its-head : {w : Word} {head : ℕ} → w ≡ decoded (getD words (getD starts rule 0) 0) → head ≡ headOf w → head ≡ ruleNumbered words rule .head
     its-head e f = f ∙ rw (e, k .begins, rule-is words z (k .read) rule its-turn)
 
+    -- and its words
+    pub its-words : {end : ℕ} → end ≡ ruleEnd words starts (z .rules) rule → RuleWords words (getD starts rule 0) end
+    its-words e = rw (e, k .begins, here) (till (decLt (rule + 1) (z .rules)))
+      where
+        few : z .rules ≤ maxRules
+        few = well-read words z (k .read) .fewRules
+
+        here : rule % maxRules ≡ rule
+        here = let low : rule < maxRules = omega (arith, its-turn, few) in mod-eq-of-lt low
+
+        till : Dec (rule + 1 < z .rules)
+            → RuleWords words (getD (ruleStarts words) rule 0)
+            (choose (ltb (rule + 1) (z .rules)) (getD (ruleStarts words) ((rule + 1) % maxRules) 0) (length words))
+        till (yes n) =
+            let low : rule + 1 < maxRules = omega (arith, n, few) in
+            rw (lt-ltb (rule + 1) (z .rules) n, mod-eq-of-lt low, add-one rule) (till-next words z (k .read) rule its-turn (omega (arith, n)))
+        till (no n) = rw (le-ltb (rule + 1) (z .rules) (omega (arith, n))) (till-end words z (k .read) rule its-turn (omega (arith, n)))
+
     pub head-below : {w : Word} {head : ℕ} → w ≡ decoded (getD words (getD starts rule 0) 0) → head ≡ headOf w → head < maxNonterminals
     head-below e f =
         let y = well-read words z (k .read) in
@@ -58,7 +82,8 @@ module _ {words starts : List ℕ} {z : Sizes} {l₀ : List ℕ} (k : PassGiven 
   module _ (given : SetFamily → Rule → ℕ) (larger : Larger given) (forward : Bool) where
     pub visit : {l l′ : List ℕ} (g : Bool) {g′ r : Bool} {i rule v head : ℕ} {w : Word} → Turns (Gives given words) (z .rules) forward l₀ l g i
         → i < z .rules → rule ≡ turnOf forward (z .rules) i → v ≡ given (at l) (ruleFrom words (getD starts rule 0))
-        → w ≡ decoded (getD words (getD starts rule 0) 0) → head ≡ headOf w → AddsToSet l head v l′ g′ → r ≡ (g || g′)
+        → w ≡ decoded (getD words (getD starts rule 0) 0) → head ≡ headOf w → AddsToSet l (head % maxNonterminals) v l′ g′
+        → r ≡ (g || g′)
         → Turns (Gives given words) (z .rules) forward l₀ l′ r (i + 1)
     visit {l} {l′} g {g′} {i = i} {rule} {v} {head} p h t e f d a told = turns-next (Gives given words) (z .rules) forward g g′ p h (rw t at met) told
       where
@@ -74,7 +99,7 @@ module _ {words starts : List ℕ} {z : Sizes} {l₀ : List ℕ} (k : PassGiven 
         met : Passes (Gives given words rule) l l′ g′
         met =
             passing-add room (λ G c u x s. c x (larger (at l) G u (ruleNumbered words rule) x (rw given-here at s))) (λ s. rw given-here at s)
-            (rw head-here at a)
+            (rw head-here at (added-at (head-below forward h t f d) a))
 
     pub visits-end : {l : List ℕ} {grown : Bool} {i : ℕ} → Turns (Gives given words) (z .rules) forward l₀ l grown i → z .rules ≤ i
         → Passes (Closes given (parse words .rules)) l₀ l grown

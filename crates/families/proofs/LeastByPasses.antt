@@ -2,13 +2,14 @@
 use mathlib.Core.Path.{_≡_, refl, ap, _∙_}
 use mathlib.Core.Bool.{Bool, true, false, true≢false, _||_}
 use mathlib.Core.List.{List, [], _∷_}
-use Prim.Native.Nat.{ℕ, zero, suc, _+_, _*_, _-_, _≤_, _<_}
-use native.Mathlib.Nat.{suc-mul}
+use Prim.Native.Nat.{ℕ, zero, suc, _+_, _*_, _-_, _%_, _≤_, _<_}
+use native.Mathlib.Nat.{suc-mul, mod-eq-of-lt}
 use native.Mathlib.Omega.{arith}
 use native.Mathlib.Decide.{ℕ-discrete}
 use lib.ListN.{length, getD, set, replicate, length-set}
 use lib.Seq.{getD-set-same, getD-set-other, set-getD}
 use borrow.Author.Tests.{eq-eqb, ne-eqb}
+use Rattle.grammar.specs.Limits.{maxNonterminals}
 use Rattle.lookahead.specs.contracts.Elements.{Subset}
 use Rattle.lookahead.specs.contracts.Operations.{join}
 use Rattle.lookahead.proofs.Order.{subset-refl, join-left, join-right, empty-least, join-least, join-grows, same-join, subset-le}
@@ -91,6 +92,10 @@ passing-add {W} {C} {l} {l′} {n} {v} {r} h value new a = go (ℕ-discrete (joi
           still = λ f. absurd (true≢false f);
           below = λ G c u. under-join l n v G h u (value G c u);
         })
+
+-- where numbers are counted round, a nonterminal's stays
+pub added-at : {l l′ : List ℕ} {n v : ℕ} {r : Bool} → n < maxNonterminals → AddsToSet l (n % maxNonterminals) v l′ r → AddsToSet l n v l′ r
+added-at h a = rw (mod-eq-of-lt h) at a
 
 -- what is added is there, and what was there too
 pub added-risen : {l l′ : List ℕ} {n v : ℕ} {r : Bool} → n < length l → AddsToSet l n v l′ r → Under (at l) (at l′)

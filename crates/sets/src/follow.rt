@@ -13,11 +13,6 @@ ghost use Rattle.base.specs.Lists.{listed};
 ghost use Rattle.families.specs.contracts.Naming.{nonterminalOf, Indexed};
 ghost use Rattle.families.specs.contracts.Rules.{RuleWords, BodyWords, NegativesFrom, PassGiven};
 ghost use Rattle.families.specs.Sets.{firstNumber, followNumber};
-use super::family::add;
-use super::family::either;
-use super::rules::end_of;
-use super::rules::head_of;
-use super::rules::turn;
 use concatenation::concat;
 use families::SETS;
 use grammar::limits::RULES;
@@ -25,6 +20,11 @@ use grammar::reading::Sizes;
 use lookahead::Lookahead;
 use lookahead_sets::LookaheadSet;
 use rests::tail_before;
+use rule_passes::family::add;
+use rule_passes::family::either;
+use rule_passes::rules::end_of;
+use rule_passes::rules::head_of;
+use rule_passes::rules::turn;
 use word::Symbol;
 use word::Word;
 use word::decode;
@@ -186,11 +186,11 @@ fn follow_pass(
 }
 
 // The follow sets of a grammar that is admitted, one for each nonterminal.
-pub(crate) fn follow_sets(
+pub(crate) fn follow_sets<'a>(
     words: &[u32],
-    starts: &[usize; RULES],
+    starts: &'a [usize; RULES],
     sizes: Sizes,
-    firsts: &[u64; SETS],
+    firsts: &'a [u64; SETS],
     lookahead: Lookahead,
 ) -> [u64; SETS]
     requires { ⌜ (admission lookahead (now words) ≡ Read sizes) × (now starts ≡ ruleStarts (now words))

@@ -17,9 +17,9 @@ use families::nonterminals::Nonterminals;
 use grammar::limits::RULES;
 use grammar::limits::TABULAR_PLACES;
 use grammar::reading::Sizes;
+use rule_passes::rules::head_of;
 use rule_scan::STANDS;
 use rule_scan::keeps;
-use sets::rules::head_of;
 use word::decode;
 
 // Where each terminal stands in the input that the events are.

@@ -40,12 +40,12 @@ use Rattle.semantics.specs.LeftRecursion.{NoLeftRecursion, lowestLeftRecursive}
 use Rattle.semantics.specs.Productive.{lowestUnproductive}
 use Rattle.semantics.proofs.Theorems.{theorems}
 use Rattle.families.specs.Analysis.{setsFaults, setsFault}
-use Rattle.families.specs.contracts.Analysis.{setsIf, familiesOf}
+use Rattle.families.specs.contracts.Analysis.{setsIf, firstFamiliesOf, familiesOf}
 use Rattle.base.specs.Lists.{listed}
 use Rattle.families.specs.contracts.Sets.{reachNumber}
 use Rattle.families.specs.declared.Finding.{Finding}
 use Rattle.families.specs.declared.Finding.the-variants.{Passed, Refused}
-use Rattle.families.proofs.Findings.{FoundFamilies, families-told, families-refused}
+use Rattle.families.proofs.Findings.{FoundFirsts, families-told, families-refused}
 use Rattle.promises.specs.Inputs.{inputFaultsTo}
 use Rattle.promises.specs.contracts.Inputs.{withInputTo}
 use Rattle.promises.proofs.Inputs.{PassedWith, RefusedWith, byGrammar, byFaults, with-passed, with-refused}
@@ -223,14 +223,14 @@ module _ {words input spans starts reaches : List ℕ} {f : Finding} (g : FoundG
 
   -- of a grammar that passed: its sizes, no fault, and what its nonterminals left-reach
   module _ {z : Sizes} (p : g .families .finding ≡ Passed z) where
-    told-sets : FoundFamilies One words z (g .families)
-    told-sets = families-told One words (g .found) p
+    told-sets : FoundFirsts One words z (g .families)
+    told-sets = families-told One words (g .found) p .firsts
 
     terminals : z .terminals ≡ grammarOf words .terminals
     terminals = well-read words z (told-sets .read) .terminals
 
     found-reaches : reaches ≡ listed maxNonterminals (reachNumber (grammarOf words))
-    unfolding familiesOf
+    unfolding familiesOf firstFamiliesOf
     found-reaches =
         g .reached ∙ ap (λ x. x .reaches) (g .found) ∙ ap (λ o. setsIf o (listed maxNonterminals (reachNumber (grammarOf words)))) (told-sets .faultless)
 

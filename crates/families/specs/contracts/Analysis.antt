@@ -42,10 +42,19 @@ refusedBy e =
     families (Refused e) (replicate maxRules 0) (replicate maxNonterminals 0) (replicate maxRules 0) (replicate maxNonterminals 0)
     (replicate maxNonterminals 0)
 
-unfoldable pub familiesOf : Lookahead → List ℕ → Families
-familiesOf k words =
+-- the same with other follow sets
+abbrev pub withFollows : Families → List ℕ → Families
+withFollows r follows = families (r .finding) (r .starts) (r .firsts) (r .meets) follows (r .reaches)
+
+-- what is found before the follow sets are: they are empty
+unfoldable pub firstFamiliesOf : Lookahead → List ℕ → Families
+firstFamiliesOf k words =
     families (findingOf (setsFault k words) (admission k words)) (startsIf (setsFault k words) (ruleStarts words))
     (setsIf (setsFault k words) (listed maxNonterminals (firstNumber k (grammarOf words))))
     (byRuleIf (setsFault k words) (meetNumbers k (grammarOf words)))
-    (setsIf (setsFault k words) (listed maxNonterminals (followNumber k (grammarOf words))))
+    (replicate maxNonterminals 0)
     (setsIf (setsFault k words) (listed maxNonterminals (reachNumber (grammarOf words))))
+
+unfoldable pub familiesOf : Lookahead → List ℕ → Families
+familiesOf k words =
+    withFollows (firstFamiliesOf k words) (setsIf (setsFault k words) (listed maxNonterminals (followNumber k (grammarOf words))))

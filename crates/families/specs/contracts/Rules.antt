@@ -2,8 +2,10 @@
 use mathlib.Core.Path.{_≡_}
 use mathlib.Core.Bool.{Bool, true, false}
 use mathlib.Core.List.{List, [], _∷_}
-use Prim.Native.Nat.{ℕ, suc, _-_, _≤_, _<_}
+use Prim.Native.Nat.{ℕ, suc, _+_, _-_, _%_, _≤_, _<_}
+use lib.Dec.{ltb}
 use lib.ListN.{length, getD, drop}
+use Rattle.base.specs.Choice.{choose}
 use Rattle.word.specs.declared.Word.{Word}
 use Rattle.word.specs.declared.Word.the-variants.{Heading, Rule as RuleWord, Positive, Negative, Symbol, End, Invalid}
 use Rattle.word.specs.Words.{decoded}
@@ -24,6 +26,11 @@ turnOf false rules passed = rules - suc passed
 -- the rule that begins at an index
 abbrev pub ruleFrom : List ℕ → ℕ → Rule
 ruleFrom words start = ruleRead (drop start words)
+
+-- where the words of a rule end: at the next rule, or behind the last word; rules are counted round
+abbrev pub ruleEnd : List ℕ → List ℕ → ℕ → ℕ → ℕ
+ruleEnd words starts rules q =
+    choose (ltb (q % maxRules + 1) rules) (getD starts ((q % maxRules + 1) % maxRules) 0) (length words)
 
 -- a row of words gone through from its end
 unfoldable pub foldFromEnd : {X : Type 0} → (Word → X → X) → X → List ℕ → X

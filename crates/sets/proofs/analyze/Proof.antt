@@ -1,38 +1,33 @@
--- An encoded grammar: by whether it is read without a fault.
-use mathlib.Core.Path.{sym, _∙_}
-use Rattle.families.proofs.Findings.{families-faulty}
+-- By whether the grammar is refused for its first sets.
+use borrow.Author.Needs.{needs}
+use Rattle.families.proofs.Findings.{firsts-told, families-flawed, families-found}
 use Rattle.sets.proofs.analyze.Statement.{statement}
 use Rattle.sets.proofs.analyze.Tie as tie
 
-admit-requires : tie.Need-admit-requires
-admit-requires c κs = tt
+analyze-requires : tie.Need-analyze-requires
+analyze-requires c κs = search needs
 
-enum-known-outcome : tie.Need-enum-known-outcome
-enum-known-outcome c = c .match .keys1
+enum-known-finding : tie.Need-enum-known-finding
+enum-known-finding c = search needs
 
-refused-requires : tie.Need-refused-requires
-refused-requires c κs = tt
-
-enum-known-outcome-2 : tie.Need-enum-known-outcome-2
-enum-known-outcome-2 c = c .match .keys2
-
-analyze-grammar-requires : tie.Need-analyze-grammar-requires
-analyze-grammar-requires c κs = sym (c .before .before .before .admit .ensures) ∙ c .before .outcome2 .given .1
+enum-told : tie.Need-enum-told
+enum-told c = search needs
 
 returns : tie.Need-returns
-returns c = c .refused .ensures ∙ families-faulty _ _ (c .before .before .before .before .admit .ensures) (c .before .before .outcome .given .1)
+returns c = families-flawed _ _ (c .before .before .analyze .ensures) (c .enum-told .given .1)
+
+follow-sets-requires : tie.Need-follow-sets-requires
+follow-sets-requires c κs =
+    let found = c .before .before .before .before in
+    let told = firsts-told _ _ (found .before .before .analyze .ensures) (found .finding .given .1) in
+    (told .read, told .begins, told .first)
 
 returns-2 : tie.Need-returns-2
-returns-2 c = c .analyze-grammar .ensures
+returns-2 c =
+    let found = c .before .before .before .before .before in
+    families-found _ _ (found .before .before .analyze .ensures) (found .finding .given .1) (c .follow-sets .ensures)
 
 pub analyze-spec : {M : Type 1} → statement M
 analyze-spec =
     tie.close
-    (tie.spec
-    admit-requires
-    enum-known-outcome
-    refused-requires
-    enum-known-outcome-2
-    analyze-grammar-requires
-    returns
-    returns-2)
+    (tie.spec analyze-requires enum-known-finding enum-told returns follow-sets-requires returns-2)

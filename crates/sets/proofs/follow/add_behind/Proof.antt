@@ -1,5 +1,6 @@
 -- Only a nonterminal of a body has something behind it.
 use mathlib.Core.Path.{refl}
+use Rattle.families.proofs.LeastByPasses.{added-at}
 use Rattle.families.proofs.NamedNonterminals.{no-name}
 use Rattle.sets.proofs.follow.add_behind.Statement.{statement}
 use Rattle.sets.proofs.follow.add_behind.Tie as tie
@@ -20,17 +21,15 @@ returns-2 : tie.Need-returns-2
 returns-2 c = rw (c .before .before .before .word .given .1, c .enum-told .given .1) (refl, refl)
 
 add-requires : tie.Need-add-requires
-add-requires c κs =
-    let at-symbol = c .before .before in
-    let at-word = at-symbol .before .before .before in
-    let start = at-word .before .before in
-    rw (at-word .word .given .1, at-symbol .symbol .given .1) at (start .pre)
+add-requires c κs = tt
 
 returns-3 : tie.Need-returns-3
 returns-3 c =
     let at-symbol = c .before .before .before in
     let at-word = at-symbol .before .before .before in
-    rw (at-word .word .given .1, at-symbol .symbol .given .1) (c .add .ensures)
+    let start = at-word .before .before in
+    let named = rw (at-word .word .given .1, at-symbol .symbol .given .1) at (start .pre) in
+    rw (at-word .word .given .1, at-symbol .symbol .given .1) (added-at named (c .add .ensures))
 
 pub add-behind-spec : {M : Type 1} → statement M
 add-behind-spec =

@@ -11,7 +11,7 @@ end-requires : tie.Need-end-requires
 end-requires c κs = tt
 
 add-requires : tie.Need-add-requires
-add-requires c κs = omega arith
+add-requires c κs = tt
 
 follow-rules-requires : tie.Need-follow-rules-requires
 follow-rules-requires c κs =

@@ -6,7 +6,7 @@ use Rattle.grammar.proofs.WellRead.{well-read}
 use Rattle.families.specs.contracts.Least.{at as family}
 use Rattle.families.specs.contracts.Follow.{LastTurns}
 use Rattle.families.proofs.RulePasses.{Turns, turns-start}
-use Rattle.families.proofs.HeadPasses.{its-turn, its-start, head-below}
+use Rattle.families.proofs.HeadPasses.{its-turn, its-start, its-words, head-below}
 use Rattle.families.proofs.FollowPasses.{Asks, follow-visit, follows-end, last-asked, last-next}
 use Rattle.sets.proofs.follow.follow_rules.Statement.{statement}
 use Rattle.sets.proofs.follow.follow_rules.Tie as tie
@@ -23,7 +23,7 @@ loop-holds : tie.Need-loop-holds Inv-loop μ-loop
 loop-holds c = (turns-start _ _ (c .before .args .forward) _, c .before .pre .1)
 
 turn-requires : tie.Need-turn-requires Inv-loop μ-loop
-turn-requires c κs = c .if1 .taken
+turn-requires c κs = tt
 
 mul-start : tie.Need-mul-start Inv-loop μ-loop
 mul-start c =
@@ -38,11 +38,7 @@ element-copy-out-start c =
     omega (arith, its-turn (start .pre .0) (start .args .forward) (at-if1 .if1 .taken) (c .turn .ensures), well-read _ _ (start .pre .0 .read) .fewRules)
 
 end-of-requires : tie.Need-end-of-requires Inv-loop μ-loop
-end-of-requires c κs =
-    let at-turn = c .before in
-    let at-if1 = at-turn .before in
-    let start = at-if1 .before .before .before .before in
-    (start .pre .0 .read, start .pre .0 .begins, its-turn (start .pre .0) (start .args .forward) (at-if1 .if1 .taken) (at-turn .turn .ensures))
+end-of-requires c κs = tt
 
 mul-decode : tie.Need-mul-decode Inv-loop μ-loop
 mul-decode c =
@@ -141,7 +137,7 @@ follow-rule-requires c κs =
     let at-loop = at-if1 .before .before in
     let start = at-loop .before .before in
     let given = start .pre .0 in (
-      at-end-of .end-of .ensures,
+      its-words given (start .args .forward) (at-if1 .if1 .taken) (at-turn .turn .ensures) (at-end-of .end-of .ensures),
       head-below given (start .args .forward) (at-if1 .if1 .taken) (at-turn .turn .ensures) (at-decode .decode .ensures) (at-head-of .head-of .ensures),
       at-loop .loop .inv .0 .long ∙ given .long,
       last-asked (given .begins) (at-loop .loop .inv .1) (its-turn given (start .args .forward) (at-if1 .if1 .taken) (at-turn .turn .ensures)),

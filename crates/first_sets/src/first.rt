@@ -1,0 +1,78 @@
+// First sets: passes over the rules, in both directions by turns, until one adds nothing; the words of a rule from their end.
+ghost use mathlib.Core.Path.{_≡_};
+ghost use Rattle.grammar.specs.declared.reading.Reading.the-variants.{Read};
+ghost use Rattle.grammar.specs.Encoding.{parse, grammarOf};
+ghost use Rattle.grammar.specs.Limits.{maxNonterminals};
+ghost use Rattle.grammar.specs.contracts.Starts.{ruleStarts};
+ghost use Rattle.admission.specs.Admission.{admission};
+ghost use Rattle.families.specs.contracts.First.{FirstNumbersClosed, RulesMet};
+ghost use Rattle.families.specs.contracts.Least.{Passes};
+ghost use Rattle.base.specs.Lists.{listed};
+ghost use Rattle.families.specs.contracts.RuleLists.{byRule};
+ghost use Rattle.families.specs.contracts.Rules.{ByRules, PassGiven};
+ghost use Rattle.families.specs.Sets.{firstNumber};
+ghost use Rattle.families.specs.contracts.Sets.{meetNumbers};
+use families::SETS;
+use grammar::limits::RULES;
+use grammar::reading::Sizes;
+use lookahead::Lookahead;
+use rests::rule_first;
+use rule_passes::family::add;
+use rule_passes::family::either;
+use rule_passes::rules::end_of;
+use rule_passes::rules::head_of;
+use rule_passes::rules::turn;
+use word::decode;
+
+// One pass over the rules, from the first on or from the last on; whether a set has grown. What the positives of each rule can all begin with is
+// kept too: it is so by the sets that are left, if none has grown.
+fn first_pass(
+    words: &[u32],
+    starts: &[usize; RULES],
+    sizes: Sizes,
+    firsts: &mut [u64; SETS],
+    meets: &mut [u64; RULES],
+    forward: bool,
+    lookahead: Lookahead,
+) -> bool
+    requires { ⌜ PassGiven (now words) (now starts) sizes (now firsts) × ByRules (sizes .rules) (now meets) ⌝ }
+    ensures { λ r. ⌜ Passes (FirstNumbersClosed lookahead (sizes .terminals) (parse (now (words .entry)) .rules)) (now (firsts .entry)) (now (firsts .exit)) r
+        × RulesMet lookahead (sizes .terminals) (now (words .entry)) (sizes .rules) (now (firsts .exit)) (now (meets .exit)) r ⌝ }
+{
+    let terminals = sizes.terminals;
+    let mut grown = false;
+    let mut passed = 0;
+    while passed < sizes.rules {
+        let rule = turn(forward, sizes.rules, passed);
+        let start = starts[rule];
+        let end = end_of(words, starts, sizes, rule);
+        let inside = start + 1;
+        let meet = rule_first(&words[inside..end], firsts, terminals, lookahead);
+        let head = head_of(decode(words[start]));
+        meets[rule] = meet.bits;
+        grown = either(grown, add(firsts, head, meet));
+        passed = passed + 1;
+    }
+    grown
+}
+
+// The first sets of a grammar that is admitted, one for each nonterminal. What the positives of each rule can all begin with is written where
+// zeros stand.
+pub(crate) fn first_sets(
+    words: &[u32],
+    starts: &[usize; RULES],
+    sizes: Sizes,
+    meets: &mut [u64; RULES],
+    lookahead: Lookahead,
+) -> [u64; SETS]
+    requires { ⌜ (admission lookahead (now words) ≡ Read sizes) × (now starts ≡ ruleStarts (now words)) × ByRules (sizes .rules) (now meets) ⌝ }
+    ensures { λ r. ⌜ (r ≡ listed maxNonterminals (firstNumber lookahead (grammarOf (now (words .entry)))))
+        × (now (meets .exit) ≡ byRule (meetNumbers lookahead (grammarOf (now (words .entry))))) ⌝ }
+{
+    let mut firsts = [0u64; SETS];
+    let mut forward = false;
+    while first_pass(words, starts, sizes, &mut firsts, meets, forward, lookahead) {
+        forward = !forward;
+    }
+    firsts
+}
