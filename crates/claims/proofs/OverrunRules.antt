@@ -21,28 +21,15 @@ use Rattle.grammar.specs.contracts.WellRead.{WellRead}
 use Rattle.grammar.proofs.WellRead.{well-read}
 use Rattle.admission.specs.Admission.{beginsNegative}
 use Rattle.lookahead.specs.declared.Lookahead.{Lookahead}
-use Rattle.lookahead.specs.contracts.Operations.{end, terminal, join}
+use Rattle.lookahead.specs.contracts.Operations.{terminal}
 use Rattle.semantics.specs.Claims.{without}
 use Rattle.semantics.proofs.descent.Outcomes.{nth-mem}
 use Rattle.families.proofs.ByRules.{by-rule-at}
 use Rattle.families.proofs.HeadPasses.{ruleNumbered}
 use Rattle.base.proofs.Lists.{getD-zeros}
-use Rattle.claims.specs.contracts.Overruns.{beyondEnd, aloneIn, overrunSet, HeadsGiven, Overrunning}
+use Rattle.claim_steps.specs.contracts.Steps.{beyondEnd}
+use Rattle.claims.specs.contracts.Overruns.{aloneIn, overrunSet, HeadsGiven, Overrunning}
 use Rattle.claims.proofs.FirstConjuncts.{first-conjunct}
-
--- what is reported of a nonterminal by one rule
-module _ (k : Lookahead) (alone : Bool) (s before : ℕ) {ends joined : ℕ} (e : ends ≡ end k) (j : joined ≡ join ends s) where
-  pub told-ends : joined ≡ ends → before ≡ choose (alone && beyondEnd k s) (terminal k 0) before
-  unfolding beyondEnd
-  told-ends d = rw (eq-eqb (join (end k) s) (end k) (ap (λ x. join x s) (sym e) ∙ sym j ∙ d ∙ e)) (go alone)
-    where
-      go : (b : Bool) → before ≡ choose (b && false) (terminal k 0) before
-      go true = refl
-      go false = refl
-
-  pub told-more : (joined ≡ ends → ⊥) → alone ≡ true → terminal k 0 ≡ choose (alone && beyondEnd k s) (terminal k 0) before
-  unfolding beyondEnd
-  told-more ne a = rw (a, ne-eqb (join (end k) s) (end k) (λ d. ne (j ∙ ap (λ x. join x s) e ∙ d ∙ sym e)))
 
 -- no rule, nothing told
 overrun-none : (k : Lookahead) (follows : List ℕ) → Overrunning k [] follows (replicate maxNonterminals 0)

@@ -28,7 +28,8 @@ use Rattle.base.proofs.LookaheadStrings.{strings-equality}
 use Rattle.families.specs.Sets.{followNumber}
 use Rattle.families.proofs.Strings.{string-in, number-element}
 use Rattle.claims.specs.contracts.Claims.{FamiliesGiven}
-use Rattle.claims.specs.contracts.Overruns.{beyondEnd, aloneIn, overrunSet, Overrunning}
+use Rattle.claim_steps.specs.contracts.Steps.{beyondEnd}
+use Rattle.claims.specs.contracts.Overruns.{aloneIn, overrunSet, Overrunning}
 use Rattle.claims.proofs.RuleClaims.{follow-lists}
 use Rattle.claims.proofs.KeptClaims.{read, follow-is, few}
 

@@ -1,37 +1,14 @@
 // The nonterminals that overrun: a rule without positives takes all that is left, yet more than the end can follow.
-ghost use mathlib.Core.Path.{_≡_};
-ghost use mathlib.Core.Bool.{_&&_};
-ghost use Rattle.base.specs.Choice.{choose};
 ghost use Rattle.grammar.specs.Encoding.{grammarOf};
-ghost use Rattle.lookahead.specs.contracts.Operations.{terminal};
-ghost use Rattle.claims.specs.contracts.Overruns.{beyondEnd, HeadsGiven, Overrunning};
+ghost use Rattle.claims.specs.contracts.Overruns.{HeadsGiven, Overrunning};
 use admission::begins_negative;
+use claim_steps::told;
 use families::SETS;
 use grammar::limits::RULES;
 use grammar::reading::Sizes;
 use lookahead::Lookahead;
 use lookahead_sets::LookaheadSet;
 use word::decode;
-
-// The first terminal where a rule has no positives and more than the end can follow it, else what was told before.
-fn told(
-    alone: bool,
-    follow: LookaheadSet,
-    before: LookaheadSet,
-    lookahead: Lookahead,
-) -> LookaheadSet
-    ensures { λ r. ⌜ r .bits ≡ choose (alone && beyondEnd lookahead (follow .bits)) (terminal lookahead 0) (before .bits) ⌝ }
-{
-    let end = LookaheadSet::end(lookahead);
-    if end.join(follow).bits == end.bits {
-        return before;
-    }
-    if alone {
-        LookaheadSet::terminal(lookahead, 0)
-    } else {
-        before
-    }
-}
 
 // Goes over the rules from the last on: a set for each nonterminal, with the first terminal where it overruns, else empty. A rule whose first
 // conjunct is negative has no positives.

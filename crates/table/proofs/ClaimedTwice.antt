@@ -2,8 +2,9 @@
 use mathlib.Core.Path.{_≡_, refl, sym, ap, ap₂, _∙_}
 use mathlib.Core.Bool.{Bool, true, false, _&&_, _||_, and-comm, or-comm}
 use mathlib.Core.List.{List, [], _∷_}
-use Prim.Native.Nat.{ℕ, _-_, _≤_, _<_}
+use Prim.Native.Nat.{ℕ, _-_, _≤_, _<_, _%_}
 use native.Mathlib.Decide.{ℕ-discrete}
+use native.Mathlib.Nat.{mod-eq-of-lt}
 use native.Mathlib.Omega.{arith}
 use lib.ListN.{length, getD, set, replicate, length-set, length-replicate}
 use lib.Seq.{getD-set-same, getD-set-other}
@@ -16,7 +17,8 @@ use Rattle.base.specs.FiniteSets.{numbersFrom, numbersBelow}
 use Rattle.semantics.specs.Claims.{several}
 use Rattle.base.proofs.Lists.{getD-zeros}
 use Rattle.claims.specs.contracts.Claims.{claimant}
-use Rattle.table.specs.contracts.Conflicts.{ClaimNoted, Twice}
+use Rattle.claim_steps.specs.contracts.Steps.{ClaimNoted}
+use Rattle.table.specs.contracts.Conflicts.{Twice}
 use Rattle.claims.proofs.Claimants.{claimant-own, claimant-other, numbers-before}
 
 -- these rules have been gone through
@@ -105,9 +107,9 @@ module _ {heads sets told : List ℕ} (q : ℕ) {rules once twice once′ twice�
 
 -- the same in the loop's numbers, of n rules
 pub noting-turn : {heads sets told once twice once′ twice′ : List ℕ} (q n : ℕ) → Noting heads sets told (numbersFrom q (n - q)) once twice → 0 < q → q ≤ n
-    → getD heads (q - 1) 0 < maxNonterminals → ClaimNoted once twice (getD heads (q - 1) 0) (getD sets (q - 1) 0) once′ twice′
+    → getD heads (q - 1) 0 < maxNonterminals → ClaimNoted once twice (getD heads (q - 1) 0 % maxNonterminals) (getD sets (q - 1) 0) once′ twice′
     → Noting heads sets told (numbersFrom (q - 1) (n - (q - 1))) once′ twice′
-noting-turn q n f h k own w = rw (numbers-before q n h k) (noting-rule (q - 1) f own w)
+noting-turn q n f h k own w = rw (numbers-before q n h k) (noting-rule (q - 1) f own (rw (mod-eq-of-lt own) at w))
 
 pub noting-start : (heads sets told : List ℕ) (n : ℕ) → length told ≡ maxNonterminals
     → Noting heads sets told (numbersFrom n (n - n)) (replicate maxNonterminals 0) told

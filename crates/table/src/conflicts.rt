@@ -1,6 +1,6 @@
 // Conflicts: the first entry that two rules claim, read off what each rule claims, or that is reported of a nonterminal that overruns.
 ghost use mathlib.Core.Path.{_≡_};
-ghost use Prim.Native.Nat.{_≤_, _<_};
+ghost use Prim.Native.Nat.{_≤_};
 ghost use lib.ListN.{length};
 ghost use Rattle.grammar.specs.Limits.{maxNonterminals};
 ghost use Rattle.lookahead.specs.contracts.Lookaheads.{alphabet};
@@ -8,7 +8,8 @@ ghost use Rattle.columns.specs.Columns.{columnCount};
 ghost use Rattle.columns.specs.contracts.Columns.{columnElement};
 ghost use Rattle.claims.specs.contracts.Claims.{Headed};
 ghost use Rattle.table_promises.specs.Conflicts.{rowConflict, conflictFrom};
-ghost use Rattle.table.specs.contracts.Conflicts.{inSet, inSets, conflictOf, ClaimNoted, Twice};
+ghost use Rattle.table.specs.contracts.Conflicts.{inSet, inSets, conflictOf, Twice};
+use claim_steps::note;
 use columns::count;
 use columns::element;
 use families::SETS;
@@ -17,17 +18,6 @@ use grammar::reading::Sizes;
 use lookahead::Lookahead;
 use lookahead_sets::LookaheadSet;
 use table_promises::Conflict;
-
-// Joins a claim for a nonterminal: what was claimed before is claimed twice.
-fn note(once: &mut [u64; SETS], twice: &mut [u64; SETS], head: usize, claim: LookaheadSet)
-    requires { ⌜ head < maxNonterminals ⌝ }
-    ensures { λ _. ⌜ ClaimNoted (now (once .entry)) (now (twice .entry)) head (claim .bits) (now (once .exit)) (now (twice .exit)) ⌝ }
-{
-    let before = LookaheadSet { bits: once[head] };
-    let again = LookaheadSet { bits: twice[head] };
-    twice[head] = again.join(before.meet(claim)).bits;
-    once[head] = before.join(claim).bits;
-}
 
 // The elements that two rules claim, for each nonterminal, added to those already told of it.
 fn claimed_twice(

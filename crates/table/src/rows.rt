@@ -2,14 +2,13 @@
 ghost use mathlib.Core.Path.{_≡_};
 ghost use Prim.Native.Nat.{_+_, _≤_};
 ghost use lib.ListN.{length};
-ghost use Rattle.base.specs.Choice.{choose};
 ghost use Rattle.grammar.specs.contracts.Limits.{maxEntries};
 ghost use Rattle.lookahead.specs.contracts.Lookaheads.{alphabet};
-ghost use Rattle.lookahead.specs.Elements.{has};
 ghost use Rattle.base.specs.FiniteSets.{numbersBelow};
 ghost use Rattle.columns.specs.Columns.{columnCount};
 ghost use Rattle.columns.specs.contracts.Columns.{columnElement};
 ghost use Rattle.table.specs.contracts.Entries.{FilledRow, rowsOf, RowsGiven, FilledRows, noRules};
+use claim_steps::entry;
 use columns::count;
 use columns::element;
 use grammar::codes::NO_RULE;
@@ -18,13 +17,6 @@ use grammar::limits::RULES;
 use grammar::reading::Sizes;
 use lookahead::Lookahead;
 use lookahead_sets::LookaheadSet;
-
-// The rule where it claims the element, else what stood there.
-fn entry(claim: LookaheadSet, element: u32, rule: u8, old: u8) -> u8
-    ensures { λ r. ⌜ r ≡ choose (has (claim .bits) element) rule old ⌝ }
-{
-    if claim.contains(element) { rule } else { old }
-}
 
 // Writes a rule's number into the columns of a row that it claims.
 fn fill_row(

@@ -1,6 +1,6 @@
 -- The nonterminals with a rule without positives that more than the end can follow, found by heads, positives and follow sets.
 use mathlib.Core.Path.{_≡_}
-use mathlib.Core.Bool.{Bool, not, _&&_}
+use mathlib.Core.Bool.{Bool, _&&_}
 use mathlib.Core.List.{List, map}
 use Prim.Native.Nat.{ℕ}
 use lib.Dec.{eqb}
@@ -15,13 +15,10 @@ use Rattle.grammar.specs.Reading.{reading}
 use Rattle.grammar.specs.contracts.Starts.{ruleStarts}
 use Rattle.grammar.specs.Syntax.{Rule}
 use Rattle.lookahead.specs.declared.Lookahead.{Lookahead}
-use Rattle.lookahead.specs.contracts.Operations.{emptySet, end, terminal, join}
+use Rattle.lookahead.specs.contracts.Operations.{emptySet, terminal}
 use Rattle.semantics.specs.Claims.{without}
 use Rattle.families.specs.contracts.RuleLists.{byRule}
-
--- a set has more than nothing
-unfoldable pub beyondEnd : Lookahead → ℕ → Bool
-beyondEnd k s = not (eqb (join (end k) s) (end k))
+use Rattle.claim_steps.specs.contracts.Steps.{beyondEnd}
 
 -- one of the rules is A's, and has no positives
 unfoldable pub aloneIn : ℕ → List Rule → Bool

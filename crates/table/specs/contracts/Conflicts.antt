@@ -3,11 +3,10 @@ use mathlib.Core.Path.{_≡_}
 use mathlib.Core.Bool.{Bool, _||_}
 use mathlib.Core.List.{List}
 use Prim.Native.Nat.{ℕ}
-use lib.ListN.{getD, set}
+use lib.ListN.{getD}
 use Rattle.grammar.specs.declared.reading.Sizes.{Sizes}
 use Rattle.lookahead.specs.declared.Lookahead.{Lookahead}
 use Rattle.lookahead.specs.Elements.{has}
-use Rattle.lookahead.specs.contracts.Operations.{join, meet}
 use Rattle.base.specs.FiniteSets.{numbersBelow}
 use Rattle.semantics.specs.Claims.{several}
 use Rattle.table_promises.specs.declared.Conflict.{Conflict}
@@ -30,11 +29,6 @@ claimedTwice element heads sets told rules A c = several (claimant heads sets A 
 abbrev pub conflictOf : Lookahead → Sizes → List ℕ → List ℕ → List ℕ → Conflict
 conflictOf k z heads sets told =
     conflictFrom (claimedTwice (columnElement k (z .terminals)) heads sets told (z .rules)) (columnCount k (z .terminals)) 0 (z .nonterminals)
-
--- a claim is joined to the sets claimed once and twice
-pub record ClaimNoted (once twice : List ℕ) (head claim : ℕ) (once′ twice′ : List ℕ) : Type 0 where
-  pub first : once′ ≡ set once head (join (getD once head 0) claim)
-  pub again : twice′ ≡ set twice head (join (getD twice head 0) (meet (getD once head 0) claim))
 
 -- the elements that two rules claim, for each nonterminal, with those told of it
 pub record Twice (heads sets told : List ℕ) (rules : ℕ) (twice : List ℕ) : Type 0 where

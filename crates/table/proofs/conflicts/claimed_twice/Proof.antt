@@ -36,10 +36,7 @@ cast-note c =
     omega (arith, start .pre .0 .own (at-loop .loop .rule - 1) (omega arith), start .pre .0 .allowed)
 
 note-requires : tie.Need-note-requires Inv-loop μ-loop
-note-requires c κs =
-    let at-loop = c .before .before .before .before .before in
-    let start = at-loop .before in
-    omega (arith, start .pre .0 .own (at-loop .loop .rule - 1) (omega arith), start .pre .0 .allowed)
+note-requires c κs = tt
 
 loop-less : tie.Need-loop-less Inv-loop μ-loop
 loop-less c = omega arith

@@ -1,8 +1,8 @@
 -- By whether the claim has the element.
 use mathlib.Core.Path.{sym, _∙_}
 use borrow.Author.Needs.{needs}
-use Rattle.table.proofs.rows.entry.Statement.{statement}
-use Rattle.table.proofs.rows.entry.Tie as tie
+use Rattle.claim_steps.proofs.entry.Statement.{statement}
+use Rattle.claim_steps.proofs.entry.Tie as tie
 
 contains-requires : tie.Need-contains-requires
 contains-requires c κs = search needs

@@ -1,19 +1,19 @@
 -- Two stores.
 use borrow.Author.Needs.{needs}
-use Rattle.table.proofs.conflicts.note.Statement.{statement}
-use Rattle.table.proofs.conflicts.note.Tie as tie
+use Rattle.claim_steps.proofs.note.Statement.{statement}
+use Rattle.claim_steps.proofs.note.Tie as tie
 
-mul-t7 : tie.Need-mul-t7
-mul-t7 c = search needs
+mul-t8 : tie.Need-mul-t8
+mul-t8 c = search needs
 
-element-copy-out-t10 : tie.Need-element-copy-out-t10
-element-copy-out-t10 c = search needs
+element-copy-out-t11 : tie.Need-element-copy-out-t11
+element-copy-out-t11 c = search needs
 
-mul-t7-2 : tie.Need-mul-t7-2
-mul-t7-2 c = search needs
+mul-t8-2 : tie.Need-mul-t8-2
+mul-t8-2 c = search needs
 
-element-copy-out-t10-2 : tie.Need-element-copy-out-t10-2
-element-copy-out-t10-2 c = search needs
+element-copy-out-t11-2 : tie.Need-element-copy-out-t11-2
+element-copy-out-t11-2 c = search needs
 
 meet-requires : tie.Need-meet-requires
 meet-requires c κs = search needs
@@ -43,10 +43,10 @@ pub note-spec : {M : Type 1} → statement M
 note-spec =
     tie.close
     (tie.spec
-    mul-t7
-    element-copy-out-t10
-    mul-t7-2
-    element-copy-out-t10-2
+    mul-t8
+    element-copy-out-t11
+    mul-t8-2
+    element-copy-out-t11-2
     meet-requires
     join-requires
     mul-twice
