@@ -1,8 +1,8 @@
 -- A rule that claims the entry is put behind a space.
 use Rattle.gaps_text_promises.proofs.Lines.{claimant-put, nobody-put}
 use borrow.Author.Needs.{needs}
-use Rattle.gaps_text.proofs.put_claimant.Statement.{statement}
-use Rattle.gaps_text.proofs.put_claimant.Tie as tie
+use Rattle.claimants_text.proofs.put_claimant.Statement.{statement}
+use Rattle.claimants_text.proofs.put_claimant.Tie as tie
 
 slice-aggregate-put-labelled : tie.Need-slice-aggregate-put-labelled
 slice-aggregate-put-labelled c = search needs

@@ -1,8 +1,8 @@
 -- A dash where no rule claims the entry.
 use Rattle.gaps_text_promises.proofs.Lines.{dash-put, numbers-put}
 use borrow.Author.Needs.{needs}
-use Rattle.gaps_text.proofs.put_claimants.Statement.{statement}
-use Rattle.gaps_text.proofs.put_claimants.Tie as tie
+use Rattle.claimants_text.proofs.put_claimants.Statement.{statement}
+use Rattle.claimants_text.proofs.put_claimants.Tie as tie
 
 slice-aggregate-put-bytes : tie.Need-slice-aggregate-put-bytes
 slice-aggregate-put-bytes c = search needs

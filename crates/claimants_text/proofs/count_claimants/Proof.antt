@@ -4,8 +4,8 @@ use native.Mathlib.Omega.{arith}
 use Rattle.base.proofs.Quantified.{one-le}
 use Rattle.claims.specs.contracts.Claims.{claimant}
 use Rattle.gaps_text_promises.proofs.Lines.{Counting, counting-start, counting-next, counting-end}
-use Rattle.gaps_text.proofs.count_claimants.Statement.{statement}
-use Rattle.gaps_text.proofs.count_claimants.Tie as tie
+use Rattle.claimants_text.proofs.count_claimants.Statement.{statement}
+use Rattle.claimants_text.proofs.count_claimants.Tie as tie
 
 abbrev Inv-loop : tie.InvT-loop
 Inv-loop heads sets rules nonterminal element n₀ rule₀ n rule = Counting (claimant heads sets nonterminal element) rules n rule

@@ -6,8 +6,8 @@ use Rattle.claims.specs.contracts.Claims.{claimant}
 use Rattle.text.specs.Writing.{Put, upTo}
 use Rattle.text.proofs.Writing.{put-length, put-none, put-next, put-last}
 use Rattle.gaps_text_promises.specs.contracts.Steps.{claimantText, numbersText}
-use Rattle.gaps_text.proofs.put_numbers.Statement.{statement}
-use Rattle.gaps_text.proofs.put_numbers.Tie as tie
+use Rattle.claimants_text.proofs.put_numbers.Statement.{statement}
+use Rattle.claimants_text.proofs.put_numbers.Tie as tie
 
 abbrev Inv-loop : tie.InvT-loop
 Inv-loop out₀ at heads sets rules nonterminal element next₀ rule₀ out next rule =

@@ -3,8 +3,8 @@ use mathlib.Core.Path.{sym}
 use Rattle.claims.proofs.Claimants.{claimant-other}
 use Rattle.gaps_text_promises.proofs.Lines.{claimant-head}
 use borrow.Author.Needs.{needs}
-use Rattle.gaps_text.proofs.claims_element.Statement.{statement}
-use Rattle.gaps_text.proofs.claims_element.Tie as tie
+use Rattle.claimants_text.proofs.claims_element.Statement.{statement}
+use Rattle.claimants_text.proofs.claims_element.Tie as tie
 
 element-copy-out-head : tie.Need-element-copy-out-head
 element-copy-out-head c = search needs

@@ -2,8 +2,11 @@
 use Rattle.text.proofs.Writing.{put-then}
 use Rattle.gaps_text_promises.proofs.Lines.{line-put, column-line, no-line-put}
 use borrow.Author.Needs.{needs}
-use Rattle.gaps_text.proofs.put_entry.Statement.{statement}
-use Rattle.gaps_text.proofs.put_entry.Tie as tie
+use Rattle.claimants_text.proofs.put_entry.Statement.{statement}
+use Rattle.claimants_text.proofs.put_entry.Tie as tie
+
+at-most-all-requires : tie.Need-at-most-all-requires
+at-most-all-requires c κs = search needs
 
 element-requires : tie.Need-element-requires
 element-requires c κs = search needs
@@ -14,16 +17,12 @@ count-claimants-requires c κs = search needs
 returns : tie.Need-returns
 returns c =
     let at-count = c .before in
-    column-line _ _ _ _ _ _ (at-count .before .element .ensures) (no-line-put _ _ _ _ _ _ (at-count .count-claimants .ensures) (c .if1 .taken))
+    let at-element = at-count .before in
+    column-line _ _ _ _ _ (at-element .before .at-most-all .ensures) (at-element .element .ensures)
+    (no-line-put _ _ _ _ _ _ (at-count .count-claimants .ensures) (c .if1 .taken))
 
-put-number-requires : tie.Need-put-number-requires
-put-number-requires c κs = search needs
-
-slice-aggregate-put-labelled : tie.Need-slice-aggregate-put-labelled
-slice-aggregate-put-labelled c = search needs
-
-put-labelled-requires : tie.Need-put-labelled-requires
-put-labelled-requires c κs = search needs
+put-place-requires : tie.Need-put-place-requires
+put-place-requires c κs = search needs
 
 put-claimants-requires : tie.Need-put-claimants-requires
 put-claimants-requires c κs = search needs
@@ -40,25 +39,24 @@ same-length c = search needs
 returns-2 : tie.Need-returns-2
 returns-2 c =
     let end = c .before .before in
-    let third = end .before .before .before .before .before in
-    let second = third .before .before .before .before in
-    let first = second .before .before .before .before .before in
+    let second = end .before .before .before .before .before in
+    let first = second .before .before .before .before in
     let at-if = first .before .before in
     let at-count = at-if .before in
-    column-line _ _ _ _ _ _ (at-count .before .element .ensures)
+    let at-element = at-count .before in
+    column-line _ _ _ _ _ (at-element .before .at-most-all .ensures) (at-element .element .ensures)
     (line-put _ _ (at-count .count-claimants .ensures) _ _ (at-if .if1 .left)
-    (put-then (put-then (put-then (first .put-number .ensures) (second .put-labelled .ensures)) (third .put-claimants .ensures)) (end .put-bytes .ensures)))
+    (put-then (put-then (first .put-place .ensures) (second .put-claimants .ensures)) (end .put-bytes .ensures)))
 
 pub put-entry-spec : {M : Type 1} → statement M
 put-entry-spec =
     tie.close
     (tie.spec
+    at-most-all-requires
     element-requires
     count-claimants-requires
     returns
-    put-number-requires
-    slice-aggregate-put-labelled
-    put-labelled-requires
+    put-place-requires
     put-claimants-requires
     slice-aggregate-put-bytes
     put-bytes-requires
