@@ -1,7 +1,7 @@
 -- By what is found.
 use borrow.Author.Needs.{needs}
-use Rattle.checker.proofs.answer.Statement.{statement}
-use Rattle.checker.proofs.answer.Tie as tie
+use Rattle.check_answers.proofs.answer.Statement.{statement}
+use Rattle.check_answers.proofs.answer.Tie as tie
 
 enum-known-finding : tie.Need-enum-known-finding
 enum-known-finding c = search needs
