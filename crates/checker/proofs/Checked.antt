@@ -1,8 +1,12 @@
 -- What checking answers and leaves in a table that is long enough, by what is found of the grammar.
-use mathlib.Core.Path.{_≡_, refl, ap, _∙_}
+use mathlib.Core.Path.{_≡_, refl, sym, ap, _∙_}
 use mathlib.Core.List.{List}
-use Prim.Native.Nat.{ℕ, _≤_}
+use mathlib.Core.Bool.{Bool, true, false, not}
+use Prim.Native.Nat.{ℕ, _≤_, _<_}
+use native.Mathlib.Omega.{arith}
+use lib.Dec.{leb}
 use lib.ListN.{length}
+use borrow.Author.Tests.{leb-true, leb-false, not-true, not-false}
 use Rattle.answer.specs.declared.Answer.{Answer}
 use Rattle.lookahead.specs.declared.Lookahead.{Lookahead}
 use Rattle.families.specs.declared.Finding.{Finding}
@@ -11,11 +15,19 @@ use Rattle.table.specs.declared.Found.{Found}
 use Rattle.table_promises.specs.Layout.{tableRoom}
 use Rattle.table.specs.contracts.Analysis.{foundOf}
 use Rattle.table.proofs.Analyzing.{entries-told}
+use Rattle.check_answers.specs.contracts.Answers.{answerOf}
 use Rattle.lending.specs.contracts.Lending.{lentOf}
 use Rattle.lending.proofs.WordsLaid.{lent-table, lent-nothing}
-use Rattle.recognizer_promises.specs.contracts.Judging.{answerOf}
 use Rattle.recognizer_promises.specs.Properties.{Checks}
 use Rattle.recognizer_promises.proofs.Checking.{told, found-fault, check-passed, check-refused}
+
+-- the table's room, by the test
+module _ (k : Lookahead) {n : ℕ} {b : Bool} (e : b ≡ leb (tableRoom k) n) where
+  pub room-lacks : not b ≡ true → n < tableRoom k
+  room-lacks h = omega (arith, leb-false (tableRoom k) n (sym e ∙ not-true b h))
+
+  pub room-there : not b ≡ false → tableRoom k ≤ n
+  room-there h = leb-true (tableRoom k) n (sym e ∙ not-false b h)
 
 pub checks-found : (k : Lookahead) (words before : List ℕ) → tableRoom k ≤ length before → {r : Found} → r ≡ foundOf k words → {after : List ℕ}
     → after ≡ lentOf k r before → {a : Answer} → a ≡ answerOf (r .finding) → Checks k words before a after

@@ -1,32 +1,19 @@
 // Checking an encoded grammar, and filling the lent table with its sets and its entries: with one token of lookahead, and with two.
-ghost use mathlib.Core.Path.{_≡_};
 ghost use Rattle.lookahead.specs.declared.Lookahead.the-variants.{One, Two};
 ghost use Rattle.recognizer_promises.specs.Properties.{Checks};
-ghost use Rattle.recognizer_promises.specs.contracts.Judging.{answerOf};
 use answer::Answer;
 use answer::Error;
-use families::Finding;
-use grammar::limits::TABLE_WORDS;
-use grammar::limits::TABLE_WORDS_OF_TWO;
+use check_answers::answer;
+use check_answers::has_room;
 use lending::lend;
 use lending::lend_two;
 use lookahead::Lookahead;
 use table::find;
 
-// What is answered, by what is found.
-fn answer(finding: Finding) -> Answer
-    ensures { λ r. ⌜ r ≡ answerOf finding ⌝ }
-{
-    match finding {
-        Finding::Refused(error) => Answer::Refused(error),
-        Finding::Passed(_) => Answer::Passed,
-    }
-}
-
 pub fn check(words: &[u32], table: &mut [u32]) -> Answer
     ensures { λ r. ⌜ Checks One (now (words .entry)) (now (table .entry)) r (now (table .exit)) ⌝ }
 {
-    if table.len() < TABLE_WORDS {
+    if !has_room(table.len(), Lookahead::One) {
         return Answer::Refused(Error::TableTooShort);
     }
     let found = find(words, Lookahead::One);
@@ -45,7 +32,7 @@ pub fn check(words: &[u32], table: &mut [u32]) -> Answer
 pub fn check_two(words: &[u32], table: &mut [u64]) -> Answer
     ensures { λ r. ⌜ Checks Two (now (words .entry)) (now (table .entry)) r (now (table .exit)) ⌝ }
 {
-    if table.len() < TABLE_WORDS_OF_TWO {
+    if !has_room(table.len(), Lookahead::Two) {
         return Answer::Refused(Error::TableOfTwoTooShort);
     }
     let found = find(words, Lookahead::Two);

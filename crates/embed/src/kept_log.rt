@@ -1,8 +1,8 @@
 // A kept input in memory of the caller's: its events, and nine numbers that are its length and its eight marks.
 ghost use mathlib.Core.Path.{_≡_};
 ghost use Rattle.lookahead.specs.declared.Lookahead.the-variants.{One, Two};
-ghost use Rattle.kept_input.specs.Histories.{Mark, Return};
-ghost use Rattle.kept_input.specs.Stored.{keptInput};
+ghost use Rattle.kept_steps.specs.Histories.{Mark, Return};
+ghost use Rattle.kept_input.specs.Held.{keptInput};
 ghost use Rattle.embed_promises.specs.Kept.{progressIn, AddExported, MoveExported, KeptExported};
 use grammar::limits::TOKENS;
 use kept_input::KeptInput;

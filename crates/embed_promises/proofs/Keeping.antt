@@ -20,14 +20,16 @@ use Rattle.answer.proofs.Apart.{refused-ne-passed}
 use Rattle.answer.proofs.Faults.{OfFault, of-none, of-some, of-if, first-each}
 use Rattle.grammar.specs.Limits.{maxTokens}
 use Rattle.lookahead.specs.declared.Lookahead.{Lookahead}
-use Rattle.kept_input.specs.declared.Progress.{Progress}
+use Rattle.kept_marks.specs.declared.Progress.{Progress}
 use Rattle.kept_input.specs.declared.KeptInput.{KeptInput}
-use Rattle.kept_input.specs.declared.Moved.{Moved}
+use Rattle.kept_marks.specs.declared.Moved.{Moved}
 use Rattle.kept_input.specs.declared.Changed.{Changed}
-use Rattle.kept_input.specs.Histories.{markCount, Kept, Step, Add, Mark, Return, notSet, stepFault, unlessRefused}
-use Rattle.kept_input.specs.Stored.{keptInput, heldInput, valuesOf}
-use Rattle.kept_input.specs.Properties.{Steps, Moves, JudgesKept}
-use Rattle.kept_input.proofs.Lists.{elements}
+use Rattle.kept_steps.specs.Histories.{markCount, Kept, Step, Add, Mark, Return, notSet, stepFault, unlessRefused}
+use Rattle.kept_marks.specs.Stored.{valuesOf}
+use Rattle.kept_marks.specs.Properties.{Moves}
+use Rattle.kept_input.specs.Held.{keptInput, heldInput}
+use Rattle.kept_input.specs.Properties.{Steps, JudgesKept}
+use Rattle.kept_marks.proofs.Lists.{elements}
 use Rattle.embed_promises.specs.contracts.Packing.{NumbersFit, cut}
 use Rattle.embed_promises.specs.Packing.{packed}
 use Rattle.embed_promises.specs.Kept.{stateOf, progressIn, StepExported, MoveExported, KeptExported}
@@ -72,11 +74,13 @@ state-read (x ∷ l) e =
 
 -- a refused step hands back what it was given
 refused-kept : {t : Step} {k : KeptInput} {c : Changed} → Steps t k c → (e : Error) → c .answer ≡ Refused e → c .kept ≡ k
-refused-kept {t} {k} {c} s e q = go (stepFault t (heldInput k)) _ (s .leaves .answer) (s .kept)
+refused-kept {t} {k} {c} s e q = go (stepFault t (heldInput k)) _ _ (s .leaves .answer) (s .events-left) (s .progress-left)
   where
-    go : (f : Option Error) (next : KeptInput) → c .answer ≡ refusedOr f Passed → c .kept ≡ unlessRefused f next k → c .kept ≡ k
-    go none next a h = absurd (refused-ne-passed (sym q ∙ a))
-    go (some x) next a h = h
+    go : (f : Option Error) (events : List ℕ) (next : Progress) → c .answer ≡ refusedOr f Passed → c .kept .events ≡ unlessRefused f events (k .events)
+        → c .kept .progress ≡ unlessRefused f next (k .progress)
+        → c .kept ≡ k
+    go none events next a h g = absurd (refused-ne-passed (sym q ∙ a))
+    go (some x) events next a h g = let same : keptInput (c .kept .events) (c .kept .progress) ≡ keptInput (k .events) (k .progress) = cc in same
 
 -- the state is written where the step passes, by the tag of its answer
 state-stays : (a : Answer) (next state : List ℕ) → OneOf (0 ∷ 2 ∷ 3 ∷ []) (tagOf the-type a) → state ≡ stateAfter a next state

@@ -9,25 +9,26 @@ use Rattle.answer.specs.Numbers.{numbers}
 use Rattle.lookahead.specs.declared.Lookahead.{Lookahead}
 use Rattle.event.specs.Events.{inputOf}
 use Rattle.kept_input.specs.declared.KeptInput.{KeptInput}
-use Rattle.kept_input.specs.Histories.{markCount, emptyInput, Step, ran}
-use Rattle.kept_input.specs.Stored.{unsetCode, keptInput, readMark, heldInput, valuesOf, progressOf, storedInput}
-use Rattle.kept_input.proofs.Storing.{held-stored}
-use Rattle.kept_input.proofs.Soundness.{empty-sound}
+use Rattle.kept_steps.specs.Histories.{markCount, emptyInput, Step, ran}
+use Rattle.kept_marks.specs.Stored.{unsetCode, readMark, heldBy, valuesOf, progressOf}
+use Rattle.kept_input.specs.Held.{keptInput, heldInput}
+use Rattle.kept_marks.proofs.Storing.{held-stored}
+use Rattle.kept_steps.proofs.Soundness.{empty-sound}
 use Rattle.embed_promises.specs.Packing.{packed}
 use Rattle.embed_promises.specs.Exports.{JudgeExported}
 use Rattle.embed_promises.specs.Kept.{stateOf, progressIn, StepExported, KeptExported}
 use Rattle.embed_promises.specs.KeptHistories.{heldIn, emptyState, zeroState, Calls, idle, next, HistoriesExported}
 
 empty-held : (events : List ℕ) → heldIn events emptyState ≡ emptyInput
-unfolding valuesOf progressOf storedInput
+unfolding valuesOf progressOf
 empty-held events = held-stored events emptyInput empty-sound
 
 zero-held : (events : List ℕ) → heldIn events zeroState .events ≡ []
-unfolding heldInput
+unfolding heldBy
 zero-held events = refl
 
 zero-marks : (events : List ℕ) (m : ℕ) → m < markCount → heldIn events zeroState .marks m ≡ some 0
-unfolding heldInput
+unfolding heldBy
 zero-marks events m h = ap (readMark 0) (getD-replicate markCount m 0 unsetCode h)
 
 -- what a call leaves in the caller's memory is what the library's step hands back

@@ -8,10 +8,10 @@ use Rattle.answer.specs.declared.Answer.the-variants.{Refused}
 use Rattle.answer.specs.declared.Error.{Error}
 use Rattle.grammar.specs.Limits.{maxTokens}
 use Rattle.lookahead.specs.declared.Lookahead.{Lookahead}
-use Rattle.kept_input.specs.declared.Progress.{Progress}
+use Rattle.kept_marks.specs.declared.Progress.{Progress}
 use Rattle.kept_input.specs.declared.Changed.{Changed}
-use Rattle.kept_input.specs.Histories.{Step, Add}
-use Rattle.kept_input.specs.Stored.{keptInput}
+use Rattle.kept_steps.specs.Histories.{Step, Add}
+use Rattle.kept_input.specs.Held.{keptInput}
 use Rattle.kept_input.specs.Properties.{Steps, JudgesKept}
 use Rattle.embed_promises.specs.Packing.{Packs}
 use Rattle.embed_promises.specs.Exports.{Exported}

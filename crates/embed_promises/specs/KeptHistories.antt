@@ -6,8 +6,9 @@ use Prim.Native.Nat.{ℕ, suc, _<_}
 use lib.ListN.{replicate}
 use Rattle.lookahead.specs.declared.Lookahead.{Lookahead}
 use Rattle.event.specs.Events.{inputOf}
-use Rattle.kept_input.specs.Histories.{markCount, Kept, emptyInput, Step, ran}
-use Rattle.kept_input.specs.Stored.{unsetCode, keptInput, heldInput}
+use Rattle.kept_steps.specs.Histories.{markCount, Kept, emptyInput, Step, ran}
+use Rattle.kept_marks.specs.Stored.{unsetCode}
+use Rattle.kept_input.specs.Held.{keptInput, heldInput}
 use Rattle.embed_promises.specs.Exports.{JudgeExported}
 use Rattle.embed_promises.specs.Kept.{progressIn, StepExported, KeptExported}
 

@@ -1,13 +1,10 @@
 // The gaps and overlaps of a grammar's table, line by line, and the nonterminals that overrun, from what each rule claims.
 ghost use mathlib.Core.Path.{_≡_};
-ghost use Prim.Native.Nat.{_≤_, _<_};
-ghost use Rattle.base.specs.Quantifiers.{one as oneOf, countBelow};
+ghost use Prim.Native.Nat.{_≤_};
 ghost use Rattle.grammar.specs.Limits.{maxNonterminals, maxTerminals, maxRules};
-ghost use Rattle.claims.specs.contracts.Claims.{claimant};
 ghost use Rattle.text.specs.Writing.{Put, upTo};
-ghost use Rattle.gaps_text_promises.specs.contracts.Steps.{claimantText, numbersText, claimantsText, entryLine, rowText, overrunLine, overrunsText, claimantAt};
-ghost use Rattle.gaps_text_promises.specs.contracts.Steps.{overrunsBy, overrunsIn, withinLimits, GapsPutBy};
-use columns::element;
+ghost use Rattle.gaps_text_promises.specs.contracts.Steps.{rowText, overrunLine, overrunsText, claimantAt, overrunsBy, overrunsIn, withinLimits, GapsPutBy};
+use claimants_text::put_entry;
 use families::Finding;
 use families::SETS;
 use grammar::limits::COLUMNS;
@@ -15,10 +12,8 @@ use grammar::limits::NONTERMINALS;
 use grammar::limits::RULES;
 use grammar::limits::TERMINALS;
 use grammar::reading::Sizes;
-use lookahead::Lookahead;
 use lookahead_sets::LookaheadSet;
 use text::put::put_bytes;
-use text::put::put_labelled;
 use text::put::put_number;
 use text::refusal::put_refusal;
 
@@ -33,136 +28,6 @@ const OVERRUN_ROOM: usize = 3;
 pub const ROOM: usize = (NONTERMINALS as usize) * (COLUMNS * ENTRY_ROOM)
     + COLUMNS * (RULES * RULE_ROOM)
     + (NONTERMINALS as usize) * OVERRUN_ROOM;
-
-// Whether a rule claims an element for a nonterminal.
-fn claims_element(
-    heads: &[u8; RULES],
-    sets: &[u64; RULES],
-    nonterminal: u8,
-    element: u32,
-    rule: usize,
-) -> bool
-    requires { ⌜ rule < maxRules ⌝ }
-    ensures { λ r. ⌜ r ≡ claimant (now (heads .entry)) (now (sets .entry)) nonterminal element rule ⌝ }
-{
-    let head = heads[rule];
-    let claim = LookaheadSet { bits: sets[rule] };
-    if head == nonterminal {
-        claim.contains(element)
-    } else {
-        false
-    }
-}
-
-fn one(claimed: bool) -> usize
-    ensures { λ r. ⌜ r ≡ oneOf claimed ⌝ }
-{
-    if claimed { 1 } else { 0 }
-}
-
-// How many rules claim an element for a nonterminal.
-fn count_claimants(
-    heads: &[u8; RULES],
-    sets: &[u64; RULES],
-    rules: usize,
-    nonterminal: u8,
-    element: u32,
-) -> usize
-    requires { ⌜ rules ≤ maxRules ⌝ }
-    ensures { λ r. ⌜ r ≡ countBelow rules (claimant (now (heads .entry)) (now (sets .entry)) nonterminal element) ⌝ }
-{
-    let mut n = 0;
-    let mut rule = 0;
-    while rule < rules {
-        let claimed = claims_element(heads, sets, nonterminal, element, rule);
-        n = one(claimed) + n;
-        rule = rule + 1;
-    }
-    n
-}
-
-fn put_claimant(out: &mut [u8], at: usize, claimed: bool, rule: usize) -> usize
-    ensures { λ r. ⌜ Put (now (out .entry)) at (claimantText claimed rule) (now (out .exit)) r ⌝ }
-{
-    if claimed {
-        put_labelled(out, at, b" ", rule)
-    } else {
-        at
-    }
-}
-
-// The numbers of the rules that claim an element for a nonterminal, in order.
-fn put_numbers(
-    out: &mut [u8],
-    at: usize,
-    heads: &[u8; RULES],
-    sets: &[u64; RULES],
-    rules: usize,
-    nonterminal: u8,
-    element: u32,
-) -> usize
-    requires { ⌜ rules ≤ maxRules ⌝ }
-    ensures { λ r. ⌜ Put (now (out .entry)) at
-        (numbersText rules (claimant (now (heads .entry)) (now (sets .entry)) nonterminal element)) (now (out .exit)) r ⌝ }
-{
-    let mut next = at;
-    let mut rule = 0;
-    while rule < rules {
-        let claimed = claims_element(heads, sets, nonterminal, element, rule);
-        next = put_claimant(out, next, claimed, rule);
-        rule = rule + 1;
-    }
-    next
-}
-
-// The same, or a dash where their number is 0.
-fn put_claimants(
-    out: &mut [u8],
-    at: usize,
-    heads: &[u8; RULES],
-    sets: &[u64; RULES],
-    rules: usize,
-    nonterminal: u8,
-    element: u32,
-    number: usize,
-) -> usize
-    requires { ⌜ (rules ≤ maxRules) × (number ≡ countBelow rules (claimant (now heads) (now sets) nonterminal element)) ⌝ }
-    ensures { λ r. ⌜ Put (now (out .entry)) at
-        (claimantsText rules (claimant (now (heads .entry)) (now (sets .entry)) nonterminal element)) (now (out .exit)) r ⌝ }
-{
-    if number == 0 {
-        put_bytes(out, at, b" -")
-    } else {
-        put_numbers(out, at, heads, sets, rules, nonterminal, element)
-    }
-}
-
-// The line of an entry, unless just one rule claims it.
-fn put_entry(
-    out: &mut [u8],
-    at: usize,
-    heads: &[u8; RULES],
-    sets: &[u64; RULES],
-    sizes: Sizes,
-    nonterminal: u8,
-    column: u32,
-) -> usize
-    requires { ⌜ sizes .rules ≤ maxRules ⌝ }
-    ensures { λ r. ⌜ Put (now (out .entry)) at
-        (entryLine (sizes .rules) (claimantAt (now (heads .entry)) (now (sets .entry)) (sizes .terminals) nonterminal column) nonterminal column)
-        (now (out .exit)) r ⌝ }
-{
-    let rules = sizes.rules;
-    let element = element(Lookahead::One, sizes.terminals, column);
-    let number = count_claimants(heads, sets, rules, nonterminal, element);
-    if number == 1 {
-        return at;
-    }
-    let at = put_number(out, at, nonterminal as usize);
-    let at = put_labelled(out, at, b" ", column as usize);
-    let at = put_claimants(out, at, heads, sets, rules, nonterminal, element, number);
-    put_bytes(out, at, b"\n")
-}
 
 fn put_row(
     out: &mut [u8],

@@ -2,13 +2,15 @@
 use mathlib.Core.Path.{_≡_, refl, sym, ap, _∙_}
 use mathlib.Core.Bool.{Bool, true, false}
 use mathlib.Core.List.{List, _++_}
-use Prim.Native.Nat.{ℕ, _+_, _≤_, _<_}
+use Prim.Native.Nat.{ℕ, _+_, _≤_, _<_, min}
 use native.Mathlib.Numerals.{add-one}
 use native.Mathlib.Omega.{arith}
 use lib.ListN.{getD}
 use borrow.Author.Tests.{eq-eqb, ne-eqb}
 use Rattle.base.specs.Quantifiers.{one, countBelow}
 use Rattle.base.proofs.Quantified.{one-le}
+use Rattle.grammar.specs.declared.reading.Sizes.{Sizes}
+use Rattle.grammar.specs.Limits.{maxRules}
 use Rattle.lookahead.specs.Elements.{has}
 use Rattle.lookahead.specs.declared.Lookahead.the-variants.{One}
 use Rattle.lookahead.specs.contracts.Operations.{isEmpty}
@@ -20,7 +22,7 @@ use Rattle.text.specs.Decimal.{decimal, labelled}
 use Rattle.text.specs.Writing.{Put}
 use Rattle.text.proofs.Writing.{put-none}
 use Rattle.gaps_text_promises.specs.Gaps.{overrunText}
-use Rattle.gaps_text_promises.specs.contracts.Steps.{claimantText, numbersText, claimantsText, entryLine, overrunLine, claimantAt, overrunsBy}
+use Rattle.gaps_text_promises.specs.contracts.Steps.{claimantText, numbersText, claimantsText, entryLine, overrunLine, claimantAt, overrunsBy, EntryPut}
 
 -- a rule of the nonterminal claims what its claim has
 pub claimant-head : (heads sets : List ℕ) (A l q : ℕ) {b : Bool} → getD heads q 0 ≡ A → b ≡ has (getD sets q 0) l → b ≡ claimant heads sets A l q
@@ -69,10 +71,15 @@ module _ {l m : List ℕ} {at next : ℕ} where
     line-put A c z k = rw (ne-eqb (countBelow rules p) 1 (λ d. z (e ∙ d))) k
 
   -- the line by a column's element is the line by the column
-  pub column-line : (heads sets : List ℕ) (rules t A c : ℕ) {x : ℕ} → x ≡ columnElement One t c
+  pub column-line : (heads sets : List ℕ) (z : Sizes) (A c : ℕ) {x rules : ℕ} → rules ≡ min (z .rules) maxRules → x ≡ columnElement One (z .terminals) c
       → Put l at (entryLine rules (claimant heads sets A x) A c) m next
-      → Put l at (entryLine rules (claimantAt heads sets t A c) A c) m next
-  column-line heads sets rules t A c e k = rw e at k
+      → EntryPut heads sets z A c l at m next
+  column-line heads sets z A c r e k = record { put = rw (r, e) at k }
+
+  -- by all of the rules where they are no more than there may be
+  pub line-of-all : {heads sets : List ℕ} {z : Sizes} {A c : ℕ} → z .rules ≤ maxRules → EntryPut heads sets z A c l at m next
+      → Put l at (entryLine (z .rules) (claimantAt heads sets (z .terminals) A c) A c) m next
+  line-of-all {z = z} h k = let all : min (z .rules) maxRules ≡ z .rules = omega (arith, h) in rw all at (k .put)
 
   pub overrun-put : (set A : ℕ) {b : Bool} → b ≡ isEmpty set → b ≡ false → Put l at (decimal A ++ ascii "\n") m next
       → Put l at (overrunLine (overrunsBy set) A) m next

@@ -7,11 +7,11 @@ use Rattle.event.specs.Events.{inputOf}
 use Rattle.lookahead.specs.declared.Lookahead.{Lookahead}
 use Rattle.recognizer_promises.specs.Properties.{Judges}
 use Rattle.kept_input.specs.declared.KeptInput.{KeptInput}
-use Rattle.kept_input.specs.Histories.{emptyInput, Step, ran}
-use Rattle.kept_input.specs.Stored.{heldInput}
+use Rattle.kept_steps.specs.Histories.{emptyInput, Step, ran}
+use Rattle.kept_input.specs.Held.{heldInput}
 use Rattle.kept_input.specs.Properties.{JudgesKept}
 use Rattle.kept_input.specs.Runs.{KeptRun, idle, next, HistoriesKept}
-use Rattle.kept_input.proofs.Soundness.{empty-sound, ran-sound}
+use Rattle.kept_steps.proofs.Soundness.{empty-sound, ran-sound}
 
 run-holds : {first last : KeptInput} {l : List Step} → KeptRun first l last → heldInput last ≡ ran l (heldInput first)
 unfolding ran

@@ -13,8 +13,9 @@ use Rattle.lookahead.specs.declared.Lookahead.{Lookahead}
 use Rattle.recognizer_promises.specs.Properties.{Judges}
 use Rattle.recognizer_promises.proofs.Directions.{judge-ignores}
 use Rattle.kept_input.specs.declared.KeptInput.{KeptInput}
-use Rattle.kept_input.specs.Histories.{Kept, emptyInput, ran}
-use Rattle.kept_input.specs.Stored.{readLength, heldInput}
+use Rattle.kept_steps.specs.Histories.{Kept, emptyInput, ran}
+use Rattle.kept_marks.specs.Stored.{readLength, heldBy}
+use Rattle.kept_input.specs.Held.{heldInput}
 use Rattle.kept_input.specs.Properties.{JudgesKept}
 
 -- the answer and both memories
@@ -31,7 +32,7 @@ module _ (kept : KeptInput) (whole : length (kept .events) ≡ maxTokens) (n : �
   pub judges-kept : {k : Lookahead} {words table memo table′ memo′ : List ℕ} {r : Answer}
       → Judges k words (inputOf (take n (kept .events))) table memo r table′ memo′
       → JudgesKept k words kept table memo r table′ memo′
-  unfolding heldInput
+  unfolding heldBy
   judges-kept {k} {words} {table} {memo} {table′} {memo′} {r} j =
       let judged : Judges k words (inputOf (heldInput kept .events)) table memo r table′ memo′ = rw (← e) j in
       let held-length : n ≡ length (heldInput kept .events) = rw (← e) input-taken in

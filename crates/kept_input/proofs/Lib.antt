@@ -1,8 +1,3 @@
-pub mod Lists
-pub mod Storing
-pub mod Soundness
-pub mod Stepping
+pub mod Adding
 pub mod Judging
-pub mod Sentences
 pub mod Histories
-pub mod Worked

@@ -1,6 +1,4 @@
-pub mod Histories
-pub mod Stored
+pub mod Held
 pub mod Properties
 pub mod Runs
 pub mod contracts
-pub mod examples

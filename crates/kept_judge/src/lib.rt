@@ -1,12 +1,12 @@
 // Judging an input that is kept between calls, with one token of lookahead and with two.
 ghost use mathlib.Core.Path.{_≡_};
 ghost use Rattle.lookahead.specs.declared.Lookahead.the-variants.{One, Two};
-ghost use Rattle.kept_input.specs.Stored.{readLength};
+ghost use Rattle.kept_marks.specs.Stored.{readLength};
 ghost use Rattle.kept_input.specs.Properties.{JudgesKept};
 use answer::Answer;
 use kept_input::KeptInput;
-use kept_input::Progress;
-use kept_input::bounded;
+use kept_marks::Progress;
+use kept_marks::bounded;
 use recognizer::judge;
 use recognizer::judge_two;
 

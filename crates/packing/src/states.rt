@@ -5,9 +5,9 @@ ghost use Rattle.embed_promises.specs.contracts.Kept.{StateRead, WrittenBack};
 use super::PASSED;
 use super::pack;
 use answer::Answer;
-use kept_input::MARKS;
-use kept_input::Moved;
-use kept_input::Progress;
+use kept_marks::MARKS;
+use kept_marks::Moved;
+use kept_marks::Progress;
 
 pub const STATE: usize = MARKS + 1;
 

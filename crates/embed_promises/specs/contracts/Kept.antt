@@ -5,8 +5,8 @@ use Prim.Native.Nat.{ℕ}
 use Rattle.answer.specs.declared.Answer.{Answer}
 use Rattle.answer.specs.declared.Answer.the-variants.{Refused, Passed, Rejected, Accepted}
 use Rattle.answer.specs.Numbers.{numbers}
-use Rattle.kept_input.specs.declared.Progress.{Progress}
-use Rattle.kept_input.specs.declared.Moved.{Moved}
+use Rattle.kept_marks.specs.declared.Progress.{Progress}
+use Rattle.kept_marks.specs.declared.Moved.{Moved}
 use Rattle.embed_promises.specs.Packing.{packed}
 use Rattle.embed_promises.specs.contracts.Packing.{cut}
 use Rattle.embed_promises.specs.Kept.{stateOf, progressIn}

@@ -3,6 +3,7 @@ use mathlib.Core.Path.{refl}
 use Prim.Native.Nat.{_≤_, _-_}
 use native.Mathlib.Omega.{arith}
 use Rattle.gaps_text_promises.specs.contracts.Steps.{claimantAt, entryLine, rowText}
+use Rattle.gaps_text_promises.proofs.Lines.{line-of-all}
 use Rattle.text.specs.Writing.{Put, upTo}
 use Rattle.text.proofs.Writing.{put-length, put-none, put-next, put-last}
 use Rattle.gaps_text.proofs.put_row.Statement.{statement}
@@ -24,9 +25,7 @@ unfolding upTo
 loop-holds c = (omega arith, put-none _ _)
 
 put-entry-requires : tie.Need-put-entry-requires Inv-loop μ-loop
-put-entry-requires c κs =
-    let start = c .before .before .before .before .before in
-    start .pre .0
+put-entry-requires c κs = tt
 
 add-column : tie.Need-add-column Inv-loop μ-loop
 add-column c = omega arith
@@ -38,7 +37,8 @@ loop-again : tie.Need-loop-again Inv-loop μ-loop
 loop-again c =
     let at-put = c .before .before in
     let at-loop = at-put .before .before .before in
-    (omega arith, put-next _ _ refl (at-loop .loop .inv .1) (at-put .put-entry .ensures))
+    let start = at-loop .before .before .before in
+    (omega arith, put-next _ _ refl (at-loop .loop .inv .1) (line-of-all (start .pre .0) (at-put .put-entry .ensures)))
 
 same-length : tie.Need-same-length Inv-loop μ-loop
 same-length c = put-length (c .before .loop .inv .1)

@@ -1,7 +1,7 @@
 -- The lines as the code puts them: row by row, by a test for the rules that claim an entry and one for the nonterminals that overrun.
 use mathlib.Core.Bool.{Bool, not, _&&_}
 use mathlib.Core.List.{List, [], _++_}
-use Prim.Native.Nat.{ℕ, _+_}
+use Prim.Native.Nat.{ℕ, _+_, min}
 use lib.Dec.{eqb, leb}
 use lib.ListN.{getD}
 use Rattle.base.specs.Choice.{choose}
@@ -56,6 +56,10 @@ claimsAt G A c = claimsBy G (A, columnString One (G .terminals) c)
 
 abbrev pub claimantAt : (heads sets : List ℕ) (terminals : ℕ) → ℕ → ℕ → ℕ → Bool
 claimantAt heads sets terminals A c = claimant heads sets A (columnElement One terminals c)
+
+-- the line of an entry is put, by as many of the rules as there may be
+pub record EntryPut (heads sets : List ℕ) (z : Sizes) (A c : ℕ) (before : List ℕ) (at : ℕ) (after : List ℕ) (n : ℕ) : Type 0 where
+  pub put : Put before at (entryLine (min (z .rules) maxRules) (claimantAt heads sets (z .terminals) A c) A c) after n
 
 -- by the set that is reported of a nonterminal: it overruns
 abbrev pub overrunsBy : ℕ → Bool

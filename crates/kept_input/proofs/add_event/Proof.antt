@@ -1,5 +1,5 @@
 -- A full input, or one event more.
-use Rattle.kept_input.proofs.Stepping.{add-full, add-done}
+use Rattle.kept_input.proofs.Adding.{add-full, add-done}
 use borrow.Author.Needs.{needs}
 use Rattle.kept_input.proofs.add_event.Statement.{statement}
 use Rattle.kept_input.proofs.add_event.Tie as tie
@@ -12,7 +12,7 @@ returns c =
     let at-read = c .before in
     let start = at-read .before .before in
     let reads = at-read .read .ensures in
-    add-full (start .args .events .now) (start .args .progress) (reads .whole) (reads .eight) (reads .progress) (start .args .event) (c .if1 .taken)
+    add-full (start .args .events .now) (start .args .progress) (reads .whole) (reads .eight) (reads .reads) (start .args .event) (c .if1 .taken)
 
 cast-events : tie.Need-cast-events
 cast-events c = search needs
@@ -29,7 +29,7 @@ returns-2 c =
     let at-read = at-test .before in
     let start = at-read .before .before in
     let reads = at-read .read .ensures in
-    add-done (start .args .events .now) (start .args .progress) (reads .whole) (reads .eight) (reads .progress) (start .args .event) (at-test .if1 .left)
+    add-done (start .args .events .now) (start .args .progress) (reads .whole) (reads .eight) (reads .reads) (start .args .event) (at-test .if1 .left)
 
 pub add-event-spec : {M : Type 1} → statement M
 add-event-spec =

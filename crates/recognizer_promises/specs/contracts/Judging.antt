@@ -21,8 +21,7 @@ use Rattle.admission.specs.Admission.{admission}
 use Rattle.semantics.specs.Valuations.{pairs}
 use Rattle.semantics.specs.LeftRecursion.{NoLeftRecursion}
 use Rattle.base.specs.Strings.{Over}
-use Rattle.families.specs.declared.Finding.{Finding}
-use Rattle.families.specs.declared.Finding.the-variants.{Passed, Refused}
+use Rattle.families.specs.declared.Finding.the-variants.{Refused}
 use Rattle.table.specs.contracts.Entries.{entriesOf, noRules}
 use Rattle.table.specs.declared.Found.{Found}
 use Rattle.table_promises.specs.Analysis.{grammarFaults, fault}
@@ -31,11 +30,6 @@ use Rattle.recognizer_promises.specs.declared.Judgement.{Judgement}
 use Rattle.promises.specs.Memory.{lentBack}
 use Rattle.recognizer_promises.specs.Memory.{memoWords}
 use Rattle.recognizer_promises.specs.Answers.{inputFaults, verdictOf}
-
--- what checking answers, by what is found of a grammar
-abbrev pub answerOf : Finding → Answer
-answerOf (Passed z) = answer.Passed
-answerOf (Refused e) = answer.Refused e
 
 -- why it is refused: as judging is, but for the table's length
 unfoldable pub memoFault : Lookahead → ℕ → List ℕ → List ℕ → Option Error

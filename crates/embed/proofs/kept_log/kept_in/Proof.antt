@@ -1,7 +1,7 @@
 -- The state as it is read, beside the events.
 use mathlib.Core.Path.{ap}
-use Rattle.kept_input.specs.declared.Progress.{Progress}
-use Rattle.kept_input.specs.Stored.{keptInput}
+use Rattle.kept_marks.specs.declared.Progress.{Progress}
+use Rattle.kept_input.specs.Held.{keptInput}
 use borrow.Author.Needs.{needs}
 use Rattle.embed.proofs.kept_log.kept_in.Statement.{statement}
 use Rattle.embed.proofs.kept_log.kept_in.Tie as tie

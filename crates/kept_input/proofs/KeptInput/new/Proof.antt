@@ -1,5 +1,5 @@
 -- By computation, but for the events, which are as many as there may be.
-use Rattle.kept_input.proofs.Stepping.{begins, begin-stored}
+use Rattle.kept_input.proofs.Adding.{begins, begin-stored}
 use borrow.Author.Needs.{needs}
 use Rattle.kept_input.proofs.KeptInput.new.Statement.{statement}
 use Rattle.kept_input.proofs.KeptInput.new.Tie as tie

@@ -3,7 +3,7 @@ use mathlib.Core.Path.{_≡_, ap}
 use mathlib.Core.List.{List, _∷_}
 use Prim.Native.Nat.{ℕ}
 use lib.ListN.{length}
-use Rattle.kept_input.specs.Histories.{markCount}
+use Rattle.kept_steps.specs.Histories.{markCount}
 use Rattle.embed_promises.proofs.Keeping.{eight-listed}
 use borrow.Author.Needs.{needs}
 use Rattle.packing.proofs.states.state_of.Statement.{statement}

@@ -1,0 +1,4 @@
+pub mod Stored
+pub mod Properties
+pub mod contracts
+pub mod examples

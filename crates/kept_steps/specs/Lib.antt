@@ -1,0 +1,3 @@
+pub mod Histories
+pub mod Sound
+pub mod Sentences
