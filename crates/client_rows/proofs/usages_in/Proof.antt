@@ -1,7 +1,7 @@
 -- Each client's four numbers as its record.
 use borrow.Author.Needs.{needs}
-use Rattle.packing.proofs.records.usages_in.Statement.{statement}
-use Rattle.packing.proofs.records.usages_in.Tie as tie
+use Rattle.client_rows.proofs.usages_in.Statement.{statement}
+use Rattle.client_rows.proofs.usages_in.Tie as tie
 
 usage-at-requires : tie.Need-usage-at-requires
 usage-at-requires c κs = search needs

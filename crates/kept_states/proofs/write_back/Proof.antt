@@ -1,8 +1,8 @@
 -- The state is written where the step passes; else the answer is packed and nothing is written.
 use borrow.Author.Needs.{needs}
 use Rattle.embed_promises.proofs.Keeping.{not-written, written-back}
-use Rattle.packing.proofs.states.write_back.Statement.{statement}
-use Rattle.packing.proofs.states.write_back.Tie as tie
+use Rattle.kept_states.proofs.write_back.Statement.{statement}
+use Rattle.kept_states.proofs.write_back.Tie as tie
 
 enum-told : tie.Need-enum-told
 enum-told c = search needs

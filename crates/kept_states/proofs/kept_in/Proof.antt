@@ -3,8 +3,8 @@ use mathlib.Core.Path.{ap}
 use Rattle.kept_input.specs.declared.Progress.{Progress}
 use Rattle.kept_input.specs.Stored.{keptInput}
 use borrow.Author.Needs.{needs}
-use Rattle.embed.proofs.kept_log.kept_in.Statement.{statement}
-use Rattle.embed.proofs.kept_log.kept_in.Tie as tie
+use Rattle.kept_states.proofs.kept_in.Statement.{statement}
+use Rattle.kept_states.proofs.kept_in.Tie as tie
 
 progress-in-requires : tie.Need-progress-in-requires
 progress-in-requires c κs = search needs

@@ -2,9 +2,14 @@
 ghost use mathlib.Core.Path.{_≡_};
 ghost use Prim.Native.Nat.{_<_};
 ghost use Rattle.client_records.specs.Usages.{clients};
+ghost use Rattle.embed_promises.specs.Exports.{TotalsExported};
 ghost use Rattle.embed_promises.specs.Records.{usageAt, usagesIn, totalsRow};
+ghost use Rattle.embed_promises.specs.contracts.Records.{HandedBack};
 use client_records::CLIENTS;
+use client_records::Served;
 use client_records::totals::Totals;
+use client_records::totals::total;
+use packing::pack;
 use usage::Usage;
 
 const COUNTERS: usize = 4;
@@ -40,7 +45,7 @@ pub fn usages_in(row: [u32; ROW]) -> [Usage; CLIENTS]
     ]
 }
 
-pub fn row_of(usages: [Usage; CLIENTS]) -> [u32; ROW]
+fn row_of(usages: [Usage; CLIENTS]) -> [u32; ROW]
     ensures { λ r. ⌜ usagesIn r ≡ usages ⌝ }
 {
     let mut row = [0; ROW];
@@ -57,7 +62,7 @@ pub fn row_of(usages: [Usage; CLIENTS]) -> [u32; ROW]
     row
 }
 
-pub fn totals_row(totals: Totals) -> [u64; COUNTERS]
+fn totals_row(totals: Totals) -> [u64; COUNTERS]
     ensures { λ r. ⌜ r ≡ totalsRow totals ⌝ }
 {
     [
@@ -66,4 +71,24 @@ pub fn totals_row(totals: Totals) -> [u64; COUNTERS]
         totals.acceptances,
         totals.called,
     ]
+}
+
+// The sums of the records in a row.
+pub fn totals_in(row: [u32; ROW]) -> [u64; COUNTERS]
+    ensures { λ r. ⌜ TotalsExported row r ⌝ }
+{
+    let usages = usages_in(row);
+    let all = total(usages);
+    totals_row(all)
+}
+
+// Writes the records that are handed back into a row, and gives the answer packed.
+pub fn hand_back(served: Served, row: &mut [u32; ROW]) -> u64
+    ensures { λ r. ⌜ HandedBack served r (now (row .exit)) ⌝ }
+{
+    let answer = served.answer;
+    let usages = served.usages;
+    let new = row_of(usages);
+    *row = new;
+    pack(answer)
 }

@@ -7,8 +7,8 @@ use lib.ListN.{length}
 use Rattle.client_records.specs.Usages.{clients}
 use Rattle.embed_promises.specs.contracts.Records.{RecordsWritten}
 use Rattle.embed_promises.proofs.RecordRows.{nothing-written, one-written, all-written}
-use Rattle.packing.proofs.records.row_of.Statement.{statement}
-use Rattle.packing.proofs.records.row_of.Tie as tie
+use Rattle.client_rows.proofs.row_of.Statement.{statement}
+use Rattle.client_rows.proofs.row_of.Tie as tie
 
 abbrev Inv-loop : tie.InvT-loop
 Inv-loop usages row₀ client₀ row client = RecordsWritten usages client row

@@ -2,8 +2,8 @@
 use mathlib.Core.Path.{refl}
 use Rattle.embed_promises.proofs.Keeping.{step-exported}
 use borrow.Author.Needs.{needs}
-use Rattle.embed.proofs.kept_log.vinegarspit_log_add.Statement.{statement}
-use Rattle.embed.proofs.kept_log.vinegarspit_log_add.Tie as tie
+use Rattle.kept_states.proofs.add_event_in.Statement.{statement}
+use Rattle.kept_states.proofs.add_event_in.Tie as tie
 
 progress-in-requires : tie.Need-progress-in-requires
 progress-in-requires c κs = search needs
@@ -20,6 +20,6 @@ returns c =
     let back = c .write-back .ensures in
     step-exported (at-add .before .before .progress-in .ensures) (at-add .add-event .ensures) (back .packs) refl (back .left)
 
-pub vinegarspit-log-add-spec : {M : Type 1} → statement M
-vinegarspit-log-add-spec =
+pub add-event-in-spec : {M : Type 1} → statement M
+add-event-in-spec =
     tie.close (tie.spec progress-in-requires add-event-requires write-back-requires returns)

@@ -1,8 +1,8 @@
 -- The answer is packed, and the state is written back.
 use Rattle.embed_promises.proofs.Keeping.{move-exported}
 use borrow.Author.Needs.{needs}
-use Rattle.embed.proofs.kept_log.vinegarspit_log_mark.Statement.{statement}
-use Rattle.embed.proofs.kept_log.vinegarspit_log_mark.Tie as tie
+use Rattle.kept_states.proofs.mark_in.Statement.{statement}
+use Rattle.kept_states.proofs.mark_in.Tie as tie
 
 progress-in-requires : tie.Need-progress-in-requires
 progress-in-requires c κs = search needs
@@ -19,6 +19,6 @@ returns c =
     let back = c .write-back .ensures in
     move-exported (at-step .before .progress-in .ensures) (at-step .mark .ensures) (back .packs) (back .left)
 
-pub vinegarspit-log-mark-spec : {M : Type 1} → statement M
-vinegarspit-log-mark-spec =
+pub mark-in-spec : {M : Type 1} → statement M
+mark-in-spec =
     tie.close (tie.spec progress-in-requires mark-requires write-back-requires returns)

@@ -3,8 +3,8 @@ use mathlib.Core.Path.{_≡_}
 use lib.ListN.{length}
 use Rattle.embed_promises.proofs.Keeping.{state-read}
 use borrow.Author.Needs.{needs}
-use Rattle.packing.proofs.states.progress_in.Statement.{statement}
-use Rattle.packing.proofs.states.progress_in.Tie as tie
+use Rattle.kept_states.proofs.progress_in.Statement.{statement}
+use Rattle.kept_states.proofs.progress_in.Tie as tie
 
 array-read-t5 : tie.Need-array-read-t5
 array-read-t5 c = search needs

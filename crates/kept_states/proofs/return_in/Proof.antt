@@ -1,8 +1,8 @@
 -- The answer is packed, and the state is written back.
 use Rattle.embed_promises.proofs.Keeping.{move-exported}
 use borrow.Author.Needs.{needs}
-use Rattle.embed.proofs.kept_log.vinegarspit_log_return.Statement.{statement}
-use Rattle.embed.proofs.kept_log.vinegarspit_log_return.Tie as tie
+use Rattle.kept_states.proofs.return_in.Statement.{statement}
+use Rattle.kept_states.proofs.return_in.Tie as tie
 
 progress-in-requires : tie.Need-progress-in-requires
 progress-in-requires c κs = search needs
@@ -19,6 +19,6 @@ returns c =
     let back = c .write-back .ensures in
     move-exported (at-step .before .progress-in .ensures) (at-step .return-to .ensures) (back .packs) (back .left)
 
-pub vinegarspit-log-return-spec : {M : Type 1} → statement M
-vinegarspit-log-return-spec =
+pub return-in-spec : {M : Type 1} → statement M
+return-in-spec =
     tie.close (tie.spec progress-in-requires return-to-requires write-back-requires returns)

@@ -6,8 +6,8 @@ use lib.ListN.{length}
 use Rattle.kept_input.specs.Histories.{markCount}
 use Rattle.embed_promises.proofs.Keeping.{eight-listed}
 use borrow.Author.Needs.{needs}
-use Rattle.packing.proofs.states.state_of.Statement.{statement}
-use Rattle.packing.proofs.states.state_of.Tie as tie
+use Rattle.kept_states.proofs.state_of.Statement.{statement}
+use Rattle.kept_states.proofs.state_of.Tie as tie
 
 array-read-t5 : tie.Need-array-read-t5
 array-read-t5 c = search needs
