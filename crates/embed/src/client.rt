@@ -1,13 +1,11 @@
 // Judging for a client, with the records of all clients in a row of the caller's: four counters for each client, one client after the other.
 ghost use Rattle.event.specs.Events.{inputOf};
 ghost use Rattle.embed_promises.specs.Exports.{ServedExported, TotalsExported};
-use client_records::totals::total;
+use client_rows::ROW;
+use client_rows::hand_back;
+use client_rows::totals_in;
+use client_rows::usages_in;
 use clients::judge_for;
-use packing::pack;
-use packing::records::ROW;
-use packing::records::row_of;
-use packing::records::totals_row;
-use packing::records::usages_in;
 
 #[no_mangle]
 pub extern "C" fn vinegarspit_judge_for(
@@ -26,11 +24,7 @@ pub extern "C" fn vinegarspit_judge_for(
     let old = *usage;
     let before = usages_in(old);
     let served = judge_for(client, share, limit, card, log, table, memo, before);
-    let answer = served.answer;
-    let after = served.usages;
-    let new = row_of(after);
-    *usage = new;
-    pack(answer)
+    hand_back(served, usage)
 }
 
 #[no_mangle]
@@ -38,8 +32,6 @@ pub extern "C" fn vinegarspit_usage_totals(usage: &[u32; ROW], totals: &mut [u64
     ensures { λ _. ⌜ TotalsExported (now (usage .entry)) (now (totals .exit)) ⌝ }
 {
     let row = *usage;
-    let usages = usages_in(row);
-    let all = total(usages);
-    let new = totals_row(all);
+    let new = totals_in(row);
     *totals = new;
 }

@@ -1,18 +1,16 @@
 // A kept input in memory of the caller's: its events, and nine numbers that are its length and its eight marks.
-ghost use mathlib.Core.Path.{_≡_};
 ghost use Rattle.lookahead.specs.declared.Lookahead.the-variants.{One, Two};
 ghost use Rattle.kept_steps.specs.Histories.{Mark, Return};
-ghost use Rattle.kept_input.specs.Held.{keptInput};
-ghost use Rattle.embed_promises.specs.Kept.{progressIn, AddExported, MoveExported, KeptExported};
+ghost use Rattle.embed_promises.specs.Kept.{AddExported, MoveExported, KeptExported};
 use grammar::limits::TOKENS;
-use kept_input::KeptInput;
-use kept_input::add_event;
 use kept_judge::judge_kept;
 use kept_judge::judge_kept_two;
+use kept_states::STATE;
+use kept_states::add_event_in;
+use kept_states::kept_in;
+use kept_states::mark_in;
+use kept_states::return_in;
 use packing::pack;
-use packing::states::STATE;
-use packing::states::progress_in;
-use packing::states::write_back;
 
 #[no_mangle]
 pub extern "C" fn vinegarspit_log_add(
@@ -22,43 +20,21 @@ pub extern "C" fn vinegarspit_log_add(
 ) -> u64
     ensures { λ r. ⌜ AddExported event (now (events .entry)) (now (state .entry)) r (now (events .exit)) (now (state .exit)) ⌝ }
 {
-    let old = *state;
-    let progress = progress_in(old);
-    let moved = add_event(events, progress, event);
-    write_back(moved, state)
+    add_event_in(events, state, event)
 }
 
 #[no_mangle]
 pub extern "C" fn vinegarspit_log_mark(state: &mut [u16; STATE], mark: u32) -> u64
     ensures { λ r. ⌜ MoveExported (Mark mark) (now (state .entry)) r (now (state .exit)) ⌝ }
 {
-    let old = *state;
-    let progress = progress_in(old);
-    let moved = progress.mark(mark);
-    write_back(moved, state)
+    mark_in(state, mark)
 }
 
 #[no_mangle]
 pub extern "C" fn vinegarspit_log_return(state: &mut [u16; STATE], mark: u32) -> u64
     ensures { λ r. ⌜ MoveExported (Return mark) (now (state .entry)) r (now (state .exit)) ⌝ }
 {
-    let old = *state;
-    let progress = progress_in(old);
-    let moved = progress.return_to(mark);
-    write_back(moved, state)
-}
-
-// What stands in the caller's memory.
-fn kept_in(events: &[u8; TOKENS], state: &[u16; STATE]) -> KeptInput
-    ensures { λ r. ⌜ r ≡ keptInput (now (events .entry)) (progressIn (now (state .entry))) ⌝ }
-{
-    let stored = *state;
-    let progress = progress_in(stored);
-    let stored_events = *events;
-    KeptInput {
-        events: stored_events,
-        progress,
-    }
+    return_in(state, mark)
 }
 
 #[no_mangle]

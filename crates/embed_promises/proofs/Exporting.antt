@@ -17,6 +17,7 @@ use Rattle.tree_writer_promises.specs.Properties.{Shows}
 use Rattle.tabular_promises.specs.Properties.{TabularJudges}
 use Rattle.embed_promises.specs.Packing.{packed}
 use Rattle.embed_promises.specs.contracts.Packing.{cut}
+use Rattle.embed_promises.specs.contracts.Records.{HandedBack}
 use Rattle.embed_promises.specs.Records.{usagesIn, totalsRow}
 use Rattle.embed_promises.specs.Exports.{CheckExported, JudgeExported, CostliestExported, ServedExported, TotalsExported, TreeExported, TabularExported}
 use Rattle.embed_promises.proofs.Packed.{packs}
@@ -38,12 +39,11 @@ costliest-exported {a = a} j e = record { result = a; promise = j; packs = packs
 pub served-exported : {client share limit : ℕ} {words input table memo table′ memo′ row row′ : List ℕ} {us : List Usage} {x : Served} {r : ℕ}
     → us ≡ usagesIn row
     → JudgesFor client share limit words input table memo us x table′ memo′
-    → usagesIn row′ ≡ x .usages
-    → r ≡ packed (cut (numbers (x .answer)))
+    → HandedBack x r row′
     → ServedExported client share limit words input table memo row r table′ memo′ row′
-served-exported {x = x} h j w e = record {
-  exported = record { result = x; promise = rw h at j; packs = packs (served-fits j) e };
-  written = w;
+served-exported {x = x} h j b = record {
+  exported = record { result = x; promise = rw h at j; packs = packs (served-fits j) (b .packs) };
+  written = b .written;
 }
 
 pub totals-exported : {row totals′ : List ℕ} {us : List Usage} {t : Totals} → us ≡ usagesIn row → Totalled us t → totals′ ≡ totalsRow t

@@ -168,6 +168,6 @@ tree-fits {words} {input} {table} {memo} {tree} {x = x} s = go (decLt (length tr
   where
     go : Dec (length tree < maxMemoEntries) → NumbersFit (numbers (x .answer))
     go (yes h) =
-        let k = short-refused words input table memo tree h in
+        let k = short-refused words input table memo (length tree) h in
         rw (s .leaves .answer ∙ ap (λ f. refusedOr f (verdictOf One (grammarOf words) input)) (k .1)) (refused-fits (k .0) (omega (arith, k .2)))
     go (no h) = judge-fits (s .judges (omega (arith, h)))

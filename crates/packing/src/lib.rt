@@ -1,4 +1,4 @@
-// An answer as one number, and the clients' records and a kept log's state as rows of numbers.
+// An answer as one number.
 ghost use mathlib.Core.Path.{_≡_};
 ghost use Prim.Native.Nat.{_%_};
 ghost use Rattle.answer.specs.Numbers.{numbers};
@@ -8,11 +8,8 @@ use answer::Answer;
 use answer::code;
 use answer::position;
 
-pub mod records;
-pub mod states;
-
 // An answer that has no numbers: the verdict alone.
-const PASSED: u64 = 1;
+pub const PASSED: u64 = 1;
 
 // The five fields side by side, each number cut to its bits.
 fn join(verdict: u8, code: u64, position: u64, count: u64, farthest: u64) -> u64

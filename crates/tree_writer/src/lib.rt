@@ -2,14 +2,10 @@
 ghost use Rattle.event.specs.Events.{inputOf};
 ghost use Rattle.tree_writer_promises.specs.Properties.{Shows};
 use answer::Answer;
-use answer::Error;
-use grammar::limits::MEMO_ENTRIES;
-use grammar::limits::TABLE_WORDS;
-use recognizer::judge;
+use tree_judge::judge_with_room;
 use tree_writer_promises::Shown;
 use writing::write_tree;
 
-mod labels;
 mod writing;
 
 // Judges a log as `judge` does, and writes the parse tree of an accepted one into the front of the tree memory.
@@ -23,25 +19,7 @@ pub fn judge_tree(
     ensures { λ r. ⌜ Shows (now (words .entry)) (inputOf (now (events .entry))) (now (table .entry)) (now (memo .entry)) (now (tree .entry)) r
         (now (table .exit)) (now (memo .exit)) (now (tree .exit)) ⌝ }
 {
-    if table.len() < TABLE_WORDS {
-        return Shown {
-            answer: Answer::Refused(Error::TableTooShort),
-            written: 0,
-        };
-    }
-    if memo.len() < MEMO_ENTRIES {
-        return Shown {
-            answer: Answer::Refused(Error::MemoTooShort),
-            written: 0,
-        };
-    }
-    if tree.len() < MEMO_ENTRIES {
-        return Shown {
-            answer: Answer::Refused(Error::TreeTooShort),
-            written: 0,
-        };
-    }
-    let answer = judge(words, events, table, memo);
+    let answer = judge_with_room(words, events, table, memo, tree.len());
     let Answer::Accepted(_) = answer else {
         return Shown { answer, written: 0 };
     };

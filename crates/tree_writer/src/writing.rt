@@ -1,13 +1,11 @@
 // Writing the parse tree of an accepted input into lent words: root first, each vertex once.
 ghost use Rattle.event.specs.Events.{inputOf};
 ghost use Rattle.tree_writer_promises.specs.contracts.Writer.{VertexRequires, VertexEnsures, TreeGiven, TreeDone};
-use super::labels::labels_of;
 use grammar::limits::MEMO_ENTRIES;
 use grammar::limits::PLACES;
 use grammar::limits::RULES;
-use grammar::reading::Reading;
-use reader::read;
 use rule_starts::rule_starts;
+use vertex_labels::labels_of;
 use vertex_words::end_of;
 use vertex_words::is_marked;
 use vertex_words::marked;
@@ -75,11 +73,7 @@ pub(crate) fn write_tree(
     requires { ⌜ TreeGiven (now words) (inputOf (now events)) (now table) (now memo) (now tree) ⌝ }
     ensures { λ r. ⌜ TreeDone (now (words .entry)) (inputOf (now (events .entry))) (now (tree .entry)) r (now (tree .exit)) ⌝ }
 {
-    let outcome = read(words);
-    let Reading::Read(sizes) = outcome else {
-        return 0;
-    };
     let starts = rule_starts(words);
-    let mut labels = labels_of(sizes, events, table, memo);
+    let mut labels = labels_of(words, events, table, memo);
     write_vertex(words, &starts, &mut labels, tree, 0, 0)
 }

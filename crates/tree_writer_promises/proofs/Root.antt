@@ -1,7 +1,6 @@
 -- Writing the tree from its root, by what judging left of an accepted input.
 use mathlib.Core.Path.{_≡_, refl, sym, ap, _∙_}
 use mathlib.Core.List.{List, [], _∷_, _++_, map, List·Memᴰ·not-nil}
-use denote.Enum.Declared.{tagOf}
 use Prim.Native.Nat.{ℕ, _+_, _*_, _-_, _%_, _≤_, _<_}
 use native.Mathlib.Numerals.{add-one}
 use native.Mathlib.Omega.{arith}
@@ -12,10 +11,9 @@ use Rattle.grammar.specs.Syntax.{Grammar}
 use Rattle.grammar.specs.Encoding.{grammarOf}
 use Rattle.grammar.specs.Reading.{reading}
 use Rattle.grammar.specs.contracts.Starts.{ruleStarts}
+use Rattle.grammar.specs.contracts.WellRead.{WellRead}
 use Rattle.grammar.specs.declared.reading.Sizes.{Sizes}
-use Rattle.grammar.specs.declared.reading.Reading.{Reading}
 use Rattle.grammar.specs.declared.reading.Reading.the-variants.{Read}
-use Rattle.grammar.proofs.reading.Reading.{the-type}
 use Rattle.grammar.proofs.WellRead.{well-read}
 use Rattle.base.specs.FiniteSets.{member}
 use Rattle.semantics.specs.Valuations.{Valuation, Solves, solution, pairs}
@@ -34,7 +32,8 @@ use Rattle.columns.proofs.Columns.{column-right}
 use Rattle.tree.specs.Writing.{vertexAt, vertexWord, treeCalls, treeOf, treeWords, InTree, start}
 use Rattle.tree.proofs.Reading.{chosen}
 use Rattle.tree.proofs.Trees.{tree-sound}
-use Rattle.tree_writer_promises.specs.contracts.Labels.{labelWord, LabelsGiven, Labelled}
+use Rattle.tree_writer_promises.specs.contracts.Labels.{labelWord, labelsRead, Labelled}
+use Rattle.tree_writer_promises.proofs.Labelling.{labels-right}
 use Rattle.tree_writer_promises.specs.Properties.{wordsOf}
 use Rattle.tree_writer_promises.specs.contracts.Writer.{choiceOf, vertexWordAt, Holds, VertexGiven, VertexRequires, VertexEnsures, TreeGiven, TreeDone}
 
@@ -51,12 +50,6 @@ end-small n h = omega arith
 module _ {words input table memo tree : List ℕ} (g : TreeGiven words input table memo tree) where
   abbrev G : Grammar
   G = grammarOf words
-
-  pub not-read : {o : Reading} {n : ℕ} {tree′ : List ℕ} → o ≡ reading words → tagOf the-type o ≡ 1 → TreeDone words input tree n tree′
-  not-read e t = let q : _≡_ {A = ℕ} 0 1 = rw (e ∙ g .accepted .read) at t in absurd (omega arith)
-
-  pub labels-given : {z : Sizes} → reading words ≡ Read z → LabelsGiven z input
-  labels-given {z} e = record { fewNonterminals = well-read words z e .fewNonterminals; short = g .accepted .short }
 
   abbrev meaning : Valuation
   meaning = solution G input
@@ -86,7 +79,14 @@ module _ {words input table memo tree : List ℕ} (g : TreeGiven words input tab
       let few : s .2 .0 < 512 = omega (arith, f .within, g .accepted .short) in
       rw (rule, end, rule-small (c .number) low, end-small (s .2 .0) few, c .looked, f .ends) refl
 
-  module _ {z : Sizes} (read : reading words ≡ Read z) {starts labels : List ℕ} (s : starts ≡ ruleStarts words) (l : Labelled z input table memo labels) where
+  module _ {starts labels : List ℕ} (s : starts ≡ ruleStarts words) (l : labels ≡ labelsRead (reading words) input table memo) where
+    sized : WellRead words (g .accepted .sizes)
+    sized = well-read words (g .accepted .sizes) (g .accepted .read)
+
+    labelled : Labelled (g .accepted .sizes) input table memo labels
+    labelled = labels-right (g .accepted .sizes) input table memo (record { fewNonterminals = sized .fewNonterminals; short = g .accepted .short })
+        (l ∙ ap (λ o. labelsRead o input table memo) (g .accepted .read))
+
     -- nothing is written
     blank : Holds words input tree [] labels tree 0
     unfolding member anyOf
@@ -94,11 +94,11 @@ module _ {words input table memo tree : List ℕ} (g : TreeGiven words input tab
       long = g .long-tree;
       count = refl;
       front = refl;
-      whole = l .long;
+      whole = labelled .long;
       labelled = λ x h.
           let f = tree-sound G 1 input (g .accepted .predictive) (g .accepted .tokens) meaning solves (g .accepted .accepted) x h .2 .1 in
-          l .word (x .nonterminal) (x .place) (omega (arith, f .named, well-read words z read .nonterminals)) (omega (arith, f .onward, f .within))
-          ∙ label-right read x h;
+          labelled .word (x .nonterminal) (x .place) (omega (arith, f .named, sized .nonterminals)) (omega (arith, f .onward, f .within))
+          ∙ label-right (g .accepted .read) x h;
       distinct = tt;
       sound = λ x m. absurd (List·Memᴰ·not-nil m);
     }

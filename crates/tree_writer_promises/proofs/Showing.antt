@@ -10,11 +10,11 @@ use Prim.Native.Nat.{ℕ, suc, _+_, _*_, _≤_, _<_}
 use native.Mathlib.Decide.{decLt}
 use native.Mathlib.Nat.{mul-le-mul}
 use native.Mathlib.Omega.{arith}
-use lib.Dec.{T}
+use lib.Dec.{T, ltb}
 use lib.Arith.{digits-lt}
 use lib.ListN.{length, getD, drop, length-append, length-drop, length-map, List·getD-append}
-use borrow.Author.Tests.{lt-ltb, le-ltb}
-use Rattle.answer.specs.Faults.{firstFault, refusedOr}
+use borrow.Author.Tests.{lt-ltb, le-ltb, ltb-false}
+use Rattle.answer.specs.Faults.{faultIf, firstFault, refusedOr}
 use Rattle.answer.specs.Numbers.{refused, coded, numbers}
 use Rattle.answer.specs.declared.Error.{Error}
 use Rattle.answer.specs.declared.Error.the-variants.{TableTooShort, MemoTooShort, TreeTooShort}
@@ -23,7 +23,7 @@ use Rattle.answer.specs.declared.Answer.{Answer}
 use Rattle.answer.specs.declared.Answer.the-variants.{Refused, Passed, Rejected, Accepted}
 use Rattle.answer.proofs.Answer.{the-type}
 use Rattle.answer.proofs.Apart.{answer-number, refusalNumber}
-use Rattle.answer.proofs.Faults.{none-some, each-none}
+use Rattle.answer.proofs.Faults.{Faultless, none-some, fault-none, each-none}
 use Rattle.base.specs.Choice.{choose}
 use Rattle.base.proofs.Booleans.{true-T}
 use Rattle.grammar.specs.Codes.{uncalledCode}
@@ -52,7 +52,7 @@ use Rattle.recognizer_promises.specs.Answers.{judgeFault, callsOf, verdictOf}
 use Rattle.promises.specs.Memory.{lentBack}
 use Rattle.promises.proofs.Leaving.{leaves, leaves-alike, leaves-refused, unrefused}
 use Rattle.recognizer_promises.specs.Memory.{memoWords}
-use Rattle.recognizer_promises.specs.Properties.{Judges, PassedGrammar}
+use Rattle.recognizer_promises.specs.Properties.{Judgeable, Judges, PassedGrammar}
 use Rattle.recognizer_promises.proofs.Checking.{passed-fault, passed-encodes, passed-read, no-clashes, not-left-recursive}
 use Rattle.recognizer_promises.proofs.JudgeFaults.{judgeRows, judged-rows, judged-readable, table-short, memo-short}
 use Rattle.recognizer_promises.proofs.Judged.{verdict-unrefused, judge-refused}
@@ -64,6 +64,7 @@ use Rattle.tree.proofs.Trees.{tree-right, vertex-within}
 use Rattle.tree.proofs.Words.{told as word-told}
 use Rattle.tree_writer_promises.specs.contracts.Writer as writer
 use Rattle.tree_writer_promises.specs.contracts.Writer.{choiceOf, Entries, TreeGiven, TreeDone}
+use Rattle.tree_writer_promises.specs.contracts.Room.{JudgesWithRoom}
 use Rattle.tree_writer_promises.specs.Properties.{treeFault, wordsOf, TreeTold, Shows}
 
 -- acceptance, by its tag
@@ -97,13 +98,13 @@ alone : (f : Option Error) → firstFault (f ∷ []) ≡ f
 alone none = refl
 alone (some e) = refl
 
--- the first fault of the call, by what holds
-module _ (words input table memo tree : List ℕ) where
+-- the first fault of the call, by what holds, with so many words for the tree
+module _ (words input table memo : List ℕ) (room : ℕ) where
   abbrev judged : Option Error
   judged = judgeFault One (length table) (length memo) words input
 
   abbrev showing : Option Error
-  showing = treeFault (length table) (length memo) (length tree) words input
+  showing = treeFault (length table) (length memo) room words input
 
   first-table : length table < maxTableWords → showing ≡ some TableTooShort
   unfolding treeFault
@@ -114,19 +115,19 @@ module _ (words input table memo tree : List ℕ) where
     unfolding treeFault
     first-memo h = rw (le-ltb (length table) maxTableWords long, lt-ltb (length memo) maxMemoEntries h) refl
 
-    module _ (room : maxMemoEntries ≤ length memo) where
-      first-tree : length tree < maxMemoEntries → showing ≡ some TreeTooShort
+    module _ (noted : maxMemoEntries ≤ length memo) where
+      first-tree : room < maxMemoEntries → showing ≡ some TreeTooShort
       unfolding treeFault
-      first-tree h = rw (le-ltb (length table) maxTableWords long, le-ltb (length memo) maxMemoEntries room, lt-ltb (length tree) maxMemoEntries h) refl
+      first-tree h = rw (le-ltb (length table) maxTableWords long, le-ltb (length memo) maxMemoEntries noted, lt-ltb room maxMemoEntries h) refl
 
       -- then as judging
-      then-judged : maxMemoEntries ≤ length tree → showing ≡ judged
+      then-judged : maxMemoEntries ≤ room → showing ≡ judged
       unfolding treeFault
       then-judged h =
-          rw (le-ltb (length table) maxTableWords long, le-ltb (length memo) maxMemoEntries room, le-ltb (length tree) maxMemoEntries h) (alone judged)
+          rw (le-ltb (length table) maxTableWords long, le-ltb (length memo) maxMemoEntries noted, le-ltb room maxMemoEntries h) (alone judged)
 
   -- tree memory that is too short is refused, if not for another memory's length
-  pub short-refused : length tree < maxMemoEntries → (x : Error) × (showing ≡ some x) × (coded x .position ≡ 0)
+  pub short-refused : room < maxMemoEntries → (x : Error) × (showing ≡ some x) × (coded x .position ≡ 0)
   short-refused h = go (decLt (length table) maxTableWords) (decLt (length memo) maxMemoEntries)
     where
       go : Dec (length table < maxTableWords) → Dec (length memo < maxMemoEntries) → (x : Error) × (showing ≡ some x) × (coded x .position ≡ 0)
@@ -134,52 +135,44 @@ module _ (words input table memo tree : List ℕ) where
       go (no t) (yes m) = (MemoTooShort, first-memo (omega arith) m, refl)
       go (no t) (no m) = (TreeTooShort, first-tree (omega arith) (omega arith) h, refl)
 
-  -- a refusal
-  refused-shows : {x : Error} → showing ≡ some x → (maxMemoEntries ≤ length tree → judged ≡ some x)
-      → Shows words input table memo tree (record { answer = Refused x; written = 0 }) table memo tree
-  refused-shows e k = record {
-    leaves = leaves-refused e (refl, (refl, (refl, tt)));
-    unwritten = λ _. refl;
-    written = λ u. absurd (u refl);
-    few = omega arith;
-    judges = λ h. judge-refused (k h);
-    tells = λ q. absurd (omega (arith, ap refusalNumber q));
-  }
+  -- judging, by the lengths
+  refused-judged : {x : Error} → showing ≡ some x → (maxMemoEntries ≤ room → judged ≡ some x)
+      → JudgesWithRoom words input table memo room (Refused x) table memo
+  refused-judged e k = record { leaves = leaves-refused e (refl, (refl, tt)); judges = λ h. judge-refused (k h) }
 
-  pub short-table : length table < maxTableWords → Shows words input table memo tree (record { answer = Refused TableTooShort; written = 0 }) table memo tree
-  short-table h = refused-shows (first-table h) (λ _. table-short One words input table memo h)
+  pub short-table : length table < maxTableWords → JudgesWithRoom words input table memo room (Refused TableTooShort) table memo
+  short-table h = refused-judged (first-table h) (λ _. table-short One words input table memo h)
 
-  pub short-memo : maxTableWords ≤ length table → length memo < maxMemoEntries
-      → Shows words input table memo tree (record { answer = Refused MemoTooShort; written = 0 }) table memo tree
-  short-memo long h = refused-shows (first-memo long h) (λ _. memo-short One words input table memo long h)
+  pub short-memo : maxTableWords ≤ length table → length memo < maxMemoEntries → JudgesWithRoom words input table memo room (Refused MemoTooShort) table memo
+  short-memo long h = refused-judged (first-memo long h) (λ _. memo-short One words input table memo long h)
 
-  pub short-tree : maxTableWords ≤ length table → maxMemoEntries ≤ length memo → length tree < maxMemoEntries
-      → Shows words input table memo tree (record { answer = Refused TreeTooShort; written = 0 }) table memo tree
-  short-tree long room h = refused-shows (first-tree long room h) (λ l. absurd (omega arith))
+  pub short-tree : maxTableWords ≤ length table → maxMemoEntries ≤ length memo → room < maxMemoEntries
+      → JudgesWithRoom words input table memo room (Refused TreeTooShort) table memo
+  short-tree long noted h = refused-judged (first-tree long noted h) (λ l. absurd (omega arith))
 
--- memories that are long enough, and what judging promises
-module _ (tree : List ℕ) {words input table memo : List ℕ} (long : maxTableWords ≤ length table)
-    (room : maxMemoEntries ≤ length memo) (high : maxMemoEntries ≤ length tree)
-    {a : Answer} {table′ memo′ : List ℕ} (j : Judges One words input table memo a table′ memo′) where
+  pub judged-with-room : {a : Answer} {table′ memo′ : List ℕ} → maxTableWords ≤ length table → maxMemoEntries ≤ length memo → maxMemoEntries ≤ room
+      → Judges One words input table memo a table′ memo′ → JudgesWithRoom words input table memo room a table′ memo′
+  judged-with-room long noted h j = record { leaves = leaves-alike (then-judged long noted h) (j .leaves); judges = λ _. j }
+
+-- what judging leaves, and the memory lent for the tree
+module _ {words input table memo : List ℕ} (tree : List ℕ) {a : Answer} {table′ memo′ : List ℕ}
+    (j : JudgesWithRoom words input table memo (length tree) a table′ memo′) where
   abbrev G : Grammar
   G = grammarOf words
 
   abbrev fault : Option Error
-  fault = judgeFault One (length table) (length memo) words input
-
-  same : treeFault (length table) (length memo) (length tree) words input ≡ fault
-  same = then-judged words input table memo tree long room high
+  fault = treeFault (length table) (length memo) (length tree) words input
 
   -- the promise from the words that are written
   shows : {n : ℕ} {tree′ : List ℕ} → n ≡ writtenOr fault (length (wordsOf words input)) → tree′ ≡ lentBack fault (wordsOf words input) tree → n ≤ maxMemoEntries
       → (a ≡ Accepted (callsOf One G input) → TreeTold words input)
       → Shows words input table memo tree (record { answer = a; written = n }) table′ memo′ tree′
   shows w l f t = record {
-    leaves = leaves-alike same (leaves (j .leaves .answer) (j .leaves .memory .0, (j .leaves .memory .1 .0, (l, tt))));
+    leaves = leaves (j .leaves .answer) (j .leaves .memory .0, (j .leaves .memory .1 .0, (l, tt)));
     unwritten = λ q. w ∙ none-written fault refl q;
     written = λ u. w ∙ ap (λ f. writtenOr f (length (wordsOf words input))) (unrefused (j .leaves) u);
     few = f;
-    judges = λ _. j;
+    judges = j .judges;
     tells = t;
   }
     where
@@ -207,11 +200,36 @@ module _ (tree : List ℕ) {words input table memo : List ℕ} (long : maxTableW
     unfolding verdictOf
     told = accepted-tells fault (accepts G (choiceOf words input) input) (callsOf One G input) c (sym q ∙ j .leaves .answer)
 
+    -- the memories are long enough, and judging has no fault
+    abbrev rows : List (Option Error)
+    rows =
+        faultIf (ltb (length table) maxTableWords) TableTooShort
+        ∷ faultIf (ltb (length memo) maxMemoEntries) MemoTooShort
+        ∷ faultIf (ltb (length tree) maxMemoEntries) TreeTooShort
+        ∷ judgeFault One (length table) (length memo) words input
+        ∷ []
+
+    faultless : Faultless rows
+    unfolding treeFault
+    faultless = each-none rows (told .0)
+
+    long : maxTableWords ≤ length table
+    long = ltb-false (length table) maxTableWords (fault-none (ltb (length table) maxTableWords) TableTooShort (faultless .0))
+
+    noted : maxMemoEntries ≤ length memo
+    noted = ltb-false (length memo) maxMemoEntries (fault-none (ltb (length memo) maxMemoEntries) MemoTooShort (faultless .1 .0))
+
+    high : maxMemoEntries ≤ length tree
+    high = ltb-false (length tree) maxMemoEntries (fault-none (ltb (length tree) maxMemoEntries) TreeTooShort (faultless .1 .1 .0))
+
+    unfaulted : judgeFault One (length table) (length memo) words input ≡ none
+    unfaulted = faultless .1 .1 .1 .0
+
     passed : PassedGrammar One words
-    passed = passed-fault One words (judged-readable One words input (length table) (length memo) (told .0) .0)
+    passed = passed-fault One words (judged-readable One words input (length table) (length memo) unfaulted .0)
 
     short : length input ≤ maxTokens
-    short = judged-readable One words input (length table) (length memo) (told .0) .1
+    short = judged-readable One words input (length table) (length memo) unfaulted .1
 
     absent : (u : Unknown) → unknownFault u ≡ none → u ≡ Absent
     absent Absent e = refl
@@ -220,7 +238,7 @@ module _ (tree : List ℕ) {words input table memo : List ℕ} (long : maxTableW
     tokens : Over (G .terminals) input
     tokens =
         let rows = each-none (judgeRows One (length table) (length memo) words input)
-        (sym (judged-rows One (length table) (length memo) words input) ∙ told .0) in
+        (sym (judged-rows One (length table) (length memo) words input) ∙ unfaulted) in
         absent-known (G .terminals) 0 input (absent (unknownFrom (G .terminals) 0 input) (rows .1 .1 .1 .1 .0))
 
     predictive : Predictive G 1
@@ -256,7 +274,8 @@ module _ (tree : List ℕ) {words input table memo : List ℕ} (long : maxTableW
     recorded : (x : Call) → Called G (choiceOf words input) input x
         → getD memo′ (memoIndex input x) 0 ≡ outcomeCode (descend G (choiceOf words input) input (x .nonterminal) (x .place))
     recorded x k =
-        let m = j .recognizes (record { long-table = long; long-memo = room }) (record { passed = passed; short = short; known = tokens }) .memo in
+        let readable : Judgeable One words input = record { passed = passed; short = short; known = tokens } in
+        let m = j .judges high .recognizes (record { long-table = long; long-memo = noted }) readable .memo in
         let own = theorems .own-rules G 1 input in
         let range = called-range G (choiceOf words input) input (predictive .scoped) (predictive .unrecursive) own (predictive .start) x k in
         let b : memoIndex input x < length (memoWords One G input) = omega (arith, index-range G input x range, m .size) in
@@ -273,7 +292,7 @@ module _ (tree : List ℕ) {words input table memo : List ℕ} (long : maxTableW
       entries = entries;
       recorded = recorded;
       long-table = omega (arith, long, ap length table-is, as-long (tableWords One G) table);
-      long-memo = omega (arith, room, ap length memo-is, as-long (memoWords One G input) memo);
+      long-memo = omega (arith, noted, ap length memo-is, as-long (memoWords One G input) memo);
       long-tree = high;
     }
 

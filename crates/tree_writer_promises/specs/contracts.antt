@@ -1,2 +1,3 @@
 pub mod Labels
 pub mod Writer
+pub mod Room

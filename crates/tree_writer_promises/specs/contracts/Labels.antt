@@ -3,10 +3,13 @@ use mathlib.Core.Path.{_≡_}
 use mathlib.Core.List.{List}
 use Prim.Native.Nat.{ℕ, _+_, _*_, _/_, _%_, _≤_, _<_}
 use lib.Dec.{ltb}
-use lib.ListN.{length, getD}
+use lib.ListN.{length, getD, replicate}
 use Rattle.base.specs.Choice.{choose}
+use Rattle.base.specs.Lists.{listed}
 use Rattle.grammar.specs.Limits.{maxNonterminals, maxTokens, maxPlaces, maxMemoEntries}
 use Rattle.grammar.specs.declared.reading.Sizes.{Sizes}
+use Rattle.grammar.specs.declared.reading.Reading.{Reading}
+use Rattle.grammar.specs.declared.reading.Reading.the-variants.{Read, Faulty}
 use Rattle.semantics.specs.ComesTo.{Call}
 use Rattle.lookahead.specs.declared.Lookahead.the-variants.{One}
 use Rattle.columns.specs.contracts.Columns.{columnAt}
@@ -44,21 +47,31 @@ labelWord z input table memo A i = vertexWord
 abbrev pub labelOf : Sizes → (input table memo : List ℕ) (A i : ℕ) → ℕ
 labelOf z input table memo A i = choose (ltb maxTokens (length input)) 0 (labelWord z input table memo A i)
 
+-- the word at an index: that of the call which has it, of a nonterminal and a place that there are, else 0
+unfoldable pub labelAt : Sizes → (input table memo : List ℕ) (at : ℕ) → ℕ
+labelAt z input table memo at =
+    choose (ltb (at / maxPlaces) (z .nonterminals))
+    (choose (ltb (length input) (at % maxPlaces)) 0 (labelOf z input table memo (at / maxPlaces) (at % maxPlaces))) 0
+
+-- the words of all calls, by the sizes of a grammar; and 0 for words that are none
+unfoldable pub labelsOf : Sizes → (input table memo : List ℕ) → List ℕ
+labelsOf z input table memo = listed maxMemoEntries (labelAt z input table memo)
+
+abbrev pub labelsRead : Reading → (input table memo : List ℕ) → List ℕ
+labelsRead (Read z) input table memo = labelsOf z input table memo
+labelsRead (Faulty e) input table memo = replicate maxMemoEntries 0
+
+-- the words below an index are made, and behind them are zeros
+pub record LabelledBelow (z : Sizes) (input table memo : List ℕ) (bound : ℕ) (labels : List ℕ) : Type 0 where
+  pub long : length labels ≡ maxMemoEntries
+  pub made : (x : ℕ) → x < bound → getD labels x 0 ≡ labelAt z input table memo x
+  pub ahead : (x : ℕ) → bound ≤ x → getD labels x 0 ≡ 0
+
+-- of a grammar and an input within the limits each call has its word
 pub record LabelsGiven (z : Sizes) (input : List ℕ) : Type 0 where
   pub fewNonterminals : z .nonterminals ≤ maxNonterminals
   pub short : length input ≤ maxTokens
 
--- the word at an index, where a call of the input has it
-pub record Labels (z : Sizes) (input table memo : List ℕ) (at r : ℕ) : Type 0 where
-  pub word : (A i : ℕ) → at ≡ A * maxPlaces + i → A < z .nonterminals → i ≤ length input → r ≡ labelWord z input table memo A i
-
--- the words of the calls whose index is below a bound
-pub record LabelledBelow (z : Sizes) (input table memo : List ℕ) (bound : ℕ) (labels : List ℕ) : Type 0 where
-  pub long : length labels ≡ maxMemoEntries
-  pub word : (A i : ℕ) → A * maxPlaces + i < bound → A < z .nonterminals → i ≤ length input
-      → getD labels (A * maxPlaces + i) 0 ≡ labelWord z input table memo A i
-
--- and of all
 pub record Labelled (z : Sizes) (input table memo labels : List ℕ) : Type 0 where
   pub long : length labels ≡ maxMemoEntries
   pub word : (A i : ℕ) → A < z .nonterminals → i ≤ length input → getD labels (A * maxPlaces + i) 0 ≡ labelWord z input table memo A i

@@ -1,4 +1,4 @@
--- The row is read, the answer packed, and the row written back.
+-- The row is read, and what the client is served with is handed back.
 use Rattle.embed_promises.proofs.Exporting.{served-exported}
 use borrow.Author.Needs.{needs}
 use Rattle.embed.proofs.client.vinegarspit_judge_for.Statement.{statement}
@@ -10,11 +10,8 @@ usages-in-requires c κs = search needs
 judge-for-requires : tie.Need-judge-for-requires
 judge-for-requires c κs = search needs
 
-row-of-requires : tie.Need-row-of-requires
-row-of-requires c κs = search needs
-
-pack-requires : tie.Need-pack-requires
-pack-requires c κs = search needs
+hand-back-requires : tie.Need-hand-back-requires
+hand-back-requires c κs = search needs
 
 same-length : tie.Need-same-length
 same-length c = search needs
@@ -24,17 +21,9 @@ same-length-2 c = search needs
 
 returns : tie.Need-returns
 returns c =
-    let at-judge = c .before .before .before .before .before .before .before in
-    served-exported (at-judge .before .before .before .usages-in .ensures) (at-judge .judge-for .ensures) (c .before .row-of .ensures) (c .pack .ensures)
+    let at-judge = c .before .before .before .before .before .before in
+    served-exported (at-judge .before .before .before .usages-in .ensures) (at-judge .judge-for .ensures) (c .hand-back .ensures)
 
 pub vinegarspit-judge-for-spec : {M : Type 1} → statement M
 vinegarspit-judge-for-spec =
-    tie.close
-    (tie.spec
-    usages-in-requires
-    judge-for-requires
-    row-of-requires
-    pack-requires
-    same-length
-    same-length-2
-    returns)
+    tie.close (tie.spec usages-in-requires judge-for-requires hand-back-requires same-length same-length-2 returns)
