@@ -25,12 +25,12 @@ use Rattle.grammar.proofs.WellFormed.{RestFits, reads}
 use Rattle.semantics.specs.Choices.{Choice}
 use Rattle.semantics.specs.Descent.{Outcome, Failed, End, endsAt, select}
 use Rattle.semantics.specs.contracts.MemoDescent.{Memoized, memoized, andThen, MemoCalls, memoRun, memoNegatives, memoPositives, memoRule, memoObey}
-use Rattle.rule.specs.declared.Outcome as code
+use Rattle.semantics.specs.contracts.Memo.{decode}
 use Rattle.rule.specs.declared.Sign.{Sign}
 use Rattle.rule.specs.declared.Sign.the-variants.{Positive, Negative, Neither}
 use Rattle.rule.specs.declared.Agreement.{Agreement}
 use Rattle.rule.specs.declared.Agreement.the-variants as agreement
-use Rattle.rule.specs.contracts.Rule.{meant, signOf, signAt, bodyEnd, beginsBody, goesOn, joinedBy, concluded}
+use Rattle.rule.specs.contracts.Rule.{signOf, signAt, bodyEnd, beginsBody, goesOn, joinedBy, concluded}
 use Rattle.rule.proofs.Signs.{sign-number, sign-positive, sign-negative, sign-within}
 use Rattle.rule.proofs.Agreements.{opens-no-more, ends-joined}
 use Rattle.families.proofs.Words.{parse-over}
@@ -233,7 +233,7 @@ module _ {choice : Choice} {words choices tokens input memo₀ : List ℕ} {A pl
 
   -- one body more
   pub calling-turn : goesOn sign agreed ≡ true → {o : Run} {memo′ : List ℕ} {at′ : ℕ} {sign′ : Sign} {agreed′ : Agreement}
-      → RunDone choice words input memo A (at + 1) place o memo′ → agreed′ ≡ joinedBy sign agreed (meant (o .outcome)) → at′ ≡ bodyEnd words (o .at)
+      → RunDone choice words input memo A (at + 1) place o memo′ → agreed′ ≡ joinedBy sign agreed (decode (o .end)) → at′ ≡ bodyEnd words (o .at)
       → sign′ ≡ signAt words at′
       → Calling choice words input memo₀ A place r memo′ at′ sign′ agreed′
   calling-turn goes {o} {memo′} {at′} {sign′} {agreed′} d j b s =
@@ -244,14 +244,14 @@ module _ {choice : Choice} {words choices tokens input memo₀ : List ℕ} {A pl
         sound = d .sound;
         within = t .within;
         signed = s;
-        ends = λ e q. ends-joined (length input) sign agreed (meant (o .outcome)) (v .ends) (d .within) e (sym j ∙ q);
-        rest = λ n l. v .rest n l ∙ k .joins n memo′ (meant (o .outcome)) (d .model n l) ∙ sym (rw (j, t .positives, t .negatives));
+        ends = λ e q. ends-joined (length input) sign agreed (decode (o .end)) (v .ends) (d .within) e (sym j ∙ q);
+        rest = λ n l. v .rest n l ∙ k .joins n memo′ (decode (o .end)) (d .model n l) ∙ sym (rw (j, t .positives, t .negatives));
         positives = λ x m. k .positives x (rw (t .positives) at m);
         negatives = λ x m. k .negatives x (rw (t .negatives) at m);
         progress = k .progress;
         reads = t .reads (k .progress) (g .given .sizes) (k .reads ∙ g .given .read) ∙ sym (g .given .read);
-        opens = λ q. absurd (opens-no-more sign agreed (meant (o .outcome)) goes (sym j ∙ q));
-        opened = λ q. absurd (opens-no-more sign agreed (meant (o .outcome)) goes (sym j ∙ q));
+        opens = λ q. absurd (opens-no-more sign agreed (decode (o .end)) goes (sym j ∙ q));
+        opened = λ q. absurd (opens-no-more sign agreed (decode (o .end)) goes (sym j ∙ q));
         boundary = end .boundary;
       }
 
@@ -327,7 +327,7 @@ module _ {choice : Choice} {words choices tokens input memo₀ : List ℕ} {A pl
   rule-run goes = calling-run g (v .rule) (v .listed) (v .heads) (v .calling) (conjunct g (v .rule) (v .listed) (v .heads) (v .calling) goes)
 
   pub rule-turn : goesOn sign agreed ≡ true → {o : Run} {memo′ : List ℕ} {at′ : ℕ} {sign′ : Sign} {agreed′ : Agreement}
-      → RunDone choice words input memo A (at + 1) place o memo′ → agreed′ ≡ joinedBy sign agreed (meant (o .outcome)) → at′ ≡ bodyEnd words (o .at)
+      → RunDone choice words input memo A (at + 1) place o memo′ → agreed′ ≡ joinedBy sign agreed (decode (o .end)) → at′ ≡ bodyEnd words (o .at)
       → sign′ ≡ signAt words at′
       → InRule choice words input memo₀ A place memo′ at′ sign′ agreed′
   rule-turn goes d j b s = record {
@@ -338,6 +338,7 @@ module _ {choice : Choice} {words choices tokens input memo₀ : List ℕ} {A pl
     calling = calling-turn g (v .rule) (v .listed) (v .heads) (v .calling) goes d j b s;
   }
 
-  pub rule-done : goesOn sign agreed ≡ false → (o : code.Outcome) → meant o ≡ concluded agreed
-      → (n : ℕ) → level words input A place ≤ n → memoObey (deep choice words input n) input (some (v .rule)) place memo₀ ≡ memoized (meant o) memo
-  rule-done stops o c n l = calling-done g (v .calling) stops n l ∙ ap (λ x. memoized x memo) (sym c)
+  pub rule-done : goesOn sign agreed ≡ false
+      → (n : ℕ) → level words input A place ≤ n
+      → memoObey (deep choice words input n) input (some (v .rule)) place memo₀ ≡ memoized (concluded agreed) memo
+  rule-done stops = calling-done g (v .calling) stops

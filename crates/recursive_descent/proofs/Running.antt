@@ -2,6 +2,7 @@
 use mathlib.Core.Path.{_≡_, refl, sym, ap, _∙_}
 use mathlib.Core.Bool.{true, false, _&&_, false≢true}
 use mathlib.Core.List.{List, [], _∷_}
+use mathlib.Core.Logic.{_⊎_, inl, inr}
 use Prim.Native.Nat.{ℕ, _+_, _%_, _≤_, _<_}
 use native.Mathlib.Omega.{arith}
 use native.Mathlib.Decide.{decLt}
@@ -35,9 +36,10 @@ use Rattle.semantics.specs.contracts.Memo.{decode}
 use Rattle.semantics.proofs.meaning.Rank.{level-onward}
 use Rattle.semantics.proofs.descent.Outcomes.{end-ends}
 use Rattle.semantics.proofs.descent.Ends.{descend-forward, descend-null}
-use Rattle.rule.specs.declared.Outcome as code
-use Rattle.rule.specs.declared.Outcome.the-variants as outcome
-use Rattle.rule.specs.contracts.Rule.{meant}
+use Rattle.descent_steps.specs.declared.Step.the-variants as step
+use Rattle.descent_steps.specs.declared.Step.the-variants.{Over}
+use Rattle.descent_steps.specs.contracts.Steps.{stepAt}
+use Rattle.descent_steps.proofs.Steps.{step-terminal, step-nonterminal, step-over}
 use Rattle.families.proofs.Words.{parse-over}
 use Rattle.grammar.specs.Limits.{maxNonterminals}
 use Rattle.recursive_descent.specs.declared.descent.Run.{Run}
@@ -56,8 +58,8 @@ pub body-at : List ℕ → ℕ → Body
 body-at words at = parse (drop at words) .body
 
 -- a run that has stopped at an index
-abbrev pub stopped : code.Outcome → ℕ → Run
-stopped o at = record { outcome = o; at = at }
+abbrev pub stopped : ℕ → ℕ → Run
+stopped end at = record { end = end; at = at }
 
 -- a run that has reached an index and a place
 pub record Running (choice : Choice) (words input memo₀ : List ℕ) (A from start : ℕ) (memo : List ℕ) (at place : ℕ) : Type 0 where
@@ -121,6 +123,15 @@ end-same i j e = cc
 failed-end : (j : ℕ) → Failed ≡ End j → ⊥
 failed-end j e = let n : _≡_ {A = ℕ} 0 1 = cc in omega arith
 
+-- an entry below the codes is an end
+end-code : (n : ℕ) → (n ≡ failedCode → ⊥) → decode n ≡ End n
+unfolding decode
+end-code n h = rw (ne-eqb n failedCode h)
+
+failed-code : decode failedCode ≡ Failed
+unfolding decode
+failed-code = refl
+
 -- an entry tells its outcome, where the outcome's end is below the codes
 decode-encode : (n : ℕ) (o : Outcome) → n < failedCode → ((e : ℕ) → T (endsAt o e) → e ≤ n) → decode (outcomeCode o) ≡ o
 unfolding outcomeCode decode
@@ -141,27 +152,28 @@ body-none Invalid p s a h = absurd (false≢true a)
 module _ {choice : Choice} {words choices tokens input memo₀ : List ℕ} {A from start : ℕ} (g : RunGiven choice words choices tokens input memo₀ A from start)
     {memo : List ℕ} {at place : ℕ} (v : Running choice words input memo₀ A from start memo at place) where
   -- a run that reaches a word that is no symbol, or the end of the words, has ended
-  done : body-at words at ≡ [] → RunDone choice words input memo₀ A from start (stopped (outcome.End place) at) memo
+  done : body-at words at ≡ [] → RunDone choice words input memo₀ A from start (stopped place at) memo
   unfolding body-at memoRun
-  done e = record {
-    model = λ n l. v .rest n l ∙ ap (λ b. memoRun (deep choice words input n) input b place memo) e;
-    sound = v .sound;
-    within = λ x q. let e : place ≡ x = end-same place x q in omega (arith, v .placed);
-    skipped = v .skipped;
-  }
+  done e =
+      let c = end-code place (λ q. omega (arith, v .placed, g .call .given .short)) in
+      record {
+        model = λ n l. v .rest n l ∙ ap (λ b. memoRun (deep choice words input n) input b place memo) e ∙ ap (λ o. memoized o memo) (sym c);
+        sound = v .sound;
+        within = λ x q. let e : place ≡ x = end-same place x (sym c ∙ q) in omega (arith, v .placed);
+        skipped = v .skipped;
+      }
 
-  pub running-done : (w : Word) → at < length words → w ≡ decoded (getD words at 0) → ((X : grammar.Symbol) → w ≡ Symbol X → ⊥)
-      → RunDone choice words input memo₀ A from start (stopped (outcome.End place) at) memo
-  unfolding body-at
-  running-done w h e n =
-      let s = scan-next words at (v .progress) (g .call .given .sizes) h (v .reads ∙ g .call .given .read) in
-      let k = parse-here words at h in
-      done (ap (λ p. p .body) k
-      ∙ body-none (decoded (getD words at 0)) (parse (drop (at + 1) words)) (v .progress .state) (s .passed .allowed) (λ X x. n X (e ∙ x)))
-
-  pub running-over : length words ≤ at → RunDone choice words input memo₀ A from start (stopped (outcome.End place) at) memo
+  pub running-done : stepAt words at ≡ Over → RunDone choice words input memo₀ A from start (stopped place at) memo
   unfolding body-at parse
-  running-over h = done (ap (λ p. p .body) (parse-over words at h))
+  running-done e = go (step-over words at e)
+    where
+      go : (length words ≤ at) ⊎ ((at < length words) × ((X : grammar.Symbol) → decoded (getD words at 0) ≡ Symbol X → ⊥))
+          → RunDone choice words input memo₀ A from start (stopped place at) memo
+      go (inl h) = done (ap (λ p. p .body) (parse-over words at h))
+      go (inr h) =
+          let s = scan-next words at (v .progress) (g .call .given .sizes) (h .0) (v .reads ∙ g .call .given .read) in
+          done (ap (λ p. p .body) (parse-here words at (h .0))
+          ∙ body-none (decoded (getD words at 0)) (parse (drop (at + 1) words)) (v .progress .state) (s .passed .allowed) (h .1))
 
   -- the body from a symbol on
   module _ (X : grammar.Symbol) (h : at < length words) (x : decoded (getD words at 0) ≡ Symbol X) where
@@ -191,9 +203,15 @@ module _ {choice : Choice} {words choices tokens input memo₀ : List ℕ} {A fr
         ≡ memoRun (deep choice words input n) input (X ∷ body-at words (at + 1)) place memo
     rest-here n l = v .rest n l ∙ ap (λ b. memoRun (deep choice words input n) input b place memo) body-here
 
-  module _ (a : ℕ) (h : at < length words) (x : decoded (getD words at 0) ≡ Symbol (Terminal a)) where
+  module _ (a : ℕ) (step : stepAt words at ≡ step.Terminal a) where
+    pub terminal-within : at < length words
+    terminal-within = step-terminal words at a step .0
+
+    terminal-there : decoded (getD words at 0) ≡ Symbol (Terminal a)
+    terminal-there = step-terminal words at a step .1
+
     running-token : matchesAt tokens place a ≡ (ltb place (length input) && eqb (getD input place 0) a)
-    running-token = token-is g place a (v .placed) (own-here (Terminal a) h x .0)
+    running-token = token-is g place a (v .placed) (own-here (Terminal a) terminal-within terminal-there .0)
 
     -- a token that is the terminal
     pub running-terminal : matchesAt tokens place a ≡ true → Running choice words input memo₀ A from start memo (at + 1) (place + 1)
@@ -205,26 +223,32 @@ module _ {choice : Choice} {words choices tokens input memo₀ : List ℕ} {A fr
           behind = omega (arith, v .behind);
           placed = omega arith;
           sound = v .sound;
-          rest = λ n k. rest-here (Terminal a) h x n k ∙ rw (m, add-one place);
-          known = known-here (Terminal a) h x;
-          own = own-here (Terminal a) h x .1;
+          rest = λ n k. rest-here (Terminal a) terminal-within terminal-there n k ∙ rw (m, add-one place);
+          known = known-here (Terminal a) terminal-within terminal-there;
+          own = own-here (Terminal a) terminal-within terminal-there .1;
           front = λ e. absurd (omega (arith, v .behind));
           progress = v .progress;
-          reads = next-reads (Terminal a) h x;
-          skipped = next-skipped (Terminal a) h x;
+          reads = next-reads (Terminal a) terminal-within terminal-there;
+          skipped = next-skipped (Terminal a) terminal-within terminal-there;
         }
 
     -- another token, or the end
-    pub running-mismatch : matchesAt tokens place a ≡ false → RunDone choice words input memo₀ A from start (stopped outcome.Failed at) memo
+    pub running-mismatch : matchesAt tokens place a ≡ false → RunDone choice words input memo₀ A from start (stopped failedCode at) memo
     unfolding body-at memoRun
     running-mismatch m = record {
-      model = λ n k. rest-here (Terminal a) h x n k ∙ rw (sym running-token ∙ m);
+      model = λ n k. rest-here (Terminal a) terminal-within terminal-there n k ∙ rw (sym running-token ∙ m, failed-code);
       sound = v .sound;
-      within = λ e q. absurd (failed-end e q);
+      within = λ e q. absurd (failed-end e (sym failed-code ∙ q));
       skipped = v .skipped;
     }
 
-  module _ (B : ℕ) (h : at < length words) (x : decoded (getD words at 0) ≡ Symbol (Nonterminal B)) where
+  module _ (B : ℕ) (step : stepAt words at ≡ step.Nonterminal B) where
+    pub nonterminal-within : at < length words
+    nonterminal-within = step-nonterminal words at B step .0
+
+    nonterminal-there : decoded (getD words at 0) ≡ Symbol (Nonterminal B)
+    nonterminal-there = step-nonterminal words at B step .1
+
     -- the call that a nonterminal makes
     pub running-given : CallGiven choice words choices tokens input memo B place
     running-given = record {
@@ -242,18 +266,19 @@ module _ {choice : Choice} {words choices tokens input memo₀ : List ℕ} {A fr
         short = g .call .given .short;
         sound = v .sound;
       };
-      named = known-here (Nonterminal B) h x .0;
+      named = known-here (Nonterminal B) nonterminal-within nonterminal-there .0;
       placed = v .placed;
     }
 
     pub running-small : B < maxNonterminals
-    running-small = omega (arith, known-here (Nonterminal B) h x .0, r g .nonterminals, r g .fewNonterminals)
+    running-small = omega (arith, known-here (Nonterminal B) nonterminal-within nonterminal-there .0, r g .nonterminals, r g .fewNonterminals)
 
     pub running-falls : level words input B place < level words input A start
     unfolding measure
     running-falls =
         level-onward (grammarOf words) (r g .formed .scoped) (g .call .given .free) A B (length input) start place
-        (known-here (Nonterminal B) h x .0) (v .behind) (v .placed) (λ e. front-here (Nonterminal B) h x e B here)
+        (known-here (Nonterminal B) nonterminal-within nonterminal-there .0) (v .behind) (v .placed)
+        (λ e. front-here (Nonterminal B) nonterminal-within nonterminal-there e B here)
 
     abbrev came : Outcome
     came = descend (grammarOf words) choice input B place
@@ -261,46 +286,45 @@ module _ {choice : Choice} {words choices tokens input memo₀ : List ℕ} {A fr
     forward : (e : ℕ) → T (endsAt came e) → (place ≤ e) × (e ≤ length input)
     forward e t = descend-forward (grammarOf words) choice input (g .call .given .own) B place e (v .placed) t
 
-    -- its outcome, recalled of the entry that the call returns
-    module _ {entry : ℕ} {memo′ : List ℕ} (d : CallDone choice words input memo B place entry memo′) (o : code.Outcome)
-        (recalled : meant o ≡ decode entry) where
-      means : meant o ≡ came
-      means = recalled ∙ ap decode (d .told) ∙ decode-encode (length input) came (omega (arith, g .call .given .short)) (λ e t. forward e t .1)
+    -- its outcome, by the entry that the call returns
+    module _ {entry : ℕ} {memo′ : List ℕ} (d : CallDone choice words input memo B place entry memo′) where
+      means : decode entry ≡ came
+      means = ap decode (d .told) ∙ decode-encode (length input) came (omega (arith, g .call .given .short)) (λ e t. forward e t .1)
 
       called : (n : ℕ) → level words input A start ≤ n → deep choice words input n B place memo ≡ memoized came memo′
       called n l = d .model n (omega (arith, running-falls))
 
       -- one that ends
-      pub running-call : (e : ℕ) → o ≡ outcome.End e → Running choice words input memo₀ A from start memo′ (at + 1) e
+      pub running-call : (entry ≡ failedCode → ⊥) → Running choice words input memo₀ A from start memo′ (at + 1) entry
       unfolding memoRun andThen
-      running-call e q =
-          let m : came ≡ End e = sym means ∙ ap meant q in
-          let f = forward e (end-ends came e m) in
+      running-call q =
+          let m : came ≡ End entry = sym means ∙ end-code entry q in
+          let f = forward entry (end-ends came entry m) in
           record {
             behind = omega (arith, v .behind);
             placed = f .1;
             sound = d .sound;
-            rest = λ n l. rest-here (Nonterminal B) h x n l ∙ rw (called n l, m);
-            known = known-here (Nonterminal B) h x .1;
-            own = own-here (Nonterminal B) h x;
+            rest = λ n l. rest-here (Nonterminal B) nonterminal-within nonterminal-there n l ∙ rw (called n l, m);
+            known = known-here (Nonterminal B) nonterminal-within nonterminal-there .1;
+            own = own-here (Nonterminal B) nonterminal-within nonterminal-there;
             front = λ s C l.
                 let i : place ≡ start = omega (arith, v .behind) in
-                let j : e ≡ place = omega arith in
+                let j : entry ≡ place = omega arith in
                 let idle : T (nullable (grammarOf words) B) =
                 descend-null (grammarOf words) choice input (g .call .given .own) (r g .formed .scoped) B place place (v .placed)
                 refl (end-ends came place (m ∙ ap End j)) in
-                front-here (Nonterminal B) h x i C (there idle l);
+                front-here (Nonterminal B) nonterminal-within nonterminal-there i C (there idle l);
             progress = v .progress;
-            reads = next-reads (Nonterminal B) h x;
-            skipped = next-skipped (Nonterminal B) h x;
+            reads = next-reads (Nonterminal B) nonterminal-within nonterminal-there;
+            skipped = next-skipped (Nonterminal B) nonterminal-within nonterminal-there;
           }
 
       -- one that fails
-      pub running-failed : o ≡ outcome.Failed → RunDone choice words input memo₀ A from start (stopped outcome.Failed at) memo′
+      pub running-failed : entry ≡ failedCode → RunDone choice words input memo₀ A from start (stopped failedCode at) memo′
       unfolding body-at memoRun andThen
       running-failed q = record {
-        model = λ n l. rest-here (Nonterminal B) h x n l ∙ rw (called n l, sym means ∙ ap meant q);
+        model = λ n l. rest-here (Nonterminal B) nonterminal-within nonterminal-there n l ∙ rw (called n l, sym means ∙ ap decode q ∙ failed-code, failed-code);
         sound = d .sound;
-        within = λ e q. absurd (failed-end e q);
+        within = λ e q. absurd (failed-end e (sym failed-code ∙ q));
         skipped = v .skipped;
       }

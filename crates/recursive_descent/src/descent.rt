@@ -10,27 +10,23 @@ use descent_arrays::arrays::CHOICES;
 use descent_arrays::arrays::COLUMN_WEIGHT;
 use descent_arrays::arrays::END_COLUMN;
 use descent_arrays::arrays::ROW_COLUMN;
+use descent_steps::Step;
+use descent_steps::concluded_entry;
+use descent_steps::joined_entry;
+use descent_steps::step_at;
 use grammar::codes::FAILED;
 use grammar::codes::UNCALLED;
 use grammar::limits::PLACES;
-use memo_table::entry::code;
-use memo_table::entry::recall;
 use rule::Agreement;
-use rule::Outcome;
 use rule::Sign;
 use rule::body_end;
-use rule::conclude;
 use rule::goes_on;
-use rule::joined;
 use rule::opening;
 use rule::sign_at;
-use word::Symbol;
-use word::Word;
-use word::decode;
 
-// How a body ran, and the index where it stopped.
+// How a body ran, as the entry of its outcome, and the index where it stopped.
 pub struct Run {
-    pub outcome: Outcome,
+    pub end: u16,
     pub at: usize,
 }
 
@@ -86,41 +82,27 @@ fn run_body(
 {
     let mut at = from;
     let mut place = start;
-    while at < words.len() {
-        let word = decode(words[at]);
-        let Word::Symbol(symbol) = word else {
-            return Run {
-                outcome: Outcome::End(place),
-                at,
-            };
-        };
-        match symbol {
-            Symbol::Terminal(terminal) => {
+    loop {
+        let step = step_at(words, at);
+        match step {
+            Step::Over => {
+                return Run { end: place, at };
+            }
+            Step::Terminal(terminal) => {
                 if !matches(tokens, place, terminal) {
-                    return Run {
-                        outcome: Outcome::Failed,
-                        at,
-                    };
+                    return Run { end: FAILED, at };
                 }
                 place = place + 1;
             }
-            Symbol::Nonterminal(called) => {
-                let entry = call(called as usize, words, choices, tokens, memo, place);
-                let outcome = recall(entry);
-                let Outcome::End(end) = outcome else {
-                    return Run {
-                        outcome: Outcome::Failed,
-                        at,
-                    };
-                };
+            Step::Nonterminal(called) => {
+                let end = call(called as usize, words, choices, tokens, memo, place);
+                if end == FAILED {
+                    return Run { end: FAILED, at };
+                }
                 place = end;
             }
         }
         at = at + 1;
-    }
-    Run {
-        outcome: Outcome::End(place),
-        at,
     }
 }
 
@@ -152,13 +134,11 @@ pub(crate) fn call(
     let mut agreement = first_agreement(choices, nonterminal, sign);
     while goes_on(sign, agreement) {
         let run = run_body(nonterminal, words, choices, tokens, memo, at + 1, place);
-        let outcome = run.outcome;
-        agreement = joined(sign, agreement, outcome);
+        agreement = joined_entry(sign, agreement, run.end);
         at = body_end(words, run.at);
         sign = sign_at(words, at);
     }
-    let outcome = conclude(agreement);
-    let recorded = code(outcome);
+    let recorded = concluded_entry(agreement);
     memo[entry] = recorded;
     recorded
 }

@@ -22,9 +22,8 @@ use Rattle.semantics.specs.Descent.{End, descend}
 use Rattle.semantics.specs.ComesTo.{Call, callAt, InRange}
 use Rattle.semantics.specs.contracts.ComesTo.{measure}
 use Rattle.semantics.specs.Memo.{outcomeCode, entry, Recorded}
-use Rattle.semantics.specs.contracts.Memo.{blank}
+use Rattle.semantics.specs.contracts.Memo.{blank, decode}
 use Rattle.semantics.specs.contracts.MemoDescent.{memoized, memoRun, memoCall}
-use Rattle.rule.specs.contracts.Rule.{meant}
 use Rattle.recursive_descent.specs.declared.descent.Run.{Run}
 use Rattle.descent_arrays.specs.contracts.Arrays.{rowColumn, endMark, columnWeight, heldTokens, rowAt, endAt, firstAt}
 
@@ -103,9 +102,9 @@ pub record CallDone (choice : Choice) (words input memo : List ℕ) (A place r :
 
 pub record RunDone (choice : Choice) (words input memo : List ℕ) (A from start : ℕ) (r : Run) (memo′ : List ℕ) : Type 0 where
   pub model : (n : ℕ) → measure (grammarOf words) input (callAt A start) ≤ n
-      → memoRun (memoCall (grammarOf words) choice input n) input (parse (drop from words) .body) start memo ≡ memoized (meant (r .outcome)) memo′
+      → memoRun (memoCall (grammarOf words) choice input n) input (parse (drop from words) .body) start memo ≡ memoized (decode (r .end)) memo′
   pub sound : MemoSound choice words input memo′
-  pub within : (e : ℕ) → meant (r .outcome) ≡ End e → e ≤ length input
+  pub within : (e : ℕ) → decode (r .end) ≡ End e → e ≤ length input
   pub skipped : Skipped words from (r .at)
 
 -- a call and a run require that the arrays hold some choice, and ensure what they do for each that they hold

@@ -1,20 +1,19 @@
 -- The descent ends and is the one of the semantics: each call gives what its rule gives, and a rule what its bodies agree on.
 -- From a call to a body that it runs, and on to the calls that the body makes, the tokens left fall, or else the rank does.
-use mathlib.Core.Path.{sym, ap, _∙_}
+use mathlib.Core.Path.{sym, _∙_}
 use mathlib.Core.Logic.{⊎-elim}
 use mathlib.Core.Option.{none, some}
 use Prim.Native.Nat.{_+_, _-_, _*_, ℕ, _<_}
 use native.Mathlib.Omega.{arith}
 use lib.ListN.{length, length-set}
 use borrow.Author.Tests.{not-true, not-false}
-use Rattle.word.specs.declared.Word.the-variants.{Symbol}
 use Rattle.semantics.specs.Choices.{Choice}
 use Rattle.descent_arrays.specs.contracts.Arrays.{heldTokens}
 use Rattle.recursive_descent.specs.contracts.Descent.{CallGiven, RunGiven}
-use Rattle.rule.proofs.Bodies.{no-symbol}
 use Rattle.recursive_descent.proofs.Choosing.{token-given, entry-given, chosen-given}
-use Rattle.recursive_descent.proofs.Running.{level, Running, running-as, running-start, running-done, running-over, running-terminal, running-mismatch}
-use Rattle.recursive_descent.proofs.Running.{running-given, running-small, running-falls, running-call, running-failed}
+use Rattle.recursive_descent.proofs.Running.{level, Running, running-as, running-start, running-done, running-terminal, running-mismatch}
+use Rattle.recursive_descent.proofs.Running.{terminal-within, nonterminal-within, running-given, running-small, running-falls}
+use Rattle.recursive_descent.proofs.Running.{running-call, running-failed}
 use Rattle.recursive_descent.proofs.Calling.{InRule, rule-conjunct, rule-run, rule-turn, rule-done}
 use Rattle.recursive_descent.proofs.Storing.{memo-same, index-low, call-known, call-stored}
 use Rattle.recursive_descent.proofs.Starting.{no-rule, rule-chosen, start-rule, select-none, none-fails, encode-failed}
@@ -27,17 +26,15 @@ use Rattle.recursive_descent.proofs.descent.run_body.Reads as run-body
 use Rattle.recursive_descent.proofs.descent.run_body.Kinds as run-body-kinds
 use Rattle.recursive_descent.proofs.descent.+call+run_body.Lts-run_body as run-body-lts
 use Rattle.recursive_descent.proofs.descent.chosen.Reads as chosen-reads
-use Rattle.memo_table.proofs.entry.code.Reads as code-reads
+use Rattle.descent_steps.proofs.concluded_entry.Reads as concluded-entry-reads
 use Rattle.recursive_descent.proofs.descent.entry_of.Reads as entry-of-reads
 use Rattle.recursive_descent.proofs.descent.first_agreement.Reads as first-agreement-reads
 use Rattle.recursive_descent.proofs.descent.matches.Reads as matches-reads
-use Rattle.memo_table.proofs.entry.recall.Reads as recall-reads
+use Rattle.descent_steps.proofs.joined_entry.Reads as joined-entry-reads
+use Rattle.descent_steps.proofs.step_at.Reads as step-at-reads
 use Rattle.rule.proofs.body_end.Reads as body-end-reads
-use Rattle.rule.proofs.conclude.Reads as conclude-reads
 use Rattle.rule.proofs.goes_on.Reads as goes-on-reads
-use Rattle.rule.proofs.joined.Reads as joined-reads
 use Rattle.rule.proofs.sign_at.Reads as sign-at-reads
-use Rattle.word.proofs.decode.Reads as decode-reads
 use Rattle.recursive_descent.proofs.descent.+call+run_body.{statement}
 use Rattle.recursive_descent.proofs.descent.+call+run_body.Tie.{close}
 
@@ -75,26 +72,22 @@ call-claims t = (
   goes-on-reads.Learnt,
   run-body-below t,
   run-body.Post,
-  joined-reads.Asked,
-  joined-reads.Learnt,
+  joined-entry-reads.Asked,
+  joined-entry-reads.Learnt,
   body-end-reads.Asked,
   body-end-reads.Learnt,
-  conclude-reads.Asked,
-  conclude-reads.Learnt,
-  code-reads.Asked,
-  code-reads.Learnt,
+  concluded-entry-reads.Asked,
+  concluded-entry-reads.Learnt,
 )
 
 abbrev run-body-claims : ℕ → run-body-lts.Claims
 run-body-claims t = (
-  decode-reads.Asked,
-  decode-reads.Learnt,
+  step-at-reads.Asked,
+  step-at-reads.Learnt,
   matches-reads.Asked,
   matches-reads.Learnt,
   call-below t,
   call.Post,
-  recall-reads.Asked,
-  recall-reads.Learnt,
 )
 
 abbrev call-Inv-loop : call-lts.InvT-loop
@@ -180,8 +173,9 @@ call-run-body-requires t c κs =
     let goes = sym (at-goes-on .goes-on .ensures) ∙ at-then .if3 .taken in
     (omega (arith, start .pre .0), (_, rule-run (start .pre .1 .1) rule goes))
 
-call-joined-requires : (t : ℕ) → call-lts.Need-joined-requires (call-claims t) (call-at t) call.Post call-Inv-loop call-μ-loop
-call-joined-requires t c κs = tt
+call-joined-entry-requires : (t : ℕ)
+    → call-lts.Need-joined-entry-requires (call-claims t) (call-at t) call.Post call-Inv-loop call-μ-loop
+call-joined-entry-requires t c κs = tt
 
 call-body-end-requires : (t : ℕ) → call-lts.Need-body-end-requires (call-claims t) (call-at t) call.Post call-Inv-loop call-μ-loop
 call-body-end-requires t c κs = tt
@@ -217,24 +211,22 @@ call-loop-again t c =
     λ choice g.
     let rule = at-loop .loop .inv choice g in
     let goes = sym (at-goes-on .goes-on .ensures) ∙ at-then .if3 .taken in
-    rule-turn g rule goes (at-run-body .run-body .ensures choice (rule-run g rule goes)) (at-joined .joined .ensures) (at-body-end .body-end .ensures)
+    rule-turn g rule goes (at-run-body .run-body .ensures choice (rule-run g rule goes)) (at-joined .joined-entry .ensures) (at-body-end .body-end .ensures)
     (c .sign-at2 .ensures)
 
-call-conclude-requires : (t : ℕ) → call-lts.Need-conclude-requires (call-claims t) (call-at t) call.Post call-Inv-loop call-μ-loop
-call-conclude-requires t c κs = tt
-
-call-code-requires : (t : ℕ) → call-lts.Need-code-requires (call-claims t) (call-at t) call.Post call-Inv-loop call-μ-loop
-call-code-requires t c κs = tt
+call-concluded-entry-requires : (t : ℕ)
+    → call-lts.Need-concluded-entry-requires (call-claims t) (call-at t) call.Post call-Inv-loop call-μ-loop
+call-concluded-entry-requires t c κs = tt
 
 call-mul-memo-2 : (t : ℕ) → call-lts.Need-mul-memo-2 (call-claims t) (call-at t) call.Post call-Inv-loop call-μ-loop
 call-mul-memo-2 t c =
-    let at-entry-of = c .before .before .before .before .before .before .before .before .before .before .before in
+    let at-entry-of = c .before .before .before .before .before .before .before .before .before .before in
     let start = at-entry-of .before .before .before in
     omega (arith, index-low (start .pre .1 .1) (at-entry-of .entry-of .ensures))
 
 call-slice-write-memo-2 : (t : ℕ) → call-lts.Need-slice-write-memo-2 (call-claims t) (call-at t) call.Post call-Inv-loop call-μ-loop
 call-slice-write-memo-2 t c =
-    let at-loop = c .before .before .before .before in
+    let at-loop = c .before .before .before in
     let at-entry-of = at-loop .before .before .before .before .before .before .before in
     let start = at-entry-of .before .before .before in
     let rule = at-loop .loop .inv _ (start .pre .1 .1) in
@@ -242,15 +234,14 @@ call-slice-write-memo-2 t c =
 
 call-same-length-2 : (t : ℕ) → call-lts.Need-same-length-2 (call-claims t) (call-at t) call.Post call-Inv-loop call-μ-loop
 call-same-length-2 t c =
-    let at-loop = c .before .before .before .before in
+    let at-loop = c .before .before .before in
     let start = at-loop .before .before .before .before .before .before .before .before .before .before in
     let rule = at-loop .loop .inv _ (start .pre .1 .1) in
     simp length-set (memo-same (rule .calling .sound) (start .pre .1 .1 .given .sound))
 
 call-returns-3 : (t : ℕ) → call-lts.Need-returns-3 (call-claims t) (call-at t) call.Post call-Inv-loop call-μ-loop
 call-returns-3 t c =
-    let at-conclude = c .before in
-    let at-else = at-conclude .before in
+    let at-else = c .before in
     let at-goes-on = at-else .before in
     let at-loop = at-goes-on .before in
     let at-fresh = at-loop .before .before .before .before .before in
@@ -258,7 +249,7 @@ call-returns-3 t c =
     let rule = at-loop .loop .inv choice g in
     let stops = sym (at-goes-on .goes-on .ensures) ∙ at-else .if3 .left in
     call-stored g (at-fresh .before .before .entry-of .ensures) (at-fresh .if1 .left) (some (rule .rule)) (rule .selected)
-    (rule-done g rule stops (at-conclude .conclude .result) (at-conclude .conclude .ensures)) (c .code .ensures)
+    (rule-done g rule stops) (c .concluded-entry .ensures)
 
 abbrev run-body-Inv-loop : run-body-lts.InvT-loop
 run-body-Inv-loop nonterminal words choices tokens memo₀ from start at₀ place₀ memo at place =
@@ -272,173 +263,141 @@ run-body-μ-loop nonterminal words choices tokens memo₀ from start at₀ place
 run-body-loop-holds : (t : ℕ) → run-body-lts.Need-loop-holds (run-body-claims t) (run-body-at t) run-body.Post run-body-Inv-loop run-body-μ-loop
 run-body-loop-holds t c = λ choice g. running-start g
 
-run-body-mul-decode : (t : ℕ) → run-body-lts.Need-mul-decode (run-body-claims t) (run-body-at t) run-body.Post run-body-Inv-loop run-body-μ-loop
-run-body-mul-decode t c = omega arith
+run-body-step-at-requires : (t : ℕ)
+    → run-body-lts.Need-step-at-requires (run-body-claims t) (run-body-at t) run-body.Post run-body-Inv-loop run-body-μ-loop
+run-body-step-at-requires t c κs = tt
 
-run-body-shared-slice-read-decode : (t : ℕ)
-    → run-body-lts.Need-shared-slice-read-decode (run-body-claims t) (run-body-at t) run-body.Post run-body-Inv-loop run-body-μ-loop
-run-body-shared-slice-read-decode t c = omega arith
-
-run-body-decode-requires : (t : ℕ)
-    → run-body-lts.Need-decode-requires (run-body-claims t) (run-body-at t) run-body.Post run-body-Inv-loop run-body-μ-loop
-run-body-decode-requires t c κs = tt
-
-run-body-enum-known-word : (t : ℕ)
-    → run-body-lts.Need-enum-known-word (run-body-claims t) (run-body-at t) run-body.Post run-body-Inv-loop run-body-μ-loop
-run-body-enum-known-word t c = c .match .keys1
+run-body-enum-told : (t : ℕ) → run-body-lts.Need-enum-told (run-body-claims t) (run-body-at t) run-body.Post run-body-Inv-loop run-body-μ-loop
+run-body-enum-told t c = c .match .keys1
 
 run-body-same-length : (t : ℕ) → run-body-lts.Need-same-length (run-body-claims t) (run-body-at t) run-body.Post run-body-Inv-loop run-body-μ-loop
 run-body-same-length t c =
-    let at-loop = c .before .before .before .before in
+    let at-loop = c .before .before .before in
     let start = at-loop .before .before .before in
     memo-same (at-loop .loop .inv _ (start .pre .1 .1) .sound) (start .pre .1 .1 .call .given .sound)
 
 run-body-returns : (t : ℕ) → run-body-lts.Need-returns (run-body-claims t) (run-body-at t) run-body.Post run-body-Inv-loop run-body-μ-loop
 run-body-returns t c =
-    let at-decode = c .before in
-    let at-loop-test = at-decode .before .before in
-    let at-loop = at-loop-test .before in
-    λ choice g.
-    running-done g (at-loop .loop .inv choice g) _ (at-loop-test .loop-test .taken) (at-decode .decode .ensures) (no-symbol _ (c .match .keys2))
+    let at-step-at = c .before .before in
+    let at-loop = at-step-at .before in
+    λ choice g. running-done g (at-loop .loop .inv choice g) (sym (at-step-at .step-at .ensures) ∙ c .enum-told .given .1)
 
-run-body-enum-known-symbol : (t : ℕ)
-    → run-body-lts.Need-enum-known-symbol (run-body-claims t) (run-body-at t) run-body.Post run-body-Inv-loop run-body-μ-loop
-run-body-enum-known-symbol t c = c .match2 .keys1
+run-body-enum-known-step : (t : ℕ)
+    → run-body-lts.Need-enum-known-step (run-body-claims t) (run-body-at t) run-body.Post run-body-Inv-loop run-body-μ-loop
+run-body-enum-known-step t c = c .match .keys2
 
 run-body-matches-requires : (t : ℕ)
     → run-body-lts.Need-matches-requires (run-body-claims t) (run-body-at t) run-body.Post run-body-Inv-loop run-body-μ-loop
 run-body-matches-requires t c κs =
-    let at-loop = c .before .before .before .before .before .before .before .before .before in
+    let at-loop = c .before .before .before .before in
     let start = at-loop .before .before .before in
     token-given (start .pre .1 .1 .call .given) (at-loop .loop .inv _ (start .pre .1 .1) .placed)
 
 run-body-same-length-2 : (t : ℕ) → run-body-lts.Need-same-length-2 (run-body-claims t) (run-body-at t) run-body.Post run-body-Inv-loop run-body-μ-loop
 run-body-same-length-2 t c =
-    let at-loop = c .before .before .before .before .before .before .before .before .before .before .before in
+    let at-loop = c .before .before .before .before .before .before in
     let start = at-loop .before .before .before in
     memo-same (at-loop .loop .inv _ (start .pre .1 .1) .sound) (start .pre .1 .1 .call .given .sound)
 
 run-body-returns-2 : (t : ℕ) → run-body-lts.Need-returns-2 (run-body-claims t) (run-body-at t) run-body.Post run-body-Inv-loop run-body-μ-loop
 run-body-returns-2 t c =
     let at-matches = c .before in
-    let at-symbol = at-matches .before .before in
-    let at-word = at-symbol .before .before .before in
-    let at-decode = at-word .before .before in
-    let at-loop-test = at-decode .before .before in
-    let at-loop = at-loop-test .before in
+    let at-terminal = at-matches .before .before in
+    let at-step-at = at-terminal .before .before in
+    let at-loop = at-step-at .before in
     λ choice g.
-    running-mismatch g (at-loop .loop .inv choice g) _ (at-loop-test .loop-test .taken)
-    (sym (at-decode .decode .ensures) ∙ at-word .word .given .1 ∙ ap Symbol (at-symbol .symbol .given .1))
+    running-mismatch g (at-loop .loop .inv choice g) _ (sym (at-step-at .step-at .ensures) ∙ at-terminal .step .given .1)
     (sym (at-matches .matches .ensures) ∙ not-true _ (c .if1 .taken))
 
 run-body-add-place : (t : ℕ) → run-body-lts.Need-add-place (run-body-claims t) (run-body-at t) run-body.Post run-body-Inv-loop run-body-μ-loop
 run-body-add-place t c =
-    let at-loop = c .before .before .before .before .before .before .before .before .before .before .before in
+    let at-loop = c .before .before .before .before .before .before in
     let start = at-loop .before .before .before in
     omega (arith, at-loop .loop .inv _ (start .pre .1 .1) .placed, start .pre .1 .1 .call .given .short)
 
-run-body-enum-known-symbol-2 : (t : ℕ)
-    → run-body-lts.Need-enum-known-symbol-2 (run-body-claims t) (run-body-at t) run-body.Post run-body-Inv-loop run-body-μ-loop
-run-body-enum-known-symbol-2 t c = c .match2 .keys2
+run-body-enum-known-step-2 : (t : ℕ)
+    → run-body-lts.Need-enum-known-step-2 (run-body-claims t) (run-body-at t) run-body.Post run-body-Inv-loop run-body-μ-loop
+run-body-enum-known-step-2 t c = c .match .keys3
 
 run-body-cast-call : (t : ℕ) → run-body-lts.Need-cast-call (run-body-claims t) (run-body-at t) run-body.Post run-body-Inv-loop run-body-μ-loop
 run-body-cast-call t c =
-    let at-symbol2 = c .before in
-    let at-word = at-symbol2 .before .before .before in
-    let at-decode = at-word .before .before in
-    let at-loop-test = at-decode .before .before in
-    let at-loop = at-loop-test .before in
+    let at-nonterminal = c .before in
+    let at-step-at = at-nonterminal .before .before in
+    let at-loop = at-step-at .before in
     let start = at-loop .before .before .before in
     omega (
       arith,
-      running-small (start .pre .1 .1) (at-loop .loop .inv _ (start .pre .1 .1)) _ (at-loop-test .loop-test .taken)
-          (sym (at-decode .decode .ensures) ∙ at-word .word .given .1 ∙ ap Symbol (at-symbol2 .symbol2 .given .1)),
+      running-small (start .pre .1 .1) (at-loop .loop .inv _ (start .pre .1 .1)) _ (sym (at-step-at .step-at .ensures) ∙ at-nonterminal .step2 .given .1),
     )
 
 run-body-call-requires : (t : ℕ) → run-body-lts.Need-call-requires (run-body-claims t) (run-body-at t) run-body.Post run-body-Inv-loop run-body-μ-loop
 run-body-call-requires t c κs =
-    let at-symbol2 = c .before .before in
-    let at-word = at-symbol2 .before .before .before in
-    let at-decode = at-word .before .before in
-    let at-loop-test = at-decode .before .before in
-    let at-loop = at-loop-test .before in
+    let at-nonterminal = c .before .before in
+    let at-step-at = at-nonterminal .before .before in
+    let at-loop = at-step-at .before in
     let start = at-loop .before .before .before in
     let run = at-loop .loop .inv _ (start .pre .1 .1) in
-    let word = sym (at-decode .decode .ensures) ∙ at-word .word .given .1 ∙ ap Symbol (at-symbol2 .symbol2 .given .1) in (
-      omega (arith, running-falls (start .pre .1 .1) run _ (at-loop-test .loop-test .taken) word, start .pre .0),
-      (_, running-given (start .pre .1 .1) run _ (at-loop-test .loop-test .taken) word),
+    let step = sym (at-step-at .step-at .ensures) ∙ at-nonterminal .step2 .given .1 in (
+      omega (arith, running-falls (start .pre .1 .1) run _ step, start .pre .0),
+      (_, running-given (start .pre .1 .1) run _ step),
     )
-
-run-body-recall-requires : (t : ℕ) → run-body-lts.Need-recall-requires (run-body-claims t) (run-body-at t) run-body.Post run-body-Inv-loop run-body-μ-loop
-run-body-recall-requires t c κs = tt
-
-run-body-enum-known-outcome : (t : ℕ)
-    → run-body-lts.Need-enum-known-outcome (run-body-claims t) (run-body-at t) run-body.Post run-body-Inv-loop run-body-μ-loop
-run-body-enum-known-outcome t c = c .match3 .keys1
-
-run-body-enum-told : (t : ℕ) → run-body-lts.Need-enum-told (run-body-claims t) (run-body-at t) run-body.Post run-body-Inv-loop run-body-μ-loop
-run-body-enum-told t c = c .match3 .keys2
 
 run-body-same-length-3 : (t : ℕ) → run-body-lts.Need-same-length-3 (run-body-claims t) (run-body-at t) run-body.Post run-body-Inv-loop run-body-μ-loop
 run-body-same-length-3 t c =
-    let at-call = c .before .before .before .before .before in
-    let at-symbol2 = at-call .before .before .before in
-    let at-word = at-symbol2 .before .before .before in
-    let at-decode = at-word .before .before in
-    let at-loop-test = at-decode .before .before in
-    let at-loop = at-loop-test .before in
+    let at-call = c .before .before .before in
+    let at-nonterminal = at-call .before .before .before in
+    let at-step-at = at-nonterminal .before .before in
+    let at-loop = at-step-at .before in
     let start = at-loop .before .before .before in
     let run = at-loop .loop .inv _ (start .pre .1 .1) in
-    let word = sym (at-decode .decode .ensures) ∙ at-word .word .given .1 ∙ ap Symbol (at-symbol2 .symbol2 .given .1) in
-    memo-same (at-call .call .ensures _ (running-given (start .pre .1 .1) run _ (at-loop-test .loop-test .taken) word) .sound)
-    (start .pre .1 .1 .call .given .sound)
+    let step = sym (at-step-at .step-at .ensures) ∙ at-nonterminal .step2 .given .1 in
+    memo-same (at-call .call .ensures _ (running-given (start .pre .1 .1) run _ step) .sound) (start .pre .1 .1 .call .given .sound)
 
 run-body-returns-3 : (t : ℕ) → run-body-lts.Need-returns-3 (run-body-claims t) (run-body-at t) run-body.Post run-body-Inv-loop run-body-μ-loop
 run-body-returns-3 t c =
-    let at-recall = c .before .before in
-    let at-call = at-recall .before .before .before in
-    let at-symbol2 = at-call .before .before .before in
-    let at-word = at-symbol2 .before .before .before in
-    let at-decode = at-word .before .before in
-    let at-loop-test = at-decode .before .before in
-    let at-loop = at-loop-test .before in
+    let at-call = c .before .before .before in
+    let at-nonterminal = at-call .before .before .before in
+    let at-step-at = at-nonterminal .before .before in
+    let at-loop = at-step-at .before in
     λ choice g.
-    let word = sym (at-decode .decode .ensures) ∙ at-word .word .given .1 ∙ ap Symbol (at-symbol2 .symbol2 .given .1) in
-    running-failed g (at-loop .loop .inv choice g) _ (at-loop-test .loop-test .taken) word
-    (at-call .call .ensures choice (running-given g (at-loop .loop .inv choice g) _ (at-loop-test .loop-test .taken) word)) _
-    (at-recall .recall .ensures) (c .enum-told .given .1)
+    let run = at-loop .loop .inv choice g in
+    let step = sym (at-step-at .step-at .ensures) ∙ at-nonterminal .step2 .given .1 in
+    running-failed g run _ step (at-call .call .ensures choice (running-given g run _ step)) (c .if2 .taken)
 
 run-body-add-at : (t : ℕ) → run-body-lts.Need-add-at (run-body-claims t) (run-body-at t) run-body.Post run-body-Inv-loop run-body-μ-loop
-run-body-add-at t c = omega arith
+run-body-add-at t c =
+    let at-step-at = c .before in
+    let at-loop = at-step-at .before in
+    let start = at-loop .before .before .before in
+    omega (arith, at-loop .loop .inv _ (start .pre .1 .1) .skipped .within)
 
 run-body-loop-less : (t : ℕ) → run-body-lts.Need-loop-less (run-body-claims t) (run-body-at t) run-body.Post run-body-Inv-loop run-body-μ-loop
-run-body-loop-less t c = omega arith
+run-body-loop-less t c =
+    let at-step-at = c .before in
+    let at-loop = at-step-at .before in
+    let start = at-loop .before .before .before in
+    let run = at-loop .loop .inv _ (start .pre .1 .1) in
+    let step = sym (at-step-at .step-at .ensures) in
+    ⊎-elim
+    (λ w. omega (arith, terminal-within (start .pre .1 .1) run _ (step ∙ w .1 .given .1)))
+    (λ w. omega (arith, nonterminal-within (start .pre .1 .1) run _ (step ∙ w .1 .given .1)))
+    (c .match .came)
 
 run-body-loop-again : (t : ℕ) → run-body-lts.Need-loop-again (run-body-claims t) (run-body-at t) run-body.Post run-body-Inv-loop run-body-μ-loop
 run-body-loop-again t c =
-    let at-word = c .before .before in
-    let at-decode = at-word .before .before in
-    let at-loop-test = at-decode .before .before in
-    let at-loop = at-loop-test .before in
+    let at-step-at = c .before in
+    let at-loop = at-step-at .before in
     λ choice given.
     let run = at-loop .loop .inv choice given in
-    let low = at-loop-test .loop-test .taken in
-    let word = sym (at-decode .decode .ensures) ∙ at-word .word .given .1 in
+    let step = sym (at-step-at .step-at .ensures) in
     ⊎-elim
     (λ w.
     running-as (w .5) (w .6)
-    (running-terminal given run _ low (word ∙ ap Symbol (w .1 .given .1)) (sym (w .3 .ensures) ∙ not-false _ (w .4 .left))))
-    (λ w. running-as (w .11) (w .12) (running-call given run _ low (word ∙ ap Symbol (w .1 .given .1))
-    (w .4 .ensures choice (running-given given run _ low (word ∙ ap Symbol (w .1 .given .1)))) _ (w .7 .ensures) _ (w .9 .given .1)))
-    (c .match2 .came)
-
-run-body-same-length-4 : (t : ℕ) → run-body-lts.Need-same-length-4 (run-body-claims t) (run-body-at t) run-body.Post run-body-Inv-loop run-body-μ-loop
-run-body-same-length-4 t c =
-    let start = c .before .before .before .before in
-    memo-same (c .before .loop .inv _ (start .pre .1 .1) .sound) (start .pre .1 .1 .call .given .sound)
-
-run-body-returns-4 : (t : ℕ) → run-body-lts.Need-returns-4 (run-body-claims t) (run-body-at t) run-body.Post run-body-Inv-loop run-body-μ-loop
-run-body-returns-4 t c = λ choice g. running-over g (c .before .loop .inv choice g) (c .loop-test .left)
+    (running-terminal given run _ (step ∙ w .1 .given .1) (sym (w .3 .ensures) ∙ not-false _ (w .4 .left))))
+    (λ w.
+    running-as (w .8) (w .9)
+    (running-call given run _ (step ∙ w .1 .given .1) (w .4 .ensures choice (running-given given run _ (step ∙ w .1 .given .1))) (w .7 .left)))
+    (c .match .came)
 
 pub +call+run-body-spec : {M : Type 1} → statement M
 +call+run-body-spec = close μ-call μ-run-body (λ t. call-lts.spec (call-claims t)
@@ -461,53 +420,36 @@ pub +call+run-body-spec : {M : Type 1} → statement M
     (call-goes-on-requires t)
     (call-add-run-body t)
     (call-run-body-requires t)
-    (call-joined-requires t)
+    (call-joined-entry-requires t)
     (call-body-end-requires t)
     (call-sign-at-requires-2 t)
     (call-loop-less t)
     (call-loop-again t)
-    (call-conclude-requires t)
-    (call-code-requires t)
+    (call-concluded-entry-requires t)
     (call-mul-memo-2 t)
     (call-slice-write-memo-2 t)
     (call-same-length-2 t)
     (call-returns-3 t))
-    λ t. run-body-lts.spec (
-      decode-reads.Asked,
-      decode-reads.Learnt,
-      matches-reads.Asked,
-      matches-reads.Learnt,
-      call-below t,
-      call.Post,
-      recall-reads.Asked,
-      recall-reads.Learnt,
-    )
+    λ t. run-body-lts.spec (run-body-claims t)
     (run-body-at t)
     run-body.Post
     run-body-Inv-loop
     run-body-μ-loop
     (run-body-loop-holds t)
-    (run-body-mul-decode t)
-    (run-body-shared-slice-read-decode t)
-    (run-body-decode-requires t)
-    (run-body-enum-known-word t)
+    (run-body-step-at-requires t)
+    (run-body-enum-told t)
     (run-body-same-length t)
     (run-body-returns t)
-    (run-body-enum-known-symbol t)
+    (run-body-enum-known-step t)
     (run-body-matches-requires t)
     (run-body-same-length-2 t)
     (run-body-returns-2 t)
     (run-body-add-place t)
-    (run-body-enum-known-symbol-2 t)
+    (run-body-enum-known-step-2 t)
     (run-body-cast-call t)
     (run-body-call-requires t)
-    (run-body-recall-requires t)
-    (run-body-enum-known-outcome t)
-    (run-body-enum-told t)
     (run-body-same-length-3 t)
     (run-body-returns-3 t)
     (run-body-add-at t)
     (run-body-loop-less t)
     (run-body-loop-again t)
-    (run-body-same-length-4 t)
-    (run-body-returns-4 t)

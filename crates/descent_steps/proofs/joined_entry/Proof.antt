@@ -1,0 +1,14 @@
+use Rattle.descent_steps.proofs.joined_entry.Statement.{statement}
+use Rattle.descent_steps.proofs.joined_entry.Tie as tie
+
+recall-requires : tie.Need-recall-requires
+recall-requires c κs = tt
+
+joined-requires : tie.Need-joined-requires
+joined-requires c κs = tt
+
+returns : tie.Need-returns
+returns c = rw (← c .before .recall .ensures) (c .joined .ensures)
+
+pub joined-entry-spec : {M : Type 1} → statement M
+joined-entry-spec = tie.close (tie.spec recall-requires joined-requires returns)

@@ -1,0 +1,73 @@
+// The steps of the descent that need no memo table: the next symbol of a body, and how a rule's agreement takes and gives entries.
+ghost use mathlib.Core.Path.{_≡_};
+ghost use Rattle.semantics.specs.Memo.{outcomeCode};
+ghost use Rattle.semantics.specs.contracts.Memo.{decode as outcomeOf};
+ghost use Rattle.rule.specs.contracts.Rule.{joinedBy, concluded};
+ghost use Rattle.descent_steps.specs.contracts.Steps.{symbolStep, stepOf, stepAt};
+use memo_table::entry::code;
+use memo_table::entry::recall;
+use rule::Agreement;
+use rule::Sign;
+use rule::conclude;
+use rule::joined;
+use word::Symbol;
+use word::Word;
+use word::decode;
+
+// What a body does at an index: it takes a terminal, calls a nonterminal, or is over.
+pub enum Step {
+    Terminal(u32),
+    Nonterminal(u32),
+    Over,
+}
+
+fn symbol_step(symbol: Symbol) -> Step
+    ensures { λ r. ⌜ r ≡ symbolStep symbol ⌝ }
+{
+    match symbol {
+        Symbol::Terminal(terminal) => Step::Terminal(terminal),
+        Symbol::Nonterminal(called) => Step::Nonterminal(called),
+    }
+}
+
+fn step_of(word: Word) -> Step
+    ensures { λ r. ⌜ r ≡ stepOf word ⌝ }
+{
+    match word {
+        Word::Symbol(symbol) => symbol_step(symbol),
+        Word::Positive => Step::Over,
+        Word::Negative => Step::Over,
+        Word::Rule(_) => Step::Over,
+        Word::End => Step::Over,
+        Word::Heading {
+            nonterminals: _,
+            terminals: _,
+        } => Step::Over,
+        Word::Invalid => Step::Over,
+    }
+}
+
+// A body is over at a word that is no symbol, and where the words end.
+pub fn step_at(words: &[u32], at: usize) -> Step
+    ensures { λ r. ⌜ r ≡ stepAt (now (words .entry)) at ⌝ }
+{
+    if at < words.len() {
+        step_of(decode(words[at]))
+    } else {
+        Step::Over
+    }
+}
+
+// The agreement after one body more, by the entry of the body's outcome.
+pub fn joined_entry(sign: Sign, agreement: Agreement, entry: u16) -> Agreement
+    ensures { λ r. ⌜ r ≡ joinedBy sign agreement (outcomeOf entry) ⌝ }
+{
+    joined(sign, agreement, recall(entry))
+}
+
+// The entry of what the bodies of a rule have agreed on.
+pub fn concluded_entry(agreement: Agreement) -> u16
+    ensures { λ r. ⌜ r ≡ outcomeCode (concluded agreement) ⌝ }
+{
+    code(conclude(agreement))
+}
