@@ -36,6 +36,9 @@ use Rattle.semantics.specs.contracts.Memo.{decode}
 use Rattle.semantics.proofs.meaning.Rank.{level-onward}
 use Rattle.semantics.proofs.descent.Outcomes.{end-ends}
 use Rattle.semantics.proofs.descent.Ends.{descend-forward, descend-null}
+use Rattle.rule.specs.declared.Outcome as code
+use Rattle.rule.specs.declared.Outcome.the-variants as outcome
+use Rattle.rule.specs.contracts.Rule.{meant}
 use Rattle.descent_steps.specs.declared.Step.the-variants as step
 use Rattle.descent_steps.specs.declared.Step.the-variants.{Over}
 use Rattle.descent_steps.specs.contracts.Steps.{stepAt}
@@ -287,19 +290,19 @@ module _ {choice : Choice} {words choices tokens input memo₀ : List ℕ} {A fr
     forward e t = descend-forward (grammarOf words) choice input (g .call .given .own) B place e (v .placed) t
 
     -- its outcome, by the entry that the call returns
-    module _ {entry : ℕ} {memo′ : List ℕ} (d : CallDone choice words input memo B place entry memo′) where
-      means : decode entry ≡ came
-      means = ap decode (d .told) ∙ decode-encode (length input) came (omega (arith, g .call .given .short)) (λ e t. forward e t .1)
+    module _ {entry : ℕ} {memo′ : List ℕ} (d : CallDone choice words input memo B place entry memo′) (o : code.Outcome) (recalled : meant o ≡ decode entry) where
+      means : meant o ≡ came
+      means = recalled ∙ ap decode (d .told) ∙ decode-encode (length input) came (omega (arith, g .call .given .short)) (λ e t. forward e t .1)
 
       called : (n : ℕ) → level words input A start ≤ n → deep choice words input n B place memo ≡ memoized came memo′
       called n l = d .model n (omega (arith, running-falls))
 
       -- one that ends
-      pub running-call : (entry ≡ failedCode → ⊥) → Running choice words input memo₀ A from start memo′ (at + 1) entry
+      pub running-call : (e : ℕ) → o ≡ outcome.End e → Running choice words input memo₀ A from start memo′ (at + 1) e
       unfolding memoRun andThen
-      running-call q =
-          let m : came ≡ End entry = sym means ∙ end-code entry q in
-          let f = forward entry (end-ends came entry m) in
+      running-call e q =
+          let m : came ≡ End e = sym means ∙ ap meant q in
+          let f = forward e (end-ends came e m) in
           record {
             behind = omega (arith, v .behind);
             placed = f .1;
@@ -309,7 +312,7 @@ module _ {choice : Choice} {words choices tokens input memo₀ : List ℕ} {A fr
             own = own-here (Nonterminal B) nonterminal-within nonterminal-there;
             front = λ s C l.
                 let i : place ≡ start = omega (arith, v .behind) in
-                let j : entry ≡ place = omega arith in
+                let j : e ≡ place = omega arith in
                 let idle : T (nullable (grammarOf words) B) =
                 descend-null (grammarOf words) choice input (g .call .given .own) (r g .formed .scoped) B place place (v .placed)
                 refl (end-ends came place (m ∙ ap End j)) in
@@ -320,10 +323,10 @@ module _ {choice : Choice} {words choices tokens input memo₀ : List ℕ} {A fr
           }
 
       -- one that fails
-      pub running-failed : entry ≡ failedCode → RunDone choice words input memo₀ A from start (stopped failedCode at) memo′
+      pub running-failed : o ≡ outcome.Failed → RunDone choice words input memo₀ A from start (stopped failedCode at) memo′
       unfolding body-at memoRun andThen
       running-failed q = record {
-        model = λ n l. rest-here (Nonterminal B) nonterminal-within nonterminal-there n l ∙ rw (called n l, sym means ∙ ap decode q ∙ failed-code, failed-code);
+        model = λ n l. rest-here (Nonterminal B) nonterminal-within nonterminal-there n l ∙ rw (called n l, sym means ∙ ap meant q, failed-code);
         sound = d .sound;
         within = λ e q. absurd (failed-end e (sym failed-code ∙ q));
         skipped = v .skipped;

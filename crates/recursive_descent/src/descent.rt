@@ -17,7 +17,9 @@ use descent_steps::step_at;
 use grammar::codes::FAILED;
 use grammar::codes::UNCALLED;
 use grammar::limits::PLACES;
+use memo_table::entry::recall;
 use rule::Agreement;
+use rule::Outcome;
 use rule::Sign;
 use rule::body_end;
 use rule::goes_on;
@@ -95,10 +97,11 @@ fn run_body(
                 place = place + 1;
             }
             Step::Nonterminal(called) => {
-                let end = call(called as usize, words, choices, tokens, memo, place);
-                if end == FAILED {
+                let entry = call(called as usize, words, choices, tokens, memo, place);
+                let outcome = recall(entry);
+                let Outcome::End(end) = outcome else {
                     return Run { end: FAILED, at };
-                }
+                };
                 place = end;
             }
         }

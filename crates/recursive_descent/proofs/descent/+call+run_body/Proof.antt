@@ -32,6 +32,7 @@ use Rattle.recursive_descent.proofs.descent.first_agreement.Reads as fi
 use Rattle.recursive_descent.proofs.descent.matches.Reads as matches-reads
 use Rattle.descent_steps.proofs.joined_entry.Reads as joined-entry-reads
 use Rattle.descent_steps.proofs.step_at.Reads as step-at-reads
+use Rattle.memo_table.proofs.entry.recall.Reads as recall-reads
 use Rattle.rule.proofs.body_end.Reads as body-end-reads
 use Rattle.rule.proofs.goes_on.Reads as goes-on-reads
 use Rattle.rule.proofs.sign_at.Reads as sign-at-reads
@@ -88,6 +89,8 @@ run-body-claims t = (
   matches-reads.Learnt,
   call-below t,
   call.Post,
+  recall-reads.Asked,
+  recall-reads.Learnt,
 )
 
 abbrev call-Inv-loop : call-lts.InvT-loop
@@ -342,9 +345,19 @@ run-body-call-requires t c κs =
       (_, running-given (start .pre .1 .1) run _ step),
     )
 
+run-body-recall-requires : (t : ℕ) → run-body-lts.Need-recall-requires (run-body-claims t) (run-body-at t) run-body.Post run-body-Inv-loop run-body-μ-loop
+run-body-recall-requires t c κs = tt
+
+run-body-enum-known-outcome : (t : ℕ)
+    → run-body-lts.Need-enum-known-outcome (run-body-claims t) (run-body-at t) run-body.Post run-body-Inv-loop run-body-μ-loop
+run-body-enum-known-outcome t c = c .match2 .keys1
+
+run-body-enum-told-2 : (t : ℕ) → run-body-lts.Need-enum-told-2 (run-body-claims t) (run-body-at t) run-body.Post run-body-Inv-loop run-body-μ-loop
+run-body-enum-told-2 t c = c .match2 .keys2
+
 run-body-same-length-3 : (t : ℕ) → run-body-lts.Need-same-length-3 (run-body-claims t) (run-body-at t) run-body.Post run-body-Inv-loop run-body-μ-loop
 run-body-same-length-3 t c =
-    let at-call = c .before .before .before in
+    let at-call = c .before .before .before .before .before in
     let at-nonterminal = at-call .before .before .before in
     let at-step-at = at-nonterminal .before .before in
     let at-loop = at-step-at .before in
@@ -355,14 +368,15 @@ run-body-same-length-3 t c =
 
 run-body-returns-3 : (t : ℕ) → run-body-lts.Need-returns-3 (run-body-claims t) (run-body-at t) run-body.Post run-body-Inv-loop run-body-μ-loop
 run-body-returns-3 t c =
-    let at-call = c .before .before .before in
+    let at-recall = c .before .before in
+    let at-call = at-recall .before .before .before in
     let at-nonterminal = at-call .before .before .before in
     let at-step-at = at-nonterminal .before .before in
     let at-loop = at-step-at .before in
     λ choice g.
     let run = at-loop .loop .inv choice g in
     let step = sym (at-step-at .step-at .ensures) ∙ at-nonterminal .step2 .given .1 in
-    running-failed g run _ step (at-call .call .ensures choice (running-given g run _ step)) (c .if2 .taken)
+    running-failed g run _ step (at-call .call .ensures choice (running-given g run _ step)) _ (at-recall .recall .ensures) (c .enum-told2 .given .1)
 
 run-body-add-at : (t : ℕ) → run-body-lts.Need-add-at (run-body-claims t) (run-body-at t) run-body.Post run-body-Inv-loop run-body-μ-loop
 run-body-add-at t c =
@@ -395,8 +409,9 @@ run-body-loop-again t c =
     running-as (w .5) (w .6)
     (running-terminal given run _ (step ∙ w .1 .given .1) (sym (w .3 .ensures) ∙ not-false _ (w .4 .left))))
     (λ w.
-    running-as (w .8) (w .9)
-    (running-call given run _ (step ∙ w .1 .given .1) (w .4 .ensures choice (running-given given run _ (step ∙ w .1 .given .1))) (w .7 .left)))
+    running-as (w .11) (w .12)
+    (running-call given run _ (step ∙ w .1 .given .1) (w .4 .ensures choice (running-given given run _ (step ∙ w .1 .given .1)))
+    _ (w .7 .ensures) _ (w .9 .given .1)))
     (c .match .came)
 
 pub +call+run-body-spec : {M : Type 1} → statement M
@@ -448,6 +463,9 @@ pub +call+run-body-spec : {M : Type 1} → statement M
     (run-body-enum-known-step-2 t)
     (run-body-cast-call t)
     (run-body-call-requires t)
+    (run-body-recall-requires t)
+    (run-body-enum-known-outcome t)
+    (run-body-enum-told-2 t)
     (run-body-same-length-3 t)
     (run-body-returns-3 t)
     (run-body-add-at t)
