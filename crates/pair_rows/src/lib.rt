@@ -31,18 +31,20 @@ fn firsts(set: LookaheadSet) -> LookaheadSet
     }
 }
 
-// What is looked at where terminal l alone is followed by a string of other: l and what that begins with, or l alone before nothing.
+// What is looked at where terminal l alone is followed by a string of other: l and what that begins with, and l alone before nothing, which
+// comes seldom.
 pub fn row(l: u32, other: LookaheadSet) -> LookaheadSet
     ensures { λ r. ⌜ Concatenated Two (terminal Two l) (other .bits) (r .bits) ⌝ }
 {
-    if l < TERMINALS_OF_TWO {
-        let alone = 1 + l;
-        let ends = other.bits & 1;
-        LookaheadSet {
-            bits: firsts(other).bits << TERMINALS_OF_TWO * alone | ends << alone,
-        }
-    } else {
-        LookaheadSet::empty()
+    if TERMINALS_OF_TWO <= l {
+        return LookaheadSet::empty();
+    }
+    let pairs = firsts(other).bits << TERMINALS_OF_TWO + TERMINALS_OF_TWO * l;
+    if other.bits & 1 == 0 {
+        return LookaheadSet { bits: pairs };
+    }
+    LookaheadSet {
+        bits: pairs | 1u64 << 1 + l,
     }
 }
 
