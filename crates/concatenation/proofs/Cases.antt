@@ -3,10 +3,11 @@ use mathlib.Core.Path.{_≡_, refl, sym, ap, _∙_}
 use mathlib.Core.Bool.{Bool, true, false, _&&_, and-true, and-false}
 use mathlib.Core.List.{[], _∷_}
 use Prim.Native.Nat.{ℕ, _+_, _-_, _*_, _/_, _%_, _^_, _≤_, _<_}
+use native.Mathlib.Nat.{mod-eq-of-lt}
 use native.Mathlib.Omega.{arith}
 use native.Mathlib.Decide.{decLt, ℕ-discrete}
 use lib.Bits.{bitAnd, and-mask}
-use lib.Dec.{T, eqb, ltb, ltb→lt}
+use lib.Dec.{T, eqb, ltb, ltb→lt, eqb→eq}
 use lib.Pow.{shl-exact, ones-lt}
 use borrow.Author.Tests.{lt-ltb, le-ltb, eqb-true}
 use Rattle.base.specs.Choice.{choose}
@@ -15,10 +16,11 @@ use Rattle.lookahead.specs.declared.Lookahead.the-variants.{One, Two}
 use Rattle.lookahead.specs.contracts.Lookaheads.{alphabet, single}
 use Rattle.lookahead.specs.Lookaheads.{elements, elementOf}
 use Rattle.lookahead.specs.Elements.{has, width}
-use Rattle.lookahead.specs.contracts.Operations.{Empty}
-use Rattle.concatenation.specs.contracts.Computing.{Has, Singles, isLong, AllLong}
-use Rattle.base.proofs.Booleans.{true-T}
-use Rattle.lookahead.proofs.Elements.{has-above, has-zero, has-shift}
+use Rattle.lookahead.specs.contracts.Operations.{terminal, Empty, Terminal}
+use Rattle.pair_rows.specs.contracts.Rows.{Has}
+use Rattle.concatenation.specs.contracts.Computing.{Singles, isLong, AllLong}
+use Rattle.base.proofs.Booleans.{true-T, and-l, and-r}
+use Rattle.lookahead.proofs.Elements.{has-above, has-zero, has-shift, bound}
 use Rattle.lookahead.proofs.Powers.{has-ones}
 use Rattle.lookahead.proofs.Digits.{shifted, has-mask, has-under, has-over, moved}
 use Rattle.lookahead.proofs.Strings.{two-single, two-pair, one-terminal, string-nothing}
@@ -131,6 +133,20 @@ all-long-two s h l t = go (decLt l 8)
     go : Dec (l < 8) → T (isLong Two l)
     go (yes b) = absurd (rw (sym (rw (lt-ltb l 8 b) at (has-mask s 8 l)), none, has-zero l) at t)
     go (no b) = true-T (isLong Two l) (two-long l (omega arith))
+
+-- with one token, the set of a terminal
+terminal-is : {a r : ℕ} → Terminal One a r → (l : ℕ) → T (has r l) → (l < 24)
+terminal-is {a} t l h =
+    let u = rw (t .member l) at h in
+    let b = ltb→lt a 24 (and-l (ltb a 24) (eqb l a) u) in
+    let e = eqb→eq l a (and-r (ltb a 24) (eqb l a) u) in
+    omega arith
+
+pub terminal-whole : {a r : ℕ} → Terminal One a r → r ≡ terminal One a % 2 ^ 25
+terminal-whole {a} {r} t = sym (mod-eq-of-lt (bound 25 r (λ l h. omega (arith, terminal-is t l h)))) ∙ ap (λ (n : ℕ). n % 2 ^ 25) (t .is)
+
+pub terminal-long : {a r : ℕ} → Terminal One a r → AllLong One r
+terminal-long {a} {r} t l h = true-T (isLong One l) (one-long l (terminal-is t l h))
 
 -- a set that is there only if a test is passed
 pub if-passed : (b : Bool) (y : ℕ) → b ≡ true → Has y (λ l. b && has y l)

@@ -1,4 +1,3 @@
-pub mod PairRows
 pub mod Cases
 pub mod Parts
 pub mod FullSet

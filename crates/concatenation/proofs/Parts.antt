@@ -17,7 +17,8 @@ use Rattle.lookahead.specs.Lookaheads.{tokens, elements, nothing, elementOf, st
 use Rattle.lookahead.specs.contracts.Lookaheads.{elementAfter}
 use Rattle.lookahead.specs.Elements.{has}
 use Rattle.lookahead.specs.contracts.Operations.{isEmpty, Joined, elementBehind, inConcat, concatNumbers, Concatenated}
-use Rattle.concatenation.specs.contracts.Computing.{Has, isLong, AllLong, inRows}
+use Rattle.pair_rows.specs.contracts.Rows.{Has, inRows}
+use Rattle.concatenation.specs.contracts.Computing.{isLong, AllLong}
 use Rattle.lookahead.proofs.Elements.{same-elements}
 use Rattle.lookahead.proofs.Emptiness.{empty-none, some-element}
 use Rattle.lookahead.proofs.Digits.{has-mask}

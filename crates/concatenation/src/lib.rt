@@ -1,15 +1,15 @@
 // One lookahead set behind the other: what is looked at where a string of the first is followed by one of the second, and the set of all strings.
 ghost use mathlib.Core.Path.{_≡_};
 ghost use mathlib.Core.Bool.{true, _&&_};
-ghost use Prim.Native.Nat.{suc, _%_, _^_, _<_};
-ghost use lib.Dec.{eqb, ltb};
+ghost use Prim.Native.Nat.{_%_, _^_, _<_};
+ghost use lib.Dec.{ltb};
 ghost use Rattle.base.specs.Choice.{choose};
 ghost use Rattle.lookahead.specs.declared.Lookahead.the-variants.{One, Two};
 ghost use Rattle.lookahead.specs.Lookaheads.{elements, nothing};
 ghost use Rattle.lookahead.specs.Elements.{has};
-ghost use Rattle.lookahead.specs.contracts.Operations.{Full, Concatenated, elementBehind};
-ghost use Rattle.concatenation.specs.contracts.Computing.{Has, Singles, isLong, AllLong, begins, noSingle, inRows};
-use grammar::limits::TERMINALS_OF_TWO;
+ghost use Rattle.lookahead.specs.contracts.Operations.{terminal, Full, Concatenated};
+ghost use Rattle.pair_rows.specs.contracts.Rows.{Has};
+ghost use Rattle.concatenation.specs.contracts.Computing.{Singles, isLong, AllLong};
 use lookahead::Lookahead;
 use lookahead::NOTHING;
 use lookahead::PAIRS;
@@ -18,6 +18,8 @@ use lookahead::element_count;
 use lookahead::nothing;
 use lookahead::single;
 use lookahead_sets::LookaheadSet;
+use pair_rows::row;
+use pair_rows::rows;
 
 // Without the numbers that are no elements.
 fn strings(set: LookaheadSet, lookahead: Lookahead) -> LookaheadSet
@@ -48,85 +50,6 @@ fn all_pairs(set: LookaheadSet) -> bool
     ensures { λ r. ⌜ (r ≡ true → AllLong Two (set .bits)) ⌝ }
 {
     set.bits & (1 << PAIRS) - 1 == 0
-}
-
-// With two tokens, whether a string begins with a terminal.
-fn begins(set: LookaheadSet, terminal: u32) -> bool
-    requires { ⌜ terminal < 7 ⌝ }
-    ensures { λ r. ⌜ r ≡ begins (set .bits) terminal ⌝ }
-{
-    let pairs = set.bits >> PAIRS + TERMINALS_OF_TWO * terminal;
-    if set.contains(1 + terminal) {
-        true
-    } else {
-        pairs & (1 << TERMINALS_OF_TWO) - 1 != 0
-    }
-}
-
-// With two tokens, the terminal alone where a string begins with it, as a set for one token.
-fn first(set: LookaheadSet, terminal: u32) -> LookaheadSet
-    requires { ⌜ terminal < 7 ⌝ }
-    ensures { λ r. ⌜ Has (r .bits) (λ l. begins (set .bits) terminal && eqb l terminal) ⌝ }
-{
-    if begins(set, terminal) {
-        LookaheadSet::terminal(Lookahead::One, terminal)
-    } else {
-        LookaheadSet::empty()
-    }
-}
-
-// With two tokens, what the strings begin with, as a set for one token.
-fn firsts(set: LookaheadSet) -> LookaheadSet
-    ensures { λ r. ⌜ Has (r .bits) (λ l. ltb l 7 && begins (set .bits) l) ⌝ }
-{
-    let mut firsts = LookaheadSet::empty();
-    let mut terminal = 0u32;
-    while terminal < TERMINALS_OF_TWO {
-        firsts = first(set, terminal).join(firsts);
-        terminal = terminal + 1;
-    }
-    firsts
-}
-
-// With two tokens, what is looked at where terminal l alone, if it is in the set, is followed by a string of other, of which firsts has the
-// first tokens: l and one of them, or l alone before nothing.
-fn row(set: LookaheadSet, l: u32, other: LookaheadSet, firsts: LookaheadSet) -> LookaheadSet
-    requires { ⌜ (l < 7) × Has (firsts .bits) (λ r. ltb r 7 && begins (other .bits) r) ⌝ }
-    ensures { λ r. ⌜ Has (r .bits) (λ c. has (set .bits) (suc l) && elementBehind Two (suc l) (other .bits) c) ⌝ }
-{
-    let alone = 1 + l;
-    if set.contains(alone) {
-        let ends = other.bits & 1;
-        LookaheadSet {
-            bits: firsts.bits << PAIRS + TERMINALS_OF_TWO * l | ends << alone,
-        }
-    } else {
-        LookaheadSet::empty()
-    }
-}
-
-// With two tokens, whether no terminal alone is in the set.
-fn no_single(set: LookaheadSet) -> bool
-    ensures { λ r. ⌜ r ≡ noSingle (set .bits) ⌝ }
-{
-    set.bits >> 1 & (1 << TERMINALS_OF_TWO) - 1 == 0
-}
-
-// With two tokens, what is looked at where a terminal alone is followed by a string of other.
-fn rows(set: LookaheadSet, other: LookaheadSet) -> LookaheadSet
-    ensures { λ r. ⌜ Has (r .bits) (inRows (set .bits) (other .bits) 7) ⌝ }
-{
-    if no_single(set) {
-        return LookaheadSet::empty();
-    }
-    let firsts = firsts(other);
-    let mut rows = LookaheadSet::empty();
-    let mut l = 0u32;
-    while l < TERMINALS_OF_TWO {
-        rows = row(set, l, other, firsts).join(rows);
-        l = l + 1;
-    }
-    rows
 }
 
 // With two tokens, other, where nothing can come before it.
@@ -181,6 +104,28 @@ pub fn concat(set: LookaheadSet, lookahead: Lookahead, other: LookaheadSet) -> L
     match lookahead {
         Lookahead::One => concat_one(set, other),
         Lookahead::Two => concat_two(set, other),
+    }
+}
+
+// With one token, a terminal, unless nothing at all comes behind it.
+fn before_one(number: u32, other: LookaheadSet) -> LookaheadSet
+    ensures { λ r. ⌜ Concatenated One (terminal One number) (other .bits) (r .bits) ⌝ }
+{
+    let second = strings(other, Lookahead::One);
+    if second.is_empty() {
+        second
+    } else {
+        LookaheadSet::terminal(Lookahead::One, number)
+    }
+}
+
+// The same where the first set is that of one terminal, as it is for most symbols.
+pub fn behind_terminal(number: u32, lookahead: Lookahead, other: LookaheadSet) -> LookaheadSet
+    ensures { λ r. ⌜ Concatenated lookahead (terminal lookahead number) (other .bits) (r .bits) ⌝ }
+{
+    match lookahead {
+        Lookahead::One => before_one(number, other),
+        Lookahead::Two => row(number, other),
     }
 }
 

@@ -1,9 +1,11 @@
 // The first set of what is left of a body and of a rule, made longer by one word at a time from the end.
 ghost use mathlib.Core.Path.{_≡_};
+ghost use Rattle.lookahead.specs.contracts.Operations.{concatNumbers};
 ghost use Rattle.families.specs.contracts.First.{symbolFirst, noRest, closedMeet, insideWord};
 ghost use Rattle.families.specs.contracts.Follow.{tailBefore};
 ghost use Rattle.families.specs.contracts.Least.{lookup};
 ghost use Rattle.families.specs.contracts.Rules.{foldFromEnd};
+use concatenation::behind_terminal;
 use concatenation::concat;
 use concatenation::full;
 use families::Rest;
@@ -32,13 +34,22 @@ fn no_rest(terminals: u32, lookahead: Lookahead) -> Rest
     }
 }
 
-fn symbol_first(symbol: Symbol, firsts: &[u64; SETS], lookahead: Lookahead) -> LookaheadSet
-    ensures { λ r. ⌜ r .bits ≡ symbolFirst lookahead (lookup (now (firsts .entry))) symbol ⌝ }
+// The first set of a symbol, with rest behind it.
+fn behind(
+    symbol: Symbol,
+    firsts: &[u64; SETS],
+    lookahead: Lookahead,
+    rest: LookaheadSet,
+) -> LookaheadSet
+    ensures { λ r. ⌜ r .bits ≡ concatNumbers lookahead (symbolFirst lookahead (lookup (now (firsts .entry))) symbol) (rest .bits) ⌝ }
 {
     match symbol {
-        Symbol::Terminal(number) => LookaheadSet::terminal(lookahead, number),
-        Symbol::Nonterminal(number) => LookaheadSet {
-            bits: set_of(firsts, number),
+        Symbol::Terminal(number) => behind_terminal(number, lookahead, rest),
+        Symbol::Nonterminal(number) => {
+            let first = LookaheadSet {
+                bits: set_of(firsts, number),
+            };
+            concat(first, lookahead, rest)
         },
     }
 }
@@ -65,9 +76,8 @@ fn inside(word: Word, rest: Rest, firsts: &[u64; SETS], lookahead: Lookahead) ->
             meet: closed(word, body, meet),
         };
     };
-    let first = symbol_first(symbol, firsts, lookahead);
     Rest {
-        body: concat(first, lookahead, body),
+        body: behind(symbol, firsts, lookahead, body),
         meet,
     }
 }
@@ -105,5 +115,5 @@ pub fn tail_before(
     let Word::Symbol(symbol) = word else {
         return follow;
     };
-    concat(symbol_first(symbol, firsts, lookahead), lookahead, tail)
+    behind(symbol, firsts, lookahead, tail)
 }

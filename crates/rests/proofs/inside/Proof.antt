@@ -22,14 +22,11 @@ returns c =
     rw (at-end .end .ensures .is, c .closed .ensures)
     (first-closed (start .args .lookahead) (lookup (start .args .firsts .now)) (start .args .word) (start .args .rest) (at-match .match .keys2))
 
-symbol-first-requires : tie.Need-symbol-first-requires
-symbol-first-requires c κs = search needs
-
-concat-requires : tie.Need-concat-requires
-concat-requires c κs = search needs
+behind-requires : tie.Need-behind-requires
+behind-requires c κs = search needs
 
 returns-2 : tie.Need-returns-2
-returns-2 c = rw (c .before .before .before .word .given .1, c .concat .ensures .is, c .before .symbol-first .ensures)
+returns-2 c = rw (c .before .before .word .given .1, c .behind .ensures)
 
 pub inside-spec : {M : Type 1} → statement M
 inside-spec =
@@ -39,6 +36,5 @@ inside-spec =
     end-requires
     closed-requires
     returns
-    symbol-first-requires
-    concat-requires
+    behind-requires
     returns-2)

@@ -10,15 +10,12 @@ enum-known-word c = search needs
 returns : tie.Need-returns
 returns c = tail-closed _ _ _ (c .before .args .word) _ (c .match .keys2)
 
-symbol-first-requires : tie.Need-symbol-first-requires
-symbol-first-requires c κs = search needs
-
-concat-requires : tie.Need-concat-requires
-concat-requires c κs = search needs
+behind-requires : tie.Need-behind-requires
+behind-requires c κs = search needs
 
 returns-2 : tie.Need-returns-2
-returns-2 c = rw (c .concat .ensures .is, c .before .before .before .word .given .1, c .before .symbol-first .ensures)
+returns-2 c = rw (c .before .before .word .given .1, c .behind .ensures)
 
 pub tail-before-spec : {M : Type 1} → statement M
 tail-before-spec =
-    tie.close (tie.spec enum-known-word returns symbol-first-requires concat-requires returns-2)
+    tie.close (tie.spec enum-known-word returns behind-requires returns-2)
