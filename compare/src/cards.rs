@@ -247,13 +247,15 @@ pub fn long_chain() -> Draft {
     draft.reversed()
 }
 
-/// Leads that go up a chain one after the other, with so many terminals of lookahead. Of the 17 nonterminals of the chain each has one rule, its body
-/// filled up with a terminal, but the last, which has a rule for each of 16 leads: terminals, or pairs of them. Its rule of lead j counts only once
-/// nonterminal 16 + j has a first set, and that takes lead j - 1 to have come all the way to the start. The rules of the chain come first, from the
-/// start's on; then those of the last; then the others.
+/// Leads that go up a chain one after the other, with so many terminals of lookahead. Each of the 17 nonterminals of the chain has one rule, its body
+/// filled up, but the last, which has a rule for each lead: terminals, or pairs of them. Its rule of lead j counts only once the j-th nonterminal
+/// behind the chain has a first set, and that takes lead j - 1 to have come all the way to the start. The rules of the chain come first, from the start's
+/// on; then those of the last; then the others. With two tokens the bodies are filled up with a nonterminal that is one terminal, since a set with
+/// a terminal alone takes longest there; with one token the terminal itself does.
 fn rising_leads(leads: usize) -> (Draft, usize) {
-    let gates = MAX_NONTERMINALS / 2 - 1;
-    let links = MAX_NONTERMINALS - gates;
+    let alone = leads - 1;
+    let links = MAX_NONTERMINALS / 2 + 1;
+    let gates = MAX_NONTERMINALS - links - alone;
     let terminals = if leads == 1 { gates + 1 } else { MAX_TERMINALS_OF_TWO };
     let gate = |j: usize| links + j - 1;
     let lead = |j: usize| lead_of(j, leads, terminals);
@@ -265,12 +267,23 @@ fn rising_leads(leads: usize) -> (Draft, usize) {
     for j in 1..=gates {
         rules.push(rule(gate(j), &[&[Nonterminal(0)], &lead(j - 1)], &[]));
     }
-    (padded(Draft { nonterminals: MAX_NONTERMINALS, terminals, rules }, links - 1, Terminal(0), MAX_WORDS), links - 1)
+    let mut filler = Terminal(0);
+    if alone == 1 {
+        rules.push(rule(MAX_NONTERMINALS - 1, &[&[filler]], &[]));
+        filler = Nonterminal((MAX_NONTERMINALS - 1) as u8);
+    }
+    (padded(Draft { nonterminals: MAX_NONTERMINALS, terminals, rules }, links - 1, filler, MAX_WORDS), links - 1)
 }
 
-/// The slowest to check that was found, with so many terminals of lookahead. The library's passes go over the rules in both directions by turns. So
-/// the rules of the chain stand at either end by turns, and a lead goes up by one nonterminal in a pass, whichever way it goes: 288 passes.
+/// The slowest to check that was found, for the library and for the twin, with so many terminals of lookahead. Passes from the first rule to the last
+/// take a lead up by one nonterminal: all of the twin's, and eleven of twelve of the library's.
 pub fn slowest(leads: usize) -> Draft {
+    rising_leads(leads).0
+}
+
+/// The same with the rules of the chain at either end by turns: a pass takes a lead up by at most two nonterminals, whichever way it goes. No card was
+/// found on which the library is slower beside the twin.
+pub fn slowest_zigzag(leads: usize) -> Draft {
     let (mut draft, links) = rising_leads(leads);
     let others = draft.rules.split_off(links);
     let (mut front, mut back) = (Vec::new(), Vec::new());
@@ -279,12 +292,6 @@ pub fn slowest(leads: usize) -> Draft {
     }
     draft.rules = front.into_iter().chain(others).chain(back.into_iter().rev()).collect();
     draft
-}
-
-/// The slowest for the twin to check that was found. Its passes go from the first rule to the last, and a lead goes up from the last to the first:
-/// again by one nonterminal in a pass, but only for the twin.
-pub fn slowest_for_twin(leads: usize) -> Draft {
-    rising_leads(leads).0
 }
 
 /// The slowest to search that was found. Two letters; at each of 13 places of each log the start runs a rule of 1,974 words, each of them, but for the

@@ -1,4 +1,4 @@
-// First sets: passes over the rules, in both directions by turns, until one adds nothing; the words of a rule from their end.
+// First sets: passes over the rules until one adds nothing; the words of a rule from their end.
 ghost use mathlib.Core.Path.{_≡_};
 ghost use Rattle.grammar.specs.declared.reading.Reading.the-variants.{Read};
 ghost use Rattle.grammar.specs.Encoding.{parse, grammarOf};
@@ -20,7 +20,9 @@ use rests::rule_first;
 use rule_passes::family::add;
 use rule_passes::family::either;
 use rule_passes::rules::end_of;
+use rule_passes::rules::goes_forward;
 use rule_passes::rules::head_of;
+use rule_passes::rules::next_pass;
 use rule_passes::rules::turn;
 use word::decode;
 
@@ -70,9 +72,17 @@ pub(crate) fn first_sets(
         × (now (meets .exit) ≡ byRule (meetNumbers lookahead (grammarOf (now (words .entry))))) ⌝ }
 {
     let mut firsts = [0u64; SETS];
-    let mut forward = false;
-    while first_pass(words, starts, sizes, &mut firsts, meets, forward, lookahead) {
-        forward = !forward;
+    let mut pass = 0u32;
+    while first_pass(
+        words,
+        starts,
+        sizes,
+        &mut firsts,
+        meets,
+        goes_forward(pass),
+        lookahead,
+    ) {
+        pass = next_pass(pass);
     }
     firsts
 }

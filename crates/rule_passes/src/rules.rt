@@ -1,10 +1,32 @@
-// The rules of a grammar, one by one: in which order a pass goes over them, where each ends, and what it defines.
+// The rules of a grammar, one by one: in which order passes go over them, where each ends, and what it defines.
 ghost use mathlib.Core.Path.{_≡_};
+ghost use mathlib.Core.Bool.{_||_};
+ghost use Prim.Native.Nat.{_+_};
+ghost use lib.Dec.{eqb, ltb};
+ghost use Rattle.base.specs.Choice.{choose};
 ghost use Rattle.grammar.specs.contracts.WellRead.{headOf};
 ghost use Rattle.families.specs.contracts.Rules.{turnOf, ruleEnd};
 use grammar::limits::RULES;
 use grammar::reading::Sizes;
 use word::Word;
+
+// Passes are counted up to this one, and then on from the third.
+const LAST: u32 = 13;
+
+// Whether a pass for first sets goes from the first rule on. The first and the third, and then one in twelve, go from the last on: most grammars name
+// nonterminals before they define them, and are settled then. Rules can be written so that each pass adds little, in one direction or by turns;
+// with few passes from the last rule on among many from the first on there are never many more than with these alone.
+pub fn goes_forward(pass: u32) -> bool
+    ensures { λ r. ⌜ r ≡ (eqb pass 1 || ltb 2 pass) ⌝ }
+{
+    if pass == 1 { true } else { 2 < pass }
+}
+
+pub fn next_pass(pass: u32) -> u32
+    ensures { λ r. ⌜ r ≡ choose (ltb pass 13) (pass + 1) 2 ⌝ }
+{
+    if pass < LAST { pass + 1 } else { 2 }
+}
 
 // The rule that a pass reaches behind others: it goes from the first rule on, or from the last on.
 pub fn turn(forward: bool, rules: usize, passed: usize) -> usize

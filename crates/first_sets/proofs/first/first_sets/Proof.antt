@@ -15,38 +15,47 @@ use Rattle.first_sets.proofs.first.first_sets.Statement.{statement}
 use Rattle.first_sets.proofs.first.first_sets.Tie as tie
 
 abbrev Inv-loop : tie.InvT-loop
-Inv-loop words starts sizes meets₀ lookahead firsts₀ forward₀ meets firsts forward =
+Inv-loop words starts sizes meets₀ lookahead firsts₀ pass₀ meets firsts pass =
     (length firsts ≡ maxNonterminals) × Below (FirstNumbersClosed lookahead (sizes .terminals) (parse words .rules)) firsts × ByRules (sizes .rules) meets
 
 abbrev μ-loop : tie.MeasureT-loop
-μ-loop words starts sizes meets₀ lookahead firsts₀ forward₀ meets firsts forward = missing (full lookahead (sizes .terminals)) firsts
+μ-loop words starts sizes meets₀ lookahead firsts₀ pass₀ meets firsts pass = missing (full lookahead (sizes .terminals)) firsts
 
 loop-holds : tie.Need-loop-holds Inv-loop μ-loop
 loop-holds c = (refl, below-none _ maxNonterminals, c .before .pre .2)
 
+goes-forward-requires : tie.Need-goes-forward-requires Inv-loop μ-loop
+goes-forward-requires c κs = tt
+
 first-pass-requires : tie.Need-first-pass-requires Inv-loop μ-loop
 first-pass-requires c κs =
-    let loop = c .before .before in
+    let loop = c .before .before .before in
     let start = loop .before .before in
     let read = admitted-read (start .args .lookahead) (start .args .words .now) (start .pre .0) in
     (record { read = read; begins = start .pre .1; long = loop .loop .inv .0 }, loop .loop .inv .2)
 
+next-pass-requires : tie.Need-next-pass-requires Inv-loop μ-loop
+next-pass-requires c κs = tt
+
 loop-less : tie.Need-loop-less Inv-loop μ-loop
 loop-less c =
-    let loop = c .before .before .before .before in
+    let passed = c .before .before in
+    let loop = passed .before .before .before .before in
     let start = loop .before .before in
-    missing-falls (c .before .first-pass .ensures .0) (loop .loop .inv .1) _ _
-    (full-closed (start .args .lookahead) (start .args .sizes .terminals) (parse (start .args .words .now) .rules)) (λ n. omega arith) (c .if1 .taken)
+    missing-falls (passed .first-pass .ensures .0) (loop .loop .inv .1) _ _
+    (full-closed (start .args .lookahead) (start .args .sizes .terminals) (parse (start .args .words .now) .rules)) (λ n. omega arith)
+    (c .before .if1 .taken)
 
 loop-again : tie.Need-loop-again Inv-loop μ-loop
 loop-again c =
-    let pass = c .before .first-pass .ensures in
-    let inv = c .before .before .before .before .loop .inv in
+    let passed = c .before .before in
+    let pass = passed .first-pass .ensures in
+    let inv = passed .before .before .before .before .loop .inv in
     (pass .0 .long ∙ inv .0, below-pass (pass .0) (inv .1), pass .1 .room)
 
 returns : tie.Need-returns Inv-loop μ-loop
 returns c =
-    let loop = c .before .before .before .before in
+    let loop = c .before .before .before .before .before in
     let start = loop .before .before in
     let lookahead = start .args .lookahead in
     let words = start .args .words .now in
@@ -59,4 +68,13 @@ returns c =
 pub first-sets-spec : {M : Type 1} → statement M
 first-sets-spec =
     tie.close
-    (tie.spec Inv-loop μ-loop loop-holds first-pass-requires loop-less loop-again returns)
+    (tie.spec
+    Inv-loop
+    μ-loop
+    loop-holds
+    goes-forward-requires
+    first-pass-requires
+    next-pass-requires
+    loop-less
+    loop-again
+    returns)
