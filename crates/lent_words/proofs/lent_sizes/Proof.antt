@@ -1,9 +1,9 @@
 -- By what is found, and by the limits.
 use borrow.Author.Needs.{needs}
 use borrow.Author.Tests.{lt-ltb, le-ltb}
-use Rattle.lending.specs.contracts.Lending.{lentSizes}
-use Rattle.lending.proofs.lent_sizes.Statement.{statement}
-use Rattle.lending.proofs.lent_sizes.Tie as tie
+use Rattle.lent_words.specs.contracts.Words.{lentSizes}
+use Rattle.lent_words.proofs.lent_sizes.Statement.{statement}
+use Rattle.lent_words.proofs.lent_sizes.Tie as tie
 
 enum-told : tie.Need-enum-told
 enum-told c = search needs

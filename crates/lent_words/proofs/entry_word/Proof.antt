@@ -1,9 +1,9 @@
 -- By whether there is a rule.
 use borrow.Author.Needs.{needs}
 use borrow.Author.Tests.{eq-eqb, ne-eqb}
-use Rattle.lending.specs.contracts.Lending.{entryCode}
-use Rattle.lending.proofs.entry_word.Statement.{statement}
-use Rattle.lending.proofs.entry_word.Tie as tie
+use Rattle.lent_words.specs.contracts.Words.{entryCode}
+use Rattle.lent_words.proofs.entry_word.Statement.{statement}
+use Rattle.lent_words.proofs.entry_word.Tie as tie
 
 cast-result : tie.Need-cast-result
 cast-result c = search needs
