@@ -21,8 +21,8 @@ use Rattle.semantics.specs.contracts.Memo.{EndsFit, decode}
 use Rattle.semantics.specs.contracts.MemoDescent.{memoStart, memoCall, memoObey, memoRule, memoPositives, memoNegatives, memoRun, andThen, stored}
 use Rattle.semantics.specs.Predictive.{Predictive}
 use Rattle.semantics.proofs.Theorems.{theorems as semantics}
-use Rattle.semantics.proofs.examples.Check.{belowTest, scopedTest, terminalsTest, ownTest, predictive}
-use Rattle.semantics.proofs.examples.Computing.{left-recursion-computes, tables-compute, descent-computes, calls-compute}
+use Rattle.semantics_examples.proofs.Check.{belowTest, scopedTest, terminalsTest, ownTest, predictive}
+use Rattle.semantics_examples.proofs.Computing.{left-recursion-computes, tables-compute, descent-computes, calls-compute}
 use Rattle.following.specs.Following.{MayFollow, behind, Agrees, Begins, start as nothing}
 use Rattle.following.specs.Theorems.{EntriesTell}
 use Rattle.following.proofs.Theorems.{theorems}

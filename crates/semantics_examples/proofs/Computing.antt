@@ -3,16 +3,15 @@ use mathlib.Core.List.{flatMap}
 use Rattle.base.specs.Quantifiers.{anyOf, allOf, anyBelow, lowest}
 use Rattle.base.specs.FiniteSets.{member, keep, distinct, numbersFrom, numbersBelow, combine}
 use Rattle.base.specs.Rounds.{round, settle, members, least}
-use Rattle.semantics.specs.LeftRecursion.{allNullable, nullStep, nullable, leftIn, leftDepends, reachStep, leftReaches, leftRecursive}
-use Rattle.semantics.specs.LeftRecursion.{lowestLeftRecursive}
+use Rattle.semantics.specs.LeftRecursion.{allNullable, nullStep, nullable, leftIn, leftDepends, reachStep, leftReaches, leftRecursive, lowestLeftRecursive}
 use Rattle.base.specs.Strings.{look, strings, sameString}
 use Rattle.semantics.specs.FirstFollow.{concatStrings, sameEntry, entries, setsOf, firstOfSymbol, firstBody, firstRule, firstStep}
 use Rattle.semantics.specs.FirstFollow.{first, firstSets, behind, followStep, follow, followSets}
 use Rattle.semantics.specs.Productive.{unproductive, lowestUnproductive}
 use Rattle.semantics.specs.Claims.{several, position, meeting, claimed, claims, overruns, clashes, tableOf, everyEnds}
 use Rattle.semantics.specs.Descent.{read, run, agrees, confirm, conclude, obey, select, byChoice, within, descend, accepts}
 use Rattle.semantics.specs.ComesTo.{when, bodyComesTo, negativesComeTo, positivesComeTo, ruleComesTo, selectedComesTo, callComesTo}
 use Rattle.semantics.specs.Calls.{callsWithin, allCalls, calls, callCount, greatestPlace, farthest}
 
 unfoldable pub tables-compute : Unit {0}
 unfolding anyOf allOf member keep distinct numbersFrom numbersBelow combine round settle members least strings sameString concatStrings sameEntry entries setsOf

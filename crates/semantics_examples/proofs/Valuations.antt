@@ -8,12 +8,12 @@ use native.Mathlib.Omega.{arith}
 use Rattle.word.specs.declared.Symbol.the-variants.{Terminal, Nonterminal}
 use Rattle.grammar.specs.Syntax.{Grammar, WellScoped}
 use Rattle.base.specs.Quantifiers.{anyOf, allOf, anyBelow}
 use Rattle.semantics.specs.Valuations.{Valuation, contains, derives, byRules, rounds, Solves, solution}
 use Rattle.semantics.specs.LeftRecursion.{NoLeftRecursion, lowestLeftRecursive}
 use Rattle.semantics.proofs.meaning.LeftRecursion.{lowestLeftRecursive-none}
 use Rattle.semantics.proofs.meaning.Unique.{solution-solves}
-use Rattle.semantics.proofs.examples.Check.{belowTest, scopedTest, scopedTest-sound}
-use Rattle.semantics.proofs.examples.Computing.{left-recursion-computes}
+use Rattle.semantics_examples.proofs.Check.{belowTest, scopedTest, scopedTest-sound}
+use Rattle.semantics_examples.proofs.Computing.{left-recursion-computes}
 
 -- S → T & ¬ a b, T → a T b, T → ε: the words aⁿbⁿ but for ab
 abbrev pub balanced : Grammar

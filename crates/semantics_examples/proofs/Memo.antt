@@ -6,15 +6,14 @@ use Prim.Native.Nat.{ℕ, zero, suc}
 use Rattle.word.specs.declared.Symbol.the-variants.{Terminal, Nonterminal}
 use Rattle.grammar.specs.Syntax.{Body}
 use Rattle.base.specs.Strings.{look}
 use Rattle.semantics.specs.Families.{Table}
 use Rattle.semantics.specs.Choices.{byLookahead}
 use Rattle.semantics.specs.Descent.{Failed, End, Outcomes, read, run, select}
 use Rattle.semantics.specs.ComesTo.{callAt, when, bodyComesTo, negativesComeTo, positivesComeTo, ruleComesTo}
 use Rattle.semantics.specs.Memo.{outcomeCode}
 use Rattle.semantics.specs.contracts.Memo.{decode}
-use Rattle.semantics.specs.contracts.MemoDescent.{memoized, andThen, memoRun, memoNegatives, memoPositives, memoRule, memoObey, memoCall, memoStart}
-use Rattle.semantics.specs.contracts.MemoDescent.{stored}
-use Rattle.semantics.proofs.examples.ExamplesValuations.{balanced}
+use Rattle.semantics.specs.contracts.MemoDescent.{memoized, andThen, memoRun, memoNegatives, memoPositives, memoRule, memoObey, memoCall, memoStart, stored}
+use Rattle.semantics_examples.proofs.Valuations.{balanced}
 
 -- aⁿbⁿ but for ab, with one token
 abbrev balancedTable : Table

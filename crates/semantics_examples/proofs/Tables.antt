@@ -10,11 +10,11 @@ use Rattle.grammar.specs.Syntax.{Rule, Grammar}
 use Rattle.base.specs.FiniteSets.{member, numbersBelow}
 use Rattle.base.specs.Rounds.{settle}
 use Rattle.base.specs.Strings.{strings}
 use Rattle.semantics.specs.FirstFollow.{sameEntry, entries, firstStep, firstSets, followSets}
 use Rattle.semantics.specs.Claims.{clashes, tableOf, everyEnds}
 use Rattle.grammar.specs.examples.Cards.{grammarR, grammarM, grammarE}
 use Rattle.semantics.specs.Productive.{lowestUnproductive}
-use Rattle.semantics.proofs.examples.Computing.{tables-compute, productive-computes}
+use Rattle.semantics_examples.proofs.Computing.{tables-compute, productive-computes}
 
 -- the number of a set at k = 1: a terminal a weighs 2 ^ a, the empty string 2 ^ 24
 weight : List (List ℕ) → ℕ
