@@ -1,6 +1,8 @@
 // Document 01's limit cases and those of requests P1, P7, P8, P10 and P14. Each grammar is a file; behind its name stands what the program sheet
 // prints of it, or, for each input, the first line of what the program judge prints.
 ghost use Rattle.io.specs.Counts.{Counts};
+use file_words::Loaded;
+use file_words::load;
 use grammar::limits::MEMO_ENTRIES;
 use grammar::limits::PLACES;
 use grammar::limits::TABLE_WORDS;
@@ -11,13 +13,11 @@ use judgement_text::put_judgement;
 use libc::STDOUT_FILENO;
 use recognizer::judge_costliest;
 use recognizer::judge_two;
-use report::FILE_BYTES;
-use report::INPUT_BYTES;
-use report::SHEET_ROOM;
+use report_texts::FILE_BYTES;
+use report_texts::INPUT_BYTES;
+use report_texts::SHEET_ROOM;
 use text::put::put_bytes;
 use text::put::put_number;
-use text::words::Loaded;
-use text::words::load;
 use tree_writer::judge_tree;
 
 // Room for a line.

@@ -15,8 +15,8 @@ use Rattle.base.proofs.Quantified.{below-make}
 use Rattle.semantics.specs.Valuations.{Valuation, contains, derives, byRules, rounds, Solves, solution}
 use Rattle.semantics.specs.Predictive.{Predictive}
 use Rattle.semantics.proofs.Theorems.{theorems}
-use Rattle.semantics.proofs.examples.Check.{belowTest, scopedTest, terminalsTest, ownTest, predictive}
-use Rattle.semantics.proofs.examples.Computing.{left-recursion-computes, tables-compute}
+use Rattle.semantics_examples.proofs.Check.{belowTest, scopedTest, terminalsTest, ownTest, predictive}
+use Rattle.semantics_examples.proofs.Computing.{left-recursion-computes, tables-compute}
 use Rattle.following.specs.Following.{MayFollow, start, behind}
 
 -- every valuation that solves a grammar on a sequence gives what the computed one gives

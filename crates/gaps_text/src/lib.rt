@@ -13,9 +13,9 @@ use grammar::limits::RULES;
 use grammar::limits::TERMINALS;
 use grammar::reading::Sizes;
 use lookahead_sets::LookaheadSet;
+use refusal_text::put_refusal;
 use text::put::put_bytes;
 use text::put::put_number;
-use text::refusal::put_refusal;
 
 // How many bytes the lines take at most, and all of a sheet.
 const RULE_ROOM: usize = 4;

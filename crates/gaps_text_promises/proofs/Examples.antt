@@ -3,7 +3,7 @@ use mathlib.Core.Path.{_≡_, refl}
 use mathlib.Core.List.{List, [], _∷_, flatMap}
 use Prim.Native.Nat.{ℕ}
 use Rattle.grammar.specs.Syntax.{Rule, Grammar}
-use Rattle.semantics.proofs.examples.Computing.{tables-compute}
+use Rattle.semantics_examples.proofs.Computing.{tables-compute}
 use Rattle.text.specs.Ascii.{ascii}
 use Rattle.text.specs.Decimal.{digits, decimal}
 use Rattle.word.specs.declared.Symbol.the-variants.{Terminal, Nonterminal}

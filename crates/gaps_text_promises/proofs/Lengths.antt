@@ -29,7 +29,8 @@ use Rattle.columns.specs.Columns.{columnString}
 use Rattle.text.specs.Ascii.{ascii}
 use Rattle.text.specs.Decimal.{decimal, labelled}
 use Rattle.text.specs.Writing.{upTo}
-use Rattle.text.proofs.Lengths.{choose-most, decimal-few, up-to-most, refusal-most}
+use Rattle.text.proofs.Lengths.{choose-most, decimal-few, up-to-most}
+use Rattle.refusal_text.proofs.Lines.{refusal-most}
 use Rattle.gaps_text_promises.specs.Room.{ruleRoom, gapRoom, overrunRoom, gapsRoom}
 use Rattle.gaps_text_promises.specs.Gaps.{onRule, claimsBy, overrunText, foundText, gapsText}
 use Rattle.gaps_text_promises.specs.contracts.Steps.{claimantText, numbersText, claimantsText, entryLine, rowText, overrunLine, overrunsText, linesText}

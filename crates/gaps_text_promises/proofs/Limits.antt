@@ -11,7 +11,7 @@ use Rattle.grammar.specs.Limits.{maxNonterminals, maxTerminals, maxRules}
 use Rattle.grammar.specs.declared.reading.Sizes.{Sizes}
 use Rattle.families.specs.declared.Finding.{Finding}
 use Rattle.families.specs.declared.Finding.the-variants.{Passed, Refused}
-use Rattle.text.specs.Refusal.{refusalText}
+use Rattle.refusal_text.specs.Refusal.{refusalText}
 use Rattle.text.specs.Writing.{Put}
 use Rattle.text.proofs.Writing.{put-none}
 use Rattle.gaps_text_promises.specs.contracts.Steps.{linesText, claimantAt, overrunsIn, withinLimits, GapsPutBy}

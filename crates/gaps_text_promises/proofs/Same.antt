@@ -34,7 +34,7 @@ use Rattle.columns.specs.contracts.Columns.{columnElement}
 use Rattle.claims.specs.contracts.Overruns.{overrunSet}
 use Rattle.claims.proofs.Claimants.{claims-alike, told as rules-told}
 use Rattle.columns.proofs.ColumnStrings.{column-string, element-small}
-use Rattle.text.specs.Refusal.{refusalText}
+use Rattle.refusal_text.specs.Refusal.{refusalText}
 use Rattle.text.specs.Writing.{Put}
 use Rattle.gaps_text_promises.specs.Gaps.{claimsBy, gapsText}
 use Rattle.gaps_text_promises.specs.contracts.Gaps.{GapsPut}

@@ -22,7 +22,7 @@ use Rattle.families.specs.Analysis.{setsFault, findingOf}
 use Rattle.table_promises.specs.Analysis.{fault}
 use Rattle.text.specs.Ascii.{ascii}
 use Rattle.text.specs.Decimal.{decimal, labelled}
-use Rattle.text.specs.Refusal.{refusalText}
+use Rattle.refusal_text.specs.Refusal.{refusalText}
 
 abbrev pub onRule : Option Rule → (Rule → Bool) → Bool
 onRule none p = false

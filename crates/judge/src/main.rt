@@ -2,9 +2,9 @@
 ghost use Rattle.io.specs.Counts.{Counts};
 use libc::STDIN_FILENO;
 use libc::STDOUT_FILENO;
-use report::FILE_BYTES;
-use report::INPUT_BYTES;
-use report::JUDGEMENT_ROOM;
+use report_texts::FILE_BYTES;
+use report_texts::INPUT_BYTES;
+use report_texts::JUDGEMENT_ROOM;
 
 // The start of the file; one that cannot be opened is read as no words.
 fn read_card(card: &mut [u8; FILE_BYTES]) -> usize

@@ -1,4 +1,2 @@
-pub mod Cursors
-pub mod Examples
 pub mod Lengths
-pub mod Lines
+pub mod Examples

@@ -19,7 +19,8 @@ use Rattle.families.specs.declared.Finding.the-variants.{Passed, Refused}
 use Rattle.base.proofs.Lists.{listed-long, listed-at}
 use Rattle.columns.specs.Columns.{columnCount}
 use Rattle.table_promises.specs.Layout.{tableRoom}
-use Rattle.lending.specs.contracts.Lending.{tableWordAt, storedWord, wordCount, laid, madeUp, noSizes, lentSizes, lentBy, SizesGiven}
+use Rattle.lent_words.specs.contracts.Words.{noSizes, lentSizes}
+use Rattle.lending.specs.contracts.Lending.{tableWordAt, storedWord, wordCount, laid, madeUp, lentBy, SizesGiven}
 use Rattle.base.proofs.Front.{front, front-more}
 
 none-few : SizesGiven noSizes

@@ -36,7 +36,8 @@ use Rattle.base.proofs.Lists.{listed-long, listed-at}
 use Rattle.families.proofs.Strings.{number-below}
 use Rattle.columns.specs.Columns.{columnString, columns}
 use Rattle.table_promises.specs.Layout.{entryWord, entryAt, setWord, rowWord, tableWords, tableRoom}
-use Rattle.lending.specs.contracts.Lending.{entryCode, tableWordAt, storedWord, wordCount, laid, noSizes, lentSizes, lentOf, lentBy, SizesGiven}
+use Rattle.lent_words.specs.contracts.Words.{entryCode, noSizes, lentSizes}
+use Rattle.lending.specs.contracts.Lending.{tableWordAt, storedWord, wordCount, laid, lentOf, lentBy, SizesGiven}
 use Rattle.lending.proofs.Laying.{lent-sizes, count-room, lent-long}
 use Rattle.table.specs.contracts.Entries.{ruleByte, byteAt, entriesOf}
 use Rattle.table.proofs.EntriesFilled.{entries-in}

@@ -7,56 +7,21 @@ ghost use Rattle.grammar.specs.Codes.{noEntry};
 ghost use Rattle.grammar.specs.Limits.{maxNonterminals, maxTableWords};
 ghost use Rattle.grammar.specs.contracts.Limits.{maxEntries};
 ghost use Rattle.lookahead.specs.declared.Lookahead.the-variants.{One, Two};
-ghost use Rattle.lending.specs.contracts.Lending.{entryCode, tableWordAt, lentSizes, wordCount, lentBy, SizesGiven, madeUp};
+ghost use Rattle.lent_words.specs.contracts.Words.{lentSizes};
+ghost use Rattle.lending.specs.contracts.Lending.{tableWordAt, wordCount, lentBy, SizesGiven, madeUp};
 use columns::count;
 use families::Finding;
 use families::SETS;
 use grammar::codes::NO_ENTRY;
-use grammar::codes::NO_RULE;
 use grammar::limits::ENTRIES;
-use grammar::limits::NONTERMINALS;
 use grammar::limits::TABLE_WORDS;
-use grammar::limits::TERMINALS;
 use grammar::reading::Sizes;
+use lent_words::entry_word;
+use lent_words::lent_sizes;
 use lookahead::Lookahead;
 
 // The numbers that a word of 32 bits can be.
 const NARROW: u64 = 4294967296;
-
-// The sizes of the table that is lent: none where the grammar is refused, or where they are past the limits, as those of no grammar that passes
-// are.
-fn lent_sizes(finding: Finding) -> Sizes
-    ensures { λ r. ⌜ r ≡ lentSizes finding ⌝ }
-{
-    let none = Sizes {
-        nonterminals: 0,
-        terminals: 0,
-        rules: 0,
-    };
-    match finding {
-        Finding::Refused(_) => none,
-        Finding::Passed(sizes) => {
-            if NONTERMINALS < sizes.nonterminals {
-                return none;
-            }
-            if TERMINALS < sizes.terminals {
-                return none;
-            }
-            sizes
-        }
-    }
-}
-
-// An entry as a word.
-fn entry_word(entry: u8) -> u64
-    ensures { λ r. ⌜ r ≡ entryCode entry ⌝ }
-{
-    if entry == NO_RULE {
-        NO_ENTRY as u64
-    } else {
-        entry as u64
-    }
-}
 
 // The word at an index.
 fn word<'a>(

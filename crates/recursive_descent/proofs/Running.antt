@@ -290,7 +290,8 @@ module _ {choice : Choice} {words choices tokens input memo₀ : List ℕ} {A fr
     forward e t = descend-forward (grammarOf words) choice input (g .call .given .own) B place e (v .placed) t
 
     -- its outcome, by the entry that the call returns
-    module _ {entry : ℕ} {memo′ : List ℕ} (d : CallDone choice words input memo B place entry memo′) (o : code.Outcome) (recalled : meant o ≡ decode entry) where
+    module _ {entry : ℕ} {memo′ : List ℕ} (d : CallDone choice words input memo B place entry memo′) (o : code.Outcome)
+        (recalled : meant o ≡ decode entry) where
       means : meant o ≡ came
       means = recalled ∙ ap decode (d .told) ∙ decode-encode (length input) came (omega (arith, g .call .given .short)) (λ e t. forward e t .1)
 

@@ -1,75 +1,28 @@
 // What the programs print: from the bytes of files to the bytes of the text.
-ghost use mathlib.Core.Path.{_≡_};
 ghost use Rattle.event.specs.Events.{inputOf};
 ghost use Rattle.gaps_text_promises.specs.contracts.Gaps.{GapsPut};
 ghost use Rattle.text.specs.Writing.{Put};
-ghost use Rattle.report.specs.Texts.{enoughRoom, checkedText, judgedText};
-ghost use Rattle.report.specs.contracts.Texts.{nonterminalsOf, tokenCount};
-ghost use Rattle.report.specs.Report.{SheetPrinted, JudgementPrinted, GapsPrinted, Enough};
+ghost use Rattle.report_texts.specs.Texts.{checkedText, judgedText};
+ghost use Rattle.report_texts.specs.Report.{SheetPrinted, JudgementPrinted, GapsPrinted};
 use answer::Error;
 use claims::analyze;
-use families::Finding;
+use file_words::Loaded;
+use file_words::load;
 use gaps_text::put_gaps;
 use grammar::codes::NO_ENTRY;
 use grammar::codes::UNCALLED;
 use grammar::limits::MEMO_ENTRIES;
 use grammar::limits::TABLE_WORDS;
-use grammar::limits::TOKENS;
 use grammar::limits::WORDS;
 use judgement_text::put_judgement;
+use judgement_text::sizes::nonterminals;
+use judgement_text::sizes::tokens;
 use lending::lend;
 use lookahead::Lookahead;
 use recursive_descent::judge_words;
+use refusal_text::put_refusal;
 use sheet_text::put_check;
 use table::find;
-use text::refusal::put_refusal;
-use text::words::Loaded;
-use text::words::WORD_BYTES;
-use text::words::load;
-
-// Room for every sheet, for every judgement, and for all gaps and overlaps.
-pub const SHEET_ROOM: usize = sheet_text::ROOM;
-
-pub const JUDGEMENT_ROOM: usize = judgement_text::ROOM;
-
-pub const GAPS_ROOM: usize = gaps_text::ROOM;
-
-pub struct Rooms {
-    pub sheet: usize,
-    pub judgement: usize,
-    pub gaps: usize,
-}
-
-// The three in one value, so that what the specifications say of room is proved of these.
-pub fn enough_room() -> Rooms
-    ensures { λ r. ⌜ r ≡ enoughRoom ⌝ }
-{
-    Rooms {
-        sheet: SHEET_ROOM,
-        judgement: JUDGEMENT_ROOM,
-        gaps: GAPS_ROOM,
-    }
-}
-
-// How much of a file and of an input is read: one byte more than the longest of them.
-pub const FILE_BYTES: usize = WORD_BYTES * WORDS + 1;
-
-pub const INPUT_BYTES: usize = TOKENS + 1;
-
-pub struct Reads {
-    pub file: usize,
-    pub input: usize,
-}
-
-// The two in one value, so that it is proved that no more need be read.
-pub fn enough_read() -> Reads
-    ensures { λ r. ⌜ Enough r ⌝ }
-{
-    Reads {
-        file: FILE_BYTES,
-        input: INPUT_BYTES,
-    }
-}
 
 // The sheet of the grammar that a file's bytes are, or why there is none.
 pub fn sheet(bytes: &[u8], out: &mut [u8]) -> usize
@@ -140,25 +93,4 @@ fn put_claimed(words: &[u32], out: &mut [u8]) -> usize
     let claims = analyze(words, Lookahead::One);
     let finding = claims.finding;
     put_gaps(out, finding, &claims.heads, &claims.sets, &claims.overruns)
-}
-
-// How many nonterminals a grammar has that is found to pass.
-fn nonterminals(finding: Finding) -> u32
-    ensures { λ r. ⌜ r ≡ nonterminalsOf finding ⌝ }
-{
-    match finding {
-        Finding::Passed(sizes) => sizes.nonterminals,
-        Finding::Refused(_) => 0,
-    }
-}
-
-// How many tokens an input has that is not too long: as many as there are events.
-fn tokens(events: &[u8]) -> u16
-    ensures { λ r. ⌜ r ≡ tokenCount (now (events .entry)) ⌝ }
-{
-    if events.len() <= TOKENS {
-        events.len() as u16
-    } else {
-        0
-    }
 }

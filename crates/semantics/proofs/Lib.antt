@@ -1,5 +1,4 @@
 pub mod meaning
 pub mod families
 pub mod descent
-pub mod examples
 pub mod Theorems

@@ -7,7 +7,8 @@ use Rattle.lookahead.specs.Elements.{has, size}
 use Rattle.text.specs.Ascii.{ascii}
 use Rattle.text.specs.Decimal.{digits, decimal, orDash}
 use Rattle.text.specs.Writing.{upTo}
-use Rattle.sheet_text.specs.Sheet.{sizesLine, setsLine, tableEntryText, entriesLine, nonterminalText, sheetText}
+use Rattle.sheet_lines.specs.Lines.{sizesLine, setsLine, tableEntryText}
+use Rattle.sheet_text.specs.Sheet.{entriesLine, nonterminalText, sheetText}
 
 -- the text that document 01 shows of card R
 sheet-R : sheetText (sizes 1 1 2) (16777217 ∷ 16777216 ∷ 0 ∷ 1 ∷ [])

@@ -12,7 +12,8 @@ use Rattle.text.specs.Writing.{upTo}
 use Rattle.text.proofs.Lengths.{decimal-most, dash-within, up-to-most}
 use Rattle.sheet_text.specs.contracts.Limited.{Limited}
 use Rattle.sheet_text.specs.Room.{sizesRoom, setsRoom, tableEntryRoom, entriesRoom, sheetRoom}
-use Rattle.sheet_text.specs.Sheet.{sheetWordAt, sizesLine, setsLine, tableEntryText, entriesLine, nonterminalText, sheetText}
+use Rattle.sheet_lines.specs.Lines.{sheetWordAt, sizesLine, setsLine, tableEntryText}
+use Rattle.sheet_text.specs.Sheet.{entriesLine, nonterminalText, sheetText}
 
 sizes-most : (z : Sizes) → length (sizesLine z) ≤ sizesRoom
 unfolding sizesLine

@@ -1,4 +1,4 @@
 pub mod Examples
 pub mod Lengths
 pub mod Limited
-pub mod Lines
+pub mod Rows

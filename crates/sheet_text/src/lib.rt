@@ -1,24 +1,22 @@
 // The sheet of a grammar, line by line, from the words of its table.
 ghost use mathlib.Core.Path.{_≡_};
-ghost use mathlib.Core.List.{_++_};
 ghost use Prim.Native.Nat.{_+_, _≤_, _<_};
 ghost use Rattle.grammar.specs.Limits.{maxNonterminals, maxTerminals, maxTableWords};
-ghost use Rattle.lookahead.specs.Elements.{size as sizeOf};
-ghost use Rattle.text.specs.Decimal.{decimal, labelled};
 ghost use Rattle.text.specs.Writing.{Put, upTo};
 ghost use Rattle.sheet_text.specs.contracts.Limited.{Limited, limitedSizes, limitedFinding};
-ghost use Rattle.sheet_text.specs.Sheet.{sheetWordAt, sizesLine, setsLine, tableEntryText, entriesLine, nonterminalText, sheetText, checkText};
+ghost use Rattle.sheet_lines.specs.Lines.{sheetWordAt, tableEntryText};
+ghost use Rattle.sheet_text.specs.Sheet.{entriesLine, nonterminalText, sheetText, checkText};
 use families::Finding;
-use grammar::codes::NO_ENTRY;
 use grammar::limits::COLUMNS;
 use grammar::limits::NONTERMINALS;
 use grammar::limits::TERMINALS;
 use grammar::reading::Sizes;
-use lookahead_sets::LookaheadSet;
+use refusal_text::put_refusal;
+use sheet_lines::put_entry;
+use sheet_lines::put_sets;
+use sheet_lines::put_sizes;
+use sheet_lines::word_at;
 use text::put::put_bytes;
-use text::put::put_labelled;
-use text::put::put_or_dash;
-use text::refusal::put_refusal;
 
 // How many bytes the lines take at most, and all of a sheet.
 const SIZES_ROOM: usize = 83;
@@ -30,52 +28,6 @@ const ENTRY_ROOM: usize = 21;
 const ENTRIES_ROOM: usize = COLUMNS * ENTRY_ROOM + 6;
 
 pub const ROOM: usize = SIZES_ROOM + (NONTERMINALS as usize) * (SETS_ROOM + ENTRIES_ROOM);
-
-// A word of the table; behind its end there is none.
-fn word_at(table: &[u32], at: usize) -> u32
-    ensures { λ r. ⌜ r ≡ sheetWordAt (now (table .entry)) at ⌝ }
-{
-    if at < table.len() {
-        table[at]
-    } else {
-        NO_ENTRY
-    }
-}
-
-fn put_sizes(out: &mut [u8], at: usize, sizes: Sizes) -> usize
-    ensures { λ r. ⌜ Put (now (out .entry)) at (sizesLine sizes) (now (out .exit)) r ⌝ }
-{
-    let at = put_labelled(out, at, b"names ", sizes.nonterminals as usize);
-    let at = put_labelled(out, at, b" letters ", sizes.terminals as usize);
-    let at = put_labelled(out, at, b" rules ", sizes.rules);
-    put_bytes(out, at, b"\n")
-}
-
-// A set in decimal behind a label, and how many elements it has.
-fn put_set(out: &mut [u8], at: usize, label: &[u8], bits: u32) -> usize
-    ensures { λ r. ⌜ Put (now (out .entry)) at ((now (label .entry) ++ decimal bits) ++ labelled " " (sizeOf bits)) (now (out .exit)) r ⌝ }
-{
-    let set = LookaheadSet { bits: bits as u64 };
-    let at = put_labelled(out, at, label, bits as usize);
-    put_labelled(out, at, b" ", set.size() as usize)
-}
-
-fn put_sets(out: &mut [u8], at: usize, table: &[u32], nonterminal: u32) -> usize
-    ensures { λ r. ⌜ Put (now (out .entry)) at (setsLine (now (table .entry)) nonterminal) (now (out .exit)) r ⌝ }
-{
-    let first = word_at(table, 2 * nonterminal as usize);
-    let follow = word_at(table, 2 * nonterminal as usize + 1);
-    let at = put_labelled(out, at, b"name ", nonterminal as usize);
-    let at = put_set(out, at, b" first ", first);
-    let at = put_set(out, at, b" follow ", follow);
-    put_bytes(out, at, b"\n")
-}
-
-fn put_entry(out: &mut [u8], at: usize, entry: u32) -> usize
-    ensures { λ r. ⌜ Put (now (out .entry)) at (tableEntryText entry) (now (out .exit)) r ⌝ }
-{
-    put_or_dash(out, at, entry as usize, NO_ENTRY as usize)
-}
 
 // The entries of a row, from its start on.
 fn put_row(out: &mut [u8], at: usize, table: &[u32], start: usize, columns: usize) -> usize

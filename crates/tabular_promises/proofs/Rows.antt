@@ -9,7 +9,7 @@ use Rattle.grammar.specs.Reading.{counted, stepped, onStep, finished, scan, isW
 use Rattle.lookahead.specs.Elements.{totalWeight}
 use Rattle.semantics.specs.Valuations.{contains, derives, byRules, rounds, solution}
 use Rattle.semantics.specs.Productive.{unproductive, lowestUnproductive}
-use Rattle.semantics.proofs.examples.Computing.{left-recursion-computes, tables-compute}
+use Rattle.semantics_examples.proofs.Computing.{left-recursion-computes, tables-compute}
 use Rattle.base.specs.Lists.{listed}
 use Rattle.tabular_promises.specs.Spans.{solutionWord, rows, spanWords}
 use Rattle.tabular_promises.specs.Answers.{tabularFault, tabularVerdict, tabularWords}

@@ -7,12 +7,9 @@ use native.Mathlib.Omega.{arith}
 use lib.Dec.{eqb, ltb}
 use lib.ListN.{length, length-append}
 use borrow.Author.Tests.{lt-ltb}
-use Rattle.answer.specs.declared.Error.{Error}
-use Rattle.answer.specs.Numbers.{coded}
 use Rattle.base.specs.Choice.{choose}
 use Rattle.text.specs.Ascii.{ascii}
 use Rattle.text.specs.Decimal.{digit, digits, decimal, labelled, orDash}
-use Rattle.text.specs.Refusal.{refusalText}
 use Rattle.text.specs.Writing.{upTo}
 
 -- one of two texts
@@ -58,7 +55,3 @@ unfolding upTo
 up-to-most zero b f h = omega arith
 up-to-most (suc n) b f h =
     omega (arith, length-append (upTo n f) (f n), up-to-most n b f (λ k l. h k (omega arith)), h n (omega arith), suc-mul n b)
-
-pub refusal-most : (e : Error) → length (refusalText e) ≤ 50
-unfolding refusalText
-refusal-most e = simp length-append (omega (arith, decimal-most (coded e .code), decimal-most (coded e .position)))

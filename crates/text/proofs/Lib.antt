@@ -1,6 +1,5 @@
 pub mod Decimal
 pub mod Examples
-pub mod Fours
 pub mod Lengths
 pub mod Lines
 pub mod Writing

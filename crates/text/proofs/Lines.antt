@@ -1,16 +1,13 @@
 -- What is put into a buffer is the text asked for, by what the values put are.
 use mathlib.Core.Path.{_≡_, refl}
-use mathlib.Core.List.{List, [], _∷_, _++_}
+use mathlib.Core.List.{List, [], _∷_}
 use Prim.Native.Nat.{ℕ, zero, suc, _<_}
 use native.Mathlib.Omega.{arith}
 use lib.ListN.{length, getD}
 use borrow.Author.Tests.{eq-eqb, ne-eqb}
-use Rattle.answer.specs.declared.Error.{Error}
-use Rattle.answer.specs.Numbers.{coded}
 use Rattle.text.specs.Ascii.{ascii}
 use Rattle.text.specs.Decimal.{labelled, orDash}
 use Rattle.text.specs.Writing.{Put}
-use Rattle.text.specs.Refusal.{refusalText}
 
 -- within a list the default does not matter
 pub getD-within : (l : List ℕ) (i d e : ℕ) → i < length l → getD l i d ≡ getD l i e
@@ -19,11 +16,6 @@ getD-within (x ∷ xs) zero d e h = refl
 getD-within (x ∷ xs) (suc i) d e h = getD-within xs i d e (omega arith)
 
 module _ {l m : List ℕ} {at next : ℕ} where
-  pub refusal-put : (e : Error) {n p : ℕ} → n ≡ coded e .code → p ≡ coded e .position →
-      Put l at (labelled "refused " n ++ labelled " " p ++ ascii "\n") m next → Put l at (refusalText e) m next
-  unfolding refusalText
-  refusal-put e f g p = rw (← f, ← g) p
-
   -- by whether a number is the code for none
   pub dash-put : {none : ℕ} (n : ℕ) → n ≡ none → Put l at (ascii " -") m next → Put l at (orDash none n) m next
   unfolding orDash

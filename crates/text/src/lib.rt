@@ -1,4 +1,2 @@
-// Files and texts: the words that a file's bytes are, numbers and refusals as text, and texts put into a lent buffer.
+// Texts put into a lent buffer, and numbers as text.
 pub mod put;
-pub mod refusal;
-pub mod words;

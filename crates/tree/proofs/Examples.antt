@@ -6,8 +6,8 @@ use Rattle.word.specs.declared.Symbol.the-variants.{Terminal, Nonterminal}
 use Rattle.grammar.specs.Syntax.{Grammar}
 use Rattle.grammar.specs.examples.Cards.{grammarR, grammarM, grammarE}
 use Rattle.semantics.specs.Choices.{tableChoice}
-use Rattle.semantics.proofs.examples.Computing.{tables-compute, descent-computes, calls-compute}
-use Rattle.semantics.proofs.examples.ExamplesTables.{others}
+use Rattle.semantics_examples.proofs.Computing.{tables-compute, descent-computes, calls-compute}
+use Rattle.semantics_examples.proofs.Tables.{others}
 use Rattle.tree.specs.ParseTrees.{Vertex, Node, Leaf, Inner, vertex, leaves}
 use Rattle.tree.specs.Writing.{vertexAt, bodyNodes, conjunctNodes, ruleNodes, descendantsOf, ruleCalls, below, each, visit, treeCalls, treeOf, vertexWord}
 use Rattle.tree.specs.Writing.{treeWords}

@@ -13,9 +13,9 @@ use Rattle.semantics.specs.ComesTo.{callAt}
 use Rattle.semantics.specs.Calls.{callsWithin, callCount, farthest}
 use Rattle.semantics.specs.Predictive.{Predictive}
 use Rattle.grammar.specs.examples.Cards.{grammarR, grammarM, grammarE}
-use Rattle.semantics.proofs.examples.Check.{belowTest, scopedTest, terminalsTest, ownTest, predictive}
-use Rattle.semantics.proofs.examples.Computing.{left-recursion-computes, tables-compute, descent-computes, calls-compute}
-use Rattle.semantics.proofs.examples.ExamplesTables.{repeated, others}
+use Rattle.semantics_examples.proofs.Check.{belowTest, scopedTest, terminalsTest, ownTest, predictive}
+use Rattle.semantics_examples.proofs.Computing.{left-recursion-computes, tables-compute, descent-computes, calls-compute}
+use Rattle.semantics_examples.proofs.Tables.{repeated, others}
 
 -- with one token of lookahead: whether an input is accepted, the count and the farthest place
 abbrev judged : Grammar → List ℕ → Bool × ℕ × ℕ

@@ -1,3 +1,4 @@
 pub mod Descents
 pub mod Tables
 pub mod Rows
+pub mod Entries

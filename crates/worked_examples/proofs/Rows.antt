@@ -10,7 +10,7 @@ use Rattle.grammar.specs.Encoding.{onWord, parse, grammarOf}
 use Rattle.grammar.specs.Limits.{maxTableWords, maxMemoEntries}
 use Rattle.grammar.specs.Reading.{counted, stepped, onStep, finished, scan, isWithin, headed, opened, reading}
 use Rattle.lookahead.specs.declared.Lookahead.the-variants.{One}
-use Rattle.semantics.proofs.examples.Computing.{left-recursion-computes, tables-compute, descent-computes, calls-compute}
+use Rattle.semantics_examples.proofs.Computing.{left-recursion-computes, tables-compute, descent-computes, calls-compute}
 use Rattle.semantics.specs.Productive.{unproductive, lowestUnproductive}
 use Rattle.table_promises.specs.Analysis.{fault}
 use Rattle.columns.specs.Columns.{columnString}

@@ -18,7 +18,7 @@ use Rattle.base.specs.Rounds.{members, least}
 use Rattle.semantics.specs.FirstFollow.{Entry, sameEntry, entries, firstStep, first, followStep, follow}
 use Rattle.semantics.specs.Claims.{clashes, tableOf}
 use Rattle.semantics.specs.LeftRecursion.{lowestLeftRecursive}
-use Rattle.semantics.proofs.examples.Computing.{tables-compute, left-recursion-computes}
+use Rattle.semantics_examples.proofs.Computing.{tables-compute, left-recursion-computes}
 use Rattle.table_promises.specs.declared.Conflict.the-variants.{Absent, At}
 use Rattle.base.specs.Lists.{listed}
 use Rattle.lookahead.specs.declared.Lookahead.the-variants.{One, Two}

@@ -18,7 +18,7 @@ use Rattle.columns.specs.contracts.Columns.{columnElement}
 use Rattle.columns.specs.Columns.{columnString}
 use Rattle.text.specs.Ascii.{ascii}
 use Rattle.text.specs.Decimal.{decimal, labelled}
-use Rattle.text.specs.Refusal.{refusalText}
+use Rattle.refusal_text.specs.Refusal.{refusalText}
 use Rattle.text.specs.Writing.{Put, upTo}
 use Rattle.gaps_text_promises.specs.Gaps.{claimsBy, overrunText}
 

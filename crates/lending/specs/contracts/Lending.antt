@@ -5,20 +5,14 @@ use lib.Dec.{eqb, ltb}
 use lib.ListN.{length, getD, drop, replicate}
 use Rattle.base.specs.Choice.{choose}
 use Rattle.grammar.specs.Codes.{noEntry}
-use Rattle.grammar.specs.contracts.Codes.{noRule}
 use Rattle.grammar.specs.Limits.{maxNonterminals, maxTerminals, maxTableWords}
 use Rattle.grammar.specs.declared.reading.Sizes.{Sizes}
 use Rattle.lookahead.specs.declared.Lookahead.{Lookahead}
 use Rattle.lookahead.specs.declared.Lookahead.the-variants.{One, Two}
 use Rattle.base.specs.Lists.{listed}
-use Rattle.families.specs.declared.Finding.{Finding}
-use Rattle.families.specs.declared.Finding.the-variants.{Passed, Refused}
 use Rattle.columns.specs.Columns.{columnCount}
 use Rattle.table.specs.declared.Found.{Found}
-
--- an entry as a word
-unfoldable pub entryCode : ℕ → ℕ
-entryCode b = choose (eqb b noRule) noEntry b
+use Rattle.lent_words.specs.contracts.Words.{entryCode, lentSizes}
 
 -- the word at an index
 unfoldable pub tableWordAt : ℕ → List ℕ → List ℕ → List ℕ → ℕ → ℕ
@@ -42,14 +36,6 @@ laid k z firsts follows entries = listed (wordCount k z) (λ i. storedWord k (ta
 -- with one token in an array of their own, and no entries behind them
 unfoldable pub madeUp : Sizes → List ℕ → List ℕ → List ℕ → List ℕ
 madeUp z firsts follows entries = laid One z firsts follows entries ++ drop (wordCount One z) (replicate maxTableWords noEntry)
-
-abbrev pub noSizes : Sizes
-noSizes = record { nonterminals = 0; terminals = 0; rules = 0 }
-
--- the sizes of the table that is lent: none where the grammar is refused, or where they are past the limits, as those of no grammar that passes are
-unfoldable pub lentSizes : Finding → Sizes
-lentSizes (Refused e) = noSizes
-lentSizes (Passed z) = choose (ltb maxNonterminals (z .nonterminals)) noSizes (choose (ltb maxTerminals (z .terminals)) noSizes z)
 
 -- memory afterwards: if there is room for the words, they stand in front of what was there
 unfoldable pub lentBy : Lookahead → Sizes → (firsts follows entries before : List ℕ) → List ℕ

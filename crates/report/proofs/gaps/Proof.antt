@@ -2,7 +2,7 @@
 use Prim.Native.Nat.{ℕ}
 use lib.ListN.{length-replicate}
 use Rattle.grammar.specs.Limits.{maxWords}
-use Rattle.report.proofs.Files.{found, not-found, gaps-refused, gaps-told}
+use Rattle.report_texts.proofs.Files.{found, not-found, gaps-refused, gaps-told}
 use borrow.Author.Needs.{needs}
 use Rattle.report.proofs.gaps.Statement.{statement}
 use Rattle.report.proofs.gaps.Tie as tie

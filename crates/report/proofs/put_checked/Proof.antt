@@ -3,8 +3,8 @@ use Prim.Native.Nat.{ℕ}
 use lib.ListN.{length-replicate}
 use Rattle.grammar.specs.Codes.{noEntry}
 use Rattle.grammar.specs.Limits.{maxTableWords}
-use Rattle.report.specs.Texts.{blankTable}
-use Rattle.report.proofs.Answers.{put-checked-text}
+use Rattle.report_texts.specs.Texts.{blankTable}
+use Rattle.report_texts.proofs.Answers.{put-checked-text}
 use borrow.Author.Needs.{needs}
 use Rattle.report.proofs.put_checked.Statement.{statement}
 use Rattle.report.proofs.put_checked.Tie as tie

@@ -3,8 +3,8 @@ use Prim.Native.Nat.{ℕ}
 use lib.ListN.{length-replicate}
 use Rattle.grammar.specs.Codes.{uncalledCode}
 use Rattle.grammar.specs.Limits.{maxMemoEntries}
-use Rattle.report.specs.Texts.{blankMemo}
-use Rattle.report.proofs.Answers.{put-judged-text}
+use Rattle.report_texts.specs.Texts.{blankMemo}
+use Rattle.report_texts.proofs.Answers.{put-judged-text}
 use borrow.Author.Needs.{needs}
 use Rattle.report.proofs.put_judged.Statement.{statement}
 use Rattle.report.proofs.put_judged.Tie as tie

@@ -2,8 +2,8 @@
 use Prim.Native.Nat.{ℕ}
 use lib.ListN.{length-replicate}
 use Rattle.grammar.specs.Limits.{maxWords}
-use Rattle.report.proofs.Files.{found, not-found, sheet-refused, sheet-checked}
-use Rattle.report.proofs.Counts.{sheet-printed}
+use Rattle.report_texts.proofs.Files.{found, not-found, sheet-refused, sheet-checked}
+use Rattle.report_texts.proofs.Counts.{sheet-printed}
 use borrow.Author.Needs.{needs}
 use Rattle.report.proofs.sheet.Statement.{statement}
 use Rattle.report.proofs.sheet.Tie as tie

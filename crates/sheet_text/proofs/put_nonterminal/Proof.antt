@@ -1,7 +1,7 @@
 -- The sets are put, then the row.
 use native.Mathlib.Omega.{arith}
 use Rattle.text.proofs.Writing.{put-then}
-use Rattle.sheet_text.proofs.Lines.{row-within}
+use Rattle.sheet_text.proofs.Rows.{row-within}
 use Rattle.sheet_text.specs.Sheet.{nonterminalText}
 use borrow.Author.Needs.{needs}
 use Rattle.sheet_text.proofs.put_nonterminal.Statement.{statement}

@@ -4,7 +4,7 @@ use Prim.Native.Nat.{_≤_, _+_, _-_}
 use native.Mathlib.Omega.{arith}
 use Rattle.text.proofs.Writing.{put-length, put-none, put-next, put-last}
 use Rattle.text.specs.Writing.{Put, upTo}
-use Rattle.sheet_text.specs.Sheet.{sheetWordAt, tableEntryText}
+use Rattle.sheet_lines.specs.Lines.{sheetWordAt, tableEntryText}
 use Rattle.sheet_text.proofs.put_row.Statement.{statement}
 use Rattle.sheet_text.proofs.put_row.Tie as tie
 

@@ -1,0 +1,4 @@
+pub mod Cursors
+pub mod Lines
+pub mod Lengths
+pub mod Examples

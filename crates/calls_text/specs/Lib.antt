@@ -1,0 +1,3 @@
+pub mod Calls
+pub mod Room
+pub mod contracts

@@ -1,3 +1,0 @@
-pub mod Texts
-pub mod Report
-pub mod contracts
