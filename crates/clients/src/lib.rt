@@ -1,6 +1,6 @@
 // Judging for the clients of one judge.
 ghost use Rattle.event.specs.Events.{inputOf};
-ghost use Rattle.client_records.specs.Properties.{JudgesFor};
+ghost use Rattle.clients_promises.specs.Properties.{JudgesFor};
 use answer::Answer;
 use client_charges::allowance::allowance;
 use client_charges::charge;

@@ -3,7 +3,7 @@ use mathlib.Core.Path.{_≡_}
 use lib.ListN.{length}
 use Rattle.event.specs.Events.{inputOf}
 use Rattle.client_records.specs.Usages.{clients}
-use Rattle.client_records.proofs.Serving.{turned-away-served, let-through-served}
+use Rattle.clients_promises.proofs.Serving.{turned-away-served, let-through-served}
 use borrow.Author.Needs.{needs}
 use Rattle.clients.proofs.judge_for.Statement.{statement}
 use Rattle.clients.proofs.judge_for.Tie as tie

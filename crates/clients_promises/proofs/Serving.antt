@@ -30,14 +30,14 @@ use Rattle.promises.proofs.Directions.{pair-same, directions-ignored}
 use Rattle.recognizer_promises.specs.Memory.{memoWords}
 use Rattle.recognizer_promises.specs.Properties.{Judges}
 use Rattle.usage.specs.declared.Usage.{Usage}
 use Rattle.client_records.specs.declared.Served.{Served}
 use Rattle.client_records.specs.Usages.{clients, calledBy, sumBelow, charged, exhausted, UsedUp}
 use Rattle.client_records.specs.contracts.Charges.{allowedBy, servedWith}
-use Rattle.client_records.specs.Histories.{calledExactly}
-use Rattle.client_records.specs.Properties.{clientFault, JudgesFor}
-use Rattle.client_records.proofs.Codes.{never-judged}
+use Rattle.clients_promises.specs.Histories.{calledExactly}
+use Rattle.clients_promises.specs.Properties.{clientFault, JudgesFor}
+use Rattle.clients_promises.proofs.Codes.{never-judged}
 use Rattle.client_records.proofs.Charging.{used-up, exhausted-true, charges}
-use Rattle.client_records.proofs.Histories.{exactly-stops, used-up-alike, continues-with, of-the-day-with}
+use Rattle.clients_promises.proofs.Histories.{exactly-stops, used-up-alike, continues-with, of-the-day-with}
 
 alone : (f : Option Error) → firstFault (f ∷ []) ≡ f
 alone none = refl
