@@ -8,7 +8,9 @@ use lib.Dec.{leb, ltb}
 use lib.ListN.{length, set}
 use lib.Seq.{getD-set-same, getD-set-other}
 use borrow.Author.Tests.{le-leb, lt-leb, leb-true, lt-ltb, le-ltb}
+use Rattle.answer.specs.declared.Error.the-variants.{UnknownClient, QuotaReached}
 use Rattle.answer.specs.declared.Answer.{Answer}
+use Rattle.answer.specs.declared.Answer.the-variants.{Refused, Passed}
 use Rattle.base.specs.Choice.{choose}
 use Rattle.usage.specs.declared.Usage.{Usage}
 use Rattle.usage.specs.Counters.{unused}
@@ -16,6 +18,7 @@ use Rattle.usage.specs.Histories.{countedAnswer}
 use Rattle.client_records.specs.declared.totals.Totals.{Totals}
 use Rattle.client_records.specs.Usages.{clients, usageOfClient, calledBy, sumBelow, charged, exhausted, UsedUp, Charges}
 use Rattle.client_records.specs.Sums.{Totalled}
+use Rattle.client_records.specs.contracts.Charges.{allowedBy, servedWith}
 
 -- the test of an allowance, by its first part
 pub share-reached : {t : Totals} (us : List Usage) (own share limit : ℕ) → share ≤ own → Totalled us t
@@ -38,13 +41,26 @@ module _ (client share limit : ℕ) (f : ℕ → ℕ) where
   pub exhausted-true : UsedUp client share limit f → exhausted (f client) share (sumBelow clients f) limit ≡ true
   exhausted-true (h, s, t) = rw (le-leb share (f client) s, le-leb limit (sumBelow clients f) t)
 
+-- what is answered before a log is judged, by the tests
+module _ (client share limit : ℕ) (us : List Usage) where
+  pub allowed-nobody : clients ≤ client → Refused UnknownClient ≡ allowedBy client share limit us
+  allowed-nobody h = rw (le-leb clients client h)
+
+  module _ {b : Bool} (h : client < clients) (e : b ≡ exhausted (calledBy us client) share (sumBelow clients (calledBy us)) limit) where
+    pub allowed-none : b ≡ true → Refused QuotaReached ≡ allowedBy client share limit us
+    allowed-none t = rw (lt-leb clients client h, sym e ∙ t)
+
+    pub allowed-one : b ≡ false → Passed ≡ allowedBy client share limit us
+    allowed-one t = rw (lt-leb clients client h, sym e ∙ t)
+
 -- an answer to a client
 module _ (client : ℕ) (x : Answer) (us : List Usage) where
-  pub charged-nobody : clients ≤ client → us ≡ charged client x us
+  pub charged-nobody : clients ≤ client → record { answer = x; usages = us } ≡ servedWith client x us
   unfolding charged
   charged-nobody h = rw (le-ltb client clients h)
 
-  pub charged-client : {u : Usage} → client < clients → u ≡ countedAnswer (usageOfClient us client) x → set us client u ≡ charged client x us
+  pub charged-client : {u : Usage} → client < clients → u ≡ countedAnswer (usageOfClient us client) x
+      → record { answer = x; usages = set us client u } ≡ servedWith client x us
   unfolding charged
   charged-client h e = rw (lt-ltb client clients h, e)
 

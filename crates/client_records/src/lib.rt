@@ -1,5 +1,4 @@
-// The records of the clients of one judge, their totals, and the allowance by which a client is turned away; and what judging for a client
-// promises: specs/Properties.antt.
+// The records of the clients of one judge, their totals, and the allowance by which a client is turned away.
 ghost use mathlib.Core.Path.{_≡_};
 ghost use Rattle.client_records.specs.Usages.{nobody, calledBy, sumBelow, clients, exhausted};
 use answer::Answer;

@@ -1,11 +1,11 @@
 // Judging for the clients of one judge.
 ghost use Rattle.event.specs.Events.{inputOf};
-ghost use Rattle.client_records.specs.Properties.{JudgesFor};
+ghost use Rattle.clients_promises.specs.Properties.{JudgesFor};
 use answer::Answer;
-use answer::Error;
+use client_charges::allowance::allowance;
+use client_charges::charge;
 use client_records::CLIENTS;
 use client_records::Served;
-use client_records::is_exhausted;
 use recognizer::judge;
 use usage::Usage;
 
@@ -23,27 +23,10 @@ pub fn judge_for(
     ensures { λ r. ⌜ JudgesFor client share limit (now (words .entry)) (inputOf (now (events .entry))) (now (table .entry)) (now (memo .entry)) usages r
         (now (table .exit)) (now (memo .exit)) ⌝ }
 {
-    if CLIENTS <= client as usize {
-        return Served {
-            answer: Answer::Refused(Error::UnknownClient),
-            usages,
-        };
-    }
-    let at = client as usize;
-    let own = usages[at];
-    let mut next = usages;
-    if is_exhausted(usages, own, share, limit) {
-        let refusal = Answer::Refused(Error::QuotaReached);
-        next[at] = own.after(refusal);
-        return Served {
-            answer: refusal,
-            usages: next,
-        };
-    }
+    let allowed = allowance(usages, client, share, limit);
+    let Answer::Passed = allowed else {
+        return charge(usages, client, allowed);
+    };
     let answer = judge(words, events, table, memo);
-    next[at] = own.after(answer);
-    Served {
-        answer,
-        usages: next,
-    }
+    charge(usages, client, answer)
 }

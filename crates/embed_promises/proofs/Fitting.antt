@@ -41,7 +41,7 @@ use Rattle.recognizer_promises.specs.Costliest.{JudgesCostliest}
 use Rattle.usage.specs.declared.Usage.{Usage}
 use Rattle.client_records.specs.declared.Served.{Served}
 use Rattle.client_records.specs.Usages.{clients, calledBy, sumBelow}
-use Rattle.client_records.specs.Properties.{JudgesFor}
+use Rattle.clients_promises.specs.Properties.{JudgesFor}
 use Rattle.tree_writer_promises.specs.declared.Shown.{Shown}
 use Rattle.tree_writer_promises.specs.Properties.{Shows}
 use Rattle.tree_writer_promises.proofs.Showing.{short-refused}

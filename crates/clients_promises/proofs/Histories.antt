@@ -13,9 +13,9 @@ use Rattle.usage.specs.declared.Usage.{Usage}
 use Rattle.usage.specs.Counters.{counterLimit, saturated, unused, calledOf, eachCounter}
 use Rattle.usage.specs.Histories.{countedAnswer, recordOf, totalOf}
 use Rattle.usage.proofs.Histories.{from-any, from-unused, record-append}
 use Rattle.client_records.specs.Usages.{clients, nobody, usageOfClient, calledBy, UsedUp, Charges}
-use Rattle.client_records.specs.Histories.{Reply, reply, answersTo, Continues, OfTheDay, calledExactly}
+use Rattle.clients_promises.specs.Histories.{Reply, reply, answersTo, Continues, OfTheDay, calledExactly}
 use Rattle.client_records.proofs.Sums.{sums-stop}
 
 -- the exact sums are those of the counters
 pub continued : {first us : List Usage} {h : List Reply} → ((k : ℕ) → k < clients → usageOfClient us k ≡ recordOf (usageOfClient first k) (answersTo k h))

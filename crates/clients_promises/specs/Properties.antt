@@ -20,9 +20,9 @@ use Rattle.recognizer_promises.specs.Memory.{memoWords}
 use Rattle.recognizer_promises.specs.Properties.{Judges}
 use Rattle.usage.specs.declared.Usage.{Usage}
 use Rattle.usage.specs.Counters.{counterLimit}
 use Rattle.client_records.specs.declared.Served.{Served}
 use Rattle.client_records.specs.Usages.{clients, calledBy, sumBelow, exhausted, UsedUp, Charges}
-use Rattle.client_records.specs.Histories.{Reply, reply, Continues, OfTheDay, calledExactly}
+use Rattle.clients_promises.specs.Histories.{Reply, reply, Continues, OfTheDay, calledExactly}
 
 -- why the call is refused, in document 02's order: no such client, then an allowance that is used up, and then as judging; `called` is what the
 -- descents for each client have called before

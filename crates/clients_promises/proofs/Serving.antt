@@ -2,18 +2,23 @@
 use mathlib.Core.Path.{_≡_, refl, sym, ap, _∙_}
 use mathlib.Core.Bool.{Bool, true, false, true≢false}
 use mathlib.Core.List.{List, [], _∷_}
-use mathlib.Core.Logic.{_↔_}
+use mathlib.Core.Logic.{_↔_, ⊎-elim}
 use mathlib.Core.Option.{Option, none, some}
+use denote.Enum.Declared.{tagOf}
+use types.Run.{OneOf}
 use Prim.Native.Nat.{ℕ, _≤_, _<_}
 use native.Mathlib.Omega.{arith}
-use lib.ListN.{length, set}
-use borrow.Author.Tests.{le-leb, lt-leb}
+use lib.Dec.{leb}
+use lib.ListN.{length}
+use borrow.Author.Tests.{le-leb, lt-leb, leb-true, leb-false}
 use Rattle.answer.specs.declared.Error.{Error}
 use Rattle.answer.specs.declared.Error.the-variants.{UnknownClient, QuotaReached}
 use Rattle.answer.specs.declared.Answer.{Answer}
-use Rattle.answer.specs.declared.Answer.the-variants.{Refused}
+use Rattle.answer.specs.declared.Answer.the-variants.{Refused, Passed}
 use Rattle.answer.specs.Faults.{firstFault}
+use Rattle.answer.proofs.Answer.{the-type}
 use Rattle.answer.proofs.Apart.{answer-number}
+use Rattle.base.specs.Choice.{choose}
 use Rattle.grammar.specs.Encoding.{grammarOf}
 use Rattle.lookahead.specs.declared.Lookahead.the-variants.{One}
 use Rattle.table_promises.specs.Layout.{tableWords}
@@ -25,14 +30,14 @@ use Rattle.promises.proofs.Directions.{pair-same, directions-ignored}
 use Rattle.recognizer_promises.specs.Memory.{memoWords}
 use Rattle.recognizer_promises.specs.Properties.{Judges}
 use Rattle.usage.specs.declared.Usage.{Usage}
-use Rattle.usage.specs.Histories.{countedAnswer}
 use Rattle.client_records.specs.declared.Served.{Served}
-use Rattle.client_records.specs.Usages.{clients, usageOfClient, calledBy, sumBelow, charged, exhausted, UsedUp}
-use Rattle.client_records.specs.Histories.{calledExactly}
-use Rattle.client_records.specs.Properties.{clientFault, JudgesFor}
-use Rattle.client_records.proofs.Codes.{never-judged}
-use Rattle.client_records.proofs.Charging.{used-up, exhausted-true, charged-nobody, charged-client, charges}
-use Rattle.client_records.proofs.Histories.{exactly-stops, used-up-alike, continues-with, of-the-day-with}
+use Rattle.client_records.specs.Usages.{clients, calledBy, sumBelow, charged, exhausted, UsedUp}
+use Rattle.client_records.specs.contracts.Charges.{allowedBy, servedWith}
+use Rattle.clients_promises.specs.Histories.{calledExactly}
+use Rattle.clients_promises.specs.Properties.{clientFault, JudgesFor}
+use Rattle.clients_promises.proofs.Codes.{never-judged}
+use Rattle.client_records.proofs.Charging.{used-up, exhausted-true, charges}
+use Rattle.clients_promises.proofs.Histories.{exactly-stops, used-up-alike, continues-with, of-the-day-with}
 
 alone : (f : Option Error) → firstFault (f ∷ []) ≡ f
 alone none = refl
@@ -89,38 +94,63 @@ module _ (client share limit : ℕ) (us : List Usage) (eight : length us ≡ cli
         );
       }
 
-  pub unknown-client : clients ≤ client
-      → JudgesFor client share limit words input table memo us (record { answer = Refused UnknownClient; usages = us }) table memo
+  unknown-client : clients ≤ client → JudgesFor client share limit words input table memo us (servedWith client (Refused UnknownClient) us) table memo
   unknown-client h = serves
       (leaves-refused (first-unknown client share limit (calledBy us) (length table) (length memo) words input h) (refl, (refl, tt)))
       (λ b _. absurd (omega arith))
       (λ _. h, λ _. refl)
       (λ q. absurd (omega (arith, answer-number q)), λ u. absurd (omega (arith, u .0)))
-      (charged-nobody client (Refused UnknownClient) us h)
+      refl
 
-  module _ (h : client < clients) {b : Bool} (e : b ≡ exhausted (calledBy us client) share (sumBelow clients (calledBy us)) limit) where
-    pub quota-reached : {u : Usage} → b ≡ true → u ≡ countedAnswer (usageOfClient us client) (Refused QuotaReached)
-        → JudgesFor client share limit words input table memo us (record { answer = Refused QuotaReached; usages = set us client u }) table memo
-    quota-reached t c =
-        let used = used-up client share limit (calledBy us) h (sym e ∙ t) in
-        serves
-        (leaves-refused (first-quota client share limit (calledBy us) (length table) (length memo) words input h (sym e ∙ t)) (refl, (refl, tt)))
-        (λ _ n. absurd (n used))
-        (λ q. absurd (omega (arith, answer-number q)), λ k. absurd (omega arith))
-        (λ _. used, λ _. refl)
-        (charged-client client (Refused QuotaReached) us h c)
+  abbrev reached-before : Bool
+  reached-before = exhausted (calledBy us client) share (sumBelow clients (calledBy us)) limit
 
-    pub judged : {u : Usage} {a : Answer} {table′ memo′ : List ℕ} → b ≡ false → Judges One words input table memo a table′ memo′
-        → u ≡ countedAnswer (usageOfClient us client) a
-        → JudgesFor client share limit words input table memo us (record { answer = a; usages = set us client u }) table′ memo′
-    judged {a = a} t j c = serves
-        (leaves-alike (then-judged client share limit (calledBy us) (length table) (length memo) words input h (sym e ∙ t)) (j .leaves))
-        (λ _ _. j)
-        (λ q. absurd (never-judged UnknownClient (omega arith) j q), λ k. absurd (omega arith)) (
-          λ q. absurd (never-judged QuotaReached (omega arith) j q),
-          λ u. absurd (true≢false (sym (exhausted-true client share limit (calledBy us) u) ∙ sym e ∙ t)),
-        )
-        (charged-client client a us h c)
+  quota-reached : client < clients → reached-before ≡ true
+      → JudgesFor client share limit words input table memo us (servedWith client (Refused QuotaReached) us) table memo
+  quota-reached h e =
+      let used = used-up client share limit (calledBy us) h e in
+      serves
+      (leaves-refused (first-quota client share limit (calledBy us) (length table) (length memo) words input h e) (refl, (refl, tt)))
+      (λ _ n. absurd (n used))
+      (λ q. absurd (omega (arith, answer-number q)), λ k. absurd (omega arith))
+      (λ _. used, λ _. refl)
+      refl
+
+  judged : {a : Answer} {table′ memo′ : List ℕ} → client < clients → reached-before ≡ false → Judges One words input table memo a table′ memo′
+      → JudgesFor client share limit words input table memo us (servedWith client a us) table′ memo′
+  judged {a = a} h e j = serves
+      (leaves-alike (then-judged client share limit (calledBy us) (length table) (length memo) words input h e) (j .leaves))
+      (λ _ _. j)
+      (λ q. absurd (never-judged UnknownClient (omega arith) j q), λ k. absurd (omega arith)) (
+        λ q. absurd (never-judged QuotaReached (omega arith) j q),
+        λ u. absurd (true≢false (sym (exhausted-true client share limit (calledBy us) u) ∙ e)),
+      )
+      refl
+
+  -- by what is answered before it is judged
+  module _ {allowed : Answer} (e : allowed ≡ allowedBy client share limit us) where
+    pub turned-away-served : {r : Served} → OneOf (0 ∷ 2 ∷ 3 ∷ []) (tagOf the-type allowed) → r ≡ servedWith client allowed us
+        → JudgesFor client share limit words input table memo us r table memo
+    turned-away-served {r} t d = go (leb clients client) reached-before refl refl e
+      where
+        go : (u q : Bool) → leb clients client ≡ u → reached-before ≡ q
+            → allowed ≡ choose u (Refused UnknownClient) (choose q (Refused QuotaReached) Passed)
+            → JudgesFor client share limit words input table memo us r table memo
+        go true q h b z = rw (d, z) (unknown-client (leb-true clients client h))
+        go false true h b z = rw (d, z) (quota-reached (leb-false clients client h) b)
+        go false false h b z = absurd (⊎-elim (λ e. omega arith) (⊎-elim (λ e. omega arith) (λ e. omega arith)) (rw z at t))
+
+    pub let-through-served : {a : Answer} {r : Served} {table′ memo′ : List ℕ} → tagOf the-type allowed ≡ 1
+        → Judges One words input table memo a table′ memo′ → r ≡ servedWith client a us
+        → JudgesFor client share limit words input table memo us r table′ memo′
+    let-through-served {a} {r} {table′} {memo′} t j d = go (leb clients client) reached-before refl refl e
+      where
+        go : (u q : Bool) → leb clients client ≡ u → reached-before ≡ q
+            → allowed ≡ choose u (Refused UnknownClient) (choose q (Refused QuotaReached) Passed)
+            → JudgesFor client share limit words input table memo us r table′ memo′
+        go true q h b z = let n : _≡_ {A = ℕ} 0 1 = rw z at t in absurd (omega arith)
+        go false true h b z = let n : _≡_ {A = ℕ} 0 1 = rw z at t in absurd (omega arith)
+        go false false h b z = rw d (judged (leb-false clients client h) b j)
 
 -- the answer, both memories and the records handed back are settled by the input, so directions change nothing
 module _ (client share limit : ℕ) (words table memo : List ℕ) (us : List Usage) where

@@ -12,10 +12,10 @@ use Rattle.recognizer_promises.specs.Answers.{verdictOf}
 use Rattle.usage.specs.declared.Usage.{Usage}
 use Rattle.usage.specs.Counters.{counterLimit, calledOf}
 use Rattle.usage.specs.Histories.{totalOf}
 use Rattle.client_records.specs.declared.Served.{Served}
 use Rattle.client_records.specs.Usages.{clients, nobody, calledBy, sumBelow}
-use Rattle.client_records.specs.Histories.{Reply, reply, answersTo, Continues, OfTheDay}
-use Rattle.client_records.specs.Properties.{clientFault, JudgesFor}
+use Rattle.clients_promises.specs.Histories.{Reply, reply, answersTo, Continues, OfTheDay}
+use Rattle.clients_promises.specs.Properties.{clientFault, JudgesFor}
 
 -- what is handed in and lent at a call; share and limit are numbers of 32 bits
 pub record ClientCall : Type 0 where

@@ -16,12 +16,12 @@ use Rattle.recognizer_promises.specs.Answers.{verdictOf}
 use Rattle.usage.specs.declared.Usage.{Usage}
 use Rattle.usage.specs.Counters.{counterLimit, saturated, calledOf, eachCounter}
 use Rattle.usage.specs.Histories.{countedAnswer, recordOf, totalOf}
 use Rattle.client_records.specs.Usages.{clients, nobody, usageOfClient, calledBy, sumBelow, exhausted, Charges}
-use Rattle.client_records.specs.Histories.{Reply, reply, answersTo, Continues, OfTheDay}
-use Rattle.client_records.specs.Properties.{clientFault}
-use Rattle.client_records.specs.Runs.{ClientCall, ClientRun, idle, next, replyBy, calledWith, repliesBy, RunsCounted}
+use Rattle.clients_promises.specs.Histories.{Reply, reply, answersTo, Continues, OfTheDay}
+use Rattle.clients_promises.specs.Properties.{clientFault}
+use Rattle.clients_promises.specs.Runs.{ClientCall, ClientRun, idle, next, replyBy, calledWith, repliesBy, RunsCounted}
 use Rattle.client_records.proofs.Sums.{sum-alike, sums-stop}
-use Rattle.client_records.proofs.Histories.{continued, of-nobody, of-each}
+use Rattle.clients_promises.proofs.Histories.{continued, of-nobody, of-each}
 
 -- counted one by one
 run-counts : {us vs : List Usage} {l : List ClientCall} {h : List Reply} → ClientRun us l h vs → (k : ℕ) → k < clients

@@ -1,0 +1,4 @@
+pub mod Codes
+pub mod Histories
+pub mod Serving
+pub mod Runs
