@@ -34,7 +34,7 @@ use Rattle.inputs.specs.declared.Trials.{Trials}
 use Rattle.columns.specs.Columns.{columnCount}
 use Rattle.memo_table.specs.contracts.Tally.{recordedBelow}
 use Rattle.memo_table.proofs.Tallying.{count-recorded}
-use Rattle.descent_arrays.specs.contracts.Choices.{choicesOf, memoEntries}
+use Rattle.descent_choices.specs.contracts.Choices.{choicesOf, memoEntries}
 use Rattle.recognizer_promises.specs.Memory.{memoWords}
 use Rattle.recognizer_promises.specs.contracts.Judging.{Descended}
 use Rattle.recognizer_promises.specs.CostliestInput.{callsOn}
