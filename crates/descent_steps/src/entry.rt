@@ -6,7 +6,7 @@ ghost use Rattle.rule.specs.contracts.Rule.{meant};
 use grammar::codes::FAILED;
 use rule::Outcome;
 
-pub fn code(outcome: Outcome) -> u16
+pub(crate) fn code(outcome: Outcome) -> u16
     ensures { λ r. ⌜ r ≡ outcomeCode (meant outcome) ⌝ }
 {
     match outcome {
@@ -15,7 +15,7 @@ pub fn code(outcome: Outcome) -> u16
     }
 }
 
-pub fn recall(entry: u16) -> Outcome
+pub(crate) fn recall(entry: u16) -> Outcome
     ensures { λ r. ⌜ meant r ≡ decode entry ⌝ }
 {
     if entry == FAILED {

@@ -1,7 +1,7 @@
 use borrow.Author.Tests.{eq-eqb, ne-eqb}
 use Rattle.semantics.specs.contracts.Memo.{decode}
-use Rattle.memo_table.proofs.entry.recall.Statement.{statement}
-use Rattle.memo_table.proofs.entry.recall.Tie as tie
+use Rattle.descent_steps.proofs.entry.recall.Statement.{statement}
+use Rattle.descent_steps.proofs.entry.recall.Tie as tie
 
 returns : tie.Need-returns
 unfolding decode

@@ -1,7 +1,7 @@
 use Rattle.semantics.specs.Memo.{outcomeCode}
 use borrow.Author.Needs.{needs}
-use Rattle.memo_table.proofs.entry.code.Statement.{statement}
-use Rattle.memo_table.proofs.entry.code.Tie as tie
+use Rattle.descent_steps.proofs.entry.code.Statement.{statement}
+use Rattle.descent_steps.proofs.entry.code.Tie as tie
 
 enum-told : tie.Need-enum-told
 enum-told c = search needs
