@@ -4,8 +4,8 @@ use Prim.Native.Nat.{_-_, _≤_}
 use native.Mathlib.Omega.{arith}
 use Rattle.tabular_promises.specs.contracts.Chart.{foundWord}
 use Rattle.tabular_promises.proofs.Charts.{word-start, word-more, word-of-many, word-beyond, word-within}
-use Rattle.chart.proofs.word_at.Statement.{statement}
-use Rattle.chart.proofs.word_at.Tie as tie
+use Rattle.span_words.proofs.word_at.Statement.{statement}
+use Rattle.span_words.proofs.word_at.Tie as tie
 
 abbrev Inv-loop : tie.InvT-loop
 Inv-loop chart nonterminals start end word₀ at₀ word at = (at ≤ nonterminals) × (word ≡ foundWord chart at start end)

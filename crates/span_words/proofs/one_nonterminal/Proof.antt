@@ -3,8 +3,8 @@ use mathlib.Core.Path.{sym, _∙_}
 use native.Mathlib.Omega.{arith}
 use Rattle.tabular_promises.proofs.PlaceSets.{weight-32}
 use Rattle.tabular_promises.proofs.Charts.{one-nonterminal as one, no-nonterminal}
-use Rattle.chart.proofs.one_nonterminal.Statement.{statement}
-use Rattle.chart.proofs.one_nonterminal.Tie as tie
+use Rattle.span_words.proofs.one_nonterminal.Statement.{statement}
+use Rattle.span_words.proofs.one_nonterminal.Tie as tie
 
 shl-result : tie.Need-shl-result
 shl-result c = omega (arith, c .if1 .taken)

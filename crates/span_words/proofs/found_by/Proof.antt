@@ -1,7 +1,7 @@
 -- By the test.
 use Rattle.tabular_promises.specs.contracts.Chart.{withNonterminal}
-use Rattle.chart.proofs.found_by.Statement.{statement}
-use Rattle.chart.proofs.found_by.Tie as tie
+use Rattle.span_words.proofs.found_by.Statement.{statement}
+use Rattle.span_words.proofs.found_by.Tie as tie
 
 one-nonterminal-requires : tie.Need-one-nonterminal-requires
 one-nonterminal-requires c κs = tt

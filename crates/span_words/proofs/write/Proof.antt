@@ -6,8 +6,8 @@ use Rattle.tabular_promises.specs.contracts.Chart.{spanWord}
 use Rattle.tabular_promises.specs.contracts.Spans.{spanCount}
 use Rattle.tabular_promises.proofs.Writing.{count-low, Writing, writing-start, at-low, at-room, row-on, row-end, written, not-of-long, not-in-short}
 use Rattle.tabular_promises.proofs.Writing.{all-written}
-use Rattle.chart.proofs.spans.write.Statement.{statement}
-use Rattle.chart.proofs.spans.write.Tie as tie
+use Rattle.span_words.proofs.write.Statement.{statement}
+use Rattle.span_words.proofs.write.Tie as tie
 
 abbrev Inv-loop : tie.InvT-loop
 Inv-loop chart nonterminals tokens spans₀ at₀ start₀ end₀ spans at start end = Writing tokens (spanWord chart nonterminals) spans₀ spans at start end
