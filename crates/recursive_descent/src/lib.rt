@@ -6,9 +6,9 @@ use descent_choices::table_choices;
 use families::Finding;
 use input_findings::with_memo;
 use judging::judge_chosen;
-use judging::refused;
 use lookahead::Lookahead;
 use recognizer_promises::Judgement;
+use refusals::refused;
 use table::find;
 
 mod descent;

@@ -8,7 +8,6 @@ ghost use Rattle.recognizer_promises.specs.contracts.Search.{SearchesWords};
 ghost use Rattle.recursive_descent.specs.contracts.Search.{TrialGiven, CostliestJudged};
 use super::judging::descend;
 use super::judging::judge_chosen;
-use super::judging::refused;
 use answer::Answer;
 use descent_arrays::CHOICES;
 use descent_choices::entries_of;
@@ -24,6 +23,7 @@ use length_findings::with_length;
 use lookahead::Lookahead;
 use memo_table::count_calls;
 use recognizer_promises::Judgement;
+use refusals::refused;
 use table::find;
 
 // Writes the input of a number, and counts the calls that the descent makes on it.
