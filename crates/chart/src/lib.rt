@@ -3,7 +3,7 @@
 ghost use mathlib.Core.Path.{_≡_};
 ghost use lib.Bits.{bitOr};
 ghost use Rattle.base.specs.Choice.{choose};
-ghost use Rattle.tabular_promises.specs.contracts.Chart.{placesBefore, oneNonterminal, withNonterminal, spanWord, chartVerdict};
+ghost use Rattle.tabular_promises.specs.contracts.Chart.{placesBefore, chartVerdict};
 use answer::Answer;
 use answer::Calls;
 use grammar::limits::NONTERMINALS;
@@ -11,7 +11,6 @@ use grammar::limits::TABULAR_PLACES;
 use places::contains;
 
 pub mod places;
-pub mod spans;
 
 pub const CHART: usize = (NONTERMINALS as usize) * TABULAR_PLACES;
 
@@ -43,47 +42,6 @@ pub fn before(chart: &[u64; CHART], nonterminal: u32, set: u64, start: usize, en
         at = at + 1;
     }
     found
-}
-
-fn one_nonterminal(nonterminal: u32) -> u32
-    ensures { λ r. ⌜ r ≡ oneNonterminal nonterminal ⌝ }
-{
-    if nonterminal < NONTERMINALS {
-        1u32 << nonterminal
-    } else {
-        0
-    }
-}
-
-// The nonterminals found, with one more where it is to be.
-pub fn found_by(nonterminal: u32, there: bool, found: u32) -> u32
-    ensures { λ r. ⌜ r ≡ withNonterminal found nonterminal there ⌝ }
-{
-    if there {
-        found | one_nonterminal(nonterminal)
-    } else {
-        found
-    }
-}
-
-// The nonterminals that the chart gives a span to.
-pub fn word_at(chart: &[u64; CHART], nonterminals: u32, start: usize, end: usize) -> u32
-    ensures { λ r. ⌜ r ≡ spanWord (now (chart .entry)) nonterminals start end ⌝ }
-{
-    if NONTERMINALS < nonterminals {
-        return 0;
-    }
-    if TABULAR_PLACES <= end {
-        return 0;
-    }
-    let mut word = 0u32;
-    let mut at = 0;
-    while at < nonterminals {
-        let there = contains(chart[at as usize * TABULAR_PLACES + end], start);
-        word = found_by(at, there, word);
-        at = at + 1;
-    }
-    word
 }
 
 // The verdict on an input of so many tokens: whether nonterminal 0 has all of it. No call is made.

@@ -1,3 +1,1 @@
 pub mod Arrays
-pub mod Tokens
-pub mod Choices

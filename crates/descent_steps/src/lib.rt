@@ -4,8 +4,8 @@ ghost use Rattle.semantics.specs.Memo.{outcomeCode};
 ghost use Rattle.semantics.specs.contracts.Memo.{decode as outcomeOf};
 ghost use Rattle.rule.specs.contracts.Rule.{joinedBy, concluded};
 ghost use Rattle.descent_steps.specs.contracts.Steps.{symbolStep, stepOf, stepAt};
-use memo_table::entry::code;
-use memo_table::entry::recall;
+use entry::code;
+use entry::recall;
 use rule::Agreement;
 use rule::Sign;
 use rule::conclude;
@@ -13,6 +13,8 @@ use rule::joined;
 use word::Symbol;
 use word::Word;
 use word::decode;
+
+pub mod entry;
 
 // What a body does at an index: it takes a terminal, calls a nonterminal, or is over.
 pub enum Step {

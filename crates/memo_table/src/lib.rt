@@ -11,8 +11,6 @@ use answer::Answer;
 use answer::Calls;
 use grammar::codes::UNCALLED;
 
-pub mod entry;
-
 // Makes every entry one of a call that was not made.
 pub fn clear(memo: &mut [u16])
     ensures { λ _. ⌜ now (memo .exit) ≡ replicate (length (now (memo .entry))) uncalledCode ⌝ }

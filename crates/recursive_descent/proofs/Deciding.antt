@@ -37,10 +37,10 @@ use Rattle.recognizer_promises.proofs.MemoWords.{words-recorded}
 use Rattle.event.specs.Events.{inputOf}
 use Rattle.event.proofs.Inputs.{input-length}
 use Rattle.descent_arrays.specs.contracts.Arrays.{heldTokens, rowAt}
-use Rattle.descent_arrays.specs.contracts.Choices.{choicesOf, memoEntries}
-use Rattle.descent_arrays.specs.contracts.Tokens.{tokensOf}
-use Rattle.descent_arrays.proofs.TokenWords.{TokensGiven, TokensHold, column-few, tokens-hold}
-use Rattle.descent_arrays.proofs.ChoiceRows.{Filled}
+use Rattle.descent_choices.specs.contracts.Choices.{choicesOf, memoEntries}
+use Rattle.descent_tokens.specs.contracts.Tokens.{tokensOf}
+use Rattle.descent_tokens.proofs.TokenWords.{TokensGiven, TokensHold, column-few, tokens-hold}
+use Rattle.descent_choices.proofs.ChoiceRows.{Filled}
 use Rattle.recursive_descent.specs.contracts.Descent.{MemoSound, StartGiven, StartDone, StartRequires, StartEnsures}
 use Rattle.recursive_descent.specs.contracts.Judging.{JudgeGiven}
 use Rattle.recursive_descent.proofs.TableChoices.{rows-filled, choices-hold}

@@ -34,7 +34,9 @@ use Rattle.inputs.specs.declared.Trials.{Trials}
 use Rattle.columns.specs.Columns.{columnCount}
 use Rattle.memo_table.specs.contracts.Tally.{recordedBelow}
 use Rattle.memo_table.proofs.Tallying.{count-recorded}
-use Rattle.descent_arrays.specs.contracts.Choices.{choicesOf, memoEntries}
+use Rattle.descent_choices.specs.contracts.Choices.{choicesOf, memoEntries}
+use Rattle.descent_tokens.specs.contracts.Tokens.{tokensOf}
+use Rattle.trial_tokens.specs.contracts.Trials.{TrialMade}
 use Rattle.recognizer_promises.specs.Memory.{memoWords}
 use Rattle.recognizer_promises.specs.contracts.Judging.{Descended}
 use Rattle.recognizer_promises.specs.CostliestInput.{callsOn}
@@ -43,7 +45,7 @@ use Rattle.recognizer_promises.proofs.Judged.{memo-count}
 use Rattle.recursive_descent.specs.contracts.Descent.{StartDone}
 use Rattle.recursive_descent.specs.contracts.Judging.{JudgeGiven}
 use Rattle.recursive_descent.proofs.Deciding.{entries-fit}
-use Rattle.recursive_descent.specs.contracts.Search.{TrialGiven, CostliestJudged}
+use Rattle.recursive_descent.specs.contracts.Search.{TrialGiven, NumberGiven, CostliestJudged}
 
 module _ {words : List ℕ} {z : Sizes} {choices events memo : List ℕ} (g : TrialGiven words z choices events memo) where
   abbrev G : Grammar
@@ -60,6 +62,9 @@ module _ {words : List ℕ} {z : Sizes} {choices events memo : List ℕ} (g : Tr
 
   pub some-terminal : 0 < z .terminals
   some-terminal = read .someTerminal
+
+  pub last-terminal : z .terminals - 1 + 1 ≡ z .terminals
+  last-terminal = omega (arith, some-terminal)
 
   pub few-terminals : z .terminals ≤ 24
   few-terminals = read .fewTerminals
@@ -101,6 +106,24 @@ module _ {words : List ℕ} {z : Sizes} {choices events memo : List ℕ} (g : Tr
     pub calls-counted : {end r : ℕ} {memo′ : List ℕ} → StartDone (tableChoice G 1 (inputOf e)) words (inputOf e) end memo′
         → r ≡ recordedBelow memo′ (length memo′) → r ≡ callsOn G (inputAt n k number)
     calls-counted d c = count-recorded (d .recorded) c ∙ ap (callsOn G) (own ∙ named)
+
+-- as a search tries it
+module _ {words choices : List ℕ} {last : ℕ} {events memo : List ℕ} (g : NumberGiven words choices last events memo) (number : ℕ) {e tokens : List ℕ}
+    (m : TrialMade last (length events) number e tokens) where
+  trial-written : e ≡ inputAt (g .sizes .terminals - 1 + 1) (length events) number
+  trial-written =
+      let q : last + 1 ≡ g .sizes .terminals - 1 + 1 = omega (arith, g .highest) in
+      m .written ∙ ap (λ n. inputAt n (length events) number) q
+
+  pub trial-judged : JudgeGiven One words (g .sizes) choices (inputOf e) memo
+  trial-judged = number-given (g .given) number trial-written
+
+  pub trial-made : tokens ≡ tokensOf One (g .sizes .terminals) (inputOf e)
+  trial-made = m .made ∙ ap (λ n. tokensOf One n (inputOf e)) (g .highest)
+
+  pub trial-counted : {end r : ℕ} {memo′ : List ℕ} → StartDone (tableChoice (grammarOf words) 1 (inputOf e)) words (inputOf e) end memo′
+      → r ≡ recordedBelow memo′ (length memo′) → r ≡ callsOn (grammarOf words) (inputAt (grammarOf words .terminals) (length events) number)
+  trial-counted = calls-counted (g .given) number trial-written
 
 -- the search, in the memory of now
 pub record Searching (words : List ℕ) (z : Sizes) (choices events₀ memo₀ events memo : List ℕ) (t : Trials) : Type 0 where

@@ -1,26 +1,17 @@
 // Judging an input by a grammar that has passed.
-ghost use mathlib.Core.Path.{_≡_};
 ghost use Rattle.event.specs.Events.{inputOf};
-ghost use Rattle.recognizer_promises.specs.contracts.Judging.{refusedWith, Descended};
+ghost use Rattle.recognizer_promises.specs.contracts.Judging.{Descended};
 ghost use Rattle.recursive_descent.specs.contracts.Descent.{StartRequires, StartEnsures};
 ghost use Rattle.recursive_descent.specs.contracts.Judging.{JudgeGiven};
 use super::descent::call;
 use answer::Answer;
-use answer::Error;
-use descent_arrays::arrays::CHOICES;
-use descent_arrays::tokens::tokens_of;
-use families::Finding;
-use families::SETS;
-use grammar::codes::NO_RULE;
-use grammar::limits::ENTRIES;
+use descent_arrays::CHOICES;
+use descent_tokens::tokens_of;
 use grammar::limits::PLACES;
-use grammar::limits::RULES;
 use grammar::reading::Sizes;
 use lookahead::Lookahead;
 use memo_table::clear;
 use memo_table::verdict;
-use recognizer_promises::Judgement;
-use table::Found;
 
 // Calls the start at the input's begin, in a memo table of just the entries that there are.
 pub(crate) fn descend(
@@ -52,20 +43,4 @@ pub(crate) fn judge_chosen(
     let end = descend(words, choices, &tokens, memo);
     let length = events.len() as u16;
     verdict(memo, end, length)
-}
-
-// What a refusal tells: of the grammar nothing but the error.
-pub(crate) fn refused(error: Error) -> Judgement
-    ensures { λ r. ⌜ r ≡ refusedWith error ⌝ }
-{
-    Judgement {
-        answer: Answer::Refused(error),
-        found: Found {
-            finding: Finding::Refused(error),
-            starts: [0usize; RULES],
-            firsts: [0u64; SETS],
-            follows: [0u64; SETS],
-            entries: [NO_RULE; ENTRIES],
-        },
-    }
 }

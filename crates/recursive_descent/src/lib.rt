@@ -1,14 +1,14 @@
 // Judging an input in a lent memo table alone, by memoized recursive descent.
 ghost use Rattle.event.specs.Events.{inputOf};
 ghost use Rattle.recognizer_promises.specs.contracts.Judging.{JudgesWords};
-use descent_arrays::choices::entries_of;
-use descent_arrays::choices::table_choices;
+use descent_choices::entries_of;
+use descent_choices::table_choices;
 use families::Finding;
 use input_findings::with_memo;
 use judging::judge_chosen;
-use judging::refused;
 use lookahead::Lookahead;
 use recognizer_promises::Judgement;
+use refusals::refused;
 use table::find;
 
 mod descent;

@@ -5,15 +5,13 @@ ghost use Rattle.grammar.specs.Encoding.{grammarOf};
 ghost use Rattle.inputs.specs.contracts.Inputs.{inputAt};
 ghost use Rattle.recognizer_promises.specs.CostliestInput.{callsOn};
 ghost use Rattle.recognizer_promises.specs.contracts.Search.{SearchesWords};
-ghost use Rattle.recursive_descent.specs.contracts.Search.{TrialGiven, CostliestJudged};
+ghost use Rattle.recursive_descent.specs.contracts.Search.{TrialGiven, NumberGiven, CostliestJudged};
 use super::judging::descend;
 use super::judging::judge_chosen;
-use super::judging::refused;
 use answer::Answer;
-use descent_arrays::arrays::CHOICES;
-use descent_arrays::choices::entries_of;
-use descent_arrays::choices::table_choices;
-use descent_arrays::tokens::tokens_of;
+use descent_arrays::CHOICES;
+use descent_choices::entries_of;
+use descent_choices::table_choices;
 use families::Finding;
 use grammar::reading::Sizes;
 use inputs::count_inputs;
@@ -24,24 +22,24 @@ use length_findings::with_length;
 use lookahead::Lookahead;
 use memo_table::count_calls;
 use recognizer_promises::Judgement;
+use refusals::refused;
 use table::find;
+use trial_tokens::number_tokens;
 
 // Writes the input of a number, and counts the calls that the descent makes on it.
 fn calls_on(
     words: &[u32],
-    sizes: Sizes,
     choices: &[u16; CHOICES],
+    last: u8,
     number: usize,
     events: &mut [u8],
     memo: &mut [u16],
 ) -> usize
-    requires { ⌜ TrialGiven (now words) sizes (now choices) (now events) (now memo) ⌝ }
+    requires { ⌜ NumberGiven (now words) (now choices) last (now events) (now memo) ⌝ }
     ensures { λ r. ⌜ r ≡ callsOn (grammarOf (now (words .entry)))
         (inputAt (grammarOf (now (words .entry)) .terminals) (length (now (events .entry))) number) ⌝ }
 {
-    let last = sizes.terminals - 1;
-    write_input(events, last as u8, number);
-    let tokens = tokens_of(events, Lookahead::One, sizes.terminals);
+    let tokens = number_tokens(events, last, number);
     descend(words, choices, &tokens, memo);
     count_calls(memo)
 }
@@ -57,14 +55,14 @@ fn judge_costliest(
     requires { ⌜ TrialGiven (now words) sizes (now choices) (now events) (now memo) ⌝ }
     ensures { λ r. ⌜ CostliestJudged (now (words .entry)) (length (now (events .entry))) r (now (events .exit)) (now (memo .exit)) ⌝ }
 {
+    let last = (sizes.terminals - 1) as u8;
     let inputs = count_inputs(sizes.terminals, events.len());
     let mut trials = no_trials();
     while trials.next < inputs {
-        let calls = calls_on(words, sizes, choices, trials.next, events, memo);
+        let calls = calls_on(words, choices, last, trials.next, events, memo);
         trials = tried(trials, calls);
     }
-    let last = sizes.terminals - 1;
-    write_input(events, last as u8, trials.best);
+    write_input(events, last, trials.best);
     judge_chosen(words, sizes, Lookahead::One, choices, events, memo)
 }
 

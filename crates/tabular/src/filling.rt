@@ -9,7 +9,6 @@ ghost use Rattle.families.specs.contracts.Rules.{RuleWords};
 ghost use Rattle.tabular_promises.specs.contracts.Filling.{RulesGiven, RanksGiven, ByRank, AskGiven, Asked, DerivedGiven, SpanDerived, turn, Fills};
 ghost use Rattle.tabular_promises.specs.contracts.Filling.{SettleGiven, LengthGiven, FillGiven, Filled};
 use chart::CHART;
-use chart::found_by;
 use chart::places::put;
 use event::terminal_of;
 use families::SETS;
@@ -20,6 +19,7 @@ use grammar::reading::Sizes;
 use rule_passes::rules::head_of;
 use rule_scan::STANDS;
 use rule_scan::keeps;
+use span_words::found_by;
 use word::decode;
 
 // Where each terminal stands in the input that the events are.

@@ -4,7 +4,6 @@ ghost use Rattle.event.specs.Events.{inputOf};
 ghost use Rattle.tabular_promises.specs.contracts.Judging.{TabulateGiven, Tabulated, FoundGiven};
 ghost use Rattle.tabular_promises.specs.Properties.{TabularJudges};
 use answer::Answer;
-use chart::spans::write;
 use chart::verdict;
 use families::Finding;
 use families::SETS;
@@ -14,6 +13,7 @@ use grammar::reading::Sizes;
 use input_findings::with_spans;
 use lookahead::Lookahead;
 use sets::analyze;
+use span_words::write;
 
 mod filling;
 

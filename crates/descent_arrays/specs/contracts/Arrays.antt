@@ -6,7 +6,7 @@ use lib.Dec.{eqb}
 use lib.ListN.{getD}
 use Rattle.base.specs.Choice.{choose}
 use Rattle.grammar.specs.Limits.{maxNonterminals}
-use Rattle.descent_arrays.specs.declared.arrays.Arrays.{Arrays}
+use Rattle.descent_arrays.specs.declared.Arrays.{Arrays}
 
 -- the columns of a row of choices, one for each column of the table; the last two tell the input's length, and where the row of the memo
 -- table begins

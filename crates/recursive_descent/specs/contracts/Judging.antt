@@ -10,7 +10,7 @@ use Rattle.lookahead.specs.declared.Lookahead.{Lookahead}
 use Rattle.columns.specs.Columns.{columnCount}
 use Rattle.table.specs.contracts.Entries.{entriesOf}
 use Rattle.recognizer_promises.specs.contracts.Judging.{DescendGiven}
-use Rattle.descent_arrays.specs.contracts.Choices.{choicesOf}
+use Rattle.descent_choices.specs.contracts.Choices.{choicesOf}
 
 -- the rows of choices for an input of so many tokens
 abbrev pub tableRows : Lookahead → List ℕ → Sizes → ℕ → List ℕ

@@ -1,7 +1,7 @@
 -- What the steps of the search for the costliest input require and ensure.
 use mathlib.Core.Path.{_≡_}
 use mathlib.Core.List.{List}
-use Prim.Native.Nat.{ℕ, suc, _*_, _^_, _≤_}
+use Prim.Native.Nat.{ℕ, suc, _+_, _*_, _^_, _≤_}
 use lib.ListN.{length}
 use Rattle.answer.specs.declared.Answer.{Answer}
 use Rattle.grammar.specs.Limits.{maxTokens}
@@ -24,6 +24,12 @@ pub record TrialGiven (words : List ℕ) (z : Sizes) (choices events memo : List
   pub size : length memo ≡ grammarOf words .nonterminals * suc (length events)
   pub short : length events ≤ maxTokens
   pub few : z .terminals ^ length events ≤ maxInputs
+
+-- and the last of its terminals
+pub record NumberGiven (words choices : List ℕ) (last : ℕ) (events memo : List ℕ) : Type 0 where
+  pub sizes : Sizes
+  pub given : TrialGiven words sizes choices events memo
+  pub highest : last + 1 ≡ sizes .terminals
 
 -- the costliest input of k tokens is written and judged
 pub record CostliestJudged (words : List ℕ) (k : ℕ) (r : Answer) (events′ memo′ : List ℕ) : Type 0 where

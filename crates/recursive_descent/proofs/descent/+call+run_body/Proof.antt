@@ -32,7 +32,7 @@ use Rattle.recursive_descent.proofs.descent.first_agreement.Reads as fi
 use Rattle.recursive_descent.proofs.descent.matches.Reads as matches-reads
 use Rattle.descent_steps.proofs.joined_entry.Reads as joined-entry-reads
 use Rattle.descent_steps.proofs.step_at.Reads as step-at-reads
-use Rattle.memo_table.proofs.entry.recall.Reads as recall-reads
+use Rattle.descent_steps.proofs.entry.recall.Reads as recall-reads
 use Rattle.rule.proofs.body_end.Reads as body-end-reads
 use Rattle.rule.proofs.goes_on.Reads as goes-on-reads
 use Rattle.rule.proofs.sign_at.Reads as sign-at-reads

@@ -1,31 +1,19 @@
 -- What is written is an input of the grammar's terminals, and its calls are counted in the memo table.
-use native.Mathlib.Omega.{arith}
 use Rattle.recursive_descent.proofs.Deciding.{start-given, started}
-use Rattle.recursive_descent.proofs.Searching.{some-terminal, few-terminals, number-given, calls-counted}
+use Rattle.recursive_descent.proofs.Searching.{trial-judged, trial-made, trial-counted}
 use borrow.Author.Needs.{needs}
 use Rattle.recursive_descent.proofs.search.calls_on.Statement.{statement}
 use Rattle.recursive_descent.proofs.search.calls_on.Tie as tie
 
-sub-last : tie.Need-sub-last
-sub-last c = omega (arith, some-terminal (c .before .before .before .before .pre))
-
-cast-write-input : tie.Need-cast-write-input
-cast-write-input c =
-    let start = c .before .before .before .before .before in
-    omega (arith, few-terminals (start .pre))
-
-write-input-requires : tie.Need-write-input-requires
-write-input-requires c κs = tt
-
-tokens-of-requires : tie.Need-tokens-of-requires
-tokens-of-requires c κs = tt
+number-tokens-requires : tie.Need-number-tokens-requires
+number-tokens-requires c κs = tt
 
 descend-requires : tie.Need-descend-requires
 descend-requires c κs =
-    let made = c .before .before in
-    let written = made .before .before .before .before in
-    let start = written .before .before .before .before .before .before in
-    start-given _ (number-given (start .pre) (start .args .number) (written .write-input .ensures)) (made .tokens-of .ensures)
+    let made = c .before .before .before .before in
+    let start = made .before .before .before .before .before in
+    let trial = made .number-tokens .ensures in
+    start-given _ (trial-judged (start .pre) (start .args .number) trial) (trial-made (start .pre) (start .args .number) trial)
 
 count-calls-requires : tie.Need-count-calls-requires
 count-calls-requires c κs = tt
@@ -39,21 +27,18 @@ same-length-2 c = search needs
 returns : tie.Need-returns
 returns c =
     let ran = c .before .before .before .before in
-    let made = ran .before .before .before in
-    let written = made .before .before .before .before in
-    let start = written .before .before .before .before .before .before in
-    let given = number-given (start .pre) (start .args .number) (written .write-input .ensures) in
-    calls-counted (start .pre) (start .args .number) (written .write-input .ensures)
-    (started _ given (made .tokens-of .ensures) (ran .descend .ensures)) (c .count-calls .ensures)
+    let made = ran .before .before .before .before .before in
+    let start = made .before .before .before .before .before in
+    let trial = made .number-tokens .ensures in
+    let number = start .args .number in
+    trial-counted (start .pre) number trial
+    (started _ (trial-judged (start .pre) number trial) (trial-made (start .pre) number trial) (ran .descend .ensures)) (c .count-calls .ensures)
 
 pub calls-on-spec : {M : Type 1} → statement M
 calls-on-spec =
     tie.close
     (tie.spec
-    sub-last
-    cast-write-input
-    write-input-requires
-    tokens-of-requires
+    number-tokens-requires
     descend-requires
     count-calls-requires
     same-length

@@ -2,16 +2,22 @@
 use mathlib.Core.Path.{_∙_}
 use Prim.Native.Nat.{_-_}
 use native.Mathlib.Omega.{arith}
-use Rattle.recursive_descent.proofs.Searching.{Searching, some-terminal, few-terminals, number-given, searching-start, searching-given, searching-next}
-use Rattle.recursive_descent.proofs.Searching.{searching-less, searching-done}
+use Rattle.recursive_descent.proofs.Searching.{Searching, some-terminal, last-terminal, few-terminals, number-given}
+use Rattle.recursive_descent.proofs.Searching.{searching-start, searching-given, searching-next, searching-less, searching-done}
 use Rattle.recursive_descent.proofs.search.judge_costliest.Statement.{statement}
 use Rattle.recursive_descent.proofs.search.judge_costliest.Tie as tie
 
 abbrev Inv-loop : tie.InvT-loop
-Inv-loop words sizes choices events₀ memo₀ inputs trials₀ events memo trials = Searching words sizes choices events₀ memo₀ events memo trials
+Inv-loop words sizes choices events₀ memo₀ last inputs trials₀ events memo trials = Searching words sizes choices events₀ memo₀ events memo trials
 
 abbrev μ-loop : tie.MeasureT-loop
-μ-loop words sizes choices events₀ memo₀ inputs trials₀ events memo trials = inputs - trials .next
+μ-loop words sizes choices events₀ memo₀ last inputs trials₀ events memo trials = inputs - trials .next
+
+sub-last : tie.Need-sub-last Inv-loop μ-loop
+sub-last c = omega (arith, some-terminal (c .before .before .before .before .pre))
+
+cast-last : tie.Need-cast-last Inv-loop μ-loop
+cast-last c = omega (arith, few-terminals (c .before .before .before .before .pre))
 
 count-inputs-requires : tie.Need-count-inputs-requires Inv-loop μ-loop
 count-inputs-requires c κs = tt
@@ -22,13 +28,16 @@ no-trials-requires c κs = tt
 loop-holds : tie.Need-loop-holds Inv-loop μ-loop
 loop-holds c =
     let counted = c .before in
-    searching-start (counted .before .before .before .before .pre) (c .no-trials .ensures)
+    let start = counted .before .before .before .before .before in
+    searching-start (start .pre) (c .no-trials .ensures)
 
 calls-on-requires : tie.Need-calls-on-requires Inv-loop μ-loop
 calls-on-requires c κs =
     let at-loop = c .before .before .before .before in
     let counted = at-loop .before .before in
-    searching-given (counted .before .before .before .before .pre) (at-loop .loop .inv) (counted .count-inputs .ensures)
+    let start = counted .before .before .before .before .before in
+    let given = start .pre in
+    record { sizes = _; given = searching-given given (at-loop .loop .inv) (counted .count-inputs .ensures); highest = last-terminal given }
 
 tried-requires : tie.Need-tried-requires Inv-loop μ-loop
 tried-requires c κs = tt
@@ -38,7 +47,8 @@ loop-less c =
     let turn = c .before .before .before .before .before .before .before .before in
     let at-loop = turn .before .before in
     let counted = at-loop .before .before in
-    searching-less (counted .before .before .before .before .pre) (at-loop .loop .inv) (counted .count-inputs .ensures) (turn .if1 .taken) _ (c .tried .ensures)
+    let start = counted .before .before .before .before .before in
+    searching-less (start .pre) (at-loop .loop .inv) (counted .count-inputs .ensures) (turn .if1 .taken) _ (c .tried .ensures)
 
 loop-again : tie.Need-loop-again Inv-loop μ-loop
 loop-again c =
@@ -48,19 +58,10 @@ loop-again c =
     let turn = called .before .before .before in
     let at-loop = turn .before .before in
     let counted = at-loop .before .before in
-    searching-next (counted .before .before .before .before .pre) (at-loop .loop .inv) (counted .count-inputs .ensures)
+    let start = counted .before .before .before .before .before in
+    searching-next (start .pre) (at-loop .loop .inv) (counted .count-inputs .ensures)
     (turn .if1 .taken) (called .calls-on .ensures)
     (written .events .given) (kept .memo .given) (c .tried .ensures)
-
-sub-last : tie.Need-sub-last Inv-loop μ-loop
-sub-last c =
-    let start = c .before .before .before .before .before .before .before .before .before in
-    omega (arith, some-terminal (start .pre))
-
-cast-write-input : tie.Need-cast-write-input Inv-loop μ-loop
-cast-write-input c =
-    let start = c .before .before .before .before .before .before .before .before .before .before in
-    omega (arith, few-terminals (start .pre))
 
 write-input-requires : tie.Need-write-input-requires Inv-loop μ-loop
 write-input-requires c κs = tt
@@ -68,31 +69,33 @@ write-input-requires c κs = tt
 judge-chosen-requires : tie.Need-judge-chosen-requires Inv-loop μ-loop
 judge-chosen-requires c κs =
     let written = c .before .before .before .before in
-    let at-loop = written .before .before .before .before .before in
+    let at-loop = written .before .before .before .before in
     let counted = at-loop .before .before in
-    number-given (searching-given (counted .before .before .before .before .pre) (at-loop .loop .inv) (counted .count-inputs .ensures))
+    let start = counted .before .before .before .before .before in
+    number-given (searching-given (start .pre) (at-loop .loop .inv) (counted .count-inputs .ensures))
     (at-loop .loop .trials .best) (written .write-input .ensures)
 
 same-length : tie.Need-same-length Inv-loop μ-loop
 same-length c =
     let rewritten = c .before .before .before .before .before .before in
-    let at-loop = rewritten .before .before .before .before .before .before in
+    let at-loop = rewritten .before .before .before .before .before in
     rewritten .events2 .given ∙ at-loop .loop .inv .same-length
 
 same-length-2 : tie.Need-same-length-2 Inv-loop μ-loop
 same-length-2 c =
     let written = c .before .before .before .before .before .before .before in
-    let at-loop = written .before .before .before .before .before in
+    let at-loop = written .before .before .before .before in
     c .before .memo2 .given ∙ at-loop .loop .inv .same-memo
 
 returns : tie.Need-returns Inv-loop μ-loop
 returns c =
     let judged = c .before .before in
     let written = judged .before .before .before .before .before in
-    let ended = written .before .before .before in
+    let ended = written .before .before in
     let at-loop = ended .before .before in
     let counted = at-loop .before .before in
-    searching-done (counted .before .before .before .before .pre) (at-loop .loop .inv) (counted .count-inputs .ensures) (ended .if1 .left)
+    let start = counted .before .before .before .before .before in
+    searching-done (start .pre) (at-loop .loop .inv) (counted .count-inputs .ensures) (ended .if1 .left)
     (written .write-input .ensures) (judged .judge-chosen .ensures)
 
 pub judge-costliest-spec : {M : Type 1} → statement M
@@ -101,6 +104,8 @@ judge-costliest-spec =
     (tie.spec
     Inv-loop
     μ-loop
+    sub-last
+    cast-last
     count-inputs-requires
     no-trials-requires
     loop-holds
@@ -108,8 +113,6 @@ judge-costliest-spec =
     tried-requires
     loop-less
     loop-again
-    sub-last
-    cast-write-input
     write-input-requires
     judge-chosen-requires
     same-length
