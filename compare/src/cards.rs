@@ -275,14 +275,15 @@ fn rising_leads(leads: usize) -> (Draft, usize) {
     (padded(Draft { nonterminals: MAX_NONTERMINALS, terminals, rules }, links - 1, filler, MAX_WORDS), links - 1)
 }
 
-/// The slowest to check that was found, for the library and for the twin, with so many terminals of lookahead. Passes from the first rule to the last
-/// take a lead up by one nonterminal: all of the twin's, and eleven of twelve of the library's.
+/// The slowest to check that was found for the twin, and with two terminals of lookahead for the library. Passes from the first rule to the last take
+/// a lead up by one nonterminal: all of the twin's, and eleven of twelve of the library's.
 pub fn slowest(leads: usize) -> Draft {
     rising_leads(leads).0
 }
 
-/// The same with the rules of the chain at either end by turns: a pass takes a lead up by at most two nonterminals, whichever way it goes. No card was
-/// found on which the library is slower beside the twin.
+/// The same with the rules of the chain at either end by turns: a pass takes a lead up by at most two nonterminals, whichever way it goes. With one
+/// terminal of lookahead the slowest that was found for the library. Filled up with nonterminal 1 it is refused, and the library is further behind
+/// the twin, by its passes for left reach: no row has that.
 pub fn slowest_zigzag(leads: usize) -> Draft {
     let (mut draft, links) = rising_leads(leads);
     let others = draft.rules.split_off(links);
