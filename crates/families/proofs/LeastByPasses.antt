@@ -104,6 +104,10 @@ added-risen {l} {n = n} {v} h a = rw (a .list) (grown-under l n v h)
 pub added-in : {l l′ : List ℕ} {n v : ℕ} {r : Bool} → n < length l → AddsToSet l n v l′ r → Subset v (at l′ n)
 added-in {l} {n = n} {v} h a = rw (a .list, getD-set-same l n (join (at l n) v) 0 h) (join-right (at l n) v)
 
+pub added-below : {l l′ : List ℕ} {n v : ℕ} {r : Bool} → n < length l → AddsToSet l n v l′ r → (G : SetFamily) → Under (at l) G → Subset v (G n)
+    → Under (at l′) G
+added-below {l} {n = n} {v} h a G u s = rw (a .list) (under-join l n v G h u s)
+
 -- under every closed family: what holds from pass to pass
 abbrev pub Below : (SetFamily → Type 0) → List ℕ → Type 0
 Below C l = (G : SetFamily) → C G → Under (at l) G

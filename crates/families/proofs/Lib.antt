@@ -6,6 +6,7 @@ pub mod ByRules
 pub mod RuleRanges
 pub mod Inner
 pub mod HeadPasses
+pub mod OnePass
 pub mod FirstPasses
 pub mod ArrayLookup
 pub mod FewTerminals
@@ -19,6 +20,8 @@ pub mod FollowPasses
 pub mod FollowTie
 pub mod NonterminalSets
 pub mod LeftPasses
+pub mod Closure
+pub mod Through
 pub mod LowestTold
 pub mod LeftTie
 pub mod Flawed

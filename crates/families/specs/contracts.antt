@@ -8,4 +8,5 @@ pub mod Follow
 pub mod Sets
 pub mod Flaws
 pub mod Left
+pub mod Reach
 pub mod Analysis

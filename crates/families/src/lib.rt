@@ -19,8 +19,7 @@ pub struct Rest {
     pub meet: LookaheadSet,
 }
 
-// Of the words from an index on: what is at the left of the rest of the body, and of the rule's bodies behind it, with all
-// that this left-reaches.
+// Of the words from an index on: what is at the left of the rest of the body, and of the rule's bodies behind it.
 pub struct Left {
     pub body: Nonterminals,
     pub rule: Nonterminals,

@@ -1,5 +1,7 @@
 // A set of nonterminals by value.
 ghost use mathlib.Core.Path.{_≡_};
+ghost use Prim.Native.Nat.{min};
+ghost use Rattle.grammar.specs.Limits.{maxNonterminals};
 ghost use Rattle.lookahead.specs.Elements.{has};
 ghost use Rattle.lookahead.specs.contracts.Operations.{Empty, Joined};
 ghost use Rattle.families.specs.contracts.Nonterminals.{Alone};
@@ -47,5 +49,16 @@ impl Nonterminals {
         Nonterminals {
             bits: self.bits | other.bits,
         }
+    }
+}
+
+// As many nonterminals as there are sets for.
+pub fn at_most(nonterminals: u32) -> u32
+    ensures { λ r. ⌜ r ≡ min nonterminals maxNonterminals ⌝ }
+{
+    if nonterminals < NONTERMINALS {
+        nonterminals
+    } else {
+        NONTERMINALS
     }
 }

@@ -1,56 +1,52 @@
-// Left recursion: what each nonterminal left-reaches, by passes over the rules, in both directions by turns, until one adds nothing;
-// the words of a rule from their end.
+// Left recursion: what is at the left of each nonterminal's rules, by one pass over them, and all that this left-reaches.
 ghost use mathlib.Core.Path.{_≡_};
+ghost use lib.ListN.{length};
 ghost use Rattle.grammar.specs.declared.reading.Reading.the-variants.{Read};
 ghost use Rattle.grammar.specs.Encoding.{parse, grammarOf};
 ghost use Rattle.grammar.specs.Limits.{maxNonterminals};
+ghost use Rattle.grammar.specs.Reading.{reading};
 ghost use Rattle.grammar.specs.contracts.Starts.{ruleStarts};
 ghost use Rattle.admission.specs.Admission.{admission};
-ghost use Rattle.families.specs.contracts.Least.{at as family, Passes};
-ghost use Rattle.families.specs.contracts.Left.{emptyIn, ReachClosed};
+ghost use Rattle.families.specs.contracts.Least.{at as family, LeastNumbers};
+ghost use Rattle.families.specs.contracts.Left.{emptyIn, LeftClosed};
 ghost use Rattle.base.specs.Lists.{listed};
-ghost use Rattle.families.specs.contracts.Rules.{PassGiven};
 ghost use Rattle.families.specs.Sets.{firstNumber};
 ghost use Rattle.families.specs.contracts.Sets.{reachNumber};
 use families::SETS;
 use grammar::limits::RULES;
 use grammar::reading::Sizes;
+use left_reach::closed;
 use lefts::rule_left;
 use lookahead::Lookahead;
 use rule_passes::family::add_nonterminals;
-use rule_passes::family::either;
 use rule_passes::rules::end_of;
 use rule_passes::rules::head_of;
-use rule_passes::rules::turn;
 use word::decode;
 
-// One pass over the rules, from the first on or from the last on; whether a set has grown.
-fn reach_pass(
+// What is at the left of the rules of each nonterminal.
+fn at_left(
     words: &[u32],
     starts: &[usize; RULES],
     sizes: Sizes,
     firsts: &[u64; SETS],
-    reach: &mut [u32; SETS],
-    forward: bool,
     lookahead: Lookahead,
-) -> bool
-    requires { ⌜ PassGiven (now words) (now starts) sizes (now reach) ⌝ }
-    ensures { λ r. ⌜ Passes (ReachClosed (emptyIn lookahead (family (now (firsts .entry)))) (parse (now (words .entry)) .rules))
-        (now (reach .entry)) (now (reach .exit)) r ⌝ }
+) -> [u32; SETS]
+    requires { ⌜ (reading (now words) ≡ Read sizes) × (now starts ≡ ruleStarts (now words)) ⌝ }
+    ensures { λ r. ⌜ (length r ≡ maxNonterminals)
+        × LeastNumbers (LeftClosed (emptyIn lookahead (family (now (firsts .entry)))) (parse (now (words .entry)) .rules)) r ⌝ }
 {
-    let mut grown = false;
-    let mut passed = 0;
-    while passed < sizes.rules {
-        let rule = turn(forward, sizes.rules, passed);
+    let mut sets = [0u32; SETS];
+    let mut rule = 0;
+    while rule < sizes.rules {
         let start = starts[rule];
         let end = end_of(words, starts, sizes, rule);
         let inside = start + 1;
-        let left = rule_left(&words[inside..end], firsts, reach, lookahead);
+        let left = rule_left(&words[inside..end], firsts, lookahead);
         let head = head_of(decode(words[start]));
-        grown = either(grown, add_nonterminals(reach, head, left));
-        passed = passed + 1;
+        add_nonterminals(&mut sets, head, left);
+        rule = rule + 1;
     }
-    grown
+    sets
 }
 
 // What each nonterminal of a grammar that is admitted left-reaches, by its first sets.
@@ -65,10 +61,6 @@ pub(crate) fn reached(
         × (now firsts ≡ listed maxNonterminals (firstNumber lookahead (grammarOf (now words)))) ⌝ }
     ensures { λ r. ⌜ r ≡ listed maxNonterminals (reachNumber (grammarOf (now (words .entry)))) ⌝ }
 {
-    let mut reach = [0u32; SETS];
-    let mut forward = false;
-    while reach_pass(words, starts, sizes, firsts, &mut reach, forward, lookahead) {
-        forward = !forward;
-    }
-    reach
+    let sets = at_left(words, starts, sizes, firsts, lookahead);
+    closed(sets, sizes.nonterminals)
 }

@@ -1,6 +1,6 @@
 // What is found of a grammar by its sets: the lowest nonterminal with a flaw refuses it.
 ghost use mathlib.Core.Path.{_≡_};
-ghost use Prim.Native.Nat.{_≤_, _<_, min};
+ghost use Prim.Native.Nat.{_≤_, _<_};
 ghost use Rattle.base.specs.Quantifiers.{lowest};
 ghost use Rattle.grammar.specs.Limits.{maxNonterminals};
 ghost use Rattle.families.specs.contracts.Flaws.{flawIn, lowestOf, findingIn};
@@ -10,7 +10,7 @@ use families::Flaw;
 use families::Lowest;
 use families::SETS;
 use families::nonterminals::Nonterminals;
-use grammar::limits::NONTERMINALS;
+use families::nonterminals::at_most;
 use grammar::reading::Sizes;
 use lookahead_sets::LookaheadSet;
 
@@ -48,17 +48,6 @@ fn lowest_with(flaw: Flaw, firsts: &[u64; SETS], reaches: &[u32; SETS], nontermi
         nonterminal = nonterminal + 1;
     }
     Lowest::Absent
-}
-
-// As many nonterminals as there are sets for.
-fn at_most(nonterminals: u32) -> u32
-    ensures { λ r. ⌜ r ≡ min nonterminals maxNonterminals ⌝ }
-{
-    if nonterminals < NONTERMINALS {
-        nonterminals
-    } else {
-        NONTERMINALS
-    }
 }
 
 // Left recursion comes first.

@@ -1,4 +1,4 @@
-// What is at the left of a body and of a rule, with all that this left-reaches, made longer by one word at a time from the end.
+// What is at the left of a body and of a rule, made longer by one word at a time from the end.
 ghost use mathlib.Core.Path.{_≡_};
 ghost use Rattle.families.specs.contracts.Least.{at as family};
 ghost use Rattle.families.specs.contracts.Left.{emptyIn, ownLeft, lefts, insideLeft};
@@ -28,10 +28,9 @@ fn symbol_left(
     symbol: Symbol,
     behind: Nonterminals,
     firsts: &[u64; SETS],
-    reach: &[u32; SETS],
     lookahead: Lookahead,
 ) -> Nonterminals
-    ensures { λ r. ⌜ r .bits ≡ ownLeft (emptyIn lookahead (family (now (firsts .entry)))) (family (now (reach .entry))) symbol (behind .bits) ⌝ }
+    ensures { λ r. ⌜ r .bits ≡ ownLeft (emptyIn lookahead (family (now (firsts .entry)))) symbol (behind .bits) ⌝ }
 {
     let Symbol::Nonterminal(number) = symbol else {
         return Nonterminals::empty();
@@ -40,9 +39,7 @@ fn symbol_left(
     if SETS <= at {
         return Nonterminals::empty();
     }
-    let alone = Nonterminals::alone(number);
-    let reached = Nonterminals { bits: reach[at] };
-    let own = alone.join(reached);
+    let own = Nonterminals::alone(number);
     let first = LookaheadSet { bits: firsts[at] };
     if first.contains(nothing(lookahead)) {
         own.join(behind)
@@ -62,20 +59,14 @@ fn ended(body: Nonterminals, rule: Nonterminals) -> Left
 }
 
 // The same with a word inside a rule in front. Bodies of both signs count.
-fn inside_left(
-    word: Word,
-    left: Left,
-    firsts: &[u64; SETS],
-    reach: &[u32; SETS],
-    lookahead: Lookahead,
-) -> Left
-    ensures { λ r. ⌜ r ≡ insideLeft (emptyIn lookahead (family (now (firsts .entry)))) (family (now (reach .entry))) word left ⌝ }
+fn inside_left(word: Word, left: Left, firsts: &[u64; SETS], lookahead: Lookahead) -> Left
+    ensures { λ r. ⌜ r ≡ insideLeft (emptyIn lookahead (family (now (firsts .entry)))) word left ⌝ }
 {
     let body = left.body;
     let rule = left.rule;
     match word {
         Word::Symbol(symbol) => Left {
-            body: symbol_left(symbol, body, firsts, reach, lookahead),
+            body: symbol_left(symbol, body, firsts, lookahead),
             rule,
         },
         Word::Positive => ended(body, rule),
@@ -91,13 +82,8 @@ fn inside_left(
 }
 
 // What is at the left of the bodies of a rule, by the words inside it.
-pub fn rule_left(
-    words: &[u32],
-    firsts: &[u64; SETS],
-    reach: &[u32; SETS],
-    lookahead: Lookahead,
-) -> Nonterminals
-    ensures { λ r. ⌜ r .bits ≡ foldFromEnd (insideLeft (emptyIn lookahead (family (now (firsts .entry)))) (family (now (reach .entry))))
+pub fn rule_left(words: &[u32], firsts: &[u64; SETS], lookahead: Lookahead) -> Nonterminals
+    ensures { λ r. ⌜ r .bits ≡ foldFromEnd (insideLeft (emptyIn lookahead (family (now (firsts .entry)))))
         (lefts 0 0) (now (words .entry)) .rule .bits ⌝ }
 {
     let mut left = no_left();
@@ -105,7 +91,7 @@ pub fn rule_left(
     while 0 < at {
         at = at - 1;
         let word = decode(words[at]);
-        left = inside_left(word, left, firsts, reach, lookahead);
+        left = inside_left(word, left, firsts, lookahead);
     }
     left.rule
 }

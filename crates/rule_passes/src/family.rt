@@ -4,7 +4,7 @@ ghost use mathlib.Core.Path.{_≡_};
 ghost use mathlib.Core.Bool.{_||_};
 ghost use Prim.Native.Nat.{_%_};
 ghost use Rattle.grammar.specs.Limits.{maxNonterminals};
-ghost use Rattle.families.specs.contracts.Least.{AddsToSet};
+ghost use Rattle.families.specs.contracts.Least.{joinedAt, AddsToSet};
 use families::SETS;
 use families::nonterminals::Nonterminals;
 use lookahead_sets::LookaheadSet;
@@ -20,15 +20,13 @@ pub fn add(sets: &mut [u64; SETS], n: u32, set: LookaheadSet) -> bool
     new.bits != old.bits
 }
 
-// The same for sets of nonterminals.
-pub fn add_nonterminals(sets: &mut [u32; SETS], n: u32, set: Nonterminals) -> bool
-    ensures { λ r. ⌜ AddsToSet (now (sets .entry)) (n % maxNonterminals) (set .bits) (now (sets .exit)) r ⌝ }
+// The same for sets of nonterminals, without telling.
+pub fn add_nonterminals(sets: &mut [u32; SETS], n: u32, set: Nonterminals)
+    ensures { λ _. ⌜ now (sets .exit) ≡ joinedAt (now (sets .entry)) (n % maxNonterminals) (set .bits) ⌝ }
 {
     let at = n as usize % SETS;
     let before = Nonterminals { bits: sets[at] };
-    let after = before.join(set);
-    sets[at] = after.bits;
-    after.bits != before.bits
+    sets[at] = before.join(set).bits;
 }
 
 // Whether one or the other has grown.

@@ -32,9 +32,13 @@ pub record LeastNumbers (Closed : SetFamily → Type 0) (l : List ℕ) : Type 0 
   pub closed : Closed (at l)
   pub least : (G : SetFamily) → Closed G → Under (at l) G
 
--- v is joined into the set of n, and it is reported whether the set has grown
+-- v is joined into the set of n
+abbrev pub joinedAt : List ℕ → ℕ → ℕ → List ℕ
+joinedAt l n v = set l n (join (at l n) v)
+
+-- and it is reported whether the set has grown
 pub record AddsToSet (l : List ℕ) (n v : ℕ) (l′ : List ℕ) (grown : Bool) : Type 0 where
-  pub list : l′ ≡ set l n (join (at l n) v)
+  pub list : l′ ≡ joinedAt l n v
   pub told : grown ≡ not (eqb (join (at l n) v) (at l n))
 
 -- the same where there is such an n; else nothing changes

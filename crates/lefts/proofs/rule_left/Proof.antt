@@ -11,11 +11,11 @@ use Rattle.lefts.proofs.rule_left.Statement.{statement}
 use Rattle.lefts.proofs.rule_left.Tie as tie
 
 abbrev Inv-loop : tie.InvT-loop
-Inv-loop words firsts reach lookahead left₀ at₀ left at =
-    (at ≤ length words) × (left ≡ foldFromEnd (insideLeft (emptyIn lookahead (family firsts)) (family reach)) (lefts 0 0) (drop at words))
+Inv-loop words firsts lookahead left₀ at₀ left at =
+    (at ≤ length words) × (left ≡ foldFromEnd (insideLeft (emptyIn lookahead (family firsts))) (lefts 0 0) (drop at words))
 
 abbrev μ-loop : tie.MeasureT-loop
-μ-loop words firsts reach lookahead left₀ at₀ left at = at
+μ-loop words firsts lookahead left₀ at₀ left at = at
 
 no-left-requires : tie.Need-no-left-requires Inv-loop μ-loop
 no-left-requires c κs = tt
@@ -24,7 +24,7 @@ loop-holds : tie.Need-loop-holds Inv-loop μ-loop
 loop-holds c =
     let start = c .before .before in (
       omega arith,
-      end-none (insideLeft (emptyIn (start .args .lookahead) (family (start .args .firsts .now))) (family (start .args .reach .now))) _
+      end-none (insideLeft (emptyIn (start .args .lookahead) (family (start .args .firsts .now)))) _
           (start .args .words .now) (c .no-left .ensures),
     )
 
@@ -52,7 +52,7 @@ loop-again c =
     let loop = test .before in
     let start = loop .before .before .before in (
       omega (arith, test .loop-test .taken, loop .loop .inv .0),
-      end-one (insideLeft (emptyIn (start .args .lookahead) (family (start .args .firsts .now))) (family (start .args .reach .now))) _ (start .args .words .now)
+      end-one (insideLeft (emptyIn (start .args .lookahead) (family (start .args .firsts .now)))) _ (start .args .words .now)
           (loop .loop .inv .1) (test .loop-test .taken)
           (loop .loop .inv .0) (c .before .decode .ensures) (c .inside-left .ensures),
     )
@@ -61,7 +61,7 @@ returns : tie.Need-returns Inv-loop μ-loop
 returns c =
     let loop = c .before .before in
     let start = loop .before .before .before in
-    let left = end-all (insideLeft (emptyIn (start .args .lookahead) (family (start .args .firsts .now))) (family (start .args .reach .now))) _
+    let left = end-all (insideLeft (emptyIn (start .args .lookahead) (family (start .args .firsts .now)))) _
     (start .args .words .now) (loop .loop .inv .1) (c .before .loop-test .left) in
     ap (λ x. x .rule .bits) left
 
