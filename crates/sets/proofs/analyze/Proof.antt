@@ -24,7 +24,8 @@ returns : tie.Need-returns
 returns c =
     let found = c .before .before .before .before .before in
     let at-analyze = found .before .before in
-    let given = at-analyze .before .before .before .before .before .before .args in
+    let start = at-analyze .before .before .before .before .before .before in
+    let given = start .args in
     let passed = found .finding .given .1 in
     rw passed at (families-found (given .lookahead) (given .words .now) (at-analyze .analyze .ensures) passed (c .follow-sets .ensures))
 
