@@ -3,6 +3,7 @@ ghost use mathlib.Core.Path.{_≡_};
 ghost use Rattle.table_promises.specs.Analysis.{conflictError};
 ghost use Rattle.table.specs.contracts.Analysis.{foundOf};
 use answer::Error;
+use claims::analyze;
 use conflicts::first_conflict;
 use families::Finding;
 use families::SETS;
@@ -45,12 +46,23 @@ fn conflict_error(nonterminal: u8, column: u8, lookahead: Lookahead) -> Error
 pub fn find(words: &[u32], lookahead: Lookahead) -> Found
     ensures { λ r. ⌜ r ≡ foundOf lookahead (now (words .entry)) ⌝ }
 {
-    let claims = claims::analyze(words, lookahead);
-    let finding = claims.finding;
-    let starts = claims.starts;
-    let firsts = claims.firsts;
-    let follows = claims.follows;
+    let mut starts = [0usize; RULES];
+    let mut firsts = [0u64; SETS];
+    let mut follows = [0u64; SETS];
+    let mut heads = [0u8; RULES];
+    let mut sets = [0u64; RULES];
+    let mut overruns = [0u64; SETS];
     let none = [NO_RULE; ENTRIES];
+    let finding = analyze(
+        words,
+        lookahead,
+        &mut starts,
+        &mut firsts,
+        &mut follows,
+        &mut heads,
+        &mut sets,
+        &mut overruns,
+    );
     let Finding::Passed(sizes) = finding else {
         return Found {
             finding,
@@ -60,13 +72,7 @@ pub fn find(words: &[u32], lookahead: Lookahead) -> Found
             entries: none,
         };
     };
-    let conflict = first_conflict(
-        &claims.heads,
-        &claims.sets,
-        claims.overruns,
-        sizes,
-        lookahead,
-    );
+    let conflict = first_conflict(&heads, &sets, overruns, sizes, lookahead);
     let Conflict::At {
         nonterminal,
         column,
@@ -77,7 +83,7 @@ pub fn find(words: &[u32], lookahead: Lookahead) -> Found
             starts,
             firsts,
             follows,
-            entries: rows::rows(sizes, &claims.heads, &claims.sets, lookahead),
+            entries: rows::rows(sizes, &heads, &sets, lookahead),
         };
     };
     Found {

@@ -46,10 +46,10 @@ fn fill_row(
 }
 
 // The rules in their rows, written from the last on: where two claim an entry, the first has it.
-pub(crate) fn rows<'a>(
+pub(crate) fn rows(
     sizes: Sizes,
-    heads: &'a [u8; RULES],
-    sets: &'a [u64; RULES],
+    heads: &[u8; RULES],
+    sets: &[u64; RULES],
     lookahead: Lookahead,
 ) -> [u8; ENTRIES]
     requires { ⌜ RowsGiven lookahead sizes (now heads) ⌝ }

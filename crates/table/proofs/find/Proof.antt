@@ -15,15 +15,12 @@ enum-told : tie.Need-enum-told
 enum-told c = search needs
 
 returns : tie.Need-returns
-returns c =
-    let at-analyze = c .before .before .before .before .before in
-    found-refused _ _ (at-analyze .analyze .ensures) (c .enum-told .given .1)
+returns c = found-refused _ _ (c .before .before .analyze .ensures) (c .enum-told .given .1)
 
 first-conflict-requires : tie.Need-first-conflict-requires
 first-conflict-requires c κs =
-    let at-finding = c .before .before .before .before .before in
-    let at-analyze = at-finding .before .before .before .before .before in
-    let found = claims-told _ _ (at-analyze .analyze .ensures) (at-finding .finding .given .1) in
+    let at-finding = c .before .before .before in
+    let found = claims-told _ _ (at-finding .before .before .analyze .ensures) (at-finding .finding .given .1) in
     (headed found, sizes-few found, overruns-long found)
 
 enum-known-conflict : tie.Need-enum-known-conflict
@@ -34,18 +31,17 @@ enum-told-2 c = search needs
 
 rows-requires : tie.Need-rows-requires
 rows-requires c κs =
-    let at-finding = c .before .before .before .before .before .before .before .before .before .before .before in
-    let at-analyze = at-finding .before .before .before .before .before in
-    let found = claims-told _ _ (at-analyze .analyze .ensures) (at-finding .finding .given .1) in
+    let at-first-conflict = c .before .before .before .before in
+    let at-finding = at-first-conflict .before .before .before .before in
+    let found = claims-told _ _ (at-finding .before .before .analyze .ensures) (at-finding .finding .given .1) in
     record { headed = headed found; fewTerminals = sizes-few found }
 
 returns-2 : tie.Need-returns-2
 returns-2 c =
-    let at-enum-told2 = c .before .before .before .before in
+    let at-enum-told2 = c .before .before .before in
     let at-first-conflict = at-enum-told2 .before .before in
-    let at-finding = at-first-conflict .before .before .before .before .before .before in
-    let at-analyze = at-finding .before .before .before .before .before in
-    let found = claims-told _ _ (at-analyze .analyze .ensures) (at-finding .finding .given .1) in
+    let at-finding = at-first-conflict .before .before .before .before in
+    let found = claims-told _ _ (at-finding .before .before .analyze .ensures) (at-finding .finding .given .1) in
     found-passed found (at-first-conflict .first-conflict .ensures) (at-enum-told2 .enum-told2 .given .1) (c .rows .ensures)
 
 conflict-error-requires : tie.Need-conflict-error-requires
@@ -55,9 +51,8 @@ returns-3 : tie.Need-returns-3
 returns-3 c =
     let at-conflict = c .before .before in
     let at-first-conflict = at-conflict .before .before in
-    let at-finding = at-first-conflict .before .before .before .before .before .before in
-    let at-analyze = at-finding .before .before .before .before .before in
-    let found = claims-told _ _ (at-analyze .analyze .ensures) (at-finding .finding .given .1) in
+    let at-finding = at-first-conflict .before .before .before .before in
+    let found = claims-told _ _ (at-finding .before .before .analyze .ensures) (at-finding .finding .given .1) in
     found-clash found (at-first-conflict .first-conflict .ensures) (at-conflict .conflict .given .1) (c .conflict-error .ensures)
 
 pub find-spec : {M : Type 1} → statement M
