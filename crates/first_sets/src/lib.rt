@@ -50,7 +50,7 @@ fn analyze_grammar(
     ensures { λ r. ⌜ unfollowed r (now (starts .exit)) (now (firsts .exit)) (now (meets .exit)) (now (reaches .exit))
         ≡ firstFamiliesOf lookahead (now (words .entry)) ⌝ }
 {
-    *starts = rule_starts(words);
+    rule_starts(words, starts);
     *meets = [0u64; RULES];
     first_sets(words, starts, sizes, firsts, meets, lookahead);
     *reaches = reached(words, starts, sizes, firsts, lookahead);

@@ -11,13 +11,13 @@ rule-starts-requires c κs = tt
 
 first-sets-requires : tie.Need-first-sets-requires
 first-sets-requires c κs =
-    let at-rule-starts = c .before .before .before .before in (at-rule-starts .before .before .pre, at-rule-starts .rule-starts .ensures, by-rules-zeros _)
+    let at-rule-starts = c .before .before .before .before in (at-rule-starts .before .before .before .pre, at-rule-starts .rule-starts .ensures, by-rules-zeros _)
 
 reached-requires : tie.Need-reached-requires
 reached-requires c κs =
     let firsts = c .before .before in
     let at-rule-starts = firsts .before .before .before .before .before in
-    (at-rule-starts .before .before .pre, at-rule-starts .rule-starts .ensures, firsts .first-sets .ensures .0)
+    (at-rule-starts .before .before .before .pre, at-rule-starts .rule-starts .ensures, firsts .first-sets .ensures .0)
 
 finding-of-requires : tie.Need-finding-of-requires
 finding-of-requires c κs = tt
@@ -37,7 +37,7 @@ returns c =
     let found = at-finding .before .before in
     let reached = found .before .before .before in
     let firsts = reached .before .before .before in
-    let start = firsts .before .before .before .before .before .before .before in
+    let start = firsts .before .before .before .before .before .before .before .before in
     let lookahead = start .args .lookahead in
     let words = start .args .words .now in
     let finding = flaws-found lookahead words (start .pre) (firsts .first-sets .ensures .0) (reached .reached .ensures) (found .finding-of .ensures) in
@@ -49,7 +49,7 @@ returns-2 c =
     let reached = found .before .before .before in
     let firsts = reached .before .before .before in
     let at-rule-starts = firsts .before .before .before .before .before in
-    let start = at-rule-starts .before .before in
+    let start = at-rule-starts .before .before .before in
     let lookahead = start .args .lookahead in
     let words = start .args .words .now in
     let finding = flaws-found lookahead words (start .pre) (firsts .first-sets .ensures .0) (reached .reached .ensures) (found .finding-of .ensures) in
