@@ -11,7 +11,8 @@ rule-starts-requires c κs = tt
 
 first-sets-requires : tie.Need-first-sets-requires
 first-sets-requires c κs =
-    let at-rule-starts = c .before .before .before .before in (at-rule-starts .before .before .before .pre, at-rule-starts .rule-starts .ensures, by-rules-zeros _)
+    let at-rule-starts = c .before .before .before .before in
+    (at-rule-starts .before .before .before .pre, at-rule-starts .rule-starts .ensures, by-rules-zeros _)
 
 reached-requires : tie.Need-reached-requires
 reached-requires c κs =
