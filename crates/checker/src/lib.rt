@@ -5,10 +5,14 @@ use answer::Answer;
 use answer::Error;
 use check_answers::answer;
 use check_answers::has_room;
+use families::SETS;
+use grammar::codes::NO_RULE;
+use grammar::limits::ENTRIES;
+use grammar::limits::RULES;
 use lending::lend;
 use lending::lend_two;
 use lookahead::Lookahead;
-use table::find;
+use table::find_into;
 
 pub fn check(words: &[u32], table: &mut [u32]) -> Answer
     ensures { λ r. ⌜ Checks One (now (words .entry)) (now (table .entry)) r (now (table .exit)) ⌝ }
@@ -16,15 +20,19 @@ pub fn check(words: &[u32], table: &mut [u32]) -> Answer
     if !has_room(table.len(), Lookahead::One) {
         return Answer::Refused(Error::TableTooShort);
     }
-    let found = find(words, Lookahead::One);
-    lend(
-        found.finding,
-        &found.firsts,
-        &found.follows,
-        &found.entries,
-        table,
+    let mut starts = [0usize; RULES];
+    let mut firsts = [0u64; SETS];
+    let mut follows = [0u64; SETS];
+    let mut entries = [NO_RULE; ENTRIES];
+    let finding = find_into(
+        words,
+        Lookahead::One,
+        &mut starts,
+        &mut firsts,
+        &mut follows,
+        &mut entries,
     );
-    let finding = found.finding;
+    lend(finding, &firsts, &follows, &entries, table);
     answer(finding)
 }
 
@@ -35,14 +43,18 @@ pub fn check_two(words: &[u32], table: &mut [u64]) -> Answer
     if !has_room(table.len(), Lookahead::Two) {
         return Answer::Refused(Error::TableOfTwoTooShort);
     }
-    let found = find(words, Lookahead::Two);
-    lend_two(
-        found.finding,
-        &found.firsts,
-        &found.follows,
-        &found.entries,
-        table,
+    let mut starts = [0usize; RULES];
+    let mut firsts = [0u64; SETS];
+    let mut follows = [0u64; SETS];
+    let mut entries = [NO_RULE; ENTRIES];
+    let finding = find_into(
+        words,
+        Lookahead::Two,
+        &mut starts,
+        &mut firsts,
+        &mut follows,
+        &mut entries,
     );
-    let finding = found.finding;
+    lend_two(finding, &firsts, &follows, &entries, table);
     answer(finding)
 }

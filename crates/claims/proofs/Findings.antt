@@ -22,8 +22,7 @@ use Rattle.families.specs.Sets.{firstNumber, followNumber}
 use Rattle.base.proofs.Lists.{listed-is}
 use Rattle.families.proofs.FewTerminals.{admitted-read}
 use Rattle.families.proofs.Findings.{FoundFamilies, told-passed, families-refused}
-use Rattle.claims.specs.declared.Claims.{Claims}
-use Rattle.claims.specs.contracts.Claims.{headsOf, claimNumbers, overrunsOf, overrunsIf, claimsWith, claimsOf, FamiliesGiven, AllKept}
+use Rattle.claims.specs.contracts.Claims.{headsOf, claimNumbers, overrunsOf, overrunsIf, Claims, claimsWith, claimsOf, FamiliesGiven, AllKept}
 use Rattle.claims.specs.contracts.Overruns.{HeadsGiven, Overrunning}
 use Rattle.claims.proofs.OverrunSets.{overruns-told}
 

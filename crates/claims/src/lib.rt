@@ -2,7 +2,7 @@
 ghost use mathlib.Core.Path.{_≡_};
 ghost use Rattle.families.specs.contracts.Rules.{ByRules};
 ghost use Rattle.grammar.specs.Encoding.{grammarOf};
-ghost use Rattle.claims.specs.contracts.Claims.{claimsOf, FamiliesGiven, AllKept};
+ghost use Rattle.claims.specs.contracts.Claims.{claimsWith, claimsOf, FamiliesGiven, AllKept};
 use concatenation::concat;
 use families::Finding;
 use families::SETS;
@@ -15,18 +15,6 @@ use rule_passes::rules::head_of;
 use word::decode;
 
 mod overruns;
-
-// What is found of an encoded grammar: its sizes, or why it is refused; where its rules begin; its sets; for each rule its head and the set that it
-// claims for it; and for each nonterminal the first terminal's set where it overruns. Zeros stand elsewhere, and where the grammar is refused.
-pub struct Claims {
-    pub finding: Finding,
-    pub starts: [usize; RULES],
-    pub firsts: [u64; SETS],
-    pub follows: [u64; SETS],
-    pub heads: [u8; RULES],
-    pub sets: [u64; RULES],
-    pub overruns: [u64; SETS],
-}
 
 // Keeps for each rule of a grammar that is admitted, where zeros stand, its head and what its positives' meet, and then what may follow the
 // head, begins with.
@@ -57,50 +45,48 @@ fn keep_claims<'a>(
     }
 }
 
-pub fn analyze(words: &[u32], lookahead: Lookahead) -> Claims
-    ensures { λ r. ⌜ r ≡ claimsOf lookahead (now (words .entry)) ⌝ }
+// What is found of an encoded grammar is written into what is lent: where its rules begin; its sets; for each rule its head and the set that it claims
+// for it; and for each nonterminal the first terminal's set where it overruns. Zeros stand elsewhere, and where the grammar is refused.
+pub fn analyze(
+    words: &[u32],
+    lookahead: Lookahead,
+    starts: &mut [usize; RULES],
+    firsts: &mut [u64; SETS],
+    follows: &mut [u64; SETS],
+    heads: &mut [u8; RULES],
+    sets: &mut [u64; RULES],
+    overruns: &mut [u64; SETS],
+) -> Finding
+    ensures { λ r. ⌜ claimsWith r (now (starts .exit)) (now (firsts .exit)) (now (follows .exit)) (now (heads .exit)) (now (sets .exit))
+        (now (overruns .exit)) ≡ claimsOf lookahead (now (words .entry)) ⌝ }
 {
     let families = sets::analyze(words, lookahead);
     let finding = families.finding;
-    let mut heads = [0u8; RULES];
-    let mut sets = [0u64; RULES];
-    match finding {
-        Finding::Refused(_) => Claims {
-            finding,
-            starts: families.starts,
-            firsts: families.firsts,
-            follows: families.follows,
+    *starts = families.starts;
+    *firsts = families.firsts;
+    *follows = families.follows;
+    *heads = [0u8; RULES];
+    *sets = [0u64; RULES];
+    *overruns = [0u64; SETS];
+    if let Finding::Passed(sizes) = finding {
+        keep_claims(
+            words,
+            sizes,
+            &families.starts,
+            &families.meets,
+            &families.follows,
             heads,
             sets,
-            overruns: [0u64; SETS],
-        },
-        Finding::Passed(sizes) => {
-            keep_claims(
-                words,
-                sizes,
-                &families.starts,
-                &families.meets,
-                &families.follows,
-                &mut heads,
-                &mut sets,
-                lookahead,
-            );
-            Claims {
-                finding,
-                starts: families.starts,
-                firsts: families.firsts,
-                follows: families.follows,
-                heads,
-                sets,
-                overruns: overrunning(
-                    words,
-                    sizes,
-                    &families.starts,
-                    &heads,
-                    &families.follows,
-                    lookahead,
-                ),
-            }
-        }
+            lookahead,
+        );
+        *overruns = overrunning(
+            words,
+            sizes,
+            &families.starts,
+            heads,
+            &families.follows,
+            lookahead,
+        );
     }
+    finding
 }

@@ -58,31 +58,31 @@ fn first_pass(
     grown
 }
 
-// The first sets of a grammar that is admitted, one for each nonterminal. What the positives of each rule can all begin with is written where
-// zeros stand.
+// The first sets of a grammar that is admitted, one for each nonterminal, whatever stood there. What the positives of each rule can all begin with is
+// written where zeros stand.
 pub(crate) fn first_sets(
     words: &[u32],
     starts: &[usize; RULES],
     sizes: Sizes,
+    firsts: &mut [u64; SETS],
     meets: &mut [u64; RULES],
     lookahead: Lookahead,
-) -> [u64; SETS]
+)
     requires { ⌜ (admission lookahead (now words) ≡ Read sizes) × (now starts ≡ ruleStarts (now words)) × ByRules (sizes .rules) (now meets) ⌝ }
-    ensures { λ r. ⌜ (r ≡ listed maxNonterminals (firstNumber lookahead (grammarOf (now (words .entry)))))
+    ensures { λ _. ⌜ (now (firsts .exit) ≡ listed maxNonterminals (firstNumber lookahead (grammarOf (now (words .entry)))))
         × (now (meets .exit) ≡ byRule (meetNumbers lookahead (grammarOf (now (words .entry))))) ⌝ }
 {
-    let mut firsts = [0u64; SETS];
+    *firsts = [0u64; SETS];
     let mut pass = 0u32;
     while first_pass(
         words,
         starts,
         sizes,
-        &mut firsts,
+        firsts,
         meets,
         goes_forward(pass),
         lookahead,
     ) {
         pass = next_pass(pass);
     }
-    firsts
 }

@@ -28,8 +28,7 @@ use Rattle.families.specs.contracts.Analysis.{byRuleIf}
 use Rattle.families.specs.contracts.RuleLists.{byRule}
 use Rattle.families.proofs.Findings.{told-passed, told-refused}
 use Rattle.base.proofs.Lists.{listed-at}
-use Rattle.claims.specs.declared.Claims.{Claims}
-use Rattle.claims.specs.contracts.Claims.{headsOf, claimNumbers, overrunsOf, overrunsIf, claimsOf}
+use Rattle.claims.specs.contracts.Claims.{headsOf, claimNumbers, overrunsOf, overrunsIf, Claims, claimsOf}
 use Rattle.columns.specs.contracts.Columns.{columnElement}
 use Rattle.claims.specs.contracts.Overruns.{overrunSet}
 use Rattle.claims.proofs.Claimants.{claims-alike, told as rules-told}

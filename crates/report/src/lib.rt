@@ -6,12 +6,14 @@ ghost use Rattle.report_texts.specs.Texts.{checkedText, judgedText};
 ghost use Rattle.report_texts.specs.Report.{SheetPrinted, JudgementPrinted, GapsPrinted};
 use answer::Error;
 use claims::analyze;
+use families::SETS;
 use file_words::Loaded;
 use file_words::load;
 use gaps_text::put_gaps;
 use grammar::codes::NO_ENTRY;
 use grammar::codes::UNCALLED;
 use grammar::limits::MEMO_ENTRIES;
+use grammar::limits::RULES;
 use grammar::limits::TABLE_WORDS;
 use grammar::limits::WORDS;
 use judgement_text::put_judgement;
@@ -90,7 +92,21 @@ fn put_judged(words: &[u32], events: &[u8], out: &mut [u8]) -> usize
 fn put_claimed(words: &[u32], out: &mut [u8]) -> usize
     ensures { λ r. ⌜ GapsPut (now (words .entry)) (now (out .entry)) (now (out .exit)) r ⌝ }
 {
-    let claims = analyze(words, Lookahead::One);
-    let finding = claims.finding;
-    put_gaps(out, finding, &claims.heads, &claims.sets, &claims.overruns)
+    let mut starts = [0usize; RULES];
+    let mut firsts = [0u64; SETS];
+    let mut follows = [0u64; SETS];
+    let mut heads = [0u8; RULES];
+    let mut sets = [0u64; RULES];
+    let mut overruns = [0u64; SETS];
+    let finding = analyze(
+        words,
+        Lookahead::One,
+        &mut starts,
+        &mut firsts,
+        &mut follows,
+        &mut heads,
+        &mut sets,
+        &mut overruns,
+    );
+    put_gaps(out, finding, &heads, &sets, &overruns)
 }

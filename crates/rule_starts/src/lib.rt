@@ -19,17 +19,16 @@ fn note(starts: &mut [usize; RULES], rules: usize, at: usize, word: Word) -> usi
     rules
 }
 
-// Where each rule begins, by index; zero for rules that are not there.
-pub fn rule_starts(words: &[u32]) -> [usize; RULES]
-    ensures { λ r. ⌜ r ≡ ruleStarts (now (words .entry)) ⌝ }
+// Where each rule begins, by index; zero for rules that are not there. What stood there is gone.
+pub fn rule_starts(words: &[u32], starts: &mut [usize; RULES])
+    ensures { λ _. ⌜ now (starts .exit) ≡ ruleStarts (now (words .entry)) ⌝ }
 {
-    let mut starts = [0usize; RULES];
+    *starts = [0usize; RULES];
     let mut rules = 0;
     let mut at = 0;
     while at < words.len() {
         let word = decode(words[at]);
-        rules = note(&mut starts, rules, at, word);
+        rules = note(starts, rules, at, word);
         at = at + 1;
     }
-    starts
 }

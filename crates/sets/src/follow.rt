@@ -1,7 +1,7 @@
 // Follow sets: passes over the rules, in both directions by turns, until one adds nothing; the words of a rule from their end.
 ghost use mathlib.Core.Path.{_≡_};
 ghost use Prim.Native.Nat.{suc, _≤_, _<_};
-ghost use lib.ListN.{length, drop};
+ghost use lib.ListN.{length, drop, replicate};
 ghost use Rattle.grammar.specs.declared.reading.Reading.the-variants.{Read};
 ghost use Rattle.grammar.specs.Encoding.{parse, grammarOf};
 ghost use Rattle.grammar.specs.Limits.{maxNonterminals};
@@ -185,19 +185,19 @@ fn follow_pass(
     )
 }
 
-// The follow sets of a grammar that is admitted, one for each nonterminal.
-pub(crate) fn follow_sets<'a>(
+// The follow sets of a grammar that is admitted, one for each nonterminal, where empty ones stand.
+pub(crate) fn follow_sets(
     words: &[u32],
-    starts: &'a [usize; RULES],
+    starts: &[usize; RULES],
     sizes: Sizes,
-    firsts: &'a [u64; SETS],
+    firsts: &[u64; SETS],
+    follows: &mut [u64; SETS],
     lookahead: Lookahead,
-) -> [u64; SETS]
+)
     requires { ⌜ (admission lookahead (now words) ≡ Read sizes) × (now starts ≡ ruleStarts (now words))
-        × (now firsts ≡ listed maxNonterminals (firstNumber lookahead (grammarOf (now words)))) ⌝ }
-    ensures { λ r. ⌜ r ≡ listed maxNonterminals (followNumber lookahead (grammarOf (now (words .entry)))) ⌝ }
+        × (now firsts ≡ listed maxNonterminals (firstNumber lookahead (grammarOf (now words)))) × (now follows ≡ replicate maxNonterminals 0) ⌝ }
+    ensures { λ _. ⌜ now (follows .exit) ≡ listed maxNonterminals (followNumber lookahead (grammarOf (now (words .entry)))) ⌝ }
 {
-    let mut follows = [0u64; SETS];
     let mut last = [0u64; RULES];
     let mut forward = true;
     while follow_pass(
@@ -205,12 +205,11 @@ pub(crate) fn follow_sets<'a>(
         starts,
         sizes,
         firsts,
-        &mut follows,
+        follows,
         &mut last,
         forward,
         lookahead,
     ) {
         forward = !forward;
     }
-    follows
 }

@@ -29,9 +29,8 @@ use Rattle.base.proofs.Lists.{listed-at, listed-long}
 use Rattle.families.proofs.Findings.{told-passed, told-refused}
 use Rattle.table_promises.specs.declared.Conflict.{Conflict}
 use Rattle.table_promises.specs.declared.Conflict.the-variants as conflict
-use Rattle.claims.specs.declared.Claims.{Claims}
 use Rattle.table.specs.declared.Found.{Found}
-use Rattle.claims.specs.contracts.Claims.{claimsOf, Headed}
+use Rattle.claims.specs.contracts.Claims.{Claims, claimsOf, Headed}
 use Rattle.claims.specs.contracts.Overruns.{overrunSet}
 use Rattle.table_promises.specs.Conflicts.{firstClash}
 use Rattle.table.specs.contracts.Conflicts.{conflictOf}

@@ -90,9 +90,9 @@ fn first_entry(sets: &[u64; SETS], sizes: Sizes, lookahead: Lookahead) -> Confli
 }
 
 // The first entry that two rules claim, by their heads and their claims, or that is reported of a nonterminal that overruns.
-pub(crate) fn first_conflict<'a>(
-    heads: &'a [u8; RULES],
-    sets: &'a [u64; RULES],
+pub(crate) fn first_conflict(
+    heads: &[u8; RULES],
+    sets: &[u64; RULES],
     overruns: [u64; SETS],
     sizes: Sizes,
     lookahead: Lookahead,

@@ -1,8 +1,9 @@
 // The LL(1) and the LL(2) table of an encoded grammar.
 ghost use mathlib.Core.Path.{_≡_};
 ghost use Rattle.table_promises.specs.Analysis.{conflictError};
-ghost use Rattle.table.specs.contracts.Analysis.{foundOf};
+ghost use Rattle.table.specs.contracts.Analysis.{foundWith, foundOf};
 use answer::Error;
+use claims::analyze;
 use conflicts::first_conflict;
 use families::Finding;
 use families::SETS;
@@ -40,51 +41,69 @@ fn conflict_error(nonterminal: u8, column: u8, lookahead: Lookahead) -> Error
     }
 }
 
-// The grammar's entries, unless it is refused or an entry clashes. Each case returns at once: where cases meet, all that is found is copied once
-// more.
-pub fn find(words: &[u32], lookahead: Lookahead) -> Found
-    ensures { λ r. ⌜ r ≡ foundOf lookahead (now (words .entry)) ⌝ }
+// The grammar's entries, unless it is refused or an entry clashes. They are written into what is lent, and so are the sets and where the rules begin.
+pub fn find_into(
+    words: &[u32],
+    lookahead: Lookahead,
+    starts: &mut [usize; RULES],
+    firsts: &mut [u64; SETS],
+    follows: &mut [u64; SETS],
+    entries: &mut [u8; ENTRIES],
+) -> Finding
+    ensures { λ r. ⌜ foundWith r (now (starts .exit)) (now (firsts .exit)) (now (follows .exit)) (now (entries .exit))
+        ≡ foundOf lookahead (now (words .entry)) ⌝ }
 {
-    let claims = claims::analyze(words, lookahead);
-    let finding = claims.finding;
-    let starts = claims.starts;
-    let firsts = claims.firsts;
-    let follows = claims.follows;
-    let none = [NO_RULE; ENTRIES];
-    let Finding::Passed(sizes) = finding else {
-        return Found {
-            finding,
-            starts,
-            firsts,
-            follows,
-            entries: none,
-        };
-    };
-    let conflict = first_conflict(
-        &claims.heads,
-        &claims.sets,
-        claims.overruns,
-        sizes,
+    let mut heads = [0u8; RULES];
+    let mut sets = [0u64; RULES];
+    let mut overruns = [0u64; SETS];
+    let finding = analyze(
+        words,
         lookahead,
+        starts,
+        firsts,
+        follows,
+        &mut heads,
+        &mut sets,
+        &mut overruns,
     );
+    let Finding::Passed(sizes) = finding else {
+        *entries = [NO_RULE; ENTRIES];
+        return finding;
+    };
+    let conflict = first_conflict(&heads, &sets, overruns, sizes, lookahead);
     let Conflict::At {
         nonterminal,
         column,
     } = conflict
     else {
-        return Found {
-            finding,
-            starts,
-            firsts,
-            follows,
-            entries: rows::rows(sizes, &claims.heads, &claims.sets, lookahead),
-        };
+        rows::rows(sizes, &heads, &sets, entries, lookahead);
+        return finding;
     };
+    *entries = [NO_RULE; ENTRIES];
+    Finding::Refused(conflict_error(nonterminal, column, lookahead))
+}
+
+// The same as one value. Who needs the parts alone lends them to `find_into`: here they are copied once more.
+pub fn find(words: &[u32], lookahead: Lookahead) -> Found
+    ensures { λ r. ⌜ r ≡ foundOf lookahead (now (words .entry)) ⌝ }
+{
+    let mut starts = [0usize; RULES];
+    let mut firsts = [0u64; SETS];
+    let mut follows = [0u64; SETS];
+    let mut entries = [NO_RULE; ENTRIES];
+    let finding = find_into(
+        words,
+        lookahead,
+        &mut starts,
+        &mut firsts,
+        &mut follows,
+        &mut entries,
+    );
     Found {
-        finding: Finding::Refused(conflict_error(nonterminal, column, lookahead)),
+        finding,
         starts,
         firsts,
         follows,
-        entries: none,
+        entries,
     }
 }

@@ -45,26 +45,26 @@ fn fill_row(
     }
 }
 
-// The rules in their rows, written from the last on: where two claim an entry, the first has it.
-pub(crate) fn rows<'a>(
+// The rules in their rows, written from the last on: where two claim an entry, the first has it. What stood there is gone.
+pub(crate) fn rows(
     sizes: Sizes,
-    heads: &'a [u8; RULES],
-    sets: &'a [u64; RULES],
+    heads: &[u8; RULES],
+    sets: &[u64; RULES],
+    entries: &mut [u8; ENTRIES],
     lookahead: Lookahead,
-) -> [u8; ENTRIES]
+)
     requires { ⌜ RowsGiven lookahead sizes (now heads) ⌝ }
-    ensures { λ r. ⌜ FilledRows (rowsOf lookahead (sizes .nonterminals) (sizes .terminals)) (now (heads .entry)) (now (sets .entry))
-        0 (numbersBelow (sizes .rules)) noRules r ⌝ }
+    ensures { λ _. ⌜ FilledRows (rowsOf lookahead (sizes .nonterminals) (sizes .terminals)) (now (heads .entry)) (now (sets .entry))
+        0 (numbersBelow (sizes .rules)) noRules (now (entries .exit)) ⌝ }
 {
     let terminals = sizes.terminals;
     let columns = count(lookahead, terminals);
-    let mut entries = [NO_RULE; ENTRIES];
+    *entries = [NO_RULE; ENTRIES];
     let mut rule = sizes.rules;
     while 0 < rule {
         rule = rule - 1;
         let row = heads[rule] as usize * columns;
         let claim = LookaheadSet { bits: sets[rule] };
-        fill_row(&mut entries, row, terminals, claim, rule as u8, lookahead);
+        fill_row(entries, row, terminals, claim, rule as u8, lookahead);
     }
-    entries
 }

@@ -73,7 +73,8 @@ pub(crate) fn write_tree(
     requires { ⌜ TreeGiven (now words) (inputOf (now events)) (now table) (now memo) (now tree) ⌝ }
     ensures { λ r. ⌜ TreeDone (now (words .entry)) (inputOf (now (events .entry))) (now (tree .entry)) r (now (tree .exit)) ⌝ }
 {
-    let starts = rule_starts(words);
+    let mut starts = [0usize; RULES];
+    rule_starts(words, &mut starts);
     let mut labels = labels_of(words, events, table, memo);
     write_vertex(words, &starts, &mut labels, tree, 0, 0)
 }

@@ -12,8 +12,8 @@ has-room-requires c κs = search needs
 returns : tie.Need-returns
 returns c = check-short Two (room-lacks Two (c .before .has-room .ensures) (c .if1 .taken))
 
-find-requires : tie.Need-find-requires
-find-requires c κs = search needs
+find-into-requires : tie.Need-find-into-requires
+find-into-requires c κs = search needs
 
 lend-two-requires : tie.Need-lend-two-requires
 lend-two-requires c κs = search needs
@@ -27,12 +27,12 @@ same-length c = search needs
 returns-2 : tie.Need-returns-2
 returns-2 c =
     let lent = c .before .before .before in
-    let found = lent .before .before .before .before .before .before in
-    let tested = found .before in
+    let found = lent .before .before .before .before .before in
+    let tested = found .before .before .before .before .before in
     let room = tested .before in
     let given = room .before .before .before .args in
     checks-found Two (given .words .now) (given .table .now) (room-there Two (room .has-room .ensures) (tested .if1 .left))
-    (found .find .ensures) (lent .lend-two .ensures) (c .answer .ensures)
+    (found .find-into .ensures) (lent .lend-two .ensures) (c .answer .ensures)
 
 pub check-two-spec : {M : Type 1} → statement M
-check-two-spec = tie.close (tie.spec has-room-requires returns find-requires lend-two-requires answer-requires same-length returns-2)
+check-two-spec = tie.close (tie.spec has-room-requires returns find-into-requires lend-two-requires answer-requires same-length returns-2)

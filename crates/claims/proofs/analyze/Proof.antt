@@ -9,48 +9,47 @@ use Rattle.claims.proofs.analyze.Tie as tie
 analyze-requires : tie.Need-analyze-requires
 analyze-requires c κs = search needs
 
-enum-told : tie.Need-enum-told
-enum-told c = search needs
-
 enum-known-finding : tie.Need-enum-known-finding
-enum-known-finding c = search needs
+enum-known-finding c = c .match .keys1
 
 keep-claims-requires : tie.Need-keep-claims-requires
 keep-claims-requires c κs =
     let at-finding = c .before .before .before .before .before .before .before in
-    let at-analyze = at-finding .before .before in
+    let at-analyze = at-finding .before .before .before .before .before .before .before .before in
     let found = families-told _ _ (at-analyze .analyze .ensures) (at-finding .finding .given .1) in
     (given found, by-rules-zeros _, by-rules-zeros _)
 
 overrunning-requires : tie.Need-overrunning-requires
 overrunning-requires c κs =
-    let kept = c .before .before .before .before .before .before .before in
+    let kept = c .before .before .before .before in
     let at-finding = kept .before .before .before .before .before .before .before .before in
-    let at-analyze = at-finding .before .before in
+    let at-analyze = at-finding .before .before .before .before .before .before .before .before in
     heads-given (families-told _ _ (at-analyze .analyze .ensures) (at-finding .finding .given .1)) (kept .keep-claims .ensures)
+
+enum-told : tie.Need-enum-told
+enum-told c = c .match .keys2
 
 returns : tie.Need-returns
 returns c =
-    let at-enum-told = c .before .before .before in
-    let at-analyze = at-enum-told .before .before in
-    refused-claims _ _ (at-analyze .analyze .ensures) (at-enum-told .enum-told .given .1)
+    let kept = c .before .before .before .before .before in
+    let at-finding = kept .before .before .before .before .before .before .before .before in
+    let at-analyze = at-finding .before .before .before .before .before .before .before .before in
+    let found = families-told _ _ (at-analyze .analyze .ensures) (at-finding .finding .given .1) in
+    all-claims found (kept .keep-claims .ensures) (c .overrunning .ensures)
 
 returns-2 : tie.Need-returns-2
 returns-2 c =
-    let kept = c .before .before .before .before .before .before .before .before in
-    let at-finding = kept .before .before .before .before .before .before .before .before in
-    let at-analyze = at-finding .before .before in
-    let found = families-told _ _ (at-analyze .analyze .ensures) (at-finding .finding .given .1) in
-    all-claims found (kept .keep-claims .ensures) (c .overrunning .ensures)
+    let at-analyze = c .before .before .before .before .before .before .before .before in
+    refused-claims _ _ (at-analyze .analyze .ensures) (c .enum-told .given .1)
 
 pub analyze-spec : {M : Type 1} → statement M
 analyze-spec =
     tie.close
     (tie.spec
     analyze-requires
-    enum-told
     enum-known-finding
     keep-claims-requires
     overrunning-requires
+    enum-told
     returns
     returns-2)

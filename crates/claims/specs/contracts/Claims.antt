@@ -28,7 +28,6 @@ use Rattle.families.specs.contracts.RuleLists.{byRule}
 use Rattle.families.specs.Sets.{setNumber, firstNumber, followNumber}
 use Rattle.families.specs.contracts.Sets.{meetNumbers}
 use Rattle.claims.specs.contracts.Overruns.{overrunSet}
-use Rattle.claims.specs.declared.Claims.{Claims}
 
 -- the strings that a rule claims for its head, as a number (document 01: the columns that a rule claims)
 unfoldable pub claimNumber : Lookahead → Grammar → Rule → ℕ
@@ -47,6 +46,16 @@ overrunsOf k G = listed maxNonterminals (λ A. overrunSet k (overruns G (tokens 
 abbrev pub overrunsIf : Option Error → List ℕ → List ℕ
 overrunsIf none l = l
 overrunsIf (some e) l = replicate maxNonterminals 0
+
+-- its finding, where its rules begin, its sets; for each rule its head and what it claims, and for each nonterminal what is reported of it
+pub record Claims : Type 0 where
+  pub finding : Finding
+  pub starts : List ℕ
+  pub firsts : List ℕ
+  pub follows : List ℕ
+  pub heads : List ℕ
+  pub sets : List ℕ
+  pub overruns : List ℕ
 
 abbrev pub claimsWith : Finding → List ℕ → List ℕ → List ℕ → List ℕ → List ℕ → List ℕ → Claims
 claimsWith f starts firsts follows heads sets told =

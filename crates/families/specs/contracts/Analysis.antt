@@ -37,6 +37,10 @@ abbrev pub families : Finding → List ℕ → List ℕ → List ℕ → List �
 families f starts firsts meets follows reaches =
     record { finding = f; starts = starts; firsts = firsts; meets = meets; follows = follows; reaches = reaches }
 
+-- the same with no follow sets yet
+abbrev pub unfollowed : Finding → List ℕ → List ℕ → List ℕ → List ℕ → Families
+unfollowed f starts firsts meets reaches = families f starts firsts meets (replicate maxNonterminals 0) reaches
+
 abbrev pub refusedBy : Error → Families
 refusedBy e =
     families (Refused e) (replicate maxRules 0) (replicate maxNonterminals 0) (replicate maxRules 0) (replicate maxNonterminals 0)

@@ -17,10 +17,14 @@ enum-known-outcome-2 : tie.Need-enum-known-outcome-2
 enum-known-outcome-2 c = c .match .keys2
 
 analyze-grammar-requires : tie.Need-analyze-grammar-requires
-analyze-grammar-requires c κs = sym (c .before .before .before .admit .ensures) ∙ c .before .outcome2 .given .1
+analyze-grammar-requires c κs =
+    let at-outcome = c .before .before .before .before .before in
+    sym (at-outcome .before .before .admit .ensures) ∙ at-outcome .outcome2 .given .1
 
 returns : tie.Need-returns
-returns c = c .refused .ensures ∙ firsts-faulty _ _ (c .before .before .before .before .admit .ensures) (c .before .before .outcome .given .1)
+returns c =
+    let at-outcome = c .before .before .before .before .before .before in
+    c .refused .ensures ∙ firsts-faulty _ _ (at-outcome .before .before .admit .ensures) (at-outcome .outcome .given .1)
 
 returns-2 : tie.Need-returns-2
 returns-2 c = c .analyze-grammar .ensures

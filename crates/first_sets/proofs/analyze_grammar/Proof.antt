@@ -10,14 +10,15 @@ rule-starts-requires : tie.Need-rule-starts-requires
 rule-starts-requires c κs = tt
 
 first-sets-requires : tie.Need-first-sets-requires
-first-sets-requires c κs = (c .before .before .before .before .pre, c .before .before .rule-starts .ensures, by-rules-zeros _)
+first-sets-requires c κs =
+    let at-rule-starts = c .before .before .before .before in
+    (at-rule-starts .before .before .before .pre, at-rule-starts .rule-starts .ensures, by-rules-zeros _)
 
 reached-requires : tie.Need-reached-requires
 reached-requires c κs =
     let firsts = c .before .before in
-    let at-rule-starts = firsts .before .before .before in
-    let start = at-rule-starts .before .before in
-    (start .pre, at-rule-starts .rule-starts .ensures, firsts .first-sets .ensures .0)
+    let at-rule-starts = firsts .before .before .before .before .before in
+    (at-rule-starts .before .before .before .pre, at-rule-starts .rule-starts .ensures, firsts .first-sets .ensures .0)
 
 finding-of-requires : tie.Need-finding-of-requires
 finding-of-requires c κs = tt
@@ -33,26 +34,28 @@ enum-told c = c .match .keys2
 
 returns : tie.Need-returns
 returns c =
-    let found = c .before .before .before .before in
+    let at-finding = c .before .before .before .before .before .before in
+    let found = at-finding .before .before in
     let reached = found .before .before .before in
     let firsts = reached .before .before .before in
-    let start = firsts .before .before .before .before .before in
+    let start = firsts .before .before .before .before .before .before .before .before in
     let lookahead = start .args .lookahead in
     let words = start .args .words .now in
     let finding = flaws-found lookahead words (start .pre) (firsts .first-sets .ensures .0) (reached .reached .ensures) (found .finding-of .ensures) in
-    c .refused .ensures ∙ firsts-flawed lookahead words finding (c .before .before .finding .given .1)
+    c .refused .ensures ∙ firsts-flawed lookahead words finding (at-finding .finding .given .1)
 
 returns-2 : tie.Need-returns-2
 returns-2 c =
     let found = c .before .before in
     let reached = found .before .before .before in
     let firsts = reached .before .before .before in
-    let start = firsts .before .before .before .before .before in
+    let at-rule-starts = firsts .before .before .before .before .before in
+    let start = at-rule-starts .before .before .before in
     let lookahead = start .args .lookahead in
     let words = start .args .words .now in
     let finding = flaws-found lookahead words (start .pre) (firsts .first-sets .ensures .0) (reached .reached .ensures) (found .finding-of .ensures) in
-    firsts-found lookahead words finding (c .enum-told .given .1) (firsts .before .before .before .rule-starts .ensures)
-    (firsts .first-sets .ensures .0) (firsts .first-sets .ensures .1) (reached .reached .ensures)
+    firsts-found lookahead words finding (c .enum-told .given .1) (at-rule-starts .rule-starts .ensures) (firsts .first-sets .ensures .0)
+    (firsts .first-sets .ensures .1) (reached .reached .ensures)
 
 pub analyze-grammar-spec : {M : Type 1} → statement M
 analyze-grammar-spec =

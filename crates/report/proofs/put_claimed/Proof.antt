@@ -16,7 +16,7 @@ same-length c = search needs
 returns : tie.Need-returns
 returns c =
     let at-put-gaps = c .before .before in
-    let at-analyze = at-put-gaps .before .before .before .before .before .before in
+    let at-analyze = at-put-gaps .before .before .before .before .before in
     gaps-put _ (at-analyze .analyze .ensures) (at-put-gaps .put-gaps .ensures)
 
 pub put-claimed-spec : {M : Type 1} → statement M

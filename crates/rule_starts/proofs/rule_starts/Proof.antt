@@ -13,7 +13,7 @@ abbrev μ-loop : tie.MeasureT-loop
 μ-loop words starts₀ rules₀ at₀ starts rules at = length words - at
 
 loop-holds : tie.Need-loop-holds Inv-loop μ-loop
-loop-holds c = noting-start (c .before .args .words .now)
+loop-holds c = noting-start (c .before .before .args .words .now)
 
 mul-decode : tie.Need-mul-decode Inv-loop μ-loop
 mul-decode c = omega arith

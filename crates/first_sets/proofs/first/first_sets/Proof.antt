@@ -15,14 +15,14 @@ use Rattle.first_sets.proofs.first.first_sets.Statement.{statement}
 use Rattle.first_sets.proofs.first.first_sets.Tie as tie
 
 abbrev Inv-loop : tie.InvT-loop
-Inv-loop words starts sizes meets₀ lookahead firsts₀ pass₀ meets firsts pass =
+Inv-loop words starts sizes firsts₀ meets₀ lookahead pass₀ firsts meets pass =
     (length firsts ≡ maxNonterminals) × Below (FirstNumbersClosed lookahead (sizes .terminals) (parse words .rules)) firsts × ByRules (sizes .rules) meets
 
 abbrev μ-loop : tie.MeasureT-loop
-μ-loop words starts sizes meets₀ lookahead firsts₀ pass₀ meets firsts pass = missing (full lookahead (sizes .terminals)) firsts
+μ-loop words starts sizes firsts₀ meets₀ lookahead pass₀ firsts meets pass = missing (full lookahead (sizes .terminals)) firsts
 
 loop-holds : tie.Need-loop-holds Inv-loop μ-loop
-loop-holds c = (refl, below-none _ maxNonterminals, c .before .pre .2)
+loop-holds c = (refl, below-none _ maxNonterminals, c .before .before .pre .2)
 
 goes-forward-requires : tie.Need-goes-forward-requires Inv-loop μ-loop
 goes-forward-requires c κs = tt
@@ -30,7 +30,7 @@ goes-forward-requires c κs = tt
 first-pass-requires : tie.Need-first-pass-requires Inv-loop μ-loop
 first-pass-requires c κs =
     let loop = c .before .before .before in
-    let start = loop .before .before in
+    let start = loop .before .before .before in
     let read = admitted-read (start .args .lookahead) (start .args .words .now) (start .pre .0) in
     (record { read = read; begins = start .pre .1; long = loop .loop .inv .0 }, loop .loop .inv .2)
 
@@ -41,7 +41,7 @@ loop-less : tie.Need-loop-less Inv-loop μ-loop
 loop-less c =
     let passed = c .before .before in
     let loop = passed .before .before .before .before in
-    let start = loop .before .before in
+    let start = loop .before .before .before in
     missing-falls (passed .first-pass .ensures .0) (loop .loop .inv .1) _ _
     (full-closed (start .args .lookahead) (start .args .sizes .terminals) (parse (start .args .words .now) .rules)) (λ n. omega arith)
     (c .before .if1 .taken)
@@ -56,7 +56,7 @@ loop-again c =
 returns : tie.Need-returns Inv-loop μ-loop
 returns c =
     let loop = c .before .before .before .before .before in
-    let start = loop .before .before in
+    let start = loop .before .before .before in
     let lookahead = start .args .lookahead in
     let words = start .args .words .now in
     let sizes = start .args .sizes in

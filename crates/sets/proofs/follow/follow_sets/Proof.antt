@@ -1,7 +1,8 @@
 -- The loop keeps the array under every closed family; the last pass shows it closed.
-use mathlib.Core.Path.{_≡_, refl, _∙_}
+use mathlib.Core.Path.{_≡_, ap, _∙_}
+use Prim.Native.Nat.{ℕ}
 use native.Mathlib.Omega.{arith}
-use lib.ListN.{length}
+use lib.ListN.{length, length-replicate}
 use Rattle.grammar.specs.Limits.{maxNonterminals}
 use Rattle.grammar.specs.Encoding.{parse}
 use Rattle.lookahead.specs.contracts.Lookaheads.{alphabet}
@@ -16,15 +17,16 @@ use Rattle.sets.proofs.follow.follow_sets.Statement.{statement}
 use Rattle.sets.proofs.follow.follow_sets.Tie as tie
 
 abbrev Inv-loop : tie.InvT-loop
-Inv-loop words starts sizes firsts lookahead follows₀ last₀ forward₀ follows last forward =
+Inv-loop words starts sizes firsts follows₀ lookahead last₀ forward₀ follows last forward =
     (length follows ≡ maxNonterminals) × Below (FollowNumbersClosed lookahead (family firsts) (parse words .rules)) follows
     × LastTurns lookahead (family firsts) words (sizes .rules) last follows
 
 abbrev μ-loop : tie.MeasureT-loop
-μ-loop words starts sizes firsts lookahead follows₀ last₀ forward₀ follows last forward = missing (full lookahead (alphabet lookahead)) follows
+μ-loop words starts sizes firsts follows₀ lookahead last₀ forward₀ follows last forward = missing (full lookahead (alphabet lookahead)) follows
 
 loop-holds : tie.Need-loop-holds Inv-loop μ-loop
-loop-holds c = (refl, below-none _ maxNonterminals, last-none _ _ _ _ _)
+loop-holds c =
+    let none = c .before .pre .3 in (ap length none ∙ length-replicate {A = ℕ} maxNonterminals 0, rw none (below-none _ maxNonterminals), last-none _ _ _ _ _)
 
 follow-pass-requires : tie.Need-follow-pass-requires Inv-loop μ-loop
 follow-pass-requires c κs =

@@ -14,53 +14,57 @@ use Rattle.table.proofs.rows.rows.Statement.{statement}
 use Rattle.table.proofs.rows.rows.Tie as tie
 
 abbrev Inv-loop : tie.InvT-loop
-Inv-loop heads sets lookahead terminals columns entries₀ rule₀ entries rule =
+Inv-loop heads sets entries₀ lookahead terminals columns rule₀ entries rule =
     (columns ≡ columnCount lookahead terminals)
     × (rule ≤ rule₀)
     × ((n : ℕ) → Headed heads rule₀ n → FilledRows (rowsOf lookahead n terminals) heads sets rule (numbersFrom rule (rule₀ - rule)) noRules entries)
 
 abbrev μ-loop : tie.MeasureT-loop
-μ-loop heads sets lookahead terminals columns entries₀ rule₀ entries rule = rule
+μ-loop heads sets entries₀ lookahead terminals columns rule₀ entries rule = rule
 
 count-requires : tie.Need-count-requires Inv-loop μ-loop
 count-requires c κs = tt
 
 loop-holds : tie.Need-loop-holds Inv-loop μ-loop
-loop-holds c = (c .count .ensures, omega arith, λ n h. rows-start _)
+loop-holds c = (c .before .count .ensures, omega arith, λ n h. rows-start _)
 
 sub-rule : tie.Need-sub-rule Inv-loop μ-loop
 sub-rule c = omega arith
 
 element-copy-out-row : tie.Need-element-copy-out-row Inv-loop μ-loop
-element-copy-out-row c = omega (arith, c .before .before .before .pre .headed .few)
+element-copy-out-row c = omega (arith, c .before .before .before .before .pre .headed .few)
 
 cast-row : tie.Need-cast-row Inv-loop μ-loop
 cast-row c =
     let loop = c .before .before in
-    let given = loop .before .before .pre in
+    let given = loop .before .before .before .pre in
     omega (arith, given .headed .own (loop .loop .rule - 1) (omega arith), given .headed .allowed)
 
 mul-row : tie.Need-mul-row Inv-loop μ-loop
 mul-row c =
     let loop = c .before .before in
-    let given = loop .before .before .pre in
+    let given = loop .before .before .before .pre in
     rw (loop .loop .inv .0) (omega (arith, row-room given (loop .loop .rule - 1) (omega arith)))
 
 mul-t15 : tie.Need-mul-t15 Inv-loop μ-loop
-mul-t15 c = omega (arith, c .before .before .before .before .pre .headed .few)
+mul-t15 c =
+    let start = c .before .before .before .before .before in
+    omega (arith, start .pre .headed .few)
 
 element-copy-out-t18 : tie.Need-element-copy-out-t18 Inv-loop μ-loop
-element-copy-out-t18 c = omega (arith, c .before .before .before .before .pre .headed .few)
+element-copy-out-t18 c =
+    let start = c .before .before .before .before .before in
+    omega (arith, start .pre .headed .few)
 
 cast-fill-row : tie.Need-cast-fill-row Inv-loop μ-loop
 cast-fill-row c =
-    let start = c .before .before .before .before .before .before in
+    let start = c .before .before .before .before .before .before .before in
     omega (arith, start .pre .headed .few)
 
 fill-row-requires : tie.Need-fill-row-requires Inv-loop μ-loop
 fill-row-requires c κs =
     let loop = c .before .before .before .before in
-    let given = loop .before .before .pre in
+    let given = loop .before .before .before .pre in
     let long = loop .loop .inv .2 _ (given .headed) .long ∙ length-replicate {A = ℕ} maxEntries noRule in
     (long, given .fewTerminals, rw (loop .loop .inv .0) (omega (arith, row-room given (loop .loop .rule - 1) (omega arith))))
 
@@ -79,7 +83,7 @@ loop-again c =
 
 returns : tie.Need-returns Inv-loop μ-loop
 returns c =
-    let given = c .before .before .before .pre in
+    let given = c .before .before .before .before .pre in
     rows-end _ _ (c .before .loop .inv .2 _ (given .headed)) (c .loop-test .left)
 
 pub rows-spec : {M : Type 1} → statement M

@@ -14,7 +14,7 @@ write-vertex-requires : tie.Need-write-vertex-requires
 write-vertex-requires c κs =
     let at-labels-of = c .before .before .before in
     let at-rule-starts = at-labels-of .before in
-    let start = at-rule-starts .before .before .before .before .before .before in
+    let start = at-rule-starts .before .before .before .before .before .before .before in
     tree-start (start .pre) (at-rule-starts .rule-starts .ensures) (at-labels-of .labels-of .ensures)
 
 same-length : tie.Need-same-length
@@ -25,7 +25,7 @@ returns c =
     let at-write-vertex = c .before .before in
     let at-labels-of = at-write-vertex .before .before .before .before in
     let at-rule-starts = at-labels-of .before in
-    let start = at-rule-starts .before .before .before .before .before .before in
+    let start = at-rule-starts .before .before .before .before .before .before .before in
     tree-done (start .pre) (at-rule-starts .rule-starts .ensures) (at-labels-of .labels-of .ensures) (at-write-vertex .write-vertex .ensures)
 
 pub write-tree-spec : {M : Type 1} → statement M
