@@ -25,10 +25,11 @@ use Rattle.families.specs.declared.Rest.{Rest}
 use Rattle.families.specs.contracts.Least.{SetFamily, at, lookup, Under}
 use Rattle.families.specs.contracts.Naming.{Indexed}
 use Rattle.families.specs.contracts.First.{symbolFirst, bodyFirst, ruleFirst, sets, restOf, noRest, closedMeet, insideWord}
-use Rattle.families.specs.contracts.Rules.{foldFromEnd, ruleFrom, Inside, RuleWords}
+use Rattle.families.specs.contracts.Rules.{foldFromEnd, ruleFrom, Inside, RuleWords, NegativesFrom}
 use Rattle.families.proofs.ArrayLookup.{symbol-lookup}
 use Rattle.families.proofs.HeadPasses.{Larger}
-use Rattle.families.proofs.Inner.{made-inside}
+use Rattle.families.proofs.Inner.{made-between}
+use Rattle.families.proofs.Signs.{no-positives-there, positive-words}
 
 -- larger families give larger first sets
 module _ (k : Lookahead) (F G : SetFamily) (u : Under F G) where
@@ -86,13 +87,15 @@ ruleGives k t F r = ruleFirst k t F (r .positives)
 pub rule-larger : (k : Lookahead) (t : ℕ) → Larger (ruleGives k t)
 rule-larger k t F G u r = rule-mono k F G u t (r .positives)
 
--- the words of a rule, from their end: what `rule_first` returns
-pub rule-given : {words : List ℕ} {start end : ℕ} → RuleWords words start end → (k : Lookahead) (t : ℕ) (l : List ℕ) {v : ℕ}
-    → v ≡ foldFromEnd (insideWord k (lookup l)) (noRest k t) (take (end - (start + 1)) (drop (start + 1) words)) .meet .bits
+-- the words of a rule's positives, from their end: what `rule_first` returns
+pub rule-given : {words : List ℕ} {start end n : ℕ} → RuleWords words start end → NegativesFrom words (start + 1) end n
+    → (k : Lookahead) (t : ℕ) (l : List ℕ) {v : ℕ}
+    → v ≡ foldFromEnd (insideWord k (lookup l)) (noRest k t) (take (n - (start + 1)) (drop (start + 1) words)) .meet .bits
     → v ≡ ruleGives k t (at l) (ruleFrom words start)
 unfolding ruleRead bodyFirst ruleFirst
-rule-given {words} {start} g k t l e =
+rule-given {words} {start} g f k t l e =
     e ∙ rw (
-      made-inside (insideWord k (lookup l)) (restOf k t (at l)) g (inside-word k t l) {x₀ = noRest k t} (rw (g .ended .body, g .ended .positives)),
+      made-between (insideWord k (lookup l)) (restOf k t (at l)) (inside-word k t l) start (positive-words g f) {x₀ = noRest k t}
+          (rw (positive-words g f .whole, no-positives-there g f)),
       drop-cons words start 0 (omega (arith, g .some, g .within)),
     )

@@ -5,7 +5,7 @@ use mathlib.Core.List.{List, [], _∷_, List·Memᴰ, List·Memᴰ·head, List·
 use mathlib.Core.Logic.{inl, inr}
 use mathlib.Core.Option.{Option, none, some}
 use Prim.Native.Nat.{ℕ, zero, suc, _+_, _-_, _≤_, _<_}
-use native.Mathlib.Decide.{decLt, ℕ-discrete}
+use native.Mathlib.Decide.{ℕ-discrete}
 use native.Mathlib.Omega.{arith}
 use denote.Enum.Declared.{tagOf}
 use types.Run.{OneOf, miss}
@@ -42,7 +42,8 @@ use Rattle.families.specs.contracts.Rules.{turnOf, Ended, Inside, RuleWo
 use Rattle.families.proofs.ArrayLookup.{symbol-lookup}
 use Rattle.families.proofs.Words.{parse-here}
 use Rattle.families.proofs.NamedNonterminals.{IndexedName, name-indexed}
-use Rattle.families.proofs.Inner.{Inner, word-inside, bodies-between}
+use Rattle.families.proofs.Inner.{Inner, word-inside}
+use Rattle.families.proofs.Signs.{positive-words}
 use Rattle.families.proofs.LeastByPasses.{passing-none, passing-on, passing-then, passing-add, added-in}
 use Rattle.families.proofs.RuleRanges.{rule-in, in-rules, rule-is}
 use Rattle.families.proofs.RulePasses.{Turns, turns-next, turns-end}
@@ -269,18 +270,6 @@ module _ {words : List ℕ} {from to : ℕ} (given : BodyWords words from to) wh
       → i ≤ from → FollowTurn k F u (parse (drop from words)) l₀ l grown
   follow-end {i = i} v h = let e : i ≡ from = omega (arith, v .low) in record { passing = v .passing; asked = rw e at (v .asked) }
 
--- which words begin a negative
-pub not-negative : (w : Word) → OneOf (0 ∷ 1 ∷ 2 ∷ 4 ∷ 5 ∷ 6 ∷ []) (tagOf the-type w) → w ≡ Negative → ⊥
-not-negative w h e = absurd (miss (0 ∷ 1 ∷ 2 ∷ 4 ∷ 5 ∷ 6 ∷ []) 3 tt (rw e at h))
-
-pub none-till : (words : List ℕ) {from : ℕ} (n : ℕ) → ((i : ℕ) → from ≤ i → i < n → decoded (getD words i 0) ≡ Negative → ⊥)
-    → (decoded (getD words n 0) ≡ Negative → ⊥) → (i : ℕ) → from ≤ i → i < n + 1 → decoded (getD words i 0) ≡ Negative → ⊥
-none-till words n before here i l h e = go (decLt i n)
-  where
-    go : Dec (i < n) → ⊥
-    go (yes k) = before i l k e
-    go (no k) = let q : i ≡ n = omega arith in here (rw q at e)
-
 -- a rule by its parts
 module _ {words : List ℕ} {start end : ℕ} (given : RuleWords words start end) where
   -- where what comes behind the bodies is as it was, nothing is to be added
@@ -289,20 +278,6 @@ module _ {words : List ℕ} {start end : ℕ} (given : RuleWords words start end
   follow-skipped {l = l} o e = record { passing = passing-none l tt; asked = rw e o }
 
   module _ {n : ℕ} (f : NegativesFrom words (start + 1) end n) where
-    no-body-there : parse (drop n words) .body ≡ []
-    unfolding onWord
-    no-body-there = go (decLt n end)
-      where
-        go : Dec (n < end) → parse (drop n words) .body ≡ []
-        go (yes h) = rw (parse-here words n (omega (arith, given .within)), f .here h)
-        go (no h) = let e : n ≡ end = omega (arith, f .high) in rw e (given .ended .body)
-
-    pub negative-words : BodyWords words n end
-    negative-words = bodies-between given (omega (arith, f .low)) (f .high) (omega arith) (given .ended .body)
-
-    pub positive-words : BodyWords words (start + 1) n
-    positive-words = bodies-between given (omega arith) (f .low) (f .high) no-body-there
-
     -- where they end nothing is asked
     pub none-asked : (k : Lookahead) (F : SetFamily) (v : ℕ) (L : SetFamily) → Asked k F v (parse (drop end words)) L
     none-asked k F v L = asked-none k F v (parse (drop end words)) L (given .ended)
@@ -313,7 +288,7 @@ module _ {words : List ℕ} {start end : ℕ} (given : RuleWords words start end
     follow-both g g′ s t told = let next : start + 1 ≡ suc start = omega arith in
         rw (← next) (record {
           passing = rw told (passing-on (λ G c. c) (λ G c. tt)
-              (passing-then g g′ (passing-on (λ G c. asked-behind positive-words n (f .low) (omega arith) c) (λ G c. c) (s .passing)) (t .passing)));
+              (passing-then g g′ (passing-on (λ G c. asked-behind (positive-words given f) n (f .low) (omega arith) c) (λ G c. c) (s .passing)) (t .passing)));
           asked = t .asked;
         })
 

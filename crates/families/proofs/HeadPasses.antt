@@ -1,5 +1,5 @@
 -- A pass of an analysis that joins into the set of each rule's head what the rule gives.
-use mathlib.Core.Path.{_≡_, _∙_}
+use mathlib.Core.Path.{_≡_, refl, _∙_}
 use mathlib.Core.Bool.{Bool, _||_}
 use mathlib.Core.List.{List, List·Memᴰ}
 use Prim.Native.Nat.{ℕ, _+_, _%_, _≤_, _<_}
@@ -8,15 +8,17 @@ use native.Mathlib.Numerals.{add-one}
 use native.Mathlib.Decide.{decLt}
 use native.Mathlib.Omega.{arith}
 use lib.Dec.{ltb}
-use lib.ListN.{length, getD}
+use lib.ListN.{length, getD, replicate}
 use borrow.Author.Tests.{lt-ltb, le-ltb}
 use Rattle.base.specs.Choice.{choose}
 use Rattle.word.specs.declared.Word.{Word}
 use Rattle.word.specs.Words.{decoded}
 use Rattle.grammar.specs.declared.reading.Sizes.{Sizes}
+use Rattle.grammar.specs.declared.reading.Reading.the-variants.{Read}
 use Rattle.grammar.specs.Limits.{maxNonterminals, maxRules}
 use Rattle.grammar.specs.Syntax.{Rule}
 use Rattle.grammar.specs.Encoding.{parse}
+use Rattle.grammar.specs.Reading.{reading}
 use Rattle.grammar.specs.contracts.Starts.{ruleStarts}
 use Rattle.grammar.specs.contracts.WellRead.{headOf}
 use Rattle.grammar.proofs.EachIndex.{read-whole}
@@ -42,6 +44,11 @@ Gives given words q F = Subset (given F (ruleNumbered words q)) (F (ruleNumbered
 -- larger families are given more
 abbrev pub Larger : (SetFamily → Rule → ℕ) → Type 0
 Larger given = (F G : SetFamily) → Under F G → (r : Rule) → Subset (given F r) (given G r)
+
+-- a pass over empty sets
+pub pass-first : {words starts : List ℕ} {z : Sizes} → reading words ≡ Read z → starts ≡ ruleStarts words
+    → PassGiven words starts z (replicate maxNonterminals 0)
+pass-first r b = record { read = r; begins = b; long = refl }
 
 module _ {words starts : List ℕ} {z : Sizes} {l₀ : List ℕ} (k : PassGiven words starts z l₀) where
   -- the head of the rule that has its turn

@@ -44,24 +44,27 @@ word-inside {words} k i h u {w} e =
       behind = rw (← e, n) at (read-place words (k .sizes) (k .read) (i - 1) b .behind);
     }
 
--- what is made of a rule's words from their end, step by step as the words are parsed
-module _ {X : Type 0} (f : Word → X → X) (made : Parsed → X) {words : List ℕ} {start end : ℕ} (k : RuleWords words start end)
+-- what is made of words of a rule from their end, step by step as the words are parsed
+module _ {X : Type 0} (f : Word → X → X) (made : Parsed → X) {words : List ℕ}
     (step : (w : Word) (p : Parsed) → Inside w → Indexed w → Behind w p → f w (made p) ≡ made (onWord w p)) where
-  between : BodyWords words (suc start) end
-  between = bodies-between k (omega arith) (omega (arith, k .some)) (omega arith) (k .ended .body)
-
-  made-from : {x₀ : X} → x₀ ≡ made (parse (drop end words)) → (n i : ℕ) → i + n ≡ end → start < i
+  made-from : {from to : ℕ} → BodyWords words from to → {x₀ : X} → x₀ ≡ made (parse (drop to words)) → (n i : ℕ) → i + n ≡ to → from ≤ i
       → foldFromEnd f x₀ (take n (drop i words)) ≡ made (parse (drop i words))
   unfolding foldFromEnd
-  made-from e zero i s h = let last : i ≡ end = omega arith in rw last e
-  made-from e (suc n) i s h =
+  made-from {to = to} k e zero i s h = let last : i ≡ to = omega arith in rw last e
+  made-from k e (suc n) i s h =
       let w = decoded (getD words i 0) in
       let front = drop-cons words i 0 (omega (arith, k .within)) in
       let here : suc i - 1 ≡ i = omega arith in
-      let m = word-inside between (suc i) (omega arith) (omega arith) {w = decoded (getD words i 0)} (rw here refl) in
-      rw (front, made-from e n (suc i) (omega arith) (omega arith))
+      let m = word-inside k (suc i) (omega arith) (omega arith) {w = decoded (getD words i 0)} (rw here refl) in
+      rw (front, made-from k e n (suc i) (omega arith) (omega arith))
       (step w (parse (drop (suc i) words)) (m .inside) (m .indexed) (m .behind) ∙ ap made (sym (rw (here, front) at (m .here))))
 
-  pub made-inside : {x₀ : X} → x₀ ≡ made (parse (drop end words))
+  pub made-between : (start : ℕ) {to : ℕ} → BodyWords words (start + 1) to → {x₀ : X} → x₀ ≡ made (parse (drop to words))
+      → foldFromEnd f x₀ (take (to - (start + 1)) (drop (start + 1) words)) ≡ made (parse (drop (suc start) words))
+  made-between start {to} k e =
+      let next : start + 1 ≡ suc start = omega arith in
+      made-from k e (to - (start + 1)) (start + 1) (omega (arith, k .some)) (omega arith) ∙ rw next refl
+
+  pub made-inside : {start end : ℕ} → RuleWords words start end → {x₀ : X} → x₀ ≡ made (parse (drop end words))
       → foldFromEnd f x₀ (take (end - (start + 1)) (drop (start + 1) words)) ≡ made (parse (drop (suc start) words))
-  made-inside e = let next : start + 1 ≡ suc start = omega arith in rw next (made-from e (end - suc start) (suc start) (omega (arith, k .some)) (omega arith))
+  made-inside {start} k e = made-between start (bodies-between k (omega arith) (omega (arith, k .some)) (omega arith) (k .ended .body)) e

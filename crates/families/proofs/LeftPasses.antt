@@ -87,7 +87,7 @@ pub rule-given : {words : List ℕ} {start end : ℕ} → RuleWords words start 
 unfolding ruleRead bodyLeft bodiesLeft
 rule-given {words} {start} g s e =
     e ∙ rw (
-      made-inside (insideLeft s) (leftOf s) g (inside-left s) {x₀ = lefts emptySet emptySet}
+      made-inside (insideLeft s) (leftOf s) (inside-left s) g {x₀ = lefts emptySet emptySet}
           (rw (g .ended .body, g .ended .positives, g .ended .negatives)),
       drop-cons words start 0 (omega (arith, g .some, g .within)),
     )

@@ -5,8 +5,10 @@ pub mod RulePasses
 pub mod ByRules
 pub mod RuleRanges
 pub mod Inner
+pub mod Signs
 pub mod HeadPasses
 pub mod OnePass
+pub mod PositiveEnds
 pub mod FirstPasses
 pub mod ArrayLookup
 pub mod FewTerminals

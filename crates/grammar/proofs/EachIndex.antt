@@ -20,12 +20,12 @@ use Rattle.grammar.specs.Reading.{inRange, stateAfter, fresh, stepped, s
 use Rattle.grammar.proofs.WellFormed.{faulty, Empty, Shape, reads, step-passed, onward, in-range-same}
 use Rattle.grammar.proofs.WellRead.{chosen, refused, both, within-limits}
 
--- behind a rule's begin no body stands open, and behind the end nothing does
+-- behind a rule's begin no body stands open, behind a negative's no positive comes, and behind the end nothing does
 abbrev pub Behind : Word → Parsed → Type 0
 Behind (RuleWord A) p = p .body ≡ []
 Behind End p = Empty p
 Behind Positive p = Unit {0}
-Behind Negative p = Unit {0}
+Behind Negative p = p .positives ≡ []
 Behind (Symbol X) p = Unit {0}
 Behind (Heading n t) p = Unit {0}
 Behind Invalid p = Unit {0}
@@ -39,7 +39,7 @@ behind-after : (w : Word) (s : State) (p : Parsed) → Shape (stateAfter w s) p 
 behind-after (RuleWord A) s p h = h .0
 behind-after End s p h = h
 behind-after Positive s p h = tt
-behind-after Negative s p h = tt
+behind-after Negative s p h = h
 behind-after (Symbol X) s p h = tt
 behind-after (Heading n t) s p h = tt
 behind-after Invalid s p h = tt

@@ -1,14 +1,16 @@
-// The rules of a grammar, one by one: in which order passes go over them, where each ends, and what it defines.
+// The rules of a grammar, one by one: in which order passes go over them, where each and its positives end, and what it defines.
 ghost use mathlib.Core.Path.{_≡_};
 ghost use mathlib.Core.Bool.{_||_};
 ghost use Prim.Native.Nat.{_+_};
 ghost use lib.Dec.{eqb, ltb};
+ghost use lib.ListN.{length};
 ghost use Rattle.base.specs.Choice.{choose};
 ghost use Rattle.grammar.specs.contracts.WellRead.{headOf};
-ghost use Rattle.families.specs.contracts.Rules.{turnOf, ruleEnd};
+ghost use Rattle.families.specs.contracts.Rules.{turnOf, ruleEnd, NegativesFrom};
 use grammar::limits::RULES;
 use grammar::reading::Sizes;
 use word::Word;
+use word::decode;
 
 // Passes are counted up to this one, and then on from the third.
 const LAST: u32 = 13;
@@ -62,4 +64,19 @@ pub fn head_of(word: Word) -> u32
         return 0;
     };
     head
+}
+
+// Where the first negative begins among words of a rule, or how many words there are where there is none.
+pub fn negatives_in(words: &[u32]) -> usize
+    ensures { λ r. ⌜ NegativesFrom (now (words .entry)) 0 (length (now (words .entry))) r ⌝ }
+{
+    let mut at = 0;
+    while at < words.len() {
+        let word = decode(words[at]);
+        if let Word::Negative = word {
+            return at;
+        }
+        at = at + 1;
+    }
+    at
 }

@@ -1,6 +1,6 @@
 // Follow sets: passes over the rules, in both directions by turns, until one adds nothing; the words of a rule from their end.
 ghost use mathlib.Core.Path.{_≡_};
-ghost use Prim.Native.Nat.{suc, _≤_, _<_};
+ghost use Prim.Native.Nat.{suc, _<_};
 ghost use lib.ListN.{length, drop, replicate};
 ghost use Rattle.grammar.specs.declared.reading.Reading.the-variants.{Read};
 ghost use Rattle.grammar.specs.Encoding.{parse, grammarOf};
@@ -11,7 +11,7 @@ ghost use Rattle.families.specs.contracts.Follow.{Asked, FollowTurn, LastTurns,
 ghost use Rattle.families.specs.contracts.Least.{at as family, AddsTo, Passes};
 ghost use Rattle.base.specs.Lists.{listed};
 ghost use Rattle.families.specs.contracts.Naming.{nonterminalOf, Indexed};
-ghost use Rattle.families.specs.contracts.Rules.{RuleWords, BodyWords, NegativesFrom, PassGiven};
+ghost use Rattle.families.specs.contracts.Rules.{RuleWords, BodyWords, PassGiven};
 ghost use Rattle.families.specs.Sets.{firstNumber, followNumber};
 use concatenation::concat;
 use families::SETS;
@@ -24,6 +24,7 @@ use rule_passes::family::add;
 use rule_passes::family::either;
 use rule_passes::rules::end_of;
 use rule_passes::rules::head_of;
+use rule_passes::rules::negatives_in;
 use rule_passes::rules::turn;
 use word::Symbol;
 use word::Word;
@@ -41,22 +42,6 @@ fn add_behind(word: Word, tail: LookaheadSet, follows: &mut [u64; SETS]) -> bool
         return false;
     };
     add(follows, number, tail)
-}
-
-// Where the first negative begins among words of a rule, or their end where there is none.
-fn negatives_of(words: &[u32], from: usize, end: usize) -> usize
-    requires { ⌜ (from ≤ end) × (end ≤ length (now words)) ⌝ }
-    ensures { λ r. ⌜ NegativesFrom (now (words .entry)) from end r ⌝ }
-{
-    let mut at = from;
-    while at < end {
-        let word = decode(words[at]);
-        if let Word::Negative = word {
-            return at;
-        }
-        at = at + 1;
-    }
-    at
 }
 
 // Behind each nonterminal of some bodies of a rule comes what is left of the body, then follow; whether a set has grown.
@@ -110,7 +95,7 @@ fn follow_rule(
         return false;
     }
     let inside = start + 1;
-    let negatives = negatives_of(words, inside, end);
+    let negatives = inside + negatives_in(&words[inside..end]);
     let by_negatives = follow_bodies(words, negatives, end, follow, firsts, follows, lookahead);
     let by_positives = follow_bodies(words, inside, negatives, follow, firsts, follows, lookahead);
     either(by_negatives, by_positives)

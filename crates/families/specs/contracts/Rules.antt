@@ -78,6 +78,10 @@ pub record NegativesFrom (words : List ℕ) (from end r : ℕ) : Type 0 where
   pub here : r < end → decoded (getD words r 0) ≡ Negative
   pub before : (i : ℕ) → from ≤ i → i < r → decoded (getD words i 0) ≡ Negative → ⊥
 
+-- for each of n rules, where its positives end: at its first negative, or at its end
+abbrev pub PositiveEnds : List ℕ → List ℕ → ℕ → List ℕ → Type 0
+PositiveEnds words starts n ends = (q : ℕ) → q < n → NegativesFrom words (getD starts q 0 + 1) (ruleEnd words starts n q) (getD ends q 0)
+
 -- an array of a number for each of n rules: zeros follow them
 pub record ByRules (n : ℕ) (l : List ℕ) : Type 0 where
   pub long : length l ≡ maxRules

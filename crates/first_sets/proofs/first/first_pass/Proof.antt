@@ -11,17 +11,17 @@ use Rattle.first_sets.proofs.first.first_pass.Statement.{statement}
 use Rattle.first_sets.proofs.first.first_pass.Tie as tie
 
 abbrev Inv-loop : tie.InvT-loop
-Inv-loop words starts sizes firsts₀ meets₀ forward lookahead terminals grown₀ passed₀ firsts meets grown passed =
+Inv-loop words starts ends sizes firsts₀ meets₀ forward lookahead terminals grown₀ passed₀ firsts meets grown passed =
     Turns (Gives (ruleGives lookahead terminals) words) (sizes .rules) forward firsts₀ firsts grown passed
     × Meeting lookahead terminals words (sizes .rules) forward firsts₀ meets grown passed
 
 abbrev μ-loop : tie.MeasureT-loop
-μ-loop words starts sizes firsts₀ meets₀ forward lookahead terminals grown₀ passed₀ firsts meets grown passed = sizes .rules - passed
+μ-loop words starts ends sizes firsts₀ meets₀ forward lookahead terminals grown₀ passed₀ firsts meets grown passed = sizes .rules - passed
 
 loop-holds : tie.Need-loop-holds Inv-loop μ-loop
 loop-holds c =
     let start = c .before in
-    (turns-start _ _ (start .args .forward) _, meeting-start _ _ _ (start .args .forward) _ (start .pre .1))
+    (turns-start _ _ (start .args .forward) _, meeting-start _ _ _ (start .args .forward) _ (start .pre .2))
 
 turn-requires : tie.Need-turn-requires Inv-loop μ-loop
 turn-requires c κs = tt
@@ -38,73 +38,91 @@ element-copy-out-start c =
     let start = test .before .before .before .before in
     omega (arith, its-turn (start .pre .0) (start .args .forward) (test .if1 .taken) (c .turn .ensures), well-read _ _ (start .pre .0 .read) .fewRules)
 
-end-of-requires : tie.Need-end-of-requires Inv-loop μ-loop
-end-of-requires c κs = tt
+mul-end : tie.Need-mul-end Inv-loop μ-loop
+mul-end c =
+    let turned = c .before in
+    let test = turned .before in
+    let start = test .before .before .before .before in
+    omega (arith, its-turn (start .pre .0) (start .args .forward) (test .if1 .taken) (turned .turn .ensures), well-read _ _ (start .pre .0 .read) .fewRules)
+
+element-copy-out-end : tie.Need-element-copy-out-end Inv-loop μ-loop
+element-copy-out-end c =
+    let turned = c .before in
+    let test = turned .before in
+    let start = test .before .before .before .before in
+    omega (arith, its-turn (start .pre .0) (start .args .forward) (test .if1 .taken) (turned .turn .ensures), well-read _ _ (start .pre .0 .read) .fewRules)
+
+cast-end : tie.Need-cast-end Inv-loop μ-loop
+cast-end c =
+    let turned = c .before .before in
+    let test = turned .before in
+    let start = test .before .before .before .before in
+    let rule = its-words (start .pre .0) (start .args .forward) (test .if1 .taken) (turned .turn .ensures) refl in
+    let positives = start .pre .1 _ (its-turn (start .pre .0) (start .args .forward) (test .if1 .taken) (turned .turn .ensures)) in
+    omega (arith, positives .high, rule .within, well-read _ _ (start .pre .0 .read) .short)
 
 add-inside : tie.Need-add-inside Inv-loop μ-loop
 add-inside c =
-    let end-of = c in
-    let turned = end-of .before .before in
+    let turned = c .before .before in
     let test = turned .before in
     let start = test .before .before .before .before in
-    let rule = its-words (start .pre .0) (start .args .forward) (test .if1 .taken) (turned .turn .ensures) (end-of .end-of .ensures) in
-    omega (arith, rule .some, rule .within)
+    let rule = its-words (start .pre .0) (start .args .forward) (test .if1 .taken) (turned .turn .ensures) refl in
+    let positives = start .pre .1 _ (its-turn (start .pre .0) (start .args .forward) (test .if1 .taken) (turned .turn .ensures)) in
+    omega (arith, positives .low, positives .high, rule .some, rule .within)
 
 mul-rule-first : tie.Need-mul-rule-first Inv-loop μ-loop
 mul-rule-first c =
-    let end-of = c in
-    let turned = end-of .before .before in
+    let turned = c .before .before in
     let test = turned .before in
     let start = test .before .before .before .before in
-    let rule = its-words (start .pre .0) (start .args .forward) (test .if1 .taken) (turned .turn .ensures) (end-of .end-of .ensures) in
-    omega (arith, rule .some, rule .within)
+    let rule = its-words (start .pre .0) (start .args .forward) (test .if1 .taken) (turned .turn .ensures) refl in
+    let positives = start .pre .1 _ (its-turn (start .pre .0) (start .args .forward) (test .if1 .taken) (turned .turn .ensures)) in
+    omega (arith, positives .low, positives .high, rule .some, rule .within)
 
 sub-rule-first : tie.Need-sub-rule-first Inv-loop μ-loop
 sub-rule-first c =
-    let end-of = c in
-    let turned = end-of .before .before in
+    let turned = c .before .before in
     let test = turned .before in
     let start = test .before .before .before .before in
-    let rule = its-words (start .pre .0) (start .args .forward) (test .if1 .taken) (turned .turn .ensures) (end-of .end-of .ensures) in
-    omega (arith, rule .some, rule .within)
+    let rule = its-words (start .pre .0) (start .args .forward) (test .if1 .taken) (turned .turn .ensures) refl in
+    let positives = start .pre .1 _ (its-turn (start .pre .0) (start .args .forward) (test .if1 .taken) (turned .turn .ensures)) in
+    omega (arith, positives .low, positives .high, rule .some, rule .within)
 
 part-rule-first-start : tie.Need-part-rule-first-start Inv-loop μ-loop
 part-rule-first-start c =
-    let end-of = c in
-    let turned = end-of .before .before in
+    let turned = c .before .before in
     let test = turned .before in
     let start = test .before .before .before .before in
-    let rule = its-words (start .pre .0) (start .args .forward) (test .if1 .taken) (turned .turn .ensures) (end-of .end-of .ensures) in
-    omega (arith, rule .some, rule .within)
+    let rule = its-words (start .pre .0) (start .args .forward) (test .if1 .taken) (turned .turn .ensures) refl in
+    let positives = start .pre .1 _ (its-turn (start .pre .0) (start .args .forward) (test .if1 .taken) (turned .turn .ensures)) in
+    omega (arith, positives .low, positives .high, rule .some, rule .within)
 
 part-rule-first-end : tie.Need-part-rule-first-end Inv-loop μ-loop
 part-rule-first-end c =
-    let end-of = c in
-    let turned = end-of .before .before in
+    let turned = c .before .before in
     let test = turned .before in
     let start = test .before .before .before .before in
-    let rule = its-words (start .pre .0) (start .args .forward) (test .if1 .taken) (turned .turn .ensures) (end-of .end-of .ensures) in
-    omega (arith, rule .some, rule .within)
+    let rule = its-words (start .pre .0) (start .args .forward) (test .if1 .taken) (turned .turn .ensures) refl in
+    let positives = start .pre .1 _ (its-turn (start .pre .0) (start .args .forward) (test .if1 .taken) (turned .turn .ensures)) in
+    omega (arith, positives .low, positives .high, rule .some, rule .within)
 
 rule-first-requires : tie.Need-rule-first-requires Inv-loop μ-loop
 rule-first-requires c κs = tt
 
 mul-decode : tie.Need-mul-decode Inv-loop μ-loop
 mul-decode c =
-    let end-of = c .before .before .before in
-    let turned = end-of .before .before in
+    let turned = c .before .before .before .before .before in
     let test = turned .before in
     let start = test .before .before .before .before in
-    let rule = its-words (start .pre .0) (start .args .forward) (test .if1 .taken) (turned .turn .ensures) (end-of .end-of .ensures) in
+    let rule = its-words (start .pre .0) (start .args .forward) (test .if1 .taken) (turned .turn .ensures) refl in
     omega (arith, rule .some, rule .within)
 
 shared-slice-read-decode : tie.Need-shared-slice-read-decode Inv-loop μ-loop
 shared-slice-read-decode c =
-    let end-of = c .before .before .before .before in
-    let turned = end-of .before .before in
+    let turned = c .before .before .before .before .before .before in
     let test = turned .before in
     let start = test .before .before .before .before in
-    let rule = its-words (start .pre .0) (start .args .forward) (test .if1 .taken) (turned .turn .ensures) (end-of .end-of .ensures) in
+    let rule = its-words (start .pre .0) (start .args .forward) (test .if1 .taken) (turned .turn .ensures) refl in
     omega (arith, rule .some, rule .within)
 
 decode-requires : tie.Need-decode-requires Inv-loop μ-loop
@@ -148,15 +166,16 @@ loop-again c =
     let head-of = c .before .before .before in
     let decode = head-of .before in
     let first = decode .before .before in
-    let end-of = first .before .before .before in
-    let turned = end-of .before .before in
+    let turned = first .before .before .before .before .before in
     let test = turned .before in
     let loop = test .before .before in
     let start = loop .before .before in
     let given = start .pre .0 in
     let forward = start .args .forward in
     let turns = loop .loop .inv .0 in
-    let meet = rule-given (its-words given forward (test .if1 .taken) (turned .turn .ensures) (end-of .end-of .ensures)) _ _ _ (first .rule-first .ensures) in (
+    let rule = its-words given forward (test .if1 .taken) (turned .turn .ensures) refl in
+    let positives = start .pre .1 _ (its-turn given forward (test .if1 .taken) (turned .turn .ensures)) in
+    let meet = rule-given rule positives _ _ _ (first .rule-first .ensures) in (
       visit given (ruleGives _ _) (rule-larger _ _) forward _ turns (test .if1 .taken) (turned .turn .ensures) meet
           (decode .decode .ensures) (head-of .head-of .ensures)
           (c .before .add .ensures) (c .either .ensures),
@@ -183,7 +202,9 @@ first-pass-spec =
     turn-requires
     mul-start
     element-copy-out-start
-    end-of-requires
+    mul-end
+    element-copy-out-end
+    cast-end
     add-inside
     mul-rule-first
     sub-rule-first

@@ -15,24 +15,30 @@ use Rattle.first_sets.proofs.first.first_sets.Statement.{statement}
 use Rattle.first_sets.proofs.first.first_sets.Tie as tie
 
 abbrev Inv-loop : tie.InvT-loop
-Inv-loop words starts sizes firsts₀ meets₀ lookahead pass₀ firsts meets pass =
+Inv-loop words starts sizes firsts₀ meets₀ lookahead ends pass₀ firsts meets pass =
     (length firsts ≡ maxNonterminals) × Below (FirstNumbersClosed lookahead (sizes .terminals) (parse words .rules)) firsts × ByRules (sizes .rules) meets
 
 abbrev μ-loop : tie.MeasureT-loop
-μ-loop words starts sizes firsts₀ meets₀ lookahead pass₀ firsts meets pass = missing (full lookahead (sizes .terminals)) firsts
+μ-loop words starts sizes firsts₀ meets₀ lookahead ends pass₀ firsts meets pass = missing (full lookahead (sizes .terminals)) firsts
+
+positive-ends-requires : tie.Need-positive-ends-requires Inv-loop μ-loop
+positive-ends-requires c κs =
+    let start = c .before .before in
+    (admitted-read (start .args .lookahead) (start .args .words .now) (start .pre .0), start .pre .1)
 
 loop-holds : tie.Need-loop-holds Inv-loop μ-loop
-loop-holds c = (refl, below-none _ maxNonterminals, c .before .before .pre .2)
+loop-holds c = let start = c .before .before .before in (refl, below-none _ maxNonterminals, start .pre .2)
 
 goes-forward-requires : tie.Need-goes-forward-requires Inv-loop μ-loop
 goes-forward-requires c κs = tt
 
 first-pass-requires : tie.Need-first-pass-requires Inv-loop μ-loop
 first-pass-requires c κs =
-    let loop = c .before .before .before in
-    let start = loop .before .before .before in
+    let loop = c .before .before .before .before in
+    let found = loop .before in
+    let start = found .before .before .before in
     let read = admitted-read (start .args .lookahead) (start .args .words .now) (start .pre .0) in
-    (record { read = read; begins = start .pre .1; long = loop .loop .inv .0 }, loop .loop .inv .2)
+    (record { read = read; begins = start .pre .1; long = loop .loop .inv .0 }, found .positive-ends .ensures, loop .loop .inv .2)
 
 next-pass-requires : tie.Need-next-pass-requires Inv-loop μ-loop
 next-pass-requires c κs = tt
@@ -40,8 +46,8 @@ next-pass-requires c κs = tt
 loop-less : tie.Need-loop-less Inv-loop μ-loop
 loop-less c =
     let passed = c .before .before in
-    let loop = passed .before .before .before .before in
-    let start = loop .before .before .before in
+    let loop = passed .before .before .before .before .before in
+    let start = loop .before .before .before .before in
     missing-falls (passed .first-pass .ensures .0) (loop .loop .inv .1) _ _
     (full-closed (start .args .lookahead) (start .args .sizes .terminals) (parse (start .args .words .now) .rules)) (λ n. omega arith)
     (c .before .if1 .taken)
@@ -50,13 +56,14 @@ loop-again : tie.Need-loop-again Inv-loop μ-loop
 loop-again c =
     let passed = c .before .before in
     let pass = passed .first-pass .ensures in
-    let inv = passed .before .before .before .before .loop .inv in
+    let loop = passed .before .before .before .before .before in
+    let inv = loop .loop .inv in
     (pass .0 .long ∙ inv .0, below-pass (pass .0) (inv .1), pass .1 .room)
 
 returns : tie.Need-returns Inv-loop μ-loop
 returns c =
-    let loop = c .before .before .before .before .before in
-    let start = loop .before .before .before in
+    let loop = c .before .before .before .before .before .before in
+    let start = loop .before .before .before .before in
     let lookahead = start .args .lookahead in
     let words = start .args .words .now in
     let sizes = start .args .sizes in
@@ -71,6 +78,7 @@ first-sets-spec =
     (tie.spec
     Inv-loop
     μ-loop
+    positive-ends-requires
     loop-holds
     goes-forward-requires
     first-pass-requires

@@ -1,20 +1,12 @@
 -- The loop keeps `Collected`: the rules before have given what is at their left.
-use mathlib.Core.Path.{_≡_, refl}
+use mathlib.Core.Path.{refl}
 use mathlib.Core.Bool.{true}
-use mathlib.Core.List.{List}
-use Prim.Native.Nat.{ℕ, _-_}
+use Prim.Native.Nat.{_-_}
 use native.Mathlib.Omega.{arith}
-use lib.ListN.{replicate}
-use Rattle.grammar.specs.declared.reading.Sizes.{Sizes}
-use Rattle.grammar.specs.declared.reading.Reading.the-variants.{Read}
-use Rattle.grammar.specs.Limits.{maxNonterminals}
-use Rattle.grammar.specs.Reading.{reading}
-use Rattle.grammar.specs.contracts.Starts.{ruleStarts}
 use Rattle.grammar.proofs.WellRead.{well-read}
 use Rattle.families.specs.contracts.Least.{at as family}
 use Rattle.families.specs.contracts.Left.{emptyIn, ruleLeft}
-use Rattle.families.specs.contracts.Rules.{PassGiven}
-use Rattle.families.proofs.HeadPasses.{its-words}
+use Rattle.families.proofs.HeadPasses.{pass-first, its-words}
 use Rattle.families.proofs.LeftPasses.{rule-given}
 use Rattle.families.proofs.OnePass.{Collected, collected-none, collected-next, collected-all}
 use Rattle.first_sets.proofs.left.at_left.Statement.{statement}
@@ -25,10 +17,6 @@ Inv-loop words starts sizes firsts lookahead sets₀ rule₀ sets rule = Collect
 
 abbrev μ-loop : tie.MeasureT-loop
 μ-loop words starts sizes firsts lookahead sets₀ rule₀ sets rule = sizes .rules - rule
-
--- what a pass needs
-pass : {words starts : List ℕ} {z : Sizes} → (reading words ≡ Read z) × (starts ≡ ruleStarts words) → PassGiven words starts z (replicate maxNonterminals 0)
-pass g = record { read = g .0; begins = g .1; long = refl }
 
 loop-holds : tie.Need-loop-holds Inv-loop μ-loop
 loop-holds c = collected-none _ _
@@ -50,35 +38,35 @@ add-inside : tie.Need-add-inside Inv-loop μ-loop
 add-inside c =
     let test = c .before .before in
     let start = test .before .before .before .before in
-    let rule = its-words (pass (start .pre)) true (test .if1 .taken) refl (c .end-of .ensures) in
+    let rule = its-words (pass-first (start .pre .0) (start .pre .1)) true (test .if1 .taken) refl (c .end-of .ensures) in
     omega (arith, rule .some, rule .within)
 
 mul-rule-left : tie.Need-mul-rule-left Inv-loop μ-loop
 mul-rule-left c =
     let test = c .before .before in
     let start = test .before .before .before .before in
-    let rule = its-words (pass (start .pre)) true (test .if1 .taken) refl (c .end-of .ensures) in
+    let rule = its-words (pass-first (start .pre .0) (start .pre .1)) true (test .if1 .taken) refl (c .end-of .ensures) in
     omega (arith, rule .some, rule .within)
 
 sub-rule-left : tie.Need-sub-rule-left Inv-loop μ-loop
 sub-rule-left c =
     let test = c .before .before in
     let start = test .before .before .before .before in
-    let rule = its-words (pass (start .pre)) true (test .if1 .taken) refl (c .end-of .ensures) in
+    let rule = its-words (pass-first (start .pre .0) (start .pre .1)) true (test .if1 .taken) refl (c .end-of .ensures) in
     omega (arith, rule .some, rule .within)
 
 part-rule-left-start : tie.Need-part-rule-left-start Inv-loop μ-loop
 part-rule-left-start c =
     let test = c .before .before in
     let start = test .before .before .before .before in
-    let rule = its-words (pass (start .pre)) true (test .if1 .taken) refl (c .end-of .ensures) in
+    let rule = its-words (pass-first (start .pre .0) (start .pre .1)) true (test .if1 .taken) refl (c .end-of .ensures) in
     omega (arith, rule .some, rule .within)
 
 part-rule-left-end : tie.Need-part-rule-left-end Inv-loop μ-loop
 part-rule-left-end c =
     let test = c .before .before in
     let start = test .before .before .before .before in
-    let rule = its-words (pass (start .pre)) true (test .if1 .taken) refl (c .end-of .ensures) in
+    let rule = its-words (pass-first (start .pre .0) (start .pre .1)) true (test .if1 .taken) refl (c .end-of .ensures) in
     omega (arith, rule .some, rule .within)
 
 rule-left-requires : tie.Need-rule-left-requires Inv-loop μ-loop
@@ -89,7 +77,7 @@ mul-decode c =
     let end-of = c .before .before in
     let test = end-of .before .before in
     let start = test .before .before .before .before in
-    let rule = its-words (pass (start .pre)) true (test .if1 .taken) refl (end-of .end-of .ensures) in
+    let rule = its-words (pass-first (start .pre .0) (start .pre .1)) true (test .if1 .taken) refl (end-of .end-of .ensures) in
     omega (arith, rule .some, rule .within)
 
 shared-slice-read-decode : tie.Need-shared-slice-read-decode Inv-loop μ-loop
@@ -97,7 +85,7 @@ shared-slice-read-decode c =
     let end-of = c .before .before .before in
     let test = end-of .before .before in
     let start = test .before .before .before .before in
-    let rule = its-words (pass (start .pre)) true (test .if1 .taken) refl (end-of .end-of .ensures) in
+    let rule = its-words (pass-first (start .pre .0) (start .pre .1)) true (test .if1 .taken) refl (end-of .end-of .ensures) in
     omega (arith, rule .some, rule .within)
 
 decode-requires : tie.Need-decode-requires Inv-loop μ-loop
@@ -128,15 +116,16 @@ loop-again c =
     let test = end-of .before .before in
     let loop = test .before .before in
     let start = loop .before .before in
-    let words = its-words (pass (start .pre)) true (test .if1 .taken) refl (end-of .end-of .ensures) in
-    collected-next (pass (start .pre)) (ruleLeft _) (loop .loop .inv) (test .if1 .taken) (rule-given words _ (left .rule-left .ensures))
+    let words = its-words (pass-first (start .pre .0) (start .pre .1)) true (test .if1 .taken) refl (end-of .end-of .ensures) in
+    let left-here = rule-given words _ (left .rule-left .ensures) in
+    collected-next (pass-first (start .pre .0) (start .pre .1)) (ruleLeft _) (loop .loop .inv) (test .if1 .taken) left-here
     (decode .decode .ensures) (head-of .head-of .ensures) (c .add-nonterminals .ensures)
 
 returns : tie.Need-returns Inv-loop μ-loop
 returns c =
     let loop = c .before .before in
     let start = loop .before .before in
-    (loop .loop .inv .long, collected-all (pass (start .pre)) (ruleLeft _) (loop .loop .inv) (c .if1 .left))
+    (loop .loop .inv .long, collected-all (pass-first (start .pre .0) (start .pre .1)) (ruleLeft _) (loop .loop .inv) (c .if1 .left))
 
 pub at-left-spec : {M : Type 1} → statement M
 at-left-spec =
