@@ -247,52 +247,89 @@ pub fn long_chain() -> Draft {
     draft.reversed()
 }
 
-/// Leads that go up a chain one after the other, with so many terminals of lookahead. Each of the 17 nonterminals of the chain has one rule, its body
-/// filled up, but the last, which has a rule for each lead: terminals, or pairs of them. Its rule of lead j counts only once the j-th nonterminal
-/// behind the chain has a first set, and that takes lead j - 1 to have come all the way to the start. The rules of the chain come first, from the start's
-/// on; then those of the last; then the others. With two tokens the bodies are filled up with a nonterminal that is one terminal, since a set with
-/// a terminal alone takes longest there; with one token the terminal itself does.
-fn rising_leads(leads: usize) -> (Draft, usize) {
-    let alone = leads - 1;
-    let links = MAX_NONTERMINALS / 2 + 1;
-    let gates = MAX_NONTERMINALS - links - alone;
-    let terminals = if leads == 1 { gates + 1 } else { MAX_TERMINALS_OF_TWO };
-    let gate = |j: usize| links + j - 1;
-    let lead = |j: usize| lead_of(j, leads, terminals);
-    let mut rules: Vec<Rule> = (1..links).map(|b| rule(b - 1, &[&[Nonterminal(b as u8)]], &[])).collect();
-    rules.push(rule(links - 1, &[&lead(0)], &[]));
-    for j in 1..=gates {
-        rules.push(rule(links - 1, &[&[lead(j), vec![Nonterminal(gate(j) as u8)]].concat()], &[]));
-    }
-    for j in 1..=gates {
-        rules.push(rule(gate(j), &[&[Nonterminal(0)], &lead(j - 1)], &[]));
-    }
-    let mut filler = Terminal(0);
-    if alone == 1 {
-        rules.push(rule(MAX_NONTERMINALS - 1, &[&[filler]], &[]));
-        filler = Nonterminal((MAX_NONTERMINALS - 1) as u8);
-    }
-    (padded(Draft { nonterminals: MAX_NONTERMINALS, terminals, rules }, links - 1, filler, MAX_WORDS), links - 1)
+/// Rules in which leads go up a chain one after the other: those of the chain, and the others.
+struct RisingLeads {
+    terminals: usize,
+    chain: Vec<Rule>,
+    others: Vec<Rule>,
 }
 
-/// The slowest to check that was found for the twin, and with two terminals of lookahead for the library. Passes from the first rule to the last take
-/// a lead up by one nonterminal: all of the twin's, and eleven of twelve of the library's.
-pub fn slowest(leads: usize) -> Draft {
-    rising_leads(leads).0
+impl RisingLeads {
+    /// With so many terminals of lookahead and so many nonterminals in the chain. Each of these has one rule, but the last, which has a rule for each lead:
+    /// terminals, or pairs of them. Its rule of lead j counts only once the j-th nonterminal behind the chain has a first set, and that takes lead j - 1
+    /// to have come all the way to the start.
+    fn new(lookahead: usize, links: usize) -> RisingLeads {
+        let gates = MAX_NONTERMINALS - links - (lookahead - 1);
+        let terminals = if lookahead == 1 { gates + 1 } else { MAX_TERMINALS_OF_TWO };
+        let gate = |j: usize| links + j - 1;
+        let lead = |j: usize| lead_of(j, lookahead, terminals);
+        let chain = (1..links).map(|b| rule(b - 1, &[&[Nonterminal(b as u8)]], &[])).collect();
+        let mut others = vec![rule(links - 1, &[&lead(0)], &[])];
+        others.extend((1..=gates).map(|j| rule(links - 1, &[&[lead(j), vec![Nonterminal(gate(j) as u8)]].concat()], &[])));
+        others.extend((1..=gates).map(|j| rule(gate(j), &[&[Nonterminal(0)], &lead(j - 1)], &[])));
+        if lookahead == 2 {
+            others.push(rule(MAX_NONTERMINALS - 1, &[&[Terminal(0)]], &[]));
+        }
+        RisingLeads { terminals, chain, others }
+    }
+
+    /// The chain's bodies filled up with what takes longest: a terminal, or with two terminals of lookahead a nonterminal that is one.
+    fn filled(self, lookahead: usize) -> RisingLeads {
+        let filler = if lookahead == 1 { Terminal(0) } else { Nonterminal((MAX_NONTERMINALS - 1) as u8) };
+        self.filled_with(filler)
+    }
+
+    fn filled_with(self, filler: Symbol) -> RisingLeads {
+        let RisingLeads { terminals, mut chain, mut others } = self;
+        let links = chain.len();
+        chain.append(&mut others);
+        let mut draft = padded(Draft { nonterminals: MAX_NONTERMINALS, terminals, rules: chain }, links, filler, MAX_WORDS);
+        let others = draft.rules.split_off(links);
+        RisingLeads { terminals, chain: draft.rules, others }
+    }
+
+    /// The chain from the start on, and the others behind it.
+    fn in_order(mut self) -> Draft {
+        self.chain.append(&mut self.others);
+        Draft { nonterminals: MAX_NONTERMINALS, terminals: self.terminals, rules: self.chain }
+    }
+
+    /// The chain from the start on, behind the others.
+    fn chain_last(mut self) -> Draft {
+        self.others.append(&mut self.chain);
+        Draft { nonterminals: MAX_NONTERMINALS, terminals: self.terminals, rules: self.others }
+    }
+
+    /// The rules of the chain at either end by turns: a pass takes a lead up by at most two nonterminals, whichever way it goes.
+    fn zigzag(self) -> Draft {
+        let (mut front, mut back) = (Vec::new(), Vec::new());
+        for (at, link) in self.chain.into_iter().rev().enumerate() {
+            if at % 2 == 0 { &mut back } else { &mut front }.push(link);
+        }
+        let rules = front.into_iter().chain(self.others).chain(back.into_iter().rev()).collect();
+        Draft { nonterminals: MAX_NONTERMINALS, terminals: self.terminals, rules }
+    }
 }
 
-/// The same with the rules of the chain at either end by turns: a pass takes a lead up by at most two nonterminals, whichever way it goes. With one
-/// terminal of lookahead the slowest that was found for the library. Filled up with nonterminal 1 it is refused, and the library is further behind
-/// the twin, by its passes for left reach: no row has that.
-pub fn slowest_zigzag(leads: usize) -> Draft {
-    let (mut draft, links) = rising_leads(leads);
-    let others = draft.rules.split_off(links);
-    let (mut front, mut back) = (Vec::new(), Vec::new());
-    for (at, link) in draft.rules.drain(..).rev().enumerate() {
-        if at % 2 == 0 { &mut back } else { &mut front }.push(link);
-    }
-    draft.rules = front.into_iter().chain(others).chain(back.into_iter().rev()).collect();
-    draft
+/// The slowest to check that was found. A lead takes eleven of the library's passes to come up the chain, just those that go from the first rule on; the
+/// twelfth, from the last rule on, comes when it has arrived.
+pub fn slowest(lookahead: usize) -> Draft {
+    RisingLeads::new(lookahead, 11).filled(lookahead).chain_last()
+}
+
+/// The slowest to check that was found for the twin: its passes take a lead up by one nonterminal.
+pub fn slowest_of_the_twin(lookahead: usize) -> Draft {
+    RisingLeads::new(lookahead, 17).filled(lookahead).in_order()
+}
+
+/// The slowest to check that was found for passes that go in both directions by turns.
+pub fn slowest_zigzag(lookahead: usize) -> Draft {
+    RisingLeads::new(lookahead, 17).filled(lookahead).zigzag()
+}
+
+/// Filled up with nonterminal 1, which must then have a first set before any has one: refused.
+pub fn refused_zigzag(lookahead: usize) -> Draft {
+    RisingLeads::new(lookahead, 17).filled_with(Nonterminal(1)).zigzag()
 }
 
 /// The slowest to search that was found. Two letters; at each of 13 places of each log the start runs a rule of 1,974 words, each of them, but for the
