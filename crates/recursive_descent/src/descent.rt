@@ -3,8 +3,8 @@ ghost use mathlib.Core.Path.{_≡_};
 ghost use Prim.Native.Nat.{_+_};
 ghost use Rattle.rule.specs.contracts.Rule.{openingBy};
 ghost use Rattle.descent_arrays.specs.contracts.Arrays.{rowAt, endAt, firstAt, matchesAt};
-ghost use Rattle.recursive_descent.specs.contracts.Descent.{TokenGiven, EntryGiven, EndGiven, ChosenGiven, CallRequires, CallEnsures, RunRequires};
-ghost use Rattle.recursive_descent.specs.contracts.Descent.{RunEnsures};
+ghost use Rattle.recursive_descent_promises.specs.contracts.Descent.{TokenGiven, EntryGiven, EndGiven, ChosenGiven, CallRequires, CallEnsures, RunRequires};
+ghost use Rattle.recursive_descent_promises.specs.contracts.Descent.{RunEnsures};
 use descent_arrays::CHOICE_COLUMNS;
 use descent_arrays::CHOICES;
 use descent_arrays::COLUMN_WEIGHT;
@@ -18,6 +18,7 @@ use descent_steps::step_at;
 use grammar::codes::FAILED;
 use grammar::codes::UNCALLED;
 use grammar::limits::PLACES;
+use recursive_descent_promises::Run;
 use rule::Agreement;
 use rule::Outcome;
 use rule::Sign;
@@ -25,12 +26,6 @@ use rule::body_end;
 use rule::goes_on;
 use rule::opening;
 use rule::sign_at;
-
-// How a body ran, as the entry of its outcome, and the index where it stopped.
-pub struct Run {
-    pub end: u16,
-    pub at: usize,
-}
 
 // What the column of a lookahead string weighs in a token's word.
 const WEIGHT: usize = COLUMN_WEIGHT as usize;

@@ -1,8 +1,8 @@
 // Judging an input by a grammar that has passed.
 ghost use Rattle.event.specs.Events.{inputOf};
 ghost use Rattle.recognizer_promises.specs.contracts.Judging.{Descended};
-ghost use Rattle.recursive_descent.specs.contracts.Descent.{StartRequires, StartEnsures};
-ghost use Rattle.recursive_descent.specs.contracts.Judging.{JudgeGiven};
+ghost use Rattle.recursive_descent_promises.specs.contracts.Descent.{StartRequires, StartEnsures};
+ghost use Rattle.recursive_descent_promises.specs.contracts.Judging.{JudgeGiven};
 use super::descent::call;
 use answer::Answer;
 use descent_arrays::CHOICES;

@@ -5,7 +5,7 @@ ghost use Rattle.grammar.specs.Encoding.{grammarOf};
 ghost use Rattle.inputs.specs.contracts.Inputs.{inputAt};
 ghost use Rattle.recognizer_promises.specs.CostliestInput.{callsOn};
 ghost use Rattle.recognizer_promises.specs.contracts.Search.{SearchesWords};
-ghost use Rattle.recursive_descent.specs.contracts.Search.{TrialGiven, NumberGiven, CostliestJudged};
+ghost use Rattle.recursive_descent_promises.specs.contracts.Search.{TrialGiven, NumberGiven, CostliestJudged};
 use super::judging::descend;
 use super::judging::judge_chosen;
 use answer::Answer;

@@ -39,8 +39,8 @@ use Rattle.semantics.specs.contracts.ComesTo.{measure}
 use Rattle.semantics.specs.Calls.{sameCall}
 use Rattle.semantics.proofs.Theorems.{theorems}
 use Rattle.families.proofs.Words.{parse-over}
-use Rattle.recursive_descent.proofs.Bodies.{parse-here, symbol-reads}
-use Rattle.recursive_descent.proofs.Starting.{begin-next}
+use Rattle.recursive_descent_promises.proofs.Bodies.{parse-here, symbol-reads}
+use Rattle.recursive_descent_promises.proofs.Starting.{begin-next}
 use Rattle.tree.specs.Writing.{ruleNumberOf, vertexAt, below, each, visit, InTree, more, start as root-in}
 use Rattle.tree.specs.Theorems.{Told}
 use Rattle.tree.proofs.Words.{told}

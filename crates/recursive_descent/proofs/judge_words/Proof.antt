@@ -3,7 +3,7 @@ use mathlib.Core.Path.{refl, sym}
 use Rattle.event.specs.Events.{inputOf}
 use lib.Seq.{length-take-le}
 use Rattle.recognizer_promises.proofs.Judged.{words-found-refused, passed-given, words-judged}
-use Rattle.recursive_descent.proofs.Deciding.{needed-fits, judge-given, front-judged}
+use Rattle.recursive_descent_promises.proofs.Deciding.{needed-fits, judge-given, front-judged}
 use borrow.Author.Needs.{needs}
 use Rattle.recursive_descent.proofs.judge_words.Statement.{statement}
 use Rattle.recursive_descent.proofs.judge_words.Tie as tie

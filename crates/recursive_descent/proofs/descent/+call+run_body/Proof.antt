@@ -9,14 +9,14 @@ use lib.ListN.{length, length-set}
 use borrow.Author.Tests.{not-true, not-false}
 use Rattle.semantics.specs.Choices.{Choice}
 use Rattle.descent_arrays.specs.contracts.Arrays.{heldTokens}
-use Rattle.recursive_descent.specs.contracts.Descent.{CallGiven, RunGiven}
-use Rattle.recursive_descent.proofs.Choosing.{token-given, entry-given, chosen-given}
-use Rattle.recursive_descent.proofs.Running.{level, Running, running-as, running-start, running-done, running-terminal, running-mismatch}
-use Rattle.recursive_descent.proofs.Running.{terminal-within, nonterminal-within, running-given, running-small, running-falls}
-use Rattle.recursive_descent.proofs.Running.{running-call, running-failed}
-use Rattle.recursive_descent.proofs.Calling.{InRule, rule-conjunct, rule-run, rule-turn, rule-done}
-use Rattle.recursive_descent.proofs.Storing.{memo-same, index-low, call-known, call-stored}
-use Rattle.recursive_descent.proofs.Starting.{no-rule, rule-chosen, start-rule, select-none, none-fails, encode-failed}
+use Rattle.recursive_descent_promises.specs.contracts.Descent.{CallGiven, RunGiven}
+use Rattle.recursive_descent_promises.proofs.Choosing.{token-given, entry-given, chosen-given}
+use Rattle.recursive_descent_promises.proofs.Running.{level, Running, running-as, running-start, running-done, running-terminal, running-mismatch}
+use Rattle.recursive_descent_promises.proofs.Running.{terminal-within, nonterminal-within, running-given, running-small, running-falls}
+use Rattle.recursive_descent_promises.proofs.Running.{running-call, running-failed}
+use Rattle.recursive_descent_promises.proofs.Calling.{InRule, rule-conjunct, rule-run, rule-turn, rule-done}
+use Rattle.recursive_descent_promises.proofs.Storing.{memo-same, index-low, call-known, call-stored}
+use Rattle.recursive_descent_promises.proofs.Starting.{no-rule, rule-chosen, start-rule, select-none, none-fails, encode-failed}
 use borrow.Fn.Kinds.{In}
 use borrow.Fn.PlainCycle.{Measures, is, falls, and}
 use Rattle.recursive_descent.proofs.descent.call.Reads as call

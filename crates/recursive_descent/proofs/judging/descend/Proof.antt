@@ -1,6 +1,6 @@
 -- The start is called in a blank memo table.
 use borrow.Author.Needs.{needs}
-use Rattle.recursive_descent.proofs.Descending.{start-call, start-done}
+use Rattle.recursive_descent_promises.proofs.Descending.{start-call, start-done}
 use Rattle.recursive_descent.proofs.judging.descend.Statement.{statement}
 use Rattle.recursive_descent.proofs.judging.descend.Tie as tie
 

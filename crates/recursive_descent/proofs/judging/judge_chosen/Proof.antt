@@ -2,7 +2,7 @@
 use native.Mathlib.Omega.{arith}
 use Rattle.event.proofs.Inputs.{input-length}
 use borrow.Author.Needs.{needs}
-use Rattle.recursive_descent.proofs.Deciding.{start-given, judged}
+use Rattle.recursive_descent_promises.proofs.Deciding.{start-given, judged}
 use Rattle.recursive_descent.proofs.judging.judge_chosen.Statement.{statement}
 use Rattle.recursive_descent.proofs.judging.judge_chosen.Tie as tie
 

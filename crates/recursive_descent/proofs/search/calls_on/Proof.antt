@@ -1,6 +1,6 @@
 -- What is written is an input of the grammar's terminals, and its calls are counted in the memo table.
-use Rattle.recursive_descent.proofs.Deciding.{start-given, started}
-use Rattle.recursive_descent.proofs.Searching.{trial-judged, trial-made, trial-counted}
+use Rattle.recursive_descent_promises.proofs.Deciding.{start-given, started}
+use Rattle.recursive_descent_promises.proofs.Searching.{trial-judged, trial-made, trial-counted}
 use borrow.Author.Needs.{needs}
 use Rattle.recursive_descent.proofs.search.calls_on.Statement.{statement}
 use Rattle.recursive_descent.proofs.search.calls_on.Tie as tie

@@ -2,8 +2,8 @@
 use mathlib.Core.Path.{_∙_}
 use Prim.Native.Nat.{_-_}
 use native.Mathlib.Omega.{arith}
-use Rattle.recursive_descent.proofs.Searching.{Searching, some-terminal, last-terminal, few-terminals, number-given}
-use Rattle.recursive_descent.proofs.Searching.{searching-start, searching-given, searching-next, searching-less, searching-done}
+use Rattle.recursive_descent_promises.proofs.Searching.{Searching, some-terminal, last-terminal, few-terminals, number-given}
+use Rattle.recursive_descent_promises.proofs.Searching.{searching-start, searching-given, searching-next, searching-less, searching-done}
 use Rattle.recursive_descent.proofs.search.judge_costliest.Statement.{statement}
 use Rattle.recursive_descent.proofs.search.judge_costliest.Tie as tie
 

@@ -2,7 +2,7 @@
 use mathlib.Core.Path.{refl, sym}
 use Rattle.recognizer_promises.proofs.CostliestFaults.{found-refused, part-fits, part-length, search-given, search-done}
 use lib.Seq.{length-take-le}
-use Rattle.recursive_descent.proofs.Searching.{needed-fits, trial-given, front-judged}
+use Rattle.recursive_descent_promises.proofs.Searching.{needed-fits, trial-given, front-judged}
 use borrow.Author.Needs.{needs}
 use Rattle.recursive_descent.proofs.search.judge_costliest_words.Statement.{statement}
 use Rattle.recursive_descent.proofs.search.judge_costliest_words.Tie as tie

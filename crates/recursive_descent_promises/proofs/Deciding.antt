@@ -41,9 +41,9 @@ use Rattle.descent_choices.specs.contracts.Choices.{choicesOf, memoEntries}
 use Rattle.descent_tokens.specs.contracts.Tokens.{tokensOf}
 use Rattle.descent_tokens.proofs.TokenWords.{TokensGiven, TokensHold, column-few, tokens-hold}
 use Rattle.descent_choices.proofs.ChoiceRows.{Filled}
-use Rattle.recursive_descent.specs.contracts.Descent.{MemoSound, StartGiven, StartDone, StartRequires, StartEnsures}
-use Rattle.recursive_descent.specs.contracts.Judging.{JudgeGiven}
-use Rattle.recursive_descent.proofs.TableChoices.{rows-filled, choices-hold}
+use Rattle.recursive_descent_promises.specs.contracts.Descent.{MemoSound, StartGiven, StartDone, StartRequires, StartEnsures}
+use Rattle.recursive_descent_promises.specs.contracts.Judging.{JudgeGiven}
+use Rattle.recursive_descent_promises.proofs.TableChoices.{rows-filled, choices-hold}
 
 -- a memo table in which no call is recorded is sound
 pub blank-sound : (choice : Choice) (words input : List ℕ) → MemoSound choice words input (blank (grammarOf words) input)

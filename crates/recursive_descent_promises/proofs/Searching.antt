@@ -42,10 +42,10 @@ use Rattle.recognizer_promises.specs.contracts.Judging.{Descended}
 use Rattle.recognizer_promises.specs.CostliestInput.{callsOn}
 use Rattle.recognizer_promises.specs.contracts.Search.{SearchGiven, BestJudged}
 use Rattle.recognizer_promises.proofs.Judged.{memo-count}
-use Rattle.recursive_descent.specs.contracts.Descent.{StartDone}
-use Rattle.recursive_descent.specs.contracts.Judging.{JudgeGiven}
-use Rattle.recursive_descent.proofs.Deciding.{entries-fit}
-use Rattle.recursive_descent.specs.contracts.Search.{TrialGiven, NumberGiven, CostliestJudged}
+use Rattle.recursive_descent_promises.specs.contracts.Descent.{StartDone}
+use Rattle.recursive_descent_promises.specs.contracts.Judging.{JudgeGiven}
+use Rattle.recursive_descent_promises.proofs.Deciding.{entries-fit}
+use Rattle.recursive_descent_promises.specs.contracts.Search.{TrialGiven, NumberGiven, CostliestJudged}
 
 module _ {words : List ℕ} {z : Sizes} {choices events memo : List ℕ} (g : TrialGiven words z choices events memo) where
   abbrev G : Grammar

@@ -24,7 +24,7 @@ use Rattle.semantics.specs.contracts.ComesTo.{measure}
 use Rattle.semantics.specs.Memo.{outcomeCode, entry, Recorded}
 use Rattle.semantics.specs.contracts.Memo.{blank, decode}
 use Rattle.semantics.specs.contracts.MemoDescent.{memoized, memoRun, memoCall}
-use Rattle.recursive_descent.specs.declared.descent.Run.{Run}
+use Rattle.recursive_descent_promises.specs.declared.Run.{Run}
 use Rattle.descent_arrays.specs.contracts.Arrays.{rowColumn, endMark, columnWeight, heldTokens, rowAt, endAt, firstAt}
 
 -- where the first conjunct stands of a rule by its number, or 0

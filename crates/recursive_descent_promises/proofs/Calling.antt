@@ -34,10 +34,10 @@ use Rattle.rule.specs.contracts.Rule.{signOf, signAt, bodyEnd, beginsBody, goes
 use Rattle.rule.proofs.Signs.{sign-number, sign-positive, sign-negative, sign-within}
 use Rattle.rule.proofs.Agreements.{opens-no-more, ends-joined}
 use Rattle.families.proofs.Words.{parse-over}
-use Rattle.recursive_descent.specs.declared.descent.Run.{Run}
-use Rattle.recursive_descent.specs.contracts.Descent.{MemoSound, CallGiven, RunGiven, RunDone}
-use Rattle.recursive_descent.proofs.Bodies.{parse-here, skipped-on, body-ended}
-use Rattle.recursive_descent.proofs.Running.{deep, level}
+use Rattle.recursive_descent_promises.specs.declared.Run.{Run}
+use Rattle.recursive_descent_promises.specs.contracts.Descent.{MemoSound, CallGiven, RunGiven, RunDone}
+use Rattle.recursive_descent_promises.proofs.Bodies.{parse-here, skipped-on, body-ended}
+use Rattle.recursive_descent_promises.proofs.Running.{deep, level}
 
 -- what is left of a rule: of positives ps and negatives ns, where the bodies before them have agreed
 unfoldable pub memoRest : MemoCalls → List ℕ → ℕ → Agreement → List Body → List Body → List ℕ → Memoized

@@ -34,13 +34,13 @@ use Rattle.rule.specs.declared.Agreement.{Agreement}
 use Rattle.rule.specs.declared.Sign.the-variants.{Positive, Negative, Neither}
 use Rattle.rule.proofs.Signs.{sign-number, sign-negative, sign-within}
 use Rattle.rule.proofs.Agreements.{opening-ends, opening-open}
-use Rattle.recursive_descent.proofs.Bodies.{parse-here}
-use Rattle.recursive_descent.proofs.Running.{deep}
+use Rattle.recursive_descent_promises.proofs.Bodies.{parse-here}
+use Rattle.recursive_descent_promises.proofs.Running.{deep}
 use Rattle.grammar.proofs.WellFormed.{reads}
 use Rattle.rule.specs.contracts.Rule.{signAt, openingBy}
 use Rattle.descent_arrays.specs.contracts.Arrays.{endAt, firstAt}
-use Rattle.recursive_descent.specs.contracts.Descent.{firstConjunct, CallGiven}
-use Rattle.recursive_descent.proofs.Calling.{memoRest, Calling, InRule}
+use Rattle.recursive_descent_promises.specs.contracts.Descent.{firstConjunct, CallGiven}
+use Rattle.recursive_descent_promises.proofs.Calling.{memoRest, Calling, InRule}
 
 rule-opens : (w : Word) (s : State) → beginsRule w ≡ true → stateAfter w s ≡ state.Opened
 rule-opens (word.Heading n t) s e = absurd (false≢true e)

@@ -45,10 +45,10 @@ use Rattle.descent_steps.specs.contracts.Steps.{stepAt}
 use Rattle.descent_steps.proofs.Steps.{step-terminal, step-nonterminal, step-over}
 use Rattle.families.proofs.Words.{parse-over}
 use Rattle.grammar.specs.Limits.{maxNonterminals}
-use Rattle.recursive_descent.specs.declared.descent.Run.{Run}
+use Rattle.recursive_descent_promises.specs.declared.Run.{Run}
 use Rattle.descent_arrays.specs.contracts.Arrays.{endMark, columnWeight, matchesAt}
-use Rattle.recursive_descent.specs.contracts.Descent.{Skipped, MemoSound, CallGiven, RunGiven, CallDone, RunDone}
-use Rattle.recursive_descent.proofs.Bodies.{parse-here, symbol-reads, skipped-none, skipped-symbol}
+use Rattle.recursive_descent_promises.specs.contracts.Descent.{Skipped, MemoSound, CallGiven, RunGiven, CallDone, RunDone}
+use Rattle.recursive_descent_promises.proofs.Bodies.{parse-here, symbol-reads, skipped-none, skipped-symbol}
 
 -- the calls at most n deep, on the words' grammar
 abbrev pub deep : Choice → List ℕ → List ℕ → ℕ → MemoCalls

@@ -28,7 +28,7 @@ use Rattle.lookahead.specs.declared.Lookahead.{Lookahead}
 use Rattle.lookahead.specs.Lookaheads.{tokens}
 use Rattle.families.proofs.FewTerminals.{admitted-read, few-terminals}
 use Rattle.descent_arrays.specs.contracts.Arrays.{choiceColumns, firstAt}
-use Rattle.recursive_descent.specs.contracts.Descent.{firstConjunct}
+use Rattle.recursive_descent_promises.specs.contracts.Descent.{firstConjunct}
 use Rattle.descent_choices.specs.contracts.Choices.{entryOf, firstWord, choicesOf}
 use Rattle.descent_tokens.proofs.TokenWords.{TokensHold}
 use Rattle.descent_choices.proofs.ChoiceRows.{Filled, choices-filled}

@@ -23,8 +23,8 @@ use Rattle.semantics.proofs.descent.Written.{Sound}
 use Rattle.semantics.proofs.descent.Memo.{transparent}
 use Rattle.memo_table.proofs.Entries.{getD-any}
 use Rattle.descent_arrays.specs.contracts.Arrays.{rowAt}
-use Rattle.recursive_descent.specs.contracts.Descent.{MemoSound, CallGiven, CallDone}
-use Rattle.recursive_descent.proofs.Running.{deep, level}
+use Rattle.recursive_descent_promises.specs.contracts.Descent.{MemoSound, CallGiven, CallDone}
+use Rattle.recursive_descent_promises.proofs.Running.{deep, level}
 
 pub memo-same : {choice : Choice} {words input memo memo′ : List ℕ} → MemoSound choice words input memo → MemoSound choice words input memo′
     → length memo ≡ length memo′

@@ -15,8 +15,8 @@ use Rattle.semantics.specs.contracts.Memo.{EndsFit, blank}
 use Rattle.semantics.specs.Memo.{Recorded}
 use Rattle.semantics.specs.contracts.MemoDescent.{memoized, memoCall}
 use Rattle.semantics.proofs.descent.Memo.{memo-recorded-within}
-use Rattle.recursive_descent.specs.contracts.Descent.{CallGiven, CallDone, StartGiven, StartDone}
-use Rattle.recursive_descent.proofs.Running.{level}
+use Rattle.recursive_descent_promises.specs.contracts.Descent.{CallGiven, CallDone, StartGiven, StartDone}
+use Rattle.recursive_descent_promises.proofs.Running.{level}
 
 module _ {choice : Choice} {words choices tokens input memo : List ℕ} (g : StartGiven choice words choices tokens input memo) {blanked : List ℕ}
     (b : blanked ≡ replicate (length memo) uncalledCode) where

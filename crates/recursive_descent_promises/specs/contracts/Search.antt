@@ -14,7 +14,7 @@ use Rattle.inputs.specs.Inputs.{maxInputs}
 use Rattle.semantics.specs.LeftRecursion.{NoLeftRecursion}
 use Rattle.recognizer_promises.specs.contracts.Judging.{Descended}
 use Rattle.recognizer_promises.specs.CostliestInput.{costliestInput}
-use Rattle.recursive_descent.specs.contracts.Judging.{tableRows}
+use Rattle.recursive_descent_promises.specs.contracts.Judging.{tableRows}
 
 -- a grammar that passes, with its sizes; the choices and the entries for an input of that length, and not too many such inputs
 pub record TrialGiven (words : List ℕ) (z : Sizes) (choices events memo : List ℕ) : Type 0 where

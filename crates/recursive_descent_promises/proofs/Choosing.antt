@@ -11,7 +11,7 @@ use Rattle.grammar.specs.Encoding.{grammarOf}
 use Rattle.grammar.specs.contracts.WellRead.{WellRead}
 use Rattle.grammar.proofs.WellRead.{well-read}
 use Rattle.semantics.specs.Choices.{Choice}
-use Rattle.recursive_descent.specs.contracts.Descent.{firstConjunct, TokenGiven, EntryGiven, ChosenGiven, ArraysGiven, CallGiven}
+use Rattle.recursive_descent_promises.specs.contracts.Descent.{firstConjunct, TokenGiven, EntryGiven, ChosenGiven, ArraysGiven, CallGiven}
 use Rattle.semantics.proofs.descent.Outcomes.{nth-below}
 
 pub token-given : {choice : Choice} {words choices tokens input memo : List ℕ} → ArraysGiven choice words choices tokens input memo
