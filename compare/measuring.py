@@ -1,4 +1,4 @@
-"""What the scripts benchmark and growth share: building the program that makes the calls, and having callgrind count their instructions."""
+"""What the scripts benchmark, growth and behind share: building the program that makes the calls, and having callgrind count their instructions."""
 import os
 import pathlib
 import re

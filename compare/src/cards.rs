@@ -332,6 +332,48 @@ pub fn refused_zigzag(lookahead: usize) -> Draft {
     RisingLeads::new(lookahead, 17).filled_with(Nonterminal(1)).zigzag()
 }
 
+/// The slowest card with a left-recursive start, which the twin refuses before it makes first sets.
+pub fn left_recursive(lookahead: usize) -> Draft {
+    let mut rules = RisingLeads::new(lookahead, 11);
+    rules.chain[0].negatives.push(vec![Nonterminal(0)]);
+    rules.filled(lookahead).chain_last()
+}
+
+/// The start reads a row of terminals 0, each followed by what a long negative is not: that fails at its second symbol.
+pub fn failing_body() -> Draft {
+    let (a, b) = (Terminal(0), Terminal(1));
+    let mut draft = Draft { nonterminals: 1, terminals: 2, rules: vec![rule(0, &[&[a, Nonterminal(0)]], &[&[a]]), rule(0, &[&[]], &[])] };
+    let left = MAX_WORDS - draft.words().len();
+    draft.rules[0].negatives[0].extend(vec![b; left]);
+    draft
+}
+
+/// The start reads a row of terminals 0; at each it must, over and over, not be empty.
+pub fn many_negatives() -> Draft {
+    let mut draft = card_r();
+    let left = MAX_WORDS - draft.words().len();
+    draft.rules[0].negatives = vec![Vec::new(); left];
+    draft
+}
+
+/// The start begins with what the input does not, and goes on with a long negative of a nonterminal that has every span.
+pub fn failing_rule() -> Draft {
+    let every = Nonterminal(1);
+    let rules = vec![rule(0, &[&[Terminal(1)]], &[&[]]), rule(1, &[&[Terminal(0), every]], &[]), rule(1, &[&[]], &[])];
+    let mut draft = Draft { nonterminals: 2, terminals: 2, rules };
+    let left = MAX_WORDS - draft.words().len();
+    draft.rules[0].negatives[0].extend(vec![every; left]);
+    draft
+}
+
+/// Card R with 31 nonterminals more that nothing calls.
+pub fn idle_nonterminals() -> Draft {
+    let mut draft = card_r();
+    draft.rules.extend((1..MAX_NONTERMINALS).map(|b| rule(b, &[&[]], &[])));
+    draft.nonterminals = MAX_NONTERMINALS;
+    draft
+}
+
 /// The slowest to search that was found. Two letters; at each of 13 places of each log the start runs a rule of 1,974 words, each of them, but for the
 /// first call of a nonterminal there, a call that has been made.
 pub fn slowest_search() -> Draft {

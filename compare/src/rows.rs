@@ -369,6 +369,18 @@ pub fn benchmark() -> Vec<Row> {
     ]
 }
 
+/// Calls that take the library far more instructions than the twin, each of another kind.
+pub fn behind() -> Vec<Row> {
+    vec![
+        check(ONE, "left-recursive", &cards::left_recursive(1)),
+        check(TWO, "left-recursive", &cards::left_recursive(2)),
+        judge(ONE, "a long body that fails", &cards::failing_body(), &[0; MAX_TOKENS]),
+        judge(ONE, "many negatives", &cards::many_negatives(), &[0; MAX_TOKENS]),
+        tree("idle nonterminals", &cards::idle_nonterminals(), &[0; MAX_TOKENS]),
+        plain("a long rule that fails", &cards::failing_rule(), &[0; MAX_PLAIN_TOKENS]),
+    ]
+}
+
 /// Four rules for each nonterminal, each led by a terminal of its own, with two positives and a negative: words grow with the nonterminals.
 fn block(nonterminals: usize, terminals: usize) -> Draft {
     let mut rules = Vec::new();

@@ -3,6 +3,7 @@
 //!     benchmark [PART]                      the median time of each call, in nanoseconds
 //!     benchmark --counted [PART]            each call a few times inside `counted`, after which callgrind is told to write what it counted
 //!     benchmark --counted-growth [PART]     the same of the rows whose size grows
+//!     benchmark --counted-behind [PART]     the same of the rows in which the library takes far more than the twin
 //!
 //! Only rows with PART in their name. A line for each row: what, size, answer, then a number for each call; tabs stand between. For callgrind that is
 //! how often the call was made.
@@ -78,7 +79,11 @@ fn main() {
     let arguments: Vec<String> = std::env::args().skip(1).collect();
     let flag = arguments.first().filter(|first| first.starts_with("--")).map_or("", String::as_str);
     let part = arguments.get(usize::from(!flag.is_empty())).map_or("", String::as_str);
-    let rows = if flag == "--counted-growth" { rows::growth() } else { rows::benchmark() };
+    let rows = match flag {
+        "--counted-growth" => rows::growth(),
+        "--counted-behind" => rows::behind(),
+        _ => rows::benchmark(),
+    };
     for row in rows.into_iter().filter(|row| format!("{}, {}", row.what, row.size).contains(part)) {
         let mut made = (row.make)();
         let numbers = if flag.is_empty() { medians(&mut made.calls, row.long) } else { count(&mut made.calls, row.long) };
