@@ -15,7 +15,7 @@ mod descent;
 mod judging;
 pub mod search;
 
-// Judges the input that the events of a log are by an encoded grammar. Each case returns at once, as in `find`.
+// Judges the input that the events of a log are by an encoded grammar. Each case returns at once, as in `find_into`.
 pub fn judge_words(
     words: &[u32],
     lookahead: Lookahead,
