@@ -1,4 +1,4 @@
-// First sets: passes over the rules until one adds nothing; the words of a rule from their end.
+// First sets: passes over the rules until one adds nothing; the words of a rule's positives from their end.
 ghost use mathlib.Core.Path.{_≡_};
 ghost use Rattle.grammar.specs.declared.reading.Reading.the-variants.{Read};
 ghost use Rattle.grammar.specs.Encoding.{parse, grammarOf};
