@@ -1,13 +1,16 @@
 // The steps of the descent that need no memo table: the next symbol of a body, and how a rule's agreement takes and gives entries.
 ghost use mathlib.Core.Path.{_≡_};
+ghost use Rattle.word.specs.Words.{decoded};
 ghost use Rattle.semantics.specs.Memo.{outcomeCode};
 ghost use Rattle.semantics.specs.contracts.Memo.{decode as outcomeOf};
-ghost use Rattle.rule.specs.contracts.Rule.{joinedBy, concluded};
-ghost use Rattle.descent_steps.specs.contracts.Steps.{symbolStep, stepOf, stepAt};
+ghost use Rattle.rule.specs.contracts.Rule.{beginsBody, signOf, joinedBy, concluded};
+ghost use Rattle.descent_steps.specs.contracts.Steps.{symbolStep, stepOf, stepAt, wordAt, conjunctSign, nextConjunct};
 use entry::code;
 use entry::recall;
+use grammar::codes::FAILED;
 use rule::Agreement;
 use rule::Sign;
+use rule::body_end;
 use rule::conclude;
 use rule::joined;
 use word::Symbol;
@@ -15,6 +18,10 @@ use word::Word;
 use word::decode;
 
 pub mod entry;
+
+const POSITIVE_WORD: u32 = 805306368;
+
+const NEGATIVE_WORD: u32 = 1073741824;
 
 // What a body does at an index: it takes a terminal, calls a nonterminal, or is over.
 pub enum Step {
@@ -58,6 +65,41 @@ pub fn step_at(words: &[u32], at: usize) -> Step
     } else {
         Step::Over
     }
+}
+
+// The word at an index; where the words end, one that begins nothing.
+pub fn word_at(words: &[u32], at: usize) -> u32
+    ensures { λ r. ⌜ r ≡ wordAt (now (words .entry)) at ⌝ }
+{
+    if at < words.len() { words[at] } else { 0 }
+}
+
+// Whether a word begins a conjunct. It is compared and not decoded: for each conjunct that is two instructions.
+pub fn begins_conjunct(bits: u32) -> bool
+    ensures { λ r. ⌜ r ≡ beginsBody (signOf (decoded bits)) ⌝ }
+{
+    bits == NEGATIVE_WORD || bits == POSITIVE_WORD
+}
+
+// What a word that begins a conjunct begins.
+pub fn conjunct_sign(bits: u32) -> Sign
+    ensures { λ r. ⌜ r ≡ conjunctSign bits ⌝ }
+{
+    if bits == NEGATIVE_WORD {
+        Sign::Negative
+    } else {
+        Sign::Positive
+    }
+}
+
+// Where the next conjunct is, or the rule ends, when a body has stopped at an index: there, unless the body has failed.
+pub fn next_conjunct(words: &[u32], entry: u16, at: usize) -> usize
+    ensures { λ r. ⌜ r ≡ nextConjunct (now (words .entry)) entry at ⌝ }
+{
+    if entry != FAILED {
+        return at;
+    }
+    body_end(words, at)
 }
 
 // The agreement after one body more, by the entry of the body's outcome.

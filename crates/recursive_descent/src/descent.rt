@@ -11,10 +11,14 @@ use descent_arrays::COLUMN_WEIGHT;
 use descent_arrays::END_COLUMN;
 use descent_arrays::ROW_COLUMN;
 use descent_steps::Step;
+use descent_steps::begins_conjunct;
 use descent_steps::concluded_entry;
+use descent_steps::conjunct_sign;
 use descent_steps::entry::recall;
 use descent_steps::joined_entry;
+use descent_steps::next_conjunct;
 use descent_steps::step_at;
+use descent_steps::word_at;
 use grammar::codes::FAILED;
 use grammar::codes::UNCALLED;
 use grammar::limits::PLACES;
@@ -22,10 +26,8 @@ use recursive_descent_promises::Run;
 use rule::Agreement;
 use rule::Outcome;
 use rule::Sign;
-use rule::body_end;
-use rule::goes_on;
+use rule::has_failed;
 use rule::opening;
-use rule::sign_at;
 
 // What the column of a lookahead string weighs in a token's word.
 const WEIGHT: usize = COLUMN_WEIGHT as usize;
@@ -63,7 +65,7 @@ fn first_agreement(choices: &[u16; CHOICES], nonterminal: usize, sign: Sign) -> 
     opening(sign, choices[nonterminal * CHOICE_COLUMNS + END_COLUMN])
 }
 
-// Runs the body at an index from a place on, for a call of the nonterminal there; the first symbol that fails stops it.
+// Runs the body at an index from a place on, for a call of the nonterminal there; the first symbol that fails stops it, behind it.
 fn run_body(
     nonterminal: usize,
     words: &[u32],
@@ -87,7 +89,11 @@ fn run_body(
             }
             Step::Terminal(terminal) => {
                 if !matches(tokens, place, terminal) {
-                    return Run { end: FAILED, at };
+                    let behind = at + 1;
+                    return Run {
+                        end: FAILED,
+                        at: behind,
+                    };
                 }
                 place = place + 1;
             }
@@ -95,7 +101,11 @@ fn run_body(
                 let entry = call(called as usize, words, choices, tokens, memo, place);
                 let outcome = recall(entry);
                 let Outcome::End(end) = outcome else {
-                    return Run { end: FAILED, at };
+                    let behind = at + 1;
+                    return Run {
+                        end: FAILED,
+                        at: behind,
+                    };
                 };
                 place = end;
             }
@@ -128,13 +138,17 @@ pub(crate) fn call(
         memo[entry] = FAILED;
         return FAILED;
     }
-    let mut sign = sign_at(words, at);
-    let mut agreement = first_agreement(choices, nonterminal, sign);
-    while goes_on(sign, agreement) {
+    let mut word = word_at(words, at);
+    let mut agreement = first_agreement(choices, nonterminal, conjunct_sign(word));
+    while begins_conjunct(word) {
         let run = run_body(nonterminal, words, choices, tokens, memo, at + 1, place);
-        agreement = joined_entry(sign, agreement, run.end);
-        at = body_end(words, run.at);
-        sign = sign_at(words, at);
+        agreement = joined_entry(conjunct_sign(word), agreement, run.end);
+        if has_failed(agreement) {
+            memo[entry] = FAILED;
+            return FAILED;
+        }
+        at = next_conjunct(words, run.end, run.at);
+        word = word_at(words, at);
     }
     let recorded = concluded_entry(agreement);
     memo[entry] = recorded;

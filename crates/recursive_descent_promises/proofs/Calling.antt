@@ -6,14 +6,16 @@ use mathlib.Core.Option.{none, some}
 use Prim.Native.Nat.{ℕ, _+_, _≤_, _<_}
 use native.Mathlib.Omega.{arith}
 use native.Mathlib.Decide.{decLt}
+use lib.Dec.{eqb}
 use lib.ListN.{length, getD, drop}
-use borrow.Author.Tests.{lt-ltb}
+use borrow.Author.Tests.{lt-ltb, eqb-false}
 use Rattle.base.specs.Choice.{choose}
 use Rattle.word.specs.Words.{decoded}
 use Rattle.word.specs.declared.Symbol as grammar
 use Rattle.word.specs.declared.Word.{Word}
 use Rattle.word.specs.declared.Word.the-variants as word
 use Rattle.word.specs.declared.Word.the-variants.{Symbol}
+use Rattle.grammar.specs.Codes.{failedCode}
 use Rattle.grammar.specs.Syntax.{Body, Rule, bodies}
 use Rattle.grammar.specs.Encoding.{Parsed, onWord, parse, grammarOf}
 use Rattle.grammar.specs.Reading.{allows, scan, reading}
@@ -30,9 +32,11 @@ use Rattle.rule.specs.declared.Sign.{Sign}
 use Rattle.rule.specs.declared.Sign.the-variants.{Positive, Negative, Neither}
 use Rattle.rule.specs.declared.Agreement.{Agreement}
 use Rattle.rule.specs.declared.Agreement.the-variants as agreement
-use Rattle.rule.specs.contracts.Rule.{signOf, signAt, bodyEnd, beginsBody, goesOn, joinedBy, concluded}
+use Rattle.rule.specs.contracts.Rule.{signOf, signAt, bodyEnd, beginsBody, goesOn, hasFailed, joinedBy, concluded}
 use Rattle.rule.proofs.Signs.{sign-number, sign-positive, sign-negative, sign-within}
 use Rattle.rule.proofs.Agreements.{opens-no-more, ends-joined}
+use Rattle.descent_steps.specs.contracts.Steps.{wordAt, conjunctSign, nextConjunct}
+use Rattle.descent_steps.proofs.Conjuncts.{conjunct-sign, word-sign}
 use Rattle.families.proofs.Words.{parse-over}
 use Rattle.recursive_descent_promises.specs.declared.Run.{Run}
 use Rattle.recursive_descent_promises.specs.contracts.Descent.{MemoSound, CallGiven, RunGiven, RunDone}
@@ -342,3 +346,70 @@ module _ {choice : Choice} {words choices tokens input memo₀ : List ℕ} {A pl
       → (n : ℕ) → level words input A place ≤ n
       → memoObey (deep choice words input n) input (some (v .rule)) place memo₀ ≡ memoized (concluded agreed) memo
   rule-done stops = calling-done g (v .calling) stops
+
+-- a call that has reached a word of its rule, which has not failed
+pub record Going (choice : Choice) (words input memo₀ : List ℕ) (A place : ℕ) (memo : List ℕ) (at word : ℕ) (agreed : Agreement) : Type 0 where
+  pub rule : InRule choice words input memo₀ A place memo at (signOf (decoded word)) agreed
+  pub lives : hasFailed agreed ≡ false
+
+-- the rule goes on where a conjunct begins, and ends elsewhere
+goes : (s : Sign) (a : Agreement) → hasFailed a ≡ false → goesOn s a ≡ beginsBody s
+goes s agreement.Open h = refl
+goes s (agreement.At e) h = refl
+goes s agreement.Failed h = absurd (true≢false h)
+
+failed-stops : (s : Sign) (a : Agreement) → hasFailed a ≡ true → (goesOn s a ≡ false) × (concluded a ≡ Failed)
+failed-stops s agreement.Open h = absurd (false≢true h)
+failed-stops s (agreement.At e) h = absurd (false≢true h)
+failed-stops s agreement.Failed h = (refl, refl)
+
+module _ {choice : Choice} {words choices tokens input memo₀ : List ℕ} {A place : ℕ} (g : CallGiven choice words choices tokens input memo₀ A place)
+    {memo : List ℕ} {at word : ℕ} {agreed : Agreement} (v : Going choice words input memo₀ A place memo at word agreed) where
+  module _ (begins : beginsBody (signOf (decoded word)) ≡ true) where
+    on : goesOn (signOf (decoded word)) agreed ≡ true
+    on = goes (signOf (decoded word)) agreed (v .lives) ∙ begins
+
+    pub going-conjunct : at < length words
+    going-conjunct = rule-conjunct g (v .rule) on
+
+    pub going-run : RunGiven choice words choices tokens input memo A (at + 1) place
+    going-run = rule-run g (v .rule) on
+
+    module _ {o : Run} {memo′ : List ℕ} {sign : Sign} {agreed′ : Agreement} (d : RunDone choice words input memo A (at + 1) place o memo′)
+        (s : sign ≡ conjunctSign word) (j : agreed′ ≡ joinedBy sign agreed (decode (o .end))) where
+      joins : agreed′ ≡ joinedBy (signOf (decoded word)) agreed (decode (o .end))
+      joins = j ∙ ap (λ x. joinedBy x agreed (decode (o .end))) (s ∙ conjunct-sign word begins)
+
+      -- the rule has failed
+      pub going-failed : hasFailed agreed′ ≡ true → (n : ℕ) → level words input A place ≤ n
+          → memoObey (deep choice words input n) input (some (v .rule .rule)) place memo₀ ≡ memoized Failed memo′
+      unfolding rule-turn
+      going-failed f n l =
+          let next = rule-turn g (v .rule) on d joins refl refl in
+          let k = failed-stops (signAt words (bodyEnd words (o .at))) agreed′ f in
+          rule-done g next (k .0) n l ∙ ap (λ x. memoized x memo′) (k .1)
+
+      -- where the next word is
+      module _ {at′ : ℕ} (b : at′ ≡ nextConjunct words (o .end) (o .at)) where
+        ended : at′ ≡ bodyEnd words (o .at)
+        unfolding nextConjunct
+        ended = b ∙ go (eqb (o .end) failedCode) refl
+          where
+            go : (x : Bool) → eqb (o .end) failedCode ≡ x → choose x (bodyEnd words (o .at)) (o .at) ≡ bodyEnd words (o .at)
+            go true e = refl
+            go false e = sym (d .over (eqb-false (o .end) failedCode e))
+
+        pub going-falls : at < at′
+        going-falls = omega (arith, d .skipped .on, ended)
+
+        pub going-turn : {word′ : ℕ} → word′ ≡ wordAt words at′ → hasFailed agreed′ ≡ false
+            → Going choice words input memo₀ A place memo′ at′ word′ agreed′
+        going-turn {word′} w f = record {
+          rule = rule-turn g (v .rule) on d joins ended (ap (λ x. signOf (decoded x)) w ∙ word-sign words at′);
+          lives = f;
+        }
+
+  -- the rule has run
+  pub going-done : beginsBody (signOf (decoded word)) ≡ false → (n : ℕ) → level words input A place ≤ n
+      → memoObey (deep choice words input n) input (some (v .rule .rule)) place memo₀ ≡ memoized (concluded agreed) memo
+  going-done stops = rule-done g (v .rule) (goes (signOf (decoded word)) agreed (v .lives) ∙ stops)

@@ -38,7 +38,8 @@ use Rattle.semantics.proofs.descent.Outcomes.{end-ends}
 use Rattle.semantics.proofs.descent.Ends.{descend-forward, descend-null}
 use Rattle.rule.specs.declared.Outcome as code
 use Rattle.rule.specs.declared.Outcome.the-variants as outcome
-use Rattle.rule.specs.contracts.Rule.{meant}
+use Rattle.rule.specs.contracts.Rule.{meant, isSymbol, bodyEnd}
+use Rattle.rule.proofs.Bodies.{body-over, body-stops}
 use Rattle.descent_steps.specs.declared.Step.the-variants as step
 use Rattle.descent_steps.specs.declared.Step.the-variants.{Over}
 use Rattle.descent_steps.specs.contracts.Steps.{stepAt}
@@ -141,6 +142,15 @@ unfolding outcomeCode decode
 decode-encode n Failed s h = refl
 decode-encode n (End e) s h = rw (ne-eqb e failedCode (λ q. absurd (omega (arith, h e (end-ends (End e) e refl)))))
 
+no-symbol : (w : Word) → ((X : grammar.Symbol) → w ≡ Symbol X → ⊥) → isSymbol w ≡ false
+no-symbol (Heading n t) h = refl
+no-symbol (Rule A) h = refl
+no-symbol Positive h = refl
+no-symbol Negative h = refl
+no-symbol (Symbol X) h = absurd (h X refl)
+no-symbol EndWord h = refl
+no-symbol Invalid h = refl
+
 -- the words that are no symbol end a body
 body-none : (w : Word) (p : Parsed) (s : State) → allows w s ≡ true → ((X : grammar.Symbol) → w ≡ Symbol X → ⊥) → onWord w p .body ≡ []
 unfolding onWord
@@ -155,15 +165,16 @@ body-none Invalid p s a h = absurd (false≢true a)
 module _ {choice : Choice} {words choices tokens input memo₀ : List ℕ} {A from start : ℕ} (g : RunGiven choice words choices tokens input memo₀ A from start)
     {memo : List ℕ} {at place : ℕ} (v : Running choice words input memo₀ A from start memo at place) where
   -- a run that reaches a word that is no symbol, or the end of the words, has ended
-  done : body-at words at ≡ [] → RunDone choice words input memo₀ A from start (stopped place at) memo
+  done : body-at words at ≡ [] → bodyEnd words at ≡ at → RunDone choice words input memo₀ A from start (stopped place at) memo
   unfolding body-at memoRun
-  done e =
+  done e over =
       let c = end-code place (λ q. omega (arith, v .placed, g .call .given .short)) in
       record {
         model = λ n l. v .rest n l ∙ ap (λ b. memoRun (deep choice words input n) input b place memo) e ∙ ap (λ o. memoized o memo) (sym c);
         sound = v .sound;
         within = λ x q. let e : place ≡ x = end-same place x (sym c ∙ q) in omega (arith, v .placed);
         skipped = v .skipped;
+        over = λ _. over;
       }
 
   pub running-done : stepAt words at ≡ Over → RunDone choice words input memo₀ A from start (stopped place at) memo
@@ -172,11 +183,12 @@ module _ {choice : Choice} {words choices tokens input memo₀ : List ℕ} {A fr
     where
       go : (length words ≤ at) ⊎ ((at < length words) × ((X : grammar.Symbol) → decoded (getD words at 0) ≡ Symbol X → ⊥))
           → RunDone choice words input memo₀ A from start (stopped place at) memo
-      go (inl h) = done (ap (λ p. p .body) (parse-over words at h))
+      go (inl h) = done (ap (λ p. p .body) (parse-over words at h)) (body-over words at h)
       go (inr h) =
           let s = scan-next words at (v .progress) (g .call .given .sizes) (h .0) (v .reads ∙ g .call .given .read) in
           done (ap (λ p. p .body) (parse-here words at (h .0))
           ∙ body-none (decoded (getD words at 0)) (parse (drop (at + 1) words)) (v .progress .state) (s .passed .allowed) (h .1))
+          (body-stops words at (h .0) (no-symbol (decoded (getD words at 0)) (h .1)))
 
   -- the body from a symbol on
   module _ (X : grammar.Symbol) (h : at < length words) (x : decoded (getD words at 0) ≡ Symbol X) where
@@ -236,13 +248,14 @@ module _ {choice : Choice} {words choices tokens input memo₀ : List ℕ} {A fr
         }
 
     -- another token, or the end
-    pub running-mismatch : matchesAt tokens place a ≡ false → RunDone choice words input memo₀ A from start (stopped failedCode at) memo
+    pub running-mismatch : matchesAt tokens place a ≡ false → RunDone choice words input memo₀ A from start (stopped failedCode (at + 1)) memo
     unfolding body-at memoRun
     running-mismatch m = record {
       model = λ n k. rest-here (Terminal a) terminal-within terminal-there n k ∙ rw (sym running-token ∙ m, failed-code);
       sound = v .sound;
       within = λ e q. absurd (failed-end e (sym failed-code ∙ q));
-      skipped = v .skipped;
+      skipped = next-skipped (Terminal a) terminal-within terminal-there;
+      over = λ n. absurd (n refl);
     }
 
   module _ (B : ℕ) (step : stepAt words at ≡ step.Nonterminal B) where
@@ -324,11 +337,12 @@ module _ {choice : Choice} {words choices tokens input memo₀ : List ℕ} {A fr
           }
 
       -- one that fails
-      pub running-failed : o ≡ outcome.Failed → RunDone choice words input memo₀ A from start (stopped failedCode at) memo′
+      pub running-failed : o ≡ outcome.Failed → RunDone choice words input memo₀ A from start (stopped failedCode (at + 1)) memo′
       unfolding body-at memoRun andThen
       running-failed q = record {
         model = λ n l. rest-here (Nonterminal B) nonterminal-within nonterminal-there n l ∙ rw (called n l, sym means ∙ ap meant q, failed-code);
         sound = d .sound;
         within = λ e q. absurd (failed-end e (sym failed-code ∙ q));
-        skipped = v .skipped;
+        skipped = next-skipped (Nonterminal B) nonterminal-within nonterminal-there;
+        over = λ n. absurd (n refl);
       }

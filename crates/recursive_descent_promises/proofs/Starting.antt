@@ -1,6 +1,6 @@
 -- The rule that is chosen: where it begins, and that its bodies are all still to be run.
 use mathlib.Core.Path.{_≡_, refl, sym, ap, _∙_}
-use mathlib.Core.Bool.{true, false≢true}
+use mathlib.Core.Bool.{true, false, false≢true}
 use mathlib.Core.List.{List, [], _∷_, List·Memᴰ, Memᴰ·append-left, Memᴰ·append-right}
 use mathlib.Core.Option.{Option, none, some}
 use Prim.Native.Nat.{ℕ, zero, suc, _+_, _<_}
@@ -37,10 +37,12 @@ use Rattle.rule.proofs.Agreements.{opening-ends, opening-open}
 use Rattle.recursive_descent_promises.proofs.Bodies.{parse-here}
 use Rattle.recursive_descent_promises.proofs.Running.{deep}
 use Rattle.grammar.proofs.WellFormed.{reads}
-use Rattle.rule.specs.contracts.Rule.{signAt, openingBy}
+use Rattle.rule.specs.contracts.Rule.{signOf, signAt, hasFailed, openingBy}
+use Rattle.descent_steps.specs.contracts.Steps.{wordAt, conjunctSign}
+use Rattle.descent_steps.proofs.Conjuncts.{conjunct-opens, word-sign}
 use Rattle.descent_arrays.specs.contracts.Arrays.{endAt, firstAt}
 use Rattle.recursive_descent_promises.specs.contracts.Descent.{firstConjunct, CallGiven}
-use Rattle.recursive_descent_promises.proofs.Calling.{memoRest, Calling, InRule}
+use Rattle.recursive_descent_promises.proofs.Calling.{memoRest, Calling, InRule, Going}
 
 rule-opens : (w : Word) (s : State) → beginsRule w ≡ true → stateAfter w s ≡ state.Opened
 rule-opens (word.Heading n t) s e = absurd (false≢true e)
@@ -59,6 +61,11 @@ begin-next words z read (suc i) b =
     let at = read-reaches words z read i (omega (arith, b .high)) in
     let n = scan-next words (suc i) (at .progress) z (b .high) (at .reads) in
     (n .progress, n .reads ∙ sym read, n .passed .state ∙ rule-opens (decoded (getD words (suc i) 0)) (at .progress .state) (b .word))
+
+opening-lives : (s : Sign) (end : ℕ) → hasFailed (openingBy s end) ≡ false
+opening-lives Positive end = refl
+opening-lives Negative end = refl
+opening-lives Neither end = refl
 
 module _ {choice : Choice} {words choices tokens input memo : List ℕ} {A place : ℕ} (g : CallGiven choice words choices tokens input memo A place) where
   abbrev G : Grammar
@@ -179,6 +186,15 @@ module _ {choice : Choice} {words choices tokens input memo : List ℕ} {A place
     selected = k .selected;
     calling = calling-start k (s ∙ ap (signAt words) (k .behind));
   })
+
+  pub start-going : {at : ℕ} (k : Chosen at) {word : ℕ} {sign : Sign} {agreed : Agreement} → word ≡ wordAt words at
+      → sign ≡ conjunctSign word → agreed ≡ openingBy sign (endAt choices A) → Going choice words input memo A place memo at word agreed
+  start-going {at} k {word} w s o =
+      let same = o ∙ ap (λ x. openingBy x (endAt choices A)) s ∙ conjunct-opens word (endAt choices A) in
+      record {
+        rule = start-rule k (ap (λ x. signOf (decoded x)) w ∙ word-sign words at) same;
+        lives = ap hasFailed same ∙ opening-lives (signOf (decoded word)) (endAt choices A);
+      }
 
 -- without a rule a call fails
 pub none-fails : (M : MemoCalls) (w : List ℕ) (i : ℕ) (m : List ℕ) → memoObey M w none i m ≡ memoized Failed m

@@ -1,8 +1,8 @@
-// The bodies of a rule, run one after the other: what a word begins, and how the bodies come to agree on an end.
+// The bodies of a rule, run one after the other: where they end, and how they come to agree on an end.
 ghost use mathlib.Core.Path.{_≡_};
 ghost use Rattle.semantics.specs.Descent.{endsAt};
 ghost use Rattle.rule.specs.declared.Sign.the-variants.{Positive, Negative};
-ghost use Rattle.rule.specs.contracts.Rule.{meant, signOf, signAt, bodyEnd, beginsBody, goesOn, openingBy, openedBy, keptBy, joinedBy, concluded};
+ghost use Rattle.rule.specs.contracts.Rule.{meant, bodyEnd, hasFailed, openingBy, openedBy, keptBy, joinedBy, concluded};
 use word::Word;
 use word::decode;
 
@@ -26,33 +26,6 @@ pub enum Agreement {
     Failed,
 }
 
-fn sign_of(word: Word) -> Sign
-    ensures { λ r. ⌜ r ≡ signOf word ⌝ }
-{
-    match word {
-        Word::Positive => Sign::Positive,
-        Word::Negative => Sign::Negative,
-        Word::Rule(_) => Sign::Neither,
-        Word::Symbol(_) => Sign::Neither,
-        Word::End => Sign::Neither,
-        Word::Heading {
-            nonterminals: _,
-            terminals: _,
-        } => Sign::Neither,
-        Word::Invalid => Sign::Neither,
-    }
-}
-
-pub fn sign_at(words: &[u32], at: usize) -> Sign
-    ensures { λ r. ⌜ r ≡ signAt (now (words .entry)) at ⌝ }
-{
-    if at < words.len() {
-        sign_of(decode(words[at]))
-    } else {
-        Sign::Neither
-    }
-}
-
 // Where the body at an index ends.
 pub fn body_end(words: &[u32], from: usize) -> usize
     ensures { λ r. ⌜ r ≡ bodyEnd (now (words .entry)) from ⌝ }
@@ -68,24 +41,14 @@ pub fn body_end(words: &[u32], from: usize) -> usize
     at
 }
 
-// Whether another body is to be run: one begins here, and the rule has not failed.
-pub fn goes_on(sign: Sign, agreement: Agreement) -> bool
-    ensures { λ r. ⌜ r ≡ goesOn sign agreement ⌝ }
+// Whether the rule has failed: no further body is then run.
+pub fn has_failed(agreement: Agreement) -> bool
+    ensures { λ r. ⌜ r ≡ hasFailed agreement ⌝ }
 {
     match agreement {
-        Agreement::Failed => false,
-        Agreement::Open => begins(sign),
-        Agreement::At(_) => begins(sign),
-    }
-}
-
-fn begins(sign: Sign) -> bool
-    ensures { λ r. ⌜ r ≡ beginsBody sign ⌝ }
-{
-    match sign {
-        Sign::Positive => true,
-        Sign::Negative => true,
-        Sign::Neither => false,
+        Agreement::Open => false,
+        Agreement::At(_) => false,
+        Agreement::Failed => true,
     }
 }
 

@@ -1,7 +1,7 @@
 -- What a body does at an index, by the word that stands there.
 use mathlib.Core.List.{List}
 use Prim.Native.Nat.{ℕ}
-use lib.Dec.{ltb}
+use lib.Dec.{ltb, eqb}
 use lib.ListN.{length, getD}
 use Rattle.base.specs.Choice.{choose}
 use Rattle.word.specs.Words.{decoded}
@@ -9,6 +9,10 @@ use Rattle.word.specs.declared.Symbol.{Symbol}
 use Rattle.word.specs.declared.Symbol.the-variants as symbol
 use Rattle.word.specs.declared.Word.{Word}
 use Rattle.word.specs.declared.Word.the-variants as word
+use Rattle.grammar.specs.Codes.{failedCode}
+use Rattle.rule.specs.declared.Sign.{Sign}
+use Rattle.rule.specs.declared.Sign.the-variants.{Positive, Negative}
+use Rattle.rule.specs.contracts.Rule.{bodyEnd}
 use Rattle.descent_steps.specs.declared.Step.{Step}
 use Rattle.descent_steps.specs.declared.Step.the-variants.{Terminal, Nonterminal, Over}
 
@@ -28,3 +32,19 @@ stepOf word.Invalid = Over
 -- it is over where the words end
 unfoldable pub stepAt : List ℕ → ℕ → Step
 stepAt words at = choose (ltb at (length words)) (stepOf (decoded (getD words at 0))) Over
+
+-- the word at an index; where the words end, one that begins nothing
+unfoldable pub wordAt : List ℕ → ℕ → ℕ
+wordAt words at = choose (ltb at (length words)) (getD words at 0) 0
+
+-- the word that begins a negative conjunct
+abbrev pub negativeWord : ℕ
+negativeWord = 1073741824
+
+-- what a word that begins a conjunct begins
+unfoldable pub conjunctSign : ℕ → Sign
+conjunctSign bits = choose (eqb bits negativeWord) Negative Positive
+
+-- where the next conjunct is, or the rule ends, when a body has stopped at an index with an entry for its outcome
+unfoldable pub nextConjunct : List ℕ → ℕ → ℕ → ℕ
+nextConjunct words entry at = choose (eqb entry failedCode) (bodyEnd words at) at

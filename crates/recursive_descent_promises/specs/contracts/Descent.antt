@@ -5,7 +5,7 @@ use mathlib.Core.List.{List, List·Memᴰ}
 use mathlib.Core.Option.{Option, none, some}
 use Prim.Native.Nat.{ℕ, suc, _+_, _*_, _/_, _%_, _≤_, _<_}
 use lib.ListN.{length, getD, drop}
-use Rattle.grammar.specs.Codes.{uncalledCode}
+use Rattle.grammar.specs.Codes.{uncalledCode, failedCode}
 use Rattle.grammar.specs.Limits.{maxWords, maxNonterminals, maxTokens, maxMemoEntries}
 use Rattle.grammar.specs.Syntax.{Rule, bodies}
 use Rattle.grammar.specs.Encoding.{parse, grammarOf}
@@ -24,6 +24,7 @@ use Rattle.semantics.specs.contracts.ComesTo.{measure}
 use Rattle.semantics.specs.Memo.{outcomeCode, entry, Recorded}
 use Rattle.semantics.specs.contracts.Memo.{blank, decode}
 use Rattle.semantics.specs.contracts.MemoDescent.{memoized, memoRun, memoCall}
+use Rattle.rule.specs.contracts.Rule.{bodyEnd}
 use Rattle.recursive_descent_promises.specs.declared.Run.{Run}
 use Rattle.descent_arrays.specs.contracts.Arrays.{rowColumn, endMark, columnWeight, heldTokens, rowAt, endAt, firstAt}
 
@@ -106,6 +107,7 @@ pub record RunDone (choice : Choice) (words input memo : List ℕ) (A from start
   pub sound : MemoSound choice words input memo′
   pub within : (e : ℕ) → decode (r .end) ≡ End e → e ≤ length input
   pub skipped : Skipped words from (r .at)
+  pub over : (r .end ≡ failedCode → ⊥) → bodyEnd words (r .at) ≡ r .at
 
 -- a call and a run require that the arrays hold some choice, and ensure what they do for each that they hold
 abbrev pub CallRequires : (words choices tokens memo : List ℕ) (A place : ℕ) → Type 0

@@ -63,6 +63,11 @@ goesOn s Open = beginsBody s
 goesOn s (At e) = beginsBody s
 goesOn s Failed = false
 
+abbrev pub hasFailed : Agreement → Bool
+hasFailed Open = false
+hasFailed (At e) = false
+hasFailed Failed = true
+
 -- before the first body: a rule that begins with a negative conjunct has no positive one, and takes all up to the input's end
 abbrev pub openingBy : Sign → ℕ → Agreement
 openingBy Positive end = Open

@@ -14,9 +14,9 @@ use Rattle.recursive_descent_promises.proofs.Choosing.{token-given, entry-given
 use Rattle.recursive_descent_promises.proofs.Running.{level, Running, running-as, running-start, running-done, running-terminal, running-mismatch}
 use Rattle.recursive_descent_promises.proofs.Running.{terminal-within, nonterminal-within, running-given, running-small, running-falls}
 use Rattle.recursive_descent_promises.proofs.Running.{running-call, running-failed}
-use Rattle.recursive_descent_promises.proofs.Calling.{InRule, rule-conjunct, rule-run, rule-turn, rule-done}
+use Rattle.recursive_descent_promises.proofs.Calling.{Going, going-conjunct, going-run, going-failed, going-falls, going-turn, going-done}
 use Rattle.recursive_descent_promises.proofs.Storing.{memo-same, index-low, call-known, call-stored}
-use Rattle.recursive_descent_promises.proofs.Starting.{no-rule, rule-chosen, start-rule, select-none, none-fails, encode-failed}
+use Rattle.recursive_descent_promises.proofs.Starting.{no-rule, rule-chosen, start-going, select-none, none-fails, encode-failed}
 use borrow.Fn.Kinds.{In}
 use borrow.Fn.PlainCycle.{Measures, is, falls, and}
 use Rattle.recursive_descent.proofs.descent.call.Reads as call
@@ -33,9 +33,11 @@ use Rattle.recursive_descent.proofs.descent.matches.Reads as matches-re
 use Rattle.descent_steps.proofs.joined_entry.Reads as joined-entry-reads
 use Rattle.descent_steps.proofs.step_at.Reads as step-at-reads
 use Rattle.descent_steps.proofs.entry.recall.Reads as recall-reads
-use Rattle.rule.proofs.body_end.Reads as body-end-reads
-use Rattle.rule.proofs.goes_on.Reads as goes-on-reads
-use Rattle.rule.proofs.sign_at.Reads as sign-at-reads
+use Rattle.descent_steps.proofs.begins_conjunct.Reads as begins-conjunct-reads
+use Rattle.descent_steps.proofs.conjunct_sign.Reads as conjunct-sign-reads
+use Rattle.descent_steps.proofs.next_conjunct.Reads as next-conjunct-reads
+use Rattle.descent_steps.proofs.word_at.Reads as word-at-reads
+use Rattle.rule.proofs.has_failed.Reads as has-failed-reads
 use Rattle.recursive_descent.proofs.descent.+call+run_body.{statement}
 use Rattle.recursive_descent.proofs.descent.+call+run_body.Tie.{close}
 
@@ -65,18 +67,22 @@ call-claims t = (
   entry-of-reads.Learnt,
   chosen-reads.Asked,
   chosen-reads.Learnt,
-  sign-at-reads.Asked,
-  sign-at-reads.Learnt,
+  word-at-reads.Asked,
+  word-at-reads.Learnt,
+  conjunct-sign-reads.Asked,
+  conjunct-sign-reads.Learnt,
   first-agreement-reads.Asked,
   first-agreement-reads.Learnt,
-  goes-on-reads.Asked,
-  goes-on-reads.Learnt,
+  begins-conjunct-reads.Asked,
+  begins-conjunct-reads.Learnt,
   run-body-below t,
   run-body.Post,
   joined-entry-reads.Asked,
   joined-entry-reads.Learnt,
-  body-end-reads.Asked,
-  body-end-reads.Learnt,
+  has-failed-reads.Asked,
+  has-failed-reads.Learnt,
+  next-conjunct-reads.Asked,
+  next-conjunct-reads.Learnt,
   concluded-entry-reads.Asked,
   concluded-entry-reads.Learnt,
 )
@@ -94,12 +100,12 @@ run-body-claims t = (
 )
 
 abbrev call-Inv-loop : call-lts.InvT-loop
-call-Inv-loop nonterminal words choices tokens memo₀ place entry known at₀ sign₀ agreement₀ memo at sign agreement =
+call-Inv-loop nonterminal words choices tokens memo₀ place entry known at₀ word₀ agreement₀ memo at word agreement =
     (choice : Choice) → CallGiven choice words choices tokens (heldTokens tokens) memo₀ nonterminal place
-    → InRule choice words (heldTokens tokens) memo₀ nonterminal place memo at sign agreement
+    → Going choice words (heldTokens tokens) memo₀ nonterminal place memo at word agreement
 
 abbrev call-μ-loop : call-lts.MeasureT-loop
-call-μ-loop nonterminal words choices tokens memo₀ place entry known at₀ sign₀ agreement₀ memo at sign agreement =
+call-μ-loop nonterminal words choices tokens memo₀ place entry known at₀ word₀ agreement₀ memo at word agreement =
     length words - at
 
 call-entry-of-requires : (t : ℕ) → call-lts.Need-entry-of-requires (call-claims t) (call-at t) call.Post call-Inv-loop call-μ-loop
@@ -139,120 +145,192 @@ call-returns-2 t c =
     λ choice g. call-stored g (c .before .before .before .before .entry-of .ensures) (c .before .before .if1 .left) none
     (select-none g (no-rule g (c .before .chosen .ensures) (c .if2 .taken))) (λ n l. none-fails _ _ _ _) encode-failed
 
-call-sign-at-requires : (t : ℕ) → call-lts.Need-sign-at-requires (call-claims t) (call-at t) call.Post call-Inv-loop call-μ-loop
-call-sign-at-requires t c κs = tt
+call-word-at-requires : (t : ℕ) → call-lts.Need-word-at-requires (call-claims t) (call-at t) call.Post call-Inv-loop call-μ-loop
+call-word-at-requires t c κs = tt
 
-call-first-agreement-requires : (t : ℕ)
-    → call-lts.Need-first-agreement-requires (call-claims t) (call-at t) call.Post call-Inv-loop call-μ-loop
+call-conjunct-sign-requires : (t : ℕ) → call-lts.Need-conjunct-sign-requires (call-claims t) (call-at t) call.Post call-Inv-loop call-μ-loop
+call-conjunct-sign-requires t c κs = tt
+
+call-first-agreement-requires : (t : ℕ) → call-lts.Need-first-agreement-requires (call-claims t) (call-at t) call.Post call-Inv-loop call-μ-loop
 call-first-agreement-requires t c κs =
-    let start = c .before .before .before .before .before .before .before .before in
+    let start = c .before .before .before .before .before .before .before .before .before in
     record { named = entry-given (start .pre .1 .1) .named }
 
 call-loop-holds : (t : ℕ) → call-lts.Need-loop-holds (call-claims t) (call-at t) call.Post call-Inv-loop call-μ-loop
 call-loop-holds t c =
-    λ choice g. start-rule g (rule-chosen g (c .before .before .before .chosen .ensures) (c .before .before .if2 .left)) (c .before .sign-at .ensures)
-    (c .first-agreement .ensures)
+    let at-word-at = c .before .before in
+    let at-chosen = at-word-at .before .before in
+    λ choice g. start-going g (rule-chosen g (at-chosen .chosen .ensures) (at-word-at .before .if2 .left)) (at-word-at .word-at .ensures)
+    (c .before .conjunct-sign .ensures) (c .first-agreement .ensures)
 
-call-goes-on-requires : (t : ℕ) → call-lts.Need-goes-on-requires (call-claims t) (call-at t) call.Post call-Inv-loop call-μ-loop
-call-goes-on-requires t c κs = tt
+call-begins-conjunct-requires : (t : ℕ) → call-lts.Need-begins-conjunct-requires (call-claims t) (call-at t) call.Post call-Inv-loop call-μ-loop
+call-begins-conjunct-requires t c κs = tt
 
 call-add-run-body : (t : ℕ) → call-lts.Need-add-run-body (call-claims t) (call-at t) call.Post call-Inv-loop call-μ-loop
 call-add-run-body t c =
     let at-then = c .before in
-    let at-goes-on = at-then .before in
-    let at-loop = at-goes-on .before in
-    let start = at-loop .before .before .before .before .before .before .before .before .before .before in
-    let rule = at-loop .loop .inv _ (start .pre .1 .1) in
-    let goes = sym (at-goes-on .goes-on .ensures) ∙ at-then .if3 .taken in
-    omega (arith, rule-conjunct (start .pre .1 .1) rule goes)
+    let at-begins = at-then .before in
+    let at-loop = at-begins .before in
+    let start = at-loop .before .before .before .before .before .before .before .before .before .before .before in
+    let begins = sym (at-begins .begins-conjunct .ensures) ∙ at-then .if3 .taken in
+    omega (arith, going-conjunct (start .pre .1 .1) (at-loop .loop .inv _ (start .pre .1 .1)) begins)
 
 call-run-body-requires : (t : ℕ) → call-lts.Need-run-body-requires (call-claims t) (call-at t) call.Post call-Inv-loop call-μ-loop
 call-run-body-requires t c κs =
     let at-then = c .before in
-    let at-goes-on = at-then .before in
-    let at-loop = at-goes-on .before in
-    let start = at-loop .before .before .before .before .before .before .before .before .before .before in
-    let rule = at-loop .loop .inv _ (start .pre .1 .1) in
-    let goes = sym (at-goes-on .goes-on .ensures) ∙ at-then .if3 .taken in
-    (omega (arith, start .pre .0), (_, rule-run (start .pre .1 .1) rule goes))
+    let at-begins = at-then .before in
+    let at-loop = at-begins .before in
+    let start = at-loop .before .before .before .before .before .before .before .before .before .before .before in
+    let begins = sym (at-begins .begins-conjunct .ensures) ∙ at-then .if3 .taken in
+    (omega (arith, start .pre .0), (_, going-run (start .pre .1 .1) (at-loop .loop .inv _ (start .pre .1 .1)) begins))
 
-call-joined-entry-requires : (t : ℕ)
-    → call-lts.Need-joined-entry-requires (call-claims t) (call-at t) call.Post call-Inv-loop call-μ-loop
+call-conjunct-sign-requires-2 : (t : ℕ) → call-lts.Need-conjunct-sign-requires-2 (call-claims t) (call-at t) call.Post call-Inv-loop call-μ-loop
+call-conjunct-sign-requires-2 t c κs = tt
+
+call-joined-entry-requires : (t : ℕ) → call-lts.Need-joined-entry-requires (call-claims t) (call-at t) call.Post call-Inv-loop call-μ-loop
 call-joined-entry-requires t c κs = tt
 
-call-body-end-requires : (t : ℕ) → call-lts.Need-body-end-requires (call-claims t) (call-at t) call.Post call-Inv-loop call-μ-loop
-call-body-end-requires t c κs = tt
+call-has-failed-requires : (t : ℕ) → call-lts.Need-has-failed-requires (call-claims t) (call-at t) call.Post call-Inv-loop call-μ-loop
+call-has-failed-requires t c κs = tt
 
-call-sign-at-requires-2 : (t : ℕ) → call-lts.Need-sign-at-requires-2 (call-claims t) (call-at t) call.Post call-Inv-loop call-μ-loop
-call-sign-at-requires-2 t c κs = tt
+call-mul-memo-2 : (t : ℕ) → call-lts.Need-mul-memo-2 (call-claims t) (call-at t) call.Post call-Inv-loop call-μ-loop
+call-mul-memo-2 t c =
+    let at-run-body = c .before .before .before .before .before .before in
+    let at-then = at-run-body .before .before in
+    let at-begins = at-then .before in
+    let at-loop = at-begins .before in
+    let at-entry-of = at-loop .before .before .before .before .before .before .before .before in
+    let start = at-entry-of .before .before .before in
+    omega (arith, at-entry-of .entry-of .ensures, entry-given (start .pre .1 .1) .low, start .pre .1 .1 .placed, start .pre .1 .1 .given .short)
+
+call-slice-write-memo-2 : (t : ℕ) → call-lts.Need-slice-write-memo-2 (call-claims t) (call-at t) call.Post call-Inv-loop call-μ-loop
+call-slice-write-memo-2 t c =
+    let at-run-body = c .before .before .before .before .before .before in
+    let at-then = at-run-body .before .before in
+    let at-begins = at-then .before in
+    let at-loop = at-begins .before in
+    let at-entry-of = at-loop .before .before .before .before .before .before .before .before in
+    let start = at-entry-of .before .before .before in
+    let going = at-loop .loop .inv _ (start .pre .1 .1) in
+    let begins = sym (at-begins .begins-conjunct .ensures) ∙ at-then .if3 .taken in
+    let ran = at-run-body .run-body .ensures _ (going-run (start .pre .1 .1) going begins) in
+    omega (arith, index-low (start .pre .1 .1) (at-entry-of .entry-of .ensures), memo-same (ran .sound) (start .pre .1 .1 .given .sound))
+
+call-same-length-2 : (t : ℕ) → call-lts.Need-same-length-2 (call-claims t) (call-at t) call.Post call-Inv-loop call-μ-loop
+call-same-length-2 t c =
+    let at-run-body = c .before .before .before .before .before .before in
+    let at-then = at-run-body .before .before in
+    let at-begins = at-then .before in
+    let at-loop = at-begins .before in
+    let at-entry-of = at-loop .before .before .before .before .before .before .before .before in
+    let start = at-entry-of .before .before .before in
+    let going = at-loop .loop .inv _ (start .pre .1 .1) in
+    let begins = sym (at-begins .begins-conjunct .ensures) ∙ at-then .if3 .taken in
+    let ran = at-run-body .run-body .ensures _ (going-run (start .pre .1 .1) going begins) in
+    simp length-set (memo-same (ran .sound) (start .pre .1 .1 .given .sound))
+
+call-returns-3 : (t : ℕ) → call-lts.Need-returns-3 (call-claims t) (call-at t) call.Post call-Inv-loop call-μ-loop
+call-returns-3 t c =
+    let at-has-failed = c .before in
+    let at-joined = at-has-failed .before in
+    let at-run-body = c .before .before .before .before .before .before in
+    let at-then = at-run-body .before .before in
+    let at-begins = at-then .before in
+    let at-loop = at-begins .before in
+    let at-entry-of = at-loop .before .before .before .before .before .before .before .before in
+    let at-fresh = at-loop .before .before .before .before .before .before in
+    λ choice g.
+    let going = at-loop .loop .inv choice g in
+    let begins = sym (at-begins .begins-conjunct .ensures) ∙ at-then .if3 .taken in
+    call-stored g (at-entry-of .entry-of .ensures) (at-fresh .if1 .left) (some (going .rule .rule)) (going .rule .selected)
+    (going-failed g going begins (at-run-body .run-body .ensures choice (going-run g going begins)) (at-joined .before .conjunct-sign2 .ensures)
+    (at-joined .joined-entry .ensures) (sym (at-has-failed .has-failed .ensures) ∙ c .if4 .taken)) encode-failed
+
+call-next-conjunct-requires : (t : ℕ) → call-lts.Need-next-conjunct-requires (call-claims t) (call-at t) call.Post call-Inv-loop call-μ-loop
+call-next-conjunct-requires t c κs = tt
+
+call-word-at-requires-2 : (t : ℕ) → call-lts.Need-word-at-requires-2 (call-claims t) (call-at t) call.Post call-Inv-loop call-μ-loop
+call-word-at-requires-2 t c κs = tt
 
 call-loop-less : (t : ℕ) → call-lts.Need-loop-less (call-claims t) (call-at t) call.Post call-Inv-loop call-μ-loop
 call-loop-less t c =
-    let at-body-end = c .before in
-    let at-run-body = at-body-end .before .before .before .before in
+    let at-next = c .before in
+    let at-has-failed = at-next .before .before in
+    let at-joined = at-has-failed .before in
+    let at-sign = at-joined .before in
+    let at-run-body = at-sign .before .before .before in
     let at-then = at-run-body .before .before in
-    let at-goes-on = at-then .before in
-    let at-loop = at-goes-on .before in
-    let start = at-loop .before .before .before .before .before .before .before .before .before .before in
-    let rule = at-loop .loop .inv _ (start .pre .1 .1) in
-    let goes = sym (at-goes-on .goes-on .ensures) ∙ at-then .if3 .taken in
+    let at-begins = at-then .before in
+    let at-loop = at-begins .before in
+    let start = at-loop .before .before .before .before .before .before .before .before .before .before .before in
+    let going = at-loop .loop .inv _ (start .pre .1 .1) in
+    let begins = sym (at-begins .begins-conjunct .ensures) ∙ at-then .if3 .taken in
+    let ran = at-run-body .run-body .ensures _ (going-run (start .pre .1 .1) going begins) in
     omega (
       arith,
-      rule-conjunct (start .pre .1 .1) rule goes,
-      at-run-body .run-body .ensures _ (rule-run (start .pre .1 .1) rule goes) .skipped .on,
-      at-body-end .body-end .ensures,
+      going-conjunct (start .pre .1 .1) going begins,
+      going-falls (start .pre .1 .1) going begins ran (at-sign .conjunct-sign2 .ensures) (at-joined .joined-entry .ensures) (at-next .next-conjunct .ensures),
     )
 
 call-loop-again : (t : ℕ) → call-lts.Need-loop-again (call-claims t) (call-at t) call.Post call-Inv-loop call-μ-loop
 call-loop-again t c =
-    let at-body-end = c .before in
-    let at-joined = at-body-end .before in
-    let at-run-body = at-joined .before .before .before in
+    let at-next = c .before in
+    let at-going-on = at-next .before in
+    let at-has-failed = at-going-on .before in
+    let at-joined = at-has-failed .before in
+    let at-sign = at-joined .before in
+    let at-run-body = at-sign .before .before .before in
     let at-then = at-run-body .before .before in
-    let at-goes-on = at-then .before in
-    let at-loop = at-goes-on .before in
+    let at-begins = at-then .before in
+    let at-loop = at-begins .before in
     λ choice g.
-    let rule = at-loop .loop .inv choice g in
-    let goes = sym (at-goes-on .goes-on .ensures) ∙ at-then .if3 .taken in
-    rule-turn g rule goes (at-run-body .run-body .ensures choice (rule-run g rule goes)) (at-joined .joined-entry .ensures) (at-body-end .body-end .ensures)
-    (c .sign-at2 .ensures)
+    let going = at-loop .loop .inv choice g in
+    let begins = sym (at-begins .begins-conjunct .ensures) ∙ at-then .if3 .taken in
+    going-turn g going begins (at-run-body .run-body .ensures choice (going-run g going begins)) (at-sign .conjunct-sign2 .ensures)
+    (at-joined .joined-entry .ensures) (at-next .next-conjunct .ensures) (c .word-at2 .ensures)
+    (sym (at-has-failed .has-failed .ensures) ∙ at-going-on .if4 .left)
 
-call-concluded-entry-requires : (t : ℕ)
-    → call-lts.Need-concluded-entry-requires (call-claims t) (call-at t) call.Post call-Inv-loop call-μ-loop
+call-concluded-entry-requires : (t : ℕ) → call-lts.Need-concluded-entry-requires (call-claims t) (call-at t) call.Post call-Inv-loop call-μ-loop
 call-concluded-entry-requires t c κs = tt
 
-call-mul-memo-2 : (t : ℕ) → call-lts.Need-mul-memo-2 (call-claims t) (call-at t) call.Post call-Inv-loop call-μ-loop
-call-mul-memo-2 t c =
-    let at-entry-of = c .before .before .before .before .before .before .before .before .before .before in
+call-mul-memo-3 : (t : ℕ) → call-lts.Need-mul-memo-3 (call-claims t) (call-at t) call.Post call-Inv-loop call-μ-loop
+call-mul-memo-3 t c =
+    let at-loop = c .before .before .before in
+    let at-entry-of = at-loop .before .before .before .before .before .before .before .before in
     let start = at-entry-of .before .before .before in
     omega (arith, index-low (start .pre .1 .1) (at-entry-of .entry-of .ensures))
 
-call-slice-write-memo-2 : (t : ℕ) → call-lts.Need-slice-write-memo-2 (call-claims t) (call-at t) call.Post call-Inv-loop call-μ-loop
-call-slice-write-memo-2 t c =
+call-slice-write-memo-3 : (t : ℕ) → call-lts.Need-slice-write-memo-3 (call-claims t) (call-at t) call.Post call-Inv-loop call-μ-loop
+call-slice-write-memo-3 t c =
     let at-loop = c .before .before .before in
-    let at-entry-of = at-loop .before .before .before .before .before .before .before in
+    let at-entry-of = at-loop .before .before .before .before .before .before .before .before in
     let start = at-entry-of .before .before .before in
-    let rule = at-loop .loop .inv _ (start .pre .1 .1) in
-    omega (arith, index-low (start .pre .1 .1) (at-entry-of .entry-of .ensures), memo-same (rule .calling .sound) (start .pre .1 .1 .given .sound))
+    let going = at-loop .loop .inv _ (start .pre .1 .1) in
+    omega (
+      arith,
+      index-low (start .pre .1 .1) (at-entry-of .entry-of .ensures),
+      memo-same (going .rule .calling .sound) (start .pre .1 .1 .given .sound),
+    )
 
-call-same-length-2 : (t : ℕ) → call-lts.Need-same-length-2 (call-claims t) (call-at t) call.Post call-Inv-loop call-μ-loop
-call-same-length-2 t c =
+call-same-length-3 : (t : ℕ) → call-lts.Need-same-length-3 (call-claims t) (call-at t) call.Post call-Inv-loop call-μ-loop
+call-same-length-3 t c =
     let at-loop = c .before .before .before in
-    let start = at-loop .before .before .before .before .before .before .before .before .before .before in
-    let rule = at-loop .loop .inv _ (start .pre .1 .1) in
-    simp length-set (memo-same (rule .calling .sound) (start .pre .1 .1 .given .sound))
+    let at-entry-of = at-loop .before .before .before .before .before .before .before .before in
+    let start = at-entry-of .before .before .before in
+    let going = at-loop .loop .inv _ (start .pre .1 .1) in
+    simp length-set (memo-same (going .rule .calling .sound) (start .pre .1 .1 .given .sound))
 
-call-returns-3 : (t : ℕ) → call-lts.Need-returns-3 (call-claims t) (call-at t) call.Post call-Inv-loop call-μ-loop
-call-returns-3 t c =
+call-returns-4 : (t : ℕ) → call-lts.Need-returns-4 (call-claims t) (call-at t) call.Post call-Inv-loop call-μ-loop
+call-returns-4 t c =
     let at-else = c .before in
-    let at-goes-on = at-else .before in
-    let at-loop = at-goes-on .before in
-    let at-fresh = at-loop .before .before .before .before .before in
+    let at-begins = at-else .before in
+    let at-loop = at-begins .before in
+    let at-fresh = at-loop .before .before .before .before .before .before in
     λ choice g.
-    let rule = at-loop .loop .inv choice g in
-    let stops = sym (at-goes-on .goes-on .ensures) ∙ at-else .if3 .left in
-    call-stored g (at-fresh .before .before .entry-of .ensures) (at-fresh .if1 .left) (some (rule .rule)) (rule .selected)
-    (rule-done g rule stops) (c .concluded-entry .ensures)
+    let going = at-loop .loop .inv choice g in
+    let stops = sym (at-begins .begins-conjunct .ensures) ∙ at-else .if3 .left in
+    call-stored g (at-fresh .before .before .entry-of .ensures) (at-fresh .if1 .left) (some (going .rule .rule)) (going .rule .selected)
+    (going-done g going stops) (c .concluded-entry .ensures)
 
 abbrev run-body-Inv-loop : run-body-lts.InvT-loop
 run-body-Inv-loop nonterminal words choices tokens memo₀ from start at₀ place₀ memo at place =
@@ -295,6 +373,12 @@ run-body-matches-requires t c κs =
     let at-loop = c .before .before .before .before in
     let start = at-loop .before .before .before in
     token-given (start .pre .1 .1 .call .given) (at-loop .loop .inv _ (start .pre .1 .1) .placed)
+
+run-body-add-behind : (t : ℕ) → run-body-lts.Need-add-behind (run-body-claims t) (run-body-at t) run-body.Post run-body-Inv-loop run-body-μ-loop
+run-body-add-behind t c =
+    let at-loop = c .before .before .before .before .before .before in
+    let start = at-loop .before .before .before in
+    omega (arith, at-loop .loop .inv _ (start .pre .1 .1) .skipped .within)
 
 run-body-same-length-2 : (t : ℕ) → run-body-lts.Need-same-length-2 (run-body-claims t) (run-body-at t) run-body.Post run-body-Inv-loop run-body-μ-loop
 run-body-same-length-2 t c =
@@ -354,6 +438,12 @@ run-body-enum-known-outcome t c = c .match2 .keys1
 
 run-body-enum-told-2 : (t : ℕ) → run-body-lts.Need-enum-told-2 (run-body-claims t) (run-body-at t) run-body.Post run-body-Inv-loop run-body-μ-loop
 run-body-enum-told-2 t c = c .match2 .keys2
+
+run-body-add-behind-2 : (t : ℕ) → run-body-lts.Need-add-behind-2 (run-body-claims t) (run-body-at t) run-body.Post run-body-Inv-loop run-body-μ-loop
+run-body-add-behind-2 t c =
+    let at-loop = c .before .before .before .before .before .before .before .before .before .before .before in
+    let start = at-loop .before .before .before in
+    omega (arith, at-loop .loop .inv _ (start .pre .1 .1) .skipped .within)
 
 run-body-same-length-3 : (t : ℕ) → run-body-lts.Need-same-length-3 (run-body-claims t) (run-body-at t) run-body.Post run-body-Inv-loop run-body-μ-loop
 run-body-same-length-3 t c =
@@ -429,22 +519,29 @@ pub +call+run-body-spec : {M : Type 1} → statement M
     (call-slice-write-memo t)
     (call-same-length t)
     (call-returns-2 t)
-    (call-sign-at-requires t)
+    (call-word-at-requires t)
+    (call-conjunct-sign-requires t)
     (call-first-agreement-requires t)
     (call-loop-holds t)
-    (call-goes-on-requires t)
+    (call-begins-conjunct-requires t)
     (call-add-run-body t)
     (call-run-body-requires t)
+    (call-conjunct-sign-requires-2 t)
     (call-joined-entry-requires t)
-    (call-body-end-requires t)
-    (call-sign-at-requires-2 t)
-    (call-loop-less t)
-    (call-loop-again t)
-    (call-concluded-entry-requires t)
+    (call-has-failed-requires t)
     (call-mul-memo-2 t)
     (call-slice-write-memo-2 t)
     (call-same-length-2 t)
-    (call-returns-3 t))
+    (call-returns-3 t)
+    (call-next-conjunct-requires t)
+    (call-word-at-requires-2 t)
+    (call-loop-less t)
+    (call-loop-again t)
+    (call-concluded-entry-requires t)
+    (call-mul-memo-3 t)
+    (call-slice-write-memo-3 t)
+    (call-same-length-3 t)
+    (call-returns-4 t))
     λ t. run-body-lts.spec (run-body-claims t)
     (run-body-at t)
     run-body.Post
@@ -457,6 +554,7 @@ pub +call+run-body-spec : {M : Type 1} → statement M
     (run-body-returns t)
     (run-body-enum-known-step t)
     (run-body-matches-requires t)
+    (run-body-add-behind t)
     (run-body-same-length-2 t)
     (run-body-returns-2 t)
     (run-body-add-place t)
@@ -466,6 +564,7 @@ pub +call+run-body-spec : {M : Type 1} → statement M
     (run-body-recall-requires t)
     (run-body-enum-known-outcome t)
     (run-body-enum-told-2 t)
+    (run-body-add-behind-2 t)
     (run-body-same-length-3 t)
     (run-body-returns-3 t)
     (run-body-add-at t)
