@@ -19,6 +19,7 @@ use word::decode;
 
 pub mod entry;
 
+// The words that begin a positive and a negative conjunct: kinds 3 and 4 in the topmost four bits, and zeros.
 const POSITIVE_WORD: u32 = 805306368;
 
 const NEGATIVE_WORD: u32 = 1073741824;
