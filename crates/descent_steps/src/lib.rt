@@ -4,7 +4,7 @@ ghost use Rattle.word.specs.Words.{decoded};
 ghost use Rattle.semantics.specs.Memo.{outcomeCode};
 ghost use Rattle.semantics.specs.contracts.Memo.{decode as outcomeOf};
 ghost use Rattle.rule.specs.contracts.Rule.{beginsBody, signOf, joinedBy, concluded};
-ghost use Rattle.descent_steps.specs.contracts.Steps.{symbolStep, stepOf, stepAt, wordAt, conjunctSign, nextConjunct};
+ghost use Rattle.descent_steps.specs.contracts.Steps.{symbolStep, stepOf, wordAt, conjunctSign, nextConjunct};
 use entry::code;
 use entry::recall;
 use grammar::codes::FAILED;
@@ -24,7 +24,7 @@ const POSITIVE_WORD: u32 = 805306368;
 
 const NEGATIVE_WORD: u32 = 1073741824;
 
-// What a body does at an index: it takes a terminal, calls a nonterminal, or is over.
+// What a body does at a word: it takes a terminal, calls a nonterminal, or is over.
 pub enum Step {
     Terminal(u32),
     Nonterminal(u32),
@@ -57,15 +57,11 @@ fn step_of(word: Word) -> Step
     }
 }
 
-// A body is over at a word that is no symbol, and where the words end.
-pub fn step_at(words: &[u32], at: usize) -> Step
-    ensures { λ r. ⌜ r ≡ stepAt (now (words .entry)) at ⌝ }
+// A body is over at a word that is no symbol.
+pub fn step_of_word(bits: u32) -> Step
+    ensures { λ r. ⌜ r ≡ stepOf (decoded bits) ⌝ }
 {
-    if at < words.len() {
-        step_of(decode(words[at]))
-    } else {
-        Step::Over
-    }
+    step_of(decode(bits))
 }
 
 // The word at an index; where the words end, one that begins nothing.

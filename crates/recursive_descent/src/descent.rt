@@ -17,7 +17,7 @@ use descent_steps::conjunct_sign;
 use descent_steps::entry::recall;
 use descent_steps::joined_entry;
 use descent_steps::next_conjunct;
-use descent_steps::step_at;
+use descent_steps::step_of_word;
 use descent_steps::word_at;
 use grammar::codes::FAILED;
 use grammar::codes::UNCALLED;
@@ -82,7 +82,7 @@ fn run_body(
     let mut at = from;
     let mut place = start;
     loop {
-        let step = step_at(words, at);
+        let step = step_of_word(words[at]);
         match step {
             Step::Over => {
                 return Run { end: place, at };

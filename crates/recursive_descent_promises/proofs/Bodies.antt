@@ -5,20 +5,22 @@ use mathlib.Core.List.{List}
 use Prim.Native.Nat.{ℕ, zero, suc, _+_, _-_, _≤_, _<_}
 use native.Mathlib.Omega.{arith}
 use native.Mathlib.Numerals.{add-one}
-use lib.ListN.{length, getD, drop}
+use native.Mathlib.Decide.{decLt}
+use lib.ListN.{length, getD, drop, drop-of-length-le}
 use Rattle.word.specs.declared.Symbol as grammar
 use Rattle.word.specs.declared.Word.the-variants.{Symbol}
 use Rattle.word.specs.Words.{decoded}
 use Rattle.grammar.specs.declared.reading.Sizes.{Sizes}
 use Rattle.grammar.specs.declared.reading.Progress.{Progress}
-use Rattle.grammar.specs.declared.reading.Reading.the-variants.{Read}
+use Rattle.grammar.specs.declared.reading.Reading.{Reading}
+use Rattle.grammar.specs.declared.reading.Reading.the-variants.{Read, Faulty}
 use Rattle.grammar.specs.Encoding.{onWord, parse}
-use Rattle.grammar.specs.Reading.{scan}
+use Rattle.grammar.specs.Reading.{scan, finished}
 use Rattle.grammar.proofs.Suffixes.{scan-next}
 use Rattle.families.proofs.Words.{parse-here as parse-first}
 use Rattle.rule.specs.contracts.Rule.{isSymbol, bodyEnd}
 use Rattle.rule.proofs.Bodies.{tested-symbol, body-on, body-stops, body-over}
-use Rattle.recursive_descent_promises.specs.contracts.Descent.{Skipped}
+use Rattle.recursive_descent_promises.specs.contracts.Descent.{isClosed, Skipped}
 
 -- the row from an index on: its first word, and the rest
 pub parse-here : (words : List ℕ) (at : ℕ) → at < length words
@@ -42,6 +44,22 @@ symbol-reads words at p z X h x e =
     (record { state = p .state; sizes = record { nonterminals = p .sizes .nonterminals; terminals = p .sizes .terminals; rules = p .sizes .rules } }) =
     cc (k .state, k .nonterminals, k .terminals, r) in
     rw (same) at (n .reads)
+
+-- a reading that has not met the end's word is within the words
+pub read-within : (words : List ℕ) (at : ℕ) (p : Progress) (z : Sizes) → at ≤ length words → scan p at (drop at words) ≡ Read z
+    → isClosed (p .state) ≡ false → at < length words
+unfolding scan finished
+read-within words at p z h e c = go (decLt at (length words))
+  where
+    readNumber : Reading → ℕ
+    readNumber (Read s) = 0
+    readNumber (Faulty x) = 1
+
+    go : Dec (at < length words) → at < length words
+    go (yes l) = l
+    go (no l) =
+        let over = rw (drop-of-length-le words {i = at} (omega arith), c) at e in
+        absurd (omega (arith, ap readNumber over))
 
 pub skipped-none : (words : List ℕ) (from : ℕ) → from ≤ length words → Skipped words from from
 skipped-none words from h = record { on = omega arith; within = h; positives = refl; negatives = refl; reads = λ p z e. e }

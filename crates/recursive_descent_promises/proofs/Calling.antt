@@ -39,7 +39,7 @@ use Rattle.descent_steps.specs.contracts.Steps.{wordAt, conjunctSign, nextConju
 use Rattle.descent_steps.proofs.Conjuncts.{conjunct-sign, word-sign}
 use Rattle.families.proofs.Words.{parse-over}
 use Rattle.recursive_descent_promises.specs.declared.Run.{Run}
-use Rattle.recursive_descent_promises.specs.contracts.Descent.{MemoSound, CallGiven, RunGiven, RunDone}
+use Rattle.recursive_descent_promises.specs.contracts.Descent.{isClosed, MemoSound, CallGiven, RunGiven, RunDone}
 use Rattle.recursive_descent_promises.proofs.Bodies.{parse-here, skipped-on, body-ended}
 use Rattle.recursive_descent_promises.proofs.Running.{deep, level}
 
@@ -132,6 +132,7 @@ module _ {choice : Choice} {words choices tokens input memo₀ : List ℕ} {A pl
     pub negatives : (b : Body) → List·Memᴰ b (Q .negatives) → List·Memᴰ b (bodies r)
     pub progress : Progress
     pub reads : scan progress (at + 1) (drop (at + 1) words) ≡ reading words
+    pub unclosed : isClosed (progress .state) ≡ false
     pub joins : (n : ℕ) (m′ : List ℕ) (o : Outcome) → memoRun (deep choice words input n) input (Q .body) place memo ≡ memoized o m′
         → memoRest (deep choice words input n) input place agreed (parse (drop at words) .positives) (parse (drop at words) .negatives) memo
         ≡ memoRest (deep choice words input n) input place (joinedBy sign agreed o) (Q .positives) (Q .negatives) m′
@@ -152,6 +153,7 @@ module _ {choice : Choice} {words choices tokens input memo₀ : List ℕ} {A pl
       unfolding onWord
       positive x s =
           let p : parse (drop at words) ≡ onWord word.Positive Q = parse-here words at h ∙ ap (λ w. onWord w Q) x in
+          let after-positive : next .progress .state ≡ state.InPositive = rw x at (next .passed .state) in
           let ps : parse (drop at words) .positives ≡ Q .body ∷ Q .positives = ap (λ q. q .positives) p in
           let ns : parse (drop at words) .negatives ≡ Q .negatives = ap (λ q. q .negatives) p in
           record {
@@ -161,6 +163,7 @@ module _ {choice : Choice} {words choices tokens input memo₀ : List ℕ} {A pl
             negatives = λ b k. v .negatives b (rw ns k);
             progress = next .progress;
             reads = next-reads;
+            unclosed = ap isClosed after-positive;
             joins = λ n m′ o run. rw (ps, ns, s) (join agreed (rw s at goes) n m′ o run);
           }
         where
@@ -189,6 +192,7 @@ module _ {choice : Choice} {words choices tokens input memo₀ : List ℕ} {A pl
             negatives = λ b k. v .negatives b (rw ns (List·Memᴰ·tail k));
             progress = next .progress;
             reads = next-reads;
+            unclosed = ap isClosed after-negative;
             joins = λ n m′ o run. rw (ps, ns, s, none) (join agreed refl allowed (rw s at goes) n m′ o run);
           }
         where
@@ -233,6 +237,7 @@ module _ {choice : Choice} {words choices tokens input memo₀ : List ℕ} {A pl
         body = k .held;
         progress = k .progress;
         reads = k .reads;
+        unclosed = k .unclosed;
       }
 
   -- one body more

@@ -2,7 +2,6 @@
 use mathlib.Core.Path.{_≡_, refl, sym, ap, _∙_}
 use mathlib.Core.Bool.{true, false, _&&_, false≢true}
 use mathlib.Core.List.{List, [], _∷_}
-use mathlib.Core.Logic.{_⊎_, inl, inr}
 use Prim.Native.Nat.{ℕ, _+_, _%_, _≤_, _<_}
 use native.Mathlib.Omega.{arith}
 use native.Mathlib.Decide.{decLt}
@@ -39,17 +38,16 @@ use Rattle.semantics.proofs.descent.Ends.{descend-forward, descend-null}
 use Rattle.rule.specs.declared.Outcome as code
 use Rattle.rule.specs.declared.Outcome.the-variants as outcome
 use Rattle.rule.specs.contracts.Rule.{meant, isSymbol, bodyEnd}
-use Rattle.rule.proofs.Bodies.{body-over, body-stops}
+use Rattle.rule.proofs.Bodies.{body-stops}
 use Rattle.descent_steps.specs.declared.Step.the-variants as step
 use Rattle.descent_steps.specs.declared.Step.the-variants.{Over}
-use Rattle.descent_steps.specs.contracts.Steps.{stepAt}
-use Rattle.descent_steps.proofs.Steps.{step-terminal, step-nonterminal, step-over}
-use Rattle.families.proofs.Words.{parse-over}
+use Rattle.descent_steps.specs.contracts.Steps.{stepOf}
+use Rattle.descent_steps.proofs.Steps.{terminal-word, nonterminal-word, symbol-step}
 use Rattle.grammar.specs.Limits.{maxNonterminals}
 use Rattle.recursive_descent_promises.specs.declared.Run.{Run}
 use Rattle.descent_arrays.specs.contracts.Arrays.{endMark, columnWeight, matchesAt}
-use Rattle.recursive_descent_promises.specs.contracts.Descent.{Skipped, MemoSound, CallGiven, RunGiven, CallDone, RunDone}
-use Rattle.recursive_descent_promises.proofs.Bodies.{parse-here, symbol-reads, skipped-none, skipped-symbol}
+use Rattle.recursive_descent_promises.specs.contracts.Descent.{isClosed, Skipped, MemoSound, CallGiven, RunGiven, CallDone, RunDone}
+use Rattle.recursive_descent_promises.proofs.Bodies.{parse-here, symbol-reads, read-within, skipped-none, skipped-symbol}
 
 -- the calls at most n deep, on the words' grammar
 abbrev pub deep : Choice → List ℕ → List ℕ → ℕ → MemoCalls
@@ -77,6 +75,7 @@ pub record Running (choice : Choice) (words input memo₀ : List ℕ) (A from st
   pub front : place ≡ start → (B : ℕ) → LeftIn (nullable (grammarOf words)) B (body-at words at) → LeftDepends (grammarOf words) A B
   pub progress : Progress
   pub reads : scan progress at (drop at words) ≡ reading words
+  pub unclosed : isClosed (progress .state) ≡ false
   pub skipped : Skipped words from at
 
 -- where two ways meet
@@ -105,6 +104,7 @@ module _ {choice : Choice} {words choices tokens input memo₀ : List ℕ} {A fr
     front = λ e B l. record { rule = g .rule; body = parse (drop from words) .body; listed = g .listed; heads = g .heads; held = g .body; left = l };
     progress = g .progress;
     reads = g .reads;
+    unclosed = g .unclosed;
     skipped = skipped-none words from (g .inside);
   }
 
@@ -164,7 +164,7 @@ body-none Invalid p s a h = absurd (false≢true a)
 
 module _ {choice : Choice} {words choices tokens input memo₀ : List ℕ} {A from start : ℕ} (g : RunGiven choice words choices tokens input memo₀ A from start)
     {memo : List ℕ} {at place : ℕ} (v : Running choice words input memo₀ A from start memo at place) where
-  -- a run that reaches a word that is no symbol, or the end of the words, has ended
+  -- a run that reaches a word that is no symbol has ended
   done : body-at words at ≡ [] → bodyEnd words at ≡ at → RunDone choice words input memo₀ A from start (stopped place at) memo
   unfolding body-at memoRun
   done e over =
@@ -177,18 +177,18 @@ module _ {choice : Choice} {words choices tokens input memo₀ : List ℕ} {A fr
         over = λ _. over;
       }
 
-  pub running-done : stepAt words at ≡ Over → RunDone choice words input memo₀ A from start (stopped place at) memo
+  -- the word at the index is there
+  pub running-within : at < length words
+  running-within = read-within words at (v .progress) (g .call .given .sizes) (v .skipped .within) (v .reads ∙ g .call .given .read) (v .unclosed)
+
+  pub running-done : stepOf (decoded (getD words at 0)) ≡ Over → RunDone choice words input memo₀ A from start (stopped place at) memo
   unfolding body-at parse
-  running-done e = go (step-over words at e)
-    where
-      go : (length words ≤ at) ⊎ ((at < length words) × ((X : grammar.Symbol) → decoded (getD words at 0) ≡ Symbol X → ⊥))
-          → RunDone choice words input memo₀ A from start (stopped place at) memo
-      go (inl h) = done (ap (λ p. p .body) (parse-over words at h)) (body-over words at h)
-      go (inr h) =
-          let s = scan-next words at (v .progress) (g .call .given .sizes) (h .0) (v .reads ∙ g .call .given .read) in
-          done (ap (λ p. p .body) (parse-here words at (h .0))
-          ∙ body-none (decoded (getD words at 0)) (parse (drop (at + 1) words)) (v .progress .state) (s .passed .allowed) (h .1))
-          (body-stops words at (h .0) (no-symbol (decoded (getD words at 0)) (h .1)))
+  running-done e =
+      let s = scan-next words at (v .progress) (g .call .given .sizes) running-within (v .reads ∙ g .call .given .read) in
+      let none : (X : grammar.Symbol) → decoded (getD words at 0) ≡ Symbol X → ⊥ = λ X q. symbol-step X (sym (ap stepOf q) ∙ e) in
+      done (ap (λ p. p .body) (parse-here words at running-within)
+      ∙ body-none (decoded (getD words at 0)) (parse (drop (at + 1) words)) (v .progress .state) (s .passed .allowed) none)
+      (body-stops words at running-within (no-symbol (decoded (getD words at 0)) none))
 
   -- the body from a symbol on
   module _ (X : grammar.Symbol) (h : at < length words) (x : decoded (getD words at 0) ≡ Symbol X) where
@@ -218,15 +218,12 @@ module _ {choice : Choice} {words choices tokens input memo₀ : List ℕ} {A fr
         ≡ memoRun (deep choice words input n) input (X ∷ body-at words (at + 1)) place memo
     rest-here n l = v .rest n l ∙ ap (λ b. memoRun (deep choice words input n) input b place memo) body-here
 
-  module _ (a : ℕ) (step : stepAt words at ≡ step.Terminal a) where
-    pub terminal-within : at < length words
-    terminal-within = step-terminal words at a step .0
-
+  module _ (a : ℕ) (step : stepOf (decoded (getD words at 0)) ≡ step.Terminal a) where
     terminal-there : decoded (getD words at 0) ≡ Symbol (Terminal a)
-    terminal-there = step-terminal words at a step .1
+    terminal-there = terminal-word (decoded (getD words at 0)) a step
 
     running-token : matchesAt tokens place a ≡ (ltb place (length input) && eqb (getD input place 0) a)
-    running-token = token-is g place a (v .placed) (own-here (Terminal a) terminal-within terminal-there .0)
+    running-token = token-is g place a (v .placed) (own-here (Terminal a) running-within terminal-there .0)
 
     -- a token that is the terminal
     pub running-terminal : matchesAt tokens place a ≡ true → Running choice words input memo₀ A from start memo (at + 1) (place + 1)
@@ -238,32 +235,30 @@ module _ {choice : Choice} {words choices tokens input memo₀ : List ℕ} {A fr
           behind = omega (arith, v .behind);
           placed = omega arith;
           sound = v .sound;
-          rest = λ n k. rest-here (Terminal a) terminal-within terminal-there n k ∙ rw (m, add-one place);
-          known = known-here (Terminal a) terminal-within terminal-there;
-          own = own-here (Terminal a) terminal-within terminal-there .1;
+          rest = λ n k. rest-here (Terminal a) running-within terminal-there n k ∙ rw (m, add-one place);
+          known = known-here (Terminal a) running-within terminal-there;
+          own = own-here (Terminal a) running-within terminal-there .1;
           front = λ e. absurd (omega (arith, v .behind));
           progress = v .progress;
-          reads = next-reads (Terminal a) terminal-within terminal-there;
-          skipped = next-skipped (Terminal a) terminal-within terminal-there;
+          reads = next-reads (Terminal a) running-within terminal-there;
+          unclosed = v .unclosed;
+          skipped = next-skipped (Terminal a) running-within terminal-there;
         }
 
     -- another token, or the end
     pub running-mismatch : matchesAt tokens place a ≡ false → RunDone choice words input memo₀ A from start (stopped failedCode (at + 1)) memo
     unfolding body-at memoRun
     running-mismatch m = record {
-      model = λ n k. rest-here (Terminal a) terminal-within terminal-there n k ∙ rw (sym running-token ∙ m, failed-code);
+      model = λ n k. rest-here (Terminal a) running-within terminal-there n k ∙ rw (sym running-token ∙ m, failed-code);
       sound = v .sound;
       within = λ e q. absurd (failed-end e (sym failed-code ∙ q));
-      skipped = next-skipped (Terminal a) terminal-within terminal-there;
+      skipped = next-skipped (Terminal a) running-within terminal-there;
       over = λ n. absurd (n refl);
     }
 
-  module _ (B : ℕ) (step : stepAt words at ≡ step.Nonterminal B) where
-    pub nonterminal-within : at < length words
-    nonterminal-within = step-nonterminal words at B step .0
-
+  module _ (B : ℕ) (step : stepOf (decoded (getD words at 0)) ≡ step.Nonterminal B) where
     nonterminal-there : decoded (getD words at 0) ≡ Symbol (Nonterminal B)
-    nonterminal-there = step-nonterminal words at B step .1
+    nonterminal-there = nonterminal-word (decoded (getD words at 0)) B step
 
     -- the call that a nonterminal makes
     pub running-given : CallGiven choice words choices tokens input memo B place
@@ -282,19 +277,19 @@ module _ {choice : Choice} {words choices tokens input memo₀ : List ℕ} {A fr
         short = g .call .given .short;
         sound = v .sound;
       };
-      named = known-here (Nonterminal B) nonterminal-within nonterminal-there .0;
+      named = known-here (Nonterminal B) running-within nonterminal-there .0;
       placed = v .placed;
     }
 
     pub running-small : B < maxNonterminals
-    running-small = omega (arith, known-here (Nonterminal B) nonterminal-within nonterminal-there .0, r g .nonterminals, r g .fewNonterminals)
+    running-small = omega (arith, known-here (Nonterminal B) running-within nonterminal-there .0, r g .nonterminals, r g .fewNonterminals)
 
     pub running-falls : level words input B place < level words input A start
     unfolding measure
     running-falls =
         level-onward (grammarOf words) (r g .formed .scoped) (g .call .given .free) A B (length input) start place
-        (known-here (Nonterminal B) nonterminal-within nonterminal-there .0) (v .behind) (v .placed)
-        (λ e. front-here (Nonterminal B) nonterminal-within nonterminal-there e B here)
+        (known-here (Nonterminal B) running-within nonterminal-there .0) (v .behind) (v .placed)
+        (λ e. front-here (Nonterminal B) running-within nonterminal-there e B here)
 
     abbrev came : Outcome
     came = descend (grammarOf words) choice input B place
@@ -321,28 +316,29 @@ module _ {choice : Choice} {words choices tokens input memo₀ : List ℕ} {A fr
             behind = omega (arith, v .behind);
             placed = f .1;
             sound = d .sound;
-            rest = λ n l. rest-here (Nonterminal B) nonterminal-within nonterminal-there n l ∙ rw (called n l, m);
-            known = known-here (Nonterminal B) nonterminal-within nonterminal-there .1;
-            own = own-here (Nonterminal B) nonterminal-within nonterminal-there;
+            rest = λ n l. rest-here (Nonterminal B) running-within nonterminal-there n l ∙ rw (called n l, m);
+            known = known-here (Nonterminal B) running-within nonterminal-there .1;
+            own = own-here (Nonterminal B) running-within nonterminal-there;
             front = λ s C l.
                 let i : place ≡ start = omega (arith, v .behind) in
                 let j : e ≡ place = omega arith in
                 let idle : T (nullable (grammarOf words) B) =
                 descend-null (grammarOf words) choice input (g .call .given .own) (r g .formed .scoped) B place place (v .placed)
                 refl (end-ends came place (m ∙ ap End j)) in
-                front-here (Nonterminal B) nonterminal-within nonterminal-there i C (there idle l);
+                front-here (Nonterminal B) running-within nonterminal-there i C (there idle l);
             progress = v .progress;
-            reads = next-reads (Nonterminal B) nonterminal-within nonterminal-there;
-            skipped = next-skipped (Nonterminal B) nonterminal-within nonterminal-there;
+            reads = next-reads (Nonterminal B) running-within nonterminal-there;
+            unclosed = v .unclosed;
+            skipped = next-skipped (Nonterminal B) running-within nonterminal-there;
           }
 
       -- one that fails
       pub running-failed : o ≡ outcome.Failed → RunDone choice words input memo₀ A from start (stopped failedCode (at + 1)) memo′
       unfolding body-at memoRun andThen
       running-failed q = record {
-        model = λ n l. rest-here (Nonterminal B) nonterminal-within nonterminal-there n l ∙ rw (called n l, sym means ∙ ap meant q, failed-code);
+        model = λ n l. rest-here (Nonterminal B) running-within nonterminal-there n l ∙ rw (called n l, sym means ∙ ap meant q, failed-code);
         sound = d .sound;
         within = λ e q. absurd (failed-end e (sym failed-code ∙ q));
-        skipped = next-skipped (Nonterminal B) nonterminal-within nonterminal-there;
+        skipped = next-skipped (Nonterminal B) running-within nonterminal-there;
         over = λ n. absurd (n refl);
       }

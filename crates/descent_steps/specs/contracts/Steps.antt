@@ -1,4 +1,4 @@
--- What a body does at an index, by the word that stands there.
+-- What a body does at a word, and how a rule goes from conjunct to conjunct.
 use mathlib.Core.List.{List}
 use Prim.Native.Nat.{ℕ}
 use lib.Dec.{ltb, eqb}
@@ -28,10 +28,6 @@ stepOf (word.Rule A) = Over
 stepOf word.End = Over
 stepOf (word.Heading n t) = Over
 stepOf word.Invalid = Over
-
--- it is over where the words end
-unfoldable pub stepAt : List ℕ → ℕ → Step
-stepAt words at = choose (ltb at (length words)) (stepOf (decoded (getD words at 0))) Over
 
 -- the word at an index; where the words end, one that begins nothing
 unfoldable pub wordAt : List ℕ → ℕ → ℕ

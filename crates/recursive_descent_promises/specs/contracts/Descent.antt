@@ -1,6 +1,7 @@
 -- What calling a nonterminal and running a body require and ensure: they are the descent with a memo table, for every depth that is enough, by
 -- any choice of rules that two arrays hold.
 use mathlib.Core.Path.{_≡_}
+use mathlib.Core.Bool.{Bool, true, false}
 use mathlib.Core.List.{List, List·Memᴰ}
 use mathlib.Core.Option.{Option, none, some}
 use Prim.Native.Nat.{ℕ, suc, _+_, _*_, _/_, _%_, _≤_, _<_}
@@ -9,9 +10,10 @@ use Rattle.grammar.specs.Codes.{uncalledCode, failedCode}
 use Rattle.grammar.specs.Limits.{maxWords, maxNonterminals, maxTokens, maxMemoEntries}
 use Rattle.grammar.specs.Syntax.{Rule, bodies}
 use Rattle.grammar.specs.Encoding.{parse, grammarOf}
-use Rattle.grammar.specs.Reading.{scan, reading}
+use Rattle.grammar.specs.Reading.{row, scan, reading}
 use Rattle.grammar.specs.contracts.Starts.{ruleStarts}
 use Rattle.grammar.specs.declared.reading.Sizes.{Sizes}
+use Rattle.grammar.specs.declared.reading.State.{State}
 use Rattle.grammar.specs.declared.reading.Progress.{Progress}
 use Rattle.grammar.specs.declared.reading.Reading.the-variants.{Read}
 use Rattle.semantics.specs.Valuations.{pairs}
@@ -27,6 +29,10 @@ use Rattle.semantics.specs.contracts.MemoDescent.{memoized, memoRun, memoCall}
 use Rattle.rule.specs.contracts.Rule.{bodyEnd}
 use Rattle.recursive_descent_promises.specs.declared.Run.{Run}
 use Rattle.descent_arrays.specs.contracts.Arrays.{rowColumn, endMark, columnWeight, heldTokens, rowAt, endAt, firstAt}
+
+-- whether a reading is behind the end's word
+abbrev pub isClosed : State → Bool
+isClosed s = row false false false false true s
 
 -- where the first conjunct stands of a rule by its number, or 0
 abbrev pub firstConjunct : List ℕ → Option ℕ → ℕ
@@ -93,6 +99,7 @@ pub record RunGiven (choice : Choice) (words choices tokens input memo : List �
   pub body : List·Memᴰ (parse (drop from words) .body) (bodies rule)
   pub progress : Progress
   pub reads : scan progress from (drop from words) ≡ reading words
+  pub unclosed : isClosed (progress .state) ≡ false
 
 -- what is returned is the entry of the call's outcome
 pub record CallDone (choice : Choice) (words input memo : List ℕ) (A place r : ℕ) (memo′ : List ℕ) : Type 0 where

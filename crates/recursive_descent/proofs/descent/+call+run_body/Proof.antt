@@ -12,7 +12,7 @@ use Rattle.descent_arrays.specs.contracts.Arrays.{heldTokens}
 use Rattle.recursive_descent_promises.specs.contracts.Descent.{CallGiven, RunGiven}
 use Rattle.recursive_descent_promises.proofs.Choosing.{token-given, entry-given, chosen-given}
 use Rattle.recursive_descent_promises.proofs.Running.{level, Running, running-as, running-start, running-done, running-terminal, running-mismatch}
-use Rattle.recursive_descent_promises.proofs.Running.{terminal-within, nonterminal-within, running-given, running-small, running-falls}
+use Rattle.recursive_descent_promises.proofs.Running.{running-within, running-given, running-small, running-falls}
 use Rattle.recursive_descent_promises.proofs.Running.{running-call, running-failed}
 use Rattle.recursive_descent_promises.proofs.Calling.{Going, going-conjunct, going-run, going-failed, going-falls, going-turn, going-done}
 use Rattle.recursive_descent_promises.proofs.Storing.{memo-same, index-low, call-known, call-stored}
@@ -31,7 +31,7 @@ use Rattle.recursive_descent.proofs.descent.entry_of.Reads as entry-of-
 use Rattle.recursive_descent.proofs.descent.first_agreement.Reads as first-agreement-reads
 use Rattle.recursive_descent.proofs.descent.matches.Reads as matches-reads
 use Rattle.descent_steps.proofs.joined_entry.Reads as joined-entry-reads
-use Rattle.descent_steps.proofs.step_at.Reads as step-at-reads
+use Rattle.descent_steps.proofs.step_of_word.Reads as step-of-word-reads
 use Rattle.descent_steps.proofs.entry.recall.Reads as recall-reads
 use Rattle.descent_steps.proofs.begins_conjunct.Reads as begins-conjunct-reads
 use Rattle.descent_steps.proofs.conjunct_sign.Reads as conjunct-sign-reads
@@ -89,8 +89,8 @@ call-claims t = (
 
 abbrev run-body-claims : ℕ → run-body-lts.Claims
 run-body-claims t = (
-  step-at-reads.Asked,
-  step-at-reads.Learnt,
+  step-of-word-reads.Asked,
+  step-of-word-reads.Learnt,
   matches-reads.Asked,
   matches-reads.Learnt,
   call-below t,
@@ -344,24 +344,37 @@ run-body-μ-loop nonterminal words choices tokens memo₀ from start at₀ place
 run-body-loop-holds : (t : ℕ) → run-body-lts.Need-loop-holds (run-body-claims t) (run-body-at t) run-body.Post run-body-Inv-loop run-body-μ-loop
 run-body-loop-holds t c = λ choice g. running-start g
 
-run-body-step-at-requires : (t : ℕ)
-    → run-body-lts.Need-step-at-requires (run-body-claims t) (run-body-at t) run-body.Post run-body-Inv-loop run-body-μ-loop
-run-body-step-at-requires t c κs = tt
+run-body-mul-step-of-word : (t : ℕ)
+    → run-body-lts.Need-mul-step-of-word (run-body-claims t) (run-body-at t) run-body.Post run-body-Inv-loop run-body-μ-loop
+run-body-mul-step-of-word t c =
+    let start = c .before .before .before in
+    omega (arith, running-within (start .pre .1 .1) (c .loop .inv _ (start .pre .1 .1)))
+
+run-body-shared-slice-read-step-of-word : (t : ℕ)
+    → run-body-lts.Need-shared-slice-read-step-of-word (run-body-claims t) (run-body-at t) run-body.Post run-body-Inv-loop run-body-μ-loop
+run-body-shared-slice-read-step-of-word t c =
+    let at-loop = c .before in
+    let start = at-loop .before .before .before in
+    running-within (start .pre .1 .1) (at-loop .loop .inv _ (start .pre .1 .1))
+
+run-body-step-of-word-requires : (t : ℕ)
+    → run-body-lts.Need-step-of-word-requires (run-body-claims t) (run-body-at t) run-body.Post run-body-Inv-loop run-body-μ-loop
+run-body-step-of-word-requires t c κs = tt
 
 run-body-enum-told : (t : ℕ) → run-body-lts.Need-enum-told (run-body-claims t) (run-body-at t) run-body.Post run-body-Inv-loop run-body-μ-loop
 run-body-enum-told t c = c .match .keys1
 
 run-body-same-length : (t : ℕ) → run-body-lts.Need-same-length (run-body-claims t) (run-body-at t) run-body.Post run-body-Inv-loop run-body-μ-loop
 run-body-same-length t c =
-    let at-loop = c .before .before .before in
+    let at-loop = c .before .before .before .before in
     let start = at-loop .before .before .before in
     memo-same (at-loop .loop .inv _ (start .pre .1 .1) .sound) (start .pre .1 .1 .call .given .sound)
 
 run-body-returns : (t : ℕ) → run-body-lts.Need-returns (run-body-claims t) (run-body-at t) run-body.Post run-body-Inv-loop run-body-μ-loop
 run-body-returns t c =
-    let at-step-at = c .before .before in
-    let at-loop = at-step-at .before in
-    λ choice g. running-done g (at-loop .loop .inv choice g) (sym (at-step-at .step-at .ensures) ∙ c .enum-told .given .1)
+    let at-step = c .before .before in
+    let at-loop = at-step .before .before in
+    λ choice g. running-done g (at-loop .loop .inv choice g) (sym (at-step .step-of-word .ensures) ∙ c .enum-told .given .1)
 
 run-body-enum-known-step : (t : ℕ)
     → run-body-lts.Need-enum-known-step (run-body-claims t) (run-body-at t) run-body.Post run-body-Inv-loop run-body-μ-loop
@@ -370,19 +383,19 @@ run-body-enum-known-step t c = c .match .keys2
 run-body-matches-requires : (t : ℕ)
     → run-body-lts.Need-matches-requires (run-body-claims t) (run-body-at t) run-body.Post run-body-Inv-loop run-body-μ-loop
 run-body-matches-requires t c κs =
-    let at-loop = c .before .before .before .before in
+    let at-loop = c .before .before .before .before .before in
     let start = at-loop .before .before .before in
     token-given (start .pre .1 .1 .call .given) (at-loop .loop .inv _ (start .pre .1 .1) .placed)
 
 run-body-add-behind : (t : ℕ) → run-body-lts.Need-add-behind (run-body-claims t) (run-body-at t) run-body.Post run-body-Inv-loop run-body-μ-loop
 run-body-add-behind t c =
-    let at-loop = c .before .before .before .before .before .before in
+    let at-loop = c .before .before .before .before .before .before .before in
     let start = at-loop .before .before .before in
     omega (arith, at-loop .loop .inv _ (start .pre .1 .1) .skipped .within)
 
 run-body-same-length-2 : (t : ℕ) → run-body-lts.Need-same-length-2 (run-body-claims t) (run-body-at t) run-body.Post run-body-Inv-loop run-body-μ-loop
 run-body-same-length-2 t c =
-    let at-loop = c .before .before .before .before .before .before in
+    let at-loop = c .before .before .before .before .before .before .before in
     let start = at-loop .before .before .before in
     memo-same (at-loop .loop .inv _ (start .pre .1 .1) .sound) (start .pre .1 .1 .call .given .sound)
 
@@ -390,15 +403,15 @@ run-body-returns-2 : (t : ℕ) → run-body-lts.Need-returns-2 (run-body-claims 
 run-body-returns-2 t c =
     let at-matches = c .before in
     let at-terminal = at-matches .before .before in
-    let at-step-at = at-terminal .before .before in
-    let at-loop = at-step-at .before in
+    let at-step = at-terminal .before .before in
+    let at-loop = at-step .before .before in
     λ choice g.
-    running-mismatch g (at-loop .loop .inv choice g) _ (sym (at-step-at .step-at .ensures) ∙ at-terminal .step .given .1)
+    running-mismatch g (at-loop .loop .inv choice g) _ (sym (at-step .step-of-word .ensures) ∙ at-terminal .step .given .1)
     (sym (at-matches .matches .ensures) ∙ not-true _ (c .if1 .taken))
 
 run-body-add-place : (t : ℕ) → run-body-lts.Need-add-place (run-body-claims t) (run-body-at t) run-body.Post run-body-Inv-loop run-body-μ-loop
 run-body-add-place t c =
-    let at-loop = c .before .before .before .before .before .before in
+    let at-loop = c .before .before .before .before .before .before .before in
     let start = at-loop .before .before .before in
     omega (arith, at-loop .loop .inv _ (start .pre .1 .1) .placed, start .pre .1 .1 .call .given .short)
 
@@ -409,22 +422,22 @@ run-body-enum-known-step-2 t c = c .match .keys3
 run-body-cast-call : (t : ℕ) → run-body-lts.Need-cast-call (run-body-claims t) (run-body-at t) run-body.Post run-body-Inv-loop run-body-μ-loop
 run-body-cast-call t c =
     let at-nonterminal = c .before in
-    let at-step-at = at-nonterminal .before .before in
-    let at-loop = at-step-at .before in
+    let at-step = at-nonterminal .before .before in
+    let at-loop = at-step .before .before in
     let start = at-loop .before .before .before in
     omega (
       arith,
-      running-small (start .pre .1 .1) (at-loop .loop .inv _ (start .pre .1 .1)) _ (sym (at-step-at .step-at .ensures) ∙ at-nonterminal .step2 .given .1),
+      running-small (start .pre .1 .1) (at-loop .loop .inv _ (start .pre .1 .1)) _ (sym (at-step .step-of-word .ensures) ∙ at-nonterminal .step2 .given .1),
     )
 
 run-body-call-requires : (t : ℕ) → run-body-lts.Need-call-requires (run-body-claims t) (run-body-at t) run-body.Post run-body-Inv-loop run-body-μ-loop
 run-body-call-requires t c κs =
     let at-nonterminal = c .before .before in
-    let at-step-at = at-nonterminal .before .before in
-    let at-loop = at-step-at .before in
+    let at-step = at-nonterminal .before .before in
+    let at-loop = at-step .before .before in
     let start = at-loop .before .before .before in
     let run = at-loop .loop .inv _ (start .pre .1 .1) in
-    let step = sym (at-step-at .step-at .ensures) ∙ at-nonterminal .step2 .given .1 in (
+    let step = sym (at-step .step-of-word .ensures) ∙ at-nonterminal .step2 .given .1 in (
       omega (arith, running-falls (start .pre .1 .1) run _ step, start .pre .0),
       (_, running-given (start .pre .1 .1) run _ step),
     )
@@ -441,7 +454,7 @@ run-body-enum-told-2 t c = c .match2 .keys2
 
 run-body-add-behind-2 : (t : ℕ) → run-body-lts.Need-add-behind-2 (run-body-claims t) (run-body-at t) run-body.Post run-body-Inv-loop run-body-μ-loop
 run-body-add-behind-2 t c =
-    let at-loop = c .before .before .before .before .before .before .before .before .before .before .before in
+    let at-loop = c .before .before .before .before .before .before .before .before .before .before .before .before in
     let start = at-loop .before .before .before in
     omega (arith, at-loop .loop .inv _ (start .pre .1 .1) .skipped .within)
 
@@ -449,11 +462,11 @@ run-body-same-length-3 : (t : ℕ) → run-body-lts.Need-same-length-3 (run-body
 run-body-same-length-3 t c =
     let at-call = c .before .before .before .before .before in
     let at-nonterminal = at-call .before .before .before in
-    let at-step-at = at-nonterminal .before .before in
-    let at-loop = at-step-at .before in
+    let at-step = at-nonterminal .before .before in
+    let at-loop = at-step .before .before in
     let start = at-loop .before .before .before in
     let run = at-loop .loop .inv _ (start .pre .1 .1) in
-    let step = sym (at-step-at .step-at .ensures) ∙ at-nonterminal .step2 .given .1 in
+    let step = sym (at-step .step-of-word .ensures) ∙ at-nonterminal .step2 .given .1 in
     memo-same (at-call .call .ensures _ (running-given (start .pre .1 .1) run _ step) .sound) (start .pre .1 .1 .call .given .sound)
 
 run-body-returns-3 : (t : ℕ) → run-body-lts.Need-returns-3 (run-body-claims t) (run-body-at t) run-body.Post run-body-Inv-loop run-body-μ-loop
@@ -461,39 +474,33 @@ run-body-returns-3 t c =
     let at-recall = c .before .before in
     let at-call = at-recall .before .before .before in
     let at-nonterminal = at-call .before .before .before in
-    let at-step-at = at-nonterminal .before .before in
-    let at-loop = at-step-at .before in
+    let at-step = at-nonterminal .before .before in
+    let at-loop = at-step .before .before in
     λ choice g.
     let run = at-loop .loop .inv choice g in
-    let step = sym (at-step-at .step-at .ensures) ∙ at-nonterminal .step2 .given .1 in
+    let step = sym (at-step .step-of-word .ensures) ∙ at-nonterminal .step2 .given .1 in
     running-failed g run _ step (at-call .call .ensures choice (running-given g run _ step)) _ (at-recall .recall .ensures) (c .enum-told2 .given .1)
 
 run-body-add-at : (t : ℕ) → run-body-lts.Need-add-at (run-body-claims t) (run-body-at t) run-body.Post run-body-Inv-loop run-body-μ-loop
 run-body-add-at t c =
-    let at-step-at = c .before in
-    let at-loop = at-step-at .before in
+    let at-step = c .before in
+    let at-loop = at-step .before .before in
     let start = at-loop .before .before .before in
     omega (arith, at-loop .loop .inv _ (start .pre .1 .1) .skipped .within)
 
 run-body-loop-less : (t : ℕ) → run-body-lts.Need-loop-less (run-body-claims t) (run-body-at t) run-body.Post run-body-Inv-loop run-body-μ-loop
 run-body-loop-less t c =
-    let at-step-at = c .before in
-    let at-loop = at-step-at .before in
+    let at-loop = c .before .before .before in
     let start = at-loop .before .before .before in
-    let run = at-loop .loop .inv _ (start .pre .1 .1) in
-    let step = sym (at-step-at .step-at .ensures) in
-    ⊎-elim
-    (λ w. omega (arith, terminal-within (start .pre .1 .1) run _ (step ∙ w .1 .given .1)))
-    (λ w. omega (arith, nonterminal-within (start .pre .1 .1) run _ (step ∙ w .1 .given .1)))
-    (c .match .came)
+    omega (arith, running-within (start .pre .1 .1) (at-loop .loop .inv _ (start .pre .1 .1)))
 
 run-body-loop-again : (t : ℕ) → run-body-lts.Need-loop-again (run-body-claims t) (run-body-at t) run-body.Post run-body-Inv-loop run-body-μ-loop
 run-body-loop-again t c =
-    let at-step-at = c .before in
-    let at-loop = at-step-at .before in
+    let at-step = c .before in
+    let at-loop = at-step .before .before in
     λ choice given.
     let run = at-loop .loop .inv choice given in
-    let step = sym (at-step-at .step-at .ensures) in
+    let step = sym (at-step .step-of-word .ensures) in
     ⊎-elim
     (λ w.
     running-as (w .5) (w .6)
@@ -548,7 +555,9 @@ pub +call+run-body-spec : {M : Type 1} → statement M
     run-body-Inv-loop
     run-body-μ-loop
     (run-body-loop-holds t)
-    (run-body-step-at-requires t)
+    (run-body-mul-step-of-word t)
+    (run-body-shared-slice-read-step-of-word t)
+    (run-body-step-of-word-requires t)
     (run-body-enum-told t)
     (run-body-same-length t)
     (run-body-returns t)
