@@ -1,4 +1,4 @@
-// The steps of the descent that need no memo table: the next symbol of a body, and how a rule's agreement takes and gives entries.
+// The steps of the descent that need no memo table: the next symbol of a body, the next conjunct of a rule, and how its agreement takes and gives entries.
 ghost use mathlib.Core.Path.{_≡_};
 ghost use Rattle.word.specs.Words.{decoded};
 ghost use Rattle.semantics.specs.Memo.{outcomeCode};
@@ -19,6 +19,7 @@ use word::decode;
 
 pub mod entry;
 
+// The words that begin a conjunct.
 const POSITIVE_WORD: u32 = 805306368;
 
 const NEGATIVE_WORD: u32 = 1073741824;
@@ -70,7 +71,7 @@ pub fn word_at(words: &[u32], at: usize) -> u32
     if at < words.len() { words[at] } else { 0 }
 }
 
-// Whether a word begins a conjunct. It is compared and not decoded: for each conjunct that is two instructions.
+// Whether a word begins a conjunct. It is compared and not decoded: a sign of three cases would be made and kept for each conjunct.
 pub fn begins_conjunct(bits: u32) -> bool
     ensures { λ r. ⌜ r ≡ beginsBody (signOf (decoded bits)) ⌝ }
 {

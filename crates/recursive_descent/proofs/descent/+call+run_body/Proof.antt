@@ -12,8 +12,7 @@ use Rattle.descent_arrays.specs.contracts.Arrays.{heldTokens}
 use Rattle.recursive_descent_promises.specs.contracts.Descent.{CallGiven, RunGiven}
 use Rattle.recursive_descent_promises.proofs.Choosing.{token-given, entry-given, chosen-given}
 use Rattle.recursive_descent_promises.proofs.Running.{level, Running, running-as, running-start, running-done, running-terminal, running-mismatch}
-use Rattle.recursive_descent_promises.proofs.Running.{running-within, running-given, running-small, running-falls}
-use Rattle.recursive_descent_promises.proofs.Running.{running-call, running-failed}
+use Rattle.recursive_descent_promises.proofs.Running.{running-within, running-given, running-small, running-falls, running-call, running-failed}
 use Rattle.recursive_descent_promises.proofs.Calling.{Going, going-conjunct, going-run, going-failed, going-falls, going-turn, going-done}
 use Rattle.recursive_descent_promises.proofs.Storing.{memo-same, index-low, call-known, call-stored}
 use Rattle.recursive_descent_promises.proofs.Starting.{no-rule, rule-chosen, start-going, select-none, none-fails, encode-failed}
