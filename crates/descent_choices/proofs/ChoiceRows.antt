@@ -14,7 +14,7 @@ use Rattle.grammar.specs.Limits.{maxNonterminals, maxColumnsOfTwo, maxTokens, m
 use Rattle.grammar.specs.contracts.Limits.{maxEntries}
 use Rattle.base.proofs.Lists.{listed-long, listed-at, getD-zeros}
 use Rattle.descent_arrays.specs.contracts.Arrays.{choiceColumns, rowColumn, endColumn, choiceWords, rowAt, endAt}
-use Rattle.descent_choices.specs.contracts.Choices.{entryOf, firstWord, choiceWord, choiceRows, choicesOf, RowGiven}
+use Rattle.descent_choices.specs.contracts.Choices.{entryOf, firstWord, choiceWord, choiceRows, choicesOf, memoEntries, RowGiven}
 use Rattle.descent_arrays.proofs.Listing.{listed-by}
 
 -- the word at an index, where the rows of the first n nonterminals are written
@@ -208,3 +208,11 @@ module _ (starts : List ℕ) {nonterminals columns : ℕ} (entries : List ℕ) {
     rows = λ A a. column-at A rowColumn a (omega arith) ∙ rw (le-ltb rowColumn columns (omega arith));
     ends = λ A a. column-at A endColumn a (omega arith) ∙ rw (le-ltb endColumn columns (omega arith));
   }
+
+-- sizes within the limits are not cut: so many entries the memo table has
+pub entries-fit : (n k : ℕ) → n ≤ maxNonterminals → k ≤ maxTokens → memoEntries n k ≡ n * (k + 1)
+unfolding memoEntries
+entries-fit n k few short =
+    let a : min n maxNonterminals ≡ n = omega arith in
+    let b : min k maxTokens ≡ k = omega arith in
+    rw (a, b)

@@ -7,14 +7,14 @@ use answer::Answer;
 use answer::Error;
 use grammar::limits::TABLE_WORDS;
 use grammar::limits::TABLE_WORDS_OF_TWO;
+use judge_answers::answer;
 use lending::lend;
 use lending::lend_two;
 use lookahead::Lookahead;
-use recursive_descent::judge_words;
-use recursive_descent::search::judge_costliest_words;
+use recursive_descent::descend_words;
+use recursive_descent::search::descend_costliest;
 
-// Judges the input that the events of a log are by an encoded grammar, and fills the lent table and memo table. The sets and entries are read where
-// they stand in the judgement, not copied out of it.
+// Judges the input that the events of a log are by an encoded grammar, and fills the lent table and memo table.
 pub fn judge(words: &[u32], events: &[u8], table: &mut [u32], memo: &mut [u16]) -> Answer
     ensures { λ r. ⌜ Judges One (now (words .entry)) (inputOf (now (events .entry))) (now (table .entry)) (now (memo .entry)) r
         (now (table .exit)) (now (memo .exit)) ⌝ }
@@ -22,17 +22,16 @@ pub fn judge(words: &[u32], events: &[u8], table: &mut [u32], memo: &mut [u16]) 
     if table.len() < TABLE_WORDS {
         return Answer::Refused(Error::TableTooShort);
     }
-    let judgement = judge_words(words, Lookahead::One, events, memo);
-    let found = judgement.found;
+    let found = descend_words(words, Lookahead::One, events, memo);
     let finding = found.finding;
     lend(
         finding,
-        &judgement.found.firsts,
-        &judgement.found.follows,
-        &judgement.found.entries,
+        &found.firsts,
+        &found.follows,
+        &found.entries,
         table,
     );
-    judgement.answer
+    answer(finding, events.len(), memo)
 }
 
 // The same with two tokens of lookahead, for grammars of few terminals, with a lent table of 64-bit words.
@@ -43,17 +42,16 @@ pub fn judge_two(words: &[u32], events: &[u8], table: &mut [u64], memo: &mut [u1
     if table.len() < TABLE_WORDS_OF_TWO {
         return Answer::Refused(Error::TableOfTwoTooShort);
     }
-    let judgement = judge_words(words, Lookahead::Two, events, memo);
-    let found = judgement.found;
+    let found = descend_words(words, Lookahead::Two, events, memo);
     let finding = found.finding;
     lend_two(
         finding,
-        &judgement.found.firsts,
-        &judgement.found.follows,
-        &judgement.found.entries,
+        &found.firsts,
+        &found.follows,
+        &found.entries,
         table,
     );
-    judgement.answer
+    answer(finding, events.len(), memo)
 }
 
 // Finds, for an encoded grammar and a length, the costliest input, writes it into the lent log, and judges it in the lent table and memo table.
@@ -70,15 +68,14 @@ pub fn judge_costliest(
     if table.len() < TABLE_WORDS {
         return Answer::Refused(Error::TableTooShort);
     }
-    let judgement = judge_costliest_words(words, tokens, log, memo);
-    let found = judgement.found;
+    let found = descend_costliest(words, tokens, log, memo);
     let finding = found.finding;
     lend(
         finding,
-        &judgement.found.firsts,
-        &judgement.found.follows,
-        &judgement.found.entries,
+        &found.firsts,
+        &found.follows,
+        &found.entries,
         table,
     );
-    judgement.answer
+    answer(finding, tokens, memo)
 }

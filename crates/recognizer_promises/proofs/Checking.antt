@@ -208,3 +208,10 @@ check-passed {k} words table long f l = checks k (leaves-alike (check-fault-long
 pub check-refused : {k : Lookahead} (words table : List ℕ) → tableRoom k ≤ length table → {x : Error} → fault k words ≡ some x
     → Checks k words table (Refused x) table
 check-refused {k} words table long f = checks k (leaves-refused (check-fault-long k (length table) words long ∙ f) (refl, tt))
+
+-- a grammar without a fault is found to pass
+pub found-passed : (k : Lookahead) (words : List ℕ) → fault k words ≡ none → (z : Sizes) × (foundOf k words .finding ≡ finding.Passed z)
+unfolding fault foundOf
+found-passed k words e =
+    let z = read-some (admission k words) (each-none (grammarFaults k words) e .0) in
+    (z .0, ap (λ o. findingOf o (admission k words)) e ∙ ap (findingOf none) (z .1))

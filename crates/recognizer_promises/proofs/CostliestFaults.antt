@@ -45,12 +45,11 @@ use Rattle.promises.proofs.Inputs.{PassedWith, RefusedWith, byGrammar, byFaults
 use Rattle.promises.proofs.Inputs.{RoomRefused, tooShort, enough, room-passed, room-refused}
 use Rattle.recognizer_promises.specs.Memory.{memoWords}
 use Rattle.recognizer_promises.specs.Answers.{choiceOf, judgeFault, callsOf, verdictOf}
-use Rattle.recognizer_promises.specs.declared.Judgement.{Judgement}
-use Rattle.recognizer_promises.specs.contracts.Judging.{foundUnless, refusedWith, EntriesFound, JudgedPassed}
+use Rattle.recognizer_promises.specs.contracts.Judging.{refound, foundUnless, EntriesFound}
 use Rattle.recognizer_promises.specs.Properties.{Room}
 use Rattle.recognizer_promises.specs.CostliestInput.{callsOn, costliestInput, costliestFault}
 use Rattle.recognizer_promises.specs.Costliest.{Searchable, JudgesCostliest}
-use Rattle.recognizer_promises.specs.contracts.Search.{searchFault, SearchesWords, SearchGiven, BestJudged}
+use Rattle.recognizer_promises.specs.contracts.Search.{searchFault, SearchesWords, SearchGiven, BestLeft}
 use Rattle.recognizer_promises.proofs.Words.{understood}
 use Rattle.recognizer_promises.proofs.Places.{fault-encoded, places}
 use Rattle.recognizer_promises.proofs.Checking.{fits-few, passed-fault, fault-passed, passed-encodes, passed-free, Told, told, found as found-entries}
@@ -85,17 +84,6 @@ module _ (words : List ℕ) (k : ℕ) (log memo : List ℕ) where
   abbrev fault-found : Option Error
   fault-found = searchFault (length log) (length memo) words k
 
-  search-refused : {x : Error} → fault-found ≡ some x → {r : Judgement} → r ≡ refusedWith x → SearchesWords words k log memo r log memo
-  search-refused f e =
-      let G = grammarOf words in
-      let w = costliestInput G k in
-      record {
-        verdict = ap (λ y. y .answer) e ∙ sym (ap (λ y. refusedOr y (verdictOf One G w)) f);
-        grammar = ap (λ y. y .found) e ∙ sym (ap (λ y. foundUnless y (foundOf One words)) f);
-        lent-log = sym (ap (λ y. lentBack y w log) f);
-        lent-memo = sym (ap (λ y. lentBack y (memoWords One G w) memo) f);
-      }
-
   by-grammar : maxMemoEntries ≤ length memo → maxTokens ≤ length log → {f : Option Error} → fault One words ≡ f
       → fault-found ≡ firstFault (f ∷ lengthFaults (grammarOf words .terminals) k)
   by-grammar room space e =
@@ -110,23 +98,37 @@ module _ (words : List ℕ) (k : ℕ) (log memo : List ℕ) where
   log-first room h = rw (le-ltb (length memo) maxMemoEntries room, lt-ltb (length log) maxTokens h)
 
   -- what is found of the memories, a grammar and a length decides
-  module _ {found : Found} (e : found ≡ foundOf One words) {f : Finding} (q : f ≡ withSearch (length log) (length memo) (found .finding) k) where
+  module _ {found : Found} (e : found ≡ refound (foundOf One words) (withSearch (length log) (length memo) (foundOf One words .finding) k)) where
     abbrev faults : ℕ → List (Option Error)
     faults n = lengthFaults n k
 
-    abbrev known : Told One words (found .finding) (found .starts) (found .entries)
-    known = told One words e
+    abbrev grammar-found : Finding
+    grammar-found = foundOf One words .finding
+
+    abbrev known : Told One words grammar-found (foundOf One words .starts) (foundOf One words .entries)
+    known = told One words refl
+
+    finding-is : found .finding ≡ withSearch (length log) (length memo) grammar-found k
+    finding-is = ap (λ y. y .finding) e
 
     abbrev behind-memo : Finding
-    behind-memo = withLog (length log) (found .finding) k
+    behind-memo = withLog (length log) grammar-found k
 
     abbrev behind-log : Finding
-    behind-log = withLength (found .finding) k
+    behind-log = withLength grammar-found k
 
-    pub found-refused : {x : Error} → f ≡ finding.Refused x → {r : Judgement} → r ≡ refusedWith x → SearchesWords words k log memo r log memo
-    found-refused {x} p = search-refused (by-memo (room-refused (length memo) maxMemoEntries MemoTooShort behind-memo (sym q ∙ p)))
+    pub search-refused : {x : Error} → found .finding ≡ finding.Refused x → SearchesWords words k log memo found log memo
+    search-refused {x} p =
+        let G = grammarOf words in
+        let w = costliestInput G k in
+        let f = by-memo (room-refused (length memo) maxMemoEntries MemoTooShort behind-memo (sym finding-is ∙ p)) in
+        record {
+          grammar = e ∙ ap (refound (foundOf One words)) (sym finding-is ∙ p) ∙ sym (ap (λ y. foundUnless y (foundOf One words)) f);
+          lent-log = sym (ap (λ y. lentBack y w log) f);
+          lent-memo = sym (ap (λ y. lentBack y (memoWords One G w) memo) f);
+        }
       where
-        by-length : maxMemoEntries ≤ length memo → maxTokens ≤ length log → RefusedWith (found .finding) faults x → fault-found ≡ some x
+        by-length : maxMemoEntries ≤ length memo → maxTokens ≤ length log → RefusedWith grammar-found faults x → fault-found ≡ some x
         by-length room space (byGrammar h) = by-grammar room space (found-fault known h)
         by-length room space (byFaults z h i) =
             let m = found-entries known h in
@@ -134,24 +136,24 @@ module _ (words : List ℕ) (k : ℕ) (log memo : List ℕ) where
 
         by-log : maxMemoEntries ≤ length memo → RoomRefused (length log) maxTokens BufferTooShort behind-log x → fault-found ≡ some x
         by-log room (tooShort h s) = log-first room h ∙ ap some s
-        by-log room (enough space i) = by-length room space (with-refused (found .finding) faults i)
+        by-log room (enough space i) = by-length room space (with-refused grammar-found faults i)
 
         by-memo : RoomRefused (length memo) maxMemoEntries MemoTooShort behind-memo x → fault-found ≡ some x
         by-memo (tooShort h s) = memo-first h ∙ ap some s
         by-memo (enough room i) = by-log room (room-refused (length log) maxTokens BufferTooShort behind-log i)
 
-    module _ {z : Sizes} (p : f ≡ finding.Passed z) where
+    module _ {z : Sizes} (p : found .finding ≡ finding.Passed z) where
       long-memo : (maxMemoEntries ≤ length memo) × (behind-memo ≡ finding.Passed z)
-      long-memo = room-passed (length memo) maxMemoEntries MemoTooShort behind-memo (sym q ∙ p)
+      long-memo = room-passed (length memo) maxMemoEntries MemoTooShort behind-memo (sym finding-is ∙ p)
 
       long-log : (maxTokens ≤ length log) × (behind-log ≡ finding.Passed z)
       long-log = room-passed (length log) maxTokens BufferTooShort behind-log (long-memo .1)
 
-      both : PassedWith (found .finding) faults z
-      both = with-passed (found .finding) faults (long-log .1)
+      both : PassedWith grammar-found faults z
+      both = with-passed grammar-found faults (long-log .1)
 
       entries-found : EntriesFound One words z (found .starts) (found .entries)
-      entries-found = found-entries known (both .grammar)
+      entries-found = rw e (found-entries known (both .grammar))
 
       read : WellRead words z
       read = well-read words z (admitted-read One words (entries-found .taken))
@@ -179,20 +181,20 @@ module _ (words : List ℕ) (k : ℕ) (log memo : List ℕ) where
       none-found : fault-found ≡ none
       none-found = by-grammar (long-memo .0) (long-log .0) (entries-found .faultless) ∙ same-terminals One words faults entries-found (both .faultless)
 
-      pub search-done : {part memo′ : List ℕ} {r : Judgement} → BestJudged words (take k log) memo (r .answer) part memo′ → r .found ≡ found
-          → SearchesWords words k log memo r (part ++ drop k log) memo′
-      search-done {part} {memo′} {r} d g =
+      pub search-done : {part memo′ : List ℕ} → BestLeft words (take k log) memo part memo′ → SearchesWords words k log memo found (part ++ drop k log) memo′
+      search-done {part} {memo′} d =
           let G = grammarOf words in
           let w = costliestInput G k in
           let o = costliest-of (callsOn G) (G .terminals) (omega (arith, read .terminals, read .someTerminal)) k in
           let s : part ≡ w = d .written ∙ ap (costliestInput G) part-length in
-          let judged : JudgedPassed One words w memo (r .answer) memo′ = rw s at (d .judged) in
+          let left : memo′ ≡ memoWords One G w ++ drop (length (memoWords One G w)) memo = rw s at (d .entries) in
           record {
-            verdict = judged .answer ∙ sym (ap (λ y. refusedOr y (verdictOf One G w)) none-found);
-            grammar = g ∙ e ∙ sym (ap (λ y. foundUnless y (foundOf One words)) none-found);
+            grammar =
+                e ∙ ap (refound (foundOf One words)) (sym finding-is ∙ p ∙ sym (both .grammar))
+                ∙ sym (ap (λ y. foundUnless y (foundOf One words)) none-found);
             lent-log =
                 ap (λ y. y ++ drop k log) s ∙ ap (λ i. w ++ drop i log) (sym (o .long)) ∙ sym (ap (λ y. lentBack y w log) none-found);
-            lent-memo = judged .lent ∙ sym (ap (λ y. lentBack y (memoWords One G w) memo) none-found);
+            lent-memo = left ∙ sym (ap (λ y. lentBack y (memoWords One G w) memo) none-found);
           }
 
 -- and with a table that is lent: the rows of the call
@@ -289,14 +291,19 @@ module _ (words : List ℕ) (n : ℕ) (log table memo : List ℕ) where
   table-refused h = judges-costliest (leaves-refused (short-first h) (refl, (refl, (refl, tt))))
 
   -- or long enough, with the words of what is found
-  module _ (long : maxTableWords ≤ length table) {r : Judgement} {log′ memo′ : List ℕ} (s : SearchesWords words n log memo r log′ memo′) where
+  module _ (long : maxTableWords ≤ length table) {r : Found} {log′ memo′ : List ℕ} (s : SearchesWords words n log memo r log′ memo′) where
     same-fault : why ≡ searchFault (length log) (length memo) words n
     unfolding costliestFault searchFault
     same-fault = rw (le-ltb (length table) maxTableWords long)
 
-    pub search-faultless : searchFault (length log) (length memo) words n ≡ none → fault One words ≡ none
-    search-faultless e = each (same-fault ∙ e) .1 .1 .1 .0
+    pub search-faultless : searchFault (length log) (length memo) words n ≡ none
+        → (fault One words ≡ none) × (length w ≤ maxTokens) × (n ≡ length w)
+    search-faultless e =
+        let q = same-fault ∙ e in
+        let long = costliest q .long in
+        (each q .1 .1 .1 .0, omega (arith, long, length-fits-n q .0), sym long)
 
-    pub costliest-by-words : {table′ : List ℕ} → table′ ≡ lentBack (searchFault (length log) (length memo) words n) (tableWords One G) table
-        → JudgesCostliest words n log table memo (r .answer) log′ table′ memo′
-    costliest-by-words t = judges-costliest (leaves-alike same-fault (leaves (s .verdict) (s .lent-log, (t, (s .lent-memo, tt)))))
+    pub costliest-by-words : {a : Answer} {table′ : List ℕ} → a ≡ refusedOr (searchFault (length log) (length memo) words n) (verdictOf One G w)
+        → table′ ≡ lentBack (searchFault (length log) (length memo) words n) (tableWords One G) table
+        → JudgesCostliest words n log table memo a log′ table′ memo′
+    costliest-by-words v t = judges-costliest (leaves-alike same-fault (leaves v (s .lent-log, (t, (s .lent-memo, tt)))))

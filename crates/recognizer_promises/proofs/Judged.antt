@@ -48,9 +48,7 @@ use Rattle.event.specs.Unknown.{unknownFrom}
 use Rattle.event.proofs.Inputs.{input-length}
 use Rattle.recognizer_promises.specs.Answers.{choiceOf, judgeFault, inputFaults, callsOf, verdictOf}
 use Rattle.recognizer_promises.specs.contracts.Answers.{withInput, withMemo}
-use Rattle.recognizer_promises.specs.contracts.Judging.{memoFault, foundUnless, refusedWith, JudgesWords, EntriesFound, PassedGiven, DescendGiven}
-use Rattle.recognizer_promises.specs.contracts.Judging.{Descended, JudgedPassed}
-use Rattle.recognizer_promises.specs.declared.Judgement.{Judgement}
+use Rattle.recognizer_promises.specs.contracts.Judging.{memoFault, refound, foundUnless, DescendsWords, EntriesFound, PassedGiven, DescendGiven}
 use Rattle.recognizer_promises.specs.Properties.{Room, Judgeable, Judges}
 use Rattle.recognizer_promises.proofs.Words.{understood}
 use Rattle.recognizer_promises.proofs.Checking.{fits-few, passed-fault, passed-free, fault-passed, Told, told, found as found-entries, found-fault}
@@ -140,62 +138,62 @@ module _ {k : Lookahead} {words starts entries memo : List ℕ} {z : Sizes} (eve
   pub descend-given : DescendGiven k words z starts entries input (take (z .nonterminals * (length events + 1)) memo)
   descend-given = record { ready = g .ready; size = length-take-le (z .nonterminals * (length events + 1)) memo needed-room ∙ needed }
 
-  pub judged-passed : {part : List ℕ} {a : Answer} → Descended k words input a part
-      → JudgedPassed k words input memo a (part ++ drop (z .nonterminals * (length events + 1)) memo)
-  judged-passed {part} d =
+  -- the entries in front of what was there
+  pub front-left : {part : List ℕ} → part ≡ memoWords k (grammarOf words) input
+      → part ++ drop (z .nonterminals * (length events + 1)) memo
+      ≡ memoWords k (grammarOf words) input ++ drop (length (memoWords k (grammarOf words) input)) memo
+  front-left d =
       let written = memoWords k (grammarOf words) input in
       let n : z .nonterminals * (length events + 1) ≡ length written = needed ∙ sym (memo-count k (grammarOf words) input) in
-      record {
-        answer = d .answer;
-        lent = ap (λ y. y ++ drop (z .nonterminals * (length events + 1)) memo) (d .entries) ∙ ap (λ y. written ++ drop y memo) n;
-      }
+      ap (λ y. y ++ drop (z .nonterminals * (length events + 1)) memo) d ∙ ap (λ y. written ++ drop y memo) n
 
 -- faults that go by the number of terminals are reported by that which was found
 pub same-terminals : (k : Lookahead) (words : List ℕ) (faults : ℕ → List (Option Error)) {z : Sizes} {starts entries : List ℕ} {o : Option Error}
     → EntriesFound k words z starts entries → firstFault (faults (z .terminals)) ≡ o → firstFault (faults (grammarOf words .terminals)) ≡ o
 same-terminals k words faults {z} m h = rw (← well-read words z (admitted-read k words (m .taken)) .terminals) h
 
--- judging in the memo table alone: a refusal
-words-refused : (k : Lookahead) (words input memo : List ℕ) {x : Error} → memoFault k (length memo) words input ≡ some x → {r : Judgement}
-    → r ≡ refusedWith x → JudgesWords k words input memo r memo
-words-refused k words input memo f e = record {
-  verdict = ap (λ y. y .answer) e ∙ sym (ap (λ y. refusedOr y (verdictOf k (grammarOf words) input)) f);
-  grammar = ap (λ y. y .found) e ∙ sym (ap (λ y. foundUnless y (foundOf k words)) f);
-  lent = sym (ap (λ y. lentBack y (memoWords k (grammarOf words) input) memo) f);
-}
-
 -- what is found of the memo table, a grammar and an input decides
-module _ (k : Lookahead) (words input memo : List ℕ) {found : Found} (e : found ≡ foundOf k words) {f : Finding}
-    (q : f ≡ withMemo (length memo) (found .finding) input) where
+module _ (k : Lookahead) (words input memo : List ℕ) {found : Found}
+    (e : found ≡ refound (foundOf k words) (withMemo (length memo) (foundOf k words .finding) input)) where
   abbrev faults : ℕ → List (Option Error)
   faults n = inputFaults n input
 
-  abbrev known : Told k words (found .finding) (found .starts) (found .entries)
-  known = told k words e
+  abbrev grammar-found : Finding
+  grammar-found = foundOf k words .finding
 
-  pub words-found-refused : {x : Error} → f ≡ finding.Refused x → {r : Judgement} → r ≡ refusedWith x → JudgesWords k words input memo r memo
-  words-found-refused {x} p =
-      words-refused k words input memo (go (room-refused (length memo) maxMemoEntries MemoTooShort (withInput (found .finding) input) (sym q ∙ p)))
+  abbrev known : Told k words grammar-found (foundOf k words .starts) (foundOf k words .entries)
+  known = told k words refl
+
+  finding-is : found .finding ≡ withMemo (length memo) grammar-found input
+  finding-is = ap (λ y. y .finding) e
+
+  pub words-refused : {x : Error} → found .finding ≡ finding.Refused x → DescendsWords k words input memo found memo
+  words-refused {x} p =
+      let f = go (room-refused (length memo) maxMemoEntries MemoTooShort (withInput grammar-found input) (sym finding-is ∙ p)) in
+      record {
+        grammar = e ∙ ap (refound (foundOf k words)) (sym finding-is ∙ p) ∙ sym (ap (λ y. foundUnless y (foundOf k words)) f);
+        lent = sym (ap (λ y. lentBack y (memoWords k (grammarOf words) input) memo) f);
+      }
     where
-      behind : maxMemoEntries ≤ length memo → RefusedWith (found .finding) faults x → memoFault k (length memo) words input ≡ some x
+      behind : maxMemoEntries ≤ length memo → RefusedWith grammar-found faults x → memoFault k (length memo) words input ≡ some x
       behind room (byGrammar h) = memo-fault-long k words input memo room (found-fault known h)
       behind room (byFaults z h i) =
           let m = found-entries known h in
           memo-fault-long k words input memo room (m .faultless) ∙ same-terminals k words faults m i
 
-      go : RoomRefused (length memo) maxMemoEntries MemoTooShort (withInput (found .finding) input) x → memoFault k (length memo) words input ≡ some x
+      go : RoomRefused (length memo) maxMemoEntries MemoTooShort (withInput grammar-found input) x → memoFault k (length memo) words input ≡ some x
       go (tooShort h s) = memo-fault-short k words input memo h ∙ ap some s
-      go (enough room i) = behind room (with-refused (found .finding) faults i)
+      go (enough room i) = behind room (with-refused grammar-found faults i)
 
-  module _ {z : Sizes} (p : f ≡ finding.Passed z) where
-    long : (maxMemoEntries ≤ length memo) × (withInput (found .finding) input ≡ finding.Passed z)
-    long = room-passed (length memo) maxMemoEntries MemoTooShort (withInput (found .finding) input) (sym q ∙ p)
+  module _ {z : Sizes} (p : found .finding ≡ finding.Passed z) where
+    long : (maxMemoEntries ≤ length memo) × (withInput grammar-found input ≡ finding.Passed z)
+    long = room-passed (length memo) maxMemoEntries MemoTooShort (withInput grammar-found input) (sym finding-is ∙ p)
 
-    both : PassedWith (found .finding) faults z
-    both = with-passed (found .finding) faults (long .1)
+    both : PassedWith grammar-found faults z
+    both = with-passed grammar-found faults (long .1)
 
     entries-found : EntriesFound k words z (found .starts) (found .entries)
-    entries-found = found-entries known (both .grammar)
+    entries-found = rw e (found-entries known (both .grammar))
 
     unfaulty : firstFault (inputFaults (grammarOf words .terminals) input) ≡ none
     unfaulty = same-terminals k words faults entries-found (both .faultless)
@@ -216,25 +214,26 @@ module _ (k : Lookahead) (words input memo : List ℕ) {found : Found} (e : foun
           room = long .0;
         }
 
-    pub words-judged : {memo′ : List ℕ} {r : Judgement} → JudgedPassed k words input memo (r .answer) memo′ → r .found ≡ found
-        → JudgesWords k words input memo r memo′
-    words-judged d g =
+    pub words-descended : {memo′ : List ℕ}
+        → memo′ ≡ memoWords k (grammarOf words) input ++ drop (length (memoWords k (grammarOf words) input)) memo
+        → DescendsWords k words input memo found memo′
+    words-descended d =
         let n : memoFault k (length memo) words input ≡ none = memo-fault-long k words input memo (long .0) (entries-found .faultless) ∙ unfaulty in
         record {
-          verdict = d .answer ∙ sym (ap (λ y. refusedOr y (verdictOf k (grammarOf words) input)) n);
-          grammar = g ∙ e ∙ sym (ap (λ y. foundUnless y (foundOf k words)) n);
-          lent = d .lent ∙ sym (ap (λ y. lentBack y (memoWords k (grammarOf words) input) memo) n);
+          grammar = e ∙ ap (refound (foundOf k words)) (sym finding-is ∙ p ∙ sym (both .grammar)) ∙ sym (ap (λ y. foundUnless y (foundOf k words)) n);
+          lent = d ∙ sym (ap (λ y. lentBack y (memoWords k (grammarOf words) input) memo) n);
         }
 
 -- and with a table that is lent, and long enough, and holds the words of what is found
-module _ {k : Lookahead} (words input table memo : List ℕ) (long : tableRoom k ≤ length table) {r : Judgement} {memo′ : List ℕ}
-    (j : JudgesWords k words input memo r memo′) where
+module _ {k : Lookahead} (words input table memo : List ℕ) (long : tableRoom k ≤ length table) {r : Found} {memo′ : List ℕ}
+    (j : DescendsWords k words input memo r memo′) where
   same-fault : judgeFault k (length table) (length memo) words input ≡ memoFault k (length memo) words input
   same-fault = judge-table-long k (length table) (length memo) words input long
 
-  pub judged-by-words : {table′ : List ℕ} → table′ ≡ lentBack (memoFault k (length memo) words input) (tableWords k (grammarOf words)) table
-      → Judges k words input table memo (r .answer) table′ memo′
-  judged-by-words t = judges (leaves-alike same-fault (leaves (j .verdict) (t, (j .lent, tt))))
+  pub judged-by-words : {a : Answer} {table′ : List ℕ} → a ≡ refusedOr (memoFault k (length memo) words input) (verdictOf k (grammarOf words) input)
+      → table′ ≡ lentBack (memoFault k (length memo) words input) (tableWords k (grammarOf words)) table
+      → Judges k words input table memo a table′ memo′
+  judged-by-words v t = judges (leaves-alike same-fault (leaves v (t, (j .lent, tt))))
 
-  pub judged-faultless : memoFault k (length memo) words input ≡ none → fault k words ≡ none
-  judged-faultless n = judged-readable k words input (length table) (length memo) (same-fault ∙ n) .0
+  pub judged-faultless : memoFault k (length memo) words input ≡ none → (fault k words ≡ none) × (length input ≤ maxTokens)
+  judged-faultless n = judged-readable k words input (length table) (length memo) (same-fault ∙ n)

@@ -1,5 +1,5 @@
 -- The words of the memo table that are lent back are those that the descent records.
-use mathlib.Core.Path.{_≡_, refl, sym, ap, _∙_}
+use mathlib.Core.Path.{_≡_, refl, sym, ap, subst, _∙_}
 use mathlib.Core.Bool.{Bool, true, false}
 use mathlib.Core.List.{List, map}
 use Prim.Native.Nat.{ℕ, suc, _*_, _/_, _%_, _<_}
@@ -18,7 +18,9 @@ use Rattle.semantics.specs.Descent.{descend}
 use Rattle.semantics.specs.ComesTo.{Call, callAt, InRange}
 use Rattle.semantics.specs.Calls.{Listing, sameCall, allCalls, calls}
 use Rattle.semantics.specs.Memo.{outcomeCode, entry, memoIndex, Recorded}
+use Rattle.semantics.specs.contracts.Memo.{EndsFit}
 use Rattle.base.proofs.FiniteSets.{member-mem, mem-member}
+use Rattle.semantics.proofs.descent.Memo.{memo-recorded}
 use Rattle.semantics.proofs.descent.Range.{calls-equality, all-length, all-ordered}
 use Rattle.semantics.proofs.Theorems.{theorems}
 use Rattle.memo_table.proofs.Entries.{getD-any}
@@ -57,3 +59,10 @@ module _ (k : Lookahead) (G : Grammar) (w : List ℕ) (scoped : WellScoped G) (f
           let short : i < length (map (memoWord k G w) (allCalls G w)) = omega (arith, length-map (allCalls G w) (memoWord k G w), all-length G w, r .size) in
           ap (λ j. getD m j uncalledCode) (sym d) ∙ word-is x inside ∙ ap (memoWord k G w) (sym here) ∙ sym (List·getD-map (memoWord k G w) (allCalls G w) i x)
           ∙ getD-any (map (memoWord k G w) (allCalls G w)) i (memoWord k G w x) uncalledCode short
+
+-- and they are recorded: a descent records what it makes of a blank memo table
+pub memo-words-recorded : (k : Lookahead) (G : Grammar) (w : List ℕ) → WellScoped G → NoLeftRecursion G → 0 < G .nonterminals → EndsFit w
+    → Recorded G (choiceOf k G w) w (memoWords k G w)
+memo-words-recorded k G w scoped free nonempty fits =
+    let m = memo-recorded G (choiceOf k G w) w scoped free (theorems .own-rules G (tokens k) w) fits nonempty .1 in
+    subst (λ l. Recorded G (choiceOf k G w) w l) (words-recorded k G w scoped free nonempty m) m

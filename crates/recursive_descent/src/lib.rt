@@ -1,53 +1,37 @@
-// Judging an input in a lent memo table alone, by memoized recursive descent.
+// Memoized recursive descent in a lent memo table: on one input, and on all inputs of a length.
 ghost use Rattle.event.specs.Events.{inputOf};
-ghost use Rattle.recognizer_promises.specs.contracts.Judging.{JudgesWords};
+ghost use Rattle.recognizer_promises.specs.contracts.Judging.{DescendsWords};
+use descending::descend;
 use descent_choices::entries_of;
 use descent_choices::table_choices;
+use descent_findings::find_for_input;
+use descent_tokens::tokens_of;
 use families::Finding;
-use input_findings::with_memo;
-use judging::judge_chosen;
 use lookahead::Lookahead;
-use recognizer_promises::Judgement;
-use refusals::refused;
-use table::find;
+use table::Found;
 
+mod descending;
 mod descent;
-mod judging;
 pub mod search;
 
-// Judges the input that the events of a log are by an encoded grammar. Each case returns at once, as in `find_into`.
-pub fn judge_words(
-    words: &[u32],
-    lookahead: Lookahead,
-    events: &[u8],
-    memo: &mut [u16],
-) -> Judgement
-    ensures { λ r. ⌜ JudgesWords lookahead (now (words .entry)) (inputOf (now (events .entry))) (now (memo .entry)) r (now (memo .exit)) ⌝ }
+// Finds whether the input that the events of a log are can be judged by an encoded grammar, and if so descends on it.
+pub fn descend_words(words: &[u32], lookahead: Lookahead, events: &[u8], memo: &mut [u16]) -> Found
+    ensures { λ r. ⌜ DescendsWords lookahead (now (words .entry)) (inputOf (now (events .entry))) (now (memo .entry)) r (now (memo .exit)) ⌝ }
 {
-    let found = find(words, lookahead);
-    let finding = with_memo(found.finding, events, memo.len());
-    match finding {
-        Finding::Refused(error) => {
-            return refused(error);
-        }
-        Finding::Passed(sizes) => {
-            let choices = table_choices(
-                &found.starts,
-                sizes,
-                lookahead,
-                &found.entries,
-                events.len(),
-            );
-            let needed = entries_of(sizes.nonterminals, events.len());
-            let answer = judge_chosen(
-                words,
-                sizes,
-                lookahead,
-                &choices,
-                events,
-                &mut memo[..needed],
-            );
-            return Judgement { answer, found };
-        }
-    }
+    let found = find_for_input(words, lookahead, events, memo.len());
+    let finding = found.finding;
+    let Finding::Passed(sizes) = finding else {
+        return found;
+    };
+    let choices = table_choices(
+        &found.starts,
+        sizes,
+        lookahead,
+        &found.entries,
+        events.len(),
+    );
+    let tokens = tokens_of(events, lookahead, sizes.terminals);
+    let needed = entries_of(sizes.nonterminals, events.len());
+    descend(words, &choices, &tokens, &mut memo[..needed]);
+    found
 }

@@ -1,32 +1,23 @@
 // The costliest input of a length: the first in letter order of those on which the descent makes the most calls.
-ghost use mathlib.Core.Path.{_≡_};
 ghost use lib.ListN.{length};
-ghost use Rattle.grammar.specs.Encoding.{grammarOf};
-ghost use Rattle.inputs.specs.contracts.Inputs.{inputAt};
-ghost use Rattle.recognizer_promises.specs.CostliestInput.{callsOn};
 ghost use Rattle.recognizer_promises.specs.contracts.Search.{SearchesWords};
-ghost use Rattle.recursive_descent_promises.specs.contracts.Search.{TrialGiven, NumberGiven, CostliestJudged};
-use super::judging::descend;
-use super::judging::judge_chosen;
-use answer::Answer;
+ghost use Rattle.recursive_descent_promises.specs.contracts.Search.{TrialGiven, NumberGiven, NumberDone, CostliestLeft};
+use super::descending::descend;
 use descent_arrays::CHOICES;
 use descent_choices::entries_of;
 use descent_choices::table_choices;
+use descent_findings::find_for_search;
 use families::Finding;
 use grammar::reading::Sizes;
 use inputs::count_inputs;
 use inputs::no_trials;
 use inputs::tried;
-use inputs::write_input;
-use length_findings::with_length;
 use lookahead::Lookahead;
 use memo_table::count_calls;
-use recognizer_promises::Judgement;
-use refusals::refused;
-use table::find;
+use table::Found;
 use trial_tokens::number_tokens;
 
-// Writes the input of a number, and counts the calls that the descent makes on it.
+// Writes the input of a number, descends on it, and counts the calls.
 fn calls_on(
     words: &[u32],
     choices: &[u16; CHOICES],
@@ -36,24 +27,23 @@ fn calls_on(
     memo: &mut [u16],
 ) -> usize
     requires { ⌜ NumberGiven (now words) (now choices) last (now events) (now memo) ⌝ }
-    ensures { λ r. ⌜ r ≡ callsOn (grammarOf (now (words .entry)))
-        (inputAt (grammarOf (now (words .entry)) .terminals) (length (now (events .entry))) number) ⌝ }
+    ensures { λ r. ⌜ NumberDone (now (words .entry)) (length (now (events .entry))) number r (now (events .exit)) (now (memo .exit)) ⌝ }
 {
     let tokens = number_tokens(events, last, number);
     descend(words, choices, &tokens, memo);
     count_calls(memo)
 }
 
-// Tries all inputs of a length in the same memory; writes the costliest, and judges it.
-fn judge_costliest(
+// Tries all inputs of a length in the same memory, and the costliest last.
+fn leave_costliest(
     words: &[u32],
     sizes: Sizes,
     choices: &[u16; CHOICES],
     events: &mut [u8],
     memo: &mut [u16],
-) -> Answer
+)
     requires { ⌜ TrialGiven (now words) sizes (now choices) (now events) (now memo) ⌝ }
-    ensures { λ r. ⌜ CostliestJudged (now (words .entry)) (length (now (events .entry))) r (now (events .exit)) (now (memo .exit)) ⌝ }
+    ensures { λ _. ⌜ CostliestLeft (now (words .entry)) (length (now (events .entry))) (now (events .exit)) (now (memo .exit)) ⌝ }
 {
     let last = (sizes.terminals - 1) as u8;
     let inputs = count_inputs(sizes.terminals, events.len());
@@ -62,43 +52,27 @@ fn judge_costliest(
         let calls = calls_on(words, choices, last, trials.next, events, memo);
         trials = tried(trials, calls);
     }
-    write_input(events, last, trials.best);
-    judge_chosen(words, sizes, Lookahead::One, choices, events, memo)
+    calls_on(words, choices, last, trials.best, events, memo);
 }
 
-// Finds the costliest input of a length for an encoded grammar, writes it into the lent log, and judges it.
-pub fn judge_costliest_words(
-    words: &[u32],
-    tokens: usize,
-    log: &mut [u8],
-    memo: &mut [u16],
-) -> Judgement
+// Finds the costliest input of a length for an encoded grammar, writes it into the lent log, and descends on it.
+pub fn descend_costliest(words: &[u32], tokens: usize, log: &mut [u8], memo: &mut [u16]) -> Found
     ensures { λ r. ⌜ SearchesWords (now (words .entry)) tokens (now (log .entry)) (now (memo .entry)) r (now (log .exit)) (now (memo .exit)) ⌝ }
 {
-    let found = find(words, Lookahead::One);
-    let finding = with_length(found.finding, tokens, log.len(), memo.len());
-    match finding {
-        Finding::Refused(error) => {
-            return refused(error);
-        }
-        Finding::Passed(sizes) => {
-            // of every input of the length
-            let choices = table_choices(
-                &found.starts,
-                sizes,
-                Lookahead::One,
-                &found.entries,
-                tokens,
-            );
-            let needed = entries_of(sizes.nonterminals, tokens);
-            let answer = judge_costliest(
-                words,
-                sizes,
-                &choices,
-                &mut log[..tokens],
-                &mut memo[..needed],
-            );
-            return Judgement { answer, found };
-        }
-    }
+    let found = find_for_search(words, tokens, log.len(), memo.len());
+    let finding = found.finding;
+    let Finding::Passed(sizes) = finding else {
+        return found;
+    };
+    // of every input of the length
+    let choices = table_choices(&found.starts, sizes, Lookahead::One, &found.entries, tokens);
+    let needed = entries_of(sizes.nonterminals, tokens);
+    leave_costliest(
+        words,
+        sizes,
+        &choices,
+        &mut log[..tokens],
+        &mut memo[..needed],
+    );
+    found
 }

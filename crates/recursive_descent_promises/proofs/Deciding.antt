@@ -1,15 +1,11 @@
--- From a descent that has ended to its answer and to what the memo table then holds.
-use mathlib.Core.Path.{_≡_, refl, sym, ap, _∙_}
+-- From what is found of a grammar and an input to a descent, and from the descent to what the memo table then holds.
+use mathlib.Core.Path.{_≡_, refl, ap, _∙_}
 use mathlib.Core.List.{List, _++_}
-use Prim.Native.Nat.{ℕ, _+_, _*_, _≤_, _<_, min}
+use Prim.Native.Nat.{ℕ, _+_, _*_, _≤_, _<_}
 use native.Mathlib.Numerals.{add-one}
 use native.Mathlib.Omega.{arith}
-use lib.Dec.{eqb}
 use lib.ListN.{length, take, drop, length-replicate, getD-replicate}
-use borrow.Author.Tests.{ne-eqb}
-use Rattle.answer.specs.declared.Answer.{Answer}
-use Rattle.grammar.specs.Codes.{failedCode, uncalledCode}
-use Rattle.grammar.specs.Limits.{maxNonterminals, maxTokens}
+use Rattle.grammar.specs.Codes.{uncalledCode}
 use Rattle.grammar.specs.Syntax.{Grammar}
 use Rattle.grammar.specs.Encoding.{grammarOf}
 use Rattle.grammar.specs.contracts.Starts.{ruleStarts}
@@ -18,8 +14,7 @@ use Rattle.grammar.specs.declared.reading.Sizes.{Sizes}
 use Rattle.grammar.proofs.WellRead.{well-read}
 use Rattle.semantics.specs.Valuations.{pairs}
 use Rattle.semantics.specs.Choices.{Choice, tableChoice}
-use Rattle.semantics.specs.Descent.{Outcome, Failed, End, endsAt, descend, accepts}
-use Rattle.semantics.specs.Memo.{outcomeCode, memoIndex}
+use Rattle.semantics.specs.Memo.{memoIndex, Recorded}
 use Rattle.semantics.specs.contracts.Memo.{blank}
 use Rattle.semantics.proofs.descent.Range.{index-range}
 use Rattle.semantics.proofs.Theorems.{theorems}
@@ -28,11 +23,9 @@ use Rattle.lookahead.specs.Lookaheads.{tokens}
 use Rattle.families.proofs.FewTerminals.{admitted-read, few-terminals}
 use Rattle.columns.specs.Columns.{columnCount}
 use Rattle.table.specs.contracts.Entries.{entriesOf}
-use Rattle.memo_table.specs.contracts.Tally.{recordedTally, recordedVerdict}
-use Rattle.memo_table.proofs.Tallying.{tally-recorded}
-use Rattle.recognizer_promises.specs.Answers.{callsOf, verdictOf}
-use Rattle.recognizer_promises.specs.contracts.Judging.{Ready, PassedGiven, Descended, JudgedPassed}
-use Rattle.recognizer_promises.proofs.Judged.{needed-room, descend-given, judged-passed}
+use Rattle.recognizer_promises.specs.Memory.{memoWords}
+use Rattle.recognizer_promises.specs.contracts.Judging.{Ready, PassedGiven}
+use Rattle.recognizer_promises.proofs.Judged.{needed-room, descend-given, front-left}
 use Rattle.recognizer_promises.proofs.MemoWords.{words-recorded}
 use Rattle.event.specs.Events.{inputOf}
 use Rattle.event.proofs.Inputs.{input-length}
@@ -40,8 +33,8 @@ use Rattle.descent_arrays.specs.contracts.Arrays.{heldTokens, rowAt}
 use Rattle.descent_choices.specs.contracts.Choices.{choicesOf, memoEntries}
 use Rattle.descent_tokens.specs.contracts.Tokens.{tokensOf}
 use Rattle.descent_tokens.proofs.TokenWords.{TokensGiven, TokensHold, column-few, tokens-hold}
-use Rattle.descent_choices.proofs.ChoiceRows.{Filled}
-use Rattle.recursive_descent_promises.specs.contracts.Descent.{MemoSound, StartGiven, StartDone, StartRequires, StartEnsures}
+use Rattle.descent_choices.proofs.ChoiceRows.{Filled, entries-fit}
+use Rattle.recursive_descent_promises.specs.contracts.Descent.{MemoSound, StartGiven, StartRequires, StartEnsures}
 use Rattle.recursive_descent_promises.specs.contracts.Judging.{JudgeGiven}
 use Rattle.recursive_descent_promises.proofs.TableChoices.{rows-filled, choices-hold}
 
@@ -52,12 +45,6 @@ blank-sound choice words input = record {
   right = λ x h n. absurd
       (n (getD-replicate (pairs (grammarOf words) input) (memoIndex input x) uncalledCode uncalledCode (index-range (grammarOf words) input x h)));
 }
-
--- an entry below the codes is an end, and an outcome's entry is no other's
-entry-test : (o : Outcome) (n : ℕ) → n < failedCode → {r : ℕ} → r ≡ outcomeCode o → endsAt o n ≡ eqb r n
-unfolding outcomeCode
-entry-test Failed n l {r} e = sym (ne-eqb r n (λ q. omega arith))
-entry-test (End i) n l e = rw e
 
 -- an input and the choices for its length
 module _ {k : Lookahead} {words : List ℕ} {z : Sizes} {choices memo : List ℕ} (events : List ℕ) (g : JudgeGiven k words z choices (inputOf events) memo) where
@@ -124,29 +111,12 @@ module _ {k : Lookahead} {words : List ℕ} {z : Sizes} {choices memo : List ℕ
     pub start-given : StartRequires words choices tokens memo
     start-given = (choice, begun-held)
 
-    module _ {end : ℕ} {memo′ : List ℕ} (ensured : StartEnsures words choices tokens memo end memo′) where
-      pub started : StartDone choice words input end memo′
-      started = rw (t .input) at (ensured choice begun-held)
+    module _ {memo′ : List ℕ} (ensured : StartEnsures words choices tokens memo memo′) where
+      pub recorded : Recorded G choice input memo′
+      recorded = rw (t .input) at (ensured choice begun-held)
 
-      pub judged : {a : Answer} → a ≡ recordedVerdict memo′ end (length events) → Descended k words input a memo′
-      unfolding verdictOf accepts recordedVerdict
-      judged e =
-          let long : length events ≡ length input = sym (input-length events) in
-          let counted : recordedTally memo′ (length input) ≡ callsOf k G input = tally-recorded (started .recorded) refl in
-          let ends : eqb end (length input) ≡ endsAt (descend G choice input 0 0) (length input) =
-          sym (entry-test (descend G choice input 0 0) (length input) (omega (arith, ready .short)) (started .told)) in
-          record {
-            answer = e ∙ rw (long, ends, counted);
-            entries = words-recorded k G input (r .formed .scoped) (ready .free) some-nonterminal (started .recorded);
-          }
-
--- sizes within the limits are not cut
-pub entries-fit : (n k : ℕ) → n ≤ maxNonterminals → k ≤ maxTokens → memoEntries n k ≡ n * (k + 1)
-unfolding memoEntries
-entries-fit n k few short =
-    let a : min n maxNonterminals ≡ n = omega arith in
-    let b : min k maxTokens ≡ k = omega arith in
-    rw (a, b)
+      pub entries-left : memo′ ≡ memoWords k G input
+      entries-left = words-recorded k G input (r .formed .scoped) (ready .free) some-nonterminal recorded
 
 -- what is found of a grammar that passes: in the front of the memo table, by the choices made of it
 module _ {k : Lookahead} {words : List ℕ} {z : Sizes} {starts entries memo : List ℕ} (events : List ℕ)
@@ -159,7 +129,7 @@ module _ {k : Lookahead} {words : List ℕ} {z : Sizes} {starts entries memo : L
   pub needed-fits : needed ≤ length memo
   needed-fits = omega (arith, needed-is, needed-room events g)
 
-  pub judge-given : {choices : List ℕ} → choices ≡ choicesOf starts (z .nonterminals) (columnCount k (z .terminals)) entries (length events)
+  judge-given : {choices : List ℕ} → choices ≡ choicesOf starts (z .nonterminals) (columnCount k (z .terminals)) entries (length events)
       → JudgeGiven k words z choices (inputOf events) (take needed memo)
   judge-given c = record {
     given = record {
@@ -176,6 +146,13 @@ module _ {k : Lookahead} {words : List ℕ} {z : Sizes} {starts entries memo : L
     made = rw (c, g .ready .begins, g .ready .entered, input-length events);
   }
 
-  pub front-judged : {a : Answer} {part : List ℕ} → Descended k words (inputOf events) a part
-      → JudgedPassed k words (inputOf events) memo a (part ++ drop needed memo)
-  front-judged d = rw needed-is (judged-passed events g d)
+  -- so are the tokens, and the entries are left in front of what was there
+  module _ {choices tokens : List ℕ} (c : choices ≡ choicesOf starts (z .nonterminals) (columnCount k (z .terminals)) entries (length events))
+      (w : tokens ≡ tokensOf k (z .terminals) (inputOf events)) where
+    pub passed-start : StartRequires words choices tokens (take needed memo)
+    passed-start = start-given events (judge-given c) w
+
+    pub passed-left : {part : List ℕ} → StartEnsures words choices tokens (take needed memo) part
+        → part ++ drop needed memo
+        ≡ memoWords k (grammarOf words) (inputOf events) ++ drop (length (memoWords k (grammarOf words) (inputOf events))) memo
+    passed-left d = rw needed-is (front-left events g (entries-left events (judge-given c) w d))

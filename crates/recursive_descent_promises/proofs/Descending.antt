@@ -15,7 +15,7 @@ use Rattle.semantics.specs.contracts.Memo.{EndsFit, blank}
 use Rattle.semantics.specs.Memo.{Recorded}
 use Rattle.semantics.specs.contracts.MemoDescent.{memoized, memoCall}
 use Rattle.semantics.proofs.descent.Memo.{memo-recorded-within}
-use Rattle.recursive_descent_promises.specs.contracts.Descent.{CallGiven, CallDone, StartGiven, StartDone}
+use Rattle.recursive_descent_promises.specs.contracts.Descent.{CallGiven, CallDone, StartGiven}
 use Rattle.recursive_descent_promises.proofs.Running.{level}
 
 module _ {choice : Choice} {words choices tokens input memo : List ℕ} (g : StartGiven choice words choices tokens input memo) {blanked : List ℕ}
@@ -35,11 +35,11 @@ module _ {choice : Choice} {words choices tokens input memo : List ℕ} (g : Sta
   fits : EndsFit input
   fits = omega (arith, g .call .given .short)
 
-  pub start-done : {end : ℕ} {memo′ : List ℕ} → CallDone choice words input blanked 0 0 end memo′ → StartDone choice words input end memo′
+  pub start-done : {end : ℕ} {memo′ : List ℕ} → CallDone choice words input blanked 0 0 end memo′ → Recorded G choice input memo′
   start-done {end} {memo′} d =
       let n = suc (level words input 0 0) in
       let l : level words input 0 0 < n = omega arith in
       let m : memoCall G choice input n 0 0 (blank G input) ≡ memoized (descend G choice input 0 0) memo′ =
       ap (λ x. memoCall G choice input n 0 0 x) (sym blank-is) ∙ d .model n l in
       let e = memo-recorded-within G choice input (read .formed .scoped) (g .call .given .free) (g .call .given .own) fits (g .call .named) n l in
-      record { told = d .told; recorded = subst (λ x. Recorded G choice input x) (ap (λ x. x .memo) m) (e .1) }
+      subst (λ x. Recorded G choice input x) (ap (λ x. x .memo) m) (e .1)

@@ -1,4 +1,4 @@
--- The search for the costliest input: each candidate is run on with the same choices and in the same memory, and the costliest is judged last.
+-- The search for the costliest input: each candidate is run on with the same choices and in the same memory, and the costliest last.
 use mathlib.Core.Path.{_≡_, refl, sym, ap, _∙_}
 use mathlib.Core.Bool.{Bool, true, false}
 use mathlib.Core.List.{List, _++_}
@@ -10,7 +10,6 @@ use lib.Dec.{ltb}
 use lib.ListN.{length, take, drop}
 use lib.Seq.{length-take-le}
 use borrow.Author.Tests.{ltb-true, ltb-false}
-use Rattle.answer.specs.declared.Answer.{Answer}
 use Rattle.base.specs.Choice.{choose}
 use Rattle.grammar.specs.Limits.{maxNonterminals, maxPlaces}
 use Rattle.grammar.specs.Syntax.{Grammar}
@@ -20,7 +19,6 @@ use Rattle.grammar.specs.declared.reading.Sizes.{Sizes}
 use Rattle.grammar.proofs.WellRead.{well-read}
 use Rattle.lookahead.specs.declared.Lookahead.the-variants.{One}
 use Rattle.families.proofs.FewTerminals.{admitted-read}
-use Rattle.semantics.specs.Choices.{tableChoice}
 use Rattle.base.specs.Strings.{Over}
 use Rattle.event.specs.Events.{inputOf}
 use Rattle.event.proofs.Inputs.{input-own}
@@ -35,17 +33,17 @@ use Rattle.columns.specs.Columns.{columnCount}
 use Rattle.memo_table.specs.contracts.Tally.{recordedBelow}
 use Rattle.memo_table.proofs.Tallying.{count-recorded}
 use Rattle.descent_choices.specs.contracts.Choices.{choicesOf, memoEntries}
+use Rattle.descent_choices.proofs.ChoiceRows.{entries-fit}
 use Rattle.descent_tokens.specs.contracts.Tokens.{tokensOf}
 use Rattle.trial_tokens.specs.contracts.Trials.{TrialMade}
 use Rattle.recognizer_promises.specs.Memory.{memoWords}
-use Rattle.recognizer_promises.specs.contracts.Judging.{Descended}
 use Rattle.recognizer_promises.specs.CostliestInput.{callsOn}
-use Rattle.recognizer_promises.specs.contracts.Search.{SearchGiven, BestJudged}
+use Rattle.recognizer_promises.specs.contracts.Search.{SearchGiven, BestLeft}
 use Rattle.recognizer_promises.proofs.Judged.{memo-count}
-use Rattle.recursive_descent_promises.specs.contracts.Descent.{StartDone}
+use Rattle.recursive_descent_promises.specs.contracts.Descent.{StartRequires, StartEnsures}
 use Rattle.recursive_descent_promises.specs.contracts.Judging.{JudgeGiven}
-use Rattle.recursive_descent_promises.proofs.Deciding.{entries-fit}
-use Rattle.recursive_descent_promises.specs.contracts.Search.{TrialGiven, NumberGiven, CostliestJudged}
+use Rattle.recursive_descent_promises.proofs.Deciding.{start-given, recorded, entries-left}
+use Rattle.recursive_descent_promises.specs.contracts.Search.{TrialGiven, NumberGiven, NumberDone, CostliestLeft}
 
 module _ {words : List ℕ} {z : Sizes} {choices events memo : List ℕ} (g : TrialGiven words z choices events memo) where
   abbrev G : Grammar
@@ -86,7 +84,7 @@ module _ {words : List ℕ} {z : Sizes} {choices events memo : List ℕ} (g : Tr
     long : length (inputOf e) ≡ k
     long = ap length own ∙ ap length named ∙ at-long n k number
 
-    pub number-given : JudgeGiven One words z choices (inputOf e) memo
+    number-given : JudgeGiven One words z choices (inputOf e) memo
     number-given = record {
       given = record {
         ready = record {
@@ -102,11 +100,6 @@ module _ {words : List ℕ} {z : Sizes} {choices events memo : List ℕ} (g : Tr
       made = rw long (g .made);
     }
 
-    -- the calls that the memo table then records
-    pub calls-counted : {end r : ℕ} {memo′ : List ℕ} → StartDone (tableChoice G 1 (inputOf e)) words (inputOf e) end memo′
-        → r ≡ recordedBelow memo′ (length memo′) → r ≡ callsOn G (inputAt n k number)
-    calls-counted d c = count-recorded (d .recorded) c ∙ ap (callsOn G) (own ∙ named)
-
 -- as a search tries it
 module _ {words choices : List ℕ} {last : ℕ} {events memo : List ℕ} (g : NumberGiven words choices last events memo) (number : ℕ) {e tokens : List ℕ}
     (m : TrialMade last (length events) number e tokens) where
@@ -115,24 +108,34 @@ module _ {words choices : List ℕ} {last : ℕ} {events memo : List ℕ} (g : N
       let q : last + 1 ≡ g .sizes .terminals - 1 + 1 = omega (arith, g .highest) in
       m .written ∙ ap (λ n. inputAt n (length events) number) q
 
-  pub trial-judged : JudgeGiven One words (g .sizes) choices (inputOf e) memo
+  trial-judged : JudgeGiven One words (g .sizes) choices (inputOf e) memo
   trial-judged = number-given (g .given) number trial-written
 
-  pub trial-made : tokens ≡ tokensOf One (g .sizes .terminals) (inputOf e)
+  trial-made : tokens ≡ tokensOf One (g .sizes .terminals) (inputOf e)
   trial-made = m .made ∙ ap (λ n. tokensOf One n (inputOf e)) (g .highest)
 
-  pub trial-counted : {end r : ℕ} {memo′ : List ℕ} → StartDone (tableChoice (grammarOf words) 1 (inputOf e)) words (inputOf e) end memo′
-      → r ≡ recordedBelow memo′ (length memo′) → r ≡ callsOn (grammarOf words) (inputAt (grammarOf words .terminals) (length events) number)
-  trial-counted = calls-counted (g .given) number trial-written
+  pub trial-start : StartRequires words choices tokens memo
+  trial-start = start-given e trial-judged trial-made
+
+  pub trial-done : {r : ℕ} {memo′ : List ℕ} → StartEnsures words choices tokens memo memo′ → r ≡ recordedBelow memo′ (length memo′)
+      → NumberDone words (length events) number r e memo′
+  trial-done d c =
+      let w = named (g .given) number trial-written in
+      let same = own (g .given) number trial-written in
+      record {
+        written = w;
+        entries = entries-left e trial-judged trial-made d ∙ ap (memoWords One (grammarOf words)) same;
+        counted = count-recorded (recorded e trial-judged trial-made d) c ∙ ap (callsOn (grammarOf words)) (same ∙ w);
+      }
 
 -- the search, in the memory of now
-pub record Searching (words : List ℕ) (z : Sizes) (choices events₀ memo₀ events memo : List ℕ) (t : Trials) : Type 0 where
+pub record Searching (words events₀ memo₀ events memo : List ℕ) (t : Trials) : Type 0 where
   pub searched : Searched (callsOn (grammarOf words)) (grammarOf words .terminals) (length events₀) (t .next) (t .best) (t .calls)
   pub same-length : length events ≡ length events₀
   pub same-memo : length memo ≡ length memo₀
 
 module _ {words : List ℕ} {z : Sizes} {choices events memo : List ℕ} (g : TrialGiven words z choices events memo) where
-  pub searching-start : {t : Trials} → t ≡ noTrials → Searching words z choices events memo events memo t
+  pub searching-start : {t : Trials} → t ≡ noTrials → Searching words events memo events memo t
   searching-start e = record { searched = rw e (searched-none (callsOn (G g)) (n g) (some-token g) (length events)); same-length = refl; same-memo = refl }
 
   -- all inputs are tried
@@ -142,7 +145,7 @@ module _ {words : List ℕ} {z : Sizes} {choices events memo : List ℕ} (g : Tr
   few-inputs : {inputs : ℕ} → inputs ≡ inputCount (z .terminals) (length events) → inputs ≤ maxInputs
   few-inputs e = omega (arith, e ∙ count-exact (z .terminals) (length events) (g .few), g .few)
 
-  module _ {events₁ memo₁ : List ℕ} {t : Trials} {inputs : ℕ} (s : Searching words z choices events memo events₁ memo₁ t)
+  module _ {events₁ memo₁ : List ℕ} {t : Trials} {inputs : ℕ} (s : Searching words events memo events₁ memo₁ t)
       (e : inputs ≡ inputCount (z .terminals) (length events)) where
     pub searching-given : TrialGiven words z choices events₁ memo₁
     searching-given = record {
@@ -155,11 +158,11 @@ module _ {words : List ℕ} {z : Sizes} {choices events memo : List ℕ} (g : Tr
     }
 
     pub searching-next : t .next < inputs → {calls : ℕ} {t′ : Trials} {events₂ memo₂ : List ℕ}
-        → calls ≡ callsOn (G g) (inputAt (n g) (length events₁) (t .next))
+        → NumberDone words (length events₁) (t .next) calls events₂ memo₂
         → length events₂ ≡ length events₁ → length memo₂ ≡ length memo₁
         → t′ ≡ triedNext t calls
-        → Searching words z choices events memo events₂ memo₂ t′
-    searching-next h {calls} {t′} cost same-events same-memo q = record {
+        → Searching words events memo events₂ memo₂ t′
+    searching-next h {calls} {t′} d same-events same-memo q = record {
       searched = rw (q, one-more) (go (ltb (t .calls) calls) refl);
       same-length = same-events ∙ s .same-length;
       same-memo = same-memo ∙ s .same-memo;
@@ -172,7 +175,7 @@ module _ {words : List ℕ} {z : Sizes} {choices events memo : List ℕ} (g : Tr
         one-more = omega (arith, few-inputs e)
 
         counted : calls ≡ callsOn (G g) (inputAt (n g) (length events) (t .next))
-        counted = cost ∙ ap (λ j. callsOn (G g) (inputAt (n g) j (t .next))) (s .same-length)
+        counted = d .counted ∙ ap (λ j. callsOn (G g) (inputAt (n g) j (t .next))) (s .same-length)
 
         go : (b : Bool) → ltb (t .calls) calls ≡ b
             → Searched (callsOn (G g)) (n g) (length events) (t .next + 1) (choose b (t .next) (t .best)) (choose b calls (t .calls))
@@ -183,15 +186,12 @@ module _ {words : List ℕ} {z : Sizes} {choices events memo : List ℕ} (g : Tr
     pub searching-less : t .next < inputs → (calls : ℕ) {t′ : Trials} → t′ ≡ triedNext t calls → inputs - t′ .next < inputs - t .next
     searching-less h calls q = rw q (omega (arith, few-inputs e))
 
-    -- the costliest is judged last
-    pub searching-done : inputs ≤ t .next → {e : List ℕ} {r : Answer} {memo′ : List ℕ} → e ≡ inputAt (z .terminals - 1 + 1) (length events₁) (t .best)
-        → Descended One words (inputOf e) r memo′ → CostliestJudged words (length events) r e memo′
-    searching-done h w d =
+    -- the costliest is tried last
+    pub searching-done : inputs ≤ t .next → {r : ℕ} {events₂ memo₂ : List ℕ} → NumberDone words (length events₁) (t .best) r events₂ memo₂
+        → CostliestLeft words (length events) events₂ memo₂
+    searching-done h d =
         let found = searched-all (callsOn (G g)) (n g) (some-token g) (length events) (s .searched) (omega (arith, all-counted e)) in
-        record {
-          written = named searching-given (t .best) w ∙ ap (λ j. inputAt (n g) j (t .best)) (s .same-length) ∙ found;
-          judged = rw (own searching-given (t .best) w) at d;
-        }
+        record { written = d .written ∙ ap (λ j. inputAt (n g) j (t .best)) (s .same-length) ∙ found; entries = d .entries }
 
 -- what is found of a grammar that passes: in the front of the memo table, by the choices made of it for that many tokens
 module _ {words : List ℕ} {z : Sizes} {starts entries events memo : List ℕ} (g : SearchGiven words z starts entries events memo) {tokens needed : ℕ}
@@ -221,16 +221,12 @@ module _ {words : List ℕ} {z : Sizes} {starts entries events memo : List ℕ} 
     few = g .few;
   }
 
-  pub front-judged : {r : Answer} {events′ part : List ℕ} → CostliestJudged words (length events) r events′ part
-      → BestJudged words events memo r events′ (part ++ drop needed memo)
-  front-judged {r} {events′} {part} d =
+  pub search-left : {events′ part : List ℕ} → CostliestLeft words (length events) events′ part → BestLeft words events memo events′ (part ++ drop needed memo)
+  search-left {events′} {part} d =
       let written = memoWords One (grammarOf words) events′ in
       let some : 0 < grammarOf words .terminals = omega (arith, sizes .terminals, sizes .someTerminal) in
       let same : length events′ ≡ length events =
       ap length (d .written) ∙ costliest-of (callsOn (grammarOf words)) (grammarOf words .terminals) some (length events) .long in
       let e : needed ≡ length written =
       needed-is ∙ ap (λ j. grammarOf words .nonterminals * suc j) (sym same) ∙ sym (memo-count One (grammarOf words) events′) in
-      record {
-        written = d .written;
-        judged = record { answer = d .judged .answer; lent = ap (λ y. y ++ drop needed memo) (d .judged .entries) ∙ ap (λ y. written ++ drop y memo) e };
-      }
+      record { written = d .written; entries = ap (λ y. y ++ drop needed memo) (d .entries) ∙ ap (λ y. written ++ drop y memo) e }

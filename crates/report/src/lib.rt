@@ -16,12 +16,13 @@ use grammar::limits::MEMO_ENTRIES;
 use grammar::limits::RULES;
 use grammar::limits::TABLE_WORDS;
 use grammar::limits::WORDS;
+use judge_answers::answer;
 use judgement_text::put_judgement;
 use judgement_text::sizes::nonterminals;
 use judgement_text::sizes::tokens;
 use lending::lend;
 use lookahead::Lookahead;
-use recursive_descent::judge_words;
+use recursive_descent::descend_words;
 use refusal_text::put_refusal;
 use sheet_text::put_check;
 use table::find;
@@ -82,11 +83,10 @@ fn put_judged(words: &[u32], events: &[u8], out: &mut [u8]) -> usize
     ensures { λ r. ⌜ Put (now (out .entry)) 0 (judgedText (now (words .entry)) (inputOf (now (events .entry)))) (now (out .exit)) r ⌝ }
 {
     let mut memo = [UNCALLED; MEMO_ENTRIES];
-    let judgement = judge_words(words, Lookahead::One, events, &mut memo);
-    let answer = judgement.answer;
-    let found = judgement.found;
+    let found = descend_words(words, Lookahead::One, events, &mut memo);
     let finding = found.finding;
-    put_judgement(out, answer, nonterminals(finding), tokens(events), &memo)
+    let answered = answer(finding, events.len(), &memo);
+    put_judgement(out, answered, nonterminals(finding), tokens(events), &memo)
 }
 
 fn put_claimed(words: &[u32], out: &mut [u8]) -> usize

@@ -28,13 +28,14 @@ use Rattle.table.proofs.Analyzing.{entries-told}
 use Rattle.lending.specs.contracts.Lending.{lentOf}
 use Rattle.lending.proofs.WordsLaid.{lent-table, lent-nothing}
 use Rattle.answer.specs.Faults.{refusedOr}
-use Rattle.recognizer_promises.specs.declared.Judgement.{Judgement}
 use Rattle.recognizer_promises.specs.Answers.{checkFault, judgeFault, verdictOf}
-use Rattle.recognizer_promises.specs.contracts.Judging.{memoFault, foundUnless, JudgesWords}
+use Rattle.recognizer_promises.specs.contracts.Judging.{memoFault, foundUnless, DescendsWords}
 use Rattle.promises.specs.Memory.{lentBack}
 use Rattle.recognizer_promises.specs.Memory.{memoWords}
 use Rattle.recognizer_promises.proofs.JudgeFaults.{judge-table-long, judged-readable}
 use Rattle.recognizer_promises.proofs.Checking.{told, found-fault, check-fault-long, passed-fault, passed-read}
+use Rattle.judge_answers.specs.contracts.Answers.{answerOf}
+use Rattle.judge_answers.proofs.Answered.{answered}
 use Rattle.text.specs.Writing.{Put}
 use Rattle.sheet_text.specs.Sheet.{checkText}
 use Rattle.sheet_text.specs.contracts.Limited.{limitedFinding}
@@ -108,20 +109,23 @@ module _ {l m : List ℕ} {k : ℕ} where
       let a = ap limitedFinding (found-checked words size e) ∙ limited-found words f in
       subst (λ x. Put l 0 x m k) (ap₂ checkText a (t ∙ lent-checked words size e)) p
 
-  pub put-judged-text : {words memo : List ℕ} (events : List ℕ) {r : Judgement} {nonterminals tokens : ℕ} → length blankMemo ≡ maxMemoEntries
-      → nonterminals ≡ nonterminalsOf (r .found .finding) → tokens ≡ tokenCount events → JudgesWords One words (inputOf events) blankMemo r memo
-      → Put l 0 (judgementText (r .answer) nonterminals tokens memo) m k → Put l 0 (judgedText words (inputOf events)) m k
+  pub put-judged-text : {words memo : List ℕ} (events : List ℕ) {r : Found} {a : Answer} {nonterminals tokens : ℕ} → length blankMemo ≡ maxMemoEntries
+      → nonterminals ≡ nonterminalsOf (r .finding) → tokens ≡ tokenCount events → DescendsWords One words (inputOf events) blankMemo r memo
+      → a ≡ answerOf (r .finding) (length events) memo
+      → Put l 0 (judgementText a nonterminals tokens memo) m k → Put l 0 (judgedText words (inputOf events)) m k
   unfolding judgedText
-  put-judged-text {words} {memo} events {r} room n w j p =
+  put-judged-text {words} {memo} events {r} {a} room n w j v p =
       let input = inputOf events in
       let G = grammarOf words in
       let g = judgeFault One maxTableWords maxMemoEntries words input in
       let same : memoFault One (length blankMemo) words input ≡ g =
       ap (λ b. memoFault One b words input) room ∙ sym (judge-table-long One maxTableWords maxMemoEntries words input (omega arith)) in
-      let a : r .answer ≡ refusedOr g (verdictOf One G input) = j .verdict ∙ ap (λ y. refusedOr y (verdictOf One G input)) same in
+      let readable = judged-readable One words input maxTableWords maxMemoEntries in
       let b : memo ≡ lentBack g (memoWords One G input) blankMemo = j .lent ∙ ap (λ y. lentBack y (memoWords One G input) blankMemo) same in
-      let c : r .found ≡ foundUnless g (foundOf One words) = j .grammar ∙ ap (λ y. foundUnless y (foundOf One words)) same in
+      let c : r ≡ foundUnless g (foundOf One words) = j .grammar ∙ ap (λ y. foundUnless y (foundOf One words)) same in
+      let told : a ≡ refusedOr g (verdictOf One G input) =
+      v ∙ answered One words input blankMemo (length events) g (λ q. (readable q .0, readable q .1, sym (input-length events))) c b in
       let n′ = n ∙ ap (λ y. nonterminalsOf (y .finding)) c in
-      let t = ap₂ (λ x y. judgementText x (judgedNonterminals words g) (tokenCount input) y) a b
+      let t = ap₂ (λ x y. judgementText x (judgedNonterminals words g) (tokenCount input) y) told b
       ∙ same-sizes words input (lentBack g (memoWords One G input) blankMemo) (verdictOf One G input) g refl in
       subst (λ x. Put l 0 x m k) t (rw (n′, w ∙ tokens-same events) at p)

@@ -1,57 +1,50 @@
--- What judging in a lent memo table alone answers, finds and leaves there; and what its steps require and ensure.
+-- What a descent in a lent memo table finds and leaves there; and what its steps require and ensure.
 use mathlib.Core.Path.{_≡_}
 use mathlib.Core.List.{List, _∷_, _++_}
 use mathlib.Core.Option.{Option, none, some}
 use Prim.Native.Nat.{ℕ, _≤_}
 use lib.Dec.{ltb}
-use lib.ListN.{length, drop, replicate}
-use Rattle.answer.specs.declared.Answer.{Answer}
-use Rattle.answer.specs.declared.Answer.the-variants as answer
+use lib.ListN.{length}
 use Rattle.answer.specs.declared.Error.{Error}
 use Rattle.answer.specs.declared.Error.the-variants.{MemoTooShort}
-use Rattle.answer.specs.Faults.{faultIf, firstFault, refusedOr}
-use Rattle.grammar.specs.Limits.{maxNonterminals, maxRules, maxTokens, maxMemoEntries}
+use Rattle.answer.specs.Faults.{faultIf, firstFault}
+use Rattle.grammar.specs.Limits.{maxTokens, maxMemoEntries}
 use Rattle.grammar.specs.Encoding.{grammarOf}
 use Rattle.grammar.specs.contracts.Starts.{ruleStarts}
 use Rattle.grammar.specs.declared.reading.Sizes.{Sizes}
 use Rattle.grammar.specs.declared.reading.Reading.the-variants.{Read}
 use Rattle.lookahead.specs.declared.Lookahead.{Lookahead}
-use Rattle.lookahead.specs.Lookaheads.{tokens}
 use Rattle.admission.specs.Admission.{admission}
 use Rattle.semantics.specs.Valuations.{pairs}
 use Rattle.semantics.specs.LeftRecursion.{NoLeftRecursion}
 use Rattle.base.specs.Strings.{Over}
+use Rattle.families.specs.declared.Finding.{Finding}
 use Rattle.families.specs.declared.Finding.the-variants.{Refused}
-use Rattle.table.specs.contracts.Entries.{entriesOf, noRules}
+use Rattle.table.specs.contracts.Entries.{entriesOf}
 use Rattle.table.specs.declared.Found.{Found}
 use Rattle.table_promises.specs.Analysis.{grammarFaults, fault}
 use Rattle.table.specs.contracts.Analysis.{foundWith, foundOf}
-use Rattle.recognizer_promises.specs.declared.Judgement.{Judgement}
 use Rattle.promises.specs.Memory.{lentBack}
 use Rattle.recognizer_promises.specs.Memory.{memoWords}
-use Rattle.recognizer_promises.specs.Answers.{inputFaults, verdictOf}
+use Rattle.recognizer_promises.specs.Answers.{inputFaults}
 
 -- why it is refused: as judging is, but for the table's length
 unfoldable pub memoFault : Lookahead → ℕ → List ℕ → List ℕ → Option Error
 memoFault k memo words input =
     firstFault (faultIf (ltb memo maxMemoEntries) MemoTooShort ∷ grammarFaults k words ++ inputFaults (grammarOf words .terminals) input)
 
--- what is found of a grammar, unless there is an error
-abbrev pub refusedFound : Error → Found
-refusedFound e = foundWith (Refused e) (replicate maxRules 0) (replicate maxNonterminals 0) (replicate maxNonterminals 0) noRules
+-- what is found of a grammar, with another finding: that of memory and of an input behind it
+abbrev pub refound : Found → Finding → Found
+refound r f = foundWith f (r .starts) (r .firsts) (r .follows) (r .entries)
 
+-- what is found of a grammar, with the error that there is
 abbrev pub foundUnless : Option Error → Found → Found
 foundUnless none r = r
-foundUnless (some e) r = refusedFound e
+foundUnless (some e) r = refound r (Refused e)
 
-abbrev pub refusedWith : Error → Judgement
-refusedWith e = record { answer = answer.Refused e; found = refusedFound e }
-
--- the first refusal that holds decides, and a refusal changes nothing; else the verdict, what is found of the grammar, and the entries in front of
--- what was there
-pub record JudgesWords (k : Lookahead) (words input memo : List ℕ) (r : Judgement) (memo′ : List ℕ) : Type 0 where
-  pub verdict : r .answer ≡ refusedOr (memoFault k (length memo) words input) (verdictOf k (grammarOf words) input)
-  pub grammar : r .found ≡ foundUnless (memoFault k (length memo) words input) (foundOf k words)
+-- the first refusal that holds decides what is found, and a refusal changes nothing; else the entries stand in front of what was there
+pub record DescendsWords (k : Lookahead) (words input memo : List ℕ) (r : Found) (memo′ : List ℕ) : Type 0 where
+  pub grammar : r ≡ foundUnless (memoFault k (length memo) words input) (foundOf k words)
   pub lent : memo′ ≡ lentBack (memoFault k (length memo) words input) (memoWords k (grammarOf words) input) memo
 
 -- what is found of a grammar that passes: its sizes, no fault, where its rules begin, and its entries
@@ -75,16 +68,7 @@ pub record PassedGiven (k : Lookahead) (words : List ℕ) (z : Sizes) (starts en
   pub ready : Ready k words z starts entries input
   pub room : maxMemoEntries ≤ length memo
 
--- the answer is the verdict, and the memo table holds what is defined in front of what was there
-pub record JudgedPassed (k : Lookahead) (words input memo : List ℕ) (r : Answer) (memo′ : List ℕ) : Type 0 where
-  pub answer : r ≡ verdictOf k (grammarOf words) input
-  pub lent : memo′ ≡ memoWords k (grammarOf words) input ++ drop (length (memoWords k (grammarOf words) input)) memo
-
 -- the same in a memo table of just its entries
 pub record DescendGiven (k : Lookahead) (words : List ℕ) (z : Sizes) (starts entries input memo : List ℕ) : Type 0 where
   pub ready : Ready k words z starts entries input
   pub size : length memo ≡ pairs (grammarOf words) input
-
-pub record Descended (k : Lookahead) (words input : List ℕ) (r : Answer) (memo : List ℕ) : Type 0 where
-  pub answer : r ≡ verdictOf k (grammarOf words) input
-  pub entries : memo ≡ memoWords k (grammarOf words) input

@@ -137,14 +137,10 @@ pub record StartGiven (choice : Choice) (words choices tokens input memo : List 
   pub call : CallGiven choice words choices tokens input (blank (grammarOf words) input) 0 0
   pub size : length memo ≡ pairs (grammarOf words) input
 
--- the start's entry is returned, and the memo table holds those of the calls made and no others
-pub record StartDone (choice : Choice) (words input : List ℕ) (r : ℕ) (memo′ : List ℕ) : Type 0 where
-  pub told : r ≡ outcomeCode (descend (grammarOf words) choice input 0 0)
-  pub recorded : Recorded (grammarOf words) choice input memo′
-
+-- the memo table then holds the entries of the calls made, and no others
 abbrev pub StartRequires : (words choices tokens memo : List ℕ) → Type 0
 StartRequires words choices tokens memo = (choice : Choice) × StartGiven choice words choices tokens (heldTokens tokens) memo
 
-abbrev pub StartEnsures : (words choices tokens memo : List ℕ) (r : ℕ) (memo′ : List ℕ) → Type 0
-StartEnsures words choices tokens memo r memo′ =
-    (choice : Choice) → StartGiven choice words choices tokens (heldTokens tokens) memo → StartDone choice words (heldTokens tokens) r memo′
+abbrev pub StartEnsures : (words choices tokens memo memo′ : List ℕ) → Type 0
+StartEnsures words choices tokens memo memo′ =
+    (choice : Choice) → StartGiven choice words choices tokens (heldTokens tokens) memo → Recorded (grammarOf words) choice (heldTokens tokens) memo′

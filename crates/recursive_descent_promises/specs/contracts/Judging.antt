@@ -1,4 +1,4 @@
--- What judging by choices made before requires: they are those of the grammar's own table.
+-- What a descent by choices made before requires: they are those of the grammar's own table.
 use mathlib.Core.Path.{_≡_}
 use mathlib.Core.List.{List}
 use Prim.Native.Nat.{ℕ}

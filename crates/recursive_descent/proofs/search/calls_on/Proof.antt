@@ -1,6 +1,5 @@
 -- What is written is an input of the grammar's terminals, and its calls are counted in the memo table.
-use Rattle.recursive_descent_promises.proofs.Deciding.{start-given, started}
-use Rattle.recursive_descent_promises.proofs.Searching.{trial-judged, trial-made, trial-counted}
+use Rattle.recursive_descent_promises.proofs.Searching.{trial-start, trial-done}
 use borrow.Author.Needs.{needs}
 use Rattle.recursive_descent.proofs.search.calls_on.Statement.{statement}
 use Rattle.recursive_descent.proofs.search.calls_on.Tie as tie
@@ -12,8 +11,7 @@ descend-requires : tie.Need-descend-requires
 descend-requires c κs =
     let made = c .before .before .before .before in
     let start = made .before .before .before .before .before in
-    let trial = made .number-tokens .ensures in
-    start-given _ (trial-judged (start .pre) (start .args .number) trial) (trial-made (start .pre) (start .args .number) trial)
+    trial-start (start .pre) (start .args .number) (made .number-tokens .ensures)
 
 count-calls-requires : tie.Need-count-calls-requires
 count-calls-requires c κs = tt
@@ -29,10 +27,7 @@ returns c =
     let ran = c .before .before .before .before in
     let made = ran .before .before .before .before .before in
     let start = made .before .before .before .before .before in
-    let trial = made .number-tokens .ensures in
-    let number = start .args .number in
-    trial-counted (start .pre) number trial
-    (started _ (trial-judged (start .pre) number trial) (trial-made (start .pre) number trial) (ran .descend .ensures)) (c .count-calls .ensures)
+    trial-done (start .pre) (start .args .number) (made .number-tokens .ensures) (ran .descend .ensures) (c .count-calls .ensures)
 
 pub calls-on-spec : {M : Type 1} → statement M
 calls-on-spec =

@@ -1,8 +1,8 @@
 -- The start is called in a blank memo table.
 use borrow.Author.Needs.{needs}
 use Rattle.recursive_descent_promises.proofs.Descending.{start-call, start-done}
-use Rattle.recursive_descent.proofs.judging.descend.Statement.{statement}
-use Rattle.recursive_descent.proofs.judging.descend.Tie as tie
+use Rattle.recursive_descent.proofs.descending.descend.Statement.{statement}
+use Rattle.recursive_descent.proofs.descending.descend.Tie as tie
 
 clear-requires : tie.Need-clear-requires
 clear-requires c κs = tt

@@ -1,17 +1,17 @@
--- Of the inputs tried so far the costliest is kept; the last of all is judged.
+-- Of the inputs tried so far the costliest is kept; it is tried last.
 use mathlib.Core.Path.{_∙_}
 use Prim.Native.Nat.{_-_}
 use native.Mathlib.Omega.{arith}
-use Rattle.recursive_descent_promises.proofs.Searching.{Searching, some-terminal, last-terminal, few-terminals, number-given}
+use Rattle.recursive_descent_promises.proofs.Searching.{Searching, some-terminal, last-terminal, few-terminals}
 use Rattle.recursive_descent_promises.proofs.Searching.{searching-start, searching-given, searching-next, searching-less, searching-done}
-use Rattle.recursive_descent.proofs.search.judge_costliest.Statement.{statement}
-use Rattle.recursive_descent.proofs.search.judge_costliest.Tie as tie
+use Rattle.recursive_descent.proofs.search.leave_costliest.Statement.{statement}
+use Rattle.recursive_descent.proofs.search.leave_costliest.Tie as tie
 
 abbrev Inv-loop : tie.InvT-loop
-Inv-loop words sizes choices events₀ memo₀ last inputs trials₀ events memo trials = Searching words sizes choices events₀ memo₀ events memo trials
+Inv-loop words choices events₀ memo₀ last inputs trials₀ events memo trials = Searching words events₀ memo₀ events memo trials
 
 abbrev μ-loop : tie.MeasureT-loop
-μ-loop words sizes choices events₀ memo₀ last inputs trials₀ events memo trials = inputs - trials .next
+μ-loop words choices events₀ memo₀ last inputs trials₀ events memo trials = inputs - trials .next
 
 sub-last : tie.Need-sub-last Inv-loop μ-loop
 sub-last c = omega (arith, some-terminal (c .before .before .before .before .pre))
@@ -63,43 +63,37 @@ loop-again c =
     (turn .if1 .taken) (called .calls-on .ensures)
     (written .events .given) (kept .memo .given) (c .tried .ensures)
 
-write-input-requires : tie.Need-write-input-requires Inv-loop μ-loop
-write-input-requires c κs = tt
-
-judge-chosen-requires : tie.Need-judge-chosen-requires Inv-loop μ-loop
-judge-chosen-requires c κs =
-    let written = c .before .before .before .before in
-    let at-loop = written .before .before .before .before in
+calls-on-requires-2 : tie.Need-calls-on-requires-2 Inv-loop μ-loop
+calls-on-requires-2 c κs =
+    let at-loop = c .before .before .before .before in
     let counted = at-loop .before .before in
     let start = counted .before .before .before .before .before in
-    number-given (searching-given (start .pre) (at-loop .loop .inv) (counted .count-inputs .ensures))
-    (at-loop .loop .trials .best) (written .write-input .ensures)
+    let given = start .pre in
+    record { sizes = _; given = searching-given given (at-loop .loop .inv) (counted .count-inputs .ensures); highest = last-terminal given }
 
 same-length : tie.Need-same-length Inv-loop μ-loop
 same-length c =
-    let rewritten = c .before .before .before .before .before .before in
-    let at-loop = rewritten .before .before .before .before .before in
-    rewritten .events2 .given ∙ at-loop .loop .inv .same-length
+    let written = c .before .before .before in
+    let at-loop = written .before .before .before .before .before .before in
+    written .events2 .given ∙ at-loop .loop .inv .same-length
 
 same-length-2 : tie.Need-same-length-2 Inv-loop μ-loop
 same-length-2 c =
-    let written = c .before .before .before .before .before .before .before in
-    let at-loop = written .before .before .before .before in
-    c .before .memo2 .given ∙ at-loop .loop .inv .same-memo
+    let left = c .before in
+    let at-loop = left .before .before .before .before .before .before .before .before in
+    left .memo2 .given ∙ at-loop .loop .inv .same-memo
 
 returns : tie.Need-returns Inv-loop μ-loop
 returns c =
-    let judged = c .before .before in
-    let written = judged .before .before .before .before .before in
-    let ended = written .before .before in
+    let called = c .before .before .before .before in
+    let ended = called .before .before .before in
     let at-loop = ended .before .before in
     let counted = at-loop .before .before in
     let start = counted .before .before .before .before .before in
-    searching-done (start .pre) (at-loop .loop .inv) (counted .count-inputs .ensures) (ended .if1 .left)
-    (written .write-input .ensures) (judged .judge-chosen .ensures)
+    searching-done (start .pre) (at-loop .loop .inv) (counted .count-inputs .ensures) (ended .if1 .left) (called .calls-on2 .ensures)
 
-pub judge-costliest-spec : {M : Type 1} → statement M
-judge-costliest-spec =
+pub leave-costliest-spec : {M : Type 1} → statement M
+leave-costliest-spec =
     tie.close
     (tie.spec
     Inv-loop
@@ -113,8 +107,7 @@ judge-costliest-spec =
     tried-requires
     loop-less
     loop-again
-    write-input-requires
-    judge-chosen-requires
+    calls-on-requires-2
     same-length
     same-length-2
     returns)
