@@ -11,7 +11,9 @@ use file_words::Loaded;
 use file_words::load;
 use gaps_text::put_gaps;
 use grammar::codes::NO_ENTRY;
+use grammar::codes::NO_RULE;
 use grammar::codes::UNCALLED;
+use grammar::limits::ENTRIES;
 use grammar::limits::MEMO_ENTRIES;
 use grammar::limits::RULES;
 use grammar::limits::TABLE_WORDS;
@@ -25,7 +27,7 @@ use lookahead::Lookahead;
 use recursive_descent::descend_words;
 use refusal_text::put_refusal;
 use sheet_text::put_check;
-use table::find;
+use table::find_into;
 
 // The sheet of the grammar that a file's bytes are, or why there is none.
 pub fn sheet(bytes: &[u8], out: &mut [u8]) -> usize
@@ -67,15 +69,19 @@ fn put_checked(words: &[u32], out: &mut [u8]) -> usize
     ensures { λ r. ⌜ Put (now (out .entry)) 0 (checkedText (now (words .entry))) (now (out .exit)) r ⌝ }
 {
     let mut table = [NO_ENTRY; TABLE_WORDS];
-    let found = find(words, Lookahead::One);
-    let finding = found.finding;
-    lend(
-        finding,
-        &found.firsts,
-        &found.follows,
-        &found.entries,
-        &mut table,
+    let mut starts = [0usize; RULES];
+    let mut firsts = [0u64; SETS];
+    let mut follows = [0u64; SETS];
+    let mut entries = [NO_RULE; ENTRIES];
+    let finding = find_into(
+        words,
+        Lookahead::One,
+        &mut starts,
+        &mut firsts,
+        &mut follows,
+        &mut entries,
     );
+    lend(finding, &firsts, &follows, &entries, &mut table);
     put_check(out, finding, &table)
 }
 

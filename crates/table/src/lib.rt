@@ -82,28 +82,3 @@ pub fn find_into(
     *entries = [NO_RULE; ENTRIES];
     Finding::Refused(conflict_error(nonterminal, column, lookahead))
 }
-
-// The same as one value. Who needs the parts alone lends them to `find_into`: here they are copied once more.
-pub fn find(words: &[u32], lookahead: Lookahead) -> Found
-    ensures { λ r. ⌜ r ≡ foundOf lookahead (now (words .entry)) ⌝ }
-{
-    let mut starts = [0usize; RULES];
-    let mut firsts = [0u64; SETS];
-    let mut follows = [0u64; SETS];
-    let mut entries = [NO_RULE; ENTRIES];
-    let finding = find_into(
-        words,
-        lookahead,
-        &mut starts,
-        &mut firsts,
-        &mut follows,
-        &mut entries,
-    );
-    Found {
-        finding,
-        starts,
-        firsts,
-        follows,
-        entries,
-    }
-}

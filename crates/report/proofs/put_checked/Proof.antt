@@ -9,8 +9,8 @@ use borrow.Author.Needs.{needs}
 use Rattle.report.proofs.put_checked.Statement.{statement}
 use Rattle.report.proofs.put_checked.Tie as tie
 
-find-requires : tie.Need-find-requires
-find-requires c κs = search needs
+find-into-requires : tie.Need-find-into-requires
+find-into-requires c κs = search needs
 
 slice-aggregate-lend : tie.Need-slice-aggregate-lend
 slice-aggregate-lend c = search needs
@@ -32,14 +32,15 @@ unfolding blankTable
 returns c =
     let at-put-check = c .before .before in
     let at-lend = at-put-check .before .before .before .before in
-    let at-find = at-lend .before .before .before .before .before .before in
-    put-checked-text _ (length-replicate {A = ℕ} maxTableWords noEntry) (at-find .find .ensures) (at-lend .lend .ensures) (at-put-check .put-check .ensures)
+    let at-find = at-lend .before .before .before .before .before in
+    put-checked-text _ (length-replicate {A = ℕ} maxTableWords noEntry) (at-find .find-into .ensures) (at-lend .lend .ensures)
+    (at-put-check .put-check .ensures)
 
 pub put-checked-spec : {M : Type 1} → statement M
 put-checked-spec =
     tie.close
     (tie.spec
-    find-requires
+    find-into-requires
     slice-aggregate-lend
     lend-requires
     slice-aggregate-put-check
