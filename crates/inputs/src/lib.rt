@@ -2,7 +2,7 @@
 ghost use mathlib.Core.Path.{_≡_};
 ghost use Prim.Native.Nat.{_+_};
 ghost use lib.ListN.{length};
-ghost use Rattle.inputs.specs.contracts.Inputs.{inputAt, inputCount, noTrials, toTry, triedNext};
+ghost use Rattle.inputs.specs.contracts.Inputs.{inputAt, inputCount, noTrials, triedNext};
 
 // Among how many inputs a search goes.
 pub const INPUTS: usize = 4096;
@@ -51,17 +51,6 @@ pub fn no_trials() -> Trials
         next: 0,
         best: 0,
         calls: 0,
-    }
-}
-
-// Which is tried now: the next, or when all have been tried, the costliest.
-pub fn to_try(trials: Trials, inputs: usize) -> usize
-    ensures { λ r. ⌜ r ≡ toTry trials inputs ⌝ }
-{
-    if trials.next < inputs {
-        trials.next
-    } else {
-        trials.best
     }
 }
 

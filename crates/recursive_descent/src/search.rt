@@ -11,7 +11,6 @@ use families::Finding;
 use grammar::reading::Sizes;
 use inputs::count_inputs;
 use inputs::no_trials;
-use inputs::to_try;
 use inputs::tried;
 use lookahead::Lookahead;
 use memo_table::count_calls;
@@ -49,14 +48,11 @@ fn leave_costliest(
     let last = (sizes.terminals - 1) as u8;
     let inputs = count_inputs(sizes.terminals, events.len());
     let mut trials = no_trials();
-    loop {
-        let number = to_try(trials, inputs);
-        let calls = calls_on(words, choices, last, number, events, memo);
-        if inputs <= trials.next {
-            return;
-        }
+    while trials.next < inputs {
+        let calls = calls_on(words, choices, last, trials.next, events, memo);
         trials = tried(trials, calls);
     }
+    calls_on(words, choices, last, trials.best, events, memo);
 }
 
 // Finds the costliest input of a length for an encoded grammar, writes it into the lent log, and descends on it.

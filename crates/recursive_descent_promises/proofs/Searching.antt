@@ -9,7 +9,7 @@ use native.Mathlib.Omega.{arith}
 use lib.Dec.{ltb}
 use lib.ListN.{length, take, drop}
 use lib.Seq.{length-take-le}
-use borrow.Author.Tests.{lt-ltb, le-ltb, ltb-true, ltb-false}
+use borrow.Author.Tests.{ltb-true, ltb-false}
 use Rattle.base.specs.Choice.{choose}
 use Rattle.grammar.specs.Limits.{maxNonterminals, maxPlaces}
 use Rattle.grammar.specs.Syntax.{Grammar}
@@ -23,7 +23,7 @@ use Rattle.base.specs.Strings.{Over}
 use Rattle.event.specs.Events.{inputOf}
 use Rattle.event.proofs.Inputs.{input-own}
 use Rattle.inputs.specs.Inputs.{maxInputs}
-use Rattle.inputs.specs.contracts.Inputs.{inputAt, inputCount, noTrials, toTry, triedNext}
+use Rattle.inputs.specs.contracts.Inputs.{inputAt, inputCount, noTrials, triedNext}
 use Rattle.inputs.proofs.Numbers.{at-long, at-over}
 use Rattle.inputs.proofs.Counting.{count-exact}
 use Rattle.inputs.proofs.Searching.{Searched, searched-none, searched-more, searched-less, searched-all}
@@ -157,19 +157,12 @@ module _ {words : List ℕ} {z : Sizes} {choices events memo : List ℕ} (g : Tr
       few = rw (s .same-length) (g .few);
     }
 
-    -- which input has been tried
-    now-next : t .next < inputs → {number : ℕ} → number ≡ toTry t inputs → number ≡ t .next
-    now-next h q = q ∙ rw (lt-ltb (t .next) inputs h)
-
-    now-best : inputs ≤ t .next → {number : ℕ} → number ≡ toTry t inputs → number ≡ t .best
-    now-best h q = q ∙ rw (le-ltb (t .next) inputs h)
-
-    pub searching-next : t .next < inputs → {number calls : ℕ} {t′ : Trials} {events₂ memo₂ : List ℕ}
-        → number ≡ toTry t inputs → NumberDone words (length events₁) number calls events₂ memo₂
+    pub searching-next : t .next < inputs → {calls : ℕ} {t′ : Trials} {events₂ memo₂ : List ℕ}
+        → NumberDone words (length events₁) (t .next) calls events₂ memo₂
         → length events₂ ≡ length events₁ → length memo₂ ≡ length memo₁
         → t′ ≡ triedNext t calls
         → Searching words events memo events₂ memo₂ t′
-    searching-next h {calls = calls} {t′ = t′} i d same-events same-memo q = record {
+    searching-next h {calls} {t′} d same-events same-memo q = record {
       searched = rw (q, one-more) (go (ltb (t .calls) calls) refl);
       same-length = same-events ∙ s .same-length;
       same-memo = same-memo ∙ s .same-memo;
@@ -182,9 +175,7 @@ module _ {words : List ℕ} {z : Sizes} {choices events memo : List ℕ} (g : Tr
         one-more = omega (arith, few-inputs e)
 
         counted : calls ≡ callsOn (G g) (inputAt (n g) (length events) (t .next))
-        counted =
-            d .counted ∙ ap (λ j. callsOn (G g) (inputAt (n g) (length events₁) j)) (now-next h i)
-            ∙ ap (λ j. callsOn (G g) (inputAt (n g) j (t .next))) (s .same-length)
+        counted = d .counted ∙ ap (λ j. callsOn (G g) (inputAt (n g) j (t .next))) (s .same-length)
 
         go : (b : Bool) → ltb (t .calls) calls ≡ b
             → Searched (callsOn (G g)) (n g) (length events) (t .next + 1) (choose b (t .next) (t .best)) (choose b calls (t .calls))
@@ -196,15 +187,11 @@ module _ {words : List ℕ} {z : Sizes} {choices events memo : List ℕ} (g : Tr
     searching-less h calls q = rw q (omega (arith, few-inputs e))
 
     -- the costliest is tried last
-    pub searching-done : inputs ≤ t .next → {number r : ℕ} {events₂ memo₂ : List ℕ} → number ≡ toTry t inputs
-        → NumberDone words (length events₁) number r events₂ memo₂ → CostliestLeft words (length events) events₂ memo₂
-    searching-done h i d =
+    pub searching-done : inputs ≤ t .next → {r : ℕ} {events₂ memo₂ : List ℕ} → NumberDone words (length events₁) (t .best) r events₂ memo₂
+        → CostliestLeft words (length events) events₂ memo₂
+    searching-done h d =
         let found = searched-all (callsOn (G g)) (n g) (some-token g) (length events) (s .searched) (omega (arith, all-counted e)) in
-        record {
-          written =
-              d .written ∙ ap (inputAt (n g) (length events₁)) (now-best h i) ∙ ap (λ j. inputAt (n g) j (t .best)) (s .same-length) ∙ found;
-          entries = d .entries;
-        }
+        record { written = d .written ∙ ap (λ j. inputAt (n g) j (t .best)) (s .same-length) ∙ found; entries = d .entries }
 
 -- what is found of a grammar that passes: in the front of the memo table, by the choices made of it for that many tokens
 module _ {words : List ℕ} {z : Sizes} {starts entries events memo : List ℕ} (g : SearchGiven words z starts entries events memo) {tokens needed : ℕ}

@@ -18,10 +18,6 @@ inputCount n k = choose (ltb maxInputs (n ^ k)) (suc maxInputs) (n ^ k)
 abbrev pub noTrials : Trials
 noTrials = record { next = 0; best = 0; calls = 0 }
 
--- which is tried now: the next of so many, or when all have been tried, the costliest
-abbrev pub toTry : Trials → ℕ → ℕ
-toTry t inputs = choose (ltb (t .next) inputs) (t .next) (t .best)
-
 -- the next has been tried, and costs so many calls
 abbrev pub triedNext : Trials → ℕ → Trials
 triedNext t calls = record {

@@ -31,12 +31,41 @@ loop-holds c =
     let start = counted .before .before .before .before .before in
     searching-start (start .pre) (c .no-trials .ensures)
 
-to-try-requires : tie.Need-to-try-requires Inv-loop μ-loop
-to-try-requires c κs = tt
-
 calls-on-requires : tie.Need-calls-on-requires Inv-loop μ-loop
 calls-on-requires c κs =
-    let at-loop = c .before .before .before in
+    let at-loop = c .before .before .before .before in
+    let counted = at-loop .before .before in
+    let start = counted .before .before .before .before .before in
+    let given = start .pre in
+    record { sizes = _; given = searching-given given (at-loop .loop .inv) (counted .count-inputs .ensures); highest = last-terminal given }
+
+tried-requires : tie.Need-tried-requires Inv-loop μ-loop
+tried-requires c κs = tt
+
+loop-less : tie.Need-loop-less Inv-loop μ-loop
+loop-less c =
+    let turn = c .before .before .before .before .before .before .before .before in
+    let at-loop = turn .before .before in
+    let counted = at-loop .before .before in
+    let start = counted .before .before .before .before .before in
+    searching-less (start .pre) (at-loop .loop .inv) (counted .count-inputs .ensures) (turn .if1 .taken) _ (c .tried .ensures)
+
+loop-again : tie.Need-loop-again Inv-loop μ-loop
+loop-again c =
+    let kept = c .before .before in
+    let written = kept .before .before in
+    let called = written .before in
+    let turn = called .before .before .before in
+    let at-loop = turn .before .before in
+    let counted = at-loop .before .before in
+    let start = counted .before .before .before .before .before in
+    searching-next (start .pre) (at-loop .loop .inv) (counted .count-inputs .ensures)
+    (turn .if1 .taken) (called .calls-on .ensures)
+    (written .events .given) (kept .memo .given) (c .tried .ensures)
+
+calls-on-requires-2 : tie.Need-calls-on-requires-2 Inv-loop μ-loop
+calls-on-requires-2 c κs =
+    let at-loop = c .before .before .before .before in
     let counted = at-loop .before .before in
     let start = counted .before .before .before .before .before in
     let given = start .pre in
@@ -44,52 +73,24 @@ calls-on-requires c κs =
 
 same-length : tie.Need-same-length Inv-loop μ-loop
 same-length c =
-    let left = c .before .before .before in
-    let written = left .before .before in
-    let at-loop = written .before .before .before .before .before in
-    written .events .given ∙ at-loop .loop .inv .same-length
+    let written = c .before .before .before in
+    let at-loop = written .before .before .before .before .before .before in
+    written .events2 .given ∙ at-loop .loop .inv .same-length
 
 same-length-2 : tie.Need-same-length-2 Inv-loop μ-loop
 same-length-2 c =
-    let left = c .before .before .before in
-    let written = left .before .before in
-    let at-loop = written .before .before .before .before .before in
-    left .memo .given ∙ at-loop .loop .inv .same-memo
+    let left = c .before in
+    let at-loop = left .before .before .before .before .before .before .before .before in
+    left .memo2 .given ∙ at-loop .loop .inv .same-memo
 
 returns : tie.Need-returns Inv-loop μ-loop
 returns c =
-    let called = c .before .before .before .before .before .before in
-    let picked = called .before .before .before in
-    let at-loop = picked .before in
+    let called = c .before .before .before .before in
+    let ended = called .before .before .before in
+    let at-loop = ended .before .before in
     let counted = at-loop .before .before in
     let start = counted .before .before .before .before .before in
-    searching-done (start .pre) (at-loop .loop .inv) (counted .count-inputs .ensures) (c .if1 .taken) (picked .to-try .ensures) (called .calls-on .ensures)
-
-tried-requires : tie.Need-tried-requires Inv-loop μ-loop
-tried-requires c κs = tt
-
-loop-less : tie.Need-loop-less Inv-loop μ-loop
-loop-less c =
-    let turn = c .before in
-    let called = turn .before .before .before .before .before .before in
-    let at-loop = called .before .before .before .before in
-    let counted = at-loop .before .before in
-    let start = counted .before .before .before .before .before in
-    searching-less (start .pre) (at-loop .loop .inv) (counted .count-inputs .ensures) (turn .if1 .left) _ (c .tried .ensures)
-
-loop-again : tie.Need-loop-again Inv-loop μ-loop
-loop-again c =
-    let turn = c .before in
-    let kept = turn .before .before .before in
-    let written = kept .before .before in
-    let called = written .before in
-    let picked = called .before .before .before in
-    let at-loop = picked .before in
-    let counted = at-loop .before .before in
-    let start = counted .before .before .before .before .before in
-    searching-next (start .pre) (at-loop .loop .inv) (counted .count-inputs .ensures)
-    (turn .if1 .left) (picked .to-try .ensures) (called .calls-on .ensures)
-    (written .events .given) (kept .memo .given) (c .tried .ensures)
+    searching-done (start .pre) (at-loop .loop .inv) (counted .count-inputs .ensures) (ended .if1 .left) (called .calls-on2 .ensures)
 
 pub leave-costliest-spec : {M : Type 1} → statement M
 leave-costliest-spec =
@@ -102,11 +103,11 @@ leave-costliest-spec =
     count-inputs-requires
     no-trials-requires
     loop-holds
-    to-try-requires
     calls-on-requires
-    same-length
-    same-length-2
-    returns
     tried-requires
     loop-less
-    loop-again)
+    loop-again
+    calls-on-requires-2
+    same-length
+    same-length-2
+    returns)
