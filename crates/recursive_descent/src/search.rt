@@ -1,17 +1,23 @@
 // The costliest input of a length: the first in letter order of those on which the descent makes the most calls.
+ghost use mathlib.Core.Path.{_≡_};
 ghost use lib.ListN.{length};
+ghost use Rattle.grammar.specs.Encoding.{grammarOf};
+ghost use Rattle.inputs.specs.contracts.Inputs.{inputAt};
+ghost use Rattle.recognizer_promises.specs.CostliestInput.{callsOn};
 ghost use Rattle.recognizer_promises.specs.contracts.Search.{SearchesWords};
-ghost use Rattle.recursive_descent_promises.specs.contracts.Search.{TrialGiven, NumberGiven, NumberDone, CostliestLeft};
+ghost use Rattle.recursive_descent_promises.specs.contracts.Search.{TrialGiven, NumberGiven, CostliestLeft};
 use super::descending::descend;
 use descent_arrays::CHOICES;
 use descent_choices::entries_of;
 use descent_choices::table_choices;
 use descent_findings::find_for_search;
+use descent_tokens::tokens_of;
 use families::Finding;
 use grammar::reading::Sizes;
 use inputs::count_inputs;
 use inputs::no_trials;
 use inputs::tried;
+use inputs::write_input;
 use lookahead::Lookahead;
 use memo_table::count_calls;
 use table::Found;
@@ -27,14 +33,15 @@ fn calls_on(
     memo: &mut [u16],
 ) -> usize
     requires { ⌜ NumberGiven (now words) (now choices) last (now events) (now memo) ⌝ }
-    ensures { λ r. ⌜ NumberDone (now (words .entry)) (length (now (events .entry))) number r (now (events .exit)) (now (memo .exit)) ⌝ }
+    ensures { λ r. ⌜ r ≡ callsOn (grammarOf (now (words .entry)))
+        (inputAt (grammarOf (now (words .entry)) .terminals) (length (now (events .entry))) number) ⌝ }
 {
     let tokens = number_tokens(events, last, number);
     descend(words, choices, &tokens, memo);
     count_calls(memo)
 }
 
-// Tries all inputs of a length in the same memory, and the costliest last.
+// Tries all inputs of a length in the same memory, and descends on the costliest last.
 fn leave_costliest(
     words: &[u32],
     sizes: Sizes,
@@ -52,7 +59,9 @@ fn leave_costliest(
         let calls = calls_on(words, choices, last, trials.next, events, memo);
         trials = tried(trials, calls);
     }
-    calls_on(words, choices, last, trials.best, events, memo);
+    write_input(events, last, trials.best);
+    let tokens = tokens_of(events, Lookahead::One, sizes.terminals);
+    descend(words, choices, &tokens, memo);
 }
 
 // Finds the costliest input of a length for an encoded grammar, writes it into the lent log, and descends on it.

@@ -43,7 +43,7 @@ use Rattle.recognizer_promises.proofs.Judged.{memo-count}
 use Rattle.recursive_descent_promises.specs.contracts.Descent.{StartRequires, StartEnsures}
 use Rattle.recursive_descent_promises.specs.contracts.Judging.{JudgeGiven}
 use Rattle.recursive_descent_promises.proofs.Deciding.{start-given, recorded, entries-left}
-use Rattle.recursive_descent_promises.specs.contracts.Search.{TrialGiven, NumberGiven, NumberDone, CostliestLeft}
+use Rattle.recursive_descent_promises.specs.contracts.Search.{TrialGiven, NumberGiven, CostliestLeft}
 
 module _ {words : List ℕ} {z : Sizes} {choices events memo : List ℕ} (g : TrialGiven words z choices events memo) where
   abbrev G : Grammar
@@ -117,16 +117,11 @@ module _ {words choices : List ℕ} {last : ℕ} {events memo : List ℕ} (g : N
   pub trial-start : StartRequires words choices tokens memo
   trial-start = start-given e trial-judged trial-made
 
-  pub trial-done : {r : ℕ} {memo′ : List ℕ} → StartEnsures words choices tokens memo memo′ → r ≡ recordedBelow memo′ (length memo′)
-      → NumberDone words (length events) number r e memo′
-  trial-done d c =
-      let w = named (g .given) number trial-written in
-      let same = own (g .given) number trial-written in
-      record {
-        written = w;
-        entries = entries-left e trial-judged trial-made d ∙ ap (memoWords One (grammarOf words)) same;
-        counted = count-recorded (recorded e trial-judged trial-made d) c ∙ ap (callsOn (grammarOf words)) (same ∙ w);
-      }
+  pub trial-counted : {r : ℕ} {memo′ : List ℕ} → StartEnsures words choices tokens memo memo′ → r ≡ recordedBelow memo′ (length memo′)
+      → r ≡ callsOn (grammarOf words) (inputAt (grammarOf words .terminals) (length events) number)
+  trial-counted d c =
+      count-recorded (recorded e trial-judged trial-made d) c
+      ∙ ap (callsOn (grammarOf words)) (own (g .given) number trial-written ∙ named (g .given) number trial-written)
 
 -- the search, in the memory of now
 pub record Searching (words events₀ memo₀ events memo : List ℕ) (t : Trials) : Type 0 where
@@ -158,11 +153,11 @@ module _ {words : List ℕ} {z : Sizes} {choices events memo : List ℕ} (g : Tr
     }
 
     pub searching-next : t .next < inputs → {calls : ℕ} {t′ : Trials} {events₂ memo₂ : List ℕ}
-        → NumberDone words (length events₁) (t .next) calls events₂ memo₂
+        → calls ≡ callsOn (G g) (inputAt (n g) (length events₁) (t .next))
         → length events₂ ≡ length events₁ → length memo₂ ≡ length memo₁
         → t′ ≡ triedNext t calls
         → Searching words events memo events₂ memo₂ t′
-    searching-next h {calls} {t′} d same-events same-memo q = record {
+    searching-next h {calls} {t′} cost same-events same-memo q = record {
       searched = rw (q, one-more) (go (ltb (t .calls) calls) refl);
       same-length = same-events ∙ s .same-length;
       same-memo = same-memo ∙ s .same-memo;
@@ -175,7 +170,7 @@ module _ {words : List ℕ} {z : Sizes} {choices events memo : List ℕ} (g : Tr
         one-more = omega (arith, few-inputs e)
 
         counted : calls ≡ callsOn (G g) (inputAt (n g) (length events) (t .next))
-        counted = d .counted ∙ ap (λ j. callsOn (G g) (inputAt (n g) j (t .next))) (s .same-length)
+        counted = cost ∙ ap (λ j. callsOn (G g) (inputAt (n g) j (t .next))) (s .same-length)
 
         go : (b : Bool) → ltb (t .calls) calls ≡ b
             → Searched (callsOn (G g)) (n g) (length events) (t .next + 1) (choose b (t .next) (t .best)) (choose b calls (t .calls))
@@ -186,12 +181,23 @@ module _ {words : List ℕ} {z : Sizes} {choices events memo : List ℕ} (g : Tr
     pub searching-less : t .next < inputs → (calls : ℕ) {t′ : Trials} → t′ ≡ triedNext t calls → inputs - t′ .next < inputs - t .next
     searching-less h calls q = rw q (omega (arith, few-inputs e))
 
-    -- the costliest is tried last
-    pub searching-done : inputs ≤ t .next → {r : ℕ} {events₂ memo₂ : List ℕ} → NumberDone words (length events₁) (t .best) r events₂ memo₂
-        → CostliestLeft words (length events) events₂ memo₂
-    searching-done h d =
-        let found = searched-all (callsOn (G g)) (n g) (some-token g) (length events) (s .searched) (omega (arith, all-counted e)) in
-        record { written = d .written ∙ ap (λ j. inputAt (n g) j (t .best)) (s .same-length) ∙ found; entries = d .entries }
+    -- the costliest is run on last
+    module _ {events₂ tokens₂ : List ℕ} (w : events₂ ≡ inputAt (z .terminals - 1 + 1) (length events₁) (t .best))
+        (m : tokens₂ ≡ tokensOf One (z .terminals) (inputOf events₂)) where
+      best-judged : JudgeGiven One words z choices (inputOf events₂) memo₁
+      best-judged = number-given searching-given (t .best) w
+
+      pub best-start : StartRequires words choices tokens₂ memo₁
+      best-start = start-given events₂ best-judged m
+
+      pub searching-done : inputs ≤ t .next → {memo₂ : List ℕ} → StartEnsures words choices tokens₂ memo₁ memo₂
+          → CostliestLeft words (length events) events₂ memo₂
+      searching-done h d =
+          let found = searched-all (callsOn (G g)) (n g) (some-token g) (length events) (s .searched) (omega (arith, all-counted e)) in
+          record {
+            written = named searching-given (t .best) w ∙ ap (λ j. inputAt (n g) j (t .best)) (s .same-length) ∙ found;
+            entries = entries-left events₂ best-judged m d ∙ ap (memoWords One (grammarOf words)) (own searching-given (t .best) w);
+          }
 
 -- what is found of a grammar that passes: in the front of the memo table, by the choices made of it for that many tokens
 module _ {words : List ℕ} {z : Sizes} {starts entries events memo : List ℕ} (g : SearchGiven words z starts entries events memo) {tokens needed : ℕ}

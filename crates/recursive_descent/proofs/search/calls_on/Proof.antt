@@ -1,5 +1,5 @@
 -- What is written is an input of the grammar's terminals, and its calls are counted in the memo table.
-use Rattle.recursive_descent_promises.proofs.Searching.{trial-start, trial-done}
+use Rattle.recursive_descent_promises.proofs.Searching.{trial-start, trial-counted}
 use borrow.Author.Needs.{needs}
 use Rattle.recursive_descent.proofs.search.calls_on.Statement.{statement}
 use Rattle.recursive_descent.proofs.search.calls_on.Tie as tie
@@ -27,7 +27,7 @@ returns c =
     let ran = c .before .before .before .before in
     let made = ran .before .before .before .before .before in
     let start = made .before .before .before .before .before in
-    trial-done (start .pre) (start .args .number) (made .number-tokens .ensures) (ran .descend .ensures) (c .count-calls .ensures)
+    trial-counted (start .pre) (start .args .number) (made .number-tokens .ensures) (ran .descend .ensures) (c .count-calls .ensures)
 
 pub calls-on-spec : {M : Type 1} → statement M
 calls-on-spec =
