@@ -3,7 +3,7 @@ ghost use mathlib.Core.Path.{_≡_};
 ghost use Rattle.word.specs.Words.{decoded};
 ghost use Rattle.semantics.specs.Memo.{outcomeCode};
 ghost use Rattle.semantics.specs.contracts.Memo.{decode as outcomeOf};
-ghost use Rattle.rule.specs.contracts.Rule.{beginsBody, signOf, joinedBy, concluded};
+ghost use Rattle.rule.specs.contracts.Rule.{beginsBody, signOf, openingBy, joinedBy, concluded};
 ghost use Rattle.descent_steps.specs.contracts.Steps.{symbolStep, stepOf, wordAt, conjunctSign, nextConjunct};
 use entry::code;
 use entry::recall;
@@ -13,10 +13,12 @@ use rule::Sign;
 use rule::body_end;
 use rule::conclude;
 use rule::joined;
+use rule::opening;
 use word::Symbol;
 use word::Word;
 use word::decode;
 
+pub mod arrays;
 pub mod entry;
 
 // The words that begin a positive and a negative conjunct: kinds 3 and 4 in the topmost four bits, and zeros.
@@ -79,7 +81,7 @@ pub fn begins_conjunct(bits: u32) -> bool
 }
 
 // What a word that begins a conjunct begins.
-pub fn conjunct_sign(bits: u32) -> Sign
+fn conjunct_sign(bits: u32) -> Sign
     ensures { λ r. ⌜ r ≡ conjunctSign bits ⌝ }
 {
     if bits == NEGATIVE_WORD {
@@ -99,11 +101,18 @@ pub fn next_conjunct(words: &[u32], entry: u16, at: usize) -> usize
     body_end(words, at)
 }
 
-// The agreement after one body more, by the entry of the body's outcome.
-pub fn joined_entry(sign: Sign, agreement: Agreement, entry: u16) -> Agreement
-    ensures { λ r. ⌜ r ≡ joinedBy sign agreement (outcomeOf entry) ⌝ }
+// Where the bodies of a rule agree to end before the first has run, by the word that begins it, for an input that ends at a place.
+pub fn first_agreement(word: u32, end: u16) -> Agreement
+    ensures { λ r. ⌜ r ≡ openingBy (conjunctSign word) end ⌝ }
 {
-    joined(sign, agreement, recall(entry))
+    opening(conjunct_sign(word), end)
+}
+
+// The agreement after one body more, by the word that begins it and the entry of its outcome.
+pub fn joined_entry(word: u32, agreement: Agreement, entry: u16) -> Agreement
+    ensures { λ r. ⌜ r ≡ joinedBy (conjunctSign word) agreement (outcomeOf entry) ⌝ }
+{
+    joined(conjunct_sign(word), agreement, recall(entry))
 }
 
 // The entry of what the bodies of a rule have agreed on.

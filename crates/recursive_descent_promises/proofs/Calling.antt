@@ -380,10 +380,10 @@ module _ {choice : Choice} {words choices tokens input memo₀ : List ℕ} {A pl
     pub going-run : RunGiven choice words choices tokens input memo A (at + 1) place
     going-run = rule-run g (v .rule) on
 
-    module _ {o : Run} {memo′ : List ℕ} {sign : Sign} {agreed′ : Agreement} (d : RunDone choice words input memo A (at + 1) place o memo′)
-        (s : sign ≡ conjunctSign word) (j : agreed′ ≡ joinedBy sign agreed (decode (o .end))) where
+    module _ {o : Run} {memo′ : List ℕ} {agreed′ : Agreement} (d : RunDone choice words input memo A (at + 1) place o memo′)
+        (j : agreed′ ≡ joinedBy (conjunctSign word) agreed (decode (o .end))) where
       joins : agreed′ ≡ joinedBy (signOf (decoded word)) agreed (decode (o .end))
-      joins = j ∙ ap (λ x. joinedBy x agreed (decode (o .end))) (s ∙ conjunct-sign word begins)
+      joins = j ∙ ap (λ x. joinedBy x agreed (decode (o .end))) (conjunct-sign word begins)
 
       -- the rule has failed
       pub going-failed : hasFailed agreed′ ≡ true → (n : ℕ) → level words input A place ≤ n

@@ -1,46 +1,51 @@
--- What a call has for finding its entry and its rule.
-use mathlib.Core.Path.{_≡_, refl}
+-- What a call reads in the arrays: its entry, its rule, and the input's length.
+use mathlib.Core.Path.{_≡_, _∙_}
+use mathlib.Core.Bool.{Bool}
 use mathlib.Core.List.{List}
-use mathlib.Core.Option.{Option, none, some}
-use Prim.Native.Nat.{_-_, ℕ, suc, _≤_, _<_}
-use native.Mathlib.Nat.{mul-le-mul}
+use Prim.Native.Nat.{ℕ, _+_, _/_, _%_, _≤_, _<_}
 use native.Mathlib.Omega.{arith}
-use lib.ListN.{length}
-use Rattle.grammar.specs.Limits.{maxWords, maxNonterminals, maxPlaces}
-use Rattle.grammar.specs.Encoding.{grammarOf}
-use Rattle.grammar.specs.contracts.WellRead.{WellRead}
+use lib.Dec.{eqb}
+use lib.ListN.{length, getD}
+use Rattle.grammar.specs.Limits.{maxNonterminals, maxTokens}
 use Rattle.grammar.proofs.WellRead.{well-read}
 use Rattle.semantics.specs.Choices.{Choice}
-use Rattle.recursive_descent_promises.specs.contracts.Descent.{firstConjunct, TokenGiven, EntryGiven, ChosenGiven, ArraysGiven, CallGiven}
-use Rattle.semantics.proofs.descent.Outcomes.{nth-below}
+use Rattle.descent_arrays.specs.contracts.Arrays.{rowColumn, endColumn, columnWeight, choiceAt, matchesAt, rowAt, endAt, firstAt}
+use Rattle.recursive_descent_promises.specs.contracts.Descent.{ChoiceGiven, ArraysGiven, CallGiven}
 
-pub token-given : {choice : Choice} {words choices tokens input memo : List ℕ} → ArraysGiven choice words choices tokens input memo
-    → {place : ℕ} → place ≤ length input → TokenGiven tokens place
-token-given g {place} h = record { placed = omega (arith, g .short); column = g .columns place h }
+pub token-low : {choice : Choice} {words choices tokens input memo : List ℕ} → ArraysGiven choice words choices tokens input memo
+    → {place : ℕ} → place ≤ length input → place ≤ maxTokens
+token-low g h = omega (arith, g .short)
+
+pub match-is : (tokens : List ℕ) (place a : ℕ) {token : ℕ} {r : Bool} → token ≡ getD tokens place 0 → r ≡ eqb (token % columnWeight) a
+    → r ≡ matchesAt tokens place a
+unfolding matchesAt
+match-is tokens place a t e = e ∙ rw t
 
 module _ {choice : Choice} {words choices tokens input memo : List ℕ} {A place : ℕ} (g : CallGiven choice words choices tokens input memo A place) where
-  r : WellRead words (g .given .sizes)
-  r = well-read words (g .given .sizes) (g .given .read)
-
   few : A < maxNonterminals
-  few = omega (arith, g .named, r .nonterminals, r .fewNonterminals)
+  few =
+      let r = well-read words (g .given .sizes) (g .given .read) in
+      omega (arith, g .named, r .nonterminals, r .fewNonterminals)
 
-  pub entry-given : EntryGiven choices A
-  entry-given =
-      let m = mul-le-mul {n₁ = A} {m₁ = suc (length input)} {n₂ = maxNonterminals - 1} {m₂ = maxPlaces} (omega (arith, few)) (omega (arith, g .given .short)) in
-      record { named = few; low = omega (arith, g .given .rows A (g .named)) }
+  pub row-given : ChoiceGiven A rowColumn
+  row-given = record { named = few; inside = omega arith }
 
-  -- a rule stands within the words
-  first-low : (x : Option ℕ) → choice A place ≡ x → firstConjunct words x ≤ maxWords
-  first-low none c = omega arith
-  first-low (some q) c =
-      let k = g .given .own A place q c in
-      let l : q < g .given .sizes .rules = omega (arith, nth-below (grammarOf words .rules) q (k .0) (k .1), r .rules) in
-      omega (arith, r .begun q l .high, r .short)
+  pub end-given : ChoiceGiven A endColumn
+  end-given = record { named = few; inside = omega arith }
 
-  pub chosen-given : ChosenGiven choices tokens A place
-  chosen-given = record {
-    named = few;
-    token = token-given (g .given) (g .placed);
-    low = omega (arith, g .given .firsts A place (g .named) (g .placed), first-low (choice A place) refl);
-  }
+  pub column-given : {token column : ℕ} → token ≡ getD tokens place 0 → column ≡ token / columnWeight → ChoiceGiven A column
+  column-given t c = record { named = few; inside = rw (c, t) (omega (arith, g .given .columns place (g .placed))) }
+
+  -- they are what the arrays hold of it
+  pub entry-is : {row entry : ℕ} → row ≡ choiceAt choices A rowColumn → entry ≡ row + place → entry ≡ rowAt choices A + place
+  unfolding rowAt
+  entry-is r e = e ∙ rw r
+
+  pub first-is : {token column first : ℕ} → token ≡ getD tokens place 0 → column ≡ token / columnWeight → first ≡ choiceAt choices A column
+      → first ≡ firstAt choices tokens A place
+  unfolding firstAt
+  first-is t c f = f ∙ rw (c, t)
+
+  pub end-is : {end : ℕ} → end ≡ choiceAt choices A endColumn → end ≡ endAt choices A
+  unfolding endAt
+  end-is e = e

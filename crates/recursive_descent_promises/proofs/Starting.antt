@@ -187,10 +187,10 @@ module _ {choice : Choice} {words choices tokens input memo : List ℕ} {A place
     calling = calling-start k (s ∙ ap (signAt words) (k .behind));
   })
 
-  pub start-going : {at : ℕ} (k : Chosen at) {word : ℕ} {sign : Sign} {agreed : Agreement} → word ≡ wordAt words at
-      → sign ≡ conjunctSign word → agreed ≡ openingBy sign (endAt choices A) → Going choice words input memo A place memo at word agreed
-  start-going {at} k {word} w s o =
-      let same = o ∙ ap (λ x. openingBy x (endAt choices A)) s ∙ conjunct-opens word (endAt choices A) in
+  pub start-going : {at : ℕ} (k : Chosen at) {word end : ℕ} {agreed : Agreement} → word ≡ wordAt words at → end ≡ endAt choices A
+      → agreed ≡ openingBy (conjunctSign word) end → Going choice words input memo A place memo at word agreed
+  start-going {at} k {word} w e o =
+      let same = o ∙ ap (openingBy (conjunctSign word)) e ∙ conjunct-opens word (endAt choices A) in
       record {
         rule = start-rule k (ap (λ x. signOf (decoded x)) w ∙ word-sign words at) same;
         lives = ap hasFailed same ∙ opening-lives (signOf (decoded word)) (endAt choices A);

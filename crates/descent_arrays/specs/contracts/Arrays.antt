@@ -48,14 +48,18 @@ heldTokens (t ∷ ts) = choose (eqb (t % columnWeight) endMark) [] (t % columnWe
 unfoldable pub matchesAt : List ℕ → ℕ → ℕ → Bool
 matchesAt tokens place a = eqb (getD tokens place 0 % columnWeight) a
 
+-- the number in a column of the row of a nonterminal
+abbrev pub choiceAt : (choices : List ℕ) (A column : ℕ) → ℕ
+choiceAt choices A column = getD choices (A * choiceColumns + column) 0
+
 -- where the row of a nonterminal begins in the memo table
 unfoldable pub rowAt : List ℕ → ℕ → ℕ
-rowAt choices A = getD choices (A * choiceColumns + rowColumn) 0
+rowAt choices A = choiceAt choices A rowColumn
 
 -- the input's length, in the row of a nonterminal
 unfoldable pub endAt : List ℕ → ℕ → ℕ
-endAt choices A = getD choices (A * choiceColumns + endColumn) 0
+endAt choices A = choiceAt choices A endColumn
 
 -- where the first conjunct stands of the rule for a nonterminal and the lookahead string at a place, or 0
 unfoldable pub firstAt : (choices tokens : List ℕ) (A place : ℕ) → ℕ
-firstAt choices tokens A place = getD choices (A * choiceColumns + getD tokens place 0 / columnWeight) 0
+firstAt choices tokens A place = choiceAt choices A (getD tokens place 0 / columnWeight)

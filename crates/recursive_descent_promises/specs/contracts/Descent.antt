@@ -7,7 +7,7 @@ use mathlib.Core.Option.{Option, none, some}
 use Prim.Native.Nat.{ℕ, suc, _+_, _*_, _/_, _%_, _≤_, _<_}
 use lib.ListN.{length, getD, drop}
 use Rattle.grammar.specs.Codes.{uncalledCode, failedCode}
-use Rattle.grammar.specs.Limits.{maxWords, maxNonterminals, maxTokens, maxMemoEntries}
+use Rattle.grammar.specs.Limits.{maxNonterminals, maxTokens}
 use Rattle.grammar.specs.Syntax.{Rule, bodies}
 use Rattle.grammar.specs.Encoding.{parse, grammarOf}
 use Rattle.grammar.specs.Reading.{row, scan, reading}
@@ -28,7 +28,7 @@ use Rattle.semantics.specs.contracts.Memo.{blank, decode}
 use Rattle.semantics.specs.contracts.MemoDescent.{memoized, memoRun, memoCall}
 use Rattle.rule.specs.contracts.Rule.{bodyEnd}
 use Rattle.recursive_descent_promises.specs.declared.Run.{Run}
-use Rattle.descent_arrays.specs.contracts.Arrays.{rowColumn, endMark, columnWeight, heldTokens, rowAt, endAt, firstAt}
+use Rattle.descent_arrays.specs.contracts.Arrays.{choiceColumns, rowColumn, endMark, columnWeight, heldTokens, rowAt, endAt, firstAt}
 
 -- whether a reading is behind the end's word
 abbrev pub isClosed : State → Bool
@@ -39,21 +39,10 @@ abbrev pub firstConjunct : List ℕ → Option ℕ → ℕ
 firstConjunct words none = 0
 firstConjunct words (some q) = getD (ruleStarts words) q 0 + 1
 
-pub record TokenGiven (tokens : List ℕ) (place : ℕ) : Type 0 where
-  pub placed : place ≤ maxTokens
-  pub column : getD tokens place 0 / columnWeight < rowColumn
-
-pub record EntryGiven (choices : List ℕ) (A : ℕ) : Type 0 where
+-- a nonterminal, and a column of its row
+pub record ChoiceGiven (A column : ℕ) : Type 0 where
   pub named : A < maxNonterminals
-  pub low : rowAt choices A < maxMemoEntries
-
-pub record EndGiven (choices : List ℕ) (A : ℕ) : Type 0 where
-  pub named : A < maxNonterminals
-
-pub record ChosenGiven (choices tokens : List ℕ) (A place : ℕ) : Type 0 where
-  pub named : A < maxNonterminals
-  pub token : TokenGiven tokens place
-  pub low : firstAt choices tokens A place ≤ maxWords
+  pub inside : column < choiceColumns
 
 -- the words from an index to another are symbols of one body: the rest of the rule is the same from there on, and so is what a reading makes of it
 pub record Skipped (words : List ℕ) (from at : ℕ) : Type 0 where

@@ -10,12 +10,13 @@ use borrow.Author.Tests.{not-true, not-false}
 use Rattle.semantics.specs.Choices.{Choice}
 use Rattle.descent_arrays.specs.contracts.Arrays.{heldTokens}
 use Rattle.recursive_descent_promises.specs.contracts.Descent.{CallGiven, RunGiven}
-use Rattle.recursive_descent_promises.proofs.Choosing.{token-given, entry-given, chosen-given}
+use Rattle.recursive_descent_promises.proofs.Choosing.{token-low, match-is, row-given, end-given, column-given, entry-is, first-is, end-is}
 use Rattle.recursive_descent_promises.proofs.Running.{level, Running, running-as, running-start, running-done, running-terminal, running-mismatch}
 use Rattle.recursive_descent_promises.proofs.Running.{running-within, running-given, running-small, running-falls, running-call, running-failed}
 use Rattle.recursive_descent_promises.proofs.Calling.{Going, going-conjunct, going-run, going-failed, going-falls, going-turn, going-done}
 use Rattle.recursive_descent_promises.proofs.Storing.{memo-same, index-low, call-known, call-stored}
 use Rattle.recursive_descent_promises.proofs.Starting.{no-rule, rule-chosen, start-going, select-none, none-fails, encode-failed}
+use borrow.Author.Needs.{needs}
 use borrow.Fn.Kinds.{In}
 use borrow.Fn.PlainCycle.{Measures, is, falls, and}
 use Rattle.recursive_descent.proofs.descent.call.Reads as call
@@ -24,16 +25,17 @@ use Rattle.recursive_descent.proofs.descent.+call+run_body.Lts-call as 
 use Rattle.recursive_descent.proofs.descent.run_body.Reads as run-body
 use Rattle.recursive_descent.proofs.descent.run_body.Kinds as run-body-kinds
 use Rattle.recursive_descent.proofs.descent.+call+run_body.Lts-run_body as run-body-lts
-use Rattle.recursive_descent.proofs.descent.chosen.Reads as chosen-reads
+use Rattle.recursive_descent.proofs.descent.choice_at.Reads as choice-at-reads
+use Rattle.recursive_descent.proofs.descent.token_at.Reads as token-at-reads
+use Rattle.descent_steps.proofs.arrays.column_of.Reads as column-of-reads
 use Rattle.descent_steps.proofs.concluded_entry.Reads as concluded-entry-reads
-use Rattle.recursive_descent.proofs.descent.entry_of.Reads as entry-of-reads
-use Rattle.recursive_descent.proofs.descent.first_agreement.Reads as first-agreement-reads
-use Rattle.recursive_descent.proofs.descent.matches.Reads as matches-reads
+use Rattle.descent_steps.proofs.arrays.entry_of.Reads as entry-of-reads
+use Rattle.descent_steps.proofs.first_agreement.Reads as first-agreement-reads
+use Rattle.descent_steps.proofs.arrays.matches.Reads as matches-reads
 use Rattle.descent_steps.proofs.joined_entry.Reads as joined-entry-reads
 use Rattle.descent_steps.proofs.step_of_word.Reads as step-of-word-reads
 use Rattle.descent_steps.proofs.entry.recall.Reads as recall-reads
 use Rattle.descent_steps.proofs.begins_conjunct.Reads as begins-conjunct-reads
-use Rattle.descent_steps.proofs.conjunct_sign.Reads as conjunct-sign-reads
 use Rattle.descent_steps.proofs.next_conjunct.Reads as next-conjunct-reads
 use Rattle.descent_steps.proofs.word_at.Reads as word-at-reads
 use Rattle.rule.proofs.has_failed.Reads as has-failed-reads
@@ -62,14 +64,16 @@ run-body-below t =
 -- what each function's needs read of its callees
 abbrev call-claims : ℕ → call-lts.Claims
 call-claims t = (
+  choice-at-reads.Asked,
+  choice-at-reads.Learnt,
   entry-of-reads.Asked,
   entry-of-reads.Learnt,
-  chosen-reads.Asked,
-  chosen-reads.Learnt,
+  token-at-reads.Asked,
+  token-at-reads.Learnt,
+  column-of-reads.Asked,
+  column-of-reads.Learnt,
   word-at-reads.Asked,
   word-at-reads.Learnt,
-  conjunct-sign-reads.Asked,
-  conjunct-sign-reads.Learnt,
   first-agreement-reads.Asked,
   first-agreement-reads.Learnt,
   begins-conjunct-reads.Asked,
@@ -90,6 +94,8 @@ abbrev run-body-claims : ℕ → run-body-lts.Claims
 run-body-claims t = (
   step-of-word-reads.Asked,
   step-of-word-reads.Learnt,
+  token-at-reads.Asked,
+  token-at-reads.Learnt,
   matches-reads.Asked,
   matches-reads.Learnt,
   call-below t,
@@ -99,68 +105,99 @@ run-body-claims t = (
 )
 
 abbrev call-Inv-loop : call-lts.InvT-loop
-call-Inv-loop nonterminal words choices tokens memo₀ place entry known at₀ word₀ agreement₀ memo at word agreement =
+call-Inv-loop nonterminal words choices tokens memo₀ place row entry known column at₀ word₀ end agreement₀ memo at word agreement =
     (choice : Choice) → CallGiven choice words choices tokens (heldTokens tokens) memo₀ nonterminal place
     → Going choice words (heldTokens tokens) memo₀ nonterminal place memo at word agreement
 
 abbrev call-μ-loop : call-lts.MeasureT-loop
-call-μ-loop nonterminal words choices tokens memo₀ place entry known at₀ word₀ agreement₀ memo at word agreement =
+call-μ-loop nonterminal words choices tokens memo₀ place row entry known column at₀ word₀ end agreement₀ memo at word agreement =
     length words - at
 
+call-choice-at-requires : (t : ℕ) → call-lts.Need-choice-at-requires (call-claims t) (call-at t) call.Post call-Inv-loop call-μ-loop
+call-choice-at-requires t c κs = row-given (c .before .before .pre .1 .1)
+
 call-entry-of-requires : (t : ℕ) → call-lts.Need-entry-of-requires (call-claims t) (call-at t) call.Post call-Inv-loop call-μ-loop
-call-entry-of-requires t c κs = entry-given (c .before .before .pre .1 .1)
+call-entry-of-requires t c κs = tt
 
 call-mul-known : (t : ℕ) → call-lts.Need-mul-known (call-claims t) (call-at t) call.Post call-Inv-loop call-μ-loop
-call-mul-known t c = omega (arith, index-low (c .before .before .before .pre .1 .1) (c .entry-of .ensures))
+call-mul-known t c =
+    let given = c .before .before .before .before .pre .1 .1 in
+    omega (arith, index-low given (entry-is given (c .before .choice-at .ensures) (c .entry-of .ensures)))
 
 call-slice-read-known : (t : ℕ) → call-lts.Need-slice-read-known (call-claims t) (call-at t) call.Post call-Inv-loop call-μ-loop
-call-slice-read-known t c = index-low (c .before .before .before .before .pre .1 .1) (c .before .entry-of .ensures)
+call-slice-read-known t c =
+    let at-entry-of = c .before in
+    let given = at-entry-of .before .before .before .before .pre .1 .1 in
+    index-low given (entry-is given (at-entry-of .before .choice-at .ensures) (at-entry-of .entry-of .ensures))
 
 call-returns : (t : ℕ) → call-lts.Need-returns (call-claims t) (call-at t) call.Post call-Inv-loop call-μ-loop
-call-returns t c = λ choice g. call-known g (c .before .before .entry-of .ensures) (c .if1 .taken)
+call-returns t c =
+    let at-entry-of = c .before .before in
+    λ choice g. call-known g (entry-is g (at-entry-of .before .choice-at .ensures) (at-entry-of .entry-of .ensures)) (c .if1 .taken)
 
-call-chosen-requires : (t : ℕ) → call-lts.Need-chosen-requires (call-claims t) (call-at t) call.Post call-Inv-loop call-μ-loop
-call-chosen-requires t c κs =
-    let start = c .before .before .before .before .before in
-    chosen-given (start .pre .1 .1)
+call-token-at-requires : (t : ℕ) → call-lts.Need-token-at-requires (call-claims t) (call-at t) call.Post call-Inv-loop call-μ-loop
+call-token-at-requires t c κs =
+    let start = c .before .before .before .before .before .before in
+    token-low (start .pre .1 .1 .given) (start .pre .1 .1 .placed)
+
+call-column-of-requires : (t : ℕ) → call-lts.Need-column-of-requires (call-claims t) (call-at t) call.Post call-Inv-loop call-μ-loop
+call-column-of-requires t c κs = tt
+
+call-choice-at-requires-2 : (t : ℕ) → call-lts.Need-choice-at-requires-2 (call-claims t) (call-at t) call.Post call-Inv-loop call-μ-loop
+call-choice-at-requires-2 t c κs =
+    let start = c .before .before .before .before .before .before .before .before in
+    column-given (start .pre .1 .1) (c .before .token-at .ensures) (c .column-of .ensures)
+
+call-cast-at : (t : ℕ) → call-lts.Need-cast-at (call-claims t) (call-at t) call.Post call-Inv-loop call-μ-loop
+call-cast-at t c = search needs
 
 call-mul-memo : (t : ℕ) → call-lts.Need-mul-memo (call-claims t) (call-at t) call.Post call-Inv-loop call-μ-loop
 call-mul-memo t c =
-    let at-entry-of = c .before .before .before .before in
-    let start = at-entry-of .before .before .before in
-    omega (arith, index-low (start .pre .1 .1) (at-entry-of .entry-of .ensures))
+    let at-entry-of = c .before .before .before .before .before .before in
+    let given = at-entry-of .before .before .before .before .pre .1 .1 in
+    omega (arith, index-low given (entry-is given (at-entry-of .before .choice-at .ensures) (at-entry-of .entry-of .ensures)))
 
 call-slice-write-memo : (t : ℕ) → call-lts.Need-slice-write-memo (call-claims t) (call-at t) call.Post call-Inv-loop call-μ-loop
 call-slice-write-memo t c =
-    let at-entry-of = c .before .before .before .before in
-    let start = at-entry-of .before .before .before in
-    index-low (start .pre .1 .1) (at-entry-of .entry-of .ensures)
+    let at-entry-of = c .before .before .before .before .before .before in
+    let given = at-entry-of .before .before .before .before .pre .1 .1 in
+    index-low given (entry-is given (at-entry-of .before .choice-at .ensures) (at-entry-of .entry-of .ensures))
 
 call-same-length : (t : ℕ) → call-lts.Need-same-length (call-claims t) (call-at t) call.Post call-Inv-loop call-μ-loop
 call-same-length t c = simp length-set
 
 call-returns-2 : (t : ℕ) → call-lts.Need-returns-2 (call-claims t) (call-at t) call.Post call-Inv-loop call-μ-loop
 call-returns-2 t c =
-    λ choice g. call-stored g (c .before .before .before .before .entry-of .ensures) (c .before .before .if1 .left) none
-    (select-none g (no-rule g (c .before .chosen .ensures) (c .if2 .taken))) (λ n l. none-fails _ _ _ _) encode-failed
+    let at-chosen = c .before in
+    let at-column = at-chosen .before in
+    let at-fresh = at-column .before .before in
+    let at-entry-of = at-fresh .before .before in
+    λ choice g.
+    let first = first-is g (at-column .before .token-at .ensures) (at-column .column-of .ensures) (at-chosen .choice-at2 .ensures) in
+    call-stored g (entry-is g (at-entry-of .before .choice-at .ensures) (at-entry-of .entry-of .ensures)) (at-fresh .if1 .left) none
+    (select-none g (no-rule g first (c .if2 .taken))) (λ n l. none-fails _ _ _ _) encode-failed
 
 call-word-at-requires : (t : ℕ) → call-lts.Need-word-at-requires (call-claims t) (call-at t) call.Post call-Inv-loop call-μ-loop
 call-word-at-requires t c κs = tt
 
-call-conjunct-sign-requires : (t : ℕ) → call-lts.Need-conjunct-sign-requires (call-claims t) (call-at t) call.Post call-Inv-loop call-μ-loop
-call-conjunct-sign-requires t c κs = tt
+call-choice-at-requires-3 : (t : ℕ) → call-lts.Need-choice-at-requires-3 (call-claims t) (call-at t) call.Post call-Inv-loop call-μ-loop
+call-choice-at-requires-3 t c κs =
+    let at-chosen = c .before .before in
+    let start = at-chosen .before .before .before .before .before .before .before .before .before in
+    end-given (start .pre .1 .1)
 
 call-first-agreement-requires : (t : ℕ) → call-lts.Need-first-agreement-requires (call-claims t) (call-at t) call.Post call-Inv-loop call-μ-loop
-call-first-agreement-requires t c κs =
-    let start = c .before .before .before .before .before .before .before .before .before in
-    record { named = entry-given (start .pre .1 .1) .named }
+call-first-agreement-requires t c κs = tt
 
 call-loop-holds : (t : ℕ) → call-lts.Need-loop-holds (call-claims t) (call-at t) call.Post call-Inv-loop call-μ-loop
 call-loop-holds t c =
     let at-word-at = c .before .before in
     let at-chosen = at-word-at .before .before in
-    λ choice g. start-going g (rule-chosen g (at-chosen .chosen .ensures) (at-word-at .before .if2 .left)) (at-word-at .word-at .ensures)
-    (c .before .conjunct-sign .ensures) (c .first-agreement .ensures)
+    let at-column = at-chosen .before in
+    λ choice g.
+    let first = first-is g (at-column .before .token-at .ensures) (at-column .column-of .ensures) (at-chosen .choice-at2 .ensures) in
+    start-going g (rule-chosen g first (at-word-at .before .if2 .left)) (at-word-at .word-at .ensures)
+    (end-is g (c .before .choice-at3 .ensures)) (c .first-agreement .ensures)
 
 call-begins-conjunct-requires : (t : ℕ) → call-lts.Need-begins-conjunct-requires (call-claims t) (call-at t) call.Post call-Inv-loop call-μ-loop
 call-begins-conjunct-requires t c κs = tt
@@ -170,7 +207,7 @@ call-add-run-body t c =
     let at-then = c .before in
     let at-begins = at-then .before in
     let at-loop = at-begins .before in
-    let start = at-loop .before .before .before .before .before .before .before .before .before .before .before in
+    let start = at-loop .before .before .before .before .before .before .before .before .before .before .before .before .before .before in
     let begins = sym (at-begins .begins-conjunct .ensures) ∙ at-then .if3 .taken in
     omega (arith, going-conjunct (start .pre .1 .1) (at-loop .loop .inv _ (start .pre .1 .1)) begins)
 
@@ -179,12 +216,9 @@ call-run-body-requires t c κs =
     let at-then = c .before in
     let at-begins = at-then .before in
     let at-loop = at-begins .before in
-    let start = at-loop .before .before .before .before .before .before .before .before .before .before .before in
+    let start = at-loop .before .before .before .before .before .before .before .before .before .before .before .before .before .before in
     let begins = sym (at-begins .begins-conjunct .ensures) ∙ at-then .if3 .taken in
     (omega (arith, start .pre .0), (_, going-run (start .pre .1 .1) (at-loop .loop .inv _ (start .pre .1 .1)) begins))
-
-call-conjunct-sign-requires-2 : (t : ℕ) → call-lts.Need-conjunct-sign-requires-2 (call-claims t) (call-at t) call.Post call-Inv-loop call-μ-loop
-call-conjunct-sign-requires-2 t c κs = tt
 
 call-joined-entry-requires : (t : ℕ) → call-lts.Need-joined-entry-requires (call-claims t) (call-at t) call.Post call-Inv-loop call-μ-loop
 call-joined-entry-requires t c κs = tt
@@ -194,35 +228,41 @@ call-has-failed-requires t c κs = tt
 
 call-mul-memo-2 : (t : ℕ) → call-lts.Need-mul-memo-2 (call-claims t) (call-at t) call.Post call-Inv-loop call-μ-loop
 call-mul-memo-2 t c =
-    let at-run-body = c .before .before .before .before .before .before in
+    let at-run-body = c .before .before .before .before .before in
     let at-then = at-run-body .before .before in
     let at-begins = at-then .before in
     let at-loop = at-begins .before in
-    let at-entry-of = at-loop .before .before .before .before .before .before .before .before in
-    let start = at-entry-of .before .before .before in
-    omega (arith, at-entry-of .entry-of .ensures, entry-given (start .pre .1 .1) .low, start .pre .1 .1 .placed, start .pre .1 .1 .given .short)
+    let at-entry-of = at-loop .before .before .before .before .before .before .before .before .before .before in
+    let start = at-entry-of .before .before .before .before in
+    let entry = entry-is (start .pre .1 .1) (at-entry-of .before .choice-at .ensures) (at-entry-of .entry-of .ensures) in
+    omega (
+      arith,
+      index-low (start .pre .1 .1) entry,
+      start .good .1 .1 .1 .1 .0 .1,
+    )
 
 call-slice-write-memo-2 : (t : ℕ) → call-lts.Need-slice-write-memo-2 (call-claims t) (call-at t) call.Post call-Inv-loop call-μ-loop
 call-slice-write-memo-2 t c =
-    let at-run-body = c .before .before .before .before .before .before in
+    let at-run-body = c .before .before .before .before .before in
     let at-then = at-run-body .before .before in
     let at-begins = at-then .before in
     let at-loop = at-begins .before in
-    let at-entry-of = at-loop .before .before .before .before .before .before .before .before in
-    let start = at-entry-of .before .before .before in
+    let at-entry-of = at-loop .before .before .before .before .before .before .before .before .before .before in
+    let start = at-entry-of .before .before .before .before in
     let going = at-loop .loop .inv _ (start .pre .1 .1) in
     let begins = sym (at-begins .begins-conjunct .ensures) ∙ at-then .if3 .taken in
     let ran = at-run-body .run-body .ensures _ (going-run (start .pre .1 .1) going begins) in
-    omega (arith, index-low (start .pre .1 .1) (at-entry-of .entry-of .ensures), memo-same (ran .sound) (start .pre .1 .1 .given .sound))
+    let entry = entry-is (start .pre .1 .1) (at-entry-of .before .choice-at .ensures) (at-entry-of .entry-of .ensures) in
+    omega (arith, index-low (start .pre .1 .1) entry, memo-same (ran .sound) (start .pre .1 .1 .given .sound))
 
 call-same-length-2 : (t : ℕ) → call-lts.Need-same-length-2 (call-claims t) (call-at t) call.Post call-Inv-loop call-μ-loop
 call-same-length-2 t c =
-    let at-run-body = c .before .before .before .before .before .before in
+    let at-run-body = c .before .before .before .before .before in
     let at-then = at-run-body .before .before in
     let at-begins = at-then .before in
     let at-loop = at-begins .before in
-    let at-entry-of = at-loop .before .before .before .before .before .before .before .before in
-    let start = at-entry-of .before .before .before in
+    let at-entry-of = at-loop .before .before .before .before .before .before .before .before .before .before in
+    let start = at-entry-of .before .before .before .before in
     let going = at-loop .loop .inv _ (start .pre .1 .1) in
     let begins = sym (at-begins .begins-conjunct .ensures) ∙ at-then .if3 .taken in
     let ran = at-run-body .run-body .ensures _ (going-run (start .pre .1 .1) going begins) in
@@ -232,17 +272,18 @@ call-returns-3 : (t : ℕ) → call-lts.Need-returns-3 (call-claims t) (call-at 
 call-returns-3 t c =
     let at-has-failed = c .before in
     let at-joined = at-has-failed .before in
-    let at-run-body = c .before .before .before .before .before .before in
+    let at-run-body = c .before .before .before .before .before in
     let at-then = at-run-body .before .before in
     let at-begins = at-then .before in
     let at-loop = at-begins .before in
-    let at-entry-of = at-loop .before .before .before .before .before .before .before .before in
-    let at-fresh = at-loop .before .before .before .before .before .before in
+    let at-entry-of = at-loop .before .before .before .before .before .before .before .before .before .before in
+    let at-fresh = at-loop .before .before .before .before .before .before .before .before in
     λ choice g.
     let going = at-loop .loop .inv choice g in
     let begins = sym (at-begins .begins-conjunct .ensures) ∙ at-then .if3 .taken in
-    call-stored g (at-entry-of .entry-of .ensures) (at-fresh .if1 .left) (some (going .rule .rule)) (going .rule .selected)
-    (going-failed g going begins (at-run-body .run-body .ensures choice (going-run g going begins)) (at-joined .before .conjunct-sign2 .ensures)
+    let entry = entry-is g (at-entry-of .before .choice-at .ensures) (at-entry-of .entry-of .ensures) in
+    call-stored g entry (at-fresh .if1 .left) (some (going .rule .rule)) (going .rule .selected)
+    (going-failed g going begins (at-run-body .run-body .ensures choice (going-run g going begins))
     (at-joined .joined-entry .ensures) (sym (at-has-failed .has-failed .ensures) ∙ c .if4 .taken)) encode-failed
 
 call-next-conjunct-requires : (t : ℕ) → call-lts.Need-next-conjunct-requires (call-claims t) (call-at t) call.Post call-Inv-loop call-μ-loop
@@ -256,19 +297,18 @@ call-loop-less t c =
     let at-next = c .before in
     let at-has-failed = at-next .before .before in
     let at-joined = at-has-failed .before in
-    let at-sign = at-joined .before in
-    let at-run-body = at-sign .before .before .before in
+    let at-run-body = at-joined .before .before .before in
     let at-then = at-run-body .before .before in
     let at-begins = at-then .before in
     let at-loop = at-begins .before in
-    let start = at-loop .before .before .before .before .before .before .before .before .before .before .before in
+    let start = at-loop .before .before .before .before .before .before .before .before .before .before .before .before .before .before in
     let going = at-loop .loop .inv _ (start .pre .1 .1) in
     let begins = sym (at-begins .begins-conjunct .ensures) ∙ at-then .if3 .taken in
     let ran = at-run-body .run-body .ensures _ (going-run (start .pre .1 .1) going begins) in
     omega (
       arith,
       going-conjunct (start .pre .1 .1) going begins,
-      going-falls (start .pre .1 .1) going begins ran (at-sign .conjunct-sign2 .ensures) (at-joined .joined-entry .ensures) (at-next .next-conjunct .ensures),
+      going-falls (start .pre .1 .1) going begins ran (at-joined .joined-entry .ensures) (at-next .next-conjunct .ensures),
     )
 
 call-loop-again : (t : ℕ) → call-lts.Need-loop-again (call-claims t) (call-at t) call.Post call-Inv-loop call-μ-loop
@@ -277,15 +317,14 @@ call-loop-again t c =
     let at-going-on = at-next .before in
     let at-has-failed = at-going-on .before in
     let at-joined = at-has-failed .before in
-    let at-sign = at-joined .before in
-    let at-run-body = at-sign .before .before .before in
+    let at-run-body = at-joined .before .before .before in
     let at-then = at-run-body .before .before in
     let at-begins = at-then .before in
     let at-loop = at-begins .before in
     λ choice g.
     let going = at-loop .loop .inv choice g in
     let begins = sym (at-begins .begins-conjunct .ensures) ∙ at-then .if3 .taken in
-    going-turn g going begins (at-run-body .run-body .ensures choice (going-run g going begins)) (at-sign .conjunct-sign2 .ensures)
+    going-turn g going begins (at-run-body .run-body .ensures choice (going-run g going begins))
     (at-joined .joined-entry .ensures) (at-next .next-conjunct .ensures) (c .word-at2 .ensures)
     (sym (at-has-failed .has-failed .ensures) ∙ at-going-on .if4 .left)
 
@@ -295,27 +334,29 @@ call-concluded-entry-requires t c κs = tt
 call-mul-memo-3 : (t : ℕ) → call-lts.Need-mul-memo-3 (call-claims t) (call-at t) call.Post call-Inv-loop call-μ-loop
 call-mul-memo-3 t c =
     let at-loop = c .before .before .before in
-    let at-entry-of = at-loop .before .before .before .before .before .before .before .before in
-    let start = at-entry-of .before .before .before in
-    omega (arith, index-low (start .pre .1 .1) (at-entry-of .entry-of .ensures))
+    let at-entry-of = at-loop .before .before .before .before .before .before .before .before .before .before in
+    let start = at-entry-of .before .before .before .before in
+    let entry = entry-is (start .pre .1 .1) (at-entry-of .before .choice-at .ensures) (at-entry-of .entry-of .ensures) in
+    omega (arith, index-low (start .pre .1 .1) entry)
 
 call-slice-write-memo-3 : (t : ℕ) → call-lts.Need-slice-write-memo-3 (call-claims t) (call-at t) call.Post call-Inv-loop call-μ-loop
 call-slice-write-memo-3 t c =
     let at-loop = c .before .before .before in
-    let at-entry-of = at-loop .before .before .before .before .before .before .before .before in
-    let start = at-entry-of .before .before .before in
+    let at-entry-of = at-loop .before .before .before .before .before .before .before .before .before .before in
+    let start = at-entry-of .before .before .before .before in
     let going = at-loop .loop .inv _ (start .pre .1 .1) in
+    let entry = entry-is (start .pre .1 .1) (at-entry-of .before .choice-at .ensures) (at-entry-of .entry-of .ensures) in
     omega (
       arith,
-      index-low (start .pre .1 .1) (at-entry-of .entry-of .ensures),
+      index-low (start .pre .1 .1) entry,
       memo-same (going .rule .calling .sound) (start .pre .1 .1 .given .sound),
     )
 
 call-same-length-3 : (t : ℕ) → call-lts.Need-same-length-3 (call-claims t) (call-at t) call.Post call-Inv-loop call-μ-loop
 call-same-length-3 t c =
     let at-loop = c .before .before .before in
-    let at-entry-of = at-loop .before .before .before .before .before .before .before .before in
-    let start = at-entry-of .before .before .before in
+    let at-entry-of = at-loop .before .before .before .before .before .before .before .before .before .before in
+    let start = at-entry-of .before .before .before .before in
     let going = at-loop .loop .inv _ (start .pre .1 .1) in
     simp length-set (memo-same (going .rule .calling .sound) (start .pre .1 .1 .given .sound))
 
@@ -324,11 +365,13 @@ call-returns-4 t c =
     let at-else = c .before in
     let at-begins = at-else .before in
     let at-loop = at-begins .before in
-    let at-fresh = at-loop .before .before .before .before .before .before in
+    let at-fresh = at-loop .before .before .before .before .before .before .before .before in
+    let at-entry-of = at-fresh .before .before in
     λ choice g.
     let going = at-loop .loop .inv choice g in
     let stops = sym (at-begins .begins-conjunct .ensures) ∙ at-else .if3 .left in
-    call-stored g (at-fresh .before .before .entry-of .ensures) (at-fresh .if1 .left) (some (going .rule .rule)) (going .rule .selected)
+    let entry = entry-is g (at-entry-of .before .choice-at .ensures) (at-entry-of .entry-of .ensures) in
+    call-stored g entry (at-fresh .if1 .left) (some (going .rule .rule)) (going .rule .selected)
     (going-done g going stops) (c .concluded-entry .ensures)
 
 abbrev run-body-Inv-loop : run-body-lts.InvT-loop
@@ -379,38 +422,43 @@ run-body-enum-known-step : (t : ℕ)
     → run-body-lts.Need-enum-known-step (run-body-claims t) (run-body-at t) run-body.Post run-body-Inv-loop run-body-μ-loop
 run-body-enum-known-step t c = c .match .keys2
 
-run-body-matches-requires : (t : ℕ)
-    → run-body-lts.Need-matches-requires (run-body-claims t) (run-body-at t) run-body.Post run-body-Inv-loop run-body-μ-loop
-run-body-matches-requires t c κs =
+run-body-token-at-requires : (t : ℕ)
+    → run-body-lts.Need-token-at-requires (run-body-claims t) (run-body-at t) run-body.Post run-body-Inv-loop run-body-μ-loop
+run-body-token-at-requires t c κs =
     let at-loop = c .before .before .before .before .before in
     let start = at-loop .before .before .before in
-    token-given (start .pre .1 .1 .call .given) (at-loop .loop .inv _ (start .pre .1 .1) .placed)
+    token-low (start .pre .1 .1 .call .given) (at-loop .loop .inv _ (start .pre .1 .1) .placed)
+
+run-body-matches-requires : (t : ℕ)
+    → run-body-lts.Need-matches-requires (run-body-claims t) (run-body-at t) run-body.Post run-body-Inv-loop run-body-μ-loop
+run-body-matches-requires t c κs = tt
 
 run-body-add-behind : (t : ℕ) → run-body-lts.Need-add-behind (run-body-claims t) (run-body-at t) run-body.Post run-body-Inv-loop run-body-μ-loop
 run-body-add-behind t c =
-    let at-loop = c .before .before .before .before .before .before .before in
+    let at-loop = c .before .before .before .before .before .before .before .before in
     let start = at-loop .before .before .before in
     omega (arith, at-loop .loop .inv _ (start .pre .1 .1) .skipped .within)
 
 run-body-same-length-2 : (t : ℕ) → run-body-lts.Need-same-length-2 (run-body-claims t) (run-body-at t) run-body.Post run-body-Inv-loop run-body-μ-loop
 run-body-same-length-2 t c =
-    let at-loop = c .before .before .before .before .before .before .before in
+    let at-loop = c .before .before .before .before .before .before .before .before in
     let start = at-loop .before .before .before in
     memo-same (at-loop .loop .inv _ (start .pre .1 .1) .sound) (start .pre .1 .1 .call .given .sound)
 
 run-body-returns-2 : (t : ℕ) → run-body-lts.Need-returns-2 (run-body-claims t) (run-body-at t) run-body.Post run-body-Inv-loop run-body-μ-loop
 run-body-returns-2 t c =
     let at-matches = c .before in
-    let at-terminal = at-matches .before .before in
+    let at-token = at-matches .before in
+    let at-terminal = at-token .before .before in
     let at-step = at-terminal .before .before in
     let at-loop = at-step .before .before in
     λ choice g.
     running-mismatch g (at-loop .loop .inv choice g) _ (sym (at-step .step-of-word .ensures) ∙ at-terminal .step .given .1)
-    (sym (at-matches .matches .ensures) ∙ not-true _ (c .if1 .taken))
+    (sym (match-is _ _ _ (at-token .token-at .ensures) (at-matches .matches .ensures)) ∙ not-true _ (c .if1 .taken))
 
 run-body-add-place : (t : ℕ) → run-body-lts.Need-add-place (run-body-claims t) (run-body-at t) run-body.Post run-body-Inv-loop run-body-μ-loop
 run-body-add-place t c =
-    let at-loop = c .before .before .before .before .before .before .before in
+    let at-loop = c .before .before .before .before .before .before .before .before in
     let start = at-loop .before .before .before in
     omega (arith, at-loop .loop .inv _ (start .pre .1 .1) .placed, start .pre .1 .1 .call .given .short)
 
@@ -502,8 +550,8 @@ run-body-loop-again t c =
     let step = sym (at-step .step-of-word .ensures) in
     ⊎-elim
     (λ w.
-    running-as (w .5) (w .6)
-    (running-terminal given run _ (step ∙ w .1 .given .1) (sym (w .3 .ensures) ∙ not-false _ (w .4 .left))))
+    running-as (w .6) (w .7)
+    (running-terminal given run _ (step ∙ w .1 .given .1) (sym (match-is _ _ _ (w .3 .ensures) (w .4 .ensures)) ∙ not-false _ (w .5 .left))))
     (λ w.
     running-as (w .11) (w .12)
     (running-call given run _ (step ∙ w .1 .given .1) (w .4 .ensures choice (running-given given run _ (step ∙ w .1 .given .1)))
@@ -516,23 +564,26 @@ pub +call+run-body-spec : {M : Type 1} → statement M
     call.Post
     call-Inv-loop
     call-μ-loop
+    (call-choice-at-requires t)
     (call-entry-of-requires t)
     (call-mul-known t)
     (call-slice-read-known t)
     (call-returns t)
-    (call-chosen-requires t)
+    (call-token-at-requires t)
+    (call-column-of-requires t)
+    (call-choice-at-requires-2 t)
+    (call-cast-at t)
     (call-mul-memo t)
     (call-slice-write-memo t)
     (call-same-length t)
     (call-returns-2 t)
     (call-word-at-requires t)
-    (call-conjunct-sign-requires t)
+    (call-choice-at-requires-3 t)
     (call-first-agreement-requires t)
     (call-loop-holds t)
     (call-begins-conjunct-requires t)
     (call-add-run-body t)
     (call-run-body-requires t)
-    (call-conjunct-sign-requires-2 t)
     (call-joined-entry-requires t)
     (call-has-failed-requires t)
     (call-mul-memo-2 t)
@@ -561,6 +612,7 @@ pub +call+run-body-spec : {M : Type 1} → statement M
     (run-body-same-length t)
     (run-body-returns t)
     (run-body-enum-known-step t)
+    (run-body-token-at-requires t)
     (run-body-matches-requires t)
     (run-body-add-behind t)
     (run-body-same-length-2 t)
