@@ -1,4 +1,4 @@
-// What the numbers tell that the descent reads in its arrays.
+// What a number tells that stands in the arrays of the descent.
 ghost use mathlib.Core.Path.{_≡_};
 ghost use Prim.Native.Nat.{_+_, _/_, _%_};
 ghost use lib.Dec.{eqb};

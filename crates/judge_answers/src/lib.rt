@@ -18,7 +18,7 @@ fn start_entry(memo: &[u16]) -> u16
     if 0 < memo.len() { memo[0] } else { UNCALLED }
 }
 
-// What is answered on an input of so many tokens, by what is found.
+// What is answered on an input of so many tokens, by what is found and the memo table that is left.
 pub fn answer(finding: Finding, tokens: usize, memo: &[u16]) -> Answer
     ensures { λ r. ⌜ r ≡ answerOf finding tokens (now (memo .entry)) ⌝ }
 {

@@ -5,7 +5,7 @@ use descent_arrays::CHOICES;
 use grammar::limits::PLACES;
 use memo_table::clear;
 
-// In a memo table of just the entries that there are.
+// The memo table has an entry for each nonterminal and place, and no more.
 pub(crate) fn descend(
     words: &[u32],
     choices: &[u16; CHOICES],

@@ -14,7 +14,7 @@ mod descending;
 mod descent;
 pub mod search;
 
-// Finds whether the input that the events of a log are can be judged by an encoded grammar, and if so descends on it.
+// Finds whether the events of a log are an input that an encoded grammar can judge, and if so descends on it.
 pub fn descend_words(words: &[u32], lookahead: Lookahead, events: &[u8], memo: &mut [u16]) -> Found
     ensures { λ r. ⌜ DescendsWords lookahead (now (words .entry)) (inputOf (now (events .entry))) (now (memo .entry)) r (now (memo .exit)) ⌝ }
 {

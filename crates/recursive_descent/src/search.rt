@@ -73,7 +73,7 @@ pub fn descend_costliest(words: &[u32], tokens: usize, log: &mut [u8], memo: &mu
     let Finding::Passed(sizes) = finding else {
         return found;
     };
-    // of every input of the length
+    // the same for every input of the length
     let choices = table_choices(&found.starts, sizes, Lookahead::One, &found.entries, tokens);
     let needed = entries_of(sizes.nonterminals, tokens);
     leave_costliest(

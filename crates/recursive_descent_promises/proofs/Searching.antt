@@ -1,4 +1,4 @@
--- The search for the costliest input: each candidate is run on with the same choices and in the same memory, and the costliest last.
+-- The search for the costliest input: the descents on all inputs go by the same choices in the same memory, and the one on the costliest is the last.
 use mathlib.Core.Path.{_≡_, refl, sym, ap, _∙_}
 use mathlib.Core.Bool.{Bool, true, false}
 use mathlib.Core.List.{List, _++_}

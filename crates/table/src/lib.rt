@@ -16,8 +16,8 @@ use table_promises::Conflict;
 mod conflicts;
 mod rows;
 
-// What is found of an encoded grammar: its sizes, or why it is refused; where its rules begin; its sets; and its entries, by nonterminal, then column.
-// Where it is refused there is no rule in the entries.
+// What is found of an encoded grammar: its sizes, or why it, or a descent by it, is refused; where its rules begin; its sets; and its entries, by
+// nonterminal, then column. Where the grammar is refused there is no rule in the entries.
 pub struct Found {
     pub finding: Finding,
     pub starts: [usize; RULES],

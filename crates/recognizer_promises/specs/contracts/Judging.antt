@@ -33,11 +33,11 @@ unfoldable pub memoFault : Lookahead → ℕ → List ℕ → List ℕ → Optio
 memoFault k memo words input =
     firstFault (faultIf (ltb memo maxMemoEntries) MemoTooShort ∷ grammarFaults k words ++ inputFaults (grammarOf words .terminals) input)
 
--- what is found of a grammar, with another finding: that of memory and of an input behind it
+-- what is found of a grammar, but with this finding in place of its own
 abbrev pub refound : Found → Finding → Found
 refound r f = foundWith f (r .starts) (r .firsts) (r .follows) (r .entries)
 
--- what is found of a grammar, with the error that there is
+-- what is found of a grammar; where there is an error, with that in place of its finding
 abbrev pub foundUnless : Option Error → Found → Found
 foundUnless none r = r
 foundUnless (some e) r = refound r (Refused e)

@@ -126,7 +126,8 @@ pub record StartGiven (choice : Choice) (words choices tokens input memo : List 
   pub call : CallGiven choice words choices tokens input (blank (grammarOf words) input) 0 0
   pub size : length memo ≡ pairs (grammarOf words) input
 
--- the memo table then holds the entries of the calls made, and no others
+-- the descent requires that the arrays hold some choice, and ensures for each that they hold that the memo table then has the entries of the calls made
+-- and no others
 abbrev pub StartRequires : (words choices tokens memo : List ℕ) → Type 0
 StartRequires words choices tokens memo = (choice : Choice) × StartGiven choice words choices tokens (heldTokens tokens) memo
 

@@ -16,6 +16,7 @@ use Rattle.descent_choices.specs.contracts.Choices.{choicesOf}
 abbrev pub tableRows : Lookahead → List ℕ → Sizes → ℕ → List ℕ
 tableRows k words z tokens = choicesOf (ruleStarts words) (z .nonterminals) (columnCount k (z .terminals)) (entriesOf k (grammarOf words)) tokens
 
+-- an input of a grammar that passes, a memo table of just its entries, and the choices made of the grammar's table
 pub record JudgeGiven (k : Lookahead) (words : List ℕ) (z : Sizes) (choices input memo : List ℕ) : Type 0 where
   pub given : DescendGiven k words z (ruleStarts words) (entriesOf k (grammarOf words)) input memo
   pub made : choices ≡ tableRows k words z (length input)
