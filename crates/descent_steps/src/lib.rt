@@ -1,4 +1,4 @@
-// The steps of the descent that need no memo table: what a number in its arrays tells, the next symbol of a body, and how a rule's agreement takes and gives entries.
+// The steps of the descent that need no memo table: what a number in its arrays tells, the next symbol of a body, and agreements and entries.
 ghost use mathlib.Core.Path.{_≡_};
 ghost use Rattle.word.specs.Words.{decoded};
 ghost use Rattle.semantics.specs.Memo.{outcomeCode};
