@@ -1,18 +1,25 @@
 // What a number tells that stands in the arrays of the descent.
 ghost use mathlib.Core.Path.{_≡_};
-ghost use Prim.Native.Nat.{_+_, _/_, _%_};
-ghost use lib.Dec.{eqb};
+ghost use Prim.Native.Nat.{_+_, _/_};
 ghost use Rattle.descent_arrays.specs.contracts.Arrays.{columnWeight};
+ghost use Rattle.descent_steps.specs.contracts.Steps.{endBehind};
 use descent_arrays::COLUMN_WEIGHT;
+use grammar::codes::FAILED;
 
 // What the column of a lookahead string weighs in a token's word.
 const WEIGHT: usize = COLUMN_WEIGHT as usize;
 
-// Whether a token is a terminal, by its word.
-pub fn matches(token: u16, terminal: u32) -> bool
-    ensures { λ r. ⌜ r ≡ eqb (token % columnWeight) terminal ⌝ }
+// Places are counted in 16 bits.
+const PLACES_COUNTED: u32 = 65536;
+
+// The place behind the token at a place, by its word, if it is a terminal; else the code of a failure.
+pub fn end_behind(token: u16, terminal: u32, place: u16) -> u16
+    ensures { λ r. ⌜ r ≡ endBehind token terminal place ⌝ }
 {
-    token as u32 % COLUMN_WEIGHT == terminal
+    if token as u32 % COLUMN_WEIGHT == terminal {
+        return ((place as u32 + 1) % PLACES_COUNTED) as u16;
+    }
+    FAILED
 }
 
 // The column of the lookahead string at a token, by its word.

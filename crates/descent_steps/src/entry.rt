@@ -1,18 +1,13 @@
-// An outcome as an entry of the memo table, and back.
+// What an entry of the memo table tells: the outcome of a call, or of a symbol.
 ghost use mathlib.Core.Path.{_≡_};
-ghost use Rattle.semantics.specs.Memo.{outcomeCode};
 ghost use Rattle.semantics.specs.contracts.Memo.{decode};
-ghost use Rattle.rule.specs.contracts.Rule.{meant};
+ghost use Rattle.descent_steps.specs.contracts.Steps.{meant};
 use grammar::codes::FAILED;
-use rule::Outcome;
 
-pub(crate) fn code(outcome: Outcome) -> u16
-    ensures { λ r. ⌜ r ≡ outcomeCode (meant outcome) ⌝ }
-{
-    match outcome {
-        Outcome::Failed => FAILED,
-        Outcome::End(end) => end,
-    }
+// (document 01: a name's result, failed or an end)
+pub enum Outcome {
+    Failed,
+    End(u16),
 }
 
 pub fn recall(entry: u16) -> Outcome

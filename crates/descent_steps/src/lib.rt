@@ -1,17 +1,12 @@
 // The steps of the descent that need no memo table: what a number in its arrays tells, the next symbol of a body, and agreements and entries.
 ghost use mathlib.Core.Path.{_≡_};
 ghost use Rattle.word.specs.Words.{decoded};
-ghost use Rattle.semantics.specs.Memo.{outcomeCode};
 ghost use Rattle.semantics.specs.contracts.Memo.{decode as outcomeOf};
-ghost use Rattle.rule.specs.contracts.Rule.{beginsBody, signOf, openingBy, joinedBy, concluded};
+ghost use Rattle.rule.specs.contracts.Rule.{beginsBody, signOf, openingBy, joinedBy, agreementCode, agreementOf};
 ghost use Rattle.descent_steps.specs.contracts.Steps.{symbolStep, stepOf, wordAt, conjunctSign, nextConjunct};
-use entry::code;
-use entry::recall;
 use grammar::codes::FAILED;
-use rule::Agreement;
 use rule::Sign;
 use rule::body_end;
-use rule::conclude;
 use rule::joined;
 use rule::opening;
 use word::Symbol;
@@ -102,22 +97,15 @@ pub fn next_conjunct(words: &[u32], entry: u16, at: usize) -> usize
 }
 
 // Where the bodies of a rule agree to end before the first has run, by the word that begins it, for an input that ends at a place.
-pub fn first_agreement(word: u32, end: u16) -> Agreement
-    ensures { λ r. ⌜ r ≡ openingBy (conjunctSign word) end ⌝ }
+pub fn first_agreement(word: u32, end: u16) -> u16
+    ensures { λ r. ⌜ r ≡ agreementCode (openingBy (conjunctSign word) end) ⌝ }
 {
     opening(conjunct_sign(word), end)
 }
 
 // The agreement after one body more, by the word that begins it and the entry of its outcome.
-pub fn joined_entry(word: u32, agreement: Agreement, entry: u16) -> Agreement
-    ensures { λ r. ⌜ r ≡ joinedBy (conjunctSign word) agreement (outcomeOf entry) ⌝ }
+pub fn joined_entry(word: u32, agreement: u16, entry: u16) -> u16
+    ensures { λ r. ⌜ r ≡ agreementCode (joinedBy (conjunctSign word) (agreementOf agreement) (outcomeOf entry)) ⌝ }
 {
-    joined(conjunct_sign(word), agreement, recall(entry))
-}
-
-// The entry of what the bodies of a rule have agreed on.
-pub fn concluded_entry(agreement: Agreement) -> u16
-    ensures { λ r. ⌜ r ≡ outcomeCode (concluded agreement) ⌝ }
-{
-    code(conclude(agreement))
+    joined(conjunct_sign(word), agreement, entry)
 }

@@ -11,10 +11,10 @@ use descent_arrays::END_COLUMN;
 use descent_arrays::ROW_COLUMN;
 use descent_steps::Step;
 use descent_steps::arrays::column_of;
+use descent_steps::arrays::end_behind;
 use descent_steps::arrays::entry_of;
-use descent_steps::arrays::matches;
 use descent_steps::begins_conjunct;
-use descent_steps::concluded_entry;
+use descent_steps::entry::Outcome;
 use descent_steps::entry::recall;
 use descent_steps::first_agreement;
 use descent_steps::joined_entry;
@@ -25,8 +25,6 @@ use grammar::codes::FAILED;
 use grammar::codes::UNCALLED;
 use grammar::limits::PLACES;
 use recursive_descent_promises::Run;
-use rule::Outcome;
-use rule::has_failed;
 
 // The word of the token at a place.
 fn token_at(tokens: &[u16; PLACES], place: u16) -> u16
@@ -45,11 +43,11 @@ fn choice_at(choices: &[u16; CHOICES], nonterminal: usize, column: usize) -> u16
 }
 
 // Runs the body at an index from a place on, for a call of the nonterminal there; the first symbol that fails stops it, behind it.
-fn run_body(
+fn run_body<'a>(
     nonterminal: usize,
     words: &[u32],
-    choices: &[u16; CHOICES],
-    tokens: &[u16; PLACES],
+    choices: &'a [u16; CHOICES],
+    tokens: &'a [u16; PLACES],
     memo: &mut [u16],
     from: usize,
     start: u16,
@@ -62,44 +60,29 @@ fn run_body(
     let mut place = start;
     loop {
         let step = step_of_word(words[at]);
-        match step {
+        let entry = match step {
             Step::Over => {
                 return Run { end: place, at };
             }
-            Step::Terminal(terminal) => {
-                if !matches(token_at(tokens, place), terminal) {
-                    let behind = at + 1;
-                    return Run {
-                        end: FAILED,
-                        at: behind,
-                    };
-                }
-                place = place + 1;
-            }
-            Step::Nonterminal(called) => {
-                let entry = call(called as usize, words, choices, tokens, memo, place);
-                let outcome = recall(entry);
-                let Outcome::End(end) = outcome else {
-                    let behind = at + 1;
-                    return Run {
-                        end: FAILED,
-                        at: behind,
-                    };
-                };
-                place = end;
-            }
-        }
+            Step::Terminal(terminal) => end_behind(token_at(tokens, place), terminal, place),
+            Step::Nonterminal(called) => call(called as usize, words, choices, tokens, memo, place),
+        };
         at = at + 1;
+        let outcome = recall(entry);
+        let Outcome::End(end) = outcome else {
+            return Run { end: FAILED, at };
+        };
+        place = end;
     }
 }
 
 // Calls a nonterminal at a place, and returns the entry of its outcome: the one that is there, or one that it records when the bodies of
 // the rule that is chosen have run. An outcome itself would be returned in memory, and each call would write it there.
-pub(crate) fn call(
+pub(crate) fn call<'a>(
     nonterminal: usize,
     words: &[u32],
-    choices: &[u16; CHOICES],
-    tokens: &[u16; PLACES],
+    choices: &'a [u16; CHOICES],
+    tokens: &'a [u16; PLACES],
     memo: &mut [u16],
     place: u16,
 ) -> u16
@@ -125,14 +108,12 @@ pub(crate) fn call(
     while begins_conjunct(word) {
         let run = run_body(nonterminal, words, choices, tokens, memo, at + 1, place);
         agreement = joined_entry(word, agreement, run.end);
-        if has_failed(agreement) {
-            memo[entry] = FAILED;
-            return FAILED;
+        if agreement == FAILED {
+            break;
         }
         at = next_conjunct(words, run.end, run.at);
         word = word_at(words, at);
     }
-    let recorded = concluded_entry(agreement);
-    memo[entry] = recorded;
-    recorded
+    memo[entry] = agreement;
+    agreement
 }

@@ -1,20 +1,17 @@
 // Memoized recursive descent in a lent memo table: on one input, and on all inputs of a length.
 ghost use Rattle.event.specs.Events.{inputOf};
 ghost use Rattle.recognizer_promises.specs.contracts.Judging.{DescendsWords};
-use descending::descend;
-use descent_choices::entries_of;
-use descent_choices::table_choices;
+use descent::call;
 use descent_findings::find_for_input;
-use descent_tokens::tokens_of;
+use descent_preparation::prepare_input;
 use families::Finding;
 use lookahead::Lookahead;
 use table::Found;
 
-mod descending;
 mod descent;
 pub mod search;
 
-// Finds whether the events of a log are an input that an encoded grammar can judge, and if so descends on it.
+// Finds whether the events of a log are an input that an encoded grammar can judge, and if so descends on it: the start is called at its begin.
 pub fn descend_words(words: &[u32], lookahead: Lookahead, events: &[u8], memo: &mut [u16]) -> Found
     ensures { λ r. ⌜ DescendsWords lookahead (now (words .entry)) (inputOf (now (events .entry))) (now (memo .entry)) r (now (memo .exit)) ⌝ }
 {
@@ -23,15 +20,22 @@ pub fn descend_words(words: &[u32], lookahead: Lookahead, events: &[u8], memo: &
     let Finding::Passed(sizes) = finding else {
         return found;
     };
-    let choices = table_choices(
+    let prepared = prepare_input(
         &found.starts,
         sizes,
         lookahead,
         &found.entries,
-        events.len(),
+        events,
+        memo,
     );
-    let tokens = tokens_of(events, lookahead, sizes.terminals);
-    let needed = entries_of(sizes.nonterminals, events.len());
-    descend(words, &choices, &tokens, &mut memo[..needed]);
+    let entries = prepared.entries;
+    call(
+        0,
+        words,
+        &prepared.choices,
+        &prepared.tokens,
+        &mut memo[..entries],
+        0,
+    );
     found
 }

@@ -1,30 +1,24 @@
 // The costliest input of a length: the first in letter order of those on which the descent makes the most calls.
-ghost use mathlib.Core.Path.{_≡_};
 ghost use lib.ListN.{length};
-ghost use Rattle.grammar.specs.Encoding.{grammarOf};
-ghost use Rattle.inputs.specs.contracts.Inputs.{inputAt};
-ghost use Rattle.recognizer_promises.specs.CostliestInput.{callsOn};
 ghost use Rattle.recognizer_promises.specs.contracts.Search.{SearchesWords};
-ghost use Rattle.recursive_descent_promises.specs.contracts.Search.{TrialGiven, NumberGiven, CostliestLeft};
-use super::descending::descend;
+ghost use Rattle.recursive_descent_promises.specs.contracts.Search.{TrialGiven, NumberGiven, Tried, CostliestLeft};
+use super::descent::call;
 use descent_arrays::CHOICES;
 use descent_choices::entries_of;
 use descent_choices::table_choices;
 use descent_findings::find_for_search;
-use descent_tokens::tokens_of;
+use descent_preparation::prepare_trial;
 use families::Finding;
 use grammar::reading::Sizes;
 use inputs::count_inputs;
 use inputs::no_trials;
 use inputs::tried;
-use inputs::write_input;
 use lookahead::Lookahead;
 use memo_table::count_calls;
 use table::Found;
-use trial_tokens::number_tokens;
 
-// Writes the input of a number, descends on it, and counts the calls.
-fn calls_on(
+// Tries the input of a number: writes it, descends on it, and counts the calls.
+fn try_input(
     words: &[u32],
     choices: &[u16; CHOICES],
     last: u8,
@@ -33,15 +27,14 @@ fn calls_on(
     memo: &mut [u16],
 ) -> usize
     requires { ⌜ NumberGiven (now words) (now choices) last (now events) (now memo) ⌝ }
-    ensures { λ r. ⌜ r ≡ callsOn (grammarOf (now (words .entry)))
-        (inputAt (grammarOf (now (words .entry)) .terminals) (length (now (events .entry))) number) ⌝ }
+    ensures { λ r. ⌜ Tried (now (words .entry)) (length (now (events .entry))) number r (now (events .exit)) (now (memo .exit)) ⌝ }
 {
-    let tokens = number_tokens(events, last, number);
-    descend(words, choices, &tokens, memo);
+    let tokens = prepare_trial(events, last, number, memo);
+    call(0, words, choices, &tokens, memo, 0);
     count_calls(memo)
 }
 
-// Tries all inputs of a length in the same memory, and descends on the costliest last.
+// Tries all inputs of a length in the same memory, and the costliest again at the end.
 fn leave_costliest(
     words: &[u32],
     sizes: Sizes,
@@ -56,12 +49,10 @@ fn leave_costliest(
     let inputs = count_inputs(sizes.terminals, events.len());
     let mut trials = no_trials();
     while trials.next < inputs {
-        let calls = calls_on(words, choices, last, trials.next, events, memo);
+        let calls = try_input(words, choices, last, trials.next, events, memo);
         trials = tried(trials, calls);
     }
-    write_input(events, last, trials.best);
-    let tokens = tokens_of(events, Lookahead::One, sizes.terminals);
-    descend(words, choices, &tokens, memo);
+    try_input(words, choices, last, trials.best, events, memo);
 }
 
 // Finds the costliest input of a length for an encoded grammar, writes it into the lent log, and descends on it.

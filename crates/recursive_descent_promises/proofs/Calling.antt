@@ -27,14 +27,14 @@ use Rattle.grammar.proofs.WellFormed.{RestFits, reads}
 use Rattle.semantics.specs.Choices.{Choice}
 use Rattle.semantics.specs.Descent.{Outcome, Failed, End, endsAt, select}
 use Rattle.semantics.specs.contracts.MemoDescent.{Memoized, memoized, andThen, MemoCalls, memoRun, memoNegatives, memoPositives, memoRule, memoObey}
+use Rattle.semantics.specs.Memo.{outcomeCode}
 use Rattle.semantics.specs.contracts.Memo.{decode}
 use Rattle.rule.specs.declared.Sign.{Sign}
 use Rattle.rule.specs.declared.Sign.the-variants.{Positive, Negative, Neither}
-use Rattle.rule.specs.declared.Agreement.{Agreement}
-use Rattle.rule.specs.declared.Agreement.the-variants as agreement
-use Rattle.rule.specs.contracts.Rule.{signOf, signAt, bodyEnd, beginsBody, goesOn, hasFailed, joinedBy, concluded}
+use Rattle.rule.specs.contracts.Rule as agreement
+use Rattle.rule.specs.contracts.Rule.{Agreement, agreementCode, agreementOf, signOf, signAt, bodyEnd, beginsBody, goesOn, hasFailed, joinedBy, concluded}
 use Rattle.rule.proofs.Signs.{sign-number, sign-positive, sign-negative, sign-within}
-use Rattle.rule.proofs.Agreements.{opens-no-more, ends-joined}
+use Rattle.rule.proofs.Agreements.{opens-no-more, ends-joined, code-told, failed-told, lives-told, concluded-told}
 use Rattle.descent_steps.specs.contracts.Steps.{wordAt, conjunctSign, nextConjunct}
 use Rattle.descent_steps.proofs.Conjuncts.{conjunct-sign, word-sign}
 use Rattle.families.proofs.Words.{parse-over}
@@ -298,24 +298,28 @@ module _ {choice : Choice} {words choices tokens input memo₀ : List ℕ} {A pl
           over : parse (drop at words) ≡ parse [] → (parse (drop at words) .positives ≡ []) × (parse (drop at words) .negatives ≡ [])
           over p = rw p nothing-left
 
+  neither : (s : Sign) → beginsBody s ≡ false → s ≡ Neither
+  neither Positive e = absurd (true≢false e)
+  neither Negative e = absurd (true≢false e)
+  neither Neither e = refl
+
+  -- a rule has a body, and so its end is set once nothing is left of it
+  not-open : beginsBody sign ≡ false → agreed ≡ agreement.Open → ⊥
+  not-open t e =
+      let f = reads (v .progress) at (drop at words) (g .given .sizes) (v .reads ∙ g .given .read) .fits in
+      let k = none-left (neither sign t) in
+      (rw (v .opens e) at (f .shape)) .1 (rw (k .0, k .1))
+
   -- the rule has run: its bodies agree, or it has failed
   pub calling-done : goesOn sign agreed ≡ false → (n : ℕ) → level words input A place ≤ n
       → memoObey (deep choice words input n) input (some r) place memo₀ ≡ memoized (concluded agreed) memo
   unfolding memoRest memoPositives memoNegatives
   calling-done stops n l = v .rest n l ∙ go agreed refl stops
     where
-      neither : (s : Sign) → beginsBody s ≡ false → s ≡ Neither
-      neither Positive e = absurd (true≢false e)
-      neither Negative e = absurd (true≢false e)
-      neither Neither e = refl
-
       go : (a : Agreement) → agreed ≡ a → goesOn sign a ≡ false
           → memoRest (deep choice words input n) input place a (parse (drop at words) .positives) (parse (drop at words) .negatives) memo
           ≡ memoized (concluded a) memo
-      go agreement.Open e t =
-          let f = reads (v .progress) at (drop at words) (g .given .sizes) (v .reads ∙ g .given .read) .fits in
-          let k = none-left (neither sign t) in
-          absurd ((rw (v .opens e) at (f .shape)) .1 (rw (k .0, k .1)))
+      go agreement.Open e t = absurd (not-open t e)
       go (agreement.At x) e t = let k = none-left (neither sign t) in rw (k .0, k .1)
       go agreement.Failed e t = refl
 
@@ -353,9 +357,23 @@ module _ {choice : Choice} {words choices tokens input memo₀ : List ℕ} {A pl
   rule-done stops = calling-done g (v .calling) stops
 
 -- a call that has reached a word of its rule, which has not failed
-pub record Going (choice : Choice) (words input memo₀ : List ℕ) (A place : ℕ) (memo : List ℕ) (at word : ℕ) (agreed : Agreement) : Type 0 where
-  pub rule : InRule choice words input memo₀ A place memo at (signOf (decoded word)) agreed
-  pub lives : hasFailed agreed ≡ false
+pub record Going (choice : Choice) (words input memo₀ : List ℕ) (A place : ℕ) (memo : List ℕ) (at word agreed : ℕ) : Type 0 where
+  pub rule : InRule choice words input memo₀ A place memo at (signOf (decoded word)) (agreementOf agreed)
+  pub lives : hasFailed (agreementOf agreed) ≡ false
+
+-- a call whose rule has run: the agreement is the entry of its outcome
+pub record Ran (choice : Choice) (words input memo₀ : List ℕ) (A place : ℕ) (memo : List ℕ) (agreed : ℕ) : Type 0 where
+  pub rule : Rule
+  pub selected : select (grammarOf words) (choice A place) ≡ some rule
+  pub sound : MemoSound choice words input memo
+  pub outcome : Outcome
+  pub ran : (n : ℕ) → level words input A place ≤ n → memoObey (deep choice words input n) input (some rule) place memo₀ ≡ memoized outcome memo
+  pub told : agreed ≡ outcomeCode outcome
+
+-- where two ways meet
+pub ran-as : {choice : Choice} {words input memo₀ : List ℕ} {A place : ℕ} {memo memo′ : List ℕ} {agreed agreed′ : ℕ} → memo′ ≡ memo → agreed′ ≡ agreed
+    → Ran choice words input memo₀ A place memo agreed → Ran choice words input memo₀ A place memo′ agreed′
+ran-as m a v = rw (m, a) v
 
 -- the rule goes on where a conjunct begins, and ends elsewhere
 goes : (s : Sign) (a : Agreement) → hasFailed a ≡ false → goesOn s a ≡ beginsBody s
@@ -369,10 +387,10 @@ failed-stops s (agreement.At e) h = absurd (false≢true h)
 failed-stops s agreement.Failed h = (refl, refl)
 
 module _ {choice : Choice} {words choices tokens input memo₀ : List ℕ} {A place : ℕ} (g : CallGiven choice words choices tokens input memo₀ A place)
-    {memo : List ℕ} {at word : ℕ} {agreed : Agreement} (v : Going choice words input memo₀ A place memo at word agreed) where
+    {memo : List ℕ} {at word agreed : ℕ} (v : Going choice words input memo₀ A place memo at word agreed) where
   module _ (begins : beginsBody (signOf (decoded word)) ≡ true) where
-    on : goesOn (signOf (decoded word)) agreed ≡ true
-    on = goes (signOf (decoded word)) agreed (v .lives) ∙ begins
+    on : goesOn (signOf (decoded word)) (agreementOf agreed) ≡ true
+    on = goes (signOf (decoded word)) (agreementOf agreed) (v .lives) ∙ begins
 
     pub going-conjunct : at < length words
     going-conjunct = rule-conjunct g (v .rule) on
@@ -380,19 +398,30 @@ module _ {choice : Choice} {words choices tokens input memo₀ : List ℕ} {A pl
     pub going-run : RunGiven choice words choices tokens input memo A (at + 1) place
     going-run = rule-run g (v .rule) on
 
-    module _ {o : Run} {memo′ : List ℕ} {agreed′ : Agreement} (d : RunDone choice words input memo A (at + 1) place o memo′)
-        (j : agreed′ ≡ joinedBy (conjunctSign word) agreed (decode (o .end))) where
-      joins : agreed′ ≡ joinedBy (signOf (decoded word)) agreed (decode (o .end))
-      joins = j ∙ ap (λ x. joinedBy x agreed (decode (o .end))) (conjunct-sign word begins)
+    module _ {o : Run} {memo′ : List ℕ} {agreed′ : ℕ} (d : RunDone choice words input memo A (at + 1) place o memo′)
+        (j : agreed′ ≡ agreementCode (joinedBy (conjunctSign word) (agreementOf agreed) (decode (o .end)))) where
+      joins : agreementOf agreed′ ≡ joinedBy (signOf (decoded word)) (agreementOf agreed) (decode (o .end))
+      joins =
+          let joined = joinedBy (conjunctSign word) (agreementOf agreed) (decode (o .end)) in
+          let low : (e : ℕ) → joined ≡ agreement.At e → e < failedCode = λ e q.
+          let l = ends-joined (length input) (conjunctSign word) (agreementOf agreed) (decode (o .end)) (v .rule .calling .ends) (d .within) e q in
+          omega (arith, l, g .given .short) in
+          ap agreementOf j ∙ code-told joined low ∙ ap (λ x. joinedBy x (agreementOf agreed) (decode (o .end))) (conjunct-sign word begins)
 
       -- the rule has failed
-      pub going-failed : hasFailed agreed′ ≡ true → (n : ℕ) → level words input A place ≤ n
-          → memoObey (deep choice words input n) input (some (v .rule .rule)) place memo₀ ≡ memoized Failed memo′
-      unfolding rule-turn
-      going-failed f n l =
+      pub going-failed : agreed′ ≡ failedCode → Ran choice words input memo₀ A place memo′ agreed′
+      unfolding rule-turn outcomeCode
+      going-failed f =
           let next = rule-turn g (v .rule) on d joins refl refl in
-          let k = failed-stops (signAt words (bodyEnd words (o .at))) agreed′ f in
-          rule-done g next (k .0) n l ∙ ap (λ x. memoized x memo′) (k .1)
+          let k = failed-stops (signAt words (bodyEnd words (o .at))) (agreementOf agreed′) (failed-told agreed′ f) in
+          record {
+            rule = v .rule .rule;
+            selected = v .rule .selected;
+            sound = d .sound;
+            outcome = Failed;
+            ran = λ n l. rule-done g next (k .0) n l ∙ ap (λ x. memoized x memo′) (k .1);
+            told = f;
+          }
 
       -- where the next word is
       module _ {at′ : ℕ} (b : at′ ≡ nextConjunct words (o .end) (o .at)) where
@@ -407,14 +436,20 @@ module _ {choice : Choice} {words choices tokens input memo₀ : List ℕ} {A pl
         pub going-falls : at < at′
         going-falls = omega (arith, d .skipped .on, ended)
 
-        pub going-turn : {word′ : ℕ} → word′ ≡ wordAt words at′ → hasFailed agreed′ ≡ false
+        pub going-turn : {word′ : ℕ} → word′ ≡ wordAt words at′ → (agreed′ ≡ failedCode → ⊥)
             → Going choice words input memo₀ A place memo′ at′ word′ agreed′
         going-turn {word′} w f = record {
           rule = rule-turn g (v .rule) on d joins ended (ap (λ x. signOf (decoded x)) w ∙ word-sign words at′);
-          lives = f;
+          lives = lives-told agreed′ f;
         }
 
-  -- the rule has run
-  pub going-done : beginsBody (signOf (decoded word)) ≡ false → (n : ℕ) → level words input A place ≤ n
-      → memoObey (deep choice words input n) input (some (v .rule .rule)) place memo₀ ≡ memoized (concluded agreed) memo
-  going-done stops = rule-done g (v .rule) (goes (signOf (decoded word)) agreed (v .lives) ∙ stops)
+  -- no conjunct is left
+  pub going-done : beginsBody (signOf (decoded word)) ≡ false → Ran choice words input memo₀ A place memo agreed
+  going-done stops = record {
+    rule = v .rule .rule;
+    selected = v .rule .selected;
+    sound = v .rule .calling .sound;
+    outcome = concluded (agreementOf agreed);
+    ran = rule-done g (v .rule) (goes (signOf (decoded word)) (agreementOf agreed) (v .lives) ∙ stops);
+    told = concluded-told agreed (not-open g (v .rule .calling) stops);
+  }

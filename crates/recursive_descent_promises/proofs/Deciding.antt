@@ -1,10 +1,11 @@
 -- From what is found of a grammar and an input to a descent, and from the descent to what the memo table then holds.
-use mathlib.Core.Path.{_≡_, refl, ap, _∙_}
+use mathlib.Core.Path.{_≡_, refl, sym, ap, _∙_}
 use mathlib.Core.List.{List, _++_}
 use Prim.Native.Nat.{ℕ, _+_, _*_, _≤_, _<_}
 use native.Mathlib.Numerals.{add-one}
 use native.Mathlib.Omega.{arith}
-use lib.ListN.{length, take, drop, length-replicate, getD-replicate}
+use lib.ListN.{length, replicate, take, drop, length-append, length-replicate, getD-replicate}
+use lib.Seq.{length-take-le, take-at, drop-at}
 use Rattle.grammar.specs.Codes.{uncalledCode}
 use Rattle.grammar.specs.Syntax.{Grammar}
 use Rattle.grammar.specs.Encoding.{grammarOf}
@@ -30,13 +31,16 @@ use Rattle.recognizer_promises.proofs.MemoWords.{words-recorded}
 use Rattle.event.specs.Events.{inputOf}
 use Rattle.event.proofs.Inputs.{input-length}
 use Rattle.descent_arrays.specs.contracts.Arrays.{heldTokens, rowAt}
-use Rattle.descent_choices.specs.contracts.Choices.{choicesOf, memoEntries}
+use Rattle.descent_choices.specs.contracts.Choices.{memoEntries}
 use Rattle.descent_tokens.specs.contracts.Tokens.{tokensOf}
 use Rattle.descent_tokens.proofs.TokenWords.{TokensGiven, TokensHold, column-few, tokens-hold}
 use Rattle.descent_choices.proofs.ChoiceRows.{Filled, entries-fit}
-use Rattle.recursive_descent_promises.specs.contracts.Descent.{MemoSound, StartGiven, StartRequires, StartEnsures}
+use Rattle.descent_preparation.specs.declared.Prepared.{Prepared}
+use Rattle.descent_preparation.specs.contracts.Preparation.{InputPrepared}
+use Rattle.recursive_descent_promises.specs.contracts.Descent.{MemoSound, CallGiven, CallRequires, CallEnsures}
 use Rattle.recursive_descent_promises.specs.contracts.Judging.{JudgeGiven}
 use Rattle.recursive_descent_promises.proofs.TableChoices.{rows-filled, choices-hold}
+use Rattle.recursive_descent_promises.proofs.Descending.{start-recorded}
 
 -- a memo table in which no call is recorded is sound
 pub blank-sound : (choice : Choice) (words input : List ℕ) → MemoSound choice words input (blank (grammarOf words) input)
@@ -81,57 +85,79 @@ module _ {k : Lookahead} {words : List ℕ} {z : Sizes} {choices memo : List ℕ
     t : TokensHold k (z .terminals) input tokens
     t = rw w (tokens-hold tokens-given)
 
-    begun : StartGiven choice words choices tokens input memo
+    begun : CallGiven choice words choices tokens input (blank G input) 0 0
     unfolding rowAt
     begun = record {
-      call = record {
-        given = record {
-          sizes = z;
-          read = admitted-read k words (ready .taken);
-          free = ready .free;
-          own = theorems .own-rules G n input;
-          rows = λ A a. f .rows A (omega (arith, r .nonterminals)) ∙ ap (λ n. A * n) (add-one (length input));
-          ends = λ A a. f .ends A (omega (arith, r .nonterminals));
-          columns = λ i h. omega (arith, t .columns i h, column-few tokens-given i);
-          firsts = choices-hold ready f (rw (← r .terminals) t);
-          terminals = t .terminals;
-          end = t .end;
-          short = ready .short;
-          sound = blank-sound choice words input;
-        };
-        named = some-nonterminal;
-        placed = omega arith;
+      given = record {
+        sizes = z;
+        read = admitted-read k words (ready .taken);
+        free = ready .free;
+        own = theorems .own-rules G n input;
+        rows = λ A a. f .rows A (omega (arith, r .nonterminals)) ∙ ap (λ n. A * n) (add-one (length input));
+        ends = λ A a. f .ends A (omega (arith, r .nonterminals));
+        columns = λ i h. omega (arith, t .columns i h, column-few tokens-given i);
+        firsts = choices-hold ready f (rw (← r .terminals) t);
+        terminals = t .terminals;
+        end = t .end;
+        short = ready .short;
+        sound = blank-sound choice words input;
       };
-      size = g .given .size;
+      named = some-nonterminal;
+      placed = omega arith;
     }
 
-    begun-held : StartGiven choice words choices tokens (heldTokens tokens) memo
-    begun-held = rw (t .input) begun
+    -- and no entry is written
+    module _ {blanked : List ℕ} (b : blanked ≡ replicate (length memo) uncalledCode) where
+      blank-is : blanked ≡ blank G input
+      blank-is = b ∙ ap (λ n. replicate n uncalledCode) (g .given .size)
 
-    pub start-given : StartRequires words choices tokens memo
-    start-given = (choice, begun-held)
+      begun-held : CallGiven choice words choices tokens (heldTokens tokens) blanked 0 0
+      begun-held = rw (t .input, blank-is) begun
 
-    module _ {memo′ : List ℕ} (ensured : StartEnsures words choices tokens memo memo′) where
-      pub recorded : Recorded G choice input memo′
-      recorded = rw (t .input) at (ensured choice begun-held)
+      pub start-given : CallRequires words choices tokens blanked 0 0
+      start-given = (choice, begun-held)
 
-      pub entries-left : memo′ ≡ memoWords k G input
-      entries-left = words-recorded k G input (r .formed .scoped) (ready .free) some-nonterminal recorded
+      module _ {entry : ℕ} {memo′ : List ℕ} (ensured : CallEnsures words choices tokens blanked 0 0 entry memo′) where
+        pub recorded : Recorded G choice input memo′
+        recorded = start-recorded begun (rw (t .input, blank-is) at (ensured choice begun-held))
 
--- what is found of a grammar that passes: in the front of the memo table, by the choices made of it
+        pub entries-left : memo′ ≡ memoWords k G input
+        entries-left = words-recorded k G input (r .formed .scoped) (ready .free) some-nonterminal recorded
+
+-- what is found of a grammar that passes: in the front of the memo table, by what is made of it
 module _ {k : Lookahead} {words : List ℕ} {z : Sizes} {starts entries memo : List ℕ} (events : List ℕ)
-    (g : PassedGiven k words z starts entries (inputOf events) memo) {needed : ℕ} (q : needed ≡ memoEntries (z .nonterminals) (length events)) where
-  needed-is : needed ≡ z .nonterminals * (length events + 1)
-  needed-is =
-      q ∙ entries-fit (z .nonterminals) (length events) (well-read words z (admitted-read k words (g .ready .taken)) .fewNonterminals)
+    (g : PassedGiven k words z starts entries (inputOf events) memo) {p : Prepared} {memo₁ : List ℕ}
+    (m : InputPrepared k z starts entries events memo p memo₁) where
+  abbrev needed : ℕ
+  needed = p .entries
+
+  entries-is : memoEntries (z .nonterminals) (length events) ≡ z .nonterminals * (length events + 1)
+  entries-is =
+      entries-fit (z .nonterminals) (length events) (well-read words z (admitted-read k words (g .ready .taken)) .fewNonterminals)
       (omega (arith, g .ready .short, input-length events))
 
-  pub needed-fits : needed ≤ length memo
-  needed-fits = omega (arith, needed-is, needed-room events g)
+  needed-is : needed ≡ z .nonterminals * (length events + 1)
+  needed-is = omega (arith, m .fitting, entries-is, needed-room events g)
 
-  judge-given : {choices : List ℕ} → choices ≡ choicesOf starts (z .nonterminals) (columnCount k (z .terminals)) entries (length events)
-      → JudgeGiven k words z choices (inputOf events) (take needed memo)
-  judge-given c = record {
+  needed-fits : needed ≤ length memo
+  needed-fits = omega (arith, m .fitting)
+
+  blank-long : length (replicate needed uncalledCode) ≡ needed
+  blank-long = length-replicate needed uncalledCode
+
+  pub prepared-fits : needed ≤ length memo₁
+  prepared-fits = rw (m .blank, length-append (replicate needed uncalledCode) (drop needed memo), blank-long) (omega arith)
+
+  part-is : take needed memo₁ ≡ replicate (length (take needed memo)) uncalledCode
+  part-is =
+      ap (take needed) (m .blank) ∙ take-at (replicate needed uncalledCode) (drop needed memo) needed blank-long
+      ∙ ap (λ n. replicate n uncalledCode) (sym (length-take-le needed memo needed-fits))
+
+  rest-is : drop needed memo₁ ≡ drop needed memo
+  rest-is = ap (drop needed) (m .blank) ∙ drop-at (replicate needed uncalledCode) (drop needed memo) needed blank-long
+
+  judge-given : JudgeGiven k words z (p .choices) (inputOf events) (take needed memo)
+  judge-given = record {
     given = record {
       ready = record {
         taken = g .ready .taken;
@@ -143,16 +169,15 @@ module _ {k : Lookahead} {words : List ℕ} {z : Sizes} {starts entries memo : L
       };
       size = rw needed-is (descend-given events g .size);
     };
-    made = rw (c, g .ready .begins, g .ready .entered, input-length events);
+    made = rw (m .choices, g .ready .begins, g .ready .entered, input-length events);
   }
 
-  -- so are the tokens, and the entries are left in front of what was there
-  module _ {choices tokens : List ℕ} (c : choices ≡ choicesOf starts (z .nonterminals) (columnCount k (z .terminals)) entries (length events))
-      (w : tokens ≡ tokensOf k (z .terminals) (inputOf events)) where
-    pub passed-start : StartRequires words choices tokens (take needed memo)
-    passed-start = start-given events (judge-given c) w
+  -- the start can be called, and its entries are left in front of what was there
+  pub prepared-start : CallRequires words (p .choices) (p .tokens) (take needed memo₁) 0 0
+  prepared-start = start-given events judge-given (m .tokens) part-is
 
-    pub passed-left : {part : List ℕ} → StartEnsures words choices tokens (take needed memo) part
-        → part ++ drop needed memo
-        ≡ memoWords k (grammarOf words) (inputOf events) ++ drop (length (memoWords k (grammarOf words) (inputOf events))) memo
-    passed-left d = rw needed-is (front-left events g (entries-left events (judge-given c) w d))
+  pub prepared-left : {entry : ℕ} {part : List ℕ} → CallEnsures words (p .choices) (p .tokens) (take needed memo₁) 0 0 entry part
+      → part ++ drop needed memo₁
+      ≡ memoWords k (grammarOf words) (inputOf events) ++ drop (length (memoWords k (grammarOf words) (inputOf events))) memo
+  prepared-left {entry} {part} d =
+      ap (λ y. part ++ y) rest-is ∙ rw needed-is (front-left events g (entries-left events judge-given (m .tokens) part-is d))

@@ -1,6 +1,6 @@
 -- Running a body: what the descent with a memo table gives for the rest of the body is what it gave for the whole.
 use mathlib.Core.Path.{_≡_, refl, sym, ap, _∙_}
-use mathlib.Core.Bool.{true, false, _&&_, false≢true}
+use mathlib.Core.Bool.{Bool, true, false, _&&_, false≢true}
 use mathlib.Core.List.{List, [], _∷_}
 use Prim.Native.Nat.{ℕ, _+_, _%_, _≤_, _<_}
 use native.Mathlib.Omega.{arith}
@@ -9,6 +9,7 @@ use native.Mathlib.Numerals.{add-one}
 use lib.Dec.{T, ltb, eqb}
 use lib.ListN.{length, getD, drop}
 use borrow.Author.Tests.{lt-ltb, le-ltb, ne-eqb, ltb-true}
+use Rattle.base.specs.Choice.{choose}
 use Rattle.base.proofs.Booleans.{and-first}
 use Rattle.word.specs.Words.{decoded}
 use Rattle.word.specs.declared.Symbol as grammar
@@ -35,13 +36,11 @@ use Rattle.semantics.specs.contracts.Memo.{decode}
 use Rattle.semantics.proofs.meaning.Rank.{level-onward}
 use Rattle.semantics.proofs.descent.Outcomes.{end-ends}
 use Rattle.semantics.proofs.descent.Ends.{descend-forward, descend-null}
-use Rattle.rule.specs.declared.Outcome as code
-use Rattle.rule.specs.declared.Outcome.the-variants as outcome
-use Rattle.rule.specs.contracts.Rule.{meant, isSymbol, bodyEnd}
+use Rattle.rule.specs.contracts.Rule.{isSymbol, bodyEnd}
 use Rattle.rule.proofs.Bodies.{body-stops}
 use Rattle.descent_steps.specs.declared.Step.the-variants as step
 use Rattle.descent_steps.specs.declared.Step.the-variants.{Over}
-use Rattle.descent_steps.specs.contracts.Steps.{stepOf}
+use Rattle.descent_steps.specs.contracts.Steps.{stepOf, endBehind}
 use Rattle.descent_steps.proofs.Steps.{terminal-word, nonterminal-word, symbol-step}
 use Rattle.grammar.specs.Limits.{maxNonterminals}
 use Rattle.recursive_descent_promises.specs.declared.Run.{Run}
@@ -78,11 +77,16 @@ pub record Running (choice : Choice) (words input memo₀ : List ℕ) (A from st
   pub unclosed : isClosed (progress .state) ≡ false
   pub skipped : Skipped words from at
 
+-- the symbol before an index has been read, and gave an entry: the run goes on from its end, or has failed
+pub record Read (choice : Choice) (words input memo₀ : List ℕ) (A from start : ℕ) (memo : List ℕ) (at entry : ℕ) : Type 0 where
+  pub sound : MemoSound choice words input memo
+  pub goes : (e : ℕ) → decode entry ≡ End e → Running choice words input memo₀ A from start memo at e
+  pub fails : decode entry ≡ Failed → RunDone choice words input memo₀ A from start (stopped failedCode at) memo
+
 -- where two ways meet
-pub running-as : {choice : Choice} {words input memo₀ : List ℕ} {A from start : ℕ} {memo memo′ : List ℕ} {at place place′ : ℕ} → memo′ ≡ memo
-    → place′ ≡ place
-    → Running choice words input memo₀ A from start memo at place → Running choice words input memo₀ A from start memo′ at place′
-running-as m p v = rw (m, p) v
+pub read-as : {choice : Choice} {words input memo₀ : List ℕ} {A from start : ℕ} {memo memo′ : List ℕ} {at entry entry′ : ℕ} → memo′ ≡ memo
+    → entry′ ≡ entry → Read choice words input memo₀ A from start memo at entry → Read choice words input memo₀ A from start memo′ at entry′
+read-as m p v = rw (m, p) v
 
 module _ {choice : Choice} {words choices tokens input memo₀ : List ℕ} {A from start : ℕ}
     (g : RunGiven choice words choices tokens input memo₀ A from start) where
@@ -226,9 +230,9 @@ module _ {choice : Choice} {words choices tokens input memo₀ : List ℕ} {A fr
     running-token = token-is g place a (v .placed) (own-here (Terminal a) running-within terminal-there .0)
 
     -- a token that is the terminal
-    pub running-terminal : matchesAt tokens place a ≡ true → Running choice words input memo₀ A from start memo (at + 1) (place + 1)
+    matched-goes : matchesAt tokens place a ≡ true → Running choice words input memo₀ A from start memo (at + 1) (place + 1)
     unfolding memoRun
-    running-terminal matched =
+    matched-goes matched =
         let m : (ltb place (length input) && eqb (getD input place 0) a) ≡ true = sym running-token ∙ matched in
         let l : place < length input = ltb-true place (length input) (and-first (ltb place (length input)) (eqb (getD input place 0) a) m) in
         record {
@@ -246,15 +250,43 @@ module _ {choice : Choice} {words choices tokens input memo₀ : List ℕ} {A fr
         }
 
     -- another token, or the end
-    pub running-mismatch : matchesAt tokens place a ≡ false → RunDone choice words input memo₀ A from start (stopped failedCode (at + 1)) memo
+    mismatch-fails : matchesAt tokens place a ≡ false → RunDone choice words input memo₀ A from start (stopped failedCode (at + 1)) memo
     unfolding body-at memoRun
-    running-mismatch m = record {
+    mismatch-fails m = record {
       model = λ n k. rest-here (Terminal a) running-within terminal-there n k ∙ rw (sym running-token ∙ m, failed-code);
       sound = v .sound;
       within = λ e q. absurd (failed-end e (sym failed-code ∙ q));
       skipped = next-skipped (Terminal a) running-within terminal-there;
       over = λ n. absurd (n refl);
     }
+
+    -- by the word of the token
+    pub terminal-read : {token end : ℕ} → token ≡ getD tokens place 0 → end ≡ endBehind token a place
+        → Read choice words input memo₀ A from start memo (at + 1) end
+    unfolding endBehind matchesAt
+    terminal-read {token} {end} t e = go (matchesAt tokens place a) refl (e ∙ rw (t, small))
+      where
+        low : place + 1 < failedCode
+        low = omega (arith, v .placed, g .call .given .short)
+
+        small : (place + 1) % 65536 ≡ place + 1
+        small = omega (arith, low)
+
+        behind : decode (place + 1) ≡ End (place + 1)
+        behind = end-code (place + 1) (λ q. omega (arith, low, q))
+
+        go : (b : Bool) → matchesAt tokens place a ≡ b → end ≡ choose b (place + 1) failedCode
+            → Read choice words input memo₀ A from start memo (at + 1) end
+        go true m q = record {
+          sound = v .sound;
+          goes = λ e d. rw (sym (end-same (place + 1) e (sym behind ∙ ap decode (sym q) ∙ d))) (matched-goes m);
+          fails = λ f. absurd (failed-end (place + 1) (sym f ∙ ap decode q ∙ behind));
+        }
+        go false m q = record {
+          sound = v .sound;
+          goes = λ e d. absurd (failed-end e (sym failed-code ∙ ap decode (sym q) ∙ d));
+          fails = λ _. mismatch-fails m;
+        }
 
   module _ (B : ℕ) (step : stepOf (decoded (getD words at 0)) ≡ step.Nonterminal B) where
     nonterminal-there : decoded (getD words at 0) ≡ Symbol (Nonterminal B)
@@ -298,19 +330,18 @@ module _ {choice : Choice} {words choices tokens input memo₀ : List ℕ} {A fr
     forward e t = descend-forward (grammarOf words) choice input (g .call .given .own) B place e (v .placed) t
 
     -- its outcome, by the entry that the call returns
-    module _ {entry : ℕ} {memo′ : List ℕ} (d : CallDone choice words input memo B place entry memo′) (o : code.Outcome)
-        (recalled : meant o ≡ decode entry) where
-      means : meant o ≡ came
-      means = recalled ∙ ap decode (d .told) ∙ decode-encode (length input) came (omega (arith, g .call .given .short)) (λ e t. forward e t .1)
+    module _ {entry : ℕ} {memo′ : List ℕ} (d : CallDone choice words input memo B place entry memo′) where
+      means : decode entry ≡ came
+      means = ap decode (d .told) ∙ decode-encode (length input) came (omega (arith, g .call .given .short)) (λ e t. forward e t .1)
 
       called : (n : ℕ) → level words input A start ≤ n → deep choice words input n B place memo ≡ memoized came memo′
       called n l = d .model n (omega (arith, running-falls))
 
       -- one that ends
-      pub running-call : (e : ℕ) → o ≡ outcome.End e → Running choice words input memo₀ A from start memo′ (at + 1) e
+      call-goes : (e : ℕ) → decode entry ≡ End e → Running choice words input memo₀ A from start memo′ (at + 1) e
       unfolding memoRun andThen
-      running-call e q =
-          let m : came ≡ End e = sym means ∙ ap meant q in
+      call-goes e q =
+          let m : came ≡ End e = sym means ∙ q in
           let f = forward e (end-ends came e m) in
           record {
             behind = omega (arith, v .behind);
@@ -333,12 +364,15 @@ module _ {choice : Choice} {words choices tokens input memo₀ : List ℕ} {A fr
           }
 
       -- one that fails
-      pub running-failed : o ≡ outcome.Failed → RunDone choice words input memo₀ A from start (stopped failedCode (at + 1)) memo′
+      call-fails : decode entry ≡ Failed → RunDone choice words input memo₀ A from start (stopped failedCode (at + 1)) memo′
       unfolding body-at memoRun andThen
-      running-failed q = record {
-        model = λ n l. rest-here (Nonterminal B) running-within nonterminal-there n l ∙ rw (called n l, sym means ∙ ap meant q, failed-code);
+      call-fails q = record {
+        model = λ n l. rest-here (Nonterminal B) running-within nonterminal-there n l ∙ rw (called n l, sym means ∙ q, failed-code);
         sound = d .sound;
         within = λ e q. absurd (failed-end e (sym failed-code ∙ q));
         skipped = next-skipped (Nonterminal B) running-within nonterminal-there;
         over = λ n. absurd (n refl);
       }
+
+      pub call-read : Read choice words input memo₀ A from start memo′ (at + 1) entry
+      call-read = record { sound = d .sound; goes = call-goes; fails = call-fails }

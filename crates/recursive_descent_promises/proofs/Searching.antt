@@ -35,15 +35,15 @@ use Rattle.memo_table.proofs.Tallying.{count-recorded}
 use Rattle.descent_choices.specs.contracts.Choices.{choicesOf, memoEntries}
 use Rattle.descent_choices.proofs.ChoiceRows.{entries-fit}
 use Rattle.descent_tokens.specs.contracts.Tokens.{tokensOf}
-use Rattle.trial_tokens.specs.contracts.Trials.{TrialMade}
+use Rattle.descent_preparation.specs.contracts.Preparation.{TrialPrepared}
 use Rattle.recognizer_promises.specs.Memory.{memoWords}
 use Rattle.recognizer_promises.specs.CostliestInput.{callsOn}
 use Rattle.recognizer_promises.specs.contracts.Search.{SearchGiven, BestLeft}
 use Rattle.recognizer_promises.proofs.Judged.{memo-count}
-use Rattle.recursive_descent_promises.specs.contracts.Descent.{StartRequires, StartEnsures}
+use Rattle.recursive_descent_promises.specs.contracts.Descent.{CallRequires, CallEnsures}
 use Rattle.recursive_descent_promises.specs.contracts.Judging.{JudgeGiven}
 use Rattle.recursive_descent_promises.proofs.Deciding.{start-given, recorded, entries-left}
-use Rattle.recursive_descent_promises.specs.contracts.Search.{TrialGiven, NumberGiven, CostliestLeft}
+use Rattle.recursive_descent_promises.specs.contracts.Search.{TrialGiven, NumberGiven, Tried, CostliestLeft}
 
 module _ {words : List ℕ} {z : Sizes} {choices events memo : List ℕ} (g : TrialGiven words z choices events memo) where
   abbrev G : Grammar
@@ -101,8 +101,8 @@ module _ {words : List ℕ} {z : Sizes} {choices events memo : List ℕ} (g : Tr
     }
 
 -- as a search tries it
-module _ {words choices : List ℕ} {last : ℕ} {events memo : List ℕ} (g : NumberGiven words choices last events memo) (number : ℕ) {e tokens : List ℕ}
-    (m : TrialMade last (length events) number e tokens) where
+module _ {words choices : List ℕ} {last : ℕ} {events memo : List ℕ} (g : NumberGiven words choices last events memo) (number : ℕ)
+    {e tokens blanked : List ℕ} (m : TrialPrepared last (length events) number memo e tokens blanked) where
   trial-written : e ≡ inputAt (g .sizes .terminals - 1 + 1) (length events) number
   trial-written =
       let q : last + 1 ≡ g .sizes .terminals - 1 + 1 = omega (arith, g .highest) in
@@ -114,14 +114,18 @@ module _ {words choices : List ℕ} {last : ℕ} {events memo : List ℕ} (g : N
   trial-made : tokens ≡ tokensOf One (g .sizes .terminals) (inputOf e)
   trial-made = m .made ∙ ap (λ n. tokensOf One n (inputOf e)) (g .highest)
 
-  pub trial-start : StartRequires words choices tokens memo
-  trial-start = start-given e trial-judged trial-made
+  pub trial-start : CallRequires words choices tokens blanked 0 0
+  trial-start = start-given e trial-judged trial-made (m .blank)
 
-  pub trial-counted : {r : ℕ} {memo′ : List ℕ} → StartEnsures words choices tokens memo memo′ → r ≡ recordedBelow memo′ (length memo′)
-      → r ≡ callsOn (grammarOf words) (inputAt (grammarOf words .terminals) (length events) number)
-  trial-counted d c =
-      count-recorded (recorded e trial-judged trial-made d) c
-      ∙ ap (callsOn (grammarOf words)) (own (g .given) number trial-written ∙ named (g .given) number trial-written)
+  pub trial-done : {entry r : ℕ} {memo′ : List ℕ} → CallEnsures words choices tokens blanked 0 0 entry memo′ → r ≡ recordedBelow memo′ (length memo′)
+      → Tried words (length events) number r e memo′
+  trial-done d c =
+      let same = own (g .given) number trial-written in
+      record {
+        written = named (g .given) number trial-written;
+        entries = entries-left e trial-judged trial-made (m .blank) d ∙ ap (memoWords One (grammarOf words)) same;
+        counted = count-recorded (recorded e trial-judged trial-made (m .blank) d) c ∙ ap (callsOn (grammarOf words)) same;
+      }
 
 -- the search, in the memory of now
 pub record Searching (words events₀ memo₀ events memo : List ℕ) (t : Trials) : Type 0 where
@@ -152,12 +156,11 @@ module _ {words : List ℕ} {z : Sizes} {choices events memo : List ℕ} (g : Tr
       few = rw (s .same-length) (g .few);
     }
 
-    pub searching-next : t .next < inputs → {calls : ℕ} {t′ : Trials} {events₂ memo₂ : List ℕ}
-        → calls ≡ callsOn (G g) (inputAt (n g) (length events₁) (t .next))
+    pub searching-next : t .next < inputs → {calls : ℕ} {t′ : Trials} {events₂ memo₂ : List ℕ} → Tried words (length events₁) (t .next) calls events₂ memo₂
         → length events₂ ≡ length events₁ → length memo₂ ≡ length memo₁
         → t′ ≡ triedNext t calls
         → Searching words events memo events₂ memo₂ t′
-    searching-next h {calls} {t′} cost same-events same-memo q = record {
+    searching-next h {calls} {t′} d same-events same-memo q = record {
       searched = rw (q, one-more) (go (ltb (t .calls) calls) refl);
       same-length = same-events ∙ s .same-length;
       same-memo = same-memo ∙ s .same-memo;
@@ -170,7 +173,7 @@ module _ {words : List ℕ} {z : Sizes} {choices events memo : List ℕ} (g : Tr
         one-more = omega (arith, few-inputs e)
 
         counted : calls ≡ callsOn (G g) (inputAt (n g) (length events) (t .next))
-        counted = cost ∙ ap (λ j. callsOn (G g) (inputAt (n g) j (t .next))) (s .same-length)
+        counted = d .counted ∙ ap (callsOn (G g)) (d .written ∙ ap (λ j. inputAt (n g) j (t .next)) (s .same-length))
 
         go : (b : Bool) → ltb (t .calls) calls ≡ b
             → Searched (callsOn (G g)) (n g) (length events) (t .next + 1) (choose b (t .next) (t .best)) (choose b calls (t .calls))
@@ -181,23 +184,15 @@ module _ {words : List ℕ} {z : Sizes} {choices events memo : List ℕ} (g : Tr
     pub searching-less : t .next < inputs → (calls : ℕ) {t′ : Trials} → t′ ≡ triedNext t calls → inputs - t′ .next < inputs - t .next
     searching-less h calls q = rw q (omega (arith, few-inputs e))
 
-    -- the costliest is run on last
-    module _ {events₂ tokens₂ : List ℕ} (w : events₂ ≡ inputAt (z .terminals - 1 + 1) (length events₁) (t .best))
-        (m : tokens₂ ≡ tokensOf One (z .terminals) (inputOf events₂)) where
-      best-judged : JudgeGiven One words z choices (inputOf events₂) memo₁
-      best-judged = number-given searching-given (t .best) w
-
-      pub best-start : StartRequires words choices tokens₂ memo₁
-      best-start = start-given events₂ best-judged m
-
-      pub searching-done : inputs ≤ t .next → {memo₂ : List ℕ} → StartEnsures words choices tokens₂ memo₁ memo₂
-          → CostliestLeft words (length events) events₂ memo₂
-      searching-done h d =
-          let found = searched-all (callsOn (G g)) (n g) (some-token g) (length events) (s .searched) (omega (arith, all-counted e)) in
-          record {
-            written = named searching-given (t .best) w ∙ ap (λ j. inputAt (n g) j (t .best)) (s .same-length) ∙ found;
-            entries = entries-left events₂ best-judged m d ∙ ap (memoWords One (grammarOf words)) (own searching-given (t .best) w);
-          }
+    -- the costliest is tried last
+    pub searching-done : inputs ≤ t .next → {calls : ℕ} {events₂ memo₂ : List ℕ} → Tried words (length events₁) (t .best) calls events₂ memo₂
+        → CostliestLeft words (length events) events₂ memo₂
+    searching-done h d =
+        let found = searched-all (callsOn (G g)) (n g) (some-token g) (length events) (s .searched) (omega (arith, all-counted e)) in
+        record {
+          written = d .written ∙ ap (λ j. inputAt (n g) j (t .best)) (s .same-length) ∙ found;
+          entries = d .entries;
+        }
 
 -- what is found of a grammar that passes: in the front of the memo table, by the choices made of it for that many tokens
 module _ {words : List ℕ} {z : Sizes} {starts entries events memo : List ℕ} (g : SearchGiven words z starts entries events memo) {tokens needed : ℕ}

@@ -30,14 +30,13 @@ use Rattle.semantics.specs.Memo.{outcomeCode}
 use Rattle.semantics.specs.contracts.MemoDescent.{MemoCalls, memoized, memoPositives, memoRule, memoObey}
 use Rattle.semantics.proofs.descent.Outcomes.{nth-below, nth-mem}
 use Rattle.rule.specs.declared.Sign.{Sign}
-use Rattle.rule.specs.declared.Agreement.{Agreement}
 use Rattle.rule.specs.declared.Sign.the-variants.{Positive, Negative, Neither}
 use Rattle.rule.proofs.Signs.{sign-number, sign-negative, sign-within}
-use Rattle.rule.proofs.Agreements.{opening-ends, opening-open}
+use Rattle.rule.proofs.Agreements.{opening-ends, opening-open, code-told}
 use Rattle.recursive_descent_promises.proofs.Bodies.{parse-here}
 use Rattle.recursive_descent_promises.proofs.Running.{deep}
 use Rattle.grammar.proofs.WellFormed.{reads}
-use Rattle.rule.specs.contracts.Rule.{signOf, signAt, hasFailed, openingBy}
+use Rattle.rule.specs.contracts.Rule.{Agreement, At, signOf, signAt, hasFailed, openingBy, agreementCode, agreementOf}
 use Rattle.descent_steps.specs.contracts.Steps.{wordAt, conjunctSign}
 use Rattle.descent_steps.proofs.Conjuncts.{conjunct-opens, word-sign}
 use Rattle.descent_arrays.specs.contracts.Arrays.{endAt, firstAt}
@@ -187,10 +186,13 @@ module _ {choice : Choice} {words choices tokens input memo : List ℕ} {A place
     calling = calling-start k (s ∙ ap (signAt words) (k .behind));
   })
 
-  pub start-going : {at : ℕ} (k : Chosen at) {word end : ℕ} {agreed : Agreement} → word ≡ wordAt words at → end ≡ endAt choices A
-      → agreed ≡ openingBy (conjunctSign word) end → Going choice words input memo A place memo at word agreed
-  start-going {at} k {word} w e o =
-      let same = o ∙ ap (openingBy (conjunctSign word)) e ∙ conjunct-opens word (endAt choices A) in
+  pub start-going : {at : ℕ} (k : Chosen at) {word end agreed : ℕ} → word ≡ wordAt words at → end ≡ endAt choices A
+      → agreed ≡ agreementCode (openingBy (conjunctSign word) end) → Going choice words input memo A place memo at word agreed
+  start-going {at} k {word} {end} w e o =
+      let low : (x : ℕ) → openingBy (conjunctSign word) end ≡ At x → x < failedCode = λ x q.
+      omega (arith, opening-ends (conjunctSign word) end x q, e, g .given .ends A (g .named), g .given .short) in
+      let same = ap agreementOf o ∙ code-told (openingBy (conjunctSign word) end) low ∙ ap (openingBy (conjunctSign word)) e
+      ∙ conjunct-opens word (endAt choices A) in
       record {
         rule = start-rule k (ap (λ x. signOf (decoded x)) w ∙ word-sign words at) same;
         lives = ap hasFailed same ∙ opening-lives (signOf (decoded word)) (endAt choices A);

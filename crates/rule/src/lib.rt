@@ -1,16 +1,12 @@
-// The bodies of a rule, run one after the other: where they end, and how they come to agree on an end.
+// How the bodies of a rule, run one after the other, come to agree on an end: where a body ends, and agreements as entries of the memo table.
 ghost use mathlib.Core.Path.{_≡_};
-ghost use Rattle.semantics.specs.Descent.{endsAt};
+ghost use Rattle.semantics.specs.contracts.Memo.{decode as outcomeOf};
 ghost use Rattle.rule.specs.declared.Sign.the-variants.{Positive, Negative};
-ghost use Rattle.rule.specs.contracts.Rule.{meant, bodyEnd, hasFailed, openingBy, openedBy, keptBy, joinedBy, concluded};
+ghost use Rattle.rule.specs.contracts.Rule.{bodyEnd, openingBy, keptBy, joinedBy, agreementCode, agreementOf};
+use grammar::codes::FAILED;
+use grammar::codes::UNCALLED;
 use word::Word;
 use word::decode;
-
-// (document 01: a name's result, failed or an end)
-pub enum Outcome {
-    Failed,
-    End(u16),
-}
 
 // What a word begins: a positive conjunct, a negative one, or neither.
 pub enum Sign {
@@ -19,12 +15,8 @@ pub enum Sign {
     Neither,
 }
 
-// Where the bodies of a rule that have run agree to end.
-pub enum Agreement {
-    Open,
-    At(u16),
-    Failed,
-}
+// The agreement before the first body. Any other is the entry of what the bodies that have run agree on: that they failed, or an end.
+const OPEN: u16 = UNCALLED;
 
 // Where the body at an index ends.
 pub fn body_end(words: &[u32], from: usize) -> usize
@@ -41,95 +33,53 @@ pub fn body_end(words: &[u32], from: usize) -> usize
     at
 }
 
-// Whether the rule has failed: no further body is then run.
-pub fn has_failed(agreement: Agreement) -> bool
-    ensures { λ r. ⌜ r ≡ hasFailed agreement ⌝ }
-{
-    match agreement {
-        Agreement::Open => false,
-        Agreement::At(_) => false,
-        Agreement::Failed => true,
-    }
-}
-
-fn ends_at(outcome: Outcome, place: u16) -> bool
-    ensures { λ r. ⌜ r ≡ endsAt (meant outcome) place ⌝ }
-{
-    match outcome {
-        Outcome::Failed => false,
-        Outcome::End(end) => end == place,
-    }
-}
-
 // Before the first body: a rule that begins with a negative conjunct has no positive one, and takes all up to the input's end.
-pub fn opening(sign: Sign, end: u16) -> Agreement
-    ensures { λ r. ⌜ r ≡ openingBy sign end ⌝ }
+pub fn opening(sign: Sign, end: u16) -> u16
+    ensures { λ r. ⌜ r ≡ agreementCode (openingBy sign end) ⌝ }
 {
     match sign {
-        Sign::Positive => Agreement::Open,
-        Sign::Negative => Agreement::At(end),
-        Sign::Neither => Agreement::Open,
-    }
-}
-
-// The first body sets the end.
-fn opened(outcome: Outcome) -> Agreement
-    ensures { λ r. ⌜ r ≡ openedBy (meant outcome) ⌝ }
-{
-    match outcome {
-        Outcome::Failed => Agreement::Failed,
-        Outcome::End(end) => Agreement::At(end),
+        Sign::Positive => OPEN,
+        Sign::Negative => end,
+        Sign::Neither => OPEN,
     }
 }
 
 // A later positive body has to end there.
-fn kept_positive(end: u16, there: bool) -> Agreement
-    ensures { λ r. ⌜ r ≡ keptBy Positive end there ⌝ }
+fn kept_positive(end: u16, there: bool) -> u16
+    ensures { λ r. ⌜ r ≡ agreementCode (keptBy Positive end there) ⌝ }
 {
-    if !there {
-        return Agreement::Failed;
+    if there {
+        return end;
     }
-    Agreement::At(end)
+    FAILED
 }
 
 // A negative body must not end there.
-fn kept_negative(end: u16, there: bool) -> Agreement
-    ensures { λ r. ⌜ r ≡ keptBy Negative end there ⌝ }
+fn kept_negative(end: u16, there: bool) -> u16
+    ensures { λ r. ⌜ r ≡ agreementCode (keptBy Negative end there) ⌝ }
 {
     if there {
-        Agreement::Failed
-    } else {
-        Agreement::At(end)
+        return FAILED;
     }
+    end
 }
 
-fn kept(sign: Sign, end: u16, there: bool) -> Agreement
-    ensures { λ r. ⌜ r ≡ keptBy sign end there ⌝ }
+fn kept(sign: Sign, end: u16, there: bool) -> u16
+    ensures { λ r. ⌜ r ≡ agreementCode (keptBy sign end there) ⌝ }
 {
     match sign {
         Sign::Positive => kept_positive(end, there),
         Sign::Negative => kept_negative(end, there),
-        Sign::Neither => Agreement::Failed,
+        Sign::Neither => FAILED,
     }
 }
 
-// The agreement after one body more.
-pub fn joined(sign: Sign, agreement: Agreement, outcome: Outcome) -> Agreement
-    ensures { λ r. ⌜ r ≡ joinedBy sign agreement (meant outcome) ⌝ }
+// The agreement after one body more, by the entry of its outcome: the first body sets the end.
+pub fn joined(sign: Sign, agreement: u16, entry: u16) -> u16
+    ensures { λ r. ⌜ r ≡ agreementCode (joinedBy sign (agreementOf agreement) (outcomeOf entry)) ⌝ }
 {
-    match agreement {
-        Agreement::Open => opened(outcome),
-        Agreement::At(end) => kept(sign, end, ends_at(outcome, end)),
-        Agreement::Failed => Agreement::Failed,
+    if agreement == OPEN {
+        return entry;
     }
-}
-
-pub fn conclude(agreement: Agreement) -> Outcome
-    ensures { λ r. ⌜ meant r ≡ concluded agreement ⌝ }
-{
-    match agreement {
-        Agreement::Open => Outcome::Failed,
-        Agreement::At(end) => Outcome::End(end),
-        Agreement::Failed => Outcome::Failed,
-    }
+    kept(sign, agreement, entry == agreement)
 }

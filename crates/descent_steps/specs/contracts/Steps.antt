@@ -1,6 +1,6 @@
 -- What a body does at a word, and how a rule goes from conjunct to conjunct.
 use mathlib.Core.List.{List}
-use Prim.Native.Nat.{ℕ}
+use Prim.Native.Nat.{ℕ, _+_, _%_}
 use lib.Dec.{ltb, eqb}
 use lib.ListN.{length, getD}
 use Rattle.base.specs.Choice.{choose}
@@ -9,11 +9,20 @@ use Rattle.word.specs.declared.Symbol.the-variants as symbol
 use Rattle.word.specs.declared.Word.{Word}
 use Rattle.word.specs.declared.Word.the-variants as word
 use Rattle.grammar.specs.Codes.{failedCode}
+use Rattle.semantics.specs.Descent as semantics
 use Rattle.rule.specs.declared.Sign.{Sign}
 use Rattle.rule.specs.declared.Sign.the-variants.{Positive, Negative}
 use Rattle.rule.specs.contracts.Rule.{bodyEnd}
+use Rattle.descent_arrays.specs.contracts.Arrays.{columnWeight}
+use Rattle.descent_steps.specs.declared.entry.Outcome as code
+use Rattle.descent_steps.specs.declared.entry.Outcome.the-variants as outcome
 use Rattle.descent_steps.specs.declared.Step.{Step}
 use Rattle.descent_steps.specs.declared.Step.the-variants.{Terminal, Nonterminal, Over}
+
+-- the outcome that a value of the code stands for
+abbrev pub meant : code.Outcome → semantics.Outcome
+meant outcome.Failed = semantics.Failed
+meant (outcome.End e) = semantics.End e
 
 abbrev pub symbolStep : Symbol → Step
 symbolStep (symbol.Terminal a) = Terminal a
@@ -27,6 +36,10 @@ stepOf (word.Rule A) = Over
 stepOf word.End = Over
 stepOf (word.Heading n t) = Over
 stepOf word.Invalid = Over
+
+-- the place behind a token that is a terminal, by its word; places are counted in 16 bits
+unfoldable pub endBehind : ℕ → ℕ → ℕ → ℕ
+endBehind token terminal place = choose (eqb (token % columnWeight) terminal) ((place + 1) % 65536) failedCode
 
 -- the word at an index; where the words end, one that begins nothing
 unfoldable pub wordAt : List ℕ → ℕ → ℕ

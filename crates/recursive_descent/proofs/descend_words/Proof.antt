@@ -3,7 +3,7 @@ use mathlib.Core.Path.{sym}
 use Rattle.event.specs.Events.{inputOf}
 use lib.Seq.{length-take-le}
 use Rattle.recognizer_promises.proofs.Judged.{words-refused, passed-given, words-descended}
-use Rattle.recursive_descent_promises.proofs.Deciding.{needed-fits, passed-start, passed-left}
+use Rattle.recursive_descent_promises.proofs.Deciding.{prepared-fits, prepared-start, prepared-left}
 use borrow.Author.Needs.{needs}
 use Rattle.recursive_descent.proofs.descend_words.Statement.{statement}
 use Rattle.recursive_descent.proofs.descend_words.Tie as tie
@@ -24,68 +24,46 @@ returns c =
     words-refused (given .lookahead) (given .words .now) (inputOf (given .events .now)) (given .memo .now) (looked .find-for-input .ensures)
     (c .enum-told .given .1)
 
-table-choices-requires : tie.Need-table-choices-requires
-table-choices-requires c κs = tt
+prepare-input-requires : tie.Need-prepare-input-requires
+prepare-input-requires c κs = tt
 
-tokens-of-requires : tie.Need-tokens-of-requires
-tokens-of-requires c κs = tt
+slice-relend-prefix-call : tie.Need-slice-relend-prefix-call
+slice-relend-prefix-call c = search needs
 
-entries-of-requires : tie.Need-entries-of-requires
-entries-of-requires c κs = tt
-
-slice-relend-prefix-descend : tie.Need-slice-relend-prefix-descend
-slice-relend-prefix-descend c =
-    let sized = c .before .before in
-    let read = sized .before in
-    let chosen = read .before in
-    let passed = chosen .before .before .before .before .before in
+slice-aggregate-call : tie.Need-slice-aggregate-call
+slice-aggregate-call c =
+    let prepared = c .before .before .before .before .before .before in
+    let passed = prepared .before .before .before .before .before .before in
     let looked = passed .before .before in
     let given = looked .before .before .before .before .args in
     let found = passed-given (given .lookahead) (given .words .now) (inputOf (given .events .now)) (given .memo .now) (looked .find-for-input .ensures)
     (passed .finding .given .1) in
-    needed-fits (given .events .now) found (sized .entries-of .ensures)
+    sym (length-take-le _ _ (prepared-fits (given .events .now) found (prepared .prepare-input .ensures)))
 
-slice-aggregate-descend : tie.Need-slice-aggregate-descend
-slice-aggregate-descend c =
-    let sized = c .before .before .before in
-    let read = sized .before in
-    let chosen = read .before in
-    let passed = chosen .before .before .before .before .before in
+call-requires : tie.Need-call-requires
+call-requires c κs =
+    let prepared = c .before .before .before .before .before .before in
+    let passed = prepared .before .before .before .before .before .before in
     let looked = passed .before .before in
     let given = looked .before .before .before .before .args in
     let found = passed-given (given .lookahead) (given .words .now) (inputOf (given .events .now)) (given .memo .now) (looked .find-for-input .ensures)
     (passed .finding .given .1) in
-    sym (length-take-le (sized .entries-of .result) (given .memo .now) (needed-fits (given .events .now) found (sized .entries-of .ensures)))
-
-descend-requires : tie.Need-descend-requires
-descend-requires c κs =
-    let sized = c .before .before .before in
-    let read = sized .before in
-    let chosen = read .before in
-    let passed = chosen .before .before .before .before .before in
-    let looked = passed .before .before in
-    let given = looked .before .before .before .before .args in
-    let found = passed-given (given .lookahead) (given .words .now) (inputOf (given .events .now)) (given .memo .now) (looked .find-for-input .ensures)
-    (passed .finding .given .1) in
-    passed-start (given .events .now) found (sized .entries-of .ensures) (chosen .table-choices .ensures) (read .tokens-of .ensures)
+    prepared-start (given .events .now) found (prepared .prepare-input .ensures)
 
 same-length : tie.Need-same-length
 same-length c = search needs
 
 returns-2 : tie.Need-returns-2
 returns-2 c =
-    let ran = c .before .before in
-    let sized = ran .before .before .before .before in
-    let read = sized .before in
-    let chosen = read .before in
-    let passed = chosen .before .before .before .before .before in
+    let called = c .before .before in
+    let prepared = called .before .before .before .before .before .before .before in
+    let passed = prepared .before .before .before .before .before .before in
     let looked = passed .before .before in
     let given = looked .before .before .before .before .args in
     let found = passed-given (given .lookahead) (given .words .now) (inputOf (given .events .now)) (given .memo .now) (looked .find-for-input .ensures)
     (passed .finding .given .1) in
     words-descended (given .lookahead) (given .words .now) (inputOf (given .events .now)) (given .memo .now) (looked .find-for-input .ensures)
-    (passed .finding .given .1)
-    (passed-left (given .events .now) found (sized .entries-of .ensures) (chosen .table-choices .ensures) (read .tokens-of .ensures) (ran .descend .ensures))
+    (passed .finding .given .1) (prepared-left (given .events .now) found (prepared .prepare-input .ensures) (called .call .ensures))
 
 pub descend-words-spec : {M : Type 1} → statement M
 descend-words-spec =
@@ -95,11 +73,9 @@ descend-words-spec =
     enum-known-finding
     enum-told
     returns
-    table-choices-requires
-    tokens-of-requires
-    entries-of-requires
-    slice-relend-prefix-descend
-    slice-aggregate-descend
-    descend-requires
+    prepare-input-requires
+    slice-relend-prefix-call
+    slice-aggregate-call
+    call-requires
     same-length
     returns-2)

@@ -23,8 +23,8 @@ use Rattle.semantics.specs.contracts.Choices.{OwnRules}
 use Rattle.semantics.specs.Descent.{End, descend}
 use Rattle.semantics.specs.ComesTo.{Call, callAt, InRange}
 use Rattle.semantics.specs.contracts.ComesTo.{measure}
-use Rattle.semantics.specs.Memo.{outcomeCode, entry, Recorded}
-use Rattle.semantics.specs.contracts.Memo.{blank, decode}
+use Rattle.semantics.specs.Memo.{outcomeCode, entry}
+use Rattle.semantics.specs.contracts.Memo.{decode}
 use Rattle.semantics.specs.contracts.MemoDescent.{memoized, memoRun, memoCall}
 use Rattle.rule.specs.contracts.Rule.{bodyEnd}
 use Rattle.recursive_descent_promises.specs.declared.Run.{Run}
@@ -120,17 +120,3 @@ abbrev pub RunEnsures : (words choices tokens memo : List ℕ) (A from start : �
 RunEnsures words choices tokens memo A from start r memo′ =
     (choice : Choice) → RunGiven choice words choices tokens (heldTokens tokens) memo A from start
     → RunDone choice words (heldTokens tokens) memo A from start r memo′
-
--- the start's call at the input's begin, in a memo table of just the entries that there are
-pub record StartGiven (choice : Choice) (words choices tokens input memo : List ℕ) : Type 0 where
-  pub call : CallGiven choice words choices tokens input (blank (grammarOf words) input) 0 0
-  pub size : length memo ≡ pairs (grammarOf words) input
-
--- the descent requires that the arrays hold some choice, and ensures for each that they hold that the memo table then has the entries of the calls made
--- and no others
-abbrev pub StartRequires : (words choices tokens memo : List ℕ) → Type 0
-StartRequires words choices tokens memo = (choice : Choice) × StartGiven choice words choices tokens (heldTokens tokens) memo
-
-abbrev pub StartEnsures : (words choices tokens memo memo′ : List ℕ) → Type 0
-StartEnsures words choices tokens memo memo′ =
-    (choice : Choice) → StartGiven choice words choices tokens (heldTokens tokens) memo → Recorded (grammarOf words) choice (heldTokens tokens) memo′

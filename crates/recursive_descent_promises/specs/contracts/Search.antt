@@ -10,9 +10,10 @@ use Rattle.grammar.specs.declared.reading.Reading.the-variants.{Read}
 use Rattle.lookahead.specs.declared.Lookahead.the-variants.{One}
 use Rattle.admission.specs.Admission.{admission}
 use Rattle.inputs.specs.Inputs.{maxInputs}
+use Rattle.inputs.specs.contracts.Inputs.{inputAt}
 use Rattle.semantics.specs.LeftRecursion.{NoLeftRecursion}
 use Rattle.recognizer_promises.specs.Memory.{memoWords}
-use Rattle.recognizer_promises.specs.CostliestInput.{costliestInput}
+use Rattle.recognizer_promises.specs.CostliestInput.{callsOn, costliestInput}
 use Rattle.recursive_descent_promises.specs.contracts.Judging.{tableRows}
 
 -- a grammar that passes, with its sizes; the choices and the entries for an input of that length, and not too many such inputs
@@ -29,6 +30,12 @@ pub record NumberGiven (words choices : List ℕ) (last : ℕ) (events memo : Li
   pub sizes : Sizes
   pub given : TrialGiven words sizes choices events memo
   pub highest : last + 1 ≡ sizes .terminals
+
+-- the input of a number is written, its entries are left, and its calls are counted
+pub record Tried (words : List ℕ) (k number calls : ℕ) (events′ memo′ : List ℕ) : Type 0 where
+  pub written : events′ ≡ inputAt (grammarOf words .terminals) k number
+  pub entries : memo′ ≡ memoWords One (grammarOf words) events′
+  pub counted : calls ≡ callsOn (grammarOf words) events′
 
 -- the costliest input of k tokens is written, and its entries are left
 pub record CostliestLeft (words : List ℕ) (k : ℕ) (events′ memo′ : List ℕ) : Type 0 where

@@ -2,25 +2,32 @@
 use mathlib.Core.Bool.{Bool, true, false}
 use mathlib.Core.List.{List, [], _∷_}
 use Prim.Native.Nat.{ℕ, suc, _+_}
-use lib.Dec.{ltb}
+use lib.Dec.{ltb, eqb}
 use lib.ListN.{length, getD, drop}
 use Rattle.base.specs.Choice.{choose}
 use Rattle.word.specs.Words.{decoded}
 use Rattle.word.specs.declared.Word.{Word}
 use Rattle.word.specs.declared.Word.the-variants as word
+use Rattle.grammar.specs.Codes.{failedCode, uncalledCode}
 use Rattle.semantics.specs.Descent as semantics
 use Rattle.semantics.specs.Descent.{endsAt}
-use Rattle.rule.specs.declared.Outcome as code
-use Rattle.rule.specs.declared.Outcome.the-variants as outcome
 use Rattle.rule.specs.declared.Sign.{Sign}
 use Rattle.rule.specs.declared.Sign.the-variants.{Positive, Negative, Neither}
-use Rattle.rule.specs.declared.Agreement.{Agreement}
-use Rattle.rule.specs.declared.Agreement.the-variants.{Open, At, Failed}
 
--- the outcome that a value of the code stands for
-abbrev pub meant : code.Outcome → semantics.Outcome
-meant outcome.Failed = semantics.Failed
-meant (outcome.End e) = semantics.End e
+-- where the bodies of a rule that have run agree to end
+pub data Agreement : Type 0 where
+  Open : Agreement
+  At : ℕ → Agreement
+  Failed : Agreement
+
+-- as an entry of the memo table: before the first body, that of a call that was not made
+abbrev pub agreementCode : Agreement → ℕ
+agreementCode Open = uncalledCode
+agreementCode (At e) = e
+agreementCode Failed = failedCode
+
+unfoldable pub agreementOf : ℕ → Agreement
+agreementOf entry = choose (eqb entry uncalledCode) Open (choose (eqb entry failedCode) Failed (At entry))
 
 abbrev pub signOf : Word → Sign
 signOf word.Positive = Positive

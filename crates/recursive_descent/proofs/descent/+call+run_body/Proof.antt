@@ -1,19 +1,19 @@
 -- The descent ends and is the one of the semantics: each call gives what its rule gives, and a rule what its bodies agree on.
 -- From a call to a body that it runs, and on to the calls that the body makes, the tokens left fall, or else the rank does.
-use mathlib.Core.Path.{sym, _∙_}
+use mathlib.Core.Path.{sym, ap, _∙_}
 use mathlib.Core.Logic.{⊎-elim}
 use mathlib.Core.Option.{none, some}
 use Prim.Native.Nat.{_+_, _-_, _*_, ℕ, _<_}
 use native.Mathlib.Omega.{arith}
 use lib.ListN.{length, length-set}
-use borrow.Author.Tests.{not-true, not-false}
 use Rattle.semantics.specs.Choices.{Choice}
 use Rattle.descent_arrays.specs.contracts.Arrays.{heldTokens}
+use Rattle.descent_steps.specs.contracts.Steps.{meant}
 use Rattle.recursive_descent_promises.specs.contracts.Descent.{CallGiven, RunGiven}
-use Rattle.recursive_descent_promises.proofs.Choosing.{token-low, match-is, row-given, end-given, column-given, entry-is, first-is, end-is}
-use Rattle.recursive_descent_promises.proofs.Running.{level, Running, running-as, running-start, running-done, running-terminal, running-mismatch}
-use Rattle.recursive_descent_promises.proofs.Running.{running-within, running-given, running-small, running-falls, running-call, running-failed}
-use Rattle.recursive_descent_promises.proofs.Calling.{Going, going-conjunct, going-run, going-failed, going-falls, going-turn, going-done}
+use Rattle.recursive_descent_promises.proofs.Choosing.{token-low, row-given, end-given, column-given, entry-is, first-is, end-is}
+use Rattle.recursive_descent_promises.proofs.Running.{level, Running, Read, read-as, running-start, running-done, running-within}
+use Rattle.recursive_descent_promises.proofs.Running.{running-given, running-small, running-falls, terminal-read, call-read}
+use Rattle.recursive_descent_promises.proofs.Calling.{Going, Ran, ran-as, going-conjunct, going-run, going-failed, going-falls, going-turn, going-done}
 use Rattle.recursive_descent_promises.proofs.Storing.{memo-same, index-low, call-known, call-stored}
 use Rattle.recursive_descent_promises.proofs.Starting.{no-rule, rule-chosen, start-going, select-none, none-fails, encode-failed}
 use borrow.Author.Needs.{needs}
@@ -28,38 +28,36 @@ use Rattle.recursive_descent.proofs.descent.+call+run_body.Lts-run_body
 use Rattle.recursive_descent.proofs.descent.choice_at.Reads as choice-at-reads
 use Rattle.recursive_descent.proofs.descent.token_at.Reads as token-at-reads
 use Rattle.descent_steps.proofs.arrays.column_of.Reads as column-of-reads
-use Rattle.descent_steps.proofs.concluded_entry.Reads as concluded-entry-reads
 use Rattle.descent_steps.proofs.arrays.entry_of.Reads as entry-of-reads
 use Rattle.descent_steps.proofs.first_agreement.Reads as first-agreement-reads
-use Rattle.descent_steps.proofs.arrays.matches.Reads as matches-reads
+use Rattle.descent_steps.proofs.arrays.end_behind.Reads as end-behind-reads
 use Rattle.descent_steps.proofs.joined_entry.Reads as joined-entry-reads
 use Rattle.descent_steps.proofs.step_of_word.Reads as step-of-word-reads
 use Rattle.descent_steps.proofs.entry.recall.Reads as recall-reads
 use Rattle.descent_steps.proofs.begins_conjunct.Reads as begins-conjunct-reads
 use Rattle.descent_steps.proofs.next_conjunct.Reads as next-conjunct-reads
 use Rattle.descent_steps.proofs.word_at.Reads as word-at-reads
-use Rattle.rule.proofs.has_failed.Reads as has-failed-reads
 use Rattle.recursive_descent.proofs.descent.+call+run_body.{statement}
 use Rattle.recursive_descent.proofs.descent.+call+run_body.Tie.{close}
 
-abbrev μ-call : Measures 4 call-kinds.ps ℕ
+abbrev μ-call : Measures 3 call-kinds.ps ℕ
 μ-call κs a = 2 * level (a .1 .0 .now) (heldTokens (a .1 .1 .1 .0 .now)) (a .0) (a .1 .1 .1 .1 .1 .0) + 1
 
-abbrev μ-run-body : Measures 4 run-body-kinds.ps ℕ
+abbrev μ-run-body : Measures 3 run-body-kinds.ps ℕ
 μ-run-body κs a = 2 * level (a .1 .0 .now) (heldTokens (a .1 .1 .1 .0 .now)) (a .0) (a .1 .1 .1 .1 .1 .1 .0)
 
-abbrev call-at : ℕ → In 4 call-kinds.ps
-call-at t = and 4 call-kinds.ps (is 4 call-kinds.ps μ-call t) call.Pre
+abbrev call-at : ℕ → In 3 call-kinds.ps
+call-at t = and 3 call-kinds.ps (is 3 call-kinds.ps μ-call t) call.Pre
 
-abbrev call-below : ℕ → In 4 call-kinds.ps
-call-below t = and 4 call-kinds.ps (falls 4 call-kinds.ps _<_ μ-call t) call.Pre
+abbrev call-below : ℕ → In 3 call-kinds.ps
+call-below t = and 3 call-kinds.ps (falls 3 call-kinds.ps _<_ μ-call t) call.Pre
 
-abbrev run-body-at : ℕ → In 4 run-body-kinds.ps
-run-body-at t = and 4 run-body-kinds.ps (is 4 run-body-kinds.ps μ-run-body t) run-body.Pre
+abbrev run-body-at : ℕ → In 3 run-body-kinds.ps
+run-body-at t = and 3 run-body-kinds.ps (is 3 run-body-kinds.ps μ-run-body t) run-body.Pre
 
-abbrev run-body-below : ℕ → In 4 run-body-kinds.ps
+abbrev run-body-below : ℕ → In 3 run-body-kinds.ps
 run-body-below t =
-    and 4 run-body-kinds.ps (falls 4 run-body-kinds.ps _<_ μ-run-body t) run-body.Pre
+    and 3 run-body-kinds.ps (falls 3 run-body-kinds.ps _<_ μ-run-body t) run-body.Pre
 
 -- what each function's needs read of its callees
 abbrev call-claims : ℕ → call-lts.Claims
@@ -82,12 +80,8 @@ call-claims t = (
   run-body.Post,
   joined-entry-reads.Asked,
   joined-entry-reads.Learnt,
-  has-failed-reads.Asked,
-  has-failed-reads.Learnt,
   next-conjunct-reads.Asked,
   next-conjunct-reads.Learnt,
-  concluded-entry-reads.Asked,
-  concluded-entry-reads.Learnt,
 )
 
 abbrev run-body-claims : ℕ → run-body-lts.Claims
@@ -96,8 +90,8 @@ run-body-claims t = (
   step-of-word-reads.Learnt,
   token-at-reads.Asked,
   token-at-reads.Learnt,
-  matches-reads.Asked,
-  matches-reads.Learnt,
+  end-behind-reads.Asked,
+  end-behind-reads.Learnt,
   call-below t,
   call.Post,
   recall-reads.Asked,
@@ -223,69 +217,6 @@ call-run-body-requires t c κs =
 call-joined-entry-requires : (t : ℕ) → call-lts.Need-joined-entry-requires (call-claims t) (call-at t) call.Post call-Inv-loop call-μ-loop
 call-joined-entry-requires t c κs = tt
 
-call-has-failed-requires : (t : ℕ) → call-lts.Need-has-failed-requires (call-claims t) (call-at t) call.Post call-Inv-loop call-μ-loop
-call-has-failed-requires t c κs = tt
-
-call-mul-memo-2 : (t : ℕ) → call-lts.Need-mul-memo-2 (call-claims t) (call-at t) call.Post call-Inv-loop call-μ-loop
-call-mul-memo-2 t c =
-    let at-run-body = c .before .before .before .before .before in
-    let at-then = at-run-body .before .before in
-    let at-begins = at-then .before in
-    let at-loop = at-begins .before in
-    let at-entry-of = at-loop .before .before .before .before .before .before .before .before .before .before in
-    let start = at-entry-of .before .before .before .before in
-    let entry = entry-is (start .pre .1 .1) (at-entry-of .before .choice-at .ensures) (at-entry-of .entry-of .ensures) in
-    omega (
-      arith,
-      index-low (start .pre .1 .1) entry,
-      start .good .1 .1 .1 .1 .0 .1,
-    )
-
-call-slice-write-memo-2 : (t : ℕ) → call-lts.Need-slice-write-memo-2 (call-claims t) (call-at t) call.Post call-Inv-loop call-μ-loop
-call-slice-write-memo-2 t c =
-    let at-run-body = c .before .before .before .before .before in
-    let at-then = at-run-body .before .before in
-    let at-begins = at-then .before in
-    let at-loop = at-begins .before in
-    let at-entry-of = at-loop .before .before .before .before .before .before .before .before .before .before in
-    let start = at-entry-of .before .before .before .before in
-    let going = at-loop .loop .inv _ (start .pre .1 .1) in
-    let begins = sym (at-begins .begins-conjunct .ensures) ∙ at-then .if3 .taken in
-    let ran = at-run-body .run-body .ensures _ (going-run (start .pre .1 .1) going begins) in
-    let entry = entry-is (start .pre .1 .1) (at-entry-of .before .choice-at .ensures) (at-entry-of .entry-of .ensures) in
-    omega (arith, index-low (start .pre .1 .1) entry, memo-same (ran .sound) (start .pre .1 .1 .given .sound))
-
-call-same-length-2 : (t : ℕ) → call-lts.Need-same-length-2 (call-claims t) (call-at t) call.Post call-Inv-loop call-μ-loop
-call-same-length-2 t c =
-    let at-run-body = c .before .before .before .before .before in
-    let at-then = at-run-body .before .before in
-    let at-begins = at-then .before in
-    let at-loop = at-begins .before in
-    let at-entry-of = at-loop .before .before .before .before .before .before .before .before .before .before in
-    let start = at-entry-of .before .before .before .before in
-    let going = at-loop .loop .inv _ (start .pre .1 .1) in
-    let begins = sym (at-begins .begins-conjunct .ensures) ∙ at-then .if3 .taken in
-    let ran = at-run-body .run-body .ensures _ (going-run (start .pre .1 .1) going begins) in
-    simp length-set (memo-same (ran .sound) (start .pre .1 .1 .given .sound))
-
-call-returns-3 : (t : ℕ) → call-lts.Need-returns-3 (call-claims t) (call-at t) call.Post call-Inv-loop call-μ-loop
-call-returns-3 t c =
-    let at-has-failed = c .before in
-    let at-joined = at-has-failed .before in
-    let at-run-body = c .before .before .before .before .before in
-    let at-then = at-run-body .before .before in
-    let at-begins = at-then .before in
-    let at-loop = at-begins .before in
-    let at-entry-of = at-loop .before .before .before .before .before .before .before .before .before .before in
-    let at-fresh = at-loop .before .before .before .before .before .before .before .before in
-    λ choice g.
-    let going = at-loop .loop .inv choice g in
-    let begins = sym (at-begins .begins-conjunct .ensures) ∙ at-then .if3 .taken in
-    let entry = entry-is g (at-entry-of .before .choice-at .ensures) (at-entry-of .entry-of .ensures) in
-    call-stored g entry (at-fresh .if1 .left) (some (going .rule .rule)) (going .rule .selected)
-    (going-failed g going begins (at-run-body .run-body .ensures choice (going-run g going begins))
-    (at-joined .joined-entry .ensures) (sym (at-has-failed .has-failed .ensures) ∙ c .if4 .taken)) encode-failed
-
 call-next-conjunct-requires : (t : ℕ) → call-lts.Need-next-conjunct-requires (call-claims t) (call-at t) call.Post call-Inv-loop call-μ-loop
 call-next-conjunct-requires t c κs = tt
 
@@ -295,8 +226,7 @@ call-word-at-requires-2 t c κs = tt
 call-loop-less : (t : ℕ) → call-lts.Need-loop-less (call-claims t) (call-at t) call.Post call-Inv-loop call-μ-loop
 call-loop-less t c =
     let at-next = c .before in
-    let at-has-failed = at-next .before .before in
-    let at-joined = at-has-failed .before in
+    let at-joined = at-next .before .before in
     let at-run-body = at-joined .before .before .before in
     let at-then = at-run-body .before .before in
     let at-begins = at-then .before in
@@ -315,8 +245,7 @@ call-loop-again : (t : ℕ) → call-lts.Need-loop-again (call-claims t) (call-a
 call-loop-again t c =
     let at-next = c .before in
     let at-going-on = at-next .before in
-    let at-has-failed = at-going-on .before in
-    let at-joined = at-has-failed .before in
+    let at-joined = at-going-on .before in
     let at-run-body = at-joined .before .before .before in
     let at-then = at-run-body .before .before in
     let at-begins = at-then .before in
@@ -325,54 +254,56 @@ call-loop-again t c =
     let going = at-loop .loop .inv choice g in
     let begins = sym (at-begins .begins-conjunct .ensures) ∙ at-then .if3 .taken in
     going-turn g going begins (at-run-body .run-body .ensures choice (going-run g going begins))
-    (at-joined .joined-entry .ensures) (at-next .next-conjunct .ensures) (c .word-at2 .ensures)
-    (sym (at-has-failed .has-failed .ensures) ∙ at-going-on .if4 .left)
+    (at-joined .joined-entry .ensures) (at-next .next-conjunct .ensures) (c .word-at2 .ensures) (at-going-on .if4 .left)
 
-call-concluded-entry-requires : (t : ℕ) → call-lts.Need-concluded-entry-requires (call-claims t) (call-at t) call.Post call-Inv-loop call-μ-loop
-call-concluded-entry-requires t c κs = tt
-
-call-mul-memo-3 : (t : ℕ) → call-lts.Need-mul-memo-3 (call-claims t) (call-at t) call.Post call-Inv-loop call-μ-loop
-call-mul-memo-3 t c =
-    let at-loop = c .before .before .before in
+call-mul-memo-2 : (t : ℕ) → call-lts.Need-mul-memo-2 (call-claims t) (call-at t) call.Post call-Inv-loop call-μ-loop
+call-mul-memo-2 t c =
+    let at-loop = c .before .before in
     let at-entry-of = at-loop .before .before .before .before .before .before .before .before .before .before in
     let start = at-entry-of .before .before .before .before in
     let entry = entry-is (start .pre .1 .1) (at-entry-of .before .choice-at .ensures) (at-entry-of .entry-of .ensures) in
-    omega (arith, index-low (start .pre .1 .1) entry)
+    omega (arith, index-low (start .pre .1 .1) entry, start .good .1 .1 .1 .1 .0 .1)
 
-call-slice-write-memo-3 : (t : ℕ) → call-lts.Need-slice-write-memo-3 (call-claims t) (call-at t) call.Post call-Inv-loop call-μ-loop
-call-slice-write-memo-3 t c =
-    let at-loop = c .before .before .before in
+-- the rule has run, or the first body that failed has stopped it
+call-ran : (t : ℕ) (c : call-lts.Joined3 (call-claims t) (call-at t) call.Post call-Inv-loop call-μ-loop) (choice : Choice) →
+    let start = c .before .before .before .before .before .before .before .before .before .before .before .before .before .before .before .before in
+    let given = start .args in
+    CallGiven choice (given .words .now) (given .choices .now) (given .tokens .now) (heldTokens (given .tokens .now)) (given .memo .now)
+    (given .nonterminal) (given .place)
+    → Ran choice (given .words .now) (heldTokens (given .tokens .now)) (given .memo .now) (given .nonterminal) (given .place) (c .if3 .memo) (c .if3 .agreement)
+call-ran t c choice g =
+    let at-begins = c .before in
+    let going = at-begins .before .loop .inv choice g in
+    let told = sym (at-begins .begins-conjunct .ensures) in
+    ⊎-elim
+    (λ w. ran-as (w .1) (w .2) (going-done g going (told ∙ w .0 .left)))
+    (λ w.
+    let begins = told ∙ w .0 .taken in
+    ran-as (w .7) (w .8) (going-failed g going begins (w .2 .ensures choice (going-run g going begins)) (w .5 .ensures) (w .6 .taken)))
+    (c .if3 .came)
+
+call-slice-write-memo-2 : (t : ℕ) → call-lts.Need-slice-write-memo-2 (call-claims t) (call-at t) call.Post call-Inv-loop call-μ-loop
+call-slice-write-memo-2 t c =
+    let at-loop = c .before .before in
     let at-entry-of = at-loop .before .before .before .before .before .before .before .before .before .before in
     let start = at-entry-of .before .before .before .before in
-    let going = at-loop .loop .inv _ (start .pre .1 .1) in
     let entry = entry-is (start .pre .1 .1) (at-entry-of .before .choice-at .ensures) (at-entry-of .entry-of .ensures) in
-    omega (
-      arith,
-      index-low (start .pre .1 .1) entry,
-      memo-same (going .rule .calling .sound) (start .pre .1 .1 .given .sound),
-    )
+    omega (arith, index-low (start .pre .1 .1) entry, memo-same (call-ran t c _ (start .pre .1 .1) .sound) (start .pre .1 .1 .given .sound))
 
-call-same-length-3 : (t : ℕ) → call-lts.Need-same-length-3 (call-claims t) (call-at t) call.Post call-Inv-loop call-μ-loop
-call-same-length-3 t c =
-    let at-loop = c .before .before .before in
-    let at-entry-of = at-loop .before .before .before .before .before .before .before .before .before .before in
-    let start = at-entry-of .before .before .before .before in
-    let going = at-loop .loop .inv _ (start .pre .1 .1) in
-    simp length-set (memo-same (going .rule .calling .sound) (start .pre .1 .1 .given .sound))
+call-same-length-2 : (t : ℕ) → call-lts.Need-same-length-2 (call-claims t) (call-at t) call.Post call-Inv-loop call-μ-loop
+call-same-length-2 t c =
+    let start = c .before .before .before .before .before .before .before .before .before .before .before .before .before .before .before .before in
+    simp length-set (memo-same (call-ran t c _ (start .pre .1 .1) .sound) (start .pre .1 .1 .given .sound))
 
-call-returns-4 : (t : ℕ) → call-lts.Need-returns-4 (call-claims t) (call-at t) call.Post call-Inv-loop call-μ-loop
-call-returns-4 t c =
-    let at-else = c .before in
-    let at-begins = at-else .before in
-    let at-loop = at-begins .before in
+call-returns-3 : (t : ℕ) → call-lts.Need-returns-3 (call-claims t) (call-at t) call.Post call-Inv-loop call-μ-loop
+call-returns-3 t c =
+    let at-loop = c .before .before in
     let at-fresh = at-loop .before .before .before .before .before .before .before .before in
     let at-entry-of = at-fresh .before .before in
     λ choice g.
-    let going = at-loop .loop .inv choice g in
-    let stops = sym (at-begins .begins-conjunct .ensures) ∙ at-else .if3 .left in
+    let ran = call-ran t c choice g in
     let entry = entry-is g (at-entry-of .before .choice-at .ensures) (at-entry-of .entry-of .ensures) in
-    call-stored g entry (at-fresh .if1 .left) (some (going .rule .rule)) (going .rule .selected)
-    (going-done g going stops) (c .concluded-entry .ensures)
+    call-stored g entry (at-fresh .if1 .left) (some (ran .rule)) (ran .selected) (ran .ran) (ran .told)
 
 abbrev run-body-Inv-loop : run-body-lts.InvT-loop
 run-body-Inv-loop nonterminal words choices tokens memo₀ from start at₀ place₀ memo at place =
@@ -429,38 +360,9 @@ run-body-token-at-requires t c κs =
     let start = at-loop .before .before .before in
     token-low (start .pre .1 .1 .call .given) (at-loop .loop .inv _ (start .pre .1 .1) .placed)
 
-run-body-matches-requires : (t : ℕ)
-    → run-body-lts.Need-matches-requires (run-body-claims t) (run-body-at t) run-body.Post run-body-Inv-loop run-body-μ-loop
-run-body-matches-requires t c κs = tt
-
-run-body-add-behind : (t : ℕ) → run-body-lts.Need-add-behind (run-body-claims t) (run-body-at t) run-body.Post run-body-Inv-loop run-body-μ-loop
-run-body-add-behind t c =
-    let at-loop = c .before .before .before .before .before .before .before .before in
-    let start = at-loop .before .before .before in
-    omega (arith, at-loop .loop .inv _ (start .pre .1 .1) .skipped .within)
-
-run-body-same-length-2 : (t : ℕ) → run-body-lts.Need-same-length-2 (run-body-claims t) (run-body-at t) run-body.Post run-body-Inv-loop run-body-μ-loop
-run-body-same-length-2 t c =
-    let at-loop = c .before .before .before .before .before .before .before .before in
-    let start = at-loop .before .before .before in
-    memo-same (at-loop .loop .inv _ (start .pre .1 .1) .sound) (start .pre .1 .1 .call .given .sound)
-
-run-body-returns-2 : (t : ℕ) → run-body-lts.Need-returns-2 (run-body-claims t) (run-body-at t) run-body.Post run-body-Inv-loop run-body-μ-loop
-run-body-returns-2 t c =
-    let at-matches = c .before in
-    let at-token = at-matches .before in
-    let at-terminal = at-token .before .before in
-    let at-step = at-terminal .before .before in
-    let at-loop = at-step .before .before in
-    λ choice g.
-    running-mismatch g (at-loop .loop .inv choice g) _ (sym (at-step .step-of-word .ensures) ∙ at-terminal .step .given .1)
-    (sym (match-is _ _ _ (at-token .token-at .ensures) (at-matches .matches .ensures)) ∙ not-true _ (c .if1 .taken))
-
-run-body-add-place : (t : ℕ) → run-body-lts.Need-add-place (run-body-claims t) (run-body-at t) run-body.Post run-body-Inv-loop run-body-μ-loop
-run-body-add-place t c =
-    let at-loop = c .before .before .before .before .before .before .before .before in
-    let start = at-loop .before .before .before in
-    omega (arith, at-loop .loop .inv _ (start .pre .1 .1) .placed, start .pre .1 .1 .call .given .short)
+run-body-end-behind-requires : (t : ℕ)
+    → run-body-lts.Need-end-behind-requires (run-body-claims t) (run-body-at t) run-body.Post run-body-Inv-loop run-body-μ-loop
+run-body-end-behind-requires t c κs = tt
 
 run-body-enum-known-step-2 : (t : ℕ)
     → run-body-lts.Need-enum-known-step-2 (run-body-claims t) (run-body-at t) run-body.Post run-body-Inv-loop run-body-μ-loop
@@ -489,6 +391,31 @@ run-body-call-requires t c κs =
       (_, running-given (start .pre .1 .1) run _ step),
     )
 
+run-body-add-at : (t : ℕ) → run-body-lts.Need-add-at (run-body-claims t) (run-body-at t) run-body.Post run-body-Inv-loop run-body-μ-loop
+run-body-add-at t c =
+    let at-loop = c .before .before .before in
+    let start = at-loop .before .before .before in
+    omega (arith, at-loop .loop .inv _ (start .pre .1 .1) .skipped .within)
+
+-- a symbol has been read: a terminal, or a nonterminal by its call
+run-body-read : (t : ℕ) (c : run-body-lts.At-match-came (run-body-claims t) (run-body-at t) run-body.Post run-body-Inv-loop run-body-μ-loop) (choice : Choice)
+    → let at-loop = c .before .before .before in
+    let start = at-loop .before .before .before .args in
+    RunGiven choice (start .words .now) (start .choices .now) (start .tokens .now) (heldTokens (start .tokens .now)) (start .memo .now) (start .nonterminal)
+    (start .from) (start .start)
+    → Read choice (start .words .now) (heldTokens (start .tokens .now)) (start .memo .now) (start .nonterminal) (start .from) (start .start) (c .match .memo)
+    (at-loop .loop .at + 1) (c .match .entry)
+run-body-read t c choice g =
+    let at-step = c .before in
+    let run = at-step .before .before .loop .inv choice g in
+    let step = sym (at-step .step-of-word .ensures) in
+    ⊎-elim
+    (λ w. read-as (w .5) (w .6) (terminal-read g run _ (step ∙ w .1 .given .1) (w .3 .ensures) (w .4 .ensures)))
+    (λ w.
+    let called = step ∙ w .1 .given .1 in
+    read-as (w .7) (w .8) (call-read g run _ called (w .4 .ensures choice (running-given g run _ called))))
+    (c .match .came)
+
 run-body-recall-requires : (t : ℕ) → run-body-lts.Need-recall-requires (run-body-claims t) (run-body-at t) run-body.Post run-body-Inv-loop run-body-μ-loop
 run-body-recall-requires t c κs = tt
 
@@ -499,64 +426,29 @@ run-body-enum-known-outcome t c = c .match2 .keys1
 run-body-enum-told-2 : (t : ℕ) → run-body-lts.Need-enum-told-2 (run-body-claims t) (run-body-at t) run-body.Post run-body-Inv-loop run-body-μ-loop
 run-body-enum-told-2 t c = c .match2 .keys2
 
-run-body-add-behind-2 : (t : ℕ) → run-body-lts.Need-add-behind-2 (run-body-claims t) (run-body-at t) run-body.Post run-body-Inv-loop run-body-μ-loop
-run-body-add-behind-2 t c =
-    let at-loop = c .before .before .before .before .before .before .before .before .before .before .before .before in
-    let start = at-loop .before .before .before in
-    omega (arith, at-loop .loop .inv _ (start .pre .1 .1) .skipped .within)
+run-body-same-length-2 : (t : ℕ) → run-body-lts.Need-same-length-2 (run-body-claims t) (run-body-at t) run-body.Post run-body-Inv-loop run-body-μ-loop
+run-body-same-length-2 t c =
+    let at-came = c .before .before .before in
+    let start = at-came .before .before .before .before .before .before in
+    memo-same (run-body-read t at-came _ (start .pre .1 .1) .sound) (start .pre .1 .1 .call .given .sound)
 
-run-body-same-length-3 : (t : ℕ) → run-body-lts.Need-same-length-3 (run-body-claims t) (run-body-at t) run-body.Post run-body-Inv-loop run-body-μ-loop
-run-body-same-length-3 t c =
-    let at-call = c .before .before .before .before .before in
-    let at-nonterminal = at-call .before .before .before in
-    let at-step = at-nonterminal .before .before in
-    let at-loop = at-step .before .before in
-    let start = at-loop .before .before .before in
-    let run = at-loop .loop .inv _ (start .pre .1 .1) in
-    let step = sym (at-step .step-of-word .ensures) ∙ at-nonterminal .step2 .given .1 in
-    memo-same (at-call .call .ensures _ (running-given (start .pre .1 .1) run _ step) .sound) (start .pre .1 .1 .call .given .sound)
-
-run-body-returns-3 : (t : ℕ) → run-body-lts.Need-returns-3 (run-body-claims t) (run-body-at t) run-body.Post run-body-Inv-loop run-body-μ-loop
-run-body-returns-3 t c =
+run-body-returns-2 : (t : ℕ) → run-body-lts.Need-returns-2 (run-body-claims t) (run-body-at t) run-body.Post run-body-Inv-loop run-body-μ-loop
+run-body-returns-2 t c =
     let at-recall = c .before .before in
-    let at-call = at-recall .before .before .before in
-    let at-nonterminal = at-call .before .before .before in
-    let at-step = at-nonterminal .before .before in
-    let at-loop = at-step .before .before in
-    λ choice g.
-    let run = at-loop .loop .inv choice g in
-    let step = sym (at-step .step-of-word .ensures) ∙ at-nonterminal .step2 .given .1 in
-    running-failed g run _ step (at-call .call .ensures choice (running-given g run _ step)) _ (at-recall .recall .ensures) (c .enum-told2 .given .1)
-
-run-body-add-at : (t : ℕ) → run-body-lts.Need-add-at (run-body-claims t) (run-body-at t) run-body.Post run-body-Inv-loop run-body-μ-loop
-run-body-add-at t c =
-    let at-step = c .before in
-    let at-loop = at-step .before .before in
-    let start = at-loop .before .before .before in
-    omega (arith, at-loop .loop .inv _ (start .pre .1 .1) .skipped .within)
+    λ choice g. run-body-read t (at-recall .before) choice g .fails (sym (at-recall .recall .ensures) ∙ ap meant (c .enum-told2 .given .1))
 
 run-body-loop-less : (t : ℕ) → run-body-lts.Need-loop-less (run-body-claims t) (run-body-at t) run-body.Post run-body-Inv-loop run-body-μ-loop
 run-body-loop-less t c =
-    let at-loop = c .before .before .before in
+    let at-came = c .before .before .before .before in
+    let at-loop = at-came .before .before .before in
     let start = at-loop .before .before .before in
     omega (arith, running-within (start .pre .1 .1) (at-loop .loop .inv _ (start .pre .1 .1)))
 
 run-body-loop-again : (t : ℕ) → run-body-lts.Need-loop-again (run-body-claims t) (run-body-at t) run-body.Post run-body-Inv-loop run-body-μ-loop
 run-body-loop-again t c =
-    let at-step = c .before in
-    let at-loop = at-step .before .before in
-    λ choice given.
-    let run = at-loop .loop .inv choice given in
-    let step = sym (at-step .step-of-word .ensures) in
-    ⊎-elim
-    (λ w.
-    running-as (w .6) (w .7)
-    (running-terminal given run _ (step ∙ w .1 .given .1) (sym (match-is _ _ _ (w .3 .ensures) (w .4 .ensures)) ∙ not-false _ (w .5 .left))))
-    (λ w.
-    running-as (w .11) (w .12)
-    (running-call given run _ (step ∙ w .1 .given .1) (w .4 .ensures choice (running-given given run _ (step ∙ w .1 .given .1)))
-    _ (w .7 .ensures) _ (w .9 .given .1)))
-    (c .match .came)
+    let at-ended = c .before in
+    let at-recall = at-ended .before .before in
+    λ choice g. run-body-read t (at-recall .before) choice g .goes _ (sym (at-recall .recall .ensures) ∙ ap meant (at-ended .outcome .given .1))
 
 pub +call+run-body-spec : {M : Type 1} → statement M
 +call+run-body-spec = close μ-call μ-run-body (λ t. call-lts.spec (call-claims t)
@@ -585,20 +477,14 @@ pub +call+run-body-spec : {M : Type 1} → statement M
     (call-add-run-body t)
     (call-run-body-requires t)
     (call-joined-entry-requires t)
-    (call-has-failed-requires t)
-    (call-mul-memo-2 t)
-    (call-slice-write-memo-2 t)
-    (call-same-length-2 t)
-    (call-returns-3 t)
     (call-next-conjunct-requires t)
     (call-word-at-requires-2 t)
     (call-loop-less t)
     (call-loop-again t)
-    (call-concluded-entry-requires t)
-    (call-mul-memo-3 t)
-    (call-slice-write-memo-3 t)
-    (call-same-length-3 t)
-    (call-returns-4 t))
+    (call-mul-memo-2 t)
+    (call-slice-write-memo-2 t)
+    (call-same-length-2 t)
+    (call-returns-3 t))
     λ t. run-body-lts.spec (run-body-claims t)
     (run-body-at t)
     run-body.Post
@@ -613,20 +499,15 @@ pub +call+run-body-spec : {M : Type 1} → statement M
     (run-body-returns t)
     (run-body-enum-known-step t)
     (run-body-token-at-requires t)
-    (run-body-matches-requires t)
-    (run-body-add-behind t)
-    (run-body-same-length-2 t)
-    (run-body-returns-2 t)
-    (run-body-add-place t)
+    (run-body-end-behind-requires t)
     (run-body-enum-known-step-2 t)
     (run-body-cast-call t)
     (run-body-call-requires t)
+    (run-body-add-at t)
     (run-body-recall-requires t)
     (run-body-enum-known-outcome t)
     (run-body-enum-told-2 t)
-    (run-body-add-behind-2 t)
-    (run-body-same-length-3 t)
-    (run-body-returns-3 t)
-    (run-body-add-at t)
+    (run-body-same-length-2 t)
+    (run-body-returns-2 t)
     (run-body-loop-less t)
     (run-body-loop-again t)

@@ -1,17 +1,17 @@
--- Of the inputs tried so far the costliest is kept; the descent on it is the last.
+-- Of the inputs tried so far the costliest is kept; it is tried last.
 use mathlib.Core.Path.{_∙_}
 use Prim.Native.Nat.{_-_}
 use native.Mathlib.Omega.{arith}
 use Rattle.recursive_descent_promises.proofs.Searching.{Searching, some-terminal, last-terminal, few-terminals}
-use Rattle.recursive_descent_promises.proofs.Searching.{searching-start, searching-given, searching-next, searching-less, best-start, searching-done}
+use Rattle.recursive_descent_promises.proofs.Searching.{searching-start, searching-given, searching-next, searching-less, searching-done}
 use Rattle.recursive_descent.proofs.search.leave_costliest.Statement.{statement}
 use Rattle.recursive_descent.proofs.search.leave_costliest.Tie as tie
 
 abbrev Inv-loop : tie.InvT-loop
-Inv-loop words sizes choices events₀ memo₀ last inputs trials₀ events memo trials = Searching words events₀ memo₀ events memo trials
+Inv-loop words choices events₀ memo₀ last inputs trials₀ events memo trials = Searching words events₀ memo₀ events memo trials
 
 abbrev μ-loop : tie.MeasureT-loop
-μ-loop words sizes choices events₀ memo₀ last inputs trials₀ events memo trials = inputs - trials .next
+μ-loop words choices events₀ memo₀ last inputs trials₀ events memo trials = inputs - trials .next
 
 sub-last : tie.Need-sub-last Inv-loop μ-loop
 sub-last c = omega (arith, some-terminal (c .before .before .before .before .pre))
@@ -31,8 +31,8 @@ loop-holds c =
     let start = counted .before .before .before .before .before in
     searching-start (start .pre) (c .no-trials .ensures)
 
-calls-on-requires : tie.Need-calls-on-requires Inv-loop μ-loop
-calls-on-requires c κs =
+try-input-requires : tie.Need-try-input-requires Inv-loop μ-loop
+try-input-requires c κs =
     let at-loop = c .before .before .before .before in
     let counted = at-loop .before .before in
     let start = counted .before .before .before .before .before in
@@ -60,49 +60,37 @@ loop-again c =
     let counted = at-loop .before .before in
     let start = counted .before .before .before .before .before in
     searching-next (start .pre) (at-loop .loop .inv) (counted .count-inputs .ensures)
-    (turn .if1 .taken) (called .calls-on .ensures)
+    (turn .if1 .taken) (called .try-input .ensures)
     (written .events .given) (kept .memo .given) (c .tried .ensures)
 
-write-input-requires : tie.Need-write-input-requires Inv-loop μ-loop
-write-input-requires c κs = tt
-
-tokens-of-requires : tie.Need-tokens-of-requires Inv-loop μ-loop
-tokens-of-requires c κs = tt
-
-descend-requires : tie.Need-descend-requires Inv-loop μ-loop
-descend-requires c κs =
-    let read = c .before .before in
-    let written = read .before .before .before .before in
-    let at-loop = written .before .before .before .before in
+try-input-requires-2 : tie.Need-try-input-requires-2 Inv-loop μ-loop
+try-input-requires-2 c κs =
+    let at-loop = c .before .before .before .before in
     let counted = at-loop .before .before in
     let start = counted .before .before .before .before .before in
-    best-start (start .pre) (at-loop .loop .inv) (counted .count-inputs .ensures) (written .write-input .ensures) (read .tokens-of .ensures)
+    let given = start .pre in
+    record { sizes = _; given = searching-given given (at-loop .loop .inv) (counted .count-inputs .ensures); highest = last-terminal given }
 
 same-length : tie.Need-same-length Inv-loop μ-loop
 same-length c =
-    let read = c .before .before .before .before .before in
-    let rewritten = read .before .before .before in
-    let at-loop = rewritten .before .before .before .before .before in
-    rewritten .events2 .given ∙ at-loop .loop .inv .same-length
+    let written = c .before .before .before in
+    let at-loop = written .before .before .before .before .before .before in
+    written .events2 .given ∙ at-loop .loop .inv .same-length
 
 same-length-2 : tie.Need-same-length-2 Inv-loop μ-loop
 same-length-2 c =
     let left = c .before in
-    let read = left .before .before .before .before in
-    let at-loop = read .before .before .before .before .before .before .before .before in
+    let at-loop = left .before .before .before .before .before .before .before .before in
     left .memo2 .given ∙ at-loop .loop .inv .same-memo
 
 returns : tie.Need-returns Inv-loop μ-loop
 returns c =
-    let ran = c .before .before in
-    let read = ran .before .before .before in
-    let written = read .before .before .before .before in
-    let ended = written .before .before in
+    let called = c .before .before .before .before in
+    let ended = called .before .before .before in
     let at-loop = ended .before .before in
     let counted = at-loop .before .before in
     let start = counted .before .before .before .before .before in
-    searching-done (start .pre) (at-loop .loop .inv) (counted .count-inputs .ensures) (written .write-input .ensures) (read .tokens-of .ensures)
-    (ended .if1 .left) (ran .descend .ensures)
+    searching-done (start .pre) (at-loop .loop .inv) (counted .count-inputs .ensures) (ended .if1 .left) (called .try-input2 .ensures)
 
 pub leave-costliest-spec : {M : Type 1} → statement M
 leave-costliest-spec =
@@ -115,13 +103,11 @@ leave-costliest-spec =
     count-inputs-requires
     no-trials-requires
     loop-holds
-    calls-on-requires
+    try-input-requires
     tried-requires
     loop-less
     loop-again
-    write-input-requires
-    tokens-of-requires
-    descend-requires
+    try-input-requires-2
     same-length
     same-length-2
     returns)
