@@ -43,11 +43,11 @@ fn choice_at(choices: &[u16; CHOICES], nonterminal: usize, column: usize) -> u16
 }
 
 // Runs the body at an index from a place on, for a call of the nonterminal there; the first symbol that fails stops it, behind it.
-fn run_body<'a>(
+fn run_body(
     nonterminal: usize,
     words: &[u32],
-    choices: &'a [u16; CHOICES],
-    tokens: &'a [u16; PLACES],
+    choices: &[u16; CHOICES],
+    tokens: &[u16; PLACES],
     memo: &mut [u16],
     from: usize,
     start: u16,
@@ -78,11 +78,11 @@ fn run_body<'a>(
 
 // Calls a nonterminal at a place, and returns the entry of its outcome: the one that is there, or one that it records when the bodies of
 // the rule that is chosen have run. An outcome itself would be returned in memory, and each call would write it there.
-pub(crate) fn call<'a>(
+pub(crate) fn call(
     nonterminal: usize,
     words: &[u32],
-    choices: &'a [u16; CHOICES],
-    tokens: &'a [u16; PLACES],
+    choices: &[u16; CHOICES],
+    tokens: &[u16; PLACES],
     memo: &mut [u16],
     place: u16,
 ) -> u16

@@ -2,9 +2,7 @@
 ghost use Rattle.event.specs.Events.{inputOf};
 ghost use Rattle.recognizer_promises.specs.contracts.Judging.{DescendsWords};
 use descent::call;
-use descent_findings::find_for_input;
 use descent_preparation::prepare_input;
-use families::Finding;
 use lookahead::Lookahead;
 use table::Found;
 
@@ -15,27 +13,14 @@ pub mod search;
 pub fn descend_words(words: &[u32], lookahead: Lookahead, events: &[u8], memo: &mut [u16]) -> Found
     ensures { λ r. ⌜ DescendsWords lookahead (now (words .entry)) (inputOf (now (events .entry))) (now (memo .entry)) r (now (memo .exit)) ⌝ }
 {
-    let found = find_for_input(words, lookahead, events, memo.len());
-    let finding = found.finding;
-    let Finding::Passed(sizes) = finding else {
-        return found;
-    };
-    let prepared = prepare_input(
-        &found.starts,
-        sizes,
-        lookahead,
-        &found.entries,
-        events,
-        memo,
-    );
+    let prepared = prepare_input(words, lookahead, events, memo);
     let entries = prepared.entries;
-    call(
-        0,
-        words,
-        &prepared.choices,
-        &prepared.tokens,
-        &mut memo[..entries],
-        0,
-    );
-    found
+    if entries == 0 {
+        return prepared.found;
+    }
+    // lent as fields, the arrays would be copied
+    let choices = prepared.choices;
+    let tokens = prepared.tokens;
+    call(0, words, &choices, &tokens, &mut memo[..entries], 0);
+    prepared.found
 }

@@ -1,19 +1,13 @@
 // The costliest input of a length: the first in letter order of those on which the descent makes the most calls.
 ghost use lib.ListN.{length};
 ghost use Rattle.recognizer_promises.specs.contracts.Search.{SearchesWords};
-ghost use Rattle.recursive_descent_promises.specs.contracts.Search.{TrialGiven, NumberGiven, Tried, CostliestLeft};
+ghost use Rattle.recursive_descent_promises.specs.contracts.Search.{TrialGiven, TrialsGiven, Tried, CostliestLeft};
 use super::descent::call;
 use descent_arrays::CHOICES;
-use descent_choices::entries_of;
-use descent_choices::table_choices;
-use descent_findings::find_for_search;
+use descent_preparation::prepare_search;
 use descent_preparation::prepare_trial;
-use families::Finding;
-use grammar::reading::Sizes;
-use inputs::count_inputs;
 use inputs::no_trials;
 use inputs::tried;
-use lookahead::Lookahead;
 use memo_table::count_calls;
 use table::Found;
 
@@ -26,7 +20,7 @@ fn try_input(
     events: &mut [u8],
     memo: &mut [u16],
 ) -> usize
-    requires { ⌜ NumberGiven (now words) (now choices) last (now events) (now memo) ⌝ }
+    requires { ⌜ TrialGiven (now words) (now choices) last (now events) (now memo) ⌝ }
     ensures { λ r. ⌜ Tried (now (words .entry)) (length (now (events .entry))) number r (now (events .exit)) (now (memo .exit)) ⌝ }
 {
     let tokens = prepare_trial(events, last, number, memo);
@@ -37,16 +31,15 @@ fn try_input(
 // Tries all inputs of a length in the same memory, and the costliest again at the end.
 fn leave_costliest(
     words: &[u32],
-    sizes: Sizes,
     choices: &[u16; CHOICES],
+    last: u8,
+    inputs: usize,
     events: &mut [u8],
     memo: &mut [u16],
 )
-    requires { ⌜ TrialGiven (now words) sizes (now choices) (now events) (now memo) ⌝ }
+    requires { ⌜ TrialsGiven (now words) (now choices) last inputs (now events) (now memo) ⌝ }
     ensures { λ _. ⌜ CostliestLeft (now (words .entry)) (length (now (events .entry))) (now (events .exit)) (now (memo .exit)) ⌝ }
 {
-    let last = (sizes.terminals - 1) as u8;
-    let inputs = count_inputs(sizes.terminals, events.len());
     let mut trials = no_trials();
     while trials.next < inputs {
         let calls = try_input(words, choices, last, trials.next, events, memo);
@@ -59,20 +52,19 @@ fn leave_costliest(
 pub fn descend_costliest(words: &[u32], tokens: usize, log: &mut [u8], memo: &mut [u16]) -> Found
     ensures { λ r. ⌜ SearchesWords (now (words .entry)) tokens (now (log .entry)) (now (memo .entry)) r (now (log .exit)) (now (memo .exit)) ⌝ }
 {
-    let found = find_for_search(words, tokens, log.len(), memo.len());
-    let finding = found.finding;
-    let Finding::Passed(sizes) = finding else {
-        return found;
-    };
-    // the same for every input of the length
-    let choices = table_choices(&found.starts, sizes, Lookahead::One, &found.entries, tokens);
-    let needed = entries_of(sizes.nonterminals, tokens);
+    let prepared = prepare_search(words, tokens, log.len(), memo.len());
+    let entries = prepared.entries;
+    if entries == 0 {
+        return prepared.found;
+    }
+    let choices = prepared.choices;
     leave_costliest(
         words,
-        sizes,
         &choices,
+        prepared.last,
+        prepared.inputs,
         &mut log[..tokens],
-        &mut memo[..needed],
+        &mut memo[..entries],
     );
-    found
+    prepared.found
 }

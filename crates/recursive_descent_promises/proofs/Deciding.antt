@@ -1,7 +1,8 @@
 -- From what is found of a grammar and an input to a descent, and from the descent to what the memo table then holds.
 use mathlib.Core.Path.{_≡_, refl, sym, ap, _∙_}
 use mathlib.Core.List.{List, _++_}
-use Prim.Native.Nat.{ℕ, _+_, _*_, _≤_, _<_}
+use Prim.Native.Nat.{ℕ, _+_, _*_, _≤_, _<_, min}
+use native.Mathlib.Nat.{mul-le-mul}
 use native.Mathlib.Numerals.{add-one}
 use native.Mathlib.Omega.{arith}
 use lib.ListN.{length, replicate, take, drop, length-append, length-replicate, getD-replicate}
@@ -25,8 +26,11 @@ use Rattle.families.proofs.FewTerminals.{admitted-read, few-terminals}
 use Rattle.columns.specs.Columns.{columnCount}
 use Rattle.table.specs.contracts.Entries.{entriesOf}
 use Rattle.recognizer_promises.specs.Memory.{memoWords}
-use Rattle.recognizer_promises.specs.contracts.Judging.{Ready, PassedGiven}
-use Rattle.recognizer_promises.proofs.Judged.{needed-room, descend-given, front-left}
+use Rattle.answer.specs.declared.Error.{Error}
+use Rattle.families.specs.declared.Finding.{Finding}
+use Rattle.families.specs.declared.Finding.the-variants.{Passed, Refused}
+use Rattle.recognizer_promises.specs.contracts.Judging.{Ready, PassedGiven, DescendsWords}
+use Rattle.recognizer_promises.proofs.Judged.{needed-room, descend-given, front-left, words-refused, passed-given, words-descended}
 use Rattle.recognizer_promises.proofs.MemoWords.{words-recorded}
 use Rattle.event.specs.Events.{inputOf}
 use Rattle.event.proofs.Inputs.{input-length}
@@ -36,7 +40,7 @@ use Rattle.descent_tokens.specs.contracts.Tokens.{tokensOf}
 use Rattle.descent_tokens.proofs.TokenWords.{TokensGiven, TokensHold, column-few, tokens-hold}
 use Rattle.descent_choices.proofs.ChoiceRows.{Filled, entries-fit}
 use Rattle.descent_preparation.specs.declared.Prepared.{Prepared}
-use Rattle.descent_preparation.specs.contracts.Preparation.{InputPrepared}
+use Rattle.descent_preparation.specs.contracts.Preparation.{sizesOf, InputPrepared}
 use Rattle.recursive_descent_promises.specs.contracts.Descent.{MemoSound, CallGiven, CallRequires, CallEnsures}
 use Rattle.recursive_descent_promises.specs.contracts.Judging.{JudgeGiven}
 use Rattle.recursive_descent_promises.proofs.TableChoices.{rows-filled, choices-hold}
@@ -124,20 +128,10 @@ module _ {k : Lookahead} {words : List ℕ} {z : Sizes} {choices memo : List ℕ
         pub entries-left : memo′ ≡ memoWords k G input
         entries-left = words-recorded k G input (r .formed .scoped) (ready .free) some-nonterminal recorded
 
--- what is found of a grammar that passes: in the front of the memo table, by what is made of it
-module _ {k : Lookahead} {words : List ℕ} {z : Sizes} {starts entries memo : List ℕ} (events : List ℕ)
-    (g : PassedGiven k words z starts entries (inputOf events) memo) {p : Prepared} {memo₁ : List ℕ}
-    (m : InputPrepared k z starts entries events memo p memo₁) where
+-- what is prepared for an input: where it is refused no entry, and else those that the descent needs
+module _ {k : Lookahead} {words events memo : List ℕ} {p : Prepared} {memo₁ : List ℕ} (m : InputPrepared k words events memo p memo₁) where
   abbrev needed : ℕ
   needed = p .entries
-
-  entries-is : memoEntries (z .nonterminals) (length events) ≡ z .nonterminals * (length events + 1)
-  entries-is =
-      entries-fit (z .nonterminals) (length events) (well-read words z (admitted-read k words (g .ready .taken)) .fewNonterminals)
-      (omega (arith, g .ready .short, input-length events))
-
-  needed-is : needed ≡ z .nonterminals * (length events + 1)
-  needed-is = omega (arith, m .fitting, entries-is, needed-room events g)
 
   needed-fits : needed ≤ length memo
   needed-fits = omega (arith, m .fitting)
@@ -156,28 +150,82 @@ module _ {k : Lookahead} {words : List ℕ} {z : Sizes} {starts entries memo : L
   rest-is : drop needed memo₁ ≡ drop needed memo
   rest-is = ap (drop needed) (m .blank) ∙ drop-at (replicate needed uncalledCode) (drop needed memo) needed blank-long
 
-  judge-given : JudgeGiven k words z (p .choices) (inputOf events) (take needed memo)
-  judge-given = record {
-    given = record {
-      ready = record {
-        taken = g .ready .taken;
-        free = g .ready .free;
-        begins = refl;
-        entered = refl;
-        tokens = g .ready .tokens;
-        short = g .ready .short;
+  -- a grammar that passes, in the front of the memo table
+  module _ {z : Sizes} (q : p .found .finding ≡ Passed z) where
+    g : PassedGiven k words z (p .found .starts) (p .found .entries) (inputOf events) memo
+    g = passed-given k words (inputOf events) memo (m .finds) q
+
+    r₁ : WellRead words z
+    r₁ = well-read words z (admitted-read k words (g .ready .taken))
+
+    entries-is : memoEntries (z .nonterminals) (length events) ≡ z .nonterminals * (length events + 1)
+    entries-is = entries-fit (z .nonterminals) (length events) (r₁ .fewNonterminals) (omega (arith, g .ready .short, input-length events))
+
+    needed-is : needed ≡ z .nonterminals * (length events + 1)
+    needed-is =
+        let e : needed ≡ min (memoEntries (z .nonterminals) (length events)) (length memo) =
+        m .fitting ∙ ap (λ f. min (memoEntries (sizesOf f .nonterminals) (length events)) (length memo)) q in
+        omega (arith, e, entries-is, needed-room events g)
+
+    needed-some : 0 < needed
+    needed-some = let l = mul-le-mul {n₁ = 1} {m₁ = 1} {n₂ = z .nonterminals} {m₂ = length events + 1} (r₁ .someNonterminal) (omega arith) in
+        omega (arith, needed-is, l)
+
+    judge-given : JudgeGiven k words z (p .choices) (inputOf events) (take needed memo)
+    judge-given = record {
+      given = record {
+        ready = record {
+          taken = g .ready .taken;
+          free = g .ready .free;
+          begins = refl;
+          entered = refl;
+          tokens = g .ready .tokens;
+          short = g .ready .short;
+        };
+        size = rw needed-is (descend-given events g .size);
       };
-      size = rw needed-is (descend-given events g .size);
-    };
-    made = rw (m .choices, g .ready .begins, g .ready .entered, input-length events);
-  }
+      made = m .choices ∙ rw (q, g .ready .begins, g .ready .entered, input-length events);
+    }
 
-  -- the start can be called, and its entries are left in front of what was there
-  pub prepared-start : CallRequires words (p .choices) (p .tokens) (take needed memo₁) 0 0
-  prepared-start = start-given events judge-given (m .tokens) part-is
+    read : p .tokens ≡ tokensOf k (z .terminals) (inputOf events)
+    read = m .tokens ∙ ap (λ f. tokensOf k (sizesOf f .terminals) (inputOf events)) q
 
-  pub prepared-left : {entry : ℕ} {part : List ℕ} → CallEnsures words (p .choices) (p .tokens) (take needed memo₁) 0 0 entry part
-      → part ++ drop needed memo₁
-      ≡ memoWords k (grammarOf words) (inputOf events) ++ drop (length (memoWords k (grammarOf words) (inputOf events))) memo
-  prepared-left {entry} {part} d =
-      ap (λ y. part ++ y) rest-is ∙ rw needed-is (front-left events g (entries-left events judge-given (m .tokens) part-is d))
+    passed-start : CallRequires words (p .choices) (p .tokens) (take needed memo₁) 0 0
+    passed-start = start-given events judge-given read part-is
+
+    passed-done : {entry : ℕ} {part : List ℕ} → CallEnsures words (p .choices) (p .tokens) (take needed memo₁) 0 0 entry part
+        → DescendsWords k words (inputOf events) memo (p .found) (part ++ drop needed memo₁)
+    passed-done {entry} {part} d =
+        words-descended k words (inputOf events) memo (m .finds) q
+        (ap (λ y. part ++ y) rest-is ∙ rw needed-is (front-left events g (entries-left events judge-given read part-is d)))
+
+  -- without an entry it is refused, and nothing is changed
+  pub prepared-refused : needed ≡ 0 → DescendsWords k words (inputOf events) memo (p .found) memo₁
+  prepared-refused e = go (p .found .finding) refl
+    where
+      same : memo₁ ≡ memo
+      same = m .blank ∙ ap (λ n. replicate n uncalledCode ++ drop n memo) e
+
+      go : (f : Finding) → p .found .finding ≡ f → DescendsWords k words (inputOf events) memo (p .found) memo₁
+      go (Passed z) q = absurd (omega (arith, needed-some q, e))
+      go (Refused x) q = rw same (words-refused k words (inputOf events) memo (m .finds) q)
+
+  -- with entries the start can be called
+  module _ (some : needed ≡ 0 → ⊥) where
+    none : {x : Error} → p .found .finding ≡ Refused x → needed ≡ 0
+    unfolding memoEntries
+    none q = let e = m .fitting ∙ ap (λ f. min (memoEntries (sizesOf f .nonterminals) (length events)) (length memo)) q in omega (arith, e)
+
+    passed : (z : Sizes) × (p .found .finding ≡ Passed z)
+    passed = go (p .found .finding) refl
+      where
+        go : (f : Finding) → p .found .finding ≡ f → (z : Sizes) × (p .found .finding ≡ Passed z)
+        go (Passed z) q = (z, q)
+        go (Refused x) q = absurd (some (none q))
+
+    pub prepared-start : CallRequires words (p .choices) (p .tokens) (take needed memo₁) 0 0
+    prepared-start = passed-start (passed .1)
+
+    pub prepared-done : {entry : ℕ} {part : List ℕ} → CallEnsures words (p .choices) (p .tokens) (take needed memo₁) 0 0 entry part
+        → DescendsWords k words (inputOf events) memo (p .found) (part ++ drop needed memo₁)
+    prepared-done d = passed-done (passed .1) d

@@ -23,29 +23,34 @@ use Rattle.base.specs.Strings.{Over}
 use Rattle.event.specs.Events.{inputOf}
 use Rattle.event.proofs.Inputs.{input-own}
 use Rattle.inputs.specs.Inputs.{maxInputs}
-use Rattle.inputs.specs.contracts.Inputs.{inputAt, inputCount, noTrials, triedNext}
+use Rattle.inputs.specs.contracts.Inputs.{inputAt, noTrials, triedNext}
 use Rattle.inputs.proofs.Numbers.{at-long, at-over}
 use Rattle.inputs.proofs.Counting.{count-exact}
 use Rattle.inputs.proofs.Searching.{Searched, searched-none, searched-more, searched-less, searched-all}
 use Rattle.inputs.proofs.Greatest.{costliest-of}
 use Rattle.inputs.specs.declared.Trials.{Trials}
-use Rattle.columns.specs.Columns.{columnCount}
 use Rattle.memo_table.specs.contracts.Tally.{recordedBelow}
 use Rattle.memo_table.proofs.Tallying.{count-recorded}
-use Rattle.descent_choices.specs.contracts.Choices.{choicesOf, memoEntries}
+use Rattle.descent_choices.specs.contracts.Choices.{memoEntries}
 use Rattle.descent_choices.proofs.ChoiceRows.{entries-fit}
 use Rattle.descent_tokens.specs.contracts.Tokens.{tokensOf}
-use Rattle.descent_preparation.specs.contracts.Preparation.{TrialPrepared}
+use Rattle.descent_preparation.specs.declared.PreparedSearch.{PreparedSearch}
+use Rattle.descent_preparation.specs.contracts.Preparation.{sizesOf, SearchPrepared, TrialPrepared}
 use Rattle.recognizer_promises.specs.Memory.{memoWords}
 use Rattle.recognizer_promises.specs.CostliestInput.{callsOn}
-use Rattle.recognizer_promises.specs.contracts.Search.{SearchGiven, BestLeft}
+use Rattle.answer.specs.declared.Error.{Error}
+use Rattle.families.specs.declared.Finding.{Finding}
+use Rattle.families.specs.declared.Finding.the-variants.{Passed, Refused}
+use Rattle.recognizer_promises.specs.contracts.Search.{SearchesWords, SearchGiven}
+use Rattle.recognizer_promises.proofs.CostliestFaults.{search-refused, part-fits, part-length, search-given, search-done}
 use Rattle.recognizer_promises.proofs.Judged.{memo-count}
 use Rattle.recursive_descent_promises.specs.contracts.Descent.{CallRequires, CallEnsures}
 use Rattle.recursive_descent_promises.specs.contracts.Judging.{JudgeGiven}
 use Rattle.recursive_descent_promises.proofs.Deciding.{start-given, recorded, entries-left}
-use Rattle.recursive_descent_promises.specs.contracts.Search.{TrialGiven, NumberGiven, Tried, CostliestLeft}
+use Rattle.recursive_descent_promises.specs.contracts.Search.{TrialGiven, TrialsGiven, Tried, CostliestLeft}
 
-module _ {words : List ℕ} {z : Sizes} {choices events memo : List ℕ} (g : TrialGiven words z choices events memo) where
+-- the input of a number, as it is written
+module _ {words choices : List ℕ} {last : ℕ} {events memo : List ℕ} (g : TrialGiven words choices last events memo) where
   abbrev G : Grammar
   G = grammarOf words
 
@@ -55,37 +60,30 @@ module _ {words : List ℕ} {z : Sizes} {choices events memo : List ℕ} (g : Tr
   abbrev k : ℕ
   k = length events
 
-  read : WellRead words z
-  read = well-read words z (admitted-read One words (g .taken))
-
-  pub some-terminal : 0 < z .terminals
-  some-terminal = read .someTerminal
-
-  pub last-terminal : z .terminals - 1 + 1 ≡ z .terminals
-  last-terminal = omega (arith, some-terminal)
-
-  pub few-terminals : z .terminals ≤ 24
-  few-terminals = read .fewTerminals
+  read : WellRead words (g .sizes)
+  read = well-read words (g .sizes) (admitted-read One words (g .taken))
 
   some-token : 0 < n
   some-token = omega (arith, read .terminals, read .someTerminal)
 
-  -- the input of a number, as it is written
-  module _ (number : ℕ) {e : List ℕ} (w : e ≡ inputAt (z .terminals - 1 + 1) k number) where
-    pub named : e ≡ inputAt n k number
-    named = let q : z .terminals - 1 + 1 ≡ n = omega (arith, read .terminals, read .someTerminal) in w ∙ ap (λ m. inputAt m k number) q
+  all-terminals : last + 1 ≡ n
+  all-terminals = g .highest ∙ read .terminals
+
+  module _ (number : ℕ) {e tokens blanked : List ℕ} (m : TrialPrepared last k number memo e tokens blanked) where
+    named : e ≡ inputAt n k number
+    named = m .written ∙ ap (λ m. inputAt m k number) all-terminals
 
     over : Over n e
     over = rw named (at-over n some-token k number)
 
-    pub own : inputOf e ≡ e
+    own : inputOf e ≡ e
     own = input-own n (omega (arith, read .terminals, read .fewTerminals)) e over
 
     long : length (inputOf e) ≡ k
     long = ap length own ∙ ap length named ∙ at-long n k number
 
-    number-given : JudgeGiven One words z choices (inputOf e) memo
-    number-given = record {
+    judged : JudgeGiven One words (g .sizes) choices (inputOf e) memo
+    judged = record {
       given = record {
         ready = record {
           taken = g .taken;
@@ -100,32 +98,19 @@ module _ {words : List ℕ} {z : Sizes} {choices events memo : List ℕ} (g : Tr
       made = rw long (g .made);
     }
 
--- as a search tries it
-module _ {words choices : List ℕ} {last : ℕ} {events memo : List ℕ} (g : NumberGiven words choices last events memo) (number : ℕ)
-    {e tokens blanked : List ℕ} (m : TrialPrepared last (length events) number memo e tokens blanked) where
-  trial-written : e ≡ inputAt (g .sizes .terminals - 1 + 1) (length events) number
-  trial-written =
-      let q : last + 1 ≡ g .sizes .terminals - 1 + 1 = omega (arith, g .highest) in
-      m .written ∙ ap (λ n. inputAt n (length events) number) q
+    made : tokens ≡ tokensOf One (g .sizes .terminals) (inputOf e)
+    made = m .made ∙ ap (λ n. tokensOf One n (inputOf e)) (g .highest)
 
-  trial-judged : JudgeGiven One words (g .sizes) choices (inputOf e) memo
-  trial-judged = number-given (g .given) number trial-written
+    pub trial-start : CallRequires words choices tokens blanked 0 0
+    trial-start = start-given e judged made (m .blank)
 
-  trial-made : tokens ≡ tokensOf One (g .sizes .terminals) (inputOf e)
-  trial-made = m .made ∙ ap (λ n. tokensOf One n (inputOf e)) (g .highest)
-
-  pub trial-start : CallRequires words choices tokens blanked 0 0
-  trial-start = start-given e trial-judged trial-made (m .blank)
-
-  pub trial-done : {entry r : ℕ} {memo′ : List ℕ} → CallEnsures words choices tokens blanked 0 0 entry memo′ → r ≡ recordedBelow memo′ (length memo′)
-      → Tried words (length events) number r e memo′
-  trial-done d c =
-      let same = own (g .given) number trial-written in
-      record {
-        written = named (g .given) number trial-written;
-        entries = entries-left e trial-judged trial-made (m .blank) d ∙ ap (memoWords One (grammarOf words)) same;
-        counted = count-recorded (recorded e trial-judged trial-made (m .blank) d) c ∙ ap (callsOn (grammarOf words)) same;
-      }
+    pub trial-done : {entry r : ℕ} {memo′ : List ℕ} → CallEnsures words choices tokens blanked 0 0 entry memo′ → r ≡ recordedBelow memo′ (length memo′)
+        → Tried words k number r e memo′
+    trial-done d c = record {
+      written = named;
+      entries = entries-left e judged made (m .blank) d ∙ ap (memoWords One G) own;
+      counted = count-recorded (recorded e judged made (m .blank) d) c ∙ ap (callsOn G) own;
+    }
 
 -- the search, in the memory of now
 pub record Searching (words events₀ memo₀ events memo : List ℕ) (t : Trials) : Type 0 where
@@ -133,22 +118,29 @@ pub record Searching (words events₀ memo₀ events memo : List ℕ) (t : Trial
   pub same-length : length events ≡ length events₀
   pub same-memo : length memo ≡ length memo₀
 
-module _ {words : List ℕ} {z : Sizes} {choices events memo : List ℕ} (g : TrialGiven words z choices events memo) where
+module _ {words choices : List ℕ} {last inputs : ℕ} {events memo : List ℕ} (a : TrialsGiven words choices last inputs events memo) where
+  abbrev g : TrialGiven words choices last events memo
+  g = a .trial
+
   pub searching-start : {t : Trials} → t ≡ noTrials → Searching words events memo events memo t
   searching-start e = record { searched = rw e (searched-none (callsOn (G g)) (n g) (some-token g) (length events)); same-length = refl; same-memo = refl }
 
+  exact : inputs ≡ g .sizes .terminals ^ length events
+  exact = a .counted ∙ count-exact (g .sizes .terminals) (length events) (g .few)
+
   -- all inputs are tried
-  all-counted : {inputs : ℕ} → inputs ≡ inputCount (z .terminals) (length events) → inputs ≡ n g ^ length events
-  all-counted e = e ∙ count-exact (z .terminals) (length events) (g .few) ∙ ap (λ t. t ^ length events) (read g .terminals)
+  all-counted : inputs ≡ n g ^ length events
+  all-counted = exact ∙ ap (λ t. t ^ length events) (read g .terminals)
 
-  few-inputs : {inputs : ℕ} → inputs ≡ inputCount (z .terminals) (length events) → inputs ≤ maxInputs
-  few-inputs e = omega (arith, e ∙ count-exact (z .terminals) (length events) (g .few), g .few)
+  few-inputs : inputs ≤ maxInputs
+  few-inputs = omega (arith, exact, g .few)
 
-  module _ {events₁ memo₁ : List ℕ} {t : Trials} {inputs : ℕ} (s : Searching words events memo events₁ memo₁ t)
-      (e : inputs ≡ inputCount (z .terminals) (length events)) where
-    pub searching-given : TrialGiven words z choices events₁ memo₁
+  module _ {events₁ memo₁ : List ℕ} {t : Trials} (s : Searching words events memo events₁ memo₁ t) where
+    pub searching-given : TrialGiven words choices last events₁ memo₁
     searching-given = record {
+      sizes = g .sizes;
       taken = g .taken;
+      highest = g .highest;
       free = g .free;
       made = rw (s .same-length) (g .made);
       size = rw (s .same-length) (s .same-memo ∙ g .size);
@@ -167,10 +159,10 @@ module _ {words : List ℕ} {z : Sizes} {choices events memo : List ℕ} (g : Tr
     }
       where
         low : t .next < n g ^ length events
-        low = omega (arith, all-counted e)
+        low = omega (arith, all-counted)
 
         one-more : t .next % maxInputs + 1 ≡ t .next + 1
-        one-more = omega (arith, few-inputs e)
+        one-more = omega (arith, few-inputs)
 
         counted : calls ≡ callsOn (G g) (inputAt (n g) (length events) (t .next))
         counted = d .counted ∙ ap (callsOn (G g)) (d .written ∙ ap (λ j. inputAt (n g) j (t .next)) (s .same-length))
@@ -182,52 +174,112 @@ module _ {words : List ℕ} {z : Sizes} {choices events memo : List ℕ} (g : Tr
 
     -- so fewer are left to try
     pub searching-less : t .next < inputs → (calls : ℕ) {t′ : Trials} → t′ ≡ triedNext t calls → inputs - t′ .next < inputs - t .next
-    searching-less h calls q = rw q (omega (arith, few-inputs e))
+    searching-less h calls q = rw q (omega (arith, few-inputs))
 
     -- the costliest is tried last
     pub searching-done : inputs ≤ t .next → {calls : ℕ} {events₂ memo₂ : List ℕ} → Tried words (length events₁) (t .best) calls events₂ memo₂
         → CostliestLeft words (length events) events₂ memo₂
     searching-done h d =
-        let found = searched-all (callsOn (G g)) (n g) (some-token g) (length events) (s .searched) (omega (arith, all-counted e)) in
+        let found = searched-all (callsOn (G g)) (n g) (some-token g) (length events) (s .searched) (omega (arith, all-counted)) in
         record {
           written = d .written ∙ ap (λ j. inputAt (n g) j (t .best)) (s .same-length) ∙ found;
           entries = d .entries;
         }
 
--- what is found of a grammar that passes: in the front of the memo table, by the choices made of it for that many tokens
-module _ {words : List ℕ} {z : Sizes} {starts entries events memo : List ℕ} (g : SearchGiven words z starts entries events memo) {tokens needed : ℕ}
-    (long : length events ≡ tokens) (q : needed ≡ memoEntries (z .nonterminals) tokens) where
-  sizes : WellRead words z
-  sizes = well-read words z (admitted-read One words (g .taken))
+-- what is prepared for a search: where it is refused no entry, and else those that each descent needs
+module _ {words : List ℕ} {k : ℕ} (log memo : List ℕ) {p : PreparedSearch} (m : SearchPrepared words k (length log) (length memo) p) where
+  abbrev needed : ℕ
+  needed = p .entries
 
-  needed-is : needed ≡ grammarOf words .nonterminals * suc (length events)
-  needed-is =
-      q ∙ entries-fit (z .nonterminals) tokens (sizes .fewNonterminals) (omega (arith, g .short, long))
-      ∙ rw (sizes .nonterminals, ← long, add-one (length events))
+  -- a grammar that passes
+  module _ {z : Sizes} (q : p .found .finding ≡ Passed z) where
+    f : SearchGiven words z (p .found .starts) (p .found .entries) (take k log) memo
+    f = search-given words k log memo (m .finds) q
 
-  pub needed-fits : needed ≤ length memo
-  needed-fits =
-      let m = mul-le-mul {n₁ = grammarOf words .nonterminals} {m₁ = suc (length events)} {n₂ = maxNonterminals} {m₂ = maxPlaces}
-      (omega (arith, sizes .nonterminals, sizes .fewNonterminals)) (omega (arith, g .short)) in
-      omega (arith, needed-is, g .room)
+    front-long : length (take k log) ≡ k
+    front-long = part-length words k log memo (m .finds) q
 
-  pub trial-given : {choices : List ℕ} → choices ≡ choicesOf starts (z .nonterminals) (columnCount One (z .terminals)) entries tokens
-      → TrialGiven words z choices events (take needed memo)
-  trial-given c = record {
-    taken = g .taken;
-    free = g .free;
-    made = rw (c, long, g .begins, g .entered);
-    size = length-take-le needed memo needed-fits ∙ needed-is;
-    short = g .short;
-    few = g .few;
-  }
+    sizes : WellRead words z
+    sizes = well-read words z (admitted-read One words (f .taken))
 
-  pub search-left : {events′ part : List ℕ} → CostliestLeft words (length events) events′ part → BestLeft words events memo events′ (part ++ drop needed memo)
-  search-left {events′} {part} d =
-      let written = memoWords One (grammarOf words) events′ in
-      let some : 0 < grammarOf words .terminals = omega (arith, sizes .terminals, sizes .someTerminal) in
-      let same : length events′ ≡ length events =
-      ap length (d .written) ∙ costliest-of (callsOn (grammarOf words)) (grammarOf words .terminals) some (length events) .long in
-      let e : needed ≡ length written =
-      needed-is ∙ ap (λ j. grammarOf words .nonterminals * suc j) (sym same) ∙ sym (memo-count One (grammarOf words) events′) in
-      record { written = d .written; entries = ap (λ y. y ++ drop needed memo) (d .entries) ∙ ap (λ y. written ++ drop y memo) e }
+    needed-is : needed ≡ grammarOf words .nonterminals * suc k
+    needed-is =
+        m .needs ∙ ap (λ f. memoEntries (sizesOf f .nonterminals) k) q
+        ∙ entries-fit (z .nonterminals) k (sizes .fewNonterminals) (omega (arith, f .short, front-long))
+        ∙ rw (sizes .nonterminals, add-one k)
+
+    needed-some : 0 < needed
+    needed-some =
+        let l = mul-le-mul {n₁ = 1} {m₁ = 1} {n₂ = grammarOf words .nonterminals} {m₂ = suc k}
+        (omega (arith, sizes .nonterminals, sizes .someNonterminal)) (omega arith) in
+        omega (arith, needed-is, l)
+
+    passed-fits : needed ≤ length memo
+    passed-fits =
+        let l = mul-le-mul {n₁ = grammarOf words .nonterminals} {m₁ = suc k} {n₂ = maxNonterminals} {m₂ = maxPlaces}
+        (omega (arith, sizes .nonterminals, sizes .fewNonterminals)) (omega (arith, f .short, front-long)) in
+        omega (arith, needed-is, l, f .room)
+
+    passed-trials : TrialsGiven words (p .choices) (p .last) (p .inputs) (take k log) (take needed memo)
+    passed-trials = record {
+      trial = record {
+        sizes = z;
+        taken = f .taken;
+        highest = rw (m .highest, q) (omega (arith, sizes .someTerminal, sizes .fewTerminals));
+        free = f .free;
+        made = m .choices ∙ rw (q, front-long, f .begins, f .entered);
+        size = length-take-le needed memo passed-fits ∙ needed-is ∙ rw front-long;
+        short = f .short;
+        few = f .few;
+      };
+      counted = m .counted ∙ rw (q, front-long);
+    }
+
+    passed-searched : {part left : List ℕ} → CostliestLeft words (length (take k log)) part left
+        → SearchesWords words k log memo (p .found) (part ++ drop k log) (left ++ drop needed memo)
+    passed-searched {part} {left} d =
+        let written = memoWords One (grammarOf words) part in
+        let some : 0 < grammarOf words .terminals = omega (arith, sizes .terminals, sizes .someTerminal) in
+        let same : length part ≡ k =
+        ap length (d .written) ∙ costliest-of (callsOn (grammarOf words)) (grammarOf words .terminals) some (length (take k log)) .long ∙ front-long in
+        let e : needed ≡ length written =
+        needed-is ∙ ap (λ j. grammarOf words .nonterminals * suc j) (sym same) ∙ sym (memo-count One (grammarOf words) part) in
+        search-done words k log memo (m .finds) q
+        (record {
+          written = d .written;
+          entries = ap (λ y. y ++ drop needed memo) (d .entries) ∙ ap (λ y. written ++ drop y memo) e;
+        })
+
+  -- without an entry it is refused
+  pub prepared-refused : needed ≡ 0 → SearchesWords words k log memo (p .found) log memo
+  prepared-refused e = go (p .found .finding) refl
+    where
+      go : (f : Finding) → p .found .finding ≡ f → SearchesWords words k log memo (p .found) log memo
+      go (Passed z) q = absurd (omega (arith, needed-some q, e))
+      go (Refused x) q = search-refused words k log memo (m .finds) q
+
+  -- with entries the search can begin
+  module _ (some : needed ≡ 0 → ⊥) where
+    none : {x : Error} → p .found .finding ≡ Refused x → needed ≡ 0
+    unfolding memoEntries
+    none q = let e = m .needs ∙ ap (λ f. memoEntries (sizesOf f .nonterminals) k) q in omega (arith, e)
+
+    passed : (z : Sizes) × (p .found .finding ≡ Passed z)
+    passed = go (p .found .finding) refl
+      where
+        go : (f : Finding) → p .found .finding ≡ f → (z : Sizes) × (p .found .finding ≡ Passed z)
+        go (Passed z) q = (z, q)
+        go (Refused x) q = absurd (some (none q))
+
+    pub log-fits : k ≤ length log
+    log-fits = part-fits words k log memo (m .finds) (passed .1)
+
+    pub memo-fits : needed ≤ length memo
+    memo-fits = passed-fits (passed .1)
+
+    pub prepared-trials : TrialsGiven words (p .choices) (p .last) (p .inputs) (take k log) (take needed memo)
+    prepared-trials = passed-trials (passed .1)
+
+    pub prepared-searched : {part left : List ℕ} → CostliestLeft words (length (take k log)) part left
+        → SearchesWords words k log memo (p .found) (part ++ drop k log) (left ++ drop needed memo)
+    prepared-searched d = passed-searched (passed .1) d

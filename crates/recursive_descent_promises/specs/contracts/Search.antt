@@ -10,26 +10,28 @@ use Rattle.grammar.specs.declared.reading.Reading.the-variants.{Read}
 use Rattle.lookahead.specs.declared.Lookahead.the-variants.{One}
 use Rattle.admission.specs.Admission.{admission}
 use Rattle.inputs.specs.Inputs.{maxInputs}
-use Rattle.inputs.specs.contracts.Inputs.{inputAt}
+use Rattle.inputs.specs.contracts.Inputs.{inputAt, inputCount}
 use Rattle.semantics.specs.LeftRecursion.{NoLeftRecursion}
 use Rattle.recognizer_promises.specs.Memory.{memoWords}
 use Rattle.recognizer_promises.specs.CostliestInput.{callsOn, costliestInput}
 use Rattle.recursive_descent_promises.specs.contracts.Judging.{tableRows}
 
--- a grammar that passes, with its sizes; the choices and the entries for an input of that length, and not too many such inputs
-pub record TrialGiven (words : List ℕ) (z : Sizes) (choices events memo : List ℕ) : Type 0 where
-  pub taken : admission One words ≡ Read z
+-- a grammar that passes, with its sizes and the last of its terminals; the choices and the entries for an input of that length, and not too many such
+-- inputs
+pub record TrialGiven (words choices : List ℕ) (last : ℕ) (events memo : List ℕ) : Type 0 where
+  pub sizes : Sizes
+  pub taken : admission One words ≡ Read sizes
+  pub highest : last + 1 ≡ sizes .terminals
   pub free : NoLeftRecursion (grammarOf words)
-  pub made : choices ≡ tableRows One words z (length events)
+  pub made : choices ≡ tableRows One words sizes (length events)
   pub size : length memo ≡ grammarOf words .nonterminals * suc (length events)
   pub short : length events ≤ maxTokens
-  pub few : z .terminals ^ length events ≤ maxInputs
+  pub few : sizes .terminals ^ length events ≤ maxInputs
 
--- and the last of its terminals
-pub record NumberGiven (words choices : List ℕ) (last : ℕ) (events memo : List ℕ) : Type 0 where
-  pub sizes : Sizes
-  pub given : TrialGiven words sizes choices events memo
-  pub highest : last + 1 ≡ sizes .terminals
+-- and how many there are
+pub record TrialsGiven (words choices : List ℕ) (last inputs : ℕ) (events memo : List ℕ) : Type 0 where
+  pub trial : TrialGiven words choices last events memo
+  pub counted : inputs ≡ inputCount (trial .sizes .terminals) (length events)
 
 -- the input of a number is written, its entries are left, and its calls are counted
 pub record Tried (words : List ℕ) (k number calls : ℕ) (events′ memo′ : List ℕ) : Type 0 where

@@ -40,24 +40,24 @@ use Rattle.descent_steps.proofs.word_at.Reads as word-at-reads
 use Rattle.recursive_descent.proofs.descent.+call+run_body.{statement}
 use Rattle.recursive_descent.proofs.descent.+call+run_body.Tie.{close}
 
-abbrev μ-call : Measures 3 call-kinds.ps ℕ
+abbrev μ-call : Measures 4 call-kinds.ps ℕ
 μ-call κs a = 2 * level (a .1 .0 .now) (heldTokens (a .1 .1 .1 .0 .now)) (a .0) (a .1 .1 .1 .1 .1 .0) + 1
 
-abbrev μ-run-body : Measures 3 run-body-kinds.ps ℕ
+abbrev μ-run-body : Measures 4 run-body-kinds.ps ℕ
 μ-run-body κs a = 2 * level (a .1 .0 .now) (heldTokens (a .1 .1 .1 .0 .now)) (a .0) (a .1 .1 .1 .1 .1 .1 .0)
 
-abbrev call-at : ℕ → In 3 call-kinds.ps
-call-at t = and 3 call-kinds.ps (is 3 call-kinds.ps μ-call t) call.Pre
+abbrev call-at : ℕ → In 4 call-kinds.ps
+call-at t = and 4 call-kinds.ps (is 4 call-kinds.ps μ-call t) call.Pre
 
-abbrev call-below : ℕ → In 3 call-kinds.ps
-call-below t = and 3 call-kinds.ps (falls 3 call-kinds.ps _<_ μ-call t) call.Pre
+abbrev call-below : ℕ → In 4 call-kinds.ps
+call-below t = and 4 call-kinds.ps (falls 4 call-kinds.ps _<_ μ-call t) call.Pre
 
-abbrev run-body-at : ℕ → In 3 run-body-kinds.ps
-run-body-at t = and 3 run-body-kinds.ps (is 3 run-body-kinds.ps μ-run-body t) run-body.Pre
+abbrev run-body-at : ℕ → In 4 run-body-kinds.ps
+run-body-at t = and 4 run-body-kinds.ps (is 4 run-body-kinds.ps μ-run-body t) run-body.Pre
 
-abbrev run-body-below : ℕ → In 3 run-body-kinds.ps
+abbrev run-body-below : ℕ → In 4 run-body-kinds.ps
 run-body-below t =
-    and 3 run-body-kinds.ps (falls 3 run-body-kinds.ps _<_ μ-run-body t) run-body.Pre
+    and 4 run-body-kinds.ps (falls 4 run-body-kinds.ps _<_ μ-run-body t) run-body.Pre
 
 -- what each function's needs read of its callees
 abbrev call-claims : ℕ → call-lts.Claims
