@@ -49,6 +49,9 @@ pub fn before(chart: &[u64; CHART], nonterminal: u32, set: u64, start: usize, en
 pub fn add(chart: &mut [u64; CHART], nonterminals: u32, start: usize, end: usize, word: u32)
     ensures { λ _. ⌜ now (chart .exit) ≡ addedWord (now (chart .entry)) nonterminals start end word ⌝ }
 {
+    if word == 0 {
+        return;
+    }
     if NONTERMINALS < nonterminals {
         return;
     }

@@ -10,7 +10,7 @@ use rule_passes::rules::head_of;
 use word::decode;
 
 // The nonterminal of the rule that begins at an index; 0 where no rule does.
-pub fn head_at(words: &[u32], from: usize) -> u32
+fn head_at(words: &[u32], from: usize) -> u32
     ensures { λ r. ⌜ r ≡ headAt (now (words .entry)) from ⌝ }
 {
     if from < words.len() {

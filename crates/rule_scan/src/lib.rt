@@ -1,6 +1,8 @@
-// A rule asked at one span, by a pass over its words from their end. No function requires anything of its numbers.
+// A rule asked at one span, by a pass over its words from their end.
 ghost use mathlib.Core.Path.{_≡_};
 ghost use mathlib.Core.Bool.{false};
+ghost use Prim.Native.Nat.{_≤_, _<_};
+ghost use lib.ListN.{length};
 ghost use Rattle.base.specs.Choice.{choose};
 ghost use Rattle.tabular_promises.specs.contracts.Scanning.{noneOpen, beforeTerminal, beforeSymbol, scanOnto, keepsBy, askedBy};
 use chart::CHART;
@@ -12,7 +14,7 @@ use grammar::limits::RULES;
 use grammar::limits::TERMINALS;
 use grammar::reading::Sizes;
 use rule_passes::rules::end_of;
-use rule_ranks::head_at;
+use rule_passes::rules::head_of;
 use span_words::found_by;
 use tabular_promises::Scan;
 use terminal_places::STANDS;
@@ -116,14 +118,9 @@ fn keeps(
     start: usize,
     end: usize,
 ) -> bool
+    requires { ⌜ (from < to) × (to ≤ length (now words)) ⌝ }
     ensures { λ r. ⌜ r ≡ keepsBy (now (words .entry)) from to (now (stands .entry)) (now (chart .entry)) start end ⌝ }
 {
-    if words.len() < to {
-        return false;
-    }
-    if to <= from {
-        return false;
-    }
     let mut scan = none_open(end);
     let mut at = to;
     while from + 1 < at {
@@ -149,12 +146,18 @@ pub fn ask(
     ensures { λ r. ⌜ r ≡ askedBy (now (words .entry)) (now (starts .entry)) (sizes .rules) rule (now (stands .entry)) (now (chart .entry)) start end found ⌝ }
 {
     let from = starts[rule % RULES];
-    let head = head_at(words, from);
+    let to = end_of(words, starts, sizes, rule);
+    if words.len() < to {
+        return found;
+    }
+    if to <= from {
+        return found;
+    }
+    let head = head_of(decode(words[from]));
     let known = Nonterminals { bits: found };
     if known.contains(head) {
         return found;
     }
-    let to = end_of(words, starts, sizes, rule);
     let there = keeps(words, from, to, stands, chart, start, end);
     found_by(head, there, found)
 }

@@ -1,12 +1,13 @@
 -- The chart: a span's word read off it and put into it.
 use mathlib.Core.Path.{_≡_, refl, sym, ap, _∙_}
-use mathlib.Core.Bool.{Bool, true, false, _||_, or-false}
+use mathlib.Core.Bool.{Bool, true, false, _&&_, _||_, or-false}
 use mathlib.Core.List.{List}
 use Prim.Native.Nat.{ℕ, zero, suc, _+_, _-_, _*_, _/_, _^_, _≤_, _<_}
 use native.Mathlib.Decide.{ℕ-discrete}
 use native.Mathlib.Numerals.{add-one}
 use native.Mathlib.Omega.{arith}
 use lib.Bits.{bitOr, or-shifted-r}
+use lib.Dec.{leb, ltb}
 use lib.ListN.{length, getD, set, length-set}
 use lib.Seq.{getD-set-same, getD-set-other, set-getD}
 use borrow.Author.Tests.{eq-eqb, ne-eqb, lt-ltb, le-ltb, le-leb, lt-leb}
@@ -156,6 +157,17 @@ module _ (chart : List ℕ) (N start end word : ℕ) (few : N ≤ maxNonterminal
     no-more-added i {l} a h e =
         let s : i + (N - i) ≡ N = omega arith in
         h ∙ sym (adding-rest chart start end word i (N - i) e) ∙ ap (addedTo chart start end word) s ∙ added-within
+
+-- nor of a word that has no nonterminal
+pub none-added : (chart : List ℕ) (N start end word : ℕ) → word ≡ 0 → chart ≡ addedWord chart N start end word
+unfolding addedWord addedTo
+none-added chart N start end word h = by-limits (leb N maxNonterminals && ltb end maxTabularPlaces)
+  where
+    by-limits : (b : Bool) → chart ≡ choose b (addedTo chart start end word N) chart
+    by-limits true =
+        let all : 0 + N ≡ N = omega arith in
+        sym (adding-rest chart start end word 0 N (omega (arith, h))) ∙ ap (addedTo chart start end word) all
+    by-limits false = refl
 
 -- at a span of the input the nonterminals of the word have it too
 added-to : {chart : List ℕ} {N start end : ℕ} → AddGiven chart N start end → (word i : ℕ) → i ≤ N

@@ -44,7 +44,7 @@ use Rattle.tabular_promises.specs.contracts.Scanning.{Scannable, holds, 
 use Rattle.tabular_promises.specs.contracts.Filling.{RulesGiven, ruleNumbered, ruleRank, RanksGiven, LastOf, ByRank, AskGiven, Asked, SpanDerived}
 use Rattle.tabular_promises.specs.contracts.Filling.{rankBy, lastsTo, beforesTo, FillGiven}
 use Rattle.tabular_promises.proofs.Charts.{with-nonterminal}
-use Rattle.tabular_promises.proofs.Scans.{keeps-right}
+use Rattle.tabular_promises.proofs.Scans.{keeps-right, none-such, none-between}
 
 module _ {words starts : List ℕ} {z : Sizes} (k : RulesGiven words starts z) {q : ℕ} (h : q < z .rules) where
   head-is : {w : Word} {head : ℕ} → w ≡ decoded (getD words (getD starts q 0) 0) → head ≡ headOf w → head ≡ ruleNumbered words q .head
@@ -246,15 +246,32 @@ module _ {words starts : List ℕ} {z : Sizes} {q start end : ℕ} (g : AskGiven
       record { member = λ v o A. rw (rule-says chart v A, n, found-more head found A there, t .is v o) }
 
 -- what is found by asking a rule
-module _ (words starts : List ℕ) (rules q : ℕ) (stands chart : List ℕ) (start end found : ℕ) {head : ℕ} {b : Bool}
-    (e : head ≡ headAt words (getD starts (q % maxRules) 0)) (h : b ≡ has found head) where
-  pub asked-known : b ≡ true → found ≡ askedBy words starts rules q stands chart start end found
-  asked-known t = rw (← e, ← h, t)
+module _ (words starts : List ℕ) (rules q : ℕ) (stands chart : List ℕ) (start end found : ℕ) {to : ℕ} (n : to ≡ ruleEnd words starts rules q) where
+  not-kept : false ≡ keepsBy words (getD starts (q % maxRules) 0) to stands chart start end → found ≡ askedBy words starts rules q stands chart start end found
+  unfolding withNonterminal
+  not-kept k = rw (← n, ← k) (by-known (has found (headAt words (getD starts (q % maxRules) 0))))
+    where
+      by-known : (b : Bool) → found ≡ choose b found found
+      by-known true = refl
+      by-known false = refl
 
-  pub asked-scanned : {to r : ℕ} {there : Bool} → b ≡ false → to ≡ ruleEnd words starts rules q
-      → there ≡ keepsBy words (getD starts (q % maxRules) 0) to stands chart start end → r ≡ withNonterminal found head there
-      → r ≡ askedBy words starts rules q stands chart start end found
-  asked-scanned f n k m = rw (m, k, n, ← e, ← h, f)
+  pub asked-beyond : length words < to → found ≡ askedBy words starts rules q stands chart start end found
+  asked-beyond h = not-kept (none-such words (getD starts (q % maxRules) 0) to stands chart start end h)
+
+  pub asked-nothing : to ≤ length words → to ≤ getD starts (q % maxRules) 0 → found ≡ askedBy words starts rules q stands chart start end found
+  asked-nothing l h = not-kept (none-between words (getD starts (q % maxRules) 0) to stands chart start end l h)
+
+  module _ {head : ℕ} {w : Word} {b : Bool} (d : w ≡ decoded (getD words (getD starts (q % maxRules) 0) 0)) (e : head ≡ headOf w)
+      (h : b ≡ has found head) where
+    its-head : head ≡ headAt words (getD starts (q % maxRules) 0)
+    its-head = e ∙ ap headOf d
+
+    pub asked-known : b ≡ true → found ≡ askedBy words starts rules q stands chart start end found
+    asked-known t = rw (← its-head, ← h, t)
+
+    pub asked-scanned : {r : ℕ} {there : Bool} → b ≡ false → there ≡ keepsBy words (getD starts (q % maxRules) 0) to stands chart start end
+        → r ≡ withNonterminal found head there → r ≡ askedBy words starts rules q stands chart start end found
+    asked-scanned f k m = rw (m, k, n, ← its-head, ← h, f)
 
 module _ {words starts : List ℕ} {z : Sizes} {q start end : ℕ} (g : AskGiven words starts z q start end) (stands chart : List ℕ) (found : ℕ) where
   abbrev from : ℕ

@@ -4,7 +4,7 @@ use Prim.Native.Nat.{_≤_, _-_}
 use native.Mathlib.Omega.{arith}
 use Rattle.tabular_promises.specs.contracts.Chart.{addedTo}
 use Rattle.tabular_promises.proofs.PlaceSets.{digit}
-use Rattle.tabular_promises.proofs.Charts.{adding-start, adding-more, added-of-many, added-beyond, all-added, no-more-added}
+use Rattle.tabular_promises.proofs.Charts.{adding-start, adding-more, none-added, added-of-many, added-beyond, all-added, no-more-added}
 use Rattle.chart.proofs.add.Statement.{statement}
 use Rattle.chart.proofs.add.Tie as tie
 
@@ -15,37 +15,40 @@ abbrev μ-loop : tie.MeasureT-loop
 μ-loop chart₀ nonterminals start end word at₀ chart at = nonterminals - at
 
 returns : tie.Need-returns Inv-loop μ-loop
-returns c = added-of-many _ _ _ _ _ (c .if1 .taken)
+returns c = none-added _ _ _ _ _ (c .if1 .taken)
 
 returns-2 : tie.Need-returns-2 Inv-loop μ-loop
-returns-2 c = added-beyond _ _ _ _ _ (c .before .if1 .left) (c .if2 .taken)
+returns-2 c = added-of-many _ _ _ _ _ (c .if2 .taken)
+
+returns-3 : tie.Need-returns-3 Inv-loop μ-loop
+returns-3 c = added-beyond _ _ _ _ _ (c .before .if2 .left) (c .if3 .taken)
 
 loop-holds : tie.Need-loop-holds Inv-loop μ-loop
 loop-holds c = (omega arith, adding-start _ _ _ _)
 
 shr-rest : tie.Need-shr-rest Inv-loop μ-loop
-shr-rest c = omega (arith, c .loop-test .taken, c .before .before .before .if1 .left)
+shr-rest c = omega (arith, c .loop-test .taken, c .before .before .before .if2 .left)
 
-returns-3 : tie.Need-returns-3 Inv-loop μ-loop
-returns-3 c =
+returns-4 : tie.Need-returns-4 Inv-loop μ-loop
+returns-4 c =
     let at-loop = c .before .before in
     let within = at-loop .before in
-    no-more-added _ _ _ _ _ (within .before .if1 .left) (within .if2 .left) (at-loop .loop .at) (at-loop .loop .inv .0) (at-loop .loop .inv .1) (c .if3 .taken)
+    no-more-added _ _ _ _ _ (within .before .if2 .left) (within .if3 .left) (at-loop .loop .at) (at-loop .loop .inv .0) (at-loop .loop .inv .1) (c .if4 .taken)
 
 cast-slot : tie.Need-cast-slot Inv-loop μ-loop
 cast-slot c = omega arith
 
 mul-slot : tie.Need-mul-slot Inv-loop μ-loop
-mul-slot c = let within = c .before .before .before in omega (arith, c .before .loop-test .taken, within .before .if1 .left, within .if2 .left)
+mul-slot c = let within = c .before .before .before in omega (arith, c .before .loop-test .taken, within .before .if2 .left, within .if3 .left)
 
 add-slot : tie.Need-add-slot Inv-loop μ-loop
-add-slot c = let within = c .before .before .before in omega (arith, c .before .loop-test .taken, within .before .if1 .left, within .if2 .left)
+add-slot c = let within = c .before .before .before in omega (arith, c .before .loop-test .taken, within .before .if2 .left, within .if3 .left)
 
 mul-put : tie.Need-mul-put Inv-loop μ-loop
-mul-put c = let within = c .before .before .before in omega (arith, c .before .loop-test .taken, within .before .if1 .left, within .if2 .left)
+mul-put c = let within = c .before .before .before in omega (arith, c .before .loop-test .taken, within .before .if2 .left, within .if3 .left)
 
 element-copy-out-put : tie.Need-element-copy-out-put Inv-loop μ-loop
-element-copy-out-put c = let within = c .before .before .before in omega (arith, c .before .loop-test .taken, within .before .if1 .left, within .if2 .left)
+element-copy-out-put c = let within = c .before .before .before in omega (arith, c .before .loop-test .taken, within .before .if2 .left, within .if3 .left)
 
 put-requires : tie.Need-put-requires Inv-loop μ-loop
 put-requires c κs = tt
@@ -54,13 +57,13 @@ mul-chart : tie.Need-mul-chart Inv-loop μ-loop
 mul-chart c =
     let at-loop-test = c .before .before .before in
     let within = at-loop-test .before .before in
-    omega (arith, at-loop-test .loop-test .taken, within .before .if1 .left, within .if2 .left)
+    omega (arith, at-loop-test .loop-test .taken, within .before .if2 .left, within .if3 .left)
 
 element-write-chart : tie.Need-element-write-chart Inv-loop μ-loop
 element-write-chart c =
     let at-loop-test = c .before .before .before in
     let within = at-loop-test .before .before in
-    omega (arith, at-loop-test .loop-test .taken, within .before .if1 .left, within .if2 .left)
+    omega (arith, at-loop-test .loop-test .taken, within .before .if2 .left, within .if3 .left)
 
 add-at : tie.Need-add-at Inv-loop μ-loop
 add-at c = omega (arith, c .before .before .before .loop-test .taken)
@@ -72,16 +75,16 @@ loop-again : tie.Need-loop-again Inv-loop μ-loop
 loop-again c =
     let at-loop-test = c .before .before .before in
     let at-loop = at-loop-test .before in
-    let start = at-loop .before .before .before in (
+    let start = at-loop .before .before .before .before in (
       omega (arith, at-loop-test .loop-test .taken),
       adding-more _ _ _ _ (at-loop .loop .at) (at-loop .loop .inv .1) (digit (start .args .word) (at-loop .loop .at)) (c .put .ensures),
     )
 
-returns-4 : tie.Need-returns-4 Inv-loop μ-loop
-returns-4 c =
+returns-5 : tie.Need-returns-5 Inv-loop μ-loop
+returns-5 c =
     let at-loop = c .before in
     let within = at-loop .before in
-    all-added _ _ _ _ _ (within .before .if1 .left) (within .if2 .left) (at-loop .loop .at) (at-loop .loop .inv .0) (c .loop-test .left) (at-loop .loop .inv .1)
+    all-added _ _ _ _ _ (within .before .if2 .left) (within .if3 .left) (at-loop .loop .at) (at-loop .loop .inv .0) (c .loop-test .left) (at-loop .loop .inv .1)
 
 pub add-spec : {M : Type 1} → statement M
 add-spec =
@@ -91,9 +94,10 @@ add-spec =
     μ-loop
     returns
     returns-2
+    returns-3
     loop-holds
     shr-rest
-    returns-3
+    returns-4
     cast-slot
     mul-slot
     add-slot
@@ -105,4 +109,4 @@ add-spec =
     add-at
     loop-less
     loop-again
-    returns-4)
+    returns-5)
