@@ -45,7 +45,7 @@ pub fn before(chart: &[u64; CHART], nonterminal: u32, set: u64, start: usize, en
     found
 }
 
-// The chart gives a span to the nonterminals of a word too, of those below a number, up to the last of them.
+// The chart gives a span to the nonterminals of a word too, of those below a number, from the first of them to the last.
 pub fn add(chart: &mut [u64; CHART], nonterminals: u32, start: usize, end: usize, word: u32)
     ensures { λ _. ⌜ now (chart .exit) ≡ addedWord (now (chart .entry)) nonterminals start end word ⌝ }
 {
@@ -58,7 +58,7 @@ pub fn add(chart: &mut [u64; CHART], nonterminals: u32, start: usize, end: usize
     if TABULAR_PLACES <= end {
         return;
     }
-    let mut at = 0;
+    let mut at = u32::trailing_zeros(word);
     while at < nonterminals {
         let rest = word >> at;
         if rest == 0 {

@@ -2,11 +2,14 @@
 use mathlib.Core.Path.{_≡_, refl, sym, ap, _∙_}
 use mathlib.Core.Bool.{Bool, true, false, _&&_, _||_, or-false}
 use mathlib.Core.List.{List}
-use Prim.Native.Nat.{ℕ, zero, suc, _+_, _-_, _*_, _/_, _^_, _≤_, _<_}
+use mathlib.Core.Logic.{_⊎_, inl, inr}
+use Prim.Native.Nat.{ℕ, zero, suc, _+_, _-_, _*_, _/_, _%_, _^_, _≤_, _<_}
 use native.Mathlib.Decide.{ℕ-discrete}
+use native.Mathlib.Nat.{div-one}
 use native.Mathlib.Numerals.{add-one}
 use native.Mathlib.Omega.{arith}
 use lib.Bits.{bitOr, or-shifted-r}
+use lib.Count.{trailingZeros, under}
 use lib.Dec.{leb, ltb}
 use lib.ListN.{length, getD, set, length-set}
 use lib.Seq.{getD-set-same, getD-set-other, set-getD}
@@ -14,7 +17,7 @@ use borrow.Author.Tests.{eq-eqb, ne-eqb, lt-ltb, le-ltb, le-leb, lt-leb}
 use Rattle.base.specs.Choice.{choose}
 use Rattle.grammar.specs.Limits.{maxNonterminals, maxTabularPlaces}
 use Rattle.lookahead.specs.Elements.{weight, has, totalWeight}
-use Rattle.lookahead.proofs.Elements.{has-shift, has-zero}
+use Rattle.lookahead.proofs.Elements.{has-shift, has-zero, has-suc}
 use Rattle.lookahead.proofs.Weights.{total-bound}
 use Rattle.tabular_promises.specs.contracts.Places.{hasPlace, withPlace, PlacePut}
 use Rattle.tabular_promises.specs.contracts.Chart.{slot, charted, Long, oneNonterminal, withNonterminal, WordGiven, chartWordAt, foundWord}
@@ -113,10 +116,6 @@ added-more {before} {chart} {chart′} {i} {start} {end} {word} {r} {t} h o q e 
         rw (getD-set-other chart (slot i end) (slot A m) r 0 s) (h .others A k m a b (λ l y z. d (omega arith) y z))
 
 -- the nonterminals of a word put in one by one
-pub adding-start : (chart : List ℕ) (start end word : ℕ) → chart ≡ addedTo chart start end word 0
-unfolding addedTo
-adding-start chart start end word = refl
-
 pub adding-more : (chart : List ℕ) (start end word i : ℕ) {l : List ℕ} {r : ℕ} {t : Bool} → l ≡ addedTo chart start end word i → t ≡ has word i
     → r ≡ withPlace (getD l (slot i end) 0) start t → set l (slot i end) r ≡ addedTo chart start end word (i + 1)
 unfolding addedTo
@@ -150,7 +149,7 @@ module _ (chart : List ℕ) (N start end word : ℕ) (few : N ≤ maxNonterminal
     unfolding addedWord
     added-within = rw (le-leb N maxNonterminals few, lt-ltb end maxTabularPlaces short)
 
-    pub all-added : (i : ℕ) {l : List ℕ} → i ≤ N → N ≤ i → l ≡ addedTo chart start end word i → l ≡ addedWord chart N start end word
+    all-added : (i : ℕ) {l : List ℕ} → i ≤ N → N ≤ i → l ≡ addedTo chart start end word i → l ≡ addedWord chart N start end word
     all-added i {l} a b h = let e : i ≡ N = omega arith in (rw e at h) ∙ added-within
 
     pub no-more-added : (i : ℕ) {l : List ℕ} → i ≤ N → l ≡ addedTo chart start end word i → word / 2 ^ i ≡ 0 → l ≡ addedWord chart N start end word
@@ -168,6 +167,32 @@ none-added chart N start end word h = by-limits (leb N maxNonterminals && ltb en
         let all : 0 + N ≡ N = omega arith in
         sym (adding-rest chart start end word 0 N (omega (arith, h))) ∙ ap (addedTo chart start end word) all
     by-limits false = refl
+
+-- nor before its first nonterminal
+by-digit : (word i t d : ℕ) → ((j : ℕ) → j < t → has (word / 2) j ≡ false) → word % 2 ≡ d → i < under d t → has word i ≡ false
+unfolding has
+by-digit word i t (suc d) f e l = absurd (omega arith)
+by-digit word zero t zero f e l = rw (div-one word, e)
+by-digit word (suc j) t zero f e l = has-suc word j ∙ f j (omega arith)
+
+none-before : (k word i : ℕ) → i < trailingZeros k word → has word i ≡ false
+unfolding trailingZeros
+none-before zero word i h = absurd (omega arith)
+none-before (suc k) word i h = by-digit word i (trailingZeros k (word / 2)) (word % 2) (none-before k (word / 2)) refl h
+
+pub first-added : (chart : List ℕ) (start end word n : ℕ) → n ≤ trailingZeros 32 word → chart ≡ addedTo chart start end word n
+unfolding addedTo
+first-added chart start end word zero h = refl
+first-added chart start end word (suc n) h =
+    first-added chart start end word n (omega arith) ∙ sym (adding-none chart start end word n (none-before 32 word n (omega arith)))
+
+-- gone through as far as there are nonterminals, or not begun where its first is none of them
+pub last-added : (chart : List ℕ) (N start end word i : ℕ) {l : List ℕ} → N ≤ maxNonterminals → end < maxTabularPlaces
+    → (i ≤ N) ⊎ (i ≤ trailingZeros 32 word) → N ≤ i → l ≡ addedTo chart start end word i → l ≡ addedWord chart N start end word
+last-added chart N start end word i few short (inl a) b h = all-added chart N start end word few short i a b h
+last-added chart N start end word i few short (inr a) b h =
+    h ∙ sym (first-added chart start end word i a) ∙ first-added chart start end word N (omega arith)
+    ∙ added-within chart N start end word few short
 
 -- at a span of the input the nonterminals of the word have it too
 added-to : {chart : List ℕ} {N start end : ℕ} → AddGiven chart N start end → (word i : ℕ) → i ≤ N

@@ -1,15 +1,17 @@
--- The loop keeps the chart with the nonterminals gone through; where the word has no more, the others have nothing to add.
+-- The loop keeps the chart with the nonterminals gone through, from the first of the word on; where the word has no more, the others have nothing to add.
 use mathlib.Core.Path.{_≡_}
+use mathlib.Core.Logic.{_⊎_, inl, inr}
 use Prim.Native.Nat.{_≤_, _-_}
 use native.Mathlib.Omega.{arith}
+use lib.Count.{trailingZeros}
 use Rattle.tabular_promises.specs.contracts.Chart.{addedTo}
 use Rattle.tabular_promises.proofs.PlaceSets.{digit}
-use Rattle.tabular_promises.proofs.Charts.{adding-start, adding-more, none-added, added-of-many, added-beyond, all-added, no-more-added}
+use Rattle.tabular_promises.proofs.Charts.{first-added, adding-more, none-added, added-of-many, added-beyond, no-more-added, last-added}
 use Rattle.chart.proofs.add.Statement.{statement}
 use Rattle.chart.proofs.add.Tie as tie
 
 abbrev Inv-loop : tie.InvT-loop
-Inv-loop chart₀ nonterminals start end word at₀ chart at = (at ≤ nonterminals) × (chart ≡ addedTo chart₀ start end word at)
+Inv-loop chart₀ nonterminals start end word at₀ chart at = ((at ≤ nonterminals) ⊎ (at ≤ trailingZeros 32 word)) × (chart ≡ addedTo chart₀ start end word at)
 
 abbrev μ-loop : tie.MeasureT-loop
 μ-loop chart₀ nonterminals start end word at₀ chart at = nonterminals - at
@@ -24,7 +26,9 @@ returns-3 : tie.Need-returns-3 Inv-loop μ-loop
 returns-3 c = added-beyond _ _ _ _ _ (c .before .if2 .left) (c .if3 .taken)
 
 loop-holds : tie.Need-loop-holds Inv-loop μ-loop
-loop-holds c = (omega arith, adding-start _ _ _ _)
+loop-holds c =
+    let args = c .before .before .before .args in
+    (inr (omega arith), first-added (args .chart .now) (args .start) (args .end) (args .word) (trailingZeros 32 (args .word)) (omega arith))
 
 shr-rest : tie.Need-shr-rest Inv-loop μ-loop
 shr-rest c = omega (arith, c .loop-test .taken, c .before .before .before .if2 .left)
@@ -33,7 +37,8 @@ returns-4 : tie.Need-returns-4 Inv-loop μ-loop
 returns-4 c =
     let at-loop = c .before .before in
     let within = at-loop .before in
-    no-more-added _ _ _ _ _ (within .before .if2 .left) (within .if3 .left) (at-loop .loop .at) (at-loop .loop .inv .0) (at-loop .loop .inv .1) (c .if4 .taken)
+    no-more-added _ _ _ _ _ (within .before .if2 .left) (within .if3 .left) (at-loop .loop .at) (omega (arith, c .before .loop-test .taken))
+    (at-loop .loop .inv .1) (c .if4 .taken)
 
 cast-slot : tie.Need-cast-slot Inv-loop μ-loop
 cast-slot c = omega arith
@@ -76,7 +81,7 @@ loop-again c =
     let at-loop-test = c .before .before .before in
     let at-loop = at-loop-test .before in
     let start = at-loop .before .before .before .before in (
-      omega (arith, at-loop-test .loop-test .taken),
+      inl (omega (arith, at-loop-test .loop-test .taken)),
       adding-more _ _ _ _ (at-loop .loop .at) (at-loop .loop .inv .1) (digit (start .args .word) (at-loop .loop .at)) (c .put .ensures),
     )
 
@@ -84,7 +89,8 @@ returns-5 : tie.Need-returns-5 Inv-loop μ-loop
 returns-5 c =
     let at-loop = c .before in
     let within = at-loop .before in
-    all-added _ _ _ _ _ (within .before .if2 .left) (within .if3 .left) (at-loop .loop .at) (at-loop .loop .inv .0) (c .loop-test .left) (at-loop .loop .inv .1)
+    last-added _ _ _ _ _ (at-loop .loop .at) (within .before .if2 .left) (within .if3 .left) (at-loop .loop .inv .0) (c .loop-test .left)
+    (at-loop .loop .inv .1)
 
 pub add-spec : {M : Type 1} → statement M
 add-spec =
