@@ -1,14 +1,15 @@
-// The chart of the tabular judge, for each nonterminal and end the set of the starts of the spans that it derives: what is read off it. No
-// function requires anything of its numbers.
+// The chart of the tabular judge, for each nonterminal and end the set of the starts of the spans that it derives: what is put into it and
+// read off it. No function requires anything of its numbers.
 ghost use mathlib.Core.Path.{_≡_};
 ghost use lib.Bits.{bitOr};
 ghost use Rattle.base.specs.Choice.{choose};
-ghost use Rattle.tabular_promises.specs.contracts.Chart.{placesBefore, chartVerdict};
+ghost use Rattle.tabular_promises.specs.contracts.Chart.{placesBefore, addedWord, chartVerdict};
 use answer::Answer;
 use answer::Calls;
 use grammar::limits::NONTERMINALS;
 use grammar::limits::TABULAR_PLACES;
 use places::contains;
+use places::put;
 
 pub mod places;
 
@@ -42,6 +43,31 @@ pub fn before(chart: &[u64; CHART], nonterminal: u32, set: u64, start: usize, en
         at = at + 1;
     }
     found
+}
+
+// The chart gives a span to the nonterminals of a word too, of those below a number, from the first of them to the last.
+pub fn add(chart: &mut [u64; CHART], nonterminals: u32, start: usize, end: usize, word: u32)
+    ensures { λ _. ⌜ now (chart .exit) ≡ addedWord (now (chart .entry)) nonterminals start end word ⌝ }
+{
+    if word == 0 {
+        return;
+    }
+    if NONTERMINALS < nonterminals {
+        return;
+    }
+    if TABULAR_PLACES <= end {
+        return;
+    }
+    let mut at = u32::trailing_zeros(word);
+    while at < nonterminals {
+        let rest = word >> at;
+        if rest == 0 {
+            return;
+        }
+        let slot = at as usize * TABULAR_PLACES + end;
+        chart[slot] = put(chart[slot], start, rest & 1 == 1);
+        at = at + 1;
+    }
 }
 
 // The verdict on an input of so many tokens: whether nonterminal 0 has all of it. No call is made.

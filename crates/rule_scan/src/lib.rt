@@ -1,20 +1,26 @@
-// A rule read at one span, by a pass over its words from their end.
+// A rule asked at one span, by a pass over its words from their end.
 ghost use mathlib.Core.Path.{_≡_};
 ghost use mathlib.Core.Bool.{false};
+ghost use Prim.Native.Nat.{_≤_, _<_};
+ghost use lib.ListN.{length};
 ghost use Rattle.base.specs.Choice.{choose};
-ghost use Rattle.tabular_promises.specs.contracts.Scanning.{noneOpen, beforeTerminal, beforeSymbol, scanOnto, keepsBy};
+ghost use Rattle.tabular_promises.specs.contracts.Scanning.{noneOpen, beforeTerminal, beforeSymbol, scanOnto, keepsBy, askedBy};
 use chart::CHART;
 use chart::before;
 use chart::places::contains;
 use chart::places::one_place;
+use families::nonterminals::Nonterminals;
+use grammar::limits::RULES;
 use grammar::limits::TERMINALS;
+use grammar::reading::Sizes;
+use rule_passes::rules::end_of;
+use rule_passes::rules::head_of;
+use span_words::found_by;
 use tabular_promises::Scan;
+use terminal_places::STANDS;
 use word::Symbol;
 use word::Word;
 use word::decode;
-
-// For each terminal, the places where it stands.
-pub const STANDS: usize = TERMINALS as usize;
 
 // Where nothing of a rule is open: nothing is left of a body, and no conjunct is behind.
 fn none_open(end: usize) -> Scan
@@ -103,7 +109,7 @@ fn onto(
 }
 
 // Whether the rule whose words stand behind one index and before another holds at a span, where bodies are read by the chart.
-pub fn keeps(
+fn keeps(
     words: &[u32],
     from: usize,
     to: usize,
@@ -112,14 +118,9 @@ pub fn keeps(
     start: usize,
     end: usize,
 ) -> bool
+    requires { ⌜ (from < to) × (to ≤ length (now words)) ⌝ }
     ensures { λ r. ⌜ r ≡ keepsBy (now (words .entry)) from to (now (stands .entry)) (now (chart .entry)) start end ⌝ }
 {
-    if words.len() < to {
-        return false;
-    }
-    if to <= from {
-        return false;
-    }
     let mut scan = none_open(end);
     let mut at = to;
     while from + 1 < at {
@@ -128,4 +129,35 @@ pub fn keeps(
         scan = onto(word, scan, stands, chart, start, end);
     }
     scan.kept
+}
+
+// The nonterminals found to have a span, with that of a rule where the rule gives it the span. The rule is not asked where another one has given it.
+pub fn ask(
+    words: &[u32],
+    starts: &[usize; RULES],
+    sizes: Sizes,
+    rule: usize,
+    found: u32,
+    stands: &[u64; STANDS],
+    chart: &[u64; CHART],
+    start: usize,
+    end: usize,
+) -> u32
+    ensures { λ r. ⌜ r ≡ askedBy (now (words .entry)) (now (starts .entry)) (sizes .rules) rule (now (stands .entry)) (now (chart .entry)) start end found ⌝ }
+{
+    let from = starts[rule % RULES];
+    let to = end_of(words, starts, sizes, rule);
+    if words.len() < to {
+        return found;
+    }
+    if to <= from {
+        return found;
+    }
+    let head = head_of(decode(words[from]));
+    let known = Nonterminals { bits: found };
+    if known.contains(head) {
+        return found;
+    }
+    let there = keeps(words, from, to, stands, chart, start, end);
+    found_by(head, there, found)
 }

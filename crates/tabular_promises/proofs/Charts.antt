@@ -1,24 +1,28 @@
 -- The chart: a span's word read off it and put into it.
 use mathlib.Core.Path.{_≡_, refl, sym, ap, _∙_}
-use mathlib.Core.Bool.{Bool, true, false, _||_, or-false}
+use mathlib.Core.Bool.{Bool, true, false, _&&_, _||_, or-false}
 use mathlib.Core.List.{List}
-use Prim.Native.Nat.{ℕ, suc, _+_, _-_, _*_, _/_, _^_, _≤_, _<_}
-use native.Mathlib.Decide.{ℕ-discrete, decLt}
+use mathlib.Core.Logic.{_⊎_, inl, inr}
+use Prim.Native.Nat.{ℕ, zero, suc, _+_, _-_, _*_, _/_, _%_, _^_, _≤_, _<_}
+use native.Mathlib.Decide.{ℕ-discrete}
+use native.Mathlib.Nat.{div-one}
 use native.Mathlib.Numerals.{add-one}
 use native.Mathlib.Omega.{arith}
 use lib.Bits.{bitOr, or-shifted-r}
+use lib.Count.{trailingZeros, under}
+use lib.Dec.{leb, ltb}
 use lib.ListN.{length, getD, set, length-set}
-use lib.Seq.{getD-set-same, getD-set-other}
+use lib.Seq.{getD-set-same, getD-set-other, set-getD}
 use borrow.Author.Tests.{eq-eqb, ne-eqb, lt-ltb, le-ltb, le-leb, lt-leb}
 use Rattle.base.specs.Choice.{choose}
 use Rattle.grammar.specs.Limits.{maxNonterminals, maxTabularPlaces}
 use Rattle.lookahead.specs.Elements.{weight, has, totalWeight}
-use Rattle.lookahead.proofs.Elements.{has-shift, has-zero}
+use Rattle.lookahead.proofs.Elements.{has-shift, has-zero, has-suc}
 use Rattle.lookahead.proofs.Weights.{total-bound}
-use Rattle.tabular_promises.specs.contracts.Places.{hasPlace, PlacePut}
+use Rattle.tabular_promises.specs.contracts.Places.{hasPlace, withPlace, PlacePut}
 use Rattle.tabular_promises.specs.contracts.Chart.{slot, charted, Long, oneNonterminal, withNonterminal, WordGiven, chartWordAt, foundWord}
-use Rattle.tabular_promises.specs.contracts.Chart.{spanWord, Added}
-use Rattle.tabular_promises.proofs.PlaceSets.{has-place}
+use Rattle.tabular_promises.specs.contracts.Chart.{spanWord, Added, AddGiven, addedTo, addedWord}
+use Rattle.tabular_promises.proofs.PlaceSets.{has-place, with-place}
 use Rattle.tabular_promises.proofs.Writing.{total-cong}
 
 -- one weight more
@@ -78,10 +82,10 @@ span-word chart N start end g =
     ∙ total-cong N _ _ (λ A l. has-place (getD chart (slot A end) 0) start (omega (arith, g .span .forward, g .span .short)))
 
 -- the bits of the nonterminals below i have been put in
-pub added-start : (chart : List ℕ) (start end word : ℕ) → Long chart → Added chart 0 start end word chart
+added-start : (chart : List ℕ) (start end word : ℕ) → Long chart → Added chart 0 start end word chart
 added-start chart start end word n = record { long = n; here = λ A h. absurd (omega arith); others = λ A k m a b d. refl }
 
-pub added-more : {before chart chart′ : List ℕ} {i start end word r : ℕ} {t : Bool} → Added before i start end word chart → i < maxNonterminals
+added-more : {before chart chart′ : List ℕ} {i start end word r : ℕ} {t : Bool} → Added before i start end word chart → i < maxNonterminals
     → end < maxTabularPlaces → t ≡ has word i → PlacePut (getD chart (slot i end) 0) start t r → chart′ ≡ set chart (slot i end) r
     → Added before (i + 1) start end word chart′
 unfolding charted
@@ -111,18 +115,97 @@ added-more {before} {chart} {chart′} {i} {start} {end} {word} {r} {t} h o q e 
     old A k m a b d (no s) =
         rw (getD-set-other chart (slot i end) (slot A m) r 0 s) (h .others A k m a b (λ l y z. d (omega arith) y z))
 
+-- the nonterminals of a word put in one by one
+pub adding-more : (chart : List ℕ) (start end word i : ℕ) {l : List ℕ} {r : ℕ} {t : Bool} → l ≡ addedTo chart start end word i → t ≡ has word i
+    → r ≡ withPlace (getD l (slot i end) 0) start t → set l (slot i end) r ≡ addedTo chart start end word (i + 1)
+unfolding addedTo
+adding-more chart start end word i h e f = rw (f, e, h, add-one i)
+
 -- behind the last nonterminal of the word there is none to put in
-pub added-rest : {before chart : List ℕ} {i N start end word : ℕ} → Added before i start end word chart → i ≤ N → N ≤ maxNonterminals
-    → end < maxTabularPlaces → word / 2 ^ i ≡ 0 → Added before N start end word chart
-added-rest {before} {chart} {i} {N} {start} {end} {word} h l few q e = record {
-  long = h .long;
-  here = λ A b. here A b (decLt A i);
-  others = λ A k m a b d. h .others A k m a b (λ o y z. d (omega arith) y z);
-}
+adding-none : (chart : List ℕ) (start end word i : ℕ) → has word i ≡ false → addedTo chart start end word (suc i) ≡ addedTo chart start end word i
+unfolding addedTo withPlace
+adding-none chart start end word i e = rw (e, set-getD)
+
+adding-rest : (chart : List ℕ) (start end word i n : ℕ) → word / 2 ^ i ≡ 0 → addedTo chart start end word (i + n) ≡ addedTo chart start end word i
+adding-rest chart start end word i zero e = ap (addedTo chart start end word) (omega arith)
+adding-rest chart start end word i (suc n) e =
+    let s : i + suc n ≡ suc (i + n) = omega arith in
+    ap (addedTo chart start end word) s
+    ∙ adding-none chart start end word (i + n) (sym (has-shift word i n) ∙ ap (λ (x : ℕ). has x n) e ∙ has-zero n)
+    ∙ adding-rest chart start end word i n e
+
+-- beyond the limits nothing is put in
+pub added-of-many : (chart : List ℕ) (N start end word : ℕ) → maxNonterminals < N → chart ≡ addedWord chart N start end word
+unfolding addedWord
+added-of-many chart N start end word h = rw (lt-leb N maxNonterminals h)
+
+module _ (chart : List ℕ) (N start end word : ℕ) (few : N ≤ maxNonterminals) where
+  pub added-beyond : maxTabularPlaces ≤ end → chart ≡ addedWord chart N start end word
+  unfolding addedWord
+  added-beyond h = rw (le-leb N maxNonterminals few, le-ltb end maxTabularPlaces h)
+
+  module _ (short : end < maxTabularPlaces) where
+    added-within : addedTo chart start end word N ≡ addedWord chart N start end word
+    unfolding addedWord
+    added-within = rw (le-leb N maxNonterminals few, lt-ltb end maxTabularPlaces short)
+
+    all-added : (i : ℕ) {l : List ℕ} → i ≤ N → N ≤ i → l ≡ addedTo chart start end word i → l ≡ addedWord chart N start end word
+    all-added i {l} a b h = let e : i ≡ N = omega arith in (rw e at h) ∙ added-within
+
+    pub no-more-added : (i : ℕ) {l : List ℕ} → i ≤ N → l ≡ addedTo chart start end word i → word / 2 ^ i ≡ 0 → l ≡ addedWord chart N start end word
+    no-more-added i {l} a h e =
+        let s : i + (N - i) ≡ N = omega arith in
+        h ∙ sym (adding-rest chart start end word i (N - i) e) ∙ ap (addedTo chart start end word) s ∙ added-within
+
+-- nor of a word that has no nonterminal
+pub none-added : (chart : List ℕ) (N start end word : ℕ) → word ≡ 0 → chart ≡ addedWord chart N start end word
+unfolding addedWord addedTo
+none-added chart N start end word h = by-limits (leb N maxNonterminals && ltb end maxTabularPlaces)
   where
-    here : (A : ℕ) → A < N → Dec (A < i) → charted chart A start end ≡ (charted before A start end || has word A)
-    here A b (yes o) = h .here A o
-    here A b (no o) =
-        let s : A ≡ i + (A - i) = omega arith in
-        rw (ap (has word) s ∙ sym (has-shift word i (A - i)) ∙ ap (λ (n : ℕ). has n (A - i)) e ∙ has-zero (A - i), or-false)
-        (h .others A start end (omega arith) q (λ p _ _. o p))
+    by-limits : (b : Bool) → chart ≡ choose b (addedTo chart start end word N) chart
+    by-limits true =
+        let all : 0 + N ≡ N = omega arith in
+        sym (adding-rest chart start end word 0 N (omega (arith, h))) ∙ ap (addedTo chart start end word) all
+    by-limits false = refl
+
+-- nor before its first nonterminal
+by-digit : (word i t d : ℕ) → ((j : ℕ) → j < t → has (word / 2) j ≡ false) → word % 2 ≡ d → i < under d t → has word i ≡ false
+unfolding has
+by-digit word i t (suc d) f e l = absurd (omega arith)
+by-digit word zero t zero f e l = rw (div-one word, e)
+by-digit word (suc j) t zero f e l = has-suc word j ∙ f j (omega arith)
+
+none-before : (k word i : ℕ) → i < trailingZeros k word → has word i ≡ false
+unfolding trailingZeros
+none-before zero word i h = absurd (omega arith)
+none-before (suc k) word i h = by-digit word i (trailingZeros k (word / 2)) (word % 2) (none-before k (word / 2)) refl h
+
+pub first-added : (chart : List ℕ) (start end word n : ℕ) → n ≤ trailingZeros 32 word → chart ≡ addedTo chart start end word n
+unfolding addedTo
+first-added chart start end word zero h = refl
+first-added chart start end word (suc n) h =
+    first-added chart start end word n (omega arith) ∙ sym (adding-none chart start end word n (none-before 32 word n (omega arith)))
+
+-- gone through as far as there are nonterminals, or not begun where its first is none of them
+pub last-added : (chart : List ℕ) (N start end word i : ℕ) {l : List ℕ} → N ≤ maxNonterminals → end < maxTabularPlaces
+    → (i ≤ N) ⊎ (i ≤ trailingZeros 32 word) → N ≤ i → l ≡ addedTo chart start end word i → l ≡ addedWord chart N start end word
+last-added chart N start end word i few short (inl a) b h = all-added chart N start end word few short i a b h
+last-added chart N start end word i few short (inr a) b h =
+    h ∙ sym (first-added chart start end word i a) ∙ first-added chart start end word N (omega arith)
+    ∙ added-within chart N start end word few short
+
+-- at a span of the input the nonterminals of the word have it too
+added-to : {chart : List ℕ} {N start end : ℕ} → AddGiven chart N start end → (word i : ℕ) → i ≤ N
+    → Added chart i start end word (addedTo chart start end word i)
+unfolding addedTo
+added-to {chart} {N} {start} {end} g word zero h = added-start chart start end word (g .long)
+added-to {chart} {N} {start} {end} g word (suc i) h =
+    let s = g .given .span in
+    rw (← add-one i) (added-more (added-to g word i (omega arith)) (omega (arith, g .given .few)) (s .short) refl
+    (with-place (omega (arith, s .forward, s .short)) refl) refl)
+
+pub added-right : {chart after : List ℕ} {N start end word : ℕ} → AddGiven chart N start end → after ≡ addedWord chart N start end word
+    → Added chart N start end word after
+added-right {chart} {after} {N} {start} {end} {word} g e =
+    let s = added-within chart N start end word (g .given .few) (g .given .span .short) in
+    rw (e, ← s) (added-to g word N (omega arith))

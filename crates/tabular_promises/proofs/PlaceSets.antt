@@ -2,7 +2,7 @@
 use mathlib.Core.Path.{_≡_, refl, sym, ap, _∙_}
 use mathlib.Core.Bool.{Bool, true, false, _&&_, _||_, or-false, or-true, and-true, and-false}
 use mathlib.Core.List.{List}
-use Prim.Native.Nat.{ℕ, suc, _+_, _*_, _/_, _%_, _^_, _≤_, _<_}
+use Prim.Native.Nat.{ℕ, zero, suc, _+_, _*_, _/_, _%_, _^_, _≤_, _<_}
 use native.Mathlib.Decide.{ℕ-discrete, decLt}
 use native.Mathlib.Numerals.{add-one}
 use native.Mathlib.Omega.{arith}
@@ -10,7 +10,7 @@ use lib.Bits.{bitAnd, bitOr, and-mask}
 use lib.Dec.{eqb, ltb}
 use lib.ListN.{length, getD, set, replicate, length-set, length-replicate, getD-replicate}
 use lib.Pow.{shl-exact}
-use lib.Seq.{getD-set-same, getD-set-other}
+use lib.Seq.{getD-set-same, getD-set-other, set-out}
 use borrow.Author.Tests.{eq-eqb, ne-eqb, lt-ltb, le-ltb}
 use Rattle.base.specs.Choice.{choose}
 use Rattle.grammar.specs.Limits.{maxTerminals, maxTabularPlaces, maxNonterminals}
@@ -18,8 +18,8 @@ use Rattle.lookahead.specs.Elements.{has}
 use Rattle.lookahead.proofs.Elements.{has-or, has-zero}
 use Rattle.lookahead.proofs.Powers.{has-pow}
 use Rattle.event.specs.Events.{terminalOf, inputOf}
-use Rattle.event.proofs.Inputs.{input-length, input-at}
-use Rattle.tabular_promises.specs.contracts.Places.{onePlace, hasPlace, withPlace, PlacePut, Standing, InputGiven}
+use Rattle.event.proofs.Inputs.{input-at}
+use Rattle.tabular_promises.specs.contracts.Places.{onePlace, hasPlace, withPlace, PlacePut, Standing, standsTo, standsOf, InputGiven}
 
 -- a place's weight, and a nonterminal's
 pub weight-64 : (k : ℕ) → k < maxTabularPlaces → 1 * 2 ^ k % 2 ^ 64 ≡ 2 ^ k
@@ -66,12 +66,12 @@ with-place {s} {place} {r} {member} h e = go member e
     go false f = rw f (put-none refl)
 
 -- the first i tokens have been put in
-pub record StandingTo (w l : List ℕ) (i : ℕ) : Type 0 where
+record StandingTo (w l : List ℕ) (i : ℕ) : Type 0 where
   pub long : length l ≡ maxTerminals
   pub within : i ≤ length w
   pub at : (a k : ℕ) → a < maxTerminals → has (getD l a 0) k ≡ (ltb k i && eqb (getD w k 0) a)
 
-pub standing-start : (w : List ℕ) (n : ℕ) → n ≡ maxTerminals → StandingTo w (replicate n 0) 0
+standing-start : (w : List ℕ) (n : ℕ) → n ≡ maxTerminals → StandingTo w (replicate n 0) 0
 standing-start w n e = record {
   long = length-replicate {A = ℕ} n 0 ∙ e;
   within = omega arith;
@@ -103,17 +103,36 @@ one-more {w} {l} {l′} {i} {r} h o t g e = record {
         (sym (ne-eqb (getD w k 0) a (λ d. p (sym d ∙ ap (λ (n : ℕ). getD w n 0) q))))
     go a k b (no p) (no q) = rw (getD-set-other l (getD w i 0) a r 0 p, h .at a k b, later k q)
 
--- the same of events
-module _ (events : List ℕ) (g : InputGiven (inputOf events)) {i : ℕ} (o : i < length events) {a : ℕ} (t : a ≡ terminalOf (getD events i 0)) where
+-- the tokens put in one by one
+stands-long : (w : List ℕ) (n : ℕ) → length (standsTo w n) ≡ maxTerminals
+unfolding standsTo
+stands-long w zero = length-replicate {A = ℕ} maxTerminals 0
+stands-long w (suc n) = length-set (standsTo w n) (getD w n 0) _ ∙ stands-long w n
+
+pub stands-start : (w : List ℕ) → replicate maxTerminals 0 ≡ standsTo w 0
+unfolding standsTo
+stands-start w = refl
+
+module _ (events : List ℕ) (i : ℕ) {a : ℕ} {l : List ℕ} (h : l ≡ standsTo (inputOf events) i) (t : a ≡ terminalOf (getD events i 0)) where
   its-token : a ≡ getD (inputOf events) i 0
   its-token = t ∙ sym (input-at events i)
 
-  pub terminal-low : a < maxTerminals
-  terminal-low = rw its-token (g .terminals i (omega (arith, input-length events)))
+  pub stands-more : {r : ℕ} → r ≡ withPlace (getD l a 0) i true → set l a r ≡ standsTo (inputOf events) (i + 1)
+  unfolding standsTo
+  stands-more e = rw (e, h, its-token, add-one i)
 
-  pub standing-more : {l l′ : List ℕ} {r : ℕ} → StandingTo (inputOf events) l i → PlacePut (getD l a 0) i true r → l′ ≡ set l a r
-      → StandingTo (inputOf events) l′ (i + 1)
-  standing-more h p e = one-more h (omega (arith, input-length events)) (rw its-token at terminal-low) (rw its-token at p) (rw its-token at e)
+  pub stands-nowhere : maxTerminals ≤ a → l ≡ standsTo (inputOf events) (i + 1)
+  unfolding standsTo
+  stands-nowhere o =
+      let w = inputOf events in
+      h ∙ sym (rw (add-one i) (set-out (standsTo w i) (getD w i 0) _ (omega (arith, stands-long w i, its-token))))
 
-pub standing-end : {w l : List ℕ} {i : ℕ} → StandingTo w l i → length w ≤ i → Standing w l
-standing-end {w} {l} {i} h o = let e : i ≡ length w = omega (arith, h .within) in record { at = λ a k b. rw e at (h .at a k b) }
+-- of an input that fits, that is where each terminal stands
+standing-to : (w : List ℕ) → InputGiven w → (i : ℕ) → i ≤ length w → StandingTo w (standsTo w i) i
+unfolding standsTo
+standing-to w g zero h = standing-start w maxTerminals refl
+standing-to w g (suc i) h =
+    rw (← add-one i) (one-more (standing-to w g i (omega arith)) h (g .terminals i h) (with-place (omega (arith, g .short)) refl) refl)
+
+pub standing-right : {w l : List ℕ} → InputGiven w → l ≡ standsOf w → Standing w l
+standing-right {w} g e = rw e record { at = standing-to w g (length w) (omega arith) .at }

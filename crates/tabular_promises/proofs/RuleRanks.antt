@@ -3,21 +3,22 @@ use mathlib.Core.Path.{_≡_, refl, sym, ap, _∙_}
 use mathlib.Core.Bool.{Bool, true, false, _&&_, _||_, or-comm, or-false, and-true, and-false}
 use mathlib.Core.List.{List, [], _∷_}
 use mathlib.Core.Option.{some}
-use Prim.Native.Nat.{ℕ, zero, suc, _+_, _-_, _^_, _≤_, _<_}
+use Prim.Native.Nat.{ℕ, zero, suc, _+_, _-_, _%_, _^_, _≤_, _<_}
 use native.Mathlib.Decide.{ℕ-discrete}
+use native.Mathlib.Nat.{mod-eq-of-lt}
 use native.Mathlib.Numerals.{add-one}
 use native.Mathlib.Omega.{arith}
 use lib.Bits.{bitOr}
 use lib.Count.{ones}
 use lib.Dec.{eqb, eqb→eq}
-use lib.ListN.{length, getD, drop, getElem?, set, replicate, length-set, length-replicate, drop-of-length-le}
+use lib.ListN.{length, getD, drop, getElem?, set, replicate, length-set, length-replicate, drop-of-length-le, List·getD-eq-default}
 use lib.Seq.{getD-set-same, getD-set-other}
 use borrow.Author.Tests.{eq-eqb, ne-eqb, lt-ltb}
 use Rattle.base.specs.Choice.{choose}
 use Rattle.base.specs.Quantifiers.{anyOf}
 use Rattle.base.proofs.Booleans.{true-T}
 use Rattle.word.specs.declared.Word.{Word}
-use Rattle.word.specs.Words.{decoded}
+use Rattle.word.specs.Words.{decoded, ofKind}
 use Rattle.grammar.specs.Limits.{maxNonterminals, maxRules}
 use Rattle.grammar.specs.Syntax.{Grammar}
 use Rattle.grammar.specs.Encoding.{parse, grammarOf}
@@ -33,34 +34,27 @@ use Rattle.lookahead.proofs.Weights.{total-bound, has-total}
 use Rattle.semantics.specs.LeftRecursion.{leftReaches, rank}
 use Rattle.semantics.specs.Valuations.{derives, byRules}
 use Rattle.semantics.proofs.meaning.Rank.{rank-below}
-use Rattle.families.specs.contracts.Rules.{RuleWords}
+use Rattle.families.specs.contracts.Rules.{ruleEnd}
 use Rattle.families.specs.contracts.Sets.{reachNumber}
 use Rattle.base.proofs.Lists.{listed-at, getD-zeros}
-use Rattle.families.proofs.RuleRanges.{till-next, till-end, rule-in, rule-is}
-use Rattle.tabular_promises.specs.contracts.Chart.{charted}
-use Rattle.tabular_promises.specs.contracts.Scanning.{Scannable, holds, Keeps}
+use Rattle.families.proofs.RuleRanges.{rule-in, rule-is}
+use Rattle.families.proofs.HeadPasses.{pass-first, its-words}
+use Rattle.tabular_promises.specs.contracts.Chart.{charted, withNonterminal}
+use Rattle.tabular_promises.specs.contracts.Scanning.{Scannable, holds, Keeps, keepsBy, headAt, askedFrom, askedBy}
 use Rattle.tabular_promises.specs.contracts.Filling.{RulesGiven, ruleNumbered, ruleRank, RanksGiven, LastOf, ByRank, AskGiven, Asked, SpanDerived}
+use Rattle.tabular_promises.specs.contracts.Filling.{rankBy, lastsTo, beforesTo, FillGiven}
+use Rattle.tabular_promises.proofs.Charts.{with-nonterminal}
+use Rattle.tabular_promises.proofs.Scans.{keeps-right, none-such, none-between}
 
 module _ {words starts : List ℕ} {z : Sizes} (k : RulesGiven words starts z) {q : ℕ} (h : q < z .rules) where
-  pub from-low : getD starts q 0 < length words
-  from-low = rw (k .begins) (well-read words z (k .read) .begun q h .high)
-
-  pub head-is : {w : Word} {head : ℕ} → w ≡ decoded (getD words (getD starts q 0) 0) → head ≡ headOf w → head ≡ ruleNumbered words q .head
+  head-is : {w : Word} {head : ℕ} → w ≡ decoded (getD words (getD starts q 0) 0) → head ≡ headOf w → head ≡ ruleNumbered words q .head
   head-is e f = f ∙ rw (e, k .begins, rule-is words z (k .read) q h)
 
-  pub head-low : {w : Word} {head : ℕ} → w ≡ decoded (getD words (getD starts q 0) 0) → head ≡ headOf w → head < maxNonterminals
+  head-low : {w : Word} {head : ℕ} → w ≡ decoded (getD words (getD starts q 0) 0) → head ≡ headOf w → head < maxNonterminals
   head-low e f =
       let y = well-read words z (k .read) in
       let m = rw (← read-whole words z (k .read) .rules) at (rule-in words z (k .read) q h) in
       omega (arith, head-is e f, y .formed .scoped .heads _ m, y .fewNonterminals, y .nonterminals)
-
--- where its words end
-module _ {words starts : List ℕ} {z : Sizes} (k : RulesGiven words starts z) (q : ℕ) (h : q < z .rules) where
-  pub end-next : q + 1 < z .rules → RuleWords words (getD starts q 0) (getD starts (q + 1) 0)
-  end-next n = rw (k .begins, add-one q) (till-next words z (k .read) q h (omega arith))
-
-  pub end-last : z .rules ≤ q + 1 → RuleWords words (getD starts q 0) (length words)
-  end-last n = rw (k .begins) (till-end words z (k .read) q h (omega arith))
 
 -- the ones of the set that a nonterminal left-reaches are its rank
 ones-rank : (G : Grammar) (A : ℕ) → ones (reachNumber G A) ≡ rank G A
@@ -71,13 +65,13 @@ ones-rank G A =
     (λ l b. has-total (G .nonterminals) (leftReaches G A) l ∙ rw (lt-ltb l (G .nonterminals) b))
 
 -- the first i rules have been told by rank
-pub record RankedTo (words lasts befores : List ℕ) (i : ℕ) : Type 0 where
+record RankedTo (words lasts befores : List ℕ) (i : ℕ) : Type 0 where
   pub ranks : length lasts ≡ maxNonterminals
   pub rules : length befores ≡ maxRules
   pub last : (r : ℕ) → r < maxNonterminals → LastOf words r i (getD lasts r 0)
   pub before : (q : ℕ) → q < i → LastOf words (ruleRank words q) q (getD befores q 0)
 
-pub ranked-start : (words : List ℕ) (m n : ℕ) → m ≡ maxNonterminals → n ≡ maxRules → RankedTo words (replicate m 0) (replicate n 0) 0
+ranked-start : (words : List ℕ) (m n : ℕ) → m ≡ maxNonterminals → n ≡ maxRules → RankedTo words (replicate m 0) (replicate n 0) 0
 ranked-start words m n d e = record {
   ranks = length-replicate {A = ℕ} m 0 ∙ d;
   rules = length-replicate {A = ℕ} n 0 ∙ e;
@@ -96,13 +90,13 @@ module _ {words starts reaches : List ℕ} {z : Sizes} (g : RanksGiven words sta
       ap ones (ap (λ (x : List ℕ). getD x head 0) (g .reached) ∙ listed-at maxNonterminals (reachNumber (grammarOf words)) head (head-low (g .rules) l e f))
       ∙ ones-rank (grammarOf words) head ∙ ap (rank (grammarOf words)) (head-is (g .rules) l e f)
 
-  pub rank-low : x < maxNonterminals
+  rank-low : x < maxNonterminals
   rank-low =
       let y = well-read words z (g .rules .read) in
       let m = rw (← read-whole words z (g .rules .read) .rules) at (rule-in words z (g .rules .read) i l) in
       omega (arith, rank-told, rank-below (grammarOf words) (y .formed .scoped) (g .free) _ (y .formed .scoped .heads _ m), y .fewNonterminals, y .nonterminals)
 
-  pub ranked-more : {lasts befores lasts′ befores′ : List ℕ} → RankedTo words lasts befores i
+  ranked-more : {lasts befores lasts′ befores′ : List ℕ} → RankedTo words lasts befores i
       → befores′ ≡ set befores i (getD lasts x 0) → lasts′ ≡ set lasts x (i + 1)
       → RankedTo words lasts′ befores′ (i + 1)
   ranked-more {lasts} {befores} {lasts′} {befores′} h c d = record {
@@ -130,9 +124,66 @@ module _ {words starts reaches : List ℕ} {z : Sizes} (g : RanksGiven words sta
           (h .last x rank-low)
       before q b (no s) = rw (getD-set-other befores i q (getD lasts x 0) 0 s) (h .before q (omega arith))
 
-pub ranked-end : {words lasts befores : List ℕ} {z : Sizes} {i : ℕ} → RankedTo words lasts befores i → i ≤ z .rules
-    → z .rules ≤ i → ByRank words z lasts befores
-ranked-end {z = z} {i} h l m = let e : i ≡ z .rules = omega arith in record { last = λ r b. rw e at (h .last r b); before = λ q b. h .before q (omega arith) }
+-- no word begins a rule where there is none
+pub no-head : (words : List ℕ) (from : ℕ) → length words ≤ from → 0 ≡ headAt words from
+unfolding decoded ofKind
+no-head words from h = rw (List·getD-eq-default words 0 h)
+
+-- the rules told by rank one by one
+module _ (rankOf : ℕ → ℕ) where
+  pub lasts-start : replicate maxNonterminals 0 ≡ lastsTo rankOf 0
+  unfolding lastsTo
+  lasts-start = refl
+
+  pub befores-start : replicate maxRules 0 ≡ beforesTo rankOf 0
+  unfolding beforesTo
+  befores-start = refl
+
+  module _ (q : ℕ) {lasts : List ℕ} {x : ℕ} (h : lasts ≡ lastsTo rankOf q) where
+    pub lasts-more : x ≡ rankOf q → set lasts x (q + 1) ≡ lastsTo rankOf (q + 1)
+    unfolding lastsTo
+    lasts-more e = rw (h, e, add-one q)
+
+    pub befores-more : {befores : List ℕ} → befores ≡ beforesTo rankOf q → x ≡ rankOf q
+        → set befores (q % maxRules) (getD lasts x 0) ≡ beforesTo rankOf (q + 1)
+    unfolding beforesTo
+    befores-more d e = rw (h, d, e, add-one q)
+
+  module _ (q : ℕ) {n : ℕ} {l : List ℕ} (low : q ≤ n) (high : n ≤ q) where
+    pub all-lasts : l ≡ lastsTo rankOf q → l ≡ lastsTo rankOf n
+    all-lasts h = let e : q ≡ n = omega arith in rw e at h
+
+    pub all-befores : l ≡ beforesTo rankOf q → l ≡ beforesTo rankOf n
+    all-befores h = let e : q ≡ n = omega arith in rw e at h
+
+-- so of a grammar without left recursion
+module _ {words starts reaches : List ℕ} {z : Sizes} (g : RanksGiven words starts z reaches) where
+  abbrev rankOf : ℕ → ℕ
+  rankOf = rankBy words starts reaches
+
+  round : (q : ℕ) → q < z .rules → q % maxRules ≡ q
+  round q h = let low : q < maxRules = omega (arith, well-read words z (g .rules .read) .fewRules) in mod-eq-of-lt low
+
+  rank-is : (q : ℕ) → q < z .rules → rankOf q ≡ ones (getD reaches (headAt words (getD starts q 0)) 0)
+  rank-is q h =
+      let low = head-low (g .rules) h refl refl in
+      let few = rank-low g h refl refl in
+      rw (round q h, mod-eq-of-lt low, mod-eq-of-lt few)
+
+  ranked-to : (i : ℕ) → i ≤ z .rules → RankedTo words (lastsTo rankOf i) (beforesTo rankOf i) i
+  unfolding lastsTo beforesTo
+  ranked-to zero h = ranked-start words maxNonterminals maxRules refl refl
+  ranked-to (suc i) h =
+      rw (← add-one i) (ranked-more g h refl refl (ranked-to i (omega arith))
+      (rw (rank-is i h, round i h)) (rw (rank-is i h, add-one i)))
+
+  ranked-right : {lasts befores : List ℕ} → lasts ≡ lastsTo rankOf (z .rules) → befores ≡ beforesTo rankOf (z .rules) → ByRank words z lasts befores
+  ranked-right d e = let h = ranked-to (z .rules) (omega arith) in rw (d, e) record { last = h .last; before = h .before }
+
+pub ranked : {words starts reaches w lasts befores : List ℕ} {z : Sizes} → FillGiven words starts z reaches w
+    → (lasts ≡ lastsTo (rankBy words starts reaches) (z .rules)) × (befores ≡ beforesTo (rankBy words starts reaches) (z .rules))
+    → ByRank words z lasts befores
+ranked g e = ranked-right record { rules = g .rules; free = g .free; reached = g .reached } (e .0) (e .1)
 
 -- the list from an element on
 drop-at : {A : Type 0} (l : List A) (q : ℕ) (x : A) → getElem? l q ≡ some x → drop q l ≡ x ∷ drop (suc q) l
@@ -182,17 +233,65 @@ module _ {words starts : List ℕ} {z : Sizes} {q start end : ℕ} (g : AskGiven
   unfolding derives holds
   rule-says chart v A = rw (head-is (g .rules) (g .numbered) e f, g .rules .begins, rule-is words z (g .rules .read) q (g .numbered))
 
-  pub known-already : {stands chart : List ℕ} {found : ℕ} → has found head ≡ true → Asked words q stands chart start end found found
+  known-already : {stands chart : List ℕ} {found : ℕ} → has found head ≡ true → Asked words q stands chart start end found found
   known-already {stands} {chart} {found} there = record { member = λ v o A. rw (rule-says chart v A) (go A _ (eqb head A) refl) }
     where
       go : (A : ℕ) (b c : Bool) → eqb head A ≡ c → has found A ≡ (has found A || (c && b))
       go A b true d = rw (ap (has found) (sym (eqb→eq head A (true-T (eqb head A) d))) ∙ there)
       go A b false d = sym (or-false (has found A))
 
-  pub asked-now : {stands chart : List ℕ} {found found′ : ℕ} {there : Bool} → Keeps words (getD starts q 0) stands chart start end there
+  asked-now : {stands chart : List ℕ} {found found′ : ℕ} {there : Bool} → Keeps words (getD starts q 0) stands chart start end there
       → found′ ≡ choose there (bitOr found (2 ^ head)) found → Asked words q stands chart start end found found′
   asked-now {stands} {chart} {found} {found′} {there} t n =
       record { member = λ v o A. rw (rule-says chart v A, n, found-more head found A there, t .is v o) }
+
+-- what is found by asking a rule
+module _ (words starts : List ℕ) (rules q : ℕ) (stands chart : List ℕ) (start end found : ℕ) {to : ℕ} (n : to ≡ ruleEnd words starts rules q) where
+  not-kept : false ≡ keepsBy words (getD starts (q % maxRules) 0) to stands chart start end → found ≡ askedBy words starts rules q stands chart start end found
+  unfolding withNonterminal
+  not-kept k = rw (← n, ← k) (by-known (has found (headAt words (getD starts (q % maxRules) 0))))
+    where
+      by-known : (b : Bool) → found ≡ choose b found found
+      by-known true = refl
+      by-known false = refl
+
+  pub asked-beyond : length words < to → found ≡ askedBy words starts rules q stands chart start end found
+  asked-beyond h = not-kept (none-such words (getD starts (q % maxRules) 0) to stands chart start end h)
+
+  pub asked-nothing : to ≤ length words → to ≤ getD starts (q % maxRules) 0 → found ≡ askedBy words starts rules q stands chart start end found
+  asked-nothing l h = not-kept (none-between words (getD starts (q % maxRules) 0) to stands chart start end l h)
+
+  module _ {head : ℕ} {w : Word} {b : Bool} (d : w ≡ decoded (getD words (getD starts (q % maxRules) 0) 0)) (e : head ≡ headOf w)
+      (h : b ≡ has found head) where
+    its-head : head ≡ headAt words (getD starts (q % maxRules) 0)
+    its-head = e ∙ ap headOf d
+
+    pub asked-known : b ≡ true → found ≡ askedBy words starts rules q stands chart start end found
+    asked-known t = rw (← its-head, ← h, t)
+
+    pub asked-scanned : {r : ℕ} {there : Bool} → b ≡ false → there ≡ keepsBy words (getD starts (q % maxRules) 0) to stands chart start end
+        → r ≡ withNonterminal found head there → r ≡ askedBy words starts rules q stands chart start end found
+    asked-scanned f k m = rw (m, k, n, ← its-head, ← h, f)
+
+module _ {words starts : List ℕ} {z : Sizes} {q start end : ℕ} (g : AskGiven words starts z q start end) (stands chart : List ℕ) (found : ℕ) where
+  abbrev from : ℕ
+  from = getD starts q 0
+
+  abbrev to : ℕ
+  to = ruleEnd words starts (z .rules) q
+
+  by-known : {r : ℕ} (b : Bool) → has found (headAt words from) ≡ b → r ≡ askedFrom words from to stands chart start end found
+      → Asked words q stands chart start end found r
+  by-known {r} true h e = let s : r ≡ found = rw h at e in rw s (known-already g refl refl h)
+  by-known false h e =
+      asked-now g refl refl
+      (keeps-right record { rule = its-words (pass-first (g .rules .read) (g .rules .begins)) true (g .numbered) refl refl; span = g .span } refl)
+      (with-nonterminal found (headAt words from) (keepsBy words from to stands chart start end) (head-low (g .rules) (g .numbered) refl refl) (rw h at e))
+
+  pub asked-right : {r : ℕ} → r ≡ askedBy words starts (z .rules) q stands chart start end found → Asked words q stands chart start end found r
+  asked-right e =
+      let low : q < maxRules = omega (arith, g .numbered, well-read words z (g .rules .read) .fewRules) in
+      by-known (has found (headAt words from)) refl (e ∙ ap (λ (i : ℕ). askedFrom words (getD starts i 0) to stands chart start end found) (mod-eq-of-lt low))
 
 -- of the rules from number i on, those of the rank have been asked
 pub record Asking (words : List ℕ) (n r : ℕ) (stands chart : List ℕ) (start end found i : ℕ) : Type 0 where

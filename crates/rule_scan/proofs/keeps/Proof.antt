@@ -4,7 +4,7 @@ use Prim.Native.Nat.{_≤_, _<_}
 use native.Mathlib.Omega.{arith}
 use lib.Seq.{slice}
 use Rattle.tabular_promises.specs.contracts.Scanning.{scanned}
-use Rattle.tabular_promises.proofs.Scans.{none-such, none-between, scan-start, scan-more, scan-end}
+use Rattle.tabular_promises.proofs.Scans.{scan-start, scan-more, scan-end}
 use Rattle.rule_scan.proofs.keeps.Statement.{statement}
 use Rattle.rule_scan.proofs.keeps.Tie as tie
 
@@ -14,17 +14,11 @@ Inv-loop words from to stands chart start end scan₀ at₀ scan at = (from < at
 abbrev μ-loop : tie.MeasureT-loop
 μ-loop words from to stands chart start end scan₀ at₀ scan at = at
 
-returns : tie.Need-returns Inv-loop μ-loop
-returns c = none-such _ _ _ _ _ _ _ (c .if1 .taken)
-
-returns-2 : tie.Need-returns-2 Inv-loop μ-loop
-returns-2 c = none-between _ _ _ _ _ _ _ (c .before .if1 .left) (c .if2 .taken)
-
 none-open-requires : tie.Need-none-open-requires Inv-loop μ-loop
 none-open-requires c κs = tt
 
 loop-holds : tie.Need-loop-holds Inv-loop μ-loop
-loop-holds c = (c .before .if2 .left, omega arith, scan-start _ _ _ _ _ _ (c .before .before .if1 .left) (c .none-open .ensures))
+loop-holds c = (c .before .before .pre .0, omega arith, scan-start _ _ _ _ _ _ (c .before .before .pre .1) (c .none-open .ensures))
 
 add-loop : tie.Need-add-loop Inv-loop μ-loop
 add-loop c = omega (arith, c .loop .inv .0)
@@ -33,14 +27,14 @@ sub-at : tie.Need-sub-at Inv-loop μ-loop
 sub-at c = omega (arith, c .loop-test .taken)
 
 mul-decode : tie.Need-mul-decode Inv-loop μ-loop
-mul-decode c = omega (arith, c .loop-test .taken, c .before .loop .inv .1, c .before .before .before .before .if1 .left)
+mul-decode c = omega (arith, c .loop-test .taken, c .before .loop .inv .1, c .before .before .before .before .pre .1)
 
 shared-slice-read-decode : tie.Need-shared-slice-read-decode Inv-loop μ-loop
 shared-slice-read-decode c =
     let at-loop-test = c .before in
     let at-loop = at-loop-test .before in
-    let at-if1 = at-loop .before .before .before in
-    omega (arith, at-loop-test .loop-test .taken, at-loop .loop .inv .1, at-if1 .if1 .left)
+    let start = at-loop .before .before .before in
+    omega (arith, at-loop-test .loop-test .taken, at-loop .loop .inv .1, start .pre .1)
 
 decode-requires : tie.Need-decode-requires Inv-loop μ-loop
 decode-requires c κs = tt
@@ -58,14 +52,14 @@ loop-again c =
     let inv = loop .loop .inv in (
       omega (arith, test),
       omega (arith, inv .1),
-      scan-more _ _ _ _ _ _ (loop .before .before .before .if1 .left) (inv .2) (omega (arith, test)) (inv .1) (c .before .decode .ensures) (c .onto .ensures),
+      scan-more _ _ _ _ _ _ (loop .before .before .before .pre .1) (inv .2) (omega (arith, test)) (inv .1) (c .before .decode .ensures) (c .onto .ensures),
     )
 
-returns-3 : tie.Need-returns-3 Inv-loop μ-loop
-returns-3 c =
-    let within = c .before .before .before in
+returns : tie.Need-returns Inv-loop μ-loop
+returns c =
+    let start = c .before .before .before .before in
     let inv = c .before .loop .inv in
-    scan-end _ _ _ _ _ _ _ (within .before .if1 .left) (inv .2) (inv .0) (c .loop-test .left) (within .if2 .left)
+    scan-end _ _ _ _ _ _ _ (start .pre .1) (inv .2) (inv .0) (c .loop-test .left) (start .pre .0)
 
 pub keeps-spec : {M : Type 1} → statement M
 keeps-spec =
@@ -73,8 +67,6 @@ keeps-spec =
     (tie.spec
     Inv-loop
     μ-loop
-    returns
-    returns-2
     none-open-requires
     loop-holds
     add-loop
@@ -85,4 +77,4 @@ keeps-spec =
     onto-requires
     loop-less
     loop-again
-    returns-3)
+    returns)

@@ -5,7 +5,7 @@ use mathlib.Core.List.{List}
 use Prim.Native.Nat.{ℕ, zero, suc, _+_, _*_, _-_, _≤_, _<_}
 use lib.Bits.{bitOr}
 use lib.Dec.{T, leb, ltb}
-use lib.ListN.{length, getD}
+use lib.ListN.{length, getD, set}
 use Rattle.answer.specs.declared.Answer.{Answer}
 use Rattle.base.specs.Choice.{choose}
 use Rattle.base.specs.Quantifiers.{anyBelow}
@@ -13,7 +13,7 @@ use Rattle.grammar.specs.Limits.{maxNonterminals, maxTabularPlaces}
 use Rattle.lookahead.specs.Elements.{weight, has, totalWeight}
 use Rattle.semantics.specs.Valuations.{Valuation}
 use Rattle.tabular_promises.specs.Answers.{told}
-use Rattle.tabular_promises.specs.contracts.Places.{hasPlace}
+use Rattle.tabular_promises.specs.contracts.Places.{hasPlace, withPlace}
 
 abbrev pub slot : ℕ → ℕ → ℕ
 slot A m = A * maxTabularPlaces + m
@@ -85,3 +85,13 @@ pub record Added (before : List ℕ) (N start end word : ℕ) (after : List ℕ)
 pub record AddGiven (chart : List ℕ) (N start end : ℕ) : Type 0 where
   pub long : Long chart
   pub given : WordGiven N start end
+
+-- the nonterminals of the word put in one by one, those below N
+unfoldable pub addedTo : (chart : List ℕ) (start end word N : ℕ) → List ℕ
+addedTo chart start end word zero = chart
+addedTo chart start end word (suc A) =
+    set (addedTo chart start end word A) (slot A end) (withPlace (getD (addedTo chart start end word A) (slot A end) 0) start (has word A))
+
+-- beyond the limits none
+unfoldable pub addedWord : (chart : List ℕ) (N start end word : ℕ) → List ℕ
+addedWord chart N start end word = choose (leb N maxNonterminals && ltb end maxTabularPlaces) (addedTo chart start end word N) chart

@@ -2,10 +2,11 @@
 use mathlib.Core.Path.{_≡_}
 use mathlib.Core.Bool.{_&&_, _||_}
 use mathlib.Core.List.{List}
-use Prim.Native.Nat.{ℕ, suc, _+_, _*_, _-_, _≤_, _<_}
+use Prim.Native.Nat.{ℕ, zero, suc, _+_, _*_, _-_, _%_, _≤_, _<_}
+use lib.Count.{ones}
 use lib.Dec.{T, eqb}
-use lib.ListN.{length, getD}
-use Rattle.grammar.specs.Limits.{maxNonterminals, maxTabularTokens, maxTabularPlaces}
+use lib.ListN.{length, getD, set, replicate}
+use Rattle.grammar.specs.Limits.{maxNonterminals, maxRules, maxTabularTokens, maxTabularPlaces}
 use Rattle.grammar.specs.Syntax.{Grammar, Rule}
 use Rattle.grammar.specs.Encoding.{grammarOf}
 use Rattle.grammar.specs.declared.reading.Sizes.{Sizes}
@@ -20,7 +21,7 @@ use Rattle.families.specs.contracts.Rules.{ruleFrom}
 use Rattle.families.specs.contracts.Sets.{reachNumber}
 use Rattle.tabular_promises.specs.contracts.Places.{Standing, InputGiven}
 use Rattle.tabular_promises.specs.contracts.Chart.{charted, Long, Span}
-use Rattle.tabular_promises.specs.contracts.Scanning.{Scannable}
+use Rattle.tabular_promises.specs.contracts.Scanning.{Scannable, headAt}
 
 -- a grammar that has been read, and where its rules begin
 pub record RulesGiven (words starts : List ℕ) (z : Sizes) : Type 0 where
@@ -49,6 +50,22 @@ pub record LastOf (words : List ℕ) (r i x : ℕ) : Type 0 where
 pub record ByRank (words : List ℕ) (z : Sizes) (lasts befores : List ℕ) : Type 0 where
   pub last : (r : ℕ) → r < maxNonterminals → LastOf words r (z .rules) (getD lasts r 0)
   pub before : (q : ℕ) → q < z .rules → LastOf words (ruleRank words q) q (getD befores q 0)
+
+-- the rank of a rule's nonterminal by how many it left-reaches; numbers beyond the limits are counted round
+abbrev pub rankFrom : (words reaches : List ℕ) (from : ℕ) → ℕ
+rankFrom words reaches from = ones (getD reaches (headAt words from % maxNonterminals) 0) % maxNonterminals
+
+abbrev pub rankBy : (words starts reaches : List ℕ) → ℕ → ℕ
+rankBy words starts reaches q = rankFrom words reaches (getD starts (q % maxRules) 0)
+
+-- of the first n rules, counted from 1: the last one of each rank, and for each rule the one of its rank before it; 0 where there is none
+unfoldable pub lastsTo : (rankOf : ℕ → ℕ) → ℕ → List ℕ
+lastsTo rankOf zero = replicate maxNonterminals 0
+lastsTo rankOf (suc q) = set (lastsTo rankOf q) (rankOf q) (suc q)
+
+unfoldable pub beforesTo : (rankOf : ℕ → ℕ) → ℕ → List ℕ
+beforesTo rankOf zero = replicate maxRules 0
+beforesTo rankOf (suc q) = set (beforesTo rankOf q) (q % maxRules) (getD (lastsTo rankOf q) (rankOf q) 0)
 
 pub record AskGiven (words starts : List ℕ) (z : Sizes) (q start end : ℕ) : Type 0 where
   pub rules : RulesGiven words starts z

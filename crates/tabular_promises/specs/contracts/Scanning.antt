@@ -3,7 +3,7 @@
 use mathlib.Core.Path.{_≡_}
 use mathlib.Core.Bool.{Bool, true, false, not, _&&_}
 use mathlib.Core.List.{List, [], _∷_}
-use Prim.Native.Nat.{ℕ, suc, _/_, _≤_, _<_}
+use Prim.Native.Nat.{ℕ, suc, _/_, _%_, _≤_, _<_}
 use lib.Bits.{bitAnd}
 use lib.Dec.{leb, ltb}
 use lib.ListN.{length, getD, drop}
@@ -15,15 +15,16 @@ use Rattle.word.specs.declared.Symbol.the-variants.{Terminal, Nonterminal}
 use Rattle.word.specs.declared.Word.{Word}
 use Rattle.word.specs.declared.Word.the-variants.{Heading, Rule, Positive, Negative, Symbol, End, Invalid}
 use Rattle.word.specs.Words.{decoded}
-use Rattle.grammar.specs.Limits.{maxNonterminals, maxTerminals}
+use Rattle.grammar.specs.Limits.{maxNonterminals, maxTerminals, maxRules}
 use Rattle.grammar.specs.Syntax.{Body}
 use Rattle.grammar.specs.Encoding.{Parsed, parse}
+use Rattle.grammar.specs.contracts.WellRead.{headOf}
 use Rattle.lookahead.specs.Elements.{has}
 use Rattle.semantics.specs.Valuations.{Valuation, contains}
-use Rattle.families.specs.contracts.Rules.{RuleWords}
+use Rattle.families.specs.contracts.Rules.{RuleWords, ruleEnd}
 use Rattle.tabular_promises.specs.declared.Scan.{Scan}
 use Rattle.tabular_promises.specs.contracts.Places.{onePlace, hasPlace, Standing}
-use Rattle.tabular_promises.specs.contracts.Chart.{placesBefore, charted, Forward, Span}
+use Rattle.tabular_promises.specs.contracts.Chart.{placesBefore, charted, Forward, Span, withNonterminal}
 
 -- the input w, by where its terminals stand, reaches to the end, and no span of the chart ends before it starts
 pub record Scannable (w stands chart : List ℕ) (end : ℕ) : Type 0 where
@@ -74,6 +75,20 @@ scanned stands chart start end (w ∷ ws) = scanOnto stands chart start end (dec
 unfoldable pub keepsBy : (words : List ℕ) (from to : ℕ) (stands chart : List ℕ) (start end : ℕ) → Bool
 keepsBy words from to stands chart start end =
     choose (leb to (length words) && ltb from to) (scanned stands chart start end (slice (suc from) to words) .kept) false
+
+-- the nonterminal of the rule that begins at an index
+abbrev pub headAt : (words : List ℕ) (from : ℕ) → ℕ
+headAt words from = headOf (decoded (getD words from 0))
+
+-- the nonterminals found, with that of the rule whose words stand from one index to another, where it is not found yet and the rule gives it the span
+abbrev pub askedFrom : (words : List ℕ) (from to : ℕ) (stands chart : List ℕ) (start end found : ℕ) → ℕ
+askedFrom words from to stands chart start end found =
+    choose (has found (headAt words from)) found (withNonterminal found (headAt words from) (keepsBy words from to stands chart start end))
+
+-- the same of a rule by its number; rules are counted round
+abbrev pub askedBy : (words starts : List ℕ) (rules q : ℕ) (stands chart : List ℕ) (start end found : ℕ) → ℕ
+askedBy words starts rules q stands chart start end found =
+    askedFrom words (getD starts (q % maxRules) 0) (ruleEnd words starts rules q) stands chart start end found
 
 -- a symbol's number is within the limits
 abbrev pub SymbolKnown : GrammarSymbol → Type 0

@@ -2,7 +2,7 @@
 use Prim.Native.Nat.{_-_}
 use native.Mathlib.Omega.{arith}
 use Rattle.grammar.proofs.WellRead.{well-read}
-use Rattle.tabular_promises.proofs.RuleRanks.{AskingNext, rules-start, rules-more, rules-end}
+use Rattle.tabular_promises.proofs.RuleRanks.{AskingNext, rules-start, rules-more, rules-end, asked-right}
 use Rattle.tabular.proofs.filling.derived.Statement.{statement}
 use Rattle.tabular.proofs.filling.derived.Tie as tie
 
@@ -26,9 +26,7 @@ sub-asked : tie.Need-sub-asked Inv-loop μ-loop
 sub-asked c = omega (arith, c .loop-test .taken)
 
 ask-requires : tie.Need-ask-requires Inv-loop μ-loop
-ask-requires c κs =
-    let given = c .before .before .before .before .pre in
-    record { rules = given .rules; numbered = omega (arith, c .loop-test .taken, c .before .loop .inv .asking .high); span = given .span }
+ask-requires c κs = tt
 
 mul-rule-2 : tie.Need-mul-rule-2 Inv-loop μ-loop
 mul-rule-2 c =
@@ -58,7 +56,10 @@ loop-again c =
     let at-loop-test = at-ask .before in
     let at-loop = at-loop-test .before in
     let start = at-loop .before .before .before in
-    rules-more (start .pre .rules) (start .pre .ranked) (at-loop .loop .inv) (at-loop-test .loop-test .taken) (at-ask .ask .ensures)
+    let test = at-loop-test .loop-test .taken in
+    rules-more (start .pre .rules) (start .pre .ranked) (at-loop .loop .inv) test
+    (asked-right record { rules = start .pre .rules; numbered = omega (arith, test, at-loop .loop .inv .asking .high); span = start .pre .span }
+    (start .args .stands .now) (start .args .chart .now) (at-loop .loop .found) (at-ask .ask .ensures))
 
 returns : tie.Need-returns Inv-loop μ-loop
 returns c = rules-end (c .before .before .before .before .pre .rules) (c .before .loop .inv) (c .loop-test .left)

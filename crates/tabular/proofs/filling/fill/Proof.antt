@@ -7,6 +7,8 @@ use Rattle.event.proofs.Inputs.{input-length}
 use Rattle.grammar.specs.Encoding.{grammarOf}
 use Rattle.tabular_promises.specs.contracts.Chart.{Long}
 use Rattle.tabular_promises.specs.contracts.Filling.{turn, FilledTo}
+use Rattle.tabular_promises.proofs.PlaceSets.{standing-right}
+use Rattle.tabular_promises.proofs.RuleRanks.{ranked}
 use Rattle.tabular_promises.proofs.Turns.{filled-start, filled}
 use Rattle.tabular.proofs.filling.fill.Statement.{statement}
 use Rattle.tabular.proofs.filling.fill.Tie as tie
@@ -19,10 +21,10 @@ abbrev μ-loop : tie.MeasureT-loop
 μ-loop words starts sizes reaches events ranked stands chart₀ length₀ chart length = suc (List·length events) - length
 
 by-rank-requires : tie.Need-by-rank-requires Inv-loop μ-loop
-by-rank-requires c κs = let given = c .before .before .pre in record { rules = given .rules; free = given .free; reached = given .reached }
+by-rank-requires c κs = tt
 
 standing-requires : tie.Need-standing-requires Inv-loop μ-loop
-standing-requires c κs = c .before .before .before .pre .input
+standing-requires c κs = tt
 
 loop-holds : tie.Need-loop-holds Inv-loop μ-loop
 loop-holds c = (omega arith, length-replicate {A = ℕ} 1568 0, filled-start _ _ 1568)
@@ -34,7 +36,7 @@ fill-length-requires c κs =
     let start = loop .before .before .before .before .before in
     let given = start .pre in
     record {
-      given = record { rules = given .rules; ranked = loop .before .before .by-rank .ensures; free = given .free; long = loop .loop .inv .1 };
+      given = record { rules = given .rules; ranked = ranked given (loop .before .before .by-rank .ensures); free = given .free; long = loop .loop .inv .1 };
       short = omega (arith, given .input .short, input-length (start .args .events .now));
       within = omega (arith, test .loop-test .taken);
     }
@@ -59,7 +61,7 @@ loop-again c =
     let events = start .args .events .now in (
       omega (arith, test .loop-test .taken),
       e .long,
-      e .filled (inputOf events) (loop .before .standing .ensures) (omega (arith, input-length events))
+      e .filled (inputOf events) (standing-right (start .pre .input) (loop .before .standing .ensures)) (omega (arith, input-length events))
           (omega (arith, input-length events)) (loop .loop .inv .2),
     )
 
@@ -68,7 +70,7 @@ returns c =
     let loop = c .before in
     let start = loop .before .before .before .before .before in
     let given = start .pre in
-    filled (record { rules = given .rules; ranked = loop .before .before .by-rank .ensures; free = given .free; long = loop .loop .inv .1 })
+    filled (record { rules = given .rules; ranked = ranked given (loop .before .before .by-rank .ensures); free = given .free; long = loop .loop .inv .1 })
     (omega (arith, c .loop-test .left, input-length (start .args .events .now))) (given .input .short) (loop .loop .inv .2)
 
 pub fill-spec : {M : Type 1} → statement M

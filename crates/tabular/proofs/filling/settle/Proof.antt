@@ -3,6 +3,7 @@ use Prim.Native.Nat.{_-_, _≤_}
 use native.Mathlib.Omega.{arith}
 use Rattle.grammar.specs.Limits.{maxTabularTokens}
 use Rattle.tabular_promises.specs.contracts.Filling.{turn, Fills}
+use Rattle.tabular_promises.proofs.Charts.{added-right}
 use Rattle.tabular_promises.proofs.Turns.{few, settling-start, settling-more, settled}
 use Rattle.tabular.proofs.filling.settle.Statement.{statement}
 use Rattle.tabular.proofs.filling.settle.Tie as tie
@@ -29,10 +30,7 @@ derived-requires c κs =
     }
 
 add-requires : tie.Need-add-requires Inv-loop μ-loop
-add-requires c κs =
-    let at-loop = c .before .before .before .before in
-    let start = at-loop .before .before in
-    record { long = at-loop .loop .inv .1 .long; given = record { span = start .pre .span; few = few (start .pre .given) } }
+add-requires c κs = tt
 
 add-rank : tie.Need-add-rank Inv-loop μ-loop
 add-rank c =
@@ -50,7 +48,9 @@ loop-again c =
     let at-loop = at-loop-test .before in
     let start = at-loop .before .before in (
       omega (arith, at-loop-test .loop-test .taken),
-      settling-more (start .pre) (at-loop-test .loop-test .taken) (at-loop .loop .inv .1) (at-derived .derived .ensures) (c .add .ensures),
+      settling-more (start .pre) (at-loop-test .loop-test .taken) (at-loop .loop .inv .1) (at-derived .derived .ensures)
+          (added-right record { long = at-loop .loop .inv .1 .long; given = record { span = start .pre .span; few = few (start .pre .given) } }
+          (c .add .ensures)),
     )
 
 returns : tie.Need-returns Inv-loop μ-loop
