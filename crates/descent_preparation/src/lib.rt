@@ -18,7 +18,7 @@ use lookahead::Lookahead;
 use memo_table::clear;
 use table::Found;
 
-// For one input: of the lent memo table so many entries are blank, none where the descent is refused.
+// For one input: what is found, the arrays, and how many entries of the lent memo table are blank, none where the descent is refused.
 pub struct Prepared {
     pub found: Found,
     pub choices: [u16; CHOICES],
@@ -26,7 +26,7 @@ pub struct Prepared {
     pub entries: usize,
 }
 
-// For a search: how many entries each descent needs, the last terminal, and how many inputs there are.
+// For a search: what is found, the choices, how many entries each descent needs, the last terminal, and how many inputs there are.
 pub struct PreparedSearch {
     pub found: Found,
     pub choices: [u16; CHOICES],
@@ -59,7 +59,7 @@ fn last_of(terminals: u32) -> u8
     ((terminals - 1) % 256) as u8
 }
 
-// For the input that the events are. Of the lent memo table the first entries are made blank, as many as the descent needs.
+// For the input that the events are. Of the lent memo table the first entries are made blank, as many as the descent needs, or as there are.
 pub fn prepare_input(
     words: &[u32],
     lookahead: Lookahead,

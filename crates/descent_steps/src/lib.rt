@@ -15,6 +15,7 @@ use word::decode;
 
 pub mod arrays;
 pub mod entry;
+pub mod state;
 
 // The words that begin a positive and a negative conjunct: kinds 3 and 4 in the topmost four bits, and zeros.
 const POSITIVE_WORD: u32 = 805306368;
@@ -62,14 +63,14 @@ pub fn step_of_word(bits: u32) -> Step
 }
 
 // The word at an index; where the words end, one that begins nothing.
-pub fn word_at(words: &[u32], at: usize) -> u32
+pub(crate) fn word_at(words: &[u32], at: usize) -> u32
     ensures { λ r. ⌜ r ≡ wordAt (now (words .entry)) at ⌝ }
 {
     if at < words.len() { words[at] } else { 0 }
 }
 
 // Whether a word begins a conjunct. It is compared and not decoded: for each conjunct that is two instructions.
-pub fn begins_conjunct(bits: u32) -> bool
+pub(crate) fn begins_conjunct(bits: u32) -> bool
     ensures { λ r. ⌜ r ≡ beginsBody (signOf (decoded bits)) ⌝ }
 {
     bits == NEGATIVE_WORD || bits == POSITIVE_WORD
@@ -87,7 +88,7 @@ fn conjunct_sign(bits: u32) -> Sign
 }
 
 // Where the next conjunct is, or the rule ends, when a body has stopped at an index: there, unless the body has failed.
-pub fn next_conjunct(words: &[u32], entry: u16, at: usize) -> usize
+pub(crate) fn next_conjunct(words: &[u32], entry: u16, at: usize) -> usize
     ensures { λ r. ⌜ r ≡ nextConjunct (now (words .entry)) entry at ⌝ }
 {
     if entry != FAILED {
@@ -97,14 +98,14 @@ pub fn next_conjunct(words: &[u32], entry: u16, at: usize) -> usize
 }
 
 // Where the bodies of a rule agree to end before the first has run, by the word that begins it, for an input that ends at a place.
-pub fn first_agreement(word: u32, end: u16) -> u16
+pub(crate) fn first_agreement(word: u32, end: u16) -> u16
     ensures { λ r. ⌜ r ≡ agreementCode (openingBy (conjunctSign word) end) ⌝ }
 {
     opening(conjunct_sign(word), end)
 }
 
 // The agreement after one body more, by the word that begins it and the entry of its outcome.
-pub fn joined_entry(word: u32, agreement: u16, entry: u16) -> u16
+pub(crate) fn joined_entry(word: u32, agreement: u16, entry: u16) -> u16
     ensures { λ r. ⌜ r ≡ agreementCode (joinedBy (conjunctSign word) (agreementOf agreement) (outcomeOf entry)) ⌝ }
 {
     joined(conjunct_sign(word), agreement, entry)

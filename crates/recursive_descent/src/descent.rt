@@ -7,20 +7,17 @@ ghost use Rattle.descent_arrays.specs.contracts.Arrays.{choiceAt};
 ghost use Rattle.recursive_descent_promises.specs.contracts.Descent.{ChoiceGiven, CallRequires, CallEnsures, RunRequires, RunEnsures};
 use descent_arrays::CHOICE_COLUMNS;
 use descent_arrays::CHOICES;
-use descent_arrays::END_COLUMN;
 use descent_arrays::ROW_COLUMN;
 use descent_steps::Step;
 use descent_steps::arrays::column_of;
 use descent_steps::arrays::end_behind;
 use descent_steps::arrays::entry_of;
-use descent_steps::begins_conjunct;
 use descent_steps::entry::Outcome;
 use descent_steps::entry::recall;
-use descent_steps::first_agreement;
-use descent_steps::joined_entry;
-use descent_steps::next_conjunct;
+use descent_steps::state::first_state;
+use descent_steps::state::goes_further;
+use descent_steps::state::next_state;
 use descent_steps::step_of_word;
-use descent_steps::word_at;
 use grammar::codes::FAILED;
 use grammar::codes::UNCALLED;
 use grammar::limits::PLACES;
@@ -97,23 +94,14 @@ pub(crate) fn call(
         return known;
     }
     let column = column_of(token_at(tokens, place));
-    let mut at = choice_at(choices, nonterminal, column) as usize;
-    if at == 0 {
-        memo[entry] = FAILED;
-        return FAILED;
+    let first = choice_at(choices, nonterminal, column);
+    let mut state = first_state(words, choices, first);
+    while goes_further(state) {
+        let from = state.at + 1;
+        let run = run_body(nonterminal, words, choices, tokens, memo, from, place);
+        state = next_state(words, state, run.end, run.at);
     }
-    let mut word = word_at(words, at);
-    let end = choice_at(choices, nonterminal, END_COLUMN);
-    let mut agreement = first_agreement(word, end);
-    while begins_conjunct(word) {
-        let run = run_body(nonterminal, words, choices, tokens, memo, at + 1, place);
-        agreement = joined_entry(word, agreement, run.end);
-        if agreement == FAILED {
-            break;
-        }
-        at = next_conjunct(words, run.end, run.at);
-        word = word_at(words, at);
-    }
+    let agreement = state.agreement;
     memo[entry] = agreement;
     agreement
 }

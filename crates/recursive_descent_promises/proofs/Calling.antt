@@ -1,14 +1,14 @@
 -- Calling a nonterminal: the bodies of its rule agree on the end that the descent with a memo table gives.
 use mathlib.Core.Path.{_≡_, refl, sym, ap, _∙_}
-use mathlib.Core.Bool.{Bool, true, false, true≢false, false≢true}
+use mathlib.Core.Bool.{Bool, true, false, not, _&&_, true≢false, false≢true}
 use mathlib.Core.List.{List, [], _∷_, List·Memᴰ, List·Memᴰ·head, List·Memᴰ·tail}
-use mathlib.Core.Option.{none, some}
+use mathlib.Core.Option.{Option, some}
 use Prim.Native.Nat.{ℕ, _+_, _≤_, _<_}
 use native.Mathlib.Omega.{arith}
 use native.Mathlib.Decide.{decLt}
 use lib.Dec.{eqb}
 use lib.ListN.{length, getD, drop}
-use borrow.Author.Tests.{lt-ltb, eqb-false}
+use borrow.Author.Tests.{lt-ltb, eqb-true, eqb-false}
 use Rattle.base.specs.Choice.{choose}
 use Rattle.word.specs.Words.{decoded}
 use Rattle.word.specs.declared.Symbol as grammar
@@ -32,10 +32,11 @@ use Rattle.semantics.specs.contracts.Memo.{decode}
 use Rattle.rule.specs.declared.Sign.{Sign}
 use Rattle.rule.specs.declared.Sign.the-variants.{Positive, Negative, Neither}
 use Rattle.rule.specs.contracts.Rule as agreement
-use Rattle.rule.specs.contracts.Rule.{Agreement, agreementCode, agreementOf, signOf, signAt, bodyEnd, beginsBody, goesOn, hasFailed, joinedBy, concluded}
+use Rattle.rule.specs.contracts.Rule.{Agreement, agreementOf, signOf, signAt, bodyEnd, beginsBody, goesOn, hasFailed, joinedBy, concluded}
 use Rattle.rule.proofs.Signs.{sign-number, sign-positive, sign-negative, sign-within}
 use Rattle.rule.proofs.Agreements.{opens-no-more, ends-joined, code-told, failed-told, lives-told, concluded-told}
-use Rattle.descent_steps.specs.contracts.Steps.{wordAt, conjunctSign, nextConjunct}
+use Rattle.descent_steps.specs.declared.state.RuleState.{RuleState}
+use Rattle.descent_steps.specs.contracts.Steps.{conjunctSign, nextConjunct, failedAt, reached, goesFurther, agreedWith, nextState}
 use Rattle.descent_steps.proofs.Conjuncts.{conjunct-sign, word-sign}
 use Rattle.families.proofs.Words.{parse-over}
 use Rattle.recursive_descent_promises.specs.declared.Run.{Run}
@@ -356,24 +357,20 @@ module _ {choice : Choice} {words choices tokens input memo₀ : List ℕ} {A pl
       → memoObey (deep choice words input n) input (some (v .rule)) place memo₀ ≡ memoized (concluded agreed) memo
   rule-done stops = calling-done g (v .calling) stops
 
--- a call that has reached a word of its rule, which has not failed
-pub record Going (choice : Choice) (words input memo₀ : List ℕ) (A place : ℕ) (memo : List ℕ) (at word agreed : ℕ) : Type 0 where
-  pub rule : InRule choice words input memo₀ A place memo at (signOf (decoded word)) (agreementOf agreed)
-  pub lives : hasFailed (agreementOf agreed) ≡ false
-
--- a call whose rule has run: the agreement is the entry of its outcome
+-- a call whose rule has run, or that has none: the agreement is the entry of its outcome
 pub record Ran (choice : Choice) (words input memo₀ : List ℕ) (A place : ℕ) (memo : List ℕ) (agreed : ℕ) : Type 0 where
-  pub rule : Rule
-  pub selected : select (grammarOf words) (choice A place) ≡ some rule
-  pub sound : MemoSound choice words input memo
+  pub rule : Option Rule
+  pub selected : select (grammarOf words) (choice A place) ≡ rule
   pub outcome : Outcome
-  pub ran : (n : ℕ) → level words input A place ≤ n → memoObey (deep choice words input n) input (some rule) place memo₀ ≡ memoized outcome memo
+  pub ran : (n : ℕ) → level words input A place ≤ n → memoObey (deep choice words input n) input rule place memo₀ ≡ memoized outcome memo
   pub told : agreed ≡ outcomeCode outcome
 
--- where two ways meet
-pub ran-as : {choice : Choice} {words input memo₀ : List ℕ} {A place : ℕ} {memo memo′ : List ℕ} {agreed agreed′ : ℕ} → memo′ ≡ memo → agreed′ ≡ agreed
-    → Ran choice words input memo₀ A place memo agreed → Ran choice words input memo₀ A place memo′ agreed′
-ran-as m a v = rw (m, a) v
+-- a call that has got so far with its rule, or has failed
+pub record Going (choice : Choice) (words input memo₀ : List ℕ) (A place : ℕ) (memo : List ℕ) (s : RuleState) : Type 0 where
+  pub sound : MemoSound choice words input memo
+  pub lives : (s .agreement ≡ failedCode → ⊥)
+      → InRule choice words input memo₀ A place memo (s .at) (signOf (decoded (s .word))) (agreementOf (s .agreement))
+  pub failed : s .agreement ≡ failedCode → Ran choice words input memo₀ A place memo (s .agreement)
 
 -- the rule goes on where a conjunct begins, and ends elsewhere
 goes : (s : Sign) (a : Agreement) → hasFailed a ≡ false → goesOn s a ≡ beginsBody s
@@ -386,70 +383,108 @@ failed-stops s agreement.Open h = absurd (false≢true h)
 failed-stops s (agreement.At e) h = absurd (false≢true h)
 failed-stops s agreement.Failed h = (refl, refl)
 
+-- a further body is run where a conjunct begins, of a rule that has not failed
+further-lives : (s : RuleState) → goesFurther s ≡ true → (s .agreement ≡ failedCode → ⊥) × (beginsBody (signOf (decoded (s .word))) ≡ true)
+unfolding goesFurther
+further-lives s h = go (eqb (s .agreement) failedCode) refl h
+  where
+    go : (b : Bool) → eqb (s .agreement) failedCode ≡ b → (not b && beginsBody (signOf (decoded (s .word)))) ≡ true
+        → (s .agreement ≡ failedCode → ⊥) × (beginsBody (signOf (decoded (s .word))) ≡ true)
+    go true e h = absurd (false≢true h)
+    go false e h = (eqb-false (s .agreement) failedCode e, h)
+
 module _ {choice : Choice} {words choices tokens input memo₀ : List ℕ} {A place : ℕ} (g : CallGiven choice words choices tokens input memo₀ A place)
-    {memo : List ℕ} {at word agreed : ℕ} (v : Going choice words input memo₀ A place memo at word agreed) where
-  module _ (begins : beginsBody (signOf (decoded word)) ≡ true) where
-    on : goesOn (signOf (decoded word)) (agreementOf agreed) ≡ true
-    on = goes (signOf (decoded word)) (agreementOf agreed) (v .lives) ∙ begins
+    {memo : List ℕ} {s : RuleState} (v : Going choice words input memo₀ A place memo s) where
+  module _ (further : goesFurther s ≡ true) where
+    begins : beginsBody (signOf (decoded (s .word))) ≡ true
+    begins = further-lives s further .1
 
-    pub going-conjunct : at < length words
-    going-conjunct = rule-conjunct g (v .rule) on
+    in-rule : InRule choice words input memo₀ A place memo (s .at) (signOf (decoded (s .word))) (agreementOf (s .agreement))
+    in-rule = v .lives (further-lives s further .0)
 
-    pub going-run : RunGiven choice words choices tokens input memo A (at + 1) place
-    going-run = rule-run g (v .rule) on
+    on : goesOn (signOf (decoded (s .word))) (agreementOf (s .agreement)) ≡ true
+    on = goes (signOf (decoded (s .word))) (agreementOf (s .agreement)) (lives-told (s .agreement) (further-lives s further .0)) ∙ begins
 
-    module _ {o : Run} {memo′ : List ℕ} {agreed′ : ℕ} (d : RunDone choice words input memo A (at + 1) place o memo′)
-        (j : agreed′ ≡ agreementCode (joinedBy (conjunctSign word) (agreementOf agreed) (decode (o .end)))) where
-      joins : agreementOf agreed′ ≡ joinedBy (signOf (decoded word)) (agreementOf agreed) (decode (o .end))
+    pub going-conjunct : s .at < length words
+    going-conjunct = rule-conjunct g in-rule on
+
+    pub going-run : RunGiven choice words choices tokens input memo A (s .at + 1) place
+    going-run = rule-run g in-rule on
+
+    module _ {o : Run} {memo′ : List ℕ} (d : RunDone choice words input memo A (s .at + 1) place o memo′) where
+      joins : agreementOf (agreedWith s (o .end)) ≡ joinedBy (signOf (decoded (s .word))) (agreementOf (s .agreement)) (decode (o .end))
       joins =
-          let joined = joinedBy (conjunctSign word) (agreementOf agreed) (decode (o .end)) in
+          let joined = joinedBy (conjunctSign (s .word)) (agreementOf (s .agreement)) (decode (o .end)) in
           let low : (e : ℕ) → joined ≡ agreement.At e → e < failedCode = λ e q.
-          let l = ends-joined (length input) (conjunctSign word) (agreementOf agreed) (decode (o .end)) (v .rule .calling .ends) (d .within) e q in
+          let l = ends-joined (length input) (conjunctSign (s .word)) (agreementOf (s .agreement)) (decode (o .end)) (in-rule .calling .ends) (d .within) e q in
           omega (arith, l, g .given .short) in
-          ap agreementOf j ∙ code-told joined low ∙ ap (λ x. joinedBy x (agreementOf agreed) (decode (o .end))) (conjunct-sign word begins)
+          code-told joined low ∙ ap (λ x. joinedBy x (agreementOf (s .agreement)) (decode (o .end))) (conjunct-sign (s .word) begins)
 
       -- the rule has failed
-      pub going-failed : agreed′ ≡ failedCode → Ran choice words input memo₀ A place memo′ agreed′
+      stopped-there : agreedWith s (o .end) ≡ failedCode → Ran choice words input memo₀ A place memo′ failedCode
       unfolding rule-turn outcomeCode
-      going-failed f =
-          let next = rule-turn g (v .rule) on d joins refl refl in
-          let k = failed-stops (signAt words (bodyEnd words (o .at))) (agreementOf agreed′) (failed-told agreed′ f) in
+      stopped-there f =
+          let next = rule-turn g in-rule on d joins refl refl in
+          let k = failed-stops (signAt words (bodyEnd words (o .at))) (agreementOf (agreedWith s (o .end))) (failed-told (agreedWith s (o .end)) f) in
           record {
-            rule = v .rule .rule;
-            selected = v .rule .selected;
-            sound = d .sound;
+            rule = some (in-rule .rule);
+            selected = in-rule .selected;
             outcome = Failed;
             ran = λ n l. rule-done g next (k .0) n l ∙ ap (λ x. memoized x memo′) (k .1);
-            told = f;
+            told = refl;
           }
 
       -- where the next word is
-      module _ {at′ : ℕ} (b : at′ ≡ nextConjunct words (o .end) (o .at)) where
-        ended : at′ ≡ bodyEnd words (o .at)
-        unfolding nextConjunct
-        ended = b ∙ go (eqb (o .end) failedCode) refl
+      ended : nextConjunct words (o .end) (o .at) ≡ bodyEnd words (o .at)
+      unfolding nextConjunct
+      ended = go (eqb (o .end) failedCode) refl
+        where
+          go : (x : Bool) → eqb (o .end) failedCode ≡ x → choose x (bodyEnd words (o .at)) (o .at) ≡ bodyEnd words (o .at)
+          go true e = refl
+          go false e = sym (d .over (eqb-false (o .end) failedCode e))
+
+      module _ {s′ : RuleState} (q : s′ ≡ nextState words s (o .end) (o .at)) where
+        pub going-falls : s .at < s′ .at
+        unfolding nextState
+        going-falls = go (eqb (agreedWith s (o .end)) failedCode) q
           where
-            go : (x : Bool) → eqb (o .end) failedCode ≡ x → choose x (bodyEnd words (o .at)) (o .at) ≡ bodyEnd words (o .at)
-            go true e = refl
-            go false e = sym (d .over (eqb-false (o .end) failedCode e))
+            go : (b : Bool) → s′ ≡ choose b (failedAt (o .at)) (reached words (nextConjunct words (o .end) (o .at)) (agreedWith s (o .end))) → s .at < s′ .at
+            go true e = rw e (omega (arith, d .skipped .on))
+            go false e = rw e (omega (arith, d .skipped .on, ended))
 
-        pub going-falls : at < at′
-        going-falls = omega (arith, d .skipped .on, ended)
+        pub going-turn : Going choice words input memo₀ A place memo′ s′
+        unfolding nextState
+        going-turn = go (eqb (agreedWith s (o .end)) failedCode) refl q
+          where
+            go : (b : Bool) → eqb (agreedWith s (o .end)) failedCode ≡ b
+                → s′ ≡ choose b (failedAt (o .at)) (reached words (nextConjunct words (o .end) (o .at)) (agreedWith s (o .end)))
+                → Going choice words input memo₀ A place memo′ s′
+            go true f e = rw e (record {
+              sound = d .sound;
+              lives = λ n. absurd (n refl);
+              failed = λ _. stopped-there (eqb-true (agreedWith s (o .end)) failedCode f);
+            })
+            go false f e = rw e (record {
+              sound = d .sound;
+              lives = λ _. rule-turn g in-rule on d joins ended (word-sign words (nextConjunct words (o .end) (o .at)));
+              failed = λ h. absurd (eqb-false (agreedWith s (o .end)) failedCode f h);
+            })
 
-        pub going-turn : {word′ : ℕ} → word′ ≡ wordAt words at′ → (agreed′ ≡ failedCode → ⊥)
-            → Going choice words input memo₀ A place memo′ at′ word′ agreed′
-        going-turn {word′} w f = record {
-          rule = rule-turn g (v .rule) on d joins ended (ap (λ x. signOf (decoded x)) w ∙ word-sign words at′);
-          lives = lives-told agreed′ f;
-        }
-
-  -- no conjunct is left
-  pub going-done : beginsBody (signOf (decoded word)) ≡ false → Ran choice words input memo₀ A place memo agreed
-  going-done stops = record {
-    rule = v .rule .rule;
-    selected = v .rule .selected;
-    sound = v .rule .calling .sound;
-    outcome = concluded (agreementOf agreed);
-    ran = rule-done g (v .rule) (goes (signOf (decoded word)) (agreementOf agreed) (v .lives) ∙ stops);
-    told = concluded-told agreed (not-open g (v .rule .calling) stops);
-  }
+  -- no further body is run
+  pub going-ended : goesFurther s ≡ false → Ran choice words input memo₀ A place memo (s .agreement)
+  unfolding goesFurther
+  going-ended stops = go (eqb (s .agreement) failedCode) refl stops
+    where
+      go : (b : Bool) → eqb (s .agreement) failedCode ≡ b → (not b && beginsBody (signOf (decoded (s .word)))) ≡ false
+          → Ran choice words input memo₀ A place memo (s .agreement)
+      go true e h = v .failed (eqb-true (s .agreement) failedCode e)
+      go false e h =
+          let n = eqb-false (s .agreement) failedCode e in
+          let there = v .lives n in
+          record {
+            rule = some (there .rule);
+            selected = there .selected;
+            outcome = concluded (agreementOf (s .agreement));
+            ran = rule-done g there (goes (signOf (decoded (s .word))) (agreementOf (s .agreement)) (lives-told (s .agreement) n) ∙ h);
+            told = concluded-told (s .agreement) (not-open g (there .calling) h);
+          }

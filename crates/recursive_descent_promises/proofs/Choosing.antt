@@ -1,25 +1,18 @@
--- What a call reads in the arrays: its entry, its rule, and the input's length.
+-- What a call reads in the arrays: its entry and its rule.
 use mathlib.Core.Path.{_≡_, _∙_}
-use mathlib.Core.Bool.{Bool}
 use mathlib.Core.List.{List}
-use Prim.Native.Nat.{ℕ, _+_, _/_, _%_, _≤_, _<_}
+use Prim.Native.Nat.{ℕ, _+_, _/_, _≤_, _<_}
 use native.Mathlib.Omega.{arith}
-use lib.Dec.{eqb}
 use lib.ListN.{length, getD}
 use Rattle.grammar.specs.Limits.{maxNonterminals, maxTokens}
 use Rattle.grammar.proofs.WellRead.{well-read}
 use Rattle.semantics.specs.Choices.{Choice}
-use Rattle.descent_arrays.specs.contracts.Arrays.{rowColumn, endColumn, columnWeight, choiceAt, matchesAt, rowAt, endAt, firstAt}
+use Rattle.descent_arrays.specs.contracts.Arrays.{rowColumn, columnWeight, choiceAt, rowAt, firstAt}
 use Rattle.recursive_descent_promises.specs.contracts.Descent.{ChoiceGiven, ArraysGiven, CallGiven}
 
 pub token-low : {choice : Choice} {words choices tokens input memo : List ℕ} → ArraysGiven choice words choices tokens input memo
     → {place : ℕ} → place ≤ length input → place ≤ maxTokens
 token-low g h = omega (arith, g .short)
-
-pub match-is : (tokens : List ℕ) (place a : ℕ) {token : ℕ} {r : Bool} → token ≡ getD tokens place 0 → r ≡ eqb (token % columnWeight) a
-    → r ≡ matchesAt tokens place a
-unfolding matchesAt
-match-is tokens place a t e = e ∙ rw t
 
 module _ {choice : Choice} {words choices tokens input memo : List ℕ} {A place : ℕ} (g : CallGiven choice words choices tokens input memo A place) where
   few : A < maxNonterminals
@@ -29,9 +22,6 @@ module _ {choice : Choice} {words choices tokens input memo : List ℕ} {A place
 
   pub row-given : ChoiceGiven A rowColumn
   row-given = record { named = few; inside = omega arith }
-
-  pub end-given : ChoiceGiven A endColumn
-  end-given = record { named = few; inside = omega arith }
 
   pub column-given : {token column : ℕ} → token ≡ getD tokens place 0 → column ≡ token / columnWeight → ChoiceGiven A column
   column-given t c = record { named = few; inside = rw (c, t) (omega (arith, g .given .columns place (g .placed))) }
@@ -45,7 +35,3 @@ module _ {choice : Choice} {words choices tokens input memo : List ℕ} {A place
       → first ≡ firstAt choices tokens A place
   unfolding firstAt
   first-is t c f = f ∙ rw (c, t)
-
-  pub end-is : {end : ℕ} → end ≡ choiceAt choices A endColumn → end ≡ endAt choices A
-  unfolding endAt
-  end-is e = e

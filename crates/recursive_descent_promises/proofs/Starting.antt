@@ -1,12 +1,15 @@
 -- The rule that is chosen: where it begins, and that its bodies are all still to be run.
 use mathlib.Core.Path.{_≡_, refl, sym, ap, _∙_}
-use mathlib.Core.Bool.{true, false, false≢true}
+use mathlib.Core.Bool.{Bool, true, false, true≢false, false≢true}
 use mathlib.Core.List.{List, [], _∷_, List·Memᴰ, Memᴰ·append-left, Memᴰ·append-right}
 use mathlib.Core.Option.{Option, none, some}
 use Prim.Native.Nat.{ℕ, zero, suc, _+_, _<_}
 use native.Mathlib.Omega.{arith}
 use native.Mathlib.Numerals.{add-one}
+use lib.Dec.{eqb}
 use lib.ListN.{length, getD, drop}
+use borrow.Author.Tests.{eqb-true, eqb-false}
+use Rattle.base.specs.Choice.{choose}
 use lib.Seq.{drop-cons}
 use Rattle.word.specs.Words.{decoded}
 use Rattle.word.specs.declared.Word.{Word}
@@ -32,12 +35,13 @@ use Rattle.semantics.proofs.descent.Outcomes.{nth-below, nth-mem}
 use Rattle.rule.specs.declared.Sign.{Sign}
 use Rattle.rule.specs.declared.Sign.the-variants.{Positive, Negative, Neither}
 use Rattle.rule.proofs.Signs.{sign-number, sign-negative, sign-within}
-use Rattle.rule.proofs.Agreements.{opening-ends, opening-open, code-told}
+use Rattle.rule.proofs.Agreements.{opening-ends, opening-open, code-told, failed-told}
 use Rattle.recursive_descent_promises.proofs.Bodies.{parse-here}
 use Rattle.recursive_descent_promises.proofs.Running.{deep}
 use Rattle.grammar.proofs.WellFormed.{reads}
 use Rattle.rule.specs.contracts.Rule.{Agreement, At, signOf, signAt, hasFailed, openingBy, agreementCode, agreementOf}
-use Rattle.descent_steps.specs.contracts.Steps.{wordAt, conjunctSign}
+use Rattle.descent_steps.specs.declared.state.RuleState.{RuleState}
+use Rattle.descent_steps.specs.contracts.Steps.{wordAt, conjunctSign, failedAt, reached, firstState}
 use Rattle.descent_steps.proofs.Conjuncts.{conjunct-opens, word-sign}
 use Rattle.descent_arrays.specs.contracts.Arrays.{endAt, firstAt}
 use Rattle.recursive_descent_promises.specs.contracts.Descent.{firstConjunct, CallGiven}
@@ -65,6 +69,15 @@ opening-lives : (s : Sign) (end : ℕ) → hasFailed (openingBy s end) ≡ false
 opening-lives Positive end = refl
 opening-lives Negative end = refl
 opening-lives Neither end = refl
+
+-- without a rule a call fails
+none-fails : (M : MemoCalls) (w : List ℕ) (i : ℕ) (m : List ℕ) → memoObey M w none i m ≡ memoized Failed m
+unfolding memoObey
+none-fails M w i m = refl
+
+encode-failed : failedCode ≡ outcomeCode Failed
+unfolding outcomeCode
+encode-failed = refl
 
 module _ {choice : Choice} {words choices tokens input memo : List ℕ} {A place : ℕ} (g : CallGiven choice words choices tokens input memo A place) where
   abbrev G : Grammar
@@ -186,23 +199,37 @@ module _ {choice : Choice} {words choices tokens input memo : List ℕ} {A place
     calling = calling-start k (s ∙ ap (signAt words) (k .behind));
   })
 
-  pub start-going : {at : ℕ} (k : Chosen at) {word end agreed : ℕ} → word ≡ wordAt words at → end ≡ endAt choices A
-      → agreed ≡ agreementCode (openingBy (conjunctSign word) end) → Going choice words input memo A place memo at word agreed
-  start-going {at} k {word} {end} w e o =
-      let low : (x : ℕ) → openingBy (conjunctSign word) end ≡ At x → x < failedCode = λ x q.
-      omega (arith, opening-ends (conjunctSign word) end x q, e, g .given .ends A (g .named), g .given .short) in
-      let same = ap agreementOf o ∙ code-told (openingBy (conjunctSign word) end) low ∙ ap (openingBy (conjunctSign word)) e
-      ∙ conjunct-opens word (endAt choices A) in
-      record {
-        rule = start-rule k (ap (λ x. signOf (decoded x)) w ∙ word-sign words at) same;
-        lives = ap hasFailed same ∙ opening-lives (signOf (decoded word)) (endAt choices A);
-      }
-
--- without a rule a call fails
-pub none-fails : (M : MemoCalls) (w : List ℕ) (i : ℕ) (m : List ℕ) → memoObey M w none i m ≡ memoized Failed m
-unfolding memoObey
-none-fails M w i m = refl
-
-pub encode-failed : failedCode ≡ outcomeCode Failed
-unfolding outcomeCode
-encode-failed = refl
+  -- before the first body, by where the first conjunct stands
+  pub start-going : {at : ℕ} → at ≡ firstAt choices tokens A place → {s : RuleState} → s ≡ firstState words choices at
+      → Going choice words input memo A place memo s
+  unfolding firstState
+  start-going {at} f {s} q = go (eqb at 0) refl q
+    where
+      go : (b : Bool) → eqb at 0 ≡ b
+          → s ≡ choose b (failedAt at) (reached words at (agreementCode (openingBy (conjunctSign (wordAt words at)) (endAt choices 0))))
+          → Going choice words input memo A place memo s
+      go true e q = rw q (record {
+        sound = g .given .sound;
+        lives = λ n. absurd (n refl);
+        failed = λ _. record {
+          rule = none;
+          selected = select-none (no-rule f (eqb-true at 0 e));
+          outcome = Failed;
+          ran = λ n l. none-fails (deep choice words input n) input place memo;
+          told = encode-failed;
+        };
+      })
+      go false e q =
+          let word = wordAt words at in
+          let opens = openingBy (conjunctSign word) (endAt choices 0) in
+          let long : endAt choices 0 ≡ endAt choices A = g .given .ends 0 (omega (arith, g .named)) ∙ sym (g .given .ends A (g .named)) in
+          let low : (x : ℕ) → opens ≡ At x → x < failedCode = λ x h.
+          omega (arith, opening-ends (conjunctSign word) (endAt choices 0) x h, long, g .given .ends A (g .named), g .given .short) in
+          let same : agreementOf (agreementCode opens) ≡ openingBy (signOf (decoded word)) (endAt choices A) =
+          code-told opens low ∙ ap (openingBy (conjunctSign word)) long ∙ conjunct-opens word (endAt choices A) in
+          rw q (record {
+            sound = g .given .sound;
+            lives = λ _. start-rule (rule-chosen f (eqb-false at 0 e)) (word-sign words at) same;
+            failed = λ h. absurd
+                (true≢false (sym (failed-told (agreementCode opens) h) ∙ ap hasFailed same ∙ opening-lives (signOf (decoded word)) (endAt choices A)));
+          })

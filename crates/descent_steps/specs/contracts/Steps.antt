@@ -1,4 +1,5 @@
 -- What a body does at a word, and how a rule goes from conjunct to conjunct.
+use mathlib.Core.Bool.{Bool, not, _&&_}
 use mathlib.Core.List.{List}
 use Prim.Native.Nat.{ℕ, _+_, _%_}
 use lib.Dec.{ltb, eqb}
@@ -12,10 +13,13 @@ use Rattle.grammar.specs.Codes.{failedCode}
 use Rattle.semantics.specs.Descent as semantics
 use Rattle.rule.specs.declared.Sign.{Sign}
 use Rattle.rule.specs.declared.Sign.the-variants.{Positive, Negative}
-use Rattle.rule.specs.contracts.Rule.{bodyEnd}
-use Rattle.descent_arrays.specs.contracts.Arrays.{columnWeight}
+use Rattle.semantics.specs.contracts.Memo.{decode}
+use Rattle.word.specs.Words.{decoded}
+use Rattle.rule.specs.contracts.Rule.{bodyEnd, signOf, beginsBody, openingBy, joinedBy, agreementCode, agreementOf}
+use Rattle.descent_arrays.specs.contracts.Arrays.{columnWeight, endAt}
 use Rattle.descent_steps.specs.declared.entry.Outcome as code
 use Rattle.descent_steps.specs.declared.entry.Outcome.the-variants as outcome
+use Rattle.descent_steps.specs.declared.state.RuleState.{RuleState}
 use Rattle.descent_steps.specs.declared.Step.{Step}
 use Rattle.descent_steps.specs.declared.Step.the-variants.{Terminal, Nonterminal, Over}
 
@@ -56,3 +60,29 @@ conjunctSign bits = choose (eqb bits negativeWord) Negative Positive
 -- where the next conjunct is, or the rule ends, when a body has stopped at an index with an entry for its outcome
 unfoldable pub nextConjunct : List ℕ → ℕ → ℕ → ℕ
 nextConjunct words entry at = choose (eqb entry failedCode) (bodyEnd words at) at
+
+-- a rule that has failed
+abbrev pub failedAt : ℕ → RuleState
+failedAt at = record { at = at; word = 0; agreement = failedCode }
+
+-- a rule that has reached an index
+abbrev pub reached : List ℕ → ℕ → ℕ → RuleState
+reached words at agreed = record { at = at; word = wordAt words at; agreement = agreed }
+
+-- before the first body of the rule whose first conjunct stands at an index, or without a rule
+unfoldable pub firstState : List ℕ → List ℕ → ℕ → RuleState
+firstState words choices at =
+    choose (eqb at 0) (failedAt at) (reached words at (agreementCode (openingBy (conjunctSign (wordAt words at)) (endAt choices 0))))
+
+-- whether a further body is run
+unfoldable pub goesFurther : RuleState → Bool
+goesFurther s = not (eqb (s .agreement) failedCode) && beginsBody (signOf (decoded (s .word)))
+
+-- what the bodies agree on, with one more that has this entry
+abbrev pub agreedWith : RuleState → ℕ → ℕ
+agreedWith s entry = agreementCode (joinedBy (conjunctSign (s .word)) (agreementOf (s .agreement)) (decode entry))
+
+-- when that body has stopped at an index
+unfoldable pub nextState : List ℕ → RuleState → ℕ → ℕ → RuleState
+nextState words s entry at =
+    choose (eqb (agreedWith s entry) failedCode) (failedAt at) (reached words (nextConjunct words entry at) (agreedWith s entry))

@@ -2,7 +2,6 @@
 -- From a call to a body that it runs, and on to the calls that the body makes, the tokens left fall, or else the rank does.
 use mathlib.Core.Path.{sym, ap, _∙_}
 use mathlib.Core.Logic.{⊎-elim}
-use mathlib.Core.Option.{none, some}
 use Prim.Native.Nat.{_+_, _-_, _*_, ℕ, _<_}
 use native.Mathlib.Omega.{arith}
 use lib.ListN.{length, length-set}
@@ -10,13 +9,12 @@ use Rattle.semantics.specs.Choices.{Choice}
 use Rattle.descent_arrays.specs.contracts.Arrays.{heldTokens}
 use Rattle.descent_steps.specs.contracts.Steps.{meant}
 use Rattle.recursive_descent_promises.specs.contracts.Descent.{CallGiven, RunGiven}
-use Rattle.recursive_descent_promises.proofs.Choosing.{token-low, row-given, end-given, column-given, entry-is, first-is, end-is}
+use Rattle.recursive_descent_promises.proofs.Choosing.{token-low, row-given, column-given, entry-is, first-is}
 use Rattle.recursive_descent_promises.proofs.Running.{level, Running, Read, read-as, running-start, running-done, running-within}
 use Rattle.recursive_descent_promises.proofs.Running.{running-given, running-small, running-falls, terminal-read, call-read}
-use Rattle.recursive_descent_promises.proofs.Calling.{Going, Ran, ran-as, going-conjunct, going-run, going-failed, going-falls, going-turn, going-done}
+use Rattle.recursive_descent_promises.proofs.Calling.{Going, going-conjunct, going-run, going-falls, going-turn, going-ended}
 use Rattle.recursive_descent_promises.proofs.Storing.{memo-same, index-low, call-known, call-stored}
-use Rattle.recursive_descent_promises.proofs.Starting.{no-rule, rule-chosen, start-going, select-none, none-fails, encode-failed}
-use borrow.Author.Needs.{needs}
+use Rattle.recursive_descent_promises.proofs.Starting.{start-going}
 use borrow.Fn.Kinds.{In}
 use borrow.Fn.PlainCycle.{Measures, is, falls, and}
 use Rattle.recursive_descent.proofs.descent.call.Reads as call
@@ -29,14 +27,12 @@ use Rattle.recursive_descent.proofs.descent.choice_at.Reads as choice-a
 use Rattle.recursive_descent.proofs.descent.token_at.Reads as token-at-reads
 use Rattle.descent_steps.proofs.arrays.column_of.Reads as column-of-reads
 use Rattle.descent_steps.proofs.arrays.entry_of.Reads as entry-of-reads
-use Rattle.descent_steps.proofs.first_agreement.Reads as first-agreement-reads
 use Rattle.descent_steps.proofs.arrays.end_behind.Reads as end-behind-reads
-use Rattle.descent_steps.proofs.joined_entry.Reads as joined-entry-reads
+use Rattle.descent_steps.proofs.state.first_state.Reads as first-state-reads
+use Rattle.descent_steps.proofs.state.goes_further.Reads as goes-further-reads
+use Rattle.descent_steps.proofs.state.next_state.Reads as next-state-reads
 use Rattle.descent_steps.proofs.step_of_word.Reads as step-of-word-reads
 use Rattle.descent_steps.proofs.entry.recall.Reads as recall-reads
-use Rattle.descent_steps.proofs.begins_conjunct.Reads as begins-conjunct-reads
-use Rattle.descent_steps.proofs.next_conjunct.Reads as next-conjunct-reads
-use Rattle.descent_steps.proofs.word_at.Reads as word-at-reads
 use Rattle.recursive_descent.proofs.descent.+call+run_body.{statement}
 use Rattle.recursive_descent.proofs.descent.+call+run_body.Tie.{close}
 
@@ -70,18 +66,14 @@ call-claims t = (
   token-at-reads.Learnt,
   column-of-reads.Asked,
   column-of-reads.Learnt,
-  word-at-reads.Asked,
-  word-at-reads.Learnt,
-  first-agreement-reads.Asked,
-  first-agreement-reads.Learnt,
-  begins-conjunct-reads.Asked,
-  begins-conjunct-reads.Learnt,
+  first-state-reads.Asked,
+  first-state-reads.Learnt,
+  goes-further-reads.Asked,
+  goes-further-reads.Learnt,
   run-body-below t,
   run-body.Post,
-  joined-entry-reads.Asked,
-  joined-entry-reads.Learnt,
-  next-conjunct-reads.Asked,
-  next-conjunct-reads.Learnt,
+  next-state-reads.Asked,
+  next-state-reads.Learnt,
 )
 
 abbrev run-body-claims : ℕ → run-body-lts.Claims
@@ -99,13 +91,12 @@ run-body-claims t = (
 )
 
 abbrev call-Inv-loop : call-lts.InvT-loop
-call-Inv-loop nonterminal words choices tokens memo₀ place row entry known column at₀ word₀ end agreement₀ memo at word agreement =
+call-Inv-loop nonterminal words choices tokens memo₀ place row entry known column first state₀ memo state =
     (choice : Choice) → CallGiven choice words choices tokens (heldTokens tokens) memo₀ nonterminal place
-    → Going choice words (heldTokens tokens) memo₀ nonterminal place memo at word agreement
+    → Going choice words (heldTokens tokens) memo₀ nonterminal place memo state
 
 abbrev call-μ-loop : call-lts.MeasureT-loop
-call-μ-loop nonterminal words choices tokens memo₀ place row entry known column at₀ word₀ end agreement₀ memo at word agreement =
-    length words - at
+call-μ-loop nonterminal words choices tokens memo₀ place row entry known column first state₀ memo state = length words - state .at
 
 call-choice-at-requires : (t : ℕ) → call-lts.Need-choice-at-requires (call-claims t) (call-at t) call.Post call-Inv-loop call-μ-loop
 call-choice-at-requires t c κs = row-given (c .before .before .pre .1 .1)
@@ -142,168 +133,98 @@ call-choice-at-requires-2 t c κs =
     let start = c .before .before .before .before .before .before .before .before in
     column-given (start .pre .1 .1) (c .before .token-at .ensures) (c .column-of .ensures)
 
-call-cast-at : (t : ℕ) → call-lts.Need-cast-at (call-claims t) (call-at t) call.Post call-Inv-loop call-μ-loop
-call-cast-at t c = search needs
-
-call-mul-memo : (t : ℕ) → call-lts.Need-mul-memo (call-claims t) (call-at t) call.Post call-Inv-loop call-μ-loop
-call-mul-memo t c =
-    let at-entry-of = c .before .before .before .before .before .before in
-    let given = at-entry-of .before .before .before .before .pre .1 .1 in
-    omega (arith, index-low given (entry-is given (at-entry-of .before .choice-at .ensures) (at-entry-of .entry-of .ensures)))
-
-call-slice-write-memo : (t : ℕ) → call-lts.Need-slice-write-memo (call-claims t) (call-at t) call.Post call-Inv-loop call-μ-loop
-call-slice-write-memo t c =
-    let at-entry-of = c .before .before .before .before .before .before in
-    let given = at-entry-of .before .before .before .before .pre .1 .1 in
-    index-low given (entry-is given (at-entry-of .before .choice-at .ensures) (at-entry-of .entry-of .ensures))
-
-call-same-length : (t : ℕ) → call-lts.Need-same-length (call-claims t) (call-at t) call.Post call-Inv-loop call-μ-loop
-call-same-length t c = simp length-set
-
-call-returns-2 : (t : ℕ) → call-lts.Need-returns-2 (call-claims t) (call-at t) call.Post call-Inv-loop call-μ-loop
-call-returns-2 t c =
-    let at-chosen = c .before in
-    let at-column = at-chosen .before in
-    let at-fresh = at-column .before .before in
-    let at-entry-of = at-fresh .before .before in
-    λ choice g.
-    let first = first-is g (at-column .before .token-at .ensures) (at-column .column-of .ensures) (at-chosen .choice-at2 .ensures) in
-    call-stored g (entry-is g (at-entry-of .before .choice-at .ensures) (at-entry-of .entry-of .ensures)) (at-fresh .if1 .left) none
-    (select-none g (no-rule g first (c .if2 .taken))) (λ n l. none-fails _ _ _ _) encode-failed
-
-call-word-at-requires : (t : ℕ) → call-lts.Need-word-at-requires (call-claims t) (call-at t) call.Post call-Inv-loop call-μ-loop
-call-word-at-requires t c κs = tt
-
-call-choice-at-requires-3 : (t : ℕ) → call-lts.Need-choice-at-requires-3 (call-claims t) (call-at t) call.Post call-Inv-loop call-μ-loop
-call-choice-at-requires-3 t c κs =
-    let at-chosen = c .before .before in
-    let start = at-chosen .before .before .before .before .before .before .before .before .before in
-    end-given (start .pre .1 .1)
-
-call-first-agreement-requires : (t : ℕ) → call-lts.Need-first-agreement-requires (call-claims t) (call-at t) call.Post call-Inv-loop call-μ-loop
-call-first-agreement-requires t c κs = tt
+call-first-state-requires : (t : ℕ) → call-lts.Need-first-state-requires (call-claims t) (call-at t) call.Post call-Inv-loop call-μ-loop
+call-first-state-requires t c κs = tt
 
 call-loop-holds : (t : ℕ) → call-lts.Need-loop-holds (call-claims t) (call-at t) call.Post call-Inv-loop call-μ-loop
 call-loop-holds t c =
-    let at-word-at = c .before .before in
-    let at-chosen = at-word-at .before .before in
+    let at-chosen = c .before in
     let at-column = at-chosen .before in
     λ choice g.
-    let first = first-is g (at-column .before .token-at .ensures) (at-column .column-of .ensures) (at-chosen .choice-at2 .ensures) in
-    start-going g (rule-chosen g first (at-word-at .before .if2 .left)) (at-word-at .word-at .ensures)
-    (end-is g (c .before .choice-at3 .ensures)) (c .first-agreement .ensures)
+    start-going g (first-is g (at-column .before .token-at .ensures) (at-column .column-of .ensures) (at-chosen .choice-at2 .ensures))
+    (c .first-state .ensures)
 
-call-begins-conjunct-requires : (t : ℕ) → call-lts.Need-begins-conjunct-requires (call-claims t) (call-at t) call.Post call-Inv-loop call-μ-loop
-call-begins-conjunct-requires t c κs = tt
+call-goes-further-requires : (t : ℕ) → call-lts.Need-goes-further-requires (call-claims t) (call-at t) call.Post call-Inv-loop call-μ-loop
+call-goes-further-requires t c κs = tt
 
-call-add-run-body : (t : ℕ) → call-lts.Need-add-run-body (call-claims t) (call-at t) call.Post call-Inv-loop call-μ-loop
-call-add-run-body t c =
+call-add-from : (t : ℕ) → call-lts.Need-add-from (call-claims t) (call-at t) call.Post call-Inv-loop call-μ-loop
+call-add-from t c =
     let at-then = c .before in
-    let at-begins = at-then .before in
-    let at-loop = at-begins .before in
-    let start = at-loop .before .before .before .before .before .before .before .before .before .before .before .before .before .before in
-    let begins = sym (at-begins .begins-conjunct .ensures) ∙ at-then .if3 .taken in
-    omega (arith, going-conjunct (start .pre .1 .1) (at-loop .loop .inv _ (start .pre .1 .1)) begins)
+    let at-further = at-then .before in
+    let at-loop = at-further .before in
+    let start = at-loop .before .before .before .before .before .before .before .before .before .before .before in
+    let further = sym (at-further .goes-further .ensures) ∙ at-then .if2 .taken in
+    omega (arith, going-conjunct (start .pre .1 .1) (at-loop .loop .inv _ (start .pre .1 .1)) further)
 
 call-run-body-requires : (t : ℕ) → call-lts.Need-run-body-requires (call-claims t) (call-at t) call.Post call-Inv-loop call-μ-loop
 call-run-body-requires t c κs =
-    let at-then = c .before in
-    let at-begins = at-then .before in
-    let at-loop = at-begins .before in
-    let start = at-loop .before .before .before .before .before .before .before .before .before .before .before .before .before .before in
-    let begins = sym (at-begins .begins-conjunct .ensures) ∙ at-then .if3 .taken in
-    (omega (arith, start .pre .0), (_, going-run (start .pre .1 .1) (at-loop .loop .inv _ (start .pre .1 .1)) begins))
+    let at-then = c .before .before in
+    let at-further = at-then .before in
+    let at-loop = at-further .before in
+    let start = at-loop .before .before .before .before .before .before .before .before .before .before .before in
+    let further = sym (at-further .goes-further .ensures) ∙ at-then .if2 .taken in
+    (omega (arith, start .pre .0), (_, going-run (start .pre .1 .1) (at-loop .loop .inv _ (start .pre .1 .1)) further))
 
-call-joined-entry-requires : (t : ℕ) → call-lts.Need-joined-entry-requires (call-claims t) (call-at t) call.Post call-Inv-loop call-μ-loop
-call-joined-entry-requires t c κs = tt
-
-call-next-conjunct-requires : (t : ℕ) → call-lts.Need-next-conjunct-requires (call-claims t) (call-at t) call.Post call-Inv-loop call-μ-loop
-call-next-conjunct-requires t c κs = tt
-
-call-word-at-requires-2 : (t : ℕ) → call-lts.Need-word-at-requires-2 (call-claims t) (call-at t) call.Post call-Inv-loop call-μ-loop
-call-word-at-requires-2 t c κs = tt
+call-next-state-requires : (t : ℕ) → call-lts.Need-next-state-requires (call-claims t) (call-at t) call.Post call-Inv-loop call-μ-loop
+call-next-state-requires t c κs = tt
 
 call-loop-less : (t : ℕ) → call-lts.Need-loop-less (call-claims t) (call-at t) call.Post call-Inv-loop call-μ-loop
 call-loop-less t c =
-    let at-next = c .before in
-    let at-joined = at-next .before .before in
-    let at-run-body = at-joined .before .before .before in
-    let at-then = at-run-body .before .before in
-    let at-begins = at-then .before in
-    let at-loop = at-begins .before in
-    let start = at-loop .before .before .before .before .before .before .before .before .before .before .before .before .before .before in
+    let at-run-body = c .before .before .before in
+    let at-then = at-run-body .before .before .before in
+    let at-further = at-then .before in
+    let at-loop = at-further .before in
+    let start = at-loop .before .before .before .before .before .before .before .before .before .before .before in
     let going = at-loop .loop .inv _ (start .pre .1 .1) in
-    let begins = sym (at-begins .begins-conjunct .ensures) ∙ at-then .if3 .taken in
-    let ran = at-run-body .run-body .ensures _ (going-run (start .pre .1 .1) going begins) in
-    omega (
-      arith,
-      going-conjunct (start .pre .1 .1) going begins,
-      going-falls (start .pre .1 .1) going begins ran (at-joined .joined-entry .ensures) (at-next .next-conjunct .ensures),
-    )
+    let further = sym (at-further .goes-further .ensures) ∙ at-then .if2 .taken in
+    let ran = at-run-body .run-body .ensures _ (going-run (start .pre .1 .1) going further) in
+    omega (arith, going-conjunct (start .pre .1 .1) going further, going-falls (start .pre .1 .1) going further ran (c .next-state .ensures))
 
 call-loop-again : (t : ℕ) → call-lts.Need-loop-again (call-claims t) (call-at t) call.Post call-Inv-loop call-μ-loop
 call-loop-again t c =
-    let at-next = c .before in
-    let at-going-on = at-next .before in
-    let at-joined = at-going-on .before in
-    let at-run-body = at-joined .before .before .before in
-    let at-then = at-run-body .before .before in
-    let at-begins = at-then .before in
-    let at-loop = at-begins .before in
+    let at-run-body = c .before .before .before in
+    let at-then = at-run-body .before .before .before in
+    let at-further = at-then .before in
+    let at-loop = at-further .before in
     λ choice g.
     let going = at-loop .loop .inv choice g in
-    let begins = sym (at-begins .begins-conjunct .ensures) ∙ at-then .if3 .taken in
-    going-turn g going begins (at-run-body .run-body .ensures choice (going-run g going begins))
-    (at-joined .joined-entry .ensures) (at-next .next-conjunct .ensures) (c .word-at2 .ensures) (at-going-on .if4 .left)
+    let further = sym (at-further .goes-further .ensures) ∙ at-then .if2 .taken in
+    going-turn g going further (at-run-body .run-body .ensures choice (going-run g going further)) (c .next-state .ensures)
 
-call-mul-memo-2 : (t : ℕ) → call-lts.Need-mul-memo-2 (call-claims t) (call-at t) call.Post call-Inv-loop call-μ-loop
-call-mul-memo-2 t c =
+call-mul-memo : (t : ℕ) → call-lts.Need-mul-memo (call-claims t) (call-at t) call.Post call-Inv-loop call-μ-loop
+call-mul-memo t c =
     let at-loop = c .before .before in
-    let at-entry-of = at-loop .before .before .before .before .before .before .before .before .before .before in
+    let at-entry-of = at-loop .before .before .before .before .before .before .before in
     let start = at-entry-of .before .before .before .before in
     let entry = entry-is (start .pre .1 .1) (at-entry-of .before .choice-at .ensures) (at-entry-of .entry-of .ensures) in
-    omega (arith, index-low (start .pre .1 .1) entry, start .good .1 .1 .1 .1 .0 .1)
+    omega (arith, index-low (start .pre .1 .1) entry)
 
--- the rule has run, or the first body that failed has stopped it
-call-ran : (t : ℕ) (c : call-lts.Joined3 (call-claims t) (call-at t) call.Post call-Inv-loop call-μ-loop) (choice : Choice) →
-    let start = c .before .before .before .before .before .before .before .before .before .before .before .before .before .before .before .before in
-    let given = start .args in
-    CallGiven choice (given .words .now) (given .choices .now) (given .tokens .now) (heldTokens (given .tokens .now)) (given .memo .now)
-    (given .nonterminal) (given .place)
-    → Ran choice (given .words .now) (heldTokens (given .tokens .now)) (given .memo .now) (given .nonterminal) (given .place) (c .if3 .memo) (c .if3 .agreement)
-call-ran t c choice g =
-    let at-begins = c .before in
-    let going = at-begins .before .loop .inv choice g in
-    let told = sym (at-begins .begins-conjunct .ensures) in
-    ⊎-elim
-    (λ w. ran-as (w .1) (w .2) (going-done g going (told ∙ w .0 .left)))
-    (λ w.
-    let begins = told ∙ w .0 .taken in
-    ran-as (w .7) (w .8) (going-failed g going begins (w .2 .ensures choice (going-run g going begins)) (w .5 .ensures) (w .6 .taken)))
-    (c .if3 .came)
-
-call-slice-write-memo-2 : (t : ℕ) → call-lts.Need-slice-write-memo-2 (call-claims t) (call-at t) call.Post call-Inv-loop call-μ-loop
-call-slice-write-memo-2 t c =
+call-slice-write-memo : (t : ℕ) → call-lts.Need-slice-write-memo (call-claims t) (call-at t) call.Post call-Inv-loop call-μ-loop
+call-slice-write-memo t c =
     let at-loop = c .before .before in
-    let at-entry-of = at-loop .before .before .before .before .before .before .before .before .before .before in
+    let at-entry-of = at-loop .before .before .before .before .before .before .before in
     let start = at-entry-of .before .before .before .before in
     let entry = entry-is (start .pre .1 .1) (at-entry-of .before .choice-at .ensures) (at-entry-of .entry-of .ensures) in
-    omega (arith, index-low (start .pre .1 .1) entry, memo-same (call-ran t c _ (start .pre .1 .1) .sound) (start .pre .1 .1 .given .sound))
+    let going = at-loop .loop .inv _ (start .pre .1 .1) in
+    omega (arith, index-low (start .pre .1 .1) entry, memo-same (going .sound) (start .pre .1 .1 .given .sound))
 
-call-same-length-2 : (t : ℕ) → call-lts.Need-same-length-2 (call-claims t) (call-at t) call.Post call-Inv-loop call-μ-loop
-call-same-length-2 t c =
-    let start = c .before .before .before .before .before .before .before .before .before .before .before .before .before .before .before .before in
-    simp length-set (memo-same (call-ran t c _ (start .pre .1 .1) .sound) (start .pre .1 .1 .given .sound))
-
-call-returns-3 : (t : ℕ) → call-lts.Need-returns-3 (call-claims t) (call-at t) call.Post call-Inv-loop call-μ-loop
-call-returns-3 t c =
+call-same-length : (t : ℕ) → call-lts.Need-same-length (call-claims t) (call-at t) call.Post call-Inv-loop call-μ-loop
+call-same-length t c =
     let at-loop = c .before .before in
-    let at-fresh = at-loop .before .before .before .before .before .before .before .before in
+    let start = at-loop .before .before .before .before .before .before .before .before .before .before .before in
+    let going = at-loop .loop .inv _ (start .pre .1 .1) in
+    simp length-set (memo-same (going .sound) (start .pre .1 .1 .given .sound))
+
+call-returns-2 : (t : ℕ) → call-lts.Need-returns-2 (call-claims t) (call-at t) call.Post call-Inv-loop call-μ-loop
+call-returns-2 t c =
+    let at-further = c .before in
+    let at-loop = at-further .before in
+    let at-fresh = at-loop .before .before .before .before .before in
     let at-entry-of = at-fresh .before .before in
     λ choice g.
-    let ran = call-ran t c choice g in
+    let ran = going-ended g (at-loop .loop .inv choice g) (sym (at-further .goes-further .ensures) ∙ c .if2 .left) in
     let entry = entry-is g (at-entry-of .before .choice-at .ensures) (at-entry-of .entry-of .ensures) in
-    call-stored g entry (at-fresh .if1 .left) (some (ran .rule)) (ran .selected) (ran .ran) (ran .told)
+    call-stored g entry (at-fresh .if1 .left) (ran .rule) (ran .selected) (ran .ran) (ran .told)
 
 abbrev run-body-Inv-loop : run-body-lts.InvT-loop
 run-body-Inv-loop nonterminal words choices tokens memo₀ from start at₀ place₀ memo at place =
@@ -464,27 +385,18 @@ pub +call+run-body-spec : {M : Type 1} → statement M
     (call-token-at-requires t)
     (call-column-of-requires t)
     (call-choice-at-requires-2 t)
-    (call-cast-at t)
+    (call-first-state-requires t)
+    (call-loop-holds t)
+    (call-goes-further-requires t)
+    (call-add-from t)
+    (call-run-body-requires t)
+    (call-next-state-requires t)
+    (call-loop-less t)
+    (call-loop-again t)
     (call-mul-memo t)
     (call-slice-write-memo t)
     (call-same-length t)
-    (call-returns-2 t)
-    (call-word-at-requires t)
-    (call-choice-at-requires-3 t)
-    (call-first-agreement-requires t)
-    (call-loop-holds t)
-    (call-begins-conjunct-requires t)
-    (call-add-run-body t)
-    (call-run-body-requires t)
-    (call-joined-entry-requires t)
-    (call-next-conjunct-requires t)
-    (call-word-at-requires-2 t)
-    (call-loop-less t)
-    (call-loop-again t)
-    (call-mul-memo-2 t)
-    (call-slice-write-memo-2 t)
-    (call-same-length-2 t)
-    (call-returns-3 t))
+    (call-returns-2 t))
     λ t. run-body-lts.spec (run-body-claims t)
     (run-body-at t)
     run-body.Post
