@@ -45,7 +45,7 @@ pub fn before(chart: &[u64; CHART], nonterminal: u32, set: u64, start: usize, en
     found
 }
 
-// The chart gives a span to the nonterminals of a word too, of those below a number, from the first of them to the last.
+// Gives a span to those nonterminals of a word that are below a number; it goes from the first to the last of the word.
 pub fn add(chart: &mut [u64; CHART], nonterminals: u32, start: usize, end: usize, word: u32)
     ensures { λ _. ⌜ now (chart .exit) ≡ addedWord (now (chart .entry)) nonterminals start end word ⌝ }
 {

@@ -11,6 +11,7 @@ use descent_findings::find_for_search;
 use descent_tokens::tokens_of;
 use families::Finding;
 use grammar::limits::PLACES;
+use grammar::limits::TOKENS;
 use grammar::reading::Sizes;
 use inputs::count_inputs;
 use inputs::write_input;
@@ -100,7 +101,8 @@ pub fn prepare_search(words: &[u32], tokens: usize, log: usize, memo: usize) -> 
     let choices = table_choices(&found.starts, sizes, Lookahead::One, &found.entries, tokens);
     let entries = entries_of(sizes.nonterminals, tokens);
     let last = last_of(sizes.terminals);
-    let inputs = count_inputs(sizes.terminals, tokens);
+    // of a length that is refused no more tokens are counted than there may be
+    let inputs = count_inputs(sizes.terminals, fitting(tokens, TOKENS));
     PreparedSearch {
         found,
         choices,

@@ -10,14 +10,14 @@ use grammar::codes::FAILED;
 const WEIGHT: usize = COLUMN_WEIGHT as usize;
 
 // Places are counted in 16 bits.
-const PLACES_COUNTED: u32 = 65536;
+const NUMBERS_OF_16_BITS: u32 = 65536;
 
-// The place behind the token at a place, by its word, if it is a terminal; else the code of a failure.
+// One place on where the token, by its word, is this terminal, else the code of a failure.
 pub fn end_behind(token: u16, terminal: u32, place: u16) -> u16
     ensures { λ r. ⌜ r ≡ endBehind token terminal place ⌝ }
 {
     if token as u32 % COLUMN_WEIGHT == terminal {
-        return ((place as u32 + 1) % PLACES_COUNTED) as u16;
+        return ((place as u32 + 1) % NUMBERS_OF_16_BITS) as u16;
     }
     FAILED
 }

@@ -1,4 +1,4 @@
-// What an entry of the memo table tells: the outcome of a call, or of a symbol.
+// What an entry tells: failed or an end, the outcome of a call or of a terminal.
 ghost use mathlib.Core.Path.{_≡_};
 ghost use Rattle.semantics.specs.contracts.Memo.{decode};
 ghost use Rattle.descent_steps.specs.contracts.Steps.{meant};

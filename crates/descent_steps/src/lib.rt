@@ -1,4 +1,5 @@
-// The steps of the descent that need no memo table: what a number in its arrays tells, the next symbol of a body, and agreements and entries.
+// The steps of the descent that need no memo table: what a number in its arrays tells, the next symbol of a body, what an entry tells, how far a rule
+// has got.
 ghost use mathlib.Core.Path.{_≡_};
 ghost use Rattle.word.specs.Words.{decoded};
 ghost use Rattle.semantics.specs.contracts.Memo.{decode as outcomeOf};
@@ -97,7 +98,7 @@ pub(crate) fn next_conjunct(words: &[u32], entry: u16, at: usize) -> usize
     body_end(words, at)
 }
 
-// Where the bodies of a rule agree to end before the first has run, by the word that begins it, for an input that ends at a place.
+// The agreement before the first body, by the word that begins it and the place where the input ends.
 pub(crate) fn first_agreement(word: u32, end: u16) -> u16
     ensures { λ r. ⌜ r ≡ agreementCode (openingBy (conjunctSign word) end) ⌝ }
 {

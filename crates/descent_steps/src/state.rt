@@ -10,15 +10,16 @@ use descent_arrays::CHOICES;
 use descent_arrays::END_COLUMN;
 use grammar::codes::FAILED;
 
-// The index that a rule has reached, the word there, and what the bodies before it agree on.
+// The index that a rule has reached, the word there, and the entry of what the bodies before it agree on. Once the rule has failed, the index is where
+// its last body stopped, and the word is the one that began that body.
 pub struct RuleState {
     pub at: usize,
     pub word: u32,
     pub agreement: u16,
 }
 
-// Before the first body of the rule whose first conjunct stands at an index; 0 stands for no rule, and that has failed. The input's length is the
-// same in every row of the choices.
+// Before the first body of the rule whose first conjunct stands at an index; 0 stands for no rule, and that has failed. The input's length is read
+// in the first row of the choices: every nonterminal's row has the same.
 pub fn first_state(words: &[u32], choices: &[u16; CHOICES], at: u16) -> RuleState
     ensures { λ r. ⌜ r ≡ firstState (now (words .entry)) (now (choices .entry)) at ⌝ }
 {
@@ -49,7 +50,7 @@ pub fn goes_further(state: RuleState) -> bool
     begins_conjunct(state.word)
 }
 
-// When that body has stopped at an index, with an entry for its outcome.
+// The state after that body, which stopped at an index; the entry is that of its outcome.
 pub fn next_state(words: &[u32], state: RuleState, entry: u16, at: usize) -> RuleState
     ensures { λ r. ⌜ r ≡ nextState (now (words .entry)) state entry at ⌝ }
 {
@@ -57,7 +58,7 @@ pub fn next_state(words: &[u32], state: RuleState, entry: u16, at: usize) -> Rul
     if agreement == FAILED {
         return RuleState {
             at,
-            word: 0,
+            word: state.word,
             agreement: FAILED,
         };
     }

@@ -39,7 +39,8 @@ fn choice_at(choices: &[u16; CHOICES], nonterminal: usize, column: usize) -> u16
     choices[nonterminal * CHOICE_COLUMNS + column]
 }
 
-// Runs the body at an index from a place on, for a call of the nonterminal there; the first symbol that fails stops it, behind it.
+// Runs the body at an index from a place on, for a call of the nonterminal there; the first symbol that fails stops it, and the index behind that
+// symbol is told.
 fn run_body(
     nonterminal: usize,
     words: &[u32],

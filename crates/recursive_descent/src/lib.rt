@@ -9,7 +9,7 @@ use table::Found;
 mod descent;
 pub mod search;
 
-// Finds whether the events of a log are an input that an encoded grammar can judge, and if so descends on it: the start is called at its begin.
+// Finds whether the events of a log are an input that an encoded grammar can judge, and if so descends on it: the start is called at its beginning.
 pub fn descend_words(words: &[u32], lookahead: Lookahead, events: &[u8], memo: &mut [u16]) -> Found
     ensures { λ r. ⌜ DescendsWords lookahead (now (words .entry)) (inputOf (now (events .entry))) (now (memo .entry)) r (now (memo .exit)) ⌝ }
 {

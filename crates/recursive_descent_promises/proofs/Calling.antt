@@ -444,11 +444,12 @@ module _ {choice : Choice} {words choices tokens input memo₀ : List ℕ} {A pl
           go false e = sym (d .over (eqb-false (o .end) failedCode e))
 
       module _ {s′ : RuleState} (q : s′ ≡ nextState words s (o .end) (o .at)) where
-        pub going-falls : s .at < s′ .at
+        pub going-on : s .at < s′ .at
         unfolding nextState
-        going-falls = go (eqb (agreedWith s (o .end)) failedCode) q
+        going-on = go (eqb (agreedWith s (o .end)) failedCode) q
           where
-            go : (b : Bool) → s′ ≡ choose b (failedAt (o .at)) (reached words (nextConjunct words (o .end) (o .at)) (agreedWith s (o .end))) → s .at < s′ .at
+            go : (b : Bool) → s′ ≡ choose b (failedAt (o .at) (s .word)) (reached words (nextConjunct words (o .end) (o .at)) (agreedWith s (o .end)))
+                → s .at < s′ .at
             go true e = rw e (omega (arith, d .skipped .on))
             go false e = rw e (omega (arith, d .skipped .on, ended))
 
@@ -457,7 +458,7 @@ module _ {choice : Choice} {words choices tokens input memo₀ : List ℕ} {A pl
         going-turn = go (eqb (agreedWith s (o .end)) failedCode) refl q
           where
             go : (b : Bool) → eqb (agreedWith s (o .end)) failedCode ≡ b
-                → s′ ≡ choose b (failedAt (o .at)) (reached words (nextConjunct words (o .end) (o .at)) (agreedWith s (o .end)))
+                → s′ ≡ choose b (failedAt (o .at) (s .word)) (reached words (nextConjunct words (o .end) (o .at)) (agreedWith s (o .end)))
                 → Going choice words input memo₀ A place memo′ s′
             go true f e = rw e (record {
               sound = d .sound;

@@ -2,7 +2,7 @@
 use mathlib.Core.Path.{_≡_, refl, sym, ap, _∙_}
 use mathlib.Core.Bool.{Bool, true, false}
 use mathlib.Core.List.{List, _++_}
-use Prim.Native.Nat.{ℕ, suc, _+_, _-_, _*_, _%_, _^_, _≤_, _<_}
+use Prim.Native.Nat.{ℕ, suc, _+_, _-_, _*_, _%_, _^_, _≤_, _<_, min}
 use native.Mathlib.Nat.{mul-le-mul}
 use native.Mathlib.Numerals.{add-one}
 use native.Mathlib.Omega.{arith}
@@ -11,7 +11,7 @@ use lib.ListN.{length, take, drop}
 use lib.Seq.{length-take-le}
 use borrow.Author.Tests.{ltb-true, ltb-false}
 use Rattle.base.specs.Choice.{choose}
-use Rattle.grammar.specs.Limits.{maxNonterminals, maxPlaces}
+use Rattle.grammar.specs.Limits.{maxNonterminals, maxTokens, maxPlaces}
 use Rattle.grammar.specs.Syntax.{Grammar}
 use Rattle.grammar.specs.Encoding.{grammarOf}
 use Rattle.grammar.specs.contracts.WellRead.{WellRead}
@@ -220,6 +220,9 @@ module _ {words : List ℕ} {k : ℕ} (log memo : List ℕ) {p : PreparedSearch}
         (omega (arith, sizes .nonterminals, sizes .fewNonterminals)) (omega (arith, f .short, front-long)) in
         omega (arith, needed-is, l, f .room)
 
+    shorter : min k maxTokens ≡ k
+    shorter = omega (arith, f .short, front-long)
+
     passed-trials : TrialsGiven words (p .choices) (p .last) (p .inputs) (take k log) (take needed memo)
     passed-trials = record {
       trial = record {
@@ -232,7 +235,7 @@ module _ {words : List ℕ} {k : ℕ} (log memo : List ℕ) {p : PreparedSearch}
         short = f .short;
         few = f .few;
       };
-      counted = m .counted ∙ rw (q, front-long);
+      counted = m .counted ∙ rw (q, front-long, shorter);
     }
 
     passed-searched : {part left : List ℕ} → CostliestLeft words (length (take k log)) part left

@@ -206,7 +206,7 @@ module _ {choice : Choice} {words choices tokens input memo : List ℕ} {A place
   start-going {at} f {s} q = go (eqb at 0) refl q
     where
       go : (b : Bool) → eqb at 0 ≡ b
-          → s ≡ choose b (failedAt at) (reached words at (agreementCode (openingBy (conjunctSign (wordAt words at)) (endAt choices 0))))
+          → s ≡ choose b (failedAt at 0) (reached words at (agreementCode (openingBy (conjunctSign (wordAt words at)) (endAt choices 0))))
           → Going choice words input memo A place memo s
       go true e q = rw q (record {
         sound = g .given .sound;

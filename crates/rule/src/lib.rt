@@ -15,7 +15,8 @@ pub enum Sign {
     Neither,
 }
 
-// The agreement before the first body. Any other is the entry of what the bodies that have run agree on: that they failed, or an end.
+// The agreement of a rule that begins with a positive conjunct, before its first body. Any other is the entry that the rule would record if it stopped
+// there: failed, or an end.
 const OPEN: u16 = UNCALLED;
 
 // Where the body at an index ends.
@@ -74,7 +75,7 @@ fn kept(sign: Sign, end: u16, there: bool) -> u16
     }
 }
 
-// The agreement after one body more, by the entry of its outcome: the first body sets the end.
+// The agreement after one body more, by the entry of its outcome: an open agreement becomes that entry.
 pub fn joined(sign: Sign, agreement: u16, entry: u16) -> u16
     ensures { λ r. ⌜ r ≡ agreementCode (joinedBy sign (agreementOf agreement) (outcomeOf entry)) ⌝ }
 {

@@ -20,7 +20,7 @@ fn head_at(words: &[u32], from: usize) -> u32
     }
 }
 
-// A nonterminal's rank is how many nonterminals it left-reaches.
+// The rank of the nonterminal whose rule begins at an index: how many nonterminals it left-reaches.
 fn rank_at(words: &[u32], from: usize, reaches: &[u32; SETS]) -> usize
     ensures { λ r. ⌜ r ≡ rankFrom (now (words .entry)) (now (reaches .entry)) from ⌝ }
 {

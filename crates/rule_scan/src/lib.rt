@@ -131,7 +131,8 @@ fn keeps(
     scan.kept
 }
 
-// The nonterminals found to have a span, with that of a rule where the rule gives it the span. The rule is not asked where another one has given it.
+// Adds the nonterminal of a rule to those found to have a span, where the rule gives it the span. The rule is not asked where its nonterminal is found
+// already.
 pub fn ask(
     words: &[u32],
     starts: &[usize; RULES],

@@ -17,12 +17,16 @@ entries-of-requires c κs = tt
 last-of-requires : tie.Need-last-of-requires
 last-of-requires c κs = tt
 
+fitting-requires : tie.Need-fitting-requires
+fitting-requires c κs = tt
+
 count-inputs-requires : tie.Need-count-inputs-requires
 count-inputs-requires c κs = tt
 
 returns : tie.Need-returns
 returns c =
-    let last = c .before in
+    let fitted = c .before in
+    let last = fitted .before in
     let needed = last .before in
     let chosen = needed .before in
     let sized = chosen .before .before .before .before in
@@ -31,7 +35,7 @@ returns c =
       choices = rw (← sized .sizes-of .ensures) (chosen .table-choices .ensures);
       needs = rw (← sized .sizes-of .ensures) (needed .entries-of .ensures);
       highest = rw (← sized .sizes-of .ensures) (last .last-of .ensures);
-      counted = rw (← sized .sizes-of .ensures) (c .count-inputs .ensures);
+      counted = rw (← sized .sizes-of .ensures, ← fitted .fitting .ensures) (c .count-inputs .ensures);
     }
 
 pub prepare-search-spec : {M : Type 1} → statement M
@@ -43,5 +47,6 @@ prepare-search-spec =
     table-choices-requires
     entries-of-requires
     last-of-requires
+    fitting-requires
     count-inputs-requires
     returns)

@@ -5,6 +5,7 @@ use Prim.Native.Nat.{ℕ, _+_, _-_, _%_, min}
 use lib.ListN.{length, replicate, drop}
 use Rattle.event.specs.Events.{inputOf}
 use Rattle.grammar.specs.Codes.{uncalledCode}
+use Rattle.grammar.specs.Limits.{maxTokens}
 use Rattle.grammar.specs.declared.reading.Sizes.{Sizes}
 use Rattle.lookahead.specs.declared.Lookahead.{Lookahead}
 use Rattle.lookahead.specs.declared.Lookahead.the-variants.{One}
@@ -54,7 +55,7 @@ pub record SearchPrepared (words : List ℕ) (tokens log memo : ℕ) (r : Prepar
   pub choices : r .choices ≡ foundChoices One (r .found) tokens
   pub needs : r .entries ≡ foundEntries (r .found) tokens
   pub highest : r .last ≡ lastOf (sizesOf (r .found .finding) .terminals)
-  pub counted : r .inputs ≡ inputCount (sizesOf (r .found .finding) .terminals) tokens
+  pub counted : r .inputs ≡ inputCount (sizesOf (r .found .finding) .terminals) (min tokens maxTokens)
 
 -- the k events of a number are written, their tokens are made for a grammar whose last terminal this is, and every entry is blank
 pub record TrialPrepared (last k number : ℕ) (memo events tokens memo′ : List ℕ) : Type 0 where

@@ -41,7 +41,7 @@ stepOf word.End = Over
 stepOf (word.Heading n t) = Over
 stepOf word.Invalid = Over
 
--- the place behind a token that is a terminal, by its word; places are counted in 16 bits
+-- one place on where a token, by its word, is this terminal, else the code of a failure; places are counted in 16 bits
 unfoldable pub endBehind : ℕ → ℕ → ℕ → ℕ
 endBehind token terminal place = choose (eqb (token % columnWeight) terminal) ((place + 1) % 65536) failedCode
 
@@ -61,9 +61,9 @@ conjunctSign bits = choose (eqb bits negativeWord) Negative Positive
 unfoldable pub nextConjunct : List ℕ → ℕ → ℕ → ℕ
 nextConjunct words entry at = choose (eqb entry failedCode) (bodyEnd words at) at
 
--- a rule that has failed
-abbrev pub failedAt : ℕ → RuleState
-failedAt at = record { at = at; word = 0; agreement = failedCode }
+-- a rule that has failed, by an index and a word
+abbrev pub failedAt : ℕ → ℕ → RuleState
+failedAt at word = record { at = at; word = word; agreement = failedCode }
 
 -- a rule that has reached an index
 abbrev pub reached : List ℕ → ℕ → ℕ → RuleState
@@ -72,7 +72,7 @@ reached words at agreed = record { at = at; word = wordAt words at; agreement = 
 -- before the first body of the rule whose first conjunct stands at an index, or without a rule
 unfoldable pub firstState : List ℕ → List ℕ → ℕ → RuleState
 firstState words choices at =
-    choose (eqb at 0) (failedAt at) (reached words at (agreementCode (openingBy (conjunctSign (wordAt words at)) (endAt choices 0))))
+    choose (eqb at 0) (failedAt at 0) (reached words at (agreementCode (openingBy (conjunctSign (wordAt words at)) (endAt choices 0))))
 
 -- whether a further body is run
 unfoldable pub goesFurther : RuleState → Bool
@@ -85,4 +85,4 @@ agreedWith s entry = agreementCode (joinedBy (conjunctSign (s .word)) (agreement
 -- when that body has stopped at an index
 unfoldable pub nextState : List ℕ → RuleState → ℕ → ℕ → RuleState
 nextState words s entry at =
-    choose (eqb (agreedWith s entry) failedCode) (failedAt at) (reached words (nextConjunct words entry at) (agreedWith s entry))
+    choose (eqb (agreedWith s entry) failedCode) (failedAt at (s .word)) (reached words (nextConjunct words entry at) (agreedWith s entry))

@@ -16,8 +16,8 @@ use Rattle.recognizer_promises.specs.Memory.{memoWords}
 use Rattle.recognizer_promises.specs.CostliestInput.{callsOn, costliestInput}
 use Rattle.recursive_descent_promises.specs.contracts.Judging.{tableRows}
 
--- a grammar that passes, with its sizes and the last of its terminals; the choices and the entries for an input of that length, and not too many such
--- inputs
+-- a grammar that passes, with its sizes and the last of its terminals; the choices and the entries for inputs as long as the lent events, and
+-- not too many such inputs
 pub record TrialGiven (words choices : List ℕ) (last : ℕ) (events memo : List ℕ) : Type 0 where
   pub sizes : Sizes
   pub taken : admission One words ≡ Read sizes
@@ -28,7 +28,7 @@ pub record TrialGiven (words choices : List ℕ) (last : ℕ) (events memo : Lis
   pub short : length events ≤ maxTokens
   pub few : sizes .terminals ^ length events ≤ maxInputs
 
--- and how many there are
+-- and how many such inputs there are
 pub record TrialsGiven (words choices : List ℕ) (last inputs : ℕ) (events memo : List ℕ) : Type 0 where
   pub trial : TrialGiven words choices last events memo
   pub counted : inputs ≡ inputCount (trial .sizes .terminals) (length events)

@@ -20,7 +20,7 @@ pub data Agreement : Type 0 where
   At : ℕ → Agreement
   Failed : Agreement
 
--- as an entry of the memo table: before the first body, that of a call that was not made
+-- as an entry of the memo table; Open is that of a call that was not made
 abbrev pub agreementCode : Agreement → ℕ
 agreementCode Open = uncalledCode
 agreementCode (At e) = e

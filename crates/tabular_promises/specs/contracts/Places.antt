@@ -30,7 +30,7 @@ pub record PlacePut (set place : ℕ) (member : Bool) (r : ℕ) : Type 0 where
 pub record Standing (w stands : List ℕ) : Type 0 where
   pub at : (a k : ℕ) → a < maxTerminals → has (getD stands a 0) k ≡ (ltb k (length w) && eqb (getD w k 0) a)
 
--- the same of the first n tokens, put in one by one; a token that is no terminal stands nowhere
+-- the same of the first n tokens, put in one by one; a token that is no terminal stands nowhere, and so does one beyond the limit of places
 unfoldable pub standsTo : List ℕ → ℕ → List ℕ
 standsTo w zero = replicate maxTerminals 0
 standsTo w (suc n) = set (standsTo w n) (getD w n 0) (withPlace (getD (standsTo w n) (getD w n 0) 0) n true)

@@ -12,7 +12,7 @@ use Rattle.recursive_descent_promises.specs.contracts.Descent.{CallGiven, RunGi
 use Rattle.recursive_descent_promises.proofs.Choosing.{token-low, row-given, column-given, entry-is, first-is}
 use Rattle.recursive_descent_promises.proofs.Running.{level, Running, Read, read-as, running-start, running-done, running-within}
 use Rattle.recursive_descent_promises.proofs.Running.{running-given, running-small, running-falls, terminal-read, call-read}
-use Rattle.recursive_descent_promises.proofs.Calling.{Going, going-conjunct, going-run, going-falls, going-turn, going-ended}
+use Rattle.recursive_descent_promises.proofs.Calling.{Going, going-conjunct, going-run, going-on, going-turn, going-ended}
 use Rattle.recursive_descent_promises.proofs.Storing.{memo-same, index-low, call-known, call-stored}
 use Rattle.recursive_descent_promises.proofs.Starting.{start-going}
 use borrow.Fn.Kinds.{In}
@@ -178,7 +178,7 @@ call-loop-less t c =
     let going = at-loop .loop .inv _ (start .pre .1 .1) in
     let further = sym (at-further .goes-further .ensures) ∙ at-then .if2 .taken in
     let ran = at-run-body .run-body .ensures _ (going-run (start .pre .1 .1) going further) in
-    omega (arith, going-conjunct (start .pre .1 .1) going further, going-falls (start .pre .1 .1) going further ran (c .next-state .ensures))
+    omega (arith, going-conjunct (start .pre .1 .1) going further, going-on (start .pre .1 .1) going further ran (c .next-state .ensures))
 
 call-loop-again : (t : ℕ) → call-lts.Need-loop-again (call-claims t) (call-at t) call.Post call-Inv-loop call-μ-loop
 call-loop-again t c =
